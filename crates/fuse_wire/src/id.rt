@@ -1,0 +1,24 @@
+ghost use Rattle.std.specs.Prelude.{◌≡◌};
+ghost use Rattle.fuse_wire.specs.Ids.{id_of, resent};
+
+/// The bit of `unique` that marks a resend: FUSE_UNIQUE_RESEND of `fuse.h`.
+pub const UNIQUE_RESEND: u64 = 0x8000_0000_0000_0000;
+
+/// What a request keeps over its resends: its `unique` without the bit of a resend.
+#[derive(Clone, Copy, Debug, PartialEq, Eq)]
+pub struct Id(pub u64);
+
+impl Id {
+    pub fn of(unique: u64) -> Id
+        ensures { result.0 ≡ id_of unique }
+    {
+        Id(unique % UNIQUE_RESEND)
+    }
+}
+
+/// Whether a request of this `unique` is one that the kernel sends again.
+pub fn is_resend(unique: u64) -> bool
+    ensures { result ≡ resent unique }
+{
+    unique >= UNIQUE_RESEND
+}

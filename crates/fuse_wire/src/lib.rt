@@ -1,0 +1,23 @@
+//! What the bytes of messages are made of: numbers with their lowest byte first, names that end in a
+//! NUL, the id of a request, error numbers and flag sets.
+#![tactic(auto)]
+
+mod byte_list;
+mod errno;
+mod fields;
+mod id;
+mod init_flags;
+mod laws;
+mod memory;
+mod moment;
+mod put;
+
+pub use byte_list::ByteList;
+pub use errno::Errno;
+pub use fields::Fields;
+pub use id::{Id, UNIQUE_RESEND, is_resend};
+pub use init_flags::InitFlags;
+pub use laws::one_number;
+pub use memory::Memory;
+pub use moment::Moment;
+pub use put::{put_bytes, put_i32, put_u16, put_u32, put_u64};
