@@ -1,0 +1,30 @@
+-- The layouts of answer bodies (fuse.h: fuse_attr, fuse_entry_out, fuse_attr_out).
+use Rattle.std.specs.Prelude.{ℕ, List, [], ◌∷◌, ◌++◌}
+use Rattle.fuse_wire.specs.Layout.{Part, number, unused, form}
+use Rattle.fuse_answer.specs.declared.records.Attr.{Attr}
+use Rattle.fuse_answer.specs.declared.records.EntryOut.{EntryOut}
+use Rattle.fuse_answer.specs.declared.records.AttrOut.{AttrOut}
+
+abbrev pub attr_parts : Attr → List Part
+attr_parts a =
+    number 8 a.ino ∷ number 8 a.size ∷ number 8 a.blocks ∷ number 8 a.atime ∷ number 8 a.mtime ∷ number 8 a.ctime
+    ∷ number 4 a.atimensec ∷ number 4 a.mtimensec ∷ number 4 a.ctimensec ∷ number 4 a.mode ∷ number 4 a.nlink
+    ∷ number 4 a.uid ∷ number 4 a.gid ∷ number 4 a.rdev ∷ number 4 a.blksize ∷ number 4 a.flags ∷ []
+
+abbrev pub entry_parts : EntryOut → List Part
+entry_parts e =
+    number 8 e.nodeid ∷ number 8 e.generation ∷ number 8 e.entry_valid ∷ number 8 e.attr_valid
+    ∷ number 4 e.entry_valid_nsec ∷ number 4 e.attr_valid_nsec ∷ attr_parts e.attr
+
+abbrev pub attr_out_parts : AttrOut → List Part
+attr_out_parts a = number 8 a.attr_valid ∷ number 4 a.attr_valid_nsec ∷ unused 4 ∷ attr_parts a.attr
+
+-- the bytes of each record
+unfoldable pub attr_bytes : Attr → List ℕ
+attr_bytes a = form (attr_parts a)
+
+unfoldable pub entry_bytes : EntryOut → List ℕ
+entry_bytes e = form (entry_parts e)
+
+unfoldable pub attr_out_bytes : AttrOut → List ℕ
+attr_out_bytes a = form (attr_out_parts a)

@@ -1,0 +1,11 @@
+-- What an answer says (own profile: its bounds).
+use Rattle.std.specs.Prelude.{◌≡◌, ◌≢◌, ◌≤◌, ℕ, List, [], length}
+
+pub record Said : Type 0 where
+  pub errno : ℕ
+  pub body : List ℕ
+
+-- an error has no body, and a body is no longer than the largest READ
+pub record FitsAnswer (a : Said) : Type 0 where
+  pub refusal : a.errno ≢ 0 → a.body ≡ []
+  pub short : length a.body ≤ 1048576

@@ -1,0 +1,11 @@
+use fuse_wire::InitFlags;
+
+/// What was agreed on by INIT, in force until the next INIT or mount.
+#[derive(Clone, Copy, Debug, PartialEq, Eq)]
+pub struct Settings {
+    /// The smaller of 40 and the kernel's minor version.
+    pub minor: u32,
+    /// In bytes, as the kernel offered it.
+    pub max_readahead: u32,
+    pub flags: InitFlags,
+}
