@@ -40,7 +40,16 @@ const MKDIR_A: &[u8; 50] =
 #[test]
 fn requests(rt: HostRuntime) -> Result<(), Fail> {
     let lookup = decode(LOOKUP_HELLO).ok().ok_or("LOOKUP is a request")?;
-    assert_eq!(rt; lookup.header, InHeader { unique: 4, nodeid: 1, uid: 1000, gid: 1000, pid: 77 });
+    assert_eq!(rt;
+        lookup.header,
+        InHeader {
+            unique: 4,
+            nodeid: 1,
+            uid: 1000,
+            gid: 1000,
+            pid: 77
+        }
+    );
     let Op::Lookup { name } = lookup.op else {
         return Err("the request is LOOKUP".into());
     };
@@ -60,7 +69,13 @@ fn messages(rt: HostRuntime) -> Result<(), Fail> {
     let einval = Class::Bare(Errno::EINVAL);
     let enosys = Class::Bare(Errno::ENOSYS);
     for (row, bytes, fault, class, zero) in [
-        ("missing-lookup", LOOKUP_HELLO.as_slice(), None, Class::Kept, false),
+        (
+            "missing-lookup",
+            LOOKUP_HELLO.as_slice(),
+            None,
+            Class::Kept,
+            false,
+        ),
         ("first-run", MKDIR_A.as_slice(), None, Class::Kept, false),
         (
             "name-ends, without NUL",
@@ -147,8 +162,14 @@ fn messages(rt: HostRuntime) -> Result<(), Fail> {
         assert_eq!(rt; classify(bytes), class, "{row}");
         assert_eq!(rt; has_zero_unique(bytes), zero, "{row}");
     }
-    assert_eq!(rt; decode(&LOOKUP_HELLO[..45]).err(), Some(Malformed::LenDiffers));
-    assert_eq!(rt; decode(&LOOKUP_HELLO[..39]).err(), Some(Malformed::HeaderShort));
+    assert_eq!(rt;
+        decode(&LOOKUP_HELLO[..45]).err(),
+        Some(Malformed::LenDiffers)
+    );
+    assert_eq!(rt;
+        decode(&LOOKUP_HELLO[..39]).err(),
+        Some(Malformed::HeaderShort)
+    );
     Ok(())
 }
 
@@ -173,14 +194,24 @@ fn byte_by_byte(rt: HostRuntime) -> Result<(), Fail> {
 fn length_bounds(rt: HostRuntime) -> Result<(), Fail> {
     for (bytes, fault) in [
         ([0x27, 0, 0, 0], Some(FrameFault::Short { at: 0, len: 39 })),
-        ([0x01, 0x10, 0x02, 0], Some(FrameFault::TooLong { at: 0, len: 135_169 })),
+        (
+            [0x01, 0x10, 0x02, 0],
+            Some(FrameFault::TooLong {
+                at: 0,
+                len: 135_169,
+            }),
+        ),
         ([0x00, 0x10, 0x02, 0], None),
     ] {
         let mut framer = Framer::new(rt.alloc());
         assert_eq!(rt; framer.feed(&bytes), Ok(()));
         assert_eq!(rt; framer.next().err(), fault);
         assert_eq!(rt; framer.held(), 4);
-        let cut = FrameFault::Cut { at: 0, have: 4, need: 135_168 };
+        let cut = FrameFault::Cut {
+            at: 0,
+            have: 4,
+            need: 135_168,
+        };
         assert_eq!(rt; framer.end(), Err(fault.unwrap_or(cut)));
         assert!(rt; framer.fed() == 4);
         assert_eq!(rt; framer.feed(&bytes).err(), fault);
@@ -193,8 +224,15 @@ fn length_bounds(rt: HostRuntime) -> Result<(), Fail> {
 fn cut_stream(rt: HostRuntime) -> Result<(), Fail> {
     let mut framer = Framer::new(rt.alloc());
     framer.feed(LOOKUP_HELLO).ok().ok_or("the message is fed")?;
-    framer.feed(&LOOKUP_HELLO[..3]).ok().ok_or("the rest is fed")?;
-    let cut = Err(FrameFault::Cut { at: 46, have: 3, need: 4 });
+    framer
+        .feed(&LOOKUP_HELLO[..3])
+        .ok()
+        .ok_or("the rest is fed")?;
+    let cut = Err(FrameFault::Cut {
+        at: 46,
+        have: 3,
+        need: 4,
+    });
     assert_eq!(rt; framer.end(), cut);
     let message = framer.next().ok().flatten().ok_or("the message is whole")?;
     assert_eq!(rt; message.len(), 46);
