@@ -1,8 +1,9 @@
 -- What a framer holds, and what it answers (own profile).
-use Rattle.std.specs.Prelude.{◌≡◌, ◌≤◌, ◌+◌, ◌-◌, ◌^◌, ℕ, nat_lt, if◌then◌else◌, List, [], ◌∷◌, ◌++◌, length, Option, Some, None, Result, Ok, Err, IfSome}
+use Rattle.std.specs.Prelude.{◌≡◌, ◌≤◌, ◌+◌, ◌-◌, ℕ, nat_lt, if◌then◌else◌, List, [], ◌∷◌, ◌++◌, length, Option, Some, None, Result, Ok, Err, IfSome}
 use Rattle.std.specs.Option.{option_or}
 use Rattle.fuse_wire.specs.Bytes.{number_of}
 use Rattle.fuse_request.specs.declared.header.TheConstants.{MIN_MESSAGE, MAX_MESSAGE}
+use Rattle.fuse_request.specs.declared.framer.TheConstants.{MAX_FED}
 use Rattle.fuse_request.specs.declared.framer.FrameFault.{FrameFault}
 use Rattle.fuse_request.specs.declared.framer.FrameFault.TheVariants.{Short, TooLong, Cut, Memory}
 use Rattle.fuse_request.specs.Stream.{cut, IsMessage}
@@ -25,9 +26,9 @@ bad_length at w =
     else if nat_lt MAX_MESSAGE (number_of 4 w) then Some (TooLong at (number_of 4 w))
     else None
 
--- at most 2 ^ 60 bytes were fed, and a fault that is held is that of the length at the front
+-- no more was fed than may be, and a fault that is held is that of the length at the front
 pub record IsHeld (h : Held) : Type 0 where
-  pub fed : fed_of h ≤ 2 ^ 60
+  pub fed : fed_of h ≤ MAX_FED
   pub fault : IfSome h.fault (λ f. bad_length h.at h.bytes ≡ Some f)
 
 -- the first message of the cut is given out, and what follows it is held then

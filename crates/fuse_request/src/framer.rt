@@ -1,4 +1,4 @@
-ghost use Rattle.std.specs.Prelude.{◌≡◌, ◌+◌, ◌<◌, ◌≤◌, ◌^◌, ◌++◌, [], None, Some, length, if◌then◌else◌, OnOk, OnErr, IfOk, IfErr, IfSome};
+ghost use Rattle.std.specs.Prelude.{◌≡◌, ◌+◌, ◌<◌, ◌≤◌, ◌++◌, [], None, Some, length, if◌then◌else◌, OnOk, OnErr, IfOk, IfErr, IfSome};
 ghost use Rattle.std.specs.Option.{unwrap_or};
 ghost use Rattle.std.specs.Result.{result_err};
 ghost use Rattle.fuse_wire.specs.Bytes.{number_of};
@@ -9,6 +9,9 @@ use crate::header::{MAX_MESSAGE, MIN_MESSAGE, u32_at};
 use bytes::{Bytes, BytesMut};
 use std::alloc::Global;
 use std::marker::Model;
+
+/// How many bytes a framer may be fed.
+pub const MAX_FED: u64 = 0x1000_0000_0000_0000;
 
 /// What is wrong with a stream. `at` is the offset in the stream at which a message begins.
 #[derive(Clone, Copy, Debug, PartialEq, Eq)]
@@ -119,7 +122,7 @@ impl Framer {
 
     /// Appends a piece of the stream.
     pub fn feed(&mut self, piece: &[u8]) -> Result<(), FrameFault>
-        requires { fed_of self.old + length piece.now ≤ 2 ^ 60 }
+        requires { fed_of self.old + length piece.now ≤ MAX_FED }
         ensures ok { OnOk result ((self.old.fault ≡ None) × (self.new ≡ record self.old { bytes = self.old.bytes ++ piece.now })) }
         ensures err { OnErr result (self.new ≡ self.old) }
 

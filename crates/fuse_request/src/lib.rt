@@ -11,7 +11,7 @@ mod request;
 
 pub use class::{Class, classify, has_zero_unique};
 pub use decoding::{Malformed, decode};
-pub use framer::{FrameFault, Framer};
+pub use framer::{FrameFault, Framer, MAX_FED};
 pub use header::{MAX_MESSAGE, MIN_MESSAGE, RawHeader, header_of};
 pub use laws::{canon_spells, cut_joins, cut_steps, one_cut};
 pub use request::{InHeader, Op, Request};
