@@ -4,6 +4,8 @@
 mod answer;
 mod numbers;
 mod records;
+#[cfg(test)]
+mod tests;
 mod wire;
 
 pub use answer::{Answer, MAX_BODY};
