@@ -1,2 +1,4 @@
 pub mod Said
 pub mod Bodies
+pub mod Wire
+pub mod Vectors

@@ -2,5 +2,7 @@
 #![tactic(auto)]
 
 mod settings;
+#[cfg(test)]
+mod tests;
 
 pub use settings::Settings;

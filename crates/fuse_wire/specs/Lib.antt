@@ -1,3 +1,5 @@
 pub mod Bytes
 pub mod Ids
 pub mod Layout
+pub mod Hex
+pub mod Vectors

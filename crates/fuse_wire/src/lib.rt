@@ -11,6 +11,8 @@ mod laws;
 mod memory;
 mod moment;
 mod put;
+#[cfg(test)]
+mod tests;
 
 pub use byte_list::ByteList;
 pub use errno::Errno;

@@ -1,0 +1,102 @@
+-- Outside examples of records and answers. A text in hexadecimal stands as the example prints it.
+use Rattle.std.specs.Prelude.{◌≡◌, ℕ, List, [], ◌++◌, pos, negsuc, replicate, codes}
+use Rattle.fuse_wire.specs.Bytes.{le}
+use Rattle.fuse_wire.specs.Hex.{hex}
+use Rattle.fuse_wire.specs.declared.errno.TheConstants.Errno.{ENOENT, EBADF, EEXIST, ENOTDIR, EISDIR, EINVAL, ENFILE, EFBIG, ENOSPC, ENAMETOOLONG, ENOSYS, ENOTEMPTY, EPROTO, ESTALE}
+use Rattle.fuse_answer.specs.declared.records.Attr.{Attr}
+use Rattle.fuse_answer.specs.declared.records.EntryOut.{EntryOut}
+use Rattle.fuse_answer.specs.declared.records.AttrOut.{AttrOut}
+use Rattle.fuse_answer.specs.Bodies.{header_bytes, attr_bytes, entry_bytes, attr_out_bytes}
+use Rattle.fuse_answer.specs.Wire.{negated, wire_head, wire}
+
+-- the error field of each refusal
+abbrev pub ErrorFields : Type 0
+ErrorFields =
+    (le 4 (negated ENOENT.0) ≡ hex (codes "feffffff"))
+    × (le 4 (negated EBADF.0) ≡ hex (codes "f7ffffff"))
+    × (le 4 (negated EEXIST.0) ≡ hex (codes "efffffff"))
+    × (le 4 (negated ENOTDIR.0) ≡ hex (codes "ecffffff"))
+    × (le 4 (negated EISDIR.0) ≡ hex (codes "ebffffff"))
+    × (le 4 (negated EINVAL.0) ≡ hex (codes "eaffffff"))
+    × (le 4 (negated ENFILE.0) ≡ hex (codes "e9ffffff"))
+    × (le 4 (negated EFBIG.0) ≡ hex (codes "e5ffffff"))
+    × (le 4 (negated ENOSPC.0) ≡ hex (codes "e4ffffff"))
+    × (le 4 (negated ENAMETOOLONG.0) ≡ hex (codes "dcffffff"))
+    × (le 4 (negated ENOSYS.0) ≡ hex (codes "daffffff"))
+    × (le 4 (negated ENOTEMPTY.0) ≡ hex (codes "d9ffffff"))
+    × (le 4 (negated EPROTO.0) ≡ hex (codes "b9ffffff"))
+    × (le 4 (negated ESTALE.0) ≡ hex (codes "8cffffff"))
+
+-- headers alone: LOOKUP of a name that isn't there, and the notice that asks for a resend
+abbrev pub Headers : Type 0
+Headers =
+    (header_bytes (record { len = 16; error = negsuc 1; unique = 4 }) ≡ hex (codes "10000000 feffffff 0400000000000000"))
+    × (header_bytes (record { len = 16; error = pos 7; unique = 0 }) ≡ hex (codes "10000000 07000000 0000000000000000"))
+
+-- refusals, of requests and of a resend
+abbrev pub Refusals : Type 0
+Refusals =
+    (wire ENOENT.0 [] 4 ≡ hex (codes "10000000 feffffff 0400000000000000"))
+    × (wire ENOENT.0 [] 0x8000000000000004 ≡ hex (codes "10000000 feffffff 0400000000000080"))
+    × (wire EPROTO.0 [] 2 ≡ hex (codes "10000000 b9ffffff 0200000000000000"))
+
+-- READ of three bytes, its resend, and the header alone
+abbrev pub Reads : Type 0
+Reads =
+    (wire 0 (hex (codes "6f6e65")) 10 ≡ hex (codes "13000000 00000000 0a00000000000000 6f6e65"))
+    × (wire 0 (hex (codes "6f6e65")) 0x800000000000000a ≡ hex (codes "13000000 00000000 0a00000000000080 6f6e65"))
+    × (wire_head 0 3 10 ≡ hex (codes "13000000 00000000 0a00000000000000"))
+
+-- a directory made at second 1,000
+abbrev pub directory : Attr
+directory = record {
+  ino = 2;
+  size = 0;
+  blocks = 0;
+  atime = 1000;
+  mtime = 1000;
+  ctime = 1000;
+  atimensec = 0;
+  mtimensec = 0;
+  ctimensec = 0;
+  mode = 0o040755;
+  nlink = 2;
+  uid = 1000;
+  gid = 1000;
+  rdev = 0;
+  blksize = 4096;
+  flags = 0;
+}
+
+abbrev pub made : EntryOut
+made = record {
+  nodeid = 2;
+  generation = 0;
+  entry_valid = 1;
+  attr_valid = 1;
+  entry_valid_nsec = 0;
+  attr_valid_nsec = 0;
+  attr = directory;
+}
+
+abbrev pub asked : AttrOut
+asked = record { attr_valid = 1; attr_valid_nsec = 0; attr = directory }
+
+abbrev pub directory_bytes : List ℕ
+directory_bytes =
+    hex (codes "0200000000000000") ++ replicate 8 0 ++ replicate 8 0
+    ++ hex (codes "e803000000000000 e803000000000000 e803000000000000") ++ replicate 12 0
+    ++ hex (codes "ed410000 02000000 e8030000 e8030000 00000000 00100000 00000000")
+
+abbrev pub made_bytes : List ℕ
+made_bytes =
+    hex (codes "0200000000000000") ++ replicate 8 0 ++ hex (codes "0100000000000000 0100000000000000") ++ replicate 8 0
+    ++ directory_bytes
+
+-- MKDIR, its resend and GETATTR
+abbrev pub FirstRun : Type 0
+FirstRun =
+    (attr_bytes directory ≡ directory_bytes)
+    × (wire 0 (entry_bytes made) 6 ≡ hex (codes "90000000 00000000 0600000000000000") ++ made_bytes)
+    × (wire 0 (entry_bytes made) 0x8000000000000006 ≡ hex (codes "90000000 00000000 0600000000000080") ++ made_bytes)
+    × (wire 0 (attr_out_bytes asked) 8 ≡ hex (codes "78000000 00000000 0800000000000000 0100000000000000") ++ replicate 8 0 ++ directory_bytes)

@@ -1,0 +1,155 @@
+ghost use Rattle.fuse_answer.specs.Vectors.{ErrorFields, FirstRun, Headers, Reads, Refusals};
+
+use super::*;
+use fuse_wire::{ByteList, Errno, Memory};
+use std::test::*;
+
+#[tactic(auto, unfolding(fuse_wire::specs::Bytes::le))]
+fn error_fields()
+    ensures { ErrorFields }
+{}
+
+#[tactic(auto, unfolding(fuse_wire::specs::Bytes::le, crate::specs::Bodies::header_bytes))]
+fn headers()
+    ensures { Headers }
+{}
+
+#[tactic(auto, unfolding(fuse_wire::specs::Bytes::le, crate::specs::Wire::wire_head, crate::specs::Wire::wire))]
+fn refusals()
+    ensures { Refusals }
+{}
+
+#[tactic(auto, unfolding(fuse_wire::specs::Bytes::le, crate::specs::Wire::wire_head, crate::specs::Wire::wire))]
+fn reads()
+    ensures { Reads }
+{}
+
+#[tactic(auto, unfolding(fuse_wire::specs::Bytes::le, crate::specs::Wire::wire_head, crate::specs::Wire::wire, crate::specs::Bodies::attr_bytes, crate::specs::Bodies::entry_bytes, crate::specs::Bodies::attr_out_bytes))]
+fn first_run()
+    ensures { FirstRun }
+{}
+
+#[test]
+fn vectors() {
+    error_fields();
+    headers();
+    refusals();
+    reads();
+    first_run();
+}
+
+// A directory made at second 1,000, and its bytes.
+const DIRECTORY: Attr = Attr {
+    ino: 2,
+    size: 0,
+    blocks: 0,
+    atime: 1000,
+    mtime: 1000,
+    ctime: 1000,
+    atimensec: 0,
+    mtimensec: 0,
+    ctimensec: 0,
+    mode: 0o040755,
+    nlink: 2,
+    uid: 1000,
+    gid: 1000,
+    rdev: 0,
+    blksize: 4096,
+    flags: 0,
+};
+
+const DIRECTORY_BYTES: [u8; 88] = [
+    2, 0, 0, 0, 0, 0, 0, 0, 0, 0, 0, 0, 0, 0, 0, 0, 0, 0, 0, 0, 0, 0, 0, 0, 0xe8, 3, 0, 0, 0, 0, 0,
+    0, 0xe8, 3, 0, 0, 0, 0, 0, 0, 0xe8, 3, 0, 0, 0, 0, 0, 0, 0, 0, 0, 0, 0, 0, 0, 0, 0, 0, 0, 0,
+    0xed, 0x41, 0, 0, 2, 0, 0, 0, 0xe8, 3, 0, 0, 0xe8, 3, 0, 0, 0, 0, 0, 0, 0, 0x10, 0, 0, 0, 0, 0,
+    0,
+];
+
+#[test]
+fn attributes(rt: HostRuntime) -> Result<(), Memory> {
+    let body = DIRECTORY.body_of(rt.alloc())?;
+    assert_eq!(rt; body.as_slice(), DIRECTORY_BYTES.as_slice());
+    Ok(())
+}
+
+#[test]
+fn entry(rt: HostRuntime) -> Result<(), Memory> {
+    let made = EntryOut {
+        nodeid: 2,
+        generation: 0,
+        entry_valid: 1,
+        attr_valid: 1,
+        entry_valid_nsec: 0,
+        attr_valid_nsec: 0,
+        attr: DIRECTORY,
+    };
+    let body = made.body_of(rt.alloc())?;
+    let front = [
+        2, 0, 0, 0, 0, 0, 0, 0, 0, 0, 0, 0, 0, 0, 0, 0, 1, 0, 0, 0, 0, 0, 0, 0, 1, 0, 0, 0, 0, 0,
+        0, 0, 0, 0, 0, 0, 0, 0, 0, 0,
+    ];
+    assert_eq!(rt; body.len(), EntryOut::SIZE);
+    assert!(rt; body.as_slice().starts_with(&front));
+    assert!(rt; body.as_slice().ends_with(&DIRECTORY_BYTES));
+    Ok(())
+}
+
+#[test]
+fn attr_answer(rt: HostRuntime) -> Result<(), Memory> {
+    let asked = AttrOut {
+        attr_valid: 1,
+        attr_valid_nsec: 0,
+        attr: DIRECTORY,
+    };
+    let body = asked.body_of(rt.alloc())?;
+    let front = [1, 0, 0, 0, 0, 0, 0, 0, 0, 0, 0, 0, 0, 0, 0, 0];
+    assert_eq!(rt; body.len(), AttrOut::SIZE);
+    assert!(rt; body.as_slice().starts_with(&front));
+    assert!(rt; body.as_slice().ends_with(&DIRECTORY_BYTES));
+    Ok(())
+}
+
+#[test]
+fn resend_notice(rt: HostRuntime) -> Result<(), Memory> {
+    let notice = OutHeader {
+        len: 16,
+        error: 7,
+        unique: 0,
+    };
+    let want = [0x10, 0, 0, 0, 7, 0, 0, 0, 0, 0, 0, 0, 0, 0, 0, 0];
+    assert_eq!(rt; notice.body_of(rt.alloc())?.as_slice(), want.as_slice());
+    Ok(())
+}
+
+#[test]
+fn missing_lookup(rt: HostRuntime) -> Result<(), Memory> {
+    let refusal = Answer::refusal(rt.alloc(), Errno::ENOENT);
+    let mut want = [
+        0x10, 0, 0, 0, 0xfe, 0xff, 0xff, 0xff, 4, 0, 0, 0, 0, 0, 0, 0,
+    ];
+    assert_eq!(rt; head_of(4, &refusal), want);
+    want[15] = 0x80;
+    let mut out = Vec::new(rt.alloc());
+    write_answer(
+        0x8000_0000_0000_0004,
+        &refusal.to_copy(rt.alloc())?,
+        &mut out,
+    )?;
+    assert_eq!(rt; out.as_slice(), want.as_slice());
+    Ok(())
+}
+
+#[test]
+fn resent_read(rt: HostRuntime) -> Result<(), Memory> {
+    let body = ByteList::from_vec(Vec::from_slice(rt.alloc(), b"one")?);
+    let read = Answer::success(body);
+    let mut out = Vec::from_slice(rt.alloc(), b"before")?;
+    write_answer(10, &read, &mut out)?;
+    let want = [
+        0x13, 0, 0, 0, 0, 0, 0, 0, 0x0a, 0, 0, 0, 0, 0, 0, 0, b'o', b'n', b'e',
+    ];
+    assert_eq!(rt; &out.as_slice()[..6], b"before".as_slice());
+    assert_eq!(rt; &out.as_slice()[6..], want.as_slice());
+    assert_eq!(rt; head_of(10, &read).as_slice(), &want[..16]);
+    Ok(())
+}

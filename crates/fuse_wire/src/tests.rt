@@ -1,0 +1,142 @@
+ghost use Rattle.std.specs.Prelude.{◌≡◌, ◌==◌};
+ghost use Rattle.std.specs.Int.RustNames.{bit_and};
+ghost use Rattle.fuse_wire.specs.Vectors.{LowestFirst, ReadBack, SameId};
+
+use super::*;
+use bitflags::Flags;
+use std::test::*;
+
+#[tactic(auto, unfolding(crate::specs::Bytes::le))]
+fn lowest_first()
+    ensures { LowestFirst }
+{}
+
+#[tactic(auto, unfolding(crate::specs::Bytes::number_of))]
+fn read_back()
+    ensures { ReadBack }
+{}
+
+fn same_id()
+    ensures { SameId }
+{}
+
+fn has_resend(flags: InitFlags) -> bool
+    ensures { result ≡ (bit_and flags.0 0x80_0000_0000 == 0x80_0000_0000) }
+{
+    flags.contains(InitFlags::HAS_RESEND)
+}
+
+#[test]
+fn vectors() {
+    lowest_first();
+    read_back();
+    same_id();
+    one_number();
+}
+
+#[test]
+fn fields(rt: HostRuntime) {
+    let bytes = [
+        0x34, 0x12, 0x78, 0x56, 0x34, 0x12, 0xfe, 0xff, 0xff, 0xff, 4, 0, 0, 0, 0, 0, 0, 0x80,
+        b'a', b'b', 0, 7, 8, 9,
+    ];
+    let mut fields = Fields::new(&bytes);
+    assert_eq!(rt; fields.u16(), Some(0x1234));
+    assert_eq!(rt; fields.u32(), Some(0x1234_5678));
+    assert_eq!(rt; fields.i32(), Some(-2));
+    assert_eq!(rt; fields.u64(), Some(0x8000_0000_0000_0004));
+    assert_eq!(rt; fields.until_nul(), Some(b"ab".as_slice()));
+    assert_eq!(rt; fields.take(2), Some([7, 8].as_slice()));
+    assert_eq!(rt; fields.rest(), [9].as_slice());
+    assert_eq!(rt; fields.u16(), None);
+    assert_eq!(rt; fields.take(2), None);
+    assert_eq!(rt; fields.until_nul(), None);
+    assert_eq!(rt; fields.rest(), [9].as_slice());
+}
+
+#[test]
+fn puts(rt: HostRuntime) -> Result<(), Memory> {
+    let mut out = Vec::new(rt.alloc());
+    put_u16(&mut out, 0x1234)?;
+    put_u32(&mut out, 0x1234_5678)?;
+    put_i32(&mut out, -2)?;
+    put_u64(&mut out, 0x8000_0000_0000_0004)?;
+    put_bytes(&mut out, b"ab")?;
+    let want = [
+        0x34, 0x12, 0x78, 0x56, 0x34, 0x12, 0xfe, 0xff, 0xff, 0xff, 4, 0, 0, 0, 0, 0, 0, 0x80,
+        b'a', b'b',
+    ];
+    assert_eq!(rt; out.as_slice(), want.as_slice());
+    Ok(())
+}
+
+#[test]
+fn ids(rt: HostRuntime) {
+    assert_eq!(rt; Id::of(0x8000_0000_0000_0006), Id(6));
+    assert_eq!(rt; Id::of(6), Id(6));
+    assert!(rt; is_resend(0x8000_0000_0000_0006));
+    assert!(rt; !is_resend(6));
+}
+
+#[test]
+fn byte_lists(rt: HostRuntime) -> Result<(), Memory> {
+    let list = ByteList::from_vec(Vec::from_slice(rt.alloc(), b"one")?);
+    let copy = list.to_copy(rt.alloc())?;
+    assert_eq!(rt; list.as_slice(), b"one".as_slice());
+    assert_eq!(rt; copy.into_vec().as_slice(), b"one".as_slice());
+    Ok(())
+}
+
+#[test]
+fn init_flags(rt: HostRuntime) {
+    let offered = InitFlags::from_bits_retain(0x80_4000_2021);
+    let known = InitFlags::from_bits_truncate(0x80_4000_2021);
+    assert_eq!(rt; known.bits(), 0x80_4000_0021);
+    assert!(rt; has_resend(offered));
+    assert!(rt; !has_resend(InitFlags::BIG_WRITES));
+    let short = InitFlags::ASYNC_READ | InitFlags::BIG_WRITES | InitFlags::INIT_EXT;
+    assert_eq!(rt; (known & short).bits(), 0x4000_0021);
+    assert_eq!(rt; InitFlags::all().bits(), 0x80_4000_0021);
+}
+
+#[test]
+fn error_numbers(rt: HostRuntime) {
+    assert_eq!(rt; Errno::NONE, Errno(0));
+    let numbers = [
+        (Errno::ENOENT, 2),
+        (Errno::EBADF, 9),
+        (Errno::EEXIST, 17),
+        (Errno::ENOTDIR, 20),
+        (Errno::EISDIR, 21),
+        (Errno::EINVAL, 22),
+        (Errno::ENFILE, 23),
+        (Errno::EFBIG, 27),
+        (Errno::ENOSPC, 28),
+        (Errno::ENAMETOOLONG, 36),
+        (Errno::ENOSYS, 38),
+        (Errno::ENOTEMPTY, 39),
+        (Errno::EPROTO, 71),
+        (Errno::ESTALE, 116),
+    ];
+    for (errno, number) in numbers {
+        assert_eq!(rt; errno.0, number);
+    }
+}
+
+#[test]
+fn want_of_memory_is_printed(rt: HostRuntime) -> Result<(), Fail> {
+    let text = format!(in rt.alloc(); "{}", Memory)?;
+    assert_eq!(rt; text.as_str(), "out of memory");
+    let moment = Moment {
+        secs: 1000,
+        nanos: 0,
+    };
+    assert_eq!(rt;
+        moment,
+        Moment {
+            secs: 1000,
+            nanos: 0
+        }
+    );
+    Ok(())
+}
