@@ -4,6 +4,7 @@
 mod limits;
 mod look;
 mod mode;
+mod plain;
 mod rows;
 
 pub use limits::{
@@ -12,4 +13,5 @@ pub use limits::{
 };
 pub use look::{Look, LookFault};
 pub use mode::{S_IFDIR, S_IFREG, TYPE_UNIT, TYPES};
+pub use plain::PlainRows;
 pub use rows::{Change, ChangeList, Counters, EntryRow, Full, HandleRow, NodeRow, Planned};
