@@ -1,1 +1,3 @@
 mod Placed
+mod Kept
+mod Mounts

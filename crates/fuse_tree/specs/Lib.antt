@@ -2,4 +2,5 @@ pub mod State
 pub mod Rows
 pub mod NumbersOnce
 pub mod PlainRows
+pub mod Clearing
 pub mod Do

@@ -4,6 +4,7 @@
 mod limits;
 mod look;
 mod mode;
+mod mount;
 mod plain;
 mod rows;
 
@@ -13,5 +14,6 @@ pub use limits::{
 };
 pub use look::{Look, LookFault};
 pub use mode::{S_IFDIR, S_IFREG, TYPE_UNIT, TYPES};
-pub use plain::PlainRows;
+pub use mount::clearing;
+pub use plain::{PlainRows, fails_by_memory_alone};
 pub use rows::{Change, ChangeList, Counters, EntryRow, Full, HandleRow, NodeRow, Planned};
