@@ -1,0 +1,13 @@
+pub mod Agreeing
+pub mod Bounds
+pub mod Counts
+mod Kept
+pub mod Lists
+pub mod Making
+mod Mounts
+pub mod NewStore
+mod Placed
+pub mod Puts
+pub mod Telling
+pub mod Trees
+pub mod Ups
