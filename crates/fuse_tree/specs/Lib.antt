@@ -1,0 +1,5 @@
+pub mod State
+pub mod Rows
+pub mod NumbersOnce
+pub mod PlainRows
+pub mod Do

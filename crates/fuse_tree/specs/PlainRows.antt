@@ -1,0 +1,12 @@
+-- The rows that lists hold (own profile).
+use Rattle.std.specs.Prelude.{Option}
+use Rattle.fuse_tree.specs.declared.look.LookFault.{LookFault}
+use Rattle.fuse_tree.specs.declared.plain.PlainRows.{PlainRows}
+use Rattle.fuse_tree.specs.Rows.{Rows}
+
+abbrev pub rows_of : PlainRows → Rows
+rows_of p = record { nodes = p.nodes; entries = p.entries.items; handles = p.handles.items; counters = p.counters; settings = p.settings }
+
+-- the fault of a look, once there was one
+abbrev pub fault_of : PlainRows → Option LookFault
+fault_of p = p.fault

@@ -1,0 +1,17 @@
+//! A tree of files: what each request answers, and which rows it changes.
+#![tactic(auto)]
+
+mod limits;
+mod look;
+mod mode;
+mod plain;
+mod rows;
+
+pub use limits::{
+    BLOCK_SIZE, COUNTER_END, MAX_FILE, MAX_HANDLES, MAX_NAME, MAX_NODES, ROOT_ID, SECTOR_SIZE,
+    VALID_SECS,
+};
+pub use look::{Look, LookFault};
+pub use mode::{S_IFDIR, S_IFREG, TYPE_UNIT, TYPES};
+pub use plain::PlainRows;
+pub use rows::{Change, ChangeList, Counters, EntryRow, Full, HandleRow, NodeRow, Planned};
