@@ -3,3 +3,5 @@ pub mod Rows
 pub mod NumbersOnce
 pub mod PlainRows
 pub mod Do
+pub mod Plan
+pub mod Planning
