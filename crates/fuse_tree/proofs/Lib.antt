@@ -9,3 +9,5 @@ pub mod Puts
 pub mod Telling
 pub mod Trees
 pub mod Ups
+mod Kept
+mod Mounts

@@ -5,6 +5,7 @@ mod laws;
 mod limits;
 mod look;
 mod mode;
+mod mount;
 mod plain;
 mod planning;
 mod rows;
@@ -16,6 +17,7 @@ pub use limits::{
 };
 pub use look::{Look, LookFault};
 pub use mode::{S_IFDIR, S_IFREG, TYPE_UNIT, TYPES};
-pub use plain::PlainRows;
+pub use mount::clearing;
+pub use plain::{PlainRows, fails_by_memory_alone};
 pub use planning::{PlanFault, plan};
 pub use rows::{Change, ChangeList, Counters, EntryRow, Full, HandleRow, NodeRow, Planned};

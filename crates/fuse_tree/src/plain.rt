@@ -1,3 +1,5 @@
+ghost use Rattle.fuse_tree.specs.PlainRows.{FailsByMemoryAlone};
+
 mod contents;
 mod entries;
 mod handles;
@@ -19,13 +21,15 @@ pub struct PlainRows {
     handles: Vec<HandleRow>,
     counters: Counters,
     settings: Option<Settings>,
-    fault: Option<LookFault>,
+    // A look has failed: it wanted memory.
+    failed: bool,
 }
 
 impl PlainRows {
     ghost use Rattle.std.specs.Prelude.{◌≡◌, None, Some, IfOk, OnOk, OnErr, ◌++◌, ◌∷◌, [], map, filter, not, ◌==◌};
     ghost use Rattle.fuse_tree.specs.State.{new_store};
     ghost use Rattle.fuse_tree.specs.Rows.{rowed, apply_one, apply, put_node, at_node, written, sized};
+    ghost use Rattle.fuse_tree.specs.Clearing.{cleared_rows};
     ghost use Rattle.fuse_tree.specs.PlainRows.{rows_of, fault_of};
 
     /// A new store, made at this moment.
@@ -48,7 +52,7 @@ impl PlainRows {
                 handles: 0,
             },
             settings: None,
-            fault: None,
+            failed: false,
         })
     }
 
@@ -64,7 +68,7 @@ impl PlainRows {
             handles: Vec::from_slice(self.alloc, self.handles.as_slice())?,
             counters: self.counters,
             settings: self.settings,
-            fault: None,
+            failed: false,
         })
     }
 
@@ -113,6 +117,32 @@ impl PlainRows {
             self.apply(change)?;
         }
         Ok(())
+    }
+
+    /// Begins a mount: handles, settings and the nodes without a name go. No memory is taken.
+    pub fn begin_mount(&mut self)
+        ensures rows { rows_of self.new ≡ cleared_rows (rows_of self.old) }
+        ensures fault { fault_of self.new ≡ fault_of self.old }
+    {
+        self.nodes.keep_named();
+        self.handles.clear();
+        self.counters.nodes = self.nodes.len() as u64;
+        self.counters.handles = 0;
+        self.settings = None;
+    }
+
+    /// The counters, by a look that cannot fail.
+    pub fn counted(&self) -> Counters
+        ensures { result ≡ (rows_of self.now).counters }
+    {
+        self.counters
+    }
+
+    /// What was agreed on by INIT, by a look that cannot fail.
+    pub fn agreed(&self) -> Option<Settings>
+        ensures { result ≡ (rows_of self.now).settings }
+    {
+        self.settings
     }
 
     fn put_node(&mut self, row: NodeRow) -> Result<(), Memory>
@@ -172,6 +202,11 @@ impl PlainRows {
     }
 }
 
+/// A look in lists fails by want of memory alone.
+pub fn fails_by_memory_alone()
+    ensures { FailsByMemoryAlone }
+{}
+
 impl Look for PlainRows {
     ghost use Rattle.std.specs.Prelude.{◌≡◌};
     ghost use Rattle.std.proofs.Common.{refl, sym, ◌∙◌};
@@ -195,7 +230,7 @@ impl Look for PlainRows {
         match entries::found(self.alloc, self.entries.as_slice(), dir, name) {
             Ok(entry) => Ok(entry),
             Err(Memory) => {
-                self.fault = Some(LookFault::Memory);
+                self.failed = true;
                 Err(LookFault::Memory)
             }
         }
@@ -210,7 +245,7 @@ impl Look for PlainRows {
         match entries::after(self.alloc, self.entries.as_slice(), dir, cookie, limit) {
             Ok(entries) => Ok(entries),
             Err(Memory) => {
-                self.fault = Some(LookFault::Memory);
+                self.failed = true;
                 Err(LookFault::Memory)
             }
         }
@@ -224,7 +259,7 @@ impl Look for PlainRows {
         match self.nodes.bytes(self.alloc, node, offset, len) {
             Ok(bytes) => Ok(bytes),
             Err(Memory) => {
-                self.fault = Some(LookFault::Memory);
+                self.failed = true;
                 Err(LookFault::Memory)
             }
         }
@@ -239,7 +274,11 @@ impl Look for PlainRows {
     }
 
     fn failed(&self) -> Option<LookFault> {
-        self.fault
+        if self.failed {
+            Some(LookFault::Memory)
+        } else {
+            None
+        }
     }
 
     ghost still = { λ a. refl };

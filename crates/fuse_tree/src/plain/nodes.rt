@@ -25,9 +25,10 @@ impl Model for NodeList {
 }
 
 impl NodeList {
-    ghost use Rattle.std.specs.Prelude.{◌≡◌, ◌==◌, IfOk, OnOk, OnErr, [], map, find, take, drop};
+    ghost use Rattle.std.specs.Prelude.{◌≡◌, ◌==◌, IfOk, OnOk, OnErr, [], length, map, filter, find, take, drop};
     ghost use Rattle.std.specs.Option.{option_map};
     ghost use Rattle.fuse_tree.specs.Rows.{put_node, at_node, written, sized, content_of};
+    ghost use Rattle.fuse_tree.specs.Clearing.{is_named_row};
 
     pub fn new(alloc: Global) -> NodeList
         ensures { result ≡ [] }
@@ -103,12 +104,25 @@ impl NodeList {
         }
         Ok(())
     }
+
+    pub fn keep_named(&mut self)
+        ensures { self.new ≡ filter is_named_row self.old }
+    {
+        self.nodes.retain(|full| is_named(full));
+    }
+
+    pub fn len(&self) -> usize
+        ensures { result ≡ length self.now }
+    {
+        self.nodes.len()
+    }
 }
 
 ghost use Rattle.std.specs.Prelude.{◌≡◌, ◌==◌, IfOk, find, take, drop, position};
 ghost use Rattle.std.specs.Option.{option_map};
 ghost use Rattle.fuse_tree.specs.State.{root_node, new_store};
 ghost use Rattle.fuse_tree.specs.Rows.{row_of, content_of};
+ghost use Rattle.fuse_tree.specs.Clearing.{is_named_row};
 
 /// The root of a new store.
 pub fn root_row(now: Moment) -> NodeRow
@@ -127,6 +141,12 @@ pub fn root_row(now: Moment) -> NodeRow
         up: 0,
         subdirs: 0,
     }
+}
+
+fn is_named(full: &Full) -> bool
+    ensures { result ≡ is_named_row full.now }
+{
+    full.row.node == ROOT_ID || full.row.up != 0
 }
 
 fn place_in(nodes: &[Full], number: u64) -> Option<usize>
