@@ -6,8 +6,13 @@ use Rattle.fuse_answer.specs.Said.{Said}
 use Rattle.fuse_tree.specs.State.{State, Tree}
 use Rattle.fuse_tree.specs.Rows.{Rows, rowed, IsRowed}
 use Rattle.fuse_tree.specs.Clearing.{cleared, cleared_rows, Clearing}
+use Rattle.fuse_tree.specs.declared.planning.fault.PlanFault.{PlanFault}
+use Rattle.fuse_tree.specs.declared.planning.fault.PlanFault.TheVariants as plans
+use Rattle.fuse_store.specs.declared.fault.StoreFault.{StoreFault}
+use Rattle.fuse_store.specs.declared.fault.StoreFault.TheVariants.{Memory}
 use Rattle.fuse_store.specs.History.{History, after}
 use Rattle.fuse_store.specs.Stands.{Records, Stands, StandsFor, AreThese, IsFirm, KeepsHeld}
+use Rattle.fuse_store.specs.Taking.{CausedBy}
 use Rattle.fuse_store.specs.Plain.{mapped}
 use Rattle.fuse_store.proofs.Standing.{Stands-same, Stands-rowed, Stands-start}
 use Rattle.fuse_store.proofs.Performing.{these_stand, stand_so}
@@ -48,3 +53,12 @@ mount_begins rows records rows' records' s h t clearing is none so =
     let stands = these_stand rows records s h t so in
     let clear = clearing (after s h) stands.tree in
     starts rows' records' (cleared (after s h)) clear.0 (is ∙ ap cleared_rows stands.rows_are ∙ sym clear.1) none
+
+-- ---- faults
+
+-- over the rows of a tree a plan in lists wants nothing but memory
+pub caused : (fault : PlanFault) (f : StoreFault) (rows : Rows) → CausedBy fault f → (fault ≡ plans.NotATree → (s : State) → Tree s → rows ≡ rowed s → ⊥) → IsRowed rows → f ≡ Memory
+unfolding IsRowed
+caused (plans.Look look) f rows is isnt of_tree = is
+caused plans.Memory f rows is isnt of_tree = is
+caused plans.NotATree f rows is isnt (s, tree, are) = absurd (isnt refl s tree are)

@@ -1,5 +1,7 @@
 -- Records in a list, over others.
-use Rattle.std.proofs.Common.{◌≡◌, ℕ, Bool, true, false, ◌==◌, ◌⊎◌, inl, inr, if◌then◌else◌, List, [], ◌∷◌, ◌++◌, Option, Some, None, refl, sym, ap, subst, ◌∙◌, nat_eq, cond, arith}
+use Rattle.std.proofs.Common.{◌≡◌, ℕ, Bool, true, false, ◌==◌, ◌⊎◌, inl, inr, if◌then◌else◌, List, [], ◌∷◌, ◌++◌, Option, Some, None, refl, sym, ap, subst, ◌∙◌, nat_eq, cond, arith, get_or}
+use Rattle.fuse_wire.specs.declared.moment.Moment.{Moment}
+use Rattle.fuse_request.specs.declared.request.Request.{Request}
 use Rattle.fuse_answer.specs.Said.{Said}
 use Rattle.fuse_tree.specs.State.{State}
 use Rattle.fuse_tree.specs.Rows.{Rows, IsRowed}
@@ -7,6 +9,7 @@ use Rattle.fuse_store.specs.declared.group.Record.{Record}
 use Rattle.fuse_store.specs.declared.keeper.Done.{Done}
 use Rattle.fuse_store.specs.History.{Entry, entry_id, History, next_state, is_in, ids_in, Includes}
 use Rattle.fuse_store.specs.Stands.{Records, Stands, StandsFor, AreThese, Performed, OthersStay}
+use Rattle.fuse_store.specs.Group.{entry_of}
 use Rattle.fuse_store.specs.Taking.{Acts, Took, TookBy}
 use Rattle.fuse_store.specs.Plain.{listed, first_of, over, without, record_ids}
 use Rattle.fuse_store.proofs.Histories.{tested, map-append}
@@ -75,6 +78,7 @@ took_new rows base added e rows' r added' done none acts is id answer repeated =
     rw none (acts, λ i. ap (λ l. over l base i) is ∙ one_more_over added r base i (ap (over added base) id ∙ none) ∙ rw (id, answer), repeated)
 
 took_rowed_by : (o : Option Said) (rows : Rows) (records : Records) (e : Entry) (rows' : Rows) (records' : Records) (done : Done) → TookBy o rows records e rows' records' done → IsRowed rows → IsRowed rows'
+unfolding IsRowed
 took_rowed_by (Some known) rows records e rows' records' done took (s, tree, is) = (s, tree, took.0 ∙ is)
 took_rowed_by None rows records e rows' records' done took (s, tree, is) =
     let acted = took.0 s tree is in
@@ -83,6 +87,11 @@ took_rowed_by None rows records e rows' records' done took (s, tree, is) =
 -- the rows stay those of a tree
 pub took_rowed : (rows : Rows) (records : Records) (e : Entry) (rows' : Rows) (records' : Records) (done : Done) → Took rows records e rows' records' done → IsRowed rows → IsRowed rows'
 took_rowed rows records e rows' records' done took so = took_rowed_by (records (entry_id e)) rows records e rows' records' done took so
+
+-- of an entry of a group
+pub took_rowed_at : (group : List (Request × Moment)) (i : ℕ) (d : Request × Moment) (rows : Rows) (records : Records) (rows' : Rows) (records' : Records) (done : Done)
+    → Took rows records (entry_of (get_or group i d)) rows' records' done → IsRowed rows → IsRowed rows'
+took_rowed_at group i d rows records rows' records' done took so = took_rowed rows records (entry_of (get_or group i d)) rows' records' done took so
 
 -- ---- what is known of an id
 

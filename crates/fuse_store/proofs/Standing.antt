@@ -24,6 +24,7 @@ Stands-same rows records x r s h t same so = record {
 
 -- the rows are those of a tree
 pub Stands-rowed : (rows : Rows) (records : Records) (s : State) (h : History) (t : List ℕ) → Stands rows records s h t → IsRowed rows
+unfolding IsRowed
 Stands-rowed rows records s h t so = (after s h, so.tree, so.rows_are)
 
 -- a start stands for the empty history
