@@ -1,3 +1,12 @@
-mod Placed
-mod Kept
-mod Mounts
+pub mod Agreeing
+pub mod Bounds
+pub mod Counts
+pub mod Lists
+pub mod Making
+pub mod NewStore
+pub mod Puts
+pub mod Telling
+pub mod Trees
+pub mod Ups
+pub mod Placed
+pub mod Mounts

@@ -1,6 +1,6 @@
 -- What each request does to a state and answers (own profile), over the whole state: the first check that
 -- applies decides. Neither unique nor pid nor the extensions are looked at.
-use Rattle.std.specs.Prelude.{◌+◌, ◌/◌, ◌%◌, ◌==◌, ◌||◌, ℕ, Bool, not, nat_le, if◌then◌else◌, List, [], ◌∷◌, ◌++◌, length, map, Option, Some, None, is_some}
+use Rattle.std.specs.Prelude.{◌+◌, ◌-◌, ◌/◌, ◌%◌, ◌==◌, ◌||◌, ℕ, Bool, not, nat_le, if◌then◌else◌, List, [], ◌∷◌, ◌++◌, length, map, Option, Some, None, is_some}
 use Rattle.fuse_wire.specs.declared.errno.Errno.{Errno}
 use Rattle.fuse_wire.specs.declared.errno.TheConstants.Errno.{ENOENT, EEXIST, ENOTDIR, ENOSPC, ENOSYS, ESTALE}
 use Rattle.fuse_wire.specs.declared.moment.Moment.{Moment}
@@ -14,6 +14,7 @@ use Rattle.fuse_answer.specs.declared.records.EntryOut.{EntryOut}
 use Rattle.fuse_answer.specs.declared.records.AttrOut.{AttrOut}
 use Rattle.fuse_tree.specs.declared.limits.TheConstants.{MAX_NODES, COUNTER_END, BLOCK_SIZE, SECTOR_SIZE, VALID_SECS}
 use Rattle.fuse_tree.specs.declared.mode.TheConstants.{S_IFDIR, TYPE_UNIT}
+use Rattle.fuse_tree.specs.declared.planning.make.NewNode.{NewNode}
 use Rattle.fuse_tree.specs.declared.rows.EntryRow.{EntryRow}
 use Rattle.fuse_tree.specs.State.{State, Node, is_dir, node_at, is_named, links_of, name_fault}
 use Rattle.fuse_tree.specs.Rows.{entry_at}
@@ -42,7 +43,7 @@ abbrev pub attr_of : State → Node → Attr
 attr_of s n = record {
   ino = n.number;
   size = length n.content;
-  blocks = (length n.content + 511) / SECTOR_SIZE;
+  blocks = (length n.content + (SECTOR_SIZE - 1)) / SECTOR_SIZE;
   atime = n.atime.secs;
   mtime = n.mtime.secs;
   ctime = n.ctime.secs;
@@ -76,11 +77,14 @@ abbrev pub lookup_entry : State → Option EntryRow → Done
 lookup_entry s None = refuse s ENOENT
 lookup_entry s (Some e) = lookup_child s (node_at s e.child)
 
--- in directory n, or in what isn't one
+-- where directory n has a name of its own
+abbrev pub lookup_named : State → List ℕ → Node → Done
+lookup_named s name n = if not (is_named s n.number) then refuse s ENOENT else lookup_entry s (entry_at s.entries n.number name)
+
 abbrev pub lookup : State → List ℕ → Node → Done
 lookup s name n =
     if not (is_dir n.mode) then refuse s ENOTDIR
-    else refuse_for s (name_fault name) (if not (is_named s n.number) then refuse s ENOENT else lookup_entry s (entry_at s.entries n.number name))
+    else refuse_for s (name_fault name) (lookup_named s name n)
 
 -- ---- GETATTR
 
@@ -89,24 +93,28 @@ getattr s n = answer s (attr_out_bytes (attr_out_of (attr_of s n)))
 
 -- ---- a new node
 
--- a node, and where it is this directory, its times are the moment
+-- where the node is this directory, its times are the moment
 abbrev pub touched : ℕ → Moment → Node → Node
 touched dir now n = record n { mtime = if n.number == dir then now else n.mtime; ctime = if n.number == dir then now else n.ctime }
 
--- the times of a directory whose entries change
+-- the state whose entries in this directory change at this moment
 abbrev pub touch : ℕ → Moment → State → State
 touch dir now s = record s { nodes = map (touched dir now) s.nodes }
 
-abbrev pub new_node : State → InHeader → ℕ → ℕ → Moment → Node
-new_node s header mode rdev now = record {
+-- what a request's new node begins with
+abbrev pub begun : InHeader → ℕ → ℕ → Moment → NewNode
+begun header mode rdev now = record { mode = mode; uid = header.uid; gid = header.gid; rdev = rdev; made = now }
+
+abbrev pub new_node : State → NewNode → Node
+new_node s fresh = record {
   number = s.next_node;
-  mode = mode;
-  uid = header.uid;
-  gid = header.gid;
-  rdev = rdev;
-  atime = now;
-  mtime = now;
-  ctime = now;
+  mode = fresh.mode;
+  uid = fresh.uid;
+  gid = fresh.gid;
+  rdev = fresh.rdev;
+  atime = fresh.made;
+  mtime = fresh.made;
+  ctime = fresh.made;
   content = [];
 }
 
@@ -122,37 +130,37 @@ grow n e s = record s {
   next_cookie = s.next_cookie + 1;
 }
 
--- the state with a new node of this mode, under this name in the header's directory
-abbrev pub with_node : State → InHeader → ℕ → ℕ → List ℕ → Moment → State
-with_node s header mode rdev name now = grow (new_node s header mode rdev now) (new_entry s header.nodeid name) (touch header.nodeid now s)
+-- the state with a new node under this name in the directory
+abbrev pub with_node : State → NewNode → ℕ → List ℕ → State
+with_node s fresh dir name = grow (new_node s fresh) (new_entry s dir name) (touch dir fresh.made s)
 
--- no room for a node: too many nodes, or a counter is at its end
+-- no room for a node: there are too many, or a counter is at its end
 abbrev pub is_full : ℕ → ℕ → ℕ → Bool
 is_full nodes next_node next_cookie = nat_le MAX_NODES nodes || nat_le COUNTER_END next_node || nat_le COUNTER_END next_cookie
 
 -- a new node, where there is room for it
-abbrev pub make_with_room : State → InHeader → ℕ → ℕ → List ℕ → Moment → Done
-make_with_room s header mode rdev name now =
+abbrev pub make_with_room : State → NewNode → ℕ → List ℕ → Done
+make_with_room s fresh dir name =
     if is_full (length s.nodes) s.next_node s.next_cookie then refuse s ENOSPC
-    else (let after = with_node s header mode rdev name now in answer after (entry_bytes (entry_of (attr_of after (new_node s header mode rdev now)))))
+    else answer (with_node s fresh dir name) (entry_bytes (entry_of (attr_of (with_node s fresh dir name) (new_node s fresh))))
 
--- a new node in directory n, where its name is free
-abbrev pub make : State → InHeader → ℕ → ℕ → List ℕ → Moment → Node → Done
-make s header mode rdev name now n =
+-- a new node in directory n, where the name is free
+abbrev pub make : State → NewNode → List ℕ → Node → Done
+make s fresh name n =
     if not (is_named s n.number) then refuse s ENOENT
     else if is_some (entry_at s.entries n.number name) then refuse s EEXIST
-    else make_with_room s header mode rdev name now
+    else make_with_room s fresh n.number name
 
 -- ---- MKDIR
 
--- the mode of a new directory: the type, and the permissions asked for
+-- the mode of a new directory: its type, and the permissions asked for
 abbrev pub dir_mode : ℕ → ℕ
 dir_mode mode = S_IFDIR + mode % TYPE_UNIT
 
 abbrev pub mkdir : State → InHeader → ℕ → List ℕ → Moment → Node → Done
 mkdir s header mode name now n =
     if not (is_dir n.mode) then refuse s ENOTDIR
-    else refuse_for s (name_fault name) (make s header (dir_mode mode) 0 name now n)
+    else refuse_for s (name_fault name) (make s (begun header (dir_mode mode) 0 now) name n)
 
 -- ---- all requests
 

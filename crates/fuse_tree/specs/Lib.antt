@@ -4,3 +4,5 @@ pub mod NumbersOnce
 pub mod PlainRows
 pub mod Clearing
 pub mod Do
+pub mod Plan
+pub mod Planning

@@ -59,12 +59,8 @@ unfoldable pub rowed : State → Rows
 rowed s = rows_of_state s
 
 -- the rows are those of a tree
-abbrev pub IsRowed : Rows → Type 0
+unfoldable pub IsRowed : Rows → Type 0
 IsRowed rows = (s : State) × Tree s × (rows ≡ rowed s)
-
--- the rows tell the whole state
-abbrev pub RowsTellState : Type 0
-RowsTellState = (s other : State) → rowed s ≡ rowed other → s ≡ other
 
 -- ---- what a look tells
 
