@@ -1,0 +1,10 @@
+//! The program `fusekeep`: serves recorded streams of FUSE requests.
+#![tactic(auto)]
+
+mod arguments;
+mod counts;
+mod ending;
+
+
+
+fn main(_rt: HostRuntime) {}
