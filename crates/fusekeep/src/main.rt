@@ -4,6 +4,7 @@
 mod arguments;
 mod counts;
 mod ending;
+mod printing;
 
 
 
