@@ -16,7 +16,7 @@ use Rattle.fuse_request.specs.declared.decoding.Malformed.{Malformed}
 use Rattle.fuse_request.specs.Act.{Asked, Act, asked}
 use Rattle.fuse_request.specs.Spelling.{IsNamed, opcode_of, parts, header_parts, Spells}
 use Rattle.fuse_request.specs.Faults.{first_fault}
-use Rattle.fuse_request.specs.Places.{act_at, header_at, asked_at}
+use Rattle.fuse_request.specs.Places.{act_at, header_at, act_in, ext_in, asked_at}
 use Rattle.fuse_request.proofs.Acts.{one_act}
 
 -- what the message says at the places of v
@@ -72,7 +72,7 @@ has_parts v m s =
     }
 
 pub is_at : (v : Asked) (m : List ℕ) → Spells v m → asked_at m ≡ v
-unfolding asked_at
+unfolding act_in ext_in
 is_at v m s =
     let p = has_parts v m s in
     let one = one_act v.act p.body p.laid s.named in

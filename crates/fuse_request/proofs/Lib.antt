@@ -5,3 +5,4 @@ pub mod Streams
 pub mod Framing
 pub mod Canons
 pub mod Classes
+pub mod Vectors

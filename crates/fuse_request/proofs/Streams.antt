@@ -36,8 +36,8 @@ at_front m rest h =
     let there : length m ≤ length (m ++ rest) = omega (arith, length-append m rest) in
     (rw (size, le-leb 4 (length (m ++ rest)) long, le-leb 40 (length m) low, le-leb (length m) 135168 high, le-leb (length m) (length (m ++ rest)) there) refl, size)
 
-cons_cuts : (w : List ℕ) (more : List (List ℕ) × List ℕ) → is_whole w ≡ true → Cuts (drop (number_of 4 w) w) more.0 more.1 → Cuts w (take (number_of 4 w) w ∷ more.0) more.1
-cons_cuts w more e h =
+pub first_message : (w : List ℕ) → is_whole w ≡ true → IsMessage (take (number_of 4 w) w)
+first_message w e =
     let k : ℕ = number_of 4 w in
     let f = front_of w e in
     let there : k ≤ length w = f.there in
@@ -46,9 +46,14 @@ cons_cuts w more e h =
     let len : length (take k w) ≡ k = omega (arith, length-take k w) in
     let read : number_of 4 (take k w ++ drop k w) ≡ number_of 4 (take k w) = number_of-append 4 (take k w) (drop k w) (omega arith) in
     let same : number_of 4 (take k w) ≡ k = sym read ∙ ap (number_of 4) (take-append-drop k w) in
+    record { size = same ∙ sym len; low = omega arith; high = omega arith }
+
+cons_cuts : (w : List ℕ) (more : List (List ℕ) × List ℕ) → is_whole w ≡ true → Cuts (drop (number_of 4 w) w) more.0 more.1 → Cuts w (take (number_of 4 w) w ∷ more.0) more.1
+cons_cuts w more e h =
+    let k : ℕ = number_of 4 w in
     record {
       whole = sym (take-append-drop k w) ∙ ap (λ (x : List ℕ). take k w ++ x) h.whole ∙ rw flat_map-cons (sym (append_assoc (take k w) (joined more.0) more.1));
-      each = (record { size = same ∙ sym len; low = omega arith; high = omega arith }, h.each);
+      each = (first_message w e, h.each);
       stuck = h.stuck;
     }
 

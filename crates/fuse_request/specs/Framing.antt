@@ -1,11 +1,11 @@
 -- What a framer holds, and what it answers (own profile).
-use Rattle.std.specs.Prelude.{◌≡◌, ◌≤◌, ◌+◌, ◌-◌, ◌^◌, ℕ, true, false, nat_lt, if◌then◌else◌, List, [], ◌∷◌, length, take, drop, Option, Some, None, Result, Ok, Err, IfSome}
+use Rattle.std.specs.Prelude.{◌≡◌, ◌≤◌, ◌+◌, ◌-◌, ◌^◌, ℕ, nat_lt, if◌then◌else◌, List, [], ◌∷◌, ◌++◌, length, Option, Some, None, Result, Ok, Err, IfSome}
 use Rattle.std.specs.Option.{option_or}
 use Rattle.fuse_wire.specs.Bytes.{number_of}
 use Rattle.fuse_request.specs.declared.header.TheConstants.{MIN_MESSAGE, MAX_MESSAGE}
 use Rattle.fuse_request.specs.declared.framer.FrameFault.{FrameFault}
 use Rattle.fuse_request.specs.declared.framer.FrameFault.TheVariants.{Short, TooLong, Cut, Memory}
-use Rattle.fuse_request.specs.Stream.{is_whole, cut}
+use Rattle.fuse_request.specs.Stream.{cut, IsMessage}
 
 -- the bytes fed and not given out, the offset at which they begin, and the bad length that was answered
 pub record Held : Type 0 where
@@ -30,16 +30,24 @@ pub record IsHeld (h : Held) : Type 0 where
   pub fed : fed_of h ≤ 2 ^ 60
   pub fault : IfSome h.fault (λ f. bad_length h.at h.bytes ≡ Some f)
 
--- the first message was given out
-abbrev pub passed : Held → Held
-passed h = record h { bytes = drop (number_of 4 h.bytes) h.bytes; at = h.at + number_of 4 h.bytes }
+-- the first message of the cut is given out, and what follows it is held then
+pub record Gives (old new : Held) (m : List ℕ) : Type 0 where
+  pub message : IsMessage m
+  pub first : cut old.bytes ≡ (m ∷ (cut new.bytes).0, (cut new.bytes).1)
+  pub rest : old.bytes ≡ m ++ new.bytes
+  pub at : new.at ≡ old.at + length m
+  pub fault : new.fault ≡ old.fault
+
+-- there is no message yet
+abbrev pub HasNone : List ℕ → Type 0
+HasNone w = cut w ≡ ([], w)
 
 -- what is answered next, and what is held then
 abbrev pub GivesNext : Held → Held → Result (Option (List ℕ)) FrameFault → Type 0
-GivesNext old new (Ok (Some m)) = (is_whole old.bytes ≡ true) × (m ≡ take (number_of 4 old.bytes) old.bytes) × (new ≡ passed old)
-GivesNext old new (Ok None) = (is_whole old.bytes ≡ false) × (bad_length old.at old.bytes ≡ None) × (new ≡ old)
-GivesNext old new (Err Memory) = (is_whole old.bytes ≡ true) × (new ≡ old)
-GivesNext old new (Err f) = (bad_length old.at old.bytes ≡ Some f) × (new ≡ record old { fault = Some f })
+GivesNext old new (Ok (Some m)) = Gives old new m
+GivesNext old new (Ok None) = HasNone old.bytes × (bad_length old.at old.bytes ≡ None) × (new ≡ old)
+GivesNext old new (Err Memory) = ¬ (HasNone old.bytes) × (new ≡ old)
+GivesNext old new (Err f) = HasNone old.bytes × (bad_length old.at old.bytes ≡ Some f) × (new ≡ record old { fault = Some f })
 
 -- how many bytes a message needs that isn't whole
 abbrev pub needed : List ℕ → ℕ

@@ -9,3 +9,4 @@ pub mod Classes
 pub mod Canon
 pub mod Stream
 pub mod Framing
+pub mod Vectors

@@ -27,5 +27,11 @@ header_at m = record {
   pid = (raw_of m).pid;
 }
 
-unfoldable pub asked_at : List ℕ → Asked
-asked_at m = record { header = header_at m; act = act_at (raw_of m).opcode (body_of m); ext = drop (length m - ext_len m) m }
+unfoldable pub act_in : List ℕ → Act
+act_in m = act_at (raw_of m).opcode (body_of m)
+
+unfoldable pub ext_in : List ℕ → List ℕ
+ext_in m = drop (length m - ext_len m) m
+
+abbrev pub asked_at : List ℕ → Asked
+asked_at m = record { header = header_at m; act = act_in m; ext = ext_in m }

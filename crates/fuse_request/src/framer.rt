@@ -1,4 +1,4 @@
-ghost use Rattle.std.specs.Prelude.{◌≡◌, ◌+◌, ◌<◌, ◌≤◌, ◌^◌, ◌++◌, [], None, Some, length, if◌then◌else◌, OnOk, OnErr, IfOk, IfErr};
+ghost use Rattle.std.specs.Prelude.{◌≡◌, ◌+◌, ◌<◌, ◌≤◌, ◌^◌, ◌++◌, [], None, Some, length, if◌then◌else◌, OnOk, OnErr, IfOk, IfErr, IfSome};
 ghost use Rattle.std.specs.Option.{unwrap_or};
 ghost use Rattle.std.specs.Result.{result_err};
 ghost use Rattle.fuse_wire.specs.Bytes.{number_of};
@@ -138,6 +138,9 @@ impl Framer {
     /// The next message, where it is whole. A bad length is answered as soon as its four bytes are there.
     pub fn next(&mut self) -> Result<Option<Bytes>, FrameFault>
         ensures next { GivesNext self.old self.new result }
+        // A bad length that was answered is answered from then on.
+        ensures again { IfSome self.old.fault (λ f. result ≡ Err f) }
+
         ensures room { IfOk result (λ message. message ≡ None → length self.new.bytes < MAX_MESSAGE) }
     {
         if let Some(fault) = length_fault(self.at, &self.held) {

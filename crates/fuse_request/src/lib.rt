@@ -15,3 +15,6 @@ pub use framer::{FrameFault, Framer};
 pub use header::{MAX_MESSAGE, MIN_MESSAGE, RawHeader, header_of};
 pub use laws::{canon_spells, cut_joins, cut_steps, one_cut};
 pub use request::{InHeader, Op, Request};
+
+#[cfg(test)]
+mod tests;
