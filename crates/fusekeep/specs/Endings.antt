@@ -1,5 +1,9 @@
 -- The table of endings: the exit status of each, and its line on standard error (own profile).
 use Rattle.std.specs.Prelude.{List, ℕ, ◌++◌, codes, decimal, Option, Some, None}
+use Rattle.fuse_request.specs.declared.framer.FrameFault.{FrameFault}
+use Rattle.fuse_request.specs.declared.framer.FrameFault.TheVariants as frame
+use Rattle.fuse_store.specs.declared.fault.StoreFault.{StoreFault}
+use Rattle.fuse_store.specs.declared.fault.StoreFault.TheVariants as store
 use Rattle.fusekeep.specs.declared.ending.Ending.{Ending}
 use Rattle.fusekeep.specs.declared.ending.Ending.TheVariants.{Done, Short, TooLong, Cut, ZeroUnique, Usage, Sql, NotAStore, Version, Damaged, PortFailed, PortTurns, Memory}
 
@@ -34,3 +38,18 @@ line_of Damaged = Some (codes "store: Damaged")
 line_of PortFailed = Some (codes "port: failed")
 line_of PortTurns = Some (codes "port: turns")
 line_of Memory = Some (codes "memory")
+
+-- the ending of each fault of a stream
+abbrev pub stream_ending : FrameFault → Ending
+stream_ending (frame.Short at len) = Short at len
+stream_ending (frame.TooLong at len) = TooLong at len
+stream_ending (frame.Cut at have need) = Cut at have need
+stream_ending frame.Memory = Memory
+
+-- the ending of each fault of a store
+abbrev pub store_ending : StoreFault → Ending
+store_ending store.Memory = Memory
+store_ending (store.Sql _) = Sql
+store_ending store.NotAStore = NotAStore
+store_ending (store.Version n) = Version n
+store_ending store.Damaged = Damaged

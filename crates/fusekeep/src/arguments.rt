@@ -57,29 +57,25 @@ fn run_of<'a>(matches: &ArgMatches<'a>) -> Option<Run<'a>> {
     }
 }
 
+// A mistake that the program tells itself, with the usage.
+fn told(alloc: Global, kind: ErrorKind, text: &str) -> Result<Error, AllocError> {
+    program_command(alloc)?.error(kind, text)
+}
+
 /// Reads the words after the program's name. An `Err` is what is to be said of them: a mistake, the
 /// help that was asked for, or want of memory.
 pub fn parse<'a, S: AsStr>(alloc: Global, words: &'a [S]) -> Result<Run<'a>, Error> {
     let matches = program_command(alloc)?.try_get_matches_from(words)?;
     match run_of(&matches) {
         Some(run) => Ok(run),
-        None => {
-            let mut command = program_command(alloc)?;
-            Err(command.error(ErrorKind::MissingRequiredArgument, "a word is missing")?)
-        }
+        None => Err(told(alloc, ErrorKind::MissingRequiredArgument, "a word is missing")?),
     }
 }
 
-#[cfg(test)]
-mod tests {
-    use super::*;
-    use std::test::Fail;
-
-    #[test]
-    fn good_words(rt: HostRuntime) -> Result<(), Fail> {
-        let words = ["replay", "--at", "1000", "-"];
-        let run = parse(rt.alloc(), words.as_slice())?;
-        assert_eq!(rt; run, Run::Replay { at: 1000, stream: "-" });
-        Ok(())
+/// What is to be said of words that are no text.
+pub fn unreadable(alloc: Global) -> Error {
+    match told(alloc, ErrorKind::InvalidValue, "a word is no text") {
+        Ok(error) => error,
+        Err(refused) => Error::from(refused),
     }
 }

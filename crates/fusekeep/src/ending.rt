@@ -1,6 +1,8 @@
-ghost use Rattle.std.specs.Prelude.{◌≡◌, is_some, option_map};
-ghost use Rattle.fusekeep.specs.Endings.{line_of, status_of};
+ghost use Rattle.std.specs.Prelude.{◌≡◌, nat_le, option_map};
+ghost use Rattle.fusekeep.specs.Endings.{line_of, status_of, store_ending, stream_ending};
 
+use fuse_request::FrameFault;
+use fuse_store::StoreFault;
 use std::fmt;
 
 /// How a run ended.
@@ -35,6 +37,38 @@ pub enum Ending {
 }
 
 impl Ending {
+    /// The ending of a run that met this fault of its store.
+    pub fn of(fault: StoreFault) -> Ending
+        ensures { result ≡ store_ending fault }
+    {
+        match fault {
+            StoreFault::Memory => Ending::Memory,
+            StoreFault::Sql(_) => Ending::Sql,
+            StoreFault::NotAStore => Ending::NotAStore,
+            StoreFault::Version(version) => Ending::Version(version),
+            StoreFault::Damaged => Ending::Damaged,
+        }
+    }
+
+    /// The ending of a run that met this fault of its stream.
+    pub fn of_stream(fault: FrameFault) -> Ending
+        ensures { result ≡ stream_ending fault }
+    {
+        match fault {
+            FrameFault::Short { at, len } => Ending::Short { at, len },
+            FrameFault::TooLong { at, len } => Ending::TooLong { at, len },
+            FrameFault::Cut { at, have, need } => Ending::Cut { at, have, need },
+            FrameFault::Memory => Ending::Memory,
+        }
+    }
+
+    /// Whether the stream was served as far as it goes.
+    pub fn is_of_stream(self) -> bool
+        ensures { result ≡ nat_le (status_of self) 1 }
+    {
+        self.status() <= 1
+    }
+
     /// The exit status of the program.
     pub fn status(self) -> u8
         ensures { result ≡ status_of self }
