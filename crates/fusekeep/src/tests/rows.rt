@@ -21,6 +21,7 @@ const ENTRY: &str = "0200000000000000 0000000000000000 0100000000000000 01000000
 // The body of a GETATTR.
 const PLAIN: &str = "0000000000000000 0000000000000000";
 
+#[derive(Drop)]
 struct Row<'a> {
     name: &'a str,
     stream: &'a [&'a str],
