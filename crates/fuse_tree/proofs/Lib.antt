@@ -1,7 +1,6 @@
 pub mod Agreeing
 pub mod Bounds
 pub mod Counts
-mod Kept
 pub mod Lists
 pub mod Making
 mod Mounts

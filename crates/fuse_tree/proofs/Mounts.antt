@@ -8,7 +8,7 @@ use Rattle.fuse_tree.specs.declared.rows.EntryRow.{EntryRow}
 use Rattle.fuse_tree.specs.State.{State, Node, Tree, IsNode, IsEntry, Reaches, above, is_dir, is_dir_of, has_number, is_below, is_named, subdirs_of, up_of}
 use Rattle.fuse_tree.specs.Rows.{rowed, full_of}
 use Rattle.fuse_tree.specs.Clearing.{cleared, is_named_row, cleared_rows, Clearing}
-use Rattle.fuse_tree.proofs.Kept.{all_more, all_both, all_kept, apart_filtered, length_filtered, any_gives, and_true}
+use Rattle.fuse_tree.proofs.Lists.{all_more, all_both, all_kept, apart_filtered, length_filtered, any_gives, and_true}
 
 -- ---- lists of which elements go
 

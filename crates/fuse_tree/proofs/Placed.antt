@@ -10,20 +10,13 @@ use Rattle.fuse_tree.specs.declared.rows.NodeRow.{NodeRow}
 use Rattle.fuse_tree.specs.declared.rows.Full.{Full}
 use Rattle.fuse_tree.specs.Rows.{put_node, at_node}
 use Rattle.fuse_tree.specs.NumbersOnce.{are_distinct}
+use Rattle.fuse_tree.proofs.Lists.{and_true, or_false, any_mapped}
 
 -- ---- tests
 
 not_true : (b : Bool) → not b ≡ true → b ≡ false
 not_true true e = absurd cc
 not_true false e = refl
-
-both_true : (b c : Bool) → (b && c) ≡ true → (b ≡ true) × (c ≡ true)
-both_true true c e = (refl, e)
-both_true false c e = absurd cc
-
-both_false : (b c : Bool) → (b || c) ≡ false → (b ≡ false) × (c ≡ false)
-both_false true c e = absurd cc
-both_false false c e = (refl, e)
 
 -- what no element passes, the one at a place doesn't
 fails_at : {A : Type 0} (test : A → Bool) (xs : List A) (i : ℕ) (d : A) → list_any test xs ≡ false → i < length xs → test (get_or xs i d) ≡ false
@@ -49,26 +42,22 @@ no_place test xs e =
 none_changed : (test : Full → Bool) (change : Full → Full) (fs : List Full) → list_any test fs ≡ false → map (λ f. cond (test f) (change f) f) fs ≡ fs
 none_changed test change [] none = refl
 none_changed test change (f ∷ fs) none =
-    let h = both_false (test f) (list_any test fs) none in
+    let h = or_false (test f) (list_any test fs) none in
     rw (h.0, none_changed test change fs h.1) refl
 
 changed_at : (number : ℕ) (change : Full → Full) (fs : List Full) (i : ℕ) (d y : Full) → are_distinct fs ≡ true → i < length fs → (get_or fs i d).row.node ≡ number → y ≡ change (get_or fs i d)
     → set fs i y ≡ map (λ f. cond (eqb f.row.node number) (change f) f) fs
 changed_at number change [] i d y once lt is e = absurd (omega arith)
 changed_at number change (f ∷ fs) zero d y once lt is e =
-    let h = both_true _ _ once in
+    let h = and_true _ _ once in
     let others : list_any (λ g. eqb g.row.node number) fs ≡ false = subst (λ (n : ℕ). list_any (λ g. eqb g.row.node n) fs ≡ false) is (not_true _ h.0) in
     rw (eq-eqb f.row.node number is, none_changed (λ g. eqb g.row.node number) change fs others, e) refl
 changed_at number change (f ∷ fs) (suc i) d y once lt is e =
     let less : i < length fs = omega arith in
-    let h = both_true _ _ once in
+    let h = and_true _ _ once in
     let apart : eqb (get_or fs i d).row.node f.row.node ≡ false = fails_at (λ g. eqb g.row.node f.row.node) fs i d (not_true _ h.0) less in
     let other : f.row.node ≢ number = λ same. eqb-false _ _ apart (is ∙ sym same) in
     rw (ne_eqb f.row.node number other) (ap (λ (gs : List Full). f ∷ gs) (changed_at number change fs i d y h.1 less is e))
-
-any_mapped : (test : Full → Bool) (change : Full → Full) (fs : List Full) → ((f : Full) → test (change f) ≡ test f) → list_any test (map change fs) ≡ list_any test fs
-any_mapped test change [] same = refl
-any_mapped test change (f ∷ fs) same = rw (same f, any_mapped test change fs same) refl
 
 mapped_once : (change : Full → Full) (fs : List Full) → ((f : Full) → (change f).row.node ≡ f.row.node) → are_distinct (map change fs) ≡ are_distinct fs
 mapped_once change [] same = refl
@@ -121,27 +110,27 @@ row_behind row fs none = rw (no_place (λ f. f.row.node == row.node) fs none) re
 none_behind : (test : Full → Bool) (fs : List Full) (x : Full) → list_any test fs ≡ false → test x ≡ false → list_any test (fs ++ x ∷ []) ≡ false
 none_behind test [] x none is = rw is refl
 none_behind test (f ∷ fs) x none is =
-    let h = both_false (test f) (list_any test fs) none in
+    let h = or_false (test f) (list_any test fs) none in
     rw (h.0) (none_behind test fs x h.1 is)
 
 pub once_behind : (fs : List Full) (x : Full) → are_distinct fs ≡ true → list_any (λ f. f.row.node == x.row.node) fs ≡ false → are_distinct (fs ++ x ∷ []) ≡ true
 once_behind [] x once none = refl
 once_behind (f ∷ fs) x once none =
-    let h = both_true _ _ once in
-    let n = both_false (eqb f.row.node x.row.node) (list_any (λ g. g.row.node == x.row.node) fs) none in
+    let h = and_true _ _ once in
+    let n = or_false (eqb f.row.node x.row.node) (list_any (λ g. g.row.node == x.row.node) fs) none in
     let apart : x.row.node ≢ f.row.node = λ same. eqb-false _ _ n.0 (sym same) in
     rw (none_behind (λ g. eqb g.row.node f.row.node) fs x (not_true _ h.0) (ne_eqb _ _ apart)) (once_behind fs x h.1 n.1)
 
 none_kept : (test kept : Full → Bool) (fs : List Full) → list_any test fs ≡ false → list_any test (filter kept fs) ≡ false
 none_kept test kept [] none = refl
 none_kept test kept (f ∷ fs) none =
-    let h = both_false (test f) (list_any test fs) none in
+    let h = or_false (test f) (list_any test fs) none in
     let rest = none_kept test kept fs h.1 in
     elim (kept f) as (λ b. list_any test (cond b (f ∷ filter kept fs) (filter kept fs)) ≡ false) [ true ↦ rw (h.0) rest | false ↦ rest ]
 
 pub once_kept : (kept : Full → Bool) (fs : List Full) → are_distinct fs ≡ true → are_distinct (filter kept fs) ≡ true
 once_kept kept [] once = refl
 once_kept kept (f ∷ fs) once =
-    let h = both_true _ _ once in
+    let h = and_true _ _ once in
     let rest = once_kept kept fs h.1 in
     elim (kept f) as (λ b. are_distinct (cond b (f ∷ filter kept fs) (filter kept fs)) ≡ true) [ true ↦ rw (none_kept (λ g. eqb g.row.node f.row.node) kept fs (not_true _ h.0)) rest | false ↦ rest ]

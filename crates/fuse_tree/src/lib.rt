@@ -18,6 +18,9 @@ pub use limits::{
 pub use look::{Look, LookFault};
 pub use mode::{S_IFDIR, S_IFREG, TYPE_UNIT, TYPES};
 pub use mount::clearing;
-pub use plain::{PlainRows, fails_by_memory_alone};
+pub use plain::PlainRows;
 pub use planning::{PlanFault, plan};
 pub use rows::{Change, ChangeList, Counters, EntryRow, Full, HandleRow, NodeRow, Planned};
+
+#[cfg(test)]
+mod tests;

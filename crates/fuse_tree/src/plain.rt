@@ -1,5 +1,3 @@
-ghost use Rattle.fuse_tree.specs.PlainRows.{FailsByMemoryAlone};
-
 mod contents;
 mod entries;
 mod handles;
@@ -202,11 +200,6 @@ impl PlainRows {
     }
 }
 
-/// A look in lists fails by want of memory alone.
-pub fn fails_by_memory_alone()
-    ensures { FailsByMemoryAlone }
-{}
-
 impl Look for PlainRows {
     ghost use Rattle.std.specs.Prelude.{◌≡◌};
     ghost use Rattle.std.proofs.Common.{refl, sym, ◌∙◌};
@@ -293,3 +286,6 @@ impl Look for PlainRows {
 
     ghost kept = { λ a b p clean rows e. sym p ∙ e };
 }
+
+#[cfg(test)]
+mod tests;

@@ -1,0 +1,55 @@
+-- The table of endings: the exit status of each, and its line on standard error (own profile).
+use Rattle.std.specs.Prelude.{List, ℕ, ◌++◌, codes, decimal, Option, Some, None}
+use Rattle.fuse_request.specs.declared.framer.FrameFault.{FrameFault}
+use Rattle.fuse_request.specs.declared.framer.FrameFault.TheVariants as frame
+use Rattle.fuse_store.specs.declared.fault.StoreFault.{StoreFault}
+use Rattle.fuse_store.specs.declared.fault.StoreFault.TheVariants as store
+use Rattle.fusekeep.specs.declared.ending.Ending.{Ending}
+use Rattle.fusekeep.specs.declared.ending.Ending.TheVariants.{Done, Short, TooLong, Cut, ZeroUnique, Usage, Sql, NotAStore, Version, Damaged, PortFailed, PortTurns, Memory}
+
+abbrev pub status_of : Ending → ℕ
+status_of Done = 0
+status_of (Short _ _) = 1
+status_of (TooLong _ _) = 1
+status_of (Cut _ _ _) = 1
+status_of (ZeroUnique _) = 1
+status_of Usage = 2
+status_of Sql = 3
+status_of NotAStore = 3
+status_of (Version _) = 3
+status_of Damaged = 3
+status_of PortFailed = 4
+status_of PortTurns = 4
+status_of Memory = 5
+
+-- the line, without its line feed; of words that are no command clap has said all
+abbrev pub line_of : Ending → Option (List ℕ)
+line_of Done = None
+line_of (Short at len) = Some (codes "stream: Short at " ++ (decimal at ++ (codes ": len " ++ decimal len)))
+line_of (TooLong at len) = Some (codes "stream: TooLong at " ++ (decimal at ++ (codes ": len " ++ decimal len)))
+line_of (Cut at have need) =
+    Some (codes "stream: Cut at " ++ (decimal at ++ (codes ": have " ++ (decimal have ++ (codes ", need " ++ decimal need)))))
+line_of (ZeroUnique at) = Some (codes "stream: ZeroUnique at " ++ decimal at)
+line_of Usage = None
+line_of Sql = Some (codes "store: Sql")
+line_of NotAStore = Some (codes "store: NotAStore")
+line_of (Version n) = Some (codes "store: Version(" ++ (decimal n ++ codes ")"))
+line_of Damaged = Some (codes "store: Damaged")
+line_of PortFailed = Some (codes "port: failed")
+line_of PortTurns = Some (codes "port: turns")
+line_of Memory = Some (codes "memory")
+
+-- the ending of each fault of a stream
+abbrev pub stream_ending : FrameFault → Ending
+stream_ending (frame.Short at len) = Short at len
+stream_ending (frame.TooLong at len) = TooLong at len
+stream_ending (frame.Cut at have need) = Cut at have need
+stream_ending frame.Memory = Memory
+
+-- the ending of each fault of a store
+abbrev pub store_ending : StoreFault → Ending
+store_ending store.Memory = Memory
+store_ending (store.Sql _) = Sql
+store_ending store.NotAStore = NotAStore
+store_ending (store.Version n) = Version n
+store_ending store.Damaged = Damaged

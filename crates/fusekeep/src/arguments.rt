@@ -1,0 +1,81 @@
+use clap::error::ErrorKind;
+use clap::{Arg, ArgMatches, Command, Error, value_parser};
+use std::alloc::{AllocError, Global};
+use std::convert::AsStr;
+
+/// The file name that means standard input.
+pub const STANDARD_INPUT: &str = "-";
+
+const REPLAY: &str = "replay";
+
+const AT: &str = "at";
+
+const STREAM: &str = "stream";
+
+/// What the words of a command line ask for.
+#[derive(Clone, Copy, Debug, PartialEq, Eq)]
+pub enum Run<'a> {
+    /// To serve a recorded stream, each request at the same second.
+    Replay { at: u64, stream: &'a str },
+}
+
+fn replay_command<'a>(alloc: Global) -> Result<Command<'a>, AllocError> {
+    let at = Arg::new(alloc, AT)
+        .long(AT)
+        .value_name("SECS")
+        .value_parser(value_parser!(u64))
+        .required(true)
+        .help("The second at which all requests are served");
+    let stream = Arg::new(alloc, STREAM)
+        .value_name("STREAM")
+        .required(true)
+        .help("The file of the stream, or - for standard input");
+    Command::new(alloc, REPLAY)
+        .about("Serves a recorded stream over a new store in memory")
+        .arg(at)?
+        .arg(stream)
+}
+
+fn program_command<'a>(alloc: Global) -> Result<Command<'a>, AllocError> {
+    Command::new(alloc, "fusekeep")
+        .about("Serves FUSE requests, with recovery by resends")
+        .no_binary_name(true)
+        .subcommand_required(true)
+        .subcommand(replay_command(alloc)?)
+}
+
+fn replay_run<'a>(found: &ArgMatches<'a>) -> Option<Run<'a>> {
+    let at = found.get_one::<u64>(AT)?;
+    let stream = found.get_str(STREAM)?;
+    Some(Run::Replay { at, stream })
+}
+
+fn run_of<'a>(matches: &ArgMatches<'a>) -> Option<Run<'a>> {
+    match matches.subcommand()? {
+        (REPLAY, found) => replay_run(found),
+        _ => None,
+    }
+}
+
+// A mistake that the program tells itself, with the usage.
+fn told(alloc: Global, kind: ErrorKind, text: &str) -> Result<Error, AllocError> {
+    program_command(alloc)?.error(kind, text)
+}
+
+/// Reads the words after the program's name. An `Err` is what is to be said of them: a mistake, the
+/// help that was asked for, or want of memory.
+pub fn parse<'a, S: AsStr>(alloc: Global, words: &'a [S]) -> Result<Run<'a>, Error> {
+    let matches = program_command(alloc)?.try_get_matches_from(words)?;
+    match run_of(&matches) {
+        Some(run) => Ok(run),
+        None => Err(told(alloc, ErrorKind::MissingRequiredArgument, "a word is missing")?),
+    }
+}
+
+/// What is to be said of words that are no text.
+pub fn unreadable(alloc: Global) -> Error {
+    match told(alloc, ErrorKind::InvalidValue, "a word is no text") {
+        Ok(error) => error,
+        Err(refused) => Error::from(refused),
+    }
+}

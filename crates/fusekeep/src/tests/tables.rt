@@ -1,0 +1,62 @@
+//! The table of endings, and the words of a command line.
+use super::*;
+
+#[test]
+fn endings(rt: HostRuntime) -> Result<(), Fail> {
+    for (ending, status, line) in [
+        (Ending::Done, 0, ""),
+        (Ending::Short { at: 46, len: 39 }, 1, "stream: Short at 46: len 39"),
+        (Ending::TooLong { at: 0, len: 135_169 }, 1, "stream: TooLong at 0: len 135169"),
+        (Ending::Cut { at: 46, have: 3, need: 4 }, 1, "stream: Cut at 46: have 3, need 4"),
+        (Ending::ZeroUnique { at: 7 }, 1, "stream: ZeroUnique at 7"),
+        (Ending::Usage, 2, ""),
+        (Ending::Sql, 3, "store: Sql"),
+        (Ending::of(StoreFault::NotAStore), 3, "store: NotAStore"),
+        (Ending::of(StoreFault::Version(7)), 3, "store: Version(7)"),
+        (Ending::of(StoreFault::Damaged), 3, "store: Damaged"),
+        (Ending::PortFailed, 4, "port: failed"),
+        (Ending::PortTurns, 4, "port: turns"),
+        (Ending::of(StoreFault::Memory), 5, "memory"),
+    ] {
+        let said = match ending.line() {
+            Some(line) => format!(in rt.alloc(); "{line}")?,
+            None => String::new(rt.alloc()),
+        };
+        assert_eq!(rt; said.as_str(), line);
+        assert_eq!(rt; ending.status(), status, "{line}");
+    }
+    Ok(())
+}
+
+#[test]
+fn good_words(rt: HostRuntime) -> Result<(), Fail> {
+    let words = ["replay", "--at", "18446744073709551615", "-"];
+    let run = parse(rt.alloc(), words.as_slice())?;
+    assert_eq!(rt; run, Run::Replay { at: 18_446_744_073_709_551_615, stream: "-" });
+    let words = ["replay", "first.stream", "--at=0"];
+    let run = parse(rt.alloc(), words.as_slice())?;
+    assert_eq!(rt; run, Run::Replay { at: 0, stream: "first.stream" });
+    Ok(())
+}
+
+fn kind_of(alloc: Global, words: &[&str]) -> Option<ErrorKind> {
+    match parse(alloc, words) {
+        Ok(_) => None,
+        Err(error) => Some(error.kind()),
+    }
+}
+
+#[test]
+fn wrong_words(rt: HostRuntime) {
+    let alloc = rt.alloc();
+    let missing = Some(ErrorKind::MissingRequiredArgument);
+    assert_eq!(rt; kind_of(alloc, &["replay", "-"]), missing);
+    assert_eq!(rt; kind_of(alloc, &["replay", "--at", "1000"]), missing);
+    assert_eq!(rt; kind_of(alloc, &[]), Some(ErrorKind::MissingSubcommand));
+    assert_eq!(rt; kind_of(alloc, &["reply"]), Some(ErrorKind::InvalidSubcommand));
+    assert_eq!(rt; kind_of(alloc, &["--help"]), Some(ErrorKind::DisplayHelp));
+    let invalid = Some(ErrorKind::ValueValidation);
+    assert_eq!(rt; kind_of(alloc, &["replay", "--at", "soon", "-"]), invalid);
+    assert_eq!(rt; kind_of(alloc, &["replay", "--at", "18446744073709551616", "-"]), invalid);
+    assert_eq!(rt; kind_of(alloc, &["replay", "--at", "1", "-", "x"]), Some(ErrorKind::UnknownArgument));
+}
