@@ -1,3 +1,5 @@
+ghost use Rattle.std.specs.Prelude.{◌<◌, ◌≤◌, length};
+
 use crate::counts::SessionCounts;
 use crate::ending::Ending;
 use fuse_wire::Fields;
@@ -5,7 +7,11 @@ use std::alloc::Global;
 use std::io::Write;
 
 // The length of the answer at the front: what its `len` says, and all where that can't be.
-fn front_len(sent: &[u8]) -> usize {
+fn front_len(sent: &[u8]) -> usize
+    requires { 0 < length sent.now }
+    ensures some { 0 < result }
+    ensures there { result ≤ length sent.now }
+{
     match Fields::new(sent).u32() {
         Some(len) => (len as usize).clamp(1, sent.len()),
         None => sent.len(),

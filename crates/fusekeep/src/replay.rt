@@ -158,6 +158,26 @@ fn work_off<K: Keeper>(
     Ok(())
 }
 
+// Takes in a piece of the stream.
+fn take_in(framer: &mut Framer, piece: &[u8]) -> Result<(), Ending>
+    requires { fed_of framer.old + length piece.now ≤ 2 ^ 60 }
+    ensures at { framer.new.at ≡ framer.old.at }
+    ensures fed { OnOk result (fed_of framer.new ≡ fed_of framer.old + length piece.now) }
+{
+    match framer.feed(piece) {
+        Ok(()) => Ok(()),
+        Err(fault) => Err(Ending::of_stream(fault)),
+    }
+}
+
+// How the stream ends where nothing more comes.
+fn end_here(framer: &Framer) -> Result<(), Ending> {
+    match framer.end() {
+        Ok(()) => Ok(()),
+        Err(fault) => Err(Ending::of_stream(fault)),
+    }
+}
+
 // Reads the stream to its end, and works off what comes.
 fn serve_stream<K: Keeper, R: Read>(
     alloc: Global,
@@ -169,17 +189,18 @@ fn serve_stream<K: Keeper, R: Read>(
     requires { (served.old.counts.messages ≡ 0) × IsByClass served.old.counts }
 {
     let mut framer = Framer::new(alloc);
-    let Ok(mut piece) = vec![in alloc; 0; MAX_MESSAGE] else {
+    let Ok(mut buffer) = vec![in alloc; 0; MAX_MESSAGE] else {
         return Err(Ending::Memory);
     };
+    let piece = buffer.as_mut_slice();
     for _read in 0..MAX_READS {
-        let Ok(len) = reader.read(&mut piece) else {
+        let Ok(len) = reader.read(piece) else {
             return Err(Ending::PortFailed);
         };
         if len == 0 {
-            return framer.end().map_err(Ending::of_stream);
+            return end_here(&framer);
         }
-        framer.feed(&piece[..len]).map_err(Ending::of_stream)?;
+        take_in(&mut framer, &piece[..len])?;
         work_off(alloc, keeper, served, &mut framer, moment)?;
     }
     Err(Ending::PortTurns)

@@ -17,14 +17,14 @@ returns-in-Err-clause-fault c = λ rowed. c.in-Err.ensures.fault (c.loop-one.inv
 
 pub loop-one-preserved : goal.loop-one-preserved
 loop-one-preserved c =
-  let base = without (ids_of c.args.settled.now) (mapped c.args.records.now) in
-  record {
-  performed = λ s h t so each. one_more_of c.args.group.now c.loop-one.one-index _ _ _ _ _ c.in-Ok.done s h t c.loop-one.dones.items c.push.new.self.items c.loop-one-test.true each c.in-Ok.ensures.took (c.loop-one.invariant.performed s h t so each) c.in_ok-push.ensures.items;
-  count = grind (arith, common_steps);
-  clean = c.in-Ok.ensures.clean;
-  rowed = λ rowed. took_rowed_at c.args.group.now c.loop-one.one-index _ (rows_of c.loop-one.draft.rows) (over c.loop-one.draft.added.items base) (rows_of c.take_one.new.draft.rows) (over c.take_one.new.draft.added.items base) c.in-Ok.done c.in-Ok.ensures.took (c.loop-one.invariant.rowed rowed);
-  ids = ids_more c.args.group.now c.loop-one.one-index _ _ _ c.loop-one-test.true c.loop-one.invariant.ids c.in-Ok.ensures.ids;
-}
+    let base = without (ids_of c.args.settled.now) (mapped c.args.records.now) in
+    record {
+      performed = λ s h t so each. one_more_of c.args.group.now c.loop-one.one-index _ _ _ _ _ c.in-Ok.done s h t c.loop-one.dones.items c.push.new.self.items c.loop-one-test.true each c.in-Ok.ensures.took (c.loop-one.invariant.performed s h t so each) c.in_ok-push.ensures.items;
+      count = grind (arith, common_steps);
+      clean = c.in-Ok.ensures.clean;
+      rowed = λ rowed. took_rowed_at c.args.group.now c.loop-one.one-index _ (rows_of c.loop-one.draft.rows) (over c.loop-one.draft.added.items base) (rows_of c.take_one.new.draft.rows) (over c.take_one.new.draft.added.items base) c.in-Ok.done c.in-Ok.ensures.took (c.loop-one.invariant.rowed rowed);
+      ids = ids_more c.args.group.now c.loop-one.one-index _ _ _ c.loop-one-test.true c.loop-one.invariant.ids c.in-Ok.ensures.ids;
+    }
 
 pub returns-clause-performed : goal.returns-clause-performed
 returns-clause-performed c = λ s h t so each.

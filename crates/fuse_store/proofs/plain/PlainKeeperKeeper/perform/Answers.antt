@@ -7,9 +7,12 @@ use Rattle.fuse_store.proofs.Keeping.{left_new, left_old, rowed_where}
 use Rattle.fuse_store.proofs.plain.PlainKeeperKeeper.perform.Goals as goal
 
 pub returns-in-Ok-clause-others : goal.returns-in-Ok-clause-others
-returns-in-Ok-clause-others c = λ honest rows records held.
-    (rows_of c.perform_group.new.self.rows, mapped c.perform_group.new.self.records, (refl, λ i. refl),
-    λ i isnt. c.in-Ok.ensures.others i isnt ∙ without-same (ids_of c.args.settled.now) (mapped c.args.self.now.records) records i (sym (held.1 i)))
+returns-in-Ok-clause-others c = λ honest rows records held. (
+  rows_of c.perform_group.new.self.rows,
+  mapped c.perform_group.new.self.records,
+  (refl, λ i. refl),
+  λ i isnt. c.in-Ok.ensures.others i isnt ∙ without-same (ids_of c.args.settled.now) (mapped c.args.self.now.records) records i (sym (held.1 i)),
+)
 
 pub returns-in-Ok-clause-crash : goal.returns-in-Ok-clause-crash
 returns-in-Ok-clause-crash c = λ s h t so within fresh firm.
