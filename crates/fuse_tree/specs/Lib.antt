@@ -6,3 +6,4 @@ pub mod Clearing
 pub mod Do
 pub mod Plan
 pub mod Planning
+pub mod Vectors

@@ -21,3 +21,6 @@ pub use mount::clearing;
 pub use plain::PlainRows;
 pub use planning::{PlanFault, plan};
 pub use rows::{Change, ChangeList, Counters, EntryRow, Full, HandleRow, NodeRow, Planned};
+
+#[cfg(test)]
+mod tests;

@@ -1,0 +1,81 @@
+-- Worked rows (own profile): what `done` says of the first run, and of a name that is missing.
+use Rattle.std.specs.Prelude.{◌≡◌, ℕ, List, [], ◌∷◌, replicate, codes}
+use Rattle.fuse_wire.specs.declared.moment.Moment.{Moment}
+use Rattle.fuse_wire.specs.declared.errno.Errno.{Errno}
+use Rattle.fuse_wire.specs.declared.errno.TheConstants.Errno.{ENOENT, EEXIST, EINVAL, ENAMETOOLONG, ENOSYS, ESTALE}
+use Rattle.fuse_request.specs.Act.{Act, Asked}
+use Rattle.fuse_request.specs.Act as acts
+use Rattle.fuse_answer.specs.Said.{Said}
+use Rattle.fuse_answer.specs.Bodies.{entry_bytes, attr_out_bytes}
+use Rattle.fuse_answer.specs.declared.records.Attr.{Attr}
+use Rattle.fuse_tree.specs.State.{State, new_store}
+use Rattle.fuse_tree.specs.Do.{done}
+
+abbrev pub at : ℕ → Moment
+at secs = record { secs = secs; nanos = 0 }
+
+-- with the uid, gid and pid of the worked rows
+abbrev pub asks : ℕ → ℕ → Act → Asked
+asks unique nodeid a = record { header = record { unique = unique; nodeid = nodeid; uid = 1000; gid = 1000; pid = 77 }; act = a; ext = [] }
+
+abbrev pub says : List ℕ → Said
+says body = record { errno = 0; body = body }
+
+abbrev pub refuses : Errno → Said
+refuses errno = record { errno = errno.0; body = [] }
+
+-- ---- first-run: MKDIR of `a` at 1000 s, in a store made at second 0
+
+abbrev pub mkdir_a : Act
+mkdir_a = acts.Mkdir 0o755 0o022 (codes "a")
+
+abbrev pub made : State
+made = (done (new_store (at 0)) (asks 6 1 mkdir_a) (at 1000)).state
+
+-- the attributes of `a`
+abbrev pub attr_a : Attr
+attr_a = record {
+  ino = 2;
+  size = 0;
+  blocks = 0;
+  atime = 1000;
+  mtime = 1000;
+  ctime = 1000;
+  atimensec = 0;
+  mtimensec = 0;
+  ctimensec = 0;
+  mode = 0o040755;
+  nlink = 2;
+  uid = 1000;
+  gid = 1000;
+  rdev = 0;
+  blksize = 4096;
+  flags = 0;
+}
+
+abbrev pub entry_a : List ℕ
+entry_a = entry_bytes (record { nodeid = 2; generation = 0; entry_valid = 1; attr_valid = 1; entry_valid_nsec = 0; attr_valid_nsec = 0; attr = attr_a })
+
+abbrev pub FirstRun : Type 0
+FirstRun =
+    ((done (new_store (at 0)) (asks 6 1 mkdir_a) (at 1000)).said ≡ says entry_a)
+    × ((done made (asks 8 2 (acts.Getattr 0 0)) (at 1000)).said ≡ says (attr_out_bytes (record { attr_valid = 1; attr_valid_nsec = 0; attr = attr_a })))
+    × ((done made (asks 10 1 (acts.Lookup (codes "a"))) (at 1000)).said ≡ says entry_a)
+    × ((done made (asks 12 1 mkdir_a) (at 1000)).said ≡ refuses EEXIST)
+
+-- ---- missing-lookup, and the names and nodes that are refused
+
+abbrev pub lookup_of : ℕ → List ℕ → Said
+lookup_of nodeid name = (done (new_store (at 0)) (asks 4 nodeid (acts.Lookup name)) (at 1000)).said
+
+abbrev pub Refusals : Type 0
+Refusals =
+    (lookup_of 1 (codes "hello") ≡ refuses ENOENT)
+    × (lookup_of 1 [] ≡ refuses EINVAL)
+    × (lookup_of 1 (codes ".") ≡ refuses EINVAL)
+    × (lookup_of 1 (codes "..") ≡ refuses EINVAL)
+    × (lookup_of 1 (codes "a/b") ≡ refuses EINVAL)
+    × (lookup_of 1 (replicate 256 97) ≡ refuses ENAMETOOLONG)
+    × (lookup_of 1 (replicate 255 97) ≡ refuses ENOENT)
+    × (lookup_of 2 (codes "hello") ≡ refuses ESTALE)
+    × ((done (new_store (at 0)) (asks 4 1 (acts.Unsupported 35 [])) (at 1000)).said ≡ refuses ENOSYS)
