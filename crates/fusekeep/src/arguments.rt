@@ -68,7 +68,11 @@ pub fn parse<'a, S: AsStr>(alloc: Global, words: &'a [S]) -> Result<Run<'a>, Err
     let matches = program_command(alloc)?.try_get_matches_from(words)?;
     match run_of(&matches) {
         Some(run) => Ok(run),
-        None => Err(told(alloc, ErrorKind::MissingRequiredArgument, "a word is missing")?),
+        None => Err(told(
+            alloc,
+            ErrorKind::MissingRequiredArgument,
+            "a word is missing",
+        )?),
     }
 }
 

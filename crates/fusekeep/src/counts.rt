@@ -36,8 +36,11 @@ impl SessionCounts {
     pub fn count_kept(&mut self, repeated: bool)
         requires room { self.old.messages < 2 ^ 60 }
         requires by_class { IsByClass self.old }
-        ensures value { self.new ≡ record self.old { messages = self.old.messages + 1; kept = self.old.kept + 1;
-            repeated = (if repeated then self.old.repeated + 1 else self.old.repeated) } }
+        ensures value { self.new ≡ record self.old {
+          messages = self.old.messages + 1;
+          kept = self.old.kept + 1;
+          repeated = (if repeated then self.old.repeated + 1 else self.old.repeated);
+        } }
         ensures by_class { IsByClass self.new }
     {
         self.messages += 1;

@@ -16,7 +16,10 @@ mod tables;
 
 const START: Moment = Moment { secs: 0, nanos: 0 };
 
-const AT_1000: Moment = Moment { secs: 1000, nanos: 0 };
+const AT_1000: Moment = Moment {
+    secs: 1000,
+    nanos: 0,
+};
 
 // Hexadecimal as the rows have it, with spaces.
 fn unspaced(alloc: Global, parts: &[&str]) -> Result<String, Fail> {

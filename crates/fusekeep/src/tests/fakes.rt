@@ -68,7 +68,10 @@ fn failing_reader(rt: HostRuntime) -> Result<(), Fail> {
     let stream = bytes_of(rt.alloc(), &[rows::LOOKUP_HELLO])?;
     let (ending, printed) = replayed(rt.alloc(), &mut Failing { rest: &stream })?;
     assert_eq!(rt; ending, Ending::PortFailed);
-    assert_eq!(rt; printed.as_slice(), b"10000000feffffff0400000000000000\n".as_slice());
+    assert_eq!(rt;
+        printed.as_slice(),
+        b"10000000feffffff0400000000000000\n".as_slice()
+    );
     Ok(())
 }
 
@@ -80,7 +83,13 @@ fn failing_writers(rt: HostRuntime) -> Result<(), Fail> {
     let ending = run_replay(rt.alloc(), &mut keeper, &mut reader, &mut Full, AT_1000);
     assert_eq!(rt; ending, Ending::PortFailed);
     let mut reader = stream.as_slice();
-    let ending = run_replay(rt.alloc(), &mut keeper, &mut reader, &mut Unflushed, AT_1000);
+    let ending = run_replay(
+        rt.alloc(),
+        &mut keeper,
+        &mut reader,
+        &mut Unflushed,
+        AT_1000,
+    );
     assert_eq!(rt; ending, Ending::PortFailed);
     Ok(())
 }
@@ -90,6 +99,9 @@ fn byte_by_byte(rt: HostRuntime) -> Result<(), Fail> {
     let stream = bytes_of(rt.alloc(), &[rows::LOOKUP_HELLO])?;
     let (ending, printed) = replayed(rt.alloc(), &mut ByteByByte { rest: &stream })?;
     assert_eq!(rt; ending, Ending::Done);
-    assert_eq!(rt; printed.as_slice(), b"10000000feffffff0400000000000000\nserved messages=1 kept=1 repeated=0 bare=0 silent=0 interrupts=0\n".as_slice());
+    assert_eq!(rt;
+        printed.as_slice(),
+        b"10000000feffffff0400000000000000\nserved messages=1 kept=1 repeated=0 bare=0 silent=0 interrupts=0\n".as_slice()
+    );
     Ok(())
 }

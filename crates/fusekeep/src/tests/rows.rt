@@ -4,19 +4,24 @@ use super::*;
 /// The end of each header: uid and gid 1000, pid 77, no extensions.
 const TAIL: &str = "e8030000 e8030000 4d000000 00000000";
 
-pub const LOOKUP_HELLO: &str = "2e000000 01000000 0400000000000000 0100000000000000 e8030000 e8030000 4d000000 00000000 68656c6c6f00";
+pub const LOOKUP_HELLO: &str =
+    "2e000000 01000000 0400000000000000 0100000000000000 e8030000 e8030000 4d000000 00000000 68656c6c6f00";
 
 const NO_ENTRY: &str = "10000000 feffffff 0400000000000000";
 
 const INVALID: &str = "10000000 eaffffff 0400000000000000";
 
-const MKDIR_A: &str = "32000000 09000000 0600000000000000 0100000000000000 e8030000 e8030000 4d000000 00000000 ed010000 12000000 6100";
+const MKDIR_A: &str =
+    "32000000 09000000 0600000000000000 0100000000000000 e8030000 e8030000 4d000000 00000000 ed010000 12000000 6100";
 
-const MKDIR_A_AGAIN: &str = "32000000 09000000 0600000000000080 0100000000000000 e8030000 e8030000 4d000000 00000000 ed010000 12000000 6100";
+const MKDIR_A_AGAIN: &str =
+    "32000000 09000000 0600000000000080 0100000000000000 e8030000 e8030000 4d000000 00000000 ed010000 12000000 6100";
 
-const ATTRIBUTES: &str = "0200000000000000 0000000000000000 0000000000000000 e803000000000000 e803000000000000 e803000000000000 000000000000000000000000 ed410000 02000000 e8030000 e8030000 00000000 00100000 00000000";
+const ATTRIBUTES: &str =
+    "0200000000000000 0000000000000000 0000000000000000 e803000000000000 e803000000000000 e803000000000000 000000000000000000000000 ed410000 02000000 e8030000 e8030000 00000000 00100000 00000000";
 
-const ENTRY: &str = "0200000000000000 0000000000000000 0100000000000000 0100000000000000 0000000000000000";
+const ENTRY: &str =
+    "0200000000000000 0000000000000000 0100000000000000 0100000000000000 0000000000000000";
 
 // The body of a GETATTR.
 const PLAIN: &str = "0000000000000000 0000000000000000";
@@ -48,144 +53,241 @@ fn check(rt: &(impl Abort + AllocGlobal), row: &Row<'_>) -> Result<(), Fail> {
 
 #[test]
 fn answers(rt: HostRuntime) -> Result<(), Fail> {
-    check(&rt, &Row {
-        name: "first-run",
-        stream: &[MKDIR_A, MKDIR_A_AGAIN, "38000000 03000000 0800000000000000 0200000000000000", TAIL, PLAIN],
-        lines: &[
-            &["90000000 00000000 0600000000000000", ENTRY, ATTRIBUTES],
-            &["90000000 00000000 0600000000000080", ENTRY, ATTRIBUTES],
-            &["78000000 00000000 0800000000000000 0100000000000000 0000000000000000", ATTRIBUTES],
-        ],
-        counts: "served messages=3 kept=3 repeated=1 bare=0 silent=0 interrupts=0",
-        ending: Ending::Done,
-    })?;
-    check(&rt, &Row {
-        name: "missing-lookup",
-        stream: &[LOOKUP_HELLO],
-        lines: &[&[NO_ENTRY]],
-        counts: "served messages=1 kept=1 repeated=0 bare=0 silent=0 interrupts=0",
-        ending: Ending::Done,
-    })?;
-    check(&rt, &Row {
-        name: "reuse-of-an-id",
-        stream: &[MKDIR_A, "2e000000 01000000 0600000000000000 0100000000000000", TAIL, "68656c6c6f00"],
-        lines: &[
-            &["90000000 00000000 0600000000000000", ENTRY, ATTRIBUTES],
-            &["90000000 00000000 0600000000000000", ENTRY, ATTRIBUTES],
-        ],
-        counts: "served messages=2 kept=2 repeated=1 bare=0 silent=0 interrupts=0",
-        ending: Ending::Done,
-    })?;
-    check(&rt, &Row {
-        name: "empty-stream",
-        stream: &[],
-        lines: &[],
-        counts: "served messages=0 kept=0 repeated=0 bare=0 silent=0 interrupts=0",
-        ending: Ending::Done,
-    })
+    check(
+        &rt,
+        &Row {
+            name: "first-run",
+            stream: &[
+                MKDIR_A,
+                MKDIR_A_AGAIN,
+                "38000000 03000000 0800000000000000 0200000000000000",
+                TAIL,
+                PLAIN,
+            ],
+            lines: &[
+                &["90000000 00000000 0600000000000000", ENTRY, ATTRIBUTES],
+                &["90000000 00000000 0600000000000080", ENTRY, ATTRIBUTES],
+                &[
+                    "78000000 00000000 0800000000000000 0100000000000000 0000000000000000",
+                    ATTRIBUTES,
+                ],
+            ],
+            counts: "served messages=3 kept=3 repeated=1 bare=0 silent=0 interrupts=0",
+            ending: Ending::Done,
+        },
+    )?;
+    check(
+        &rt,
+        &Row {
+            name: "missing-lookup",
+            stream: &[LOOKUP_HELLO],
+            lines: &[&[NO_ENTRY]],
+            counts: "served messages=1 kept=1 repeated=0 bare=0 silent=0 interrupts=0",
+            ending: Ending::Done,
+        },
+    )?;
+    check(
+        &rt,
+        &Row {
+            name: "reuse-of-an-id",
+            stream: &[
+                MKDIR_A,
+                "2e000000 01000000 0600000000000000 0100000000000000",
+                TAIL,
+                "68656c6c6f00",
+            ],
+            lines: &[
+                &["90000000 00000000 0600000000000000", ENTRY, ATTRIBUTES],
+                &["90000000 00000000 0600000000000000", ENTRY, ATTRIBUTES],
+            ],
+            counts: "served messages=2 kept=2 repeated=1 bare=0 silent=0 interrupts=0",
+            ending: Ending::Done,
+        },
+    )?;
+    check(
+        &rt,
+        &Row {
+            name: "empty-stream",
+            stream: &[],
+            lines: &[],
+            counts: "served messages=0 kept=0 repeated=0 bare=0 silent=0 interrupts=0",
+            ending: Ending::Done,
+        },
+    )
 }
 
 #[test]
 fn malformed_messages(rt: HostRuntime) -> Result<(), Fail> {
-    check(&rt, &Row {
-        name: "name-ends",
-        stream: &[
-            "2d000000 01000000 0400000000000000 0100000000000000", TAIL, "68656c6c6f",
-            "2f000000 01000000 0400000000000000 0100000000000000", TAIL, "68656c6c6f0000",
-            LOOKUP_HELLO,
-        ],
-        lines: &[&[INVALID], &[INVALID], &[NO_ENTRY]],
-        counts: "served messages=3 kept=1 repeated=0 bare=2 silent=0 interrupts=0",
-        ending: Ending::Done,
-    })?;
-    check(&rt, &Row {
-        name: "mkdir-bodies",
-        stream: &[
-            "2c000000 09000000 0400000000000000 0100000000000000", TAIL, "ed010000",
-            "30000000 09000000 0400000000000000 0100000000000000", TAIL, "ed010000 12000000",
-            "31000000 09000000 0400000000000000 0100000000000000", TAIL, "ed010000 12000000 00",
-        ],
-        lines: &[&[INVALID], &[INVALID], &[INVALID]],
-        counts: "served messages=3 kept=1 repeated=0 bare=2 silent=0 interrupts=0",
-        ending: Ending::Done,
-    })?;
-    check(&rt, &Row {
-        name: "extension",
-        stream: &[
-            "36000000 01000000 0400000000000000 0100000000000000 e8030000 e8030000 4d000000 01000000 68656c6c6f00 0000000000000000",
-            "2e000000 01000000 0400000000000000 0100000000000000 e8030000 e8030000 4d000000 01000000 68656c6c6f00",
-        ],
-        lines: &[&[NO_ENTRY], &[INVALID]],
-        counts: "served messages=2 kept=1 repeated=0 bare=1 silent=0 interrupts=0",
-        ending: Ending::Done,
-    })
+    check(
+        &rt,
+        &Row {
+            name: "name-ends",
+            stream: &[
+                "2d000000 01000000 0400000000000000 0100000000000000",
+                TAIL,
+                "68656c6c6f",
+                "2f000000 01000000 0400000000000000 0100000000000000",
+                TAIL,
+                "68656c6c6f0000",
+                LOOKUP_HELLO,
+            ],
+            lines: &[&[INVALID], &[INVALID], &[NO_ENTRY]],
+            counts: "served messages=3 kept=1 repeated=0 bare=2 silent=0 interrupts=0",
+            ending: Ending::Done,
+        },
+    )?;
+    check(
+        &rt,
+        &Row {
+            name: "mkdir-bodies",
+            stream: &[
+                "2c000000 09000000 0400000000000000 0100000000000000",
+                TAIL,
+                "ed010000",
+                "30000000 09000000 0400000000000000 0100000000000000",
+                TAIL,
+                "ed010000 12000000",
+                "31000000 09000000 0400000000000000 0100000000000000",
+                TAIL,
+                "ed010000 12000000 00",
+            ],
+            lines: &[&[INVALID], &[INVALID], &[INVALID]],
+            counts: "served messages=3 kept=1 repeated=0 bare=2 silent=0 interrupts=0",
+            ending: Ending::Done,
+        },
+    )?;
+    check(
+        &rt,
+        &Row {
+            name: "extension",
+            stream: &[
+                "36000000 01000000 0400000000000000 0100000000000000 e8030000 e8030000 4d000000 01000000 68656c6c6f00 0000000000000000",
+                "2e000000 01000000 0400000000000000 0100000000000000 e8030000 e8030000 4d000000 01000000 68656c6c6f00",
+            ],
+            lines: &[&[NO_ENTRY], &[INVALID]],
+            counts: "served messages=2 kept=1 repeated=0 bare=1 silent=0 interrupts=0",
+            ending: Ending::Done,
+        },
+    )
 }
 
 #[test]
 fn lengths(rt: HostRuntime) -> Result<(), Fail> {
     let counts = "served messages=0 kept=0 repeated=0 bare=0 silent=0 interrupts=0";
-    check(&rt, &Row {
-        name: "length-bounds, 39",
-        stream: &["27000000"],
-        lines: &[],
-        counts,
-        ending: Ending::Short { at: 0, len: 39 },
-    })?;
-    check(&rt, &Row {
-        name: "length-bounds, 135,169",
-        stream: &["01100200"],
-        lines: &[],
-        counts,
-        ending: Ending::TooLong { at: 0, len: 135_169 },
-    })?;
-    check(&rt, &Row {
-        name: "length-bounds, 135,168",
-        stream: &["00100200"],
-        lines: &[],
-        counts,
-        ending: Ending::Cut { at: 0, have: 4, need: 135_168 },
-    })?;
-    check(&rt, &Row {
-        name: "cut-stream",
-        stream: &[LOOKUP_HELLO, "2e0000"],
-        lines: &[&[NO_ENTRY]],
-        counts: "served messages=1 kept=1 repeated=0 bare=0 silent=0 interrupts=0",
-        ending: Ending::Cut { at: 46, have: 3, need: 4 },
-    })
+    check(
+        &rt,
+        &Row {
+            name: "length-bounds, 39",
+            stream: &["27000000"],
+            lines: &[],
+            counts,
+            ending: Ending::Short { at: 0, len: 39 },
+        },
+    )?;
+    check(
+        &rt,
+        &Row {
+            name: "length-bounds, 135,169",
+            stream: &["01100200"],
+            lines: &[],
+            counts,
+            ending: Ending::TooLong {
+                at: 0,
+                len: 135_169,
+            },
+        },
+    )?;
+    check(
+        &rt,
+        &Row {
+            name: "length-bounds, 135,168",
+            stream: &["00100200"],
+            lines: &[],
+            counts,
+            ending: Ending::Cut {
+                at: 0,
+                have: 4,
+                need: 135_168,
+            },
+        },
+    )?;
+    check(
+        &rt,
+        &Row {
+            name: "cut-stream",
+            stream: &[LOOKUP_HELLO, "2e0000"],
+            lines: &[&[NO_ENTRY]],
+            counts: "served messages=1 kept=1 repeated=0 bare=0 silent=0 interrupts=0",
+            ending: Ending::Cut {
+                at: 46,
+                have: 3,
+                need: 4,
+            },
+        },
+    )
 }
 
 #[test]
 fn zero_unique(rt: HostRuntime) -> Result<(), Fail> {
     let counts = "served messages=0 kept=0 repeated=0 bare=0 silent=0 interrupts=0";
-    check(&rt, &Row {
-        name: "zero-unique, 0",
-        stream: &["38000000 03000000 0000000000000000 0100000000000000", TAIL, PLAIN, LOOKUP_HELLO],
-        lines: &[],
-        counts,
-        ending: Ending::ZeroUnique { at: 0 },
-    })?;
-    check(&rt, &Row {
-        name: "zero-unique, the bit of a resend alone",
-        stream: &["38000000 03000000 0000000000000080 0100000000000000", TAIL, PLAIN],
-        lines: &[],
-        counts,
-        ending: Ending::ZeroUnique { at: 0 },
-    })?;
-    check(&rt, &Row {
-        name: "zero-unique, behind an answer",
-        stream: &[LOOKUP_HELLO, "38000000 03000000 0000000000000000 0100000000000000", TAIL, PLAIN],
-        lines: &[&[NO_ENTRY]],
-        counts: "served messages=1 kept=1 repeated=0 bare=0 silent=0 interrupts=0",
-        ending: Ending::ZeroUnique { at: 46 },
-    })?;
-    check(&rt, &Row {
-        name: "zero-unique, FORGET and CREATE",
-        stream: &[
-            "30000000 02000000 0000000000000000 0100000000000000", TAIL, "0100000000000000",
-            "28000000 23000000 0400000000000000 0100000000000000", TAIL,
-        ],
-        lines: &[&["10000000 daffffff 0400000000000000"]],
-        counts: "served messages=2 kept=0 repeated=0 bare=1 silent=1 interrupts=0",
-        ending: Ending::Done,
-    })
+    check(
+        &rt,
+        &Row {
+            name: "zero-unique, 0",
+            stream: &[
+                "38000000 03000000 0000000000000000 0100000000000000",
+                TAIL,
+                PLAIN,
+                LOOKUP_HELLO,
+            ],
+            lines: &[],
+            counts,
+            ending: Ending::ZeroUnique { at: 0 },
+        },
+    )?;
+    check(
+        &rt,
+        &Row {
+            name: "zero-unique, the bit of a resend alone",
+            stream: &[
+                "38000000 03000000 0000000000000080 0100000000000000",
+                TAIL,
+                PLAIN,
+            ],
+            lines: &[],
+            counts,
+            ending: Ending::ZeroUnique { at: 0 },
+        },
+    )?;
+    check(
+        &rt,
+        &Row {
+            name: "zero-unique, behind an answer",
+            stream: &[
+                LOOKUP_HELLO,
+                "38000000 03000000 0000000000000000 0100000000000000",
+                TAIL,
+                PLAIN,
+            ],
+            lines: &[&[NO_ENTRY]],
+            counts: "served messages=1 kept=1 repeated=0 bare=0 silent=0 interrupts=0",
+            ending: Ending::ZeroUnique { at: 46 },
+        },
+    )?;
+    check(
+        &rt,
+        &Row {
+            name: "zero-unique, FORGET and CREATE",
+            stream: &[
+                "30000000 02000000 0000000000000000 0100000000000000",
+                TAIL,
+                "0100000000000000",
+                "28000000 23000000 0400000000000000 0100000000000000",
+                TAIL,
+            ],
+            lines: &[&["10000000 daffffff 0400000000000000"]],
+            counts: "served messages=2 kept=0 repeated=0 bare=1 silent=1 interrupts=0",
+            ending: Ending::Done,
+        },
+    )
 }

@@ -5,9 +5,28 @@ use super::*;
 fn endings(rt: HostRuntime) -> Result<(), Fail> {
     for (ending, status, line) in [
         (Ending::Done, 0, ""),
-        (Ending::Short { at: 46, len: 39 }, 1, "stream: Short at 46: len 39"),
-        (Ending::TooLong { at: 0, len: 135_169 }, 1, "stream: TooLong at 0: len 135169"),
-        (Ending::Cut { at: 46, have: 3, need: 4 }, 1, "stream: Cut at 46: have 3, need 4"),
+        (
+            Ending::Short { at: 46, len: 39 },
+            1,
+            "stream: Short at 46: len 39",
+        ),
+        (
+            Ending::TooLong {
+                at: 0,
+                len: 135_169,
+            },
+            1,
+            "stream: TooLong at 0: len 135169",
+        ),
+        (
+            Ending::Cut {
+                at: 46,
+                have: 3,
+                need: 4,
+            },
+            1,
+            "stream: Cut at 46: have 3, need 4",
+        ),
         (Ending::ZeroUnique { at: 7 }, 1, "stream: ZeroUnique at 7"),
         (Ending::Usage, 2, ""),
         (Ending::Sql, 3, "store: Sql"),
@@ -32,10 +51,22 @@ fn endings(rt: HostRuntime) -> Result<(), Fail> {
 fn good_words(rt: HostRuntime) -> Result<(), Fail> {
     let words = ["replay", "--at", "18446744073709551615", "-"];
     let run = parse(rt.alloc(), words.as_slice())?;
-    assert_eq!(rt; run, Run::Replay { at: 18_446_744_073_709_551_615, stream: "-" });
+    assert_eq!(rt;
+        run,
+        Run::Replay {
+            at: 18_446_744_073_709_551_615,
+            stream: "-"
+        }
+    );
     let words = ["replay", "first.stream", "--at=0"];
     let run = parse(rt.alloc(), words.as_slice())?;
-    assert_eq!(rt; run, Run::Replay { at: 0, stream: "first.stream" });
+    assert_eq!(rt;
+        run,
+        Run::Replay {
+            at: 0,
+            stream: "first.stream"
+        }
+    );
     Ok(())
 }
 
@@ -53,10 +84,19 @@ fn wrong_words(rt: HostRuntime) {
     assert_eq!(rt; kind_of(alloc, &["replay", "-"]), missing);
     assert_eq!(rt; kind_of(alloc, &["replay", "--at", "1000"]), missing);
     assert_eq!(rt; kind_of(alloc, &[]), Some(ErrorKind::MissingSubcommand));
-    assert_eq!(rt; kind_of(alloc, &["reply"]), Some(ErrorKind::InvalidSubcommand));
+    assert_eq!(rt;
+        kind_of(alloc, &["reply"]),
+        Some(ErrorKind::InvalidSubcommand)
+    );
     assert_eq!(rt; kind_of(alloc, &["--help"]), Some(ErrorKind::DisplayHelp));
     let invalid = Some(ErrorKind::ValueValidation);
     assert_eq!(rt; kind_of(alloc, &["replay", "--at", "soon", "-"]), invalid);
-    assert_eq!(rt; kind_of(alloc, &["replay", "--at", "18446744073709551616", "-"]), invalid);
-    assert_eq!(rt; kind_of(alloc, &["replay", "--at", "1", "-", "x"]), Some(ErrorKind::UnknownArgument));
+    assert_eq!(rt;
+        kind_of(alloc, &["replay", "--at", "18446744073709551616", "-"]),
+        invalid
+    );
+    assert_eq!(rt;
+        kind_of(alloc, &["replay", "--at", "1", "-", "x"]),
+        Some(ErrorKind::UnknownArgument)
+    );
 }
