@@ -1,9 +1,20 @@
--- The layouts of answer bodies (fuse.h: fuse_attr, fuse_entry_out, fuse_attr_out).
-use Rattle.std.specs.Prelude.{ℕ, List, [], ◌∷◌, ◌++◌}
+-- The layouts of answer bodies (fuse.h: fuse_out_header, fuse_attr, fuse_entry_out, fuse_attr_out).
+use Rattle.std.specs.Prelude.{ℕ, List, [], ◌∷◌}
+use Rattle.std.specs.Int.{cast_unsigned, w32}
 use Rattle.fuse_wire.specs.Layout.{Part, number, unused, form}
+use Rattle.fuse_answer.specs.declared.records.OutHeader.{OutHeader}
 use Rattle.fuse_answer.specs.declared.records.Attr.{Attr}
 use Rattle.fuse_answer.specs.declared.records.EntryOut.{EntryOut}
 use Rattle.fuse_answer.specs.declared.records.AttrOut.{AttrOut}
+
+-- numbers of w bytes each
+abbrev pub numbers : ℕ → List ℕ → List Part
+numbers w [] = []
+numbers w (n ∷ ns) = number w n ∷ numbers w ns
+
+-- the error in two's complement
+abbrev pub header_parts : OutHeader → List Part
+header_parts h = number 4 h.len ∷ number 4 (cast_unsigned w32 h.error) ∷ number 8 h.unique ∷ []
 
 abbrev pub attr_parts : Attr → List Part
 attr_parts a =
@@ -20,6 +31,9 @@ abbrev pub attr_out_parts : AttrOut → List Part
 attr_out_parts a = number 8 a.attr_valid ∷ number 4 a.attr_valid_nsec ∷ unused 4 ∷ attr_parts a.attr
 
 -- the bytes of each record
+unfoldable pub header_bytes : OutHeader → List ℕ
+header_bytes h = form (header_parts h)
+
 unfoldable pub attr_bytes : Attr → List ℕ
 attr_bytes a = form (attr_parts a)
 

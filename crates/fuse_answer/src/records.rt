@@ -1,3 +1,14 @@
+ghost use Rattle.std.specs.Prelude.{◌≡◌, ◌++◌, length, OnOk, IfOk};
+ghost use Rattle.fuse_answer.specs.Bodies.{header_bytes, attr_bytes, entry_bytes, attr_out_bytes};
+ghost use Rattle.fuse_answer.specs.declared.records.TheConstants.OutHeader.{SIZE as HEADER_SIZE};
+ghost use Rattle.fuse_answer.specs.declared.records.TheConstants.Attr.{SIZE as ATTR_SIZE};
+ghost use Rattle.fuse_answer.specs.declared.records.TheConstants.EntryOut.{SIZE as ENTRY_SIZE};
+ghost use Rattle.fuse_answer.specs.declared.records.TheConstants.AttrOut.{SIZE as ATTR_OUT_SIZE};
+
+use crate::numbers::{put_u32s, put_u64s};
+use fuse_wire::{Memory, put_bytes, put_u32, put_u64};
+use std::alloc::Global;
+
 /// The header of an answer, `fuse_out_header` of `fuse.h`.
 #[derive(Clone, Copy, Debug, PartialEq, Eq)]
 pub struct OutHeader {
@@ -45,4 +56,133 @@ pub struct AttrOut {
     pub attr_valid: u64,
     pub attr_valid_nsec: u32,
     pub attr: Attr,
+}
+
+impl OutHeader {
+    /// The bytes that it takes.
+    pub const SIZE: usize = 16;
+
+    #[tactic(auto, unfolding(crate::specs::Bodies::header_bytes, fuse_wire::specs::Bytes::le))]
+    pub(crate) fn bytes(&self) -> [u8; 16]
+        ensures { result ≡ header_bytes self.now }
+    {
+        let len = self.len.to_le_bytes();
+        let error = self.error.cast_unsigned().to_le_bytes();
+        let unique = self.unique.to_le_bytes();
+        [
+            len[0], len[1], len[2], len[3], error[0], error[1], error[2], error[3], unique[0],
+            unique[1], unique[2], unique[3], unique[4], unique[5], unique[6], unique[7],
+        ]
+    }
+
+    pub fn body_of(&self, alloc: Global) -> Result<Vec<u8>, Memory>
+        ensures bytes { IfOk result (λ body. body.items ≡ header_bytes self.now) }
+        ensures size { IfOk result (λ body. length body.items ≡ HEADER_SIZE) }
+    {
+        Ok(Vec::from_slice(alloc, &self.bytes())?)
+    }
+}
+
+impl Attr {
+    /// The bytes that it takes.
+    pub const SIZE: usize = 88;
+
+    // Appends the bytes.
+    fn put(&self, out: &mut Vec<u8>) -> Result<(), Memory>
+        ensures { OnOk result (out.new.items ≡ out.old.items ++ attr_bytes self.now) }
+    {
+        put_u64s(
+            out,
+            &[
+                self.ino,
+                self.size,
+                self.blocks,
+                self.atime,
+                self.mtime,
+                self.ctime,
+            ],
+        )?;
+        put_u32s(
+            out,
+            &[
+                self.atimensec,
+                self.mtimensec,
+                self.ctimensec,
+                self.mode,
+                self.nlink,
+                self.uid,
+                self.gid,
+                self.rdev,
+                self.blksize,
+                self.flags,
+            ],
+        )
+    }
+
+    #[tactic(auto, using(crate::proofs::Forms::length_attr))]
+    pub fn body_of(&self, alloc: Global) -> Result<Vec<u8>, Memory>
+        ensures bytes { IfOk result (λ body. body.items ≡ attr_bytes self.now) }
+        ensures size { IfOk result (λ body. length body.items ≡ ATTR_SIZE) }
+    {
+        let mut body = Vec::with_capacity(alloc, Attr::SIZE)?;
+        self.put(&mut body)?;
+        Ok(body)
+    }
+}
+
+impl EntryOut {
+    /// The bytes that it takes.
+    pub const SIZE: usize = 128;
+
+    // Appends the bytes.
+    fn put(&self, out: &mut Vec<u8>) -> Result<(), Memory>
+        ensures { OnOk result (out.new.items ≡ out.old.items ++ entry_bytes self.now) }
+    {
+        put_u64s(
+            out,
+            &[
+                self.nodeid,
+                self.generation,
+                self.entry_valid,
+                self.attr_valid,
+            ],
+        )?;
+        put_u32s(out, &[self.entry_valid_nsec, self.attr_valid_nsec])?;
+        self.attr.put(out)
+    }
+
+    #[tactic(auto, using(crate::proofs::Forms::length_entry))]
+    pub fn body_of(&self, alloc: Global) -> Result<Vec<u8>, Memory>
+        ensures bytes { IfOk result (λ body. body.items ≡ entry_bytes self.now) }
+        ensures size { IfOk result (λ body. length body.items ≡ ENTRY_SIZE) }
+    {
+        let mut body = Vec::with_capacity(alloc, EntryOut::SIZE)?;
+        self.put(&mut body)?;
+        Ok(body)
+    }
+}
+
+impl AttrOut {
+    /// The bytes that it takes.
+    pub const SIZE: usize = 104;
+
+    // Appends the bytes.
+    fn put(&self, out: &mut Vec<u8>) -> Result<(), Memory>
+        ensures { OnOk result (out.new.items ≡ out.old.items ++ attr_out_bytes self.now) }
+    {
+        put_u64(out, self.attr_valid)?;
+        put_u32(out, self.attr_valid_nsec)?;
+        put_bytes(out, &[0; 4])?;
+        self.attr.put(out)
+    }
+
+    #[tactic(auto, using(crate::proofs::Forms::length_attr_out))]
+    pub fn body_of(&self, alloc: Global) -> Result<Vec<u8>, Memory>
+        ensures bytes { IfOk result (λ body. body.items ≡ attr_out_bytes self.now) }
+        ensures size { IfOk result (λ body. length body.items ≡ ATTR_OUT_SIZE) }
+    {
+        let mut body = Vec::with_capacity(alloc, AttrOut::SIZE)?;
+        self.put(&mut body)?;
+        Ok(body)
+    }
 }

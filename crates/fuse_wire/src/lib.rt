@@ -2,6 +2,7 @@
 //! NUL, the id of a request, error numbers and flag sets.
 #![tactic(auto)]
 
+mod access_mode;
 mod byte_list;
 mod errno;
 mod fields;
@@ -12,6 +13,7 @@ mod memory;
 mod moment;
 mod put;
 
+pub use access_mode::AccessMode;
 pub use byte_list::ByteList;
 pub use errno::Errno;
 pub use fields::Fields;

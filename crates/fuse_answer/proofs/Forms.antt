@@ -1,0 +1,60 @@
+-- Parts that stand one after the other, and how many bytes they take.
+use Rattle.std.proofs.Common.{◌≡◌, ℕ, List, [], ◌∷◌, ◌++◌, ◌+◌, length, Result, Ok, Err, refl, sym, ap, ◌∙◌, append_assoc, arith}
+use Rattle.std.specs.Prelude.{OnOk, replicate}
+use Rattle.std.proofs.lemmas.List.{length-append, length-replicate}
+use Rattle.fuse_wire.specs.Bytes.{le}
+use Rattle.fuse_wire.specs.Layout.{Part, number, unused, text, bytes, form}
+use Rattle.fuse_wire.proofs.Numbers.{length-le}
+use Rattle.fuse_wire.proofs.Layouts.{widths}
+use Rattle.fuse_answer.specs.Bodies.{attr_parts, entry_parts, attr_out_parts, attr_bytes, entry_bytes, attr_out_bytes}
+use Rattle.fuse_answer.specs.declared.records.Attr.{Attr}
+use Rattle.fuse_answer.specs.declared.records.EntryOut.{EntryOut}
+use Rattle.fuse_answer.specs.declared.records.AttrOut.{AttrOut}
+
+form-append : (ps qs : List Part) → form (ps ++ qs) ≡ form ps ++ form qs
+form-append [] qs = refl
+form-append (number w n ∷ ps) qs = ap (λ (x : List ℕ). le w n ++ x) (form-append ps qs) ∙ sym (append_assoc (le w n) (form ps) (form qs))
+form-append (unused w ∷ ps) qs = ap (λ (x : List ℕ). replicate w 0 ++ x) (form-append ps qs) ∙ sym (append_assoc (replicate w 0) (form ps) (form qs))
+form-append (text t ∷ ps) qs = ap (λ (x : List ℕ). t ++ 0 ∷ x) (form-append ps qs) ∙ sym (append_assoc t (0 ∷ form ps) (form qs))
+form-append (bytes xs ∷ ps) qs = ap (λ (x : List ℕ). xs ++ x) (form-append ps qs) ∙ sym (append_assoc xs (form ps) (form qs))
+
+-- what was put, and then more parts
+pub put-more : (old mid new : List ℕ) (ps qs : List Part) → mid ≡ old ++ form ps → new ≡ mid ++ form qs → new ≡ old ++ form (ps ++ qs)
+put-more old mid new ps qs e f =
+    f ∙ ap (λ (x : List ℕ). x ++ form qs) e ∙ append_assoc old (form ps) (form qs) ∙ ap (λ (x : List ℕ). old ++ x) (sym (form-append ps qs))
+
+pub regroup : (a b c d : List ℕ) → ((a ++ b) ++ c) ++ d ≡ a ++ (b ++ (c ++ d))
+regroup a b c d = simp append_assoc
+
+pub on_ok : {T E : Type 0} (r : Result T E) (P Q : Type 0) → (P → Q) → OnOk r P → OnOk r Q
+on_ok (Ok x) P Q f h = f h
+on_ok (Err e) P Q f h = tt
+
+-- the same where the last put may have failed
+pub put-last : {T E : Type 0} (r : Result T E) (old mid new : List ℕ) (ps qs : List Part) → mid ≡ old ++ form ps
+    → OnOk r (new ≡ mid ++ form qs) → OnOk r (new ≡ old ++ form (ps ++ qs))
+put-last r old mid new ps qs e = on_ok r (new ≡ mid ++ form qs) (new ≡ old ++ form (ps ++ qs)) (put-more old mid new ps qs e)
+
+length-form : (ps : List Part) → length (form ps) ≡ widths ps
+length-form [] = refl
+length-form (number w n ∷ ps) = omega (arith, length-append (le w n) (form ps), length-le w n, length-form ps)
+length-form (unused w ∷ ps) = omega (arith, length-append (replicate w 0) (form ps), length-replicate {A = ℕ} w 0, length-form ps)
+length-form (text t ∷ ps) = omega (arith, length-append t (0 ∷ form ps), length-form ps)
+length-form (bytes xs ∷ ps) = omega (arith, length-append xs (form ps), length-form ps)
+
+pub length_attr : (a : Attr) → length (attr_bytes a) ≡ 88
+unfolding attr_bytes
+length_attr a = length-form (attr_parts a)
+
+pub length_entry : (e : EntryOut) → length (entry_bytes e) ≡ 128
+unfolding entry_bytes
+length_entry e = length-form (entry_parts e)
+
+pub length_attr_out : (a : AttrOut) → length (attr_out_bytes a) ≡ 104
+unfolding attr_out_bytes
+length_attr_out a = length-form (attr_out_parts a)
+
+-- headers of the same numbers are the same
+pub same-head : (body body' : List ℕ) (e e' u : ℕ) → body ≡ body' → e ≡ e'
+    → form (number 4 (16 + length body) ∷ number 4 e ∷ number 8 u ∷ []) ≡ form (number 4 (16 + length body') ∷ number 4 e' ∷ number 8 u ∷ [])
+same-head body body' e e' u p q = rw (p, q) refl

@@ -1,0 +1,99 @@
+-- The class of a message, by what it spells.
+use Rattle.std.proofs.Common.{◌≡◌, ℕ, Bool, true, false, cond, List, drop, Option, Some, None, Result, Ok, Err, inl, inr, refl, sym, ap, ◌∙◌}
+use Rattle.std.specs.Prelude.{IfOk, IfErr, IsOkAnd}
+use Rattle.fuse_wire.specs.Bytes.{number_of}
+use Rattle.fuse_wire.specs.declared.errno.TheConstants.Errno.{EINVAL, ENOSYS}
+use Rattle.fuse_request.specs.declared.class.Class.{Class}
+use Rattle.fuse_request.specs.declared.class.Class.TheVariants.{Silent, Bare, Kept}
+use Rattle.fuse_request.specs.declared.decoding.Malformed.{Malformed}
+use Rattle.std.specs.Borrow.{Bor}
+use Rattle.fuse_request.specs.declared.request.Op.{Op}
+use Rattle.fuse_request.specs.declared.request.Op.TheVariants as ops
+use Rattle.fuse_request.specs.declared.request.Request.{Request}
+use Rattle.fuse_request.specs.Act.{Act, Lookup, Getattr, Mkdir, Unsupported, Asked, asked, act, IsBuilt}
+use Rattle.fuse_request.specs.Header.{raw_of}
+use Rattle.fuse_request.specs.Opcodes.{silent, in_profile}
+use Rattle.fuse_request.specs.Spelling.{opcode_of, IsNamed, Spells}
+use Rattle.fuse_request.specs.Faults.{first_fault}
+use Rattle.fuse_request.specs.Classes.{class_by, class_of, IsOfClass}
+use Rattle.fuse_request.proofs.Heads.{has_parts, no_fault}
+
+built : (a : Act) → IsBuilt a → in_profile (opcode_of a) ≡ true
+built (Lookup name) h = refl
+built (Getattr flags fh) h = refl
+built (Mkdir mode umask name) h = refl
+built (Unsupported opcode body) h = absurd h
+
+not_built : (a : Act) → ¬ (IsBuilt a) → IsNamed a → in_profile (opcode_of a) ≡ false
+not_built (Lookup name) h named = absurd (h tt)
+not_built (Getattr flags fh) h named = absurd (h tt)
+not_built (Mkdir mode umask name) h named = absurd (h tt)
+not_built (Unsupported opcode body) h named = named
+
+-- an opcode of the profile is served
+served : (a : Act) → IsNamed a → in_profile (opcode_of a) ≡ true → IsBuilt a
+served (Lookup name) named e = tt
+served (Getattr flags fh) named e = tt
+served (Mkdir mode umask name) named e = tt
+served (Unsupported opcode body) named e = absurd cc
+
+-- the class of a message that isn't silent, and that has this fault and this opcode
+loud_class : (m : List ℕ) (f : Option Malformed) (opcode : ℕ) → silent (raw_of m).opcode ≡ false → first_fault m ≡ f → (raw_of m).opcode ≡ opcode → class_of m ≡ class_by f opcode
+unfolding class_of
+loud_class m f opcode loud e o = rw loud (rw (e, o) refl)
+
+spelled_class : (v : Asked) (m : List ℕ) → silent (raw_of m).opcode ≡ false → Spells v m → class_of m ≡ class_by None (opcode_of v.act)
+spelled_class v m loud s = loud_class m None (opcode_of v.act) loud (no_fault v m s) (has_parts v m s).opcode
+
+-- a class, with what it says
+abbrev pub Classed : Class → List ℕ → Type 0
+Classed class m = (class ≡ class_of m) × IsOfClass class m
+
+pub classed_silent : (m : List ℕ) → silent (number_of 4 (drop 4 m)) ≡ true → Classed Silent m
+unfolding class_of
+classed_silent m e = (rw e refl, e)
+
+pub classed_fault : (m : List ℕ) (f : Malformed) → silent (number_of 4 (drop 4 m)) ≡ false → first_fault m ≡ Some f → Classed (Bare EINVAL) m
+classed_fault m f loud e = (
+  sym (loud_class m (Some f) (raw_of m).opcode loud e refl),
+  (loud, inl (refl, λ v s. (let none : first_fault m ≡ None = no_fault v m s in absurd cc))),
+)
+
+pub classed_unsupported : (m : List ℕ) (v : Asked) → silent (number_of 4 (drop 4 m)) ≡ false → Spells v m → ¬ (IsBuilt v.act) → Classed (Bare ENOSYS) m
+classed_unsupported m v loud s h = (
+  sym (spelled_class v m loud s ∙ rw (not_built v.act h s.named) refl),
+  (loud, inr (refl, (v, s, h))),
+)
+
+pub classed_kept : (m : List ℕ) (v : Asked) → silent (number_of 4 (drop 4 m)) ≡ false → Spells v m → IsBuilt v.act → Classed Kept m
+classed_kept m v loud s h = (sym (spelled_class v m loud s ∙ rw (built v.act h) refl), (loud, (v, s, h)))
+
+-- what is kept has no fault, and an opcode of the profile
+kept_by : (loud : Bool) (f : Option Malformed) (opcode : ℕ) → cond {A = Class} loud Silent (class_by f opcode) ≡ Kept → (f ≡ None) × (in_profile opcode ≡ true)
+kept_by true f opcode e = absurd cc
+kept_by false (Some f) opcode e = absurd cc
+kept_by false None opcode e =
+    elim (in_profile opcode) as (λ p. cond {A = Class} p Kept (Bare ENOSYS) ≡ Kept → (◌≡◌ {A = Option Malformed} None None) × (p ≡ true)) [
+      | true ↦ (λ q. (refl, refl))
+      | false ↦ (λ q. absurd cc)
+    ] e
+
+kept_parts : (m : List ℕ) → class_of m ≡ Kept → (first_fault m ≡ None) × (in_profile (raw_of m).opcode ≡ true)
+unfolding class_of
+kept_parts m e = kept_by (silent (raw_of m).opcode) (first_fault m) (raw_of m).opcode e
+
+-- what is kept is read, and served
+pub kept_read : (m : List ℕ) (r : Result Request Malformed) → IfOk r (λ q. Spells (asked q) m) → IfErr r (λ f. first_fault m ≡ Some f)
+    → class_of m ≡ Kept → IsOkAnd r (λ q. IsBuilt (act q.op))
+kept_read m (Ok q) found fault e =
+    let opcode : (raw_of m).opcode ≡ opcode_of (act q.op) = (has_parts (asked q) m found).opcode in
+    served (act q.op) found.named (sym (ap in_profile opcode) ∙ (kept_parts m e).1)
+kept_read m (Err f) found fault e =
+    let none : first_fault m ≡ None = (kept_parts m e).0 in
+    absurd cc
+
+pub is_built : (op : Op) → ((opcode : ℕ) (body : Bor (List ℕ)) → ¬ (op ≡ ops.Unsupported opcode body)) → IsBuilt (act op)
+is_built (ops.Lookup name) h = tt
+is_built (ops.Getattr flags fh) h = tt
+is_built (ops.Mkdir mode umask name) h = tt
+is_built (ops.Unsupported opcode body) h = absurd (h opcode body refl)

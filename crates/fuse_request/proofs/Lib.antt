@@ -1,0 +1,8 @@
+pub mod Bodies
+pub mod Acts
+pub mod Heads
+pub mod Streams
+pub mod Framing
+pub mod Canons
+pub mod Classes
+pub mod Vectors

@@ -1,0 +1,12 @@
+use Rattle.fuse_request.proofs.Heads.{only_one, read_at}
+use Rattle.fuse_request.proofs.Classes.{kept_read}
+use Rattle.fuse_request.proofs.decoding.decode.Goals as goal
+
+pub returns-clause-only : goal.returns-clause-only
+returns-clause-only c = only_one c.args.message.now c.read.result c.read.ensures.found c.read.ensures.fault
+
+pub returns-clause-placed : goal.returns-clause-placed
+returns-clause-placed c = read_at c.args.message.now c.read.result c.read.ensures.found
+
+pub returns-clause-kept : goal.returns-clause-kept
+returns-clause-kept c = kept_read c.args.message.now c.read.result c.read.ensures.found c.read.ensures.fault

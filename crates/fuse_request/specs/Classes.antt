@@ -1,0 +1,32 @@
+-- How a message is answered (own profile).
+use Rattle.std.specs.Prelude.{◌≡◌, ◌==◌, ◌&&◌, ◌⊎◌, ℕ, Bool, true, false, not, if◌then◌else◌, List, Option, Some, None}
+use Rattle.fuse_wire.specs.declared.errno.TheConstants.Errno.{EINVAL, ENOSYS}
+use Rattle.fuse_wire.specs.Ids.{id_of}
+use Rattle.fuse_request.specs.declared.class.Class.{Class}
+use Rattle.fuse_request.specs.declared.class.Class.TheVariants.{Silent, Bare, Kept}
+use Rattle.fuse_request.specs.declared.decoding.Malformed.{Malformed}
+use Rattle.fuse_request.specs.Act.{Asked, IsBuilt}
+use Rattle.fuse_request.specs.Header.{raw_of}
+use Rattle.fuse_request.specs.Opcodes.{silent, in_profile}
+use Rattle.fuse_request.specs.Faults.{first_fault}
+use Rattle.fuse_request.specs.Spelling.{Spells}
+
+-- by its fault, and else by its opcode
+abbrev pub class_by : Option Malformed → ℕ → Class
+class_by (Some m) opcode = Bare EINVAL
+class_by None opcode = if in_profile opcode then Kept else Bare ENOSYS
+
+unfoldable pub class_of : List ℕ → Class
+class_of b = if silent (raw_of b).opcode then Silent else class_by (first_fault b) (raw_of b).opcode
+
+-- what a class says of the requests that the message spells
+abbrev pub IsOfClass : Class → List ℕ → Type 0
+IsOfClass Silent b = silent (raw_of b).opcode ≡ true
+IsOfClass (Bare errno) b =
+    (silent (raw_of b).opcode ≡ false)
+    × (((errno ≡ EINVAL) × ((r : Asked) → ¬ (Spells r b))) ⊎ ((errno ≡ ENOSYS) × ((r : Asked) × Spells r b × ¬ (IsBuilt r.act))))
+IsOfClass Kept b = (silent (raw_of b).opcode ≡ false) × ((r : Asked) × Spells r b × IsBuilt r.act)
+
+-- it would have to be answered, and its id is 0
+abbrev pub is_zero : List ℕ → Bool
+is_zero b = not (silent (raw_of b).opcode) && (id_of (raw_of b).unique == 0)

@@ -1,0 +1,12 @@
+pub mod Opcodes
+pub mod Header
+pub mod Act
+pub mod Spelling
+pub mod Faults
+pub mod Readers
+pub mod Places
+pub mod Classes
+pub mod Canon
+pub mod Stream
+pub mod Framing
+pub mod Vectors

@@ -1,0 +1,48 @@
+ghost use Rattle.std.specs.Prelude.{◌≡◌, ◌≤◌, length};
+ghost use Rattle.fuse_wire.specs.Bytes.{number_of};
+ghost use Rattle.fuse_request.specs.Classes.{class_of, IsOfClass, is_zero};
+
+use crate::decoding::decode;
+use crate::header::{MIN_MESSAGE, u32_at, u64_at};
+use crate::opcode::is_silent;
+use crate::request::Op;
+use fuse_wire::{Errno, Id};
+
+/// How a message is answered.
+#[derive(Clone, Copy, Debug, PartialEq, Eq)]
+pub enum Class {
+    /// Not at all.
+    Silent,
+    /// With this error. It follows from the bytes alone, and isn't recorded.
+    Bare(Errno),
+    /// By what its request does. The answer is recorded.
+    Kept,
+}
+
+/// The class of a whole message. Takes no memory.
+pub fn classify(message: &[u8]) -> Class
+    requires header { MIN_MESSAGE ≤ length message.now }
+    requires len { number_of 4 message.now ≡ length message.now }
+    ensures class { result ≡ class_of message.now }
+    // What that says of the requests that the message spells.
+    ensures spells { IsOfClass result message.now }
+{
+    if is_silent(u32_at(message, 4)) {
+        return Class::Silent;
+    }
+    let Ok(request) = decode(message) else {
+        return Class::Bare(Errno::EINVAL);
+    };
+    if let Op::Unsupported { .. } = request.op {
+        return Class::Bare(Errno::ENOSYS);
+    }
+    Class::Kept
+}
+
+/// Whether a message would have to be answered and has the id 0, which an answer can't bear.
+pub fn has_zero_unique(message: &[u8]) -> bool
+    requires { MIN_MESSAGE ≤ length message.now }
+    ensures { result ≡ is_zero message.now }
+{
+    !is_silent(u32_at(message, 4)) && Id::of(u64_at(message, 8)).0 == 0
+}

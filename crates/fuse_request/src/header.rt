@@ -1,0 +1,71 @@
+ghost use Rattle.std.specs.Prelude.{◌≡◌, ◌≤◌, ◌+◌, drop, Some, None, nat_lt, if◌then◌else◌, length};
+ghost use Rattle.fuse_wire.specs.Bytes.{number_of};
+ghost use Rattle.fuse_request.specs.Header.{raw_of};
+
+use byteorder::{ByteOrder, LittleEndian};
+
+/// The length of the shortest message: a header alone, `fuse_in_header` of `fuse.h`.
+pub const MIN_MESSAGE: usize = 40;
+
+/// The length of the longest message.
+pub const MAX_MESSAGE: usize = 135_168;
+
+/// All that the header of a message says, `fuse_in_header` of `fuse.h`.
+#[derive(Clone, Copy, Debug, PartialEq, Eq)]
+pub struct RawHeader {
+    pub len: u32,
+    pub opcode: u32,
+    pub unique: u64,
+    pub nodeid: u64,
+    pub uid: u32,
+    pub gid: u32,
+    pub pid: u32,
+    pub total_extlen: u16,
+    pub padding: u16,
+}
+
+#[tactic(auto, unfolding(fuse_wire::specs::Bytes::number_of))]
+fn u16_at(bytes: &[u8], at: usize) -> u16
+    requires { at + 2 ≤ length bytes.now }
+    ensures { result ≡ number_of 2 (drop at bytes.now) }
+{
+    LittleEndian::read_u16(&bytes[at..])
+}
+
+// The number in the four bytes at this place.
+#[tactic(auto, unfolding(fuse_wire::specs::Bytes::number_of))]
+pub(crate) fn u32_at(bytes: &[u8], at: usize) -> u32
+    requires { at + 4 ≤ length bytes.now }
+    ensures { result ≡ number_of 4 (drop at bytes.now) }
+{
+    LittleEndian::read_u32(&bytes[at..])
+}
+
+// The number in the eight bytes at this place.
+#[tactic(auto, unfolding(fuse_wire::specs::Bytes::number_of))]
+pub(crate) fn u64_at(bytes: &[u8], at: usize) -> u64
+    requires { at + 8 ≤ length bytes.now }
+    ensures { result ≡ number_of 8 (drop at bytes.now) }
+{
+    LittleEndian::read_u64(&bytes[at..])
+}
+
+/// The header of a message. `None` where there are fewer bytes than a header has.
+pub fn header_of(message: &[u8]) -> Option<RawHeader>
+    ensures { result ≡ (if nat_lt (length message.now) MIN_MESSAGE then None else Some (raw_of message.now)) }
+{
+    if message.len() < MIN_MESSAGE {
+        return None;
+    }
+    Some(RawHeader {
+        len: u32_at(message, 0),
+        opcode: u32_at(message, 4),
+        unique: u64_at(message, 8),
+        nodeid: u64_at(message, 16),
+        uid: u32_at(message, 24),
+        gid: u32_at(message, 28),
+        pid: u32_at(message, 32),
+        total_extlen: u16_at(message, 36),
+        padding: u16_at(message, 38),
+    })
+}

@@ -1,0 +1,20 @@
+//! The requests of a FUSE kernel: how they are spelled, and how a stream is cut into them.
+#![tactic(auto)]
+
+mod class;
+mod decoding;
+mod framer;
+mod header;
+mod laws;
+pub mod opcode;
+mod request;
+
+pub use class::{Class, classify, has_zero_unique};
+pub use decoding::{Malformed, decode};
+pub use framer::{FrameFault, Framer};
+pub use header::{MAX_MESSAGE, MIN_MESSAGE, RawHeader, header_of};
+pub use laws::{canon_spells, cut_joins, cut_steps, one_cut};
+pub use request::{InHeader, Op, Request};
+
+#[cfg(test)]
+mod tests;

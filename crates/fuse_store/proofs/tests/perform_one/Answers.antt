@@ -1,0 +1,9 @@
+use Rattle.fuse_store.specs.Group.{HasId, IsKept}
+use Rattle.fuse_store.proofs.Small.{all_one}
+use Rattle.fuse_store.proofs.tests.perform_one.Goals as goal
+
+pub perform-requires-clause-named : goal.perform-requires-clause-named
+perform-requires-clause-named g c = all_one HasId _ c.requires.id
+
+pub perform-requires-clause-kept : goal.perform-requires-clause-kept
+perform-requires-clause-kept g c = all_one IsKept _ c.requires.built

@@ -1,0 +1,9 @@
+use Rattle.fuse_store.specs.Group.{HasId, IsKept}
+use Rattle.fuse_store.proofs.Small.{all_two}
+use Rattle.fuse_store.proofs.tests.perform_two.Goals as goal
+
+pub perform-requires-clause-named : goal.perform-requires-clause-named
+perform-requires-clause-named g c = all_two HasId _ _ c.requires.first_id c.requires.second_id
+
+pub perform-requires-clause-kept : goal.perform-requires-clause-kept
+perform-requires-clause-kept g c = all_two IsKept _ _ c.requires.first_built c.requires.second_built

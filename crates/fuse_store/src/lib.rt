@@ -1,0 +1,14 @@
+//! The store of a FUSE server: the rows of its tree and the recorded answers, changed together.
+#![tactic(auto)]
+
+mod fault;
+mod group;
+mod keeper;
+mod plain;
+
+pub use fault::StoreFault;
+pub use keeper::{Done, Keeper, MAX_GROUP, MAX_SETTLED, StoreCounts};
+pub use plain::PlainKeeper;
+
+#[cfg(test)]
+mod tests;

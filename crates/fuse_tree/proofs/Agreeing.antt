@@ -1,0 +1,117 @@
+-- A plan over the rows of a state agrees with what is done in that state.
+use Rattle.std.proofs.Common.{◌≡◌, ◌==◌, ℕ, Bool, true, false, cond, not, List, [], ◌∷◌, length, Option, Some, None, refl, sym, ap, subst, ◌∙◌}
+use Rattle.std.specs.Prelude.{is_some, Result, Ok, Err, IfOk, IfErr}
+use Rattle.std.specs.Option.{option_map}
+use Rattle.fuse_wire.specs.declared.errno.Errno.{Errno}
+use Rattle.fuse_wire.specs.declared.errno.TheConstants.Errno.{ENOENT, EEXIST, ENOTDIR, ENOSPC, ENOSYS, ESTALE}
+use Rattle.fuse_wire.specs.declared.moment.Moment.{Moment}
+use Rattle.fuse_request.specs.declared.request.InHeader.{InHeader}
+use Rattle.fuse_request.specs.Act.{Act, Asked}
+use Rattle.fuse_request.specs.Act as acts
+use Rattle.fuse_answer.specs.Said.{Said}
+use Rattle.fuse_tree.specs.declared.planning.fault.PlanFault.{PlanFault}
+use Rattle.fuse_tree.specs.declared.planning.fault.PlanFault.TheVariants as faults
+use Rattle.fuse_tree.specs.declared.planning.make.NewNode.{NewNode}
+use Rattle.fuse_tree.specs.declared.rows.EntryRow.{EntryRow}
+use Rattle.fuse_tree.specs.declared.rows.Full.{Full}
+use Rattle.fuse_tree.specs.declared.rows.NodeRow.{NodeRow}
+use Rattle.fuse_tree.specs.declared.rows.Planned.{Planned}
+use Rattle.fuse_tree.specs.State.{State, Node, Tree, is_dir, node_at, is_named, name_fault}
+use Rattle.fuse_tree.specs.Rows.{full_of, row_of, rowed, rows_of_state, row_at, entry_at, apply}
+use Rattle.fuse_tree.specs.Do.{Done, make, mkdir, lookup_child, lookup_entry, lookup_named, lookup, begun, dir_mode, is_full, refuse, refuse_for, done, do_at, do_act}
+use Rattle.fuse_tree.specs.Plan.{Meets, TreeKept, look_fault}
+use Rattle.fuse_tree.specs.Planning.{Tells, refused, refused_for, entry_body, plan_make, plan_mkdir, plan_lookup_named, plan_lookup, plan_of, plan_at, plan_act, plan_child, child_of}
+use Rattle.fuse_tree.proofs.Puts.{row_found, node_found}
+use Rattle.fuse_tree.proofs.Making.{new_full, make_rows, make_tree}
+
+pub record Agrees (s : State) (p : Planned) (d : Done) : Type 0 where
+  pub answer : p.answer ≡ d.said
+  pub rows : apply (rows_of_state s) p.changes ≡ rows_of_state d.state
+  pub tree : Tree d.state
+
+refused_agrees : (s : State) → Tree s → (errno : Errno) → Agrees s (refused errno) (refuse s errno)
+refused_agrees s tree errno = record { answer = refl; rows = refl; tree = tree }
+
+-- both tests of a check go the same way
+both : (s : State) (b : Bool) (p q : Planned) (d e : Done) → (b ≡ true → Agrees s p d) → (b ≡ false → Agrees s q e) → Agrees s (cond b p q) (cond b d e)
+both s true p q d e there other = there refl
+both s false p q d e there other = other refl
+
+both_for : (s : State) (fault : Option Errno) (p : Planned) (d : Done) → Tree s → (fault ≡ None → Agrees s p d) → Agrees s (refused_for fault p) (refuse_for s fault d)
+both_for s None p d tree other = other refl
+both_for s (Some errno) p d tree other = refused_agrees s tree errno
+
+not_false : (b : Bool) → not b ≡ false → b ≡ true
+not_false true e = refl
+not_false false e = absurd cc
+
+none_some : {A : Type 0} (o : Option A) → is_some o ≡ false → o ≡ None
+none_some None e = refl
+none_some (Some x) e = absurd cc
+
+make_agrees : (s : State) (fresh : NewNode) (name : List ℕ) (d : Node) → Tree s → node_at s d.number ≡ Some d → is_dir d.mode ≡ true → name_fault name ≡ None
+    → Agrees s (plan_make fresh name (row_of s d) (rows_of_state s)) (make s fresh name d)
+make_agrees s fresh name d tree e dir name_ok =
+    both s (not (is_named s d.number)) _ _ _ _ (λ _. refused_agrees s tree ENOENT) (λ named.
+    both s (is_some (entry_at s.entries d.number name)) _ _ _ _ (λ _. refused_agrees s tree EEXIST) (λ free.
+    both s (is_full (length s.nodes) s.next_node s.next_cookie) _ _ _ _ (λ _. refused_agrees s tree ENOSPC) (λ room. record {
+      answer = ap (λ (f : Full). record { errno = 0; body = entry_body f.row }) (sym (new_full s fresh name d tree e));
+      rows = make_rows s fresh name d tree e;
+      tree = make_tree s fresh name d tree e dir name_ok (not_false _ named) (none_some _ free) room;
+    })))
+
+mkdir_agrees : (s : State) (header : InHeader) (mode : ℕ) (name : List ℕ) (now : Moment) (d : Node) → Tree s → node_at s d.number ≡ Some d
+    → Agrees s (plan_mkdir header mode name now (row_of s d) (rows_of_state s)) (mkdir s header mode name now d)
+mkdir_agrees s header mode name now d tree e =
+    both s (not (is_dir d.mode)) _ _ _ _ (λ _. refused_agrees s tree ENOTDIR) (λ dir.
+    both_for s (name_fault name) _ _ tree (λ name_ok.
+    make_agrees s (begun header (dir_mode mode) 0 now) name d tree e (not_false _ dir) name_ok))
+
+child_agrees : (s : State) → Tree s → (o : Option Node) → Agrees s (plan_child (option_map (row_of s) o)) (lookup_child s o)
+child_agrees s tree None = refused_agrees s tree ENOENT
+child_agrees s tree (Some n) = record { answer = refl; rows = refl; tree = tree }
+
+entry_agrees : (s : State) → Tree s → (o : Option EntryRow) → Agrees s (plan_child (child_of (rows_of_state s) o)) (lookup_entry s o)
+entry_agrees s tree None = refused_agrees s tree ENOENT
+entry_agrees s tree (Some e) = subst (λ (r : Option NodeRow). Agrees s (plan_child r) (lookup_child s (node_at s e.child))) (sym (row_found s e.child)) (child_agrees s tree (node_at s e.child))
+
+lookup_agrees : (s : State) (name : List ℕ) (d : Node) → Tree s → Agrees s (plan_lookup name (row_of s d) (rows_of_state s)) (lookup s name d)
+lookup_agrees s name d tree =
+    both s (not (is_dir d.mode)) _ _ _ _ (λ _. refused_agrees s tree ENOTDIR) (λ _.
+    both_for s (name_fault name) _ _ tree (λ _.
+    both s (not (is_named s d.number)) _ _ _ _ (λ _. refused_agrees s tree ENOENT) (λ _.
+    entry_agrees s tree (entry_at s.entries d.number name))))
+
+act_agrees : (s : State) (header : InHeader) (a : Act) (now : Moment) (d : Node) → Tree s → node_at s d.number ≡ Some d → Agrees s (plan_act header a now (row_of s d) (rows_of_state s)) (do_act s header a now d)
+act_agrees s header (acts.Lookup name) now d tree e = lookup_agrees s name d tree
+act_agrees s header (acts.Getattr flags fh) now d tree e = record { answer = refl; rows = refl; tree = tree }
+act_agrees s header (acts.Mkdir mode umask name) now d tree e = mkdir_agrees s header mode name now d tree e
+act_agrees s header (acts.Unsupported opcode body) now d tree e = refused_agrees s tree ENOSYS
+
+at_agrees : (s : State) (request : Asked) (now : Moment) (o : Option Node) → Tree s → node_at s request.header.nodeid ≡ o
+    → Agrees s (plan_at request now (option_map (row_of s) o) (rows_of_state s)) (do_at s request now o)
+at_agrees s request now None tree e = refused_agrees s tree ESTALE
+at_agrees s request now (Some d) tree e =
+    act_agrees s request.header request.act now d tree (subst (λ number. node_at s number ≡ Some d) (sym (node_found s request.header.nodeid d tree e).0) e)
+
+plan_agrees : (s : State) (request : Asked) (now : Moment) → Tree s → Agrees s (plan_of request now (rows_of_state s)) (do_at s request now (node_at s request.header.nodeid))
+plan_agrees s request now tree =
+    subst (λ (o : Option NodeRow). Agrees s (plan_at request now o (rows_of_state s)) (do_at s request now (node_at s request.header.nodeid))) (sym (row_found s request.header.nodeid)) (at_agrees s request now (node_at s request.header.nodeid) tree refl)
+
+-- what a plan over the rows of a tree is
+pub plan_meets : (s : State) (request : Asked) (now : Moment) → Tree s → Meets s (plan_of request now (rowed s)) (done s request now)
+unfolding rowed done
+plan_meets s request now tree = let a = plan_agrees s request now tree in record { answer = a.answer; rows = a.rows; tree = a.tree }
+
+pub tree_kept : TreeKept
+tree_kept s request now tree = (plan_meets s request now tree).tree
+
+pub answered : (s : State) (request : Asked) (now : Moment) (result : Result Planned PlanFault) → Tree s → (look_fault result ≡ None → Tells result (plan_of request now (rowed s))) → IfOk result (λ p. Meets s p (done s request now))
+answered s request now (Ok p) tree tells = subst (λ (q : Planned). Meets s q (done s request now)) (sym (tells refl).0) (plan_meets s request now tree)
+answered s request now (Err fault) tree tells = tt
+
+pub no_tree : (q : Planned) (result : Result Planned PlanFault) → IfErr result (λ fault. fault ≡ faults.NotATree → (look_fault result ≡ None → Tells result q) → ⊥)
+no_tree q (Ok p) = tt
+no_tree q (Err (faults.Look f)) = λ is _. absurd cc
+no_tree q (Err faults.Memory) = λ is _. absurd cc
+no_tree q (Err faults.NotATree) = λ is tells. (tells refl).1 refl

@@ -1,0 +1,55 @@
+-- What the rows of a tree can't pass, so that a plan over them never gives up.
+use Rattle.std.proofs.Common.{◌≡◌, ◌≤◌, ◌==◌, ℕ, false, List, Option, Some, None, refl, sym, subst, ◌∙◌, arith}
+use Rattle.std.specs.Option.{option_map}
+use Rattle.fuse_tree.specs.declared.limits.TheConstants.{MAX_FILE, MAX_NODES}
+use Rattle.fuse_tree.specs.declared.rows.EntryRow.{EntryRow}
+use Rattle.fuse_tree.specs.declared.rows.NodeRow.{NodeRow}
+use Rattle.fuse_tree.specs.State.{State, Node, Tree, IsNode, IsEntry, is_below, has_number, node_at, is_entry}
+use Rattle.fuse_tree.specs.Rows.{Rows, IsRowed, row_of, rowed, rows_of_state, row_at, entry_at}
+use Rattle.fuse_tree.specs.Planning.{IsWithin}
+use Rattle.fuse_tree.proofs.Lists.{found, any_gives, none_found, length_filtered}
+use Rattle.fuse_tree.proofs.Puts.{row_found}
+
+within : (s : State) (number : ℕ) (row : NodeRow) (o : Option Node) → Tree s → node_at s number ≡ o → option_map (row_of s) o ≡ Some row → IsWithin row
+within s number row None tree e is = absurd cc
+within s number row (Some n) tree e is =
+    let p = (found (IsNode s.next_node) (λ m. m.number == number) s.nodes n tree.nodes e).0 in
+    let same : row_of s n ≡ row = cc in
+    let here : IsWithin (row_of s n) = record { size = p.size; subdirs = omega (arith, tree.limits.nodes, length_filtered (is_below s.entries n.number) s.nodes) } in
+    subst IsWithin same here
+
+within_state : (s : State) (number : ℕ) (row : NodeRow) → Tree s → row_at (rows_of_state s) number ≡ Some row → IsWithin row
+within_state s number row tree is = within s number row (node_at s number) tree refl (sym (row_found s number) ∙ is)
+
+rowed_is : (s : State) → rowed s ≡ rows_of_state s
+unfolding rowed
+rowed_is s = refl
+
+-- a row that is found among those of a tree is within the bounds
+pub row_within : (rows : Rows) (number : ℕ) (row : NodeRow) → IsRowed rows → row_at rows number ≡ Some row → IsWithin row
+unfolding IsRowed
+row_within rows number row is e =
+    let s = is.0 in within_state s number row is.1 (subst (λ (r : Rows). row_at r number ≡ Some row) (is.2 ∙ rowed_is s) e)
+
+map_none : {A B : Type 0} (f : A → B) (o : Option A) → option_map f o ≡ None → o ≡ None
+map_none f None e = refl
+map_none f (Some x) e = absurd cc
+
+child_in_state : (s : State) (dir : ℕ) (name : List ℕ) (x : EntryRow) → Tree s → entry_at s.entries dir name ≡ Some x → row_at (rows_of_state s) x.child ≡ None → ⊥
+child_in_state s dir name x tree e none =
+    let p = (found (IsEntry s.nodes s.entries s.next_cookie) (is_entry dir name) s.entries x tree.entries e).0 in
+    let missing : node_at s x.child ≡ None = map_none (row_of s) (node_at s x.child) (sym (row_found s x.child) ∙ none) in
+    any_gives (λ n. (n.number == x.child) ≡ false) (has_number x.child) ⊥ s.nodes (none_found (λ n. n.number == x.child) s.nodes missing) p.child (λ n fails passes. absurd cc)
+
+-- an entry that is found among those of a tree leads to a row
+pub child_row : (rows : Rows) (dir : ℕ) (name : List ℕ) (x : EntryRow) → IsRowed rows → entry_at rows.entries dir name ≡ Some x → row_at rows x.child ≡ None → ⊥
+unfolding IsRowed
+child_row rows dir name x is e none =
+    let s = is.0 in
+    let same : rows ≡ rows_of_state s = is.2 ∙ rowed_is s in
+    child_in_state s dir name x is.1 (subst (λ (r : Rows). entry_at r.entries dir name ≡ Some x) same e) (subst (λ (r : Rows). row_at r x.child ≡ None) same none)
+
+-- the rows of a tree are those of one
+pub is_rowed : (s : State) → Tree s → IsRowed (rowed s)
+unfolding IsRowed
+is_rowed s tree = (s, tree, refl)

@@ -1,0 +1,173 @@
+-- What is left of a tree at a new mount.
+use Rattle.std.proofs.Common.{◌≡◌, ◌≢◌, ◌<◌, ◌≤◌, ◌||◌, ℕ, zero, suc, Bool, true, false, not, cond, eqb, List, [], ◌∷◌, length, map, refl, sym, ap, subst, ◌∙◌, arith}
+use Rattle.std.specs.Prelude.{filter}
+use Rattle.std.specs.List.{AllByRecursion, list_any}
+use Rattle.std.proofs.lemmas.Bool.{eqb-true, ne_eqb, eq-eqb}
+use Rattle.std.proofs.lemmas.List.{length-map}
+use Rattle.fuse_tree.specs.declared.rows.EntryRow.{EntryRow}
+use Rattle.fuse_tree.specs.State.{State, Node, Tree, IsNode, IsEntry, Reaches, above, is_dir, is_dir_of, has_number, is_below, is_named, subdirs_of, up_of}
+use Rattle.fuse_tree.specs.Rows.{rowed, full_of}
+use Rattle.fuse_tree.specs.Clearing.{cleared, is_named_row, cleared_rows, Clearing}
+use Rattle.fuse_tree.proofs.Kept.{all_more, all_both, all_kept, apart_filtered, length_filtered, any_gives, and_true}
+
+-- ---- lists of which elements go
+
+-- an element that passes the test is still there where the test keeps it
+any_kept : {A : Type 0} (test kept : A → Bool) (xs : List A) → ((x : A) → test x ≡ true → kept x ≡ true) → list_any test xs ≡ true → list_any test (filter kept xs) ≡ true
+any_kept test kept [] keeps is = absurd cc
+any_kept test kept (x ∷ xs) keeps is =
+    let step : (b d : Bool) → test x ≡ b → kept x ≡ d → (b || list_any test xs) ≡ true → list_any test (cond d (x ∷ filter kept xs) (filter kept xs)) ≡ true =
+    elim [
+      | true ↦ elim [
+        | true ↦ λ here stays e. rw here refl
+        | false ↦ λ here goes e. absurd (let stays = keeps x here in cc)
+      ]
+      | false ↦ elim [
+        | true ↦ λ here stays e. rw here (any_kept test kept xs keeps e)
+        | false ↦ λ here goes e. any_kept test kept xs keeps e
+      ]
+    ] in
+    step (test x) (kept x) refl refl is
+
+-- those that pass the test are the same where the test keeps them
+filter_twice : {A : Type 0} (test kept : A → Bool) (xs : List A) → ((x : A) → test x ≡ true → kept x ≡ true) → filter test (filter kept xs) ≡ filter test xs
+filter_twice test kept [] keeps = refl
+filter_twice test kept (x ∷ xs) keeps =
+    let rest = filter_twice test kept xs keeps in
+    let step : (b d : Bool) → test x ≡ b → kept x ≡ d → filter test (cond d (x ∷ filter kept xs) (filter kept xs)) ≡ cond b (x ∷ filter test xs) (filter test xs) =
+    elim [
+      | true ↦ elim [
+        | true ↦ λ here stays. rw (here, rest) refl
+        | false ↦ λ here goes. absurd (let stays = keeps x here in cc)
+      ]
+      | false ↦ elim [
+        | true ↦ λ here stays. rw (here, rest) refl
+        | false ↦ λ here goes. rest
+      ]
+    ] in
+    step (test x) (kept x) refl refl
+
+-- ---- entries, and who is named
+
+-- each entry's child is the child of an entry
+each_child : (es : List EntryRow) → AllByRecursion (λ e. list_any (λ x. eqb x.child e.child) es ≡ true) es
+each_child [] = tt
+each_child (e ∷ es) =
+    (rw (eq-eqb e.child e.child refl) refl, all_more (λ f. list_any (λ x. eqb x.child f.child) es ≡ true) (λ f. (eqb e.child f.child || list_any (λ x. eqb x.child f.child) es) ≡ true) es (λ f is. rw is (or_true (eqb e.child f.child))) (each_child es))
+  where
+    or_true : (b : Bool) → (b || true) ≡ true
+    or_true true = refl
+    or_true false = refl
+
+-- a child has a directory above
+child_up : (es : List EntryRow) (k : ℕ) → AllByRecursion (λ e. e.dir ≢ 0) es → list_any (λ x. eqb x.child k) es ≡ true → up_of es k ≢ 0
+child_up [] k dirs is = absurd cc
+child_up (e ∷ es) k dirs is =
+    let step : (b : Bool) → (b || list_any (λ x. eqb x.child k) es) ≡ true → cond b e.dir (up_of es k) ≢ 0 =
+    elim [ true ↦ λ here. dirs.0 | false ↦ λ there. child_up es k dirs.1 there ] in
+    step (eqb e.child k) is
+
+-- nothing lies above 0
+none_above : (es : List EntryRow) → AllByRecursion (λ e. e.child ≢ 0) es → up_of es 0 ≡ 0
+none_above [] children = refl
+none_above (e ∷ es) children = rw (ne_eqb e.child 0 children.0) (none_above es children.1)
+
+stays_none : (es : List EntryRow) → up_of es 0 ≡ 0 → (steps : ℕ) → above es steps 0 ≡ 0
+stays_none es none zero = refl
+stays_none es none (suc steps) = ap (above es steps) none ∙ stays_none es none steps
+
+named_by_up : (b : Bool) (up : ℕ) → up ≢ 0 → (b || not (eqb up 0)) ≡ true
+named_by_up true up ne = refl
+named_by_up false up ne = rw (ne_eqb up 0 ne) refl
+
+-- from where going up reaches the root, there is a name
+reaches_named : (s : State) (k : ℕ) → up_of s.entries 0 ≡ 0 → Reaches s.entries k → is_named s k ≡ true
+reaches_named s k none (zero, at) = rw (eq-eqb k 1 at) refl
+reaches_named s k none (suc steps, at) =
+    named_by_up (eqb k 1) (up_of s.entries k) (λ zero_up. let e = stays_none s.entries none steps in let f = ap (above s.entries steps) zero_up in absurd cc)
+
+-- ---- what a tree gives
+
+dirs_given : (s : State) → Tree s → AllByRecursion (λ e. e.dir ≢ 0) s.entries
+dirs_given s tree =
+    all_more (IsEntry s.nodes s.entries s.next_cookie) (λ e. e.dir ≢ 0) s.entries
+    (λ e p. any_gives (IsNode s.next_node) (is_dir_of e.dir) (e.dir ≢ 0) s.nodes tree.nodes p.dir
+    (λ n q is. let at : n.number ≡ e.dir = eqb-true n.number e.dir (and_true _ _ is).0 in let one : 1 ≤ n.number = q.from_one in omega arith))
+    tree.entries
+
+children_given : (s : State) → Tree s → AllByRecursion (λ e. e.child ≢ 0) s.entries
+children_given s tree =
+    all_more (IsEntry s.nodes s.entries s.next_cookie) (λ e. e.child ≢ 0) s.entries
+    (λ e p. any_gives (IsNode s.next_node) (has_number e.child) (e.child ≢ 0) s.nodes tree.nodes p.child
+    (λ n q is. let at : n.number ≡ e.child = eqb-true n.number e.child is in let one : 1 ≤ n.number = q.from_one in omega arith))
+    tree.entries
+
+-- ---- the tree that is left
+
+entry_left : (s : State) (e : EntryRow) → Tree s → IsEntry s.nodes s.entries s.next_cookie e → list_any (λ x. eqb x.child e.child) s.entries ≡ true → IsEntry (cleared s).nodes s.entries s.next_cookie e
+entry_left s e tree p child =
+    let named_dir : is_named s e.dir ≡ true = reaches_named s e.dir (none_above s.entries (children_given s tree)) p.reaches in
+    let named_child : is_named s e.child ≡ true = named_by_up (eqb e.child 1) (up_of s.entries e.child) (child_up s.entries e.child (dirs_given s tree) child) in
+    record {
+      dir = any_kept (is_dir_of e.dir) (λ n. is_named s n.number) s.nodes (λ n is. subst (λ (k : ℕ). is_named s k ≡ true) (sym (eqb-true n.number e.dir (and_true _ _ is).0)) named_dir) p.dir;
+      child = any_kept (has_number e.child) (λ n. is_named s n.number) s.nodes (λ n is. subst (λ (k : ℕ). is_named s k ≡ true) (sym (eqb-true n.number e.child is)) named_child) p.child;
+      not_root = p.not_root;
+      name = p.name;
+      reaches = p.reaches;
+      from_three = p.from_three;
+      below = p.below;
+    }
+
+tree_left : (s : State) → Tree s → Tree (cleared s)
+tree_left s tree = record {
+  root = any_kept (is_dir_of 1) (λ n. is_named s n.number) s.nodes (λ n is. rw ((and_true (eqb n.number 1) (is_dir n.mode) is).0) refl) tree.root;
+  nodes = all_kept (IsNode s.next_node) (λ n. is_named s n.number) s.nodes tree.nodes;
+  nodes_rise = apart_filtered (λ n later. n.number < later.number) (λ n. is_named s n.number) s.nodes tree.nodes_rise;
+  entries = all_both (IsEntry s.nodes s.entries s.next_cookie) (λ e. list_any (λ x. eqb x.child e.child) s.entries ≡ true) (IsEntry (cleared s).nodes s.entries s.next_cookie) s.entries
+      (λ e p child. entry_left s e tree p child) tree.entries (each_child s.entries);
+  entries_apart = tree.entries_apart;
+  handles = tt;
+  handles_rise = tt;
+  limits = record {
+    nodes = omega (arith, tree.limits.nodes, length_filtered (λ n. is_named s n.number) s.nodes);
+    handles = omega arith;
+    next_node = tree.limits.next_node;
+    next_fh = tree.limits.next_fh;
+    next_cookie = tree.limits.next_cookie;
+    fh_from_one = tree.limits.fh_from_one;
+    cookie_from_three = tree.limits.cookie_from_three;
+  };
+}
+
+-- ---- the rows that are left
+
+-- a node has as many directories as before, since each of these has a name
+subdirs_left : (s : State) (k : ℕ) → k ≢ 0 → subdirs_of (cleared s) k ≡ subdirs_of s k
+subdirs_left s k given =
+    ap length (filter_twice (is_below s.entries k) (λ n. is_named s n.number) s.nodes
+    (λ n below. let up : up_of s.entries n.number ≡ k = eqb-true _ _ (and_true (is_dir n.mode) _ below).1 in
+    named_by_up (eqb n.number 1) (up_of s.entries n.number) (λ none. given (sym up ∙ none))))
+
+full_left : (s : State) (n : Node) → 1 ≤ n.number → full_of (cleared s) n ≡ full_of s n
+full_left s n one =
+    let given : n.number ≢ 0 = omega arith in
+    rw (subdirs_left s n.number given) refl
+
+nodes_left : (s : State) (ns : List Node) → AllByRecursion (λ n. full_of (cleared s) n ≡ full_of s n) ns → map (full_of (cleared s)) (filter (λ n. is_named s n.number) ns) ≡ filter is_named_row (map (full_of s) ns)
+nodes_left s [] same = refl
+nodes_left s (n ∷ ns) same =
+    let rest = nodes_left s ns same.1 in
+    elim (is_named s n.number) as (λ b. map (full_of (cleared s)) (cond b (n ∷ filter (λ m. is_named s m.number) ns) (filter (λ m. is_named s m.number) ns)) ≡ cond b (full_of s n ∷ filter is_named_row (map (full_of s) ns)) (filter is_named_row (map (full_of s) ns))) [
+      | true ↦ rw (same.0, rest) refl
+      | false ↦ rest
+    ]
+
+rows_left : (s : State) → Tree s → rowed (cleared s) ≡ cleared_rows (rowed s)
+unfolding rowed
+rows_left s tree =
+    let nodes : map (full_of (cleared s)) (cleared s).nodes ≡ filter is_named_row (map (full_of s) s.nodes) = nodes_left s s.nodes (all_more (IsNode s.next_node) (λ n. full_of (cleared s) n ≡ full_of s n) s.nodes (λ n p. full_left s n p.from_one) tree.nodes) in
+    let count : length (cleared s).nodes ≡ length (filter is_named_row (map (full_of s) s.nodes)) = sym (length-map (cleared s).nodes (full_of (cleared s))) ∙ ap length nodes in
+    cc
+
+pub clearing : Clearing
+clearing s tree = (tree_left s tree, rows_left s tree)

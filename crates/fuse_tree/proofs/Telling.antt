@@ -1,0 +1,41 @@
+-- The rows of a state tell all of it.
+use Rattle.std.proofs.Common.{◌≡◌, List, [], ◌∷◌, map, refl, sym, ap, ◌∙◌}
+use Rattle.fuse_tree.specs.declared.rows.Full.{Full}
+use Rattle.fuse_tree.specs.State.{State, Node}
+use Rattle.fuse_tree.specs.Rows.{Rows, rowed, rows_of_state, full_of}
+use Rattle.fuse_tree.specs.Plan.{RowsTellState}
+
+abbrev node_of : Full → Node
+node_of f = record {
+  number = f.row.node;
+  mode = f.row.mode;
+  uid = f.row.uid;
+  gid = f.row.gid;
+  rdev = f.row.rdev;
+  atime = f.row.atime;
+  mtime = f.row.mtime;
+  ctime = f.row.ctime;
+  content = f.content;
+}
+
+nodes_told : (s : State) (ns : List Node) → map node_of (map (full_of s) ns) ≡ ns
+nodes_told s [] = refl
+nodes_told s (n ∷ ns) = ap (λ (ms : List Node). n ∷ ms) (nodes_told s ns)
+
+abbrev state_of : Rows → State
+state_of rows = record {
+  nodes = map node_of rows.nodes;
+  entries = rows.entries;
+  handles = rows.handles;
+  settings = rows.settings;
+  next_node = rows.counters.next_node;
+  next_fh = rows.counters.next_fh;
+  next_cookie = rows.counters.next_cookie;
+}
+
+told : (s : State) → state_of (rowed s) ≡ s
+unfolding rowed
+told s = ap (λ (ns : List Node). record s { nodes = ns }) (nodes_told s s.nodes)
+
+pub rows_tell : RowsTellState
+rows_tell s other same = sym (told s) ∙ ap state_of same ∙ told other

@@ -1,0 +1,28 @@
+-- What a new mount leaves of a state (own profile).
+use Rattle.std.specs.Prelude.{◌≡◌, ◌==◌, ◌||◌, Bool, not, [], length, filter, None}
+use Rattle.fuse_tree.specs.declared.limits.TheConstants.{ROOT_ID}
+use Rattle.fuse_tree.specs.declared.rows.Full.{Full}
+use Rattle.fuse_tree.specs.State.{State, Tree, is_named}
+use Rattle.fuse_tree.specs.Rows.{Rows, rowed}
+
+-- handles, settings and the nodes without a name go: named nodes, entries and counters stay
+abbrev pub cleared : State → State
+cleared s = record s { nodes = filter (λ n. is_named s n.number) s.nodes; handles = []; settings = None }
+
+-- the row is that of a named node
+abbrev pub is_named_row : Full → Bool
+is_named_row f = (f.row.node == ROOT_ID) || not (f.row.up == 0)
+
+-- the same of rows
+abbrev pub cleared_rows : Rows → Rows
+cleared_rows rows = record {
+  nodes = filter is_named_row rows.nodes;
+  entries = rows.entries;
+  handles = [];
+  counters = record rows.counters { nodes = length (filter is_named_row rows.nodes); handles = 0 };
+  settings = None;
+}
+
+-- what is left of a tree is a tree, and its rows are those that are left
+abbrev pub Clearing : Type 0
+Clearing = (s : State) → Tree s → Tree (cleared s) × (rowed (cleared s) ≡ cleared_rows (rowed s))

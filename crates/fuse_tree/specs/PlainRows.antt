@@ -1,0 +1,16 @@
+-- The rows that lists hold (own profile).
+use Rattle.std.specs.Prelude.{◌≡◌, if◌then◌else◌, Option, Some, None}
+use Rattle.fuse_tree.specs.declared.look.LookFault.{LookFault}
+use Rattle.fuse_tree.specs.declared.look.LookFault.TheVariants.{Memory}
+use Rattle.fuse_tree.specs.declared.plain.PlainRows.{PlainRows}
+use Rattle.fuse_tree.specs.Rows.{Rows}
+
+abbrev pub rows_of : PlainRows → Rows
+rows_of p = record { nodes = p.nodes; entries = p.entries.items; handles = p.handles.items; counters = p.counters; settings = p.settings }
+
+-- the fault of a look, once there was one: only want of memory makes a look in lists fail
+abbrev pub fault_of : PlainRows → Option LookFault
+fault_of p = if p.failed then Some Memory else None
+
+abbrev pub FailsByMemoryAlone : Type 0
+FailsByMemoryAlone = (p : PlainRows) (fault : LookFault) → fault_of p ≡ Some fault → fault ≡ Memory

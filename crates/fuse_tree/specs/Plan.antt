@@ -1,0 +1,38 @@
+-- What `plan` answers, and the laws on what requests do (own profile).
+use Rattle.std.specs.Prelude.{◌≡◌, Option, Some, None, Result, Ok, Err}
+use Rattle.fuse_wire.specs.declared.moment.Moment.{Moment}
+use Rattle.fuse_request.specs.Act.{Asked}
+use Rattle.fuse_tree.specs.declared.look.LookFault.{LookFault}
+use Rattle.fuse_tree.specs.declared.planning.fault.PlanFault.{PlanFault}
+use Rattle.fuse_tree.specs.declared.planning.fault.PlanFault.TheVariants as faults
+use Rattle.fuse_tree.specs.declared.rows.Planned.{Planned}
+use Rattle.fuse_tree.specs.State.{State, Tree, new_store}
+use Rattle.fuse_tree.specs.Rows.{rowed, apply}
+use Rattle.fuse_tree.specs.Do.{Done, done}
+
+-- the plan is what is done: its answer is the one said, and its changes make the rows of the state after it, a tree
+pub record Meets (s : State) (p : Planned) (d : Done) : Type 0 where
+  pub answer : p.answer ≡ d.said
+  pub rows : apply (rowed s) p.changes ≡ rowed d.state
+  pub tree : Tree d.state
+
+-- the fault of a look that is answered
+abbrev pub look_fault : {X : Type 0} → Result X PlanFault → Option LookFault
+look_fault (Ok x) = None
+look_fault (Err (faults.Look f)) = Some f
+look_fault (Err faults.Memory) = None
+look_fault (Err faults.NotATree) = None
+
+-- ---- laws
+
+-- what is done in a tree leaves a tree
+abbrev pub TreeKept : Type 0
+TreeKept = (s : State) (request : Asked) (now : Moment) → Tree s → Tree (done s request now).state
+
+-- a new store is a tree
+abbrev pub NewStoreIsTree : Type 0
+NewStoreIsTree = (now : Moment) → Tree (new_store now)
+
+-- the rows tell the whole state
+abbrev pub RowsTellState : Type 0
+RowsTellState = (s other : State) → rowed s ≡ rowed other → s ≡ other

@@ -1,0 +1,135 @@
+-- The rows that stand for a state, what a look tells of them, and what a change makes of them (own profile).
+use Rattle.std.specs.Prelude.{◌≡◌, ◌+◌, ◌-◌, ◌==◌, ◌&&◌, ℕ, Bool, not, nat_lt, if◌then◌else◌, List, [], ◌∷◌, ◌++◌, length, map, find, filter, take, drop, replicate, Option, Some, None}
+use Rattle.std.specs.Option.{option_map}
+use Rattle.std.specs.List.{list_any}
+use Rattle.fuse_init.specs.declared.settings.Settings.{Settings}
+use Rattle.fuse_tree.specs.declared.rows.NodeRow.{NodeRow}
+use Rattle.fuse_tree.specs.declared.rows.Full.{Full}
+use Rattle.fuse_tree.specs.declared.rows.EntryRow.{EntryRow}
+use Rattle.fuse_tree.specs.declared.rows.HandleRow.{HandleRow}
+use Rattle.fuse_tree.specs.declared.rows.Counters.{Counters as CountersRow}
+use Rattle.fuse_tree.specs.declared.rows.Change.{Change}
+use Rattle.fuse_tree.specs.declared.rows.Change.TheVariants as changes
+use Rattle.fuse_tree.specs.State.{State, Node, Tree, is_entry, up_of, subdirs_of}
+
+-- all that a store holds of a tree, wherever it keeps it
+pub record Rows : Type 0 where
+  pub nodes : List Full
+  pub entries : List EntryRow
+  pub handles : List HandleRow
+  pub counters : CountersRow
+  pub settings : Option Settings
+
+-- ---- the rows of a state
+
+-- a node's row: its size, the directory above and the directories in it are counted
+abbrev pub row_of : State → Node → NodeRow
+row_of s n = record {
+  node = n.number;
+  mode = n.mode;
+  uid = n.uid;
+  gid = n.gid;
+  rdev = n.rdev;
+  size = length n.content;
+  atime = n.atime;
+  mtime = n.mtime;
+  ctime = n.ctime;
+  up = up_of s.entries n.number;
+  subdirs = subdirs_of s n.number;
+}
+
+abbrev pub full_of : State → Node → Full
+full_of s n = record { row = row_of s n; content = n.content }
+
+abbrev pub counters_of : State → CountersRow
+counters_of s = record {
+  next_node = s.next_node;
+  next_fh = s.next_fh;
+  next_cookie = s.next_cookie;
+  nodes = length s.nodes;
+  handles = length s.handles;
+}
+
+-- the rows that stand for a state
+abbrev pub rows_of_state : State → Rows
+rows_of_state s = record { nodes = map (full_of s) s.nodes; entries = s.entries; handles = s.handles; counters = counters_of s; settings = s.settings }
+
+-- the same, as a name that stays closed
+unfoldable pub rowed : State → Rows
+rowed s = rows_of_state s
+
+-- the rows are those of a tree
+unfoldable pub IsRowed : Rows → Type 0
+IsRowed rows = (s : State) × Tree s × (rows ≡ rowed s)
+
+-- ---- what a look tells
+
+-- the node of this number
+abbrev pub full_at : Rows → ℕ → Option Full
+full_at rows number = find (λ f. f.row.node == number) rows.nodes
+
+abbrev pub row_at : Rows → ℕ → Option NodeRow
+row_at rows number = option_map (λ f. f.row) (full_at rows number)
+
+-- the entry of this name in the directory
+abbrev pub entry_at : List EntryRow → ℕ → List ℕ → Option EntryRow
+entry_at entries dir name = find (is_entry dir name) entries
+
+abbrev pub is_after : ℕ → ℕ → EntryRow → Bool
+is_after dir cookie e = (e.dir == dir) && nat_lt cookie e.cookie
+
+-- the entries of the directory with a higher cookie, at most so many
+abbrev pub entries_after : Rows → ℕ → ℕ → ℕ → List EntryRow
+entries_after rows dir cookie limit = take limit (filter (is_after dir cookie) rows.entries)
+
+-- the handle of this number
+abbrev pub handle_at : List HandleRow → ℕ → Option HandleRow
+handle_at handles fh = find (λ h. h.fh == fh) handles
+
+abbrev pub content_of : Option Full → List ℕ
+content_of None = []
+content_of (Some f) = f.content
+
+-- the bytes of the node from the offset on, at most so many
+abbrev pub bytes_at : Rows → ℕ → ℕ → ℕ → List ℕ
+bytes_at rows number offset len = take len (drop offset (content_of (full_at rows number)))
+
+-- ---- changes
+
+abbrev pub with_row : NodeRow → Full → Full
+with_row row f = if f.row.node == row.node then record f { row = row } else f
+
+-- a node's row, in place of the one with its number, or else behind the others
+abbrev pub put_node : NodeRow → List Full → List Full
+put_node row nodes =
+    if list_any (λ f. f.row.node == row.node) nodes then map (with_row row) nodes
+    else nodes ++ record { row = row; content = [] } ∷ []
+
+-- cut to this length, or filled up with zero bytes
+abbrev pub sized : ℕ → List ℕ → List ℕ
+sized size content = take size content ++ replicate (size - length content) 0
+
+-- the bytes at their place, and zero bytes before them where the content was shorter
+abbrev pub written : ℕ → List ℕ → List ℕ → List ℕ
+written offset bytes content = sized offset content ++ bytes ++ drop (offset + length bytes) content
+
+-- the content of this node, changed
+abbrev pub at_node : ℕ → (List ℕ → List ℕ) → Full → Full
+at_node number change f = if f.row.node == number then record f { content = change f.content } else f
+
+-- one change
+abbrev pub apply_one : Rows → Change → Rows
+apply_one rows (changes.Node row) = record rows { nodes = put_node row rows.nodes }
+apply_one rows (changes.Entry entry) = record rows { entries = rows.entries ++ entry ∷ [] }
+apply_one rows (changes.EntryGone cookie) = record rows { entries = filter (λ e. not (e.cookie == cookie)) rows.entries }
+apply_one rows (changes.Handle handle) = record rows { handles = rows.handles ++ handle ∷ [] }
+apply_one rows (changes.HandleGone fh) = record rows { handles = filter (λ h. not (h.fh == fh)) rows.handles }
+apply_one rows (changes.Written node offset bytes) = record rows { nodes = map (at_node node (written offset bytes)) rows.nodes }
+apply_one rows (changes.Sized node size) = record rows { nodes = map (at_node node (sized size)) rows.nodes }
+apply_one rows (changes.Counters counters) = record rows { counters = counters }
+apply_one rows (changes.Settings settings) = record rows { settings = Some settings }
+
+-- the changes, one after the other
+abbrev pub apply : Rows → List Change → Rows
+apply rows [] = rows
+apply rows (change ∷ later) = apply (apply_one rows change) later

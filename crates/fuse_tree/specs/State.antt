@@ -1,0 +1,183 @@
+-- A tree of files, and what is true of each (own profile). Numbers are given out in rising order, so each
+-- list stands in the order of its numbers: a list with rising numbers is a finite map.
+use Rattle.std.specs.Prelude.{◌≡◌, ◌≢◌, ◌<◌, ◌≤◌, ◌+◌, ◌/◌, ◌%◌, ◌==◌, ◌&&◌, ◌||◌, ℕ, zero, suc, Bool, true, false, not, nat_eq, nat_lt, if◌then◌else◌, List, [], ◌∷◌, length, find, filter, Option, Some, None, codes}
+use Rattle.std.specs.List.{AllByRecursion, list_any}
+use Rattle.std.specs.Cmp.Lexicographic.{pointwise}
+use Rattle.fuse_wire.specs.declared.access_mode.AccessMode.{AccessMode}
+use Rattle.fuse_wire.specs.declared.access_mode.AccessMode.TheVariants.{ReadOnly, WriteOnly, ReadWrite}
+use Rattle.fuse_wire.specs.declared.errno.Errno.{Errno}
+use Rattle.fuse_wire.specs.declared.errno.TheConstants.Errno.{EINVAL, ENAMETOOLONG}
+use Rattle.fuse_wire.specs.declared.moment.Moment.{Moment}
+use Rattle.fuse_init.specs.declared.settings.Settings.{Settings}
+use Rattle.fuse_tree.specs.declared.limits.TheConstants.{MAX_NODES, MAX_HANDLES, COUNTER_END, MAX_FILE, MAX_NAME, ROOT_ID}
+use Rattle.fuse_tree.specs.declared.mode.TheConstants.{S_IFDIR, S_IFREG, TYPE_UNIT, TYPES}
+use Rattle.fuse_tree.specs.declared.rows.EntryRow.{EntryRow}
+use Rattle.fuse_tree.specs.declared.rows.HandleRow.{HandleRow}
+
+-- a node: its size, its links and the directory above are counted, and not kept
+pub record Node : Type 0 where
+  pub number : ℕ
+  pub mode : ℕ
+  pub uid : ℕ
+  pub gid : ℕ
+  pub rdev : ℕ
+  pub atime : Moment
+  pub mtime : Moment
+  pub ctime : Moment
+  pub content : List ℕ
+
+-- all that the requests of a kernel can tell or change
+pub record State : Type 0 where
+  pub nodes : List Node
+  pub entries : List EntryRow
+  pub handles : List HandleRow
+  pub settings : Option Settings
+  pub next_node : ℕ
+  pub next_fh : ℕ
+  pub next_cookie : ℕ
+
+-- the root of a new store: an empty directory
+abbrev pub root_node : Moment → Node
+root_node now = record { number = ROOT_ID; mode = S_IFDIR + 0o755; uid = 0; gid = 0; rdev = 0; atime = now; mtime = now; ctime = now; content = [] }
+
+-- a store that is made at this moment
+abbrev pub new_store : Moment → State
+new_store now = record { nodes = root_node now ∷ []; entries = []; handles = []; settings = None; next_node = 2; next_fh = 1; next_cookie = 3 }
+
+-- ---- what is counted
+
+-- the type of a node, from its mode
+abbrev pub type_of : ℕ → ℕ
+type_of mode = mode / TYPE_UNIT % TYPES
+
+abbrev pub is_dir : ℕ → Bool
+is_dir mode = type_of mode == S_IFDIR / TYPE_UNIT
+
+abbrev pub is_file : ℕ → Bool
+is_file mode = type_of mode == S_IFREG / TYPE_UNIT
+
+-- the node of this number
+abbrev pub node_at : State → ℕ → Option Node
+node_at s number = find (λ n. n.number == number) s.nodes
+
+-- the directory above a node, 0 where no entry leads to it
+abbrev pub up_of : List EntryRow → ℕ → ℕ
+up_of [] number = 0
+up_of (e ∷ entries) number = if e.child == number then e.dir else up_of entries number
+
+-- an entry leads to the node, or it is the root
+abbrev pub is_named : State → ℕ → Bool
+is_named s number = (number == ROOT_ID) || not (up_of s.entries number == 0)
+
+-- the node is a directory with an entry in this one
+abbrev pub is_below : List EntryRow → ℕ → Node → Bool
+is_below entries dir n = is_dir n.mode && (up_of entries n.number == dir)
+
+-- the number of directories with an entry in this one
+abbrev pub subdirs_of : State → ℕ → ℕ
+subdirs_of s dir = length (filter (is_below s.entries dir) s.nodes)
+
+-- the link count of a node
+abbrev pub links_of : State → Node → ℕ
+links_of s n =
+    if not (is_named s n.number) then 0
+    else if is_dir n.mode then 2 + subdirs_of s n.number
+    else 1
+
+-- ---- names
+
+-- a name that no entry may have, though it isn't too long
+abbrev pub is_odd_name : List ℕ → Bool
+is_odd_name name = (length name == 0) || pointwise nat_eq name (codes ".") || pointwise nat_eq name (codes "..") || list_any (λ byte. byte == 47) name
+
+-- what is wrong with a name
+abbrev pub name_fault : List ℕ → Option Errno
+name_fault name =
+    if nat_lt MAX_NAME (length name) then Some ENAMETOOLONG
+    else if is_odd_name name then Some EINVAL
+    else None
+
+-- the entry stands in this directory under this name
+abbrev pub is_entry : ℕ → List ℕ → EntryRow → Bool
+is_entry dir name e = (e.dir == dir) && pointwise nat_eq e.name name
+
+-- ---- what each state keeps
+
+-- the relation holds between each element and each later one
+abbrev pub Apart : {A : Type 0} → (A → A → Type 0) → List A → Type 0
+Apart R [] = Unit {0}
+Apart R (x ∷ xs) = AllByRecursion (R x) xs × Apart R xs
+
+abbrev pub has_number : ℕ → Node → Bool
+has_number number n = n.number == number
+
+abbrev pub is_dir_of : ℕ → Node → Bool
+is_dir_of number n = (n.number == number) && is_dir n.mode
+
+abbrev pub is_read_only : AccessMode → Bool
+is_read_only ReadOnly = true
+is_read_only WriteOnly = false
+is_read_only ReadWrite = false
+
+-- the node may be open so: a regular file, or a directory for reading
+abbrev pub is_open_at : HandleRow → Node → Bool
+is_open_at h n = (n.number == h.node) && (is_file n.mode || (is_dir n.mode && is_read_only h.access))
+
+-- where so many steps up from a node lead, 0 where there is no directory above
+abbrev pub above : List EntryRow → ℕ → ℕ → ℕ
+above entries zero number = number
+above entries (suc steps) number = above entries steps (up_of entries number)
+
+-- going up from a node reaches the root
+abbrev pub Reaches : List EntryRow → ℕ → Type 0
+Reaches entries number = (steps : ℕ) × (above entries steps number ≡ ROOT_ID)
+
+-- a node's number is given out, and only regular files have content
+pub record IsNode (next_node : ℕ) (n : Node) : Type 0 where
+  pub from_one : 1 ≤ n.number
+  pub below : n.number < next_node
+  pub content : is_file n.mode ≡ false → n.content ≡ []
+  pub size : length n.content ≤ MAX_FILE
+
+-- an entry leads from a directory under the root to a node other than the root
+pub record IsEntry (nodes : List Node) (entries : List EntryRow) (next_cookie : ℕ) (e : EntryRow) : Type 0 where
+  pub dir : list_any (is_dir_of e.dir) nodes ≡ true
+  pub child : list_any (has_number e.child) nodes ≡ true
+  pub not_root : e.child ≢ ROOT_ID
+  pub name : name_fault e.name ≡ None
+  pub reaches : Reaches entries e.dir
+  pub from_three : 3 ≤ e.cookie
+  pub below : e.cookie < next_cookie
+
+-- an entry and a later one: cookies rise, no node has two entries, and no directory a name twice
+pub record AreApart (e later : EntryRow) : Type 0 where
+  pub cookie : e.cookie < later.cookie
+  pub child : e.child ≢ later.child
+  pub place : is_entry later.dir later.name e ≡ false
+
+-- a handle leads to a node that may be open so
+pub record IsHandle (nodes : List Node) (next_fh : ℕ) (h : HandleRow) : Type 0 where
+  pub node : list_any (is_open_at h) nodes ≡ true
+  pub from_one : 1 ≤ h.fh
+  pub below : h.fh < next_fh
+
+-- the limits of a store
+pub record Limits (s : State) : Type 0 where
+  pub nodes : length s.nodes ≤ MAX_NODES
+  pub handles : length s.handles ≤ MAX_HANDLES
+  pub next_node : s.next_node ≤ COUNTER_END
+  pub next_fh : s.next_fh ≤ COUNTER_END
+  pub next_cookie : s.next_cookie ≤ COUNTER_END
+  pub fh_from_one : 1 ≤ s.next_fh
+  pub cookie_from_three : 3 ≤ s.next_cookie
+
+-- the state is a tree of files
+pub record Tree (s : State) : Type 0 where
+  pub root : list_any (is_dir_of ROOT_ID) s.nodes ≡ true
+  pub nodes : AllByRecursion (IsNode s.next_node) s.nodes
+  pub nodes_rise : Apart (λ n later. n.number < later.number) s.nodes
+  pub entries : AllByRecursion (IsEntry s.nodes s.entries s.next_cookie) s.entries
+  pub entries_apart : Apart AreApart s.entries
+  pub handles : AllByRecursion (IsHandle s.nodes s.next_fh) s.handles
+  pub handles_rise : Apart (λ h later. h.fh < later.fh) s.handles
+  pub limits : Limits s

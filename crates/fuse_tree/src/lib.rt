@@ -1,0 +1,23 @@
+//! A tree of files: what each request answers, and which rows it changes.
+#![tactic(auto)]
+
+mod laws;
+mod limits;
+mod look;
+mod mode;
+mod mount;
+mod plain;
+mod planning;
+mod rows;
+
+pub use laws::{new_store_is_tree, rows_tell_state, tree_kept};
+pub use limits::{
+    BLOCK_SIZE, COUNTER_END, MAX_FILE, MAX_HANDLES, MAX_NAME, MAX_NODES, ROOT_ID, SECTOR_SIZE,
+    VALID_SECS,
+};
+pub use look::{Look, LookFault};
+pub use mode::{S_IFDIR, S_IFREG, TYPE_UNIT, TYPES};
+pub use mount::clearing;
+pub use plain::{PlainRows, fails_by_memory_alone};
+pub use planning::{PlanFault, plan};
+pub use rows::{Change, ChangeList, Counters, EntryRow, Full, HandleRow, NodeRow, Planned};

@@ -1,0 +1,26 @@
+/// The most nodes, the root and those without a name counted.
+pub const MAX_NODES: u64 = 65_536;
+
+/// The most handles that are open.
+pub const MAX_HANDLES: u64 = 65_536;
+
+/// The numbers of nodes, handles and entries are below this.
+pub const COUNTER_END: u64 = 0x4000_0000_0000_0000;
+
+/// The most bytes of a file.
+pub const MAX_FILE: u64 = 16_777_216;
+
+/// The most bytes of a name.
+pub const MAX_NAME: usize = 255;
+
+/// The number of the directory at the top of the tree: FUSE_ROOT_ID of `fuse.h`.
+pub const ROOT_ID: u64 = 1;
+
+/// The bytes of a block, `blksize` of the attributes.
+pub const BLOCK_SIZE: u32 = 4096;
+
+/// The bytes of one of the attributes' `blocks`.
+pub const SECTOR_SIZE: u64 = 512;
+
+/// For how many seconds the kernel may keep names and attributes.
+pub const VALID_SECS: u64 = 1;

@@ -1,0 +1,11 @@
+/// A directory.
+pub const S_IFDIR: u32 = 0o040000;
+
+/// A regular file.
+pub const S_IFREG: u32 = 0o100000;
+
+/// A mode's bits below this one are the permissions. It and the next three tell the type.
+pub const TYPE_UNIT: u32 = 0o10000;
+
+/// How many types four bits can tell.
+pub const TYPES: u32 = 16;

@@ -1,0 +1,295 @@
+ghost use Rattle.fuse_tree.specs.PlainRows.{FailsByMemoryAlone};
+
+mod contents;
+mod entries;
+mod handles;
+mod nodes;
+
+use crate::look::{Look, LookFault};
+use crate::plain::nodes::NodeList;
+use crate::rows::{Change, ChangeList, Counters, EntryRow, HandleRow, NodeRow};
+use fuse_init::Settings;
+use fuse_wire::{ByteList, Memory, Moment};
+use std::alloc::Global;
+
+/// A tree whose rows are kept in lists. Contracts see them as `rows_of`.
+#[derive(Drop)]
+pub struct PlainRows {
+    alloc: Global,
+    nodes: NodeList,
+    entries: Vec<EntryRow>,
+    handles: Vec<HandleRow>,
+    counters: Counters,
+    settings: Option<Settings>,
+    // A look has failed: it wanted memory.
+    failed: bool,
+}
+
+impl PlainRows {
+    ghost use Rattle.std.specs.Prelude.{◌≡◌, None, Some, IfOk, OnOk, OnErr, ◌++◌, ◌∷◌, [], map, filter, not, ◌==◌};
+    ghost use Rattle.fuse_tree.specs.State.{new_store};
+    ghost use Rattle.fuse_tree.specs.Rows.{rowed, apply_one, apply, put_node, at_node, written, sized};
+    ghost use Rattle.fuse_tree.specs.Clearing.{cleared_rows};
+    ghost use Rattle.fuse_tree.specs.PlainRows.{rows_of, fault_of};
+
+    /// A new store, made at this moment.
+    pub fn new(alloc: Global, now: Moment) -> Result<PlainRows, Memory>
+        ensures rows { IfOk result (λ p. rows_of p ≡ rowed (new_store now)) }
+        ensures fault { IfOk result (λ p. fault_of p ≡ None) }
+    {
+        let mut nodes = NodeList::new(alloc);
+        nodes.put(alloc, nodes::root_row(now))?;
+        Ok(PlainRows {
+            alloc,
+            nodes,
+            entries: Vec::new(alloc),
+            handles: Vec::new(alloc),
+            counters: Counters {
+                next_node: 2,
+                next_fh: 1,
+                next_cookie: 3,
+                nodes: 1,
+                handles: 0,
+            },
+            settings: None,
+            failed: false,
+        })
+    }
+
+    /// The same rows once more.
+    pub fn to_copy(&self) -> Result<PlainRows, Memory>
+        ensures rows { IfOk result (λ copy. rows_of copy ≡ rows_of self.now) }
+        ensures fault { IfOk result (λ copy. fault_of copy ≡ None) }
+    {
+        Ok(PlainRows {
+            alloc: self.alloc,
+            nodes: self.nodes.to_copy(self.alloc)?,
+            entries: entries::copies_of(self.alloc, self.entries.as_slice())?,
+            handles: Vec::from_slice(self.alloc, self.handles.as_slice())?,
+            counters: self.counters,
+            settings: self.settings,
+            failed: false,
+        })
+    }
+
+    /// Makes one change.
+    pub fn apply(&mut self, change: Change) -> Result<(), Memory>
+        ensures ok { OnOk result (rows_of self.new ≡ apply_one (rows_of self.old) change) }
+        ensures err { OnErr result (rows_of self.new ≡ rows_of self.old) }
+        ensures fault { fault_of self.new ≡ fault_of self.old }
+    {
+        match change {
+            Change::Node(row) => self.put_node(row),
+            Change::Entry(entry) => self.add_entry(entry),
+            Change::EntryGone { cookie } => {
+                self.remove_entry(cookie);
+                Ok(())
+            }
+            Change::Handle(handle) => self.add_handle(handle),
+            Change::HandleGone { fh } => {
+                self.remove_handle(fh);
+                Ok(())
+            }
+            Change::Written {
+                node,
+                offset,
+                bytes,
+            } => self.write_bytes(node, offset, bytes.as_slice()),
+            Change::Sized { node, size } => self.set_size(node, size),
+            Change::Counters(counters) => {
+                self.counters = counters;
+                Ok(())
+            }
+            Change::Settings(settings) => {
+                self.settings = Some(settings);
+                Ok(())
+            }
+        }
+    }
+
+    /// Makes the changes, one after the other. On an `Err` some of them are made and the others not,
+    /// so that what is left stands for no tree.
+    pub fn apply_all(&mut self, changes: ChangeList) -> Result<(), Memory>
+        ensures ok { OnOk result (rows_of self.new ≡ apply (rows_of self.old) changes) }
+        ensures fault { fault_of self.new ≡ fault_of self.old }
+    {
+        for change in changes.into_vec() {
+            self.apply(change)?;
+        }
+        Ok(())
+    }
+
+    /// Begins a mount: handles, settings and the nodes without a name go. No memory is taken.
+    pub fn begin_mount(&mut self)
+        ensures rows { rows_of self.new ≡ cleared_rows (rows_of self.old) }
+        ensures fault { fault_of self.new ≡ fault_of self.old }
+    {
+        self.nodes.keep_named();
+        self.handles.clear();
+        self.counters.nodes = self.nodes.len() as u64;
+        self.counters.handles = 0;
+        self.settings = None;
+    }
+
+    /// The counters, by a look that cannot fail.
+    pub fn counted(&self) -> Counters
+        ensures { result ≡ (rows_of self.now).counters }
+    {
+        self.counters
+    }
+
+    /// What was agreed on by INIT, by a look that cannot fail.
+    pub fn agreed(&self) -> Option<Settings>
+        ensures { result ≡ (rows_of self.now).settings }
+    {
+        self.settings
+    }
+
+    fn put_node(&mut self, row: NodeRow) -> Result<(), Memory>
+        ensures ok { OnOk result (rows_of self.new ≡ record (rows_of self.old) { nodes = put_node row (rows_of self.old).nodes }) }
+        ensures err { OnErr result (rows_of self.new ≡ rows_of self.old) }
+        ensures fault { fault_of self.new ≡ fault_of self.old }
+    {
+        self.nodes.put(self.alloc, row)
+    }
+
+    fn add_entry(&mut self, entry: EntryRow) -> Result<(), Memory>
+        ensures ok { OnOk result (rows_of self.new ≡ record (rows_of self.old) { entries = (rows_of self.old).entries ++ entry ∷ [] }) }
+        ensures err { OnErr result (rows_of self.new ≡ rows_of self.old) }
+        ensures fault { fault_of self.new ≡ fault_of self.old }
+    {
+        self.entries.push(entry)?;
+        Ok(())
+    }
+
+    fn remove_entry(&mut self, cookie: u64)
+        ensures rows { rows_of self.new ≡ record (rows_of self.old) { entries = filter (λ e. not (e.cookie == cookie)) (rows_of self.old).entries } }
+        ensures fault { fault_of self.new ≡ fault_of self.old }
+    {
+        entries::remove(&mut self.entries, cookie);
+    }
+
+    fn add_handle(&mut self, handle: HandleRow) -> Result<(), Memory>
+        ensures ok { OnOk result (rows_of self.new ≡ record (rows_of self.old) { handles = (rows_of self.old).handles ++ handle ∷ [] }) }
+        ensures err { OnErr result (rows_of self.new ≡ rows_of self.old) }
+        ensures fault { fault_of self.new ≡ fault_of self.old }
+    {
+        self.handles.push(handle)?;
+        Ok(())
+    }
+
+    fn remove_handle(&mut self, fh: u64)
+        ensures rows { rows_of self.new ≡ record (rows_of self.old) { handles = filter (λ h. not (h.fh == fh)) (rows_of self.old).handles } }
+        ensures fault { fault_of self.new ≡ fault_of self.old }
+    {
+        handles::remove(&mut self.handles, fh);
+    }
+
+    fn write_bytes(&mut self, node: u64, offset: u64, bytes: &[u8]) -> Result<(), Memory>
+        ensures ok { OnOk result (rows_of self.new ≡ record (rows_of self.old) { nodes = map (at_node node (written offset bytes.now)) (rows_of self.old).nodes }) }
+        ensures err { OnErr result (rows_of self.new ≡ rows_of self.old) }
+        ensures fault { fault_of self.new ≡ fault_of self.old }
+    {
+        self.nodes.write(self.alloc, node, offset, bytes)
+    }
+
+    fn set_size(&mut self, node: u64, size: u64) -> Result<(), Memory>
+        ensures ok { OnOk result (rows_of self.new ≡ record (rows_of self.old) { nodes = map (at_node node (sized size)) (rows_of self.old).nodes }) }
+        ensures err { OnErr result (rows_of self.new ≡ rows_of self.old) }
+        ensures fault { fault_of self.new ≡ fault_of self.old }
+    {
+        self.nodes.set_size(self.alloc, node, size)
+    }
+}
+
+/// A look in lists fails by want of memory alone.
+pub fn fails_by_memory_alone()
+    ensures { FailsByMemoryAlone }
+{}
+
+impl Look for PlainRows {
+    ghost use Rattle.std.specs.Prelude.{◌≡◌};
+    ghost use Rattle.std.proofs.Common.{refl, sym, ◌∙◌};
+    ghost use Rattle.fuse_tree.specs.PlainRows.{rows_of, fault_of};
+
+    ghost sees = { λ p rows. rows_of p ≡ rows };
+
+    ghost fault = { λ p. fault_of p };
+
+    ghost is_clean = { λ _. Unit {0} };
+
+    ghost looks = { λ a b. rows_of a ≡ rows_of b };
+
+    ghost fails = { λ a b. rows_of a ≡ rows_of b };
+
+    fn node(&mut self, number: u64) -> Result<Option<NodeRow>, LookFault> {
+        Ok(self.nodes.row(number))
+    }
+
+    fn entry(&mut self, dir: u64, name: &[u8]) -> Result<Option<EntryRow>, LookFault> {
+        match entries::found(self.alloc, self.entries.as_slice(), dir, name) {
+            Ok(entry) => Ok(entry),
+            Err(Memory) => {
+                self.failed = true;
+                Err(LookFault::Memory)
+            }
+        }
+    }
+
+    fn entries_after(
+        &mut self,
+        dir: u64,
+        cookie: u64,
+        limit: usize,
+    ) -> Result<Vec<EntryRow>, LookFault> {
+        match entries::after(self.alloc, self.entries.as_slice(), dir, cookie, limit) {
+            Ok(entries) => Ok(entries),
+            Err(Memory) => {
+                self.failed = true;
+                Err(LookFault::Memory)
+            }
+        }
+    }
+
+    fn handle(&mut self, fh: u64) -> Result<Option<HandleRow>, LookFault> {
+        Ok(handles::found(self.handles.as_slice(), fh))
+    }
+
+    fn bytes(&mut self, node: u64, offset: u64, len: u32) -> Result<ByteList, LookFault> {
+        match self.nodes.bytes(self.alloc, node, offset, len) {
+            Ok(bytes) => Ok(bytes),
+            Err(Memory) => {
+                self.failed = true;
+                Err(LookFault::Memory)
+            }
+        }
+    }
+
+    fn counters(&mut self) -> Result<Counters, LookFault> {
+        Ok(self.counters)
+    }
+
+    fn settings(&mut self) -> Result<Option<Settings>, LookFault> {
+        Ok(self.settings)
+    }
+
+    fn failed(&self) -> Option<LookFault> {
+        if self.failed {
+            Some(LookFault::Memory)
+        } else {
+            None
+        }
+    }
+
+    ghost still = { λ a. refl };
+
+    ghost and_then = { λ a b d p q. p ∙ q };
+
+    ghost and_fails = { λ a b d p q. p ∙ q };
+
+    ghost or_less = { λ a b p. p };
+
+    ghost was_clean = { λ a b p clean. tt };
+
+    ghost kept = { λ a b p clean rows e. sym p ∙ e };
+}

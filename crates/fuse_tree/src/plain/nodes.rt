@@ -1,0 +1,203 @@
+use crate::limits::ROOT_ID;
+use crate::mode::S_IFDIR;
+use crate::plain::contents::{part_of, with_bytes, with_size};
+use crate::rows::{Full, NodeRow};
+use fuse_wire::{ByteList, Memory, Moment};
+use std::alloc::Global;
+use std::marker::Model;
+
+/// Nodes, no two of one number. Contracts see a list.
+#[derive(Drop)]
+pub struct NodeList {
+    nodes: Vec<Full>,
+}
+
+impl Model for NodeList {
+    ghost use Rattle.std.specs.Prelude.{◌≡◌, List, true};
+    ghost use Rattle.fuse_tree.specs.declared.rows.Full.{Full};
+    ghost use Rattle.fuse_tree.specs.NumbersOnce.{are_distinct};
+
+    ghost Value = { List Full };
+
+    ghost view = { λ a. a.nodes.items };
+
+    ghost invariant = { λ a. are_distinct a.nodes.items ≡ true };
+}
+
+impl NodeList {
+    ghost use Rattle.std.specs.Prelude.{◌≡◌, ◌==◌, IfOk, OnOk, OnErr, [], length, map, filter, find, take, drop};
+    ghost use Rattle.std.specs.Option.{option_map};
+    ghost use Rattle.fuse_tree.specs.Rows.{put_node, at_node, written, sized, content_of};
+    ghost use Rattle.fuse_tree.specs.Clearing.{is_named_row};
+
+    pub fn new(alloc: Global) -> NodeList
+        ensures { result ≡ [] }
+    {
+        NodeList {
+            nodes: Vec::new(alloc),
+        }
+    }
+
+    pub fn to_copy(&self, alloc: Global) -> Result<NodeList, Memory>
+        ensures { IfOk result (λ copy. copy ≡ self.now) }
+    {
+        let nodes = copies_of(alloc, self.nodes.as_slice())?;
+        Ok(NodeList { nodes })
+    }
+
+    pub fn row(&self, number: u64) -> Option<NodeRow>
+        ensures { result ≡ option_map (λ f. f.row) (find (λ f. f.row.node == number) self.now) }
+    {
+        row_in(self.nodes.as_slice(), number)
+    }
+
+    pub fn bytes(
+        &self,
+        alloc: Global,
+        number: u64,
+        offset: u64,
+        len: u32,
+    ) -> Result<ByteList, Memory>
+        ensures { IfOk result (λ bytes. bytes ≡ take len (drop offset (content_of (find (λ f. f.row.node == number) self.now)))) }
+    {
+        bytes_in(alloc, self.nodes.as_slice(), number, offset, len)
+    }
+
+    pub fn put(&mut self, alloc: Global, row: NodeRow) -> Result<(), Memory>
+        ensures ok { OnOk result (self.new ≡ put_node row self.old) }
+        ensures err { OnErr result (self.new ≡ self.old) }
+    {
+        if let Some(place) = place_in(self.nodes.as_slice(), row.node) {
+            let full = &mut self.nodes[place];
+            full.row = row;
+            return Ok(());
+        }
+        let content = ByteList::from_vec(Vec::new(alloc));
+        self.nodes.push(Full { row, content })?;
+        Ok(())
+    }
+
+    pub fn write(
+        &mut self,
+        alloc: Global,
+        number: u64,
+        offset: u64,
+        bytes: &[u8],
+    ) -> Result<(), Memory>
+        ensures ok { OnOk result (self.new ≡ map (at_node number (written offset bytes.now)) self.old) }
+        ensures err { OnErr result (self.new ≡ self.old) }
+    {
+        if let Some(place) = place_in(self.nodes.as_slice(), number) {
+            let full = &mut self.nodes[place];
+            full.content = with_bytes(alloc, full.content.as_slice(), offset, bytes)?;
+        }
+        Ok(())
+    }
+
+    pub fn set_size(&mut self, alloc: Global, number: u64, size: u64) -> Result<(), Memory>
+        ensures ok { OnOk result (self.new ≡ map (at_node number (sized size)) self.old) }
+        ensures err { OnErr result (self.new ≡ self.old) }
+    {
+        if let Some(place) = place_in(self.nodes.as_slice(), number) {
+            let full = &mut self.nodes[place];
+            full.content = with_size(alloc, full.content.as_slice(), size)?;
+        }
+        Ok(())
+    }
+
+    pub fn keep_named(&mut self)
+        ensures { self.new ≡ filter is_named_row self.old }
+    {
+        self.nodes.retain(|full| is_named(full));
+    }
+
+    pub fn len(&self) -> usize
+        ensures { result ≡ length self.now }
+    {
+        self.nodes.len()
+    }
+}
+
+ghost use Rattle.std.specs.Prelude.{◌≡◌, ◌==◌, IfOk, find, take, drop, position};
+ghost use Rattle.std.specs.Option.{option_map};
+ghost use Rattle.fuse_tree.specs.State.{root_node, new_store};
+ghost use Rattle.fuse_tree.specs.Rows.{row_of, content_of};
+ghost use Rattle.fuse_tree.specs.Clearing.{is_named_row};
+
+/// The root of a new store.
+pub fn root_row(now: Moment) -> NodeRow
+    ensures { result ≡ row_of (new_store now) (root_node now) }
+{
+    NodeRow {
+        node: ROOT_ID,
+        mode: S_IFDIR + 0o755,
+        uid: 0,
+        gid: 0,
+        rdev: 0,
+        size: 0,
+        atime: now,
+        mtime: now,
+        ctime: now,
+        up: 0,
+        subdirs: 0,
+    }
+}
+
+fn is_named(full: &Full) -> bool
+    ensures { result ≡ is_named_row full.now }
+{
+    full.row.node == ROOT_ID || full.row.up != 0
+}
+
+fn place_in(nodes: &[Full], number: u64) -> Option<usize>
+    ensures { result ≡ position (λ f. f.row.node == number) nodes.now }
+{
+    nodes.iter().position(|full| full.row.node == number)
+}
+
+fn row_in(nodes: &[Full], number: u64) -> Option<NodeRow>
+    ensures { result ≡ option_map (λ f. f.row) (find (λ f. f.row.node == number) nodes.now) }
+{
+    for full in nodes {
+        if full.row.node == number {
+            return Some(full.row);
+        }
+    }
+    None
+}
+
+fn bytes_in(
+    alloc: Global,
+    nodes: &[Full],
+    number: u64,
+    offset: u64,
+    len: u32,
+) -> Result<ByteList, Memory>
+    ensures { IfOk result (λ bytes. bytes ≡ take len (drop offset (content_of (find (λ f. f.row.node == number) nodes.now)))) }
+{
+    for full in nodes {
+        if full.row.node == number {
+            return part_of(alloc, full.content.as_slice(), offset, len);
+        }
+    }
+    Ok(ByteList::from_vec(Vec::new(alloc)))
+}
+
+fn copy_of(alloc: Global, full: &Full) -> Result<Full, Memory>
+    ensures { IfOk result (λ copy. copy ≡ full.now) }
+{
+    Ok(Full {
+        row: full.row,
+        content: full.content.to_copy(alloc)?,
+    })
+}
+
+fn copies_of(alloc: Global, nodes: &[Full]) -> Result<Vec<Full>, Memory>
+    ensures { IfOk result (λ copies. copies.items ≡ nodes.now) }
+{
+    let mut copies = Vec::with_capacity(alloc, nodes.len())?;
+    for full in nodes {
+        copies.push(copy_of(alloc, full)?)?;
+    }
+    Ok(copies)
+}

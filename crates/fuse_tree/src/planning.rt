@@ -1,0 +1,93 @@
+ghost use Rattle.std.specs.Prelude.{◌≡◌, None, IfOk, IfErr, OnOk, OnErr};
+ghost use Rattle.fuse_request.specs.Act.{asked, act};
+ghost use Rattle.fuse_tree.specs.State.{State, Tree};
+ghost use Rattle.fuse_tree.specs.Rows.{rowed};
+ghost use Rattle.fuse_tree.specs.Do.{done};
+ghost use Rattle.fuse_tree.specs.Plan.{Meets, look_fault};
+ghost use Rattle.fuse_tree.specs.Planning.{IsWithin, Reads, plan_act, plan_of};
+
+mod answers;
+mod attributes;
+mod fault;
+mod finding;
+mod getattr;
+mod lookup;
+mod make;
+mod mkdir;
+mod names;
+
+use crate::look::Look;
+use crate::rows::{NodeRow, Planned};
+use answers::refused;
+pub use fault::PlanFault;
+use finding::find_node;
+use fuse_request::{Op, Request};
+use fuse_wire::{Errno, Moment};
+use getattr::plan_getattr;
+use lookup::plan_lookup;
+use mkdir::plan_mkdir;
+use std::alloc::Global;
+
+/// What the request answers in the tree whose rows lie behind `look`, and which rows it changes.
+/// Nothing is changed. An operation that is not of the profile is answered ENOSYS.
+pub fn plan<L: Look>(
+    look: &mut L,
+    alloc: Global,
+    request: &Request<'_>,
+    now: Moment,
+) -> Result<Planned, PlanFault>
+    requires { L.fault look.old ≡ None }
+    // Over the rows of a tree, it is what the request does there.
+    ensures meets { L.is_clean look.new → (s : State) → Tree s → L.sees look.old (rowed s) → IfOk result (λ p. Meets s p (done s (asked request.now) now)) }
+    // The rows are said to be those of no tree only where they are.
+    ensures not_a_tree { IfErr result (λ f. f ≡ PlanFault.NotATree → L.is_clean look.new → (s : State) → Tree s → L.sees look.old (rowed s) → ⊥) }
+    // The look's fault is then the one that is answered, and none where none is.
+    ensures fault { L.fault look.new ≡ look_fault result }
+    ensures looks { OnOk result (L.looks look.old look.new) }
+    ensures fails { OnErr result (L.fails look.old look.new) }
+{
+    plan_request(look, alloc, request, now)
+}
+
+fn plan_request<L: Look>(
+    look: &mut L,
+    alloc: Global,
+    request: &Request<'_>,
+    now: Moment,
+) -> Result<Planned, PlanFault>
+    requires { L.fault look.old ≡ None }
+    ensures plan { Reads (L.is_clean look.new) (L.sees look.old) result (plan_of (asked request.now) now) }
+    ensures fault { L.fault look.new ≡ look_fault result }
+    ensures looks { look_fault result ≡ None → L.looks look.old look.new }
+    ensures fails { OnErr result (L.fails look.old look.new) }
+{
+    let Some(row) = find_node(look, request.header.nodeid)? else {
+        return Ok(refused(alloc, Errno::ESTALE));
+    };
+    plan_op(look, alloc, request, now, &row)
+}
+
+// What is asked, at the node that the header names.
+fn plan_op<L: Look>(
+    look: &mut L,
+    alloc: Global,
+    request: &Request<'_>,
+    now: Moment,
+    row: &NodeRow,
+) -> Result<Planned, PlanFault>
+    requires fault { L.fault look.old ≡ None }
+    requires within { IsWithin row.now }
+    ensures plan { Reads (L.is_clean look.new) (L.sees look.old) result (plan_act request.now.header (act request.now.op) now row.now) }
+    ensures fault { L.fault look.new ≡ look_fault result }
+    ensures looks { look_fault result ≡ None → L.looks look.old look.new }
+    ensures fails { OnErr result (L.fails look.old look.new) }
+{
+    match &request.op {
+        Op::Lookup { name } => plan_lookup(look, alloc, name, row),
+        Op::Getattr { .. } => Ok(plan_getattr(alloc, row)?),
+        Op::Mkdir { mode, name, .. } => {
+            plan_mkdir(look, alloc, &request.header, *mode, name, now, row)
+        }
+        Op::Unsupported { .. } => Ok(refused(alloc, Errno::ENOSYS)),
+    }
+}

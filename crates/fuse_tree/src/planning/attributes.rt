@@ -1,0 +1,58 @@
+ghost use Rattle.std.specs.Prelude.{◌≡◌};
+ghost use Rattle.fuse_tree.specs.State.{is_dir};
+ghost use Rattle.fuse_tree.specs.Planning.{IsWithin, row_is_named, row_links, row_attr};
+
+use crate::limits::{BLOCK_SIZE, ROOT_ID, SECTOR_SIZE};
+use crate::mode::{S_IFDIR, TYPE_UNIT, TYPES};
+use crate::rows::NodeRow;
+use fuse_answer::Attr;
+
+pub(crate) fn is_directory(mode: u32) -> bool
+    ensures { result ≡ is_dir mode }
+{
+    mode / TYPE_UNIT % TYPES == S_IFDIR / TYPE_UNIT
+}
+
+// Whether the node is the root, or an entry leads to it.
+pub(crate) fn is_named(row: &NodeRow) -> bool
+    ensures { result ≡ row_is_named row.now }
+{
+    row.node == ROOT_ID || row.up != 0
+}
+
+fn links_of(row: &NodeRow) -> u32
+    requires { IsWithin row.now }
+    ensures { result ≡ row_links row.now }
+{
+    if !is_named(row) {
+        0
+    } else if is_directory(row.mode) {
+        2 + row.subdirs
+    } else {
+        1
+    }
+}
+
+pub(crate) fn attributes_of(row: &NodeRow) -> Attr
+    requires { IsWithin row.now }
+    ensures { result ≡ row_attr row.now }
+{
+    Attr {
+        ino: row.node,
+        size: row.size,
+        blocks: (row.size + (SECTOR_SIZE - 1)) / SECTOR_SIZE,
+        atime: row.atime.secs,
+        mtime: row.mtime.secs,
+        ctime: row.ctime.secs,
+        atimensec: row.atime.nanos,
+        mtimensec: row.mtime.nanos,
+        ctimensec: row.ctime.nanos,
+        mode: row.mode,
+        nlink: links_of(row),
+        uid: row.uid,
+        gid: row.gid,
+        rdev: row.rdev,
+        blksize: BLOCK_SIZE,
+        flags: 0,
+    }
+}

@@ -1,0 +1,23 @@
+use crate::look::LookFault;
+use fuse_wire::Memory;
+
+/// Why there is no plan.
+#[derive(Debug, Drop)]
+pub enum PlanFault {
+    /// A look failed.
+    Look(LookFault),
+    Memory,
+    /// The rows that were looked up are those of no tree.
+    NotATree,
+}
+
+impl From<Memory> for PlanFault {
+    ghost use Rattle.std.specs.Prelude.{◌≡◌};
+    ghost use Rattle.fuse_tree.specs.declared.planning.fault.PlanFault.TheVariants.{Memory as NoMemory};
+
+    ghost from_gives = { λ _ e. e ≡ NoMemory };
+
+    fn from(_e: Memory) -> PlanFault {
+        PlanFault::Memory
+    }
+}

@@ -1,0 +1,94 @@
+ghost use Rattle.std.specs.Prelude.{◌≡◌, None, is_some, IfOk, IfSome, OnErr};
+ghost use Rattle.fuse_tree.specs.Rows.{row_at, entry_at};
+ghost use Rattle.fuse_tree.specs.Plan.{look_fault};
+ghost use Rattle.fuse_tree.specs.Planning.{IsWithin, Reads, child_at};
+
+use super::fault::PlanFault;
+use crate::limits::{MAX_FILE, MAX_NODES};
+use crate::look::Look;
+use crate::rows::{Counters, EntryRow, NodeRow};
+
+// The row of a node, within the bounds of each tree.
+#[tactic(auto, using(crate::proofs::Bounds::row_within))]
+pub(crate) fn find_node<L: Look>(look: &mut L, number: u64) -> Result<Option<NodeRow>, PlanFault>
+    requires { L.fault look.old ≡ None }
+    ensures row { Reads (L.is_clean look.new) (L.sees look.old) result (λ rows. row_at rows number) }
+    ensures within { IfOk result (λ row. IfSome row IsWithin) }
+    ensures fault { L.fault look.new ≡ look_fault result }
+    ensures looks { look_fault result ≡ None → L.looks look.old look.new }
+    ensures fails { OnErr result (L.fails look.old look.new) }
+{
+    match look.node(number) {
+        Ok(Some(row)) => {
+            if row.size > MAX_FILE || u64::from(row.subdirs) > MAX_NODES {
+                return Err(PlanFault::NotATree);
+            }
+            Ok(Some(row))
+        }
+        Ok(None) => Ok(None),
+        Err(fault) => Err(PlanFault::Look(fault)),
+    }
+}
+
+fn find_entry<L: Look>(look: &mut L, dir: u64, name: &[u8]) -> Result<Option<EntryRow>, PlanFault>
+    requires { L.fault look.old ≡ None }
+    ensures row { Reads (L.is_clean look.new) (L.sees look.old) result (λ rows. entry_at rows.entries dir name.now) }
+    ensures fault { L.fault look.new ≡ look_fault result }
+    ensures looks { look_fault result ≡ None → L.looks look.old look.new }
+    ensures fails { OnErr result (L.fails look.old look.new) }
+{
+    match look.entry(dir, name) {
+        Ok(row) => Ok(row),
+        Err(fault) => Err(PlanFault::Look(fault)),
+    }
+}
+
+// Whether the name stands in the directory.
+pub(crate) fn is_taken<L: Look>(look: &mut L, dir: u64, name: &[u8]) -> Result<bool, PlanFault>
+    requires { L.fault look.old ≡ None }
+    ensures taken { Reads (L.is_clean look.new) (L.sees look.old) result (λ rows. is_some (entry_at rows.entries dir name.now)) }
+    ensures fault { L.fault look.new ≡ look_fault result }
+    ensures looks { look_fault result ≡ None → L.looks look.old look.new }
+    ensures fails { OnErr result (L.fails look.old look.new) }
+{
+    match find_entry(look, dir, name) {
+        Ok(found) => Ok(found.is_some()),
+        Err(fault) => Err(fault),
+    }
+}
+
+// The row of the node under this name in the directory.
+#[tactic(auto, using(crate::proofs::Bounds::child_row))]
+pub(crate) fn find_child<L: Look>(
+    look: &mut L,
+    dir: u64,
+    name: &[u8],
+) -> Result<Option<NodeRow>, PlanFault>
+    requires { L.fault look.old ≡ None }
+    ensures row { Reads (L.is_clean look.new) (L.sees look.old) result (λ rows. child_at rows dir name.now) }
+    ensures within { IfOk result (λ row. IfSome row IsWithin) }
+    ensures fault { L.fault look.new ≡ look_fault result }
+    ensures looks { look_fault result ≡ None → L.looks look.old look.new }
+    ensures fails { OnErr result (L.fails look.old look.new) }
+{
+    let Some(entry) = find_entry(look, dir, name)? else {
+        return Ok(None);
+    };
+    let Some(child) = find_node(look, entry.child)? else {
+        return Err(PlanFault::NotATree);
+    };
+    Ok(Some(child))
+}
+
+pub(crate) fn find_counters<L: Look>(look: &mut L) -> Result<Counters, PlanFault>
+    requires { L.fault look.old ≡ None }
+    ensures row { Reads (L.is_clean look.new) (L.sees look.old) result (λ rows. rows.counters) }
+    ensures fault { L.fault look.new ≡ look_fault result }
+    ensures looks { look_fault result ≡ None → L.looks look.old look.new }
+    ensures fails { OnErr result (L.fails look.old look.new) }
+{
+    match look.counters() {
+        Ok(row) => Ok(row),
+        Err(fault) => Err(PlanFault::Look(fault)),
+    }
+}

@@ -1,0 +1,49 @@
+ghost use Rattle.std.specs.Prelude.{◌≡◌, None, OnErr};
+ghost use Rattle.fuse_tree.specs.Plan.{look_fault};
+ghost use Rattle.fuse_tree.specs.Planning as planning;
+ghost use Rattle.fuse_tree.specs.Planning.{IsWithin, Reads};
+
+use super::answers::refused;
+use super::attributes::is_directory;
+use super::fault::PlanFault;
+use super::make::{NewNode, plan_make};
+use super::names::fault_of_name;
+use crate::look::Look;
+use crate::mode::{S_IFDIR, TYPE_UNIT};
+use crate::rows::{NodeRow, Planned};
+use fuse_request::InHeader;
+use fuse_wire::{Errno, Moment};
+use std::alloc::Global;
+
+// MKDIR of a name in the node of this row.
+pub(crate) fn plan_mkdir<L: Look>(
+    look: &mut L,
+    alloc: Global,
+    header: &InHeader,
+    mode: u32,
+    name: &[u8],
+    now: Moment,
+    row: &NodeRow,
+) -> Result<Planned, PlanFault>
+    requires fault { L.fault look.old ≡ None }
+    requires within { IsWithin row.now }
+    ensures plan { Reads (L.is_clean look.new) (L.sees look.old) result (planning.plan_mkdir header.now mode name.now now row.now) }
+    ensures fault { L.fault look.new ≡ look_fault result }
+    ensures looks { look_fault result ≡ None → L.looks look.old look.new }
+    ensures fails { OnErr result (L.fails look.old look.new) }
+{
+    if !is_directory(row.mode) {
+        return Ok(refused(alloc, Errno::ENOTDIR));
+    }
+    if let Some(errno) = fault_of_name(name) {
+        return Ok(refused(alloc, errno));
+    }
+    let fresh = NewNode {
+        mode: S_IFDIR + mode % TYPE_UNIT,
+        uid: header.uid,
+        gid: header.gid,
+        rdev: 0,
+        made: now,
+    };
+    plan_make(look, alloc, &fresh, name, row)
+}
