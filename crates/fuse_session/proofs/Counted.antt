@@ -1,0 +1,117 @@
+-- How messages count, one after another.
+use Rattle.std.proofs.Common.{◌≡◌, ◌+◌, ◌≤◌, ◌<◌, ℕ, Bool, true, false, if◌then◌else◌, List, [], ◌∷◌, ◌++◌, length, drop, map, refl, sym, ap, subst, ◌∙◌, arith, add-one}
+use Rattle.std.proofs.Math.Nat.{zero-add, add-zero, add_assoc}
+use Rattle.fuse_request.specs.declared.class.Class.{Class}
+use Rattle.fuse_request.specs.declared.class.Class.TheVariants.{Silent, Bare, Kept}
+use Rattle.fuse_request.specs.Classes.{class_of}
+
+use Rattle.std.proofs.Common.{zero, suc, get_or}
+use Rattle.fuse_store.specs.declared.keeper.Done.{Done}
+use Rattle.fuse_store.specs.History.{Entry, entry_id, History, has, grown, repeats}
+use Rattle.fuse_store.proofs.Histories.{grown-append}
+use Rattle.fuse_session.specs.declared.counts.SessionCounts.{SessionCounts}
+use Rattle.fuse_session.specs.Worked.{Timed, bytes_of, kept_in, entries_at, entry_if, timed_entry}
+use Rattle.fuse_session.specs.Counting.{plus, none_counted, counted_one, counted, one_if, is_interrupt, IsBelow}
+use Rattle.fuse_session.specs.Group.{tallied, head_repeat, left_by, repeats_in}
+
+pub plus_assoc : (a b c : SessionCounts) → plus (plus a b) c ≡ plus a (plus b c)
+plus_assoc a b c = simp add_assoc
+
+pub none_plus : (a : SessionCounts) → plus none_counted a ≡ a
+none_plus a = simp zero-add
+
+pub plus_none : (a : SessionCounts) → plus a none_counted ≡ a
+plus_none a = simp add-zero
+
+pub counted-append : (h : History) (xs ys : List Timed) → counted h (xs ++ ys) ≡ plus (counted h xs) (counted (grown h (kept_in xs)) ys)
+counted-append h [] ys = sym (none_plus (counted h ys))
+counted-append h (x ∷ xs) ys =
+    let g = grown h (entries_at x) in
+    let one = counted_one (class_of x.bytes) (has h (entry_id (timed_entry x))) (is_interrupt x.bytes) in
+    ap (plus one) (counted-append g xs ys)
+    ∙ ap (λ f. plus one (plus (counted g xs) (counted f ys))) (sym (grown-append h (entries_at x) (kept_in xs)))
+    ∙ sym (plus_assoc one (counted g xs) (counted (grown h (entries_at x ++ kept_in xs)) ys))
+
+tally_one : (h : History) (e : Entry) (es : List Entry) (class : Class) (i : Bool) → counted_one class (head_repeat (repeats h (entry_if class e ++ es))) i ≡ counted_one class (has h (entry_id e)) i
+tally_one h e es Silent i = refl
+tally_one h e es (Bare errno) i = refl
+tally_one h e es Kept i = refl
+
+tally_left : (h : History) (e : Entry) (es : List Entry) (class : Class) → left_by class (repeats h (entry_if class e ++ es)) ≡ repeats (grown h (entry_if class e)) es
+tally_left h e es Silent = refl
+tally_left h e es (Bare errno) = refl
+tally_left h e es Kept = refl
+
+-- what each message is by the answers is what it is by the history
+pub tallied_is : (ts : List Timed) (h : History) → tallied (bytes_of ts) (repeats h (kept_in ts)) ≡ counted h ts
+tallied_is [] h = refl
+tallied_is (t ∷ ts) h =
+    let class = class_of t.bytes in
+    let one = counted_one class (has h (entry_id (timed_entry t))) (is_interrupt t.bytes) in
+    ap (λ c. plus c (tallied (bytes_of ts) (left_by class (repeats h (entries_at t ++ kept_in ts))))) (tally_one h (timed_entry t) (kept_in ts) class (is_interrupt t.bytes))
+    ∙ ap (λ r. plus one (tallied (bytes_of ts) r)) (tally_left h (timed_entry t) (kept_in ts) class)
+    ∙ ap (plus one) (tallied_is ts (grown h (entries_at t)))
+
+one_if_below : (b : Bool) → one_if b ≤ 1
+one_if_below true = omega arith
+one_if_below false = omega arith
+
+one_below : (class : Class) (b i : Bool) → IsBelow (counted_one class b i) 1
+one_below Silent b i = record { messages = omega arith; kept = omega arith; repeated = omega arith; bare = omega arith; silent = omega arith; interrupts = one_if_below i }
+one_below (Bare errno) b i = record { messages = omega arith; kept = omega arith; repeated = omega arith; bare = omega arith; silent = omega arith; interrupts = omega arith }
+one_below Kept b i = record { messages = omega arith; kept = omega arith; repeated = one_if_below b; bare = omega arith; silent = omega arith; interrupts = omega arith }
+
+pub plus_below : (a b : SessionCounts) (m n : ℕ) → IsBelow a m → IsBelow b n → IsBelow (plus a b) (m + n)
+plus_below a b m n x y = record {
+  messages = omega (arith, x.messages, y.messages);
+  kept = omega (arith, x.kept, y.kept);
+  repeated = omega (arith, x.repeated, y.repeated);
+  bare = omega (arith, x.bare, y.bare);
+  silent = omega (arith, x.silent, y.silent);
+  interrupts = omega (arith, x.interrupts, y.interrupts);
+}
+
+pub below_more : (a : SessionCounts) (m n : ℕ) → m ≤ n → IsBelow a m → IsBelow a n
+below_more a m n le x = record {
+  messages = omega (arith, x.messages);
+  kept = omega (arith, x.kept);
+  repeated = omega (arith, x.repeated);
+  bare = omega (arith, x.bare);
+  silent = omega (arith, x.silent);
+  interrupts = omega (arith, x.interrupts);
+}
+
+pub one_counted_below : (c : SessionCounts) (class : Class) (b i : Bool) → c ≡ counted_one class b i → IsBelow c 1
+one_counted_below c class b i is = subst (λ x. IsBelow x 1) (sym is) (one_below class b i)
+
+-- one message more
+pub tallied_more : (ms rest : List (List ℕ)) (repeated repeated' : List Bool) (m : List ℕ) (counts one counts' all : SessionCounts) → ms ≡ m ∷ rest → one ≡ counted_one (class_of m) (head_repeat repeated) (is_interrupt m)
+    → counts' ≡ plus counts one → repeated' ≡ left_by (class_of m) repeated → plus counts (tallied ms repeated) ≡ all → plus counts' (tallied rest repeated') ≡ all
+tallied_more ms rest repeated repeated' m counts one counts' all is one_is now left so_far =
+    ap (λ c. plus c (tallied rest repeated')) now
+    ∙ ap (λ r. plus (plus counts one) (tallied rest r)) left
+    ∙ plus_assoc counts one (tallied rest (left_by (class_of m) repeated))
+    ∙ ap (λ x. plus counts (plus x (tallied rest (left_by (class_of m) repeated)))) one_is
+    ∙ ap (λ x. plus counts (tallied x repeated)) (sym is)
+    ∙ so_far
+
+-- ---- whether the next kept message is a repeat
+
+pub repeat_here : (dones : List Done) (n : ℕ) (d : Done) → n < length dones → d ≡ get_or dones n d → d.repeated ≡ head_repeat (drop n (repeats_in dones))
+repeat_here [] n d lt at = absurd (omega arith)
+repeat_here (x ∷ xs) zero d lt at = ap (λ (y : Done). y.repeated) at
+repeat_here (x ∷ xs) (suc n) d lt at = repeat_here xs n d (omega arith) at
+
+pub repeat_none : (dones : List Done) (n : ℕ) → length dones ≤ n → false ≡ head_repeat (drop n (repeats_in dones))
+repeat_none [] zero le = refl
+repeat_none [] (suc n) le = refl
+repeat_none (x ∷ xs) zero le = absurd (omega arith)
+repeat_none (x ∷ xs) (suc n) le = repeat_none xs n (omega arith)
+
+used_one : (dones : List Done) (n : ℕ) → n < length dones → drop (suc n) (repeats_in dones) ≡ left_by Kept (drop n (repeats_in dones))
+used_one [] n lt = absurd (omega arith)
+used_one (x ∷ xs) zero lt = refl
+used_one (x ∷ xs) (suc n) lt = used_one xs n (omega arith)
+
+pub used_kept : (m : List ℕ) (dones : List Done) (n : ℕ) → Kept ≡ class_of m → n < length dones → drop (n + 1) (repeats_in dones) ≡ left_by (class_of m) (drop n (repeats_in dones))
+used_kept m dones n is lt = subst (λ k. drop (n + 1) (repeats_in dones) ≡ left_by k (drop n (repeats_in dones))) is (rw add-one (used_one dones n lt))

@@ -1,0 +1,116 @@
+-- Groups, one message after another.
+use Rattle.std.proofs.Common.{◌≡◌, ◌≢◌, inl, inr, ℕ, ◌+◌, ◌<◌, ◌==◌, Bool, true, false, not, ◌&&◌, if◌then◌else◌, List, [], ◌∷◌, ◌++◌, length, take, get_or, All, refl, sym, ap, subst, ◌∙◌, arith}
+use Rattle.std.proofs.lemmas.List.{take_more, append-nil, map-append}
+use Rattle.std.proofs.lemmas.List.Elements.{All-append}
+use Rattle.fuse_wire.specs.Ids.{id_of}
+use Rattle.fuse_wire.specs.declared.moment.Moment.{Moment}
+use Rattle.fuse_request.specs.declared.request.Request.{Request}
+use Rattle.fuse_request.specs.declared.class.Class.{Class}
+use Rattle.fuse_request.specs.declared.class.Class.TheVariants.{Silent, Bare, Kept}
+use Rattle.fuse_request.specs.Classes.{class_of, class_by, is_zero}
+use Rattle.fuse_request.specs.Faults.{first_fault}
+use Rattle.fuse_request.specs.Header.{raw_of}
+use Rattle.fuse_request.specs.Opcodes.{silent}
+
+use Rattle.fuse_store.specs.History.{Entry, entry_id}
+use Rattle.fuse_store.specs.Group.{entry_of, entries_of, HasId, IsKept}
+use Rattle.fuse_session.specs.declared.gather.TheConstants.{DESTROY}
+use Rattle.fuse_session.specs.Worked.{Timed, bytes_of, kept_in, entry_if, message_entry, destroys, destroys_by, Moments}
+use Rattle.fuse_session.specs.Group.{NoZero, NoDestroy, DestroyLast, Gathers}
+use Rattle.fuse_session.proofs.Outs.{kept_in-append}
+use Rattle.fuse_session.proofs.Settled.{only_one}
+
+NoZero-append : (xs : List Timed) (t : Timed) → NoZero xs → is_zero t.bytes ≡ false → NoZero (xs ++ t ∷ [])
+NoZero-append [] t each here = (here, tt)
+NoZero-append (x ∷ xs) t each here = (each.0, NoZero-append xs t each.1 here)
+
+NoDestroy-append : (xs : List Timed) (t : Timed) → NoDestroy xs → destroys t.bytes ≡ false → NoDestroy (xs ++ t ∷ [])
+NoDestroy-append [] t each here = (here, tt)
+NoDestroy-append (x ∷ xs) t each here = (each.0, NoDestroy-append xs t each.1 here)
+
+DestroyLast-append : (xs : List Timed) (t : Timed) → NoDestroy xs → DestroyLast (xs ++ t ∷ [])
+DestroyLast-append [] t each = (inl refl, tt)
+DestroyLast-append (x ∷ xs) t each = (inr each.0, DestroyLast-append xs t each.1)
+
+pub moments-append : (may : Moment → Type 0) (xs ys : List Timed) → Moments may xs → Moments may ys → Moments may (xs ++ ys)
+moments-append may [] ys each more = more
+moments-append may (x ∷ xs) ys each more = (each.0, moments-append may xs ys each.1 more)
+
+pub moments_too : (may may' : Moment → Type 0) (xs : List Timed) → ((t : Moment) → may t → may' t) → Moments may xs → Moments may' xs
+moments_too may may' [] f each = tt
+moments_too may may' (x ∷ xs) f each = (λ kept. f x.moment (each.0 kept), moments_too may may' xs f each.1)
+
+pub none_yet_gathered : (may : Moment → Type 0) (taken : List (Request × Moment)) → taken ≡ [] → Gathers may [] taken false
+none_yet_gathered may taken is = record { timed = []; bytes = refl; entries = ap entries_of is; moments = tt; no_zero = tt; none = λ _. tt; only = tt; ended = λ isnt. absurd (cc isnt) }
+
+one_more_gathered : (may : Moment → Type 0) (front : List (List ℕ)) (taken taken' : List (Request × Moment)) (m : List ℕ) (t : Moment) (b : Bool) → Gathers may front taken false → is_zero m ≡ false
+    → entries_of taken' ≡ entries_of taken ++ entry_if (class_of m) (message_entry m t) → (b ≡ false → destroys m ≡ false) → (b ≡ true → destroys m ≡ true) → (class_of m ≡ Kept → may t) → Gathers may (front ++ m ∷ []) taken' b
+one_more_gathered may front taken taken' m t b so_far named entries last it moment =
+    let one : Timed = record { bytes = m; moment = t } in
+    record {
+      timed = so_far.timed ++ one ∷ [];
+      bytes = ap (λ r. r ++ m ∷ []) so_far.bytes ∙ sym (map-append (λ (x : Timed). x.bytes) so_far.timed (one ∷ []));
+      entries = entries ∙ ap (λ r. r ++ entry_if (class_of m) (message_entry m t)) so_far.entries
+          ∙ ap (λ r. kept_in so_far.timed ++ r) (sym (append-nil (entry_if (class_of m) (message_entry m t)))) ∙ sym (kept_in-append so_far.timed (one ∷ []));
+      moments = moments-append may so_far.timed (one ∷ []) so_far.moments (moment, tt);
+      no_zero = NoZero-append so_far.timed one so_far.no_zero named;
+      none = λ is. NoDestroy-append so_far.timed one (so_far.none refl) (last is);
+      only = DestroyLast-append so_far.timed one (so_far.none refl);
+      ended = λ is. record { earlier = so_far.timed; one = one; parts = refl; destroy = it is };
+    }
+
+not_kept : (class : Class) (e : Entry) (opcode : ℕ) → [] ≡ entry_if class e → destroys_by class opcode ≡ false
+not_kept Silent e opcode is = refl
+not_kept (Bare errno) e opcode is = refl
+not_kept Kept e opcode is = absurd (cc is)
+
+is_kept : (class : Class) (x e : Entry) → x ∷ [] ≡ entry_if class e → (class ≡ Kept) × (x ≡ e)
+is_kept Silent x e is = absurd (cc is)
+is_kept (Bare errno) x e is = absurd (cc is)
+is_kept Kept x e is = (refl, cc is)
+
+-- a message that isn't kept
+pub gathers_none : (may : Moment → Type 0) (ms : List (List ℕ)) (i : ℕ) (m bytes : List ℕ) (taken : List (Request × Moment)) (t : Moment) → i < length ms → m ≡ get_or ms i m → bytes ≡ m → Gathers may (take i ms) taken false
+    → is_zero bytes ≡ false → [] ≡ entry_if (class_of bytes) (message_entry bytes t) → (class_of bytes ≡ Kept → may t) → Gathers may (take (i + 1) ms) taken false
+gathers_none may ms i m bytes taken t lt at is so_far named none moment =
+    let grown = one_more_gathered may (take i ms) taken taken bytes t false so_far named (sym (append-nil (entries_of taken)) ∙ ap (λ r. entries_of taken ++ r) none)
+    (λ _. not_kept (class_of bytes) (message_entry bytes t) (raw_of bytes).opcode none) (λ isnt. absurd (cc isnt)) moment in
+    subst (λ front. Gathers may front taken false) (ap (λ x. take i ms ++ x ∷ []) (is ∙ at) ∙ sym (take_more ms i m lt)) grown
+
+-- one that is
+pub gathers_some : (may : Moment → Type 0) (ms : List (List ℕ)) (i : ℕ) (m bytes : List ℕ) (taken taken' : List (Request × Moment)) (one : Request × Moment) (t : Moment) (b : Bool) → i < length ms → m ≡ get_or ms i m → bytes ≡ m → Gathers may (take i ms) taken false
+    → is_zero bytes ≡ false → entry_of one ∷ [] ≡ entry_if (class_of bytes) (message_entry bytes t) → taken' ≡ taken ++ one ∷ [] → b ≡ ((raw_of bytes).opcode == DESTROY) → (class_of bytes ≡ Kept → may t) → Gathers may (take (i + 1) ms) taken' b
+gathers_some may ms i m bytes taken taken' one t b lt at is so_far named some pushed last moment =
+    let kept = is_kept (class_of bytes) (entry_of one) (message_entry bytes t) some in
+    let grown = one_more_gathered may (take i ms) taken taken' bytes t b so_far named (ap entries_of pushed ∙ map-append entry_of taken (one ∷ []) ∙ ap (λ r. entries_of taken ++ r) some)
+    (λ isnt. subst (λ c. destroys_by c (raw_of bytes).opcode ≡ false) (sym kept.0) (sym last ∙ isnt))
+    (λ is_so. subst (λ c. destroys_by c (raw_of bytes).opcode ≡ true) (sym kept.0) (sym last ∙ is_so)) moment in
+    subst (λ front. Gathers may front taken' b) (ap (λ x. take i ms ++ x ∷ []) (is ∙ at) ∙ sym (take_more ms i m lt)) grown
+
+-- a kept message is answered
+kept_speaks : (b : List ℕ) → class_of b ≡ Kept → silent (raw_of b).opcode ≡ false
+unfolding class_of
+kept_speaks b kept =
+    elim (silent (raw_of b).opcode) as (λ s. (if s then Silent else class_by (first_fault b) (raw_of b).opcode) ≡ Kept → s ≡ false)
+    [ true ↦ λ isnt. absurd (cc isnt) | false ↦ λ _. refl ] kept
+
+not_zero : (n : ℕ) → (n == 0) ≡ false → n ≢ 0
+not_zero n isnt is = grind arith
+
+spoken : (s e : Bool) → s ≡ false → (not s && e) ≡ false → e ≡ false
+spoken true e isnt both = absurd (cc isnt)
+spoken false e isnt both = both
+
+has_id : (m : List ℕ) (t : Moment) → class_of m ≡ Kept → is_zero m ≡ false → HasId (message_entry m t)
+has_id m t kept named = not_zero (id_of (raw_of m).unique) (spoken (silent (raw_of m).opcode) (id_of (raw_of m).unique == 0) (kept_speaks m kept) named)
+
+pub named_some : (bytes : List ℕ) (taken taken' : List (Request × Moment)) (one : Request × Moment) (t : Moment) → All HasId (entries_of taken) → is_zero bytes ≡ false
+    → entry_of one ∷ [] ≡ entry_if (class_of bytes) (message_entry bytes t) → taken' ≡ taken ++ one ∷ [] → All HasId (entries_of taken')
+named_some bytes taken taken' one t each named some pushed =
+    let kept = is_kept (class_of bytes) (entry_of one) (message_entry bytes t) some in
+    let here : HasId (entry_of one) = subst HasId (sym kept.1) (has_id bytes t kept.0 named) in
+    subst (All HasId) (sym (ap entries_of pushed ∙ map-append entry_of taken (one ∷ []))) (All-append HasId (entries_of taken) (entry_of one ∷ []) each (only_one HasId (entry_of one) here))
+
+pub kept_some : (taken taken' : List (Request × Moment)) (one : Request × Moment) → All IsKept (entries_of taken) → All IsKept (entry_of one ∷ []) → taken' ≡ taken ++ one ∷ [] → All IsKept (entries_of taken')
+kept_some taken taken' one each here pushed =
+    subst (All IsKept) (sym (ap entries_of pushed ∙ map-append entry_of taken (one ∷ []))) (All-append IsKept (entries_of taken) (entry_of one ∷ []) each here)

@@ -1,0 +1,327 @@
+-- A group performed, and its answers sent.
+use Rattle.std.proofs.Common.{◌≡◌, ◌⊎◌, inl, inr, ⊎_elim, ℕ, suc, ◌+◌, ◌-◌, ◌≤◌, ◌<◌, Bool, true, false, ◌&&◌, ◌==◌, List, [], ◌∷◌, ◌++◌, length, map, take, drop, All, Option, Some, slice_get, refl, sym, ap, subst, ◌∙◌, append_assoc, arith}
+use Rattle.std.proofs.lemmas.List.{append-nil, take-append-drop, length-map}
+use Rattle.fuse_wire.specs.declared.moment.Moment.{Moment}
+use Rattle.fuse_answer.specs.Said.{Said}
+use Rattle.fuse_request.specs.declared.request.Request.{Request}
+use Rattle.fuse_request.specs.declared.class.Class.{Class}
+use Rattle.fuse_request.specs.declared.class.Class.TheVariants.{Silent, Bare, Kept}
+use Rattle.fuse_request.specs.Classes.{class_of}
+use Rattle.fuse_request.specs.Stream.{joined}
+use Rattle.fuse_tree.specs.State.{State}
+use Rattle.fuse_tree.specs.Rows.{Rows}
+use Rattle.fuse_store.specs.declared.keeper.Done.{Done}
+use Rattle.fuse_store.specs.History.{Entry, entry_id, History, grown, is_in, ids_in, Includes, IsUnsettled, repeats}
+use Rattle.fuse_store.specs.Stands.{Records, Stands, StandsFor, StandsForEither, Performed, AreThese, Leaves, IsFirm, KeepsHeld, OthersStay}
+use Rattle.fuse_store.specs.Group.{entry_of, entries_of}
+use Rattle.fuse_store.proofs.Standing.{Stands-same, Stands-settled}
+use Rattle.fuse_session.specs.declared.counts.SessionCounts.{SessionCounts}
+use Rattle.fuse_session.specs.declared.group.Rest.{Rest}
+use Rattle.fuse_session.specs.declared.group.Rest.TheVariants.{ZeroUnique}
+use Rattle.fuse_session.specs.declared.sending.SendFault.{SendFault}
+use Rattle.fuse_session.specs.declared.sending.SendFault.TheVariants.{Memory}
+use Rattle.fuse_session.specs.Port.{PortState}
+use Rattle.fuse_session.specs.Worked.{Timed, bytes_of, kept_in, entries_at, entry_if, timed_entry, answers, Works, GoesOn, EndsLast, StartsZero, Moments}
+use Rattle.fuse_session.specs.Settling.{Mark, replies, settled_in, NoneComesAgain, Replied, SomeAndMore, AtMostMore, HandsOn}
+use Rattle.fuse_session.specs.Counting.{counted}
+use Rattle.fuse_session.specs.Group.{Gathers, IsStuck, answers_in, repeats_in, wires, left_by, told, tallied, rest_by, last_zero, AreEnough, SentAll, SentSome}
+use Rattle.fuse_session.specs.Serving.{Answered, Turned, Lived, Broken, lasts}
+use Rattle.fuse_session.proofs.Replies.{replied_none}
+use Rattle.fuse_session.proofs.Outs.{wires_are, told_is}
+use Rattle.fuse_session.proofs.Ending.{works_group, goes_none, goes_last, ends_last}
+use Rattle.fuse_session.proofs.Settled.{includes_left, includes_right, in_either, group_unsettled, settled_none, more_step, all_settled}
+use Rattle.fuse_session.proofs.Counted.{tallied_is}
+
+-- ---- what stands, and what a crash leaves
+
+pub stands_later : (holds : Rows → Records → Type 0) (s : State) (h : History) (t u : List ℕ) → Includes u t → StandsFor holds s h t → StandsFor holds s h u
+stands_later holds s h t u more so = record { rows = so.rows; records = so.records; held = so.held; stands = Stands-settled so.rows so.records s h t u more so.stands }
+
+pub stands_kept : (holds holds' : Rows → Records → Type 0) (s : State) (h : History) (t : List ℕ) → KeepsHeld holds holds' → StandsFor holds s h t → StandsFor holds' s h t
+stands_kept holds holds' s h t keeps so = record { rows = so.rows; records = so.records; held = keeps so.rows so.records so.held; stands = so.stands }
+
+pub leaves_map : (whole : Type 0) (left P Q : Rows → Records → Type 0) → ((x : Rows) (r : Records) → P x r → Q x r) → Leaves whole left P → Leaves whole left Q
+leaves_map whole left P Q f l = (l.0, λ x r is. f x r (l.1 x r is))
+
+pub firm_leaves : (holds : Rows → Records → Type 0) (whole : Type 0) (left : Rows → Records → Type 0) (s : State) (h : History) (t : List ℕ) → IsFirm holds whole left → StandsFor holds s h t
+    → Leaves whole left (λ x r. Stands x r s h t)
+firm_leaves holds whole left s h t firm so =
+    leaves_map whole left (AreThese so.rows so.records) (λ x r. Stands x r s h t) (λ x r same. Stands-same so.rows so.records x r s h t same so.stands) (firm so.rows so.records so.held)
+
+-- ---- lives
+
+-- nothing was worked off
+pub lived_none : (stood : History → List ℕ → Type 0) (s : State) (h : History) (c : Bool) (t : List ℕ) (timed : List Timed) (exact : Bool) → stood h t → Lived stood s h c t timed [] [] exact
+lived_none stood s h c t timed exact so = record {
+  worked = [];
+  unworked = timed;
+  parts = refl;
+  works = tt;
+  stands = subst (stood h) (sym (append-nil t)) so;
+  later = [];
+  sent = refl;
+  unsent = [];
+  begun = refl;
+  exactly = λ _. refl;
+}
+
+-- all of it was
+pub lived_all : (stood : History → List ℕ → Type 0) (s : State) (h : History) (c : Bool) (t : List ℕ) (timed : List Timed) (marks : List Mark) (part unsent : List ℕ) (later : List (List ℕ)) (exact : Bool)
+    → Works s h timed → stood (grown h (kept_in timed)) (t ++ settled_in c (bytes_of timed) marks) → answers s (grown h (kept_in timed)) timed ≡ replies marks ++ later → joined later ≡ part ++ unsent
+    → (exact ≡ true → later ≡ []) → Lived stood s h c t timed marks part exact
+lived_all stood s h c t timed marks part unsent later exact works so sent begun exactly = record {
+  worked = timed;
+  unworked = [];
+  parts = sym (append-nil timed);
+  works = works;
+  stands = so;
+  later = later;
+  sent = sent;
+  unsent = unsent;
+  begun = begun;
+  exactly = exactly;
+}
+
+-- nothing was done at all
+pub broken_none : (holds holds' : Rows → Records → Type 0) (clean' honest' firm whole' : Type 0) (left' : Rows → Records → Type 0) (may : Moment → Type 0) (p q : PortState) (pending : List ℕ) (messages : List (List ℕ)) (exact whole : Bool) → Replied p q [] []
+    → (clean' → KeepsHeld holds holds') → (firm → (s : State) (h : History) (t : List ℕ) → StandsFor holds s h t → Leaves whole' left' (λ x r. Stands x r s h t))
+    → Broken holds holds' clean' honest' firm whole' left' may p q pending messages exact whole
+broken_none holds holds' clean' honest' firm whole' left' may p q pending messages exact whole replied keeps leaves = record {
+  timed = [];
+  others = messages;
+  marks = [];
+  part = [];
+  front = refl;
+  moments = tt;
+  replied = replied;
+  no_part = λ _. refl;
+  life = λ clean s h t so within again. lived_none (StandsFor holds' s) s h p.confirms t [] exact (stands_kept holds holds' s h t (keeps clean) so);
+  crash = λ honest is_firm s h t so within again. leaves_map whole' left' (λ x r. Stands x r s h t) (λ x r. Lived (Stands x r s) s h p.confirms t [] [] [] false)
+      (λ x r left. lived_none (Stands x r s) s h p.confirms t [] false left) (leaves is_firm s h t so);
+}
+
+-- ---- a group that wasn't performed
+
+stored : (s : State) (h : History) (c : Bool) (t : List ℕ) (ts : List Timed) (es : List Entry) (x : Rows) (r : Records) → es ≡ kept_in ts → Works s h ts → StandsForEither s h t s (grown h es) t x r
+    → Lived (Stands x r s) s h c t ts [] [] false
+stored s h c t ts es x r is works either = ⊎_elim
+    (λ before. lived_none (Stands x r s) s h c t ts false before)
+    (λ after. lived_all (Stands x r s) s h c t ts [] [] (joined (answers s (grown h (kept_in ts)) ts)) (answers s (grown h (kept_in ts)) ts) false works
+    (subst (λ u. Stands x r s (grown h (kept_in ts)) u) (sym (ap (λ (q : List ℕ). t ++ q) (settled_none c (bytes_of ts)) ∙ append-nil t)) (subst (λ l. Stands x r s (grown h l) t) is after)) refl refl (λ isnt. absurd (cc isnt)))
+    either
+
+pub broken_store : (holds holds' : Rows → Records → Type 0) (clean' honest' whole whole' : Type 0) (left left' : Rows → Records → Type 0) (may : Moment → Type 0) (p : PortState) (pending : List ℕ)
+    (messages : List (List ℕ)) (count : ℕ) (taken : List (Request × Moment)) (ends : Bool) (group : List (Request × Moment))
+    → Gathers may (take count messages) taken ends → group ≡ taken → (clean' → KeepsHeld holds holds')
+    → ((s : State) (h : History) (t : List ℕ) → StandsFor holds s h t → Includes t pending → All (IsUnsettled t) (entries_of group) → IsFirm holds whole left → Leaves whole' left' (StandsForEither s h t s (grown h (entries_of group)) t))
+    → Broken holds holds' clean' honest' (IsFirm holds whole left) whole' left' may p p pending messages true false
+broken_store holds holds' clean' honest' whole whole' left left' may p pending messages count taken ends group gathers same keeps crash =
+    let ts = gathers.timed in
+    let es : entries_of group ≡ kept_in ts = ap entries_of same ∙ gathers.entries in
+    record {
+      timed = ts;
+      others = drop count messages;
+      marks = [];
+      part = [];
+      front = sym (take-append-drop count messages) ∙ ap (λ f. f ++ drop count messages) gathers.bytes;
+      moments = gathers.moments;
+      replied = replied_none p;
+      no_part = λ _. refl;
+      life = λ clean s h t so within again. lived_none (StandsFor holds' s) s h p.confirms t ts true (stands_kept holds holds' s h t (keeps clean) so);
+      crash = λ honest firm s h t so within again.
+          leaves_map whole' left' (StandsForEither s h t s (grown h (entries_of group)) t) (λ x r. Lived (Stands x r s) s h p.confirms t ts [] [] false)
+          (λ x r either. stored s h p.confirms t ts (entries_of group) x r es (works_group s h ts gathers.no_zero gathers.only) either)
+          (crash s h t so within (subst (All (IsUnsettled t)) (sym es) (group_unsettled p.confirms t ts [] again)) firm);
+    }
+
+-- ---- a group that was performed
+
+same_answers : (dones : List Done) → map (λ a. Some a) (answers_in dones) ≡ map (λ (d : Done). Some d.answer) dones
+same_answers [] = refl
+same_answers (d ∷ dones) = ap (λ r. Some d.answer ∷ r) (same_answers dones)
+
+says_told : (holds : Rows → Records → Type 0) (s : State) (h : History) (t : List ℕ) (es : List Entry) (ts : List Timed) (dones : List Done) → Performed holds s h t es dones → es ≡ kept_in ts
+    → map (λ a. Some a) (answers_in dones) ≡ told s h (kept_in ts)
+says_told holds s h t es ts dones done is = same_answers dones ∙ done.answers ∙ told_is s h es ∙ ap (told s h) is
+
+sent_are : (holds : Rows → Records → Type 0) (s : State) (h : History) (t : List ℕ) (es : List Entry) (ts : List Timed) (front : List (List ℕ)) (dones : List Done) → Performed holds s h t es dones → es ≡ kept_in ts
+    → front ≡ bytes_of ts → wires front (answers_in dones) ≡ answers s (grown h (kept_in ts)) ts
+sent_are holds s h t es ts front dones done is bytes = ap (λ f. wires f (answers_in dones)) bytes ∙ wires_are s h ts (answers_in dones) (says_told holds s h t es ts dones done is)
+
+now_stands : (holds : Rows → Records → Type 0) (s : State) (h : History) (t more : List ℕ) (es : List Entry) (ts : List Timed) (dones : List Done) → Performed holds s h t es dones → es ≡ kept_in ts
+    → StandsFor holds s (grown h (kept_in ts)) (t ++ more)
+now_stands holds s h t more es ts dones done is = stands_later holds s (grown h (kept_in ts)) t (t ++ more) (includes_left t more) (subst (λ l. StandsFor holds s (grown h l) t) is done.stands)
+
+-- its answers weren't all sent
+pub broken_sent : (holds holds' : Rows → Records → Type 0) (clean' honest' whole whole' : Type 0) (left left' : Rows → Records → Type 0) (may : Moment → Type 0) (p q : PortState) (pending : List ℕ)
+    (messages : List (List ℕ)) (count : ℕ) (taken : List (Request × Moment)) (ends : Bool) (group : List (Request × Moment)) (front : List (List ℕ)) (dones list : List Done) (fault : SendFault) (exact want : Bool)
+    → Gathers may (take count messages) taken ends → group ≡ taken → front ≡ take count messages → (clean' → honest')
+    → (honest' → (s : State) (h : History) (t : List ℕ) → StandsFor holds s h t → Includes t pending → All (IsUnsettled t) (entries_of group) → Performed holds' s h t (entries_of group) dones)
+    → (honest' → IsFirm holds whole left → IsFirm holds' whole' left')
+    → list ≡ dones → SentSome p q (wires front (answers_in list)) fault → exact ≡ false → (want ≡ true → fault ≡ Memory)
+    → Broken holds holds' clean' honest' (IsFirm holds whole left) whole' left' may p q pending messages exact want
+broken_sent holds holds' clean' honest' whole whole' left left' may p q pending messages count taken ends group front dones list fault exact want gathers same same_front clean_honest performed firm_still same_list sent inexact memory =
+    let some = subst (λ l. SentSome p q (wires front (answers_in l)) fault) same_list sent in
+    let ts = gathers.timed in
+    let es : entries_of group ≡ kept_in ts = ap entries_of same ∙ gathers.entries in
+    let bytes : front ≡ bytes_of ts = same_front ∙ gathers.bytes in
+    let done = λ (honest : honest') (s : State) (h : History) (t : List ℕ) (so : StandsFor holds s h t) (within : Includes t pending) (again : NoneComesAgain p.confirms t (bytes_of ts) some.marks).
+        performed honest s h t so within (subst (All (IsUnsettled t)) (sym es) (group_unsettled p.confirms t ts some.marks again)) in
+    let works = λ (s : State) (h : History). works_group s h ts gathers.no_zero gathers.only in
+    record {
+      timed = ts;
+      others = drop count messages;
+      marks = some.marks;
+      part = some.part;
+      front = sym (take-append-drop count messages) ∙ ap (λ f. f ++ drop count messages) gathers.bytes;
+      moments = gathers.moments;
+      replied = some.replied;
+      no_part = λ is. some.memory (memory is);
+      life = λ clean s h t so within again.
+          let d = done (clean_honest clean) s h t so within again in
+          lived_all (StandsFor holds' s) s h p.confirms t ts some.marks some.part some.unsent some.later exact (works s h) (now_stands holds' s h t _ (entries_of group) ts dones d es)
+          (sym (sent_are holds' s h t (entries_of group) ts front dones d es bytes) ∙ some.whole) some.begun (λ is. absurd (cc (is, inexact)));
+      crash = λ honest firm s h t so within again.
+          let d = done honest s h t so within again in
+          leaves_map whole' left' (λ x r. Stands x r s (grown h (kept_in ts)) (t ++ settled_in p.confirms (bytes_of ts) some.marks)) (λ x r. Lived (Stands x r s) s h p.confirms t ts some.marks some.part false)
+          (λ x r stands. lived_all (Stands x r s) s h p.confirms t ts some.marks some.part some.unsent some.later false (works s h) stands
+          (sym (sent_are holds' s h t (entries_of group) ts front dones d es bytes) ∙ some.whole) some.begun (λ isnt. absurd (cc isnt)))
+          (firm_leaves holds' whole' left' s (grown h (kept_in ts)) _ (firm_still honest firm) (now_stands holds' s h t (settled_in p.confirms (bytes_of ts) some.marks) (entries_of group) ts dones d es));
+    }
+
+-- ---- a group that was answered
+
+lasts_not : (ended stuck : Bool) → lasts (rest_by ended stuck) ≡ true → ended ≡ false
+lasts_not true stuck is = absurd (cc is)
+lasts_not false stuck is = refl
+
+ended_so : (ended stuck : Bool) → lasts (rest_by ended stuck) ≡ false → ended ≡ true
+ended_so true stuck is = refl
+ended_so false true is = absurd (cc is)
+ended_so false false is = absurd (cc is)
+
+and_true : (a b : Bool) → (a && b) ≡ true → (a ≡ true) × (b ≡ true)
+and_true true b is = (refl, is)
+and_true false b is = absurd (cc is)
+
+and_false : (a b : Bool) → (a && b) ≡ false → (a ≡ false) ⊎ ((a ≡ true) × (b ≡ false))
+and_false true b is = inr (refl, is)
+and_false false b is = inl refl
+
+both_included : (t pending mid more pending' : List ℕ) → Includes t pending → ((u : List ℕ) → Includes u pending → Includes u mid) → pending' ≡ mid ++ more → Includes (t ++ more) pending'
+both_included t pending mid more pending' within f is i there =
+    ⊎_elim (λ old. includes_left t more i (f t within i old)) (λ new. includes_right t more i new) (in_either mid more i (sym (ap (λ x. is_in x i) is) ∙ there))
+
+pub turned : (holds holds' : Rows → Records → Type 0) (honest' : Type 0) (may : Moment → Type 0) (p q : PortState) (pending mid pending' : List ℕ) (messages : List (List ℕ)) (count : ℕ)
+    (taken : List (Request × Moment)) (ends : Bool) (group : List (Request × Moment)) (front : List (List ℕ)) (dones list : List Done) (stuck : Bool) (rest : Rest) (counts : SessionCounts)
+    → Gathers may (take count messages) taken ends → group ≡ taken → front ≡ take count messages
+    → (honest' → (s : State) (h : History) (t : List ℕ) → StandsFor holds s h t → Includes t pending → All (IsUnsettled t) (entries_of group) → Performed holds' s h t (entries_of group) dones)
+    → ((u : List ℕ) → Includes u pending → Includes u mid)
+    → SentAll p q front (wires front (answers_in list)) mid pending' → list ≡ dones → rest ≡ rest_by (ends && last_zero (answers_in list)) stuck → counts ≡ tallied front (repeats_in list)
+    → Turned holds holds' honest' may p q pending pending' (take count messages) (lasts rest) counts
+turned holds holds' honest' may p q pending mid pending' messages count taken ends group front dones list stuck rest counts gathers same same_front performed handed sent same_list is counts_are =
+    let all = subst (λ l. SentAll p q front (wires front (answers_in l)) mid pending') same_list sent in
+    let ts = gathers.timed in
+    let es : entries_of group ≡ kept_in ts = ap entries_of same ∙ gathers.entries in
+    let bytes : front ≡ bytes_of ts = same_front ∙ gathers.bytes in
+    record {
+      timed = ts;
+      marks = all.marks;
+      bytes = gathers.bytes;
+      full = all.full ∙ ap length bytes ∙ length-map ts (λ (t : Timed). t.bytes);
+      moments = gathers.moments;
+      replied = all.replied;
+      handed = λ t within. both_included t pending mid (settled_in p.confirms (bytes_of ts) all.marks) pending' within handed (all.handed ∙ ap (λ f. mid ++ settled_in p.confirms f all.marks) bytes);
+      all = λ honest s h t so within again.
+          let d = performed honest s h t so within (subst (All (IsUnsettled t)) (sym es) (group_unsettled p.confirms t ts all.marks again)) in
+          let says = says_told holds' s h t (entries_of group) ts dones d es in
+          record {
+            works = works_group s h ts gathers.no_zero gathers.only;
+            goes = λ going. elim (and_false ends (last_zero (answers_in list)) (lasts_not (ends && last_zero (answers_in list)) stuck (sym (ap lasts is) ∙ going))) [
+              | inl no_end ↦ goes_none s h ts gathers.no_zero (gathers.none no_end)
+              | inr both ↦ goes_last s h ts (answers_in dones) gathers.no_zero gathers.only says (sym (ap (λ l. last_zero (answers_in l)) same_list) ∙ both.1)
+            ];
+            last = λ over.
+                let both = and_true ends (last_zero (answers_in list)) (ended_so (ends && last_zero (answers_in list)) stuck (sym (ap lasts is) ∙ over)) in
+                ends_last s h ts (answers_in dones) (gathers.ended both.0) says (sym (ap (λ l. last_zero (answers_in l)) same_list) ∙ both.1);
+            stands = now_stands holds' s h t _ (entries_of group) ts dones d es;
+            sent = all.whole ∙ sent_are holds' s h t (entries_of group) ts front dones d es bytes;
+            counts_are = counts_are ∙ ap (λ l. tallied front (repeats_in l)) same_list ∙ ap (λ f. tallied f (repeats_in dones)) bytes ∙ ap (tallied (bytes_of ts)) (d.repeated ∙ ap (repeats h) es) ∙ tallied_is ts h;
+          };
+    }
+
+pub stuck_zero : (ended stuck : Bool) → rest_by ended stuck ≡ ZeroUnique → stuck ≡ true
+stuck_zero true stuck is = absurd (cc is)
+stuck_zero false true is = refl
+stuck_zero false false is = absurd (cc is)
+
+pub starts_zero : (messages : List (List ℕ)) (n : ℕ) → n ≡ 0 → (messages ≡ [] → ⊥) → IsStuck messages → StartsZero (drop n messages)
+starts_zero [] n is some stuck = absurd (some refl)
+starts_zero (m ∷ ms) n is some stuck = subst (λ k. StartsZero (drop k (m ∷ ms))) (sym is) stuck
+
+pub last_is : (dones : List Done) (d : Done) → Some d ≡ slice_get dones (length dones - 1) → (d.answer.errno == 0) ≡ last_zero (answers_in dones)
+last_is [] d is = absurd (cc is)
+last_is (x ∷ []) d is = let same : d ≡ x = cc is in ap (λ (y : Done). y.answer.errno == 0) same
+last_is (x ∷ y ∷ rest) d is = let e1 : length (x ∷ y ∷ rest) - 1 ≡ suc (length rest) = omega arith in
+    let e2 : length (y ∷ rest) - 1 ≡ length rest = omega arith in
+    last_is (y ∷ rest) d (is ∙ ap (slice_get (x ∷ y ∷ rest)) e1 ∙ ap (slice_get (y ∷ rest)) (sym e2))
+
+-- ---- each kept message has an answer
+
+enough_by : (class : Class) (e : Entry) (es : List Entry) (list : List Said) → length list ≡ length (entry_if class e ++ es) → (class ≡ Kept → 0 < length list) × (length (left_by class list) ≡ length es)
+enough_by Silent e es list is = (λ isnt. absurd (cc isnt), is)
+enough_by (Bare errno) e es list is = (λ isnt. absurd (cc isnt), is)
+enough_by Kept e es [] is = absurd (omega arith)
+enough_by Kept e es (a ∷ list) is = (λ _. omega arith, omega arith)
+
+enough : (ts : List Timed) (list : List Said) → length list ≡ length (kept_in ts) → AreEnough (bytes_of ts) list
+enough [] list is = tt
+enough (t ∷ ts) list is =
+    let p = enough_by (class_of t.bytes) (timed_entry t) (kept_in ts) list is in
+    (p.0, enough ts (left_by (class_of t.bytes) list) p.1)
+
+pub are_enough : (may : Moment → Type 0) (front : List (List ℕ)) (taken : List (Request × Moment)) (ends : Bool) (slice : List (List ℕ)) (group : List (Request × Moment)) (dones list : List Done)
+    → Gathers may front taken ends → slice ≡ front → group ≡ taken → length dones ≡ length group → list ≡ dones → AreEnough slice (answers_in list)
+are_enough may front taken ends slice group dones list gathers same same_group count same_list =
+    subst (λ f. AreEnough f (answers_in list)) (sym (same ∙ gathers.bytes))
+    (enough gathers.timed (answers_in list) (length-map list (λ (d : Done). d.answer) ∙ ap length same_list ∙ count ∙ ap length same_group ∙ sym (length-map taken entry_of) ∙ ap length gathers.entries))
+
+-- ---- at most 16 records more
+
+pub hands_more : (before : Records) (holds holds' : Rows → Records → Type 0) (pending mid : List ℕ) (group : List Entry) → length group ≤ 16
+    → ((rows : Rows) (records : Records) → holds rows records → (rows' : Rows) × (records' : Records) × holds' rows' records' × OthersStay records pending group records')
+    → HandsOn before holds pending → HandsOn before holds' (mid ++ ids_in group)
+hands_more before holds holds' pending mid group few others h =
+    let o = others h.rows h.records h.held in
+    record {
+      rows = o.0;
+      records = o.1;
+      held = o.2;
+      more = ids_in group;
+      few = subst (λ n. n ≤ 16) (sym (length-map group entry_id)) few;
+      some = more_step before h.records o.1 h.more pending group h.some h.all o.3;
+      all = includes_right mid (ids_in group);
+    }
+
+pub hands_same : (before : Records) (holds : Rows → Records → Type 0) (pending more : List ℕ) → HandsOn before holds pending → HandsOn before holds (pending ++ more)
+hands_same before holds pending more h = record { rows = h.rows; records = h.records; held = h.held; more = h.more; few = h.few; some = h.some; all = λ i there. includes_left pending more i (h.all i there) }
+
+pub at_most : (before : Records) (holds : Rows → Records → Type 0) (pending : List ℕ) → HandsOn before holds pending → AtMostMore before holds
+at_most before holds pending h = record { rows = h.rows; records = h.records; held = h.held; more = h.more; few = h.few; some = h.some }
+
+pub at_most_kept : (before : Records) (holds holds' : Rows → Records → Type 0) (pending : List ℕ) → KeepsHeld holds holds' → HandsOn before holds pending → AtMostMore before holds'
+at_most_kept before holds holds' pending keeps h = record { rows = h.rows; records = h.records; held = keeps h.rows h.records h.held; more = h.more; few = h.few; some = h.some }
+
+-- where the port confirms, the answers to a group settle all its ids
+pub hands_group : (before : Records) (holds : Rows → Records → Type 0) (may : Moment → Type 0) (p q : PortState) (mid pending' : List ℕ) (messages : List (List ℕ)) (taken : List (Request × Moment)) (ends : Bool)
+    (group : List (Request × Moment)) (front answers' : List (List ℕ)) → Gathers may messages taken ends → group ≡ taken → front ≡ messages → p.confirms ≡ true → SentAll p q front answers' mid pending'
+    → HandsOn before holds (mid ++ ids_in (entries_of group)) → HandsOn before holds pending'
+hands_group before holds may p q mid pending' messages taken ends group front answers' gathers same same_front confirms all h =
+    let bytes : front ≡ bytes_of gathers.timed = same_front ∙ gathers.bytes in
+    let full : length all.marks ≡ length gathers.timed = all.full ∙ ap length bytes ∙ length-map gathers.timed (λ (t : Timed). t.bytes) in
+    subst (HandsOn before holds) (sym (all.handed ∙ ap (λ c. mid ++ settled_in c front all.marks) confirms ∙ ap (λ f. mid ++ settled_in true f all.marks) bytes
+    ∙ ap (λ (x : List ℕ). mid ++ x) (all_settled gathers.timed all.marks full ∙ ap ids_in (sym gathers.entries ∙ sym (ap entries_of same))))) h
+
+-- at first nothing is to be handed on
+pub hands_start : (holds : Rows → Records → Type 0) (pending : List ℕ) (rows : Rows) (records : Records) → holds rows records → HandsOn records holds pending
+hands_start holds pending rows records held = record { rows = rows; records = records; held = held; more = []; few = omega arith; some = λ i _. inr refl; all = λ i there. absurd (cc there) }

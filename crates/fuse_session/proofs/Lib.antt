@@ -1,0 +1,13 @@
+pub mod Bytes
+pub mod Pieces
+pub mod Replies
+pub mod Outs
+pub mod Ending
+pub mod Settled
+pub mod Gathering
+pub mod Counted
+pub mod Sends
+pub mod Groups
+pub mod Turns
+pub mod Waiting
+pub mod Sessions

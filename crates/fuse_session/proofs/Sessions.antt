@@ -1,0 +1,378 @@
+-- Turns, one after another.
+use Rattle.std.proofs.Common.{◌≡◌, ◌⊎◌, inl, inr, ◌<◌, ◌≤◌, ◌+◌, ℕ, Bool, true, false, List, [], ◌∷◌, ◌++◌, length, Option, Some, None, refl, sym, ap, subst, ◌∙◌, append_assoc, arith, length-append}
+use Rattle.std.proofs.lemmas.List.{append-nil}
+use Rattle.std.specs.Io.KnownBytes.{Appends, Consumes}
+use Rattle.fuse_wire.specs.declared.moment.Moment.{Moment}
+use Rattle.fuse_request.specs.declared.framer.FrameFault.{FrameFault}
+use Rattle.fuse_request.specs.Stream.{cut, joined, CutJoins}
+use Rattle.fuse_request.specs.Framing.{Held, HasNone, bad_length, end_fault}
+use Rattle.fuse_tree.specs.Rows.{Rows}
+use Rattle.fuse_store.specs.Stands.{Records, Stands, StandsFor, Leaves, IsFirm, KeepsHeld}
+use Rattle.fuse_store.specs.History.{History, Includes}
+use Rattle.fuse_session.specs.declared.counts.SessionCounts.{SessionCounts}
+use Rattle.fuse_session.specs.declared.ended.Ended.{Ended}
+use Rattle.fuse_session.specs.declared.ended.Ended.TheVariants.{End, Destroyed, Turns, Frame, ZeroUnique, PortFailed, Store, Memory}
+use Rattle.fuse_session.specs.declared.group.Rest.{Rest}
+use Rattle.fuse_session.specs.declared.group.Rest.TheVariants.{GoesOn as GoesOnHere, Destroyed as ByDestroy, ZeroUnique as ByZero}
+use Rattle.fuse_session.specs.Port.{PortState, IsQuiet}
+use Rattle.fuse_session.specs.Settling.{Replied}
+use Rattle.fuse_session.specs.Counting.{plus, none_counted}
+use Rattle.fuse_session.specs.Receiving.{IsOpen, IsHearing, Heard, NotHeard}
+use Rattle.fuse_session.specs.Serving.{Turned, Broken, WorkedOff, Whole, Stopped, Life, lasts, goes_on}
+use Rattle.fuse_session.specs.Ends.{Rested, Halted, EndsAs, IsGoodRest, FaultOf, FinishedBy, IsFault, ended_store}
+use Rattle.fuse_session.proofs.Bytes.{appends_none, consumes_none, consumes_more}
+use Rattle.fuse_session.proofs.Replies.{joined-append, replied_none}
+use Rattle.fuse_session.proofs.Counted.{none_plus}
+use Rattle.fuse_session.proofs.Groups.{broken_none, firm_leaves}
+use Rattle.fuse_session.proofs.Turns.{turned_none, turned_quiet, turned_more, turned_broken, turned_life}
+
+pub hearing_replied : (a b : PortState) → IsHearing a b → Replied a b [] []
+hearing_replied a b h = record {
+  sent = subst (λ o. Appends a.sent o []) (sym h.sent) (appends_none a.sent);
+  places = [];
+  gone = h.gone ∙ sym (append-nil a.gone);
+  placed = refl;
+  confirms = h.confirms;
+}
+
+-- what is held, and more bytes behind it
+cut_more : CutJoins → (held mid r1 r2 : List ℕ) → mid ≡ (cut (held ++ r1)).1 → cut (held ++ (r1 ++ r2)) ≡ ((cut (held ++ r1)).0 ++ (cut (mid ++ r2)).0, (cut (mid ++ r2)).1)
+cut_more joins held mid r1 r2 is =
+    ap cut (sym (append_assoc held r1 r2)) ∙ joins (held ++ r1) r2 ∙ ap (λ (w : List ℕ). ((cut (held ++ r1)).0 ++ (cut (w ++ r2)).0, (cut (w ++ r2)).1)) (sym is)
+
+front_more : CutJoins → (held mid r1 r2 : List ℕ) → mid ≡ (cut (held ++ r1)).1 → (cut (held ++ r1)).0 ++ (cut (mid ++ r2)).0 ≡ (cut (held ++ (r1 ++ r2))).0
+front_more joins held mid r1 r2 is = sym (ap (λ (x : List (List ℕ) × List ℕ). x.0) (cut_more joins held mid r1 r2 is))
+
+rest_more : CutJoins → (held mid r1 r2 : List ℕ) → mid ≡ (cut (held ++ r1)).1 → (cut (mid ++ r2)).1 ≡ (cut (held ++ (r1 ++ r2))).1
+rest_more joins held mid r1 r2 is = sym (ap (λ (x : List (List ℕ) × List ℕ). x.1) (cut_more joins held mid r1 r2 is))
+
+place_more : CutJoins → (held mid r1 r2 : List ℕ) (begin at place : ℕ) → mid ≡ (cut (held ++ r1)).1 → at ≡ begin + length (joined (cut (held ++ r1)).0) → place ≡ at + length (joined (cut (mid ++ r2)).0)
+    → place ≡ begin + length (joined (cut (held ++ (r1 ++ r2))).0)
+place_more joins held mid r1 r2 begin at place is one two =
+    let a = (cut (held ++ r1)).0 in
+    let b = (cut (mid ++ r2)).0 in
+    omega (arith, one, two, ap (λ x. length (joined x)) (front_more joins held mid r1 r2 is), ap length (joined-append a b), length-append (joined a) (joined b))
+
+-- ---- a turn more
+
+pub whole_more : CutJoins → (holds mid new : Rows → Records → Type 0) (honest honest' : Type 0) (may may' : Moment → Type 0) (p q r : PortState) (ids ids' ids'' : List ℕ) (held left rest : List ℕ) (begin at place : ℕ) (counts counts' : SessionCounts)
+    → Whole holds mid honest may p q ids ids' held left begin at counts → Whole mid new honest' may' q r ids' ids'' left rest at place counts' → (honest' → honest) → ((t : Moment) → may' t → may t)
+    → Whole holds new honest' may p r ids ids'' held rest begin place (plus counts counts')
+whole_more joins holds mid new honest honest' may may' p q r ids ids' ids'' held left rest begin at place counts counts' one two honest_too moments = record {
+  received = one.received ++ two.received;
+  came = consumes_more p.coming q.coming r.coming one.received two.received one.came two.came;
+  rest_is = two.rest_is ∙ rest_more joins held left one.received two.received one.rest_is;
+  at = place_more joins held left one.received two.received begin at place one.rest_is one.at two.at;
+  turned = subst (λ f. Turned holds new honest' may p r ids ids'' f true (plus counts counts')) (front_more joins held left one.received two.received one.rest_is)
+      (turned_more holds mid new honest honest' may may' p q r ids ids' ids'' (cut (held ++ one.received)).0 (cut (left ++ two.received)).0 true counts counts' one.turned two.turned honest_too moments);
+}
+
+pub stopped_more : CutJoins → (holds mid new : Rows → Records → Type 0) (honest honest' : Type 0) (may may' : Moment → Type 0) (p q r : PortState) (ids ids' ids'' : List ℕ) (held left : List ℕ) (rest : Rest) (begin at place : ℕ) (counts counts' : SessionCounts)
+    → Whole holds mid honest may p q ids ids' held left begin at counts → Stopped mid new honest' may' q r ids' ids'' left rest at place counts' → (honest' → honest) → ((t : Moment) → may' t → may t)
+    → Stopped holds new honest' may p r ids ids'' held rest begin place (plus counts counts')
+stopped_more joins holds mid new honest honest' may may' p q r ids ids' ids'' held left rest begin at place counts counts' one two honest_too moments =
+    let a = (cut (held ++ one.received)).0 in
+    let w = two.worked in
+    record {
+      received = one.received ++ two.received;
+      came = consumes_more p.coming q.coming r.coming one.received two.received one.came two.came;
+      worked = record {
+        front = a ++ w.front;
+        others = w.others;
+        parts = sym (front_more joins held left one.received two.received one.rest_is) ∙ ap (λ x. a ++ x) w.parts ∙ sym (append_assoc a w.front w.others);
+        all = w.all;
+        zero = w.zero;
+        at = omega (arith, one.at, w.at, ap length (joined-append a w.front), length-append (joined a) (joined w.front));
+        turned = turned_more holds mid new honest honest' may may' p q r ids ids' ids'' a w.front (lasts rest) counts counts' one.turned w.turned honest_too moments;
+      };
+    }
+
+pub life_more : CutJoins → (holds mid new : Rows → Records → Type 0) (honest clean' honest' whole whole_mid whole' : Type 0) (left left_mid left' : Rows → Records → Type 0) (may may' : Moment → Type 0) (p q r : PortState) (ids ids' : List ℕ)
+    (held rest : List ℕ) (begin at : ℕ) (counts : SessionCounts) (exact want : Bool)
+    → Whole holds mid honest may p q ids ids' held rest begin at counts → Life mid new clean' honest' (IsFirm mid whole_mid left_mid) whole' left' may' q r ids' rest exact want
+    → (clean' → honest') → (honest' → honest) → (honest → IsFirm holds whole left → IsFirm mid whole_mid left_mid) → ((t : Moment) → may' t → may t)
+    → Life holds new clean' honest' (IsFirm holds whole left) whole' left' may p r ids held exact want
+life_more joins holds mid new honest clean' honest' whole whole_mid whole' left left_mid left' may may' p q r ids ids' held rest begin at counts exact want one two clean_honest honest_too firm_too moments = record {
+  received = one.received ++ two.received;
+  came = consumes_more p.coming q.coming r.coming one.received two.received one.came two.came;
+  broken = subst (λ f. Broken holds new clean' honest' (IsFirm holds whole left) whole' left' may p r ids f exact want) (front_more joins held rest one.received two.received one.rest_is)
+      (turned_broken holds mid new honest clean' honest' whole whole_mid whole' left left_mid left' may may' p q r ids ids' (cut (held ++ one.received)).0 (cut (rest ++ two.received)).0 counts exact want one.turned two.broken clean_honest honest_too firm_too moments);
+}
+
+-- all was worked off: a life too
+pub whole_life : (holds new : Rows → Records → Type 0) (clean honest whole whole' : Type 0) (left left' : Rows → Records → Type 0) (may : Moment → Type 0) (p q : PortState) (ids ids' : List ℕ) (held rest : List ℕ) (begin at : ℕ) (counts : SessionCounts) (exact want : Bool)
+    → Whole holds new honest may p q ids ids' held rest begin at counts → (clean → honest) → (honest → IsFirm holds whole left → IsFirm new whole' left')
+    → Life holds new clean honest (IsFirm holds whole left) whole' left' may p q ids held exact want
+whole_life holds new clean honest whole whole' left left' may p q ids ids' held rest begin at counts exact want w clean_honest firm_still = record {
+  received = w.received;
+  came = w.came;
+  broken = turned_life holds new clean honest whole whole' left left' may p q ids ids' (cut (held ++ w.received)).0 [] (cut (held ++ w.received)).0 true counts exact want w.turned (sym (append-nil (cut (held ++ w.received)).0)) clean_honest firm_still;
+}
+
+cut_none : cut [] ≡ ([], [])
+unfolding cut
+cut_none = refl
+
+-- nothing came yet
+pub whole_none : (holds : Rows → Records → Type 0) (honest : Type 0) (may : Moment → Type 0) (p : PortState) (ids : List ℕ) → Whole holds holds honest may p p ids ids [] [] 0 0 none_counted
+whole_none holds honest may p ids = record {
+  received = [];
+  came = consumes_none p.coming;
+  rest_is = sym (ap (λ (x : List (List ℕ) × List ℕ). x.1) cut_none);
+  at = omega (arith, ap (λ (x : List (List ℕ) × List ℕ). length (joined x.0)) cut_none);
+  turned = subst (λ f. Turned holds holds honest may p p ids ids f true none_counted) (sym (ap (λ (x : List (List ℕ) × List ℕ). x.0) cut_none)) (turned_none holds honest may p ids);
+}
+
+-- ---- what came in a turn
+
+heard_turned : (holds new : Rows → Records → Type 0) (honest : Type 0) (may : Moment → Type 0) (p q r : PortState) (ids ids' : List ℕ) (front : List (List ℕ)) (going : Bool) (counts : SessionCounts) → IsHearing p q
+    → Turned holds new honest may q r ids ids' front going counts → Turned holds new honest may p r ids ids' front going counts
+heard_turned holds new honest may p q r ids ids' front going counts hearing t =
+    subst (λ c. Turned holds new honest may p r ids ids' front going c) (none_plus counts)
+    (turned_more holds holds new honest honest may may p q r ids ids ids' [] front going none_counted counts (turned_quiet holds honest may p q ids (hearing_replied p q hearing)) t (λ x. x) (λ t x. x))
+
+heard_came : (p q r : PortState) (before after : Held) (messages : List (List ℕ)) (fault : Option FrameFault) → (h : Heard p q before after messages fault) → IsQuiet q r → Consumes p.coming r.coming h.received
+heard_came p q r before after messages fault h quiet = subst (λ o. Consumes p.coming o h.received) (sym quiet.coming) h.came
+
+pub whole_heard : (holds new : Rows → Records → Type 0) (honest : Type 0) (may : Moment → Type 0) (p q r : PortState) (ids ids' : List ℕ) (before after : Held) (messages slice : List (List ℕ)) (fault : Option FrameFault) (begin place : ℕ) (rest : Rest) (counts : SessionCounts)
+    → Heard p q before after messages fault → IsHearing p q → slice ≡ messages → rest ≡ GoesOnHere → WorkedOff holds new honest may q r ids ids' slice rest begin place counts → IsQuiet q r
+    → Whole holds new honest may p r ids ids' before.bytes after.bytes before.at after.at counts
+whole_heard holds new honest may p q r ids ids' before after messages slice fault begin place rest counts h hearing same goes w quiet =
+    let msgs : (cut (before.bytes ++ h.received)).0 ≡ messages = ap (λ (x : List (List ℕ) × List ℕ). x.0) h.took.cut_is in
+    let front : w.front ≡ messages = sym (sym same ∙ w.parts ∙ ap (λ x. w.front ++ x) (w.all (ap goes_on goes)) ∙ append-nil w.front) in
+    record {
+      received = h.received;
+      came = heard_came p q r before after messages fault h quiet;
+      rest_is = sym (ap (λ (x : List (List ℕ) × List ℕ). x.1) h.took.cut_is);
+      at = h.took.at ∙ ap (λ x. before.at + length (joined x)) (sym msgs);
+      turned = subst (λ f. Turned holds new honest may p r ids ids' f true counts) (front ∙ sym msgs)
+          (subst (λ b. Turned holds new honest may p r ids ids' w.front b counts) (ap lasts goes) (heard_turned holds new honest may p q r ids ids' w.front (lasts rest) counts hearing w.turned));
+    }
+
+pub stopped_heard : (holds new : Rows → Records → Type 0) (honest : Type 0) (may : Moment → Type 0) (p q r : PortState) (ids ids' : List ℕ) (before after : Held) (messages slice : List (List ℕ)) (fault : Option FrameFault) (begin place : ℕ) (rest kind : Rest) (counts : SessionCounts)
+    → Heard p q before after messages fault → IsHearing p q → slice ≡ messages → rest ≡ kind → begin ≡ before.at → WorkedOff holds new honest may q r ids ids' slice rest begin place counts → IsQuiet q r
+    → Stopped holds new honest may p r ids ids' before.bytes kind before.at place counts
+stopped_heard holds new honest may p q r ids ids' before after messages slice fault begin place rest kind counts h hearing same kind_is begin_is w quiet =
+    subst (λ k. Stopped holds new honest may p r ids ids' before.bytes k before.at place counts) kind_is
+    (record {
+      received = h.received;
+      came = heard_came p q r before after messages fault h quiet;
+      worked = record {
+        front = w.front;
+        others = w.others;
+        parts = ap (λ (x : List (List ℕ) × List ℕ). x.0) h.took.cut_is ∙ sym same ∙ w.parts;
+        all = w.all;
+        zero = w.zero;
+        at = w.at ∙ ap (λ n. n + length (joined w.front)) begin_is;
+        turned = heard_turned holds new honest may p q r ids ids' w.front (lasts rest) counts hearing w.turned;
+      };
+    })
+
+pub life_heard : (holds new : Rows → Records → Type 0) (clean honest whole whole' : Type 0) (left left' : Rows → Records → Type 0) (may : Moment → Type 0) (p q r : PortState) (ids : List ℕ) (before after : Held) (messages slice : List (List ℕ)) (fault : Option FrameFault) (exact want exact' want' : Bool)
+    → Heard p q before after messages fault → IsHearing p q → slice ≡ messages → exact' ≡ exact → want' ≡ want → Broken holds new clean honest (IsFirm holds whole left) whole' left' may q r ids slice exact want → IsQuiet q r → (clean → honest)
+    → Life holds new clean honest (IsFirm holds whole left) whole' left' may p r ids before.bytes exact' want'
+life_heard holds new clean honest whole whole' left left' may p q r ids before after messages slice fault exact want exact' want' h hearing same e w b quiet clean_honest =
+    let msgs : slice ≡ (cut (before.bytes ++ h.received)).0 = same ∙ sym (ap (λ (x : List (List ℕ) × List ℕ). x.0) h.took.cut_is) in
+    let broken = turned_broken holds holds new honest clean honest whole whole whole' left left left' may may p q r ids ids [] slice none_counted exact want
+    (turned_quiet holds honest may p q ids (hearing_replied p q hearing)) b clean_honest (λ x. x) (λ _ f. f) (λ t x. x) in
+    record {
+      received = h.received;
+      came = heard_came p q r before after messages fault h quiet;
+      broken = subst (λ x. Broken holds new clean honest (IsFirm holds whole left) whole' left' may p r ids (cut (before.bytes ++ h.received)).0 exact' x) (sym w)
+          (subst (λ x. Broken holds new clean honest (IsFirm holds whole left) whole' left' may p r ids (cut (before.bytes ++ h.received)).0 x want) (sym e)
+          (subst (λ m. Broken holds new clean honest (IsFirm holds whole left) whole' left' may p r ids m exact want) msgs broken));
+    }
+
+-- ---- nothing was heard
+
+came_by : (e : Ended) (p q : PortState) (h : Held) → NotHeard e p q h → (received : List ℕ) × Consumes p.coming q.coming received
+came_by End p q h n = ([], n.2)
+came_by (Frame f) p q h n = ([], n.2)
+came_by PortFailed p q h n = ([], n.2)
+came_by Memory p q h n = n
+came_by Destroyed p q h n = absurd n
+came_by Turns p q h n = absurd n
+came_by (ZeroUnique at) p q h n = absurd n
+came_by (Store fault) p q h n = absurd n
+
+pub life_unheard : (holds : Rows → Records → Type 0) (clean honest whole : Type 0) (left : Rows → Records → Type 0) (may : Moment → Type 0) (p q : PortState) (ids : List ℕ) (h : Held) (e : Ended) (exact want : Bool)
+    → NotHeard e p q h → IsHearing p q → Life holds holds clean honest (IsFirm holds whole left) whole left may p q ids h.bytes exact want
+life_unheard holds clean honest whole left may p q ids h e exact want n hearing =
+    let came = came_by e p q h n in
+    record {
+      received = came.0;
+      came = came.1;
+      broken = broken_none holds holds clean honest (IsFirm holds whole left) whole left may p q ids (cut (h.bytes ++ came.0)).0 exact want (hearing_replied p q hearing)
+          (λ _ rows records held. held) (λ firm s g t so. firm_leaves holds whole left s g t firm so);
+    }
+
+whole_unheard : (holds : Rows → Records → Type 0) (honest : Type 0) (may : Moment → Type 0) (p q : PortState) (ids : List ℕ) (h : Held) → IsOpen h → Consumes p.coming q.coming [] → IsHearing p q
+    → Whole holds holds honest may p q ids ids h.bytes h.bytes h.at h.at none_counted
+whole_unheard holds honest may p q ids h ready came hearing =
+    let is : cut (h.bytes ++ []) ≡ ([], h.bytes) = ap cut (append-nil h.bytes) ∙ ready.none in
+    record {
+      received = [];
+      came = came;
+      rest_is = sym (ap (λ (x : List (List ℕ) × List ℕ). x.1) is);
+      at = omega (arith, ap (λ (x : List (List ℕ) × List ℕ). length (joined x.0)) is);
+      turned = subst (λ f. Turned holds holds honest may p q ids ids f true none_counted) (sym (ap (λ (x : List (List ℕ) × List ℕ). x.0) is)) (turned_quiet holds honest may p q ids (hearing_replied p q hearing));
+    }
+
+pub ends_unheard : (holds : Rows → Records → Type 0) (honest : Type 0) (may : Moment → Type 0) (p q : PortState) (ids : List ℕ) (h : Held) (e : Ended) (turns : ℕ) → IsOpen h → NotHeard e p q h → IsHearing p q
+    → EndsAs holds holds honest may p q ids h.bytes h.at turns e none_counted
+ends_unheard holds honest may p q ids h End turns ready n hearing = (n.0, record { rest = h.bytes; place = h.at; pending' = ids; whole = whole_unheard holds honest may p q ids h ready n.2 hearing; so = n.1 })
+ends_unheard holds honest may p q ids h (Frame f) turns ready n hearing = record { rest = h.bytes; place = h.at; pending' = ids; whole = whole_unheard holds honest may p q ids h ready n.2 hearing; so = inr (n.0, ready.good, n.1) }
+ends_unheard holds honest may p q ids h PortFailed turns ready n hearing = λ _. record { rest = h.bytes; place = h.at; pending' = ids; whole = whole_unheard holds honest may p q ids h ready n.2 hearing; so = (ready.none, ready.good) }
+ends_unheard holds honest may p q ids h Memory turns ready n hearing = tt
+ends_unheard holds honest may p q ids h Destroyed turns ready n hearing = absurd n
+ends_unheard holds honest may p q ids h Turns turns ready n hearing = absurd n
+ends_unheard holds honest may p q ids h (ZeroUnique at) turns ready n hearing = absurd n
+ends_unheard holds honest may p q ids h (Store fault) turns ready n hearing = absurd n
+
+-- ---- turns, and then an end
+
+rested_more : CutJoins → (holds mid new : Rows → Records → Type 0) (honest honest' : Type 0) (may may' : Moment → Type 0) (p q r : PortState) (ids ids' : List ℕ) (held left : List ℕ) (begin at : ℕ) (counts counts' : SessionCounts) (P : ℕ → List ℕ → Type 0)
+    → Whole holds mid honest may p q ids ids' held left begin at counts → Rested mid new honest' may' q r ids' left at counts' P → (honest' → honest) → ((t : Moment) → may' t → may t)
+    → Rested holds new honest' may p r ids held begin (plus counts counts') P
+rested_more joins holds mid new honest honest' may may' p q r ids ids' held left begin at counts counts' P one two honest_too moments = record {
+  rest = two.rest;
+  place = two.place;
+  pending' = two.pending';
+  whole = whole_more joins holds mid new honest honest' may may' p q r ids ids' two.pending' held left two.rest begin at two.place counts counts' one two.whole honest_too moments;
+  so = two.so;
+}
+
+halted_more : CutJoins → (holds mid new : Rows → Records → Type 0) (honest honest' : Type 0) (may may' : Moment → Type 0) (p q r : PortState) (ids ids' : List ℕ) (held left : List ℕ) (rest : Rest) (begin at place : ℕ) (counts counts' : SessionCounts)
+    → Whole holds mid honest may p q ids ids' held left begin at counts → Halted mid new honest' may' q r ids' left rest at place counts' → (honest' → honest) → ((t : Moment) → may' t → may t)
+    → Halted holds new honest' may p r ids held rest begin place (plus counts counts')
+halted_more joins holds mid new honest honest' may may' p q r ids ids' held left rest begin at place counts counts' one two honest_too moments = record {
+  pending' = two.pending';
+  stopped = stopped_more joins holds mid new honest honest' may may' p q r ids ids' two.pending' held left rest begin at place counts counts' one two.stopped honest_too moments;
+}
+
+pub ends_more : CutJoins → (holds mid new : Rows → Records → Type 0) (honest honest' : Type 0) (may may' : Moment → Type 0) (p q r : PortState) (ids ids' : List ℕ) (held left : List ℕ) (begin at turns turns' : ℕ) (e : Ended) (counts counts' : SessionCounts)
+    → Whole holds mid honest may p q ids ids' held left begin at counts → EndsAs mid new honest' may' q r ids' left at turns e counts' → (e ≡ Turns → ⊥) → q.receive_failures ≡ p.receive_failures → (honest' → honest) → ((t : Moment) → may' t → may t)
+    → EndsAs holds new honest' may p r ids held begin turns' e (plus counts counts')
+ends_more joins holds mid new honest honest' may may' p q r ids ids' held left begin at turns turns' End counts counts' one two isnt same honest_too moments =
+    (two.0, rested_more joins holds mid new honest honest' may may' p q r ids ids' held left begin at counts counts' _ one two.1 honest_too moments)
+ends_more joins holds mid new honest honest' may may' p q r ids ids' held left begin at turns turns' (Frame f) counts counts' one two isnt same honest_too moments =
+    rested_more joins holds mid new honest honest' may may' p q r ids ids' held left begin at counts counts' (FaultOf r.has_ended f) one two honest_too moments
+ends_more joins holds mid new honest honest' may may' p q r ids ids' held left begin at turns turns' PortFailed counts counts' one two isnt same honest_too moments =
+    λ more. rested_more joins holds mid new honest honest' may may' p q r ids ids' held left begin at counts counts' IsGoodRest one (two (omega (arith, more, same))) honest_too moments
+ends_more joins holds mid new honest honest' may may' p q r ids ids' held left begin at turns turns' Memory counts counts' one two isnt same honest_too moments = tt
+ends_more joins holds mid new honest honest' may may' p q r ids ids' held left begin at turns turns' Destroyed counts counts' one two isnt same honest_too moments =
+    (two.0, halted_more joins holds mid new honest honest' may may' p q r ids ids' held left ByDestroy begin at two.0 counts counts' one two.1 honest_too moments)
+ends_more joins holds mid new honest honest' may may' p q r ids ids' held left begin at turns turns' Turns counts counts' one two isnt same honest_too moments = absurd (isnt refl)
+ends_more joins holds mid new honest honest' may may' p q r ids ids' held left begin at turns turns' (ZeroUnique place) counts counts' one two isnt same honest_too moments =
+    halted_more joins holds mid new honest honest' may may' p q r ids ids' held left ByZero begin at place counts counts' one two honest_too moments
+ends_more joins holds mid new honest honest' may may' p q r ids ids' held left begin at turns turns' (Store fault) counts counts' one two isnt same honest_too moments = tt
+
+-- ---- a turn
+
+-- messages were worked off: a life
+pub life_worked : (holds new : Rows → Records → Type 0) (clean honest whole whole' : Type 0) (left left' : Rows → Records → Type 0) (may : Moment → Type 0) (p q r : PortState) (ids ids' : List ℕ) (before after : Held) (messages slice : List (List ℕ))
+    (fault : Option FrameFault) (begin place : ℕ) (rest : Rest) (counts : SessionCounts) (exact want : Bool)
+    → Heard p q before after messages fault → IsHearing p q → slice ≡ messages → WorkedOff holds new honest may q r ids ids' slice rest begin place counts → IsQuiet q r → (clean → honest) → (honest → IsFirm holds whole left → IsFirm new whole' left')
+    → Life holds new clean honest (IsFirm holds whole left) whole' left' may p r ids before.bytes exact want
+life_worked holds new clean honest whole whole' left left' may p q r ids ids' before after messages slice fault begin place rest counts exact want h hearing same w quiet clean_honest firm_still =
+    life_heard holds new clean honest whole whole' left left' may p q r ids before after messages slice fault exact want exact want h hearing same refl refl
+    (turned_life holds new clean honest whole whole' left left' may q r ids ids' w.front w.others slice (lasts rest) counts exact want w.turned w.parts clean_honest firm_still) quiet clean_honest
+
+pub ends_finished : (holds new : Rows → Records → Type 0) (honest : Type 0) (may : Moment → Type 0) (p q r : PortState) (ids ids' : List ℕ) (before after : Held) (messages slice : List (List ℕ)) (fault : Option FrameFault) (begin place : ℕ) (rest : Rest)
+    (counts counts' : SessionCounts) (turns : ℕ) (e : Ended) → FinishedBy e rest place fault → counts' ≡ counts
+    → Heard p q before after messages fault → IsHearing p q → slice ≡ messages → begin ≡ before.at → WorkedOff holds new honest may q r ids ids' slice rest begin place counts → IsQuiet q r
+    → EndsAs holds new honest may p r ids before.bytes before.at turns e counts'
+ends_finished holds new honest may p q r ids ids' before after messages slice fault begin place rest counts counts' turns Destroyed by same_counts h hearing same begin_is w quiet =
+    subst (λ c. EndsAs holds new honest may p r ids before.bytes before.at turns Destroyed c) (sym same_counts)
+    (place, record { pending' = ids'; stopped = stopped_heard holds new honest may p q r ids ids' before after messages slice fault begin place rest ByDestroy counts h hearing same by begin_is w quiet })
+ends_finished holds new honest may p q r ids ids' before after messages slice fault begin place rest counts counts' turns (ZeroUnique at) by same_counts h hearing same begin_is w quiet =
+    subst (λ c. EndsAs holds new honest may p r ids before.bytes before.at turns (ZeroUnique at) c) (sym same_counts)
+    (subst (λ x. Halted holds new honest may p r ids before.bytes ByZero before.at x counts) (sym by.1)
+    (record { pending' = ids'; stopped = stopped_heard holds new honest may p q r ids ids' before after messages slice fault begin place rest ByZero counts h hearing same by.0 begin_is w quiet }))
+ends_finished holds new honest may p q r ids ids' before after messages slice fault begin place rest counts counts' turns (Frame f) by same_counts h hearing same begin_is w quiet =
+    subst (λ c. EndsAs holds new honest may p r ids before.bytes before.at turns (Frame f) c) (sym same_counts)
+    (record {
+      rest = after.bytes;
+      place = after.at;
+      pending' = ids';
+      whole = whole_heard holds new honest may p q r ids ids' before after messages slice fault begin place rest counts h hearing same by.0 w quiet;
+      so = inl (h.took.bad ∙ by.1);
+    })
+ends_finished holds new honest may p q r ids ids' before after messages slice fault begin place rest counts counts' turns End by same_counts h hearing same begin_is w quiet = absurd by
+ends_finished holds new honest may p q r ids ids' before after messages slice fault begin place rest counts counts' turns Turns by same_counts h hearing same begin_is w quiet = absurd by
+ends_finished holds new honest may p q r ids ids' before after messages slice fault begin place rest counts counts' turns PortFailed by same_counts h hearing same begin_is w quiet = absurd by
+ends_finished holds new honest may p q r ids ids' before after messages slice fault begin place rest counts counts' turns (Store x) by same_counts h hearing same begin_is w quiet = absurd by
+ends_finished holds new honest may p q r ids ids' before after messages slice fault begin place rest counts counts' turns Memory by same_counts h hearing same begin_is w quiet = absurd by
+
+pub finished_store : (e : Ended) (rest : Rest) (place : ℕ) (fault : Option FrameFault) → FinishedBy e rest place fault → (ended_store e ≡ false) × (e ≡ PortFailed → ⊥) × (e ≡ Turns → ⊥)
+finished_store Destroyed rest place fault by = (refl, (λ isnt. cc isnt), (λ isnt. cc isnt))
+finished_store (ZeroUnique at) rest place fault by = (refl, (λ isnt. cc isnt), (λ isnt. cc isnt))
+finished_store (Frame f) rest place fault by = (refl, (λ isnt. cc isnt), (λ isnt. cc isnt))
+finished_store End rest place fault by = absurd by
+finished_store Turns rest place fault by = absurd by
+finished_store PortFailed rest place fault by = absurd by
+finished_store (Store x) rest place fault by = absurd by
+finished_store Memory rest place fault by = absurd by
+
+pub unheard_store : (e : Ended) (p q : PortState) (h : Held) → NotHeard e p q h → (ended_store e ≡ false) × (e ≡ PortFailed → p.failures < q.failures) × (e ≡ Turns → ⊥)
+unheard_store End p q h n = (refl, (λ isnt. absurd (cc isnt)), (λ isnt. cc isnt))
+unheard_store (Frame f) p q h n = (refl, (λ isnt. absurd (cc isnt)), (λ isnt. cc isnt))
+unheard_store PortFailed p q h n = (refl, (λ _. n.0), (λ isnt. cc isnt))
+unheard_store Memory p q h n = (refl, (λ isnt. absurd (cc isnt)), (λ isnt. cc isnt))
+unheard_store Destroyed p q h n = absurd n
+unheard_store Turns p q h n = absurd n
+unheard_store (ZeroUnique at) p q h n = absurd n
+unheard_store (Store fault) p q h n = absurd n
+
+pub fault_ends : (holds new : Rows → Records → Type 0) (honest : Type 0) (may : Moment → Type 0) (p q r : PortState) (ids : List ℕ) (held : List ℕ) (begin turns : ℕ) (e : Ended) (counts : SessionCounts) → IsFault e → r.receive_failures ≡ p.receive_failures
+    → EndsAs holds new honest may p r ids held begin turns e counts
+fault_ends holds new honest may p q r ids held begin turns PortFailed counts is same = λ more. absurd (omega (arith, more, same))
+fault_ends holds new honest may p q r ids held begin turns (Store x) counts is same = tt
+fault_ends holds new honest may p q r ids held begin turns Memory counts is same = tt
+fault_ends holds new honest may p q r ids held begin turns End counts is same = absurd is
+fault_ends holds new honest may p q r ids held begin turns Destroyed counts is same = absurd is
+fault_ends holds new honest may p q r ids held begin turns Turns counts is same = absurd is
+fault_ends holds new honest may p q r ids held begin turns (Frame f) counts is same = absurd is
+fault_ends holds new honest may p q r ids held begin turns (ZeroUnique at) counts is same = absurd is
+
+pub fault_not_turns : (e : Ended) → IsFault e → e ≡ Turns → ⊥
+fault_not_turns PortFailed is isnt = cc isnt
+fault_not_turns (Store x) is isnt = cc isnt
+fault_not_turns Memory is isnt = cc isnt
+fault_not_turns End is isnt = is
+fault_not_turns Destroyed is isnt = is
+fault_not_turns Turns is isnt = is
+fault_not_turns (Frame f) is isnt = is
+fault_not_turns (ZeroUnique at) is isnt = is
+
+-- ---- a session
+
+pub whole_start : (holds : Rows → Records → Type 0) (honest : Type 0) (may : Moment → Type 0) (p : PortState) (ids : List ℕ) (h : Held) → ids ≡ [] → h ≡ record { bytes = []; at = 0; fault = None } → Whole holds holds honest may p p [] ids [] h.bytes 0 h.at none_counted
+whole_start holds honest may p ids h none new =
+    subst (λ (x : Held). Whole holds holds honest may p p [] ids [] x.bytes 0 x.at none_counted) (sym new)
+    (subst (λ (x : List ℕ). Whole holds holds honest may p p [] x [] [] 0 0 none_counted) (sym none) (whole_none holds honest may p []))
+
+-- nothing was done
+pub life_none : (holds : Rows → Records → Type 0) (clean honest whole : Type 0) (left : Rows → Records → Type 0) (may : Moment → Type 0) (p : PortState) (ids held : List ℕ) (exact want : Bool)
+    → Life holds holds clean honest (IsFirm holds whole left) whole left may p p ids held exact want
+life_none holds clean honest whole left may p ids held exact want = record {
+  received = [];
+  came = consumes_none p.coming;
+  broken = broken_none holds holds clean honest (IsFirm holds whole left) whole left may p p ids (cut (held ++ [])).0 exact want (replied_none p)
+      (λ _ rows records is. is) (λ firm s g t so. firm_leaves holds whole left s g t firm so);
+}
+
+-- a turn more, and its counts
+pub whole_step : CutJoins → (holds mid new : Rows → Records → Type 0) (honest honest' : Type 0) (may may' : Moment → Type 0) (p q r : PortState) (ids ids' ids'' : List ℕ) (held left rest : List ℕ) (begin at place : ℕ) (counts counts' sum : SessionCounts) → sum ≡ plus counts counts'
+    → Whole holds mid honest may p q ids ids' held left begin at counts → Whole mid new honest' may' q r ids' ids'' left rest at place counts' → (honest' → honest) → ((t : Moment) → may' t → may t)
+    → Whole holds new honest' may p r ids ids'' held rest begin place sum
+whole_step joins holds mid new honest honest' may may' p q r ids ids' ids'' held left rest begin at place counts counts' sum is one two honest_too moments =
+    subst (λ c. Whole holds new honest' may p r ids ids'' held rest begin place c) (sym is)
+    (whole_more joins holds mid new honest honest' may may' p q r ids ids' ids'' held left rest begin at place counts counts' one two honest_too moments)
+
+pub ends_step : CutJoins → (holds mid new : Rows → Records → Type 0) (honest honest' : Type 0) (may may' : Moment → Type 0) (p q r : PortState) (ids ids' : List ℕ) (held left : List ℕ) (begin at turns turns' : ℕ) (e : Ended) (counts counts' sum : SessionCounts) → sum ≡ plus counts counts'
+    → Whole holds mid honest may p q ids ids' held left begin at counts → EndsAs mid new honest' may' q r ids' left at turns e counts' → (e ≡ Turns → ⊥) → q.receive_failures ≡ p.receive_failures → (honest' → honest) → ((t : Moment) → may' t → may t)
+    → EndsAs holds new honest' may p r ids held begin turns' e sum
+ends_step joins holds mid new honest honest' may may' p q r ids ids' held left begin at turns turns' e counts counts' sum is one two isnt same honest_too moments =
+    subst (λ c. EndsAs holds new honest' may p r ids held begin turns' e c) (sym is)
+    (ends_more joins holds mid new honest honest' may may' p q r ids ids' held left begin at turns turns' e counts counts' one two isnt same honest_too moments)

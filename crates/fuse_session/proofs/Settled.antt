@@ -1,0 +1,109 @@
+-- Which ids are settled, and which records stay, group after group.
+use Rattle.std.proofs.Common.{◌≡◌, ◌⊎◌, inl, inr, ℕ, Bool, true, false, ◌||◌, ◌==◌, if◌then◌else◌, List, [], ◌∷◌, ◌++◌, length, All, Option, None, refl, sym, ap, subst, ◌∙◌, append_assoc, arith}
+use Rattle.std.proofs.lemmas.List.{append-nil, map-append}
+use Rattle.std.proofs.lemmas.List.Elements.{All-append, All-nil, All-cons}
+use Rattle.fuse_answer.specs.Said.{Said}
+use Rattle.fuse_request.specs.declared.class.Class.{Class}
+use Rattle.fuse_request.specs.declared.class.Class.TheVariants.{Silent, Bare, Kept}
+use Rattle.fuse_request.specs.Classes.{class_of}
+
+use Rattle.fuse_store.specs.History.{Entry, entry_id, is_in, ids_in, Includes, IsUnsettled}
+use Rattle.fuse_store.specs.Stands.{Records, OthersStay}
+use Rattle.fuse_store.proofs.Standing.{unsettled_too}
+use Rattle.fuse_session.specs.Worked.{Timed, bytes_of, kept_in, entries_at, entry_if, timed_entry, message_id}
+use Rattle.fuse_session.specs.Settling.{Mark, settles, settles_if, settled_in, comes_again, MayCome, NoneComesAgain, SomeAndMore}
+
+or_true : (a b : Bool) → b ≡ true → (a || b) ≡ true
+or_true true b is = refl
+or_true false b is = is
+
+or_left : (a b : Bool) → a ≡ true → (a || b) ≡ true
+or_left true b is = refl
+or_left false b is = absurd (cc is)
+
+either : (a b : Bool) → (a || b) ≡ true → (a ≡ true) ⊎ (b ≡ true)
+either true b is = inl refl
+either false b is = inr is
+
+is_in-append : (xs ys : List ℕ) (i : ℕ) → is_in (xs ++ ys) i ≡ (is_in xs i || is_in ys i)
+is_in-append [] ys i = refl
+is_in-append (x ∷ xs) ys i = elim (x == i) as (λ b. (if b then true else is_in (xs ++ ys) i) ≡ ((if b then true else is_in xs i) || is_in ys i)) [ true ↦ refl | false ↦ is_in-append xs ys i ]
+
+pub includes_left : (t more : List ℕ) → Includes (t ++ more) t
+includes_left t more i there = is_in-append t more i ∙ or_left (is_in t i) (is_in more i) there
+
+pub includes_right : (t more : List ℕ) → Includes (t ++ more) more
+includes_right t more i there = is_in-append t more i ∙ or_true (is_in t i) (is_in more i) there
+
+pub settled-append : (c : Bool) (xs ys : List (List ℕ)) (ms ns : List Mark) → length ms ≡ length xs → settled_in c (xs ++ ys) (ms ++ ns) ≡ settled_in c xs ms ++ settled_in c ys ns
+settled-append c [] ys [] ns same = refl
+settled-append c [] ys (m ∷ ms) ns same = absurd (omega arith)
+settled-append c (x ∷ xs) ys [] ns same = absurd (omega arith)
+settled-append c (x ∷ xs) ys (m ∷ ms) ns same =
+    ap (λ (r : List ℕ). settles c x m ++ r) (settled-append c xs ys ms ns (omega arith)) ∙ sym (append_assoc (settles c x m) (settled_in c xs ms) (settled_in c ys ns))
+
+pub settled_none : (c : Bool) (xs : List (List ℕ)) → settled_in c xs [] ≡ []
+settled_none c [] = refl
+settled_none c (x ∷ xs) = refl
+
+-- messages, and then others
+pub again-parts : (c : Bool) (t : List ℕ) (xs ys : List (List ℕ)) (ms ns : List Mark) → length ms ≡ length xs → NoneComesAgain c t (xs ++ ys) (ms ++ ns)
+    → NoneComesAgain c t xs ms × NoneComesAgain c (t ++ settled_in c xs ms) ys ns
+again-parts c t [] ys [] ns same each = (tt, subst (λ (u : List ℕ). NoneComesAgain c u ys ns) (sym (append-nil t)) each)
+again-parts c t [] ys (m ∷ ms) ns same each = absurd (omega arith)
+again-parts c t (x ∷ xs) ys [] ns same each = absurd (omega arith)
+again-parts c t (x ∷ xs) ys (m ∷ ms) ns same each =
+    let rest = again-parts c (t ++ settles c x m) xs ys ms ns (omega arith) each.1 in
+    ((each.0, rest.0), subst (λ (u : List ℕ). NoneComesAgain c u ys ns) (append_assoc t (settles c x m) (settled_in c xs ms)) rest.1)
+
+fewer : (t more : List ℕ) (es : List Entry) → All (IsUnsettled (t ++ more)) es → All (IsUnsettled t) es
+fewer t more es each k d lt = unsettled_too (t ++ more) t _ (includes_left t more) (each k d lt)
+
+pub only_one : {A : Type 0} (P : A → Type 0) (x : A) → P x → All P (x ∷ [])
+only_one P x p = All-cons P x [] p (All-nil P)
+
+one_unsettled : (t : List ℕ) (m : Timed) (class : Class) → comes_again t class (message_id m.bytes) ≡ false → All (IsUnsettled t) (entry_if class (timed_entry m))
+one_unsettled t m Silent may = All-nil (IsUnsettled t)
+one_unsettled t m (Bare errno) may = All-nil (IsUnsettled t)
+one_unsettled t m Kept may = only_one (IsUnsettled t) (timed_entry m) may
+
+-- none of a group's entries has an id that was settled before the group
+pub group_unsettled : (c : Bool) (t : List ℕ) (ts : List Timed) (marks : List Mark) → NoneComesAgain c t (bytes_of ts) marks → All (IsUnsettled t) (kept_in ts)
+group_unsettled c t [] marks each = All-nil (IsUnsettled t)
+group_unsettled c t (m ∷ ts) [] each =
+    All-append (IsUnsettled t) (entries_at m) (kept_in ts) (one_unsettled t m (class_of m.bytes) each.0) (group_unsettled c t ts [] each.1)
+group_unsettled c t (m ∷ ts) (mark ∷ marks) each =
+    All-append (IsUnsettled t) (entries_at m) (kept_in ts) (one_unsettled t m (class_of m.bytes) each.0)
+    (fewer t (settles c m.bytes mark) (kept_in ts) (group_unsettled c (t ++ settles c m.bytes mark) ts marks each.1))
+
+-- ---- which records stay
+
+-- what is left of one record
+left_of : (b : Bool) (o now base : Option Said) → now ≡ (if b then None else o) → (b ≡ false → (o ≡ None) ⊎ (o ≡ base)) → (now ≡ None) ⊎ (now ≡ base)
+left_of true o now base is so = inl is
+left_of false o now base is so = elim (so refl) [ inl none ↦ inl (is ∙ none) | inr same ↦ inr (is ∙ same) ]
+
+-- where all ids of the last group are handed on, the records are some of those of before and some of this group
+pub more_step : (before old new : Records) (last settled : List ℕ) (group : List Entry) → SomeAndMore before last old → Includes settled last → OthersStay old settled group new → SomeAndMore before (ids_in group) new
+more_step before old new last settled group some all others i isnt =
+    left_of (is_in settled i) (old i) (new i) (before i) (others i isnt) (λ absent. some i (unsettled_too settled last i all absent))
+
+-- where the port confirms, the answers to messages settle the ids of all kept ones
+kept_settled : (t : Timed) (m : Mark) (class : Class) → settles_if (true || m.gone) class (message_id t.bytes) ≡ ids_in (entry_if class (timed_entry t))
+kept_settled t m Silent = refl
+kept_settled t m (Bare errno) = refl
+kept_settled t m Kept = refl
+
+ids-append : (xs ys : List Entry) → ids_in (xs ++ ys) ≡ ids_in xs ++ ids_in ys
+ids-append xs ys = map-append entry_id xs ys
+
+pub all_settled : (ts : List Timed) (marks : List Mark) → length marks ≡ length ts → settled_in true (bytes_of ts) marks ≡ ids_in (kept_in ts)
+all_settled [] [] same = refl
+all_settled [] (m ∷ marks) same = absurd (omega arith)
+all_settled (t ∷ ts) [] same = absurd (omega arith)
+all_settled (t ∷ ts) (m ∷ marks) same =
+    ap (λ (r : List ℕ). r ++ settled_in true (bytes_of ts) marks) (kept_settled t m (class_of t.bytes))
+    ∙ ap (λ (r : List ℕ). ids_in (entries_at t) ++ r) (all_settled ts marks (omega arith)) ∙ sym (ids-append (entries_at t) (kept_in ts))
+
+pub in_either : (xs ys : List ℕ) (i : ℕ) → is_in (xs ++ ys) i ≡ true → (is_in xs i ≡ true) ⊎ (is_in ys i ≡ true)
+in_either xs ys i there = either (is_in xs i) (is_in ys i) (sym (is_in-append xs ys i) ∙ there)

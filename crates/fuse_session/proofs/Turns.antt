@@ -1,0 +1,275 @@
+-- Groups, one after another.
+use Rattle.std.proofs.Common.{◌≡◌, ℕ, ◌+◌, ◌-◌, ◌≤◌, Bool, true, false, not, List, [], ◌∷◌, ◌++◌, length, take, drop, get_or, ◌<◌, refl, sym, ap, subst, ◌∙◌, append_assoc, arith, length-append, length-drop}
+use Rattle.std.proofs.lemmas.List.{append-nil, take-append-drop, take_all, take_more, drop-drop, map-append, length-map}
+use Rattle.std.proofs.Math.Seq.{take-add}
+use Rattle.fuse_wire.specs.declared.moment.Moment.{Moment}
+use Rattle.fuse_request.specs.Stream.{joined}
+use Rattle.fuse_tree.specs.State.{State}
+use Rattle.fuse_tree.specs.Rows.{Rows}
+use Rattle.fuse_store.specs.History.{History, grown, said, Includes}
+use Rattle.fuse_store.specs.Stands.{Records, Stands, StandsFor, Leaves, IsFirm}
+use Rattle.fuse_session.specs.declared.counts.SessionCounts.{SessionCounts}
+use Rattle.fuse_session.specs.declared.group.Rest.{Rest}
+use Rattle.fuse_session.specs.declared.group.Rest.TheVariants.{GoesOn as GoesOnHere, Destroyed, ZeroUnique}
+use Rattle.fuse_session.specs.Port.{PortState}
+use Rattle.fuse_session.specs.Worked.{Timed, bytes_of, kept_in, answers, says_zero, message_id, StartsZero, Moments, GoesOn}
+use Rattle.fuse_session.specs.Settling.{Mark, replies, settled_in, NoneComesAgain, Replied}
+use Rattle.fuse_session.specs.Counting.{plus, none_counted, counted}
+use Rattle.fuse_session.specs.Serving.{Answered, Turned, Lived, Broken, WorkedOff, lasts, goes_on}
+use Rattle.fuse_session.proofs.Replies.{replied_none, replied_more, joined-append, replies-append}
+use Rattle.fuse_session.proofs.Outs.{answers-append, grown_kept, Works-append, GoesOn-append}
+use Rattle.fuse_session.proofs.Settled.{settled-append, again-parts}
+use Rattle.fuse_session.proofs.Gathering.{moments-append, moments_too}
+use Rattle.fuse_session.proofs.Counted.{counted-append}
+use Rattle.fuse_session.proofs.Groups.{leaves_map, firm_leaves, lived_all}
+
+bytes-append : (xs ys : List Timed) → bytes_of (xs ++ ys) ≡ bytes_of xs ++ bytes_of ys
+bytes-append xs ys = map-append (λ (t : Timed). t.bytes) xs ys
+
+-- nothing was worked off
+pub turned_quiet : (holds : Rows → Records → Type 0) (honest : Type 0) (may : Moment → Type 0) (p q : PortState) (pending : List ℕ) → Replied p q [] [] → Turned holds holds honest may p q pending pending [] true none_counted
+turned_quiet holds honest may p q pending replied = record {
+  timed = [];
+  marks = [];
+  bytes = refl;
+  full = refl;
+  moments = tt;
+  replied = replied;
+  handed = λ t within. subst (λ (u : List ℕ). Includes u pending) (sym (append-nil t)) within;
+  all = λ honest s h t so within again. record {
+    works = tt;
+    goes = λ _. tt;
+    last = λ isnt. absurd (cc isnt);
+    stands = subst (StandsFor holds s h) (sym (append-nil t)) so;
+    sent = refl;
+    counts_are = refl;
+  };
+}
+
+pub turned_none : (holds : Rows → Records → Type 0) (honest : Type 0) (may : Moment → Type 0) (p : PortState) (pending : List ℕ) → Turned holds holds honest may p p pending pending [] true none_counted
+turned_none holds honest may p pending = turned_quiet holds honest may p p pending (replied_none p)
+
+-- the settled ids of two rows of messages
+settled_both : (c c' : Bool) (t : List ℕ) (xs ys : List Timed) (ms ns : List Mark) → c' ≡ c → length ms ≡ length xs → (t ++ settled_in c (bytes_of xs) ms) ++ settled_in c' (bytes_of ys) ns ≡ t ++ settled_in c (bytes_of (xs ++ ys)) (ms ++ ns)
+settled_both c c' t xs ys ms ns same full =
+    append_assoc t (settled_in c (bytes_of xs) ms) (settled_in c' (bytes_of ys) ns)
+    ∙ ap (λ b. t ++ (settled_in c (bytes_of xs) ms ++ settled_in b (bytes_of ys) ns)) same
+    ∙ ap (λ (q : List ℕ). t ++ q) (sym (settled-append c (bytes_of xs) (bytes_of ys) ms ns (full ∙ sym (length-map xs (λ (t : Timed). t.bytes)))) ∙ ap (λ b. settled_in c b (ms ++ ns)) (sym (bytes-append xs ys)))
+
+-- none of two rows of messages comes again
+again_both : (c c' : Bool) (t : List ℕ) (xs ys : List Timed) (ms ns : List Mark) → c' ≡ c → length ms ≡ length xs → NoneComesAgain c t (bytes_of (xs ++ ys)) (ms ++ ns)
+    → NoneComesAgain c t (bytes_of xs) ms × NoneComesAgain c' (t ++ settled_in c (bytes_of xs) ms) (bytes_of ys) ns
+again_both c c' t xs ys ms ns same full each =
+    let parts = again-parts c t (bytes_of xs) (bytes_of ys) ms ns (full ∙ sym (length-map xs (λ (t : Timed). t.bytes))) (subst (λ b. NoneComesAgain c t b (ms ++ ns)) (bytes-append xs ys) each) in
+    (parts.0, subst (λ b. NoneComesAgain b (t ++ settled_in c (bytes_of xs) ms) (bytes_of ys) ns) (sym same) parts.1)
+
+-- messages, and then others
+pub turned_more : (holds mid new : Rows → Records → Type 0) (honest honest' : Type 0) (may may' : Moment → Type 0) (p q r : PortState) (ids ids' ids'' : List ℕ) (front front' : List (List ℕ)) (going : Bool) (counts counts' : SessionCounts)
+    → Turned holds mid honest may p q ids ids' front true counts → Turned mid new honest' may' q r ids' ids'' front' going counts' → (honest' → honest) → ((t : Moment) → may' t → may t)
+    → Turned holds new honest' may p r ids ids'' (front ++ front') going (plus counts counts')
+turned_more holds mid new honest honest' may may' p q r ids ids' ids'' front front' going counts counts' one two honest_too moments = record {
+  timed = one.timed ++ two.timed;
+  marks = one.marks ++ two.marks;
+  bytes = ap (λ f. f ++ front') one.bytes ∙ ap (λ f. bytes_of one.timed ++ f) two.bytes ∙ sym (bytes-append one.timed two.timed);
+  full = length-append one.marks two.marks ∙ ap (λ n. n + length two.marks) one.full ∙ ap (λ n. length one.timed + n) two.full ∙ sym (length-append one.timed two.timed);
+  moments = moments-append may one.timed two.timed one.moments (moments_too may' may two.timed moments two.moments);
+  replied = replied_more p q r one.marks two.marks [] one.replied two.replied;
+  handed = λ t within. subst (λ (u : List ℕ). Includes u ids'') (settled_both p.confirms q.confirms t one.timed two.timed one.marks two.marks one.replied.confirms one.full)
+      (two.handed (t ++ settled_in p.confirms (bytes_of one.timed) one.marks) (one.handed t within));
+  all = λ is s h t so within again.
+      let c = p.confirms in
+      let parts = again_both c q.confirms t one.timed two.timed one.marks two.marks one.replied.confirms one.full again in
+      let a = one.all (honest_too is) s h t so within parts.0 in
+      let g = grown h (kept_in one.timed) in
+      let u = t ++ settled_in c (bytes_of one.timed) one.marks in
+      let b = two.all is s g u a.stands (one.handed t within) parts.1 in
+      record {
+        works = Works-append s h one.timed two.timed (a.goes refl) b.works;
+        goes = λ going_on. GoesOn-append s h one.timed two.timed (a.goes refl) (b.goes going_on);
+        last = λ over.
+            let l = b.last over in
+            record {
+              earlier = one.timed ++ l.earlier;
+              one = l.one;
+              parts = ap (λ f. one.timed ++ f) l.parts ∙ sym (append_assoc one.timed l.earlier (l.one ∷ []));
+              ends = (l.ends.0, ap (λ x. says_zero (said s x (message_id l.one.bytes))) (grown_kept h one.timed two.timed) ∙ l.ends.1);
+            };
+        stands = subst (λ x. StandsFor new s x (t ++ settled_in c (bytes_of (one.timed ++ two.timed)) (one.marks ++ two.marks))) (sym (grown_kept h one.timed two.timed))
+            (subst (StandsFor new s (grown g (kept_in two.timed))) (settled_both c q.confirms t one.timed two.timed one.marks two.marks one.replied.confirms one.full) b.stands);
+        sent = replies-append one.marks two.marks ∙ ap (λ x. x ++ replies two.marks) a.sent ∙ ap (λ x. answers s g one.timed ++ x) b.sent ∙ sym (answers-append s h one.timed two.timed);
+        counts_are = ap (λ x. plus x counts') a.counts_are ∙ ap (plus (counted h one.timed)) b.counts_are ∙ sym (counted-append h one.timed two.timed);
+      };
+}
+
+-- a life after messages that were answered
+lived_more : (stood : History → List ℕ → Type 0) (s : State) (h : History) (c c' : Bool) (t : List ℕ) (xs ys : List Timed) (ms ns : List Mark) (part : List ℕ) (exact : Bool) → c' ≡ c → length ms ≡ length xs
+    → GoesOn s h xs → replies ms ≡ answers s (grown h (kept_in xs)) xs → Lived stood s (grown h (kept_in xs)) c' (t ++ settled_in c (bytes_of xs) ms) ys ns part exact
+    → Lived stood s h c t (xs ++ ys) (ms ++ ns) part exact
+lived_more stood s h c c' t xs ys ms ns part exact same full goes sent l =
+    let g = grown h (kept_in xs) in
+    record {
+      worked = xs ++ l.worked;
+      unworked = l.unworked;
+      parts = ap (λ f. xs ++ f) l.parts ∙ sym (append_assoc xs l.worked l.unworked);
+      works = Works-append s h xs l.worked goes l.works;
+      stands = subst (λ x. stood x (t ++ settled_in c (bytes_of (xs ++ l.worked)) (ms ++ ns))) (sym (grown_kept h xs l.worked))
+          (subst (stood (grown g (kept_in l.worked))) (settled_both c c' t xs l.worked ms ns same full) l.stands);
+      later = l.later;
+      sent = answers-append s h xs l.worked ∙ ap (λ x. x ++ answers s (grown g (kept_in l.worked)) l.worked) (sym sent) ∙ ap (λ x. replies ms ++ x) l.sent
+          ∙ sym (append_assoc (replies ms) (replies ns) l.later) ∙ ap (λ x. x ++ l.later) (sym (replies-append ms ns));
+      unsent = l.unsent;
+      begun = l.begun;
+      exactly = l.exactly;
+    }
+
+pub turned_broken : (holds mid new : Rows → Records → Type 0) (honest clean' honest' whole whole_mid whole' : Type 0) (left left_mid left' : Rows → Records → Type 0) (may may' : Moment → Type 0) (p q r : PortState) (ids ids' : List ℕ)
+    (front messages : List (List ℕ)) (counts : SessionCounts) (exact want : Bool)
+    → Turned holds mid honest may p q ids ids' front true counts → Broken mid new clean' honest' (IsFirm mid whole_mid left_mid) whole' left' may' q r ids' messages exact want
+    → (clean' → honest') → (honest' → honest) → (honest → IsFirm holds whole left → IsFirm mid whole_mid left_mid) → ((t : Moment) → may' t → may t)
+    → Broken holds new clean' honest' (IsFirm holds whole left) whole' left' may p r ids (front ++ messages) exact want
+turned_broken holds mid new honest clean' honest' whole whole_mid whole' left left_mid left' may may' p q r ids ids' front messages counts exact want one two clean_honest honest_too firm_too moments =
+    let c = p.confirms in
+    let ts = one.timed ++ two.timed in
+    let marks = one.marks ++ two.marks in
+    record {
+      timed = ts;
+      others = two.others;
+      marks = marks;
+      part = two.part;
+      front = ap (λ f. f ++ messages) one.bytes ∙ ap (λ f. bytes_of one.timed ++ f) two.front ∙ sym (append_assoc (bytes_of one.timed) (bytes_of two.timed) two.others)
+          ∙ ap (λ f. f ++ two.others) (sym (bytes-append one.timed two.timed));
+      moments = moments-append may one.timed two.timed one.moments (moments_too may' may two.timed moments two.moments);
+      replied = replied_more p q r one.marks two.marks two.part one.replied two.replied;
+      no_part = two.no_part;
+      life = λ clean s h t so within again.
+          let parts = again_both c q.confirms t one.timed two.timed one.marks two.marks one.replied.confirms one.full again in
+          let a = one.all (honest_too (clean_honest clean)) s h t so within parts.0 in
+          lived_more (StandsFor new s) s h c q.confirms t one.timed two.timed one.marks two.marks two.part exact one.replied.confirms one.full (a.goes refl) a.sent
+          (two.life clean s (grown h (kept_in one.timed)) (t ++ settled_in c (bytes_of one.timed) one.marks) a.stands (one.handed t within) parts.1);
+      crash = λ is firm s h t so within again.
+          let parts = again_both c q.confirms t one.timed two.timed one.marks two.marks one.replied.confirms one.full again in
+          let g = grown h (kept_in one.timed) in
+          let u = t ++ settled_in c (bytes_of one.timed) one.marks in
+          let a = one.all (honest_too is) s h t so within parts.0 in
+          leaves_map whole' left' (λ x r. Lived (Stands x r s) s g q.confirms u two.timed two.marks two.part false) (λ x r. Lived (Stands x r s) s h c t ts marks two.part false)
+          (λ x r l. lived_more (Stands x r s) s h c q.confirms t one.timed two.timed one.marks two.marks two.part false one.replied.confirms one.full (a.goes refl) a.sent l)
+          (two.crash is (firm_too (honest_too is) firm) s g u a.stands (one.handed t within) parts.1);
+    }
+
+-- what was answered, as a life, with others behind
+pub turned_life : (holds new : Rows → Records → Type 0) (clean honest whole whole' : Type 0) (left left' : Rows → Records → Type 0) (may : Moment → Type 0) (p q : PortState) (ids ids' : List ℕ)
+    (front others messages : List (List ℕ)) (going : Bool) (counts : SessionCounts) (exact want : Bool)
+    → Turned holds new honest may p q ids ids' front going counts → messages ≡ front ++ others → (clean → honest) → (honest → IsFirm holds whole left → IsFirm new whole' left')
+    → Broken holds new clean honest (IsFirm holds whole left) whole' left' may p q ids messages exact want
+turned_life holds new clean honest whole whole' left left' may p q ids ids' front others messages going counts exact want one parts clean_honest firm_still = record {
+  timed = one.timed;
+  others = others;
+  marks = one.marks;
+  part = [];
+  front = parts ∙ ap (λ f. f ++ others) one.bytes;
+  moments = one.moments;
+  replied = one.replied;
+  no_part = λ _. refl;
+  life = λ is s h t so within again.
+      let a = one.all (clean_honest is) s h t so within again in
+      lived_all (StandsFor new s) s h p.confirms t one.timed one.marks [] [] [] exact a.works a.stands (sym (append-nil (replies one.marks) ∙ a.sent)) refl (λ _. refl);
+  crash = λ is firm s h t so within again.
+      let a = one.all is s h t so within again in
+      leaves_map whole' left' (λ x r. Stands x r s (grown h (kept_in one.timed)) (t ++ settled_in p.confirms (bytes_of one.timed) one.marks)) (λ x r. Lived (Stands x r s) s h p.confirms t one.timed one.marks [] false)
+      (λ x r stands. lived_all (Stands x r s) s h p.confirms t one.timed one.marks [] [] [] false a.works stands (sym (append-nil (replies one.marks) ∙ a.sent)) refl (λ _. refl))
+      (firm_leaves new whole' left' s (grown h (kept_in one.timed)) (t ++ settled_in p.confirms (bytes_of one.timed) one.marks) (firm_still is firm) a.stands);
+}
+
+-- ---- places in the messages
+
+pub rest_slice : (messages : List (List ℕ)) (i : ℕ) → take (length messages - i) (drop i messages) ≡ drop i messages
+rest_slice messages i = take_all (length messages - i) (drop i messages) (omega (arith, length-drop i messages))
+
+pub parts_at : (messages : List (List ℕ)) (i : ℕ) → take i messages ++ take (length messages - i) (drop i messages) ≡ messages
+parts_at messages i = ap (λ r. take i messages ++ r) (rest_slice messages i) ∙ take-append-drop i messages
+
+pub take_parts : (messages : List (List ℕ)) (i n : ℕ) → take i messages ++ take n (take (length messages - i) (drop i messages)) ≡ take (i + n) messages
+take_parts messages i n = ap (λ r. take i messages ++ take n r) (rest_slice messages i) ∙ sym (take-add i n messages)
+
+pub within_parts : (messages : List (List ℕ)) (i n : ℕ) → i ≤ length messages → n ≤ length (take (length messages - i) (drop i messages)) → i + n ≤ length messages
+within_parts messages i n le le2 = omega (arith, ap length (rest_slice messages i), length-drop i messages, le, le2)
+
+pub joined_at : (ms : List (List ℕ)) (i : ℕ) (m : List ℕ) → i < length ms → length (joined (take (i + 1) ms)) ≡ length (joined (take i ms)) + length (get_or ms i m)
+joined_at ms i m lt =
+    ap (λ x. length (joined x)) (take_more ms i m lt) ∙ ap length (joined-append (take i ms) (get_or ms i m ∷ []) ∙ ap (λ (x : List ℕ). joined (take i ms) ++ x) (append-nil (get_or ms i m)))
+    ∙ length-append (joined (take i ms)) (get_or ms i m)
+
+-- ---- messages worked off
+
+pub lasts_on : (rest : Rest) → goes_on rest ≡ true → lasts rest ≡ true
+lasts_on GoesOnHere is = refl
+lasts_on Destroyed is = absurd (cc is)
+lasts_on ZeroUnique is = absurd (cc is)
+
+-- a group more
+pub group_more : (holds mid new : Rows → Records → Type 0) (honest honest' : Type 0) (may may' : Moment → Type 0) (p q r : PortState) (ids ids' ids'' : List ℕ) (messages slice : List (List ℕ)) (i n : ℕ) (going : Bool) (counts counts' sum : SessionCounts)
+    → slice ≡ take (length messages - i) (drop i messages) → sum ≡ plus counts counts'
+    → Turned holds mid honest may p q ids ids' (take i messages) true counts → Turned mid new honest' may' q r ids' ids'' (take n slice) going counts' → (honest' → honest) → ((t : Moment) → may' t → may t)
+    → Turned holds new honest' may p r ids ids'' (take (i + n) messages) going sum
+group_more holds mid new honest honest' may may' p q r ids ids' ids'' messages slice i n going counts counts' sum same sum_is one two honest_too moments =
+    subst (λ f. Turned holds new honest' may p r ids ids'' f going sum) (take_parts messages i n)
+    (subst (λ c. Turned holds new honest' may p r ids ids'' (take i messages ++ take n (take (length messages - i) (drop i messages))) going c) (sym sum_is)
+    (turned_more holds mid new honest honest' may may' p q r ids ids' ids'' (take i messages) (take n (take (length messages - i) (drop i messages))) going counts counts' one
+    (subst (λ x. Turned mid new honest' may' q r ids' ids'' (take n x) going counts') same two) honest_too moments))
+
+-- a fault in the next group
+pub group_broken : (holds mid new : Rows → Records → Type 0) (honest clean' honest' whole whole_mid whole' : Type 0) (left left_mid left' : Rows → Records → Type 0) (may may' : Moment → Type 0) (p q r : PortState) (ids ids' : List ℕ)
+    (messages slice : List (List ℕ)) (i : ℕ) (counts : SessionCounts) (exact want : Bool) → slice ≡ take (length messages - i) (drop i messages)
+    → Turned holds mid honest may p q ids ids' (take i messages) true counts → Broken mid new clean' honest' (IsFirm mid whole_mid left_mid) whole' left' may' q r ids' slice exact want
+    → (clean' → honest') → (honest' → honest) → (honest → IsFirm holds whole left → IsFirm mid whole_mid left_mid) → ((t : Moment) → may' t → may t)
+    → Broken holds new clean' honest' (IsFirm holds whole left) whole' left' may p r ids messages exact want
+group_broken holds mid new honest clean' honest' whole whole_mid whole' left left_mid left' may may' p q r ids ids' messages slice i counts exact want same one two clean_honest honest_too firm_too moments =
+    subst (λ m. Broken holds new clean' honest' (IsFirm holds whole left) whole' left' may p r ids m exact want) (ap (λ x. take i messages ++ x) same ∙ parts_at messages i)
+    (turned_broken holds mid new honest clean' honest' whole whole_mid whole' left left_mid left' may may' p q r ids ids' (take i messages) slice counts exact want one two clean_honest honest_too firm_too moments)
+
+-- the last group
+pub worked_off : (holds new : Rows → Records → Type 0) (honest : Type 0) (may : Moment → Type 0) (p q : PortState) (ids ids' : List ℕ) (messages slice : List (List ℕ)) (i n : ℕ) (rest : Rest) (begin place : ℕ) (counts : SessionCounts)
+    → slice ≡ take (length messages - i) (drop i messages) → (goes_on rest ≡ false) → (rest ≡ ZeroUnique → StartsZero (drop n slice)) → place ≡ begin + length (joined (take (i + n) messages))
+    → Turned holds new honest may p q ids ids' (take (i + n) messages) (lasts rest) counts → WorkedOff holds new honest may p q ids ids' messages rest begin place counts
+worked_off holds new honest may p q ids ids' messages slice i n rest begin place counts same over zero place_is t = record {
+  front = take (i + n) messages;
+  others = drop (i + n) messages;
+  parts = sym (take-append-drop (i + n) messages);
+  all = λ is. absurd (cc (is, over));
+  zero = λ is. subst StartsZero (ap (drop n) (same ∙ rest_slice messages i) ∙ drop-drop n i messages) (zero is);
+  at = place_is;
+  turned = t;
+}
+
+pub worked_all : (holds new : Rows → Records → Type 0) (honest : Type 0) (may : Moment → Type 0) (p q : PortState) (ids ids' : List ℕ) (messages : List (List ℕ)) (i : ℕ) (begin place : ℕ) (counts : SessionCounts)
+    → length messages ≤ i → place ≡ begin + length (joined (take i messages))
+    → Turned holds new honest may p q ids ids' (take i messages) true counts → WorkedOff holds new honest may p q ids ids' messages GoesOnHere begin place counts
+worked_all holds new honest may p q ids ids' messages i begin place counts past place_is t = record {
+  front = take i messages;
+  others = [];
+  parts = sym (append-nil (take i messages) ∙ take_all i messages past);
+  all = λ _. refl;
+  zero = λ isnt. absurd (cc isnt);
+  at = place_is;
+  turned = t;
+}
+
+-- the bytes of the messages at a place
+pub joined_more : (messages slice : List (List ℕ)) (i n : ℕ) → slice ≡ take n (drop i messages) → length (joined (take (i + n) messages)) ≡ length (joined (take i messages)) + length (joined slice)
+joined_more messages slice i n is =
+    ap (λ x. length (joined x)) (take-add i n messages) ∙ ap length (joined-append (take i messages) (take n (drop i messages))) ∙ length-append (joined (take i messages)) (joined (take n (drop i messages)))
+    ∙ ap (λ x. length (joined (take i messages)) + length (joined x)) (sym is)
+
+pub joined_within : (messages : List (List ℕ)) (i : ℕ) → length (joined (take i messages)) ≤ length (joined messages)
+joined_within messages i = omega (arith, ap (λ x. length (joined x)) (take-append-drop i messages), ap length (joined-append (take i messages) (drop i messages)), length-append (joined (take i messages)) (joined (drop i messages)))
+
+pub worked_slice : (messages : List (List ℕ)) (i n : ℕ) → take (i + n - i) (drop i messages) ≡ take n (drop i messages)
+worked_slice messages i n = let e : i + n - i ≡ n = omega arith in ap (λ k. take k (drop i messages)) e
+
+pub is_over : (b : Bool) → not b ≡ true → b ≡ false
+is_over true is = absurd (cc is)
+is_over false is = refl
+
+pub isnt_over : (b : Bool) → not b ≡ false → b ≡ true
+isnt_over true is = refl
+isnt_over false is = absurd (cc is)

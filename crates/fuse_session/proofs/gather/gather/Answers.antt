@@ -1,0 +1,60 @@
+use Rattle.std.proofs.Common.{sym, subst, refl, ap, arith, ◌∙◌, ◌+◌, All, length, length-append, take, false, ◌∷◌, []}
+use Rattle.std.proofs.lemmas.List.Elements.{All-nil}
+use Rattle.fuse_store.specs.Group.{HasId, IsKept, entries_of}
+use Rattle.fuse_session.specs.Group.{Gathers}
+use Rattle.fuse_session.proofs.Gathering.{none_yet_gathered, gathers_none, gathers_some, named_some, kept_some}
+use Rattle.fuse_session.proofs.gather.gather.Goals as goal
+use Rattle.fuse_session.proofs.gather.gather.Goals.{in-Some+in_ok-push+else-ends, in_default}
+
+pub loop-message-init : goal.loop-message-init
+loop-message-init g c = record {
+  count = refl;
+  gathers = none_yet_gathered (g.C.Clock.may_answer c.args.clock.now) c.new-taken.result.items c.new-taken.ensures.items;
+  few = omega (arith, ap length c.new-taken.ensures.items);
+  named = subst (All HasId) (sym (ap entries_of c.new-taken.ensures.items)) (All-nil HasId);
+  kept = subst (All IsKept) (sym (ap entries_of c.new-taken.ensures.items)) (All-nil IsKept);
+  same = λ t may. may;
+}
+
+pub returns-then-ends-clause-gathers : goal.returns-then-ends-clause-gathers
+returns-then-ends-clause-gathers g c =
+    let some = c.in-Some.ensures.entry in
+    subst (λ n. Gathers (g.C.Clock.may_answer c.args.clock.now) (take (n + 1) c.args.messages.now) c.push.new.self.items c.has_opcode-ends.result) (sym c.loop-message.invariant.count)
+    (gathers_some (g.C.Clock.may_answer c.args.clock.now) c.args.messages.now c.loop-message.message-index c.message-item.result c.as_slice-bytes.result.now c.loop-message.taken.items c.push.new.self.items c.in-Some.one some.0 c.has_opcode-ends.result
+    c.loop-message-test.true c.message-item.is c.as_slice-bytes.ensures c.loop-message.invariant.gathers (sym c.if-has_zero_unique.ensures) some.1 c.in_ok-push.ensures.items c.has_opcode-ends.ensures (λ kept. c.loop-message.invariant.same some.0 (some.2 kept)))
+
+pub returns-then-ends-clause-named : goal.returns-then-ends-clause-named
+returns-then-ends-clause-named g c =
+    let some = c.in-Some.ensures.entry in
+    named_some c.as_slice-bytes.result.now c.loop-message.taken.items c.push.new.self.items c.in-Some.one some.0 c.loop-message.invariant.named (sym c.if-has_zero_unique.ensures) some.1 c.in_ok-push.ensures.items
+
+pub returns-then-ends-clause-kept : goal.returns-then-ends-clause-kept
+returns-then-ends-clause-kept g c = kept_some c.loop-message.taken.items c.push.new.self.items c.in-Some.one c.loop-message.invariant.kept c.in-Some.ensures.kept c.in_ok-push.ensures.items
+
+pub loop-message-preserved : goal.loop-message-preserved
+loop-message-preserved g c = elim c.match-read_one.branch [
+  | in-Some+in_ok-push+else-ends w ↦
+      let some = w.in-Some.ensures.entry in
+      let pushed = ap (λ v. v.items) w.taken-is ∙ w.in_ok-push.ensures.items in
+      record {
+        count = omega (arith, c.loop-message.invariant.count);
+        gathers = gathers_some (g.C.Clock.may_answer c.args.clock.now) c.args.messages.now c.loop-message.message-index c.message-item.result c.as_slice-bytes.result.now c.loop-message.taken.items c.match-read_one.taken.items w.in-Some.one some.0 false
+            c.loop-message-test.true c.message-item.is c.as_slice-bytes.ensures c.loop-message.invariant.gathers (sym c.if-has_zero_unique.ensures) some.1 pushed w.if-ends.ensures (λ kept. c.loop-message.invariant.same some.0 (some.2 kept));
+        few = omega (arith, ap length pushed, length-append c.loop-message.taken.items (w.in-Some.one ∷ []), c.len.ensures, c.loop-message.taken.ok.0, c.if-len-ge-MAX_GROUP.false);
+        named = named_some c.as_slice-bytes.result.now c.loop-message.taken.items c.match-read_one.taken.items w.in-Some.one some.0 c.loop-message.invariant.named (sym c.if-has_zero_unique.ensures) some.1 pushed;
+        kept = kept_some c.loop-message.taken.items c.match-read_one.taken.items w.in-Some.one c.loop-message.invariant.kept w.in-Some.ensures.kept pushed;
+        same = λ t may. c.loop-message.invariant.same t (w.in-Some.ensures.same t may);
+      }
+  | in_default w ↦
+      let none = w.in_default.ensures.entry in
+      let same = ap (λ v. v.items) w.taken-is in
+      record {
+        count = omega (arith, c.loop-message.invariant.count);
+        gathers = subst (λ xs. Gathers (g.C.Clock.may_answer c.args.clock.now) (take (c.loop-message.message-index + 1) c.args.messages.now) xs false) (sym same) (gathers_none (g.C.Clock.may_answer c.args.clock.now) c.args.messages.now c.loop-message.message-index c.message-item.result c.as_slice-bytes.result.now c.loop-message.taken.items none.0
+            c.loop-message-test.true c.message-item.is c.as_slice-bytes.ensures c.loop-message.invariant.gathers (sym c.if-has_zero_unique.ensures) none.1 (λ kept. c.loop-message.invariant.same none.0 (none.2 kept)));
+        few = omega (arith, ap length same, c.loop-message.invariant.few);
+        named = subst (λ xs. All HasId (entries_of xs)) (sym same) c.loop-message.invariant.named;
+        kept = subst (λ xs. All IsKept (entries_of xs)) (sym same) c.loop-message.invariant.kept;
+        same = λ t may. c.loop-message.invariant.same t (w.in_default.ensures.same t may);
+      }
+]

@@ -1,0 +1,15 @@
+use Rattle.std.proofs.Common.{◌≡◌, ◌≤◌, length, take, All, false}
+use Rattle.fuse_wire.specs.declared.moment.Moment.{Moment}
+use Rattle.fuse_store.specs.Group.{HasId, IsKept, entries_of}
+use Rattle.fuse_session.specs.Group.{Gathers}
+use Rattle.fuse_session.proofs.gather.gather.Given as goal
+
+abbrev pub invariant-loop-message : goal.invariant-loop-message
+invariant-loop-message g l = record {
+  count : l.count ≡ l.message-index;
+  gathers : Gathers (g.C.Clock.may_answer l.fn.clock) (take l.message-index l.messages) l.taken.items false;
+  few : length l.taken.items ≤ 16;
+  named : All HasId (entries_of l.taken.items);
+  kept : All IsKept (entries_of l.taken.items);
+  same : (t : Moment) → g.C.Clock.may_answer l.clock t → g.C.Clock.may_answer l.fn.clock t;
+}

@@ -1,0 +1,16 @@
+use Rattle.std.proofs.Common.{ap}
+use Rattle.fuse_wire.specs.declared.moment.Moment.{Moment}
+use Rattle.fuse_session.specs.Worked.{entry_if, message_entry}
+use Rattle.fuse_session.proofs.gather.read_one.Goals as goal
+
+pub returns-in-Silent-clause-entry : goal.returns-in-Silent-clause-entry
+returns-in-Silent-clause-entry g c =
+    let t : Moment = record { secs = 0; nanos = 0 } in
+    let class = c.in-Silent.ensures.class in
+    (t, ap (λ k. entry_if k (message_entry c.args.message.now t)) class, λ kept. absurd (cc (class, kept)))
+
+pub returns-in-Bare-clause-entry : goal.returns-in-Bare-clause-entry
+returns-in-Bare-clause-entry g c =
+    let t : Moment = record { secs = 0; nanos = 0 } in
+    let class = c.in-Bare.ensures.class in
+    (t, ap (λ k. entry_if k (message_entry c.args.message.now t)) class, λ kept. absurd (cc (class, kept)))

@@ -1,0 +1,12 @@
+use Rattle.std.proofs.Common.{◌≤◌, ◌+◌, length, take, drop}
+use Rattle.fuse_store.specs.Group.{ids_of}
+use Rattle.fuse_session.specs.Group.{wires, answers_in, AreEnough, SentFirst}
+use Rattle.fuse_session.proofs.sending.send_answers.Given as goal
+
+abbrev pub invariant-loop-message : goal.invariant-loop-message
+invariant-loop-message g l = record {
+  next : l.next ≤ length l.dones;
+  enough : AreEnough (drop l.message-index l.messages) (drop l.next (answers_in l.dones));
+  sent : SentFirst (g.P.Port.told l.fn.port) (g.P.Port.told l.port) (take l.message-index l.messages) (wires l.messages (answers_in l.dones)) (wires (drop l.message-index l.messages) (drop l.next (answers_in l.dones))) (ids_of l.fn.pending.items) (ids_of l.pending.items);
+  few : length l.pending.items ≤ length l.fn.pending.items + l.next;
+}

@@ -1,0 +1,51 @@
+-- How the messages of a session are counted (own profile).
+use Rattle.std.specs.Prelude.{ℕ, ◌+◌, ◌≤◌, ◌==◌, ◌&&◌, Bool, true, false, if◌then◌else◌, List, [], ◌∷◌, is_none}
+use Rattle.fuse_request.specs.declared.class.Class.{Class}
+use Rattle.fuse_request.specs.declared.class.Class.TheVariants.{Silent, Bare, Kept}
+use Rattle.fuse_request.specs.declared.opcode.TheConstants.{INTERRUPT}
+use Rattle.fuse_request.specs.Classes.{class_of}
+use Rattle.fuse_request.specs.Faults.{first_fault}
+use Rattle.fuse_request.specs.Header.{raw_of}
+use Rattle.fuse_session.specs.declared.counts.SessionCounts.{SessionCounts}
+use Rattle.fuse_session.specs.Worked.{Timed, timed_entry, entries_at}
+use Rattle.fuse_store.specs.History.{History, entry_id, has, grown}
+
+-- a well-formed INTERRUPT
+abbrev pub is_interrupt : List ℕ → Bool
+is_interrupt m = (raw_of m).opcode == INTERRUPT && is_none (first_fault m)
+
+abbrev pub one_if : Bool → ℕ
+one_if b = if b then 1 else 0
+
+-- a message by its class, whether its id was there before, and whether it is an INTERRUPT
+abbrev pub counted_one : Class → Bool → Bool → SessionCounts
+counted_one Silent repeated interrupt = record { messages = 1; kept = 0; repeated = 0; bare = 0; silent = 1; interrupts = one_if interrupt }
+counted_one (Bare errno) repeated interrupt = record { messages = 1; kept = 0; repeated = 0; bare = 1; silent = 0; interrupts = 0 }
+counted_one Kept repeated interrupt = record { messages = 1; kept = 1; repeated = one_if repeated; bare = 0; silent = 0; interrupts = 0 }
+
+abbrev pub none_counted : SessionCounts
+none_counted = record { messages = 0; kept = 0; repeated = 0; bare = 0; silent = 0; interrupts = 0 }
+
+abbrev pub plus : SessionCounts → SessionCounts → SessionCounts
+plus a b = record {
+  messages = a.messages + b.messages;
+  kept = a.kept + b.kept;
+  repeated = a.repeated + b.repeated;
+  bare = a.bare + b.bare;
+  silent = a.silent + b.silent;
+  interrupts = a.interrupts + b.interrupts;
+}
+
+-- the messages by class, where h was the history before
+abbrev pub counted : History → List Timed → SessionCounts
+counted h [] = none_counted
+counted h (t ∷ ts) = plus (counted_one (class_of t.bytes) (has h (entry_id (timed_entry t))) (is_interrupt t.bytes)) (counted (grown h (entries_at t)) ts)
+
+-- no count is above n
+pub record IsBelow (c : SessionCounts) (n : ℕ) : Type 0 where
+  pub messages : c.messages ≤ n
+  pub kept : c.kept ≤ n
+  pub repeated : c.repeated ≤ n
+  pub bare : c.bare ≤ n
+  pub silent : c.silent ≤ n
+  pub interrupts : c.interrupts ≤ n

@@ -1,0 +1,83 @@
+-- How serving ends: one case for each line of the table of ends (own profile).
+use Rattle.std.specs.Prelude.{◌≡◌, ◌⊎◌, ◌<◌, ℕ, ◌+◌, Bool, true, false, List, [], ◌∷◌, ◌++◌, length, Option, Some, None}
+use Rattle.fuse_wire.specs.declared.moment.Moment.{Moment}
+use Rattle.fuse_request.specs.Framing.{HasNone, bad_length, end_fault}
+use Rattle.fuse_request.specs.declared.framer.FrameFault.{FrameFault}
+use Rattle.fuse_tree.specs.Rows.{Rows}
+use Rattle.fuse_store.specs.Stands.{Records}
+use Rattle.fuse_session.specs.declared.counts.SessionCounts.{SessionCounts}
+use Rattle.fuse_session.specs.declared.ended.Ended.{Ended}
+use Rattle.fuse_session.specs.declared.ended.Ended.TheVariants.{End, Destroyed, Turns, Frame, ZeroUnique, PortFailed, Store, Memory}
+use Rattle.fuse_session.specs.declared.group.Rest.{Rest}
+use Rattle.fuse_session.specs.declared.group.Rest.TheVariants.{GoesOn as GoesOnHere, Destroyed as ByDestroy, ZeroUnique as ByZero}
+use Rattle.fuse_session.specs.Port.{PortState}
+use Rattle.fuse_session.specs.Serving.{Whole, Stopped}
+
+-- a fault of the store, and want of memory
+abbrev pub ended_store : Ended → Bool
+ended_store End = false
+ended_store Destroyed = false
+ended_store Turns = false
+ended_store (Frame f) = false
+ended_store (ZeroUnique at) = false
+ended_store PortFailed = false
+ended_store (Store fault) = true
+ended_store Memory = false
+
+abbrev pub ended_memory : Ended → Bool
+ended_memory End = false
+ended_memory Destroyed = false
+ended_memory Turns = false
+ended_memory (Frame f) = false
+ended_memory (ZeroUnique at) = false
+ended_memory PortFailed = false
+ended_memory (Store fault) = false
+ended_memory Memory = true
+
+-- all that came was worked off and answered, but for a rest that begins at a place
+pub record Rested (holds holds' : Rows → Records → Type 0) (honest' : Type 0) (may : Moment → Type 0) (old new : PortState) (pending : List ℕ) (held : List ℕ) (begin : ℕ) (counts : SessionCounts) (P : ℕ → List ℕ → Type 0) : Type 0 where
+  pub rest : List ℕ
+  pub place : ℕ
+  pub pending' : List ℕ
+  pub whole : Whole holds holds' honest' may old new pending pending' held rest begin place counts
+  pub so : P place rest
+
+-- messages were worked off up to one that stops the session, and this one begins, or ended, at a place
+pub record Halted (holds holds' : Rows → Records → Type 0) (honest' : Type 0) (may : Moment → Type 0) (old new : PortState) (pending : List ℕ) (held : List ℕ) (rest : Rest) (begin place : ℕ) (counts : SessionCounts) : Type 0 where
+  pub pending' : List ℕ
+  pub stopped : Stopped holds holds' honest' may old new pending pending' held rest begin place counts
+
+-- no whole message is left, and no bad length
+abbrev pub IsGoodRest : ℕ → List ℕ → Type 0
+IsGoodRest place rest = HasNone rest × (bad_length place rest ≡ None)
+
+-- the fault of a rest: its bad length, or that the port ended on it
+abbrev pub FaultOf : Bool → FrameFault → ℕ → List ℕ → Type 0
+FaultOf ended f place rest = (bad_length place rest ≡ Some f) ⊎ ((ended ≡ true) × (bad_length place rest ≡ None) × (end_fault place rest ≡ Some f))
+
+-- at each of the ends; `begin` is the offset of the bytes held at first. Store and Memory say no more than Life
+abbrev pub EndsAs : (Rows → Records → Type 0) → (Rows → Records → Type 0) → Type 0 → (Moment → Type 0) → PortState → PortState → List ℕ → List ℕ → ℕ → ℕ → Ended → SessionCounts → Type 0
+EndsAs holds holds' honest' may old new pending held begin turns End counts =
+    (new.has_ended ≡ true) × Rested holds holds' honest' may old new pending held begin counts (λ place rest. rest ≡ [])
+EndsAs holds holds' honest' may old new pending held begin turns Destroyed counts = (place : ℕ) × Halted holds holds' honest' may old new pending held ByDestroy begin place counts
+EndsAs holds holds' honest' may old new pending held begin turns Turns counts =
+    (new.receives ≡ old.receives + turns) × (new.has_ended ≡ old.has_ended) × Rested holds holds' honest' may old new pending held begin counts IsGoodRest
+EndsAs holds holds' honest' may old new pending held begin turns (Frame f) counts = Rested holds holds' honest' may old new pending held begin counts (FaultOf new.has_ended f)
+EndsAs holds holds' honest' may old new pending held begin turns (ZeroUnique at) counts = Halted holds holds' honest' may old new pending held ByZero begin at counts
+EndsAs holds holds' honest' may old new pending held begin turns PortFailed counts = old.receive_failures < new.receive_failures → Rested holds holds' honest' may old new pending held begin counts IsGoodRest
+EndsAs holds holds' honest' may old new pending held begin turns (Store fault) counts = Unit {0}
+EndsAs holds holds' honest' may old new pending held begin turns Memory counts = Unit {0}
+
+-- a fault ended the work on messages
+abbrev pub IsFault : Ended → Type 0
+IsFault PortFailed = Unit {0}
+IsFault (Store fault) = Unit {0}
+IsFault Memory = Unit {0}
+IsFault _ = ⊥
+
+-- what ended the session, where messages were worked off
+abbrev pub FinishedBy : Ended → Rest → ℕ → Option FrameFault → Type 0
+FinishedBy Destroyed rest place fault = rest ≡ ByDestroy
+FinishedBy (ZeroUnique at) rest place fault = (rest ≡ ByZero) × (at ≡ place)
+FinishedBy (Frame f) rest place fault = (rest ≡ GoesOnHere) × (fault ≡ Some f)
+FinishedBy _ rest place fault = ⊥

@@ -1,0 +1,10 @@
+pub mod Port
+pub mod Stream
+pub mod Memory
+pub mod Worked
+pub mod Settling
+pub mod Counting
+pub mod Group
+pub mod Serving
+pub mod Receiving
+pub mod Ends

@@ -1,0 +1,67 @@
+-- What was received, and the messages that wait then.
+use Rattle.std.specs.Prelude.{◌≡◌, ◌<◌, ◌≤◌, ◌+◌, ℕ, Bool, true, false, List, [], ◌++◌, length, All, Option, Some, None}
+use Rattle.std.specs.Io.KnownBytes.{Consumes}
+use Rattle.fuse_request.specs.declared.framer.FrameFault.{FrameFault}
+use Rattle.fuse_request.specs.declared.header.TheConstants.{MAX_MESSAGE}
+use Rattle.fuse_request.specs.Stream.{cut, joined, IsMessage}
+use Rattle.fuse_request.specs.Framing.{Held, HasNone, bad_length, end_fault}
+use Rattle.fuse_session.specs.declared.ended.Ended.{Ended}
+use Rattle.fuse_session.specs.declared.ended.Ended.TheVariants.{End, Destroyed, Turns, Frame, ZeroUnique, PortFailed, Store, Memory}
+use Rattle.fuse_session.specs.Port.{PortState}
+
+-- it answered no fault so far, and holds neither a whole message nor a bad length at its front
+pub record IsOpen (h : Held) : Type 0 where
+  pub fault : h.fault ≡ None
+  pub none : HasNone h.bytes
+  pub good : bad_length h.at h.bytes ≡ None
+  pub short : length h.bytes < MAX_MESSAGE
+
+-- the first messages were taken
+pub record TookSome (old new : Held) (messages : List (List ℕ)) : Type 0 where
+  pub front : (cut old.bytes).0 ≡ messages ++ (cut new.bytes).0
+  pub rest : (cut old.bytes).1 ≡ (cut new.bytes).1
+  pub at : new.at ≡ old.at + length (joined messages)
+  pub fault : new.fault ≡ None
+  pub each : All IsMessage messages
+  pub few : length messages ≤ length (joined messages)
+
+-- all messages were taken, and what follows them has this bad length, if it has one
+pub record TookAll (old new : Held) (messages : List (List ℕ)) (fault : Option FrameFault) : Type 0 where
+  pub cut_is : cut old.bytes ≡ (messages, new.bytes)
+  pub at : new.at ≡ old.at + length (joined messages)
+  pub each : All IsMessage messages
+  pub few : length messages ≤ length (joined messages)
+  pub bad : bad_length new.at new.bytes ≡ fault
+  pub opened : fault ≡ None → IsOpen new
+
+-- what receiving leaves as it was
+pub record IsHearing (old new : PortState) : Type 0 where
+  pub sent : new.sent ≡ old.sent
+  pub receives : new.receives ≡ old.receives + 1
+  pub confirms : new.confirms ≡ old.confirms
+  pub gone : new.gone ≡ old.gone
+
+-- bytes came, and these are the messages that wait then
+pub record Heard (old new : PortState) (before after : Held) (messages : List (List ℕ)) (fault : Option FrameFault) : Type 0 where
+  pub received : List ℕ
+  pub came : Consumes old.coming new.coming received
+  pub took : TookAll (record before { bytes = before.bytes ++ received }) after messages fault
+  pub has_ended : new.has_ended ≡ old.has_ended
+  pub failures : new.failures ≡ old.failures
+  pub receive_failures : new.receive_failures ≡ old.receive_failures
+
+-- why nothing was heard
+abbrev pub NotHeard : Ended → PortState → PortState → Held → Type 0
+NotHeard End old new h = (new.has_ended ≡ true) × (h.bytes ≡ []) × Consumes old.coming new.coming [] × (new.failures ≡ old.failures)
+NotHeard (Frame f) old new h = (new.has_ended ≡ true) × (end_fault h.at h.bytes ≡ Some f) × Consumes old.coming new.coming [] × (new.failures ≡ old.failures)
+NotHeard PortFailed old new h = (old.failures < new.failures) × (old.receive_failures < new.receive_failures) × Consumes old.coming new.coming []
+NotHeard Memory old new h = (received : List ℕ) × Consumes old.coming new.coming received
+NotHeard Destroyed old new h = ⊥
+NotHeard Turns old new h = ⊥
+NotHeard (ZeroUnique at) old new h = ⊥
+NotHeard (Store fault) old new h = ⊥
+
+abbrev pub EndsSo : Ended → Held → Type 0
+EndsSo End h = h.bytes ≡ []
+EndsSo (Frame f) h = end_fault h.at h.bytes ≡ Some f
+EndsSo _ h = ⊥

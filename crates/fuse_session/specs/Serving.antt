@@ -1,0 +1,119 @@
+-- What serving did: what came, what was worked off and sent, and what the keeper stands for (own profile).
+use Rattle.std.specs.Prelude.{◌≡◌, ◌⊎◌, ℕ, ◌+◌, Bool, true, false, List, [], ◌∷◌, ◌++◌, length, Option, Some, None}
+use Rattle.std.specs.Io.KnownBytes.{Consumes}
+use Rattle.fuse_wire.specs.declared.moment.Moment.{Moment}
+use Rattle.fuse_request.specs.Stream.{cut, joined}
+use Rattle.fuse_tree.specs.State.{State}
+use Rattle.fuse_tree.specs.Rows.{Rows}
+use Rattle.fuse_store.specs.History.{History, grown, Includes}
+use Rattle.fuse_store.specs.Stands.{Records, Stands, StandsFor, Leaves}
+use Rattle.fuse_session.specs.declared.counts.SessionCounts.{SessionCounts}
+use Rattle.fuse_session.specs.declared.group.Rest.{Rest}
+use Rattle.fuse_session.specs.declared.group.Rest.TheVariants.{GoesOn as GoesOnHere, Destroyed, ZeroUnique}
+use Rattle.fuse_session.specs.declared.group.Stop.{Stop}
+use Rattle.fuse_session.specs.declared.group.Stop.TheVariants.{PortFailed, Store, Memory}
+use Rattle.fuse_session.specs.Port.{PortState}
+use Rattle.fuse_session.specs.Worked.{Timed, bytes_of, kept_in, answers, GoesOn, Works, EndsLast, StartsZero, Moments}
+use Rattle.fuse_session.specs.Settling.{Mark, replies, settled_in, NoneComesAgain, Replied}
+use Rattle.fuse_session.specs.Counting.{counted}
+
+-- all messages were worked off, and their answers sent
+pub record Answered (stood : History → List ℕ → Type 0) (s : State) (h : History) (confirms : Bool) (t : List ℕ) (timed : List Timed) (marks : List Mark) (going : Bool) (counts : SessionCounts) : Type 0 where
+  pub works : Works s h timed
+  pub goes : going ≡ true → GoesOn s h timed
+  pub last : going ≡ false → EndsLast s h timed
+  pub stands : stood (grown h (kept_in timed)) (t ++ settled_in confirms (bytes_of timed) marks)
+  pub sent : replies marks ≡ answers s (grown h (kept_in timed)) timed
+  pub counts_are : counts ≡ counted h timed
+
+-- so it was, whatever the keeper stood for and whatever was settled, where no message comes again
+pub record Turned (holds holds' : Rows → Records → Type 0) (honest' : Type 0) (may : Moment → Type 0) (old new : PortState) (pending pending' : List ℕ) (front : List (List ℕ)) (going : Bool) (counts : SessionCounts) : Type 0 where
+  pub timed : List Timed
+  pub marks : List Mark
+  pub bytes : front ≡ bytes_of timed
+  pub full : length marks ≡ length timed
+  pub moments : Moments may timed
+  pub replied : Replied old new marks []
+  pub handed : (t : List ℕ) → Includes t pending → Includes (t ++ settled_in old.confirms (bytes_of timed) marks) pending'
+  pub all : honest' → (s : State) (h : History) (t : List ℕ) → StandsFor holds s h t → Includes t pending → NoneComesAgain old.confirms t (bytes_of timed) marks
+      → Answered (StandsFor holds' s) s h old.confirms t timed marks going counts
+
+-- some of the messages were worked off, and a front of their answers was sent: all of it where `exact`
+pub record Lived (stood : History → List ℕ → Type 0) (s : State) (h : History) (confirms : Bool) (t : List ℕ) (timed : List Timed) (marks : List Mark) (part : List ℕ) (exact : Bool) : Type 0 where
+  pub worked : List Timed
+  pub unworked : List Timed
+  pub parts : timed ≡ worked ++ unworked
+  pub works : Works s h worked
+  pub stands : stood (grown h (kept_in worked)) (t ++ settled_in confirms (bytes_of worked) marks)
+  pub later : List (List ℕ)
+  pub sent : answers s (grown h (kept_in worked)) worked ≡ replies marks ++ later
+  pub unsent : List ℕ
+  pub begun : joined later ≡ part ++ unsent
+  pub exactly : exact ≡ true → later ≡ []
+
+-- a fault ended the work on messages. What the keeper holds where its store is clean, and where it was firm whatever a
+-- crash leaves, stands for messages worked off. Where `whole` no answer was sent in part
+pub record Broken (holds holds' : Rows → Records → Type 0) (clean' honest' firm whole' : Type 0) (left' : Rows → Records → Type 0) (may : Moment → Type 0) (old new : PortState) (pending : List ℕ) (messages : List (List ℕ)) (exact whole : Bool) : Type 0 where
+  pub timed : List Timed
+  pub others : List (List ℕ)
+  pub marks : List Mark
+  pub part : List ℕ
+  pub front : messages ≡ bytes_of timed ++ others
+  pub moments : Moments may timed
+  pub replied : Replied old new marks part
+  pub no_part : whole ≡ true → part ≡ []
+  pub life : clean' → (s : State) (h : History) (t : List ℕ) → StandsFor holds s h t → Includes t pending → NoneComesAgain old.confirms t (bytes_of timed) marks
+      → Lived (StandsFor holds' s) s h old.confirms t timed marks part exact
+  pub crash : honest' → firm → (s : State) (h : History) (t : List ℕ) → StandsFor holds s h t → Includes t pending → NoneComesAgain old.confirms t (bytes_of timed) marks
+      → Leaves whole' left' (λ x r. Lived (Stands x r s) s h old.confirms t timed marks part false)
+
+-- nothing ended the session so far
+abbrev pub lasts : Rest → Bool
+lasts GoesOnHere = true
+lasts ZeroUnique = true
+lasts Destroyed = false
+
+abbrev pub goes_on : Rest → Bool
+goes_on GoesOnHere = true
+goes_on Destroyed = false
+goes_on ZeroUnique = false
+
+-- messages were worked off, all of them where it goes on, and else up to one that stops it
+pub record WorkedOff (holds holds' : Rows → Records → Type 0) (honest' : Type 0) (may : Moment → Type 0) (old new : PortState) (pending pending' : List ℕ) (messages : List (List ℕ)) (rest : Rest) (begin place : ℕ) (counts : SessionCounts) : Type 0 where
+  pub front : List (List ℕ)
+  pub others : List (List ℕ)
+  pub parts : messages ≡ front ++ others
+  pub all : goes_on rest ≡ true → others ≡ []
+  pub zero : rest ≡ ZeroUnique → StartsZero others
+  pub at : place ≡ begin + length (joined front)
+  pub turned : Turned holds holds' honest' may old new pending pending' front (lasts rest) counts
+
+-- bytes came, and all messages that they and those held before them have were worked off and answered; this is the rest
+pub record Whole (holds holds' : Rows → Records → Type 0) (honest' : Type 0) (may : Moment → Type 0) (old new : PortState) (pending pending' : List ℕ) (held rest : List ℕ) (begin place : ℕ) (counts : SessionCounts) : Type 0 where
+  pub received : List ℕ
+  pub came : Consumes old.coming new.coming received
+  pub rest_is : rest ≡ (cut (held ++ received)).1
+  pub at : place ≡ begin + length (joined (cut (held ++ received)).0)
+  pub turned : Turned holds holds' honest' may old new pending pending' (cut (held ++ received)).0 true counts
+
+-- bytes came, and their messages were worked off up to one that stops the session
+pub record Stopped (holds holds' : Rows → Records → Type 0) (honest' : Type 0) (may : Moment → Type 0) (old new : PortState) (pending pending' : List ℕ) (held : List ℕ) (rest : Rest) (begin place : ℕ) (counts : SessionCounts) : Type 0 where
+  pub received : List ℕ
+  pub came : Consumes old.coming new.coming received
+  pub worked : WorkedOff holds holds' honest' may old new pending pending' (cut (held ++ received)).0 rest begin place counts
+
+-- bytes came, and a fault ended the work on their messages
+pub record Life (holds holds' : Rows → Records → Type 0) (clean' honest' firm whole' : Type 0) (left' : Rows → Records → Type 0) (may : Moment → Type 0) (old new : PortState) (pending : List ℕ) (held : List ℕ) (exact whole : Bool) : Type 0 where
+  pub received : List ℕ
+  pub came : Consumes old.coming new.coming received
+  pub broken : Broken holds holds' clean' honest' firm whole' left' may old new pending (cut (held ++ received)).0 exact whole
+
+abbrev pub is_store : Stop → Bool
+is_store PortFailed = false
+is_store (Store fault) = true
+is_store Memory = false
+
+abbrev pub is_memory : Stop → Bool
+is_memory PortFailed = false
+is_memory (Store fault) = false
+is_memory Memory = true

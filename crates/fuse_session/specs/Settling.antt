@@ -1,0 +1,91 @@
+-- Which ids the answers that are sent settle, and which records stay (own profile).
+use Rattle.std.specs.Prelude.{◌≡◌, ◌⊎◌, ◌≤◌, ◌||◌, ℕ, Bool, true, false, List, [], ◌∷◌, ◌++◌, length, map, Option, None, IfSome}
+use Rattle.std.specs.Io.KnownBytes.{Appends, append_known}
+use Rattle.fuse_request.specs.declared.class.Class.{Class}
+use Rattle.fuse_request.specs.declared.class.Class.TheVariants.{Silent, Bare, Kept}
+use Rattle.fuse_request.specs.Classes.{class_of}
+use Rattle.fuse_request.specs.Stream.{joined}
+use Rattle.fuse_tree.specs.Rows.{Rows}
+use Rattle.fuse_store.specs.History.{is_in, Includes}
+use Rattle.fuse_store.specs.Stands.{Records}
+use Rattle.fuse_session.specs.Port.{PortState}
+use Rattle.fuse_session.specs.Worked.{message_id}
+
+-- the whole answer that was sent for a message, and whether a slice of it was answered Gone
+pub record Mark : Type 0 where
+  pub reply : List ℕ
+  pub gone : Bool
+
+abbrev pub replies : List Mark → List (List ℕ)
+replies marks = map (λ m. m.reply) marks
+
+-- the id that an answer settles: that of a kept message, where the port confirms or told that nobody waits for it
+abbrev pub settles_if : Bool → Class → ℕ → List ℕ
+settles_if false class i = []
+settles_if true Silent i = []
+settles_if true (Bare errno) i = []
+settles_if true Kept i = i ∷ []
+
+abbrev pub settles : Bool → List ℕ → Mark → List ℕ
+settles confirms m mark = settles_if (confirms || mark.gone) (class_of m) (message_id m)
+
+-- the ids that are settled by the answers to the first of these messages
+abbrev pub settled_in : Bool → List (List ℕ) → List Mark → List ℕ
+settled_in confirms [] marks = []
+settled_in confirms (m ∷ ms) [] = []
+settled_in confirms (m ∷ ms) (mark ∷ marks) = settles confirms m mark ++ settled_in confirms ms marks
+
+-- whether a kept message comes though its id is settled
+abbrev pub comes_again : List ℕ → Class → ℕ → Bool
+comes_again t Silent i = false
+comes_again t (Bare errno) i = false
+comes_again t Kept i = is_in t i
+
+abbrev pub MayCome : List ℕ → List ℕ → Type 0
+MayCome t m = comes_again t (class_of m) (message_id m) ≡ false
+
+-- no kept message has an id that was settled before, or by the answer to an earlier message
+abbrev pub NoneComesAgain : Bool → List ℕ → List (List ℕ) → List Mark → Type 0
+NoneComesAgain confirms t [] marks = Unit {0}
+NoneComesAgain confirms t (m ∷ ms) [] = MayCome t m × NoneComesAgain confirms t ms []
+NoneComesAgain confirms t (m ∷ ms) (mark ∷ marks) = MayCome t m × NoneComesAgain confirms (t ++ settles confirms m mark) ms marks
+
+-- one place for each answer that was answered Gone: where it ends in the bytes sent, if those are known
+abbrev pub PlaceFirst : Bool → Option (List ℕ) → (List ℕ → Type 0) → List ℕ → Type 0
+PlaceFirst true sent Later places = (place : ℕ) × (later : List ℕ) × (places ≡ place ∷ later) × IfSome sent (λ bytes. place ≡ length bytes) × Later later
+PlaceFirst false sent Later places = Later places
+
+abbrev pub Places : Option (List ℕ) → List Mark → List ℕ → Type 0
+Places sent [] places = places ≡ []
+Places sent (m ∷ marks) places = PlaceFirst m.gone (append_known sent m.reply) (Places (append_known sent m.reply) marks) places
+
+-- these answers were sent whole, and then a part of another one
+pub record Replied (old new : PortState) (marks : List Mark) (part : List ℕ) : Type 0 where
+  pub sent : Appends old.sent new.sent (joined (replies marks) ++ part)
+  pub places : List ℕ
+  pub gone : new.gone ≡ old.gone ++ places
+  pub placed : Places old.sent marks places
+  pub confirms : new.confirms ≡ old.confirms
+
+-- the records are some of those of before, and some of these ids
+abbrev pub SomeAndMore : Records → List ℕ → Records → Type 0
+SomeAndMore before more records = (i : ℕ) → is_in more i ≡ false → (records i ≡ None) ⊎ (records i ≡ before i)
+
+-- the records that are held are some of those of before, and of at most 16 ids more
+pub record AtMostMore (before : Records) (holds : Rows → Records → Type 0) : Type 0 where
+  pub rows : Rows
+  pub records : Records
+  pub held : holds rows records
+  pub more : List ℕ
+  pub few : length more ≤ 16
+  pub some : SomeAndMore before more records
+
+-- so it is, and those ids are to be handed on
+pub record HandsOn (before : Records) (holds : Rows → Records → Type 0) (pending : List ℕ) : Type 0 where
+  pub rows : Rows
+  pub records : Records
+  pub held : holds rows records
+  pub more : List ℕ
+  pub few : length more ≤ 16
+  pub some : SomeAndMore before more records
+  pub all : Includes pending more

@@ -1,0 +1,109 @@
+-- Messages that are worked off, and what is sent for them (own profile).
+use Rattle.std.specs.Prelude.{◌≡◌, ◌⊎◌, ℕ, Bool, true, false, ◌==◌, if◌then◌else◌, List, [], ◌∷◌, ◌++◌, map, Option, Some, None}
+use Rattle.fuse_wire.specs.Ids.{id_of}
+use Rattle.fuse_wire.specs.declared.moment.Moment.{Moment}
+use Rattle.fuse_answer.specs.Said.{Said}
+use Rattle.fuse_answer.specs.Wire.{wire}
+use Rattle.fuse_request.specs.declared.class.Class.{Class}
+use Rattle.fuse_request.specs.declared.class.Class.TheVariants.{Silent, Bare, Kept}
+use Rattle.fuse_request.specs.Classes.{class_of, is_zero}
+use Rattle.fuse_request.specs.Header.{raw_of}
+use Rattle.fuse_request.specs.Places.{asked_at}
+use Rattle.fuse_request.specs.Stream.{joined}
+use Rattle.fuse_session.specs.declared.gather.TheConstants.{DESTROY}
+use Rattle.fuse_tree.specs.State.{State}
+use Rattle.fuse_store.specs.History.{Entry, entry_id, History, grown, said}
+
+-- a message, and the moment at which it was worked off (of one that isn't kept, any)
+pub record Timed : Type 0 where
+  pub bytes : List ℕ
+  pub moment : Moment
+
+abbrev pub bytes_of : List Timed → List (List ℕ)
+bytes_of ts = map (λ t. t.bytes) ts
+
+abbrev pub unique_of : List ℕ → ℕ
+unique_of bytes = (raw_of bytes).unique
+
+abbrev pub message_id : List ℕ → ℕ
+message_id bytes = id_of (unique_of bytes)
+
+abbrev pub message_entry : List ℕ → Moment → Entry
+message_entry bytes moment = record { asked = asked_at bytes; moment = moment }
+
+abbrev pub timed_entry : Timed → Entry
+timed_entry t = message_entry t.bytes t.moment
+
+-- only a kept message adds to the history
+abbrev pub entry_if : Class → Entry → List Entry
+entry_if Silent e = []
+entry_if (Bare errno) e = []
+entry_if Kept e = e ∷ []
+
+abbrev pub entries_at : Timed → List Entry
+entries_at t = entry_if (class_of t.bytes) (timed_entry t)
+
+abbrev pub kept_in : List Timed → List Entry
+kept_in [] = []
+kept_in (t ∷ ts) = entries_at t ++ kept_in ts
+
+-- the answer of a class, by what was said of the id
+abbrev pub answer_by : Class → Option Said → ℕ → List ℕ
+answer_by Silent o unique = []
+answer_by (Bare errno) o unique = wire errno.0 [] unique
+answer_by Kept None unique = []
+answer_by Kept (Some a) unique = wire a.errno a.body unique
+
+-- the answer to a message, where the history is g
+abbrev pub answered : State → History → Timed → List ℕ
+answered s g t = answer_by (class_of t.bytes) (said s g (message_id t.bytes)) (unique_of t.bytes)
+
+abbrev pub answers : State → History → List Timed → List (List ℕ)
+answers s g ts = map (answered s g) ts
+
+-- what is to be sent for messages
+abbrev pub out : State → History → List Timed → List ℕ
+out s h ts = joined (answers s (grown h (kept_in ts)) ts)
+
+-- a kept DESTROY, and one that is answered without an error
+abbrev pub destroys_by : Class → ℕ → Bool
+destroys_by Silent opcode = false
+destroys_by (Bare errno) opcode = false
+destroys_by Kept opcode = opcode == DESTROY
+
+abbrev pub destroys : List ℕ → Bool
+destroys bytes = destroys_by (class_of bytes) (raw_of bytes).opcode
+
+abbrev pub says_zero : Option Said → Bool
+says_zero None = false
+says_zero (Some a) = a.errno == 0
+
+abbrev pub Ends : State → History → Timed → Type 0
+Ends s g t = (destroys t.bytes ≡ true) × (says_zero (said s g (message_id t.bytes)) ≡ true)
+
+-- worked off to the end: none is zero, and none ends the session
+abbrev pub GoesOn : State → History → List Timed → Type 0
+GoesOn s h [] = Unit {0}
+GoesOn s h (t ∷ ts) = (is_zero t.bytes ≡ false) × (¬ Ends s (grown h (entries_at t)) t) × GoesOn s (grown h (entries_at t)) ts
+
+-- worked off: none is zero, and nothing comes after one that ends the session
+abbrev pub Works : State → History → List Timed → Type 0
+Works s h [] = Unit {0}
+Works s h (t ∷ ts) = (is_zero t.bytes ≡ false) × ((ts ≡ []) ⊎ (¬ Ends s (grown h (entries_at t)) t)) × Works s (grown h (entries_at t)) ts
+
+-- the last message ends the session
+pub record EndsLast (s : State) (h : History) (timed : List Timed) : Type 0 where
+  pub earlier : List Timed
+  pub one : Timed
+  pub parts : timed ≡ earlier ++ one ∷ []
+  pub ends : Ends s (grown h (kept_in timed)) one
+
+-- the next message is zero
+abbrev pub StartsZero : List (List ℕ) → Type 0
+StartsZero [] = ⊥
+StartsZero (m ∷ ms) = is_zero m ≡ true
+
+-- each kept message's moment is one that the clock may answer
+abbrev pub Moments : (Moment → Type 0) → List Timed → Type 0
+Moments may [] = Unit {0}
+Moments may (t ∷ ts) = (class_of t.bytes ≡ Kept → may t.moment) × Moments may ts

@@ -1,0 +1,148 @@
+// How the messages of a session are counted.
+ghost use Rattle.std.specs.Prelude.{◌≡◌, ◌≤◌, ◌<◌, ◌+◌, ◌-◌, ◌^◌, ◌==◌, is_none, ℕ, length, drop, All};
+ghost use Rattle.fuse_request.specs.Stream.{IsMessage};
+ghost use Rattle.fuse_request.specs.Classes.{class_of};
+ghost use Rattle.fuse_request.specs.Faults.{first_fault};
+ghost use Rattle.fuse_session.specs.Counting.{plus, none_counted, counted_one, is_interrupt, IsBelow};
+ghost use Rattle.fuse_session.specs.Group.{tallied, repeats_in, head_repeat, left_by};
+
+use crate::gather::has_opcode;
+use bytes::Bytes;
+use fuse_request::opcode::INTERRUPT;
+use fuse_request::{Class, classify, decode};
+use fuse_store::Done;
+
+/// How many messages were worked off, by class. `repeated` of the kept ones had an id that was there before, and
+/// `interrupts` of the silent ones are well-formed INTERRUPTs.
+#[derive(Clone, Copy, Debug, PartialEq, Eq)]
+pub struct SessionCounts {
+    pub messages: u64,
+    pub kept: u64,
+    pub repeated: u64,
+    pub bare: u64,
+    pub silent: u64,
+    pub interrupts: u64,
+}
+
+impl SessionCounts {
+    ghost use Rattle.fuse_session.specs.Counting.{plus, none_counted, IsBelow};
+
+    /// Nothing counted.
+    pub const NONE: SessionCounts = SessionCounts {
+        messages: 0,
+        kept: 0,
+        repeated: 0,
+        bare: 0,
+        silent: 0,
+        interrupts: 0,
+    };
+}
+
+// Both, counted together.
+pub(crate) fn sum_of(a: SessionCounts, b: SessionCounts) -> SessionCounts
+    requires a { IsBelow a (2 ^ 63 - 1) }
+    requires b { IsBelow b (2 ^ 63 - 1) }
+    ensures { result ≡ plus a b }
+{
+    SessionCounts {
+        messages: a.messages + b.messages,
+        kept: a.kept + b.kept,
+        repeated: a.repeated + b.repeated,
+        bare: a.bare + b.bare,
+        silent: a.silent + b.silent,
+        interrupts: a.interrupts + b.interrupts,
+    }
+}
+
+// Whether a message spells a request.
+fn is_well_formed(message: &[u8]) -> bool
+    ensures { result ≡ is_none (first_fault message.now) }
+{
+    match decode(message) {
+        Ok(_) => true,
+        Err(_) => false,
+    }
+}
+
+// Whether a message is a well-formed INTERRUPT.
+fn is_well_formed_interrupt(message: &[u8]) -> bool
+    requires { IsMessage message.now }
+    ensures { result ≡ is_interrupt message.now }
+{
+    if has_opcode(message, INTERRUPT) {
+        is_well_formed(message)
+    } else {
+        false
+    }
+}
+
+// How one message counts.
+fn count_one(message: &[u8], repeated: bool) -> SessionCounts
+    requires { IsMessage message.now }
+    ensures { result ≡ counted_one (class_of message.now) repeated (is_interrupt message.now) }
+{
+    let one = SessionCounts {
+        messages: 1,
+        ..SessionCounts::NONE
+    };
+    match classify(message) {
+        Class::Silent => SessionCounts {
+            silent: 1,
+            interrupts: u64::from(is_well_formed_interrupt(message)),
+            ..one
+        },
+        Class::Bare(_) => SessionCounts { bare: 1, ..one },
+        Class::Kept => SessionCounts {
+            kept: 1,
+            repeated: u64::from(repeated),
+            ..one
+        },
+    }
+}
+
+// Whether the next kept message is a repeat.
+fn repeat_at(dones: &[Done], next: usize) -> bool
+    ensures { result ≡ head_repeat (drop next (repeats_in dones.now)) }
+{
+    if next < dones.len() {
+        dones[next].repeated
+    } else {
+        false
+    }
+}
+
+// How many answers are used after a message.
+fn used_after(message: &[u8], dones: &[Done], next: usize) -> usize
+    requires message { IsMessage message.now }
+    requires next { next ≤ length dones.now }
+    ensures within { result ≤ length dones.now }
+    ensures left { drop result (repeats_in dones.now) ≡ left_by (class_of message.now) (drop next (repeats_in dones.now)) }
+{
+    match classify(message) {
+        Class::Silent | Class::Bare(_) => next,
+        Class::Kept => {
+            if next < dones.len() {
+                next + 1
+            } else {
+                next
+            }
+        }
+    }
+}
+
+/// How the messages of a group count, by what they were answered.
+pub(crate) fn count_all(messages: &[Bytes], dones: &[Done]) -> SessionCounts
+    requires messages { All IsMessage messages.now }
+    requires few { length messages.now < 2 ^ 60 }
+    ensures tallied { result ≡ tallied messages.now (repeats_in dones.now) }
+    ensures below { IsBelow result (length messages.now) }
+{
+    let mut counts = SessionCounts::NONE;
+    let mut next = 0;
+    for message in messages {
+        let bytes = message.as_slice();
+        counts = sum_of(counts, count_one(bytes, repeat_at(dones, next)));
+        next = used_after(bytes, dones, next);
+    }
+    counts
+}

@@ -1,0 +1,99 @@
+// Reading a group off the messages that wait.
+ghost use Rattle.std.specs.Prelude.{◌≡◌, ◌≤◌, ◌==◌, List, length, take, All, IfOk};
+ghost use Rattle.fuse_wire.specs.declared.moment.Moment.{Moment as MomentValue};
+ghost use Rattle.fuse_request.specs.Stream.{IsMessage};
+ghost use Rattle.fuse_request.specs.Classes.{class_of};
+ghost use Rattle.fuse_request.specs.Header.{raw_of};
+ghost use Rattle.fuse_store.specs.Group.{entries_of, HasId, IsKept};
+ghost use Rattle.fuse_store.specs.declared.keeper.TheConstants.{MAX_GROUP as max_group};
+ghost use Rattle.fuse_session.specs.Worked.{entry_if, message_entry};
+ghost use Rattle.fuse_session.specs.Group.{Gathers, IsStuck, listed};
+
+use crate::clock::Clock;
+use bytes::Bytes;
+use fuse_request::{Class, Request, classify, decode, has_zero_unique, header_of};
+use fuse_store::MAX_GROUP;
+use fuse_wire::Moment;
+use std::alloc::{AllocError, Global};
+
+/// The opcode of DESTROY in `fuse.h`: where it is answered without an error, the session ends.
+pub const DESTROY: u32 = 38;
+
+/// A group of requests, read off the first messages. `ends` says that the last of them is a DESTROY.
+#[derive(Drop)]
+pub(crate) struct Gathered<'a> {
+    pub(crate) taken: Vec<(Request<'a>, Moment)>,
+    pub(crate) count: usize,
+    pub(crate) ends: bool,
+}
+
+/// Whether a message has this opcode.
+pub(crate) fn has_opcode(message: &[u8], opcode: u32) -> bool
+    requires { IsMessage message.now }
+    ensures { result ≡ ((raw_of message.now).opcode == opcode) }
+{
+    match header_of(message) {
+        Some(header) => header.opcode == opcode,
+        None => false,
+    }
+}
+
+// The request of a kept message, and its moment.
+fn read_one<'a, C: Clock>(clock: &mut C, message: &'a [u8]) -> Option<(Request<'a>, Moment)>
+    requires { IsMessage message.now }
+    ensures entry { (t : MomentValue) × (entries_of (listed result) ≡ entry_if (class_of message.now) (message_entry message.now t))
+        × (class_of message.now ≡ Class.Kept → C.may_answer clock.old t) }
+    ensures kept { All IsKept (entries_of (listed result)) }
+    ensures same { (t : MomentValue) → C.may_answer clock.new t → C.may_answer clock.old t }
+{
+    match classify(message) {
+        Class::Kept => match decode(message) {
+            Ok(request) => Some((request, clock.now())),
+            Err(_) => None,
+        },
+        Class::Silent => None,
+        Class::Bare(_) => None,
+    }
+}
+
+/// Reads a group off the first messages: at most 16 kept ones, up to one that is zero, and none behind a DESTROY.
+pub(crate) fn gather<'a, C: Clock>(
+    alloc: Global,
+    clock: &mut C,
+    messages: &'a [Bytes],
+) -> Result<Gathered<'a>, AllocError>
+    requires { All IsMessage messages.now }
+    ensures within { IfOk result (λ r. r.count ≤ length messages.now) }
+    ensures gathers { IfOk result (λ r. Gathers (C.may_answer clock.old) (take r.count messages.now) r.taken.items r.ends) }
+    ensures few { IfOk result (λ r. length r.taken.items ≤ max_group) }
+    ensures named { IfOk result (λ r. All HasId (entries_of r.taken.items)) }
+    ensures kept { IfOk result (λ r. All IsKept (entries_of r.taken.items)) }
+    ensures stuck { IfOk result (λ r. r.count ≡ 0 → IsStuck messages.now) }
+    ensures same { (t : MomentValue) → C.may_answer clock.new t → C.may_answer clock.old t }
+{
+    let mut taken = Vec::new(alloc);
+    let mut count = 0;
+    for message in messages {
+        let bytes = message.as_slice();
+        if taken.len() >= MAX_GROUP || has_zero_unique(bytes) {
+            return Ok(Gathered {
+                taken,
+                count,
+                ends: false,
+            });
+        }
+        count += 1;
+        if let Some(one) = read_one(clock, bytes) {
+            let ends = has_opcode(bytes, DESTROY);
+            taken.push(one)?;
+            if ends {
+                return Ok(Gathered { taken, count, ends });
+            }
+        }
+    }
+    Ok(Gathered {
+        taken,
+        count,
+        ends: false,
+    })
+}

@@ -1,0 +1,204 @@
+// Working off one group.
+ghost use Rattle.std.specs.Prelude.{◌≡◌, ◌≤◌, ◌<◌, ◌+◌, ◌++◌, ◌&&◌, ◌==◌, [], ℕ, Bool, true, false, List, length, take, drop, ◌^◌, is_err, All, IfOk, IfErr, OnOk, OnErr};
+ghost use Rattle.fuse_wire.specs.declared.moment.Moment.{Moment as MomentValue};
+ghost use Rattle.fuse_request.specs.Stream.{IsMessage};
+ghost use Rattle.fuse_tree.specs.State.{State};
+ghost use Rattle.fuse_store.specs.History.{History, grown, ids_in, Includes, IsUnsettled};
+ghost use Rattle.fuse_store.specs.Stands.{Records, StandsFor, StandsForEither, Performed, Leaves, IsFirm, KeepsHeld};
+ghost use Rattle.fuse_store.specs.Group.{entries_of, HasId, IsKept, ids_of};
+ghost use Rattle.fuse_store.specs.declared.keeper.TheConstants.{MAX_GROUP as max_group, MAX_SETTLED as max_settled};
+ghost use Rattle.fuse_session.specs.Port.{IsYoung, IsQuiet};
+ghost use Rattle.fuse_session.specs.Worked.{StartsZero};
+ghost use Rattle.fuse_session.specs.Settling.{HandsOn, AtMostMore};
+ghost use Rattle.fuse_session.specs.Counting.{IsBelow};
+ghost use Rattle.fuse_session.specs.Group.{answers_in, last_zero, rest_by, IsStuck};
+ghost use Rattle.fuse_session.specs.Serving.{Turned, Broken, lasts, goes_on, is_store, is_memory};
+
+use crate::clock::Clock;
+use crate::counts::{SessionCounts, count_all};
+use crate::gather::gather;
+use crate::port::Port;
+use crate::sending::{SendFault, send_answers};
+use bytes::Bytes;
+use fuse_answer::Answer;
+use fuse_request::Request;
+use fuse_store::{Done, Keeper, StoreFault};
+use fuse_wire::{Id, Moment};
+use std::alloc::Global;
+
+/// Why nothing more is worked off, where all answers so far were sent.
+#[derive(Clone, Copy, Debug, PartialEq, Eq)]
+pub(crate) enum Rest {
+    GoesOn,
+    Destroyed,
+    ZeroUnique,
+}
+
+/// A fault that ended the work.
+#[derive(Drop)]
+pub(crate) enum Stop {
+    PortFailed,
+    Store(StoreFault),
+    Memory,
+}
+
+/// A group that was worked off.
+#[derive(Clone, Copy, Debug, PartialEq, Eq)]
+pub(crate) struct Turn {
+    pub(crate) count: usize,
+    pub(crate) rest: Rest,
+    pub(crate) counts: SessionCounts,
+}
+
+// Performs a group, if there is one, and hands on the pending ids.
+fn perform_group<K: Keeper>(
+    alloc: Global,
+    keeper: &mut K,
+    group: &[(Request<'_>, Moment)],
+    pending: &mut Vec<Id>,
+) -> Result<Vec<Done>, StoreFault>
+    requires short { length group.now ≤ max_group }
+    requires few { length pending.old.items ≤ max_settled }
+    requires named { All HasId (entries_of group.now) }
+    requires kept { All IsKept (entries_of group.now) }
+    requires going { K.has_failed keeper.old ≡ false }
+    ensures count { IfOk result (λ dones. length dones.items ≡ length group.now) }
+    ensures ok { K.is_honest keeper.new → IfOk result (λ dones. (s : State) (h : History) (t : List ℕ) → StandsFor (K.holds keeper.old) s h t
+        → Includes t (ids_of pending.old.items) → All (IsUnsettled t) (entries_of group.now)
+        → Performed (K.holds keeper.new) s h t (entries_of group.now) dones.items) }
+    ensures few { IfOk result (λ dones. length pending.new.items + length dones.items ≤ max_settled) }
+    ensures pending { (t : List ℕ) → Includes t (ids_of pending.old.items) → Includes t (ids_of pending.new.items) }
+    ensures more { OnOk result (K.is_honest keeper.new → (before : Records) → HandsOn before (K.holds keeper.old) (ids_of pending.old.items)
+        → HandsOn before (K.holds keeper.new) (ids_of pending.new.items ++ ids_in (entries_of group.now))) }
+    ensures err { OnErr result (K.is_clean keeper.new → KeepsHeld (K.holds keeper.old) (K.holds keeper.new)) }
+    ensures crash { OnErr result ((s : State) (h : History) (t : List ℕ) → StandsFor (K.holds keeper.old) s h t
+        → Includes t (ids_of pending.old.items) → All (IsUnsettled t) (entries_of group.now)
+        → IsFirm (K.holds keeper.old) (K.leaves_whole keeper.old) (K.may_leave keeper.old)
+        → Leaves (K.leaves_whole keeper.new) (K.may_leave keeper.new) (StandsForEither s h t s (grown h (entries_of group.now)) t)) }
+    ensures firm { OnOk result (K.is_honest keeper.new → IsFirm (K.holds keeper.old) (K.leaves_whole keeper.old) (K.may_leave keeper.old)
+        → IsFirm (K.holds keeper.new) (K.leaves_whole keeper.new) (K.may_leave keeper.new)) }
+    ensures honest { K.is_honest keeper.new → K.is_honest keeper.old }
+    ensures failed { K.has_failed keeper.new ≡ is_err result }
+{
+    if group.is_empty() {
+        return Ok(Vec::new(alloc));
+    }
+    match keeper.perform(group, pending.as_slice()) {
+        Ok(dones) => {
+            pending.clear();
+            Ok(dones)
+        }
+        Err(fault) => Err(fault),
+    }
+}
+
+// Whether an answer tells no error.
+fn tells_no_error(answer: &Answer) -> bool
+    ensures { result ≡ (answer.now.errno == 0) }
+{
+    answer.errno.0 == 0
+}
+
+// Whether the last answer has errno 0.
+fn ends_well(dones: &[Done]) -> bool
+    ensures { result ≡ last_zero (answers_in dones.now) }
+{
+    match dones.last() {
+        Some(done) => tells_no_error(&done.answer),
+        None => false,
+    }
+}
+
+// How a group's messages end.
+fn rest_of(ends: bool, dones: &[Done], stuck: bool) -> Rest
+    ensures { result ≡ rest_by (ends && last_zero (answers_in dones.now)) stuck }
+{
+    if ends && ends_well(dones) {
+        Rest::Destroyed
+    } else if stuck {
+        Rest::ZeroUnique
+    } else {
+        Rest::GoesOn
+    }
+}
+
+// Whether nothing was taken, though something is there.
+fn is_stuck(count: usize, messages: &[Bytes]) -> bool
+    ensures stuck { result ≡ true → (count ≡ 0) × (messages.now ≡ [] → ⊥) }
+    ensures moves { result ≡ false → count ≡ 0 → messages.now ≡ [] }
+{
+    count == 0 && !messages.is_empty()
+}
+
+fn stop_of(fault: SendFault) -> Stop
+    ensures port { result ≡ Stop.PortFailed → fault ≡ SendFault.PortFailed }
+    ensures memory { is_memory result ≡ true → fault ≡ SendFault.Memory }
+    ensures store { is_store result ≡ false }
+{
+    match fault {
+        SendFault::Memory => Stop::Memory,
+        SendFault::PortFailed => Stop::PortFailed,
+    }
+}
+
+/// Works off one group: reads it off the first messages, performs it, and sends its answers once it is committed.
+pub(crate) fn work_group<K: Keeper, P: Port, C: Clock>(
+    alloc: Global,
+    keeper: &mut K,
+    port: &mut P,
+    clock: &mut C,
+    messages: &[Bytes],
+    pending: &mut Vec<Id>,
+) -> Result<Turn, Stop>
+    requires messages { All IsMessage messages.now }
+    requires going { K.has_failed keeper.old ≡ false }
+    requires young { IsYoung (P.told port.old) }
+    requires few { length pending.old.items ≤ max_settled }
+    requires short { length messages.now < 2 ^ 60 }
+    ensures within { IfOk result (λ turn. turn.count ≤ length messages.now) }
+    ensures moves { IfOk result (λ turn. goes_on turn.rest ≡ true → turn.count ≡ 0 → messages.now ≡ []) }
+    ensures zero { IfOk result (λ turn. turn.rest ≡ Rest.ZeroUnique → StartsZero (drop turn.count messages.now)) }
+    ensures ok { IfOk result (λ turn. Turned (K.holds keeper.old) (K.holds keeper.new) (K.is_honest keeper.new) (C.may_answer clock.old) (P.told port.old) (P.told port.new)
+        (ids_of pending.old.items) (ids_of pending.new.items) (take turn.count messages.now) (lasts turn.rest) turn.counts) }
+    ensures below { IfOk result (λ turn. IsBelow turn.counts turn.count) }
+    ensures few { OnOk result (length pending.new.items ≤ max_settled) }
+    ensures going { OnOk result (K.has_failed keeper.new ≡ false) }
+    ensures firm { OnOk result (K.is_honest keeper.new → IsFirm (K.holds keeper.old) (K.leaves_whole keeper.old) (K.may_leave keeper.old)
+        → IsFirm (K.holds keeper.new) (K.leaves_whole keeper.new) (K.may_leave keeper.new)) }
+    ensures more { OnOk result ((P.told port.old).confirms ≡ true → K.is_honest keeper.new → (before : Records) → HandsOn before (K.holds keeper.old) (ids_of pending.old.items)
+        → HandsOn before (K.holds keeper.new) (ids_of pending.new.items)) }
+    ensures failures { OnOk result ((P.told port.new).failures ≡ (P.told port.old).failures) }
+    ensures err { IfErr result (λ stop. Broken (K.holds keeper.old) (K.holds keeper.new) (K.is_clean keeper.new) (K.is_honest keeper.new)
+        (IsFirm (K.holds keeper.old) (K.leaves_whole keeper.old) (K.may_leave keeper.old)) (K.leaves_whole keeper.new) (K.may_leave keeper.new)
+        (C.may_answer clock.old) (P.told port.old) (P.told port.new) (ids_of pending.old.items) messages.now (is_store stop) (is_memory stop)) }
+    ensures at_most { OnErr result (K.is_clean keeper.new → (before : Records) → HandsOn before (K.holds keeper.old) (ids_of pending.old.items) → AtMostMore before (K.holds keeper.new)) }
+    ensures failed { IfErr result (λ stop. stop ≡ Stop.PortFailed → (P.told port.old).failures < (P.told port.new).failures) }
+    ensures store { IfErr result (λ stop. K.has_failed keeper.new ≡ is_store stop) }
+    ensures honest { K.is_honest keeper.new → K.is_honest keeper.old }
+    ensures quiet { IsQuiet (P.told port.old) (P.told port.new) }
+    ensures same { (t : MomentValue) → C.may_answer clock.new t → C.may_answer clock.old t }
+{
+    let Ok(gathered) = gather(alloc, clock, messages) else {
+        return Err(Stop::Memory);
+    };
+    let front = &messages[..gathered.count];
+    let group = gathered.taken.as_slice();
+    let dones = match perform_group(alloc, keeper, group, pending) {
+        Ok(dones) => dones,
+        Err(fault) => return Err(Stop::Store(fault)),
+    };
+    let answered = dones.as_slice();
+    match send_answers(alloc, port, front, answered, pending) {
+        Ok(()) => {
+            let stuck = is_stuck(gathered.count, messages);
+            let rest = rest_of(gathered.ends, answered, stuck);
+            let counts = count_all(front, answered);
+            Ok(Turn {
+                count: gathered.count,
+                rest,
+                counts,
+            })
+        }
+        Err(fault) => Err(stop_of(fault)),
+    }
+}

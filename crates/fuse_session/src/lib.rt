@@ -1,0 +1,22 @@
+//! Serving the messages of a port from a keeper: what is sent, what is kept, and how it ends.
+#![tactic(auto)]
+
+mod clock;
+mod counts;
+mod ended;
+mod gather;
+mod group;
+mod memory;
+mod port;
+mod receiving;
+mod sending;
+mod stream;
+mod working;
+
+pub use clock::{Clock, Fixed, System};
+pub use counts::SessionCounts;
+pub use ended::{Ended, Served};
+pub use gather::DESTROY;
+pub use memory::{Arrival, MemoryPort, Outcome};
+pub use port::{Port, Received, Sent};
+pub use stream::StreamPort;

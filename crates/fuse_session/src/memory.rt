@@ -1,0 +1,160 @@
+// A port in memory.
+ghost use Rattle.std.specs.Prelude.{◌≡◌, ◌≤◌, length, Some, []};
+
+use crate::port::{Port, Received, Sent};
+use std::alloc::Global;
+
+/// What a call of `receive` of a `MemoryPort` gives.
+#[derive(Clone, Copy, Debug, PartialEq, Eq)]
+pub enum Arrival {
+    /// At most so many bytes.
+    Piece(usize),
+    Failed,
+}
+
+/// What a call of `send` of a `MemoryPort` answers.
+#[derive(Clone, Copy, Debug, PartialEq, Eq)]
+pub enum Outcome {
+    /// At most so many bytes are taken.
+    Take(usize),
+    Gone,
+    Failed,
+}
+
+/// Gives bytes in pieces, and keeps what is sent. Past its arrivals it gives what the buffer takes, and past its
+/// outcomes it takes all.
+#[derive(Drop)]
+pub struct MemoryPort {
+    input: Vec<u8>,
+    at: usize,
+    arrivals: Vec<Arrival>,
+    arrived: usize,
+    outcomes: Vec<Outcome>,
+    answered: usize,
+    sent: Vec<u8>,
+    gone: Vec<u64>,
+    receives: u64,
+    failures: u64,
+    receive_failures: u64,
+    ended: bool,
+    confirms: bool,
+
+    ghost within: { at ≤ length input.items },
+    ghost fewer: { receive_failures ≤ failures },
+}
+
+impl MemoryPort {
+    ghost use Rattle.fuse_session.specs.Memory.{memory_told};
+    ghost use Rattle.fuse_session.specs.Port.{fresh};
+
+    /// All of the input is to come. `confirms`: whether an answer taken whole counts as taken by the kernel.
+    pub fn new(
+        alloc: Global,
+        input: Vec<u8>,
+        arrivals: Vec<Arrival>,
+        outcomes: Vec<Outcome>,
+        confirms: bool,
+    ) -> MemoryPort
+        ensures { memory_told result ≡ fresh (Some input.items) (Some []) confirms }
+    {
+        MemoryPort {
+            input,
+            at: 0,
+            arrivals,
+            arrived: 0,
+            outcomes,
+            answered: 0,
+            sent: Vec::new(alloc),
+            gone: Vec::new(alloc),
+            receives: 0,
+            failures: 0,
+            receive_failures: 0,
+            ended: false,
+            confirms,
+        }
+    }
+
+    /// What was sent.
+    pub fn sent(&self) -> &[u8]
+        ensures { Some result.now ≡ (memory_told self.now).sent }
+    {
+        self.sent.as_slice()
+    }
+
+    fn next_arrival(&mut self) -> Arrival
+        ensures { memory_told self.new ≡ memory_told self.old }
+    {
+        if self.arrived < self.arrivals.len() {
+            self.arrived += 1;
+            return self.arrivals[self.arrived - 1];
+        }
+        Arrival::Piece(usize::MAX)
+    }
+
+    fn next_outcome(&mut self) -> Outcome
+        ensures { memory_told self.new ≡ memory_told self.old }
+    {
+        if self.answered < self.outcomes.len() {
+            self.answered += 1;
+            return self.outcomes[self.answered - 1];
+        }
+        Outcome::Take(usize::MAX)
+    }
+}
+
+impl Port for MemoryPort {
+    ghost use Rattle.fuse_session.specs.Memory.{memory_told};
+
+    ghost told = { memory_told };
+
+    fn receive(&mut self, buffer: &mut [u8]) -> Received {
+        self.receives += 1;
+        let Arrival::Piece(most) = self.next_arrival() else {
+            self.failures += 1;
+            self.receive_failures += 1;
+            return Received::Failed;
+        };
+        let left = self.input.len() - self.at;
+        if left == 0 {
+            self.ended = true;
+            return Received::End;
+        }
+        let n = left.min(most).min(buffer.len());
+        buffer[..n].copy_from_slice(&self.input[self.at..self.at + n]);
+        self.at += n;
+        Received::Got(n)
+    }
+
+    // A growth that is refused is a failure.
+    fn send(&mut self, bytes: &[u8]) -> Sent {
+        let outcome = self.next_outcome();
+        let taken = match outcome {
+            Outcome::Take(most) => &bytes[..bytes.len().min(most)],
+            Outcome::Gone => bytes,
+            Outcome::Failed => &bytes[..0],
+        };
+        if outcome == Outcome::Failed
+            || self.gone.reserve(1).is_err()
+            || self.sent.extend_from_slice(taken).is_err()
+        {
+            self.failures += 1;
+            return Sent::Failed;
+        }
+        if outcome == Outcome::Gone {
+            self.gone.push(self.sent.len() as u64).unwrap();
+            return Sent::Gone;
+        }
+        if taken.is_empty() && !bytes.is_empty() {
+            self.failures += 1;
+        }
+        Sent::Took(taken.len())
+    }
+
+    fn confirms(&self) -> bool {
+        self.confirms
+    }
+
+    fn tally(&self) -> (u64, u64) {
+        (self.receives, self.failures)
+    }
+}

@@ -1,0 +1,72 @@
+// Where messages come from and answers go to.
+ghost use Rattle.std.specs.Prelude.{◌≡◌, ◌<◌, length, IfOk, OnErr};
+ghost use Rattle.fuse_session.specs.Port.{PortState, IsYoung, Receives, Sends, SentWhole, SentPart};
+
+/// What a port answers to a call of `receive`.
+#[derive(Clone, Copy, Debug, PartialEq, Eq)]
+pub enum Received {
+    /// So many bytes came, and stand at the front of the buffer.
+    Got(usize),
+    /// Nothing comes any more.
+    End,
+    Failed,
+}
+
+/// What a port answers to a call of `send`.
+#[derive(Clone, Copy, Debug, PartialEq, Eq)]
+pub enum Sent {
+    /// So many bytes were taken.
+    Took(usize),
+    /// No request of this answer's unique is pending. The whole slice counts as sent.
+    Gone,
+    Failed,
+}
+
+/// A connection to a kernel: messages come from it, and answers go to it.
+pub trait Port: Drop {
+    /// What is told of it.
+    ghost told: { Self → PortState };
+
+    /// Receives bytes into a buffer, once. What stands in the buffer behind them is nothing.
+    fn receive(&mut self, buffer: &mut [u8]) -> Received
+        requires young { IsYoung (told self.old) }
+        requires room { 0 < length buffer.old }
+        ensures received { Receives (told self.old) (told self.new) result buffer.new };
+
+    /// Sends the bytes that are left of one answer, once.
+    fn send(&mut self, bytes: &[u8]) -> Sent
+        requires young { IsYoung (told self.old) }
+        ensures sent { Sends (told self.old) (told self.new) result bytes.now };
+
+    /// Whether an answer taken whole counts as taken by the kernel. Takes no memory.
+    fn confirms(&self) -> bool
+        ensures { result ≡ (told self.now).confirms };
+
+    /// How often it was asked to receive, and how often it failed. Takes no memory.
+    fn tally(&self) -> (u64, u64)
+        ensures receives { result.0 ≡ (told self.now).receives }
+        ensures failures { result.1 ≡ (told self.now).failures };
+}
+
+/// Sends all of one answer, and says whether the port told that nobody waits for it. An `Err` leaves a front of it
+/// sent, and the port failed.
+pub(crate) fn send_whole<P: Port>(port: &mut P, bytes: &[u8]) -> Result<bool, ()>
+    requires young { IsYoung (P.told port.old) }
+    ensures ok { IfOk result (λ gone. SentWhole (P.told port.old) (P.told port.new) bytes.now gone) }
+    ensures err { OnErr result (SentPart (P.told port.old) (P.told port.new) bytes.now) }
+{
+    let mut rest = bytes;
+    while !rest.is_empty() {
+        match port.send(rest) {
+            Sent::Took(n) => {
+                if n == 0 {
+                    return Err(());
+                }
+                rest = &rest[n..];
+            }
+            Sent::Gone => return Ok(true),
+            Sent::Failed => return Err(()),
+        }
+    }
+    Ok(false)
+}

@@ -1,0 +1,166 @@
+// Sending the answers of a group.
+ghost use Rattle.std.specs.Prelude.{◌≡◌, ◌≤◌, ◌<◌, ◌+◌, ◌-◌, ◌^◌, ◌++◌, ◌||◌, ◌∷◌, [], ℕ, List, length, drop, All, IfOk, IfErr, OnOk, OnErr};
+ghost use Rattle.fuse_answer.specs.Wire.{wire};
+ghost use Rattle.fuse_request.specs.Stream.{IsMessage};
+ghost use Rattle.fuse_request.specs.Classes.{class_of};
+ghost use Rattle.fuse_session.specs.Worked.{unique_of};
+ghost use Rattle.fuse_session.specs.Settling.{Mark, settles};
+ghost use Rattle.fuse_store.specs.Group.{ids_of};
+ghost use Rattle.fuse_session.specs.Port.{PortState, IsYoung, SentWhole};
+ghost use Rattle.fuse_session.specs.Group.{answers_in, wires, AreEnough, head_wire, left_by, SendFails, SentNext, SentAll, SentSome};
+
+use crate::port::{Port, send_whole};
+use bytes::Bytes;
+use fuse_answer::{Answer, write_answer};
+use fuse_request::{Class, classify, header_of};
+use fuse_store::Done;
+use fuse_wire::{Errno, Id};
+use std::alloc::Global;
+
+/// Why an answer isn't sent whole.
+#[derive(Clone, Copy, Debug, PartialEq, Eq)]
+pub(crate) enum SendFault {
+    Memory,
+    PortFailed,
+}
+
+// Sends one answer, and says whether the port told that nobody waits for it.
+fn send_reply<P: Port>(
+    alloc: Global,
+    port: &mut P,
+    unique: u64,
+    answer: &Answer,
+) -> Result<bool, SendFault>
+    requires young { IsYoung (P.told port.old) }
+    ensures ok { IfOk result (λ gone. SentWhole (P.told port.old) (P.told port.new) (wire answer.now.errno answer.now.body unique) gone) }
+    ensures err { IfErr result (λ fault. SendFails fault (P.told port.old) (P.told port.new) (wire answer.now.errno answer.now.body unique)) }
+{
+    let mut bytes = Vec::new(alloc);
+    if write_answer(unique, answer, &mut bytes).is_err() {
+        return Err(SendFault::Memory);
+    }
+    match send_whole(port, bytes.as_slice()) {
+        Ok(gone) => Ok(gone),
+        Err(()) => Err(SendFault::PortFailed),
+    }
+}
+
+// The unique of a message.
+fn unique_in(message: &[u8]) -> u64
+    requires { IsMessage message.now }
+    ensures { result ≡ unique_of message.now }
+{
+    match header_of(message) {
+        Some(header) => header.unique,
+        None => 0,
+    }
+}
+
+// Whether an answer that was taken whole settles its id.
+fn is_settled<P: Port>(port: &P, gone: bool) -> bool
+    ensures { result ≡ ((P.told port.now).confirms || gone) }
+{
+    port.confirms() || gone
+}
+
+// Sends a recorded answer. Its id is pending then, where the answer settles it.
+fn send_kept<P: Port>(
+    alloc: Global,
+    port: &mut P,
+    message: &[u8],
+    answer: &Answer,
+    pending: &mut Vec<Id>,
+) -> Result<(), SendFault>
+    requires message { IsMessage message.now }
+    requires kept { class_of message.now ≡ Class.Kept }
+    requires young { IsYoung (P.told port.old) }
+    ensures ok { OnOk result (SentNext (P.told port.old) (P.told port.new) message.now (wire answer.now.errno answer.now.body (unique_of message.now)) (ids_of pending.old.items) (ids_of pending.new.items)) }
+    ensures few { length pending.new.items ≤ length pending.old.items + 1 }
+    ensures err { IfErr result (λ fault. SendFails fault (P.told port.old) (P.told port.new) (wire answer.now.errno answer.now.body (unique_of message.now))) }
+{
+    if pending.reserve(1).is_err() {
+        return Err(SendFault::Memory);
+    }
+    let unique = unique_in(message);
+    let gone = match send_reply(alloc, port, unique, answer) {
+        Ok(gone) => gone,
+        Err(fault) => return Err(fault),
+    };
+    if is_settled(port, gone) {
+        pending.push_reserved(Id::of(unique));
+    }
+    Ok(())
+}
+
+// Sends an answer that isn't recorded.
+fn send_bare<P: Port>(
+    alloc: Global,
+    port: &mut P,
+    message: &[u8],
+    errno: Errno,
+) -> Result<bool, SendFault>
+    requires message { IsMessage message.now }
+    requires young { IsYoung (P.told port.old) }
+    ensures ok { IfOk result (λ gone. SentWhole (P.told port.old) (P.told port.new) (wire errno.0 [] (unique_of message.now)) gone) }
+    ensures err { IfErr result (λ fault. SendFails fault (P.told port.old) (P.told port.new) (wire errno.0 [] (unique_of message.now))) }
+{
+    let answer = Answer::refusal(alloc, errno);
+    send_reply(alloc, port, unique_in(message), &answer)
+}
+
+// Sends the answer to one message, and says how many answers are used then.
+fn send_next<P: Port>(
+    alloc: Global,
+    port: &mut P,
+    message: &[u8],
+    dones: &[Done],
+    next: usize,
+    pending: &mut Vec<Id>,
+) -> Result<usize, SendFault>
+    requires message { IsMessage message.now }
+    requires next { next ≤ length dones.now }
+    requires enough { class_of message.now ≡ Class.Kept → next < length dones.now }
+    requires young { IsYoung (P.told port.old) }
+    ensures next { IfOk result (λ n. n ≤ length dones.now) }
+    ensures left { IfOk result (λ n. drop n (answers_in dones.now) ≡ left_by (class_of message.now) (drop next (answers_in dones.now))) }
+    ensures ok { OnOk result (SentNext (P.told port.old) (P.told port.new) message.now (head_wire (class_of message.now) (unique_of message.now) (drop next (answers_in dones.now))) (ids_of pending.old.items) (ids_of pending.new.items)) }
+    ensures few { IfOk result (λ n. length pending.new.items + next ≤ length pending.old.items + n) }
+    ensures err { IfErr result (λ fault. SendFails fault (P.told port.old) (P.told port.new) (head_wire (class_of message.now) (unique_of message.now) (drop next (answers_in dones.now)))) }
+{
+    match classify(message) {
+        Class::Silent => Ok(next),
+        Class::Bare(errno) => match send_bare(alloc, port, message, errno) {
+            Ok(_) => Ok(next),
+            Err(fault) => Err(fault),
+        },
+        Class::Kept => match send_kept(alloc, port, message, &dones[next].answer, pending) {
+            Ok(()) => Ok(next + 1),
+            Err(fault) => Err(fault),
+        },
+    }
+}
+
+/// Sends the answers to messages, in order. The ids that they settle are pending then.
+pub(crate) fn send_answers<P: Port>(
+    alloc: Global,
+    port: &mut P,
+    messages: &[Bytes],
+    dones: &[Done],
+    pending: &mut Vec<Id>,
+) -> Result<(), SendFault>
+    requires messages { All IsMessage messages.now }
+    requires enough { AreEnough messages.now (answers_in dones.now) }
+    requires young { IsYoung (P.told port.old) }
+    ensures ok { OnOk result (SentAll (P.told port.old) (P.told port.new) messages.now (wires messages.now (answers_in dones.now)) (ids_of pending.old.items) (ids_of pending.new.items)) }
+    ensures few { OnOk result (length pending.new.items ≤ length pending.old.items + length dones.now) }
+    ensures err { IfErr result (λ fault. SentSome (P.told port.old) (P.told port.new) (wires messages.now (answers_in dones.now)) fault) }
+{
+    let mut next = 0;
+    for message in messages {
+        match send_next(alloc, port, message.as_slice(), dones, next, pending) {
+            Ok(used) => next = used,
+            Err(fault) => return Err(fault),
+        }
+    }
+    Ok(())
+}
