@@ -11,7 +11,7 @@ use Rattle.fuse_store.specs.History.{Entry, entry_id, is_in, ids_in, Includes, I
 use Rattle.fuse_store.specs.Stands.{Records, OthersStay}
 use Rattle.fuse_store.proofs.Standing.{unsettled_too}
 use Rattle.fuse_session.specs.Worked.{Timed, bytes_of, kept_in, entries_at, entry_if, timed_entry, message_id}
-use Rattle.fuse_session.specs.Settling.{Mark, settles, settles_if, settled_in, comes_again, MayCome, NoneComesAgain, SomeAndMore}
+use Rattle.fuse_session.specs.Settling.{Mark, settles, settles_if, settled_in, comes_again, NoneComesAgain, SomeAndMore}
 
 or_true : (a b : Bool) → b ≡ true → (a || b) ≡ true
 or_true true b is = refl

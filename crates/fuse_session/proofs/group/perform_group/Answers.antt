@@ -1,4 +1,4 @@
-use Rattle.std.proofs.Common.{ℕ, List, sym, subst, ap, arith, length}
+use Rattle.std.proofs.Common.{sym, subst, arith}
 use Rattle.std.proofs.lemmas.List.{length-map}
 use Rattle.fuse_store.specs.History.{Includes}
 use Rattle.fuse_store.specs.Stands.{Records, OthersStay}
