@@ -4,7 +4,6 @@ use Rattle.std.proofs.Math.Nat.{zero-add, add-zero, add_assoc}
 use Rattle.fuse_request.specs.declared.class.Class.{Class}
 use Rattle.fuse_request.specs.declared.class.Class.TheVariants.{Silent, Bare, Kept}
 use Rattle.fuse_request.specs.Classes.{class_of}
-
 use Rattle.std.proofs.Common.{zero, suc, get_or}
 use Rattle.fuse_store.specs.declared.keeper.Done.{Done}
 use Rattle.fuse_store.specs.History.{Entry, entry_id, History, has, grown, repeats}

@@ -11,7 +11,6 @@ use Rattle.fuse_request.specs.Classes.{class_of, class_by, is_zero}
 use Rattle.fuse_request.specs.Faults.{first_fault}
 use Rattle.fuse_request.specs.Header.{raw_of}
 use Rattle.fuse_request.specs.Opcodes.{silent}
-
 use Rattle.fuse_store.specs.History.{Entry}
 use Rattle.fuse_store.specs.Group.{entry_of, entries_of, HasId, IsKept}
 use Rattle.fuse_session.specs.declared.gather.TheConstants.{DESTROY}

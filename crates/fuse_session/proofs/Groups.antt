@@ -165,7 +165,7 @@ broken_sent holds holds' clean' honest' whole whole' left left' may p q pending 
     let es : entries_of group ≡ kept_in ts = ap entries_of same ∙ gathers.entries in
     let bytes : front ≡ bytes_of ts = same_front ∙ gathers.bytes in
     let done = λ (honest : honest') (s : State) (h : History) (t : List ℕ) (so : StandsFor holds s h t) (within : Includes t pending) (again : NoneComesAgain p.confirms t (bytes_of ts) some.marks).
-        performed honest s h t so within (subst (All (IsUnsettled t)) (sym es) (group_unsettled p.confirms t ts some.marks again)) in
+    performed honest s h t so within (subst (All (IsUnsettled t)) (sym es) (group_unsettled p.confirms t ts some.marks again)) in
     let works = λ (s : State) (h : History). works_group s h ts gathers.no_zero gathers.only in
     record {
       timed = ts;

@@ -6,7 +6,6 @@ use Rattle.fuse_answer.specs.Said.{Said}
 use Rattle.fuse_request.specs.declared.class.Class.{Class}
 use Rattle.fuse_request.specs.declared.class.Class.TheVariants.{Silent, Bare, Kept}
 use Rattle.fuse_request.specs.Classes.{class_of}
-
 use Rattle.fuse_store.specs.History.{Entry, entry_id, is_in, ids_in, Includes, IsUnsettled}
 use Rattle.fuse_store.specs.Stands.{Records, OthersStay}
 use Rattle.fuse_store.proofs.Standing.{unsettled_too}

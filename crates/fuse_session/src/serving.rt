@@ -2,7 +2,6 @@
 ghost use Rattle.std.specs.Prelude.{◌≡◌, ◌≤◌, ◌<◌, ◌+◌, ◌^◌, [], ℕ, Bool, true, false, None, List, length, IfOk, IfErr, OnOk, OnErr};
 ghost use Rattle.fuse_wire.specs.declared.moment.Moment.{Moment as MomentValue};
 ghost use Rattle.fuse_request.specs.Framing.{fed_of};
-
 ghost use Rattle.fuse_request.specs.declared.header.TheConstants.{MAX_MESSAGE as max_message};
 ghost use Rattle.fuse_tree.specs.Rows.{Rows};
 ghost use Rattle.fuse_store.specs.Stands.{Records, IsFirm};
