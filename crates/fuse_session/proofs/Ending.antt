@@ -4,7 +4,6 @@ use Rattle.fuse_answer.specs.Said.{Said}
 use Rattle.fuse_request.specs.declared.class.Class.{Class}
 use Rattle.fuse_request.specs.declared.class.Class.TheVariants.{Silent, Bare, Kept}
 use Rattle.fuse_request.specs.Classes.{class_of}
-
 use Rattle.fuse_request.specs.Header.{raw_of}
 use Rattle.fuse_tree.specs.State.{State}
 use Rattle.fuse_store.specs.History.{entry_id, History, add, said, grown}

@@ -1,5 +1,5 @@
 -- A group performed, and its answers sent.
-use Rattle.std.proofs.Common.{◌≡◌, ◌⊎◌, inl, inr, ⊎_elim, ℕ, suc, ◌+◌, ◌-◌, ◌≤◌, ◌<◌, Bool, true, false, ◌&&◌, ◌==◌, List, [], ◌∷◌, ◌++◌, length, map, take, drop, All, Option, Some, slice_get, refl, sym, ap, subst, ◌∙◌, append_assoc, arith}
+use Rattle.std.proofs.Common.{◌≡◌, ◌⊎◌, inl, inr, ⊎_elim, ℕ, suc, ◌-◌, ◌≤◌, ◌<◌, Bool, true, false, ◌&&◌, ◌==◌, List, [], ◌∷◌, ◌++◌, length, map, take, drop, All, Some, slice_get, refl, sym, ap, subst, ◌∙◌, arith}
 use Rattle.std.proofs.lemmas.List.{append-nil, take-append-drop, length-map}
 use Rattle.fuse_wire.specs.declared.moment.Moment.{Moment}
 use Rattle.fuse_answer.specs.Said.{Said}
@@ -21,11 +21,10 @@ use Rattle.fuse_session.specs.declared.group.Rest.TheVariants.{ZeroUnique}
 use Rattle.fuse_session.specs.declared.sending.SendFault.{SendFault}
 use Rattle.fuse_session.specs.declared.sending.SendFault.TheVariants.{Memory}
 use Rattle.fuse_session.specs.Port.{PortState}
-use Rattle.fuse_session.specs.Worked.{Timed, bytes_of, kept_in, entries_at, entry_if, timed_entry, answers, Works, GoesOn, EndsLast, StartsZero, Moments}
-use Rattle.fuse_session.specs.Settling.{Mark, replies, settled_in, NoneComesAgain, Replied, SomeAndMore, AtMostMore, HandsOn}
-use Rattle.fuse_session.specs.Counting.{counted}
+use Rattle.fuse_session.specs.Worked.{Timed, bytes_of, kept_in, entry_if, timed_entry, answers, Works, StartsZero}
+use Rattle.fuse_session.specs.Settling.{Mark, replies, settled_in, NoneComesAgain, Replied, AtMostMore, HandsOn}
 use Rattle.fuse_session.specs.Group.{Gathers, IsStuck, answers_in, repeats_in, wires, left_by, told, tallied, rest_by, last_zero, AreEnough, SentAll, SentSome}
-use Rattle.fuse_session.specs.Serving.{Answered, Turned, Lived, Broken, lasts}
+use Rattle.fuse_session.specs.Serving.{Turned, Lived, Broken, lasts}
 use Rattle.fuse_session.proofs.Replies.{replied_none}
 use Rattle.fuse_session.proofs.Outs.{wires_are, told_is}
 use Rattle.fuse_session.proofs.Ending.{works_group, goes_none, goes_last, ends_last}
@@ -166,7 +165,7 @@ broken_sent holds holds' clean' honest' whole whole' left left' may p q pending 
     let es : entries_of group ≡ kept_in ts = ap entries_of same ∙ gathers.entries in
     let bytes : front ≡ bytes_of ts = same_front ∙ gathers.bytes in
     let done = λ (honest : honest') (s : State) (h : History) (t : List ℕ) (so : StandsFor holds s h t) (within : Includes t pending) (again : NoneComesAgain p.confirms t (bytes_of ts) some.marks).
-        performed honest s h t so within (subst (All (IsUnsettled t)) (sym es) (group_unsettled p.confirms t ts some.marks again)) in
+    performed honest s h t so within (subst (All (IsUnsettled t)) (sym es) (group_unsettled p.confirms t ts some.marks again)) in
     let works = λ (s : State) (h : History). works_group s h ts gathers.no_zero gathers.only in
     record {
       timed = ts;

@@ -1,10 +1,9 @@
 -- What is sent for messages, one after another.
-use Rattle.std.proofs.Common.{◌≡◌, inr, ℕ, true, List, [], ◌∷◌, ◌++◌, map, Option, Some, None, refl, sym, ap, subst, ◌∙◌, append_assoc}
+use Rattle.std.proofs.Common.{◌≡◌, inr, ℕ, true, List, [], ◌∷◌, ◌++◌, map, Some, refl, sym, ap, subst, ◌∙◌, append_assoc}
 use Rattle.fuse_answer.specs.Said.{Said}
 use Rattle.fuse_request.specs.declared.class.Class.{Class}
 use Rattle.fuse_request.specs.declared.class.Class.TheVariants.{Silent, Bare, Kept}
 use Rattle.fuse_request.specs.Classes.{class_of}
-
 use Rattle.fuse_tree.specs.State.{State}
 use Rattle.fuse_store.specs.History.{Entry, entry_id, History, has, add, said, grown}
 use Rattle.fuse_store.proofs.Histories.{has-add, said-grown, grown-append}

@@ -1,21 +1,20 @@
 -- The answers of a group, one after another.
-use Rattle.std.proofs.Common.{◌≡◌, ℕ, zero, suc, ◌+◌, ◌<◌, ◌≤◌, true, false, List, [], ◌∷◌, ◌++◌, length, take, drop, get_or, map, refl, sym, ap, subst, ◌∙◌, append_assoc, arith, add-one, drop-cons, length-append}
+use Rattle.std.proofs.Common.{◌≡◌, ℕ, zero, suc, ◌+◌, ◌<◌, true, false, List, [], ◌∷◌, ◌++◌, length, take, drop, get_or, refl, sym, ap, subst, ◌∙◌, append_assoc, arith, add-one, drop-cons, length-append}
 use Rattle.std.proofs.lemmas.List.{append-nil, take_more}
 use Rattle.std.proofs.Common.{Bool, ◌||◌, Result, Ok, Err, IfOk}
 use Rattle.std.specs.Prelude.{IfErr}
 use Rattle.fuse_wire.specs.declared.errno.Errno.{Errno}
 use Rattle.fuse_answer.specs.Wire.{wire}
 use Rattle.fuse_answer.specs.Said.{Said}
-use Rattle.fuse_request.specs.declared.class.Class.{Class}
 use Rattle.fuse_request.specs.declared.class.Class.TheVariants.{Silent, Bare, Kept}
 use Rattle.fuse_request.specs.Classes.{class_of}
 use Rattle.fuse_request.specs.Stream.{joined}
 use Rattle.fuse_store.specs.declared.keeper.Done.{Done}
 use Rattle.fuse_session.specs.declared.sending.SendFault.{SendFault}
 use Rattle.fuse_session.specs.declared.sending.SendFault.TheVariants.{Memory, PortFailed}
-use Rattle.fuse_session.specs.Port.{PortState, IsYoung, IsQuiet, SentWhole, SentPart}
+use Rattle.fuse_session.specs.Port.{PortState, IsYoung, IsQuiet, SentWhole}
 use Rattle.fuse_session.specs.Worked.{unique_of, message_id}
-use Rattle.fuse_session.specs.Settling.{Mark, replies, settles, settles_if, settled_in, Replied}
+use Rattle.fuse_session.specs.Settling.{replies, settles, settles_if, settled_in, Replied}
 use Rattle.fuse_session.specs.Group.{answers_in, head_wire, left_by, wires, AreEnough, SendFails, SentNext, SentFirst, SentAll, SentSome}
 use Rattle.fuse_session.proofs.Bytes.{appends_none, quiet_none, quiet_more}
 use Rattle.fuse_session.proofs.Replies.{replied_none, replied_more, replied_one, replied_part, replies-append}

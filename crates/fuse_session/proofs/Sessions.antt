@@ -1,14 +1,13 @@
 -- Turns, one after another.
-use Rattle.std.proofs.Common.{◌≡◌, ◌⊎◌, inl, inr, ◌<◌, ◌≤◌, ◌+◌, ℕ, Bool, true, false, List, [], ◌∷◌, ◌++◌, length, Option, Some, None, refl, sym, ap, subst, ◌∙◌, append_assoc, arith, length-append}
+use Rattle.std.proofs.Common.{◌≡◌, inl, inr, ◌<◌, ◌+◌, ℕ, Bool, true, false, List, [], ◌++◌, length, Option, None, refl, sym, ap, subst, ◌∙◌, append_assoc, arith, length-append}
 use Rattle.std.proofs.lemmas.List.{append-nil}
 use Rattle.std.specs.Io.KnownBytes.{Appends, Consumes}
 use Rattle.fuse_wire.specs.declared.moment.Moment.{Moment}
 use Rattle.fuse_request.specs.declared.framer.FrameFault.{FrameFault}
 use Rattle.fuse_request.specs.Stream.{cut, joined, CutJoins}
-use Rattle.fuse_request.specs.Framing.{Held, HasNone, bad_length, end_fault}
+use Rattle.fuse_request.specs.Framing.{Held}
 use Rattle.fuse_tree.specs.Rows.{Rows}
-use Rattle.fuse_store.specs.Stands.{Records, Stands, StandsFor, Leaves, IsFirm, KeepsHeld}
-use Rattle.fuse_store.specs.History.{History, Includes}
+use Rattle.fuse_store.specs.Stands.{Records, IsFirm}
 use Rattle.fuse_session.specs.declared.counts.SessionCounts.{SessionCounts}
 use Rattle.fuse_session.specs.declared.ended.Ended.{Ended}
 use Rattle.fuse_session.specs.declared.ended.Ended.TheVariants.{End, Destroyed, Turns, Frame, ZeroUnique, PortFailed, Store, Memory}

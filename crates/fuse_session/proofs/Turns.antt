@@ -7,15 +7,15 @@ use Rattle.fuse_request.specs.Stream.{joined}
 use Rattle.fuse_tree.specs.State.{State}
 use Rattle.fuse_tree.specs.Rows.{Rows}
 use Rattle.fuse_store.specs.History.{History, grown, said, Includes}
-use Rattle.fuse_store.specs.Stands.{Records, Stands, StandsFor, Leaves, IsFirm}
+use Rattle.fuse_store.specs.Stands.{Records, Stands, StandsFor, IsFirm}
 use Rattle.fuse_session.specs.declared.counts.SessionCounts.{SessionCounts}
 use Rattle.fuse_session.specs.declared.group.Rest.{Rest}
 use Rattle.fuse_session.specs.declared.group.Rest.TheVariants.{GoesOn as GoesOnHere, Destroyed, ZeroUnique}
 use Rattle.fuse_session.specs.Port.{PortState}
-use Rattle.fuse_session.specs.Worked.{Timed, bytes_of, kept_in, answers, says_zero, message_id, StartsZero, Moments, GoesOn}
+use Rattle.fuse_session.specs.Worked.{Timed, bytes_of, kept_in, answers, says_zero, message_id, StartsZero, GoesOn}
 use Rattle.fuse_session.specs.Settling.{Mark, replies, settled_in, NoneComesAgain, Replied}
 use Rattle.fuse_session.specs.Counting.{plus, none_counted, counted}
-use Rattle.fuse_session.specs.Serving.{Answered, Turned, Lived, Broken, WorkedOff, lasts, goes_on}
+use Rattle.fuse_session.specs.Serving.{Turned, Lived, Broken, WorkedOff, lasts, goes_on}
 use Rattle.fuse_session.proofs.Replies.{replied_none, replied_more, joined-append, replies-append}
 use Rattle.fuse_session.proofs.Outs.{answers-append, grown_kept, Works-append, GoesOn-append}
 use Rattle.fuse_session.proofs.Settled.{settled-append, again-parts}

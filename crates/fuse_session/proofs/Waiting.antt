@@ -1,9 +1,8 @@
 -- Messages that are taken, one after another.
-use Rattle.std.proofs.Common.{◌≡◌, ◌≢◌, ◌<◌, ◌≤◌, ◌+◌, ◌-◌, ℕ, List, [], ◌∷◌, ◌++◌, length, All, Option, Some, None, Result, Ok, Err, refl, sym, ap, subst, ◌∙◌, append_assoc, arith, length-append}
+use Rattle.std.proofs.Common.{◌≡◌, ◌<◌, ◌+◌, ◌-◌, ℕ, List, [], ◌∷◌, ◌++◌, length, take, Option, Some, None, Ok, Err, refl, sym, ap, subst, ◌∙◌, append_assoc, arith, length-append}
 use Rattle.std.specs.Option.{option_or}
-use Rattle.std.proofs.lemmas.List.{append-nil}
+use Rattle.std.proofs.lemmas.List.{append-nil, length-take-le}
 use Rattle.std.proofs.lemmas.List.Elements.{All-append, All-nil}
-use Rattle.std.proofs.lemmas.List.Concat.{flat_map-append}
 use Rattle.fuse_request.specs.declared.framer.FrameFault.{FrameFault}
 use Rattle.fuse_request.specs.declared.framer.FrameFault.TheVariants.{Short, TooLong, Cut, Memory}
 use Rattle.fuse_request.specs.declared.header.TheConstants.{MAX_MESSAGE}
@@ -98,3 +97,7 @@ end_faulty h f ready is = sym (is ∙ ends_open h ready)
 pub ready_new : (h : Held) → h ≡ record { bytes = []; at = 0; fault = None } → IsOpen h
 unfolding cut
 ready_new h is = subst IsOpen (sym is) (record { fault = refl; none = refl; good = refl; short = omega arith })
+
+-- a buffer keeps its length
+pub room_still : (n : ℕ) (new rest : List ℕ) → length new ≡ 135168 → n ≡ 135168 → length (take n (new ++ rest)) ≡ 135168
+room_still n new rest is same = length-take-le n (new ++ rest) (omega (arith, length-append new rest, is, same)) ∙ same

@@ -1,5 +1,5 @@
 -- How serving ends: one case for each line of the table of ends (own profile).
-use Rattle.std.specs.Prelude.{◌≡◌, ◌⊎◌, ◌<◌, ℕ, ◌+◌, Bool, true, false, List, [], ◌∷◌, ◌++◌, length, Option, Some, None}
+use Rattle.std.specs.Prelude.{◌≡◌, ◌⊎◌, ◌<◌, ℕ, ◌+◌, Bool, true, false, List, [], Option, Some, None}
 use Rattle.fuse_wire.specs.declared.moment.Moment.{Moment}
 use Rattle.fuse_request.specs.Framing.{HasNone, bad_length, end_fault}
 use Rattle.fuse_request.specs.declared.framer.FrameFault.{FrameFault}

@@ -1,5 +1,5 @@
 -- Messages that are worked off, and what is sent for them (own profile).
-use Rattle.std.specs.Prelude.{◌≡◌, ◌⊎◌, ℕ, Bool, true, false, ◌==◌, if◌then◌else◌, List, [], ◌∷◌, ◌++◌, map, Option, Some, None}
+use Rattle.std.specs.Prelude.{◌≡◌, ◌⊎◌, ℕ, Bool, true, false, ◌==◌, List, [], ◌∷◌, ◌++◌, map, Option, Some, None}
 use Rattle.fuse_wire.specs.Ids.{id_of}
 use Rattle.fuse_wire.specs.declared.moment.Moment.{Moment}
 use Rattle.fuse_answer.specs.Said.{Said}
@@ -12,7 +12,7 @@ use Rattle.fuse_request.specs.Places.{asked_at}
 use Rattle.fuse_request.specs.Stream.{joined}
 use Rattle.fuse_session.specs.declared.gather.TheConstants.{DESTROY}
 use Rattle.fuse_tree.specs.State.{State}
-use Rattle.fuse_store.specs.History.{Entry, entry_id, History, grown, said}
+use Rattle.fuse_store.specs.History.{Entry, History, grown, said}
 
 -- a message, and the moment at which it was worked off (of one that isn't kept, any)
 pub record Timed : Type 0 where

@@ -120,13 +120,7 @@ fn used_after(message: &[u8], dones: &[Done], next: usize) -> usize
 {
     match classify(message) {
         Class::Silent | Class::Bare(_) => next,
-        Class::Kept => {
-            if next < dones.len() {
-                next + 1
-            } else {
-                next
-            }
-        }
+        Class::Kept => { if next < dones.len() { next + 1 } else { next } }
     }
 }
 

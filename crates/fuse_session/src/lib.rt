@@ -10,6 +10,7 @@ mod memory;
 mod port;
 mod receiving;
 mod sending;
+mod serving;
 mod stream;
 mod working;
 
@@ -19,4 +20,5 @@ pub use ended::{Ended, Served};
 pub use gather::DESTROY;
 pub use memory::{Arrival, MemoryPort, Outcome};
 pub use port::{Port, Received, Sent};
+pub use serving::serve;
 pub use stream::StreamPort;

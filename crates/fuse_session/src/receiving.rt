@@ -1,7 +1,6 @@
 // Receiving, and the messages that wait then.
 ghost use Rattle.std.specs.Prelude.{◌≡◌, ◌≤◌, ◌<◌, ◌+◌, ◌^◌, [], None, Some, length, IfOk, IfErr};
 ghost use Rattle.fuse_request.specs.Framing.{fed_of};
-
 ghost use Rattle.fuse_session.specs.Port.{IsYoung};
 ghost use Rattle.fuse_session.specs.Receiving.{IsOpen, TookAll, IsHearing, Heard, NotHeard, EndsSo};
 

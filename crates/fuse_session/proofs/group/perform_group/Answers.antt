@@ -1,4 +1,4 @@
-use Rattle.std.proofs.Common.{ℕ, List, sym, subst, ap, arith, length}
+use Rattle.std.proofs.Common.{sym, subst, arith}
 use Rattle.std.proofs.lemmas.List.{length-map}
 use Rattle.fuse_store.specs.History.{Includes}
 use Rattle.fuse_store.specs.Stands.{Records, OthersStay}
@@ -16,8 +16,8 @@ returns-in-Ok-clause-more g c = λ honest before h.
     hands_more before (g.K.Keeper.holds c.args.keeper.now) (g.K.Keeper.holds c.perform.new.self) (ids_of c.args.pending.now.items) (ids_of c.clear.new.self.items) (entries_of group)
     (omega (arith, length-map group entry_of, c.requires.short))
     (λ (rows : Rows) (records : Records) held.
-        let o = c.in-Ok.ensures.others honest rows records held in
-        (o.0, o.1, o.2, subst (λ x. OthersStay records (ids_of x) (entries_of group) o.1) c.as_slice.ensures.value o.3))
+    let o = c.in-Ok.ensures.others honest rows records held in
+    (o.0, o.1, o.2, subst (λ x. OthersStay records (ids_of x) (entries_of group) o.1) c.as_slice.ensures.value o.3))
     h
 
 pub returns-in-Err-clause-crash : goal.returns-in-Err-clause-crash

@@ -1,8 +1,6 @@
-use Rattle.std.proofs.Common.{◌≡◌, ◌++◌, ◌&&◌, true, false, sym, subst, ap, refl, ◌∙◌, take}
-use Rattle.fuse_store.specs.History.{ids_in}
+use Rattle.std.proofs.Common.{true, false, sym, refl, ◌∙◌, take}
 use Rattle.fuse_store.specs.Stands.{Records}
-use Rattle.fuse_store.specs.Group.{entries_of, ids_of}
-use Rattle.fuse_session.specs.Group.{answers_in, last_zero, wires}
+use Rattle.fuse_store.specs.Group.{ids_of}
 use Rattle.fuse_session.proofs.Replies.{replied_none}
 use Rattle.fuse_session.proofs.Groups.{broken_none, broken_store, broken_sent, turned, firm_leaves, are_enough, stuck_zero, starts_zero, hands_group, at_most}
 use Rattle.fuse_session.proofs.group.work_group.Goals as goal

@@ -1,4 +1,4 @@
-use Rattle.std.proofs.Common.{◌≡◌, ◌∙◌, ◌+◌, [], length, take, drop, ap, sym, arith}
+use Rattle.std.proofs.Common.{take, drop, ap, arith}
 use Rattle.std.proofs.lemmas.List.{take_all, drop_all}
 use Rattle.fuse_store.specs.Group.{ids_of}
 use Rattle.fuse_session.specs.Group.{answers_in, wires}

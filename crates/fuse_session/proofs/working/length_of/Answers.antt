@@ -1,4 +1,4 @@
-use Rattle.std.proofs.Common.{◌≡◌, ◌∙◌, ◌+◌, ℕ, List, ap, arith, length}
+use Rattle.std.proofs.Common.{◌∙◌, ℕ, List, ap, arith, length}
 use Rattle.std.proofs.lemmas.List.Folds.{length-flat_map-take}
 use Rattle.fuse_session.proofs.Turns.{joined_at}
 use Rattle.fuse_session.proofs.working.length_of.Goals as goal

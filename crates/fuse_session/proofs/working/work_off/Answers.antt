@@ -1,5 +1,4 @@
-use Rattle.std.proofs.Common.{◌≡◌, ◌∙◌, ◌+◌, ◌-◌, ◌^◌, ap, take, drop, length, arith, refl, sym, subst, true}
-use Rattle.fuse_request.specs.Stream.{joined}
+use Rattle.std.proofs.Common.{◌∙◌, ◌+◌, ◌-◌, ◌^◌, take, drop, length, arith, refl, sym, subst}
 use Rattle.fuse_store.specs.Group.{ids_of}
 use Rattle.fuse_store.specs.Stands.{Records}
 use Rattle.fuse_session.specs.Counting.{IsBelow}

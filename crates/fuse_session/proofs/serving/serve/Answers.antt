@@ -1,0 +1,109 @@
+use Rattle.std.proofs.Common.{◌∙◌, ◌+◌, ◌*◌, ◌^◌, [], ap, arith, length, refl, sym, subst}
+use Rattle.fuse_store.specs.Stands.{Records}
+use Rattle.fuse_store.specs.Group.{ids_of}
+use Rattle.fuse_request.specs.Framing.{fed_of}
+use Rattle.fuse_session.specs.Settling.{HandsOn}
+use Rattle.fuse_session.specs.Counting.{IsBelow}
+use Rattle.fuse_session.proofs.Counted.{plus_below, below_more}
+use Rattle.fuse_session.proofs.Groups.{at_most, hands_start}
+use Rattle.fuse_session.proofs.Waiting.{ready_new, room_still}
+use Rattle.fuse_session.proofs.Sessions.{whole_start, whole_step, whole_life, ends_step, life_more, life_none}
+use Rattle.fuse_session.proofs.serving.serve.Goals as goal
+
+pub returns-in_default-clause-life : goal.returns-in_default-clause-life
+returns-in_default-clause-life g c =
+    let k = c.args.keeper.now in
+    life_none (g.K.Keeper.holds k) _ _ (g.K.Keeper.leaves_whole k) (g.K.Keeper.may_leave k) _ (g.P.Port.told c.args.port.now) [] [] _ _
+
+pub returns-in_default-clause-at_most : goal.returns-in_default-clause-at_most
+returns-in_default-clause-at_most g c = λ _ _ rows (records : Records) held. at_most records (g.K.Keeper.holds c.args.keeper.now) [] (hands_start (g.K.Keeper.holds c.args.keeper.now) [] rows records held)
+
+pub loop-turn-init : goal.loop-turn-init
+loop-turn-init g c = record {
+  whole = whole_start (g.K.Keeper.holds c.args.keeper.now) _ _ (g.P.Port.told c.args.port.now) (ids_of c.new-pending.result.items) c.new-framer.result (ap ids_of c.new-pending.ensures.items) c.new-framer.ensures;
+  ready = ready_new c.new-framer.result c.new-framer.ensures;
+  below = record { messages = omega arith; kept = omega arith; repeated = omega arith; bare = omega arith; silent = omega arith; interrupts = omega arith };
+  few = omega (arith, ap length c.new-pending.ensures.items);
+  going = c.requires.going;
+  firm = λ _ firm. firm;
+  more = λ _ _ (before : Records) h. subst (λ xs. HandsOn before (g.K.Keeper.holds c.args.keeper.now) (ids_of xs)) (sym c.new-pending.ensures.items) h;
+  receives = omega arith;
+  failures = refl;
+  receive_failures = refl;
+  has_ended = refl;
+  confirms = refl;
+  fed = omega (arith, ap fed_of c.new-framer.ensures);
+  room = omega (arith, c.in-Ok.ensures.len, c.in-Ok.buffer.ok.0);
+  honest = λ is. is;
+  same = λ t may. may;
+}
+
+pub loop-turn-preserved : goal.loop-turn-preserved
+loop-turn-preserved g c =
+    let inv = c.loop-turn.invariant in
+    let e = c.in-Ok-one_turn.ensures in
+    let k' = c.one_turn.new.keeper in
+    record {
+      whole = whole_step c.cut_joins.ensures (g.K.Keeper.holds c.args.keeper.now) (g.K.Keeper.holds c.loop-turn.keeper) (g.K.Keeper.holds k') _ _ _ _ _ _ _ [] (ids_of c.loop-turn.pending.items) (ids_of c.one_turn.new.pending.items) [] _ _ 0 _ _ c.loop-turn.counts c.in-Ok-one_turn.more c.sum_of-counts.result
+          c.sum_of-counts.ensures inv.whole e.ok e.honest inv.same;
+      ready = e.opened;
+      below = subst (λ x. IsBelow x ((c.loop-turn.turn + 1) * 2 ^ 20)) (sym c.sum_of-counts.ensures) (below_more _ (c.loop-turn.turn * 2 ^ 20 + 2 ^ 20) _ (omega arith) (plus_below c.loop-turn.counts c.in-Ok-one_turn.more (c.loop-turn.turn * 2 ^ 20) (2 ^ 20) inv.below e.below));
+      few = e.few;
+      going = e.going;
+      firm = λ honest firm. e.firm honest (inv.firm (e.honest honest) firm);
+      more = λ confirms honest (before : Records) h. e.more (inv.confirms ∙ confirms) honest before (inv.more confirms (e.honest honest) before h);
+      receives = omega (arith, e.receives, inv.receives);
+      failures = e.still.0 ∙ inv.failures;
+      receive_failures = e.still.1 ∙ inv.receive_failures;
+      has_ended = e.still.2 ∙ inv.has_ended;
+      confirms = e.confirms ∙ inv.confirms;
+      fed = omega (arith, e.fed, inv.fed, inv.room);
+      room = room_still c.loop-turn.buffer.len c.one_turn.new.buffer _ (omega (arith, e.buffer, inv.room)) (omega (arith, c.loop-turn.buffer.ok.0, inv.room));
+      honest = λ honest. inv.honest (e.honest honest);
+      same = λ t may. inv.same t (e.same t may);
+    }
+
+pub returns-in-Err-clause-ends : goal.returns-in-Err-clause-ends
+returns-in-Err-clause-ends g c =
+    let inv = c.loop-turn.invariant in
+    let e = c.in-Err.ensures in
+    ends_step c.cut_joins.ensures (g.K.Keeper.holds c.args.keeper.now) (g.K.Keeper.holds c.loop-turn.keeper) (g.K.Keeper.holds c.one_turn.new.keeper) _ _ _ _ _ _ _ [] (ids_of c.loop-turn.pending.items) [] _ 0 _ 0 c.args.turns c.in-Err.served.ended c.loop-turn.counts c.in-Err.served.counts c.sum_of-sum.result
+    c.sum_of-sum.ensures inv.whole e.ends e.not_turns inv.receive_failures e.honest inv.same
+
+pub returns-in-Err-clause-life : goal.returns-in-Err-clause-life
+returns-in-Err-clause-life g c =
+    let inv = c.loop-turn.invariant in
+    let e = c.in-Err.ensures in
+    let k = c.args.keeper.now in
+    let m = c.loop-turn.keeper in
+    let k' = c.one_turn.new.keeper in
+    life_more c.cut_joins.ensures (g.K.Keeper.holds k) (g.K.Keeper.holds m) (g.K.Keeper.holds k') _ _ _ (g.K.Keeper.leaves_whole k) (g.K.Keeper.leaves_whole m) (g.K.Keeper.leaves_whole k') (g.K.Keeper.may_leave k) (g.K.Keeper.may_leave m) (g.K.Keeper.may_leave k') _ _ _ _ _ []
+    (ids_of c.loop-turn.pending.items) [] _ 0 _ c.loop-turn.counts _ _ inv.whole e.life (g.met.K.Keeper.clean_is_honest k') e.honest inv.firm inv.same
+
+pub returns-in-Err-clause-at_most : goal.returns-in-Err-clause-at_most
+returns-in-Err-clause-at_most g c = λ confirms clean rows (records : Records) held.
+    let inv = c.loop-turn.invariant in
+    let k' = c.one_turn.new.keeper in
+    c.in-Err.ensures.at_most (inv.confirms ∙ confirms) clean records (inv.more confirms (c.in-Err.ensures.honest (g.met.K.Keeper.clean_is_honest k' clean)) records (hands_start (g.K.Keeper.holds c.args.keeper.now) [] rows records held))
+
+pub returns-in-Err-clause-failed : goal.returns-in-Err-clause-failed
+returns-in-Err-clause-failed g c = λ is. omega (arith, c.in-Err.ensures.failed is, c.loop-turn.invariant.failures)
+
+pub returns-clause-ends : goal.returns-clause-ends
+returns-clause-ends g c =
+    let inv = c.loop-turn.invariant in
+    (omega (arith, inv.receives), inv.has_ended, record { rest = c.loop-turn.framer.bytes; place = c.loop-turn.framer.at; pending' = ids_of c.loop-turn.pending.items; whole = inv.whole; so = (inv.ready.none, inv.ready.good) })
+
+pub returns-clause-life : goal.returns-clause-life
+returns-clause-life g c =
+    let inv = c.loop-turn.invariant in
+    let k = c.args.keeper.now in
+    let k' = c.loop-turn.keeper in
+    whole_life (g.K.Keeper.holds k) (g.K.Keeper.holds k') _ _ (g.K.Keeper.leaves_whole k) (g.K.Keeper.leaves_whole k') (g.K.Keeper.may_leave k) (g.K.Keeper.may_leave k') _ _ _ [] (ids_of c.loop-turn.pending.items) [] _ 0 _ c.loop-turn.counts _ _
+    inv.whole (g.met.K.Keeper.clean_is_honest k') inv.firm
+
+pub returns-clause-at_most : goal.returns-clause-at_most
+returns-clause-at_most g c = λ confirms clean rows (records : Records) held.
+    let inv = c.loop-turn.invariant in
+    let k' = c.loop-turn.keeper in
+    at_most records (g.K.Keeper.holds k') (ids_of c.loop-turn.pending.items) (inv.more confirms (g.met.K.Keeper.clean_is_honest k' clean) records (hands_start (g.K.Keeper.holds c.args.keeper.now) [] rows records held))

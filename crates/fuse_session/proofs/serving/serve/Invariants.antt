@@ -1,0 +1,32 @@
+use Rattle.std.proofs.Common.{◌≡◌, ◌≤◌, ◌+◌, ◌*◌, ◌^◌, [], length, true, false}
+use Rattle.fuse_wire.specs.declared.moment.Moment.{Moment}
+use Rattle.fuse_request.specs.Framing.{fed_of}
+use Rattle.fuse_store.specs.Stands.{Records, IsFirm}
+use Rattle.fuse_store.specs.Group.{ids_of}
+use Rattle.fuse_session.specs.Settling.{HandsOn}
+use Rattle.fuse_session.specs.Counting.{IsBelow}
+use Rattle.fuse_session.specs.Receiving.{IsOpen}
+use Rattle.fuse_session.specs.Serving.{Whole}
+use Rattle.fuse_session.proofs.serving.serve.Given as goal
+
+abbrev pub invariant-loop-turn : goal.invariant-loop-turn
+invariant-loop-turn g l = record {
+  whole : Whole (g.K.Keeper.holds l.fn.keeper) (g.K.Keeper.holds l.keeper) (g.K.Keeper.is_honest l.keeper) (g.C.Clock.may_answer l.fn.clock) (g.P.Port.told l.fn.port) (g.P.Port.told l.port)
+      [] (ids_of l.pending.items) [] l.framer.bytes 0 l.framer.at l.counts;
+  ready : IsOpen l.framer;
+  below : IsBelow l.counts (l.turn * 2 ^ 20);
+  few : length l.pending.items ≤ 16;
+  going : g.K.Keeper.has_failed l.keeper ≡ false;
+  firm : g.K.Keeper.is_honest l.keeper → IsFirm (g.K.Keeper.holds l.fn.keeper) (g.K.Keeper.leaves_whole l.fn.keeper) (g.K.Keeper.may_leave l.fn.keeper)
+      → IsFirm (g.K.Keeper.holds l.keeper) (g.K.Keeper.leaves_whole l.keeper) (g.K.Keeper.may_leave l.keeper);
+  more : (g.P.Port.told l.fn.port).confirms ≡ true → g.K.Keeper.is_honest l.keeper → (before : Records) → HandsOn before (g.K.Keeper.holds l.fn.keeper) [] → HandsOn before (g.K.Keeper.holds l.keeper) (ids_of l.pending.items);
+  receives : (g.P.Port.told l.port).receives ≡ (g.P.Port.told l.fn.port).receives + l.turn;
+  failures : (g.P.Port.told l.port).failures ≡ (g.P.Port.told l.fn.port).failures;
+  receive_failures : (g.P.Port.told l.port).receive_failures ≡ (g.P.Port.told l.fn.port).receive_failures;
+  has_ended : (g.P.Port.told l.port).has_ended ≡ (g.P.Port.told l.fn.port).has_ended;
+  confirms : (g.P.Port.told l.port).confirms ≡ (g.P.Port.told l.fn.port).confirms;
+  fed : fed_of l.framer ≤ l.turn * 135168;
+  room : length l.buffer.items ≡ 135168;
+  honest : g.K.Keeper.is_honest l.keeper → g.K.Keeper.is_honest l.fn.keeper;
+  same : (t : Moment) → g.C.Clock.may_answer l.clock t → g.C.Clock.may_answer l.fn.clock t;
+}

@@ -1,0 +1,203 @@
+// Serving a port from a keeper.
+ghost use Rattle.std.specs.Prelude.{◌≡◌, ◌≤◌, ◌<◌, ◌+◌, ◌^◌, [], ℕ, Bool, true, false, None, List, length, IfOk, IfErr, OnOk, OnErr};
+ghost use Rattle.fuse_wire.specs.declared.moment.Moment.{Moment as MomentValue};
+ghost use Rattle.fuse_request.specs.Framing.{fed_of};
+ghost use Rattle.fuse_request.specs.declared.header.TheConstants.{MAX_MESSAGE as max_message};
+ghost use Rattle.fuse_tree.specs.Rows.{Rows};
+ghost use Rattle.fuse_store.specs.Stands.{Records, IsFirm};
+ghost use Rattle.fuse_store.specs.Group.{ids_of};
+ghost use Rattle.fuse_store.specs.declared.keeper.TheConstants.{MAX_SETTLED as max_settled};
+ghost use Rattle.fuse_session.specs.Port.{IsYoung};
+ghost use Rattle.fuse_session.specs.Settling.{HandsOn, AtMostMore};
+ghost use Rattle.fuse_session.specs.Counting.{none_counted, IsBelow};
+ghost use Rattle.fuse_session.specs.Receiving.{IsOpen};
+ghost use Rattle.fuse_session.specs.Serving.{Whole, Life, is_store, is_memory};
+ghost use Rattle.fuse_session.specs.Ends.{EndsAs, FinishedBy, IsFault, ended_store, ended_memory};
+
+use crate::clock::Clock;
+use crate::counts::{SessionCounts, sum_of};
+use crate::ended::{Ended, Served};
+use crate::group::{Rest, Stop};
+use crate::port::Port;
+use crate::receiving::hear;
+use crate::working::{Work, work_off};
+use fuse_request::{FrameFault, Framer, MAX_MESSAGE, cut_joins};
+use fuse_store::Keeper;
+use fuse_wire::Id;
+use std::alloc::Global;
+
+fn ended_of(stop: Stop) -> Ended
+    ensures store { ended_store result ≡ is_store stop }
+    ensures memory { ended_memory result ≡ is_memory stop }
+    ensures port { result ≡ Ended.PortFailed → stop ≡ Stop.PortFailed }
+    ensures fault { IsFault result }
+{
+    match stop {
+        Stop::PortFailed => Ended::PortFailed,
+        Stop::Store(fault) => Ended::Store(fault),
+        Stop::Memory => Ended::Memory,
+    }
+}
+
+// What follows when the messages that waited are worked off, and this bad length is behind them.
+fn finish(work: Work, fault: Option<FrameFault>) -> Result<SessionCounts, Served>
+    ensures ok { IfOk result (λ counts. (counts ≡ work.counts) × (work.rest ≡ Rest.GoesOn) × (fault ≡ None)) }
+    ensures err { IfErr result (λ served. (served.counts ≡ work.counts) × FinishedBy served.ended work.rest work.place fault) }
+{
+    let counts = work.counts;
+    match work.rest {
+        Rest::Destroyed => Err(Served {
+            ended: Ended::Destroyed,
+            counts,
+        }),
+        Rest::ZeroUnique => Err(Served {
+            ended: Ended::ZeroUnique { at: work.place },
+            counts,
+        }),
+        Rest::GoesOn => match fault {
+            Some(fault) => Err(Served {
+                ended: Ended::Frame(fault),
+                counts,
+            }),
+            None => Ok(counts),
+        },
+    }
+}
+
+// One turn: receives once, and works off all messages that wait then.
+fn one_turn<K: Keeper, P: Port, C: Clock>(
+    alloc: Global,
+    keeper: &mut K,
+    port: &mut P,
+    clock: &mut C,
+    framer: &mut Framer,
+    buffer: &mut [u8],
+    pending: &mut Vec<Id>,
+) -> Result<SessionCounts, Served>
+    requires going { K.has_failed keeper.old ≡ false }
+    requires young { IsYoung (P.told port.old) }
+    requires spare { (P.told port.old).receives + 1 < 2 ^ 63 }
+    requires few { length pending.old.items ≤ max_settled }
+    requires opened { IsOpen framer.old }
+    requires room { (0 < length buffer.old) × (length buffer.old ≤ max_message) }
+    requires fed { fed_of framer.old + length buffer.old ≤ 2 ^ 59 }
+    ensures ok { IfOk result (λ counts. Whole (K.holds keeper.old) (K.holds keeper.new) (K.is_honest keeper.new) (C.may_answer clock.old) (P.told port.old) (P.told port.new)
+        (ids_of pending.old.items) (ids_of pending.new.items) framer.old.bytes framer.new.bytes framer.old.at framer.new.at counts) }
+    ensures opened { OnOk result (IsOpen framer.new) }
+    ensures below { IfOk result (λ counts. IsBelow counts (2 ^ 20)) }
+    ensures few { OnOk result (length pending.new.items ≤ max_settled) }
+    ensures going { OnOk result (K.has_failed keeper.new ≡ false) }
+    ensures firm { OnOk result (K.is_honest keeper.new → IsFirm (K.holds keeper.old) (K.leaves_whole keeper.old) (K.may_leave keeper.old)
+        → IsFirm (K.holds keeper.new) (K.leaves_whole keeper.new) (K.may_leave keeper.new)) }
+    ensures more { OnOk result ((P.told port.old).confirms ≡ true → K.is_honest keeper.new → (before : Records) → HandsOn before (K.holds keeper.old) (ids_of pending.old.items)
+        → HandsOn before (K.holds keeper.new) (ids_of pending.new.items)) }
+    ensures still { OnOk result (((P.told port.new).failures ≡ (P.told port.old).failures) × ((P.told port.new).receive_failures ≡ (P.told port.old).receive_failures)
+        × ((P.told port.new).has_ended ≡ (P.told port.old).has_ended)) }
+    ensures receives { (P.told port.new).receives ≡ (P.told port.old).receives + 1 }
+    ensures confirms { (P.told port.new).confirms ≡ (P.told port.old).confirms }
+    ensures fed { fed_of framer.new ≤ fed_of framer.old + length buffer.old }
+    ensures buffer { length buffer.new ≡ length buffer.old }
+    ensures life { IfErr result (λ served. Life (K.holds keeper.old) (K.holds keeper.new) (K.is_clean keeper.new) (K.is_honest keeper.new)
+        (IsFirm (K.holds keeper.old) (K.leaves_whole keeper.old) (K.may_leave keeper.old)) (K.leaves_whole keeper.new) (K.may_leave keeper.new)
+        (C.may_answer clock.old) (P.told port.old) (P.told port.new) (ids_of pending.old.items) framer.old.bytes (ended_store served.ended) (ended_memory served.ended)) }
+    ensures ends { IfErr result (λ served. EndsAs (K.holds keeper.old) (K.holds keeper.new) (K.is_honest keeper.new) (C.may_answer clock.old) (P.told port.old) (P.told port.new)
+        (ids_of pending.old.items) framer.old.bytes framer.old.at 0 served.ended served.counts) }
+    ensures counted { IfErr result (λ served. IsBelow served.counts (2 ^ 20)) }
+    ensures at_most { OnErr result ((P.told port.old).confirms ≡ true → K.is_clean keeper.new → (before : Records) → HandsOn before (K.holds keeper.old) (ids_of pending.old.items) → AtMostMore before (K.holds keeper.new)) }
+    ensures failed { IfErr result (λ served. served.ended ≡ Ended.PortFailed → (P.told port.old).failures < (P.told port.new).failures) }
+    ensures store { IfErr result (λ served. K.has_failed keeper.new ≡ ended_store served.ended) }
+    ensures not_turns { IfErr result (λ served. served.ended ≡ Ended.Turns → ⊥) }
+    ensures honest { K.is_honest keeper.new → K.is_honest keeper.old }
+    ensures same { (t : MomentValue) → C.may_answer clock.new t → C.may_answer clock.old t }
+{
+    let begin = framer.fed() - framer.held();
+    let waiting = match hear(alloc, port, framer, buffer) {
+        Ok(waiting) => waiting,
+        Err(ended) => {
+            return Err(Served {
+                ended,
+                counts: SessionCounts::NONE,
+            });
+        }
+    };
+    let slice = waiting.messages.as_slice();
+    let work = match work_off(alloc, keeper, port, clock, slice, pending, begin) {
+        Ok(work) => work,
+        Err(stop) => {
+            return Err(Served {
+                ended: ended_of(stop),
+                counts: SessionCounts::NONE,
+            });
+        }
+    };
+    match finish(work, waiting.fault) {
+        Ok(counts) => Ok(counts),
+        Err(served) => Err(served),
+    }
+}
+
+/// Serves what a port gives: receives at most as often as `turns` says, works off all whole messages after each turn
+/// in groups of at most 16 kept ones, and sends the answers of a group once it is committed. The ids that the answers
+/// settle are handed on to the keeper with the next group.
+pub fn serve<K: Keeper, P: Port, C: Clock>(
+    alloc: Global,
+    keeper: &mut K,
+    port: &mut P,
+    clock: &mut C,
+    turns: u32,
+) -> Served
+    requires going { K.has_failed keeper.old ≡ false }
+    requires receives { (P.told port.old).receives < 2 ^ 62 }
+    requires failures { (P.told port.old).failures < 2 ^ 62 }
+    // What was worked off and answered at each of the ends, and how it is counted.
+    ensures ends { EndsAs (K.holds keeper.old) (K.holds keeper.new) (K.is_honest keeper.new) (C.may_answer clock.old) (P.told port.old) (P.told port.new)
+        [] [] 0 turns result.ended result.counts }
+
+    // However it ends, what was sent is a front of what is to be sent for messages that the keeper stands for, and that
+    // whatever a crash leaves stands for.
+    ensures life { Life (K.holds keeper.old) (K.holds keeper.new) (K.is_clean keeper.new) (K.is_honest keeper.new)
+        (IsFirm (K.holds keeper.old) (K.leaves_whole keeper.old) (K.may_leave keeper.old)) (K.leaves_whole keeper.new) (K.may_leave keeper.new)
+        (C.may_answer clock.old) (P.told port.old) (P.told port.new) [] [] (ended_store result.ended) (ended_memory result.ended) }
+
+    // On a port that confirms few records stay.
+    ensures at_most { (P.told port.old).confirms ≡ true → K.is_clean keeper.new → (rows : Rows) (records : Records) → K.holds keeper.old rows records → AtMostMore records (K.holds keeper.new) }
+
+    // It gives up only where the port or the store did.
+    ensures failed { result.ended ≡ Ended.PortFailed → (P.told port.old).failures < (P.told port.new).failures }
+    ensures store { K.has_failed keeper.new ≡ ended_store result.ended }
+{
+    cut_joins();
+    let Ok(mut buffer) = vec![in alloc; 0; MAX_MESSAGE] else {
+        return Served {
+            ended: Ended::Memory,
+            counts: SessionCounts::NONE,
+        };
+    };
+    let mut framer = Framer::new(alloc);
+    let mut pending = Vec::new(alloc);
+    let mut counts = SessionCounts::NONE;
+    for turn in 0..turns {
+        match one_turn(
+            alloc,
+            keeper,
+            port,
+            clock,
+            &mut framer,
+            buffer.as_mut_slice(),
+            &mut pending,
+        ) {
+            Ok(more) => counts = sum_of(counts, more),
+            Err(served) => {
+                let sum = sum_of(counts, served.counts);
+                return Served {
+                    ended: served.ended,
+                    counts: sum,
+                };
+            }
+        }
+    }
+    Served {
+        ended: Ended::Turns,
+        counts,
+    }
+}
