@@ -22,3 +22,6 @@ pub use memory::{Arrival, MemoryPort, Outcome};
 pub use port::{Port, Received, Sent};
 pub use serving::serve;
 pub use stream::StreamPort;
+
+#[cfg(test)]
+mod tests;
