@@ -1,2 +1,3 @@
+pub mod Checking
 pub mod Counts
 pub mod Endings
