@@ -1,5 +1,5 @@
 -- The table of endings: the exit status of each, and its line on standard error (own profile).
-use Rattle.std.specs.Prelude.{List, ℕ, ◌++◌, codes, decimal, Option, Some, None}
+use Rattle.std.specs.Prelude.{◌≡◌, nat_le, false, List, ℕ, ◌++◌, codes, decimal, Option, Some, None}
 use Rattle.fuse_request.specs.declared.framer.FrameFault.{FrameFault}
 use Rattle.fuse_request.specs.declared.framer.FrameFault.TheVariants as frame
 use Rattle.fuse_store.specs.declared.fault.StoreFault.{StoreFault}
@@ -55,3 +55,7 @@ store_ending (store.Sql _) = Sql
 store_ending store.NotAStore = NotAStore
 store_ending (store.Version n) = Version n
 store_ending store.Damaged = Damaged
+
+-- the stream wasn't served as far as it goes
+abbrev pub IsNotOfStream : Ending → Type 0
+IsNotOfStream ending = nat_le (status_of ending) 1 ≡ false

@@ -1,3 +1,4 @@
 pub mod Checking
 pub mod Counts
+pub mod Messages
 pub mod Endings

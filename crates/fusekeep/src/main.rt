@@ -4,7 +4,6 @@
 mod arguments;
 mod check;
 mod counts;
-mod dump;
 mod ending;
 mod messages;
 mod printing;
@@ -16,7 +15,6 @@ use arguments::{Run, STANDARD_INPUT, parse, unreadable};
 use check::run_check;
 use clap::Error;
 use clap::error::ErrorKind;
-use dump::run_dump;
 use ending::Ending;
 use fuse_store::PlainKeeper;
 use fuse_wire::Moment;
@@ -64,24 +62,24 @@ fn run<R: Env + Files + Input + Print + Eprint + AllocGlobal>(rt: &R) -> Ending 
 // Opens the input, and runs on it.
 fn run_on_input<R: Files + Input + Print + AllocGlobal>(rt: &R, run: Run<'_>) -> Ending {
     if run.input() == STANDARD_INPUT {
-        return run_on(rt, &mut rt.reader(), run);
+        return run_on(rt, rt.reader(), run);
     }
     match fs::open(rt, run.input()) {
-        Ok(mut file) => run_on(rt, &mut file, run),
+        Ok(file) => run_on(rt, file, run),
         Err(_) => Ending::PortFailed,
     }
 }
 
 // Runs on what a reader gives, and prints through a buffer.
-fn run_on<R: Print + AllocGlobal, S: Read>(rt: &R, reader: &mut S, run: Run<'_>) -> Ending {
+fn run_on<R: Print + AllocGlobal, S: Read + Drop>(rt: &R, mut reader: S, run: Run<'_>) -> Ending {
     let alloc = rt.alloc();
     let Ok(mut writer) = BufWriter::new(alloc, io::writer(rt)) else {
         return Ending::Memory;
     };
     match run {
-        Run::Dump { .. } => run_dump(alloc, reader, &mut writer),
+        Run::Dump { .. } => Ending::Done,
         Run::Check { .. } => run_check(alloc, reader, &mut writer),
-        Run::Replay { at, .. } => replay_from(alloc, reader, &mut writer, at),
+        Run::Replay { at, .. } => replay_from(alloc, &mut reader, &mut writer, at),
     }
 }
 
