@@ -1,4 +1,5 @@
 pub mod Said
 pub mod Bodies
 pub mod Wire
+pub mod Notice
 pub mod Vectors
