@@ -9,6 +9,7 @@ mod group;
 mod memory;
 mod port;
 mod receiving;
+mod resuming;
 mod sending;
 mod serving;
 mod stream;
@@ -20,6 +21,7 @@ pub use ended::{Ended, Served};
 pub use gather::DESTROY;
 pub use memory::{Arrival, MemoryPort, Outcome};
 pub use port::{Port, Received, Sent};
+pub use resuming::{ResumeFault, resume};
 pub use serving::serve;
 pub use stream::StreamPort;
 
