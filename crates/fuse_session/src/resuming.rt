@@ -2,6 +2,7 @@
 ghost use Rattle.std.specs.Prelude.{◌≡◌, ◌<◌, ◌^◌, ℕ, Bool, true, false, List, IfErr, OnOk};
 ghost use Rattle.fuse_tree.specs.State.{State};
 ghost use Rattle.fuse_tree.specs.Rows.{Rows};
+ghost use Rattle.fuse_store.specs.declared.fault.StoreFault.{StoreFault as StoreFaultValue};
 ghost use Rattle.fuse_store.specs.History.{History};
 ghost use Rattle.fuse_store.specs.Stands.{Records, StandsFor, IsFirm, KeepsHeld};
 ghost use Rattle.fuse_session.specs.Resuming.{Resumed, NotResumed, may_ask, failed_by, FaultMay};
@@ -54,6 +55,7 @@ pub fn resume<K: Keeper, P: Port>(keeper: &mut K, port: &mut P) -> Result<(), Re
     ensures firm { K.has_failed keeper.new ≡ false → K.is_honest keeper.new → (rows : Rows) (records : Records) → K.holds keeper.old rows records
         → IsFirm (K.holds keeper.old) (K.leaves_whole keeper.old) (K.may_leave keeper.old) → IsFirm (K.holds keeper.new) (K.leaves_whole keeper.new) (K.may_leave keeper.new) }
     ensures honest { K.is_honest keeper.new → K.is_honest keeper.old }
+    ensures may { (f : StoreFaultValue) → K.may_answer keeper.new f → K.may_answer keeper.old f }
 
     // A fault of the store comes exactly where the keeper failed, and is one that it may answer.
     ensures failed { K.has_failed keeper.new ≡ failed_by result }

@@ -1,5 +1,5 @@
 // Rows of the notice that asks for a resend.
-ghost use Rattle.std.specs.Prelude.{◌≡◌, false};
+ghost use Rattle.std.specs.Prelude.{◌≡◌, true};
 
 use crate::{MemoryPort, Outcome, ResumeFault, resume};
 use fuse_answer::Answer;
