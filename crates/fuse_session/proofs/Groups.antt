@@ -203,12 +203,12 @@ broken_sent holds holds' clean' honest' whole whole' left left' may p q pending 
           let d = done honest s h t so within again in
           let f = outs_front s h ts some.marks some.later (works s h) (sym (answers_are_outs s h ts) ∙ sym (sent_are holds' s h t (entries_of group) ts front dones d es bytes) ∙ some.whole) in
           record {
-            worked = f.0;
-            unworked = f.1;
-            parts = f.2;
-            works = f.3;
+            worked = f.first;
+            unworked = f.others;
+            parts = f.parts;
+            works = f.works;
             stands = λ is clean. absurd (cc (is, inexact));
-            sent = f.4 ∙ sym (answers_are_outs s h f.0);
+            sent = f.sent ∙ sym (answers_are_outs s h f.first);
           };
       life = λ clean s h t so within again.
           let d = done (clean_honest clean) s h t so within again in

@@ -61,21 +61,26 @@ front_none [] ys is = refl
 front_none (x ∷ xs) ys is = absurd (cc is)
 
 -- the first answers are those of the first messages
-pub outs_front : (s : State) (h : History) (ts : List Timed) (ms : List Mark) (later : List (List ℕ)) → Works s h ts → outs s h ts ≡ replies ms ++ later
-    → (front : List Timed) × (back : List Timed) × (ts ≡ front ++ back) × Works s h front × (replies ms ≡ outs s h front)
-outs_front s h ts [] later works is = ([], ts, refl, tt, refl)
+pub record Front (s : State) (h : History) (ts : List Timed) (ms : List Mark) : Type 0 where
+  pub first : List Timed
+  pub others : List Timed
+  pub parts : ts ≡ first ++ others
+  pub works : Works s h first
+  pub sent : replies ms ≡ outs s h first
+
+front_more : (s : State) (h : History) (t : Timed) (ts : List Timed) (m : Mark) (ms : List Mark) → Works s h (t ∷ ts) → answered s (grown h (entries_at t)) t ≡ m.reply → Front s (grown h (entries_at t)) ts ms → Front s h (t ∷ ts) (m ∷ ms)
+front_more s h t ts m ms works is f = record {
+  first = t ∷ f.first;
+  others = f.others;
+  parts = ap (λ (x : List Timed). t ∷ x) f.parts;
+  works = (works.0, elim works.1 [ inl none ↦ inl (front_none f.first f.others (sym f.parts ∙ none)) | inr goes ↦ inr goes ], f.works);
+  sent = ap (λ x. x ∷ replies ms) (sym is) ∙ ap (λ x. answered s (grown h (entries_at t)) t ∷ x) f.sent;
+}
+
+pub outs_front : (s : State) (h : History) (ts : List Timed) (ms : List Mark) (later : List (List ℕ)) → Works s h ts → outs s h ts ≡ replies ms ++ later → Front s h ts ms
+outs_front s h ts [] later works is = record { first = []; others = ts; parts = refl; works = tt; sent = refl }
 outs_front s h [] (m ∷ ms) later works is = absurd (cc is)
-outs_front s h (t ∷ ts) (m ∷ ms) later works is =
-    let g = grown h (entries_at t) in
-    let first : answered s g t ≡ m.reply = cc is in
-    let rest : outs s g ts ≡ replies ms ++ later = cc is in
-    let f = outs_front s g ts ms later works.2 rest in (
-      t ∷ f.0,
-      f.1,
-      ap (λ x. t ∷ x) f.2,
-      (works.0, elim works.1 [ inl none ↦ inl (front_none f.0 f.1 (sym f.2 ∙ none)) | inr not ↦ inr not ], f.3),
-      ap (λ x. x ∷ replies ms) (sym first) ∙ ap (λ x. answered s g t ∷ x) f.4,
-    )
+outs_front s h (t ∷ ts) (m ∷ ms) later works is = front_more s h t ts m ms works (cc is) (outs_front s (grown h (entries_at t)) ts ms later works.2 (cc is))
 
 pub answers-append : (s : State) (h : History) (xs ys : List Timed) → answers s (grown h (kept_in (xs ++ ys))) (xs ++ ys) ≡ answers s (grown h (kept_in xs)) xs ++ answers s (grown (grown h (kept_in xs)) (kept_in ys)) ys
 answers-append s h xs ys = answers_are_outs s h (xs ++ ys) ∙ outs-append s h xs ys ∙ ap (λ r. r ++ outs s (grown h (kept_in xs)) ys) (sym (answers_are_outs s h xs))

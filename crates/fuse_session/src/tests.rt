@@ -1,5 +1,6 @@
 // The rows of the specification that a session alone can run.
 
+mod moments;
 mod resuming;
 
 use crate::{Arrival, Ended, Fixed, MemoryPort, Outcome, SessionCounts, serve};
