@@ -2,3 +2,4 @@ pub mod Said
 pub mod Bodies
 pub mod Wire
 pub mod Vectors
+pub mod Laws

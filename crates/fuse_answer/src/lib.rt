@@ -2,6 +2,7 @@
 #![tactic(auto)]
 
 mod answer;
+mod laws;
 mod numbers;
 mod records;
 #[cfg(test)]
@@ -9,5 +10,6 @@ mod tests;
 mod wire;
 
 pub use answer::{Answer, MAX_BODY};
+pub use laws::{len_stands_first, record_sizes};
 pub use records::{Attr, AttrOut, EntryOut, OutHeader};
 pub use wire::{head_of, write_answer};
