@@ -3,3 +3,4 @@ pub mod Bodies
 pub mod Wire
 pub mod Notice
 pub mod Vectors
+pub mod Laws

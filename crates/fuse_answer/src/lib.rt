@@ -2,6 +2,7 @@
 #![tactic(auto)]
 
 mod answer;
+mod laws;
 mod notice;
 mod numbers;
 mod records;
@@ -10,6 +11,7 @@ mod tests;
 mod wire;
 
 pub use answer::{Answer, MAX_BODY};
+pub use laws::{len_stands_first, record_sizes};
 pub use notice::{NOTIFY_RESEND, resend_notice};
 pub use records::{Attr, AttrOut, EntryOut, OutHeader};
 pub use wire::{head_of, write_answer};

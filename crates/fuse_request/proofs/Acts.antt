@@ -7,8 +7,8 @@ use Rattle.std.proofs.lemmas.List.Elements.{recursion_from_All}
 use Rattle.fuse_wire.specs.Bytes.{HasNoNul}
 use Rattle.fuse_wire.specs.Layout.{Lays}
 use Rattle.fuse_wire.proofs.Layouts.{Lays-length, peel, peel_unused}
-use Rattle.fuse_request.specs.declared.opcode.TheConstants.{LOOKUP, GETATTR}
-use Rattle.fuse_request.specs.Act.{Act, Lookup, Getattr, Mkdir, Unsupported}
+use Rattle.fuse_request.specs.declared.opcode.TheConstants.{LOOKUP, GETATTR, MKDIR}
+use Rattle.fuse_request.specs.Act.{Act, Lookup, Getattr, Mkdir, Destroy, Unsupported}
 use Rattle.fuse_request.specs.Spelling.{opcode_of, parts, IsNamed}
 use Rattle.fuse_request.specs.Faults.{body_fault, name_fault}
 use Rattle.fuse_request.specs.Places.{before_nul, act_at}
@@ -54,15 +54,20 @@ one_mkdir mode umask name b h =
       after_two mode umask name_fault b h.0 h.3.0 h.2 h.3.2 ∙ ap name_fault e ∙ ended name t.1,
     )
 
+one_destroy : (b : List ℕ) → Lays (parts Destroy) b → IsOne Destroy b
+one_destroy b h = (refl, ap (body_fault (opcode_of Destroy)) h)
+
 one_unsupported : (opcode : ℕ) (body b : List ℕ) → Lays (parts (Unsupported opcode body)) b → IsNamed (Unsupported opcode body) → IsOne (Unsupported opcode body) b
 one_unsupported opcode body b h named =
     let e : b ≡ body = h.1 ∙ ap (λ (x : List ℕ). body ++ x) h.2 ∙ append-nil body in
     let n1 = not_or (eqb opcode LOOKUP) _ named in
     let n3 = not_or (eqb opcode GETATTR) _ n1.1 in
-    (rw (n1.0, n3.0, n3.1, e) refl, rw (n1.0, n3.0, n3.1) refl)
+    let n9 = not_or (eqb opcode MKDIR) _ n3.1 in
+    (rw (n1.0, n3.0, n9.0, n9.1, e) refl, rw (n1.0, n3.0, n9.0, n9.1) refl)
 
 pub one_act : (a : Act) (b : List ℕ) → Lays (parts a) b → IsNamed a → IsOne a b
 one_act (Lookup name) b h named = one_lookup name b h
 one_act (Getattr flags fh) b h named = one_getattr flags fh b h
 one_act (Mkdir mode umask name) b h named = one_mkdir mode umask name b h
+one_act Destroy b h named = one_destroy b h
 one_act (Unsupported opcode body) b h named = one_unsupported opcode body b h named

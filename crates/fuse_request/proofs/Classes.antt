@@ -10,7 +10,7 @@ use Rattle.std.specs.Borrow.{Bor}
 use Rattle.fuse_request.specs.declared.request.Op.{Op}
 use Rattle.fuse_request.specs.declared.request.Op.TheVariants as ops
 use Rattle.fuse_request.specs.declared.request.Request.{Request}
-use Rattle.fuse_request.specs.Act.{Act, Lookup, Getattr, Mkdir, Unsupported, Asked, asked, act, IsBuilt}
+use Rattle.fuse_request.specs.Act.{Act, Lookup, Getattr, Mkdir, Destroy, Unsupported, Asked, asked, act, IsBuilt}
 use Rattle.fuse_request.specs.Header.{raw_of}
 use Rattle.fuse_request.specs.Opcodes.{silent, in_profile}
 use Rattle.fuse_request.specs.Spelling.{opcode_of, IsNamed, Spells}
@@ -22,12 +22,14 @@ built : (a : Act) → IsBuilt a → in_profile (opcode_of a) ≡ true
 built (Lookup name) h = refl
 built (Getattr flags fh) h = refl
 built (Mkdir mode umask name) h = refl
+built Destroy h = refl
 built (Unsupported opcode body) h = absurd h
 
 not_built : (a : Act) → ¬ (IsBuilt a) → IsNamed a → in_profile (opcode_of a) ≡ false
 not_built (Lookup name) h named = absurd (h tt)
 not_built (Getattr flags fh) h named = absurd (h tt)
 not_built (Mkdir mode umask name) h named = absurd (h tt)
+not_built Destroy h named = absurd (h tt)
 not_built (Unsupported opcode body) h named = named
 
 -- an opcode of the profile is served
@@ -35,6 +37,7 @@ served : (a : Act) → IsNamed a → in_profile (opcode_of a) ≡ true → IsBui
 served (Lookup name) named e = tt
 served (Getattr flags fh) named e = tt
 served (Mkdir mode umask name) named e = tt
+served Destroy named e = tt
 served (Unsupported opcode body) named e = absurd cc
 
 -- the class of a message that isn't silent, and that has this fault and this opcode
@@ -96,4 +99,5 @@ pub is_built : (op : Op) → ((opcode : ℕ) (body : Bor (List ℕ)) → ¬ (op 
 is_built (ops.Lookup name) h = tt
 is_built (ops.Getattr flags fh) h = tt
 is_built (ops.Mkdir mode umask name) h = tt
+is_built ops.Destroy h = tt
 is_built (ops.Unsupported opcode body) h = absurd (h opcode body refl)

@@ -10,12 +10,14 @@ pub data Act : Type 0 where
   Lookup : List ℕ → Act
   Getattr : ℕ → ℕ → Act
   Mkdir : ℕ → ℕ → List ℕ → Act
+  Destroy : Act
   Unsupported : ℕ → List ℕ → Act
 
 abbrev pub act : Op → Act
 act (ops.Lookup name) = Lookup name.now
 act (ops.Getattr flags fh) = Getattr flags fh
 act (ops.Mkdir mode umask name) = Mkdir mode umask name.now
+act ops.Destroy = Destroy
 act (ops.Unsupported opcode body) = Unsupported opcode body.now
 
 pub record Asked : Type 0 where

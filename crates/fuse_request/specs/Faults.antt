@@ -4,7 +4,7 @@ use Rattle.fuse_wire.specs.Bytes.{after_nul}
 use Rattle.fuse_request.specs.declared.decoding.Malformed.{Malformed}
 use Rattle.fuse_request.specs.declared.decoding.Malformed.TheVariants.{HeaderShort, LenDiffers, ExtTooLong, BodyLength, NoNul, AfterNul}
 use Rattle.fuse_request.specs.declared.header.TheConstants.{MIN_MESSAGE}
-use Rattle.fuse_request.specs.declared.opcode.TheConstants.{LOOKUP, GETATTR, MKDIR, GETATTR_IN, MKDIR_IN}
+use Rattle.fuse_request.specs.declared.opcode.TheConstants.{LOOKUP, GETATTR, MKDIR, DESTROY, GETATTR_IN, MKDIR_IN}
 use Rattle.fuse_request.specs.Header.{raw_of, ext_len, body_of}
 
 -- of the last name of a body, by what is behind its NUL
@@ -29,6 +29,7 @@ body_fault opcode b =
     if opcode == LOOKUP then name_fault b
     else if opcode == GETATTR then fixed GETATTR_IN b
     else if opcode == MKDIR then at_least MKDIR_IN name_fault b
+    else if opcode == DESTROY then fixed 0 b
     else None
 
 abbrev pub first_fault : List ℕ → Option Malformed

@@ -1,10 +1,10 @@
 -- What a message says at the places of its opcode, where it spells anything.
 use Rattle.std.specs.Prelude.{◌-◌, ◌==◌, ℕ, zero, suc, if◌then◌else◌, List, [], ◌∷◌, length, drop}
 use Rattle.fuse_wire.specs.Bytes.{number_of}
-use Rattle.fuse_request.specs.declared.opcode.TheConstants.{LOOKUP, GETATTR, MKDIR, MKDIR_IN}
+use Rattle.fuse_request.specs.declared.opcode.TheConstants.{LOOKUP, GETATTR, MKDIR, DESTROY, MKDIR_IN}
 use Rattle.fuse_request.specs.declared.request.InHeader.{InHeader}
 use Rattle.fuse_request.specs.Header.{raw_of, ext_len, body_of}
-use Rattle.fuse_request.specs.Act.{Act, Lookup, Getattr, Mkdir, Unsupported, Asked}
+use Rattle.fuse_request.specs.Act.{Act, Lookup, Getattr, Mkdir, Destroy, Unsupported, Asked}
 
 abbrev pub before_nul : List ℕ → List ℕ
 before_nul [] = []
@@ -16,6 +16,7 @@ act_at opcode b =
     if opcode == LOOKUP then Lookup (before_nul b)
     else if opcode == GETATTR then Getattr (number_of 4 b) (number_of 8 (drop 8 b))
     else if opcode == MKDIR then Mkdir (number_of 4 b) (number_of 4 (drop 4 b)) (before_nul (drop MKDIR_IN b))
+    else if opcode == DESTROY then Destroy
     else Unsupported opcode b
 
 abbrev pub header_at : List ℕ → InHeader

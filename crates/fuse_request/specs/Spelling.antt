@@ -1,14 +1,15 @@
 -- How a request is spelled (fuse.h: fuse_in_header and the request bodies).
 use Rattle.std.specs.Prelude.{◌≡◌, ◌*◌, ℕ, false, List, [], ◌∷◌, ◌++◌, length}
 use Rattle.fuse_wire.specs.Layout.{Part, number, unused, text, bytes, Lays}
-use Rattle.fuse_request.specs.declared.opcode.TheConstants.{LOOKUP, GETATTR, MKDIR}
+use Rattle.fuse_request.specs.declared.opcode.TheConstants.{LOOKUP, GETATTR, MKDIR, DESTROY}
 use Rattle.fuse_request.specs.Opcodes.{in_profile}
-use Rattle.fuse_request.specs.Act.{Act, Lookup, Getattr, Mkdir, Unsupported, Asked}
+use Rattle.fuse_request.specs.Act.{Act, Lookup, Getattr, Mkdir, Destroy, Unsupported, Asked}
 
 abbrev pub opcode_of : Act → ℕ
 opcode_of (Lookup name) = LOOKUP
 opcode_of (Getattr flags fh) = GETATTR
 opcode_of (Mkdir mode umask name) = MKDIR
+opcode_of Destroy = DESTROY
 opcode_of (Unsupported opcode body) = opcode
 
 -- the layout of each body
@@ -16,6 +17,7 @@ abbrev pub parts : Act → List Part
 parts (Lookup name) = text name ∷ []
 parts (Getattr flags fh) = number 4 flags ∷ unused 4 ∷ number 8 fh ∷ []
 parts (Mkdir mode umask name) = number 4 mode ∷ number 4 umask ∷ text name ∷ []
+parts Destroy = []
 parts (Unsupported opcode body) = bytes body ∷ []
 
 -- only what is outside the profile is unsupported

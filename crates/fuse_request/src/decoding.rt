@@ -8,7 +8,7 @@ ghost use Rattle.fuse_request.specs.declared.class.Class.{Class};
 ghost use Rattle.fuse_request.specs.Readers.{Reads, Passes, GivesLastName};
 
 use crate::header::{MIN_MESSAGE, header_of, u32_at, u64_at};
-use crate::opcode::{GETATTR, GETATTR_IN, LOOKUP, MKDIR};
+use crate::opcode::{DESTROY, GETATTR, GETATTR_IN, LOOKUP, MKDIR};
 use crate::request::{InHeader, Op, Request};
 use fuse_wire::Fields;
 
@@ -81,6 +81,15 @@ fn mkdir_of(body: &[u8]) -> Result<Op<'_>, Malformed>
     Ok(Op::Mkdir { mode, umask, name })
 }
 
+fn destroy_of(body: &[u8]) -> Result<Op<'_>, Malformed>
+    ensures { Reads DESTROY body.now result }
+{
+    if !body.is_empty() {
+        return Err(Malformed::BodyLength);
+    }
+    Ok(Op::Destroy)
+}
+
 fn op_of(opcode: u32, body: &[u8]) -> Result<Op<'_>, Malformed>
     ensures { Reads opcode body.now result }
 {
@@ -88,6 +97,7 @@ fn op_of(opcode: u32, body: &[u8]) -> Result<Op<'_>, Malformed>
         LOOKUP => lookup_of(body),
         GETATTR => getattr_of(body),
         MKDIR => mkdir_of(body),
+        DESTROY => destroy_of(body),
         _ => Ok(Op::Unsupported { opcode, body }),
     }
 }

@@ -12,6 +12,8 @@ pub const MKDIR: u32 = 9;
 
 pub const INTERRUPT: u32 = 36;
 
+pub const DESTROY: u32 = 38;
+
 pub const NOTIFY_REPLY: u32 = 41;
 
 pub const BATCH_FORGET: u32 = 42;

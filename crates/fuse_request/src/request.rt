@@ -23,6 +23,7 @@ pub enum Op<'a> {
         umask: u32,
         name: &'a [u8],
     },
+    Destroy,
     /// An opcode that the server doesn't serve.
     Unsupported {
         opcode: u32,

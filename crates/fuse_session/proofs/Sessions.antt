@@ -260,7 +260,7 @@ pub ends_more : CutJoins → (holds mid new : Rows → Records → Type 0) (hone
 ends_more joins holds mid new honest honest' may may' p q r ids ids' held left begin at turns turns' End counts counts' one two isnt same honest_too moments =
     (two.0, rested_more joins holds mid new honest honest' may may' p q r ids ids' held left begin at counts counts' _ one two.1 honest_too moments)
 ends_more joins holds mid new honest honest' may may' p q r ids ids' held left begin at turns turns' (Frame f) counts counts' one two isnt same honest_too moments =
-    rested_more joins holds mid new honest honest' may may' p q r ids ids' held left begin at counts counts' (FaultOf r.has_ended f) one two honest_too moments
+    rested_more joins holds mid new honest honest' may may' p q r ids ids' held left begin at counts counts' (FaultOf r f) one two honest_too moments
 ends_more joins holds mid new honest honest' may may' p q r ids ids' held left begin at turns turns' PortFailed counts counts' one two isnt same honest_too moments =
     λ more. rested_more joins holds mid new honest honest' may may' p q r ids ids' held left begin at counts counts' IsGoodRest one (two (omega (arith, more, same))) honest_too moments
 ends_more joins holds mid new honest honest' may may' p q r ids ids' held left begin at turns turns' Memory counts counts' one two isnt same honest_too moments = tt

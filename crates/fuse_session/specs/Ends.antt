@@ -15,7 +15,7 @@ use Rattle.fuse_session.specs.declared.ended.Ended.{Ended}
 use Rattle.fuse_session.specs.declared.ended.Ended.TheVariants.{End, Destroyed, Turns, Frame, ZeroUnique, PortFailed, Store, Memory}
 use Rattle.fuse_session.specs.declared.group.Rest.{Rest}
 use Rattle.fuse_session.specs.declared.group.Rest.TheVariants.{GoesOn as GoesOnHere, Destroyed as ByDestroy, ZeroUnique as ByZero}
-use Rattle.fuse_session.specs.Port.{PortState}
+use Rattle.fuse_session.specs.Port.{PortState, HasEnded}
 use Rattle.fuse_session.specs.declared.group.Stop.{Stop}
 use Rattle.fuse_session.specs.declared.group.Stop.TheVariants.{PortFailed as ByPort, Store as ByStore, Memory as ByMemory}
 use Rattle.fuse_session.specs.Worked.{Timed, bytes_of, Moments}
@@ -61,17 +61,17 @@ abbrev pub IsGoodRest : ℕ → List ℕ → Type 0
 IsGoodRest place rest = HasNone rest × (bad_length place rest ≡ None)
 
 -- the fault of a rest: its bad length, or that the port ended on it
-abbrev pub FaultOf : Bool → FrameFault → ℕ → List ℕ → Type 0
-FaultOf ended f place rest = (bad_length place rest ≡ Some f) ⊎ ((ended ≡ true) × (bad_length place rest ≡ None) × (end_fault place rest ≡ Some f))
+abbrev pub FaultOf : PortState → FrameFault → ℕ → List ℕ → Type 0
+FaultOf port f place rest = (bad_length place rest ≡ Some f) ⊎ (HasEnded port × (bad_length place rest ≡ None) × (end_fault place rest ≡ Some f))
 
 -- at each of the ends; `begin` is the offset of the bytes held at first. What Store and Memory leave stands below
 abbrev pub EndsAs : (Rows → Records → Type 0) → (Rows → Records → Type 0) → Type 0 → (Moment → Type 0) → PortState → PortState → List ℕ → List ℕ → ℕ → ℕ → Ended → SessionCounts → Type 0
 EndsAs holds holds' honest' may old new pending held begin turns End counts =
-    (new.has_ended ≡ true) × Rested holds holds' honest' may old new pending held begin counts (λ place rest. rest ≡ [])
+    HasEnded new × Rested holds holds' honest' may old new pending held begin counts (λ place rest. rest ≡ [])
 EndsAs holds holds' honest' may old new pending held begin turns Destroyed counts = (place : ℕ) × Halted holds holds' honest' may old new pending held ByDestroy begin place counts
 EndsAs holds holds' honest' may old new pending held begin turns Turns counts =
     (new.receives ≡ old.receives + turns) × (new.has_ended ≡ old.has_ended) × Rested holds holds' honest' may old new pending held begin counts IsGoodRest
-EndsAs holds holds' honest' may old new pending held begin turns (Frame f) counts = Rested holds holds' honest' may old new pending held begin counts (FaultOf new.has_ended f)
+EndsAs holds holds' honest' may old new pending held begin turns (Frame f) counts = Rested holds holds' honest' may old new pending held begin counts (FaultOf new f)
 EndsAs holds holds' honest' may old new pending held begin turns (ZeroUnique at) counts = Halted holds holds' honest' may old new pending held ByZero begin at counts
 EndsAs holds holds' honest' may old new pending held begin turns PortFailed counts = old.receive_failures < new.receive_failures → Rested holds holds' honest' may old new pending held begin counts IsGoodRest
 EndsAs holds holds' honest' may old new pending held begin turns (Store fault) counts = Unit {0}

@@ -18,7 +18,6 @@ mod working;
 pub use clock::{Clock, Fixed, System};
 pub use counts::SessionCounts;
 pub use ended::{Ended, Served};
-pub use gather::DESTROY;
 pub use memory::{Arrival, MemoryPort, Outcome};
 pub use port::{Port, Received, Sent};
 pub use resuming::{ResumeFault, resume};

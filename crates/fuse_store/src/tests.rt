@@ -74,6 +74,7 @@ fn is_kept(request: &Request<'_>) -> bool
         Op::Lookup { .. } => true,
         Op::Getattr { .. } => true,
         Op::Mkdir { .. } => true,
+        Op::Destroy => true,
         Op::Unsupported { .. } => false,
     }
 }
