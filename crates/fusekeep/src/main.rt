@@ -2,7 +2,7 @@
 #![tactic(auto)]
 
 mod arguments;
-mod counts;
+mod count_line;
 mod ending;
 mod printing;
 mod replay;
