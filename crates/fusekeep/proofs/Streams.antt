@@ -17,13 +17,15 @@ use Rattle.fuse_store.specs.declared.fault.StoreFault.{StoreFault}
 use Rattle.fuse_store.specs.declared.fault.StoreFault.TheVariants as store
 use Rattle.fuse_tree.specs.State.{State}
 use Rattle.fuse_tree.specs.Rows.{Rows}
-use Rattle.fuse_store.specs.History.{History, grown}
+use Rattle.fuse_answer.specs.Said.{Said, FitsAnswer}
+use Rattle.fuse_answer.specs.Laws.{BeginsWithLen, LenStandsFirst}
+use Rattle.fuse_store.specs.History.{History, grown, said, SaidFits}
 use Rattle.fuse_store.specs.Stands.{Records, StandsFor}
 use Rattle.fuse_session.specs.declared.counts.SessionCounts.{SessionCounts}
 use Rattle.fuse_session.specs.declared.ended.Ended.{Ended}
 use Rattle.fuse_session.specs.declared.ended.Ended.TheVariants as session
 use Rattle.fuse_session.specs.Port.{PortState, fresh, HasEnded}
-use Rattle.fuse_session.specs.Worked.{Timed, bytes_of, kept_in, answers, GoesOn, Works, EndsLast, StartsZero, Moments, message_id}
+use Rattle.fuse_session.specs.Worked.{Timed, bytes_of, kept_in, answers, answer_by, unique_of, GoesOn, Works, EndsLast, StartsZero, Moments, message_id}
 use Rattle.fuse_session.specs.Settling.{Mark, replies, settles, settled_in, NoneComesAgain, MayCome, Places, PlaceFirst}
 use Rattle.fuse_session.specs.Counting.{counted}
 use Rattle.fuse_session.specs.Serving.{Turned, Whole}
@@ -31,7 +33,8 @@ use Rattle.fuse_session.specs.Ends.{EndsAs, Rested, Halted, FaultOf}
 use Rattle.fusekeep.specs.declared.ending.Ending.{Ending}
 use Rattle.fusekeep.specs.declared.ending.Ending.TheVariants.{Done, Short, TooLong, Cut, ZeroUnique}
 use Rattle.fusekeep.specs.Endings.{session_ending, stream_ending, store_ending, IsOfStream}
-use Rattle.fusekeep.specs.Replaying.{EndsAt, EndsFaulty, Replay, Replayed, Sends}
+use Rattle.fusekeep.specs.Printing.{IsAnswer}
+use Rattle.fusekeep.specs.Replaying.{EndsAt, EndsFaulty, Replay, Replayed, Sends, Prints}
 
 -- ---- no answer was told to be awaited by nobody
 
@@ -274,3 +277,39 @@ session_replayed joins steps holds holds' honest' moment input sent q p turns e 
     subst (λ x. Replayed holds holds' honest' moment input x (Sends sent counts)) (sym is)
     (replayed joins steps holds holds' honest' moment input sent p turns e counts (record { gone = gone; sent_is = told })
     (subst (λ x. EndsAs holds holds' honest' (λ t. t ≡ moment) x p [] [] 0 turns e counts) start ends) (subst IsOfStream is of_stream))
+
+-- ---- what is printed of it
+
+begins_answer : (a : List ℕ) → BeginsWithLen a → IsAnswer a
+begins_answer [] b = tt
+begins_answer (x ∷ xs) b = b
+
+answer_begins : LenStandsFirst → (class : Class) (o : Option Said) (unique : ℕ) → ((a : Said) → o ≡ Some a → FitsAnswer a) → IsAnswer (answer_by class o unique)
+answer_begins len Silent o unique fits = tt
+answer_begins len (Bare errno) o unique fits = begins_answer _ (len errno.0 [] unique (omega arith))
+answer_begins len Kept None unique fits = tt
+answer_begins len Kept (Some a) unique fits = begins_answer _ (len a.errno a.body unique (fits a refl).short)
+
+answers_begin : LenStandsFirst → SaidFits → (s : State) (g : History) (timed : List Timed) → AllByRecursion IsAnswer (answers s g timed)
+answers_begin len fits s g [] = tt
+answers_begin len fits s g (t ∷ timed) =
+    (answer_begins len (class_of t.bytes) (said s g (message_id t.bytes)) (unique_of t.bytes) (fits s g (message_id t.bytes)), answers_begin len fits s g timed)
+
+pub printed : LenStandsFirst → SaidFits → (holds holds' : Rows → Records → Type 0) (honest' : Type 0) (moment : Moment) (input sent : List ℕ) (counts : SessionCounts) (ending : Ending) (written written' : Option (List ℕ))
+    → ((answers : List (List ℕ)) → AllByRecursion IsAnswer answers → sent ≡ joined answers → Prints written written' answers counts)
+    → Replayed holds holds' honest' moment input ending (Sends sent counts) → Replayed holds holds' honest' moment input ending (Prints written written')
+printed len fits holds holds' honest' moment input sent counts ending written written' prints r = record {
+  timed = r.timed;
+  others = r.others;
+  parts = r.parts;
+  moments = r.moments;
+  all = λ honest s h t so may.
+      let d = r.all honest s h t so may in
+      let g = grown h (kept_in r.timed) in
+      record {
+        works = d.works;
+        ends = d.ends;
+        stands = d.stands;
+        gave = subst (Prints written written' (answers s g r.timed)) d.gave.1 (prints (answers s g r.timed) (answers_begin len fits s g r.timed) d.gave.0);
+      };
+}
