@@ -39,7 +39,6 @@ fn replay_command<'a>(alloc: Global) -> Result<Command<'a>, AllocError> {
 fn program_command<'a>(alloc: Global) -> Result<Command<'a>, AllocError> {
     Command::new(alloc, "fusekeep")
         .about("Serves FUSE requests, with recovery by resends")
-        .no_binary_name(true)
         .subcommand_required(true)
         .subcommand(replay_command(alloc)?)
 }
@@ -62,7 +61,7 @@ fn told(alloc: Global, kind: ErrorKind, text: &str) -> Result<Error, AllocError>
     program_command(alloc)?.error(kind, text)
 }
 
-/// Reads the words after the program's name. An `Err` is what is to be said of them: a mistake, the
+/// Reads the words of a command line, of which the first is the program's name. An `Err` is what is to be said of them: a mistake, the
 /// help that was asked for, or want of memory.
 pub fn parse<'a, S: AsStr>(alloc: Global, words: &'a [S]) -> Result<Run<'a>, Error> {
     let matches = program_command(alloc)?.try_get_matches_from(words)?;
