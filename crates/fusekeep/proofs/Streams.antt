@@ -28,13 +28,13 @@ use Rattle.fuse_session.specs.Port.{PortState, fresh, HasEnded}
 use Rattle.fuse_session.specs.Worked.{Timed, bytes_of, kept_in, answers, answer_by, unique_of, GoesOn, Works, EndsLast, StartsZero, Moments, message_id}
 use Rattle.fuse_session.specs.Settling.{Mark, replies, settles, settled_in, NoneComesAgain, MayCome, Places, PlaceFirst}
 use Rattle.fuse_session.specs.Counting.{counted}
-use Rattle.fuse_session.specs.Serving.{Turned, Whole}
-use Rattle.fuse_session.specs.Ends.{EndsAs, Rested, Halted, FaultOf}
+use Rattle.fuse_session.specs.Serving.{Turned, Whole, Life}
+use Rattle.fuse_session.specs.Ends.{EndsAs, ended_store}
 use Rattle.fusekeep.specs.declared.ending.Ending.{Ending}
 use Rattle.fusekeep.specs.declared.ending.Ending.TheVariants.{Done, Short, TooLong, Cut, ZeroUnique}
-use Rattle.fusekeep.specs.Endings.{session_ending, stream_ending, store_ending, IsOfStream}
+use Rattle.fusekeep.specs.Endings.{session_ending, stream_ending, store_ending, status_of, IsOfStream}
 use Rattle.fusekeep.specs.Printing.{IsAnswer}
-use Rattle.fusekeep.specs.Replaying.{EndsAt, EndsFaulty, Replay, Replayed, Sends, Prints}
+use Rattle.fusekeep.specs.Replaying.{EndsAt, EndsFaulty, Replay, Replayed, Faulted, Sends, Prints, PrintsAnswers}
 
 -- ---- no answer was told to be awaited by nobody
 
@@ -278,6 +278,63 @@ session_replayed joins steps holds holds' honest' moment input sent q p turns e 
     (replayed joins steps holds holds' honest' moment input sent p turns e counts (record { gone = gone; sent_is = told })
     (subst (λ x. EndsAs holds holds' honest' (λ t. t ≡ moment) x p [] [] 0 turns e counts) start ends) (subst IsOfStream is of_stream))
 
+-- ---- a fault of the store
+
+store_ended : (e : Ended) → status_of (session_ending e) ≡ 3 → ended_store e ≡ true
+store_ended session.End is = absurd (omega (arith, is))
+store_ended session.Destroyed is = absurd (omega (arith, is))
+store_ended session.Turns is = absurd (omega (arith, is))
+store_ended (session.Frame (frame.Short at len)) is = absurd (omega (arith, is))
+store_ended (session.Frame (frame.TooLong at len)) is = absurd (omega (arith, is))
+store_ended (session.Frame (frame.Cut at have need)) is = absurd (omega (arith, is))
+store_ended (session.Frame frame.Memory) is = absurd (omega (arith, is))
+store_ended (session.ZeroUnique at) is = absurd (omega (arith, is))
+store_ended session.PortFailed is = absurd (omega (arith, is))
+store_ended (session.Store f) is = refl
+store_ended session.Memory is = absurd (omega (arith, is))
+
+no_part : (later : List (List ℕ)) (part unsent : List ℕ) → joined later ≡ part ++ unsent → later ≡ [] → part ≡ []
+no_part later [] unsent begun none = refl
+no_part later (x ∷ part) unsent begun none = absurd (cc (sym (ap joined none) ∙ begun))
+
+faulted : CutJoins → (holds holds' : Rows → Records → Type 0) (clean' honest' firm whole' : Type 0) (left' : Rows → Records → Type 0) (moment : Moment) (input sent : List ℕ) (p : PortState) (want : Bool) → Told p sent
+    → Life holds holds' clean' honest' firm whole' left' (λ t. t ≡ moment) (fresh (Some input) (Some []) false) p [] [] true want → Faulted holds holds' clean' moment input (λ answers. sent ≡ joined answers)
+faulted joins holds holds' clean' honest' firm whole' left' moment input sent p want told life =
+    let b = life.broken in
+    let r = b.replied in
+    let c = came input p.coming life.received life.came in
+    let more = (cut ((cut life.received).1 ++ c.later)).0 in
+    let taken = all_taken (Some []) b.marks r.places (sym r.gone ∙ told.gone) r.placed in
+    let sent_so = sent_is p.sent sent (joined (replies b.marks) ++ b.part) told.sent_is r.sent in
+    record {
+      timed = b.timed;
+      others = b.others ++ more;
+      parts = ap (λ (x : List (List ℕ) × List ℕ). x.0) (cut_came joins input life.received c.later c.parts) ∙ ap (λ ms. ms ++ more) b.front ∙ append_assoc (bytes_of b.timed) b.others more;
+      moments = b.moments;
+      all = λ clean s h t so may.
+          let l = b.life clean s h t so (λ i there. absurd (cc there)) (none_again t (bytes_of b.timed) b.marks taken may) in
+          let g = grown h (kept_in l.worked) in
+          let over = l.exactly refl in
+          let same : t ++ settled_in false (bytes_of l.worked) b.marks ≡ t = ap (λ (x : List ℕ). t ++ x) (settled_nothing (bytes_of l.worked) b.marks taken) ∙ append-nil t in
+          let all_sent : answers s g l.worked ≡ replies b.marks = l.sent ∙ ap (λ x. replies b.marks ++ x) over ∙ append-nil (replies b.marks) in
+          record {
+            worked = l.worked;
+            unworked = l.unworked;
+            parts = l.parts;
+            works = l.works;
+            stands = subst (StandsFor holds' s g) same l.stands;
+            gave = sent_so ∙ ap (λ (x : List ℕ). joined (replies b.marks) ++ x) (no_part l.later b.part l.unsent l.begun over) ∙ append-nil (joined (replies b.marks)) ∙ ap joined (sym all_sent);
+          };
+    }
+
+pub session_faulted : CutJoins → (holds holds' : Rows → Records → Type 0) (clean' honest' firm whole' : Type 0) (left' : Rows → Records → Type 0) (moment : Moment) (input sent : List ℕ) (q p : PortState) (want : Bool) (e : Ended) (ending : Ending)
+    → ending ≡ session_ending e → q ≡ fresh (Some input) (Some []) false → p.gone ≡ [] → p.sent ≡ Some sent → Life holds holds' clean' honest' firm whole' left' (λ t. t ≡ moment) q p [] [] (ended_store e) want → status_of ending ≡ 3
+    → Faulted holds holds' clean' moment input (λ answers. sent ≡ joined answers)
+session_faulted joins holds holds' clean' honest' firm whole' left' moment input sent q p want e ending is start gone told life of_store =
+    faulted joins holds holds' clean' honest' firm whole' left' moment input sent p want (record { gone = gone; sent_is = told })
+    (subst (λ b. Life holds holds' clean' honest' firm whole' left' (λ t. t ≡ moment) (fresh (Some input) (Some []) false) p [] [] b want) (store_ended e (sym (ap status_of is) ∙ of_store))
+    (subst (λ x. Life holds holds' clean' honest' firm whole' left' (λ t. t ≡ moment) x p [] [] (ended_store e) want) start life))
+
 -- ---- what is printed of it
 
 begins_answer : (a : List ℕ) → BeginsWithLen a → IsAnswer a
@@ -311,5 +368,26 @@ printed len fits holds holds' honest' moment input sent counts ending written wr
         ends = d.ends;
         stands = d.stands;
         gave = subst (Prints written written' (answers s g r.timed)) d.gave.1 (prints (answers s g r.timed) (answers_begin len fits s g r.timed) d.gave.0);
+      };
+}
+
+pub fault_printed : LenStandsFirst → SaidFits → (holds holds' : Rows → Records → Type 0) (clean' : Type 0) (moment : Moment) (input sent : List ℕ) (written written' : Option (List ℕ))
+    → ((answers : List (List ℕ)) → AllByRecursion IsAnswer answers → sent ≡ joined answers → PrintsAnswers written written' answers)
+    → Faulted holds holds' clean' moment input (λ answers. sent ≡ joined answers) → Faulted holds holds' clean' moment input (PrintsAnswers written written')
+fault_printed len fits holds holds' clean' moment input sent written written' prints f = record {
+  timed = f.timed;
+  others = f.others;
+  parts = f.parts;
+  moments = f.moments;
+  all = λ clean s h t so may.
+      let d = f.all clean s h t so may in
+      let g = grown h (kept_in d.worked) in
+      record {
+        worked = d.worked;
+        unworked = d.unworked;
+        parts = d.parts;
+        works = d.works;
+        stands = d.stands;
+        gave = prints (answers s g d.worked) (answers_begin len fits s g d.worked) d.gave;
       };
 }

@@ -49,6 +49,23 @@ pub record Replayed (holds holds' : Rows → Records → Type 0) (honest' : Type
   pub all : honest' → (s : State) (h : History) (t : List ℕ) → StandsFor holds s h t → AllByRecursion (MayCome t) (bytes_of timed)
       → Replay (λ g. StandsFor holds' s g t) s h timed others (cut input).1 ending Gave
 
+-- some of these messages were worked off, and this is what their answers gave
+pub record Part (stood : History → Type 0) (s : State) (h : History) (timed : List Timed) (Gave : List (List ℕ) → Type 0) : Type 0 where
+  pub worked : List Timed
+  pub unworked : List Timed
+  pub parts : timed ≡ worked ++ unworked
+  pub works : Works s h worked
+  pub stands : stood (grown h (kept_in worked))
+  pub gave : Gave (answers s (grown h (kept_in worked)) worked)
+
+-- the store answered a fault: of the first messages of the input some were worked off, the kept ones at this moment
+pub record Faulted (holds holds' : Rows → Records → Type 0) (clean' : Type 0) (moment : Moment) (input : List ℕ) (Gave : List (List ℕ) → Type 0) : Type 0 where
+  pub timed : List Timed
+  pub others : List (List ℕ)
+  pub parts : (cut input).0 ≡ bytes_of timed ++ others
+  pub moments : Moments (λ t. t ≡ moment) timed
+  pub all : clean' → (s : State) (h : History) (t : List ℕ) → StandsFor holds s h t → AllByRecursion (MayCome t) (bytes_of timed) → Part (λ g. StandsFor holds' s g t) s h timed Gave
+
 -- these answers were sent, and so it was counted
 abbrev pub Sends : List ℕ → SessionCounts → List (List ℕ) → SessionCounts → Type 0
 Sends sent counts answers counts' = (sent ≡ joined answers) × (counts ≡ counts')
@@ -56,3 +73,7 @@ Sends sent counts answers counts' = (sent ≡ joined answers) × (counts ≡ cou
 -- a line for each answer was written, and then the line of counts
 abbrev pub Prints : Option (List ℕ) → Option (List ℕ) → List (List ℕ) → SessionCounts → Type 0
 Prints written written' answers counts = Appends written written' (answer_lines answers ++ line (count_line counts))
+
+-- a line for each answer was written
+abbrev pub PrintsAnswers : Option (List ℕ) → Option (List ℕ) → List (List ℕ) → Type 0
+PrintsAnswers written written' answers = Appends written written' (answer_lines answers)

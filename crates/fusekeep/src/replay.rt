@@ -1,10 +1,9 @@
-ghost use Rattle.std.specs.Prelude.{◌≡◌, ◌⊎◌, ◌++◌, ◌≤◌, [], ℕ, Bool, true, false, List, Some, IfErr, OnOk, if◌then◌else◌};
+ghost use Rattle.std.specs.Prelude.{◌≡◌, ◌⊎◌, ◌≤◌, ℕ, true, false, List, Some, IfErr, OnOk};
 ghost use Rattle.std.specs.List.{AllByRecursion};
-ghost use Rattle.std.specs.Io.KnownBytes.{Appends};
 ghost use Rattle.fuse_request.specs.Stream.{joined};
 ghost use Rattle.fusekeep.specs.Endings.{status_of, IsOfStream};
-ghost use Rattle.fusekeep.specs.Printing.{line, answer_lines, count_line, IsAnswer};
-ghost use Rattle.fusekeep.specs.Replaying.{Replayed, Sends, Prints};
+ghost use Rattle.fusekeep.specs.Printing.{IsAnswer};
+ghost use Rattle.fusekeep.specs.Replaying.{Replayed, Faulted, Sends, Prints, PrintsAnswers};
 
 use crate::ending::Ending;
 use crate::printing::{write_answers, write_counts};
@@ -37,6 +36,8 @@ fn serve_stream<K: Keeper, R: Read>(
     requires { K.has_failed keeper.old ≡ false }
     ensures replayed { IsOfStream result.ending → (input : List ℕ) → R.remaining reader.old ≡ Some input
         → Replayed (K.holds keeper.old) (K.holds keeper.new) (K.is_honest keeper.new) moment input result.ending (Sends result.sent.items result.counts) }
+    ensures faulted { status_of result.ending ≡ 3 → (input : List ℕ) → R.remaining reader.old ≡ Some input
+        → Faulted (K.holds keeper.old) (K.holds keeper.new) (K.is_clean keeper.new) moment input (λ answers. result.sent.items ≡ joined answers) }
     ensures store { status_of result.ending ≡ 3 → K.has_failed keeper.new ≡ true }
     ensures failed { K.has_failed keeper.new ≡ true → 3 ≤ status_of result.ending }
 {
@@ -57,8 +58,10 @@ fn print_session<W: Write>(
     writer: &mut W,
     session: &Session,
 ) -> Result<(), Ending>
+    ensures fault { (IsOfStream session.now.ending → ⊥) → OnOk result ((answers : List (List ℕ)) → AllByRecursion IsAnswer answers → session.now.sent.items ≡ joined answers
+        → PrintsAnswers (W.contents writer.old) (W.contents writer.new) answers) }
     ensures ok { IsOfStream session.now.ending → OnOk result ((answers : List (List ℕ)) → AllByRecursion IsAnswer answers → session.now.sent.items ≡ joined answers
-        → Appends (W.contents writer.old) (W.contents writer.new) (answer_lines answers ++ line (count_line session.now.counts))) }
+        → Prints (W.contents writer.old) (W.contents writer.new) answers session.now.counts) }
     ensures err { IfErr result (λ ending. (ending ≡ Ending.PortFailed) ⊎ (ending ≡ Ending.Memory)) }
 {
     write_answers(alloc, writer, session.sent.as_slice())?;
@@ -81,8 +84,13 @@ pub fn run_replay<K: Keeper, R: Read, W: Write>(
     moment: Moment,
 ) -> Ending
     requires { K.has_failed keeper.old ≡ false }
+    // At status 0 or 1: what was worked off of the input, what is printed of it, and what the keeper then stands for.
     ensures replayed { IsOfStream result → (input : List ℕ) → R.remaining reader.old ≡ Some input
         → Replayed (K.holds keeper.old) (K.holds keeper.new) (K.is_honest keeper.new) moment input result (Prints (W.contents writer.old) (W.contents writer.new)) }
+
+    // At a fault of the store the answers before it are printed, and no counts.
+    ensures faulted { status_of result ≡ 3 → (input : List ℕ) → R.remaining reader.old ≡ Some input
+        → Faulted (K.holds keeper.old) (K.holds keeper.new) (K.is_clean keeper.new) moment input (PrintsAnswers (W.contents writer.old) (W.contents writer.new)) }
     ensures store { status_of result ≡ 3 → K.has_failed keeper.new ≡ true }
     ensures failed { K.has_failed keeper.new ≡ true → 3 ≤ status_of result }
 {
