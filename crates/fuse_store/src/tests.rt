@@ -97,7 +97,7 @@ fn is_kept(request: &Request<'_>) -> bool
         Op::Getattr { .. } => true,
         Op::Mkdir { .. } => true,
         Op::Destroy => true,
-        Op::Unsupported { .. } => false,
+        _ => false,
     }
 }
 
