@@ -3,4 +3,5 @@ pub mod Ids
 pub mod Layout
 pub mod Flags
 pub mod Hex
+pub mod Opcodes
 pub mod Vectors

@@ -11,6 +11,8 @@ mod init_flags;
 mod laws;
 mod memory;
 mod moment;
+pub mod opcode;
+mod places;
 mod put;
 mod setattr_valid;
 #[cfg(test)]
@@ -25,5 +27,6 @@ pub use init_flags::InitFlags;
 pub use laws::one_number;
 pub use memory::Memory;
 pub use moment::Moment;
+pub use places::{u16_at, u32_at, u64_at};
 pub use put::{put_bytes, put_i32, put_u16, put_u32, put_u64};
 pub use setattr_valid::SetattrValid;
