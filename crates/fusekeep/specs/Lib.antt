@@ -1,4 +1,5 @@
 pub mod Checking
-pub mod Counts
 pub mod Messages
 pub mod Endings
+pub mod Printing
+pub mod Replaying

@@ -52,21 +52,27 @@ fn file_command<'a>(
     Command::new(alloc, name).about(about).arg(file)
 }
 
-fn replay_command<'a>(alloc: Global) -> Result<Command<'a>, AllocError> {
-    let at = Arg::new(alloc, AT)
+fn at_argument<'a>(alloc: Global) -> Arg<'a> {
+    Arg::new(alloc, AT)
         .long(AT)
         .value_name("SECS")
         .value_parser(value_parser!(u64))
         .required(true)
-        .help("The second at which all requests are served");
-    let stream = Arg::new(alloc, STREAM)
+        .help("The second at which all requests are served")
+}
+
+fn stream_argument<'a>(alloc: Global) -> Arg<'a> {
+    Arg::new(alloc, STREAM)
         .value_name("STREAM")
         .required(true)
-        .help("The file of the stream, or - for standard input");
+        .help("The file of the stream, or - for standard input")
+}
+
+fn replay_command<'a>(alloc: Global) -> Result<Command<'a>, AllocError> {
     Command::new(alloc, REPLAY)
         .about("Serves a recorded stream over a new store in memory")
-        .arg(at)?
-        .arg(stream)
+        .arg(at_argument(alloc))?
+        .arg(stream_argument(alloc))
 }
 
 fn program_command<'a>(alloc: Global) -> Result<Command<'a>, AllocError> {

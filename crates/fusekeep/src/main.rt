@@ -3,7 +3,7 @@
 
 mod arguments;
 mod check;
-mod counts;
+mod count_line;
 mod ending;
 mod messages;
 mod printing;
