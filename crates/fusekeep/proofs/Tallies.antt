@@ -1,5 +1,5 @@
 -- Messages that were given out so far, and how they are counted.
-use Rattle.std.proofs.Common.{All, ◌≡◌, ◌≤◌, ◌<◌, ◌+◌, ℕ, Bool, true, false, cond, List, [], ◌∷◌, ◌++◌, length, Option, Some, None, refl, sym, ap, subst, ◌∙◌, append_assoc, arith, length-append}
+use Rattle.std.proofs.Common.{All, ◌≡◌, ◌≤◌, ◌<◌, ◌+◌, ℕ, Bool, true, false, cond, List, [], ◌∷◌, ◌++◌, length, Option, Some, None, Ok, Err, inl, inr, refl, sym, ap, subst, ◌∙◌, append_assoc, arith, length-append}
 use Rattle.std.specs.List.{filter, AllByRecursion}
 use Rattle.std.specs.Option.{IfSome}
 use Rattle.std.specs.Io.KnownBytes.{Consumes, IsAtEnd}
@@ -11,8 +11,9 @@ use Rattle.fuse_request.specs.Stream.{cut, joined, is_whole, IsMessage, IsOneCut
 use Rattle.fuse_request.specs.Framing.{HasNone, end_fault}
 use Rattle.fusekeep.specs.declared.check.MessageCounts.{MessageCounts}
 use Rattle.fusekeep.specs.declared.messages.Placed.{Placed}
-use Rattle.fusekeep.specs.Messages.{GaveMessage, GaveSome, fault_of}
-use Rattle.fusekeep.specs.Checking.{is_malformed, is_unsupported, checked, CountedSome, CountedAll}
+use Rattle.fusekeep.specs.declared.ending.Ending.{Ending}
+use Rattle.fusekeep.specs.Messages.{GaveMessage, GaveSome, GivesPlaced, WentSoFar, WentThrough, fault_of}
+use Rattle.fusekeep.specs.Checking.{is_malformed, is_unsupported, checked}
 use Rattle.fusekeep.proofs.Known.{consumes_then}
 
 all_one : (P : List ℕ → Type 0) (m : List ℕ) → P m → All P (m ∷ [])
@@ -49,26 +50,36 @@ cut_known (Some w) None at ms one steps some none = tt
 cut_known (Some w) (Some rest) at ms one steps some none =
     (one w).1 ms rest (record { whole = some.left_is; each = recursion_from_All IsMessage ms some.each; stuck = stuck rest (is_whole rest) refl steps none })
 
-pub counted_fault : (stream left : Option (List ℕ)) (at : ℕ) (counts : MessageCounts) (fault : FrameFault) → IsOneCut → CutSteps → CountedSome stream left at counts
-    → IfSome left (λ rest. HasNone rest × (end_fault at rest ≡ Some fault)) → IfSome stream (λ w. CountedAll w counts (Some fault))
-counted_fault None left at counts fault one steps some here = tt
-counted_fault (Some w) None at counts fault one steps some here = absurd some.gave.left_is
-counted_fault (Some w) (Some rest) at counts fault one steps some here =
+pub went_faulty : (stream left : Option (List ℕ)) (at : ℕ) (P : List (List ℕ) → Type 0) (fault : FrameFault) → IsOneCut → CutSteps → WentSoFar stream left at P
+    → IfSome left (λ rest. HasNone rest × (end_fault at rest ≡ Some fault)) → IfSome stream (λ w. (fault_of w ≡ Some fault) × P (cut w).0)
+went_faulty None left at P fault one steps some here = tt
+went_faulty (Some w) None at P fault one steps some here = absurd some.gave.left_is
+went_faulty (Some w) (Some rest) at P fault one steps some here =
     let e : cut w ≡ (some.messages, rest) = cut_known (Some w) (Some rest) at some.messages one steps some.gave here.0 in
-    record { counted = some.counted ∙ sym (ap (λ (x : List (List ℕ) × List ℕ). checked x.0) e); wrong = rw (e, sym some.gave.place) here.1 }
+    rw e (rw (sym some.gave.place) here.1, some.so)
 
 unfolding cut
 none_left : HasNone []
 none_left = refl
 
-pub counted_end : (stream left : Option (List ℕ)) (at : ℕ) (counts : MessageCounts) → IsOneCut → CutSteps → CountedSome stream left at counts
-    → IsAtEnd left → IfSome stream (λ w. CountedAll w counts None)
-counted_end None left at counts one steps some end = tt
-counted_end (Some w) None at counts one steps some end = absurd some.gave.left_is
-counted_end (Some w) (Some rest) at counts one steps some end =
+pub went_whole : (stream left : Option (List ℕ)) (at : ℕ) (P : List (List ℕ) → Type 0) → IsOneCut → CutSteps → WentSoFar stream left at P
+    → IsAtEnd left → IfSome stream (λ w. (fault_of w ≡ None) × P (cut w).0)
+went_whole None left at P one steps some end = tt
+went_whole (Some w) None at P one steps some end = absurd some.gave.left_is
+went_whole (Some w) (Some rest) at P one steps some end =
     let none : HasNone rest = subst HasNone (sym end) none_left in
     let e : cut w ≡ (some.messages, rest) = cut_known (Some w) (Some rest) at some.messages one steps some.gave none in
-    record { counted = some.counted ∙ sym (ap (λ (x : List (List ℕ) × List ℕ). checked x.0) e); wrong = rw (e, end) refl }
+    rw (e, end) (refl, some.so)
+
+-- what a fault of the stream leaves
+pub went_err : (stream left left' : Option (List ℕ)) (at at' : ℕ) (P : List (List ℕ) → Type 0) (ending : Ending) → IsOneCut → CutSteps → WentSoFar stream left at P
+    → GivesPlaced left left' at at' (Err ending) → WentThrough stream P (Err ending)
+went_err stream left left' at at' P ending one steps some (inl h) = inl h
+went_err stream left left' at at' P ending one steps some (inr h) = inr (h.fault, h.same, went_faulty stream left at P h.fault one steps some h.here)
+
+pub none_yet : (stream : Option (List ℕ)) (at : ℕ) (P : List (List ℕ) → Type 0) → at ≡ 0 → P [] → WentSoFar stream stream at P
+none_yet None at P here so = record { messages = []; gave = record { left_is = tt; each = All-nil IsMessage; place = here }; so = so }
+none_yet (Some w) at P here so = record { messages = []; gave = record { left_is = refl; each = All-nil IsMessage; place = here }; so = so }
 
 -- ---- the counts
 
@@ -86,13 +97,13 @@ pub counted_more : (ms : List (List ℕ)) (m : List ℕ) → checked (ms ++ m �
     ≡ record { messages = (checked ms).messages + 1; malformed = (checked ms).malformed + cond {A = ℕ} (is_malformed m) 1 0; unsupported = (checked ms).unsupported + cond {A = ℕ} (is_unsupported m) 1 0 }
 counted_more ms m = same_counts _ _ _ _ _ _ (length-append ms (m ∷ [])) (one_more is_malformed ms m) (one_more is_unsupported ms m)
 
-pub some_more : (stream left left' : Option (List ℕ)) (at at' : ℕ) (counts counts' : MessageCounts) (p : Placed) → CountedSome stream left at counts → GaveMessage left left' at at' p
+pub some_counted : (stream left left' : Option (List ℕ)) (at at' : ℕ) (counts counts' : MessageCounts) (p : Placed) → WentSoFar stream left at (λ ms. counts ≡ checked ms) → GaveMessage left left' at at' p
     → counts' ≡ record { messages = counts.messages + 1; malformed = counts.malformed + cond {A = ℕ} (is_malformed p.bytes) 1 0; unsupported = counts.unsupported + cond {A = ℕ} (is_unsupported p.bytes) 1 0 }
-    → CountedSome stream left' at' counts'
-some_more stream left left' at at' counts counts' p some one is = record {
+    → WentSoFar stream left' at' (λ ms. counts' ≡ checked ms)
+some_counted stream left left' at at' counts counts' p some one is = record {
   messages = some.messages ++ p.bytes ∷ [];
   gave = gave_more stream left left' at at' some.messages p some.gave one;
-  counted = is ∙ rw some.counted (sym (counted_more some.messages p.bytes));
+  so = is ∙ rw some.so (sym (counted_more some.messages p.bytes));
 }
 
 -- no count is above the number of bytes
@@ -101,19 +112,15 @@ pub record AreFew (counts : MessageCounts) (at : ℕ) : Type 0 where
   pub malformed : counts.malformed ≤ at
   pub unsupported : counts.unsupported ≤ at
 
-pub are_few : (stream left : Option (List ℕ)) (at : ℕ) (counts : MessageCounts) → CountedSome stream left at counts → AreFew counts at
+pub are_few : (stream left : Option (List ℕ)) (at : ℕ) (counts : MessageCounts) → WentSoFar stream left at (λ ms. counts ≡ checked ms) → AreFew counts at
 are_few stream left at counts some =
     let ms = some.messages in
     let less : length ms ≤ at = rw some.gave.place (few ms (recursion_from_All IsMessage ms some.gave.each)) in
     let malformed : length (filter is_malformed ms) ≤ length ms = rw (length-filter is_malformed ms) (count_by-le-length is_malformed ms) in
     let unsupported : length (filter is_unsupported ms) ≤ length ms = rw (length-filter is_unsupported ms) (count_by-le-length is_unsupported ms) in
-    let counted = some.counted in
+    let counted = some.so in
     record {
       messages = omega (arith, ap (λ (c : MessageCounts). c.messages) counted);
       malformed = omega (arith, ap (λ (c : MessageCounts). c.malformed) counted);
       unsupported = omega (arith, ap (λ (c : MessageCounts). c.unsupported) counted);
     }
-
-pub none_counted : (stream : Option (List ℕ)) (counts : MessageCounts) (at : ℕ) → counts ≡ checked [] → at ≡ 0 → CountedSome stream stream at counts
-none_counted None counts at is here = record { messages = []; gave = record { left_is = tt; each = All-nil IsMessage; place = here }; counted = is }
-none_counted (Some w) counts at is here = record { messages = []; gave = record { left_is = refl; each = All-nil IsMessage; place = here }; counted = is }

@@ -1,5 +1,5 @@
 -- How the messages of a stream are counted, and the line of counts (own profile).
-use Rattle.std.specs.Prelude.{◌≡◌, ◌&&◌, ◌⊎◌, ℕ, zero, suc, Bool, true, false, List, ◌∷◌, [], ◌++◌, length, codes, decimal, Option, Some, None, is_some, is_none, IfSome, Result, Ok, Err}
+use Rattle.std.specs.Prelude.{◌≡◌, ◌&&◌, ℕ, zero, suc, Bool, true, false, List, ◌++◌, length, codes, decimal, Option, Some, None, is_some, is_none}
 use Rattle.std.specs.List.{filter}
 use Rattle.std.specs.Io.KnownBytes.{Appends}
 use Rattle.fuse_request.specs.declared.framer.FrameFault.{FrameFault}
@@ -10,8 +10,9 @@ use Rattle.fuse_request.specs.Stream.{cut}
 use Rattle.fusekeep.specs.declared.check.MessageCounts.{MessageCounts}
 use Rattle.fusekeep.specs.declared.ending.Ending.{Ending}
 use Rattle.fusekeep.specs.declared.ending.Ending.TheVariants.{Done, Malformed}
-use Rattle.fusekeep.specs.Endings.{stream_ending, IsNotOfStream}
-use Rattle.fusekeep.specs.Messages.{fault_of, GaveSome}
+use Rattle.fusekeep.specs.Endings.{stream_ending}
+use Rattle.fusekeep.specs.Messages.{fault_of}
+use Rattle.fusekeep.specs.Printing.{line}
 
 -- it spells no request
 abbrev pub is_malformed : List ℕ → Bool
@@ -41,20 +42,5 @@ check_ending None (suc n) = Malformed
 
 -- the counts of a stream's messages were written, and this is how the check ends
 pub record Checked (old new : Option (List ℕ)) (stream : List ℕ) (ending : Ending) : Type 0 where
-  pub written : Appends old new (check_line (checked (cut stream).0) ++ 10 ∷ [])
+  pub written : Appends old new (line (check_line (checked (cut stream).0)))
   pub ends : ending ≡ check_ending (fault_of stream) (checked (cut stream).0).malformed
-
--- so many messages are counted so far
-pub record CountedSome (stream left : Option (List ℕ)) (at : ℕ) (counts : MessageCounts) : Type 0 where
-  pub messages : List (List ℕ)
-  pub gave : GaveSome stream left at messages
-  pub counted : counts ≡ checked messages
-
--- all messages of a stream are counted, and this is wrong with it
-pub record CountedAll (stream : List ℕ) (counts : MessageCounts) (fault : Option FrameFault) : Type 0 where
-  pub counted : counts ≡ checked (cut stream).0
-  pub wrong : fault_of stream ≡ fault
-
-abbrev pub CountedTo : Option (List ℕ) → MessageCounts → Result Unit Ending → Type 0
-CountedTo known counts (Ok _) = IfSome known (λ stream. CountedAll stream counts None)
-CountedTo known counts (Err ending) = IsNotOfStream ending ⊎ ((fault : FrameFault) × (ending ≡ stream_ending fault) × IfSome known (λ stream. CountedAll stream counts (Some fault)))

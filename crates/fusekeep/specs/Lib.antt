@@ -1,4 +1,5 @@
 pub mod Checking
+pub mod Dumping
 pub mod Messages
 pub mod Endings
 pub mod Printing

@@ -6,6 +6,7 @@ use Rattle.fuse_request.specs.declared.header.TheConstants.{MAX_MESSAGE}
 use Rattle.fuse_request.specs.Stream.{cut, joined, IsMessage}
 use Rattle.fuse_request.specs.Framing.{end_fault, HasNone}
 use Rattle.fusekeep.specs.declared.ending.Ending.{Ending}
+use Rattle.fusekeep.specs.declared.ending.Ending.TheVariants.{Done}
 use Rattle.fusekeep.specs.declared.messages.Messages.{Messages}
 use Rattle.fusekeep.specs.declared.messages.Placed.{Placed}
 use Rattle.fusekeep.specs.Endings.{stream_ending, IsNotOfStream}
@@ -52,6 +53,23 @@ pub record GaveSome (stream left : Option (List ℕ)) (at : ℕ) (messages : Lis
   pub each : All IsMessage messages
   pub place : at ≡ length (joined messages)
 
+-- messages were given out so far, and so it is with them
+pub record WentSoFar (stream left : Option (List ℕ)) (at : ℕ) (P : List (List ℕ) → Type 0) : Type 0 where
+  pub messages : List (List ℕ)
+  pub gave : GaveSome stream left at messages
+  pub so : P messages
+
 -- what is wrong with a stream that ends as this one does
 abbrev pub fault_of : List ℕ → Option FrameFault
 fault_of stream = end_fault (length (joined (cut stream).0)) (cut stream).1
+
+-- all messages of a stream were given out, and so it is with them; or it wasn't read to its end
+abbrev pub WentThrough : Option (List ℕ) → (List (List ℕ) → Type 0) → Result (Unit {0}) Ending → Type 0
+WentThrough known P (Ok _) = IfSome known (λ stream. (fault_of stream ≡ None) × P (cut stream).0)
+WentThrough known P (Err ending) =
+    IsNotOfStream ending ⊎ ((fault : FrameFault) × (ending ≡ stream_ending fault) × IfSome known (λ stream. (fault_of stream ≡ Some fault) × P (cut stream).0))
+
+-- how looking through a stream ends that has this fault, or none
+abbrev pub look_ending : Option FrameFault → Ending
+look_ending (Some fault) = stream_ending fault
+look_ending None = Done

@@ -1,10 +1,11 @@
 //! How many messages of a stream spell a request.
-ghost use Rattle.std.specs.Prelude.{◌≡◌, ◌<◌, ◌+◌, ◌^◌, [], ◌∷◌, ◌++◌, true, None, nat_le, if◌then◌else◌, IfSome, IfErr, OnOk};
+ghost use Rattle.std.specs.Prelude.{◌≡◌, ◌<◌, ◌≤◌, ◌+◌, ◌^◌, [], None, if◌then◌else◌, IfSome, IfErr, OnOk};
 ghost use Rattle.std.specs.Io.KnownBytes.{Appends};
 ghost use Rattle.fuse_request.specs.Act.{act};
 ghost use Rattle.fusekeep.specs.Endings.{status_of, IsNotOfStream};
-ghost use Rattle.fusekeep.specs.Messages.{left_in, place_in};
-ghost use Rattle.fusekeep.specs.Checking.{is_malformed, is_unsupported, asks_unsupported, checked, check_line, check_ending, Checked, CountedTo};
+ghost use Rattle.fusekeep.specs.Messages.{left_in, place_in, WentThrough};
+ghost use Rattle.fusekeep.specs.Printing.{line};
+ghost use Rattle.fusekeep.specs.Checking.{is_malformed, is_unsupported, asks_unsupported, checked, check_line, check_ending, Checked};
 
 use crate::ending::Ending;
 use crate::messages::Messages;
@@ -91,7 +92,7 @@ fn count_all<R: Read + Drop>(
 ) -> Result<(), Ending>
     requires none { counts.old ≡ checked [] }
     requires place { place_in messages.old ≡ 0 }
-    ensures { CountedTo (left_in R.remaining messages.old) counts.new result }
+    ensures { WentThrough (left_in R.remaining messages.old) (λ ms. counts.new ≡ checked ms) result }
 {
     one_cut();
     cut_steps();
@@ -102,8 +103,8 @@ fn count_all<R: Read + Drop>(
 }
 
 // Prints the counts.
-fn write_counts<W: Write>(writer: &mut W, counts: MessageCounts) -> Result<(), Ending>
-    ensures ok { OnOk result (Appends (W.contents writer.old) (W.contents writer.new) (check_line counts ++ 10 ∷ [])) }
+fn write_check<W: Write>(writer: &mut W, counts: MessageCounts) -> Result<(), Ending>
+    ensures ok { OnOk result (Appends (W.contents writer.old) (W.contents writer.new) (line (check_line counts))) }
     ensures err { IfErr result IsNotOfStream }
 {
     if writeln!(writer, "{counts}").is_err() || writer.flush().is_err() {
@@ -115,7 +116,7 @@ fn write_counts<W: Write>(writer: &mut W, counts: MessageCounts) -> Result<(), E
 /// Counts the messages of the stream, and prints the counts. Where the stream has a fault, the messages before it are
 /// counted.
 pub fn run_check<R: Read + Drop, W: Write>(alloc: Global, reader: R, writer: &mut W) -> Ending
-    ensures { IfSome (R.remaining reader) (λ stream. nat_le (status_of result) 1 ≡ true → Checked (W.contents writer.old) (W.contents writer.new) stream result) }
+    ensures { IfSome (R.remaining reader) (λ stream. status_of result ≤ 1 → Checked (W.contents writer.old) (W.contents writer.new) stream result) }
 {
     let mut messages = match Messages::new(alloc, reader) {
         Ok(messages) => messages,
@@ -129,7 +130,7 @@ pub fn run_check<R: Read + Drop, W: Write>(alloc: Global, reader: R, writer: &mu
     if !ending.is_of_stream() {
         return ending;
     }
-    match write_counts(writer, counts) {
+    match write_check(writer, counts) {
         Ok(()) => ending,
         Err(fault) => fault,
     }

@@ -4,6 +4,7 @@
 mod arguments;
 mod check;
 mod count_line;
+mod dump;
 mod ending;
 mod messages;
 mod printing;
@@ -15,6 +16,7 @@ use arguments::{Run, STANDARD_INPUT, parse, unreadable};
 use check::run_check;
 use clap::Error;
 use clap::error::ErrorKind;
+use dump::run_dump;
 use ending::Ending;
 use fuse_store::PlainKeeper;
 use fuse_wire::Moment;
@@ -77,7 +79,7 @@ fn run_on<R: Print + AllocGlobal, S: Read + Drop>(rt: &R, mut reader: S, run: Ru
         return Ending::Memory;
     };
     match run {
-        Run::Dump { .. } => Ending::Done,
+        Run::Dump { .. } => run_dump(alloc, reader, &mut writer),
         Run::Check { .. } => run_check(alloc, reader, &mut writer),
         Run::Replay { at, .. } => replay_from(alloc, &mut reader, &mut writer, at),
     }
