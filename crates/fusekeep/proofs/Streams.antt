@@ -204,7 +204,7 @@ halted : CutJoins → (holds holds' : Rows → Records → Type 0) (honest' : Ty
     → Told p sent → Consumes (Some input) p.coming received → (cut received).0 ≡ front ++ others → place ≡ 0 + length (joined front)
     → Turned holds holds' honest' (λ t. t ≡ moment) (fresh (Some input) (Some []) false) p [] ids' front going counts
     → ((s : State) (h : History) (timed : List Timed) (more : List (List ℕ)) → (going ≡ true → GoesOn s h timed) → (going ≡ false → EndsLast s h timed) → place ≡ length (joined (bytes_of timed))
-        → EndsAt ending s h timed (others ++ more) (length (joined (bytes_of timed))) (cut input).1)
+    → EndsAt ending s h timed (others ++ more) (length (joined (bytes_of timed))) (cut input).1)
     → Replayed holds holds' honest' moment input ending (Sends sent counts)
 halted joins holds holds' honest' moment input sent p ids' received front others going place counts ending told came_from parts place_is turned ends =
     let c = came input p.coming received came_from in

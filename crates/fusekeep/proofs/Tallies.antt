@@ -41,7 +41,7 @@ few (m ∷ ms) each =
 
 stuck : (rest : List ℕ) (b : Bool) → is_whole rest ≡ b → CutSteps → HasNone rest → is_whole rest ≡ false
 stuck rest false is steps none = is
-stuck rest true is steps none = absurd (let e = sym ((steps rest).0 is) ∙ none in cc)
+stuck rest true is steps none = absurd (let e = ap (λ (x : List (List ℕ) × List ℕ). x.0) (sym ((steps rest).0 is) ∙ none) in cc)
 
 cut_known : (stream left : Option (List ℕ)) (at : ℕ) (ms : List (List ℕ)) → IsOneCut → CutSteps → GaveSome stream left at ms
     → IfSome left HasNone → IfSome stream (λ w. IfSome left (λ rest. cut w ≡ (ms, rest)))
@@ -58,8 +58,8 @@ went_faulty (Some w) (Some rest) at P fault one steps some here =
     let e : cut w ≡ (some.messages, rest) = cut_known (Some w) (Some rest) at some.messages one steps some.gave here.0 in
     rw e (rw (sym some.gave.place) here.1, some.so)
 
-unfolding cut
 none_left : HasNone []
+unfolding cut
 none_left = refl
 
 pub went_whole : (stream left : Option (List ℕ)) (at : ℕ) (P : List (List ℕ) → Type 0) → IsOneCut → CutSteps → WentSoFar stream left at P

@@ -316,7 +316,9 @@ fn seventeen(rt: HostRuntime) -> Result<(), Fail> {
     for i in 0..17 {
         let line = lines.next().ok_or("a line for each answer")?;
         let (unique, node) = (4 + 2 * i, 2 + i);
-        let head = format!(in alloc; "9000000000000000{unique:02x}00000000000000{node:02x}00000000000000")?;
+        let head = format!(in alloc;
+            "9000000000000000{unique:02x}00000000000000{node:02x}00000000000000"
+        )?;
         assert_eq!(rt; line.len(), 288);
         assert!(rt; line.starts_with(head.as_str()), "{i}");
     }
