@@ -3,7 +3,7 @@ use Rattle.std.proofs.Common.{◌≡◌, ℕ, ◌+◌, ◌-◌, ◌*◌, ◌<◌
 use Rattle.std.proofs.lemmas.Bool.{le-ltb, lt-ltb, eq-eqb, cases_lt}
 use Rattle.std.proofs.lemmas.List.{append-nil, take_at, drop_at, drop-drop, length-append, length-drop, length-take, take-append-drop}
 use Rattle.std.proofs.Common.{subst, Result, Ok, Err, inl, inr, nat_lt, if◌then◌else◌}
-use Rattle.std.specs.Prelude.{IfOk, IfErr, IsOkAnd}
+use Rattle.std.specs.Prelude.{IfOk, OnOk, IfErr, IsOkAnd}
 use Rattle.std.proofs.Math.Seq.{take-append-add}
 use Rattle.fuse_wire.specs.Bytes.{le, number_of, IsBytes}
 use Rattle.fuse_wire.specs.Layout.{Lays}
@@ -180,6 +180,11 @@ only_one m (Ok q) found fault v s = one_request (asked q) v m found s
 only_one m (Err f) found fault v s =
     let none : first_fault m ≡ None = no_fault v m s in
     absurd cc
+
+-- what is read has no fault
+pub faultless : (m : List ℕ) (r : Result Request Malformed) → IfOk r (λ q. Spells (asked q) m) → OnOk r (first_fault m ≡ None)
+faultless m (Ok q) found = no_fault (asked q) m found
+faultless m (Err f) found = tt
 
 -- a header that was read is that of the message
 is_raw : (m : List ℕ) (raw : RawHeader) → ◌≡◌ {A = Option RawHeader} (Some raw) (if nat_lt (length m) 40 then None else Some (raw_of m)) → (40 ≤ length m) × (raw ≡ raw_of m)

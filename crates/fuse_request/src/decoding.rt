@@ -1,4 +1,4 @@
-ghost use Rattle.std.specs.Prelude.{◌≡◌, ◌<◌, ◌≤◌, ℕ, Some, Ok, length, take, drop, IsOkAnd, IfOk, IfErr};
+ghost use Rattle.std.specs.Prelude.{◌≡◌, ◌<◌, ◌≤◌, ℕ, Some, None, Ok, length, take, drop, IsOkAnd, IfOk, OnOk, IfErr};
 ghost use Rattle.fuse_request.specs.Act.{Asked, asked, act, IsBuilt};
 ghost use Rattle.fuse_request.specs.Spelling.{Spells};
 ghost use Rattle.fuse_request.specs.Faults.{first_fault};
@@ -141,6 +141,7 @@ pub fn decode(message: &[u8]) -> Result<Request<'_>, Malformed>
 
     // Which fault it is.
     ensures fault { IfErr result (λ m. first_fault message.now ≡ Some m) }
+    ensures none { OnOk result (first_fault message.now ≡ None) }
 
     // What is kept is read, and served.
     ensures kept { class_of message.now ≡ Class.Kept → IsOkAnd result (λ r. IsBuilt (act r.op)) }

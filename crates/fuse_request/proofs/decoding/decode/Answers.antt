@@ -1,4 +1,4 @@
-use Rattle.fuse_request.proofs.Heads.{only_one, read_at}
+use Rattle.fuse_request.proofs.Heads.{only_one, read_at, faultless}
 use Rattle.fuse_request.proofs.Classes.{kept_read}
 use Rattle.fuse_request.proofs.decoding.decode.Goals as goal
 
@@ -7,6 +7,9 @@ returns-clause-only c = only_one c.args.message.now c.read.result c.read.ensures
 
 pub returns-clause-placed : goal.returns-clause-placed
 returns-clause-placed c = read_at c.args.message.now c.read.result c.read.ensures.found
+
+pub returns-clause-none : goal.returns-clause-none
+returns-clause-none c = faultless c.args.message.now c.read.result c.read.ensures.found
 
 pub returns-clause-kept : goal.returns-clause-kept
 returns-clause-kept c = kept_read c.args.message.now c.read.result c.read.ensures.found c.read.ensures.fault
