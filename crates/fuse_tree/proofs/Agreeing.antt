@@ -89,7 +89,7 @@ act_agrees s header (acts.Lookup name) now d tree e = lookup_agrees s name d tre
 act_agrees s header (acts.Getattr flags fh) now d tree e = record { answer = refl; rows = refl; tree = tree }
 act_agrees s header (acts.Mkdir mode umask name) now d tree e = mkdir_agrees s header mode name now d tree e
 act_agrees s header acts.Destroy now d tree e = record { answer = refl; rows = refl; tree = tree }
-act_agrees s header (acts.Unsupported opcode body) now d tree e = refused_agrees s tree ENOSYS
+act_agrees s header _ now d tree e = refused_agrees s tree ENOSYS
 
 at_agrees : (s : State) (request : Asked) (now : Moment) (o : Option Node) → Tree s → node_at s request.header.nodeid ≡ o
     → Agrees s (plan_at request now (option_map (row_of s) o) (rows_of_state s)) (do_at s request now o)
@@ -124,8 +124,5 @@ no_tree q (Err faults.NotATree) = λ is tells. (tells refl).1 refl
 
 -- every request but DESTROY looks at its node
 pub looks_at_node : (op : Op) → ¬ (op ≡ ops.Destroy) → names_node (act op) ≡ true
-looks_at_node (ops.Lookup name) h = refl
-looks_at_node (ops.Getattr flags fh) h = refl
-looks_at_node (ops.Mkdir mode umask name) h = refl
 looks_at_node ops.Destroy h = absurd (h refl)
-looks_at_node (ops.Unsupported opcode body) h = refl
+looks_at_node _ h = refl

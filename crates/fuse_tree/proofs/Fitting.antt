@@ -72,7 +72,7 @@ act_fits sizes s header (acts.Lookup name) now n = lookup_fits sizes s name n
 act_fits sizes s header (acts.Getattr flags fh) now n = getattr_fits sizes s n
 act_fits sizes s header (acts.Mkdir mode umask name) now n = mkdir_fits sizes s header mode name now n
 act_fits sizes s header acts.Destroy now n = answered s [] (omega arith)
-act_fits sizes s header (acts.Unsupported opcode body) now n = refused s _
+act_fits sizes s header _ now n = refused s _
 
 at_fits : RecordSizes → (s : State) (request : Asked) (now : Moment) (n : Option Node) → Fits (do_at s request now n)
 at_fits sizes s request now None = refused s _

@@ -164,13 +164,13 @@ mkdir s header mode name now n =
 
 -- ---- all requests
 
--- what is asked, at the node that the header names
+-- what is asked, at the node that the header names; what isn't built yet is refused as what isn't of the profile
 abbrev pub do_act : State → InHeader → Act → Moment → Node → Done
 do_act s header (acts.Lookup name) now n = lookup s name n
 do_act s header (acts.Getattr flags fh) now n = getattr s n
 do_act s header (acts.Mkdir mode umask name) now n = mkdir s header mode name now n
 do_act s header acts.Destroy now n = answer s []
-do_act s header (acts.Unsupported opcode body) now n = refuse s ENOSYS
+do_act s header _ now n = refuse s ENOSYS
 
 abbrev pub do_at : State → Asked → Moment → Option Node → Done
 do_at s request now None = refuse s ESTALE

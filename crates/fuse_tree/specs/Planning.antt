@@ -171,7 +171,7 @@ plan_act header (acts.Lookup name) now row rows = plan_lookup name row rows
 plan_act header (acts.Getattr flags fh) now row rows = told (attr_body row)
 plan_act header (acts.Mkdir mode umask name) now row rows = plan_mkdir header mode name now row rows
 plan_act header acts.Destroy now row rows = told []
-plan_act header (acts.Unsupported opcode body) now row rows = refused ENOSYS
+plan_act header _ now row rows = refused ENOSYS
 
 abbrev pub plan_at : Asked → Moment → Option NodeRow → Rows → Planned
 plan_at request now None rows = refused ESTALE

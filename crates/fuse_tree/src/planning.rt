@@ -29,7 +29,7 @@ use mkdir::plan_mkdir;
 use std::alloc::Global;
 
 /// What the request answers in the tree whose rows lie behind `look`, and which rows it changes.
-/// Nothing is changed. An operation that is not of the profile is answered ENOSYS.
+/// Nothing is changed. An operation that is not built, or not of the profile, is answered ENOSYS.
 pub fn plan<L: Look>(
     look: &mut L,
     alloc: Global,
@@ -93,6 +93,23 @@ fn plan_op<L: Look>(
             plan_mkdir(look, alloc, &request.header, *mode, name, now, row)
         }
         Op::Destroy => Ok(done_nothing(alloc)),
-        Op::Unsupported { .. } => Ok(refused(alloc, Errno::ENOSYS)),
+        Op::Forget { .. }
+        | Op::Setattr(_)
+        | Op::Mknod { .. }
+        | Op::Unlink { .. }
+        | Op::Rmdir { .. }
+        | Op::Rename { .. }
+        | Op::OpenFile { .. }
+        | Op::Read(_)
+        | Op::Write { .. }
+        | Op::Release(_)
+        | Op::Init(_)
+        | Op::OpenDir { .. }
+        | Op::ReadDir(_)
+        | Op::ReleaseDir(_)
+        | Op::Interrupt { .. }
+        | Op::BatchForget { .. }
+        | Op::Rename2 { .. }
+        | Op::Unsupported { .. } => Ok(refused(alloc, Errno::ENOSYS)),
     }
 }
