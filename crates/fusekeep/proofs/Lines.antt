@@ -1,5 +1,5 @@
 -- Answers one after another, and their lines.
-use Rattle.std.proofs.Common.{◌≡◌, true, false, ◌==◌, ◌≤◌, ◌<◌, ◌+◌, ◌^◌, ℕ, zero, suc, List, [], ◌∷◌, ◌++◌, length, take, drop, inl, inr, Option, Some, None, refl, sym, ap, subst, ◌∙◌, append_assoc, arith, length-append, append-nil}
+use Rattle.std.proofs.Common.{◌≡◌, true, false, ◌==◌, ◌<◌, ◌+◌, ◌^◌, ℕ, zero, suc, List, [], ◌∷◌, ◌++◌, length, take, drop, inl, inr, Option, refl, sym, ap, subst, ◌∙◌, append_assoc, arith, length-append, append-nil}
 use Rattle.std.specs.Io.KnownBytes.{Appends}
 use Rattle.std.proofs.KnownBytes.{Appends-nil, Appends-trans}
 use Rattle.std.proofs.lemmas.Bool.{cases_lt}
@@ -9,7 +9,7 @@ use Rattle.hex.specs.Hex.{encode_lower}
 use Rattle.fuse_wire.specs.Bytes.{le, IsBytes, IsOneNumber}
 use Rattle.fuse_request.specs.Stream.{joined}
 use Rattle.fuse_answer.specs.Laws.{BeginsWithLen}
-use Rattle.fusekeep.specs.Printing.{line, answer_line, answer_lines, IsAnswer}
+use Rattle.fusekeep.specs.Printing.{line, answer_lines, IsAnswer}
 
 -- the first answer that isn't nothing
 pub record First (answers : List (List ℕ)) : Type 0 where

@@ -53,11 +53,7 @@ fn serve_stream<K: Keeper, R: Read>(
 }
 
 // Prints the answers, and the counts where the stream was served as far as it goes.
-fn print_session<W: Write>(
-    alloc: Global,
-    writer: &mut W,
-    session: &Session,
-) -> Result<(), Ending>
+fn print_session<W: Write>(alloc: Global, writer: &mut W, session: &Session) -> Result<(), Ending>
     ensures fault { (IsOfStream session.now.ending → ⊥) → OnOk result ((answers : List (List ℕ)) → AllByRecursion IsAnswer answers → session.now.sent.items ≡ joined answers
         → PrintsAnswers (W.contents writer.old) (W.contents writer.new) answers) }
     ensures ok { IsOfStream session.now.ending → OnOk result ((answers : List (List ℕ)) → AllByRecursion IsAnswer answers → session.now.sent.items ≡ joined answers

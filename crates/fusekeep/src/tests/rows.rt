@@ -308,9 +308,7 @@ fn mkdirs(alloc: Global, count: u8) -> Result<Vec<u8>, Fail> {
 // How the line begins that answers the MKDIR of this place.
 fn made_line(alloc: Global, place: u8) -> Result<String, Fail> {
     let (unique, node) = (4 + 2 * u32::from(place), 2 + u32::from(place));
-    Ok(
-        format!(in alloc; "9000000000000000{unique:02x}00000000000000{node:02x}00000000000000")?,
-    )
+    Ok(format!(in alloc; "9000000000000000{unique:02x}00000000000000{node:02x}00000000000000")?)
 }
 
 #[test]
@@ -322,7 +320,10 @@ fn seventeen(rt: HostRuntime) -> Result<(), Fail> {
     let text = String::from_utf8(printed)?;
     for (place, line) in (0..17u8).zip(text.lines()) {
         assert_eq!(rt; line.len(), 288);
-        assert!(rt; line.starts_with(made_line(alloc, place)?.as_str()), "{place}");
+        assert!(rt;
+            line.starts_with(made_line(alloc, place)?.as_str()),
+            "{place}"
+        );
     }
     assert_eq!(rt; text.lines().count(), 18);
     let counts = "\nserved messages=17 kept=17 repeated=0 bare=0 silent=0 interrupts=0\n";

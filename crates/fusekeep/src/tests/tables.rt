@@ -83,17 +83,32 @@ fn wrong_words(rt: HostRuntime) {
     let alloc = rt.alloc();
     let missing = Some(ErrorKind::MissingRequiredArgument);
     assert_eq!(rt; kind_of(alloc, &["fusekeep", "replay", "-"]), missing);
-    assert_eq!(rt; kind_of(alloc, &["fusekeep", "replay", "--at", "1000"]), missing);
-    assert_eq!(rt; kind_of(alloc, &["fusekeep"]), Some(ErrorKind::MissingSubcommand));
+    assert_eq!(rt;
+        kind_of(alloc, &["fusekeep", "replay", "--at", "1000"]),
+        missing
+    );
+    assert_eq!(rt;
+        kind_of(alloc, &["fusekeep"]),
+        Some(ErrorKind::MissingSubcommand)
+    );
     assert_eq!(rt;
         kind_of(alloc, &["fusekeep", "reply"]),
         Some(ErrorKind::InvalidSubcommand)
     );
-    assert_eq!(rt; kind_of(alloc, &["fusekeep", "--help"]), Some(ErrorKind::DisplayHelp));
-    let invalid = Some(ErrorKind::ValueValidation);
-    assert_eq!(rt; kind_of(alloc, &["fusekeep", "replay", "--at", "soon", "-"]), invalid);
     assert_eq!(rt;
-        kind_of(alloc, &["fusekeep", "replay", "--at", "18446744073709551616", "-"]),
+        kind_of(alloc, &["fusekeep", "--help"]),
+        Some(ErrorKind::DisplayHelp)
+    );
+    let invalid = Some(ErrorKind::ValueValidation);
+    assert_eq!(rt;
+        kind_of(alloc, &["fusekeep", "replay", "--at", "soon", "-"]),
+        invalid
+    );
+    assert_eq!(rt;
+        kind_of(
+            alloc,
+            &["fusekeep", "replay", "--at", "18446744073709551616", "-"]
+        ),
         invalid
     );
     assert_eq!(rt;
