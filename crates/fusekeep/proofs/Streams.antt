@@ -1,5 +1,5 @@
 -- What a session worked off of a stream.
-use Rattle.std.proofs.Common.{◌≡◌, ◌⊎◌, inl, inr, ◌≤◌, ◌<◌, ◌+◌, ◌&&◌, ◌||◌, nat_lt, nat_le, if◌then◌else◌, ℕ, Bool, true, false, List, [], ◌∷◌, ◌++◌, length, map, Option, Some, None, refl, sym, ap, subst, ◌∙◌, append_assoc, append-nil, arith, length-append}
+use Rattle.std.proofs.Common.{◌≡◌, ◌⊎◌, inl, inr, ◌≤◌, ◌<◌, ◌+◌, ◌&&◌, nat_lt, nat_le, if◌then◌else◌, ℕ, Bool, true, false, List, [], ◌∷◌, ◌++◌, length, Option, Some, None, refl, sym, ap, subst, ◌∙◌, append_assoc, append-nil, arith, length-append}
 use Rattle.std.specs.List.{AllByRecursion}
 use Rattle.std.specs.Option.{option_or}
 use Rattle.std.specs.Io.KnownBytes.{Appends, Consumes, IsAtEnd, append_known}
@@ -24,17 +24,17 @@ use Rattle.fuse_store.specs.Stands.{Records, StandsFor}
 use Rattle.fuse_session.specs.declared.counts.SessionCounts.{SessionCounts}
 use Rattle.fuse_session.specs.declared.ended.Ended.{Ended}
 use Rattle.fuse_session.specs.declared.ended.Ended.TheVariants as session
-use Rattle.fuse_session.specs.Port.{PortState, fresh, HasEnded}
-use Rattle.fuse_session.specs.Worked.{Timed, bytes_of, kept_in, answers, answer_by, unique_of, GoesOn, Works, EndsLast, StartsZero, Moments, message_id}
+use Rattle.fuse_session.specs.Port.{PortState, fresh}
+use Rattle.fuse_session.specs.Worked.{Timed, bytes_of, kept_in, answers, answer_by, unique_of, GoesOn, Works, EndsLast, StartsZero, message_id}
 use Rattle.fuse_session.specs.Settling.{Mark, replies, settles, settled_in, NoneComesAgain, MayCome, Places, PlaceFirst}
 use Rattle.fuse_session.specs.Counting.{counted}
 use Rattle.fuse_session.specs.Serving.{Turned, Whole, Life}
 use Rattle.fuse_session.specs.Ends.{EndsAs, ended_store}
 use Rattle.fusekeep.specs.declared.ending.Ending.{Ending}
-use Rattle.fusekeep.specs.declared.ending.Ending.TheVariants.{Done, Short, TooLong, Cut, ZeroUnique}
+use Rattle.fusekeep.specs.declared.ending.Ending.TheVariants.{Done, ZeroUnique}
 use Rattle.fusekeep.specs.Endings.{session_ending, stream_ending, store_ending, status_of, IsOfStream}
 use Rattle.fusekeep.specs.Printing.{IsAnswer}
-use Rattle.fusekeep.specs.Replaying.{EndsAt, EndsFaulty, Replay, Replayed, Faulted, Sends, Prints, PrintsAnswers}
+use Rattle.fusekeep.specs.Replaying.{EndsAt, EndsFaulty, Replayed, Faulted, Sends, Prints, PrintsAnswers}
 
 -- ---- no answer was told to be awaited by nobody
 

@@ -33,7 +33,7 @@ fn serve_stream<K: Keeper, R: Read>(
     reader: &mut R,
     moment: Moment,
 ) -> Session
-    requires { K.has_failed keeper.old ≡ false }
+    requires going { K.has_failed keeper.old ≡ false }
     ensures replayed { IsOfStream result.ending → (input : List ℕ) → R.remaining reader.old ≡ Some input
         → Replayed (K.holds keeper.old) (K.holds keeper.new) (K.is_honest keeper.new) moment input result.ending (Sends result.sent.items result.counts) }
     ensures faulted { status_of result.ending ≡ 3 → (input : List ℕ) → R.remaining reader.old ≡ Some input
@@ -79,7 +79,7 @@ pub fn run_replay<K: Keeper, R: Read, W: Write>(
     writer: &mut W,
     moment: Moment,
 ) -> Ending
-    requires { K.has_failed keeper.old ≡ false }
+    requires going { K.has_failed keeper.old ≡ false }
     // At status 0 or 1: what was worked off of the input, what is printed of it, and what the keeper then stands for.
     ensures replayed { IsOfStream result → (input : List ℕ) → R.remaining reader.old ≡ Some input
         → Replayed (K.holds keeper.old) (K.holds keeper.new) (K.is_honest keeper.new) moment input result (Prints (W.contents writer.old) (W.contents writer.new)) }
