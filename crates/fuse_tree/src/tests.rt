@@ -47,6 +47,24 @@ fn entry_of_a() -> &'static [u8] {
         .as_slice()
 }
 
+// What GETATTR of `a` is answered there.
+fn attr_of_a() -> &'static [u8] {
+    b"\x01\0\0\0\0\0\0\0\
+      \0\0\0\0\0\0\0\0\
+      \x02\0\0\0\0\0\0\0\
+      \0\0\0\0\0\0\0\0\
+      \0\0\0\0\0\0\0\0\
+      \xe8\x03\0\0\0\0\0\0\
+      \xe8\x03\0\0\0\0\0\0\
+      \xe8\x03\0\0\0\0\0\0\
+      \0\0\0\0\0\0\0\0\
+      \0\0\0\0\xed\x41\0\0\
+      \x02\0\0\0\xe8\x03\0\0\
+      \xe8\x03\0\0\0\0\0\0\
+      \0\x10\0\0\0\0\0\0"
+        .as_slice()
+}
+
 const MKDIR_A: Op<'static> = Op::Mkdir {
     mode: 0o755,
     umask: 0o022,
@@ -108,10 +126,8 @@ fn is_entry(body: &[u8]) -> bool {
     body == entry_of_a()
 }
 
-// Whether it is the attribute answer of `a`: valid for a second, and the attributes of the entry.
 fn is_attributes(body: &[u8]) -> bool {
-    let entry = entry_of_a();
-    body.len() == 104 && body[..8] == entry[16..24] && body[16..] == entry[40..]
+    body == attr_of_a()
 }
 
 // What is planned in a new store.
