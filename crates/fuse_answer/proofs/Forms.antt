@@ -1,15 +1,20 @@
 -- Parts that stand one after the other, and how many bytes they take.
-use Rattle.std.proofs.Common.{◌≡◌, ℕ, List, [], ◌∷◌, ◌++◌, ◌+◌, length, Result, Ok, Err, refl, sym, ap, ◌∙◌, append_assoc, arith}
+use Rattle.std.proofs.Common.{◌≡◌, ℕ, List, [], ◌∷◌, ◌++◌, ◌+◌, ◌≤◌, ◌<◌, ◌^◌, length, Result, Ok, Err, refl, sym, ap, ◌∙◌, append_assoc, arith}
 use Rattle.std.specs.Prelude.{OnOk, replicate}
-use Rattle.std.proofs.lemmas.List.{length-append, length-replicate}
+use Rattle.std.proofs.lemmas.List.{append-nil, length-append, length-replicate}
 use Rattle.fuse_wire.specs.Bytes.{le}
 use Rattle.fuse_wire.specs.Layout.{Part, number, unused, text, bytes, form}
 use Rattle.fuse_wire.proofs.Numbers.{length-le}
 use Rattle.fuse_wire.proofs.Layouts.{widths}
-use Rattle.fuse_answer.specs.Bodies.{attr_parts, entry_parts, attr_out_parts, attr_bytes, entry_bytes, attr_out_bytes}
+use Rattle.fuse_answer.specs.Bodies.{attr_parts, entry_parts, attr_out_parts, open_parts, write_parts, init_parts, attr_bytes, entry_bytes, attr_out_bytes, open_bytes, write_bytes, init_bytes}
+use Rattle.fuse_answer.specs.Laws.{BeginsWithLen}
+use Rattle.fuse_answer.specs.Wire.{negated, wire, wire_head}
 use Rattle.fuse_answer.specs.declared.records.Attr.{Attr}
 use Rattle.fuse_answer.specs.declared.records.EntryOut.{EntryOut}
 use Rattle.fuse_answer.specs.declared.records.AttrOut.{AttrOut}
+use Rattle.fuse_answer.specs.declared.records.OpenOut.{OpenOut}
+use Rattle.fuse_answer.specs.declared.records.WriteOut.{WriteOut}
+use Rattle.fuse_answer.specs.declared.init_out.InitOut.{InitOut}
 
 form-append : (ps qs : List Part) → form (ps ++ qs) ≡ form ps ++ form qs
 form-append [] qs = refl
@@ -22,6 +27,14 @@ form-append (bytes xs ∷ ps) qs = ap (λ (x : List ℕ). xs ++ x) (form-append 
 pub put-more : (old mid new : List ℕ) (ps qs : List Part) → mid ≡ old ++ form ps → new ≡ mid ++ form qs → new ≡ old ++ form (ps ++ qs)
 put-more old mid new ps qs e f =
     f ∙ ap (λ (x : List ℕ). x ++ form qs) e ∙ append_assoc old (form ps) (form qs) ∙ ap (λ (x : List ℕ). old ++ x) (sym (form-append ps qs))
+
+-- what was put, and then one number
+pub put-number : (old mid new : List ℕ) (ps : List Part) (w n : ℕ) → mid ≡ old ++ form ps → new ≡ mid ++ le w n → new ≡ old ++ form (ps ++ number w n ∷ [])
+put-number old mid new ps w n e f = put-more old mid new ps (number w n ∷ []) e (f ∙ ap (λ (x : List ℕ). mid ++ x) (sym (append-nil (le w n))))
+
+-- what was put, and then padding
+pub put-unused : (old mid new : List ℕ) (ps : List Part) (w : ℕ) → mid ≡ old ++ form ps → new ≡ mid ++ replicate w 0 → new ≡ old ++ form (ps ++ unused w ∷ [])
+put-unused old mid new ps w e f = put-more old mid new ps (unused w ∷ []) e (f ∙ ap (λ (x : List ℕ). mid ++ x) (sym (append-nil (replicate w 0))))
 
 pub regroup : (a b c d : List ℕ) → ((a ++ b) ++ c) ++ d ≡ a ++ (b ++ (c ++ d))
 regroup a b c d = simp append_assoc
@@ -54,7 +67,39 @@ pub length_attr_out : (a : AttrOut) → length (attr_out_bytes a) ≡ 104
 unfolding attr_out_bytes
 length_attr_out a = length-form (attr_out_parts a)
 
+pub length_open : (o : OpenOut) → length (open_bytes o) ≡ 16
+unfolding open_bytes
+length_open o = length-form (open_parts o)
+
+pub length_write : (w : WriteOut) → length (write_bytes w) ≡ 8
+unfolding write_bytes
+length_write w = length-form (write_parts w)
+
+pub length_init : (i : InitOut) → length (init_bytes i) ≡ 64
+unfolding init_bytes
+length_init i = length-form (init_parts i)
+
 -- headers of the same numbers are the same
 pub same-head : (body body' : List ℕ) (e e' u : ℕ) → body ≡ body' → e ≡ e'
     → form (number 4 (16 + length body) ∷ number 4 e ∷ number 8 u ∷ []) ≡ form (number 4 (16 + length body') ∷ number 4 e' ∷ number 8 u ∷ [])
 same-head body body' e e' u p q = rw (p, q) refl
+
+-- an answer begins with its length
+pub len_first : (errno : ℕ) (body : List ℕ) (unique : ℕ) → length body ≤ 1048576 → BeginsWithLen (wire errno body unique)
+unfolding wire wire_head
+len_first errno body unique short =
+    let len : ℕ = 16 + length body in
+    let others : List ℕ = form (number 4 (negated errno) ∷ number 8 unique ∷ []) in
+    let rest : List ℕ = others ++ body in
+    let parts : wire errno body unique ≡ le 4 len ++ rest = append_assoc (le 4 len) others body in
+    let four : length others ≡ 12 = length-form (number 4 (negated errno) ∷ number 8 unique ∷ []) in
+    let behind : length rest ≡ length others + length body = length-append others body in
+    let all : length (wire errno body unique) ≡ length (le 4 len) + length rest = ap (length {A = ℕ}) parts ∙ length-append (le 4 len) rest in
+    let front : length (le 4 len) ≡ 4 = length-le 4 len in
+    let size : length (wire errno body unique) ≡ len = omega arith in
+    record {
+      rest = rest;
+      parts = parts ∙ ap (λ (n : ℕ). le 4 n ++ rest) (sym size);
+      four = omega arith;
+      fits = omega arith;
+    }

@@ -1,1 +1,4 @@
 pub mod Forms
+pub mod Readings
+pub mod Listings
+pub mod Answering

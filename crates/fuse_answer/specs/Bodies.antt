@@ -1,4 +1,5 @@
--- The layouts of answer bodies (fuse.h: fuse_out_header, fuse_attr, fuse_entry_out, fuse_attr_out).
+-- The layouts of answer bodies (fuse.h: fuse_out_header, fuse_attr, fuse_entry_out, fuse_attr_out, fuse_open_out,
+-- fuse_write_out, fuse_init_out).
 use Rattle.std.specs.Prelude.{ℕ, List, [], ◌∷◌}
 use Rattle.std.specs.Int.{cast_unsigned, w32}
 use Rattle.fuse_wire.specs.Layout.{Part, number, unused, form}
@@ -6,6 +7,9 @@ use Rattle.fuse_answer.specs.declared.records.OutHeader.{OutHeader}
 use Rattle.fuse_answer.specs.declared.records.Attr.{Attr}
 use Rattle.fuse_answer.specs.declared.records.EntryOut.{EntryOut}
 use Rattle.fuse_answer.specs.declared.records.AttrOut.{AttrOut}
+use Rattle.fuse_answer.specs.declared.records.OpenOut.{OpenOut}
+use Rattle.fuse_answer.specs.declared.records.WriteOut.{WriteOut}
+use Rattle.fuse_answer.specs.declared.init_out.InitOut.{InitOut}
 
 -- numbers of w bytes each
 abbrev pub numbers : ℕ → List ℕ → List Part
@@ -30,6 +34,19 @@ entry_parts e =
 abbrev pub attr_out_parts : AttrOut → List Part
 attr_out_parts a = number 8 a.attr_valid ∷ number 4 a.attr_valid_nsec ∷ unused 4 ∷ attr_parts a.attr
 
+-- the backing id in two's complement
+abbrev pub open_parts : OpenOut → List Part
+open_parts o = number 8 o.fh ∷ number 4 o.open_flags ∷ number 4 (cast_unsigned w32 o.backing_id) ∷ []
+
+abbrev pub write_parts : WriteOut → List Part
+write_parts w = number 4 w.size ∷ unused 4 ∷ []
+
+abbrev pub init_parts : InitOut → List Part
+init_parts i =
+    number 4 i.major ∷ number 4 i.minor ∷ number 4 i.max_readahead ∷ number 4 i.flags
+    ∷ number 2 i.max_background ∷ number 2 i.congestion_threshold ∷ number 4 i.max_write ∷ number 4 i.time_gran
+    ∷ number 2 i.max_pages ∷ number 2 i.map_alignment ∷ number 4 i.flags2 ∷ number 4 i.max_stack_depth ∷ unused 24 ∷ []
+
 -- the bytes of each record
 unfoldable pub header_bytes : OutHeader → List ℕ
 header_bytes h = form (header_parts h)
@@ -42,3 +59,12 @@ entry_bytes e = form (entry_parts e)
 
 unfoldable pub attr_out_bytes : AttrOut → List ℕ
 attr_out_bytes a = form (attr_out_parts a)
+
+unfoldable pub open_bytes : OpenOut → List ℕ
+open_bytes o = form (open_parts o)
+
+unfoldable pub write_bytes : WriteOut → List ℕ
+write_bytes w = form (write_parts w)
+
+unfoldable pub init_bytes : InitOut → List ℕ
+init_bytes i = form (init_parts i)

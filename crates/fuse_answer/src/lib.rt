@@ -2,12 +2,25 @@
 #![tactic(auto)]
 
 mod answer;
+mod bodies;
+mod dirent;
+mod init_out;
+mod laws;
+mod notice;
 mod numbers;
 mod records;
+mod reply;
 #[cfg(test)]
 mod tests;
+mod unpacking;
 mod wire;
 
 pub use answer::{Answer, MAX_BODY};
-pub use records::{Attr, AttrOut, EntryOut, OutHeader};
+pub use dirent::{Dirent, MAX_NAME};
+pub use init_out::InitOut;
+pub use laws::{len_stands_first, record_sizes};
+pub use notice::{NOTIFY_RESEND, resend_notice};
+pub use records::{Attr, AttrOut, EntryOut, OpenOut, OutHeader, WriteOut};
+pub use reply::{BadAnswer, MAX_ERRNO, Reply, ReplyBody, read_answer};
+pub use unpacking::{Dirents, unpack};
 pub use wire::{head_of, write_answer};

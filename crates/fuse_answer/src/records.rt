@@ -1,12 +1,14 @@
 ghost use Rattle.std.specs.Prelude.{◌≡◌, ◌++◌, length, OnOk, IfOk};
-ghost use Rattle.fuse_answer.specs.Bodies.{header_bytes, attr_bytes, entry_bytes, attr_out_bytes};
+ghost use Rattle.fuse_answer.specs.Bodies.{header_bytes, attr_bytes, entry_bytes, attr_out_bytes, open_bytes, write_bytes};
 ghost use Rattle.fuse_answer.specs.declared.records.TheConstants.OutHeader.{SIZE as HEADER_SIZE};
 ghost use Rattle.fuse_answer.specs.declared.records.TheConstants.Attr.{SIZE as ATTR_SIZE};
 ghost use Rattle.fuse_answer.specs.declared.records.TheConstants.EntryOut.{SIZE as ENTRY_SIZE};
 ghost use Rattle.fuse_answer.specs.declared.records.TheConstants.AttrOut.{SIZE as ATTR_OUT_SIZE};
+ghost use Rattle.fuse_answer.specs.declared.records.TheConstants.OpenOut.{SIZE as OPEN_SIZE};
+ghost use Rattle.fuse_answer.specs.declared.records.TheConstants.WriteOut.{SIZE as WRITE_SIZE};
 
 use crate::numbers::{put_u32s, put_u64s};
-use fuse_wire::{Memory, put_bytes, put_u32, put_u64};
+use fuse_wire::{Memory, put_bytes, put_i32, put_u32, put_u64};
 use std::alloc::Global;
 
 /// The header of an answer, `fuse_out_header` of `fuse.h`.
@@ -56,6 +58,20 @@ pub struct AttrOut {
     pub attr_valid: u64,
     pub attr_valid_nsec: u32,
     pub attr: Attr,
+}
+
+/// What OPEN and OPENDIR answer, `fuse_open_out` of `fuse.h`.
+#[derive(Clone, Copy, Debug, PartialEq, Eq)]
+pub struct OpenOut {
+    pub fh: u64,
+    pub open_flags: u32,
+    pub backing_id: i32,
+}
+
+/// What WRITE answers, `fuse_write_out` of `fuse.h`.
+#[derive(Clone, Copy, Debug, PartialEq, Eq)]
+pub struct WriteOut {
+    pub size: u32,
 }
 
 impl OutHeader {
@@ -182,6 +198,53 @@ impl AttrOut {
         ensures size { IfOk result (λ body. length body.items ≡ ATTR_OUT_SIZE) }
     {
         let mut body = Vec::with_capacity(alloc, AttrOut::SIZE)?;
+        self.put(&mut body)?;
+        Ok(body)
+    }
+}
+
+impl OpenOut {
+    /// The bytes that it takes.
+    pub const SIZE: usize = 16;
+
+    // Appends the bytes.
+    fn put(&self, out: &mut Vec<u8>) -> Result<(), Memory>
+        ensures { OnOk result (out.new.items ≡ out.old.items ++ open_bytes self.now) }
+    {
+        put_u64(out, self.fh)?;
+        put_u32(out, self.open_flags)?;
+        put_i32(out, self.backing_id)
+    }
+
+    #[tactic(auto, using(crate::proofs::Forms::length_open))]
+    pub fn body_of(&self, alloc: Global) -> Result<Vec<u8>, Memory>
+        ensures bytes { IfOk result (λ body. body.items ≡ open_bytes self.now) }
+        ensures size { IfOk result (λ body. length body.items ≡ OPEN_SIZE) }
+    {
+        let mut body = Vec::with_capacity(alloc, OpenOut::SIZE)?;
+        self.put(&mut body)?;
+        Ok(body)
+    }
+}
+
+impl WriteOut {
+    /// The bytes that it takes.
+    pub const SIZE: usize = 8;
+
+    // Appends the bytes.
+    fn put(&self, out: &mut Vec<u8>) -> Result<(), Memory>
+        ensures { OnOk result (out.new.items ≡ out.old.items ++ write_bytes self.now) }
+    {
+        put_u32(out, self.size)?;
+        put_bytes(out, &[0; 4])
+    }
+
+    #[tactic(auto, using(crate::proofs::Forms::length_write))]
+    pub fn body_of(&self, alloc: Global) -> Result<Vec<u8>, Memory>
+        ensures bytes { IfOk result (λ body. body.items ≡ write_bytes self.now) }
+        ensures size { IfOk result (λ body. length body.items ≡ WRITE_SIZE) }
+    {
+        let mut body = Vec::with_capacity(alloc, WriteOut::SIZE)?;
         self.put(&mut body)?;
         Ok(body)
     }

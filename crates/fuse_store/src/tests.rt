@@ -96,7 +96,8 @@ fn is_kept(request: &Request<'_>) -> bool
         Op::Lookup { .. } => true,
         Op::Getattr { .. } => true,
         Op::Mkdir { .. } => true,
-        Op::Unsupported { .. } => false,
+        Op::Destroy => true,
+        _ => false,
     }
 }
 

@@ -241,6 +241,8 @@ fn refuses(rt: HostRuntime) -> Result<(), Fail> {
     }
     assert_eq!(rt; refusal(alloc, 4, GETATTR)?, 116);
     assert_eq!(rt; refusal(alloc, 1, CREATE)?, 38);
+    // DESTROY alone looks at no node.
+    assert_eq!(rt; refusal(alloc, 4, Op::Destroy)?, 0);
     Ok(())
 }
 

@@ -1,0 +1,236 @@
+-- Bytes answer one thing at most, and then they have no fault.
+use Rattle.std.proofs.Common.{◌≡◌, ◌≢◌, ℕ, ◌+◌, ◌-◌, ◌%◌, ◌<◌, ◌≤◌, ◌^◌, ◌⊎◌, inl, inr, if◌then◌else◌, List, [], ◌∷◌, ◌++◌, length, drop, Option, Some, None, Result, Ok, Err, refl, sym, ap, subst, ◌∙◌, append_assoc, arith, w32, to_z, of_z}
+use Rattle.std.specs.Prelude.{◌==◌, IfOk, IfErr, IsOkAnd}
+use Rattle.std.proofs.lemmas.Bool.{eq-eqb, ne_eqb}
+use Rattle.std.proofs.lemmas.Int.{to_z-of_z}
+use Rattle.std.proofs.lemmas.List.{append-nil, drop-drop, length-append, length-drop}
+use Rattle.fuse_wire.specs.Bytes.{le, number_of, IsBytes}
+use Rattle.fuse_wire.specs.Layout.{bytes, Lays}
+use Rattle.fuse_wire.proofs.Numbers.{length-le, number_front, IsBytes-drop}
+use Rattle.fuse_wire.proofs.Layouts.{Lays-length, peel, stands}
+use Rattle.fuse_answer.specs.declared.records.Attr.{Attr}
+use Rattle.fuse_answer.specs.declared.reply.Reply.{Reply}
+use Rattle.fuse_answer.specs.declared.reply.BadAnswer.{BadAnswer}
+use Rattle.fuse_answer.specs.declared.reply.BadAnswer.TheVariants.{Short, LenDiffers, ErrorRange, BodyAfterError, BodyLength, BadDirent}
+use Rattle.fuse_answer.specs.Bodies.{entry_parts, attr_out_parts, open_parts, write_parts, init_parts}
+use Rattle.fuse_answer.specs.Entries.{IsListing}
+use Rattle.fuse_answer.specs.Wire.{negated, wire, wire_head}
+use Rattle.fuse_answer.specs.Replies.{Kind, AnEntry, Attributes, AnOpen, AWrite, AnInit, Data, Directory, Nothing, Unknown, kind_of, size_of, Content, of_entry, of_attributes, of_open, of_write, of_init, of_data, of_directory, of_nothing, of_unknown, kind_is, content_parts, IsProper, Holds, Told, told, IsOf, Answers, IsOtherThan, BodyFault, errno_in, IsMeasured, FirstFault}
+
+-- a body of a kind by its places
+attr_at : ℕ → List ℕ → Attr
+attr_at k b = record {
+  ino = number_of 8 (drop (k + 0) b);
+  size = number_of 8 (drop (k + 8) b);
+  blocks = number_of 8 (drop (k + 16) b);
+  atime = number_of 8 (drop (k + 24) b);
+  mtime = number_of 8 (drop (k + 32) b);
+  ctime = number_of 8 (drop (k + 40) b);
+  atimensec = number_of 4 (drop (k + 48) b);
+  mtimensec = number_of 4 (drop (k + 52) b);
+  ctimensec = number_of 4 (drop (k + 56) b);
+  mode = number_of 4 (drop (k + 60) b);
+  nlink = number_of 4 (drop (k + 64) b);
+  uid = number_of 4 (drop (k + 68) b);
+  gid = number_of 4 (drop (k + 72) b);
+  rdev = number_of 4 (drop (k + 76) b);
+  blksize = number_of 4 (drop (k + 80) b);
+  flags = number_of 4 (drop (k + 84) b);
+}
+
+content_at : Kind → List ℕ → Content
+content_at AnEntry b = of_entry (record { nodeid = number_of 8 (drop 0 b); generation = number_of 8 (drop 8 b); entry_valid = number_of 8 (drop 16 b); attr_valid = number_of 8 (drop 24 b); entry_valid_nsec = number_of 4 (drop 32 b); attr_valid_nsec = number_of 4 (drop 36 b); attr = attr_at 40 b })
+content_at Attributes b = of_attributes (record { attr_valid = number_of 8 (drop 0 b); attr_valid_nsec = number_of 4 (drop 8 b); attr = attr_at 16 b })
+content_at AnOpen b = of_open (record { fh = number_of 8 (drop 0 b); open_flags = number_of 4 (drop 8 b); backing_id = to_z w32 (number_of 4 (drop 12 b)) })
+content_at AWrite b = of_write (record { size = number_of 4 (drop 0 b) })
+content_at AnInit b = of_init (record { major = number_of 4 (drop 0 b); minor = number_of 4 (drop 4 b); max_readahead = number_of 4 (drop 8 b); flags = number_of 4 (drop 12 b); max_background = number_of 2 (drop 16 b); congestion_threshold = number_of 2 (drop 18 b); max_write = number_of 4 (drop 20 b); time_gran = number_of 4 (drop 24 b); max_pages = number_of 2 (drop 28 b); map_alignment = number_of 2 (drop 30 b); flags2 = number_of 4 (drop 32 b); max_stack_depth = number_of 4 (drop 36 b) })
+content_at Data b = of_data b
+content_at Directory b = of_directory b
+content_at Nothing b = of_nothing
+content_at Unknown b = of_unknown b
+
+all : (xs b : List ℕ) → Lays (bytes xs ∷ []) b → b ≡ xs
+all xs b h = h.1 ∙ ap (λ (x : List ℕ). xs ++ x) h.2 ∙ append-nil xs
+
+content_is : (c : Content) (b : List ℕ) → Lays (content_parts c) b → IsProper c → content_at (kind_is c) b ≡ c
+unfolding content_at attr_at
+content_is (of_entry e) b h proper =
+    let p = stands 0 (entry_parts e) b (omega arith) h in
+    let p1 = p.1 in let p2 = p1.1 in let p3 = p2.1 in let p4 = p3.1 in let p5 = p4.1 in let p6 = p5.1 in let p7 = p6.1 in let p8 = p7.1 in let p9 = p8.1 in let p10 = p9.1 in let p11 = p10.1 in let p12 = p11.1 in let p13 = p12.1 in let p14 = p13.1 in let p15 = p14.1 in let p16 = p15.1 in let p17 = p16.1 in let p18 = p17.1 in let p19 = p18.1 in let p20 = p19.1 in let p21 = p20.1 in
+    rw (← p.0, ← p1.0, ← p2.0, ← p3.0, ← p4.0, ← p5.0, ← p6.0, ← p7.0, ← p8.0, ← p9.0, ← p10.0, ← p11.0, ← p12.0, ← p13.0, ← p14.0, ← p15.0, ← p16.0, ← p17.0, ← p18.0, ← p19.0, ← p20.0, ← p21.0) refl
+content_is (of_attributes a) b h proper =
+    let p = stands 0 (attr_out_parts a) b (omega arith) h in
+    let p1 = p.1 in let p2 = p1.1 in let p3 = p2.1 in let p4 = p3.1 in let p5 = p4.1 in let p6 = p5.1 in let p7 = p6.1 in let p8 = p7.1 in let p9 = p8.1 in let p10 = p9.1 in let p11 = p10.1 in let p12 = p11.1 in let p13 = p12.1 in let p14 = p13.1 in let p15 = p14.1 in let p16 = p15.1 in let p17 = p16.1 in
+    rw (← p.0, ← p1.0, ← p2.0, ← p3.0, ← p4.0, ← p5.0, ← p6.0, ← p7.0, ← p8.0, ← p9.0, ← p10.0, ← p11.0, ← p12.0, ← p13.0, ← p14.0, ← p15.0, ← p16.0, ← p17.0) refl
+content_is (of_open o) b h proper =
+    let p = stands 0 (open_parts o) b (omega arith) h in
+    let p1 = p.1 in let p2 = p1.1 in
+    let signed : to_z w32 (of_z w32 o.backing_id) ≡ o.backing_id = to_z-of_z w32 o.backing_id proper in
+    rw (← p.0, ← p1.0, ← p2.0, signed) refl
+content_is (of_write w) b h proper =
+    let p = stands 0 (write_parts w) b (omega arith) h in
+    rw (← p.0) refl
+content_is (of_init i) b h proper =
+    let p = stands 0 (init_parts i) b (omega arith) h in
+    let p1 = p.1 in let p2 = p1.1 in let p3 = p2.1 in let p4 = p3.1 in let p5 = p4.1 in let p6 = p5.1 in let p7 = p6.1 in let p8 = p7.1 in let p9 = p8.1 in let p10 = p9.1 in let p11 = p10.1 in
+    rw (← p.0, ← p1.0, ← p2.0, ← p3.0, ← p4.0, ← p5.0, ← p6.0, ← p7.0, ← p8.0, ← p9.0, ← p10.0, ← p11.0) refl
+content_is (of_data xs) b h proper = ap of_data (all xs b h)
+content_is (of_directory xs) b h proper = ap of_directory (all xs b h)
+content_is of_nothing b h proper = refl
+content_is (of_unknown xs) b h proper = ap of_unknown (all xs b h)
+
+-- a body of a fixed size has it
+sized : (c : Content) (b : List ℕ) → Lays (content_parts c) b → IsOtherThan (size_of (kind_is c)) (length b) → ⊥
+sized (of_entry e) b h other = other (Lays-length (entry_parts e) b h)
+sized (of_attributes a) b h other = other (Lays-length (attr_out_parts a) b h)
+sized (of_open o) b h other = other (Lays-length (open_parts o) b h)
+sized (of_write w) b h other = other (Lays-length (write_parts w) b h)
+sized (of_init i) b h other = other (Lays-length (init_parts i) b h)
+sized (of_data xs) b h other = other
+sized (of_directory xs) b h other = other
+sized of_nothing b h other = other (ap length h)
+sized (of_unknown xs) b h other = other
+
+listed : (c : Content) (b : List ℕ) → Lays (content_parts c) b → IsProper c → kind_is c ≡ Directory → IsListing b
+listed (of_directory xs) b h proper is = subst IsListing (sym (all xs b h)) proper
+listed (of_entry e) b h proper is = absurd cc
+listed (of_attributes a) b h proper is = absurd cc
+listed (of_open o) b h proper is = absurd cc
+listed (of_write w) b h proper is = absurd cc
+listed (of_init i) b h proper is = absurd cc
+listed (of_data xs) b h proper is = absurd cc
+listed of_nothing b h proper is = absurd cc
+listed (of_unknown xs) b h proper is = absurd cc
+
+-- what is held has no fault
+held : (kind : Kind) (c : Content) (b : List ℕ) (f : BadAnswer) → Holds kind c b → BodyFault kind b f → ⊥
+held kind c b BodyLength h fault = sized c b h.laid (subst (λ (k : Kind). IsOtherThan (size_of k) (length b)) (sym h.of_kind) fault)
+held kind c b BadDirent h fault = fault.1 (listed c b h.laid h.proper (h.of_kind ∙ fault.0))
+held kind c b Short h fault = fault
+held kind c b LenDiffers h fault = fault
+held kind c b ErrorRange h fault = fault
+held kind c b BodyAfterError h fault = fault
+
+-- what the bytes say at the places of an answer
+record HasPlaces (t : Told) (body m : List ℕ) : Type 0 where
+  pub long : 16 ≤ length m
+  pub len : number_of 4 m ≡ length m
+  pub errno : errno_in m ≡ t.errno
+  pub unique : number_of 8 (drop 8 m) ≡ t.unique
+  pub body_is : drop 16 m ≡ body
+
+few_of : (opcode : ℕ) (t : Told) (body : List ℕ) → IsOf opcode t body → t.errno ≤ 511
+few_of opcode t body (inl h) = omega (arith, h.0)
+few_of opcode t body (inr h) = h.1
+
+has_places : (opcode : ℕ) (t : Told) (m : List ℕ) (a : Answers opcode t m) → HasPlaces t a.body m
+unfolding wire wire_head
+has_places opcode t m a =
+    let n : ℕ = 16 + length a.body in
+    let e : ℕ = negated t.errno in
+    let few = few_of opcode t a.body a.said in
+    let head2 : List ℕ = le 8 t.unique ++ [] in
+    let head1 : List ℕ = le 4 e ++ head2 in
+    let len : length m ≡ n = omega (
+      arith,
+      ap length a.whole,
+      length-append (le 4 n ++ head1) a.body,
+      length-append (le 4 n) head1,
+      length-append (le 4 e) head2,
+      length-append (le 8 t.unique) [],
+      length-le 4 n,
+      length-le 4 e,
+      length-le 8 t.unique,
+    ) in
+    let p0 = peel 0 4 n m (le 4 n ++ head1) head1 a.body a.whole refl (omega (arith, len, a.len)) in
+    let p1 = peel 4 4 e m head1 head2 a.body p0.1 refl (omega arith) in
+    let p2 = peel 8 8 t.unique m head2 [] a.body p1.1 refl a.unique in
+    record {
+      long = omega (arith, len);
+      len = p0.0 ∙ sym len;
+      errno = ap negated p1.0 ∙ omega (arith, few);
+      unique = p2.0;
+      body_is = p2.1;
+    }
+
+-- the answer by its places
+told_at : ℕ → List ℕ → Told
+told_at opcode m = record {
+  unique = number_of 8 (drop 8 m);
+  errno = errno_in m;
+  content = if errno_in m == 0 then content_at (kind_of opcode) (drop 16 m) else of_nothing;
+}
+
+content_of : (opcode : ℕ) (t : Told) (body : List ℕ) → IsOf opcode t body → (if t.errno == 0 then content_at (kind_of opcode) body else of_nothing) ≡ t.content
+content_of opcode t body (inl h) =
+    let held = h.1 in
+    rw (eq-eqb t.errno 0 h.0, ← held.of_kind) (content_is t.content body held.laid held.proper)
+content_of opcode t body (inr h) = rw (ne_eqb t.errno 0 h.0) (sym h.2)
+
+is_at : (opcode : ℕ) (t : Told) (m : List ℕ) → Answers opcode t m → told_at opcode m ≡ t
+unfolding told_at
+is_at opcode t m a =
+    let p = has_places opcode t m a in
+    rw (p.unique, p.errno, p.body_is, content_of opcode t a.body a.said) refl
+
+of_error : (opcode : ℕ) (t : Told) (body : List ℕ) → IsOf opcode t body → t.errno ≢ 0 → body ≡ []
+of_error opcode t body (inl h) some = absurd (some h.0)
+of_error opcode t body (inr h) some = h.3
+
+of_success : (opcode : ℕ) (t : Told) (body : List ℕ) (f : BadAnswer) → IsOf opcode t body → t.errno ≡ 0 → BodyFault (kind_of opcode) body f → ⊥
+of_success opcode t body f (inl h) none fault = held (kind_of opcode) t.content body f h.1 fault
+of_success opcode t body f (inr h) none fault = h.0 none
+
+pub no_fault : (opcode : ℕ) (t : Told) (m : List ℕ) (f : BadAnswer) → Answers opcode t m → FirstFault opcode m f → ⊥
+no_fault opcode t m Short a fault = absurd (omega (arith, (has_places opcode t m a).long, fault))
+no_fault opcode t m LenDiffers a fault = fault.1 (has_places opcode t m a).len
+no_fault opcode t m ErrorRange a fault = absurd (omega (arith, (has_places opcode t m a).errno, few_of opcode t a.body a.said, fault.1))
+no_fault opcode t m BodyAfterError a fault =
+    let p = has_places opcode t m a in
+    fault.3 (p.body_is ∙ of_error opcode t a.body a.said (λ e. fault.1 (p.errno ∙ e)))
+no_fault opcode t m BodyLength a fault =
+    let p = has_places opcode t m a in
+    of_success opcode t a.body BodyLength a.said (sym p.errno ∙ fault.1) (subst (λ (x : List ℕ). BodyFault (kind_of opcode) x BodyLength) p.body_is fault.2)
+no_fault opcode t m BadDirent a fault =
+    let p = has_places opcode t m a in
+    of_success opcode t a.body BadDirent a.said (sym p.errno ∙ fault.1) (subst (λ (x : List ℕ). BodyFault (kind_of opcode) x BadDirent) p.body_is fault.2)
+
+-- what a reader answers is the one answer, where there is one
+pub only_one : (opcode : ℕ) (m : List ℕ) (r : Result Reply BadAnswer) → IfOk r (λ q. Answers opcode (told q) m) → IfErr r (λ f. FirstFault opcode m f)
+    → (t : Told) → Answers opcode t m → IsOkAnd r (λ q. told q ≡ t)
+only_one opcode m (Ok q) found fault t a = sym (is_at opcode (told q) m found) ∙ is_at opcode t m a
+only_one opcode m (Err f) found fault t a = absurd (no_fault opcode t m f a fault)
+
+regroup : (a b c d : List ℕ) → (a ++ (b ++ (c ++ []))) ++ d ≡ a ++ (b ++ (c ++ d))
+regroup a b c d =
+    append_assoc a (b ++ (c ++ [])) d ∙ ap (λ (x : List ℕ). a ++ x) (append_assoc b (c ++ []) d ∙ ap (λ (x : List ℕ). b ++ x) (append_assoc c [] d))
+
+-- what is said at the places is answered
+pub answered : (opcode : ℕ) (t : Told) (m : List ℕ) → IsBytes m → 16 ≤ length m → number_of 4 m ≡ length m → t.errno ≡ errno_in m
+    → t.unique ≡ number_of 8 (drop 8 m) → IsOf opcode t (drop 16 m) → Answers opcode t m
+unfolding wire wire_head
+answered opcode t m fits long len errno unique said =
+    let q0 = number_front 4 m (omega (arith, long)) fits in
+    let q1 = number_front 4 (drop 4 m) (omega (arith, long, length-drop 4 m)) (IsBytes-drop 4 m fits) in
+    let q2 = number_front 8 (drop 8 m) (omega (arith, long, length-drop 8 m)) (IsBytes-drop 8 m fits) in
+    let n_is : number_of 4 m ≡ 16 + length (drop 16 m) = omega (arith, len, long, length-drop 16 m) in
+    let e_is : number_of 4 (drop 4 m) ≡ negated t.errno = omega (arith, errno, q1.0) in
+    let r0 : m ≡ le 4 (16 + length (drop 16 m)) ++ drop 4 m = rw (← n_is) q0.1 in
+    let r1 : drop 4 m ≡ le 4 (negated t.errno) ++ drop 8 m = rw (← e_is) (q1.1 ∙ ap (λ (x : List ℕ). le 4 (number_of 4 (drop 4 m)) ++ x) (drop-drop 4 4 m)) in
+    let r2 : drop 8 m ≡ le 8 t.unique ++ drop 16 m = rw unique (q2.1 ∙ ap (λ (x : List ℕ). le 8 (number_of 8 (drop 8 m)) ++ x) (drop-drop 8 8 m)) in
+    record {
+      body = drop 16 m;
+      whole = r0 ∙ ap (λ (x : List ℕ). le 4 (16 + length (drop 16 m)) ++ x) (r1 ∙ ap (λ (x : List ℕ). le 4 (negated t.errno) ++ x) r2) ∙ sym (regroup (le 4 (16 + length (drop 16 m))) (le 4 (negated t.errno)) (le 8 t.unique) (drop 16 m));
+      len = omega (arith, len, q0.0);
+      unique = rw unique q2.0;
+      said = said;
+    }
+
+-- a fault of the body is the first, where the header has none
+pub body_fault : (opcode : ℕ) (m : List ℕ) (f : BadAnswer) → IsMeasured m → errno_in m ≡ 0 → BodyFault (kind_of opcode) (drop 16 m) f → FirstFault opcode m f
+body_fault opcode m BodyLength measured e h = (measured, e, h)
+body_fault opcode m BadDirent measured e h = (measured, e, h)
+body_fault opcode m Short measured e h = absurd h
+body_fault opcode m LenDiffers measured e h = absurd h
+body_fault opcode m ErrorRange measured e h = absurd h
+body_fault opcode m BodyAfterError measured e h = absurd h

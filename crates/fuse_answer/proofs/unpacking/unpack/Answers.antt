@@ -1,0 +1,8 @@
+use Rattle.std.proofs.Common.{arith}
+use Rattle.fuse_answer.specs.Front.{entries_left}
+use Rattle.fuse_answer.proofs.Listings.{entries_are}
+use Rattle.fuse_answer.proofs.unpacking.unpack.Goals as goal
+
+pub returns : goal.returns
+unfolding entries_left
+returns c es h = entries_are es _ c.args.body.now (omega arith) h

@@ -1,0 +1,68 @@
+-- The entries of a directory as READDIR answers them (fuse.h: fuse_dirent).
+use Rattle.std.specs.Prelude.{◌≡◌, ◌<◌, ◌≤◌, ◌+◌, ◌-◌, ◌%◌, ℕ, List, [], ◌∷◌, ◌++◌, length, map, sum, take}
+use Rattle.fuse_wire.specs.Layout.{Part, number, unused, bytes, Lays, form}
+use Rattle.fuse_answer.specs.declared.dirent.TheConstants.{MAX_NAME}
+use Rattle.fuse_answer.specs.declared.dirent.TheConstants.Dirent.{NAME_AT}
+use Rattle.fuse_answer.specs.declared.dirent.Dirent.{Dirent}
+
+-- an entry without where its name lies in memory
+pub record Entry : Type 0 where
+  pub ino : ℕ
+  pub off : ℕ
+  pub kind : ℕ
+  pub name : List ℕ
+
+abbrev pub entry_of : Dirent → Entry
+entry_of d = record { ino = d.ino; off = d.off; kind = d.kind; name = d.name.now }
+
+-- a name has 1 to 255 bytes
+abbrev pub IsNamed : Entry → Type 0
+IsNamed e = (1 ≤ length e.name) × (length e.name ≤ MAX_NAME)
+
+-- what n bytes lack to a multiple of 8
+abbrev pub padding : ℕ → ℕ
+padding n = (8 - n % 8) % 8
+
+-- the padding behind a name belongs to its entry
+abbrev pub dirent_parts : Entry → List Part
+dirent_parts e =
+    number 8 e.ino ∷ number 8 e.off ∷ number 4 (length e.name) ∷ number 4 e.kind ∷ bytes e.name
+    ∷ unused (padding (length e.name)) ∷ []
+
+-- the bytes b are the entry e with any padding, and then rest
+pub record StandsBefore (e : Entry) (rest b : List ℕ) : Type 0 where
+  pub front : List ℕ
+  pub whole : b ≡ front ++ rest
+  pub named : IsNamed e
+  pub laid : Lays (dirent_parts e) front
+
+-- the bytes are these entries, one after the other
+abbrev pub Lists : List Entry → List ℕ → Type 0
+Lists [] b = b ≡ []
+Lists (e ∷ es) b = (rest : List ℕ) × StandsBefore e rest b × Lists es rest
+
+abbrev pub IsListing : List ℕ → Type 0
+IsListing b = (es : List Entry) × Lists es b
+
+-- how many bytes an entry takes whose name has n
+abbrev pub entry_len : ℕ → ℕ
+entry_len n = NAME_AT + (n + padding n)
+
+abbrev pub packed_len : Entry → ℕ
+packed_len e = entry_len (length e.name)
+
+-- the entries with padding of zero bytes
+abbrev pub entries_bytes : List Entry → List ℕ
+entries_bytes [] = []
+entries_bytes (e ∷ es) = form (dirent_parts e) ++ entries_bytes es
+
+-- the first n entries fit into size, and no more of them do
+pub record IsLongest (es : List Entry) (size n : ℕ) : Type 0 where
+  pub within : n ≤ length es
+  pub fits : sum (map packed_len (take n es)) ≤ size
+  pub longest : (m : ℕ) → m ≤ length es → sum (map packed_len (take m es)) ≤ size → m ≤ n
+
+-- there is a first entry, and it doesn't fit
+abbrev pub FirstIsTooBig : List Entry → ℕ → Type 0
+FirstIsTooBig [] size = ⊥
+FirstIsTooBig (e ∷ es) size = size < packed_len e

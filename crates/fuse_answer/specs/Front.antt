@@ -1,0 +1,37 @@
+-- The entry at the front of bytes, by its places.
+use Rattle.std.specs.Prelude.{◌-◌, ◌==◌, ℕ, zero, suc, nat_lt, if◌then◌else◌, List, [], ◌∷◌, length, take, drop, Option, Some, None}
+use Rattle.std.specs.Option.{option_map_or}
+use Rattle.fuse_wire.specs.Bytes.{number_of}
+use Rattle.fuse_answer.specs.declared.dirent.TheConstants.{MAX_NAME}
+use Rattle.fuse_answer.specs.declared.dirent.TheConstants.Dirent.{NAME_AT}
+use Rattle.fuse_answer.specs.declared.unpacking.Dirents.{Dirents}
+use Rattle.fuse_answer.specs.Entries.{Entry, entry_len}
+
+abbrev pub name_len : List ℕ → ℕ
+name_len b = number_of 4 (drop 16 b)
+
+abbrev pub entry_at : List ℕ → Entry
+entry_at b = record {
+  ino = number_of 8 b;
+  off = number_of 8 (drop 8 b);
+  kind = number_of 4 (drop 20 b);
+  name = take (name_len b) (drop NAME_AT b);
+}
+
+-- the entry and what follows it, where a whole one stands there
+abbrev pub front_of : List ℕ → Option (Entry × List ℕ)
+front_of b =
+    if nat_lt (length b) NAME_AT then None
+    else if name_len b == 0 then None
+    else if nat_lt MAX_NAME (name_len b) then None
+    else if nat_lt (length b) (entry_len (name_len b)) then None
+    else Some (entry_at b, drop (entry_len (name_len b)) b)
+
+-- at most n entries, as long as a whole one stands there
+abbrev pub entries_by : ℕ → List ℕ → List Entry
+entries_by zero b = []
+entries_by (suc n) b = option_map_or (λ p. p.0 ∷ entries_by n p.1) (front_of b) []
+
+-- what an iterator over entries has left
+unfoldable pub entries_left : Dirents → List Entry
+entries_left d = entries_by (length d.rest.now) d.rest.now

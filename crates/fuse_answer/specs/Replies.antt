@@ -1,0 +1,169 @@
+-- What an answer says of itself and of its body, which goes by the opcode of the request (fuse.h).
+use Rattle.std.specs.Prelude.{◌≡◌, ◌≢◌, ◌<◌, ◌≤◌, ◌^◌, ◌==◌, ◌||◌, ◌⊎◌, ℕ, if◌then◌else◌, List, [], ◌∷◌, length, drop, Option, Some, None, FitsSigned}
+use Rattle.std.specs.Int.{w32}
+use Rattle.fuse_wire.specs.Bytes.{number_of}
+use Rattle.fuse_wire.specs.Layout.{Part, bytes, Lays}
+use Rattle.fuse_wire.specs.declared.opcode.TheConstants.{LOOKUP, GETATTR, SETATTR, MKNOD, MKDIR, UNLINK, RMDIR, RENAME, OPEN, READ, WRITE, RELEASE, INIT, OPENDIR, READDIR, RELEASEDIR, DESTROY, RENAME2}
+use Rattle.fuse_answer.specs.declared.records.EntryOut.{EntryOut}
+use Rattle.fuse_answer.specs.declared.records.AttrOut.{AttrOut}
+use Rattle.fuse_answer.specs.declared.records.OpenOut.{OpenOut}
+use Rattle.fuse_answer.specs.declared.records.WriteOut.{WriteOut}
+use Rattle.fuse_answer.specs.declared.init_out.InitOut.{InitOut}
+use Rattle.fuse_answer.specs.declared.records.TheConstants.OutHeader.{SIZE as HEADER_SIZE}
+use Rattle.fuse_answer.specs.declared.records.TheConstants.EntryOut.{SIZE as ENTRY_SIZE}
+use Rattle.fuse_answer.specs.declared.records.TheConstants.AttrOut.{SIZE as ATTR_OUT_SIZE}
+use Rattle.fuse_answer.specs.declared.records.TheConstants.OpenOut.{SIZE as OPEN_SIZE}
+use Rattle.fuse_answer.specs.declared.records.TheConstants.WriteOut.{SIZE as WRITE_SIZE}
+use Rattle.fuse_answer.specs.declared.init_out.TheConstants.InitOut.{SIZE as INIT_SIZE}
+use Rattle.fuse_answer.specs.declared.reply.TheConstants.{MAX_ERRNO}
+use Rattle.fuse_answer.specs.declared.reply.Reply.{Reply}
+use Rattle.fuse_answer.specs.declared.reply.ReplyBody.{ReplyBody}
+use Rattle.fuse_answer.specs.declared.reply.ReplyBody.TheVariants as bodies
+use Rattle.fuse_answer.specs.declared.reply.BadAnswer.{BadAnswer}
+use Rattle.fuse_answer.specs.declared.reply.BadAnswer.TheVariants.{Short, LenDiffers, ErrorRange, BodyAfterError, BodyLength, BadDirent}
+use Rattle.fuse_answer.specs.Bodies.{entry_parts, attr_out_parts, open_parts, write_parts, init_parts}
+use Rattle.fuse_answer.specs.Entries.{IsListing}
+use Rattle.fuse_answer.specs.Wire.{negated, wire}
+
+-- the kinds of bodies
+pub data Kind : Type 0 where
+  AnEntry : Kind
+  Attributes : Kind
+  AnOpen : Kind
+  AWrite : Kind
+  AnInit : Kind
+  Data : Kind
+  Directory : Kind
+  Nothing : Kind
+  Unknown : Kind
+
+-- which kind the answer to an opcode has, where it is no error
+abbrev pub kind_of : ℕ → Kind
+kind_of opcode =
+    if opcode == LOOKUP || (opcode == MKNOD || opcode == MKDIR) then AnEntry
+    else if opcode == GETATTR || opcode == SETATTR then Attributes
+    else if opcode == OPEN || opcode == OPENDIR then AnOpen
+    else if opcode == READ then Data
+    else if opcode == WRITE then AWrite
+    else if opcode == INIT then AnInit
+    else if opcode == READDIR then Directory
+    else if opcode == UNLINK || (opcode == RMDIR || (opcode == RENAME || opcode == RENAME2)) then Nothing
+    else if opcode == RELEASE || (opcode == RELEASEDIR || opcode == DESTROY) then Nothing
+    else Unknown
+
+-- how many bytes a body of a kind has, where that is fixed
+abbrev pub size_of : Kind → Option ℕ
+size_of AnEntry = Some ENTRY_SIZE
+size_of Attributes = Some ATTR_OUT_SIZE
+size_of AnOpen = Some OPEN_SIZE
+size_of AWrite = Some WRITE_SIZE
+size_of AnInit = Some INIT_SIZE
+size_of Nothing = Some 0
+size_of _ = None
+
+-- a body without where its bytes lie in memory
+pub data Content : Type 0 where
+  of_entry : EntryOut → Content
+  of_attributes : AttrOut → Content
+  of_open : OpenOut → Content
+  of_write : WriteOut → Content
+  of_init : InitOut → Content
+  of_data : List ℕ → Content
+  of_directory : List ℕ → Content
+  of_nothing : Content
+  of_unknown : List ℕ → Content
+
+abbrev pub content : ReplyBody → Content
+content (bodies.Entry e) = of_entry e
+content (bodies.Attributes a) = of_attributes a
+content (bodies.Open o) = of_open o
+content (bodies.Write w) = of_write w
+content (bodies.Init i) = of_init i
+content (bodies.Data b) = of_data b.now
+content (bodies.Directory b) = of_directory b.now
+content bodies.Nothing = of_nothing
+content (bodies.Unknown b) = of_unknown b.now
+
+abbrev pub kind_is : Content → Kind
+kind_is (of_entry e) = AnEntry
+kind_is (of_attributes a) = Attributes
+kind_is (of_open o) = AnOpen
+kind_is (of_write w) = AWrite
+kind_is (of_init i) = AnInit
+kind_is (of_data b) = Data
+kind_is (of_directory b) = Directory
+kind_is of_nothing = Nothing
+kind_is (of_unknown b) = Unknown
+
+-- the layout of each body
+abbrev pub content_parts : Content → List Part
+content_parts (of_entry e) = entry_parts e
+content_parts (of_attributes a) = attr_out_parts a
+content_parts (of_open o) = open_parts o
+content_parts (of_write w) = write_parts w
+content_parts (of_init i) = init_parts i
+content_parts (of_data b) = bytes b ∷ []
+content_parts (of_directory b) = bytes b ∷ []
+content_parts of_nothing = []
+content_parts (of_unknown b) = bytes b ∷ []
+
+-- a signed number fits its field, and the bytes of a directory are entries
+abbrev pub IsProper : Content → Type 0
+IsProper (of_open o) = FitsSigned w32 o.backing_id
+IsProper (of_directory b) = IsListing b
+IsProper _ = Unit {0}
+
+-- the bytes b are the body c, with any padding, of a kind
+pub record Holds (kind : Kind) (c : Content) (b : List ℕ) : Type 0 where
+  pub of_kind : kind_is c ≡ kind
+  pub laid : Lays (content_parts c) b
+  pub proper : IsProper c
+
+pub record Told : Type 0 where
+  pub unique : ℕ
+  pub errno : ℕ
+  pub content : Content
+
+abbrev pub told : Reply → Told
+told r = record { unique = r.unique; errno = r.errno.0; content = content r.body }
+
+-- an error and no body, or no error and a body of the opcode
+abbrev pub IsOf : ℕ → Told → List ℕ → Type 0
+IsOf opcode t body =
+    ((t.errno ≡ 0) × Holds (kind_of opcode) t.content body)
+    ⊎ ((t.errno ≢ 0) × (t.errno ≤ MAX_ERRNO) × (t.content ≡ of_nothing) × (body ≡ []))
+
+-- the message answers a request of this opcode, and says t
+pub record Answers (opcode : ℕ) (t : Told) (message : List ℕ) : Type 0 where
+  pub body : List ℕ
+  pub whole : message ≡ wire t.errno body t.unique
+  pub len : length message < 2 ^ 32
+  pub unique : t.unique < 2 ^ 64
+  pub said : IsOf opcode t body
+
+-- there is a size, and the length is another
+abbrev pub IsOtherThan : Option ℕ → ℕ → Type 0
+IsOtherThan None len = ⊥
+IsOtherThan (Some size) len = len ≢ size
+
+-- what is wrong with a body of a kind
+abbrev pub BodyFault : Kind → List ℕ → BadAnswer → Type 0
+BodyFault kind b BodyLength = IsOtherThan (size_of kind) (length b)
+BodyFault kind b BadDirent = (kind ≡ Directory) × (IsListing b → ⊥)
+BodyFault kind b _ = ⊥
+
+-- the error number of a message, whose header has its negation
+abbrev pub errno_in : List ℕ → ℕ
+errno_in b = negated (number_of 4 (drop 4 b))
+
+-- there is a header, and it tells the number of bytes
+abbrev pub IsMeasured : List ℕ → Type 0
+IsMeasured b = (HEADER_SIZE ≤ length b) × (number_of 4 b ≡ length b)
+
+-- what is wrong with bytes that are no answer to an opcode: the first fault in the order of BadAnswer (own)
+abbrev pub FirstFault : ℕ → List ℕ → BadAnswer → Type 0
+FirstFault opcode b Short = length b < HEADER_SIZE
+FirstFault opcode b LenDiffers = (HEADER_SIZE ≤ length b) × (number_of 4 b ≢ length b)
+FirstFault opcode b ErrorRange = IsMeasured b × (MAX_ERRNO < errno_in b)
+FirstFault opcode b BodyAfterError = IsMeasured b × (errno_in b ≢ 0) × (errno_in b ≤ MAX_ERRNO) × (drop HEADER_SIZE b ≢ [])
+FirstFault opcode b m = IsMeasured b × (errno_in b ≡ 0) × BodyFault (kind_of opcode) (drop HEADER_SIZE b) m

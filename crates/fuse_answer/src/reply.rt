@@ -1,0 +1,118 @@
+ghost use Rattle.std.specs.Prelude.{◌≡◌, ◌≤◌, ◌+◌, false, drop, length, IfOk, IfErr, IsOkAnd};
+ghost use Rattle.fuse_wire.specs.Opcodes.{silent};
+ghost use Rattle.fuse_answer.specs.declared.records.TheConstants.OutHeader.{SIZE as HEADER_SIZE};
+ghost use Rattle.fuse_answer.specs.Replies.{Told, told, Answers, FirstFault, errno_in};
+
+use crate::bodies::body_of;
+use crate::init_out::InitOut;
+use crate::records::{AttrOut, EntryOut, OpenOut, OutHeader, WriteOut};
+use fuse_wire::{Errno, u32_at, u64_at};
+
+/// The largest error number that an answer may bear.
+pub const MAX_ERRNO: u32 = 511;
+
+/// The body of an answer, by the opcode of the request. Bytes lie in the message.
+#[derive(Clone, Copy, Debug)]
+pub enum ReplyBody<'a> {
+    /// To LOOKUP, MKNOD and MKDIR.
+    Entry(EntryOut),
+    /// To GETATTR and SETATTR.
+    Attributes(AttrOut),
+    /// To OPEN and OPENDIR.
+    Open(OpenOut),
+    /// To WRITE.
+    Write(WriteOut),
+    /// To INIT.
+    Init(InitOut),
+    /// To READ.
+    Data(&'a [u8]),
+    /// To READDIR: what `unpack` takes.
+    Directory(&'a [u8]),
+    /// To what is answered by the header alone, and every error.
+    Nothing,
+    /// To an opcode that the server doesn't serve.
+    Unknown(&'a [u8]),
+}
+
+/// An answer, as it lies in the bytes of a message.
+#[derive(Clone, Copy, Debug)]
+pub struct Reply<'a> {
+    pub unique: u64,
+    pub errno: Errno,
+    pub body: ReplyBody<'a>,
+}
+
+/// Why bytes are no answer. Where several apply it is the first in this order.
+#[derive(Clone, Copy, Debug, PartialEq, Eq)]
+pub enum BadAnswer {
+    /// There are fewer bytes than a header has.
+    Short,
+    /// `len` isn't the number of bytes.
+    LenDiffers,
+    /// The error isn't within -511 and 0.
+    ErrorRange,
+    /// Bytes follow the header of an error.
+    BodyAfterError,
+    /// The body of the opcode has another length.
+    BodyLength,
+    /// The body isn't whole entries, or a name hasn't 1 to 255 bytes.
+    BadDirent,
+}
+
+// The error number of a header, which holds its negation.
+fn errno_at(bytes: &[u8]) -> u32
+    requires { HEADER_SIZE ≤ length bytes.now }
+    ensures { result ≡ errno_in bytes.now }
+{
+    u32_at(bytes, 4).wrapping_neg()
+}
+
+// What an answer to a request of this opcode says, or the first of its faults.
+fn read(opcode: u32, bytes: &[u8]) -> Result<Reply<'_>, BadAnswer>
+    ensures found { IfOk result (λ r. Answers opcode (told r) bytes.now) }
+    ensures fault { IfErr result (λ m. FirstFault opcode bytes.now m) }
+{
+    if bytes.len() < OutHeader::SIZE {
+        return Err(BadAnswer::Short);
+    }
+    if u32_at(bytes, 0) as usize != bytes.len() {
+        return Err(BadAnswer::LenDiffers);
+    }
+    let errno = errno_at(bytes);
+    if errno > MAX_ERRNO {
+        return Err(BadAnswer::ErrorRange);
+    }
+    let unique = u64_at(bytes, 8);
+    let body = &bytes[OutHeader::SIZE..];
+    if errno != 0 {
+        if !body.is_empty() {
+            return Err(BadAnswer::BodyAfterError);
+        }
+        return Ok(Reply {
+            unique,
+            errno: Errno(errno),
+            body: ReplyBody::Nothing,
+        });
+    }
+    let body = body_of(opcode, body)?;
+    Ok(Reply {
+        unique,
+        errno: Errno::NONE,
+        body,
+    })
+}
+
+/// What an answer to a request of this opcode says, or the first of its faults. Takes no memory.
+pub fn read_answer(opcode: u32, bytes: &[u8]) -> Result<Reply<'_>, BadAnswer>
+    requires { silent opcode ≡ false }
+
+    // What is read is answered so.
+    ensures found { IfOk result (λ r. Answers opcode (told r) bytes.now) }
+    // What is answered is read.
+    ensures only { (t : Told) → Answers opcode t bytes.now → IsOkAnd result (λ r. told r ≡ t) }
+
+    // Which fault it is.
+    ensures fault { IfErr result (λ m. FirstFault opcode bytes.now m) }
+{
+    read(opcode, bytes)
+}

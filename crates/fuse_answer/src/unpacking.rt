@@ -1,0 +1,87 @@
+ghost use Rattle.std.specs.Prelude.{◌≡◌, ◌≤◌, ◌↔◌, List, length, IsTrue, IfSome};
+ghost use Rattle.std.specs.Option.{option_map};
+ghost use Rattle.fuse_answer.specs.declared.dirent.TheConstants.{MAX_NAME as max_name};
+ghost use Rattle.fuse_answer.specs.Entries.{Entry, entry_of, entry_len, StandsBefore, Lists, IsListing};
+ghost use Rattle.fuse_answer.specs.Front.{front_of, entries_left};
+
+use crate::dirent::{Dirent, MAX_NAME};
+use fuse_wire::{u32_at, u64_at};
+
+// How many bytes an entry takes whose name has so many.
+pub(crate) fn packed_len(name_len: usize) -> usize
+    requires { name_len ≤ max_name }
+    ensures { result ≡ entry_len name_len }
+{
+    Dirent::NAME_AT + name_len.next_multiple_of(8)
+}
+
+// The entry at the front, and what follows it. `None` where no whole entry stands there.
+fn split_entry(bytes: &[u8]) -> Option<(Dirent<'_>, &[u8])>
+    ensures front { option_map (λ p. (entry_of p.0, p.1.now)) result ≡ front_of bytes.now }
+    ensures laid { IfSome result (λ p. StandsBefore (entry_of p.0) p.1.now bytes.now) }
+{
+    if bytes.len() < Dirent::NAME_AT {
+        return None;
+    }
+    let name_len = u32_at(bytes, 16) as usize;
+    if name_len == 0 || name_len > MAX_NAME {
+        return None;
+    }
+    let len = packed_len(name_len);
+    if bytes.len() < len {
+        return None;
+    }
+    let dirent = Dirent {
+        ino: u64_at(bytes, 0),
+        off: u64_at(bytes, 8),
+        kind: u32_at(bytes, 20),
+        name: &bytes[Dirent::NAME_AT..Dirent::NAME_AT + name_len],
+    };
+    Some((dirent, &bytes[len..]))
+}
+
+// Whether the bytes are whole entries, one after the other.
+pub(crate) fn is_listing(body: &[u8]) -> bool
+    ensures { IsTrue result ↔ (IsListing body.now) }
+{
+    let mut rest = body;
+    while !rest.is_empty() {
+        let Some((_dirent, behind)) = split_entry(rest) else {
+            return false;
+        };
+        rest = behind;
+    }
+    true
+}
+
+/// The entries of a directory, as they lie in the body of an answer. Takes no memory.
+#[derive(Drop)]
+pub struct Dirents<'a> {
+    rest: &'a [u8],
+}
+
+/// The entries of a body that `read_answer` accepted.
+pub fn unpack(body: &[u8]) -> Dirents<'_>
+    requires { IsListing body.now }
+    ensures { (es : List Entry) → Lists es body.now → entries_left result ≡ es }
+{
+    Dirents { rest: body }
+}
+
+impl<'a> Iterator for Dirents<'a> {
+    ghost use Rattle.std.specs.Iterator.{YieldsFirstBy, item_count};
+    ghost use Rattle.fuse_answer.specs.Entries.{entry_of};
+    ghost use Rattle.fuse_answer.specs.Front.{entries_left};
+
+    type Item = Dirent<'a>;
+
+    ghost next_gives = { YieldsFirstBy entry_of entries_left };
+
+    ghost remaining = { item_count entries_left };
+
+    fn next(&mut self) -> Option<Dirent<'a>> {
+        let (dirent, rest) = split_entry(self.rest)?;
+        self.rest = rest;
+        Some(dirent)
+    }
+}
