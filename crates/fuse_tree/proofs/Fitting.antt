@@ -1,5 +1,5 @@
 -- What is answered fits.
-use Rattle.std.proofs.Common.{◌≡◌, ◌≤◌, ℕ, Bool, true, false, not, if◌then◌else◌, List, [], length, Option, Some, None, is_some, refl, arith}
+use Rattle.std.proofs.Common.{◌≤◌, ℕ, Bool, true, false, not, if◌then◌else◌, List, [], length, Option, Some, None, is_some, refl, arith}
 use Rattle.fuse_wire.specs.declared.errno.Errno.{Errno}
 use Rattle.fuse_wire.specs.declared.moment.Moment.{Moment}
 use Rattle.fuse_request.specs.declared.request.InHeader.{InHeader}
@@ -11,7 +11,7 @@ use Rattle.fuse_tree.specs.declared.planning.make.NewNode.{NewNode}
 use Rattle.fuse_tree.specs.declared.rows.EntryRow.{EntryRow}
 use Rattle.fuse_tree.specs.State.{State, Node, is_dir, is_named, node_at, name_fault}
 use Rattle.fuse_tree.specs.Rows.{entry_at}
-use Rattle.fuse_tree.specs.Do.{Done, refuse, refuse_for, answer, attr_of, entry_of, attr_out_of, lookup_child, lookup_entry, lookup_named, lookup, getattr, new_node, with_node, begun, is_full, make_with_room, make, dir_mode, mkdir, do_act, do_at, names_node, done}
+use Rattle.fuse_tree.specs.Do.{Done, refuse, refuse_for, answer, attr_of, entry_of, attr_out_of, lookup_child, lookup_entry, lookup_named, lookup, getattr, new_node, with_node, begun, is_full, make, dir_mode, mkdir, do_act, do_at, names_node, done}
 
 abbrev Fits : Done → Type 0
 Fits d = FitsAnswer d.said
