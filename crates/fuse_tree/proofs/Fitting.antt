@@ -1,5 +1,5 @@
 -- What is answered fits.
-use Rattle.std.proofs.Common.{◌≤◌, ℕ, Bool, true, false, not, if◌then◌else◌, List, length, Option, Some, None, is_some, refl, arith}
+use Rattle.std.proofs.Common.{◌≤◌, ℕ, Bool, true, false, not, if◌then◌else◌, List, [], length, Option, Some, None, is_some, refl, arith}
 use Rattle.fuse_wire.specs.declared.errno.Errno.{Errno}
 use Rattle.fuse_wire.specs.declared.moment.Moment.{Moment}
 use Rattle.fuse_request.specs.declared.request.InHeader.{InHeader}
