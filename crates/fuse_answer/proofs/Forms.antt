@@ -3,9 +3,8 @@ use Rattle.std.proofs.Common.{◌≡◌, ℕ, List, [], ◌∷◌, ◌++◌, ◌
 use Rattle.std.specs.Prelude.{OnOk, replicate}
 use Rattle.std.proofs.lemmas.List.{length-append, length-replicate}
 use Rattle.fuse_wire.specs.Bytes.{le}
-use Rattle.fuse_wire.specs.Layout.{Part, number, unused, text, bytes, form}
+use Rattle.fuse_wire.specs.Layout.{Part, number, unused, text, bytes, widths, form}
 use Rattle.fuse_wire.proofs.Numbers.{length-le}
-use Rattle.fuse_wire.proofs.Layouts.{widths}
 use Rattle.fuse_answer.specs.Bodies.{attr_parts, entry_parts, attr_out_parts, attr_bytes, entry_bytes, attr_out_bytes}
 use Rattle.fuse_answer.specs.declared.records.Attr.{Attr}
 use Rattle.fuse_answer.specs.declared.records.EntryOut.{EntryOut}

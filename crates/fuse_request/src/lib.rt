@@ -4,6 +4,7 @@
 mod bodies;
 mod class;
 mod decoding;
+mod encoding;
 mod framer;
 mod header;
 mod laws;
@@ -13,6 +14,7 @@ mod request;
 
 pub use class::{Class, classify, has_zero_unique};
 pub use decoding::{Malformed, decode};
+pub use encoding::{EncodeFault, encode};
 pub use framer::{FrameFault, Framer, MAX_FED};
 pub use header::{MAX_MESSAGE, MIN_MESSAGE, RawHeader, header_of};
 pub use laws::{canon_spells, cut_joins, cut_steps, one_cut};
