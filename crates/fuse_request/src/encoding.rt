@@ -9,12 +9,13 @@ ghost use Rattle.fuse_request.specs.Spelling.{Spells, header_parts, parts};
 
 use crate::header::{MAX_MESSAGE, MIN_MESSAGE};
 use crate::lengths::{
-    BATCH_FORGET_IN, COMPAT_INIT_IN, FORGET_IN, FORGET_ONE, GETATTR_IN, INIT_IN, INTERRUPT_IN, MKDIR_IN,
-    MKNOD_IN, OPEN_IN, READ_IN, RELEASE_IN, RENAME_IN, RENAME2_IN, SETATTR_IN, WRITE_IN,
+    BATCH_FORGET_IN, COMPAT_INIT_IN, FORGET_IN, FORGET_ONE, GETATTR_IN, INIT_IN, INTERRUPT_IN,
+    MKDIR_IN, MKNOD_IN, OPEN_IN, READ_IN, RELEASE_IN, RENAME_IN, RENAME2_IN, SETATTR_IN, WRITE_IN,
 };
 use crate::opcode::{
     BATCH_FORGET, DESTROY, FORGET, GETATTR, INIT, INTERRUPT, LOOKUP, MKDIR, MKNOD, OPEN, OPENDIR,
-    READ, READDIR, RELEASE, RELEASEDIR, RENAME, RENAME2, RMDIR, SETATTR, UNLINK, WRITE, is_in_profile,
+    READ, READDIR, RELEASE, RELEASEDIR, RENAME, RENAME2, RMDIR, SETATTR, UNLINK, WRITE,
+    is_in_profile,
 };
 use crate::request::{InitIn, Op, ReadIn, ReleaseIn, Request, SetattrIn};
 use fuse_wire::{Memory, put_bytes, put_u16, put_u32, put_u64};
@@ -272,21 +273,28 @@ fn body_len(op: &Op<'_>) -> u128
         Op::Mknod { name, .. } => MKNOD_IN as u128 + long(name) + 1,
         Op::Mkdir { name, .. } => MKDIR_IN as u128 + long(name) + 1,
         Op::Rename {
-            old_name, new_name, ..
+            old_name,
+            new_name,
+            ..
         } => RENAME_IN as u128 + long(old_name) + 1 + long(new_name) + 1,
         Op::OpenFile { .. } | Op::OpenDir { .. } => OPEN_IN as u128,
         Op::Read(_) | Op::ReadDir(_) => READ_IN as u128,
         Op::Write { payload, .. } => WRITE_IN as u128 + long(payload),
         Op::Release(_) | Op::ReleaseDir(_) => RELEASE_IN as u128,
         Op::Init(InitIn { flags2: None, .. }) => COMPAT_INIT_IN as u128,
-        Op::Init(InitIn {
-            flags2: Some(_), ..
-        }) => INIT_IN as u128,
+        Op::Init(
+            InitIn {
+                flags2: Some(_),
+                ..
+            },
+        ) => INIT_IN as u128,
         Op::Interrupt { .. } => INTERRUPT_IN as u128,
         Op::Destroy => 0,
         Op::BatchForget { items } => BATCH_FORGET_IN as u128 + long(items),
         Op::Rename2 {
-            old_name, new_name, ..
+            old_name,
+            new_name,
+            ..
         } => RENAME2_IN as u128 + long(old_name) + 1 + long(new_name) + 1,
         Op::Unsupported { body, .. } => long(body),
     }
@@ -337,10 +345,14 @@ fn is_sayable_op(op: &Op<'_>) -> bool
         | Op::Mknod { name, .. }
         | Op::Mkdir { name, .. } => has_no_nul(name),
         Op::Rename {
-            old_name, new_name, ..
+            old_name,
+            new_name,
+            ..
         }
         | Op::Rename2 {
-            old_name, new_name, ..
+            old_name,
+            new_name,
+            ..
         } => has_no_nul(old_name) && has_no_nul(new_name),
         Op::BatchForget { items } => items.len() % FORGET_ONE == 0,
         Op::Unsupported { opcode, .. } => !is_in_profile(opcode),

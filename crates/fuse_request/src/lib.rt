@@ -21,4 +21,6 @@ pub use laws::{canon_spells, cut_joins, cut_steps, one_cut};
 pub use request::{InHeader, InitIn, Op, ReadIn, ReleaseIn, Request, SetattrIn};
 
 #[cfg(test)]
+mod encoding_tests;
+#[cfg(test)]
 mod tests;

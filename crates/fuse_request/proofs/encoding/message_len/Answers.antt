@@ -1,4 +1,4 @@
-use Rattle.std.proofs.Common.{length, arith}
+use Rattle.std.proofs.Common.{arith}
 use Rattle.fuse_wire.proofs.Layouts.{length-form}
 use Rattle.fuse_request.specs.Act.{act}
 use Rattle.fuse_request.specs.Spelling.{parts}
