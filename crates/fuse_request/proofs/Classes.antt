@@ -6,9 +6,6 @@ use Rattle.fuse_wire.specs.declared.errno.TheConstants.Errno.{EINVAL, ENOSYS}
 use Rattle.fuse_request.specs.declared.class.Class.{Class}
 use Rattle.fuse_request.specs.declared.class.Class.TheVariants.{Silent, Bare, Kept}
 use Rattle.fuse_request.specs.declared.decoding.Malformed.{Malformed}
-use Rattle.std.specs.Borrow.{Bor}
-use Rattle.fuse_request.specs.declared.request.Op.{Op}
-use Rattle.fuse_request.specs.declared.request.Op.TheVariants as ops
 use Rattle.fuse_request.specs.declared.request.Request.{Request}
 use Rattle.fuse_request.specs.Act.{Asked, asked, act, IsBuilt, opcode_of}
 use Rattle.fuse_request.specs.Header.{raw_of}

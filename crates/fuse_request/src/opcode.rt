@@ -2,7 +2,7 @@
 ghost use Rattle.std.specs.Prelude.{◌≡◌};
 ghost use Rattle.std.specs.Option.{option_map};
 ghost use Rattle.fuse_request.specs.Opcodes as opcodes;
-ghost use Rattle.fuse_request.specs.Opcodes.{silent};
+ghost use Rattle.fuse_request.specs.Opcodes.{in_profile, silent};
 
 pub const LOOKUP: u32 = 1;
 
@@ -77,6 +77,36 @@ pub fn name_of(opcode: u32) -> Option<&'static str>
         RENAME2 => Some("RENAME2"),
         _ => None,
     }
+}
+
+/// Whether an opcode is of the profile.
+pub fn is_in_profile(opcode: u32) -> bool
+    ensures { result ≡ in_profile opcode }
+{
+    matches!(
+        opcode,
+        LOOKUP
+            | FORGET
+            | GETATTR
+            | SETATTR
+            | MKNOD
+            | MKDIR
+            | UNLINK
+            | RMDIR
+            | RENAME
+            | OPEN
+            | READ
+            | WRITE
+            | RELEASE
+            | INIT
+            | OPENDIR
+            | READDIR
+            | RELEASEDIR
+            | INTERRUPT
+            | DESTROY
+            | BATCH_FORGET
+            | RENAME2
+    )
 }
 
 /// Whether what requests of this opcode do is built. Until it is, they are answered as unsupported ones are.
