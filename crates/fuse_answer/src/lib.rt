@@ -3,11 +3,16 @@
 
 mod answer;
 mod bodies;
+#[cfg(test)]
+mod directory_tests;
 mod dirent;
 mod init_out;
 mod numbers;
+mod packing;
 mod records;
 mod reply;
+#[cfg(test)]
+mod reply_tests;
 #[cfg(test)]
 mod tests;
 mod unpacking;
@@ -16,6 +21,7 @@ mod wire;
 pub use answer::{Answer, MAX_BODY};
 pub use dirent::{Dirent, MAX_NAME};
 pub use init_out::InitOut;
+pub use packing::{PackFault, Packed, pack};
 pub use records::{Attr, AttrOut, EntryOut, OpenOut, OutHeader, WriteOut};
 pub use reply::{BadAnswer, MAX_ERRNO, Reply, ReplyBody, read_answer};
 pub use unpacking::{Dirents, unpack};
