@@ -7,7 +7,7 @@ use Rattle.std.proofs.lemmas.List.{append-nil, drop-drop, length-append, length-
 use Rattle.fuse_wire.specs.Bytes.{le, number_of, IsBytes}
 use Rattle.fuse_wire.specs.Layout.{bytes, Lays}
 use Rattle.fuse_wire.proofs.Numbers.{length-le, number_front, IsBytes-drop}
-use Rattle.fuse_wire.proofs.Layouts.{Lays-length, peel, laid_at}
+use Rattle.fuse_wire.proofs.Layouts.{Lays-length, peel, stands}
 use Rattle.fuse_answer.specs.declared.records.Attr.{Attr}
 use Rattle.fuse_answer.specs.declared.reply.Reply.{Reply}
 use Rattle.fuse_answer.specs.declared.reply.BadAnswer.{BadAnswer}
@@ -55,23 +55,23 @@ all xs b h = h.1 ∙ ap (λ (x : List ℕ). xs ++ x) h.2 ∙ append-nil xs
 content_is : (c : Content) (b : List ℕ) → Lays (content_parts c) b → IsProper c → content_at (kind_is c) b ≡ c
 unfolding content_at attr_at
 content_is (of_entry e) b h proper =
-    let p = laid_at 0 (entry_parts e) b tt (omega arith) h in
+    let p = stands 0 (entry_parts e) b (omega arith) h in
     let p1 = p.1 in let p2 = p1.1 in let p3 = p2.1 in let p4 = p3.1 in let p5 = p4.1 in let p6 = p5.1 in let p7 = p6.1 in let p8 = p7.1 in let p9 = p8.1 in let p10 = p9.1 in let p11 = p10.1 in let p12 = p11.1 in let p13 = p12.1 in let p14 = p13.1 in let p15 = p14.1 in let p16 = p15.1 in let p17 = p16.1 in let p18 = p17.1 in let p19 = p18.1 in let p20 = p19.1 in let p21 = p20.1 in
     rw (← p.0, ← p1.0, ← p2.0, ← p3.0, ← p4.0, ← p5.0, ← p6.0, ← p7.0, ← p8.0, ← p9.0, ← p10.0, ← p11.0, ← p12.0, ← p13.0, ← p14.0, ← p15.0, ← p16.0, ← p17.0, ← p18.0, ← p19.0, ← p20.0, ← p21.0) refl
 content_is (of_attributes a) b h proper =
-    let p = laid_at 0 (attr_out_parts a) b tt (omega arith) h in
+    let p = stands 0 (attr_out_parts a) b (omega arith) h in
     let p1 = p.1 in let p2 = p1.1 in let p3 = p2.1 in let p4 = p3.1 in let p5 = p4.1 in let p6 = p5.1 in let p7 = p6.1 in let p8 = p7.1 in let p9 = p8.1 in let p10 = p9.1 in let p11 = p10.1 in let p12 = p11.1 in let p13 = p12.1 in let p14 = p13.1 in let p15 = p14.1 in let p16 = p15.1 in let p17 = p16.1 in
     rw (← p.0, ← p1.0, ← p2.0, ← p3.0, ← p4.0, ← p5.0, ← p6.0, ← p7.0, ← p8.0, ← p9.0, ← p10.0, ← p11.0, ← p12.0, ← p13.0, ← p14.0, ← p15.0, ← p16.0, ← p17.0) refl
 content_is (of_open o) b h proper =
-    let p = laid_at 0 (open_parts o) b tt (omega arith) h in
+    let p = stands 0 (open_parts o) b (omega arith) h in
     let p1 = p.1 in let p2 = p1.1 in
     let signed : to_z w32 (of_z w32 o.backing_id) ≡ o.backing_id = to_z-of_z w32 o.backing_id proper in
     rw (← p.0, ← p1.0, ← p2.0, signed) refl
 content_is (of_write w) b h proper =
-    let p = laid_at 0 (write_parts w) b tt (omega arith) h in
+    let p = stands 0 (write_parts w) b (omega arith) h in
     rw (← p.0) refl
 content_is (of_init i) b h proper =
-    let p = laid_at 0 (init_parts i) b tt (omega arith) h in
+    let p = stands 0 (init_parts i) b (omega arith) h in
     let p1 = p.1 in let p2 = p1.1 in let p3 = p2.1 in let p4 = p3.1 in let p5 = p4.1 in let p6 = p5.1 in let p7 = p6.1 in let p8 = p7.1 in let p9 = p8.1 in let p10 = p9.1 in let p11 = p10.1 in
     rw (← p.0, ← p1.0, ← p2.0, ← p3.0, ← p4.0, ← p5.0, ← p6.0, ← p7.0, ← p8.0, ← p9.0, ← p10.0, ← p11.0) refl
 content_is (of_data xs) b h proper = ap of_data (all xs b h)

@@ -1,5 +1,5 @@
 -- Parts that stand one after the other, and how many bytes they take.
-use Rattle.std.proofs.Common.{◌≡◌, ℕ, List, [], ◌∷◌, ◌++◌, ◌+◌, length, Result, Ok, Err, refl, sym, ap, ◌∙◌, append_assoc, arith}
+use Rattle.std.proofs.Common.{◌≡◌, ℕ, List, [], ◌∷◌, ◌++◌, ◌+◌, ◌≤◌, ◌<◌, ◌^◌, length, Result, Ok, Err, refl, sym, ap, ◌∙◌, append_assoc, arith}
 use Rattle.std.specs.Prelude.{OnOk, replicate}
 use Rattle.std.proofs.lemmas.List.{append-nil, length-append, length-replicate}
 use Rattle.fuse_wire.specs.Bytes.{le}
@@ -7,6 +7,8 @@ use Rattle.fuse_wire.specs.Layout.{Part, number, unused, text, bytes, form}
 use Rattle.fuse_wire.proofs.Numbers.{length-le}
 use Rattle.fuse_wire.proofs.Layouts.{widths}
 use Rattle.fuse_answer.specs.Bodies.{attr_parts, entry_parts, attr_out_parts, open_parts, write_parts, init_parts, attr_bytes, entry_bytes, attr_out_bytes, open_bytes, write_bytes, init_bytes}
+use Rattle.fuse_answer.specs.Laws.{BeginsWithLen}
+use Rattle.fuse_answer.specs.Wire.{negated, wire, wire_head}
 use Rattle.fuse_answer.specs.declared.records.Attr.{Attr}
 use Rattle.fuse_answer.specs.declared.records.EntryOut.{EntryOut}
 use Rattle.fuse_answer.specs.declared.records.AttrOut.{AttrOut}
@@ -85,3 +87,23 @@ length_init i = length-form (init_parts i)
 pub same-head : (body body' : List ℕ) (e e' u : ℕ) → body ≡ body' → e ≡ e'
     → form (number 4 (16 + length body) ∷ number 4 e ∷ number 8 u ∷ []) ≡ form (number 4 (16 + length body') ∷ number 4 e' ∷ number 8 u ∷ [])
 same-head body body' e e' u p q = rw (p, q) refl
+
+-- an answer begins with its length
+pub len_first : (errno : ℕ) (body : List ℕ) (unique : ℕ) → length body ≤ 1048576 → BeginsWithLen (wire errno body unique)
+unfolding wire wire_head
+len_first errno body unique short =
+    let len : ℕ = 16 + length body in
+    let others : List ℕ = form (number 4 (negated errno) ∷ number 8 unique ∷ []) in
+    let rest : List ℕ = others ++ body in
+    let parts : wire errno body unique ≡ le 4 len ++ rest = append_assoc (le 4 len) others body in
+    let four : length others ≡ 12 = length-form (number 4 (negated errno) ∷ number 8 unique ∷ []) in
+    let behind : length rest ≡ length others + length body = length-append others body in
+    let all : length (wire errno body unique) ≡ length (le 4 len) + length rest = ap (length {A = ℕ}) parts ∙ length-append (le 4 len) rest in
+    let front : length (le 4 len) ≡ 4 = length-le 4 len in
+    let size : length (wire errno body unique) ≡ len = omega arith in
+    record {
+      rest = rest;
+      parts = parts ∙ ap (λ (n : ℕ). le 4 n ++ rest) (sym size);
+      four = omega arith;
+      fits = omega arith;
+    }

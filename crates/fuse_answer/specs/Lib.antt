@@ -1,8 +1,10 @@
 pub mod Said
 pub mod Bodies
 pub mod Wire
+pub mod Notice
 pub mod Entries
 pub mod Front
 pub mod Replies
 pub mod Readers
 pub mod Vectors
+pub mod Laws

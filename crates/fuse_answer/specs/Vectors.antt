@@ -10,6 +10,7 @@ use Rattle.fuse_answer.specs.declared.init_out.InitOut.{InitOut}
 use Rattle.fuse_answer.specs.Bodies.{header_bytes, attr_bytes, entry_bytes, attr_out_bytes, open_bytes, write_bytes, init_bytes}
 use Rattle.fuse_answer.specs.Entries.{Entry, entries_bytes}
 use Rattle.fuse_answer.specs.Wire.{negated, wire_head, wire}
+use Rattle.fuse_answer.specs.Notice.{resend_bytes}
 
 -- the error field of each refusal
 abbrev pub ErrorFields : Type 0
@@ -34,6 +35,7 @@ abbrev pub Headers : Type 0
 Headers =
     (header_bytes (record { len = 16; error = negsuc 1; unique = 4 }) ≡ hex (codes "10000000 feffffff 0400000000000000"))
     × (header_bytes (record { len = 16; error = pos 7; unique = 0 }) ≡ hex (codes "10000000 07000000 0000000000000000"))
+    × (resend_bytes ≡ hex (codes "10000000 07000000 0000000000000000"))
 
 -- refusals, of requests and of a resend
 abbrev pub Refusals : Type 0

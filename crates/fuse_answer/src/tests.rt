@@ -9,7 +9,7 @@ fn error_fields()
     ensures { ErrorFields }
 {}
 
-#[tactic(auto, unfolding(fuse_wire::specs::Bytes::le, crate::specs::Bodies::header_bytes))]
+#[tactic(auto, unfolding(fuse_wire::specs::Bytes::le, crate::specs::Bodies::header_bytes, crate::specs::Notice::resend_bytes))]
 fn headers()
     ensures { Headers }
 {}
@@ -175,7 +175,7 @@ fn init_answer(rt: HostRuntime) -> Result<(), Memory> {
 }
 
 #[test]
-fn resend_notice(rt: HostRuntime) -> Result<(), Memory> {
+fn notice(rt: HostRuntime) -> Result<(), Memory> {
     let notice = OutHeader {
         len: 16,
         error: 7,
@@ -183,6 +183,7 @@ fn resend_notice(rt: HostRuntime) -> Result<(), Memory> {
     };
     let want = [0x10, 0, 0, 0, 7, 0, 0, 0, 0, 0, 0, 0, 0, 0, 0, 0];
     assert_eq!(rt; notice.body_of(rt.alloc())?.as_slice(), want.as_slice());
+    assert_eq!(rt; resend_notice(), want);
     Ok(())
 }
 

@@ -10,32 +10,13 @@ use Rattle.std.specs.Borrow.{Bor}
 use Rattle.fuse_request.specs.declared.request.Op.{Op}
 use Rattle.fuse_request.specs.declared.request.Op.TheVariants as ops
 use Rattle.fuse_request.specs.declared.request.Request.{Request}
-use Rattle.fuse_request.specs.Act.{Act, Lookup, Getattr, Mkdir, Unsupported, Asked, asked, act, IsBuilt}
+use Rattle.fuse_request.specs.Act.{Asked, asked, act, IsBuilt, opcode_of}
 use Rattle.fuse_request.specs.Header.{raw_of}
-use Rattle.fuse_request.specs.Opcodes.{silent, in_profile}
-use Rattle.fuse_request.specs.Spelling.{opcode_of, IsNamed, Spells}
+use Rattle.fuse_request.specs.Opcodes.{silent, is_built}
+use Rattle.fuse_request.specs.Spelling.{Spells}
 use Rattle.fuse_request.specs.Faults.{first_fault}
 use Rattle.fuse_request.specs.Classes.{class_by, class_of, IsOfClass}
 use Rattle.fuse_request.proofs.Heads.{has_parts, no_fault}
-
-built : (a : Act) → IsBuilt a → in_profile (opcode_of a) ≡ true
-built (Lookup name) h = refl
-built (Getattr flags fh) h = refl
-built (Mkdir mode umask name) h = refl
-built (Unsupported opcode body) h = absurd h
-
-not_built : (a : Act) → ¬ (IsBuilt a) → IsNamed a → in_profile (opcode_of a) ≡ false
-not_built (Lookup name) h named = absurd (h tt)
-not_built (Getattr flags fh) h named = absurd (h tt)
-not_built (Mkdir mode umask name) h named = absurd (h tt)
-not_built (Unsupported opcode body) h named = named
-
--- an opcode of the profile is served
-served : (a : Act) → IsNamed a → in_profile (opcode_of a) ≡ true → IsBuilt a
-served (Lookup name) named e = tt
-served (Getattr flags fh) named e = tt
-served (Mkdir mode umask name) named e = tt
-served (Unsupported opcode body) named e = absurd cc
 
 -- the class of a message that isn't silent, and that has this fault and this opcode
 loud_class : (m : List ℕ) (f : Option Malformed) (opcode : ℕ) → silent (raw_of m).opcode ≡ false → first_fault m ≡ f → (raw_of m).opcode ≡ opcode → class_of m ≡ class_by f opcode
@@ -59,41 +40,40 @@ classed_fault m f loud e = (
   (loud, inl (refl, λ v s. (let none : first_fault m ≡ None = no_fault v m s in absurd cc))),
 )
 
-pub classed_unsupported : (m : List ℕ) (v : Asked) → silent (number_of 4 (drop 4 m)) ≡ false → Spells v m → ¬ (IsBuilt v.act) → Classed (Bare ENOSYS) m
-classed_unsupported m v loud s h = (
-  sym (spelled_class v m loud s ∙ rw (not_built v.act h s.named) refl),
-  (loud, inr (refl, (v, s, h))),
-)
+pub classed_unsupported : (m : List ℕ) (v : Asked) → silent (number_of 4 (drop 4 m)) ≡ false → Spells v m → is_built (number_of 4 (drop 4 m)) ≡ false → Classed (Bare ENOSYS) m
+classed_unsupported m v loud s later =
+    let opcode : number_of 4 (drop 4 m) ≡ opcode_of v.act = (has_parts v m s).opcode in
+    let later : is_built (opcode_of v.act) ≡ false = sym (ap is_built opcode) ∙ later in (
+      sym (spelled_class v m loud s ∙ rw later refl),
+      (loud, inr (refl, (v, s, λ h. absurd cc))),
+    )
 
-pub classed_kept : (m : List ℕ) (v : Asked) → silent (number_of 4 (drop 4 m)) ≡ false → Spells v m → IsBuilt v.act → Classed Kept m
-classed_kept m v loud s h = (sym (spelled_class v m loud s ∙ rw (built v.act h) refl), (loud, (v, s, h)))
+pub classed_kept : (m : List ℕ) (v : Asked) → silent (number_of 4 (drop 4 m)) ≡ false → Spells v m → is_built (number_of 4 (drop 4 m)) ≡ true → Classed Kept m
+classed_kept m v loud s now =
+    let opcode : number_of 4 (drop 4 m) ≡ opcode_of v.act = (has_parts v m s).opcode in
+    let now : is_built (opcode_of v.act) ≡ true = sym (ap is_built opcode) ∙ now in
+    (sym (spelled_class v m loud s ∙ rw now refl), (loud, (v, s, now)))
 
--- what is kept has no fault, and an opcode of the profile
-kept_by : (loud : Bool) (f : Option Malformed) (opcode : ℕ) → cond {A = Class} loud Silent (class_by f opcode) ≡ Kept → (f ≡ None) × (in_profile opcode ≡ true)
+-- what is kept has no fault, and an opcode whose operation is built
+kept_by : (loud : Bool) (f : Option Malformed) (opcode : ℕ) → cond {A = Class} loud Silent (class_by f opcode) ≡ Kept → (f ≡ None) × (is_built opcode ≡ true)
 kept_by true f opcode e = absurd cc
 kept_by false (Some f) opcode e = absurd cc
 kept_by false None opcode e =
-    elim (in_profile opcode) as (λ p. cond {A = Class} p Kept (Bare ENOSYS) ≡ Kept → (◌≡◌ {A = Option Malformed} None None) × (p ≡ true)) [
+    elim (is_built opcode) as (λ p. cond {A = Class} p Kept (Bare ENOSYS) ≡ Kept → (◌≡◌ {A = Option Malformed} None None) × (p ≡ true)) [
       | true ↦ (λ q. (refl, refl))
       | false ↦ (λ q. absurd cc)
     ] e
 
-kept_parts : (m : List ℕ) → class_of m ≡ Kept → (first_fault m ≡ None) × (in_profile (raw_of m).opcode ≡ true)
+kept_parts : (m : List ℕ) → class_of m ≡ Kept → (first_fault m ≡ None) × (is_built (raw_of m).opcode ≡ true)
 unfolding class_of
 kept_parts m e = kept_by (silent (raw_of m).opcode) (first_fault m) (raw_of m).opcode e
 
--- what is kept is read, and served
+-- what is kept is read, and built
 pub kept_read : (m : List ℕ) (r : Result Request Malformed) → IfOk r (λ q. Spells (asked q) m) → IfErr r (λ f. first_fault m ≡ Some f)
     → class_of m ≡ Kept → IsOkAnd r (λ q. IsBuilt (act q.op))
 kept_read m (Ok q) found fault e =
     let opcode : (raw_of m).opcode ≡ opcode_of (act q.op) = (has_parts (asked q) m found).opcode in
-    served (act q.op) found.named (sym (ap in_profile opcode) ∙ (kept_parts m e).1)
+    sym (ap is_built opcode) ∙ (kept_parts m e).1
 kept_read m (Err f) found fault e =
     let none : first_fault m ≡ None = (kept_parts m e).0 in
     absurd cc
-
-pub is_built : (op : Op) → ((opcode : ℕ) (body : Bor (List ℕ)) → ¬ (op ≡ ops.Unsupported opcode body)) → IsBuilt (act op)
-is_built (ops.Lookup name) h = tt
-is_built (ops.Getattr flags fh) h = tt
-is_built (ops.Mkdir mode umask name) h = tt
-is_built (ops.Unsupported opcode body) h = absurd (h opcode body refl)

@@ -13,9 +13,9 @@ use Rattle.fuse_request.specs.Header.{raw_of, body_of}
 use Rattle.fuse_request.specs.declared.request.Request.{Request}
 use Rattle.fuse_request.specs.declared.header.RawHeader.{RawHeader}
 use Rattle.fuse_request.specs.declared.decoding.Malformed.{Malformed}
-use Rattle.fuse_request.specs.Act.{Asked, Act, asked}
-use Rattle.fuse_request.specs.Spelling.{IsNamed, opcode_of, parts, header_parts, Spells}
-use Rattle.fuse_request.specs.Faults.{first_fault}
+use Rattle.fuse_request.specs.Act.{Asked, Act, asked, opcode_of}
+use Rattle.fuse_request.specs.Spelling.{IsNamed, parts, header_parts, Spells}
+use Rattle.fuse_request.specs.Faults.{body_fault, first_fault}
 use Rattle.fuse_request.specs.Places.{act_at, header_at, act_in, ext_in, asked_at}
 use Rattle.fuse_request.proofs.Acts.{one_act}
 
@@ -89,6 +89,29 @@ no_fault v m s =
     let p = has_parts v m s in
     let one = one_act v.act p.body p.laid s.named in
     rw (le-ltb (length m) 40 p.long, eq-eqb (number_of 4 m) (length m) p.len, le-ltb (length m - 40) (8 * number_of 2 (drop 36 m)) p.fits, p.opcode, p.body_is) one.1
+
+-- a header that was read is that of the message
+is_raw : (m : List ℕ) (raw : RawHeader) → ◌≡◌ {A = Option RawHeader} (Some raw) (if nat_lt (length m) 40 then None else Some (raw_of m)) → (40 ≤ length m) × (raw ≡ raw_of m)
+is_raw m raw e =
+    elim (cases_lt (length m) 40) [
+      | inl lt ↦ (let h : ◌≡◌ {A = Option RawHeader} (Some raw) None = rw (lt-ltb (length m) 40 lt) at e in absurd cc)
+      | inr le ↦ (let h : ◌≡◌ {A = Option RawHeader} (Some raw) (Some (raw_of m)) = rw (le-ltb (length m) 40 le) at e in (le, cc))
+    ]
+
+-- a fault of the body is that of the message, where nothing is wrong before it
+pub body_faulty : (m : List ℕ) (raw : RawHeader) (body : List ℕ) (f : Malformed) → ◌≡◌ {A = Option RawHeader} (Some raw) (if nat_lt (length m) 40 then None else Some (raw_of m))
+    → raw.len ≡ length m → 8 * raw.total_extlen ≤ length (drop 40 m) → body ≡ take (length (drop 40 m) - 8 * raw.total_extlen) (drop 40 m)
+    → body_fault raw.opcode body ≡ Some f → first_fault m ≡ Some f
+body_faulty m raw body f e len room body_is fault =
+    let p = is_raw m raw e in
+    let same : raw ≡ raw_of m = p.1 in
+    let units : raw.total_extlen ≡ number_of 2 (drop 36 m) = ap (λ (r : RawHeader). r.total_extlen) same in
+    let opcode : number_of 4 (drop 4 m) ≡ raw.opcode = ap (λ (r : RawHeader). r.opcode) (sym same) in
+    let len_is : number_of 4 m ≡ length m = ap (λ (r : RawHeader). r.len) (sym same) ∙ len in
+    let at : length (drop 40 m) - 8 * raw.total_extlen ≡ length m - 40 - 8 * number_of 2 (drop 36 m) = omega (arith, units, length-drop 40 m) in
+    let body_at : body_of m ≡ body = sym (body_is ∙ ap (λ (n : ℕ). take n (drop 40 m)) at) in
+    let fits : 8 * number_of 2 (drop 36 m) ≤ length m - 40 = omega (arith, units, room, length-drop 40 m) in
+    rw (le-ltb (length m) 40 p.0, eq-eqb (number_of 4 m) (length m) len_is, le-ltb (length m - 40) (8 * number_of 2 (drop 36 m)) fits, opcode, body_at) fault
 
 -- the number at place k of the header, and what of the header is behind it
 place : (k w j : ℕ) (m : List ℕ) → IsBytes m → 40 ≤ length m → k + (w + j) ≡ 40
@@ -180,14 +203,6 @@ only_one m (Ok q) found fault v s = one_request (asked q) v m found s
 only_one m (Err f) found fault v s =
     let none : first_fault m ≡ None = no_fault v m s in
     absurd cc
-
--- a header that was read is that of the message
-is_raw : (m : List ℕ) (raw : RawHeader) → ◌≡◌ {A = Option RawHeader} (Some raw) (if nat_lt (length m) 40 then None else Some (raw_of m)) → (40 ≤ length m) × (raw ≡ raw_of m)
-is_raw m raw e =
-    elim (cases_lt (length m) 40) [
-      | inl lt ↦ (let h : ◌≡◌ {A = Option RawHeader} (Some raw) None = rw (lt-ltb (length m) 40 lt) at e in absurd cc)
-      | inr le ↦ (let h : ◌≡◌ {A = Option RawHeader} (Some raw) (Some (raw_of m)) = rw (le-ltb (length m) 40 le) at e in (le, cc))
-    ]
 
 abbrev asked_by : RawHeader → Act → List ℕ → Asked
 asked_by raw a ext = record { header = record { unique = raw.unique; nodeid = raw.nodeid; uid = raw.uid; gid = raw.gid; pid = raw.pid }; act = a; ext = ext }

@@ -1,4 +1,5 @@
-pub mod Bodies
+pub mod BodyFaults
+pub mod Laid
 pub mod Acts
 pub mod Heads
 pub mod Streams

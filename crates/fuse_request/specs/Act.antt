@@ -1,22 +1,88 @@
 -- Requests without where they lie in memory.
-use Rattle.std.specs.Prelude.{ℕ, List}
+use Rattle.std.specs.Prelude.{◌≡◌, ℕ, true, List}
+use Rattle.fuse_request.specs.declared.opcode.TheConstants.{LOOKUP, FORGET, GETATTR, SETATTR, MKNOD, MKDIR, UNLINK, RMDIR, RENAME, OPEN, READ, WRITE, RELEASE, INIT, OPENDIR, READDIR, RELEASEDIR, INTERRUPT, DESTROY, BATCH_FORGET, RENAME2}
 use Rattle.fuse_request.specs.declared.request.InHeader.{InHeader}
+use Rattle.fuse_request.specs.declared.request.InitIn.{InitIn}
 use Rattle.fuse_request.specs.declared.request.Op.{Op}
 use Rattle.fuse_request.specs.declared.request.Op.TheVariants as ops
+use Rattle.fuse_request.specs.declared.request.ReadIn.{ReadIn}
+use Rattle.fuse_request.specs.declared.request.ReleaseIn.{ReleaseIn}
 use Rattle.fuse_request.specs.declared.request.Request.{Request}
+use Rattle.fuse_request.specs.declared.request.SetattrIn.{SetattrIn}
+use Rattle.fuse_request.specs.Opcodes.{is_built}
 
 -- what a request asks for, its names and bodies as lists
 pub data Act : Type 0 where
   Lookup : List ℕ → Act
+  Forget : ℕ → Act
   Getattr : ℕ → ℕ → Act
+  Setattr : SetattrIn → Act
+  Mknod : ℕ → ℕ → ℕ → List ℕ → Act
   Mkdir : ℕ → ℕ → List ℕ → Act
+  Unlink : List ℕ → Act
+  Rmdir : List ℕ → Act
+  Rename : ℕ → List ℕ → List ℕ → Act
+  OpenFile : ℕ → ℕ → Act
+  Read : ReadIn → Act
+  Write : ℕ → ℕ → ℕ → ℕ → ℕ → List ℕ → Act
+  Release : ReleaseIn → Act
+  Init : InitIn → Act
+  OpenDir : ℕ → ℕ → Act
+  ReadDir : ReadIn → Act
+  ReleaseDir : ReleaseIn → Act
+  Interrupt : ℕ → Act
+  Destroy : Act
+  BatchForget : List ℕ → Act
+  Rename2 : ℕ → ℕ → List ℕ → List ℕ → Act
   Unsupported : ℕ → List ℕ → Act
 
 abbrev pub act : Op → Act
 act (ops.Lookup name) = Lookup name.now
+act (ops.Forget nlookup) = Forget nlookup
 act (ops.Getattr flags fh) = Getattr flags fh
+act (ops.Setattr x) = Setattr x
+act (ops.Mknod mode rdev umask name) = Mknod mode rdev umask name.now
 act (ops.Mkdir mode umask name) = Mkdir mode umask name.now
+act (ops.Unlink name) = Unlink name.now
+act (ops.Rmdir name) = Rmdir name.now
+act (ops.Rename new_dir old_name new_name) = Rename new_dir old_name.now new_name.now
+act (ops.OpenFile flags open_flags) = OpenFile flags open_flags
+act (ops.Read x) = Read x
+act (ops.Write fh offset write_flags lock_owner flags payload) = Write fh offset write_flags lock_owner flags payload.now
+act (ops.Release x) = Release x
+act (ops.Init x) = Init x
+act (ops.OpenDir flags open_flags) = OpenDir flags open_flags
+act (ops.ReadDir x) = ReadDir x
+act (ops.ReleaseDir x) = ReleaseDir x
+act (ops.Interrupt unique) = Interrupt unique
+act ops.Destroy = Destroy
+act (ops.BatchForget items) = BatchForget items.now
+act (ops.Rename2 new_dir flags old_name new_name) = Rename2 new_dir flags old_name.now new_name.now
 act (ops.Unsupported opcode body) = Unsupported opcode body.now
+
+abbrev pub opcode_of : Act → ℕ
+opcode_of (Lookup name) = LOOKUP
+opcode_of (Forget nlookup) = FORGET
+opcode_of (Getattr flags fh) = GETATTR
+opcode_of (Setattr x) = SETATTR
+opcode_of (Mknod mode rdev umask name) = MKNOD
+opcode_of (Mkdir mode umask name) = MKDIR
+opcode_of (Unlink name) = UNLINK
+opcode_of (Rmdir name) = RMDIR
+opcode_of (Rename new_dir old_name new_name) = RENAME
+opcode_of (OpenFile flags open_flags) = OPEN
+opcode_of (Read x) = READ
+opcode_of (Write fh offset write_flags lock_owner flags payload) = WRITE
+opcode_of (Release x) = RELEASE
+opcode_of (Init x) = INIT
+opcode_of (OpenDir flags open_flags) = OPENDIR
+opcode_of (ReadDir x) = READDIR
+opcode_of (ReleaseDir x) = RELEASEDIR
+opcode_of (Interrupt unique) = INTERRUPT
+opcode_of Destroy = DESTROY
+opcode_of (BatchForget items) = BATCH_FORGET
+opcode_of (Rename2 new_dir flags old_name new_name) = RENAME2
+opcode_of (Unsupported opcode body) = opcode
 
 pub record Asked : Type 0 where
   pub header : InHeader
@@ -26,7 +92,6 @@ pub record Asked : Type 0 where
 abbrev pub asked : Request → Asked
 asked r = record { header = r.header; act = act r.op; ext = r.ext.now }
 
--- it is more than an opcode that isn't served
+-- what it asks for is built
 abbrev pub IsBuilt : Act → Type 0
-IsBuilt (Unsupported opcode body) = ⊥
-IsBuilt _ = Unit {0}
+IsBuilt a = is_built (opcode_of a) ≡ true

@@ -7,14 +7,14 @@ use Rattle.fuse_request.specs.declared.class.Class.TheVariants.{Silent, Bare, Ke
 use Rattle.fuse_request.specs.declared.decoding.Malformed.{Malformed}
 use Rattle.fuse_request.specs.Act.{Asked, IsBuilt}
 use Rattle.fuse_request.specs.Header.{raw_of}
-use Rattle.fuse_request.specs.Opcodes.{silent, in_profile}
+use Rattle.fuse_request.specs.Opcodes.{silent, is_built}
 use Rattle.fuse_request.specs.Faults.{first_fault}
 use Rattle.fuse_request.specs.Spelling.{Spells}
 
 -- by its fault, and else by its opcode
 abbrev pub class_by : Option Malformed → ℕ → Class
 class_by (Some m) opcode = Bare EINVAL
-class_by None opcode = if in_profile opcode then Kept else Bare ENOSYS
+class_by None opcode = if is_built opcode then Kept else Bare ENOSYS
 
 unfoldable pub class_of : List ℕ → Class
 class_of b = if silent (raw_of b).opcode then Silent else class_by (first_fault b) (raw_of b).opcode

@@ -1,3 +1,4 @@
+pub mod Bodies
 pub mod Opcodes
 pub mod Header
 pub mod Act

@@ -1,22 +1,108 @@
 -- What a message says at the places of its opcode, where it spells anything.
-use Rattle.std.specs.Prelude.{◌-◌, ◌==◌, ℕ, zero, suc, if◌then◌else◌, List, [], ◌∷◌, length, drop}
-use Rattle.fuse_wire.specs.Bytes.{number_of}
-use Rattle.fuse_request.specs.declared.opcode.TheConstants.{LOOKUP, GETATTR, MKDIR, MKDIR_IN}
+use Rattle.std.specs.Prelude.{◌-◌, ◌==◌, ℕ, zero, suc, if◌then◌else◌, List, [], ◌∷◌, length, drop, Option, Some, None}
+use Rattle.std.specs.Option.{unwrap_or}
+use Rattle.fuse_wire.specs.Bytes.{number_of, after_nul}
+use Rattle.fuse_request.specs.declared.lengths.TheConstants.{COMPAT_INIT_IN, MKNOD_IN, MKDIR_IN, RENAME_IN, RENAME2_IN, WRITE_IN, BATCH_FORGET_IN}
+use Rattle.fuse_request.specs.declared.opcode.TheConstants.{LOOKUP, FORGET, GETATTR, SETATTR, MKNOD, MKDIR, UNLINK, RMDIR, RENAME, OPEN, READ, WRITE, RELEASE, INIT, OPENDIR, READDIR, RELEASEDIR, INTERRUPT, DESTROY, BATCH_FORGET, RENAME2}
 use Rattle.fuse_request.specs.declared.request.InHeader.{InHeader}
+use Rattle.fuse_request.specs.declared.request.InitIn.{InitIn}
+use Rattle.fuse_request.specs.declared.request.ReadIn.{ReadIn}
+use Rattle.fuse_request.specs.declared.request.ReleaseIn.{ReleaseIn}
+use Rattle.fuse_request.specs.declared.request.SetattrIn.{SetattrIn}
 use Rattle.fuse_request.specs.Header.{raw_of, ext_len, body_of}
-use Rattle.fuse_request.specs.Act.{Act, Lookup, Getattr, Mkdir, Unsupported, Asked}
+use Rattle.fuse_request.specs.Act.{Act, Lookup, Forget, Getattr, Setattr, Mknod, Mkdir, Unlink, Rmdir, Rename, OpenFile, Read, Write, Release, Init, OpenDir, ReadDir, ReleaseDir, Interrupt, Destroy, BatchForget, Rename2, Unsupported, Asked}
 
+-- the first name
 abbrev pub before_nul : List ℕ → List ℕ
 before_nul [] = []
 before_nul (zero ∷ b) = []
 before_nul (suc n ∷ b) = suc n ∷ before_nul b
 
+-- the second
+abbrev pub second_name : List ℕ → List ℕ
+second_name b = before_nul (unwrap_or (after_nul b) [])
+
+abbrev pub setattr_at : List ℕ → SetattrIn
+setattr_at b = record {
+  valid = number_of 4 b;
+  fh = number_of 8 (drop 8 b);
+  size = number_of 8 (drop 16 b);
+  lock_owner = number_of 8 (drop 24 b);
+  atime = number_of 8 (drop 32 b);
+  mtime = number_of 8 (drop 40 b);
+  ctime = number_of 8 (drop 48 b);
+  atimensec = number_of 4 (drop 56 b);
+  mtimensec = number_of 4 (drop 60 b);
+  ctimensec = number_of 4 (drop 64 b);
+  mode = number_of 4 (drop 68 b);
+  uid = number_of 4 (drop 76 b);
+  gid = number_of 4 (drop 80 b);
+}
+
+abbrev pub read_at : List ℕ → ReadIn
+read_at b = record {
+  fh = number_of 8 b;
+  offset = number_of 8 (drop 8 b);
+  size = number_of 4 (drop 16 b);
+  read_flags = number_of 4 (drop 20 b);
+  lock_owner = number_of 8 (drop 24 b);
+  flags = number_of 4 (drop 32 b);
+}
+
+abbrev pub release_at : List ℕ → ReleaseIn
+release_at b = record {
+  fh = number_of 8 b;
+  flags = number_of 4 (drop 8 b);
+  release_flags = number_of 4 (drop 12 b);
+  lock_owner = number_of 8 (drop 16 b);
+}
+
+abbrev pub init_with : List ℕ → Option ℕ → InitIn
+init_with b flags2 = record {
+  major = number_of 4 b;
+  minor = number_of 4 (drop 4 b);
+  max_readahead = number_of 4 (drop 8 b);
+  flags = number_of 4 (drop 12 b);
+  flags2 = flags2;
+}
+
+-- the shorter one ends before flags2
+abbrev pub init_at : List ℕ → InitIn
+init_at b = init_with b (if length b == COMPAT_INIT_IN then None else Some (number_of 4 (drop 16 b)))
+
+-- each opcode of the profile, with what its body says
+abbrev pub places : List (ℕ × (List ℕ → Act))
+places =
+    (LOOKUP, λ b. Lookup (before_nul b))
+    ∷ (FORGET, λ b. Forget (number_of 8 b))
+    ∷ (GETATTR, λ b. Getattr (number_of 4 b) (number_of 8 (drop 8 b)))
+    ∷ (SETATTR, λ b. Setattr (setattr_at b))
+    ∷ (MKNOD, λ b. Mknod (number_of 4 b) (number_of 4 (drop 4 b)) (number_of 4 (drop 8 b)) (before_nul (drop MKNOD_IN b)))
+    ∷ (MKDIR, λ b. Mkdir (number_of 4 b) (number_of 4 (drop 4 b)) (before_nul (drop MKDIR_IN b)))
+    ∷ (UNLINK, λ b. Unlink (before_nul b))
+    ∷ (RMDIR, λ b. Rmdir (before_nul b))
+    ∷ (RENAME, λ b. Rename (number_of 8 b) (before_nul (drop RENAME_IN b)) (second_name (drop RENAME_IN b)))
+    ∷ (OPEN, λ b. OpenFile (number_of 4 b) (number_of 4 (drop 4 b)))
+    ∷ (READ, λ b. Read (read_at b))
+    ∷ (WRITE, λ b. Write (number_of 8 b) (number_of 8 (drop 8 b)) (number_of 4 (drop 20 b)) (number_of 8 (drop 24 b)) (number_of 4 (drop 32 b)) (drop WRITE_IN b))
+    ∷ (RELEASE, λ b. Release (release_at b))
+    ∷ (INIT, λ b. Init (init_at b))
+    ∷ (OPENDIR, λ b. OpenDir (number_of 4 b) (number_of 4 (drop 4 b)))
+    ∷ (READDIR, λ b. ReadDir (read_at b))
+    ∷ (RELEASEDIR, λ b. ReleaseDir (release_at b))
+    ∷ (INTERRUPT, λ b. Interrupt (number_of 8 b))
+    ∷ (DESTROY, λ b. Destroy)
+    ∷ (BATCH_FORGET, λ b. BatchForget (drop BATCH_FORGET_IN b))
+    ∷ (RENAME2, λ b. Rename2 (number_of 8 b) (number_of 4 (drop 8 b)) (before_nul (drop RENAME2_IN b)) (second_name (drop RENAME2_IN b)))
+    ∷ []
+
+-- by the row of this number, and else by none
+abbrev pub at_row : {A : Type 0} → A → ℕ → List (ℕ × A) → A
+at_row other number [] = other
+at_row other number (row ∷ rows) = if number == row.0 then row.1 else at_row other number rows
+
 abbrev pub act_at : ℕ → List ℕ → Act
-act_at opcode b =
-    if opcode == LOOKUP then Lookup (before_nul b)
-    else if opcode == GETATTR then Getattr (number_of 4 b) (number_of 8 (drop 8 b))
-    else if opcode == MKDIR then Mkdir (number_of 4 b) (number_of 4 (drop 4 b)) (before_nul (drop MKDIR_IN b))
-    else Unsupported opcode b
+act_at opcode b = at_row (Unsupported opcode) opcode places b
 
 abbrev pub header_at : List ℕ → InHeader
 header_at m = record {

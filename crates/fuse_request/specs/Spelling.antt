@@ -1,26 +1,69 @@
 -- How a request is spelled (fuse.h: fuse_in_header and the request bodies).
-use Rattle.std.specs.Prelude.{◌≡◌, ◌*◌, ℕ, false, List, [], ◌∷◌, ◌++◌, length}
+use Rattle.std.specs.Prelude.{◌≡◌, ◌*◌, ◌/◌, ℕ, false, List, [], ◌∷◌, ◌++◌, length, Option, Some, None}
 use Rattle.fuse_wire.specs.Layout.{Part, number, unused, text, bytes, Lays}
-use Rattle.fuse_request.specs.declared.opcode.TheConstants.{LOOKUP, GETATTR, MKDIR}
+use Rattle.fuse_request.specs.declared.lengths.TheConstants.{FORGET_ONE}
+use Rattle.fuse_request.specs.declared.request.ReadIn.{ReadIn}
+use Rattle.fuse_request.specs.declared.request.ReleaseIn.{ReleaseIn}
+use Rattle.fuse_request.specs.declared.request.SetattrIn.{SetattrIn}
 use Rattle.fuse_request.specs.Opcodes.{in_profile}
-use Rattle.fuse_request.specs.Act.{Act, Lookup, Getattr, Mkdir, Unsupported, Asked}
+use Rattle.fuse_request.specs.Act.{Act, Lookup, Forget, Getattr, Setattr, Mknod, Mkdir, Unlink, Rmdir, Rename, OpenFile, Read, Write, Release, Init, OpenDir, ReadDir, ReleaseDir, Interrupt, Destroy, BatchForget, Rename2, Unsupported, Asked, opcode_of}
 
-abbrev pub opcode_of : Act → ℕ
-opcode_of (Lookup name) = LOOKUP
-opcode_of (Getattr flags fh) = GETATTR
-opcode_of (Mkdir mode umask name) = MKDIR
-opcode_of (Unsupported opcode body) = opcode
+-- fuse_setattr_in
+abbrev pub setattr_parts : SetattrIn → List Part
+setattr_parts x =
+    number 4 x.valid ∷ unused 4 ∷ number 8 x.fh ∷ number 8 x.size ∷ number 8 x.lock_owner
+    ∷ number 8 x.atime ∷ number 8 x.mtime ∷ number 8 x.ctime ∷ number 4 x.atimensec ∷ number 4 x.mtimensec ∷ number 4 x.ctimensec
+    ∷ number 4 x.mode ∷ unused 4 ∷ number 4 x.uid ∷ number 4 x.gid ∷ unused 4 ∷ []
+
+-- fuse_open_in
+abbrev pub open_parts : ℕ → ℕ → List Part
+open_parts flags open_flags = number 4 flags ∷ number 4 open_flags ∷ []
+
+-- fuse_read_in
+abbrev pub read_parts : ReadIn → List Part
+read_parts x =
+    number 8 x.fh ∷ number 8 x.offset ∷ number 4 x.size ∷ number 4 x.read_flags ∷ number 8 x.lock_owner ∷ number 4 x.flags ∷ unused 4 ∷ []
+
+-- fuse_release_in
+abbrev pub release_parts : ReleaseIn → List Part
+release_parts x = number 8 x.fh ∷ number 4 x.flags ∷ number 4 x.release_flags ∷ number 8 x.lock_owner ∷ []
+
+-- what fuse_init_in has from version 7.36 on: flags2, and eleven unused fields
+abbrev pub flags2_parts : Option ℕ → List Part
+flags2_parts None = []
+flags2_parts (Some flags2) = number 4 flags2 ∷ unused 44 ∷ []
 
 -- the layout of each body
 abbrev pub parts : Act → List Part
 parts (Lookup name) = text name ∷ []
+parts (Forget nlookup) = number 8 nlookup ∷ []
 parts (Getattr flags fh) = number 4 flags ∷ unused 4 ∷ number 8 fh ∷ []
+parts (Setattr x) = setattr_parts x
+parts (Mknod mode rdev umask name) = number 4 mode ∷ number 4 rdev ∷ number 4 umask ∷ unused 4 ∷ text name ∷ []
 parts (Mkdir mode umask name) = number 4 mode ∷ number 4 umask ∷ text name ∷ []
+parts (Unlink name) = text name ∷ []
+parts (Rmdir name) = text name ∷ []
+parts (Rename new_dir old_name new_name) = number 8 new_dir ∷ text old_name ∷ text new_name ∷ []
+parts (OpenFile flags open_flags) = open_parts flags open_flags
+parts (Read x) = read_parts x
+parts (Write fh offset write_flags lock_owner flags payload) =
+    number 8 fh ∷ number 8 offset ∷ number 4 (length payload) ∷ number 4 write_flags ∷ number 8 lock_owner ∷ number 4 flags ∷ unused 4
+    ∷ bytes payload ∷ []
+parts (Release x) = release_parts x
+parts (Init x) = number 4 x.major ∷ number 4 x.minor ∷ number 4 x.max_readahead ∷ number 4 x.flags ∷ flags2_parts x.flags2
+parts (OpenDir flags open_flags) = open_parts flags open_flags
+parts (ReadDir x) = read_parts x
+parts (ReleaseDir x) = release_parts x
+parts (Interrupt unique) = number 8 unique ∷ []
+parts Destroy = []
+parts (BatchForget items) = number 4 (length items / FORGET_ONE) ∷ unused 4 ∷ bytes items ∷ []
+parts (Rename2 new_dir flags old_name new_name) = number 8 new_dir ∷ number 4 flags ∷ unused 4 ∷ text old_name ∷ text new_name ∷ []
 parts (Unsupported opcode body) = bytes body ∷ []
 
--- only what is outside the profile is unsupported
+-- only what is outside the profile is unsupported, and the items of BATCH_FORGET are whole
 abbrev pub IsNamed : Act → Type 0
 IsNamed (Unsupported opcode body) = in_profile opcode ≡ false
+IsNamed (BatchForget items) = length items ≡ FORGET_ONE * (length items / FORGET_ONE)
 IsNamed _ = Unit {0}
 
 -- the layout of the header of a message of len bytes, with units of 8 bytes of extensions

@@ -4,8 +4,7 @@ ghost use Rattle.fuse_request.specs.Classes.{class_of, IsOfClass, is_zero};
 
 use crate::decoding::decode;
 use crate::header::{MIN_MESSAGE, u32_at, u64_at};
-use crate::opcode::is_silent;
-use crate::request::Op;
+use crate::opcode::{is_built, is_silent};
 use fuse_wire::{Errno, Id};
 
 /// How a message is answered.
@@ -27,13 +26,14 @@ pub fn classify(message: &[u8]) -> Class
     // What that says of the requests that the message spells.
     ensures spells { IsOfClass result message.now }
 {
-    if is_silent(u32_at(message, 4)) {
+    let opcode = u32_at(message, 4);
+    if is_silent(opcode) {
         return Class::Silent;
     }
-    let Ok(request) = decode(message) else {
+    let Ok(_request) = decode(message) else {
         return Class::Bare(Errno::EINVAL);
     };
-    if let Op::Unsupported { .. } = request.op {
+    if !is_built(opcode) {
         return Class::Bare(Errno::ENOSYS);
     }
     Class::Kept

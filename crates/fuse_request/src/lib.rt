@@ -1,11 +1,13 @@
 //! The requests of a FUSE kernel: how they are spelled, and how a stream is cut into them.
 #![tactic(auto)]
 
+mod bodies;
 mod class;
 mod decoding;
 mod framer;
 mod header;
 mod laws;
+mod lengths;
 pub mod opcode;
 mod request;
 
@@ -14,7 +16,7 @@ pub use decoding::{Malformed, decode};
 pub use framer::{FrameFault, Framer, MAX_FED};
 pub use header::{MAX_MESSAGE, MIN_MESSAGE, RawHeader, header_of};
 pub use laws::{canon_spells, cut_joins, cut_steps, one_cut};
-pub use request::{InHeader, Op, Request};
+pub use request::{InHeader, InitIn, Op, ReadIn, ReleaseIn, Request, SetattrIn};
 
 #[cfg(test)]
 mod tests;

@@ -13,7 +13,7 @@ use Rattle.fuse_request.specs.Header.{raw_of}
 use Rattle.fuse_request.specs.Opcodes.{silent}
 use Rattle.fuse_store.specs.History.{Entry}
 use Rattle.fuse_store.specs.Group.{entry_of, entries_of, HasId, IsKept}
-use Rattle.fuse_session.specs.declared.gather.TheConstants.{DESTROY}
+use Rattle.fuse_request.specs.declared.opcode.TheConstants.{DESTROY}
 use Rattle.fuse_session.specs.Worked.{Timed, kept_in, entry_if, message_entry, destroys, destroys_by, Moments}
 use Rattle.fuse_session.specs.Group.{NoZero, NoDestroy, DestroyLast, Gathers}
 use Rattle.fuse_session.proofs.Outs.{kept_in-append}

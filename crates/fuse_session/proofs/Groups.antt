@@ -1,5 +1,5 @@
 -- A group performed, and its answers sent.
-use Rattle.std.proofs.Common.{◌≡◌, ◌⊎◌, inl, inr, ⊎_elim, ℕ, suc, ◌-◌, ◌≤◌, ◌<◌, Bool, true, false, ◌&&◌, ◌==◌, List, [], ◌∷◌, ◌++◌, length, map, take, drop, All, Some, slice_get, refl, sym, ap, subst, ◌∙◌, arith}
+use Rattle.std.proofs.Common.{◌≡◌, ◌⊎◌, inl, inr, ⊎_elim, ℕ, suc, ◌-◌, ◌≤◌, ◌<◌, Bool, true, false, ◌&&◌, ◌||◌, ◌==◌, List, [], ◌∷◌, ◌++◌, length, map, take, drop, All, Some, slice_get, refl, sym, ap, subst, ◌∙◌, arith}
 use Rattle.std.proofs.lemmas.List.{append-nil, take-append-drop, length-map}
 use Rattle.fuse_wire.specs.declared.moment.Moment.{Moment}
 use Rattle.fuse_answer.specs.Said.{Said}
@@ -24,9 +24,9 @@ use Rattle.fuse_session.specs.Port.{PortState}
 use Rattle.fuse_session.specs.Worked.{Timed, bytes_of, kept_in, entry_if, timed_entry, answers, Works, StartsZero}
 use Rattle.fuse_session.specs.Settling.{Mark, replies, settled_in, NoneComesAgain, Replied, AtMostMore, HandsOn}
 use Rattle.fuse_session.specs.Group.{Gathers, IsStuck, answers_in, repeats_in, wires, left_by, told, tallied, rest_by, last_zero, AreEnough, SentAll, SentSome}
-use Rattle.fuse_session.specs.Serving.{Turned, Lived, Broken, lasts}
+use Rattle.fuse_session.specs.Serving.{Turned, Lived, Exact, Broken, lasts}
 use Rattle.fuse_session.proofs.Replies.{replied_none}
-use Rattle.fuse_session.proofs.Outs.{wires_are, told_is}
+use Rattle.fuse_session.proofs.Outs.{wires_are, told_is, answers_are_outs, outs_front}
 use Rattle.fuse_session.proofs.Ending.{works_group, goes_none, goes_last, ends_last}
 use Rattle.fuse_session.proofs.Settled.{includes_left, includes_right, in_either, group_unsettled, settled_none, more_step, all_settled}
 use Rattle.fuse_session.proofs.Counted.{tallied_is}
@@ -50,8 +50,8 @@ firm_leaves holds whole left s h t firm so =
 -- ---- lives
 
 -- nothing was worked off
-pub lived_none : (stood : History → List ℕ → Type 0) (s : State) (h : History) (c : Bool) (t : List ℕ) (timed : List Timed) (exact : Bool) → stood h t → Lived stood s h c t timed [] [] exact
-lived_none stood s h c t timed exact so = record {
+pub lived_none : (stood : History → List ℕ → Type 0) (s : State) (h : History) (c : Bool) (t : List ℕ) (timed : List Timed) → stood h t → Lived stood s h c t timed [] []
+lived_none stood s h c t timed so = record {
   worked = [];
   unworked = timed;
   parts = refl;
@@ -61,14 +61,13 @@ lived_none stood s h c t timed exact so = record {
   sent = refl;
   unsent = [];
   begun = refl;
-  exactly = λ _. refl;
 }
 
 -- all of it was
-pub lived_all : (stood : History → List ℕ → Type 0) (s : State) (h : History) (c : Bool) (t : List ℕ) (timed : List Timed) (marks : List Mark) (part unsent : List ℕ) (later : List (List ℕ)) (exact : Bool)
+pub lived_all : (stood : History → List ℕ → Type 0) (s : State) (h : History) (c : Bool) (t : List ℕ) (timed : List Timed) (marks : List Mark) (part unsent : List ℕ) (later : List (List ℕ))
     → Works s h timed → stood (grown h (kept_in timed)) (t ++ settled_in c (bytes_of timed) marks) → answers s (grown h (kept_in timed)) timed ≡ replies marks ++ later → joined later ≡ part ++ unsent
-    → (exact ≡ true → later ≡ []) → Lived stood s h c t timed marks part exact
-lived_all stood s h c t timed marks part unsent later exact works so sent begun exactly = record {
+    → Lived stood s h c t timed marks part
+lived_all stood s h c t timed marks part unsent later works so sent begun = record {
   worked = timed;
   unworked = [];
   parts = sym (append-nil timed);
@@ -78,14 +77,36 @@ lived_all stood s h c t timed marks part unsent later exact works so sent begun 
   sent = sent;
   unsent = unsent;
   begun = begun;
-  exactly = exactly;
+}
+
+-- exactly nothing was sent
+pub exact_none : (stood : History → List ℕ → Type 0) (s : State) (h : History) (c : Bool) (t : List ℕ) (timed : List Timed) → stood h t → Exact stood s h c t timed []
+exact_none stood s h c t timed so = record {
+  worked = [];
+  unworked = timed;
+  parts = refl;
+  works = tt;
+  stands = subst (stood h) (sym (append-nil t)) so;
+  sent = refl;
+}
+
+-- exactly all of it was
+pub exact_all : (stood : History → List ℕ → Type 0) (s : State) (h : History) (c : Bool) (t : List ℕ) (timed : List Timed) (marks : List Mark)
+    → Works s h timed → stood (grown h (kept_in timed)) (t ++ settled_in c (bytes_of timed) marks) → replies marks ≡ answers s (grown h (kept_in timed)) timed → Exact stood s h c t timed marks
+exact_all stood s h c t timed marks works so sent = record {
+  worked = timed;
+  unworked = [];
+  parts = sym (append-nil timed);
+  works = works;
+  stands = so;
+  sent = sent;
 }
 
 -- nothing was done at all
-pub broken_none : (holds holds' : Rows → Records → Type 0) (clean' honest' firm whole' : Type 0) (left' : Rows → Records → Type 0) (may : Moment → Type 0) (p q : PortState) (pending : List ℕ) (messages : List (List ℕ)) (exact whole : Bool) → Replied p q [] []
+pub broken_none : (holds holds' : Rows → Records → Type 0) (clean' honest' firm whole' : Type 0) (left' : Rows → Records → Type 0) (may : Moment → Type 0) (p q : PortState) (pending : List ℕ) (messages : List (List ℕ)) (exact whole : Bool) (faulted : Type 0) → exact ≡ false → Replied p q [] []
     → (clean' → KeepsHeld holds holds') → (firm → (s : State) (h : History) (t : List ℕ) → StandsFor holds s h t → Leaves whole' left' (λ x r. Stands x r s h t))
-    → Broken holds holds' clean' honest' firm whole' left' may p q pending messages exact whole
-broken_none holds holds' clean' honest' firm whole' left' may p q pending messages exact whole replied keeps leaves = record {
+    → Broken holds holds' clean' honest' firm whole' left' may p q pending messages exact whole faulted
+broken_none holds holds' clean' honest' firm whole' left' may p q pending messages exact whole faulted inexact replied keeps leaves = record {
   timed = [];
   others = messages;
   marks = [];
@@ -94,27 +115,28 @@ broken_none holds holds' clean' honest' firm whole' left' may p q pending messag
   moments = tt;
   replied = replied;
   no_part = λ _. refl;
-  life = λ clean s h t so within again. lived_none (StandsFor holds' s) s h p.confirms t [] exact (stands_kept holds holds' s h t (keeps clean) so);
-  crash = λ honest is_firm s h t so within again. leaves_map whole' left' (λ x r. Stands x r s h t) (λ x r. Lived (Stands x r s) s h p.confirms t [] [] [] false)
-      (λ x r left. lived_none (Stands x r s) s h p.confirms t [] false left) (leaves is_firm s h t so);
+  exactly = λ _ honest s h t so within again. exact_none (λ g u. exact ≡ true → clean' → StandsFor holds' s g u × faulted) s h p.confirms t [] (λ is clean. absurd (cc (is, inexact)));
+  life = λ clean s h t so within again. lived_none (StandsFor holds' s) s h p.confirms t [] (stands_kept holds holds' s h t (keeps clean) so);
+  crash = λ honest is_firm s h t so within again. leaves_map whole' left' (λ x r. Stands x r s h t) (λ x r. Lived (Stands x r s) s h p.confirms t [] [] [])
+      (λ x r left. lived_none (Stands x r s) s h p.confirms t [] left) (leaves is_firm s h t so);
 }
 
 -- ---- a group that wasn't performed
 
 stored : (s : State) (h : History) (c : Bool) (t : List ℕ) (ts : List Timed) (es : List Entry) (x : Rows) (r : Records) → es ≡ kept_in ts → Works s h ts → StandsForEither s h t s (grown h es) t x r
-    → Lived (Stands x r s) s h c t ts [] [] false
+    → Lived (Stands x r s) s h c t ts [] []
 stored s h c t ts es x r is works either = ⊎_elim
-    (λ before. lived_none (Stands x r s) s h c t ts false before)
-    (λ after. lived_all (Stands x r s) s h c t ts [] [] (joined (answers s (grown h (kept_in ts)) ts)) (answers s (grown h (kept_in ts)) ts) false works
-    (subst (λ u. Stands x r s (grown h (kept_in ts)) u) (sym (ap (λ (q : List ℕ). t ++ q) (settled_none c (bytes_of ts)) ∙ append-nil t)) (subst (λ l. Stands x r s (grown h l) t) is after)) refl refl (λ isnt. absurd (cc isnt)))
+    (λ before. lived_none (Stands x r s) s h c t ts before)
+    (λ after. lived_all (Stands x r s) s h c t ts [] [] (joined (answers s (grown h (kept_in ts)) ts)) (answers s (grown h (kept_in ts)) ts) works
+    (subst (λ u. Stands x r s (grown h (kept_in ts)) u) (sym (ap (λ (q : List ℕ). t ++ q) (settled_none c (bytes_of ts)) ∙ append-nil t)) (subst (λ l. Stands x r s (grown h l) t) is after)) refl refl)
     either
 
 pub broken_store : (holds holds' : Rows → Records → Type 0) (clean' honest' whole whole' : Type 0) (left left' : Rows → Records → Type 0) (may : Moment → Type 0) (p : PortState) (pending : List ℕ)
-    (messages : List (List ℕ)) (count : ℕ) (taken : List (Request × Moment)) (ends : Bool) (group : List (Request × Moment))
-    → Gathers may (take count messages) taken ends → group ≡ taken → (clean' → KeepsHeld holds holds')
+    (messages : List (List ℕ)) (count : ℕ) (taken : List (Request × Moment)) (ends : Bool) (group : List (Request × Moment)) (faulted : Type 0)
+    → Gathers may (take count messages) taken ends → group ≡ taken → (clean' → KeepsHeld holds holds') → (clean' → (s : State) (h : History) (t : List ℕ) → StandsFor holds s h t → faulted)
     → ((s : State) (h : History) (t : List ℕ) → StandsFor holds s h t → Includes t pending → All (IsUnsettled t) (entries_of group) → IsFirm holds whole left → Leaves whole' left' (StandsForEither s h t s (grown h (entries_of group)) t))
-    → Broken holds holds' clean' honest' (IsFirm holds whole left) whole' left' may p p pending messages true false
-broken_store holds holds' clean' honest' whole whole' left left' may p pending messages count taken ends group gathers same keeps crash =
+    → Broken holds holds' clean' honest' (IsFirm holds whole left) whole' left' may p p pending messages true false faulted
+broken_store holds holds' clean' honest' whole whole' left left' may p pending messages count taken ends group faulted gathers same keeps fault crash =
     let ts = gathers.timed in
     let es : entries_of group ≡ kept_in ts = ap entries_of same ∙ gathers.entries in
     record {
@@ -126,9 +148,10 @@ broken_store holds holds' clean' honest' whole whole' left left' may p pending m
       moments = gathers.moments;
       replied = replied_none p;
       no_part = λ _. refl;
-      life = λ clean s h t so within again. lived_none (StandsFor holds' s) s h p.confirms t ts true (stands_kept holds holds' s h t (keeps clean) so);
+      exactly = λ _ honest s h t so within again. exact_none (λ g u. true ≡ true → clean' → StandsFor holds' s g u × faulted) s h p.confirms t ts (λ _ clean. (stands_kept holds holds' s h t (keeps clean) so, fault clean s h t so));
+      life = λ clean s h t so within again. lived_none (StandsFor holds' s) s h p.confirms t ts (stands_kept holds holds' s h t (keeps clean) so);
       crash = λ honest firm s h t so within again.
-          leaves_map whole' left' (StandsForEither s h t s (grown h (entries_of group)) t) (λ x r. Lived (Stands x r s) s h p.confirms t ts [] [] false)
+          leaves_map whole' left' (StandsForEither s h t s (grown h (entries_of group)) t) (λ x r. Lived (Stands x r s) s h p.confirms t ts [] [])
           (λ x r either. stored s h p.confirms t ts (entries_of group) x r es (works_group s h ts gathers.no_zero gathers.only) either)
           (crash s h t so within (subst (All (IsUnsettled t)) (sym es) (group_unsettled p.confirms t ts [] again)) firm);
     }
@@ -153,13 +176,13 @@ now_stands holds s h t more es ts dones done is = stands_later holds s (grown h 
 
 -- its answers weren't all sent
 pub broken_sent : (holds holds' : Rows → Records → Type 0) (clean' honest' whole whole' : Type 0) (left left' : Rows → Records → Type 0) (may : Moment → Type 0) (p q : PortState) (pending : List ℕ)
-    (messages : List (List ℕ)) (count : ℕ) (taken : List (Request × Moment)) (ends : Bool) (group : List (Request × Moment)) (front : List (List ℕ)) (dones list : List Done) (fault : SendFault) (exact want : Bool)
+    (messages : List (List ℕ)) (count : ℕ) (taken : List (Request × Moment)) (ends : Bool) (group : List (Request × Moment)) (front : List (List ℕ)) (dones list : List Done) (fault : SendFault) (exact want : Bool) (faulted : Type 0)
     → Gathers may (take count messages) taken ends → group ≡ taken → front ≡ take count messages → (clean' → honest')
     → (honest' → (s : State) (h : History) (t : List ℕ) → StandsFor holds s h t → Includes t pending → All (IsUnsettled t) (entries_of group) → Performed holds' s h t (entries_of group) dones)
     → (honest' → IsFirm holds whole left → IsFirm holds' whole' left')
     → list ≡ dones → SentSome p q (wires front (answers_in list)) fault → exact ≡ false → (want ≡ true → fault ≡ Memory)
-    → Broken holds holds' clean' honest' (IsFirm holds whole left) whole' left' may p q pending messages exact want
-broken_sent holds holds' clean' honest' whole whole' left left' may p q pending messages count taken ends group front dones list fault exact want gathers same same_front clean_honest performed firm_still same_list sent inexact memory =
+    → Broken holds holds' clean' honest' (IsFirm holds whole left) whole' left' may p q pending messages exact want faulted
+broken_sent holds holds' clean' honest' whole whole' left left' may p q pending messages count taken ends group front dones list fault exact want faulted gathers same same_front clean_honest performed firm_still same_list sent inexact memory =
     let some = subst (λ l. SentSome p q (wires front (answers_in l)) fault) same_list sent in
     let ts = gathers.timed in
     let es : entries_of group ≡ kept_in ts = ap entries_of same ∙ gathers.entries in
@@ -175,16 +198,27 @@ broken_sent holds holds' clean' honest' whole whole' left left' may p q pending 
       front = sym (take-append-drop count messages) ∙ ap (λ f. f ++ drop count messages) gathers.bytes;
       moments = gathers.moments;
       replied = some.replied;
-      no_part = λ is. some.memory (memory is);
+      no_part = λ is. some.memory (memory (ap (λ b. b || want) (sym inexact) ∙ is));
+      exactly = λ _ honest s h t so within again.
+          let d = done honest s h t so within again in
+          let f = outs_front s h ts some.marks some.later (works s h) (sym (answers_are_outs s h ts) ∙ sym (sent_are holds' s h t (entries_of group) ts front dones d es bytes) ∙ some.whole) in
+          record {
+            worked = f.first;
+            unworked = f.others;
+            parts = f.parts;
+            works = f.works;
+            stands = λ is clean. absurd (cc (is, inexact));
+            sent = f.sent ∙ sym (answers_are_outs s h f.first);
+          };
       life = λ clean s h t so within again.
           let d = done (clean_honest clean) s h t so within again in
-          lived_all (StandsFor holds' s) s h p.confirms t ts some.marks some.part some.unsent some.later exact (works s h) (now_stands holds' s h t _ (entries_of group) ts dones d es)
-          (sym (sent_are holds' s h t (entries_of group) ts front dones d es bytes) ∙ some.whole) some.begun (λ is. absurd (cc (is, inexact)));
+          lived_all (StandsFor holds' s) s h p.confirms t ts some.marks some.part some.unsent some.later (works s h) (now_stands holds' s h t _ (entries_of group) ts dones d es)
+          (sym (sent_are holds' s h t (entries_of group) ts front dones d es bytes) ∙ some.whole) some.begun;
       crash = λ honest firm s h t so within again.
           let d = done honest s h t so within again in
-          leaves_map whole' left' (λ x r. Stands x r s (grown h (kept_in ts)) (t ++ settled_in p.confirms (bytes_of ts) some.marks)) (λ x r. Lived (Stands x r s) s h p.confirms t ts some.marks some.part false)
-          (λ x r stands. lived_all (Stands x r s) s h p.confirms t ts some.marks some.part some.unsent some.later false (works s h) stands
-          (sym (sent_are holds' s h t (entries_of group) ts front dones d es bytes) ∙ some.whole) some.begun (λ isnt. absurd (cc isnt)))
+          leaves_map whole' left' (λ x r. Stands x r s (grown h (kept_in ts)) (t ++ settled_in p.confirms (bytes_of ts) some.marks)) (λ x r. Lived (Stands x r s) s h p.confirms t ts some.marks some.part)
+          (λ x r stands. lived_all (Stands x r s) s h p.confirms t ts some.marks some.part some.unsent some.later (works s h) stands
+          (sym (sent_are holds' s h t (entries_of group) ts front dones d es bytes) ∙ some.whole) some.begun)
           (firm_leaves holds' whole' left' s (grown h (kept_in ts)) _ (firm_still honest firm) (now_stands holds' s h t (settled_in p.confirms (bytes_of ts) some.marks) (entries_of group) ts dones d es));
     }
 

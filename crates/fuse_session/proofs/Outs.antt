@@ -1,5 +1,5 @@
 -- What is sent for messages, one after another.
-use Rattle.std.proofs.Common.{◌≡◌, inr, ℕ, true, List, [], ◌∷◌, ◌++◌, map, Some, refl, sym, ap, subst, ◌∙◌, append_assoc}
+use Rattle.std.proofs.Common.{◌≡◌, inl, inr, ℕ, true, List, [], ◌∷◌, ◌++◌, map, Some, refl, sym, ap, subst, ◌∙◌, append_assoc}
 use Rattle.fuse_answer.specs.Said.{Said}
 use Rattle.fuse_request.specs.declared.class.Class.{Class}
 use Rattle.fuse_request.specs.declared.class.Class.TheVariants.{Silent, Bare, Kept}
@@ -8,6 +8,7 @@ use Rattle.fuse_tree.specs.State.{State}
 use Rattle.fuse_store.specs.History.{Entry, entry_id, History, has, add, said, grown}
 use Rattle.fuse_store.proofs.Histories.{has-add, said-grown, grown-append}
 use Rattle.fuse_session.specs.Worked.{Timed, bytes_of, kept_in, entries_at, entry_if, timed_entry, message_id, unique_of, answered, answers, answer_by, GoesOn, Works}
+use Rattle.fuse_session.specs.Settling.{Mark, replies}
 use Rattle.fuse_session.specs.Group.{head_wire, left_by, wires, told}
 
 pub kept_in-append : (xs ys : List Timed) → kept_in (xs ++ ys) ≡ kept_in xs ++ kept_in ys
@@ -54,6 +55,32 @@ outs-append s h [] ys = refl
 outs-append s h (x ∷ xs) ys =
     ap (λ r. answered s (grown h (entries_at x)) x ∷ r) (outs-append s (grown h (entries_at x)) xs ys)
     ∙ ap (λ g. answered s (grown h (entries_at x)) x ∷ (outs s (grown h (entries_at x)) xs ++ outs s g ys)) (sym (grown-append h (entries_at x) (kept_in xs)))
+
+front_none : (xs ys : List Timed) → xs ++ ys ≡ [] → xs ≡ []
+front_none [] ys is = refl
+front_none (x ∷ xs) ys is = absurd (cc is)
+
+-- the first answers are those of the first messages
+pub record Front (s : State) (h : History) (ts : List Timed) (ms : List Mark) : Type 0 where
+  pub first : List Timed
+  pub others : List Timed
+  pub parts : ts ≡ first ++ others
+  pub works : Works s h first
+  pub sent : replies ms ≡ outs s h first
+
+front_more : (s : State) (h : History) (t : Timed) (ts : List Timed) (m : Mark) (ms : List Mark) → Works s h (t ∷ ts) → answered s (grown h (entries_at t)) t ≡ m.reply → Front s (grown h (entries_at t)) ts ms → Front s h (t ∷ ts) (m ∷ ms)
+front_more s h t ts m ms works is f = record {
+  first = t ∷ f.first;
+  others = f.others;
+  parts = ap (λ (x : List Timed). t ∷ x) f.parts;
+  works = (works.0, elim works.1 [ inl none ↦ inl (front_none f.first f.others (sym f.parts ∙ none)) | inr goes ↦ inr goes ], f.works);
+  sent = ap (λ x. x ∷ replies ms) (sym is) ∙ ap (λ x. answered s (grown h (entries_at t)) t ∷ x) f.sent;
+}
+
+pub outs_front : (s : State) (h : History) (ts : List Timed) (ms : List Mark) (later : List (List ℕ)) → Works s h ts → outs s h ts ≡ replies ms ++ later → Front s h ts ms
+outs_front s h ts [] later works is = record { first = []; others = ts; parts = refl; works = tt; sent = refl }
+outs_front s h [] (m ∷ ms) later works is = absurd (cc is)
+outs_front s h (t ∷ ts) (m ∷ ms) later works is = front_more s h t ts m ms works (cc is) (outs_front s (grown h (entries_at t)) ts ms later works.2 (cc is))
 
 pub answers-append : (s : State) (h : History) (xs ys : List Timed) → answers s (grown h (kept_in (xs ++ ys))) (xs ++ ys) ≡ answers s (grown h (kept_in xs)) xs ++ answers s (grown (grown h (kept_in xs)) (kept_in ys)) ys
 answers-append s h xs ys = answers_are_outs s h (xs ++ ys) ∙ outs-append s h xs ys ∙ ap (λ r. r ++ outs s (grown h (kept_in xs)) ys) (sym (answers_are_outs s h xs))

@@ -1,24 +1,29 @@
 -- Turns, one after another.
-use Rattle.std.proofs.Common.{◌≡◌, inl, inr, ◌<◌, ◌+◌, ℕ, Bool, true, false, List, [], ◌++◌, length, Option, None, refl, sym, ap, subst, ◌∙◌, append_assoc, arith, length-append}
+use Rattle.std.proofs.Common.{◌≡◌, inl, inr, ◌<◌, ◌+◌, ℕ, ◌||◌, Bool, true, false, List, [], ◌++◌, length, Option, None, refl, sym, ap, subst, ◌∙◌, append_assoc, arith, length-append}
 use Rattle.std.proofs.lemmas.List.{append-nil}
 use Rattle.std.specs.Io.KnownBytes.{Appends, Consumes}
 use Rattle.fuse_wire.specs.declared.moment.Moment.{Moment}
 use Rattle.fuse_request.specs.declared.framer.FrameFault.{FrameFault}
 use Rattle.fuse_request.specs.Stream.{cut, joined, CutJoins}
 use Rattle.fuse_request.specs.Framing.{Held}
+use Rattle.fuse_tree.specs.State.{State}
 use Rattle.fuse_tree.specs.Rows.{Rows}
-use Rattle.fuse_store.specs.Stands.{Records, IsFirm}
+use Rattle.fuse_store.specs.declared.fault.StoreFault.{StoreFault}
+use Rattle.fuse_store.specs.History.{History}
+use Rattle.fuse_store.specs.Stands.{Records, StandsFor, IsFirm}
 use Rattle.fuse_session.specs.declared.counts.SessionCounts.{SessionCounts}
 use Rattle.fuse_session.specs.declared.ended.Ended.{Ended}
 use Rattle.fuse_session.specs.declared.ended.Ended.TheVariants.{End, Destroyed, Turns, Frame, ZeroUnique, PortFailed, Store, Memory}
 use Rattle.fuse_session.specs.declared.group.Rest.{Rest}
 use Rattle.fuse_session.specs.declared.group.Rest.TheVariants.{GoesOn as GoesOnHere, Destroyed as ByDestroy, ZeroUnique as ByZero}
+use Rattle.fuse_session.specs.declared.group.Stop.{Stop}
+use Rattle.fuse_session.specs.declared.group.Stop.TheVariants.{PortFailed as ByPort, Store as ByStore, Memory as ByMemory}
 use Rattle.fuse_session.specs.Port.{PortState, IsQuiet}
 use Rattle.fuse_session.specs.Settling.{Replied}
 use Rattle.fuse_session.specs.Counting.{plus, none_counted}
 use Rattle.fuse_session.specs.Receiving.{IsOpen, IsHearing, Heard, NotHeard}
-use Rattle.fuse_session.specs.Serving.{Turned, Broken, WorkedOff, Whole, Stopped, Life, lasts, goes_on}
-use Rattle.fuse_session.specs.Ends.{Rested, Halted, EndsAs, IsGoodRest, FaultOf, FinishedBy, IsFault, ended_store}
+use Rattle.fuse_session.specs.Serving.{Turned, Broken, WorkedOff, Whole, Stopped, Life, MayStop, lasts, goes_on}
+use Rattle.fuse_session.specs.Ends.{Rested, Halted, EndsAs, IsGoodRest, FaultOf, FinishedBy, IsFault, ended_store, ended_memory, SentExactly, ExactAt, MayEnd, ended_at}
 use Rattle.fuse_session.proofs.Bytes.{appends_none, consumes_none, consumes_more}
 use Rattle.fuse_session.proofs.Replies.{joined-append, replied_none}
 use Rattle.fuse_session.proofs.Counted.{none_plus}
@@ -87,25 +92,25 @@ stopped_more joins holds mid new honest honest' may may' p q r ids ids' ids'' he
     }
 
 pub life_more : CutJoins → (holds mid new : Rows → Records → Type 0) (honest clean' honest' whole whole_mid whole' : Type 0) (left left_mid left' : Rows → Records → Type 0) (may may' : Moment → Type 0) (p q r : PortState) (ids ids' : List ℕ)
-    (held rest : List ℕ) (begin at : ℕ) (counts : SessionCounts) (exact want : Bool)
-    → Whole holds mid honest may p q ids ids' held rest begin at counts → Life mid new clean' honest' (IsFirm mid whole_mid left_mid) whole' left' may' q r ids' rest exact want
+    (held rest : List ℕ) (begin at : ℕ) (counts : SessionCounts) (exact want : Bool) (faulted faulted' : Type 0)
+    → Whole holds mid honest may p q ids ids' held rest begin at counts → Life mid new clean' honest' (IsFirm mid whole_mid left_mid) whole' left' may' q r ids' rest exact want faulted' → (faulted' → faulted)
     → (clean' → honest') → (honest' → honest) → (honest → IsFirm holds whole left → IsFirm mid whole_mid left_mid) → ((t : Moment) → may' t → may t)
-    → Life holds new clean' honest' (IsFirm holds whole left) whole' left' may p r ids held exact want
-life_more joins holds mid new honest clean' honest' whole whole_mid whole' left left_mid left' may may' p q r ids ids' held rest begin at counts exact want one two clean_honest honest_too firm_too moments = record {
+    → Life holds new clean' honest' (IsFirm holds whole left) whole' left' may p r ids held exact want faulted
+life_more joins holds mid new honest clean' honest' whole whole_mid whole' left left_mid left' may may' p q r ids ids' held rest begin at counts exact want faulted faulted' one two faulted_too clean_honest honest_too firm_too moments = record {
   received = one.received ++ two.received;
   came = consumes_more p.coming q.coming r.coming one.received two.received one.came two.came;
-  broken = subst (λ f. Broken holds new clean' honest' (IsFirm holds whole left) whole' left' may p r ids f exact want) (front_more joins held rest one.received two.received one.rest_is)
-      (turned_broken holds mid new honest clean' honest' whole whole_mid whole' left left_mid left' may may' p q r ids ids' (cut (held ++ one.received)).0 (cut (rest ++ two.received)).0 counts exact want one.turned two.broken clean_honest honest_too firm_too moments);
+  broken = subst (λ f. Broken holds new clean' honest' (IsFirm holds whole left) whole' left' may p r ids f exact want faulted) (front_more joins held rest one.received two.received one.rest_is)
+      (turned_broken holds mid new honest clean' honest' whole whole_mid whole' left left_mid left' may may' p q r ids ids' (cut (held ++ one.received)).0 (cut (rest ++ two.received)).0 counts exact want faulted faulted' one.turned two.broken faulted_too clean_honest honest_too firm_too moments);
 }
 
 -- all was worked off: a life too
-pub whole_life : (holds new : Rows → Records → Type 0) (clean honest whole whole' : Type 0) (left left' : Rows → Records → Type 0) (may : Moment → Type 0) (p q : PortState) (ids ids' : List ℕ) (held rest : List ℕ) (begin at : ℕ) (counts : SessionCounts) (exact want : Bool)
+pub whole_life : (holds new : Rows → Records → Type 0) (clean honest whole whole' : Type 0) (left left' : Rows → Records → Type 0) (may : Moment → Type 0) (p q : PortState) (ids ids' : List ℕ) (held rest : List ℕ) (begin at : ℕ) (counts : SessionCounts) (exact want : Bool) (faulted : Type 0) → exact ≡ false
     → Whole holds new honest may p q ids ids' held rest begin at counts → (clean → honest) → (honest → IsFirm holds whole left → IsFirm new whole' left')
-    → Life holds new clean honest (IsFirm holds whole left) whole' left' may p q ids held exact want
-whole_life holds new clean honest whole whole' left left' may p q ids ids' held rest begin at counts exact want w clean_honest firm_still = record {
+    → Life holds new clean honest (IsFirm holds whole left) whole' left' may p q ids held exact want faulted
+whole_life holds new clean honest whole whole' left left' may p q ids ids' held rest begin at counts exact want faulted inexact w clean_honest firm_still = record {
   received = w.received;
   came = w.came;
-  broken = turned_life holds new clean honest whole whole' left left' may p q ids ids' (cut (held ++ w.received)).0 [] (cut (held ++ w.received)).0 true counts exact want w.turned (sym (append-nil (cut (held ++ w.received)).0)) clean_honest firm_still;
+  broken = turned_life holds new clean honest whole whole' left left' may p q ids ids' (cut (held ++ w.received)).0 [] (cut (held ++ w.received)).0 true counts exact want faulted inexact w.turned (sym (append-nil (cut (held ++ w.received)).0)) clean_honest firm_still;
 }
 
 cut_none : cut [] ≡ ([], [])
@@ -167,19 +172,19 @@ stopped_heard holds new honest may p q r ids ids' before after messages slice fa
       };
     })
 
-pub life_heard : (holds new : Rows → Records → Type 0) (clean honest whole whole' : Type 0) (left left' : Rows → Records → Type 0) (may : Moment → Type 0) (p q r : PortState) (ids : List ℕ) (before after : Held) (messages slice : List (List ℕ)) (fault : Option FrameFault) (exact want exact' want' : Bool)
-    → Heard p q before after messages fault → IsHearing p q → slice ≡ messages → exact' ≡ exact → want' ≡ want → Broken holds new clean honest (IsFirm holds whole left) whole' left' may q r ids slice exact want → IsQuiet q r → (clean → honest)
-    → Life holds new clean honest (IsFirm holds whole left) whole' left' may p r ids before.bytes exact' want'
-life_heard holds new clean honest whole whole' left left' may p q r ids before after messages slice fault exact want exact' want' h hearing same e w b quiet clean_honest =
+pub life_heard : (holds new : Rows → Records → Type 0) (clean honest whole whole' : Type 0) (left left' : Rows → Records → Type 0) (may : Moment → Type 0) (p q r : PortState) (ids : List ℕ) (before after : Held) (messages slice : List (List ℕ)) (fault : Option FrameFault) (exact want exact' want' : Bool) (faulted faulted' : Type 0)
+    → Heard p q before after messages fault → IsHearing p q → slice ≡ messages → exact' ≡ exact → want' ≡ want → Broken holds new clean honest (IsFirm holds whole left) whole' left' may q r ids slice exact want faulted' → (faulted' → faulted) → IsQuiet q r → (clean → honest)
+    → Life holds new clean honest (IsFirm holds whole left) whole' left' may p r ids before.bytes exact' want' faulted
+life_heard holds new clean honest whole whole' left left' may p q r ids before after messages slice fault exact want exact' want' faulted faulted' h hearing same e w b faulted_too quiet clean_honest =
     let msgs : slice ≡ (cut (before.bytes ++ h.received)).0 = same ∙ sym (ap (λ (x : List (List ℕ) × List ℕ). x.0) h.took.cut_is) in
-    let broken = turned_broken holds holds new honest clean honest whole whole whole' left left left' may may p q r ids ids [] slice none_counted exact want
-    (turned_quiet holds honest may p q ids (hearing_replied p q hearing)) b clean_honest (λ x. x) (λ _ f. f) (λ t x. x) in
+    let broken = turned_broken holds holds new honest clean honest whole whole whole' left left left' may may p q r ids ids [] slice none_counted exact want faulted faulted'
+    (turned_quiet holds honest may p q ids (hearing_replied p q hearing)) b faulted_too clean_honest (λ x. x) (λ _ f. f) (λ t x. x) in
     record {
       received = h.received;
       came = heard_came p q r before after messages fault h quiet;
-      broken = subst (λ x. Broken holds new clean honest (IsFirm holds whole left) whole' left' may p r ids (cut (before.bytes ++ h.received)).0 exact' x) (sym w)
-          (subst (λ x. Broken holds new clean honest (IsFirm holds whole left) whole' left' may p r ids (cut (before.bytes ++ h.received)).0 x want) (sym e)
-          (subst (λ m. Broken holds new clean honest (IsFirm holds whole left) whole' left' may p r ids m exact want) msgs broken));
+      broken = subst (λ x. Broken holds new clean honest (IsFirm holds whole left) whole' left' may p r ids (cut (before.bytes ++ h.received)).0 exact' x faulted) (sym w)
+          (subst (λ x. Broken holds new clean honest (IsFirm holds whole left) whole' left' may p r ids (cut (before.bytes ++ h.received)).0 x want faulted) (sym e)
+          (subst (λ m. Broken holds new clean honest (IsFirm holds whole left) whole' left' may p r ids m exact want faulted) msgs broken));
     }
 
 -- ---- nothing was heard
@@ -194,14 +199,14 @@ came_by Turns p q h n = absurd n
 came_by (ZeroUnique at) p q h n = absurd n
 came_by (Store fault) p q h n = absurd n
 
-pub life_unheard : (holds : Rows → Records → Type 0) (clean honest whole : Type 0) (left : Rows → Records → Type 0) (may : Moment → Type 0) (p q : PortState) (ids : List ℕ) (h : Held) (e : Ended) (exact want : Bool)
-    → NotHeard e p q h → IsHearing p q → Life holds holds clean honest (IsFirm holds whole left) whole left may p q ids h.bytes exact want
-life_unheard holds clean honest whole left may p q ids h e exact want n hearing =
+pub life_unheard : (holds : Rows → Records → Type 0) (clean honest whole : Type 0) (left : Rows → Records → Type 0) (may : Moment → Type 0) (p q : PortState) (ids : List ℕ) (h : Held) (e : Ended) (exact want : Bool) (faulted : Type 0) → exact ≡ false
+    → NotHeard e p q h → IsHearing p q → Life holds holds clean honest (IsFirm holds whole left) whole left may p q ids h.bytes exact want faulted
+life_unheard holds clean honest whole left may p q ids h e exact want faulted inexact n hearing =
     let came = came_by e p q h n in
     record {
       received = came.0;
       came = came.1;
-      broken = broken_none holds holds clean honest (IsFirm holds whole left) whole left may p q ids (cut (h.bytes ++ came.0)).0 exact want (hearing_replied p q hearing)
+      broken = broken_none holds holds clean honest (IsFirm holds whole left) whole left may p q ids (cut (h.bytes ++ came.0)).0 exact want faulted inexact (hearing_replied p q hearing)
           (λ _ rows records held. held) (λ firm s g t so. firm_leaves holds whole left s g t firm so);
     }
 
@@ -255,7 +260,7 @@ pub ends_more : CutJoins → (holds mid new : Rows → Records → Type 0) (hone
 ends_more joins holds mid new honest honest' may may' p q r ids ids' held left begin at turns turns' End counts counts' one two isnt same honest_too moments =
     (two.0, rested_more joins holds mid new honest honest' may may' p q r ids ids' held left begin at counts counts' _ one two.1 honest_too moments)
 ends_more joins holds mid new honest honest' may may' p q r ids ids' held left begin at turns turns' (Frame f) counts counts' one two isnt same honest_too moments =
-    rested_more joins holds mid new honest honest' may may' p q r ids ids' held left begin at counts counts' (FaultOf r.has_ended f) one two honest_too moments
+    rested_more joins holds mid new honest honest' may may' p q r ids ids' held left begin at counts counts' (FaultOf r f) one two honest_too moments
 ends_more joins holds mid new honest honest' may may' p q r ids ids' held left begin at turns turns' PortFailed counts counts' one two isnt same honest_too moments =
     λ more. rested_more joins holds mid new honest honest' may may' p q r ids ids' held left begin at counts counts' IsGoodRest one (two (omega (arith, more, same))) honest_too moments
 ends_more joins holds mid new honest honest' may may' p q r ids ids' held left begin at turns turns' Memory counts counts' one two isnt same honest_too moments = tt
@@ -270,12 +275,12 @@ ends_more joins holds mid new honest honest' may may' p q r ids ids' held left b
 
 -- messages were worked off: a life
 pub life_worked : (holds new : Rows → Records → Type 0) (clean honest whole whole' : Type 0) (left left' : Rows → Records → Type 0) (may : Moment → Type 0) (p q r : PortState) (ids ids' : List ℕ) (before after : Held) (messages slice : List (List ℕ))
-    (fault : Option FrameFault) (begin place : ℕ) (rest : Rest) (counts : SessionCounts) (exact want : Bool)
+    (fault : Option FrameFault) (begin place : ℕ) (rest : Rest) (counts : SessionCounts) (exact want : Bool) (faulted : Type 0) → exact ≡ false
     → Heard p q before after messages fault → IsHearing p q → slice ≡ messages → WorkedOff holds new honest may q r ids ids' slice rest begin place counts → IsQuiet q r → (clean → honest) → (honest → IsFirm holds whole left → IsFirm new whole' left')
-    → Life holds new clean honest (IsFirm holds whole left) whole' left' may p r ids before.bytes exact want
-life_worked holds new clean honest whole whole' left left' may p q r ids ids' before after messages slice fault begin place rest counts exact want h hearing same w quiet clean_honest firm_still =
-    life_heard holds new clean honest whole whole' left left' may p q r ids before after messages slice fault exact want exact want h hearing same refl refl
-    (turned_life holds new clean honest whole whole' left left' may q r ids ids' w.front w.others slice (lasts rest) counts exact want w.turned w.parts clean_honest firm_still) quiet clean_honest
+    → Life holds new clean honest (IsFirm holds whole left) whole' left' may p r ids before.bytes exact want faulted
+life_worked holds new clean honest whole whole' left left' may p q r ids ids' before after messages slice fault begin place rest counts exact want faulted inexact h hearing same w quiet clean_honest firm_still =
+    life_heard holds new clean honest whole whole' left left' may p q r ids before after messages slice fault exact want exact want faulted faulted h hearing same refl refl
+    (turned_life holds new clean honest whole whole' left left' may q r ids ids' w.front w.others slice (lasts rest) counts exact want faulted inexact w.turned w.parts clean_honest firm_still) (λ x. x) quiet clean_honest
 
 pub ends_finished : (holds new : Rows → Records → Type 0) (honest : Type 0) (may : Moment → Type 0) (p q r : PortState) (ids ids' : List ℕ) (before after : Held) (messages slice : List (List ℕ)) (fault : Option FrameFault) (begin place : ℕ) (rest : Rest)
     (counts counts' : SessionCounts) (turns : ℕ) (e : Ended) → FinishedBy e rest place fault → counts' ≡ counts
@@ -352,12 +357,12 @@ whole_start holds honest may p ids h none new =
     (subst (λ (x : List ℕ). Whole holds holds honest may p p [] x [] [] 0 0 none_counted) (sym none) (whole_none holds honest may p []))
 
 -- nothing was done
-pub life_none : (holds : Rows → Records → Type 0) (clean honest whole : Type 0) (left : Rows → Records → Type 0) (may : Moment → Type 0) (p : PortState) (ids held : List ℕ) (exact want : Bool)
-    → Life holds holds clean honest (IsFirm holds whole left) whole left may p p ids held exact want
-life_none holds clean honest whole left may p ids held exact want = record {
+pub life_none : (holds : Rows → Records → Type 0) (clean honest whole : Type 0) (left : Rows → Records → Type 0) (may : Moment → Type 0) (p : PortState) (ids held : List ℕ) (exact want : Bool) (faulted : Type 0) → exact ≡ false
+    → Life holds holds clean honest (IsFirm holds whole left) whole left may p p ids held exact want faulted
+life_none holds clean honest whole left may p ids held exact want faulted inexact = record {
   received = [];
   came = consumes_none p.coming;
-  broken = broken_none holds holds clean honest (IsFirm holds whole left) whole left may p p ids (cut (held ++ [])).0 exact want (replied_none p)
+  broken = broken_none holds holds clean honest (IsFirm holds whole left) whole left may p p ids (cut (held ++ [])).0 exact want faulted inexact (replied_none p)
       (λ _ rows records is. is) (λ firm s g t so. firm_leaves holds whole left s g t firm so);
 }
 
@@ -375,3 +380,57 @@ pub ends_step : CutJoins → (holds mid new : Rows → Records → Type 0) (hone
 ends_step joins holds mid new honest honest' may may' p q r ids ids' held left begin at turns turns' e counts counts' sum is one two isnt same honest_too moments =
     subst (λ c. EndsAs holds new honest' may p r ids held begin turns' e c) (sym is)
     (ends_more joins holds mid new honest honest' may may' p q r ids ids' held left begin at turns turns' e counts counts' one two isnt same honest_too moments)
+
+-- ---- what is exact
+
+pub may_end : (may may' : StoreFault → Type 0) (e : Ended) → ((f : StoreFault) → may' f → may f) → MayEnd may' e → MayEnd may e
+may_end may may' End m is = tt
+may_end may may' Destroyed m is = tt
+may_end may may' Turns m is = tt
+may_end may may' (Frame f) m is = tt
+may_end may may' (ZeroUnique at) m is = tt
+may_end may may' PortFailed m is = tt
+may_end may may' (Store fault) m is = m fault is
+may_end may may' Memory m is = tt
+
+pub may_stop : (may may' : StoreFault → Type 0) (stop : Stop) → ((f : StoreFault) → may' f → may f) → MayStop may' stop → MayStop may stop
+may_stop may may' ByPort m is = tt
+may_stop may may' (ByStore fault) m is = m fault is
+may_stop may may' ByMemory m is = tt
+
+pub stop_may_end : (may : StoreFault → Type 0) (stop : Stop) (e : Ended) → e ≡ ended_at stop → MayStop may stop → MayEnd may e
+stop_may_end may ByPort e is m = subst (MayEnd may) (sym is) tt
+stop_may_end may (ByStore fault) e is m = subst (MayEnd may) (sym is) m
+stop_may_end may ByMemory e is m = subst (MayEnd may) (sym is) tt
+
+exact_life : (holds new : Rows → Records → Type 0) (clean honest firm whole' : Type 0) (left' : Rows → Records → Type 0) (may : Moment → Type 0) (p q : PortState) (ids held : List ℕ) (store memory : Bool) (faulted : Type 0) (stood : State → History → List ℕ → Type 0)
+    → (store || memory) ≡ true → ((s : State) (g : History) (u : List ℕ) → (store ≡ true → clean → StandsFor new s g u × faulted) → stood s g u)
+    → Life holds new clean honest firm whole' left' may p q ids held store memory faulted → SentExactly holds honest stood may p q ids held
+exact_life holds new clean honest firm whole' left' may p q ids held store memory faulted stood how f l =
+    let b = l.broken in
+    record {
+      received = l.received;
+      came = l.came;
+      timed = b.timed;
+      others = b.others;
+      marks = b.marks;
+      front = b.front;
+      moments = b.moments;
+      replied = subst (Replied p q b.marks) (b.no_part how) b.replied;
+      exactly = λ is s h t so within again.
+          let e = b.exactly how is s h t so within again in
+          record { worked = e.worked; unworked = e.unworked; parts = e.parts; works = e.works; stands = f s _ _ e.stands; sent = e.sent };
+    }
+
+pub exact_at : (holds new : Rows → Records → Type 0) (clean honest firm whole' : Type 0) (left' : Rows → Records → Type 0) (may_fault : StoreFault → Type 0) (may : Moment → Type 0) (p q : PortState) (ids held : List ℕ) (e : Ended)
+    → Life holds new clean honest firm whole' left' may p q ids held (ended_store e) (ended_memory e) (MayEnd may_fault e) → ExactAt holds new clean honest may_fault may p q ids held e
+exact_at holds new clean honest firm whole' left' may_fault may p q ids held End l = tt
+exact_at holds new clean honest firm whole' left' may_fault may p q ids held Destroyed l = tt
+exact_at holds new clean honest firm whole' left' may_fault may p q ids held Turns l = tt
+exact_at holds new clean honest firm whole' left' may_fault may p q ids held (Frame f) l = tt
+exact_at holds new clean honest firm whole' left' may_fault may p q ids held (ZeroUnique at) l = tt
+exact_at holds new clean honest firm whole' left' may_fault may p q ids held PortFailed l = tt
+exact_at holds new clean honest firm whole' left' may_fault may p q ids held (Store fault) l =
+    exact_life holds new clean honest firm whole' left' may p q ids held true false (may_fault fault) (λ s g u. clean → StandsFor new s g u × may_fault fault) refl (λ s g u stands clean. stands refl clean) l
+exact_at holds new clean honest firm whole' left' may_fault may p q ids held Memory l =
+    exact_life holds new clean honest firm whole' left' may p q ids held false true (Unit {0}) (λ s g u. Unit {0}) refl (λ s g u _. tt) l

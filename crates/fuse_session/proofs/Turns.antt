@@ -15,13 +15,13 @@ use Rattle.fuse_session.specs.Port.{PortState}
 use Rattle.fuse_session.specs.Worked.{Timed, bytes_of, kept_in, answers, says_zero, message_id, StartsZero, GoesOn}
 use Rattle.fuse_session.specs.Settling.{Mark, replies, settled_in, NoneComesAgain, Replied}
 use Rattle.fuse_session.specs.Counting.{plus, none_counted, counted}
-use Rattle.fuse_session.specs.Serving.{Turned, Lived, Broken, WorkedOff, lasts, goes_on}
+use Rattle.fuse_session.specs.Serving.{Turned, Lived, Exact, Broken, WorkedOff, lasts, goes_on}
 use Rattle.fuse_session.proofs.Replies.{replied_none, replied_more, joined-append, replies-append}
 use Rattle.fuse_session.proofs.Outs.{answers-append, grown_kept, Works-append, GoesOn-append}
 use Rattle.fuse_session.proofs.Settled.{settled-append, again-parts}
 use Rattle.fuse_session.proofs.Gathering.{moments-append, moments_too}
 use Rattle.fuse_session.proofs.Counted.{counted-append}
-use Rattle.fuse_session.proofs.Groups.{leaves_map, firm_leaves, lived_all}
+use Rattle.fuse_session.proofs.Groups.{leaves_map, firm_leaves, lived_all, exact_all}
 
 bytes-append : (xs ys : List Timed) → bytes_of (xs ++ ys) ≡ bytes_of xs ++ bytes_of ys
 bytes-append xs ys = map-append (λ (t : Timed). t.bytes) xs ys
@@ -102,10 +102,10 @@ turned_more holds mid new honest honest' may may' p q r ids ids' ids'' front fro
 }
 
 -- a life after messages that were answered
-lived_more : (stood : History → List ℕ → Type 0) (s : State) (h : History) (c c' : Bool) (t : List ℕ) (xs ys : List Timed) (ms ns : List Mark) (part : List ℕ) (exact : Bool) → c' ≡ c → length ms ≡ length xs
-    → GoesOn s h xs → replies ms ≡ answers s (grown h (kept_in xs)) xs → Lived stood s (grown h (kept_in xs)) c' (t ++ settled_in c (bytes_of xs) ms) ys ns part exact
-    → Lived stood s h c t (xs ++ ys) (ms ++ ns) part exact
-lived_more stood s h c c' t xs ys ms ns part exact same full goes sent l =
+lived_more : (stood : History → List ℕ → Type 0) (s : State) (h : History) (c c' : Bool) (t : List ℕ) (xs ys : List Timed) (ms ns : List Mark) (part : List ℕ) → c' ≡ c → length ms ≡ length xs
+    → GoesOn s h xs → replies ms ≡ answers s (grown h (kept_in xs)) xs → Lived stood s (grown h (kept_in xs)) c' (t ++ settled_in c (bytes_of xs) ms) ys ns part
+    → Lived stood s h c t (xs ++ ys) (ms ++ ns) part
+lived_more stood s h c c' t xs ys ms ns part same full goes sent l =
     let g = grown h (kept_in xs) in
     record {
       worked = xs ++ l.worked;
@@ -119,15 +119,29 @@ lived_more stood s h c c' t xs ys ms ns part exact same full goes sent l =
           ∙ sym (append_assoc (replies ms) (replies ns) l.later) ∙ ap (λ x. x ++ l.later) (sym (replies-append ms ns));
       unsent = l.unsent;
       begun = l.begun;
-      exactly = l.exactly;
+    }
+
+exact_more : (stood stood' : History → List ℕ → Type 0) (s : State) (h : History) (c c' : Bool) (t : List ℕ) (xs ys : List Timed) (ms ns : List Mark) → c' ≡ c → length ms ≡ length xs
+    → GoesOn s h xs → replies ms ≡ answers s (grown h (kept_in xs)) xs → ((g : History) (u : List ℕ) → stood g u → stood' g u) → Exact stood s (grown h (kept_in xs)) c' (t ++ settled_in c (bytes_of xs) ms) ys ns
+    → Exact stood' s h c t (xs ++ ys) (ms ++ ns)
+exact_more stood stood' s h c c' t xs ys ms ns same full goes sent f e =
+    let g = grown h (kept_in xs) in
+    record {
+      worked = xs ++ e.worked;
+      unworked = e.unworked;
+      parts = ap (λ f. xs ++ f) e.parts ∙ sym (append_assoc xs e.worked e.unworked);
+      works = Works-append s h xs e.worked goes e.works;
+      stands = subst (λ x. stood' x (t ++ settled_in c (bytes_of (xs ++ e.worked)) (ms ++ ns))) (sym (grown_kept h xs e.worked))
+          (subst (stood' (grown g (kept_in e.worked))) (settled_both c c' t xs e.worked ms ns same full) (f _ _ e.stands));
+      sent = replies-append ms ns ∙ ap (λ x. x ++ replies ns) sent ∙ ap (λ x. answers s g xs ++ x) e.sent ∙ sym (answers-append s h xs e.worked);
     }
 
 pub turned_broken : (holds mid new : Rows → Records → Type 0) (honest clean' honest' whole whole_mid whole' : Type 0) (left left_mid left' : Rows → Records → Type 0) (may may' : Moment → Type 0) (p q r : PortState) (ids ids' : List ℕ)
-    (front messages : List (List ℕ)) (counts : SessionCounts) (exact want : Bool)
-    → Turned holds mid honest may p q ids ids' front true counts → Broken mid new clean' honest' (IsFirm mid whole_mid left_mid) whole' left' may' q r ids' messages exact want
+    (front messages : List (List ℕ)) (counts : SessionCounts) (exact want : Bool) (faulted faulted' : Type 0)
+    → Turned holds mid honest may p q ids ids' front true counts → Broken mid new clean' honest' (IsFirm mid whole_mid left_mid) whole' left' may' q r ids' messages exact want faulted' → (faulted' → faulted)
     → (clean' → honest') → (honest' → honest) → (honest → IsFirm holds whole left → IsFirm mid whole_mid left_mid) → ((t : Moment) → may' t → may t)
-    → Broken holds new clean' honest' (IsFirm holds whole left) whole' left' may p r ids (front ++ messages) exact want
-turned_broken holds mid new honest clean' honest' whole whole_mid whole' left left_mid left' may may' p q r ids ids' front messages counts exact want one two clean_honest honest_too firm_too moments =
+    → Broken holds new clean' honest' (IsFirm holds whole left) whole' left' may p r ids (front ++ messages) exact want faulted
+turned_broken holds mid new honest clean' honest' whole whole_mid whole' left left_mid left' may may' p q r ids ids' front messages counts exact want faulted faulted' one two faulted_too clean_honest honest_too firm_too moments =
     let c = p.confirms in
     let ts = one.timed ++ two.timed in
     let marks = one.marks ++ two.marks in
@@ -141,27 +155,33 @@ turned_broken holds mid new honest clean' honest' whole whole_mid whole' left le
       moments = moments-append may one.timed two.timed one.moments (moments_too may' may two.timed moments two.moments);
       replied = replied_more p q r one.marks two.marks two.part one.replied two.replied;
       no_part = two.no_part;
+      exactly = λ how is s h t so within again.
+          let parts = again_both c q.confirms t one.timed two.timed one.marks two.marks one.replied.confirms one.full again in
+          let a = one.all (honest_too is) s h t so within parts.0 in
+          exact_more (λ g u. exact ≡ true → clean' → StandsFor new s g u × faulted') (λ g u. exact ≡ true → clean' → StandsFor new s g u × faulted)
+          s h c q.confirms t one.timed two.timed one.marks two.marks one.replied.confirms one.full (a.goes refl) a.sent (λ g u stands store clean. ((stands store clean).0, faulted_too (stands store clean).1))
+          (two.exactly how is s (grown h (kept_in one.timed)) (t ++ settled_in c (bytes_of one.timed) one.marks) a.stands (one.handed t within) parts.1);
       life = λ clean s h t so within again.
           let parts = again_both c q.confirms t one.timed two.timed one.marks two.marks one.replied.confirms one.full again in
           let a = one.all (honest_too (clean_honest clean)) s h t so within parts.0 in
-          lived_more (StandsFor new s) s h c q.confirms t one.timed two.timed one.marks two.marks two.part exact one.replied.confirms one.full (a.goes refl) a.sent
+          lived_more (StandsFor new s) s h c q.confirms t one.timed two.timed one.marks two.marks two.part one.replied.confirms one.full (a.goes refl) a.sent
           (two.life clean s (grown h (kept_in one.timed)) (t ++ settled_in c (bytes_of one.timed) one.marks) a.stands (one.handed t within) parts.1);
       crash = λ is firm s h t so within again.
           let parts = again_both c q.confirms t one.timed two.timed one.marks two.marks one.replied.confirms one.full again in
           let g = grown h (kept_in one.timed) in
           let u = t ++ settled_in c (bytes_of one.timed) one.marks in
           let a = one.all (honest_too is) s h t so within parts.0 in
-          leaves_map whole' left' (λ x r. Lived (Stands x r s) s g q.confirms u two.timed two.marks two.part false) (λ x r. Lived (Stands x r s) s h c t ts marks two.part false)
-          (λ x r l. lived_more (Stands x r s) s h c q.confirms t one.timed two.timed one.marks two.marks two.part false one.replied.confirms one.full (a.goes refl) a.sent l)
+          leaves_map whole' left' (λ x r. Lived (Stands x r s) s g q.confirms u two.timed two.marks two.part) (λ x r. Lived (Stands x r s) s h c t ts marks two.part)
+          (λ x r l. lived_more (Stands x r s) s h c q.confirms t one.timed two.timed one.marks two.marks two.part one.replied.confirms one.full (a.goes refl) a.sent l)
           (two.crash is (firm_too (honest_too is) firm) s g u a.stands (one.handed t within) parts.1);
     }
 
 -- what was answered, as a life, with others behind
 pub turned_life : (holds new : Rows → Records → Type 0) (clean honest whole whole' : Type 0) (left left' : Rows → Records → Type 0) (may : Moment → Type 0) (p q : PortState) (ids ids' : List ℕ)
-    (front others messages : List (List ℕ)) (going : Bool) (counts : SessionCounts) (exact want : Bool)
+    (front others messages : List (List ℕ)) (going : Bool) (counts : SessionCounts) (exact want : Bool) (faulted : Type 0) → exact ≡ false
     → Turned holds new honest may p q ids ids' front going counts → messages ≡ front ++ others → (clean → honest) → (honest → IsFirm holds whole left → IsFirm new whole' left')
-    → Broken holds new clean honest (IsFirm holds whole left) whole' left' may p q ids messages exact want
-turned_life holds new clean honest whole whole' left left' may p q ids ids' front others messages going counts exact want one parts clean_honest firm_still = record {
+    → Broken holds new clean honest (IsFirm holds whole left) whole' left' may p q ids messages exact want faulted
+turned_life holds new clean honest whole whole' left left' may p q ids ids' front others messages going counts exact want faulted inexact one parts clean_honest firm_still = record {
   timed = one.timed;
   others = others;
   marks = one.marks;
@@ -170,13 +190,16 @@ turned_life holds new clean honest whole whole' left left' may p q ids ids' fron
   moments = one.moments;
   replied = one.replied;
   no_part = λ _. refl;
+  exactly = λ _ is s h t so within again.
+      let a = one.all is s h t so within again in
+      exact_all (λ g u. exact ≡ true → clean → StandsFor new s g u × faulted) s h p.confirms t one.timed one.marks a.works (λ store _. absurd (cc (store, inexact))) a.sent;
   life = λ is s h t so within again.
       let a = one.all (clean_honest is) s h t so within again in
-      lived_all (StandsFor new s) s h p.confirms t one.timed one.marks [] [] [] exact a.works a.stands (sym (append-nil (replies one.marks) ∙ a.sent)) refl (λ _. refl);
+      lived_all (StandsFor new s) s h p.confirms t one.timed one.marks [] [] [] a.works a.stands (sym (append-nil (replies one.marks) ∙ a.sent)) refl;
   crash = λ is firm s h t so within again.
       let a = one.all is s h t so within again in
-      leaves_map whole' left' (λ x r. Stands x r s (grown h (kept_in one.timed)) (t ++ settled_in p.confirms (bytes_of one.timed) one.marks)) (λ x r. Lived (Stands x r s) s h p.confirms t one.timed one.marks [] false)
-      (λ x r stands. lived_all (Stands x r s) s h p.confirms t one.timed one.marks [] [] [] false a.works stands (sym (append-nil (replies one.marks) ∙ a.sent)) refl (λ _. refl))
+      leaves_map whole' left' (λ x r. Stands x r s (grown h (kept_in one.timed)) (t ++ settled_in p.confirms (bytes_of one.timed) one.marks)) (λ x r. Lived (Stands x r s) s h p.confirms t one.timed one.marks [])
+      (λ x r stands. lived_all (Stands x r s) s h p.confirms t one.timed one.marks [] [] [] a.works stands (sym (append-nil (replies one.marks) ∙ a.sent)) refl)
       (firm_leaves new whole' left' s (grown h (kept_in one.timed)) (t ++ settled_in p.confirms (bytes_of one.timed) one.marks) (firm_still is firm) a.stands);
 }
 
@@ -219,13 +242,13 @@ group_more holds mid new honest honest' may may' p q r ids ids' ids'' messages s
 
 -- a fault in the next group
 pub group_broken : (holds mid new : Rows → Records → Type 0) (honest clean' honest' whole whole_mid whole' : Type 0) (left left_mid left' : Rows → Records → Type 0) (may may' : Moment → Type 0) (p q r : PortState) (ids ids' : List ℕ)
-    (messages slice : List (List ℕ)) (i : ℕ) (counts : SessionCounts) (exact want : Bool) → slice ≡ take (length messages - i) (drop i messages)
-    → Turned holds mid honest may p q ids ids' (take i messages) true counts → Broken mid new clean' honest' (IsFirm mid whole_mid left_mid) whole' left' may' q r ids' slice exact want
+    (messages slice : List (List ℕ)) (i : ℕ) (counts : SessionCounts) (exact want : Bool) (faulted faulted' : Type 0) → slice ≡ take (length messages - i) (drop i messages)
+    → Turned holds mid honest may p q ids ids' (take i messages) true counts → Broken mid new clean' honest' (IsFirm mid whole_mid left_mid) whole' left' may' q r ids' slice exact want faulted' → (faulted' → faulted)
     → (clean' → honest') → (honest' → honest) → (honest → IsFirm holds whole left → IsFirm mid whole_mid left_mid) → ((t : Moment) → may' t → may t)
-    → Broken holds new clean' honest' (IsFirm holds whole left) whole' left' may p r ids messages exact want
-group_broken holds mid new honest clean' honest' whole whole_mid whole' left left_mid left' may may' p q r ids ids' messages slice i counts exact want same one two clean_honest honest_too firm_too moments =
-    subst (λ m. Broken holds new clean' honest' (IsFirm holds whole left) whole' left' may p r ids m exact want) (ap (λ x. take i messages ++ x) same ∙ parts_at messages i)
-    (turned_broken holds mid new honest clean' honest' whole whole_mid whole' left left_mid left' may may' p q r ids ids' (take i messages) slice counts exact want one two clean_honest honest_too firm_too moments)
+    → Broken holds new clean' honest' (IsFirm holds whole left) whole' left' may p r ids messages exact want faulted
+group_broken holds mid new honest clean' honest' whole whole_mid whole' left left_mid left' may may' p q r ids ids' messages slice i counts exact want faulted faulted' same one two faulted_too clean_honest honest_too firm_too moments =
+    subst (λ m. Broken holds new clean' honest' (IsFirm holds whole left) whole' left' may p r ids m exact want faulted) (ap (λ x. take i messages ++ x) same ∙ parts_at messages i)
+    (turned_broken holds mid new honest clean' honest' whole whole_mid whole' left left_mid left' may may' p q r ids ids' (take i messages) slice counts exact want faulted faulted' one two faulted_too clean_honest honest_too firm_too moments)
 
 -- the last group
 pub worked_off : (holds new : Rows → Records → Type 0) (honest : Type 0) (may : Moment → Type 0) (p q : PortState) (ids ids' : List ℕ) (messages slice : List (List ℕ)) (i n : ℕ) (rest : Rest) (begin place : ℕ) (counts : SessionCounts)

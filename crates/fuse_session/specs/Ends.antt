@@ -1,17 +1,26 @@
 -- How serving ends: one case for each line of the table of ends (own profile).
-use Rattle.std.specs.Prelude.{◌≡◌, ◌⊎◌, ◌<◌, ℕ, ◌+◌, Bool, true, false, List, [], Option, Some, None}
+use Rattle.std.specs.Prelude.{◌≡◌, ◌⊎◌, ◌<◌, ℕ, ◌+◌, Bool, true, false, List, [], ◌++◌, Option, Some, None}
+use Rattle.std.specs.Io.KnownBytes.{Consumes}
 use Rattle.fuse_wire.specs.declared.moment.Moment.{Moment}
 use Rattle.fuse_request.specs.Framing.{HasNone, bad_length, end_fault}
 use Rattle.fuse_request.specs.declared.framer.FrameFault.{FrameFault}
+use Rattle.fuse_request.specs.Stream.{cut}
+use Rattle.fuse_tree.specs.State.{State}
 use Rattle.fuse_tree.specs.Rows.{Rows}
-use Rattle.fuse_store.specs.Stands.{Records}
+use Rattle.fuse_store.specs.declared.fault.StoreFault.{StoreFault}
+use Rattle.fuse_store.specs.History.{History, Includes}
+use Rattle.fuse_store.specs.Stands.{Records, StandsFor}
 use Rattle.fuse_session.specs.declared.counts.SessionCounts.{SessionCounts}
 use Rattle.fuse_session.specs.declared.ended.Ended.{Ended}
 use Rattle.fuse_session.specs.declared.ended.Ended.TheVariants.{End, Destroyed, Turns, Frame, ZeroUnique, PortFailed, Store, Memory}
 use Rattle.fuse_session.specs.declared.group.Rest.{Rest}
 use Rattle.fuse_session.specs.declared.group.Rest.TheVariants.{GoesOn as GoesOnHere, Destroyed as ByDestroy, ZeroUnique as ByZero}
-use Rattle.fuse_session.specs.Port.{PortState}
-use Rattle.fuse_session.specs.Serving.{Whole, Stopped}
+use Rattle.fuse_session.specs.Port.{PortState, HasEnded}
+use Rattle.fuse_session.specs.declared.group.Stop.{Stop}
+use Rattle.fuse_session.specs.declared.group.Stop.TheVariants.{PortFailed as ByPort, Store as ByStore, Memory as ByMemory}
+use Rattle.fuse_session.specs.Worked.{Timed, bytes_of, Moments}
+use Rattle.fuse_session.specs.Settling.{Mark, NoneComesAgain, Replied}
+use Rattle.fuse_session.specs.Serving.{Whole, Stopped, Exact}
 
 -- a fault of the store, and want of memory
 abbrev pub ended_store : Ended → Bool
@@ -52,21 +61,52 @@ abbrev pub IsGoodRest : ℕ → List ℕ → Type 0
 IsGoodRest place rest = HasNone rest × (bad_length place rest ≡ None)
 
 -- the fault of a rest: its bad length, or that the port ended on it
-abbrev pub FaultOf : Bool → FrameFault → ℕ → List ℕ → Type 0
-FaultOf ended f place rest = (bad_length place rest ≡ Some f) ⊎ ((ended ≡ true) × (bad_length place rest ≡ None) × (end_fault place rest ≡ Some f))
+abbrev pub FaultOf : PortState → FrameFault → ℕ → List ℕ → Type 0
+FaultOf port f place rest = (bad_length place rest ≡ Some f) ⊎ (HasEnded port × (bad_length place rest ≡ None) × (end_fault place rest ≡ Some f))
 
--- at each of the ends; `begin` is the offset of the bytes held at first. Store and Memory say no more than Life
+-- at each of the ends; `begin` is the offset of the bytes held at first. What Store and Memory leave stands below
 abbrev pub EndsAs : (Rows → Records → Type 0) → (Rows → Records → Type 0) → Type 0 → (Moment → Type 0) → PortState → PortState → List ℕ → List ℕ → ℕ → ℕ → Ended → SessionCounts → Type 0
 EndsAs holds holds' honest' may old new pending held begin turns End counts =
-    (new.has_ended ≡ true) × Rested holds holds' honest' may old new pending held begin counts (λ place rest. rest ≡ [])
+    HasEnded new × Rested holds holds' honest' may old new pending held begin counts (λ place rest. rest ≡ [])
 EndsAs holds holds' honest' may old new pending held begin turns Destroyed counts = (place : ℕ) × Halted holds holds' honest' may old new pending held ByDestroy begin place counts
 EndsAs holds holds' honest' may old new pending held begin turns Turns counts =
     (new.receives ≡ old.receives + turns) × (new.has_ended ≡ old.has_ended) × Rested holds holds' honest' may old new pending held begin counts IsGoodRest
-EndsAs holds holds' honest' may old new pending held begin turns (Frame f) counts = Rested holds holds' honest' may old new pending held begin counts (FaultOf new.has_ended f)
+EndsAs holds holds' honest' may old new pending held begin turns (Frame f) counts = Rested holds holds' honest' may old new pending held begin counts (FaultOf new f)
 EndsAs holds holds' honest' may old new pending held begin turns (ZeroUnique at) counts = Halted holds holds' honest' may old new pending held ByZero begin at counts
 EndsAs holds holds' honest' may old new pending held begin turns PortFailed counts = old.receive_failures < new.receive_failures → Rested holds holds' honest' may old new pending held begin counts IsGoodRest
 EndsAs holds holds' honest' may old new pending held begin turns (Store fault) counts = Unit {0}
 EndsAs holds holds' honest' may old new pending held begin turns Memory counts = Unit {0}
+
+-- bytes came, and exactly the answers to the first of their messages were sent
+pub record SentExactly (holds : Rows → Records → Type 0) (honest' : Type 0) (stood : State → History → List ℕ → Type 0) (may : Moment → Type 0) (old new : PortState) (pending : List ℕ) (held : List ℕ) : Type 0 where
+  pub received : List ℕ
+  pub came : Consumes old.coming new.coming received
+  pub timed : List Timed
+  pub others : List (List ℕ)
+  pub marks : List Mark
+  pub front : (cut (held ++ received)).0 ≡ bytes_of timed ++ others
+  pub moments : Moments may timed
+  pub replied : Replied old new marks []
+  pub exactly : honest' → (s : State) (h : History) (t : List ℕ) → StandsFor holds s h t → Includes t pending → NoneComesAgain old.confirms t (bytes_of timed) marks
+      → Exact (stood s) s h old.confirms t timed marks
+
+-- by a fault of the store, which is one that the keeper may answer; the keeper stands for those messages, where its
+-- store is clean. For want of memory
+abbrev pub ExactAt : (Rows → Records → Type 0) → (Rows → Records → Type 0) → Type 0 → Type 0 → (StoreFault → Type 0) → (Moment → Type 0) → PortState → PortState → List ℕ → List ℕ → Ended → Type 0
+ExactAt holds holds' clean' honest' may_fault may old new pending held (Store fault) = SentExactly holds honest' (λ s g t. clean' → StandsFor holds' s g t × may_fault fault) may old new pending held
+ExactAt holds holds' clean' honest' may_fault may old new pending held Memory = SentExactly holds honest' (λ s g t. Unit {0}) may old new pending held
+ExactAt holds holds' clean' honest' may_fault may old new pending held _ = Unit {0}
+
+-- a fault of the store is one of these
+abbrev pub MayEnd : (StoreFault → Type 0) → Ended → Type 0
+MayEnd may (Store fault) = may fault
+MayEnd may _ = Unit {0}
+
+-- how a session ends by a fault
+abbrev pub ended_at : Stop → Ended
+ended_at ByPort = PortFailed
+ended_at (ByStore fault) = Store fault
+ended_at ByMemory = Memory
 
 -- a fault ended the work on messages
 abbrev pub IsFault : Ended → Type 0

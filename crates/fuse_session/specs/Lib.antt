@@ -8,3 +8,4 @@ pub mod Group
 pub mod Serving
 pub mod Receiving
 pub mod Ends
+pub mod Resuming

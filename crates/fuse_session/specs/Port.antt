@@ -19,6 +19,10 @@ pub record PortState : Type 0 where
   pub confirms : Bool
   pub gone : List ℕ
 
+-- it has ended, and nothing is known to come
+abbrev pub HasEnded : PortState → Type 0
+HasEnded p = (p.has_ended ≡ true) × IsAtEnd p.coming
+
 -- it was asked and failed so seldom that its counts can rise
 pub record IsYoung (p : PortState) : Type 0 where
   pub receives : p.receives < 2 ^ 63

@@ -7,7 +7,7 @@ use Rattle.fuse_request.specs.Stream.{cut, joined, IsMessage}
 use Rattle.fuse_request.specs.Framing.{Held, HasNone, bad_length, end_fault}
 use Rattle.fuse_session.specs.declared.ended.Ended.{Ended}
 use Rattle.fuse_session.specs.declared.ended.Ended.TheVariants.{End, Destroyed, Turns, Frame, ZeroUnique, PortFailed, Store, Memory}
-use Rattle.fuse_session.specs.Port.{PortState}
+use Rattle.fuse_session.specs.Port.{PortState, HasEnded}
 
 -- it answered no fault so far, and holds neither a whole message nor a bad length at its front
 pub record IsOpen (h : Held) : Type 0 where
@@ -52,8 +52,8 @@ pub record Heard (old new : PortState) (before after : Held) (messages : List (L
 
 -- why nothing was heard
 abbrev pub NotHeard : Ended → PortState → PortState → Held → Type 0
-NotHeard End old new h = (new.has_ended ≡ true) × (h.bytes ≡ []) × Consumes old.coming new.coming [] × (new.failures ≡ old.failures)
-NotHeard (Frame f) old new h = (new.has_ended ≡ true) × (end_fault h.at h.bytes ≡ Some f) × Consumes old.coming new.coming [] × (new.failures ≡ old.failures)
+NotHeard End old new h = HasEnded new × (h.bytes ≡ []) × Consumes old.coming new.coming [] × (new.failures ≡ old.failures)
+NotHeard (Frame f) old new h = HasEnded new × (end_fault h.at h.bytes ≡ Some f) × Consumes old.coming new.coming [] × (new.failures ≡ old.failures)
 NotHeard PortFailed old new h = (old.failures < new.failures) × (old.receive_failures < new.receive_failures) × Consumes old.coming new.coming []
 NotHeard Memory old new h = (received : List ℕ) × Consumes old.coming new.coming received
 NotHeard Destroyed old new h = ⊥

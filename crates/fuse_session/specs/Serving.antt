@@ -1,11 +1,12 @@
 -- What serving did: what came, what was worked off and sent, and what the keeper stands for (own profile).
-use Rattle.std.specs.Prelude.{◌≡◌, ℕ, ◌+◌, Bool, true, false, List, [], ◌++◌, length}
+use Rattle.std.specs.Prelude.{◌≡◌, ℕ, ◌+◌, ◌||◌, Bool, true, false, List, [], ◌++◌, length}
 use Rattle.std.specs.Io.KnownBytes.{Consumes}
 use Rattle.fuse_wire.specs.declared.moment.Moment.{Moment}
 use Rattle.fuse_request.specs.Stream.{cut, joined}
 use Rattle.fuse_tree.specs.State.{State}
 use Rattle.fuse_tree.specs.Rows.{Rows}
 use Rattle.fuse_store.specs.History.{History, grown, Includes}
+use Rattle.fuse_store.specs.declared.fault.StoreFault.{StoreFault}
 use Rattle.fuse_store.specs.Stands.{Records, Stands, StandsFor, Leaves}
 use Rattle.fuse_session.specs.declared.counts.SessionCounts.{SessionCounts}
 use Rattle.fuse_session.specs.declared.group.Rest.{Rest}
@@ -38,8 +39,8 @@ pub record Turned (holds holds' : Rows → Records → Type 0) (honest' : Type 0
   pub all : honest' → (s : State) (h : History) (t : List ℕ) → StandsFor holds s h t → Includes t pending → NoneComesAgain old.confirms t (bytes_of timed) marks
       → Answered (StandsFor holds' s) s h old.confirms t timed marks going counts
 
--- some of the messages were worked off, and a front of their answers was sent: all of it where `exact`
-pub record Lived (stood : History → List ℕ → Type 0) (s : State) (h : History) (confirms : Bool) (t : List ℕ) (timed : List Timed) (marks : List Mark) (part : List ℕ) (exact : Bool) : Type 0 where
+-- some of the messages were worked off, and a front of their answers was sent
+pub record Lived (stood : History → List ℕ → Type 0) (s : State) (h : History) (confirms : Bool) (t : List ℕ) (timed : List Timed) (marks : List Mark) (part : List ℕ) : Type 0 where
   pub worked : List Timed
   pub unworked : List Timed
   pub parts : timed ≡ worked ++ unworked
@@ -49,11 +50,20 @@ pub record Lived (stood : History → List ℕ → Type 0) (s : State) (h : Hist
   pub sent : answers s (grown h (kept_in worked)) worked ≡ replies marks ++ later
   pub unsent : List ℕ
   pub begun : joined later ≡ part ++ unsent
-  pub exactly : exact ≡ true → later ≡ []
+
+-- some of the messages were worked off, and exactly their answers were sent
+pub record Exact (stood : History → List ℕ → Type 0) (s : State) (h : History) (confirms : Bool) (t : List ℕ) (timed : List Timed) (marks : List Mark) : Type 0 where
+  pub worked : List Timed
+  pub unworked : List Timed
+  pub parts : timed ≡ worked ++ unworked
+  pub works : Works s h worked
+  pub stands : stood (grown h (kept_in worked)) (t ++ settled_in confirms (bytes_of worked) marks)
+  pub sent : replies marks ≡ answers s (grown h (kept_in worked)) worked
 
 -- a fault ended the work on messages. What the keeper holds where its store is clean, and where it was firm whatever a
--- crash leaves, stands for messages worked off. Where `whole` no answer was sent in part
-pub record Broken (holds holds' : Rows → Records → Type 0) (clean' honest' firm whole' : Type 0) (left' : Rows → Records → Type 0) (may : Moment → Type 0) (old new : PortState) (pending : List ℕ) (messages : List (List ℕ)) (exact whole : Bool) : Type 0 where
+-- crash leaves, stands for messages worked off. Where the store or want of memory ended it, exactly their answers were
+-- sent
+pub record Broken (holds holds' : Rows → Records → Type 0) (clean' honest' firm whole' : Type 0) (left' : Rows → Records → Type 0) (may : Moment → Type 0) (old new : PortState) (pending : List ℕ) (messages : List (List ℕ)) (store memory : Bool) (faulted : Type 0) : Type 0 where
   pub timed : List Timed
   pub others : List (List ℕ)
   pub marks : List Mark
@@ -61,11 +71,13 @@ pub record Broken (holds holds' : Rows → Records → Type 0) (clean' honest' f
   pub front : messages ≡ bytes_of timed ++ others
   pub moments : Moments may timed
   pub replied : Replied old new marks part
-  pub no_part : whole ≡ true → part ≡ []
+  pub no_part : (store || memory) ≡ true → part ≡ []
+  pub exactly : (store || memory) ≡ true → honest' → (s : State) (h : History) (t : List ℕ) → StandsFor holds s h t → Includes t pending → NoneComesAgain old.confirms t (bytes_of timed) marks
+      → Exact (λ g u. store ≡ true → clean' → StandsFor holds' s g u × faulted) s h old.confirms t timed marks
   pub life : clean' → (s : State) (h : History) (t : List ℕ) → StandsFor holds s h t → Includes t pending → NoneComesAgain old.confirms t (bytes_of timed) marks
-      → Lived (StandsFor holds' s) s h old.confirms t timed marks part exact
+      → Lived (StandsFor holds' s) s h old.confirms t timed marks part
   pub crash : honest' → firm → (s : State) (h : History) (t : List ℕ) → StandsFor holds s h t → Includes t pending → NoneComesAgain old.confirms t (bytes_of timed) marks
-      → Leaves whole' left' (λ x r. Lived (Stands x r s) s h old.confirms t timed marks part false)
+      → Leaves whole' left' (λ x r. Lived (Stands x r s) s h old.confirms t timed marks part)
 
 -- nothing ended the session so far
 abbrev pub lasts : Rest → Bool
@@ -103,10 +115,10 @@ pub record Stopped (holds holds' : Rows → Records → Type 0) (honest' : Type 
   pub worked : WorkedOff holds holds' honest' may old new pending pending' (cut (held ++ received)).0 rest begin place counts
 
 -- bytes came, and a fault ended the work on their messages
-pub record Life (holds holds' : Rows → Records → Type 0) (clean' honest' firm whole' : Type 0) (left' : Rows → Records → Type 0) (may : Moment → Type 0) (old new : PortState) (pending : List ℕ) (held : List ℕ) (exact whole : Bool) : Type 0 where
+pub record Life (holds holds' : Rows → Records → Type 0) (clean' honest' firm whole' : Type 0) (left' : Rows → Records → Type 0) (may : Moment → Type 0) (old new : PortState) (pending : List ℕ) (held : List ℕ) (store memory : Bool) (faulted : Type 0) : Type 0 where
   pub received : List ℕ
   pub came : Consumes old.coming new.coming received
-  pub broken : Broken holds holds' clean' honest' firm whole' left' may old new pending (cut (held ++ received)).0 exact whole
+  pub broken : Broken holds holds' clean' honest' firm whole' left' may old new pending (cut (held ++ received)).0 store memory faulted
 
 abbrev pub is_store : Stop → Bool
 is_store PortFailed = false
@@ -117,3 +129,9 @@ abbrev pub is_memory : Stop → Bool
 is_memory PortFailed = false
 is_memory (Store fault) = false
 is_memory Memory = true
+
+-- a fault of the store is one of these
+abbrev pub MayStop : (StoreFault → Type 0) → Stop → Type 0
+MayStop may PortFailed = Unit {0}
+MayStop may (Store fault) = may fault
+MayStop may Memory = Unit {0}

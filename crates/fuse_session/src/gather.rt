@@ -11,13 +11,11 @@ ghost use Rattle.fuse_session.specs.Group.{Gathers, IsStuck, listed};
 
 use crate::clock::Clock;
 use bytes::Bytes;
+use fuse_request::opcode::DESTROY;
 use fuse_request::{Class, Request, classify, decode, has_zero_unique, header_of};
 use fuse_store::MAX_GROUP;
 use fuse_wire::Moment;
 use std::alloc::{AllocError, Global};
-
-/// The opcode of DESTROY in `fuse.h`: where it is answered without an error, the session ends.
-pub const DESTROY: u32 = 38;
 
 /// A group of requests, read off the first messages. `ends` says that the last of them is a DESTROY.
 #[derive(Drop)]

@@ -3,6 +3,7 @@ ghost use Rattle.std.specs.Prelude.{◌≡◌, ◌≤◌, ◌<◌, ◌+◌, ◌+
 ghost use Rattle.fuse_wire.specs.declared.moment.Moment.{Moment as MomentValue};
 ghost use Rattle.fuse_request.specs.Stream.{IsMessage};
 ghost use Rattle.fuse_tree.specs.State.{State};
+ghost use Rattle.fuse_store.specs.declared.fault.StoreFault.{StoreFault as StoreFaultValue};
 ghost use Rattle.fuse_store.specs.History.{History, grown, ids_in, Includes, IsUnsettled};
 ghost use Rattle.fuse_store.specs.Stands.{Records, StandsFor, StandsForEither, Performed, Leaves, IsFirm, KeepsHeld};
 ghost use Rattle.fuse_store.specs.Group.{entries_of, HasId, IsKept, ids_of};
@@ -12,7 +13,7 @@ ghost use Rattle.fuse_session.specs.Worked.{StartsZero};
 ghost use Rattle.fuse_session.specs.Settling.{HandsOn, AtMostMore};
 ghost use Rattle.fuse_session.specs.Counting.{IsBelow};
 ghost use Rattle.fuse_session.specs.Group.{answers_in, last_zero, rest_by, IsStuck};
-ghost use Rattle.fuse_session.specs.Serving.{Turned, Broken, lasts, goes_on, is_store, is_memory};
+ghost use Rattle.fuse_session.specs.Serving.{Turned, Broken, MayStop, lasts, goes_on, is_store, is_memory};
 
 use crate::clock::Clock;
 use crate::counts::{SessionCounts, count_all};
@@ -71,6 +72,8 @@ fn perform_group<K: Keeper>(
     ensures more { OnOk result (K.is_honest keeper.new → (before : Records) → HandsOn before (K.holds keeper.old) (ids_of pending.old.items)
         → HandsOn before (K.holds keeper.new) (ids_of pending.new.items ++ ids_in (entries_of group.now))) }
     ensures err { OnErr result (K.is_clean keeper.new → KeepsHeld (K.holds keeper.old) (K.holds keeper.new)) }
+    ensures fault { K.is_clean keeper.new → (s : State) (h : History) (t : List ℕ) → StandsFor (K.holds keeper.old) s h t → IfErr result (K.may_answer keeper.old) }
+    ensures may { (f : StoreFaultValue) → K.may_answer keeper.new f → K.may_answer keeper.old f }
     ensures crash { OnErr result ((s : State) (h : History) (t : List ℕ) → StandsFor (K.holds keeper.old) s h t
         → Includes t (ids_of pending.old.items) → All (IsUnsettled t) (entries_of group.now)
         → IsFirm (K.holds keeper.old) (K.leaves_whole keeper.old) (K.may_leave keeper.old)
@@ -170,7 +173,8 @@ pub(crate) fn work_group<K: Keeper, P: Port, C: Clock>(
     ensures failures { OnOk result ((P.told port.new).failures ≡ (P.told port.old).failures) }
     ensures err { IfErr result (λ stop. Broken (K.holds keeper.old) (K.holds keeper.new) (K.is_clean keeper.new) (K.is_honest keeper.new)
         (IsFirm (K.holds keeper.old) (K.leaves_whole keeper.old) (K.may_leave keeper.old)) (K.leaves_whole keeper.new) (K.may_leave keeper.new)
-        (C.may_answer clock.old) (P.told port.old) (P.told port.new) (ids_of pending.old.items) messages.now (is_store stop) (is_memory stop)) }
+        (C.may_answer clock.old) (P.told port.old) (P.told port.new) (ids_of pending.old.items) messages.now (is_store stop) (is_memory stop) (MayStop (K.may_answer keeper.old) stop)) }
+    ensures may { (f : StoreFaultValue) → K.may_answer keeper.new f → K.may_answer keeper.old f }
     ensures at_most { OnErr result (K.is_clean keeper.new → (before : Records) → HandsOn before (K.holds keeper.old) (ids_of pending.old.items) → AtMostMore before (K.holds keeper.new)) }
     ensures failed { IfErr result (λ stop. stop ≡ Stop.PortFailed → (P.told port.old).failures < (P.told port.new).failures) }
     ensures store { IfErr result (λ stop. K.has_failed keeper.new ≡ is_store stop) }

@@ -9,6 +9,7 @@ mod group;
 mod memory;
 mod port;
 mod receiving;
+mod resuming;
 mod sending;
 mod serving;
 mod stream;
@@ -17,9 +18,9 @@ mod working;
 pub use clock::{Clock, Fixed, System};
 pub use counts::SessionCounts;
 pub use ended::{Ended, Served};
-pub use gather::DESTROY;
 pub use memory::{Arrival, MemoryPort, Outcome};
 pub use port::{Port, Received, Sent};
+pub use resuming::{ResumeFault, resume};
 pub use serving::serve;
 pub use stream::StreamPort;
 

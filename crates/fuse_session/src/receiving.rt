@@ -1,6 +1,8 @@
 // Receiving, and the messages that wait then.
-ghost use Rattle.std.specs.Prelude.{◌≡◌, ◌≤◌, ◌<◌, ◌+◌, ◌^◌, [], None, Some, length, IfOk, IfErr};
+ghost use Rattle.std.specs.Prelude.{◌≡◌, ◌≤◌, ◌<◌, ◌+◌, ◌++◌, ◌^◌, [], None, Some, length, IfOk, IfErr, OnOk, OnErr};
 ghost use Rattle.fuse_request.specs.Framing.{fed_of};
+ghost use Rattle.fuse_request.specs.declared.framer.TheConstants.{MAX_FED as max_fed};
+ghost use Rattle.fuse_request.specs.declared.header.TheConstants.{MAX_MESSAGE as max_message};
 ghost use Rattle.fuse_session.specs.Port.{IsYoung};
 ghost use Rattle.fuse_session.specs.Receiving.{IsOpen, TookAll, IsHearing, Heard, NotHeard, EndsSo};
 
@@ -10,6 +12,9 @@ use bytes::Bytes;
 use fuse_request::{FrameFault, Framer};
 use fuse_wire::Memory;
 use std::alloc::Global;
+
+/// The most bytes that are held at any time: what may be left before a turn, and a full buffer.
+pub(crate) const MAX_HELD: usize = 270_335;
 
 /// The messages that wait, and the bad length behind them, if there is one.
 #[derive(Drop)]
@@ -31,6 +36,21 @@ fn stopped(messages: Vec<Bytes>, fault: FrameFault) -> Result<Waiting, Memory>
             })
         }
     }
+}
+
+// Holds what came too. Nothing else feeds the framer, and taking messages and ending only lessen what it holds.
+fn hold(framer: &mut Framer, piece: &[u8]) -> Result<(), Memory>
+    requires opened { IsOpen framer.old }
+    requires piece { length piece.now ≤ max_message }
+    requires fed { fed_of framer.old + length piece.now ≤ max_fed }
+    ensures ok { OnOk result (framer.new ≡ record framer.old { bytes = framer.old.bytes ++ piece.now }) }
+    ensures err { OnErr result (framer.new ≡ framer.old) }
+    ensures held { length framer.new.bytes ≤ MAX_HELD }
+{
+    if framer.feed(piece).is_err() {
+        return Err(Memory);
+    }
+    Ok(())
 }
 
 // Takes all messages.
@@ -77,7 +97,7 @@ pub(crate) fn hear<P: Port>(
     buffer: &mut [u8],
 ) -> Result<Waiting, Ended>
     requires young { IsYoung (P.told port.old) }
-    requires room { 0 < length buffer.old }
+    requires room { (0 < length buffer.old) × (length buffer.old ≤ max_message) }
     requires opened { IsOpen framer.old }
     requires fed { fed_of framer.old + length buffer.old ≤ 2 ^ 60 }
     ensures ok { IfOk result (λ w. Heard (P.told port.old) (P.told port.new) framer.old framer.new w.messages.items w.fault) }
@@ -89,7 +109,7 @@ pub(crate) fn hear<P: Port>(
         Received::Failed => Err(Ended::PortFailed),
         Received::End => Err(ended_by(framer)),
         Received::Got(n) => {
-            if framer.feed(&buffer[..n]).is_err() {
+            if hold(framer, &buffer[..n]).is_err() {
                 return Err(Ended::Memory);
             }
             match take_waiting(alloc, framer) {

@@ -4,6 +4,7 @@ ghost use Rattle.fuse_wire.specs.declared.moment.Moment.{Moment as MomentValue};
 ghost use Rattle.fuse_request.specs.Framing.{fed_of};
 ghost use Rattle.fuse_request.specs.declared.header.TheConstants.{MAX_MESSAGE as max_message};
 ghost use Rattle.fuse_tree.specs.Rows.{Rows};
+ghost use Rattle.fuse_store.specs.declared.fault.StoreFault.{StoreFault as StoreFaultValue};
 ghost use Rattle.fuse_store.specs.Stands.{Records, IsFirm};
 ghost use Rattle.fuse_store.specs.Group.{ids_of};
 ghost use Rattle.fuse_store.specs.declared.keeper.TheConstants.{MAX_SETTLED as max_settled};
@@ -12,7 +13,7 @@ ghost use Rattle.fuse_session.specs.Settling.{HandsOn, AtMostMore};
 ghost use Rattle.fuse_session.specs.Counting.{none_counted, IsBelow};
 ghost use Rattle.fuse_session.specs.Receiving.{IsOpen};
 ghost use Rattle.fuse_session.specs.Serving.{Whole, Life, is_store, is_memory};
-ghost use Rattle.fuse_session.specs.Ends.{EndsAs, FinishedBy, IsFault, ended_store, ended_memory};
+ghost use Rattle.fuse_session.specs.Ends.{EndsAs, ExactAt, MayEnd, FinishedBy, IsFault, ended_at, ended_store, ended_memory};
 
 use crate::clock::Clock;
 use crate::counts::{SessionCounts, sum_of};
@@ -31,6 +32,7 @@ fn ended_of(stop: Stop) -> Ended
     ensures memory { ended_memory result ≡ is_memory stop }
     ensures port { result ≡ Ended.PortFailed → stop ≡ Stop.PortFailed }
     ensures fault { IsFault result }
+    ensures is { result ≡ ended_at stop }
 {
     match stop {
         Stop::PortFailed => Ended::PortFailed,
@@ -99,7 +101,8 @@ fn one_turn<K: Keeper, P: Port, C: Clock>(
     ensures buffer { length buffer.new ≡ length buffer.old }
     ensures life { IfErr result (λ served. Life (K.holds keeper.old) (K.holds keeper.new) (K.is_clean keeper.new) (K.is_honest keeper.new)
         (IsFirm (K.holds keeper.old) (K.leaves_whole keeper.old) (K.may_leave keeper.old)) (K.leaves_whole keeper.new) (K.may_leave keeper.new)
-        (C.may_answer clock.old) (P.told port.old) (P.told port.new) (ids_of pending.old.items) framer.old.bytes (ended_store served.ended) (ended_memory served.ended)) }
+        (C.may_answer clock.old) (P.told port.old) (P.told port.new) (ids_of pending.old.items) framer.old.bytes (ended_store served.ended) (ended_memory served.ended) (MayEnd (K.may_answer keeper.old) served.ended)) }
+    ensures may { (f : StoreFaultValue) → K.may_answer keeper.new f → K.may_answer keeper.old f }
     ensures ends { IfErr result (λ served. EndsAs (K.holds keeper.old) (K.holds keeper.new) (K.is_honest keeper.new) (C.may_answer clock.old) (P.told port.old) (P.told port.new)
         (ids_of pending.old.items) framer.old.bytes framer.old.at 0 served.ended served.counts) }
     ensures counted { IfErr result (λ served. IsBelow served.counts (2 ^ 20)) }
@@ -157,7 +160,12 @@ pub fn serve<K: Keeper, P: Port, C: Clock>(
     // whatever a crash leaves stands for.
     ensures life { Life (K.holds keeper.old) (K.holds keeper.new) (K.is_clean keeper.new) (K.is_honest keeper.new)
         (IsFirm (K.holds keeper.old) (K.leaves_whole keeper.old) (K.may_leave keeper.old)) (K.leaves_whole keeper.new) (K.may_leave keeper.new)
-        (C.may_answer clock.old) (P.told port.old) (P.told port.new) [] [] (ended_store result.ended) (ended_memory result.ended) }
+        (C.may_answer clock.old) (P.told port.old) (P.told port.new) [] [] (ended_store result.ended) (ended_memory result.ended) (MayEnd (K.may_answer keeper.old) result.ended) }
+
+    // Where the store or want of memory ended it, exactly the answers to some of the messages were sent. The store's
+    // fault is one that the keeper may answer, and the keeper stands for those messages, where its store is clean.
+    ensures exactly { ExactAt (K.holds keeper.old) (K.holds keeper.new) (K.is_clean keeper.new) (K.is_honest keeper.new) (K.may_answer keeper.old) (C.may_answer clock.old)
+        (P.told port.old) (P.told port.new) [] [] result.ended }
 
     // On a port that confirms few records stay.
     ensures at_most { (P.told port.old).confirms ≡ true → K.is_clean keeper.new → (rows : Rows) (records : Records) → K.holds keeper.old rows records → AtMostMore records (K.holds keeper.new) }

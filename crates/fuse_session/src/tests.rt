@@ -1,5 +1,8 @@
 // The rows of the specification that a session alone can run.
 
+mod moments;
+mod resuming;
+
 use crate::{Arrival, Ended, Fixed, MemoryPort, Outcome, SessionCounts, serve};
 use fuse_request::FrameFault;
 use fuse_store::{Keeper, PlainKeeper};

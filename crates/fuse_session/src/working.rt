@@ -2,13 +2,14 @@
 ghost use Rattle.std.specs.Prelude.{◌≡◌, ◌≤◌, ◌<◌, ◌+◌, ◌^◌, ℕ, Bool, true, false, not, List, length, All, IfOk, IfErr, OnOk, OnErr};
 ghost use Rattle.fuse_wire.specs.declared.moment.Moment.{Moment as MomentValue};
 ghost use Rattle.fuse_request.specs.Stream.{IsMessage, joined};
+ghost use Rattle.fuse_store.specs.declared.fault.StoreFault.{StoreFault as StoreFaultValue};
 ghost use Rattle.fuse_store.specs.Stands.{Records, IsFirm};
 ghost use Rattle.fuse_store.specs.Group.{ids_of};
 ghost use Rattle.fuse_store.specs.declared.keeper.TheConstants.{MAX_SETTLED as max_settled};
 ghost use Rattle.fuse_session.specs.Port.{IsYoung, IsQuiet};
 ghost use Rattle.fuse_session.specs.Settling.{HandsOn, AtMostMore};
 ghost use Rattle.fuse_session.specs.Counting.{IsBelow};
-ghost use Rattle.fuse_session.specs.Serving.{WorkedOff, Broken, goes_on, is_store, is_memory};
+ghost use Rattle.fuse_session.specs.Serving.{WorkedOff, Broken, MayStop, goes_on, is_store, is_memory};
 
 use crate::clock::Clock;
 use crate::counts::{SessionCounts, sum_of};
@@ -78,7 +79,8 @@ pub(crate) fn work_off<K: Keeper, P: Port, C: Clock>(
     ensures failures { OnOk result ((P.told port.new).failures ≡ (P.told port.old).failures) }
     ensures err { IfErr result (λ stop. Broken (K.holds keeper.old) (K.holds keeper.new) (K.is_clean keeper.new) (K.is_honest keeper.new)
         (IsFirm (K.holds keeper.old) (K.leaves_whole keeper.old) (K.may_leave keeper.old)) (K.leaves_whole keeper.new) (K.may_leave keeper.new)
-        (C.may_answer clock.old) (P.told port.old) (P.told port.new) (ids_of pending.old.items) messages.now (is_store stop) (is_memory stop)) }
+        (C.may_answer clock.old) (P.told port.old) (P.told port.new) (ids_of pending.old.items) messages.now (is_store stop) (is_memory stop) (MayStop (K.may_answer keeper.old) stop)) }
+    ensures may { (f : StoreFaultValue) → K.may_answer keeper.new f → K.may_answer keeper.old f }
     ensures at_most { OnErr result ((P.told port.old).confirms ≡ true → K.is_clean keeper.new → (before : Records) → HandsOn before (K.holds keeper.old) (ids_of pending.old.items) → AtMostMore before (K.holds keeper.new)) }
     ensures failed { IfErr result (λ stop. stop ≡ Stop.PortFailed → (P.told port.old).failures < (P.told port.new).failures) }
     ensures store { IfErr result (λ stop. K.has_failed keeper.new ≡ is_store stop) }

@@ -1,6 +1,7 @@
 -- How histories grow.
-use Rattle.std.proofs.Common.{◌≡◌, ℕ, Bool, true, false, ◌==◌, ◌||◌, ◌⊎◌, inl, inr, if◌then◌else◌, List, [], ◌∷◌, ◌++◌, map, Some, None, refl, ap, ◌∙◌, arith}
-use Rattle.fuse_answer.specs.Said.{Said}
+use Rattle.std.proofs.Common.{◌≡◌, ℕ, Bool, true, false, ◌==◌, ◌||◌, ◌⊎◌, inl, inr, if◌then◌else◌, List, [], ◌∷◌, ◌++◌, map, Some, None, refl, ap, subst, ◌∙◌, arith}
+use Rattle.fuse_answer.specs.Said.{Said, FitsAnswer}
+use Rattle.fuse_tree.specs.Plan.{AnswersFit}
 use Rattle.fuse_tree.specs.State.{State}
 use Rattle.fuse_store.specs.History.{Entry, entry_id, History, next_state, answer_to, has, after, said, Distinct, add, grown, repeats}
 
@@ -133,3 +134,10 @@ nothing_said s i = refl
 pub Distinct-none : Distinct []
 unfolding Distinct
 Distinct-none = tt
+
+pub said_fits : AnswersFit → (s : State) (h : History) (i : ℕ) (a : Said) → said s h i ≡ Some a → FitsAnswer a
+unfolding said
+said_fits fit s [] i a is = absurd (cc is)
+said_fits fit s (e ∷ h) i a is =
+    elim (entry_id e == i) as (λ b. (if b then Some (answer_to s e) else said (next_state s e) h i) ≡ Some a → FitsAnswer a)
+    [ true ↦ λ here. subst FitsAnswer (cc here) (fit s e.asked e.moment) | false ↦ said_fits fit (next_state s e) h i a ] is

@@ -3,7 +3,7 @@ use Rattle.std.specs.Prelude.{◌≡◌, ℕ, Bool, true, false, ◌==◌, if◌
 use Rattle.fuse_wire.specs.Ids.{id_of}
 use Rattle.fuse_wire.specs.declared.moment.Moment.{Moment}
 use Rattle.fuse_request.specs.Act.{Asked}
-use Rattle.fuse_answer.specs.Said.{Said}
+use Rattle.fuse_answer.specs.Said.{Said, FitsAnswer}
 use Rattle.fuse_tree.specs.State.{State}
 use Rattle.fuse_tree.specs.Do.{done}
 
@@ -76,3 +76,7 @@ ids_in group = map entry_id group
 abbrev pub repeats : History → List Entry → List Bool
 repeats h [] = []
 repeats h (e ∷ es) = has h (entry_id e) ∷ repeats (add h e) es
+
+-- what was said of an id has no body beside an error, and none that is too long
+abbrev pub SaidFits : Type 0
+SaidFits = (s : State) (h : History) (i : ℕ) (a : Said) → said s h i ≡ Some a → FitsAnswer a

@@ -90,6 +90,8 @@ pub trait Keeper: Drop {
         ensures firm { OnOk result (is_honest self.new → IsFirm (holds self.old) (leaves_whole self.old) (may_leave self.old)
             → IsFirm (holds self.new) (leaves_whole self.new) (may_leave self.new)) }
         ensures fault { is_clean self.new → (s : State) (h : History) (t : List ℕ) → StandsFor (holds self.old) s h t → IfErr result (may_answer self.old) }
+        // It may answer no fault afterwards that it couldn't before.
+        ensures may { (f : StoreFault) → may_answer self.new f → may_answer self.old f }
         ensures honest { is_honest self.new → is_honest self.old }
         ensures failed { has_failed self.new ≡ (has_failed self.old || is_err result) };
 
@@ -114,6 +116,7 @@ pub trait Keeper: Drop {
         ensures whole { leaves_whole self.old → leaves_whole self.new }
         ensures crash { (x : Rows) (r : Records) → may_leave self.new x r → may_leave self.old x r }
         ensures fault { is_clean self.new → (s : State) (h : History) (t : List ℕ) → StandsFor (holds self.old) s h t → IfErr result (may_answer self.old) }
+        ensures may { (f : StoreFault) → may_answer self.new f → may_answer self.old f }
         ensures honest { is_honest self.new → is_honest self.old }
         ensures failed { has_failed self.new ≡ (has_failed self.old || is_err result) };
 
@@ -125,6 +128,7 @@ pub trait Keeper: Drop {
         ensures whole { leaves_whole self.old → leaves_whole self.new }
         ensures crash { (x : Rows) (r : Records) → may_leave self.new x r → may_leave self.old x r }
         ensures fault { is_clean self.new → (s : State) (h : History) (t : List ℕ) → StandsFor (holds self.old) s h t → IfErr result (may_answer self.old) }
+        ensures may { (f : StoreFault) → may_answer self.new f → may_answer self.old f }
         ensures honest { is_honest self.new → is_honest self.old }
         ensures failed { has_failed self.new ≡ (has_failed self.old || is_err result) };
 
@@ -139,6 +143,7 @@ pub trait Keeper: Drop {
         ensures whole { leaves_whole self.old → leaves_whole self.new }
         ensures crash { (x : Rows) (r : Records) → may_leave self.new x r → may_leave self.old x r }
         ensures fault { is_clean self.new → (s : State) (h : History) (t : List ℕ) → StandsFor (holds self.old) s h t → IfErr result (may_answer self.old) }
+        ensures may { (f : StoreFault) → may_answer self.new f → may_answer self.old f }
         ensures honest { is_honest self.new → is_honest self.old }
         ensures failed { has_failed self.new ≡ (has_failed self.old || is_err result) };
 

@@ -4,10 +4,12 @@
 mod fault;
 mod group;
 mod keeper;
+mod laws;
 mod plain;
 
 pub use fault::StoreFault;
 pub use keeper::{Done, Keeper, MAX_GROUP, MAX_SETTLED, StoreCounts};
+pub use laws::said_fits;
 pub use plain::PlainKeeper;
 
 #[cfg(test)]

@@ -14,21 +14,43 @@ const NOW: Moment = Moment {
 };
 
 // Row `first-run`: what MKDIR `a` is answered, the 16 bytes of the header left out.
-const ENTRY_OF_A: [u8; 128] = [
-    2, 0, 0, 0, 0, 0, 0, 0, 0, 0, 0, 0, 0, 0, 0, 0, 1, 0, 0, 0, 0, 0, 0, 0, 1, 0, 0, 0, 0, 0, 0, 0,
-    0, 0, 0, 0, 0, 0, 0, 0, 2, 0, 0, 0, 0, 0, 0, 0, 0, 0, 0, 0, 0, 0, 0, 0, 0, 0, 0, 0, 0, 0, 0, 0,
-    232, 3, 0, 0, 0, 0, 0, 0, 232, 3, 0, 0, 0, 0, 0, 0, 232, 3, 0, 0, 0, 0, 0, 0, 0, 0, 0, 0, 0, 0,
-    0, 0, 0, 0, 0, 0, 237, 65, 0, 0, 2, 0, 0, 0, 232, 3, 0, 0, 232, 3, 0, 0, 0, 0, 0, 0, 0, 16, 0,
-    0, 0, 0, 0, 0,
-];
+fn entry_of_a() -> &'static [u8] {
+    b"\x02\0\0\0\0\0\0\0\
+      \0\0\0\0\0\0\0\0\
+      \x01\0\0\0\0\0\0\0\
+      \x01\0\0\0\0\0\0\0\
+      \0\0\0\0\0\0\0\0\
+      \x02\0\0\0\0\0\0\0\
+      \0\0\0\0\0\0\0\0\
+      \0\0\0\0\0\0\0\0\
+      \xe8\x03\0\0\0\0\0\0\
+      \xe8\x03\0\0\0\0\0\0\
+      \xe8\x03\0\0\0\0\0\0\
+      \0\0\0\0\0\0\0\0\
+      \0\0\0\0\xed\x41\0\0\
+      \x02\0\0\0\xe8\x03\0\0\
+      \xe8\x03\0\0\0\0\0\0\
+      \0\x10\0\0\0\0\0\0"
+        .as_slice()
+}
 
 // Row `first-run`: what GETATTR of node 2 is answered.
-const ATTR_OF_A: [u8; 104] = [
-    1, 0, 0, 0, 0, 0, 0, 0, 0, 0, 0, 0, 0, 0, 0, 0, 2, 0, 0, 0, 0, 0, 0, 0, 0, 0, 0, 0, 0, 0, 0, 0,
-    0, 0, 0, 0, 0, 0, 0, 0, 232, 3, 0, 0, 0, 0, 0, 0, 232, 3, 0, 0, 0, 0, 0, 0, 232, 3, 0, 0, 0, 0,
-    0, 0, 0, 0, 0, 0, 0, 0, 0, 0, 0, 0, 0, 0, 237, 65, 0, 0, 2, 0, 0, 0, 232, 3, 0, 0, 232, 3, 0,
-    0, 0, 0, 0, 0, 0, 16, 0, 0, 0, 0, 0, 0,
-];
+fn attr_of_a() -> &'static [u8] {
+    b"\x01\0\0\0\0\0\0\0\
+      \0\0\0\0\0\0\0\0\
+      \x02\0\0\0\0\0\0\0\
+      \0\0\0\0\0\0\0\0\
+      \0\0\0\0\0\0\0\0\
+      \xe8\x03\0\0\0\0\0\0\
+      \xe8\x03\0\0\0\0\0\0\
+      \xe8\x03\0\0\0\0\0\0\
+      \0\0\0\0\0\0\0\0\
+      \0\0\0\0\xed\x41\0\0\
+      \x02\0\0\0\xe8\x03\0\0\
+      \xe8\x03\0\0\0\0\0\0\
+      \0\x10\0\0\0\0\0\0"
+        .as_slice()
+}
 
 fn request<'a>(unique: u64, nodeid: u64, op: Op<'a>) -> Request<'a> {
     let header = InHeader {
@@ -74,7 +96,8 @@ fn is_kept(request: &Request<'_>) -> bool
         Op::Lookup { .. } => true,
         Op::Getattr { .. } => true,
         Op::Mkdir { .. } => true,
-        Op::Unsupported { .. } => false,
+        Op::Destroy => true,
+        _ => false,
     }
 }
 
@@ -164,14 +187,15 @@ fn is_said(done: &Done, errno: Errno, body: &[u8], repeated: bool) -> bool {
 // Whether MKDIR `a` was answered as in row `first-run`.
 fn made_a(done: &Option<Done>, repeated: bool) -> bool {
     match done {
-        Some(done) => is_said(done, Errno::NONE, ENTRY_OF_A.as_slice(), repeated),
+        Some(done) => is_said(done, Errno::NONE, entry_of_a(), repeated),
         None => false,
     }
 }
 
+// Whether GETATTR of `a` was answered as in row `first-run`.
 fn told_a(done: &Option<Done>) -> bool {
     match done {
-        Some(done) => is_said(done, Errno::NONE, ATTR_OF_A.as_slice(), false),
+        Some(done) => is_said(done, Errno::NONE, attr_of_a(), false),
         None => false,
     }
 }
@@ -196,21 +220,63 @@ fn new_keeper(rt: &HostRuntime) -> Result<PlainKeeper, Memory> {
     PlainKeeper::new(rt.alloc(), start)
 }
 
+fn makes_a<K: Keeper>(
+    keeper: &mut K,
+    request: Request<'_>,
+    repeated: bool,
+) -> Result<bool, StoreFault> {
+    let done = perform_one(keeper, request, &[])?;
+    Ok(made_a(&done, repeated))
+}
+
+fn tells_a<K: Keeper>(keeper: &mut K, request: Request<'_>) -> Result<bool, StoreFault> {
+    let done = perform_one(keeper, request, &[])?;
+    Ok(told_a(&done))
+}
+
+fn refuses<K: Keeper>(
+    keeper: &mut K,
+    request: Request<'_>,
+    errno: Errno,
+    repeated: bool,
+) -> Result<bool, StoreFault> {
+    let done = perform_one(keeper, request, &[])?;
+    Ok(refused(&done, errno, repeated))
+}
+
+fn gives_node<K: Keeper>(
+    keeper: &mut K,
+    request: Request<'_>,
+    node: u8,
+) -> Result<bool, StoreFault> {
+    let done = perform_one(keeper, request, &[])?;
+    Ok(is_node(&done, node))
+}
+
 // Rows `new-counts`, `first-run`, `twice` and `reuse-of-an-id`.
 #[test]
 fn repeats_are_answered_alike(rt: HostRuntime) -> Result<(), StoreFault> {
     let mut keeper = new_keeper(&rt)?;
     assert!(rt; holds(&mut keeper, 1, 0)?, "new");
-    let made = perform_one(&mut keeper, mkdir(6, b"a"), &[])?;
-    assert!(rt; made_a(&made, false), "made");
-    let again = perform_one(&mut keeper, mkdir(UNIQUE_RESEND + 6, b"a"), &[])?;
-    assert!(rt; made_a(&again, true), "again");
-    let told = perform_one(&mut keeper, getattr(8, 2), &[])?;
-    assert!(rt; told_a(&told), "told");
-    let reused = perform_one(&mut keeper, lookup(6, b"b"), &[])?;
-    assert!(rt; made_a(&reused, true), "reused");
+    assert!(rt; makes_a(&mut keeper, mkdir(6, b"a"), false)?, "made");
+    assert!(rt;
+        makes_a(&mut keeper, mkdir(UNIQUE_RESEND + 6, b"a"), true)?,
+        "again"
+    );
+    assert!(rt; tells_a(&mut keeper, getattr(8, 2))?, "told");
+    assert!(rt; makes_a(&mut keeper, lookup(6, b"b"), true)?, "reused");
     assert!(rt; holds(&mut keeper, 2, 2)?, "at the end");
     Ok(())
+}
+
+// Whether both of a group are answered as MKDIR `a`, the last as a repeat.
+fn makes_a_once<K: Keeper>(
+    keeper: &mut K,
+    first: Request<'_>,
+    last: Request<'_>,
+) -> Result<bool, StoreFault> {
+    let dones = perform_two(keeper, first, last, &[])?;
+    Ok(made_a(&dones.0, false) && made_a(&dones.1, true))
 }
 
 // Row `repeat-in-group`.
@@ -218,9 +284,7 @@ fn repeats_are_answered_alike(rt: HostRuntime) -> Result<(), StoreFault> {
 fn repeats_in_a_group_act_once(rt: HostRuntime) -> Result<(), StoreFault> {
     let mut keeper = new_keeper(&rt)?;
     let resent = mkdir(UNIQUE_RESEND + 4, b"a");
-    let (first, last) = perform_two(&mut keeper, mkdir(4, b"a"), resent, &[])?;
-    assert!(rt; made_a(&first, false), "first");
-    assert!(rt; made_a(&last, true), "last");
+    assert!(rt; makes_a_once(&mut keeper, mkdir(4, b"a"), resent)?, "both");
     assert!(rt; holds(&mut keeper, 2, 1)?, "at the end");
     Ok(())
 }
@@ -229,25 +293,33 @@ fn repeats_in_a_group_act_once(rt: HostRuntime) -> Result<(), StoreFault> {
 #[test]
 fn refusals_and_reads_are_recorded(rt: HostRuntime) -> Result<(), StoreFault> {
     let mut keeper = new_keeper(&rt)?;
-    let missing = perform_one(&mut keeper, lookup(4, b"hello"), &[])?;
-    assert!(rt; refused(&missing, Errno::ENOENT, false), "missing");
-    let made = perform_one(&mut keeper, mkdir(6, b"hello"), &[])?;
-    assert!(rt; is_node(&made, 2), "made");
-    let resent = perform_one(&mut keeper, lookup(UNIQUE_RESEND + 4, b"hello"), &[])?;
-    assert!(rt; refused(&resent, Errno::ENOENT, true), "resent");
-    let found = perform_one(&mut keeper, lookup(8, b"hello"), &[])?;
-    assert!(rt; is_node(&found, 2), "found");
+    let missing = lookup(4, b"hello");
+    assert!(rt;
+        refuses(&mut keeper, missing, Errno::ENOENT, false)?,
+        "missing"
+    );
+    assert!(rt; gives_node(&mut keeper, mkdir(6, b"hello"), 2)?, "made");
+    let resent = lookup(UNIQUE_RESEND + 4, b"hello");
+    assert!(rt;
+        refuses(&mut keeper, resent, Errno::ENOENT, true)?,
+        "resent"
+    );
+    assert!(rt; gives_node(&mut keeper, lookup(8, b"hello"), 2)?, "found");
     Ok(())
+}
+
+// Makes and finds `a` under ids 4 and 6, and settles the first.
+fn settles_one<K: Keeper>(keeper: &mut K) -> Result<bool, StoreFault> {
+    perform_one(keeper, mkdir(4, b"a"), &[])?;
+    perform_one(keeper, lookup(6, b"a"), &[])?;
+    perform_one(keeper, getattr(8, 2), &[Id(4), Id(12)])?;
+    Ok(!has_record(keeper, 4)? && has_record(keeper, 6)?)
 }
 
 #[test]
 fn settled_records_go(rt: HostRuntime) -> Result<(), StoreFault> {
     let mut keeper = new_keeper(&rt)?;
-    perform_one(&mut keeper, mkdir(4, b"a"), &[])?;
-    perform_one(&mut keeper, lookup(6, b"a"), &[])?;
-    perform_one(&mut keeper, getattr(8, 2), &[Id(4), Id(12)])?;
-    assert!(rt; !has_record(&mut keeper, 4)?, "settled");
-    assert!(rt; has_record(&mut keeper, 6)?, "not settled");
+    assert!(rt; settles_one(&mut keeper)?, "settled");
     assert!(rt; holds(&mut keeper, 2, 2)?, "at the end");
     Ok(())
 }
@@ -255,21 +327,77 @@ fn settled_records_go(rt: HostRuntime) -> Result<(), StoreFault> {
 #[test]
 fn a_mount_keeps_names_and_counters(rt: HostRuntime) -> Result<(), StoreFault> {
     let mut keeper = new_keeper(&rt)?;
-    perform_one(&mut keeper, mkdir(4, b"a"), &[])?;
+    assert!(rt; makes_a(&mut keeper, mkdir(4, b"a"), false)?, "before");
     begin_mount(&mut keeper)?;
     assert!(rt; holds(&mut keeper, 2, 0)?, "begun");
-    let made = perform_one(&mut keeper, mkdir(4, b"b"), &[])?;
-    assert!(rt; is_node(&made, 3), "made");
-    let found = perform_one(&mut keeper, lookup(6, b"a"), &[])?;
-    assert!(rt; is_node(&found, 2), "found");
+    assert!(rt; gives_node(&mut keeper, mkdir(4, b"b"), 3)?, "made");
+    assert!(rt; gives_node(&mut keeper, lookup(6, b"a"), 2)?, "found");
     Ok(())
 }
 
-// A group that fails where another ran leaves what that one left, and passes afterwards.
-fn group_after_refusal<K: Keeper>(keeper: &mut K) -> Result<bool, StoreFault> {
-    let unchanged = has_failed(keeper) && has_record(keeper, 4)? && holds(keeper, 2, 1)?;
-    perform_two(keeper, mkdir(6, b"b"), lookup(8, b"b"), &[Id(4)])?;
-    Ok(unchanged)
+// Whether MKDIR `a` is recorded under the id, and its answer is that of row `first-run`.
+fn has_made_a<K: Keeper>(keeper: &mut K, id: u64) -> Result<bool, StoreFault> {
+    match keeper.answer_of(Id(id))? {
+        Some(answer) => {
+            Ok(answer.errno == Errno::NONE && answer.body.as_slice() == entry_of_a())
+        }
+        None => Ok(false),
+    }
+}
+
+// Whether a keeper that failed is a new one in all else. LOOKUP 10 is recorded then.
+fn is_new<K: Keeper>(keeper: &mut K) -> Result<bool, StoreFault> {
+    let held = has_failed(keeper) && holds(keeper, 1, 0)? && !has_record(keeper, 4)?;
+    Ok(held && refuses(keeper, lookup(10, b"a"), Errno::ENOENT, false)?)
+}
+
+// Whether a keeper that failed holds `a`, made under id 4, and nothing else. Requests 10, 12 and 14
+// are recorded then.
+fn holds_only_a<K: Keeper>(keeper: &mut K) -> Result<bool, StoreFault> {
+    let held = has_failed(keeper) && holds(keeper, 2, 1)?;
+    let recorded = has_made_a(keeper, 4)? && !has_record(keeper, 6)? && !has_record(keeper, 8)?;
+    let answered = makes_a(keeper, lookup(10, b"a"), false)?
+        && refuses(keeper, lookup(12, b"b"), Errno::ENOENT, false)?
+        && tells_a(keeper, getattr(14, 2))?;
+    Ok(held && recorded && answered)
+}
+
+// The first group: `a` is made. A fault is want of memory and leaves a new store, which takes the
+// group afterwards.
+fn first_group<K: Keeper>(keeper: &mut K) -> Result<bool, StoreFault> {
+    match perform_one(keeper, mkdir(4, b"a"), &[]) {
+        Ok(made) => Ok(made_a(&made, false)),
+        Err(StoreFault::Memory) => {
+            let unchanged = is_new(keeper)?;
+            let made = perform_one(keeper, mkdir(4, b"a"), &[Id(10)])?;
+            Ok(unchanged && made_a(&made, false))
+        }
+        Err(fault) => Err(fault),
+    }
+}
+
+// The second group: `b` is made and found, and the first record goes. A fault leaves what the first
+// group left.
+fn second_group<K: Keeper>(keeper: &mut K) -> Result<bool, StoreFault> {
+    match perform_two(keeper, mkdir(6, b"b"), lookup(8, b"b"), &[Id(4)]) {
+        Ok((made, found)) => Ok(is_node(&made, 3) && is_node(&found, 3)),
+        Err(StoreFault::Memory) => {
+            let unchanged = holds_only_a(keeper)?;
+            let settled = [Id(4), Id(10), Id(12), Id(14)];
+            let (made, found) = perform_two(keeper, mkdir(6, b"b"), lookup(8, b"b"), &settled)?;
+            Ok(unchanged && is_node(&made, 3) && is_node(&found, 3))
+        }
+        Err(fault) => Err(fault),
+    }
+}
+
+// A recorded answer. A fault leaves the record.
+fn record_stays<K: Keeper>(keeper: &mut K, id: u64) -> Result<bool, StoreFault> {
+    match has_record(keeper, id) {
+        Ok(found) => Ok(found),
+        Err(StoreFault::Memory) => Ok(has_failed(keeper) && has_record(keeper, id)?),
+        Err(fault) => Err(fault),
+    }
 }
 
 // Run with each allocation refused in turn.
@@ -278,16 +406,9 @@ fn refused_memory_changes_nothing(rt: HostRuntime) -> Result<(), StoreFault> {
     let Ok(mut keeper) = new_keeper(&rt) else {
         return Ok(());
     };
-    if perform_one(&mut keeper, mkdir(4, b"a"), &[]).is_err() {
-        assert!(rt;
-            has_failed(&keeper) && holds(&mut keeper, 1, 0)?,
-            "first group"
-        );
-        return Ok(());
-    }
-    if perform_two(&mut keeper, mkdir(6, b"b"), lookup(8, b"b"), &[Id(4)]).is_err() {
-        assert!(rt; group_after_refusal(&mut keeper)?, "second group");
-    }
+    assert!(rt; first_group(&mut keeper)?, "first group");
+    assert!(rt; second_group(&mut keeper)?, "second group");
+    assert!(rt; record_stays(&mut keeper, 6)?, "a record");
     assert!(rt; holds(&mut keeper, 3, 2)?, "at the end");
     Ok(())
 }

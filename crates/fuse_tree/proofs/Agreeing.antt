@@ -1,12 +1,14 @@
 -- A plan over the rows of a state agrees with what is done in that state.
-use Rattle.std.proofs.Common.{◌≡◌, ◌==◌, ℕ, Bool, true, false, cond, not, List, [], ◌∷◌, length, Option, Some, None, refl, sym, ap, subst, ◌∙◌}
+use Rattle.std.proofs.Common.{◌≡◌, ◌==◌, ℕ, Bool, true, false, cond, if◌then◌else◌, not, List, [], ◌∷◌, length, Option, Some, None, refl, sym, ap, subst, ◌∙◌}
 use Rattle.std.specs.Prelude.{is_some, Result, Ok, Err, IfOk, IfErr}
 use Rattle.std.specs.Option.{option_map}
 use Rattle.fuse_wire.specs.declared.errno.Errno.{Errno}
 use Rattle.fuse_wire.specs.declared.errno.TheConstants.Errno.{ENOENT, EEXIST, ENOTDIR, ENOSPC, ENOSYS, ESTALE}
 use Rattle.fuse_wire.specs.declared.moment.Moment.{Moment}
 use Rattle.fuse_request.specs.declared.request.InHeader.{InHeader}
-use Rattle.fuse_request.specs.Act.{Act, Asked}
+use Rattle.fuse_request.specs.declared.request.Op.{Op}
+use Rattle.fuse_request.specs.declared.request.Op.TheVariants as ops
+use Rattle.fuse_request.specs.Act.{Act, Asked, act}
 use Rattle.fuse_request.specs.Act as acts
 use Rattle.fuse_answer.specs.Said.{Said}
 use Rattle.fuse_tree.specs.declared.planning.fault.PlanFault.{PlanFault}
@@ -18,9 +20,9 @@ use Rattle.fuse_tree.specs.declared.rows.NodeRow.{NodeRow}
 use Rattle.fuse_tree.specs.declared.rows.Planned.{Planned}
 use Rattle.fuse_tree.specs.State.{State, Node, Tree, is_dir, node_at, is_named, name_fault}
 use Rattle.fuse_tree.specs.Rows.{full_of, row_of, rowed, rows_of_state, row_at, entry_at, apply}
-use Rattle.fuse_tree.specs.Do.{Done, make, mkdir, lookup_child, lookup_entry, lookup_named, lookup, begun, dir_mode, is_full, refuse, refuse_for, done, do_at, do_act}
+use Rattle.fuse_tree.specs.Do.{Done, make, mkdir, lookup_child, lookup_entry, lookup_named, lookup, begun, dir_mode, is_full, refuse, refuse_for, done, do_at, do_act, answer, names_node}
 use Rattle.fuse_tree.specs.Plan.{Meets, TreeKept, look_fault}
-use Rattle.fuse_tree.specs.Planning.{Tells, refused, refused_for, entry_body, plan_make, plan_mkdir, plan_lookup_named, plan_lookup, plan_of, plan_at, plan_act, plan_child, child_of}
+use Rattle.fuse_tree.specs.Planning.{Tells, refused, refused_for, entry_body, plan_make, plan_mkdir, plan_lookup_named, plan_lookup, told, plan_of, plan_at, plan_act, plan_child, child_of}
 use Rattle.fuse_tree.proofs.Puts.{row_found, node_found}
 use Rattle.fuse_tree.proofs.Making.{new_full, make_rows, make_tree}
 
@@ -86,7 +88,8 @@ act_agrees : (s : State) (header : InHeader) (a : Act) (now : Moment) (d : Node)
 act_agrees s header (acts.Lookup name) now d tree e = lookup_agrees s name d tree
 act_agrees s header (acts.Getattr flags fh) now d tree e = record { answer = refl; rows = refl; tree = tree }
 act_agrees s header (acts.Mkdir mode umask name) now d tree e = mkdir_agrees s header mode name now d tree e
-act_agrees s header (acts.Unsupported opcode body) now d tree e = refused_agrees s tree ENOSYS
+act_agrees s header acts.Destroy now d tree e = record { answer = refl; rows = refl; tree = tree }
+act_agrees s header _ now d tree e = refused_agrees s tree ENOSYS
 
 at_agrees : (s : State) (request : Asked) (now : Moment) (o : Option Node) → Tree s → node_at s request.header.nodeid ≡ o
     → Agrees s (plan_at request now (option_map (row_of s) o) (rows_of_state s)) (do_at s request now o)
@@ -94,9 +97,12 @@ at_agrees s request now None tree e = refused_agrees s tree ESTALE
 at_agrees s request now (Some d) tree e =
     act_agrees s request.header request.act now d tree (subst (λ number. node_at s number ≡ Some d) (sym (node_found s request.header.nodeid d tree e).0) e)
 
-plan_agrees : (s : State) (request : Asked) (now : Moment) → Tree s → Agrees s (plan_of request now (rows_of_state s)) (do_at s request now (node_at s request.header.nodeid))
-plan_agrees s request now tree =
+node_agrees : (s : State) (request : Asked) (now : Moment) → Tree s → Agrees s (plan_at request now (row_at (rows_of_state s) request.header.nodeid) (rows_of_state s)) (do_at s request now (node_at s request.header.nodeid))
+node_agrees s request now tree =
     subst (λ (o : Option NodeRow). Agrees s (plan_at request now o (rows_of_state s)) (do_at s request now (node_at s request.header.nodeid))) (sym (row_found s request.header.nodeid)) (at_agrees s request now (node_at s request.header.nodeid) tree refl)
+
+plan_agrees : (s : State) (request : Asked) (now : Moment) → Tree s → Agrees s (plan_of request now (rows_of_state s)) (if names_node request.act then do_at s request now (node_at s request.header.nodeid) else answer s [])
+plan_agrees s request now tree = both s (names_node request.act) _ _ _ _ (λ _. node_agrees s request now tree) (λ _. record { answer = refl; rows = refl; tree = tree })
 
 -- what a plan over the rows of a tree is
 pub plan_meets : (s : State) (request : Asked) (now : Moment) → Tree s → Meets s (plan_of request now (rowed s)) (done s request now)
@@ -115,3 +121,8 @@ no_tree q (Ok p) = tt
 no_tree q (Err (faults.Look f)) = λ is _. absurd cc
 no_tree q (Err faults.Memory) = λ is _. absurd cc
 no_tree q (Err faults.NotATree) = λ is tells. (tells refl).1 refl
+
+-- every request but DESTROY looks at its node
+pub looks_at_node : (op : Op) → ¬ (op ≡ ops.Destroy) → names_node (act op) ≡ true
+looks_at_node ops.Destroy h = absurd (h refl)
+looks_at_node _ h = refl

@@ -1,6 +1,7 @@
 pub mod Agreeing
 pub mod Bounds
 pub mod Counts
+pub mod Fitting
 pub mod Lists
 pub mod Making
 mod Mounts

@@ -1,6 +1,6 @@
 -- What each request does to a state and answers (own profile), over the whole state: the first check that
 -- applies decides. Neither unique nor pid nor the extensions are looked at.
-use Rattle.std.specs.Prelude.{◌+◌, ◌-◌, ◌/◌, ◌%◌, ◌==◌, ◌||◌, ℕ, Bool, not, nat_le, if◌then◌else◌, List, [], ◌∷◌, ◌++◌, length, map, Option, Some, None, is_some}
+use Rattle.std.specs.Prelude.{◌+◌, ◌-◌, ◌/◌, ◌%◌, ◌==◌, ◌||◌, ℕ, Bool, true, false, not, nat_le, if◌then◌else◌, List, [], ◌∷◌, ◌++◌, length, map, Option, Some, None, is_some}
 use Rattle.fuse_wire.specs.declared.errno.Errno.{Errno}
 use Rattle.fuse_wire.specs.declared.errno.TheConstants.Errno.{ENOENT, EEXIST, ENOTDIR, ENOSPC, ENOSYS, ESTALE}
 use Rattle.fuse_wire.specs.declared.moment.Moment.{Moment}
@@ -164,17 +164,23 @@ mkdir s header mode name now n =
 
 -- ---- all requests
 
--- what is asked, at the node that the header names
+-- what is asked, at the node that the header names; what isn't built yet is refused as what isn't of the profile
 abbrev pub do_act : State → InHeader → Act → Moment → Node → Done
 do_act s header (acts.Lookup name) now n = lookup s name n
 do_act s header (acts.Getattr flags fh) now n = getattr s n
 do_act s header (acts.Mkdir mode umask name) now n = mkdir s header mode name now n
-do_act s header (acts.Unsupported opcode body) now n = refuse s ENOSYS
+do_act s header acts.Destroy now n = answer s []
+do_act s header _ now n = refuse s ENOSYS
 
 abbrev pub do_at : State → Asked → Moment → Option Node → Done
 do_at s request now None = refuse s ESTALE
 do_at s request now (Some n) = do_act s request.header request.act now n
 
+-- whether the node that the header names is looked at
+abbrev pub names_node : Act → Bool
+names_node acts.Destroy = false
+names_node _ = true
+
 -- what a request does at a moment
 unfoldable pub done : State → Asked → Moment → Done
-done s request now = do_at s request now (node_at s request.header.nodeid)
+done s request now = if names_node request.act then do_at s request now (node_at s request.header.nodeid) else answer s []

@@ -2,6 +2,7 @@
 use Rattle.std.specs.Prelude.{◌≡◌, Option, Some, None, Result, Ok, Err}
 use Rattle.fuse_wire.specs.declared.moment.Moment.{Moment}
 use Rattle.fuse_request.specs.Act.{Asked}
+use Rattle.fuse_answer.specs.Said.{FitsAnswer}
 use Rattle.fuse_tree.specs.declared.look.LookFault.{LookFault}
 use Rattle.fuse_tree.specs.declared.planning.fault.PlanFault.{PlanFault}
 use Rattle.fuse_tree.specs.declared.planning.fault.PlanFault.TheVariants as faults
@@ -36,3 +37,7 @@ NewStoreIsTree = (now : Moment) → Tree (new_store now)
 -- the rows tell the whole state
 abbrev pub RowsTellState : Type 0
 RowsTellState = (s other : State) → rowed s ≡ rowed other → s ≡ other
+
+-- what is answered has no body beside an error, and none that is too long
+abbrev pub AnswersFit : Type 0
+AnswersFit = (s : State) (request : Asked) (now : Moment) → FitsAnswer (done s request now).said

@@ -22,7 +22,7 @@ use Rattle.fuse_tree.specs.declared.rows.Planned.{Planned}
 use Rattle.fuse_tree.specs.State.{is_dir, name_fault}
 use Rattle.fuse_tree.specs.Rows.{Rows, IsRowed, row_at, entry_at}
 use Rattle.fuse_tree.specs.Plan.{look_fault}
-use Rattle.fuse_tree.specs.Do.{is_full, begun, dir_mode, entry_of, attr_out_of}
+use Rattle.fuse_tree.specs.Do.{is_full, begun, dir_mode, entry_of, attr_out_of, names_node}
 
 -- ---- what the parts answer
 
@@ -170,11 +170,12 @@ abbrev pub plan_act : InHeader → Act → Moment → NodeRow → Rows → Plann
 plan_act header (acts.Lookup name) now row rows = plan_lookup name row rows
 plan_act header (acts.Getattr flags fh) now row rows = told (attr_body row)
 plan_act header (acts.Mkdir mode umask name) now row rows = plan_mkdir header mode name now row rows
-plan_act header (acts.Unsupported opcode body) now row rows = refused ENOSYS
+plan_act header acts.Destroy now row rows = told []
+plan_act header _ now row rows = refused ENOSYS
 
 abbrev pub plan_at : Asked → Moment → Option NodeRow → Rows → Planned
 plan_at request now None rows = refused ESTALE
 plan_at request now (Some row) rows = plan_act request.header request.act now row rows
 
 abbrev pub plan_of : Asked → Moment → Rows → Planned
-plan_of request now rows = plan_at request now (row_at rows request.header.nodeid) rows
+plan_of request now rows = if names_node request.act then plan_at request now (row_at rows request.header.nodeid) rows else told []

@@ -1,4 +1,6 @@
-ghost use Rattle.fuse_tree.specs.Plan.{TreeKept, NewStoreIsTree, RowsTellState};
+ghost use Rattle.fuse_tree.specs.Plan.{TreeKept, NewStoreIsTree, RowsTellState, AnswersFit};
+
+use fuse_answer::record_sizes;
 
 /// What is done in a tree leaves a tree.
 pub fn tree_kept()
@@ -14,3 +16,10 @@ pub fn new_store_is_tree()
 pub fn rows_tell_state()
     ensures { RowsTellState }
 {}
+
+/// What is answered fits.
+pub fn answers_fit()
+    ensures { AnswersFit }
+{
+    record_sizes();
+}

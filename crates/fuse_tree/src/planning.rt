@@ -18,7 +18,7 @@ mod names;
 
 use crate::look::Look;
 use crate::rows::{NodeRow, Planned};
-use answers::refused;
+use answers::{done_nothing, refused};
 pub use fault::PlanFault;
 use finding::find_node;
 use fuse_request::{Op, Request};
@@ -29,7 +29,7 @@ use mkdir::plan_mkdir;
 use std::alloc::Global;
 
 /// What the request answers in the tree whose rows lie behind `look`, and which rows it changes.
-/// Nothing is changed. An operation that is not of the profile is answered ENOSYS.
+/// Nothing is changed. An operation that is not built, or not of the profile, is answered ENOSYS.
 pub fn plan<L: Look>(
     look: &mut L,
     alloc: Global,
@@ -49,6 +49,7 @@ pub fn plan<L: Look>(
     plan_request(look, alloc, request, now)
 }
 
+#[tactic(auto, using(crate::proofs::Agreeing::looks_at_node))]
 fn plan_request<L: Look>(
     look: &mut L,
     alloc: Global,
@@ -61,6 +62,9 @@ fn plan_request<L: Look>(
     ensures looks { look_fault result ≡ None → L.looks look.old look.new }
     ensures fails { OnErr result (L.fails look.old look.new) }
 {
+    if let Op::Destroy = request.op {
+        return Ok(done_nothing(alloc));
+    }
     let Some(row) = find_node(look, request.header.nodeid)? else {
         return Ok(refused(alloc, Errno::ESTALE));
     };
@@ -88,6 +92,24 @@ fn plan_op<L: Look>(
         Op::Mkdir { mode, name, .. } => {
             plan_mkdir(look, alloc, &request.header, *mode, name, now, row)
         }
-        Op::Unsupported { .. } => Ok(refused(alloc, Errno::ENOSYS)),
+        Op::Destroy => Ok(done_nothing(alloc)),
+        Op::Forget { .. }
+        | Op::Setattr(_)
+        | Op::Mknod { .. }
+        | Op::Unlink { .. }
+        | Op::Rmdir { .. }
+        | Op::Rename { .. }
+        | Op::OpenFile { .. }
+        | Op::Read(_)
+        | Op::Write { .. }
+        | Op::Release(_)
+        | Op::Init(_)
+        | Op::OpenDir { .. }
+        | Op::ReadDir(_)
+        | Op::ReleaseDir(_)
+        | Op::Interrupt { .. }
+        | Op::BatchForget { .. }
+        | Op::Rename2 { .. }
+        | Op::Unsupported { .. } => Ok(refused(alloc, Errno::ENOSYS)),
     }
 }

@@ -189,6 +189,8 @@ fn refuses(rt: HostRuntime) -> Result<(), Fail> {
         body: b"",
     };
     assert_eq!(rt; errno_of(&mut look, alloc, 1, create)?, 38);
+    // DESTROY alone looks at no node.
+    assert_eq!(rt; errno_of(&mut look, alloc, 4, Op::Destroy)?, 0);
     Ok(())
 }
 

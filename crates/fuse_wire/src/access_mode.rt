@@ -1,7 +1,33 @@
-/// What an open file may be used for: the lowest two bits of the flags of OPEN.
+ghost use Rattle.std.specs.Prelude.{◌≡◌};
+ghost use Rattle.fuse_wire.specs.Flags.{access_of};
+
+/// The bits of the flags of OPEN that say what the file is opened for: O_ACCMODE of Linux.
+pub const O_ACCMODE: u32 = 3;
+
+pub const O_RDONLY: u32 = 0;
+
+pub const O_WRONLY: u32 = 1;
+
+pub const O_RDWR: u32 = 2;
+
+/// What an open file may be used for.
 #[derive(Clone, Copy, Debug, PartialEq, Eq)]
 pub enum AccessMode {
     ReadOnly,
     WriteOnly,
     ReadWrite,
+}
+
+impl AccessMode {
+    /// What the flags of OPEN ask for. `None` where they ask for the fourth, which has no meaning.
+    pub fn of(flags: u32) -> Option<AccessMode>
+        ensures { result ≡ access_of flags }
+    {
+        match flags & O_ACCMODE {
+            O_RDONLY => Some(AccessMode::ReadOnly),
+            O_WRONLY => Some(AccessMode::WriteOnly),
+            O_RDWR => Some(AccessMode::ReadWrite),
+            _ => None,
+        }
+    }
 }

@@ -14,10 +14,11 @@ mod moment;
 pub mod opcode;
 mod places;
 mod put;
+mod setattr_valid;
 #[cfg(test)]
 mod tests;
 
-pub use access_mode::AccessMode;
+pub use access_mode::{AccessMode, O_ACCMODE, O_RDONLY, O_RDWR, O_WRONLY};
 pub use byte_list::ByteList;
 pub use errno::Errno;
 pub use fields::Fields;
@@ -28,3 +29,4 @@ pub use memory::Memory;
 pub use moment::Moment;
 pub use places::{u16_at, u32_at, u64_at};
 pub use put::{put_bytes, put_i32, put_u16, put_u32, put_u64};
+pub use setattr_valid::SetattrValid;

@@ -26,6 +26,12 @@ fn has_resend(flags: InitFlags) -> bool
     flags.contains(InitFlags::HAS_RESEND)
 }
 
+fn sets_size(valid: SetattrValid) -> bool
+    ensures { result ≡ (bit_and valid.0 0x8 == 0x8) }
+{
+    valid.contains(SetattrValid::SIZE)
+}
+
 #[test]
 fn vectors() {
     lowest_first();
@@ -97,6 +103,43 @@ fn init_flags(rt: HostRuntime) {
     let short = InitFlags::ASYNC_READ | InitFlags::BIG_WRITES | InitFlags::INIT_EXT;
     assert_eq!(rt; (known & short).bits(), 0x4000_0021);
     assert_eq!(rt; InitFlags::all().bits(), 0x80_4000_0021);
+}
+
+#[test]
+fn setattr_valid(rt: HostRuntime) {
+    let valid = SetattrValid::of(0xffff_f009);
+    assert_eq!(rt; valid, SetattrValid::MODE | SetattrValid::SIZE);
+    assert!(rt; sets_size(valid));
+    assert!(rt; !sets_size(SetattrValid::KILL_SUIDGID));
+    assert_eq!(rt; SetattrValid::all().bits(), 0xfff);
+    let named = [
+        SetattrValid::MODE,
+        SetattrValid::UID,
+        SetattrValid::GID,
+        SetattrValid::SIZE,
+        SetattrValid::ATIME,
+        SetattrValid::MTIME,
+        SetattrValid::FH,
+        SetattrValid::ATIME_NOW,
+        SetattrValid::MTIME_NOW,
+        SetattrValid::LOCKOWNER,
+        SetattrValid::CTIME,
+        SetattrValid::KILL_SUIDGID,
+    ];
+    let mut bit = 1;
+    for flag in named {
+        assert_eq!(rt; flag.bits(), bit);
+        bit = bit.wrapping_mul(2);
+    }
+}
+
+#[test]
+fn access_modes(rt: HostRuntime) {
+    assert_eq!(rt; AccessMode::of(0x8000), Some(AccessMode::ReadOnly));
+    assert_eq!(rt; AccessMode::of(0x8001), Some(AccessMode::WriteOnly));
+    assert_eq!(rt; AccessMode::of(2), Some(AccessMode::ReadWrite));
+    assert_eq!(rt; AccessMode::of(3), None);
+    assert_eq!(rt; AccessMode::of(0x8003), None);
 }
 
 #[test]

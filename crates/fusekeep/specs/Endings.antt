@@ -1,9 +1,11 @@
 -- The table of endings: the exit status of each, and its line on standard error (own profile).
-use Rattle.std.specs.Prelude.{List, ℕ, ◌++◌, codes, decimal, Option, Some, None}
+use Rattle.std.specs.Prelude.{◌≤◌, List, ℕ, ◌++◌, codes, decimal, Option, Some, None}
 use Rattle.fuse_request.specs.declared.framer.FrameFault.{FrameFault}
 use Rattle.fuse_request.specs.declared.framer.FrameFault.TheVariants as frame
 use Rattle.fuse_store.specs.declared.fault.StoreFault.{StoreFault}
 use Rattle.fuse_store.specs.declared.fault.StoreFault.TheVariants as store
+use Rattle.fuse_session.specs.declared.ended.Ended.{Ended}
+use Rattle.fuse_session.specs.declared.ended.Ended.TheVariants as session
 use Rattle.fusekeep.specs.declared.ending.Ending.{Ending}
 use Rattle.fusekeep.specs.declared.ending.Ending.TheVariants.{Done, Short, TooLong, Cut, ZeroUnique, Usage, Sql, NotAStore, Version, Damaged, PortFailed, PortTurns, Memory}
 
@@ -21,6 +23,10 @@ status_of Damaged = 3
 status_of PortFailed = 4
 status_of PortTurns = 4
 status_of Memory = 5
+
+-- the stream was served as far as it goes
+abbrev pub IsOfStream : Ending → Type 0
+IsOfStream ending = status_of ending ≤ 1
 
 -- the line, without its line feed; of words that are no command clap has said all
 abbrev pub line_of : Ending → Option (List ℕ)
@@ -53,3 +59,14 @@ store_ending (store.Sql _) = Sql
 store_ending store.NotAStore = NotAStore
 store_ending (store.Version n) = Version n
 store_ending store.Damaged = Damaged
+
+-- the ending of a run whose session ended so
+abbrev pub session_ending : Ended → Ending
+session_ending session.End = Done
+session_ending session.Destroyed = Done
+session_ending session.Turns = PortTurns
+session_ending (session.Frame fault) = stream_ending fault
+session_ending (session.ZeroUnique at) = ZeroUnique at
+session_ending session.PortFailed = PortFailed
+session_ending (session.Store fault) = store_ending fault
+session_ending session.Memory = Memory

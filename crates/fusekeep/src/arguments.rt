@@ -19,27 +19,32 @@ pub enum Run<'a> {
     Replay { at: u64, stream: &'a str },
 }
 
-fn replay_command<'a>(alloc: Global) -> Result<Command<'a>, AllocError> {
-    let at = Arg::new(alloc, AT)
+fn at_argument<'a>(alloc: Global) -> Arg<'a> {
+    Arg::new(alloc, AT)
         .long(AT)
         .value_name("SECS")
         .value_parser(value_parser!(u64))
         .required(true)
-        .help("The second at which all requests are served");
-    let stream = Arg::new(alloc, STREAM)
+        .help("The second at which all requests are served")
+}
+
+fn stream_argument<'a>(alloc: Global) -> Arg<'a> {
+    Arg::new(alloc, STREAM)
         .value_name("STREAM")
         .required(true)
-        .help("The file of the stream, or - for standard input");
+        .help("The file of the stream, or - for standard input")
+}
+
+fn replay_command<'a>(alloc: Global) -> Result<Command<'a>, AllocError> {
     Command::new(alloc, REPLAY)
         .about("Serves a recorded stream over a new store in memory")
-        .arg(at)?
-        .arg(stream)
+        .arg(at_argument(alloc))?
+        .arg(stream_argument(alloc))
 }
 
 fn program_command<'a>(alloc: Global) -> Result<Command<'a>, AllocError> {
     Command::new(alloc, "fusekeep")
         .about("Serves FUSE requests, with recovery by resends")
-        .no_binary_name(true)
         .subcommand_required(true)
         .subcommand(replay_command(alloc)?)
 }
@@ -62,7 +67,7 @@ fn told(alloc: Global, kind: ErrorKind, text: &str) -> Result<Error, AllocError>
     program_command(alloc)?.error(kind, text)
 }
 
-/// Reads the words after the program's name. An `Err` is what is to be said of them: a mistake, the
+/// Reads the words of a command line, of which the first is the program's name. An `Err` is what is to be said of them: a mistake, the
 /// help that was asked for, or want of memory.
 pub fn parse<'a, S: AsStr>(alloc: Global, words: &'a [S]) -> Result<Run<'a>, Error> {
     let matches = program_command(alloc)?.try_get_matches_from(words)?;

@@ -1,7 +1,8 @@
 ghost use Rattle.std.specs.Prelude.{◌≡◌, nat_le, option_map};
-ghost use Rattle.fusekeep.specs.Endings.{line_of, status_of, store_ending, stream_ending};
+ghost use Rattle.fusekeep.specs.Endings.{line_of, session_ending, status_of, store_ending, stream_ending};
 
 use fuse_request::FrameFault;
+use fuse_session::Ended;
 use fuse_store::StoreFault;
 use std::fmt;
 
@@ -59,6 +60,21 @@ impl Ending {
             FrameFault::TooLong { at, len } => Ending::TooLong { at, len },
             FrameFault::Cut { at, have, need } => Ending::Cut { at, have, need },
             FrameFault::Memory => Ending::Memory,
+        }
+    }
+
+    /// The ending of a run whose session ended so.
+    pub fn of_session(ended: Ended) -> Ending
+        ensures { result ≡ session_ending ended }
+    {
+        match ended {
+            Ended::End | Ended::Destroyed => Ending::Done,
+            Ended::Turns => Ending::PortTurns,
+            Ended::Frame(fault) => Ending::of_stream(fault),
+            Ended::ZeroUnique { at } => Ending::ZeroUnique { at },
+            Ended::PortFailed => Ending::PortFailed,
+            Ended::Store(fault) => Ending::of(fault),
+            Ended::Memory => Ending::Memory,
         }
     }
 

@@ -2,7 +2,7 @@
 #![tactic(auto)]
 
 mod arguments;
-mod counts;
+mod count_line;
 mod ending;
 mod printing;
 mod replay;
@@ -43,10 +43,9 @@ fn refuse<R: Eprint>(rt: &R, error: Error) -> Ending {
 
 // Runs what the words ask for.
 fn run<R: Env + Files + Input + Print + Eprint + AllocGlobal>(rt: &R) -> Ending {
-    let Ok(mut words) = env::args(rt) else {
+    let Ok(words) = env::args(rt) else {
         return refuse(rt, unreadable(rt.alloc()));
     };
-    words.next();
     let Ok(words) = words.collect::<Vec<String>>(rt.alloc()) else {
         return Ending::Memory;
     };

@@ -1,8 +1,15 @@
-ghost use Rattle.std.specs.Prelude.{◌<◌, ◌≤◌, length};
+ghost use Rattle.std.specs.Prelude.{◌≡◌, ◌⊎◌, ◌<◌, ◌≤◌, ◌++◌, [], ℕ, List, length, IfErr, OnOk};
+ghost use Rattle.std.specs.List.{AllByRecursion};
+ghost use Rattle.std.specs.Io.KnownBytes.{Appends};
+ghost use Rattle.hex.specs.Hex.{encode_lower};
+ghost use Rattle.fuse_request.specs.Stream.{joined};
+ghost use Rattle.fuse_answer.specs.Laws.{BeginsWithLen};
+ghost use Rattle.fusekeep.specs.Printing.{line, answer_lines, IsAnswer, count_line};
 
-use crate::counts::SessionCounts;
+use crate::count_line::CountLine;
 use crate::ending::Ending;
-use fuse_wire::Fields;
+use fuse_session::SessionCounts;
+use fuse_wire::{Fields, one_number};
 use std::alloc::Global;
 use std::io::Write;
 
@@ -11,7 +18,9 @@ fn front_len(sent: &[u8]) -> usize
     requires { 0 < length sent.now }
     ensures some { 0 < result }
     ensures there { result ≤ length sent.now }
+    ensures first { (answer others : List ℕ) → BeginsWithLen answer → sent.now ≡ answer ++ others → result ≡ length answer }
 {
+    one_number();
     match Fields::new(sent).u32() {
         Some(len) => (len as usize).clamp(1, sent.len()),
         None => sent.len(),
@@ -19,7 +28,10 @@ fn front_len(sent: &[u8]) -> usize
 }
 
 // Writes one answer in hexadecimal, on a line of its own.
-fn write_hex_line<W: Write>(alloc: Global, writer: &mut W, answer: &[u8]) -> Result<(), Ending> {
+fn write_hex_line<W: Write>(alloc: Global, writer: &mut W, answer: &[u8]) -> Result<(), Ending>
+    ensures ok { OnOk result (Appends (W.contents writer.old) (W.contents writer.new) (line (encode_lower answer.now))) }
+    ensures err { IfErr result (λ ending. (ending ≡ Ending.PortFailed) ⊎ (ending ≡ Ending.Memory)) }
+{
     let Ok(text) = hex::encode(alloc, answer) else {
         return Err(Ending::Memory);
     };
@@ -30,7 +42,11 @@ fn write_hex_line<W: Write>(alloc: Global, writer: &mut W, answer: &[u8]) -> Res
 }
 
 /// Writes the answers, which follow one another in `sent`, in hexadecimal, each on a line of its own.
-pub fn write_answers<W: Write>(alloc: Global, writer: &mut W, sent: &[u8]) -> Result<(), Ending> {
+pub fn write_answers<W: Write>(alloc: Global, writer: &mut W, sent: &[u8]) -> Result<(), Ending>
+    ensures ok { OnOk result ((answers : List (List ℕ)) → AllByRecursion IsAnswer answers → sent.now ≡ joined answers
+        → Appends (W.contents writer.old) (W.contents writer.new) (answer_lines answers)) }
+    ensures err { IfErr result (λ ending. (ending ≡ Ending.PortFailed) ⊎ (ending ≡ Ending.Memory)) }
+{
     let mut rest = sent;
     while !rest.is_empty() {
         let (answer, others) = rest.split_at(front_len(rest));
@@ -41,7 +57,11 @@ pub fn write_answers<W: Write>(alloc: Global, writer: &mut W, sent: &[u8]) -> Re
 }
 
 /// Writes the line of counts.
-pub fn write_counts<W: Write>(writer: &mut W, counts: SessionCounts) -> Result<(), Ending> {
+pub fn write_counts<W: Write>(writer: &mut W, counts: SessionCounts) -> Result<(), Ending>
+    ensures ok { OnOk result (Appends (W.contents writer.old) (W.contents writer.new) (line (count_line counts))) }
+    ensures err { IfErr result (λ ending. ending ≡ Ending.PortFailed) }
+{
+    let counts = CountLine(counts);
     if writeln!(writer, "{counts}").is_err() {
         return Err(Ending::PortFailed);
     }

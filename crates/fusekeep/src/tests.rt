@@ -1,7 +1,8 @@
-use crate::arguments::{Run, parse};
+use crate::arguments::{Run, parse, unreadable};
 use crate::ending::Ending;
 use crate::replay::run_replay;
 use clap::error::ErrorKind;
+use fuse_session::Ended;
 use fuse_store::{PlainKeeper, StoreFault};
 use fuse_wire::Moment;
 use std::alloc::Global;

@@ -30,6 +30,13 @@ pub(crate) fn unchanged(alloc: Global, answer: Answer) -> Planned
     }
 }
 
+// The answer without a body, and nothing is changed.
+pub(crate) fn done_nothing(alloc: Global) -> Planned
+    ensures { result ≡ told [] }
+{
+    unchanged(alloc, Answer::success(ByteList::from_vec(Vec::new(alloc))))
+}
+
 // The entry of a node, as LOOKUP, MKNOD and MKDIR answer it.
 pub(crate) fn entry_answer(alloc: Global, row: &NodeRow) -> Result<Answer, Memory>
     requires { IsWithin row.now }

@@ -291,3 +291,39 @@ fn zero_unique(rt: HostRuntime) -> Result<(), Fail> {
         },
     )
 }
+
+// MKDIRs of distinct names in the root, under the uniques 4, 6 and so on.
+fn mkdirs(alloc: Global, count: u8) -> Result<Vec<u8>, Fail> {
+    let mut stream = Vec::new(alloc);
+    for i in 0..count {
+        stream.extend_from_slice(b"\x32\0\0\0\x09\0\0\0")?;
+        stream.extend_from_slice(&(4 + 2 * u64::from(i)).to_le_bytes())?;
+        stream.extend_from_slice(b"\x01\0\0\0\0\0\0\0\xe8\x03\0\0\xe8\x03\0\0\x4d\0\0\0\0\0\0\0")?;
+        stream.extend_from_slice(b"\xed\x01\0\0\x12\0\0\0")?;
+        stream.extend_from_slice(&[65 + i % 26, 0])?;
+    }
+    Ok(stream)
+}
+
+#[test]
+fn seventeen(rt: HostRuntime) -> Result<(), Fail> {
+    let alloc = rt.alloc();
+    let stream = mkdirs(alloc, 17)?;
+    let (ending, printed) = replayed(alloc, &mut stream.as_slice())?;
+    assert_eq!(rt; ending, Ending::Done);
+    let text = String::from_utf8(printed)?;
+    let mut lines = text.lines();
+    for i in 0..17 {
+        let line = lines.next().ok_or("a line for each answer")?;
+        let (unique, node) = (4 + 2 * i, 2 + i);
+        let head = format!(in alloc; "9000000000000000{unique:02x}00000000000000{node:02x}00000000000000")?;
+        assert_eq!(rt; line.len(), 288);
+        assert!(rt; line.starts_with(head.as_str()), "{i}");
+    }
+    assert_eq!(rt;
+        lines.next(),
+        Some("served messages=17 kept=17 repeated=0 bare=0 silent=0 interrupts=0")
+    );
+    assert_eq!(rt; lines.next(), None);
+    Ok(())
+}

@@ -36,6 +36,7 @@ fn endings(rt: HostRuntime) -> Result<(), Fail> {
         (Ending::PortFailed, 4, "port: failed"),
         (Ending::PortTurns, 4, "port: turns"),
         (Ending::of(StoreFault::Memory), 5, "memory"),
+        (Ending::of_session(Ended::Turns), 4, "port: turns"),
     ] {
         let said = match ending.line() {
             Some(line) => format!(in rt.alloc(); "{line}")?,
@@ -49,7 +50,7 @@ fn endings(rt: HostRuntime) -> Result<(), Fail> {
 
 #[test]
 fn good_words(rt: HostRuntime) -> Result<(), Fail> {
-    let words = ["replay", "--at", "18446744073709551615", "-"];
+    let words = ["fusekeep", "replay", "--at", "18446744073709551615", "-"];
     let run = parse(rt.alloc(), words.as_slice())?;
     assert_eq!(rt;
         run,
@@ -58,7 +59,7 @@ fn good_words(rt: HostRuntime) -> Result<(), Fail> {
             stream: "-"
         }
     );
-    let words = ["replay", "first.stream", "--at=0"];
+    let words = ["fusekeep", "replay", "first.stream", "--at=0"];
     let run = parse(rt.alloc(), words.as_slice())?;
     assert_eq!(rt;
         run,
@@ -81,22 +82,40 @@ fn kind_of(alloc: Global, words: &[&str]) -> Option<ErrorKind> {
 fn wrong_words(rt: HostRuntime) {
     let alloc = rt.alloc();
     let missing = Some(ErrorKind::MissingRequiredArgument);
-    assert_eq!(rt; kind_of(alloc, &["replay", "-"]), missing);
-    assert_eq!(rt; kind_of(alloc, &["replay", "--at", "1000"]), missing);
-    assert_eq!(rt; kind_of(alloc, &[]), Some(ErrorKind::MissingSubcommand));
+    assert_eq!(rt; kind_of(alloc, &["fusekeep", "replay", "-"]), missing);
+    assert_eq!(rt; kind_of(alloc, &["fusekeep", "replay", "--at", "1000"]), missing);
+    assert_eq!(rt; kind_of(alloc, &["fusekeep"]), Some(ErrorKind::MissingSubcommand));
     assert_eq!(rt;
-        kind_of(alloc, &["reply"]),
+        kind_of(alloc, &["fusekeep", "reply"]),
         Some(ErrorKind::InvalidSubcommand)
     );
-    assert_eq!(rt; kind_of(alloc, &["--help"]), Some(ErrorKind::DisplayHelp));
+    assert_eq!(rt; kind_of(alloc, &["fusekeep", "--help"]), Some(ErrorKind::DisplayHelp));
     let invalid = Some(ErrorKind::ValueValidation);
-    assert_eq!(rt; kind_of(alloc, &["replay", "--at", "soon", "-"]), invalid);
+    assert_eq!(rt; kind_of(alloc, &["fusekeep", "replay", "--at", "soon", "-"]), invalid);
     assert_eq!(rt;
-        kind_of(alloc, &["replay", "--at", "18446744073709551616", "-"]),
+        kind_of(alloc, &["fusekeep", "replay", "--at", "18446744073709551616", "-"]),
         invalid
     );
     assert_eq!(rt;
-        kind_of(alloc, &["replay", "--at", "1", "-", "x"]),
+        kind_of(alloc, &["fusekeep", "replay", "--at", "1", "-", "x"]),
         Some(ErrorKind::UnknownArgument)
     );
+}
+
+// What is said of these words.
+fn said(alloc: Global, words: &[&str]) -> Result<String, Fail> {
+    match parse(alloc, words) {
+        Ok(_) => Ok(String::new(alloc)),
+        Err(error) => Ok(format!(in alloc; "{error}")?),
+    }
+}
+
+#[test]
+fn usage(rt: HostRuntime) -> Result<(), Fail> {
+    assert_eq!(rt;
+        said(rt.alloc(), &["fusekeep", "replay", "-"])?.as_str(),
+        "error: the following required arguments were not provided:\n  --at <SECS>\n\nUsage: fusekeep replay --at <SECS> <STREAM>\n\nFor more information, try '--help'.\n"
+    );
+    assert_eq!(rt; unreadable(rt.alloc()).kind(), ErrorKind::InvalidValue);
+    Ok(())
 }

@@ -9,7 +9,7 @@ pub returns-in_default-clause-err : goal.returns-in_default-clause-err
 returns-in_default-clause-err g c =
     let k = c.args.keeper.now in
     let p = g.P.Port.told c.args.port.now in
-    broken_none (g.K.Keeper.holds k) (g.K.Keeper.holds k) _ _ _ _ _ _ p p (ids_of c.args.pending.now.items) c.args.messages.now false true (replied_none p)
+    broken_none (g.K.Keeper.holds k) (g.K.Keeper.holds k) _ _ _ _ _ _ p p (ids_of c.args.pending.now.items) c.args.messages.now false true _ refl (replied_none p)
     (λ _ rows records held. held) (λ firm s h t so. firm_leaves (g.K.Keeper.holds k) (g.K.Keeper.leaves_whole k) (g.K.Keeper.may_leave k) s h t firm so)
 
 pub returns-in-Err-clause-err : goal.returns-in-Err-clause-err
@@ -17,8 +17,8 @@ returns-in-Err-clause-err g c =
     let k = c.args.keeper.now in
     let k' = c.perform_group.new.keeper in
     broken_store (g.K.Keeper.holds k) (g.K.Keeper.holds k') _ _ (g.K.Keeper.leaves_whole k) (g.K.Keeper.leaves_whole k') (g.K.Keeper.may_leave k) (g.K.Keeper.may_leave k') (g.C.Clock.may_answer c.args.clock.now) (g.P.Port.told c.args.port.now)
-    (ids_of c.args.pending.now.items) c.args.messages.now c.in-Ok.gathered.count c.in-Ok.gathered.taken.items c.in-Ok.gathered.ends c.as_slice-group.result.now
-    c.in-Ok.ensures.gathers c.as_slice-group.ensures.value c.in-Err.ensures.err c.in-Err.ensures.crash
+    (ids_of c.args.pending.now.items) c.args.messages.now c.in-Ok.gathered.count c.in-Ok.gathered.taken.items c.in-Ok.gathered.ends c.as_slice-group.result.now _
+    c.in-Ok.ensures.gathers c.as_slice-group.ensures.value c.in-Err.ensures.err c.in-Err.ensures.fault c.in-Err.ensures.crash
 
 pub send_answers-requires-clause-enough : goal.send_answers-requires-clause-enough
 send_answers-requires-clause-enough g c =
@@ -49,7 +49,7 @@ returns-clause-err g c =
     let k = c.args.keeper.now in
     let k' = c.perform_group.new.keeper in
     broken_sent (g.K.Keeper.holds k) (g.K.Keeper.holds k') _ _ (g.K.Keeper.leaves_whole k) (g.K.Keeper.leaves_whole k') (g.K.Keeper.may_leave k) (g.K.Keeper.may_leave k') (g.C.Clock.may_answer c.args.clock.now) (g.P.Port.told c.args.port.now) _
-    (ids_of c.args.pending.now.items) c.args.messages.now c.in-Ok.gathered.count c.in-Ok.gathered.taken.items c.in-Ok.gathered.ends c.as_slice-group.result.now (take c.in-Ok.gathered.count c.args.messages.now) c.in-Ok-perform_group.dones.items c.as_slice-answered.result.now _ _ _
+    (ids_of c.args.pending.now.items) c.args.messages.now c.in-Ok.gathered.count c.in-Ok.gathered.taken.items c.in-Ok.gathered.ends c.as_slice-group.result.now (take c.in-Ok.gathered.count c.args.messages.now) c.in-Ok-perform_group.dones.items c.as_slice-answered.result.now _ _ _ _
     c.in-Ok.ensures.gathers c.as_slice-group.ensures.value refl (g.met.K.Keeper.clean_is_honest k') c.in-Ok-perform_group.ensures.ok c.in-Ok-perform_group.ensures.firm c.as_slice-answered.ensures.value c.in-Err-send_answers.ensures.err c.stop_of.ensures.store c.stop_of.ensures.memory
 
 pub returns-clause-at_most : goal.returns-clause-at_most

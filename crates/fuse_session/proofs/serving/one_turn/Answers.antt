@@ -6,7 +6,7 @@ use Rattle.fuse_session.specs.Counting.{IsBelow}
 use Rattle.fuse_session.specs.Serving.{Whole}
 use Rattle.fuse_session.proofs.Counted.{below_more}
 use Rattle.fuse_session.proofs.Groups.{at_most}
-use Rattle.fuse_session.proofs.Sessions.{life_unheard, ends_unheard, unheard_store, life_heard, fault_ends, fault_not_turns, life_worked, ends_finished, finished_store, whole_heard}
+use Rattle.fuse_session.proofs.Sessions.{life_unheard, ends_unheard, unheard_store, life_heard, fault_ends, fault_not_turns, life_worked, ends_finished, finished_store, whole_heard, stop_may_end}
 use Rattle.fuse_session.proofs.serving.one_turn.Goals as goal
 
 -- ---- nothing was heard
@@ -14,7 +14,7 @@ use Rattle.fuse_session.proofs.serving.one_turn.Goals as goal
 pub returns-in-Err-clause-life : goal.returns-in-Err-clause-life
 returns-in-Err-clause-life g c =
     let k = c.args.keeper.now in
-    life_unheard (g.K.Keeper.holds k) _ _ (g.K.Keeper.leaves_whole k) (g.K.Keeper.may_leave k) _ _ _ (ids_of c.args.pending.now.items) c.args.framer.now c.in-Err.ended _ _ c.in-Err.ensures.err c.in-Err.ensures.hearing
+    life_unheard (g.K.Keeper.holds k) _ _ (g.K.Keeper.leaves_whole k) (g.K.Keeper.may_leave k) _ _ _ (ids_of c.args.pending.now.items) c.args.framer.now c.in-Err.ended _ _ _ (unheard_store c.in-Err.ended _ _ c.args.framer.now c.in-Err.ensures.err).0 c.in-Err.ensures.err c.in-Err.ensures.hearing
 
 pub returns-in-Err-clause-ends : goal.returns-in-Err-clause-ends
 returns-in-Err-clause-ends g c = ends_unheard (g.K.Keeper.holds c.args.keeper.now) _ _ _ _ (ids_of c.args.pending.now.items) c.args.framer.now c.in-Err.ended 0 c.requires.opened c.in-Err.ensures.err c.in-Err.ensures.hearing
@@ -57,8 +57,8 @@ returns-in-Err-work_off-clause-life g c =
     let k = c.args.keeper.now in
     let k' = c.work_off.new.keeper in
     life_heard (g.K.Keeper.holds k) (g.K.Keeper.holds k') _ _ (g.K.Keeper.leaves_whole k) (g.K.Keeper.leaves_whole k') (g.K.Keeper.may_leave k) (g.K.Keeper.may_leave k') (g.C.Clock.may_answer c.args.clock.now) _ _ _ (ids_of c.args.pending.now.items)
-    c.args.framer.now c.hear.new.framer c.in-Ok.waiting.messages.items c.as_slice-slice.result.now c.in-Ok.waiting.fault _ _ _ _
-    c.in-Ok.ensures.ok c.in-Ok.ensures.hearing c.as_slice-slice.ensures.value c.ended_of.ensures.store c.ended_of.ensures.memory c.in-Err-work_off.ensures.err c.in-Err-work_off.ensures.quiet (g.met.K.Keeper.clean_is_honest k')
+    c.args.framer.now c.hear.new.framer c.in-Ok.waiting.messages.items c.as_slice-slice.result.now c.in-Ok.waiting.fault _ _ _ _ _ _
+    c.in-Ok.ensures.ok c.in-Ok.ensures.hearing c.as_slice-slice.ensures.value c.ended_of.ensures.store c.ended_of.ensures.memory c.in-Err-work_off.ensures.err (stop_may_end (g.K.Keeper.may_answer k) c.in-Err-work_off.stop c.ended_of.result c.ended_of.ensures.is) c.in-Err-work_off.ensures.quiet (g.met.K.Keeper.clean_is_honest k')
 
 pub returns-in-Err-work_off-clause-ends : goal.returns-in-Err-work_off-clause-ends
 returns-in-Err-work_off-clause-ends g c =
@@ -115,7 +115,7 @@ returns-clause-life g c =
     let k = c.args.keeper.now in
     let k' = c.work_off.new.keeper in
     life_worked (g.K.Keeper.holds k) (g.K.Keeper.holds k') _ _ (g.K.Keeper.leaves_whole k) (g.K.Keeper.leaves_whole k') (g.K.Keeper.may_leave k) (g.K.Keeper.may_leave k') _ _ _ _ (ids_of c.args.pending.now.items) (ids_of c.work_off.new.pending.items)
-    c.args.framer.now c.hear.new.framer c.in-Ok.waiting.messages.items c.as_slice-slice.result.now c.in-Ok.waiting.fault _ _ c.in-Ok-work_off.work.rest c.in-Ok-work_off.work.counts _ _
+    c.args.framer.now c.hear.new.framer c.in-Ok.waiting.messages.items c.as_slice-slice.result.now c.in-Ok.waiting.fault _ _ c.in-Ok-work_off.work.rest c.in-Ok-work_off.work.counts _ _ _ (finished_store c.in-Err-finish.served.ended _ _ _ c.in-Err-finish.ensures.err.1).0
     c.in-Ok.ensures.ok c.in-Ok.ensures.hearing c.as_slice-slice.ensures.value c.in-Ok-work_off.ensures.ok c.in-Ok-work_off.ensures.quiet (g.met.K.Keeper.clean_is_honest k') c.in-Ok-work_off.ensures.firm
 
 pub returns-clause-ends : goal.returns-clause-ends

@@ -2,18 +2,24 @@ use Rattle.std.proofs.Common.{◌∙◌, ◌+◌, ◌*◌, ◌^◌, [], ap, arit
 use Rattle.fuse_store.specs.Stands.{Records}
 use Rattle.fuse_store.specs.Group.{ids_of}
 use Rattle.fuse_request.specs.Framing.{fed_of}
+use Rattle.fuse_session.specs.declared.ended.Ended.TheVariants.{Memory}
 use Rattle.fuse_session.specs.Settling.{HandsOn}
 use Rattle.fuse_session.specs.Counting.{IsBelow}
 use Rattle.fuse_session.proofs.Counted.{plus_below, below_more}
 use Rattle.fuse_session.proofs.Groups.{at_most, hands_start}
 use Rattle.fuse_session.proofs.Waiting.{ready_new, room_still}
-use Rattle.fuse_session.proofs.Sessions.{whole_start, whole_step, whole_life, ends_step, life_more, life_none}
+use Rattle.fuse_session.proofs.Sessions.{whole_start, whole_step, whole_life, ends_step, life_more, life_none, may_end, exact_at}
 use Rattle.fuse_session.proofs.serving.serve.Goals as goal
 
 pub returns-in_default-clause-life : goal.returns-in_default-clause-life
 returns-in_default-clause-life g c =
     let k = c.args.keeper.now in
-    life_none (g.K.Keeper.holds k) _ _ (g.K.Keeper.leaves_whole k) (g.K.Keeper.may_leave k) _ (g.P.Port.told c.args.port.now) [] [] _ _
+    life_none (g.K.Keeper.holds k) _ _ (g.K.Keeper.leaves_whole k) (g.K.Keeper.may_leave k) _ (g.P.Port.told c.args.port.now) [] [] _ _ _ refl
+
+pub returns-in_default-clause-exactly : goal.returns-in_default-clause-exactly
+returns-in_default-clause-exactly g c =
+    let k = c.args.keeper.now in
+    exact_at (g.K.Keeper.holds k) (g.K.Keeper.holds k) _ _ _ _ (g.K.Keeper.may_leave k) (g.K.Keeper.may_answer k) _ _ _ [] [] Memory (returns-in_default-clause-life g c)
 
 pub returns-in_default-clause-at_most : goal.returns-in_default-clause-at_most
 returns-in_default-clause-at_most g c = λ _ _ rows (records : Records) held. at_most records (g.K.Keeper.holds c.args.keeper.now) [] (hands_start (g.K.Keeper.holds c.args.keeper.now) [] rows records held)
@@ -36,6 +42,7 @@ loop-turn-init g c = record {
   room = omega (arith, c.in-Ok.ensures.len, c.in-Ok.buffer.ok.0);
   honest = λ is. is;
   same = λ t may. may;
+  may = λ f may. may;
 }
 
 pub loop-turn-preserved : goal.loop-turn-preserved
@@ -61,6 +68,7 @@ loop-turn-preserved g c =
       room = room_still c.loop-turn.buffer.len c.one_turn.new.buffer _ (omega (arith, e.buffer, inv.room)) (omega (arith, c.loop-turn.buffer.ok.0, inv.room));
       honest = λ honest. inv.honest (e.honest honest);
       same = λ t may. inv.same t (e.same t may);
+      may = λ f may. inv.may f (e.may f may);
     }
 
 pub returns-in-Err-clause-ends : goal.returns-in-Err-clause-ends
@@ -78,7 +86,13 @@ returns-in-Err-clause-life g c =
     let m = c.loop-turn.keeper in
     let k' = c.one_turn.new.keeper in
     life_more c.cut_joins.ensures (g.K.Keeper.holds k) (g.K.Keeper.holds m) (g.K.Keeper.holds k') _ _ _ (g.K.Keeper.leaves_whole k) (g.K.Keeper.leaves_whole m) (g.K.Keeper.leaves_whole k') (g.K.Keeper.may_leave k) (g.K.Keeper.may_leave m) (g.K.Keeper.may_leave k') _ _ _ _ _ []
-    (ids_of c.loop-turn.pending.items) [] _ 0 _ c.loop-turn.counts _ _ inv.whole e.life (g.met.K.Keeper.clean_is_honest k') e.honest inv.firm inv.same
+    (ids_of c.loop-turn.pending.items) [] _ 0 _ c.loop-turn.counts _ _ _ _ inv.whole e.life (may_end (g.K.Keeper.may_answer k) (g.K.Keeper.may_answer m) c.in-Err.served.ended inv.may) (g.met.K.Keeper.clean_is_honest k') e.honest inv.firm inv.same
+
+pub returns-in-Err-clause-exactly : goal.returns-in-Err-clause-exactly
+returns-in-Err-clause-exactly g c =
+    let k = c.args.keeper.now in
+    let k' = c.one_turn.new.keeper in
+    exact_at (g.K.Keeper.holds k) (g.K.Keeper.holds k') _ _ _ _ (g.K.Keeper.may_leave k') (g.K.Keeper.may_answer k) _ _ _ [] [] c.in-Err.served.ended (returns-in-Err-clause-life g c)
 
 pub returns-in-Err-clause-at_most : goal.returns-in-Err-clause-at_most
 returns-in-Err-clause-at_most g c = λ confirms clean rows (records : Records) held.
@@ -99,7 +113,7 @@ returns-clause-life g c =
     let inv = c.loop-turn.invariant in
     let k = c.args.keeper.now in
     let k' = c.loop-turn.keeper in
-    whole_life (g.K.Keeper.holds k) (g.K.Keeper.holds k') _ _ (g.K.Keeper.leaves_whole k) (g.K.Keeper.leaves_whole k') (g.K.Keeper.may_leave k) (g.K.Keeper.may_leave k') _ _ _ [] (ids_of c.loop-turn.pending.items) [] _ 0 _ c.loop-turn.counts _ _
+    whole_life (g.K.Keeper.holds k) (g.K.Keeper.holds k') _ _ (g.K.Keeper.leaves_whole k) (g.K.Keeper.leaves_whole k') (g.K.Keeper.may_leave k) (g.K.Keeper.may_leave k') _ _ _ [] (ids_of c.loop-turn.pending.items) [] _ 0 _ c.loop-turn.counts _ _ _ refl
     inv.whole (g.met.K.Keeper.clean_is_honest k') inv.firm
 
 pub returns-clause-at_most : goal.returns-clause-at_most

@@ -1,6 +1,7 @@
 use Rattle.std.proofs.Common.{◌≡◌, ◌≤◌, ◌+◌, ◌*◌, ◌^◌, [], length, true, false}
 use Rattle.fuse_wire.specs.declared.moment.Moment.{Moment}
 use Rattle.fuse_request.specs.Framing.{fed_of}
+use Rattle.fuse_store.specs.declared.fault.StoreFault.{StoreFault}
 use Rattle.fuse_store.specs.Stands.{Records, IsFirm}
 use Rattle.fuse_store.specs.Group.{ids_of}
 use Rattle.fuse_session.specs.Settling.{HandsOn}
@@ -29,4 +30,5 @@ invariant-loop-turn g l = record {
   room : length l.buffer.items ≡ 135168;
   honest : g.K.Keeper.is_honest l.keeper → g.K.Keeper.is_honest l.fn.keeper;
   same : (t : Moment) → g.C.Clock.may_answer l.clock t → g.C.Clock.may_answer l.fn.clock t;
+  may : (f : StoreFault) → g.K.Keeper.may_answer l.keeper f → g.K.Keeper.may_answer l.fn.keeper f;
 }

@@ -6,6 +6,7 @@ use Rattle.fuse_session.specs.Serving.{Turned, goes_on, lasts}
 use Rattle.fuse_session.proofs.Bytes.{quiet_none, quiet_more}
 use Rattle.fuse_session.proofs.Counted.{plus_below, below_more}
 use Rattle.fuse_session.proofs.Turns.{turned_none, group_more, group_broken, worked_off, worked_all, lasts_on, within_parts, joined_more, joined_within, worked_slice, is_over, isnt_over}
+use Rattle.fuse_session.proofs.Sessions.{may_stop}
 use Rattle.fuse_session.proofs.working.work_off.Goals as goal
 
 pub loop-at-init : goal.loop-at-init
@@ -22,13 +23,14 @@ loop-at-init g c = record {
   honest = λ is. is;
   quiet = quiet_none (g.P.Port.told c.args.port.now);
   same = λ t may. may;
+  may = λ f may. may;
 }
 
 pub returns-in-Err-clause-err : goal.returns-in-Err-clause-err
 returns-in-Err-clause-err g c =
     let inv = c.loop-at.invariant in
-    group_broken (g.K.Keeper.holds c.args.keeper.now) (g.K.Keeper.holds c.loop-at.keeper) (g.K.Keeper.holds c.work_group.new.keeper) _ _ _ _ _ _ _ _ _ _ _ _ _ _ _ _ c.args.messages.now _ c.loop-at.at _ _ _
-    refl inv.turned c.in-Err.ensures.err (g.met.K.Keeper.clean_is_honest c.work_group.new.keeper) c.in-Err.ensures.honest inv.firm inv.same
+    group_broken (g.K.Keeper.holds c.args.keeper.now) (g.K.Keeper.holds c.loop-at.keeper) (g.K.Keeper.holds c.work_group.new.keeper) _ _ _ _ _ _ _ _ _ _ _ _ _ _ _ _ c.args.messages.now _ c.loop-at.at _ _ _ _ _
+    refl inv.turned c.in-Err.ensures.err (may_stop (g.K.Keeper.may_answer c.args.keeper.now) (g.K.Keeper.may_answer c.loop-at.keeper) c.in-Err.stop inv.may) (g.met.K.Keeper.clean_is_honest c.work_group.new.keeper) c.in-Err.ensures.honest inv.firm inv.same
 
 pub length_of-size-requires : goal.length_of-size-requires
 length_of-size-requires g c =
@@ -87,6 +89,7 @@ loop-at-preserved g c =
       honest = λ honest. inv.honest (c.in-Ok.ensures.honest honest);
       quiet = quiet_more (g.P.Port.told c.args.port.now) (g.P.Port.told c.loop-at.port) (g.P.Port.told c.work_group.new.port) inv.quiet c.in-Ok.ensures.quiet;
       same = λ t may. inv.same t (c.in-Ok.ensures.same t may);
+      may = λ f may. inv.may f (c.in-Ok.ensures.may f may);
     }
 
 pub returns-clause-ok : goal.returns-clause-ok

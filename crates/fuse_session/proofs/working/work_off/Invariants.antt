@@ -1,6 +1,7 @@
 use Rattle.std.proofs.Common.{◌≡◌, ◌≤◌, ◌+◌, ◌-◌, length, take, true, false}
 use Rattle.fuse_wire.specs.declared.moment.Moment.{Moment}
 use Rattle.fuse_request.specs.Stream.{joined}
+use Rattle.fuse_store.specs.declared.fault.StoreFault.{StoreFault}
 use Rattle.fuse_store.specs.Stands.{Records, IsFirm}
 use Rattle.fuse_store.specs.Group.{ids_of}
 use Rattle.fuse_session.specs.Port.{IsQuiet}
@@ -26,6 +27,7 @@ invariant-loop-at g l = record {
   honest : g.K.Keeper.is_honest l.keeper → g.K.Keeper.is_honest l.fn.keeper;
   quiet : IsQuiet (g.P.Port.told l.fn.port) (g.P.Port.told l.port);
   same : (t : Moment) → g.C.Clock.may_answer l.clock t → g.C.Clock.may_answer l.fn.clock t;
+  may : (f : StoreFault) → g.K.Keeper.may_answer l.keeper f → g.K.Keeper.may_answer l.fn.keeper f;
 }
 
 abbrev pub decreases-loop-at : goal.decreases-loop-at

@@ -1,0 +1,5 @@
+use Rattle.fuse_answer.proofs.Forms.{len_first}
+use Rattle.fuse_answer.proofs.laws.len_stands_first.Goals as goal
+
+pub returns : goal.returns
+returns c = len_first

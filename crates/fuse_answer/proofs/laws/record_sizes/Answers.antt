@@ -1,0 +1,5 @@
+use Rattle.fuse_answer.proofs.Forms.{length_entry, length_attr_out}
+use Rattle.fuse_answer.proofs.laws.record_sizes.Goals as goal
+
+pub returns : goal.returns
+returns c = (length_entry, length_attr_out)

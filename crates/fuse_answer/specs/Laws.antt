@@ -1,0 +1,25 @@
+-- How long answers are (fuse.h).
+use Rattle.std.specs.Prelude.{◌≡◌, ◌<◌, ◌≤◌, ◌+◌, ◌^◌, ℕ, List, ◌++◌, length}
+use Rattle.fuse_wire.specs.Bytes.{le}
+use Rattle.fuse_answer.specs.declared.answer.TheConstants.{MAX_BODY}
+use Rattle.fuse_answer.specs.declared.records.AttrOut.{AttrOut}
+use Rattle.fuse_answer.specs.declared.records.EntryOut.{EntryOut}
+use Rattle.fuse_answer.specs.declared.records.TheConstants.AttrOut.{SIZE as ATTR_OUT_SIZE}
+use Rattle.fuse_answer.specs.declared.records.TheConstants.EntryOut.{SIZE as ENTRY_SIZE}
+use Rattle.fuse_answer.specs.Bodies.{entry_bytes, attr_out_bytes}
+use Rattle.fuse_answer.specs.Wire.{wire}
+
+-- the bytes begin with their own number, in 4 bytes
+pub record BeginsWithLen (b : List ℕ) : Type 0 where
+  pub rest : List ℕ
+  pub parts : b ≡ le 4 (length b) ++ rest
+  pub four : length b ≡ 4 + length rest
+  pub fits : length b < 2 ^ 32
+
+-- so does every answer whose body is as short as bodies are
+abbrev pub LenStandsFirst : Type 0
+LenStandsFirst = (errno : ℕ) (body : List ℕ) (unique : ℕ) → length body ≤ MAX_BODY → BeginsWithLen (wire errno body unique)
+
+-- the records have the sizes of fuse.h
+abbrev pub RecordSizes : Type 0
+RecordSizes = ((e : EntryOut) → length (entry_bytes e) ≡ ENTRY_SIZE) × ((a : AttrOut) → length (attr_out_bytes a) ≡ ATTR_OUT_SIZE)

@@ -1,0 +1,11 @@
+ghost use Rattle.fuse_answer.specs.Laws.{LenStandsFirst, RecordSizes};
+
+/// Every answer begins with its own length.
+pub fn len_stands_first()
+    ensures { LenStandsFirst }
+{}
+
+/// How long the records are.
+pub fn record_sizes()
+    ensures { RecordSizes }
+{}

@@ -1,0 +1,49 @@
+-- How the kernel is asked to send its pending requests again (fuse.h: FUSE_NOTIFY_RESEND, FUSE_HAS_RESEND).
+use Rattle.std.specs.Prelude.{◌≡◌, ℕ, Bool, true, false, ◌==◌, bit_and, List, Result, Ok, Err, Option, Some, None}
+use Rattle.fuse_wire.specs.declared.init_flags.InitFlags.{InitFlags}
+use Rattle.fuse_answer.specs.Notice.{resend_bytes}
+use Rattle.fuse_init.specs.declared.settings.Settings.{Settings}
+use Rattle.fuse_tree.specs.Rows.{Rows, IsRowed}
+use Rattle.fuse_store.specs.declared.fault.StoreFault.{StoreFault}
+use Rattle.fuse_store.specs.Stands.{Records}
+use Rattle.fuse_session.specs.declared.resuming.ResumeFault.{ResumeFault}
+use Rattle.fuse_session.specs.declared.resuming.ResumeFault.TheVariants.{NotOffered, PortFailed, Store}
+use Rattle.fuse_session.specs.Port.{PortState, SentWhole, SentPart}
+
+-- FUSE_HAS_RESEND, bit 39 of the flags
+abbrev pub has_resend : InitFlags → Bool
+has_resend flags = bit_and flags.0 0x80_0000_0000 == 0x80_0000_0000
+
+-- no INIT was agreed, or one with HAS_RESEND
+abbrev pub may_ask : Option Settings → Bool
+may_ask None = true
+may_ask (Some agreed) = has_resend agreed.flags
+
+-- the settings of a tree that is held
+abbrev pub SettingsSay : (Rows → Records → Type 0) → Bool → Type 0
+SettingsSay holds asks = (rows : Rows) (records : Records) → holds rows records → IsRowed rows → may_ask rows.settings ≡ asks
+
+-- the notice was sent, all of it
+pub record Resumed (holds : Rows → Records → Type 0) (honest' : Type 0) (old new : PortState) : Type 0 where
+  pub gone : Bool
+  pub sent : SentWhole old new resend_bytes gone
+  pub asks : honest' → SettingsSay holds true
+
+-- it wasn't: nothing was sent, or the port failed with a front of it sent
+abbrev pub NotResumed : (Rows → Records → Type 0) → Type 0 → PortState → PortState → ResumeFault → Type 0
+NotResumed holds honest' old new NotOffered = (new ≡ old) × (honest' → SettingsSay holds false)
+NotResumed holds honest' old new PortFailed = SentPart old new resend_bytes × (honest' → SettingsSay holds true)
+NotResumed holds honest' old new (Store fault) = new ≡ old
+
+-- whether it ended by a fault of the store
+abbrev pub failed_by : Result (Unit {0}) ResumeFault → Bool
+failed_by (Ok _) = false
+failed_by (Err NotOffered) = false
+failed_by (Err PortFailed) = false
+failed_by (Err (Store fault)) = true
+
+-- a fault of the store is one of these
+abbrev pub FaultMay : (StoreFault → Type 0) → ResumeFault → Type 0
+FaultMay may NotOffered = Unit {0}
+FaultMay may PortFailed = Unit {0}
+FaultMay may (Store fault) = may fault

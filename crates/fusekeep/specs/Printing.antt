@@ -1,0 +1,33 @@
+-- What is printed (own profile).
+use Rattle.std.specs.Prelude.{◌≤◌, ◌==◌, ℕ, List, [], ◌∷◌, ◌++◌, codes, decimal, nat_le, if◌then◌else◌}
+use Rattle.std.specs.List.{flat_map}
+use Rattle.hex.specs.Hex.{encode_lower}
+use Rattle.fuse_answer.specs.Laws.{BeginsWithLen}
+use Rattle.fuse_session.specs.declared.counts.SessionCounts.{SessionCounts}
+
+-- a line feed ends each line
+abbrev pub line : List ℕ → List ℕ
+line text = text ++ 10 ∷ []
+
+-- an answer in hexadecimal; a message that is answered nothing has no line
+abbrev pub answer_line : List ℕ → List ℕ
+answer_line [] = []
+answer_line (x ∷ xs) = line (encode_lower (x ∷ xs))
+
+abbrev pub answer_lines : List (List ℕ) → List ℕ
+answer_lines answers = flat_map answer_line answers
+
+-- nothing, or an answer that begins with its own length
+abbrev pub IsAnswer : List ℕ → Type 0
+IsAnswer [] = Unit {0}
+IsAnswer (x ∷ xs) = BeginsWithLen (x ∷ xs)
+
+-- the counts of a session, without the line feed
+abbrev pub count_line : SessionCounts → List ℕ
+count_line c =
+    codes "served messages=" ++ (decimal c.messages
+    ++ (codes " kept=" ++ (decimal c.kept
+    ++ (codes " repeated=" ++ (decimal c.repeated
+    ++ (codes " bare=" ++ (decimal c.bare
+    ++ (codes " silent=" ++ (decimal c.silent
+    ++ (codes " interrupts=" ++ decimal c.interrupts))))))))))
