@@ -15,7 +15,7 @@ use Rattle.fuse_answer.specs.declared.reply.BadAnswer.TheVariants.{Short, LenDif
 use Rattle.fuse_answer.specs.Bodies.{entry_parts, attr_out_parts, open_parts, write_parts, init_parts}
 use Rattle.fuse_answer.specs.Entries.{IsListing}
 use Rattle.fuse_answer.specs.Wire.{negated, wire, wire_head}
-use Rattle.fuse_answer.specs.Replies.{Kind, AnEntry, Attributes, AnOpen, AWrite, AnInit, Data, Directory, Nothing, Unknown, kind_of, size_of, Content, of_entry, of_attributes, of_open, of_write, of_init, of_data, of_directory, of_nothing, of_unknown, kind_is, content_parts, IsProper, Holds, Told, told, IsOf, Answers, IsOtherThan, BodyFault, errno_in, IsMeasured, FirstFault}
+use Rattle.fuse_answer.specs.Replies.{Kind, AnEntry, Attributes, AnOpen, AWrite, AnInit, Data, Directory, Nothing, Unknown, kind_of, size_of, Content, of_entry, of_attributes, of_open, of_write, of_init, of_data, of_directory, of_nothing, of_unknown, content, kind_is, content_parts, IsProper, Holds, Told, told, IsOf, Answers, IsOtherThan, BodyFault, errno_in, IsMeasured, FirstFault}
 
 -- a body of a kind by its places
 attr_at : ℕ → List ℕ → Attr
@@ -234,3 +234,12 @@ body_fault opcode m Short measured e h = absurd h
 body_fault opcode m LenDiffers measured e h = absurd h
 body_fault opcode m ErrorRange measured e h = absurd h
 body_fault opcode m BodyAfterError measured e h = absurd h
+
+proper_of : (opcode : ℕ) (t : Told) (body : List ℕ) → IsOf opcode t body → IsProper t.content
+proper_of opcode t body (inl h) = h.1.proper
+proper_of opcode t body (inr h) = subst IsProper (sym h.2) tt
+
+-- the body of what was read is as it has to be
+pub proper : (opcode : ℕ) (m : List ℕ) (r : Result Reply BadAnswer) → IfOk r (λ q. Answers opcode (told q) m) → IfOk r (λ q. IsProper (content q.body))
+proper opcode m (Ok q) found = proper_of opcode (told q) found.body found.said
+proper opcode m (Err f) found = tt

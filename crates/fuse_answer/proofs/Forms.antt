@@ -31,6 +31,10 @@ put-more old mid new ps qs e f =
 pub put-number : (old mid new : List ℕ) (ps : List Part) (w n : ℕ) → mid ≡ old ++ form ps → new ≡ mid ++ le w n → new ≡ old ++ form (ps ++ number w n ∷ [])
 put-number old mid new ps w n e f = put-more old mid new ps (number w n ∷ []) e (f ∙ ap (λ (x : List ℕ). mid ++ x) (sym (append-nil (le w n))))
 
+-- what was put, and then bytes
+pub put-bytes : (old mid new : List ℕ) (ps : List Part) (xs : List ℕ) → mid ≡ old ++ form ps → new ≡ mid ++ xs → new ≡ old ++ form (ps ++ bytes xs ∷ [])
+put-bytes old mid new ps xs e f = put-more old mid new ps (bytes xs ∷ []) e (f ∙ ap (λ (x : List ℕ). mid ++ x) (sym (append-nil xs)))
+
 -- what was put, and then padding
 pub put-unused : (old mid new : List ℕ) (ps : List Part) (w : ℕ) → mid ≡ old ++ form ps → new ≡ mid ++ replicate w 0 → new ≡ old ++ form (ps ++ unused w ∷ [])
 put-unused old mid new ps w e f = put-more old mid new ps (unused w ∷ []) e (f ∙ ap (λ (x : List ℕ). mid ++ x) (sym (append-nil (replicate w 0))))

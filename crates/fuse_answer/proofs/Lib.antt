@@ -2,3 +2,4 @@ pub mod Forms
 pub mod Readings
 pub mod Listings
 pub mod Answering
+pub mod Packings

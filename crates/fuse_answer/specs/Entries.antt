@@ -1,5 +1,6 @@
 -- The entries of a directory as READDIR answers them (fuse.h: fuse_dirent).
-use Rattle.std.specs.Prelude.{◌≡◌, ◌<◌, ◌≤◌, ◌+◌, ◌-◌, ◌%◌, ℕ, List, [], ◌∷◌, ◌++◌, length, map, sum, take}
+use Rattle.std.specs.Prelude.{◌≡◌, ◌<◌, ◌≤◌, ◌+◌, ◌-◌, ◌%◌, ℕ, List, [], ◌∷◌, ◌++◌, length, take}
+use Rattle.std.specs.List.{sum_by}
 use Rattle.fuse_wire.specs.Layout.{Part, number, unused, bytes, Lays, form}
 use Rattle.fuse_answer.specs.declared.dirent.TheConstants.{MAX_NAME}
 use Rattle.fuse_answer.specs.declared.dirent.TheConstants.Dirent.{NAME_AT}
@@ -59,8 +60,8 @@ entries_bytes (e ∷ es) = form (dirent_parts e) ++ entries_bytes es
 -- the first n entries fit into size, and no more of them do
 pub record IsLongest (es : List Entry) (size n : ℕ) : Type 0 where
   pub within : n ≤ length es
-  pub fits : sum (map packed_len (take n es)) ≤ size
-  pub longest : (m : ℕ) → m ≤ length es → sum (map packed_len (take m es)) ≤ size → m ≤ n
+  pub fits : sum_by packed_len (take n es) ≤ size
+  pub longest : (m : ℕ) → m ≤ length es → sum_by packed_len (take m es) ≤ size → m ≤ n
 
 -- there is a first entry, and it doesn't fit
 abbrev pub FirstIsTooBig : List Entry → ℕ → Type 0

@@ -1,12 +1,14 @@
 -- Outside examples of records and answers. A text in hexadecimal stands as the example prints it.
-use Rattle.std.specs.Prelude.{◌≡◌, ℕ, List, [], ◌++◌, pos, negsuc, replicate, codes}
+use Rattle.std.specs.Prelude.{◌≡◌, ℕ, List, [], ◌∷◌, ◌++◌, pos, negsuc, replicate, codes}
 use Rattle.fuse_wire.specs.Bytes.{le}
 use Rattle.fuse_wire.specs.Hex.{hex}
 use Rattle.fuse_wire.specs.declared.errno.TheConstants.Errno.{ENOENT, EBADF, EEXIST, ENOTDIR, EISDIR, EINVAL, ENFILE, EFBIG, ENOSPC, ENAMETOOLONG, ENOSYS, ENOTEMPTY, EPROTO, ESTALE}
 use Rattle.fuse_answer.specs.declared.records.Attr.{Attr}
 use Rattle.fuse_answer.specs.declared.records.EntryOut.{EntryOut}
 use Rattle.fuse_answer.specs.declared.records.AttrOut.{AttrOut}
-use Rattle.fuse_answer.specs.Bodies.{header_bytes, attr_bytes, entry_bytes, attr_out_bytes}
+use Rattle.fuse_answer.specs.declared.init_out.InitOut.{InitOut}
+use Rattle.fuse_answer.specs.Bodies.{header_bytes, attr_bytes, entry_bytes, attr_out_bytes, open_bytes, write_bytes, init_bytes}
+use Rattle.fuse_answer.specs.Entries.{Entry, entries_bytes}
 use Rattle.fuse_answer.specs.Wire.{negated, wire_head, wire}
 use Rattle.fuse_answer.specs.Notice.{resend_bytes}
 
@@ -102,3 +104,50 @@ FirstRun =
     × (wire 0 (entry_bytes made) 6 ≡ hex (codes "90000000 00000000 0600000000000000") ++ made_bytes)
     × (wire 0 (entry_bytes made) 0x8000000000000006 ≡ hex (codes "90000000 00000000 0600000000000080") ++ made_bytes)
     × (wire 0 (attr_out_bytes asked) 8 ≡ hex (codes "78000000 00000000 0800000000000000 0100000000000000") ++ replicate 8 0 ++ directory_bytes)
+
+-- OPEN, asked again after a crash, and WRITE of three bytes
+abbrev pub OpenAndWrite : Type 0
+OpenAndWrite =
+    (wire 0 (open_bytes (record { fh = 1; open_flags = 0; backing_id = pos 0 })) 0x8000000000000006
+    ≡ hex (codes "20000000 00000000 0600000000000080 0100000000000000 00000000 00000000"))
+    × (wire 0 (write_bytes (record { size = 3 })) 12 ≡ hex (codes "18000000 00000000 0c00000000000000 03000000 00000000"))
+    × (open_bytes (record { fh = 1; open_flags = 0; backing_id = negsuc 1 }) ≡ hex (codes "0100000000000000 00000000 feffffff"))
+
+-- INIT where the kernel offered these flags, and which were agreed
+abbrev pub init : ℕ → ℕ → InitOut
+init flags flags2 = record {
+  major = 7;
+  minor = 40;
+  max_readahead = 0x20000;
+  flags = flags;
+  max_background = 12;
+  congestion_threshold = 9;
+  max_write = 0x20000;
+  time_gran = 1;
+  max_pages = 0;
+  map_alignment = 0;
+  flags2 = flags2;
+  max_stack_depth = 0;
+}
+
+abbrev pub init_answer : List ℕ → List ℕ → List ℕ
+init_answer flags flags2 =
+    hex (codes "50000000 00000000 0200000000000000 07000000 28000000 00000200") ++ flags
+    ++ hex (codes "0c000900 00000200 01000000 00000000") ++ flags2 ++ hex (codes "00000000") ++ replicate 24 0
+
+abbrev pub Inits : Type 0
+Inits =
+    (wire 0 (init_bytes (init 0x40000021 0x80)) 2 ≡ init_answer (hex (codes "21000040")) (hex (codes "80000000")))
+    × (wire 0 (init_bytes (init 0x21 0)) 2 ≡ init_answer (hex (codes "21000000")) (hex (codes "00000000")))
+
+-- the first two entries of the root
+abbrev pub dots : List Entry
+dots =
+    record { ino = 1; off = 1; kind = 4; name = codes "." }
+    ∷ record { ino = 1; off = 2; kind = 4; name = codes ".." }
+    ∷ []
+
+abbrev pub Listing : Type 0
+Listing =
+    entries_bytes dots
+    ≡ hex (codes "0100000000000000 0100000000000000 01000000 04000000 2e00000000000000 0100000000000000 0200000000000000 02000000 04000000 2e2e000000000000")

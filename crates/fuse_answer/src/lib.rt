@@ -3,13 +3,18 @@
 
 mod answer;
 mod bodies;
+#[cfg(test)]
+mod directory_tests;
 mod dirent;
 mod init_out;
 mod laws;
 mod notice;
 mod numbers;
+mod packing;
 mod records;
 mod reply;
+#[cfg(test)]
+mod reply_tests;
 #[cfg(test)]
 mod tests;
 mod unpacking;
@@ -20,6 +25,7 @@ pub use dirent::{Dirent, MAX_NAME};
 pub use init_out::InitOut;
 pub use laws::{len_stands_first, record_sizes};
 pub use notice::{NOTIFY_RESEND, resend_notice};
+pub use packing::{PackFault, Packed, pack};
 pub use records::{Attr, AttrOut, EntryOut, OpenOut, OutHeader, WriteOut};
 pub use reply::{BadAnswer, MAX_ERRNO, Reply, ReplyBody, read_answer};
 pub use unpacking::{Dirents, unpack};

@@ -1,7 +1,7 @@
 ghost use Rattle.std.specs.Prelude.{◌≡◌, ◌≤◌, ◌+◌, false, drop, length, IfOk, IfErr, IsOkAnd};
 ghost use Rattle.fuse_wire.specs.Opcodes.{silent};
 ghost use Rattle.fuse_answer.specs.declared.records.TheConstants.OutHeader.{SIZE as HEADER_SIZE};
-ghost use Rattle.fuse_answer.specs.Replies.{Told, told, Answers, FirstFault, errno_in};
+ghost use Rattle.fuse_answer.specs.Replies.{Told, told, content, Answers, IsProper, FirstFault, errno_in};
 
 use crate::bodies::body_of;
 use crate::init_out::InitOut;
@@ -110,6 +110,8 @@ pub fn read_answer(opcode: u32, bytes: &[u8]) -> Result<Reply<'_>, BadAnswer>
     ensures found { IfOk result (λ r. Answers opcode (told r) bytes.now) }
     // What is answered is read.
     ensures only { (t : Told) → Answers opcode t bytes.now → IsOkAnd result (λ r. told r ≡ t) }
+    // The body of a directory is what `unpack` takes.
+    ensures proper { IfOk result (λ r. IsProper (content r.body)) }
 
     // Which fault it is.
     ensures fault { IfErr result (λ m. FirstFault opcode bytes.now m) }

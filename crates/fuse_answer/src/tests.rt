@@ -1,4 +1,4 @@
-ghost use Rattle.fuse_answer.specs.Vectors.{ErrorFields, FirstRun, Headers, Reads, Refusals};
+ghost use Rattle.fuse_answer.specs.Vectors.{ErrorFields, FirstRun, Headers, Inits, Listing, OpenAndWrite, Reads, Refusals};
 
 use super::*;
 use fuse_wire::{ByteList, Errno, Memory};
@@ -29,6 +29,21 @@ fn first_run()
     ensures { FirstRun }
 {}
 
+#[tactic(auto, unfolding(fuse_wire::specs::Bytes::le, crate::specs::Wire::wire_head, crate::specs::Wire::wire, crate::specs::Bodies::open_bytes, crate::specs::Bodies::write_bytes))]
+fn open_and_write()
+    ensures { OpenAndWrite }
+{}
+
+#[tactic(auto, unfolding(fuse_wire::specs::Bytes::le, crate::specs::Wire::wire_head, crate::specs::Wire::wire, crate::specs::Bodies::init_bytes))]
+fn inits()
+    ensures { Inits }
+{}
+
+#[tactic(auto, unfolding(fuse_wire::specs::Bytes::le))]
+fn listing()
+    ensures { Listing }
+{}
+
 #[test]
 fn vectors() {
     error_fields();
@@ -36,6 +51,9 @@ fn vectors() {
     refusals();
     reads();
     first_run();
+    open_and_write();
+    inits();
+    listing();
 }
 
 // A directory made at second 1,000, and its bytes.
@@ -106,6 +124,53 @@ fn attr_answer(rt: HostRuntime) -> Result<(), Memory> {
     assert_eq!(rt; body.len(), AttrOut::SIZE);
     assert!(rt; body.as_slice().starts_with(&front));
     assert!(rt; body.as_slice().ends_with(&DIRECTORY_BYTES));
+    Ok(())
+}
+
+#[test]
+fn open_answer(rt: HostRuntime) -> Result<(), Memory> {
+    let opened = OpenOut {
+        fh: 1,
+        open_flags: 0,
+        backing_id: -2,
+    };
+    let want = [1, 0, 0, 0, 0, 0, 0, 0, 0, 0, 0, 0, 0xfe, 0xff, 0xff, 0xff];
+    assert_eq!(rt; opened.body_of(rt.alloc())?.as_slice(), want.as_slice());
+    Ok(())
+}
+
+#[test]
+fn write_answer_body(rt: HostRuntime) -> Result<(), Memory> {
+    let written = WriteOut { size: 3 };
+    let want = [3, 0, 0, 0, 0, 0, 0, 0];
+    assert_eq!(rt; written.body_of(rt.alloc())?.as_slice(), want.as_slice());
+    Ok(())
+}
+
+#[test]
+fn init_answer(rt: HostRuntime) -> Result<(), Memory> {
+    let agreed = InitOut {
+        major: 7,
+        minor: 40,
+        max_readahead: 131_072,
+        flags: 0x4000_0021,
+        max_background: 12,
+        congestion_threshold: 9,
+        max_write: 131_072,
+        time_gran: 1,
+        max_pages: 0,
+        map_alignment: 0,
+        flags2: 0x80,
+        max_stack_depth: 0,
+    };
+    let front = [
+        7, 0, 0, 0, 0x28, 0, 0, 0, 0, 0, 2, 0, 0x21, 0, 0, 0x40, 0x0c, 0, 9, 0, 0, 0, 2, 0, 1, 0,
+        0, 0, 0, 0, 0, 0, 0x80, 0, 0, 0,
+    ];
+    let body = agreed.body_of(rt.alloc())?;
+    assert_eq!(rt; body.len(), InitOut::SIZE);
+    assert!(rt; body.as_slice().starts_with(&front));
+    assert!(rt; body.as_slice().ends_with(&[0; 28]));
     Ok(())
 }
 

@@ -1,19 +1,10 @@
-ghost use Rattle.std.specs.Prelude.{◌≡◌, ◌≤◌, ◌↔◌, List, length, IsTrue, IfSome};
+ghost use Rattle.std.specs.Prelude.{◌≡◌, ◌↔◌, List, IsTrue, IfSome};
 ghost use Rattle.std.specs.Option.{option_map};
-ghost use Rattle.fuse_answer.specs.declared.dirent.TheConstants.{MAX_NAME as max_name};
-ghost use Rattle.fuse_answer.specs.Entries.{Entry, entry_of, entry_len, StandsBefore, Lists, IsListing};
+ghost use Rattle.fuse_answer.specs.Entries.{Entry, entry_of, StandsBefore, Lists, IsListing};
 ghost use Rattle.fuse_answer.specs.Front.{front_of, entries_left};
 
-use crate::dirent::{Dirent, MAX_NAME};
+use crate::dirent::{Dirent, MAX_NAME, packed_len};
 use fuse_wire::{u32_at, u64_at};
-
-// How many bytes an entry takes whose name has so many.
-pub(crate) fn packed_len(name_len: usize) -> usize
-    requires { name_len ≤ max_name }
-    ensures { result ≡ entry_len name_len }
-{
-    Dirent::NAME_AT + name_len.next_multiple_of(8)
-}
 
 // The entry at the front, and what follows it. `None` where no whole entry stands there.
 fn split_entry(bytes: &[u8]) -> Option<(Dirent<'_>, &[u8])>

@@ -143,6 +143,45 @@ fn access_modes(rt: HostRuntime) {
 }
 
 #[test]
+fn numbers_at_their_places(rt: HostRuntime) {
+    let bytes = [0xff, 0x78, 0x56, 0x34, 0x12, 0, 0, 0, 0x80];
+    assert_eq!(rt; u16_at(&bytes, 1), 0x5678);
+    assert_eq!(rt; u32_at(&bytes, 1), 0x1234_5678);
+    assert_eq!(rt; u64_at(&bytes, 1), 0x8000_0000_1234_5678);
+}
+
+#[test]
+fn opcodes(rt: HostRuntime) {
+    let numbers = [
+        (opcode::LOOKUP, 1),
+        (opcode::FORGET, 2),
+        (opcode::GETATTR, 3),
+        (opcode::SETATTR, 4),
+        (opcode::MKNOD, 8),
+        (opcode::MKDIR, 9),
+        (opcode::UNLINK, 10),
+        (opcode::RMDIR, 11),
+        (opcode::RENAME, 12),
+        (opcode::OPEN, 14),
+        (opcode::READ, 15),
+        (opcode::WRITE, 16),
+        (opcode::RELEASE, 18),
+        (opcode::INIT, 26),
+        (opcode::OPENDIR, 27),
+        (opcode::READDIR, 28),
+        (opcode::RELEASEDIR, 29),
+        (opcode::INTERRUPT, 36),
+        (opcode::DESTROY, 38),
+        (opcode::NOTIFY_REPLY, 41),
+        (opcode::BATCH_FORGET, 42),
+        (opcode::RENAME2, 45),
+    ];
+    for (number, wanted) in numbers {
+        assert_eq!(rt; number, wanted);
+    }
+}
+
+#[test]
 fn error_numbers(rt: HostRuntime) {
     assert_eq!(rt; Errno::NONE, Errno(0));
     let numbers = [

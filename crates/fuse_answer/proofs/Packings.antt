@@ -1,0 +1,68 @@
+-- Entries put one behind the other.
+use Rattle.std.proofs.Common.{◌≡◌, ℕ, zero, suc, ◌+◌, ◌-◌, ◌<◌, ◌≤◌, inl, inr, List, [], ◌∷◌, ◌++◌, length, take, get_or, refl, sym, ap, subst, ◌∙◌, append_assoc, arith}
+use Rattle.std.specs.List.{sum_by}
+use Rattle.std.proofs.lemmas.Bool.{cases_lt}
+use Rattle.std.proofs.lemmas.List.{append-nil, take_all, take_more, take-take, length-append}
+use Rattle.std.proofs.lemmas.List.Sums.{sum_by_more, sum_by-take-le}
+use Rattle.fuse_wire.specs.Layout.{form, HasForm, Lays}
+use Rattle.fuse_wire.proofs.Layouts.{Lays-form, Lays-length}
+use Rattle.fuse_answer.specs.Entries.{Entry, IsNamed, dirent_parts, StandsBefore, Lists, packed_len, entries_bytes, IsLongest}
+
+-- the first n entries are put, and fit
+pub record Filled (es : List Entry) (size n : ℕ) (body : List ℕ) : Type 0 where
+  pub bytes : body ≡ entries_bytes (take n es)
+  pub lists : Lists (take n es) body
+  pub len : length body ≡ sum_by packed_len (take n es)
+  pub fits : length body ≤ size
+
+bytes-append : (es fs : List Entry) → entries_bytes (es ++ fs) ≡ entries_bytes es ++ entries_bytes fs
+bytes-append [] fs = refl
+bytes-append (e ∷ es) fs = ap (λ (x : List ℕ). form (dirent_parts e) ++ x) (bytes-append es fs) ∙ sym (append_assoc (form (dirent_parts e)) (entries_bytes es) (entries_bytes fs))
+
+lists-append : (es fs : List Entry) (a b : List ℕ) → Lists es a → Lists fs b → Lists (es ++ fs) (a ++ b)
+lists-append [] fs a b h g = subst (λ (x : List ℕ). Lists fs (x ++ b)) (sym h) g
+lists-append (e ∷ es) fs a b h g =
+    let s = h.1 in (
+      h.0 ++ b,
+      record { front = s.front; whole = ap (λ (x : List ℕ). x ++ b) s.whole ∙ append_assoc s.front h.0 b; named = s.named; laid = s.laid },
+      lists-append es fs h.0 b h.2 g,
+    )
+
+pub filled_none : (es : List Entry) (size : ℕ) (body : List ℕ) → body ≡ [] → Filled es size 0 body
+filled_none es size body e = record { bytes = e; lists = e; len = ap length e; fits = omega (arith, ap length e) }
+
+pub filled_more : (es : List Entry) (size n : ℕ) (body new : List ℕ) (e : Entry) → n < length es → get_or es n e ≡ e → Filled es size n body
+    → IsNamed e → HasForm (dirent_parts e) → packed_len e ≤ size - length body → new ≡ body ++ form (dirent_parts e) → Filled es size (n + 1) new
+filled_more es size n body new e within is f named has room put =
+    let more : take (n + 1) es ≡ take n es ++ e ∷ [] = take_more es n e within ∙ ap (λ (x : Entry). take n es ++ x ∷ []) is in
+    let b : List ℕ = form (dirent_parts e) in
+    let laid = Lays-form (dirent_parts e) has in
+    let len : length b ≡ packed_len e = omega (arith, Lays-length (dirent_parts e) b laid) in
+    let one : Lists (e ∷ []) b = ([], record { front = b; whole = sym (append-nil b); named = named; laid = laid }, refl) in
+    let total = sum_by_more packed_len es n e within ∙ ap (λ (x : Entry). sum_by packed_len (take n es) + packed_len x) is in
+    record {
+      bytes = rw (more, put, f.bytes) (sym (bytes-append (take n es) (e ∷ []) ∙ ap (λ (x : List ℕ). entries_bytes (take n es) ++ x) (append-nil b)));
+      lists = rw (more, put) (lists-append (take n es) (e ∷ []) body b f.lists one);
+      len = ap length put ∙ length-append body b ∙ omega (arith, f.len, len, total);
+      fits = omega (arith, ap length put, length-append body b, len, room, f.fits);
+    }
+
+-- the next entry doesn't fit, so no more do
+pub longest_before : (es : List Entry) (size n : ℕ) (body : List ℕ) (e : Entry) → n < length es → get_or es n e ≡ e → Filled es size n body
+    → size - length body < packed_len e → IsLongest es size n
+longest_before es size n body e within is f big =
+    let total = sum_by_more packed_len es n e within ∙ ap (λ (x : Entry). sum_by packed_len (take n es) + packed_len x) is in
+    record {
+      within = omega (arith, within);
+      fits = omega (arith, f.len, f.fits);
+      longest = λ m _ fits. elim (cases_lt n m) [
+        | inl lt ↦ (let part : take (n + 1) (take m es) ≡ take (n + 1) es = take-take (n + 1) m es (omega (arith, lt)) in
+            let low = sum_by-take-le packed_len (take m es) (n + 1) in
+            absurd (omega (arith, ap (sum_by packed_len) part, low, total, fits, f.len, f.fits, big)))
+        | inr le ↦ le
+      ];
+    }
+
+-- all fit
+pub longest_all : (es : List Entry) (size n : ℕ) (body : List ℕ) → n ≡ length es → Filled es size n body → IsLongest es size n
+longest_all es size n body all f = record { within = omega (arith, all); fits = omega (arith, f.len, f.fits); longest = λ m few _. omega (arith, few, all) }

@@ -1,0 +1,101 @@
+ghost use Rattle.std.specs.Prelude.{◌≡◌, ◌≤◌, ◌↔◌, ◌++◌, [], Err, All, length, map, take, IsTrue, IfOk, OnOk};
+ghost use Rattle.fuse_wire.specs.Layout.{form, HasForm};
+ghost use Rattle.fuse_answer.specs.Entries.{entry_of, dirent_parts, entries_bytes, IsNamed, Lists, IsLongest, FirstIsTooBig};
+ghost use Rattle.fuse_answer.specs.declared.packing.PackFault.TheVariants.{FirstTooBig as first_too_big};
+
+use crate::dirent::{Dirent, packed_len, padding};
+use fuse_wire::{ByteList, Memory, put_bytes, put_u32, put_u64};
+use std::alloc::Global;
+
+/// Entries of a directory as the body of an answer.
+#[derive(Drop)]
+pub struct Packed {
+    pub body: ByteList,
+    /// How many of the entries it holds.
+    pub taken: usize,
+}
+
+/// Why entries weren't packed.
+#[derive(Clone, Copy, Debug, PartialEq, Eq)]
+pub enum PackFault {
+    /// There is a first entry, and it doesn't fit.
+    FirstTooBig,
+    Memory,
+}
+
+impl From<Memory> for PackFault {
+    ghost use Rattle.std.specs.Prelude.{◌≡◌};
+    ghost use Rattle.fuse_answer.specs.declared.packing.PackFault.TheVariants.{Memory as NoMemory};
+
+    ghost from_gives = { λ _ e. e ≡ NoMemory };
+
+    fn from(_e: Memory) -> PackFault {
+        PackFault::Memory
+    }
+}
+
+// Appends an entry and its padding.
+fn put_dirent(out: &mut Vec<u8>, dirent: &Dirent<'_>) -> Result<(), Memory>
+    requires { IsNamed (entry_of dirent.now) }
+    ensures bytes { OnOk result (out.new.items ≡ out.old.items ++ form (dirent_parts (entry_of dirent.now))) }
+    ensures fits { OnOk result (HasForm (dirent_parts (entry_of dirent.now))) }
+{
+    let name_len = dirent.name.len();
+    put_u64(out, dirent.ino)?;
+    put_u64(out, dirent.off)?;
+    put_u32(out, name_len as u32)?;
+    put_u32(out, dirent.kind)?;
+    put_bytes(out, dirent.name)?;
+    put_bytes(out, &[0; 8][..padding(name_len)])
+}
+
+// Appends the entries as long as they fit, and says how many did.
+fn put_fitting(body: &mut Vec<u8>, entries: &[Dirent<'_>], size: usize) -> Result<usize, Memory>
+    requires named { All (λ d. IsNamed (entry_of d)) entries.now }
+    requires empty { body.old.items ≡ [] }
+    ensures longest { IfOk result (λ taken. IsLongest (map entry_of entries.now) size taken) }
+    ensures bytes { IfOk result (λ taken. body.new.items ≡ entries_bytes (take taken (map entry_of entries.now))) }
+    ensures lists { IfOk result (λ taken. Lists (take taken (map entry_of entries.now)) body.new.items) }
+{
+    for (taken, dirent) in entries.iter().enumerate() {
+        if packed_len(dirent.name.len()) > size - body.len() {
+            return Ok(taken);
+        }
+        put_dirent(body, dirent)?;
+    }
+    Ok(entries.len())
+}
+
+fn first_is_too_big(entries: &[Dirent<'_>], size: usize) -> bool
+    requires { All (λ d. IsNamed (entry_of d)) entries.now }
+    ensures { IsTrue result ↔ (FirstIsTooBig (map entry_of entries.now) size) }
+{
+    match entries.first() {
+        Some(first) => packed_len(first.name.len()) > size,
+        None => false,
+    }
+}
+
+/// The entries at the front that fit into `size` bytes together, as many as do.
+pub fn pack(alloc: Global, entries: &[Dirent<'_>], size: u32) -> Result<Packed, PackFault>
+    requires { All (λ d. IsNamed (entry_of d)) entries.now }
+
+    // How many are taken, and their bytes.
+    ensures longest { IfOk result (λ packed. IsLongest (map entry_of entries.now) size packed.taken) }
+    ensures bytes { IfOk result (λ packed. packed.body ≡ entries_bytes (take packed.taken (map entry_of entries.now))) }
+    // So `unpack` gives them back.
+    ensures lists { IfOk result (λ packed. Lists (take packed.taken (map entry_of entries.now)) packed.body) }
+
+    ensures first { FirstIsTooBig (map entry_of entries.now) size ↔ (result ≡ Err first_too_big) }
+{
+    let size = size as usize;
+    if first_is_too_big(entries, size) {
+        return Err(PackFault::FirstTooBig);
+    }
+    let mut body = Vec::new(alloc);
+    let taken = put_fitting(&mut body, entries, size)?;
+    Ok(Packed {
+        body: ByteList::from_vec(body),
+        taken,
+    })
+}
