@@ -9,7 +9,8 @@ use Rattle.fuse_request.specs.declared.decoding.Malformed.{Malformed}
 use Rattle.fuse_request.specs.declared.request.Request.{Request}
 use Rattle.fuse_request.specs.Act.{Asked, asked, act, IsBuilt, opcode_of}
 use Rattle.fuse_request.specs.Header.{raw_of}
-use Rattle.fuse_request.specs.Opcodes.{silent, is_built}
+use Rattle.fuse_wire.specs.Opcodes.{silent}
+use Rattle.fuse_request.specs.Opcodes.{is_built}
 use Rattle.fuse_request.specs.Spelling.{Spells}
 use Rattle.fuse_request.specs.Faults.{first_fault}
 use Rattle.fuse_request.specs.Classes.{class_by, class_of, IsOfClass}

@@ -2,7 +2,7 @@
 -- and exchange.
 use Rattle.std.specs.Prelude.{◌≡◌, ℕ, List, [], ◌∷◌, ◌++◌, Some, None, codes, replicate}
 use Rattle.fuse_wire.specs.Hex.{hex}
-use Rattle.fuse_request.specs.declared.opcode.TheConstants.{FORGET, MKDIR, RENAME, INIT, DESTROY, BATCH_FORGET}
+use Rattle.fuse_wire.specs.declared.opcode.TheConstants.{FORGET, MKDIR, RENAME, INIT, DESTROY, BATCH_FORGET}
 use Rattle.fuse_request.specs.declared.request.InHeader.{InHeader}
 use Rattle.fuse_request.specs.declared.decoding.Malformed.TheVariants.{HeaderShort, LenDiffers, BodyLength, NoNul, AfterNul, CountDiffers}
 use Rattle.fuse_request.specs.Act.{Asked, Lookup, Mkdir, Rename, Write, Rename2}

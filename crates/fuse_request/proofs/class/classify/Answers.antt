@@ -1,6 +1,7 @@
 use Rattle.std.proofs.Common.{sym, ap, ◌∙◌}
 use Rattle.fuse_request.specs.Act.{asked}
-use Rattle.fuse_request.specs.Opcodes.{silent, is_built}
+use Rattle.fuse_wire.specs.Opcodes.{silent}
+use Rattle.fuse_request.specs.Opcodes.{is_built}
 use Rattle.fuse_request.proofs.Classes.{classed_silent, classed_fault, classed_unsupported, classed_kept}
 use Rattle.fuse_request.proofs.class.classify.Goals as goal
 
