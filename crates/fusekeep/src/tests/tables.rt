@@ -28,6 +28,7 @@ fn endings(rt: HostRuntime) -> Result<(), Fail> {
             "stream: Cut at 46: have 3, need 4",
         ),
         (Ending::ZeroUnique { at: 7 }, 1, "stream: ZeroUnique at 7"),
+        (Ending::Malformed, 1, ""),
         (Ending::Usage, 2, ""),
         (Ending::Sql, 3, "store: Sql"),
         (Ending::of(StoreFault::NotAStore), 3, "store: NotAStore"),
@@ -68,6 +69,24 @@ fn good_words(rt: HostRuntime) -> Result<(), Fail> {
             stream: "first.stream"
         }
     );
+    Ok(())
+}
+
+#[test]
+fn words_of_looks(rt: HostRuntime) -> Result<(), Fail> {
+    let words = ["fusekeep", "dump", "-"];
+    let run = parse(rt.alloc(), words.as_slice())?;
+    assert_eq!(rt; run, Run::Dump { file: "-" });
+    assert_eq!(rt; run.input(), "-");
+    let words = ["fusekeep", "check", "first.stream"];
+    let run = parse(rt.alloc(), words.as_slice())?;
+    assert_eq!(rt;
+        run,
+        Run::Check {
+            file: "first.stream"
+        }
+    );
+    assert_eq!(rt; run.input(), "first.stream");
     Ok(())
 }
 
