@@ -1,8 +1,5 @@
 //! The rows of the specification that a session alone can run.
 
-mod moments;
-mod resuming;
-
 use crate::{Arrival, Ended, Fixed, MemoryPort, Outcome, SessionCounts, serve};
 use fuse_request::FrameFault;
 use fuse_store::{Keeper, PlainKeeper, StoreFault};
@@ -15,9 +12,11 @@ mod clocks;
 mod groups;
 mod hostile;
 mod messages;
+mod moments;
 mod pieces;
 mod ports;
 mod refused;
+mod resuming;
 mod settled;
 
 const START: Moment = Moment { secs: 0, nanos: 0 };

@@ -83,3 +83,43 @@ fn silent_and_unsupported(rt: HostRuntime) -> Result<(), Fail> {
     assert_eq!(rt; held(&mut keeper)?, (1, 0));
     Ok(())
 }
+
+#[test]
+fn destroy_first(rt: HostRuntime) -> Result<(), Fail> {
+    let alloc = rt.alloc();
+    let mut keeper = PlainKeeper::new(alloc, START)?;
+    let mut input = Vec::new(alloc);
+    put_destroy(&mut input, 4)?;
+    put_mkdir(&mut input, 6, b'a')?;
+    let run = serve_once(alloc, &mut keeper, input, plain_peer(alloc))?;
+    assert!(rt; matches!(run.ended, Ended::Destroyed));
+    assert_eq!(rt;
+        run.sent(),
+        hex(alloc, "10000000 00000000 0400000000000000")?.as_slice()
+    );
+    assert_eq!(rt; held(&mut keeper)?, (1, 1), "the directory isn't there");
+    Ok(())
+}
+
+// What another request recorded under the id of a DESTROY decides whether the session ends.
+#[test]
+fn destroy_under_a_recorded_id(rt: HostRuntime) -> Result<(), Fail> {
+    let alloc = rt.alloc();
+    let mut keeper = PlainKeeper::new(alloc, START)?;
+    let mut input = Vec::new(alloc);
+    put_lookup(&mut input, 8)?;
+    put_destroy(&mut input, 8)?;
+    put_mkdir(&mut input, 4, b'a')?;
+    put_destroy(&mut input, RESENT | 4)?;
+    put_mkdir(&mut input, 6, b'b')?;
+    let run = serve_once(alloc, &mut keeper, input, plain_peer(alloc))?;
+    let mut wanted = Vec::new(alloc);
+    put_error(&mut wanted, 8, ENOENT)?;
+    put_error(&mut wanted, 8, ENOENT)?;
+    put_entry(&mut wanted, 4, 2)?;
+    put_entry(&mut wanted, RESENT | 4, 2)?;
+    assert!(rt; matches!(run.ended, Ended::Destroyed));
+    assert_eq!(rt; run.sent(), wanted.as_slice());
+    assert_eq!(rt; held(&mut keeper)?, (2, 2));
+    Ok(())
+}

@@ -116,6 +116,11 @@ pub fn put_create(out: &mut Vec<u8>, unique: u64) -> Result<(), AllocError> {
     put_header(out, 40, 35, unique, 1)
 }
 
+/// DESTROY: 40 bytes.
+pub fn put_destroy(out: &mut Vec<u8>, unique: u64) -> Result<(), AllocError> {
+    put_header(out, 40, 38, unique, 0)
+}
+
 /// MKDIRs of distinct names, the first `from` of them left out, under the uniques 4, 6 and so on with this bit.
 pub fn mkdirs(alloc: Global, from: u8, to: u8, bit: u64) -> Result<Vec<u8>, AllocError> {
     let mut out = Vec::new(alloc);
