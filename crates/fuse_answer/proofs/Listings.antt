@@ -1,15 +1,15 @@
 -- Entries one after the other, by relation and by places.
-use Rattle.std.proofs.Common.{◌≡◌, ◌≢◌, ℕ, zero, suc, ◌+◌, ◌-◌, ◌*◌, ◌%◌, ◌<◌, ◌≤◌, ◌^◌, ◌⊎◌, inl, inr, Bool, true, false, if◌then◌else◌, nat_lt, List, [], ◌∷◌, ◌++◌, length, take, drop, Option, Some, None, refl, sym, ap, subst, ◌∙◌, append_assoc, arith}
+use Rattle.std.proofs.Common.{◌≡◌, ◌≢◌, ℕ, zero, suc, ◌+◌, ◌<◌, ◌≤◌, ◌^◌, ◌⊎◌, inl, inr, Bool, true, false, if◌then◌else◌, nat_lt, List, [], ◌∷◌, ◌++◌, length, take, drop, Option, Some, None, refl, sym, ap, subst, ◌∙◌, append_assoc, arith}
 use Rattle.std.specs.Prelude.{◌==◌}
 use Rattle.std.proofs.Math.Seq.{take-add}
-use Rattle.std.proofs.lemmas.Bool.{lt-ltb, le-ltb, ltb-false, ne_eqb, cases_lt}
-use Rattle.std.proofs.lemmas.List.{append-nil, take_at, drop_at, drop-drop, take-take, length-append, length-drop, length-take, take-append-drop}
+use Rattle.std.proofs.lemmas.Bool.{lt-ltb, le-ltb, ltb-false, ne_eqb}
+use Rattle.std.proofs.lemmas.List.{append-nil, take_at, drop_at, drop-drop, length-append, length-drop, length-take, take-append-drop}
 use Rattle.std.specs.Option.{option_map_or}
 use Rattle.fuse_wire.specs.Bytes.{le, number_of, IsBytes}
 use Rattle.fuse_wire.specs.Layout.{number, unused, bytes, Lays}
 use Rattle.fuse_wire.proofs.Numbers.{length-le, number_front, IsBytes-drop}
-use Rattle.fuse_wire.proofs.Layouts.{Lays-length, peel, peel_unused}
-use Rattle.fuse_answer.specs.Entries.{Entry, IsNamed, padding, dirent_parts, StandsBefore, Lists, IsListing, entry_len}
+use Rattle.fuse_wire.proofs.Layouts.{Lays-length, peel}
+use Rattle.fuse_answer.specs.Entries.{Entry, padding, dirent_parts, StandsBefore, Lists, IsListing, entry_len}
 use Rattle.fuse_answer.specs.Front.{name_len, entry_at, front_of, entries_by}
 
 -- an entry that stands at the front is read there

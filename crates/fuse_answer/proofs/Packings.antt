@@ -1,12 +1,12 @@
 -- Entries put one behind the other.
-use Rattle.std.proofs.Common.{◌≡◌, ℕ, zero, suc, ◌+◌, ◌-◌, ◌<◌, ◌≤◌, inl, inr, List, [], ◌∷◌, ◌++◌, length, take, get_or, refl, sym, ap, subst, ◌∙◌, append_assoc, arith}
+use Rattle.std.proofs.Common.{◌≡◌, ℕ, ◌+◌, ◌-◌, ◌<◌, ◌≤◌, inl, inr, List, [], ◌∷◌, ◌++◌, length, take, get_or, refl, sym, ap, subst, ◌∙◌, append_assoc, arith}
 use Rattle.std.specs.List.{sum_by}
 use Rattle.std.proofs.lemmas.Bool.{cases_lt}
-use Rattle.std.proofs.lemmas.List.{append-nil, take_all, take_more, take-take, length-append}
+use Rattle.std.proofs.lemmas.List.{append-nil, take_more, take-take, length-append}
 use Rattle.std.proofs.lemmas.List.Sums.{sum_by_more, sum_by-take-le}
-use Rattle.fuse_wire.specs.Layout.{form, HasForm, Lays}
+use Rattle.fuse_wire.specs.Layout.{form, HasForm}
 use Rattle.fuse_wire.proofs.Layouts.{Lays-form, Lays-length}
-use Rattle.fuse_answer.specs.Entries.{Entry, IsNamed, dirent_parts, StandsBefore, Lists, packed_len, entries_bytes, IsLongest}
+use Rattle.fuse_answer.specs.Entries.{Entry, IsNamed, dirent_parts, Lists, packed_len, entries_bytes, IsLongest}
 
 -- the first n entries are put, and fit
 pub record Filled (es : List Entry) (size n : ℕ) (body : List ℕ) : Type 0 where

@@ -1,5 +1,5 @@
 -- What is read from a body by its places.
-use Rattle.std.proofs.Common.{◌≡◌, ℕ, List, ◌++◌, take, drop, sym, ap, subst, ◌∙◌, arith}
+use Rattle.std.proofs.Common.{◌≡◌, ℕ, List, ◌++◌, take, drop, sym, subst}
 use Rattle.std.proofs.lemmas.List.{take-append-drop}
 use Rattle.fuse_wire.specs.Bytes.{IsBytes}
 use Rattle.fuse_wire.specs.Layout.{Part, Lays}

@@ -1,5 +1,5 @@
 -- The entry at the front of bytes, by its places.
-use Rattle.std.specs.Prelude.{◌-◌, ◌==◌, ℕ, zero, suc, nat_lt, if◌then◌else◌, List, [], ◌∷◌, length, take, drop, Option, Some, None}
+use Rattle.std.specs.Prelude.{◌==◌, ℕ, zero, suc, nat_lt, if◌then◌else◌, List, [], ◌∷◌, length, take, drop, Option, Some, None}
 use Rattle.std.specs.Option.{option_map_or}
 use Rattle.fuse_wire.specs.Bytes.{number_of}
 use Rattle.fuse_answer.specs.declared.dirent.TheConstants.{MAX_NAME}

@@ -1,8 +1,8 @@
-use Rattle.std.proofs.Common.{◌≡◌, ◌-◌, ◌<◌, ◌≤◌, length, map, get_or, sym, ◌∙◌, [], rules, arith}
+use Rattle.std.proofs.Common.{map, get_or, [], arith}
 use Rattle.std.proofs.lemmas.List.{length-map, get_or-map}
 use Rattle.std.proofs.lemmas.List.Elements.{All-get_or}
 use Rattle.fuse_answer.specs.declared.dirent.Dirent.{Dirent}
-use Rattle.fuse_answer.specs.Entries.{entry_of, packed_len, IsNamed}
+use Rattle.fuse_answer.specs.Entries.{entry_of, IsNamed}
 use Rattle.fuse_answer.proofs.Packings.{filled_more, longest_before}
 use Rattle.fuse_answer.proofs.packing.put_fitting.Goals as goal
 
