@@ -192,7 +192,7 @@ life_heard grows holds new clean honest whole whole' left left' may p q r ids be
 came_by : (e : Ended) (p q : PortState) (h : Held) → NotHeard e p q h → (received : List ℕ) × Consumes p.coming q.coming received
 came_by End p q h n = ([], n.2)
 came_by (Frame f) p q h n = ([], n.2)
-came_by PortFailed p q h n = ([], n.2)
+came_by PortFailed p q h n = ([], n.3)
 came_by Memory p q h n = n
 came_by Destroyed p q h n = absurd n
 came_by Turns p q h n = absurd n
@@ -226,7 +226,7 @@ pub ends_unheard : (holds : Rows → Records → Type 0) (honest : Type 0) (may 
     → EndsAs holds holds honest may p q ids h.bytes h.at turns e none_counted
 ends_unheard holds honest may p q ids h End turns ready n hearing = (n.0, record { rest = h.bytes; place = h.at; pending' = ids; whole = whole_unheard holds honest may p q ids h ready n.2 hearing; so = n.1 })
 ends_unheard holds honest may p q ids h (Frame f) turns ready n hearing = record { rest = h.bytes; place = h.at; pending' = ids; whole = whole_unheard holds honest may p q ids h ready n.2 hearing; so = inr (n.0, ready.good, n.1) }
-ends_unheard holds honest may p q ids h PortFailed turns ready n hearing = λ _. record { rest = h.bytes; place = h.at; pending' = ids; whole = whole_unheard holds honest may p q ids h ready n.2 hearing; so = (ready.none, ready.good) }
+ends_unheard holds honest may p q ids h PortFailed turns ready n hearing = λ _. (n.2, record { rest = h.bytes; place = h.at; pending' = ids; whole = whole_unheard holds honest may p q ids h ready n.3 hearing; so = (ready.none, ready.good) })
 ends_unheard holds honest may p q ids h Memory turns ready n hearing = tt
 ends_unheard holds honest may p q ids h Destroyed turns ready n hearing = absurd n
 ends_unheard holds honest may p q ids h Turns turns ready n hearing = absurd n
@@ -255,21 +255,23 @@ halted_more grows joins holds mid new honest honest' may may' p q r ids ids' hel
 }
 
 pub ends_more : HistoriesGrow → CutJoins → (holds mid new : Rows → Records → Type 0) (honest honest' : Type 0) (may may' : Moment → Type 0) (p q r : PortState) (ids ids' : List ℕ) (held left : List ℕ) (begin at turns turns' : ℕ) (e : Ended) (counts counts' : SessionCounts)
-    → Whole holds mid honest may p q ids ids' held left begin at counts → EndsAs mid new honest' may' q r ids' left at turns e counts' → (e ≡ Turns → ⊥) → q.receive_failures ≡ p.receive_failures → (honest' → honest) → ((t : Moment) → may' t → may t)
+    → Whole holds mid honest may p q ids ids' held left begin at counts → EndsAs mid new honest' may' q r ids' left at turns e counts' → (e ≡ Turns → ⊥) → q.receive_failures ≡ p.receive_failures → q.has_ended ≡ p.has_ended → (honest' → honest) → ((t : Moment) → may' t → may t)
     → EndsAs holds new honest' may p r ids held begin turns' e (plus counts counts')
-ends_more grows joins holds mid new honest honest' may may' p q r ids ids' held left begin at turns turns' End counts counts' one two isnt same honest_too moments =
+ends_more grows joins holds mid new honest honest' may may' p q r ids ids' held left begin at turns turns' End counts counts' one two isnt same ended honest_too moments =
     (two.0, rested_more grows joins holds mid new honest honest' may may' p q r ids ids' held left begin at counts counts' _ one two.1 honest_too moments)
-ends_more grows joins holds mid new honest honest' may may' p q r ids ids' held left begin at turns turns' (Frame f) counts counts' one two isnt same honest_too moments =
+ends_more grows joins holds mid new honest honest' may may' p q r ids ids' held left begin at turns turns' (Frame f) counts counts' one two isnt same ended honest_too moments =
     rested_more grows joins holds mid new honest honest' may may' p q r ids ids' held left begin at counts counts' (FaultOf r f) one two honest_too moments
-ends_more grows joins holds mid new honest honest' may may' p q r ids ids' held left begin at turns turns' PortFailed counts counts' one two isnt same honest_too moments =
-    λ more. rested_more grows joins holds mid new honest honest' may may' p q r ids ids' held left begin at counts counts' IsGoodRest one (two (omega (arith, more, same))) honest_too moments
-ends_more grows joins holds mid new honest honest' may may' p q r ids ids' held left begin at turns turns' Memory counts counts' one two isnt same honest_too moments = tt
-ends_more grows joins holds mid new honest honest' may may' p q r ids ids' held left begin at turns turns' Destroyed counts counts' one two isnt same honest_too moments =
+ends_more grows joins holds mid new honest honest' may may' p q r ids ids' held left begin at turns turns' PortFailed counts counts' one two isnt same ended honest_too moments =
+    λ more.
+    let failed = two (omega (arith, more, same)) in
+    (failed.0 ∙ ended, rested_more grows joins holds mid new honest honest' may may' p q r ids ids' held left begin at counts counts' IsGoodRest one failed.1 honest_too moments)
+ends_more grows joins holds mid new honest honest' may may' p q r ids ids' held left begin at turns turns' Memory counts counts' one two isnt same ended honest_too moments = tt
+ends_more grows joins holds mid new honest honest' may may' p q r ids ids' held left begin at turns turns' Destroyed counts counts' one two isnt same ended honest_too moments =
     (two.0, halted_more grows joins holds mid new honest honest' may may' p q r ids ids' held left ByDestroy begin at two.0 counts counts' one two.1 honest_too moments)
-ends_more grows joins holds mid new honest honest' may may' p q r ids ids' held left begin at turns turns' Turns counts counts' one two isnt same honest_too moments = absurd (isnt refl)
-ends_more grows joins holds mid new honest honest' may may' p q r ids ids' held left begin at turns turns' (ZeroUnique place) counts counts' one two isnt same honest_too moments =
+ends_more grows joins holds mid new honest honest' may may' p q r ids ids' held left begin at turns turns' Turns counts counts' one two isnt same ended honest_too moments = absurd (isnt refl)
+ends_more grows joins holds mid new honest honest' may may' p q r ids ids' held left begin at turns turns' (ZeroUnique place) counts counts' one two isnt same ended honest_too moments =
     halted_more grows joins holds mid new honest honest' may may' p q r ids ids' held left ByZero begin at place counts counts' one two honest_too moments
-ends_more grows joins holds mid new honest honest' may may' p q r ids ids' held left begin at turns turns' (Store fault) counts counts' one two isnt same honest_too moments = tt
+ends_more grows joins holds mid new honest honest' may may' p q r ids ids' held left begin at turns turns' (Store fault) counts counts' one two isnt same ended honest_too moments = tt
 
 -- ---- a turn
 
@@ -375,11 +377,11 @@ whole_step grows joins holds mid new honest honest' may may' p q r ids ids' ids'
     (whole_more grows joins holds mid new honest honest' may may' p q r ids ids' ids'' held left rest begin at place counts counts' one two honest_too moments)
 
 pub ends_step : HistoriesGrow → CutJoins → (holds mid new : Rows → Records → Type 0) (honest honest' : Type 0) (may may' : Moment → Type 0) (p q r : PortState) (ids ids' : List ℕ) (held left : List ℕ) (begin at turns turns' : ℕ) (e : Ended) (counts counts' sum : SessionCounts) → sum ≡ plus counts counts'
-    → Whole holds mid honest may p q ids ids' held left begin at counts → EndsAs mid new honest' may' q r ids' left at turns e counts' → (e ≡ Turns → ⊥) → q.receive_failures ≡ p.receive_failures → (honest' → honest) → ((t : Moment) → may' t → may t)
+    → Whole holds mid honest may p q ids ids' held left begin at counts → EndsAs mid new honest' may' q r ids' left at turns e counts' → (e ≡ Turns → ⊥) → q.receive_failures ≡ p.receive_failures → q.has_ended ≡ p.has_ended → (honest' → honest) → ((t : Moment) → may' t → may t)
     → EndsAs holds new honest' may p r ids held begin turns' e sum
-ends_step grows joins holds mid new honest honest' may may' p q r ids ids' held left begin at turns turns' e counts counts' sum is one two isnt same honest_too moments =
+ends_step grows joins holds mid new honest honest' may may' p q r ids ids' held left begin at turns turns' e counts counts' sum is one two isnt same ended honest_too moments =
     subst (λ c. EndsAs holds new honest' may p r ids held begin turns' e c) (sym is)
-    (ends_more grows joins holds mid new honest honest' may may' p q r ids ids' held left begin at turns turns' e counts counts' one two isnt same honest_too moments)
+    (ends_more grows joins holds mid new honest honest' may may' p q r ids ids' held left begin at turns turns' e counts counts' one two isnt same ended honest_too moments)
 
 -- ---- what is exact
 

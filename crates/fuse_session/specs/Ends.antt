@@ -73,7 +73,8 @@ EndsAs holds holds' honest' may old new pending held begin turns Turns counts =
     (new.receives ≡ old.receives + turns) × (new.has_ended ≡ old.has_ended) × Rested holds holds' honest' may old new pending held begin counts IsGoodRest
 EndsAs holds holds' honest' may old new pending held begin turns (Frame f) counts = Rested holds holds' honest' may old new pending held begin counts (FaultOf new f)
 EndsAs holds holds' honest' may old new pending held begin turns (ZeroUnique at) counts = Halted holds holds' honest' may old new pending held ByZero begin at counts
-EndsAs holds holds' honest' may old new pending held begin turns PortFailed counts = old.receive_failures < new.receive_failures → Rested holds holds' honest' may old new pending held begin counts IsGoodRest
+EndsAs holds holds' honest' may old new pending held begin turns PortFailed counts =
+    old.receive_failures < new.receive_failures → (new.has_ended ≡ old.has_ended) × Rested holds holds' honest' may old new pending held begin counts IsGoodRest
 EndsAs holds holds' honest' may old new pending held begin turns (Store fault) counts = Unit {0}
 EndsAs holds holds' honest' may old new pending held begin turns Memory counts = Unit {0}
 

@@ -171,6 +171,9 @@ pub fn serve<K: Keeper, P: Port, C: Clock>(
     // On a port that confirms few records stay.
     ensures at_most { (P.told port.old).confirms ≡ true → K.is_clean keeper.new → (rows : Rows) (records : Records) → K.holds keeper.old rows records → AtMostMore records (K.holds keeper.new) }
 
+    // It receives no more often than it may.
+    ensures turns { (P.told port.new).receives ≤ (P.told port.old).receives + turns }
+
     // It gives up only where the port or the store did.
     ensures failed { result.ended ≡ Ended.PortFailed → (P.told port.old).failures < (P.told port.new).failures }
     ensures store { K.has_failed keeper.new ≡ ended_store result.ended }

@@ -76,7 +76,7 @@ returns-in-Err-clause-ends g c =
     let inv = c.loop-turn.invariant in
     let e = c.in-Err.ensures in
     ends_step c.histories_grow.ensures c.cut_joins.ensures (g.K.Keeper.holds c.args.keeper.now) (g.K.Keeper.holds c.loop-turn.keeper) (g.K.Keeper.holds c.one_turn.new.keeper) _ _ _ _ _ _ _ [] (ids_of c.loop-turn.pending.items) [] _ 0 _ 0 c.args.turns c.in-Err.served.ended c.loop-turn.counts c.in-Err.served.counts c.sum_of-sum.result
-    c.sum_of-sum.ensures inv.whole e.ends e.not_turns inv.receive_failures e.honest inv.same
+    c.sum_of-sum.ensures inv.whole e.ends e.not_turns inv.receive_failures inv.has_ended e.honest inv.same
 
 pub returns-in-Err-clause-life : goal.returns-in-Err-clause-life
 returns-in-Err-clause-life g c =
