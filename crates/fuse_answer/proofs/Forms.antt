@@ -3,9 +3,8 @@ use Rattle.std.proofs.Common.{◌≡◌, ℕ, List, [], ◌∷◌, ◌++◌, ◌
 use Rattle.std.specs.Prelude.{OnOk, replicate}
 use Rattle.std.proofs.lemmas.List.{append-nil, length-append, length-replicate}
 use Rattle.fuse_wire.specs.Bytes.{le}
-use Rattle.fuse_wire.specs.Layout.{Part, number, unused, text, bytes, form}
+use Rattle.fuse_wire.specs.Layout.{Part, number, unused, text, bytes, widths, form}
 use Rattle.fuse_wire.proofs.Numbers.{length-le}
-use Rattle.fuse_wire.proofs.Layouts.{widths}
 use Rattle.fuse_answer.specs.Bodies.{attr_parts, entry_parts, attr_out_parts, open_parts, write_parts, init_parts, attr_bytes, entry_bytes, attr_out_bytes, open_bytes, write_bytes, init_bytes}
 use Rattle.fuse_answer.specs.Laws.{BeginsWithLen}
 use Rattle.fuse_answer.specs.Wire.{negated, wire, wire_head}

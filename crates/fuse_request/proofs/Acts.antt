@@ -1,20 +1,20 @@
 -- The bytes of a body spell one act, and have no fault.
-use Rattle.std.proofs.Common.{◌≡◌, ℕ, ◌*◌, ◌-◌, ◌/◌, ◌≤◌, ◌==◌, Bool, true, false, cond, subst, List, [], ◌∷◌, ◌++◌, length, drop, map, Option, Some, None, refl, sym, ap, ◌∙◌, arith}
+use Rattle.std.proofs.Common.{◌≡◌, ℕ, ◌*◌, ◌-◌, ◌==◌, Bool, true, false, cond, subst, List, [], ◌∷◌, ◌++◌, length, drop, map, Option, Some, None, refl, sym, ap, ◌∙◌, arith}
 use Rattle.std.specs.Prelude.{is_some}
 use Rattle.std.proofs.lemmas.List.{append-nil, length-drop}
 use Rattle.fuse_wire.specs.Bytes.{number_of}
-use Rattle.fuse_wire.specs.Layout.{Lays, text, bytes}
+use Rattle.fuse_wire.specs.Layout.{Lays, bytes}
 use Rattle.fuse_wire.proofs.Layouts.{stands}
 use Rattle.fuse_request.specs.declared.request.InitIn.{InitIn}
 use Rattle.fuse_request.specs.declared.request.ReadIn.{ReadIn}
 use Rattle.fuse_request.specs.declared.request.ReleaseIn.{ReleaseIn}
 use Rattle.fuse_request.specs.declared.request.SetattrIn.{SetattrIn}
 use Rattle.fuse_request.specs.Bodies.{name_fault, names_fault}
-use Rattle.fuse_request.specs.Opcodes.{Opcode, profile, find, in_profile, fault_by}
+use Rattle.fuse_request.specs.Opcodes.{Opcode, profile, find, fault_by}
 use Rattle.fuse_request.specs.Act.{Act, Lookup, Forget, Getattr, Setattr, Mknod, Mkdir, Unlink, Rmdir, Rename, OpenFile, Read, Write, Release, Init, OpenDir, ReadDir, ReleaseDir, Interrupt, Destroy, BatchForget, Rename2, Unsupported, opcode_of}
 use Rattle.fuse_request.specs.Spelling.{parts, IsNamed, setattr_parts, open_parts, read_parts, release_parts}
 use Rattle.fuse_request.specs.Faults.{body_fault}
-use Rattle.fuse_request.specs.Places.{places, at_row, act_at, setattr_at, read_at, release_at, init_at}
+use Rattle.fuse_request.specs.Places.{places, at_row, act_at, setattr_at, read_at, release_at}
 use Rattle.fuse_request.proofs.BodyFaults.{fixed_none, at_least_after, counted_none, one_name, both_names}
 
 -- one act, and no fault

@@ -6,13 +6,11 @@ use Rattle.fuse_wire.specs.declared.errno.TheConstants.Errno.{EINVAL, ENOSYS}
 use Rattle.fuse_request.specs.declared.class.Class.{Class}
 use Rattle.fuse_request.specs.declared.class.Class.TheVariants.{Silent, Bare, Kept}
 use Rattle.fuse_request.specs.declared.decoding.Malformed.{Malformed}
-use Rattle.std.specs.Borrow.{Bor}
-use Rattle.fuse_request.specs.declared.request.Op.{Op}
-use Rattle.fuse_request.specs.declared.request.Op.TheVariants as ops
 use Rattle.fuse_request.specs.declared.request.Request.{Request}
 use Rattle.fuse_request.specs.Act.{Asked, asked, act, IsBuilt, opcode_of}
 use Rattle.fuse_request.specs.Header.{raw_of}
-use Rattle.fuse_request.specs.Opcodes.{silent, is_built}
+use Rattle.fuse_wire.specs.Opcodes.{silent}
+use Rattle.fuse_request.specs.Opcodes.{is_built}
 use Rattle.fuse_request.specs.Spelling.{Spells}
 use Rattle.fuse_request.specs.Faults.{first_fault}
 use Rattle.fuse_request.specs.Classes.{class_by, class_of, IsOfClass}

@@ -2,6 +2,7 @@
 use Rattle.std.proofs.Common.{◌≡◌, ℕ, ◌+◌, ◌-◌, ◌*◌, ◌<◌, ◌≤◌, ◌^◌, List, [], ◌++◌, length, take, drop, Option, Some, None, refl, sym, ap, ◌∙◌, arith}
 use Rattle.std.proofs.lemmas.Bool.{le-ltb, lt-ltb, eq-eqb, cases_lt}
 use Rattle.std.proofs.lemmas.List.{append-nil, take_at, drop_at, drop-drop, length-append, length-drop, length-take, take-append-drop}
+use Rattle.std.specs.Result.{result_err}
 use Rattle.std.proofs.Common.{subst, Result, Ok, Err, inl, inr, nat_lt, if◌then◌else◌}
 use Rattle.std.specs.Prelude.{IfOk, IfErr, IsOkAnd}
 use Rattle.std.proofs.Math.Seq.{take-append-add}
@@ -203,6 +204,11 @@ only_one m (Ok q) found fault v s = one_request (asked q) v m found s
 only_one m (Err f) found fault v s =
     let none : first_fault m ≡ None = no_fault v m s in
     absurd cc
+
+-- which fault is answered
+pub fault_read : (m : List ℕ) (r : Result Request Malformed) → IfOk r (λ q. Spells (asked q) m) → IfErr r (λ f. first_fault m ≡ Some f) → result_err r ≡ first_fault m
+fault_read m (Ok q) found fault = sym (no_fault (asked q) m found)
+fault_read m (Err f) found fault = sym fault
 
 abbrev asked_by : RawHeader → Act → List ℕ → Asked
 asked_by raw a ext = record { header = record { unique = raw.unique; nodeid = raw.nodeid; uid = raw.uid; gid = raw.gid; pid = raw.pid }; act = a; ext = ext }

@@ -7,7 +7,8 @@ use Rattle.fuse_request.specs.declared.class.Class.TheVariants.{Silent, Bare, Ke
 use Rattle.fuse_request.specs.declared.decoding.Malformed.{Malformed}
 use Rattle.fuse_request.specs.Act.{Asked, IsBuilt}
 use Rattle.fuse_request.specs.Header.{raw_of}
-use Rattle.fuse_request.specs.Opcodes.{silent, is_built}
+use Rattle.fuse_wire.specs.Opcodes.{silent}
+use Rattle.fuse_request.specs.Opcodes.{is_built}
 use Rattle.fuse_request.specs.Faults.{first_fault}
 use Rattle.fuse_request.specs.Spelling.{Spells}
 

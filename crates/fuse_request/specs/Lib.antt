@@ -8,6 +8,7 @@ pub mod Readers
 pub mod Places
 pub mod Classes
 pub mod Canon
+pub mod Encoding
 pub mod Stream
 pub mod Framing
 pub mod Vectors

@@ -1,9 +1,9 @@
--- The requests of the profile, and the opcodes that are never answered (fuse.h; the choice is own).
-use Rattle.std.specs.Prelude.{◌==◌, ◌||◌, ℕ, Bool, true, false, if◌then◌else◌, List, [], ◌∷◌, Option, Some, None, is_some, codes}
+-- The requests of the profile (fuse.h; the choice is own).
+use Rattle.std.specs.Prelude.{◌==◌, ℕ, Bool, true, false, if◌then◌else◌, List, [], ◌∷◌, Option, Some, None, is_some, codes}
 use Rattle.std.specs.Option.{option_map}
 use Rattle.fuse_request.specs.declared.decoding.Malformed.{Malformed}
 use Rattle.fuse_request.specs.declared.lengths.TheConstants.{FORGET_IN, GETATTR_IN, SETATTR_IN, MKNOD_IN, MKDIR_IN, RENAME_IN, RENAME2_IN, OPEN_IN, READ_IN, WRITE_IN, RELEASE_IN, INTERRUPT_IN, BATCH_FORGET_IN, FORGET_ONE}
-use Rattle.fuse_request.specs.declared.opcode.TheConstants.{LOOKUP, FORGET, GETATTR, SETATTR, MKNOD, MKDIR, UNLINK, RMDIR, RENAME, OPEN, READ, WRITE, RELEASE, INIT, OPENDIR, READDIR, RELEASEDIR, INTERRUPT, DESTROY, NOTIFY_REPLY, BATCH_FORGET, RENAME2}
+use Rattle.fuse_wire.specs.declared.opcode.TheConstants.{LOOKUP, FORGET, GETATTR, SETATTR, MKNOD, MKDIR, UNLINK, RMDIR, RENAME, OPEN, READ, WRITE, RELEASE, INIT, OPENDIR, READDIR, RELEASEDIR, INTERRUPT, DESTROY, BATCH_FORGET, RENAME2}
 use Rattle.fuse_request.specs.Bodies.{fixed, at_least, name_fault, names_fault, counted, init_fault}
 
 -- an opcode: its number, its name, whether what it asks for is built, and what is wrong with a body
@@ -65,6 +65,3 @@ is_built opcode = built_by (find opcode profile)
 abbrev pub fault_by : Option Opcode → List ℕ → Option Malformed
 fault_by None b = None
 fault_by (Some o) b = o.fault b
-
-abbrev pub silent : ℕ → Bool
-silent opcode = opcode == FORGET || (opcode == INTERRUPT || (opcode == NOTIFY_REPLY || opcode == BATCH_FORGET))

@@ -1,10 +1,13 @@
--- Messages whose bytes are known from outside: the rows missing-lookup, name-ends and first-run.
-use Rattle.std.specs.Prelude.{◌≡◌, ℕ, List, [], ◌∷◌, ◌++◌, Some, None}
+-- Messages whose bytes are known from outside: the worked rows missing-lookup, name-ends, first-run, rename-bytes, write-bytes
+-- and exchange.
+use Rattle.std.specs.Prelude.{◌≡◌, ℕ, List, [], ◌∷◌, ◌++◌, Some, None, codes, replicate}
+use Rattle.fuse_wire.specs.Hex.{hex}
+use Rattle.fuse_wire.specs.declared.opcode.TheConstants.{FORGET, MKDIR, RENAME, INIT, DESTROY, BATCH_FORGET}
 use Rattle.fuse_request.specs.declared.request.InHeader.{InHeader}
-use Rattle.fuse_request.specs.declared.decoding.Malformed.TheVariants.{HeaderShort, LenDiffers, NoNul, AfterNul}
-use Rattle.fuse_request.specs.Act.{Asked, Lookup, Mkdir}
+use Rattle.fuse_request.specs.declared.decoding.Malformed.TheVariants.{HeaderShort, LenDiffers, BodyLength, NoNul, AfterNul, CountDiffers}
+use Rattle.fuse_request.specs.Act.{Asked, Lookup, Mkdir, Rename, Write, Rename2}
 use Rattle.fuse_request.specs.Spelling.{Spells}
-use Rattle.fuse_request.specs.Faults.{first_fault}
+use Rattle.fuse_request.specs.Faults.{body_fault, first_fault}
 use Rattle.fuse_request.specs.Canon.{canon}
 
 -- node 1, uid 1000, gid 1000, pid 77, no extensions
@@ -52,3 +55,50 @@ mkdir_bytes = mkdir_head 50 ++ 0xed ∷ 1 ∷ 0 ∷ 0 ∷ 0x12 ∷ 0 ∷ 0 ∷ 0
 
 abbrev pub FirstRun : Type 0
 FirstRun = (canon mkdir_a ≡ mkdir_bytes) × Spells mkdir_a mkdir_bytes
+
+-- RENAME `a` to `b`
+abbrev pub rename_a : Asked
+rename_a = record { header = header 4; act = Rename 1 (0x61 ∷ []) (0x62 ∷ []); ext = [] }
+
+abbrev pub rename_text : List ℕ
+rename_text = hex (codes "34000000 0c000000 0400000000000000 0100000000000000 e8030000 e8030000 4d000000 00000000 0100000000000000 6100 6200")
+
+abbrev pub RenameBytes : Type 0
+RenameBytes = (canon rename_a ≡ rename_text) × Spells rename_a rename_text
+
+-- WRITE `one` at 0
+abbrev pub write_one : Asked
+write_one = record { header = record { unique = 8; nodeid = 2; uid = 1000; gid = 1000; pid = 77 }; act = Write 1 0 0 0 2 (0x6f ∷ 0x6e ∷ 0x65 ∷ []); ext = [] }
+
+abbrev pub write_text : List ℕ
+write_text =
+    hex (codes "53000000 10000000 0800000000000000 0200000000000000 e8030000 e8030000 4d000000 00000000 0100000000000000 0000000000000000 03000000 00000000 0000000000000000 02000000 00000000 6f6e65")
+
+abbrev pub WriteBytes : Type 0
+WriteBytes = (canon write_one ≡ write_text) × Spells write_one write_text
+
+-- the exchange of `a` and `b`
+abbrev pub exchange_a : Asked
+exchange_a = record { header = header 8; act = Rename2 1 2 (0x61 ∷ []) (0x62 ∷ []); ext = [] }
+
+abbrev pub exchange_text : List ℕ
+exchange_text = hex (codes "3c000000 2d000000 0800000000000000 0100000000000000 e8030000 e8030000 4d000000 00000000 0100000000000000 02000000 00000000 6100 6200")
+
+abbrev pub Exchange : Type 0
+Exchange = (canon exchange_a ≡ exchange_text) × Spells exchange_a exchange_text
+
+-- bodies, by their opcodes
+abbrev pub BodyFaults : Type 0
+BodyFaults =
+    (body_fault INIT (replicate 24 0) ≡ Some BodyLength)
+    × (body_fault INIT (replicate 16 0) ≡ None)
+    × (body_fault INIT (replicate 64 0) ≡ None)
+    × (body_fault RENAME (hex (codes "0100000000000000 6100 62")) ≡ Some NoNul)
+    × (body_fault RENAME (hex (codes "0100000000000000 6100 6200 63")) ≡ Some AfterNul)
+    × (body_fault BATCH_FORGET (2 ∷ replicate 39 0) ≡ None)
+    × (body_fault BATCH_FORGET (3 ∷ replicate 39 0) ≡ Some CountDiffers)
+    × (body_fault BATCH_FORGET (hex (codes "00000010 00000000")) ≡ Some CountDiffers)
+    × (body_fault DESTROY (0 ∷ []) ≡ Some BodyLength)
+    × (body_fault FORGET (replicate 7 0) ≡ Some BodyLength)
+    × (body_fault MKDIR (replicate 4 0) ≡ Some BodyLength)
+    × (body_fault 35 (0 ∷ []) ≡ None)

@@ -1,3 +1,4 @@
+ghost use Rattle.std.specs.Result.{result_err};
 ghost use Rattle.std.specs.Prelude.{◌≡◌, Some, IsOkAnd, IfOk, IfErr};
 ghost use Rattle.fuse_request.specs.Act.{Asked, asked, act, IsBuilt};
 ghost use Rattle.fuse_request.specs.Spelling.{Spells};
@@ -66,8 +67,8 @@ pub fn decode(message: &[u8]) -> Result<Request<'_>, Malformed>
     // It is what stands at the places of the opcode.
     ensures placed { IfOk result (λ r. asked r ≡ asked_at message.now) }
 
-    // Which fault it is.
-    ensures fault { IfErr result (λ m. first_fault message.now ≡ Some m) }
+    // Which fault it is. There is none exactly where a request is spelled.
+    ensures fault { result_err result ≡ first_fault message.now }
 
     // What is kept is read, and what it asks for is built.
     ensures kept { class_of message.now ≡ Class.Kept → IsOkAnd result (λ r. IsBuilt (act r.op)) }

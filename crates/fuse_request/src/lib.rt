@@ -4,6 +4,7 @@
 mod bodies;
 mod class;
 mod decoding;
+mod encoding;
 mod framer;
 mod header;
 mod laws;
@@ -13,10 +14,13 @@ mod request;
 
 pub use class::{Class, classify, has_zero_unique};
 pub use decoding::{Malformed, decode};
+pub use encoding::{EncodeFault, encode};
 pub use framer::{FrameFault, Framer, MAX_FED};
 pub use header::{MAX_MESSAGE, MIN_MESSAGE, RawHeader, header_of};
 pub use laws::{canon_spells, cut_joins, cut_steps, one_cut};
 pub use request::{InHeader, InitIn, Op, ReadIn, ReleaseIn, Request, SetattrIn};
 
+#[cfg(test)]
+mod encoding_tests;
 #[cfg(test)]
 mod tests;

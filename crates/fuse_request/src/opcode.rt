@@ -1,53 +1,15 @@
-//! The opcodes of `fuse.h` that the server knows by name, with the lengths of the fixed parts of their bodies.
+//! The opcodes of the profile: their names, and what is built of them.
 ghost use Rattle.std.specs.Prelude.{◌≡◌};
 ghost use Rattle.std.specs.Option.{option_map};
 ghost use Rattle.fuse_request.specs.Opcodes as opcodes;
-ghost use Rattle.fuse_request.specs.Opcodes.{silent};
+ghost use Rattle.fuse_wire.specs.Opcodes.{silent};
+ghost use Rattle.fuse_request.specs.Opcodes.{in_profile};
 
-pub const LOOKUP: u32 = 1;
-
-pub const FORGET: u32 = 2;
-
-pub const GETATTR: u32 = 3;
-
-pub const SETATTR: u32 = 4;
-
-pub const MKNOD: u32 = 8;
-
-pub const MKDIR: u32 = 9;
-
-pub const UNLINK: u32 = 10;
-
-pub const RMDIR: u32 = 11;
-
-pub const RENAME: u32 = 12;
-
-pub const OPEN: u32 = 14;
-
-pub const READ: u32 = 15;
-
-pub const WRITE: u32 = 16;
-
-pub const RELEASE: u32 = 18;
-
-pub const INIT: u32 = 26;
-
-pub const OPENDIR: u32 = 27;
-
-pub const READDIR: u32 = 28;
-
-pub const RELEASEDIR: u32 = 29;
-
-pub const INTERRUPT: u32 = 36;
-
-pub const DESTROY: u32 = 38;
-
-/// Outside the profile, and never answered.
-pub const NOTIFY_REPLY: u32 = 41;
-
-pub const BATCH_FORGET: u32 = 42;
-
-pub const RENAME2: u32 = 45;
+pub use fuse_wire::opcode::{
+    BATCH_FORGET, DESTROY, FORGET, GETATTR, INIT, INTERRUPT, LOOKUP, MKDIR, MKNOD, NOTIFY_REPLY,
+    OPEN, OPENDIR, READ, READDIR, RELEASE, RELEASEDIR, RENAME, RENAME2, RMDIR, SETATTR, UNLINK,
+    WRITE,
+};
 
 /// What `fuse.h` calls an opcode of the profile, without its prefix.
 pub fn name_of(opcode: u32) -> Option<&'static str>
@@ -77,6 +39,36 @@ pub fn name_of(opcode: u32) -> Option<&'static str>
         RENAME2 => Some("RENAME2"),
         _ => None,
     }
+}
+
+/// Whether an opcode is of the profile.
+pub fn is_in_profile(opcode: u32) -> bool
+    ensures { result ≡ in_profile opcode }
+{
+    matches!(
+        opcode,
+        LOOKUP
+            | FORGET
+            | GETATTR
+            | SETATTR
+            | MKNOD
+            | MKDIR
+            | UNLINK
+            | RMDIR
+            | RENAME
+            | OPEN
+            | READ
+            | WRITE
+            | RELEASE
+            | INIT
+            | OPENDIR
+            | READDIR
+            | RELEASEDIR
+            | INTERRUPT
+            | DESTROY
+            | BATCH_FORGET
+            | RENAME2
+    )
 }
 
 /// Whether what requests of this opcode do is built. Until it is, they are answered as unsupported ones are.

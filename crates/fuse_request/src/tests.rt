@@ -1,4 +1,4 @@
-ghost use Rattle.fuse_request.specs.Vectors.{Faults, FirstRun, MissingLookup};
+ghost use Rattle.fuse_request.specs.Vectors.{BodyFaults, Exchange, Faults, FirstRun, MissingLookup, RenameBytes, WriteBytes};
 
 use super::*;
 use fuse_wire::Errno;
@@ -9,6 +9,11 @@ fn faults()
     ensures { Faults }
 {}
 
+#[tactic(auto, unfolding(fuse_wire::specs::Bytes::number_of))]
+fn body_faults()
+    ensures { BodyFaults }
+{}
+
 fn missing_lookup()
     ensures { MissingLookup }
 {}
@@ -17,10 +22,26 @@ fn first_run()
     ensures { FirstRun }
 {}
 
+fn rename_bytes()
+    ensures { RenameBytes }
+{}
+
+fn write_bytes()
+    ensures { WriteBytes }
+{}
+
+fn exchange()
+    ensures { Exchange }
+{}
+
 // The vectors, which the check computes.
 #[test]
 fn vectors() {
     faults();
+    body_faults();
+    rename_bytes();
+    write_bytes();
+    exchange();
     missing_lookup();
     first_run();
     one_cut();
@@ -152,6 +173,139 @@ fn messages(rt: HostRuntime) -> Result<(), Fail> {
             b"\x28\0\0\0\x23\0\0\0\x04\0\0\0\0\0\0\0\x01\0\0\0\0\0\0\0\xe8\x03\0\0\xe8\x03\0\0\x4d\0\0\0\0\0\0\0".as_slice(),
             None,
             enosys,
+            false,
+        ),
+        (
+            "mkdir-bodies, no bytes",
+            b"\x28\0\0\0\x09\0\0\0\x06\0\0\0\0\0\0\0\x01\0\0\0\0\0\0\0\xe8\x03\0\0\xe8\x03\0\0\x4d\0\0\0\0\0\0\0".as_slice(),
+            Some(Malformed::BodyLength),
+            einval,
+            false,
+        ),
+        (
+            "init-body-24",
+            b"\x40\0\0\0\x1a\0\0\0\x02\0\0\0\0\0\0\0\0\0\0\0\0\0\0\0\0\0\0\0\0\0\0\0\0\0\0\0\0\0\0\0\x07\0\0\0\x1f\0\0\0\0\0\x02\0\x21\0\0\0\0\0\0\0\0\0\0\0".as_slice(),
+            Some(Malformed::BodyLength),
+            einval,
+            false,
+        ),
+        (
+            "init-agreed",
+            b"h\0\0\0\x1a\0\0\0\x02\0\0\0\0\0\0\0\0\0\0\0\0\0\0\0\0\0\0\0\0\0\0\0\0\0\0\0\0\0\0\0\x07\0\0\0\x28\0\0\0\0\0\x02\0\x21\x20\0\x40\x80\0\0\0\0\0\0\0\0\0\0\0\0\0\0\0\0\0\0\0\0\0\0\0\0\0\0\0\0\0\0\0\0\0\0\0\0\0\0\0\0\0\0\0\0\0\0\0".as_slice(),
+            None,
+            enosys,
+            false,
+        ),
+        (
+            "init-short",
+            b"\x38\0\0\0\x1a\0\0\0\x02\0\0\0\0\0\0\0\0\0\0\0\0\0\0\0\0\0\0\0\0\0\0\0\0\0\0\0\0\0\0\0\x07\0\0\0\x1f\0\0\0\0\0\x02\0\x21\0\0\0".as_slice(),
+            None,
+            enosys,
+            false,
+        ),
+        (
+            "hostile-bodies, second name",
+            b"\x33\0\0\0\x0c\0\0\0\x04\0\0\0\0\0\0\0\x01\0\0\0\0\0\0\0\xe8\x03\0\0\xe8\x03\0\0\x4d\0\0\0\0\0\0\0\x01\0\0\0\0\0\0\0a\0b".as_slice(),
+            Some(Malformed::NoNul),
+            einval,
+            false,
+        ),
+        (
+            "hostile-bodies, bytes after the second name",
+            b"\x35\0\0\0\x0c\0\0\0\x04\0\0\0\0\0\0\0\x01\0\0\0\0\0\0\0\xe8\x03\0\0\xe8\x03\0\0\x4d\0\0\0\0\0\0\0\x01\0\0\0\0\0\0\0a\0b\0c".as_slice(),
+            Some(Malformed::AfterNul),
+            einval,
+            false,
+        ),
+        (
+            "hostile-bodies, FORGET of 7 bytes",
+            b"\x2f\0\0\0\x02\0\0\0\x04\0\0\0\0\0\0\0\x01\0\0\0\0\0\0\0\xe8\x03\0\0\xe8\x03\0\0\x4d\0\0\0\0\0\0\0\x01\0\0\0\0\0\0".as_slice(),
+            Some(Malformed::BodyLength),
+            Class::Silent,
+            false,
+        ),
+        (
+            "hostile-bodies, the last opcode",
+            b"\x28\0\0\0\xff\xff\xff\xff\x04\0\0\0\0\0\0\0\x01\0\0\0\0\0\0\0\xe8\x03\0\0\xe8\x03\0\0\x4d\0\0\0\0\0\0\0".as_slice(),
+            None,
+            enosys,
+            false,
+        ),
+        (
+            "write-limits, 3 bytes of 4",
+            b"\x53\0\0\0\x10\0\0\0\x04\0\0\0\0\0\0\0\x02\0\0\0\0\0\0\0\xe8\x03\0\0\xe8\x03\0\0\x4d\0\0\0\0\0\0\0\x01\0\0\0\0\0\0\0\0\0\0\0\0\0\0\0\x04\0\0\0\0\0\0\0\0\0\0\0\0\0\0\0\x02\0\0\0\0\0\0\0one".as_slice(),
+            Some(Malformed::CountDiffers),
+            einval,
+            false,
+        ),
+        (
+            "write-limits, 4 bytes of 3",
+            b"\x54\0\0\0\x10\0\0\0\x04\0\0\0\0\0\0\0\x02\0\0\0\0\0\0\0\xe8\x03\0\0\xe8\x03\0\0\x4d\0\0\0\0\0\0\0\x01\0\0\0\0\0\0\0\0\0\0\0\0\0\0\0\x03\0\0\0\0\0\0\0\0\0\0\0\0\0\0\0\x02\0\0\0\0\0\0\0ones".as_slice(),
+            Some(Malformed::CountDiffers),
+            einval,
+            false,
+        ),
+        (
+            "batch-forget",
+            b"\x50\0\0\0\x2a\0\0\0\x04\0\0\0\0\0\0\0\0\0\0\0\0\0\0\0\xe8\x03\0\0\xe8\x03\0\0\x4d\0\0\0\0\0\0\0\x02\0\0\0\0\0\0\0\x02\0\0\0\0\0\0\0\x01\0\0\0\0\0\0\0\x03\0\0\0\0\0\0\0\x01\0\0\0\0\0\0\0".as_slice(),
+            None,
+            Class::Silent,
+            false,
+        ),
+        (
+            "batch-forget, count 3",
+            b"\x50\0\0\0\x2a\0\0\0\x04\0\0\0\0\0\0\0\0\0\0\0\0\0\0\0\xe8\x03\0\0\xe8\x03\0\0\x4d\0\0\0\0\0\0\0\x03\0\0\0\0\0\0\0\x02\0\0\0\0\0\0\0\x01\0\0\0\0\0\0\0\x03\0\0\0\0\0\0\0\x01\0\0\0\0\0\0\0".as_slice(),
+            Some(Malformed::CountDiffers),
+            Class::Silent,
+            false,
+        ),
+        (
+            "batch-forget, 2 to the 28 items in none",
+            b"\x30\0\0\0\x2a\0\0\0\x04\0\0\0\0\0\0\0\0\0\0\0\0\0\0\0\xe8\x03\0\0\xe8\x03\0\0\x4d\0\0\0\0\0\0\0\0\0\0\x10\0\0\0\0".as_slice(),
+            Some(Malformed::CountDiffers),
+            Class::Silent,
+            false,
+        ),
+        (
+            "destroy",
+            b"\x28\0\0\0\x26\0\0\0\x04\0\0\0\0\0\0\0\0\0\0\0\0\0\0\0\xe8\x03\0\0\xe8\x03\0\0\x4d\0\0\0\0\0\0\0".as_slice(),
+            None,
+            Class::Kept,
+            false,
+        ),
+        (
+            "destroy, with a body",
+            b"\x29\0\0\0\x26\0\0\0\x04\0\0\0\0\0\0\0\0\0\0\0\0\0\0\0\xe8\x03\0\0\xe8\x03\0\0\x4d\0\0\0\0\0\0\0\0".as_slice(),
+            Some(Malformed::BodyLength),
+            einval,
+            false,
+        ),
+        (
+            "interrupt",
+            b"\x30\0\0\0\x24\0\0\0\x05\0\0\0\0\0\0\0\0\0\0\0\0\0\0\0\xe8\x03\0\0\xe8\x03\0\0\x4d\0\0\0\0\0\0\0\x04\0\0\0\0\0\0\0".as_slice(),
+            None,
+            Class::Silent,
+            false,
+        ),
+        (
+            "notify reply",
+            b"\x28\0\0\0\x29\0\0\0\x05\0\0\0\0\0\0\0\0\0\0\0\0\0\0\0\xe8\x03\0\0\xe8\x03\0\0\x4d\0\0\0\0\0\0\0".as_slice(),
+            None,
+            Class::Silent,
+            false,
+        ),
+        (
+            "an extension is not of the body",
+            b"\x40\0\0\0\x03\0\0\0\x04\0\0\0\0\0\0\0\x01\0\0\0\0\0\0\0\xe8\x03\0\0\xe8\x03\0\0\x4d\0\0\0\x01\0\0\0\0\0\0\0\0\0\0\0\0\0\0\0\0\0\0\0\x01\x01\x01\x01\x01\x01\x01\x01".as_slice(),
+            None,
+            Class::Kept,
+            false,
+        ),
+        (
+            "an extension does not fill a body",
+            b"\x38\0\0\0\x03\0\0\0\x04\0\0\0\0\0\0\0\x01\0\0\0\0\0\0\0\xe8\x03\0\0\xe8\x03\0\0\x4d\0\0\0\x01\0\0\0\0\0\0\0\0\0\0\0\0\0\0\0\0\0\0\0".as_slice(),
+            Some(Malformed::BodyLength),
+            einval,
             false,
         ),
     ] {

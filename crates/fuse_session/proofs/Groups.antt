@@ -11,10 +11,10 @@ use Rattle.fuse_request.specs.Stream.{joined}
 use Rattle.fuse_tree.specs.State.{State}
 use Rattle.fuse_tree.specs.Rows.{Rows}
 use Rattle.fuse_store.specs.declared.keeper.Done.{Done}
-use Rattle.fuse_store.specs.History.{Entry, entry_id, History, grown, is_in, ids_in, Includes, IsUnsettled, repeats}
+use Rattle.fuse_store.specs.History.{Entry, entry_id, History, grown, is_in, ids_in, Includes, IsUnsettled, repeats, HistoriesGrow}
 use Rattle.fuse_store.specs.Stands.{Records, Stands, StandsFor, StandsForEither, Performed, AreThese, Leaves, IsFirm, KeepsHeld, OthersStay}
 use Rattle.fuse_store.specs.Group.{entry_of, entries_of}
-use Rattle.fuse_store.proofs.Standing.{Stands-same, Stands-settled}
+use Rattle.fuse_session.proofs.Standing.{Stands-same, Stands-settled}
 use Rattle.fuse_session.specs.declared.counts.SessionCounts.{SessionCounts}
 use Rattle.fuse_session.specs.declared.group.Rest.{Rest}
 use Rattle.fuse_session.specs.declared.group.Rest.TheVariants.{ZeroUnique}
@@ -162,27 +162,27 @@ same_answers : (dones : List Done) → map (λ a. Some a) (answers_in dones) ≡
 same_answers [] = refl
 same_answers (d ∷ dones) = ap (λ r. Some d.answer ∷ r) (same_answers dones)
 
-says_told : (holds : Rows → Records → Type 0) (s : State) (h : History) (t : List ℕ) (es : List Entry) (ts : List Timed) (dones : List Done) → Performed holds s h t es dones → es ≡ kept_in ts
+says_told : HistoriesGrow → (holds : Rows → Records → Type 0) (s : State) (h : History) (t : List ℕ) (es : List Entry) (ts : List Timed) (dones : List Done) → Performed holds s h t es dones → es ≡ kept_in ts
     → map (λ a. Some a) (answers_in dones) ≡ told s h (kept_in ts)
-says_told holds s h t es ts dones done is = same_answers dones ∙ done.answers ∙ told_is s h es ∙ ap (told s h) is
+says_told grows holds s h t es ts dones done is = same_answers dones ∙ done.answers ∙ told_is grows s h es ∙ ap (told s h) is
 
-sent_are : (holds : Rows → Records → Type 0) (s : State) (h : History) (t : List ℕ) (es : List Entry) (ts : List Timed) (front : List (List ℕ)) (dones : List Done) → Performed holds s h t es dones → es ≡ kept_in ts
+sent_are : HistoriesGrow → (holds : Rows → Records → Type 0) (s : State) (h : History) (t : List ℕ) (es : List Entry) (ts : List Timed) (front : List (List ℕ)) (dones : List Done) → Performed holds s h t es dones → es ≡ kept_in ts
     → front ≡ bytes_of ts → wires front (answers_in dones) ≡ answers s (grown h (kept_in ts)) ts
-sent_are holds s h t es ts front dones done is bytes = ap (λ f. wires f (answers_in dones)) bytes ∙ wires_are s h ts (answers_in dones) (says_told holds s h t es ts dones done is)
+sent_are grows holds s h t es ts front dones done is bytes = ap (λ f. wires f (answers_in dones)) bytes ∙ wires_are grows s h ts (answers_in dones) (says_told grows holds s h t es ts dones done is)
 
 now_stands : (holds : Rows → Records → Type 0) (s : State) (h : History) (t more : List ℕ) (es : List Entry) (ts : List Timed) (dones : List Done) → Performed holds s h t es dones → es ≡ kept_in ts
     → StandsFor holds s (grown h (kept_in ts)) (t ++ more)
 now_stands holds s h t more es ts dones done is = stands_later holds s (grown h (kept_in ts)) t (t ++ more) (includes_left t more) (subst (λ l. StandsFor holds s (grown h l) t) is done.stands)
 
 -- its answers weren't all sent
-pub broken_sent : (holds holds' : Rows → Records → Type 0) (clean' honest' whole whole' : Type 0) (left left' : Rows → Records → Type 0) (may : Moment → Type 0) (p q : PortState) (pending : List ℕ)
+pub broken_sent : HistoriesGrow → (holds holds' : Rows → Records → Type 0) (clean' honest' whole whole' : Type 0) (left left' : Rows → Records → Type 0) (may : Moment → Type 0) (p q : PortState) (pending : List ℕ)
     (messages : List (List ℕ)) (count : ℕ) (taken : List (Request × Moment)) (ends : Bool) (group : List (Request × Moment)) (front : List (List ℕ)) (dones list : List Done) (fault : SendFault) (exact want : Bool) (faulted : Type 0)
     → Gathers may (take count messages) taken ends → group ≡ taken → front ≡ take count messages → (clean' → honest')
     → (honest' → (s : State) (h : History) (t : List ℕ) → StandsFor holds s h t → Includes t pending → All (IsUnsettled t) (entries_of group) → Performed holds' s h t (entries_of group) dones)
     → (honest' → IsFirm holds whole left → IsFirm holds' whole' left')
     → list ≡ dones → SentSome p q (wires front (answers_in list)) fault → exact ≡ false → (want ≡ true → fault ≡ Memory)
     → Broken holds holds' clean' honest' (IsFirm holds whole left) whole' left' may p q pending messages exact want faulted
-broken_sent holds holds' clean' honest' whole whole' left left' may p q pending messages count taken ends group front dones list fault exact want faulted gathers same same_front clean_honest performed firm_still same_list sent inexact memory =
+broken_sent grows holds holds' clean' honest' whole whole' left left' may p q pending messages count taken ends group front dones list fault exact want faulted gathers same same_front clean_honest performed firm_still same_list sent inexact memory =
     let some = subst (λ l. SentSome p q (wires front (answers_in l)) fault) same_list sent in
     let ts = gathers.timed in
     let es : entries_of group ≡ kept_in ts = ap entries_of same ∙ gathers.entries in
@@ -201,24 +201,24 @@ broken_sent holds holds' clean' honest' whole whole' left left' may p q pending 
       no_part = λ is. some.memory (memory (ap (λ b. b || want) (sym inexact) ∙ is));
       exactly = λ _ honest s h t so within again.
           let d = done honest s h t so within again in
-          let f = outs_front s h ts some.marks some.later (works s h) (sym (answers_are_outs s h ts) ∙ sym (sent_are holds' s h t (entries_of group) ts front dones d es bytes) ∙ some.whole) in
+          let f = outs_front s h ts some.marks some.later (works s h) (sym (answers_are_outs grows s h ts) ∙ sym (sent_are grows holds' s h t (entries_of group) ts front dones d es bytes) ∙ some.whole) in
           record {
             worked = f.first;
             unworked = f.others;
             parts = f.parts;
             works = f.works;
             stands = λ is clean. absurd (cc (is, inexact));
-            sent = f.sent ∙ sym (answers_are_outs s h f.first);
+            sent = f.sent ∙ sym (answers_are_outs grows s h f.first);
           };
       life = λ clean s h t so within again.
           let d = done (clean_honest clean) s h t so within again in
           lived_all (StandsFor holds' s) s h p.confirms t ts some.marks some.part some.unsent some.later (works s h) (now_stands holds' s h t _ (entries_of group) ts dones d es)
-          (sym (sent_are holds' s h t (entries_of group) ts front dones d es bytes) ∙ some.whole) some.begun;
+          (sym (sent_are grows holds' s h t (entries_of group) ts front dones d es bytes) ∙ some.whole) some.begun;
       crash = λ honest firm s h t so within again.
           let d = done honest s h t so within again in
           leaves_map whole' left' (λ x r. Stands x r s (grown h (kept_in ts)) (t ++ settled_in p.confirms (bytes_of ts) some.marks)) (λ x r. Lived (Stands x r s) s h p.confirms t ts some.marks some.part)
           (λ x r stands. lived_all (Stands x r s) s h p.confirms t ts some.marks some.part some.unsent some.later (works s h) stands
-          (sym (sent_are holds' s h t (entries_of group) ts front dones d es bytes) ∙ some.whole) some.begun)
+          (sym (sent_are grows holds' s h t (entries_of group) ts front dones d es bytes) ∙ some.whole) some.begun)
           (firm_leaves holds' whole' left' s (grown h (kept_in ts)) _ (firm_still honest firm) (now_stands holds' s h t (settled_in p.confirms (bytes_of ts) some.marks) (entries_of group) ts dones d es));
     }
 
@@ -245,14 +245,14 @@ both_included : (t pending mid more pending' : List ℕ) → Includes t pending 
 both_included t pending mid more pending' within f is i there =
     ⊎_elim (λ old. includes_left t more i (f t within i old)) (λ new. includes_right t more i new) (in_either mid more i (sym (ap (λ x. is_in x i) is) ∙ there))
 
-pub turned : (holds holds' : Rows → Records → Type 0) (honest' : Type 0) (may : Moment → Type 0) (p q : PortState) (pending mid pending' : List ℕ) (messages : List (List ℕ)) (count : ℕ)
+pub turned : HistoriesGrow → (holds holds' : Rows → Records → Type 0) (honest' : Type 0) (may : Moment → Type 0) (p q : PortState) (pending mid pending' : List ℕ) (messages : List (List ℕ)) (count : ℕ)
     (taken : List (Request × Moment)) (ends : Bool) (group : List (Request × Moment)) (front : List (List ℕ)) (dones list : List Done) (stuck : Bool) (rest : Rest) (counts : SessionCounts)
     → Gathers may (take count messages) taken ends → group ≡ taken → front ≡ take count messages
     → (honest' → (s : State) (h : History) (t : List ℕ) → StandsFor holds s h t → Includes t pending → All (IsUnsettled t) (entries_of group) → Performed holds' s h t (entries_of group) dones)
     → ((u : List ℕ) → Includes u pending → Includes u mid)
     → SentAll p q front (wires front (answers_in list)) mid pending' → list ≡ dones → rest ≡ rest_by (ends && last_zero (answers_in list)) stuck → counts ≡ tallied front (repeats_in list)
     → Turned holds holds' honest' may p q pending pending' (take count messages) (lasts rest) counts
-turned holds holds' honest' may p q pending mid pending' messages count taken ends group front dones list stuck rest counts gathers same same_front performed handed sent same_list is counts_are =
+turned grows holds holds' honest' may p q pending mid pending' messages count taken ends group front dones list stuck rest counts gathers same same_front performed handed sent same_list is counts_are =
     let all = subst (λ l. SentAll p q front (wires front (answers_in l)) mid pending') same_list sent in
     let ts = gathers.timed in
     let es : entries_of group ≡ kept_in ts = ap entries_of same ∙ gathers.entries in
@@ -267,7 +267,7 @@ turned holds holds' honest' may p q pending mid pending' messages count taken en
       handed = λ t within. both_included t pending mid (settled_in p.confirms (bytes_of ts) all.marks) pending' within handed (all.handed ∙ ap (λ f. mid ++ settled_in p.confirms f all.marks) bytes);
       all = λ honest s h t so within again.
           let d = performed honest s h t so within (subst (All (IsUnsettled t)) (sym es) (group_unsettled p.confirms t ts all.marks again)) in
-          let says = says_told holds' s h t (entries_of group) ts dones d es in
+          let says = says_told grows holds' s h t (entries_of group) ts dones d es in
           record {
             works = works_group s h ts gathers.no_zero gathers.only;
             goes = λ going. elim (and_false ends (last_zero (answers_in list)) (lasts_not (ends && last_zero (answers_in list)) stuck (sym (ap lasts is) ∙ going))) [
@@ -278,7 +278,7 @@ turned holds holds' honest' may p q pending mid pending' messages count taken en
                 let both = and_true ends (last_zero (answers_in list)) (ended_so (ends && last_zero (answers_in list)) stuck (sym (ap lasts is) ∙ over)) in
                 ends_last s h ts (answers_in dones) (gathers.ended both.0) says (sym (ap (λ l. last_zero (answers_in l)) same_list) ∙ both.1);
             stands = now_stands holds' s h t _ (entries_of group) ts dones d es;
-            sent = all.whole ∙ sent_are holds' s h t (entries_of group) ts front dones d es bytes;
+            sent = all.whole ∙ sent_are grows holds' s h t (entries_of group) ts front dones d es bytes;
             counts_are = counts_are ∙ ap (λ l. tallied front (repeats_in l)) same_list ∙ ap (λ f. tallied f (repeats_in dones)) bytes ∙ ap (tallied (bytes_of ts)) (d.repeated ∙ ap (repeats h) es) ∙ tallied_is ts h;
           };
     }

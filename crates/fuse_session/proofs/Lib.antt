@@ -1,4 +1,5 @@
 pub mod Bytes
+pub mod Standing
 pub mod Pieces
 pub mod Replies
 pub mod Outs

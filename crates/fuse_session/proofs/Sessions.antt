@@ -9,7 +9,7 @@ use Rattle.fuse_request.specs.Framing.{Held}
 use Rattle.fuse_tree.specs.State.{State}
 use Rattle.fuse_tree.specs.Rows.{Rows}
 use Rattle.fuse_store.specs.declared.fault.StoreFault.{StoreFault}
-use Rattle.fuse_store.specs.History.{History}
+use Rattle.fuse_store.specs.History.{History, HistoriesGrow}
 use Rattle.fuse_store.specs.Stands.{Records, StandsFor, IsFirm}
 use Rattle.fuse_session.specs.declared.counts.SessionCounts.{SessionCounts}
 use Rattle.fuse_session.specs.declared.ended.Ended.{Ended}
@@ -59,22 +59,22 @@ place_more joins held mid r1 r2 begin at place is one two =
 
 -- ---- a turn more
 
-pub whole_more : CutJoins → (holds mid new : Rows → Records → Type 0) (honest honest' : Type 0) (may may' : Moment → Type 0) (p q r : PortState) (ids ids' ids'' : List ℕ) (held left rest : List ℕ) (begin at place : ℕ) (counts counts' : SessionCounts)
+pub whole_more : HistoriesGrow → CutJoins → (holds mid new : Rows → Records → Type 0) (honest honest' : Type 0) (may may' : Moment → Type 0) (p q r : PortState) (ids ids' ids'' : List ℕ) (held left rest : List ℕ) (begin at place : ℕ) (counts counts' : SessionCounts)
     → Whole holds mid honest may p q ids ids' held left begin at counts → Whole mid new honest' may' q r ids' ids'' left rest at place counts' → (honest' → honest) → ((t : Moment) → may' t → may t)
     → Whole holds new honest' may p r ids ids'' held rest begin place (plus counts counts')
-whole_more joins holds mid new honest honest' may may' p q r ids ids' ids'' held left rest begin at place counts counts' one two honest_too moments = record {
+whole_more grows joins holds mid new honest honest' may may' p q r ids ids' ids'' held left rest begin at place counts counts' one two honest_too moments = record {
   received = one.received ++ two.received;
   came = consumes_more p.coming q.coming r.coming one.received two.received one.came two.came;
   rest_is = two.rest_is ∙ rest_more joins held left one.received two.received one.rest_is;
   at = place_more joins held left one.received two.received begin at place one.rest_is one.at two.at;
   turned = subst (λ f. Turned holds new honest' may p r ids ids'' f true (plus counts counts')) (front_more joins held left one.received two.received one.rest_is)
-      (turned_more holds mid new honest honest' may may' p q r ids ids' ids'' (cut (held ++ one.received)).0 (cut (left ++ two.received)).0 true counts counts' one.turned two.turned honest_too moments);
+      (turned_more grows holds mid new honest honest' may may' p q r ids ids' ids'' (cut (held ++ one.received)).0 (cut (left ++ two.received)).0 true counts counts' one.turned two.turned honest_too moments);
 }
 
-pub stopped_more : CutJoins → (holds mid new : Rows → Records → Type 0) (honest honest' : Type 0) (may may' : Moment → Type 0) (p q r : PortState) (ids ids' ids'' : List ℕ) (held left : List ℕ) (rest : Rest) (begin at place : ℕ) (counts counts' : SessionCounts)
+pub stopped_more : HistoriesGrow → CutJoins → (holds mid new : Rows → Records → Type 0) (honest honest' : Type 0) (may may' : Moment → Type 0) (p q r : PortState) (ids ids' ids'' : List ℕ) (held left : List ℕ) (rest : Rest) (begin at place : ℕ) (counts counts' : SessionCounts)
     → Whole holds mid honest may p q ids ids' held left begin at counts → Stopped mid new honest' may' q r ids' ids'' left rest at place counts' → (honest' → honest) → ((t : Moment) → may' t → may t)
     → Stopped holds new honest' may p r ids ids'' held rest begin place (plus counts counts')
-stopped_more joins holds mid new honest honest' may may' p q r ids ids' ids'' held left rest begin at place counts counts' one two honest_too moments =
+stopped_more grows joins holds mid new honest honest' may may' p q r ids ids' ids'' held left rest begin at place counts counts' one two honest_too moments =
     let a = (cut (held ++ one.received)).0 in
     let w = two.worked in
     record {
@@ -87,20 +87,20 @@ stopped_more joins holds mid new honest honest' may may' p q r ids ids' ids'' he
         all = w.all;
         zero = w.zero;
         at = omega (arith, one.at, w.at, ap length (joined-append a w.front), length-append (joined a) (joined w.front));
-        turned = turned_more holds mid new honest honest' may may' p q r ids ids' ids'' a w.front (lasts rest) counts counts' one.turned w.turned honest_too moments;
+        turned = turned_more grows holds mid new honest honest' may may' p q r ids ids' ids'' a w.front (lasts rest) counts counts' one.turned w.turned honest_too moments;
       };
     }
 
-pub life_more : CutJoins → (holds mid new : Rows → Records → Type 0) (honest clean' honest' whole whole_mid whole' : Type 0) (left left_mid left' : Rows → Records → Type 0) (may may' : Moment → Type 0) (p q r : PortState) (ids ids' : List ℕ)
+pub life_more : HistoriesGrow → CutJoins → (holds mid new : Rows → Records → Type 0) (honest clean' honest' whole whole_mid whole' : Type 0) (left left_mid left' : Rows → Records → Type 0) (may may' : Moment → Type 0) (p q r : PortState) (ids ids' : List ℕ)
     (held rest : List ℕ) (begin at : ℕ) (counts : SessionCounts) (exact want : Bool) (faulted faulted' : Type 0)
     → Whole holds mid honest may p q ids ids' held rest begin at counts → Life mid new clean' honest' (IsFirm mid whole_mid left_mid) whole' left' may' q r ids' rest exact want faulted' → (faulted' → faulted)
     → (clean' → honest') → (honest' → honest) → (honest → IsFirm holds whole left → IsFirm mid whole_mid left_mid) → ((t : Moment) → may' t → may t)
     → Life holds new clean' honest' (IsFirm holds whole left) whole' left' may p r ids held exact want faulted
-life_more joins holds mid new honest clean' honest' whole whole_mid whole' left left_mid left' may may' p q r ids ids' held rest begin at counts exact want faulted faulted' one two faulted_too clean_honest honest_too firm_too moments = record {
+life_more grows joins holds mid new honest clean' honest' whole whole_mid whole' left left_mid left' may may' p q r ids ids' held rest begin at counts exact want faulted faulted' one two faulted_too clean_honest honest_too firm_too moments = record {
   received = one.received ++ two.received;
   came = consumes_more p.coming q.coming r.coming one.received two.received one.came two.came;
   broken = subst (λ f. Broken holds new clean' honest' (IsFirm holds whole left) whole' left' may p r ids f exact want faulted) (front_more joins held rest one.received two.received one.rest_is)
-      (turned_broken holds mid new honest clean' honest' whole whole_mid whole' left left_mid left' may may' p q r ids ids' (cut (held ++ one.received)).0 (cut (rest ++ two.received)).0 counts exact want faulted faulted' one.turned two.broken faulted_too clean_honest honest_too firm_too moments);
+      (turned_broken grows holds mid new honest clean' honest' whole whole_mid whole' left left_mid left' may may' p q r ids ids' (cut (held ++ one.received)).0 (cut (rest ++ two.received)).0 counts exact want faulted faulted' one.turned two.broken faulted_too clean_honest honest_too firm_too moments);
 }
 
 -- all was worked off: a life too
@@ -129,19 +129,19 @@ whole_none holds honest may p ids = record {
 
 -- ---- what came in a turn
 
-heard_turned : (holds new : Rows → Records → Type 0) (honest : Type 0) (may : Moment → Type 0) (p q r : PortState) (ids ids' : List ℕ) (front : List (List ℕ)) (going : Bool) (counts : SessionCounts) → IsHearing p q
+heard_turned : HistoriesGrow → (holds new : Rows → Records → Type 0) (honest : Type 0) (may : Moment → Type 0) (p q r : PortState) (ids ids' : List ℕ) (front : List (List ℕ)) (going : Bool) (counts : SessionCounts) → IsHearing p q
     → Turned holds new honest may q r ids ids' front going counts → Turned holds new honest may p r ids ids' front going counts
-heard_turned holds new honest may p q r ids ids' front going counts hearing t =
+heard_turned grows holds new honest may p q r ids ids' front going counts hearing t =
     subst (λ c. Turned holds new honest may p r ids ids' front going c) (none_plus counts)
-    (turned_more holds holds new honest honest may may p q r ids ids ids' [] front going none_counted counts (turned_quiet holds honest may p q ids (hearing_replied p q hearing)) t (λ x. x) (λ t x. x))
+    (turned_more grows holds holds new honest honest may may p q r ids ids ids' [] front going none_counted counts (turned_quiet holds honest may p q ids (hearing_replied p q hearing)) t (λ x. x) (λ t x. x))
 
 heard_came : (p q r : PortState) (before after : Held) (messages : List (List ℕ)) (fault : Option FrameFault) → (h : Heard p q before after messages fault) → IsQuiet q r → Consumes p.coming r.coming h.received
 heard_came p q r before after messages fault h quiet = subst (λ o. Consumes p.coming o h.received) (sym quiet.coming) h.came
 
-pub whole_heard : (holds new : Rows → Records → Type 0) (honest : Type 0) (may : Moment → Type 0) (p q r : PortState) (ids ids' : List ℕ) (before after : Held) (messages slice : List (List ℕ)) (fault : Option FrameFault) (begin place : ℕ) (rest : Rest) (counts : SessionCounts)
+pub whole_heard : HistoriesGrow → (holds new : Rows → Records → Type 0) (honest : Type 0) (may : Moment → Type 0) (p q r : PortState) (ids ids' : List ℕ) (before after : Held) (messages slice : List (List ℕ)) (fault : Option FrameFault) (begin place : ℕ) (rest : Rest) (counts : SessionCounts)
     → Heard p q before after messages fault → IsHearing p q → slice ≡ messages → rest ≡ GoesOnHere → WorkedOff holds new honest may q r ids ids' slice rest begin place counts → IsQuiet q r
     → Whole holds new honest may p r ids ids' before.bytes after.bytes before.at after.at counts
-whole_heard holds new honest may p q r ids ids' before after messages slice fault begin place rest counts h hearing same goes w quiet =
+whole_heard grows holds new honest may p q r ids ids' before after messages slice fault begin place rest counts h hearing same goes w quiet =
     let msgs : (cut (before.bytes ++ h.received)).0 ≡ messages = ap (λ (x : List (List ℕ) × List ℕ). x.0) h.took.cut_is in
     let front : w.front ≡ messages = sym (sym same ∙ w.parts ∙ ap (λ x. w.front ++ x) (w.all (ap goes_on goes)) ∙ append-nil w.front) in
     record {
@@ -150,13 +150,13 @@ whole_heard holds new honest may p q r ids ids' before after messages slice faul
       rest_is = sym (ap (λ (x : List (List ℕ) × List ℕ). x.1) h.took.cut_is);
       at = h.took.at ∙ ap (λ x. before.at + length (joined x)) (sym msgs);
       turned = subst (λ f. Turned holds new honest may p r ids ids' f true counts) (front ∙ sym msgs)
-          (subst (λ b. Turned holds new honest may p r ids ids' w.front b counts) (ap lasts goes) (heard_turned holds new honest may p q r ids ids' w.front (lasts rest) counts hearing w.turned));
+          (subst (λ b. Turned holds new honest may p r ids ids' w.front b counts) (ap lasts goes) (heard_turned grows holds new honest may p q r ids ids' w.front (lasts rest) counts hearing w.turned));
     }
 
-pub stopped_heard : (holds new : Rows → Records → Type 0) (honest : Type 0) (may : Moment → Type 0) (p q r : PortState) (ids ids' : List ℕ) (before after : Held) (messages slice : List (List ℕ)) (fault : Option FrameFault) (begin place : ℕ) (rest kind : Rest) (counts : SessionCounts)
+pub stopped_heard : HistoriesGrow → (holds new : Rows → Records → Type 0) (honest : Type 0) (may : Moment → Type 0) (p q r : PortState) (ids ids' : List ℕ) (before after : Held) (messages slice : List (List ℕ)) (fault : Option FrameFault) (begin place : ℕ) (rest kind : Rest) (counts : SessionCounts)
     → Heard p q before after messages fault → IsHearing p q → slice ≡ messages → rest ≡ kind → begin ≡ before.at → WorkedOff holds new honest may q r ids ids' slice rest begin place counts → IsQuiet q r
     → Stopped holds new honest may p r ids ids' before.bytes kind before.at place counts
-stopped_heard holds new honest may p q r ids ids' before after messages slice fault begin place rest kind counts h hearing same kind_is begin_is w quiet =
+stopped_heard grows holds new honest may p q r ids ids' before after messages slice fault begin place rest kind counts h hearing same kind_is begin_is w quiet =
     subst (λ k. Stopped holds new honest may p r ids ids' before.bytes k before.at place counts) kind_is
     (record {
       received = h.received;
@@ -168,16 +168,16 @@ stopped_heard holds new honest may p q r ids ids' before after messages slice fa
         all = w.all;
         zero = w.zero;
         at = w.at ∙ ap (λ n. n + length (joined w.front)) begin_is;
-        turned = heard_turned holds new honest may p q r ids ids' w.front (lasts rest) counts hearing w.turned;
+        turned = heard_turned grows holds new honest may p q r ids ids' w.front (lasts rest) counts hearing w.turned;
       };
     })
 
-pub life_heard : (holds new : Rows → Records → Type 0) (clean honest whole whole' : Type 0) (left left' : Rows → Records → Type 0) (may : Moment → Type 0) (p q r : PortState) (ids : List ℕ) (before after : Held) (messages slice : List (List ℕ)) (fault : Option FrameFault) (exact want exact' want' : Bool) (faulted faulted' : Type 0)
+pub life_heard : HistoriesGrow → (holds new : Rows → Records → Type 0) (clean honest whole whole' : Type 0) (left left' : Rows → Records → Type 0) (may : Moment → Type 0) (p q r : PortState) (ids : List ℕ) (before after : Held) (messages slice : List (List ℕ)) (fault : Option FrameFault) (exact want exact' want' : Bool) (faulted faulted' : Type 0)
     → Heard p q before after messages fault → IsHearing p q → slice ≡ messages → exact' ≡ exact → want' ≡ want → Broken holds new clean honest (IsFirm holds whole left) whole' left' may q r ids slice exact want faulted' → (faulted' → faulted) → IsQuiet q r → (clean → honest)
     → Life holds new clean honest (IsFirm holds whole left) whole' left' may p r ids before.bytes exact' want' faulted
-life_heard holds new clean honest whole whole' left left' may p q r ids before after messages slice fault exact want exact' want' faulted faulted' h hearing same e w b faulted_too quiet clean_honest =
+life_heard grows holds new clean honest whole whole' left left' may p q r ids before after messages slice fault exact want exact' want' faulted faulted' h hearing same e w b faulted_too quiet clean_honest =
     let msgs : slice ≡ (cut (before.bytes ++ h.received)).0 = same ∙ sym (ap (λ (x : List (List ℕ) × List ℕ). x.0) h.took.cut_is) in
-    let broken = turned_broken holds holds new honest clean honest whole whole whole' left left left' may may p q r ids ids [] slice none_counted exact want faulted faulted'
+    let broken = turned_broken grows holds holds new honest clean honest whole whole whole' left left left' may may p q r ids ids [] slice none_counted exact want faulted faulted'
     (turned_quiet holds honest may p q ids (hearing_replied p q hearing)) b faulted_too clean_honest (λ x. x) (λ _ f. f) (λ t x. x) in
     record {
       received = h.received;
@@ -235,78 +235,78 @@ ends_unheard holds honest may p q ids h (Store fault) turns ready n hearing = ab
 
 -- ---- turns, and then an end
 
-rested_more : CutJoins → (holds mid new : Rows → Records → Type 0) (honest honest' : Type 0) (may may' : Moment → Type 0) (p q r : PortState) (ids ids' : List ℕ) (held left : List ℕ) (begin at : ℕ) (counts counts' : SessionCounts) (P : ℕ → List ℕ → Type 0)
+rested_more : HistoriesGrow → CutJoins → (holds mid new : Rows → Records → Type 0) (honest honest' : Type 0) (may may' : Moment → Type 0) (p q r : PortState) (ids ids' : List ℕ) (held left : List ℕ) (begin at : ℕ) (counts counts' : SessionCounts) (P : ℕ → List ℕ → Type 0)
     → Whole holds mid honest may p q ids ids' held left begin at counts → Rested mid new honest' may' q r ids' left at counts' P → (honest' → honest) → ((t : Moment) → may' t → may t)
     → Rested holds new honest' may p r ids held begin (plus counts counts') P
-rested_more joins holds mid new honest honest' may may' p q r ids ids' held left begin at counts counts' P one two honest_too moments = record {
+rested_more grows joins holds mid new honest honest' may may' p q r ids ids' held left begin at counts counts' P one two honest_too moments = record {
   rest = two.rest;
   place = two.place;
   pending' = two.pending';
-  whole = whole_more joins holds mid new honest honest' may may' p q r ids ids' two.pending' held left two.rest begin at two.place counts counts' one two.whole honest_too moments;
+  whole = whole_more grows joins holds mid new honest honest' may may' p q r ids ids' two.pending' held left two.rest begin at two.place counts counts' one two.whole honest_too moments;
   so = two.so;
 }
 
-halted_more : CutJoins → (holds mid new : Rows → Records → Type 0) (honest honest' : Type 0) (may may' : Moment → Type 0) (p q r : PortState) (ids ids' : List ℕ) (held left : List ℕ) (rest : Rest) (begin at place : ℕ) (counts counts' : SessionCounts)
+halted_more : HistoriesGrow → CutJoins → (holds mid new : Rows → Records → Type 0) (honest honest' : Type 0) (may may' : Moment → Type 0) (p q r : PortState) (ids ids' : List ℕ) (held left : List ℕ) (rest : Rest) (begin at place : ℕ) (counts counts' : SessionCounts)
     → Whole holds mid honest may p q ids ids' held left begin at counts → Halted mid new honest' may' q r ids' left rest at place counts' → (honest' → honest) → ((t : Moment) → may' t → may t)
     → Halted holds new honest' may p r ids held rest begin place (plus counts counts')
-halted_more joins holds mid new honest honest' may may' p q r ids ids' held left rest begin at place counts counts' one two honest_too moments = record {
+halted_more grows joins holds mid new honest honest' may may' p q r ids ids' held left rest begin at place counts counts' one two honest_too moments = record {
   pending' = two.pending';
-  stopped = stopped_more joins holds mid new honest honest' may may' p q r ids ids' two.pending' held left rest begin at place counts counts' one two.stopped honest_too moments;
+  stopped = stopped_more grows joins holds mid new honest honest' may may' p q r ids ids' two.pending' held left rest begin at place counts counts' one two.stopped honest_too moments;
 }
 
-pub ends_more : CutJoins → (holds mid new : Rows → Records → Type 0) (honest honest' : Type 0) (may may' : Moment → Type 0) (p q r : PortState) (ids ids' : List ℕ) (held left : List ℕ) (begin at turns turns' : ℕ) (e : Ended) (counts counts' : SessionCounts)
+pub ends_more : HistoriesGrow → CutJoins → (holds mid new : Rows → Records → Type 0) (honest honest' : Type 0) (may may' : Moment → Type 0) (p q r : PortState) (ids ids' : List ℕ) (held left : List ℕ) (begin at turns turns' : ℕ) (e : Ended) (counts counts' : SessionCounts)
     → Whole holds mid honest may p q ids ids' held left begin at counts → EndsAs mid new honest' may' q r ids' left at turns e counts' → (e ≡ Turns → ⊥) → q.receive_failures ≡ p.receive_failures → (honest' → honest) → ((t : Moment) → may' t → may t)
     → EndsAs holds new honest' may p r ids held begin turns' e (plus counts counts')
-ends_more joins holds mid new honest honest' may may' p q r ids ids' held left begin at turns turns' End counts counts' one two isnt same honest_too moments =
-    (two.0, rested_more joins holds mid new honest honest' may may' p q r ids ids' held left begin at counts counts' _ one two.1 honest_too moments)
-ends_more joins holds mid new honest honest' may may' p q r ids ids' held left begin at turns turns' (Frame f) counts counts' one two isnt same honest_too moments =
-    rested_more joins holds mid new honest honest' may may' p q r ids ids' held left begin at counts counts' (FaultOf r f) one two honest_too moments
-ends_more joins holds mid new honest honest' may may' p q r ids ids' held left begin at turns turns' PortFailed counts counts' one two isnt same honest_too moments =
-    λ more. rested_more joins holds mid new honest honest' may may' p q r ids ids' held left begin at counts counts' IsGoodRest one (two (omega (arith, more, same))) honest_too moments
-ends_more joins holds mid new honest honest' may may' p q r ids ids' held left begin at turns turns' Memory counts counts' one two isnt same honest_too moments = tt
-ends_more joins holds mid new honest honest' may may' p q r ids ids' held left begin at turns turns' Destroyed counts counts' one two isnt same honest_too moments =
-    (two.0, halted_more joins holds mid new honest honest' may may' p q r ids ids' held left ByDestroy begin at two.0 counts counts' one two.1 honest_too moments)
-ends_more joins holds mid new honest honest' may may' p q r ids ids' held left begin at turns turns' Turns counts counts' one two isnt same honest_too moments = absurd (isnt refl)
-ends_more joins holds mid new honest honest' may may' p q r ids ids' held left begin at turns turns' (ZeroUnique place) counts counts' one two isnt same honest_too moments =
-    halted_more joins holds mid new honest honest' may may' p q r ids ids' held left ByZero begin at place counts counts' one two honest_too moments
-ends_more joins holds mid new honest honest' may may' p q r ids ids' held left begin at turns turns' (Store fault) counts counts' one two isnt same honest_too moments = tt
+ends_more grows joins holds mid new honest honest' may may' p q r ids ids' held left begin at turns turns' End counts counts' one two isnt same honest_too moments =
+    (two.0, rested_more grows joins holds mid new honest honest' may may' p q r ids ids' held left begin at counts counts' _ one two.1 honest_too moments)
+ends_more grows joins holds mid new honest honest' may may' p q r ids ids' held left begin at turns turns' (Frame f) counts counts' one two isnt same honest_too moments =
+    rested_more grows joins holds mid new honest honest' may may' p q r ids ids' held left begin at counts counts' (FaultOf r f) one two honest_too moments
+ends_more grows joins holds mid new honest honest' may may' p q r ids ids' held left begin at turns turns' PortFailed counts counts' one two isnt same honest_too moments =
+    λ more. rested_more grows joins holds mid new honest honest' may may' p q r ids ids' held left begin at counts counts' IsGoodRest one (two (omega (arith, more, same))) honest_too moments
+ends_more grows joins holds mid new honest honest' may may' p q r ids ids' held left begin at turns turns' Memory counts counts' one two isnt same honest_too moments = tt
+ends_more grows joins holds mid new honest honest' may may' p q r ids ids' held left begin at turns turns' Destroyed counts counts' one two isnt same honest_too moments =
+    (two.0, halted_more grows joins holds mid new honest honest' may may' p q r ids ids' held left ByDestroy begin at two.0 counts counts' one two.1 honest_too moments)
+ends_more grows joins holds mid new honest honest' may may' p q r ids ids' held left begin at turns turns' Turns counts counts' one two isnt same honest_too moments = absurd (isnt refl)
+ends_more grows joins holds mid new honest honest' may may' p q r ids ids' held left begin at turns turns' (ZeroUnique place) counts counts' one two isnt same honest_too moments =
+    halted_more grows joins holds mid new honest honest' may may' p q r ids ids' held left ByZero begin at place counts counts' one two honest_too moments
+ends_more grows joins holds mid new honest honest' may may' p q r ids ids' held left begin at turns turns' (Store fault) counts counts' one two isnt same honest_too moments = tt
 
 -- ---- a turn
 
 -- messages were worked off: a life
-pub life_worked : (holds new : Rows → Records → Type 0) (clean honest whole whole' : Type 0) (left left' : Rows → Records → Type 0) (may : Moment → Type 0) (p q r : PortState) (ids ids' : List ℕ) (before after : Held) (messages slice : List (List ℕ))
+pub life_worked : HistoriesGrow → (holds new : Rows → Records → Type 0) (clean honest whole whole' : Type 0) (left left' : Rows → Records → Type 0) (may : Moment → Type 0) (p q r : PortState) (ids ids' : List ℕ) (before after : Held) (messages slice : List (List ℕ))
     (fault : Option FrameFault) (begin place : ℕ) (rest : Rest) (counts : SessionCounts) (exact want : Bool) (faulted : Type 0) → exact ≡ false
     → Heard p q before after messages fault → IsHearing p q → slice ≡ messages → WorkedOff holds new honest may q r ids ids' slice rest begin place counts → IsQuiet q r → (clean → honest) → (honest → IsFirm holds whole left → IsFirm new whole' left')
     → Life holds new clean honest (IsFirm holds whole left) whole' left' may p r ids before.bytes exact want faulted
-life_worked holds new clean honest whole whole' left left' may p q r ids ids' before after messages slice fault begin place rest counts exact want faulted inexact h hearing same w quiet clean_honest firm_still =
-    life_heard holds new clean honest whole whole' left left' may p q r ids before after messages slice fault exact want exact want faulted faulted h hearing same refl refl
+life_worked grows holds new clean honest whole whole' left left' may p q r ids ids' before after messages slice fault begin place rest counts exact want faulted inexact h hearing same w quiet clean_honest firm_still =
+    life_heard grows holds new clean honest whole whole' left left' may p q r ids before after messages slice fault exact want exact want faulted faulted h hearing same refl refl
     (turned_life holds new clean honest whole whole' left left' may q r ids ids' w.front w.others slice (lasts rest) counts exact want faulted inexact w.turned w.parts clean_honest firm_still) (λ x. x) quiet clean_honest
 
-pub ends_finished : (holds new : Rows → Records → Type 0) (honest : Type 0) (may : Moment → Type 0) (p q r : PortState) (ids ids' : List ℕ) (before after : Held) (messages slice : List (List ℕ)) (fault : Option FrameFault) (begin place : ℕ) (rest : Rest)
+pub ends_finished : HistoriesGrow → (holds new : Rows → Records → Type 0) (honest : Type 0) (may : Moment → Type 0) (p q r : PortState) (ids ids' : List ℕ) (before after : Held) (messages slice : List (List ℕ)) (fault : Option FrameFault) (begin place : ℕ) (rest : Rest)
     (counts counts' : SessionCounts) (turns : ℕ) (e : Ended) → FinishedBy e rest place fault → counts' ≡ counts
     → Heard p q before after messages fault → IsHearing p q → slice ≡ messages → begin ≡ before.at → WorkedOff holds new honest may q r ids ids' slice rest begin place counts → IsQuiet q r
     → EndsAs holds new honest may p r ids before.bytes before.at turns e counts'
-ends_finished holds new honest may p q r ids ids' before after messages slice fault begin place rest counts counts' turns Destroyed by same_counts h hearing same begin_is w quiet =
+ends_finished grows holds new honest may p q r ids ids' before after messages slice fault begin place rest counts counts' turns Destroyed by same_counts h hearing same begin_is w quiet =
     subst (λ c. EndsAs holds new honest may p r ids before.bytes before.at turns Destroyed c) (sym same_counts)
-    (place, record { pending' = ids'; stopped = stopped_heard holds new honest may p q r ids ids' before after messages slice fault begin place rest ByDestroy counts h hearing same by begin_is w quiet })
-ends_finished holds new honest may p q r ids ids' before after messages slice fault begin place rest counts counts' turns (ZeroUnique at) by same_counts h hearing same begin_is w quiet =
+    (place, record { pending' = ids'; stopped = stopped_heard grows holds new honest may p q r ids ids' before after messages slice fault begin place rest ByDestroy counts h hearing same by begin_is w quiet })
+ends_finished grows holds new honest may p q r ids ids' before after messages slice fault begin place rest counts counts' turns (ZeroUnique at) by same_counts h hearing same begin_is w quiet =
     subst (λ c. EndsAs holds new honest may p r ids before.bytes before.at turns (ZeroUnique at) c) (sym same_counts)
     (subst (λ x. Halted holds new honest may p r ids before.bytes ByZero before.at x counts) (sym by.1)
-    (record { pending' = ids'; stopped = stopped_heard holds new honest may p q r ids ids' before after messages slice fault begin place rest ByZero counts h hearing same by.0 begin_is w quiet }))
-ends_finished holds new honest may p q r ids ids' before after messages slice fault begin place rest counts counts' turns (Frame f) by same_counts h hearing same begin_is w quiet =
+    (record { pending' = ids'; stopped = stopped_heard grows holds new honest may p q r ids ids' before after messages slice fault begin place rest ByZero counts h hearing same by.0 begin_is w quiet }))
+ends_finished grows holds new honest may p q r ids ids' before after messages slice fault begin place rest counts counts' turns (Frame f) by same_counts h hearing same begin_is w quiet =
     subst (λ c. EndsAs holds new honest may p r ids before.bytes before.at turns (Frame f) c) (sym same_counts)
     (record {
       rest = after.bytes;
       place = after.at;
       pending' = ids';
-      whole = whole_heard holds new honest may p q r ids ids' before after messages slice fault begin place rest counts h hearing same by.0 w quiet;
+      whole = whole_heard grows holds new honest may p q r ids ids' before after messages slice fault begin place rest counts h hearing same by.0 w quiet;
       so = inl (h.took.bad ∙ by.1);
     })
-ends_finished holds new honest may p q r ids ids' before after messages slice fault begin place rest counts counts' turns End by same_counts h hearing same begin_is w quiet = absurd by
-ends_finished holds new honest may p q r ids ids' before after messages slice fault begin place rest counts counts' turns Turns by same_counts h hearing same begin_is w quiet = absurd by
-ends_finished holds new honest may p q r ids ids' before after messages slice fault begin place rest counts counts' turns PortFailed by same_counts h hearing same begin_is w quiet = absurd by
-ends_finished holds new honest may p q r ids ids' before after messages slice fault begin place rest counts counts' turns (Store x) by same_counts h hearing same begin_is w quiet = absurd by
-ends_finished holds new honest may p q r ids ids' before after messages slice fault begin place rest counts counts' turns Memory by same_counts h hearing same begin_is w quiet = absurd by
+ends_finished grows holds new honest may p q r ids ids' before after messages slice fault begin place rest counts counts' turns End by same_counts h hearing same begin_is w quiet = absurd by
+ends_finished grows holds new honest may p q r ids ids' before after messages slice fault begin place rest counts counts' turns Turns by same_counts h hearing same begin_is w quiet = absurd by
+ends_finished grows holds new honest may p q r ids ids' before after messages slice fault begin place rest counts counts' turns PortFailed by same_counts h hearing same begin_is w quiet = absurd by
+ends_finished grows holds new honest may p q r ids ids' before after messages slice fault begin place rest counts counts' turns (Store x) by same_counts h hearing same begin_is w quiet = absurd by
+ends_finished grows holds new honest may p q r ids ids' before after messages slice fault begin place rest counts counts' turns Memory by same_counts h hearing same begin_is w quiet = absurd by
 
 pub finished_store : (e : Ended) (rest : Rest) (place : ℕ) (fault : Option FrameFault) → FinishedBy e rest place fault → (ended_store e ≡ false) × (e ≡ PortFailed → ⊥) × (e ≡ Turns → ⊥)
 finished_store Destroyed rest place fault by = (refl, (λ isnt. cc isnt), (λ isnt. cc isnt))
@@ -367,19 +367,19 @@ life_none holds clean honest whole left may p ids held exact want faulted inexac
 }
 
 -- a turn more, and its counts
-pub whole_step : CutJoins → (holds mid new : Rows → Records → Type 0) (honest honest' : Type 0) (may may' : Moment → Type 0) (p q r : PortState) (ids ids' ids'' : List ℕ) (held left rest : List ℕ) (begin at place : ℕ) (counts counts' sum : SessionCounts) → sum ≡ plus counts counts'
+pub whole_step : HistoriesGrow → CutJoins → (holds mid new : Rows → Records → Type 0) (honest honest' : Type 0) (may may' : Moment → Type 0) (p q r : PortState) (ids ids' ids'' : List ℕ) (held left rest : List ℕ) (begin at place : ℕ) (counts counts' sum : SessionCounts) → sum ≡ plus counts counts'
     → Whole holds mid honest may p q ids ids' held left begin at counts → Whole mid new honest' may' q r ids' ids'' left rest at place counts' → (honest' → honest) → ((t : Moment) → may' t → may t)
     → Whole holds new honest' may p r ids ids'' held rest begin place sum
-whole_step joins holds mid new honest honest' may may' p q r ids ids' ids'' held left rest begin at place counts counts' sum is one two honest_too moments =
+whole_step grows joins holds mid new honest honest' may may' p q r ids ids' ids'' held left rest begin at place counts counts' sum is one two honest_too moments =
     subst (λ c. Whole holds new honest' may p r ids ids'' held rest begin place c) (sym is)
-    (whole_more joins holds mid new honest honest' may may' p q r ids ids' ids'' held left rest begin at place counts counts' one two honest_too moments)
+    (whole_more grows joins holds mid new honest honest' may may' p q r ids ids' ids'' held left rest begin at place counts counts' one two honest_too moments)
 
-pub ends_step : CutJoins → (holds mid new : Rows → Records → Type 0) (honest honest' : Type 0) (may may' : Moment → Type 0) (p q r : PortState) (ids ids' : List ℕ) (held left : List ℕ) (begin at turns turns' : ℕ) (e : Ended) (counts counts' sum : SessionCounts) → sum ≡ plus counts counts'
+pub ends_step : HistoriesGrow → CutJoins → (holds mid new : Rows → Records → Type 0) (honest honest' : Type 0) (may may' : Moment → Type 0) (p q r : PortState) (ids ids' : List ℕ) (held left : List ℕ) (begin at turns turns' : ℕ) (e : Ended) (counts counts' sum : SessionCounts) → sum ≡ plus counts counts'
     → Whole holds mid honest may p q ids ids' held left begin at counts → EndsAs mid new honest' may' q r ids' left at turns e counts' → (e ≡ Turns → ⊥) → q.receive_failures ≡ p.receive_failures → (honest' → honest) → ((t : Moment) → may' t → may t)
     → EndsAs holds new honest' may p r ids held begin turns' e sum
-ends_step joins holds mid new honest honest' may may' p q r ids ids' held left begin at turns turns' e counts counts' sum is one two isnt same honest_too moments =
+ends_step grows joins holds mid new honest honest' may may' p q r ids ids' held left begin at turns turns' e counts counts' sum is one two isnt same honest_too moments =
     subst (λ c. EndsAs holds new honest' may p r ids held begin turns' e c) (sym is)
-    (ends_more joins holds mid new honest honest' may may' p q r ids ids' held left begin at turns turns' e counts counts' one two isnt same honest_too moments)
+    (ends_more grows joins holds mid new honest honest' may may' p q r ids ids' held left begin at turns turns' e counts counts' one two isnt same honest_too moments)
 
 -- ---- what is exact
 

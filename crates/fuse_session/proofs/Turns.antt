@@ -6,7 +6,7 @@ use Rattle.fuse_wire.specs.declared.moment.Moment.{Moment}
 use Rattle.fuse_request.specs.Stream.{joined}
 use Rattle.fuse_tree.specs.State.{State}
 use Rattle.fuse_tree.specs.Rows.{Rows}
-use Rattle.fuse_store.specs.History.{History, grown, said, Includes}
+use Rattle.fuse_store.specs.History.{History, grown, said, Includes, HistoriesGrow}
 use Rattle.fuse_store.specs.Stands.{Records, Stands, StandsFor, IsFirm}
 use Rattle.fuse_session.specs.declared.counts.SessionCounts.{SessionCounts}
 use Rattle.fuse_session.specs.declared.group.Rest.{Rest}
@@ -64,10 +64,10 @@ again_both c c' t xs ys ms ns same full each =
     (parts.0, subst (λ b. NoneComesAgain b (t ++ settled_in c (bytes_of xs) ms) (bytes_of ys) ns) (sym same) parts.1)
 
 -- messages, and then others
-pub turned_more : (holds mid new : Rows → Records → Type 0) (honest honest' : Type 0) (may may' : Moment → Type 0) (p q r : PortState) (ids ids' ids'' : List ℕ) (front front' : List (List ℕ)) (going : Bool) (counts counts' : SessionCounts)
+pub turned_more : HistoriesGrow → (holds mid new : Rows → Records → Type 0) (honest honest' : Type 0) (may may' : Moment → Type 0) (p q r : PortState) (ids ids' ids'' : List ℕ) (front front' : List (List ℕ)) (going : Bool) (counts counts' : SessionCounts)
     → Turned holds mid honest may p q ids ids' front true counts → Turned mid new honest' may' q r ids' ids'' front' going counts' → (honest' → honest) → ((t : Moment) → may' t → may t)
     → Turned holds new honest' may p r ids ids'' (front ++ front') going (plus counts counts')
-turned_more holds mid new honest honest' may may' p q r ids ids' ids'' front front' going counts counts' one two honest_too moments = record {
+turned_more grows holds mid new honest honest' may may' p q r ids ids' ids'' front front' going counts counts' one two honest_too moments = record {
   timed = one.timed ++ two.timed;
   marks = one.marks ++ two.marks;
   bytes = ap (λ f. f ++ front') one.bytes ∙ ap (λ f. bytes_of one.timed ++ f) two.bytes ∙ sym (bytes-append one.timed two.timed);
@@ -96,16 +96,16 @@ turned_more holds mid new honest honest' may may' p q r ids ids' ids'' front fro
             };
         stands = subst (λ x. StandsFor new s x (t ++ settled_in c (bytes_of (one.timed ++ two.timed)) (one.marks ++ two.marks))) (sym (grown_kept h one.timed two.timed))
             (subst (StandsFor new s (grown g (kept_in two.timed))) (settled_both c q.confirms t one.timed two.timed one.marks two.marks one.replied.confirms one.full) b.stands);
-        sent = replies-append one.marks two.marks ∙ ap (λ x. x ++ replies two.marks) a.sent ∙ ap (λ x. answers s g one.timed ++ x) b.sent ∙ sym (answers-append s h one.timed two.timed);
+        sent = replies-append one.marks two.marks ∙ ap (λ x. x ++ replies two.marks) a.sent ∙ ap (λ x. answers s g one.timed ++ x) b.sent ∙ sym (answers-append grows s h one.timed two.timed);
         counts_are = ap (λ x. plus x counts') a.counts_are ∙ ap (plus (counted h one.timed)) b.counts_are ∙ sym (counted-append h one.timed two.timed);
       };
 }
 
 -- a life after messages that were answered
-lived_more : (stood : History → List ℕ → Type 0) (s : State) (h : History) (c c' : Bool) (t : List ℕ) (xs ys : List Timed) (ms ns : List Mark) (part : List ℕ) → c' ≡ c → length ms ≡ length xs
+lived_more : HistoriesGrow → (stood : History → List ℕ → Type 0) (s : State) (h : History) (c c' : Bool) (t : List ℕ) (xs ys : List Timed) (ms ns : List Mark) (part : List ℕ) → c' ≡ c → length ms ≡ length xs
     → GoesOn s h xs → replies ms ≡ answers s (grown h (kept_in xs)) xs → Lived stood s (grown h (kept_in xs)) c' (t ++ settled_in c (bytes_of xs) ms) ys ns part
     → Lived stood s h c t (xs ++ ys) (ms ++ ns) part
-lived_more stood s h c c' t xs ys ms ns part same full goes sent l =
+lived_more grows stood s h c c' t xs ys ms ns part same full goes sent l =
     let g = grown h (kept_in xs) in
     record {
       worked = xs ++ l.worked;
@@ -115,16 +115,16 @@ lived_more stood s h c c' t xs ys ms ns part same full goes sent l =
       stands = subst (λ x. stood x (t ++ settled_in c (bytes_of (xs ++ l.worked)) (ms ++ ns))) (sym (grown_kept h xs l.worked))
           (subst (stood (grown g (kept_in l.worked))) (settled_both c c' t xs l.worked ms ns same full) l.stands);
       later = l.later;
-      sent = answers-append s h xs l.worked ∙ ap (λ x. x ++ answers s (grown g (kept_in l.worked)) l.worked) (sym sent) ∙ ap (λ x. replies ms ++ x) l.sent
+      sent = answers-append grows s h xs l.worked ∙ ap (λ x. x ++ answers s (grown g (kept_in l.worked)) l.worked) (sym sent) ∙ ap (λ x. replies ms ++ x) l.sent
           ∙ sym (append_assoc (replies ms) (replies ns) l.later) ∙ ap (λ x. x ++ l.later) (sym (replies-append ms ns));
       unsent = l.unsent;
       begun = l.begun;
     }
 
-exact_more : (stood stood' : History → List ℕ → Type 0) (s : State) (h : History) (c c' : Bool) (t : List ℕ) (xs ys : List Timed) (ms ns : List Mark) → c' ≡ c → length ms ≡ length xs
+exact_more : HistoriesGrow → (stood stood' : History → List ℕ → Type 0) (s : State) (h : History) (c c' : Bool) (t : List ℕ) (xs ys : List Timed) (ms ns : List Mark) → c' ≡ c → length ms ≡ length xs
     → GoesOn s h xs → replies ms ≡ answers s (grown h (kept_in xs)) xs → ((g : History) (u : List ℕ) → stood g u → stood' g u) → Exact stood s (grown h (kept_in xs)) c' (t ++ settled_in c (bytes_of xs) ms) ys ns
     → Exact stood' s h c t (xs ++ ys) (ms ++ ns)
-exact_more stood stood' s h c c' t xs ys ms ns same full goes sent f e =
+exact_more grows stood stood' s h c c' t xs ys ms ns same full goes sent f e =
     let g = grown h (kept_in xs) in
     record {
       worked = xs ++ e.worked;
@@ -133,15 +133,15 @@ exact_more stood stood' s h c c' t xs ys ms ns same full goes sent f e =
       works = Works-append s h xs e.worked goes e.works;
       stands = subst (λ x. stood' x (t ++ settled_in c (bytes_of (xs ++ e.worked)) (ms ++ ns))) (sym (grown_kept h xs e.worked))
           (subst (stood' (grown g (kept_in e.worked))) (settled_both c c' t xs e.worked ms ns same full) (f _ _ e.stands));
-      sent = replies-append ms ns ∙ ap (λ x. x ++ replies ns) sent ∙ ap (λ x. answers s g xs ++ x) e.sent ∙ sym (answers-append s h xs e.worked);
+      sent = replies-append ms ns ∙ ap (λ x. x ++ replies ns) sent ∙ ap (λ x. answers s g xs ++ x) e.sent ∙ sym (answers-append grows s h xs e.worked);
     }
 
-pub turned_broken : (holds mid new : Rows → Records → Type 0) (honest clean' honest' whole whole_mid whole' : Type 0) (left left_mid left' : Rows → Records → Type 0) (may may' : Moment → Type 0) (p q r : PortState) (ids ids' : List ℕ)
+pub turned_broken : HistoriesGrow → (holds mid new : Rows → Records → Type 0) (honest clean' honest' whole whole_mid whole' : Type 0) (left left_mid left' : Rows → Records → Type 0) (may may' : Moment → Type 0) (p q r : PortState) (ids ids' : List ℕ)
     (front messages : List (List ℕ)) (counts : SessionCounts) (exact want : Bool) (faulted faulted' : Type 0)
     → Turned holds mid honest may p q ids ids' front true counts → Broken mid new clean' honest' (IsFirm mid whole_mid left_mid) whole' left' may' q r ids' messages exact want faulted' → (faulted' → faulted)
     → (clean' → honest') → (honest' → honest) → (honest → IsFirm holds whole left → IsFirm mid whole_mid left_mid) → ((t : Moment) → may' t → may t)
     → Broken holds new clean' honest' (IsFirm holds whole left) whole' left' may p r ids (front ++ messages) exact want faulted
-turned_broken holds mid new honest clean' honest' whole whole_mid whole' left left_mid left' may may' p q r ids ids' front messages counts exact want faulted faulted' one two faulted_too clean_honest honest_too firm_too moments =
+turned_broken grows holds mid new honest clean' honest' whole whole_mid whole' left left_mid left' may may' p q r ids ids' front messages counts exact want faulted faulted' one two faulted_too clean_honest honest_too firm_too moments =
     let c = p.confirms in
     let ts = one.timed ++ two.timed in
     let marks = one.marks ++ two.marks in
@@ -158,13 +158,13 @@ turned_broken holds mid new honest clean' honest' whole whole_mid whole' left le
       exactly = λ how is s h t so within again.
           let parts = again_both c q.confirms t one.timed two.timed one.marks two.marks one.replied.confirms one.full again in
           let a = one.all (honest_too is) s h t so within parts.0 in
-          exact_more (λ g u. exact ≡ true → clean' → StandsFor new s g u × faulted') (λ g u. exact ≡ true → clean' → StandsFor new s g u × faulted)
+          exact_more grows (λ g u. exact ≡ true → clean' → StandsFor new s g u × faulted') (λ g u. exact ≡ true → clean' → StandsFor new s g u × faulted)
           s h c q.confirms t one.timed two.timed one.marks two.marks one.replied.confirms one.full (a.goes refl) a.sent (λ g u stands store clean. ((stands store clean).0, faulted_too (stands store clean).1))
           (two.exactly how is s (grown h (kept_in one.timed)) (t ++ settled_in c (bytes_of one.timed) one.marks) a.stands (one.handed t within) parts.1);
       life = λ clean s h t so within again.
           let parts = again_both c q.confirms t one.timed two.timed one.marks two.marks one.replied.confirms one.full again in
           let a = one.all (honest_too (clean_honest clean)) s h t so within parts.0 in
-          lived_more (StandsFor new s) s h c q.confirms t one.timed two.timed one.marks two.marks two.part one.replied.confirms one.full (a.goes refl) a.sent
+          lived_more grows (StandsFor new s) s h c q.confirms t one.timed two.timed one.marks two.marks two.part one.replied.confirms one.full (a.goes refl) a.sent
           (two.life clean s (grown h (kept_in one.timed)) (t ++ settled_in c (bytes_of one.timed) one.marks) a.stands (one.handed t within) parts.1);
       crash = λ is firm s h t so within again.
           let parts = again_both c q.confirms t one.timed two.timed one.marks two.marks one.replied.confirms one.full again in
@@ -172,7 +172,7 @@ turned_broken holds mid new honest clean' honest' whole whole_mid whole' left le
           let u = t ++ settled_in c (bytes_of one.timed) one.marks in
           let a = one.all (honest_too is) s h t so within parts.0 in
           leaves_map whole' left' (λ x r. Lived (Stands x r s) s g q.confirms u two.timed two.marks two.part) (λ x r. Lived (Stands x r s) s h c t ts marks two.part)
-          (λ x r l. lived_more (Stands x r s) s h c q.confirms t one.timed two.timed one.marks two.marks two.part one.replied.confirms one.full (a.goes refl) a.sent l)
+          (λ x r l. lived_more grows (Stands x r s) s h c q.confirms t one.timed two.timed one.marks two.marks two.part one.replied.confirms one.full (a.goes refl) a.sent l)
           (two.crash is (firm_too (honest_too is) firm) s g u a.stands (one.handed t within) parts.1);
     }
 
@@ -230,25 +230,25 @@ lasts_on Destroyed is = absurd (cc is)
 lasts_on ZeroUnique is = absurd (cc is)
 
 -- a group more
-pub group_more : (holds mid new : Rows → Records → Type 0) (honest honest' : Type 0) (may may' : Moment → Type 0) (p q r : PortState) (ids ids' ids'' : List ℕ) (messages slice : List (List ℕ)) (i n : ℕ) (going : Bool) (counts counts' sum : SessionCounts)
+pub group_more : HistoriesGrow → (holds mid new : Rows → Records → Type 0) (honest honest' : Type 0) (may may' : Moment → Type 0) (p q r : PortState) (ids ids' ids'' : List ℕ) (messages slice : List (List ℕ)) (i n : ℕ) (going : Bool) (counts counts' sum : SessionCounts)
     → slice ≡ take (length messages - i) (drop i messages) → sum ≡ plus counts counts'
     → Turned holds mid honest may p q ids ids' (take i messages) true counts → Turned mid new honest' may' q r ids' ids'' (take n slice) going counts' → (honest' → honest) → ((t : Moment) → may' t → may t)
     → Turned holds new honest' may p r ids ids'' (take (i + n) messages) going sum
-group_more holds mid new honest honest' may may' p q r ids ids' ids'' messages slice i n going counts counts' sum same sum_is one two honest_too moments =
+group_more grows holds mid new honest honest' may may' p q r ids ids' ids'' messages slice i n going counts counts' sum same sum_is one two honest_too moments =
     subst (λ f. Turned holds new honest' may p r ids ids'' f going sum) (take_parts messages i n)
     (subst (λ c. Turned holds new honest' may p r ids ids'' (take i messages ++ take n (take (length messages - i) (drop i messages))) going c) (sym sum_is)
-    (turned_more holds mid new honest honest' may may' p q r ids ids' ids'' (take i messages) (take n (take (length messages - i) (drop i messages))) going counts counts' one
+    (turned_more grows holds mid new honest honest' may may' p q r ids ids' ids'' (take i messages) (take n (take (length messages - i) (drop i messages))) going counts counts' one
     (subst (λ x. Turned mid new honest' may' q r ids' ids'' (take n x) going counts') same two) honest_too moments))
 
 -- a fault in the next group
-pub group_broken : (holds mid new : Rows → Records → Type 0) (honest clean' honest' whole whole_mid whole' : Type 0) (left left_mid left' : Rows → Records → Type 0) (may may' : Moment → Type 0) (p q r : PortState) (ids ids' : List ℕ)
+pub group_broken : HistoriesGrow → (holds mid new : Rows → Records → Type 0) (honest clean' honest' whole whole_mid whole' : Type 0) (left left_mid left' : Rows → Records → Type 0) (may may' : Moment → Type 0) (p q r : PortState) (ids ids' : List ℕ)
     (messages slice : List (List ℕ)) (i : ℕ) (counts : SessionCounts) (exact want : Bool) (faulted faulted' : Type 0) → slice ≡ take (length messages - i) (drop i messages)
     → Turned holds mid honest may p q ids ids' (take i messages) true counts → Broken mid new clean' honest' (IsFirm mid whole_mid left_mid) whole' left' may' q r ids' slice exact want faulted' → (faulted' → faulted)
     → (clean' → honest') → (honest' → honest) → (honest → IsFirm holds whole left → IsFirm mid whole_mid left_mid) → ((t : Moment) → may' t → may t)
     → Broken holds new clean' honest' (IsFirm holds whole left) whole' left' may p r ids messages exact want faulted
-group_broken holds mid new honest clean' honest' whole whole_mid whole' left left_mid left' may may' p q r ids ids' messages slice i counts exact want faulted faulted' same one two faulted_too clean_honest honest_too firm_too moments =
+group_broken grows holds mid new honest clean' honest' whole whole_mid whole' left left_mid left' may may' p q r ids ids' messages slice i counts exact want faulted faulted' same one two faulted_too clean_honest honest_too firm_too moments =
     subst (λ m. Broken holds new clean' honest' (IsFirm holds whole left) whole' left' may p r ids m exact want faulted) (ap (λ x. take i messages ++ x) same ∙ parts_at messages i)
-    (turned_broken holds mid new honest clean' honest' whole whole_mid whole' left left_mid left' may may' p q r ids ids' (take i messages) slice counts exact want faulted faulted' one two faulted_too clean_honest honest_too firm_too moments)
+    (turned_broken grows holds mid new honest clean' honest' whole whole_mid whole' left left_mid left' may may' p q r ids ids' (take i messages) slice counts exact want faulted faulted' one two faulted_too clean_honest honest_too firm_too moments)
 
 -- the last group
 pub worked_off : (holds new : Rows → Records → Type 0) (honest : Type 0) (may : Moment → Type 0) (p q : PortState) (ids ids' : List ℕ) (messages slice : List (List ℕ)) (i n : ℕ) (rest : Rest) (begin place : ℕ) (counts : SessionCounts)

@@ -2,7 +2,7 @@
 use Rattle.std.specs.Prelude.{ℕ, ◌+◌, ◌≤◌, ◌==◌, ◌&&◌, Bool, if◌then◌else◌, List, [], ◌∷◌, is_none}
 use Rattle.fuse_request.specs.declared.class.Class.{Class}
 use Rattle.fuse_request.specs.declared.class.Class.TheVariants.{Silent, Bare, Kept}
-use Rattle.fuse_request.specs.declared.opcode.TheConstants.{INTERRUPT}
+use Rattle.fuse_wire.specs.declared.opcode.TheConstants.{INTERRUPT}
 use Rattle.fuse_request.specs.Classes.{class_of}
 use Rattle.fuse_request.specs.Faults.{first_fault}
 use Rattle.fuse_request.specs.Header.{raw_of}

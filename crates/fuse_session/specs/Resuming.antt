@@ -1,5 +1,5 @@
 -- How the kernel is asked to send its pending requests again (fuse.h: FUSE_NOTIFY_RESEND, FUSE_HAS_RESEND).
-use Rattle.std.specs.Prelude.{◌≡◌, ℕ, Bool, true, false, ◌==◌, bit_and, List, Result, Ok, Err, Option, Some, None}
+use Rattle.std.specs.Prelude.{◌≡◌, Bool, true, false, ◌==◌, bit_and, Result, Ok, Err, Option, Some, None}
 use Rattle.fuse_wire.specs.declared.init_flags.InitFlags.{InitFlags}
 use Rattle.fuse_answer.specs.Notice.{resend_bytes}
 use Rattle.fuse_init.specs.declared.settings.Settings.{Settings}

@@ -10,7 +10,7 @@ use Rattle.fuse_request.specs.Classes.{class_of, is_zero}
 use Rattle.fuse_request.specs.Header.{raw_of}
 use Rattle.fuse_request.specs.Places.{asked_at}
 use Rattle.fuse_request.specs.Stream.{joined}
-use Rattle.fuse_request.specs.declared.opcode.TheConstants.{DESTROY}
+use Rattle.fuse_wire.specs.declared.opcode.TheConstants.{DESTROY}
 use Rattle.fuse_tree.specs.State.{State}
 use Rattle.fuse_store.specs.History.{Entry, History, grown, said}
 

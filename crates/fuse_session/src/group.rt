@@ -23,7 +23,7 @@ use crate::sending::{SendFault, send_answers};
 use bytes::Bytes;
 use fuse_answer::Answer;
 use fuse_request::Request;
-use fuse_store::{Done, Keeper, StoreFault};
+use fuse_store::{Done, Keeper, StoreFault, histories_grow};
 use fuse_wire::{Id, Moment};
 use std::alloc::Global;
 
@@ -182,6 +182,7 @@ pub(crate) fn work_group<K: Keeper, P: Port, C: Clock>(
     ensures quiet { IsQuiet (P.told port.old) (P.told port.new) }
     ensures same { (t : MomentValue) → C.may_answer clock.new t → C.may_answer clock.old t }
 {
+    histories_grow();
     let Ok(gathered) = gather(alloc, clock, messages) else {
         return Err(Stop::Memory);
     };

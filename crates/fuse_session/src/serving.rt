@@ -23,7 +23,7 @@ use crate::port::Port;
 use crate::receiving::hear;
 use crate::working::{Work, work_off};
 use fuse_request::{FrameFault, Framer, MAX_MESSAGE, cut_joins};
-use fuse_store::Keeper;
+use fuse_store::{Keeper, histories_grow};
 use fuse_wire::Id;
 use std::alloc::Global;
 
@@ -113,6 +113,7 @@ fn one_turn<K: Keeper, P: Port, C: Clock>(
     ensures honest { K.is_honest keeper.new → K.is_honest keeper.old }
     ensures same { (t : MomentValue) → C.may_answer clock.new t → C.may_answer clock.old t }
 {
+    histories_grow();
     let begin = framer.fed() - framer.held();
     let waiting = match hear(alloc, port, framer, buffer) {
         Ok(waiting) => waiting,
@@ -175,6 +176,7 @@ pub fn serve<K: Keeper, P: Port, C: Clock>(
     ensures store { K.has_failed keeper.new ≡ ended_store result.ended }
 {
     cut_joins();
+    histories_grow();
     let Ok(mut buffer) = vec![in alloc; 0; MAX_MESSAGE] else {
         return Served {
             ended: Ended::Memory,

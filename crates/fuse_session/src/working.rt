@@ -16,7 +16,7 @@ use crate::counts::{SessionCounts, sum_of};
 use crate::group::{Rest, Stop, work_group};
 use crate::port::Port;
 use bytes::Bytes;
-use fuse_store::Keeper;
+use fuse_store::{Keeper, histories_grow};
 use fuse_wire::Id;
 use std::alloc::Global;
 
@@ -88,6 +88,7 @@ pub(crate) fn work_off<K: Keeper, P: Port, C: Clock>(
     ensures quiet { IsQuiet (P.told port.old) (P.told port.new) }
     ensures same { (t : MomentValue) → C.may_answer clock.new t → C.may_answer clock.old t }
 {
+    histories_grow();
     let mut at = 0;
     let mut place = begin;
     let mut counts = SessionCounts::NONE;

@@ -1,6 +1,6 @@
 -- How many records a map has.
-use Rattle.std.proofs.Common.{◌≡◌, ℕ, Bool, true, false, cond, nat_eq, ◌==◌, if◌then◌else◌, List, [], ◌∷◌, length, map, is_some, Some, refl, sym, ap, ◌∙◌, arith, suc}
-use Rattle.std.specs.HashMap.{HashMap, get, IsUnique, keys}
+use Rattle.std.proofs.Common.{◌≡◌, ℕ, Bool, true, false, cond, nat_eq, ◌==◌, if◌then◌else◌, List, [], ◌∷◌, length, is_some, Some, refl, sym, ap, ◌∙◌, arith, suc}
+use Rattle.std.specs.HashMap.{HashMap, IsUnique, keys}
 use Rattle.std.specs.Map.{lookup, keys_of}
 use Rattle.fuse_answer.specs.Said.{Said}
 use Rattle.fuse_store.specs.History.{is_in}

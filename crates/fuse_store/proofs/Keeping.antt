@@ -1,5 +1,5 @@
 -- What a keeper of lists holds, and what a crash leaves of it.
-use Rattle.std.proofs.Common.{◌≡◌, ℕ, nat_eq, List, [], Option, None, refl, sym, ap, ◌∙◌}
+use Rattle.std.proofs.Common.{◌≡◌, ℕ, nat_eq, List, [], None, refl, sym, ap, ◌∙◌}
 use Rattle.std.specs.HashMap.{HashMap, IsEmpty}
 use Rattle.std.specs.Map.{lookup}
 use Rattle.fuse_answer.specs.Said.{Said}

@@ -1,5 +1,5 @@
 -- How a group is performed, one entry after another.
-use Rattle.std.proofs.Common.{◌≡◌, ℕ, ◌+◌, ◌<◌, zero, suc, Bool, true, false, ◌==◌, ◌||◌, ◌⊎◌, inl, inr, if◌then◌else◌, List, [], ◌∷◌, ◌++◌, length, map, take, get_or, All, Option, Some, None, refl, sym, ap, subst, ◌∙◌, arith}
+use Rattle.std.proofs.Common.{◌≡◌, ℕ, ◌+◌, ◌<◌, zero, suc, Bool, true, false, ◌==◌, ◌||◌, ◌⊎◌, inl, inr, if◌then◌else◌, List, [], ◌∷◌, ◌++◌, length, map, take, get_or, All, Option, Some, refl, sym, ap, ◌∙◌, arith}
 use Rattle.std.proofs.lemmas.List.{take_more}
 use Rattle.fuse_wire.specs.declared.moment.Moment.{Moment}
 use Rattle.fuse_request.specs.declared.request.Request.{Request}
@@ -7,7 +7,7 @@ use Rattle.fuse_answer.specs.Said.{Said}
 use Rattle.fuse_tree.specs.State.{State}
 use Rattle.fuse_tree.specs.Rows.{Rows}
 use Rattle.fuse_store.specs.declared.keeper.Done.{Done}
-use Rattle.fuse_store.specs.History.{Entry, entry_id, History, has, said, add, grown, is_in, ids_in, Includes, IsUnsettled, repeats}
+use Rattle.fuse_store.specs.History.{Entry, entry_id, History, said, add, grown, is_in, ids_in, Includes, IsUnsettled, repeats}
 use Rattle.fuse_store.specs.Stands.{Records, Stands, StandsFor, AreThese, Performed}
 use Rattle.fuse_store.specs.Group.{entry_of, entries_of}
 use Rattle.fuse_store.specs.Taking.{Took}

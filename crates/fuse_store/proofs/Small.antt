@@ -1,5 +1,5 @@
 -- Groups of one request and of two.
-use Rattle.std.proofs.Common.{ℕ, ◌<◌, zero, suc, List, [], ◌∷◌, length, All, arith}
+use Rattle.std.proofs.Common.{zero, suc, [], ◌∷◌, All, arith}
 use Rattle.fuse_store.specs.History.{Entry}
 
 pub all_one : (P : Entry → Type 0) (e : Entry) → P e → All P (e ∷ [])

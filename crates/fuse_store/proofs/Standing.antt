@@ -1,13 +1,13 @@
 -- What stands for a history, and how one entry more is taken.
-use Rattle.std.proofs.Common.{◌≡◌, ℕ, Bool, true, false, ◌==◌, ◌⊎◌, inl, inr, if◌then◌else◌, List, [], ◌∷◌, ◌++◌, Option, Some, None, refl, sym, ap, subst, ◌∙◌, arith}
+use Rattle.std.proofs.Common.{◌≡◌, ℕ, Bool, true, false, ◌==◌, inl, inr, if◌then◌else◌, List, [], ◌∷◌, ◌++◌, Option, Some, None, refl, sym, ap, subst, ◌∙◌, arith}
 use Rattle.fuse_answer.specs.Said.{Said}
 use Rattle.fuse_tree.specs.State.{State, Tree}
 use Rattle.fuse_tree.specs.Rows.{Rows, rowed, IsRowed}
 use Rattle.fuse_store.specs.declared.keeper.Done.{Done}
-use Rattle.fuse_store.specs.History.{Entry, entry_id, History, next_state, answer_to, has, after, said, add, is_in, Includes}
+use Rattle.fuse_store.specs.History.{Entry, entry_id, History, answer_to, has, after, said, add, is_in, Includes}
 use Rattle.fuse_store.specs.Stands.{Records, Stands, AreThese}
-use Rattle.fuse_store.specs.Taking.{ActedOn, Acts, TookBy, Took}
-use Rattle.fuse_store.proofs.Histories.{tested, has-append, after-append, said_none, said-append_old, said-append_new, Distinct-append, add_old, add_new, same_id, found, isnt_there, no_history, nothing_said, Distinct-none}
+use Rattle.fuse_store.specs.Taking.{ActedOn, TookBy, Took}
+use Rattle.fuse_store.proofs.Histories.{tested, after-append, said_none, said-append_old, said-append_new, Distinct-append, add_old, add_new, same_id, found, isnt_there, no_history, nothing_said, Distinct-none}
 
 pub same_number : (k i : ℕ) → (k == i) ≡ true → k ≡ i
 same_number k i same = grind arith

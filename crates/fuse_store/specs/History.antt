@@ -55,6 +55,11 @@ abbrev pub grown : History → List Entry → History
 grown h [] = h
 grown h (e ∷ es) = grown (add h e) es
 
+-- what is added is there, and what was said of an id that is there stays when the history grows
+pub record HistoriesGrow : Type 0 where
+  pub added : (h : History) (e : Entry) → has (add h e) (entry_id e) ≡ true
+  pub stays : (s : State) (h : History) (more : List Entry) (i : ℕ) → has h i ≡ true → said s (grown h more) i ≡ said s h i
+
 -- whether an id is one of these
 abbrev pub is_in : List ℕ → ℕ → Bool
 is_in [] i = false

@@ -1,5 +1,5 @@
 -- What lists and a map of records stand for.
-use Rattle.std.specs.Prelude.{◌≡◌, ℕ, Bool, nat_eq, ◌==◌, if◌then◌else◌, List, [], ◌∷◌, map, Option, Some, None}
+use Rattle.std.specs.Prelude.{ℕ, nat_eq, ◌==◌, if◌then◌else◌, List, [], ◌∷◌, map, Option, Some, None}
 use Rattle.std.specs.HashMap.{HashMap, get}
 use Rattle.fuse_answer.specs.Said.{Said}
 use Rattle.fuse_store.specs.declared.group.Record.{Record}

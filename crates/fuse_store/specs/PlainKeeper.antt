@@ -1,5 +1,5 @@
 -- What a keeper of lists holds.
-use Rattle.std.specs.Prelude.{◌≡◌, ℕ, Bool}
+use Rattle.std.specs.Prelude.{◌≡◌, Bool}
 use Rattle.fuse_tree.specs.Rows.{Rows}
 use Rattle.fuse_tree.specs.PlainRows.{rows_of}
 use Rattle.fuse_store.specs.declared.fault.StoreFault.{StoreFault}

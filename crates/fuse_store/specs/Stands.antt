@@ -1,5 +1,5 @@
 -- How what is held stands for a history, and what a crash may leave of it (own profile).
-use Rattle.std.specs.Prelude.{◌≡◌, ◌⊎◌, ℕ, Bool, false, nat_eq, if◌then◌else◌, List, [], length, map, Option, Some, None, is_some}
+use Rattle.std.specs.Prelude.{◌≡◌, ◌⊎◌, ℕ, false, nat_eq, if◌then◌else◌, List, length, map, Option, Some, None, is_some}
 use Rattle.std.specs.List.{IsDistinct}
 use Rattle.fuse_answer.specs.Said.{Said}
 use Rattle.fuse_tree.specs.State.{State, Tree}

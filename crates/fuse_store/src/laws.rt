@@ -1,4 +1,4 @@
-ghost use Rattle.fuse_store.specs.History.{SaidFits};
+ghost use Rattle.fuse_store.specs.History.{HistoriesGrow, SaidFits};
 
 use fuse_tree::answers_fit;
 
@@ -8,3 +8,8 @@ pub fn said_fits()
 {
     answers_fit();
 }
+
+/// What is added to a history is there, and what was said of it stays.
+pub fn histories_grow()
+    ensures { HistoriesGrow }
+{}

@@ -9,7 +9,7 @@ mod plain;
 
 pub use fault::StoreFault;
 pub use keeper::{Done, Keeper, MAX_GROUP, MAX_SETTLED, StoreCounts};
-pub use laws::said_fits;
+pub use laws::{histories_grow, said_fits};
 pub use plain::PlainKeeper;
 
 #[cfg(test)]

@@ -1,5 +1,5 @@
 -- A plan over the rows of a state agrees with what is done in that state.
-use Rattle.std.proofs.Common.{◌≡◌, ◌==◌, ℕ, Bool, true, false, cond, if◌then◌else◌, not, List, [], ◌∷◌, length, Option, Some, None, refl, sym, ap, subst, ◌∙◌}
+use Rattle.std.proofs.Common.{◌≡◌, ℕ, Bool, true, false, cond, if◌then◌else◌, not, List, [], length, Option, Some, None, refl, sym, ap, subst}
 use Rattle.std.specs.Prelude.{is_some, Result, Ok, Err, IfOk, IfErr}
 use Rattle.std.specs.Option.{option_map}
 use Rattle.fuse_wire.specs.declared.errno.Errno.{Errno}
@@ -10,7 +10,6 @@ use Rattle.fuse_request.specs.declared.request.Op.{Op}
 use Rattle.fuse_request.specs.declared.request.Op.TheVariants as ops
 use Rattle.fuse_request.specs.Act.{Act, Asked, act}
 use Rattle.fuse_request.specs.Act as acts
-use Rattle.fuse_answer.specs.Said.{Said}
 use Rattle.fuse_tree.specs.declared.planning.fault.PlanFault.{PlanFault}
 use Rattle.fuse_tree.specs.declared.planning.fault.PlanFault.TheVariants as faults
 use Rattle.fuse_tree.specs.declared.planning.make.NewNode.{NewNode}
@@ -19,10 +18,10 @@ use Rattle.fuse_tree.specs.declared.rows.Full.{Full}
 use Rattle.fuse_tree.specs.declared.rows.NodeRow.{NodeRow}
 use Rattle.fuse_tree.specs.declared.rows.Planned.{Planned}
 use Rattle.fuse_tree.specs.State.{State, Node, Tree, is_dir, node_at, is_named, name_fault}
-use Rattle.fuse_tree.specs.Rows.{full_of, row_of, rowed, rows_of_state, row_at, entry_at, apply}
-use Rattle.fuse_tree.specs.Do.{Done, make, mkdir, lookup_child, lookup_entry, lookup_named, lookup, begun, dir_mode, is_full, refuse, refuse_for, done, do_at, do_act, answer, names_node}
+use Rattle.fuse_tree.specs.Rows.{row_of, rowed, rows_of_state, row_at, entry_at, apply}
+use Rattle.fuse_tree.specs.Do.{Done, make, mkdir, lookup_child, lookup_entry, lookup, begun, dir_mode, is_full, refuse, refuse_for, done, do_at, do_act, answer, names_node}
 use Rattle.fuse_tree.specs.Plan.{Meets, TreeKept, look_fault}
-use Rattle.fuse_tree.specs.Planning.{Tells, refused, refused_for, entry_body, plan_make, plan_mkdir, plan_lookup_named, plan_lookup, told, plan_of, plan_at, plan_act, plan_child, child_of}
+use Rattle.fuse_tree.specs.Planning.{Tells, refused, refused_for, entry_body, plan_make, plan_mkdir, plan_lookup, plan_of, plan_at, plan_act, plan_child, child_of}
 use Rattle.fuse_tree.proofs.Puts.{row_found, node_found}
 use Rattle.fuse_tree.proofs.Making.{new_full, make_rows, make_tree}
 

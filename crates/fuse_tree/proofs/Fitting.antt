@@ -1,5 +1,5 @@
 -- What is answered fits.
-use Rattle.std.proofs.Common.{◌≡◌, ◌≤◌, ℕ, Bool, true, false, not, if◌then◌else◌, List, [], length, Option, Some, None, is_some, refl, arith}
+use Rattle.std.proofs.Common.{◌≤◌, ℕ, Bool, true, false, not, if◌then◌else◌, List, [], length, Option, Some, None, is_some, refl, arith}
 use Rattle.fuse_wire.specs.declared.errno.Errno.{Errno}
 use Rattle.fuse_wire.specs.declared.moment.Moment.{Moment}
 use Rattle.fuse_request.specs.declared.request.InHeader.{InHeader}
@@ -11,7 +11,7 @@ use Rattle.fuse_tree.specs.declared.planning.make.NewNode.{NewNode}
 use Rattle.fuse_tree.specs.declared.rows.EntryRow.{EntryRow}
 use Rattle.fuse_tree.specs.State.{State, Node, is_dir, is_named, node_at, name_fault}
 use Rattle.fuse_tree.specs.Rows.{entry_at}
-use Rattle.fuse_tree.specs.Do.{Done, refuse, refuse_for, answer, attr_of, entry_of, attr_out_of, lookup_child, lookup_entry, lookup_named, lookup, getattr, new_node, with_node, begun, is_full, make_with_room, make, dir_mode, mkdir, do_act, do_at, done}
+use Rattle.fuse_tree.specs.Do.{Done, refuse, refuse_for, answer, attr_of, entry_of, attr_out_of, lookup_child, lookup_entry, lookup_named, lookup, getattr, new_node, with_node, begun, is_full, make, dir_mode, mkdir, do_act, do_at, names_node, done}
 
 abbrev Fits : Done → Type 0
 Fits d = FitsAnswer d.said
@@ -71,7 +71,8 @@ act_fits : RecordSizes → (s : State) (header : InHeader) (act : Act) (now : Mo
 act_fits sizes s header (acts.Lookup name) now n = lookup_fits sizes s name n
 act_fits sizes s header (acts.Getattr flags fh) now n = getattr_fits sizes s n
 act_fits sizes s header (acts.Mkdir mode umask name) now n = mkdir_fits sizes s header mode name now n
-act_fits sizes s header (acts.Unsupported opcode body) now n = refused s _
+act_fits sizes s header acts.Destroy now n = answered s [] (omega arith)
+act_fits sizes s header _ now n = refused s _
 
 at_fits : RecordSizes → (s : State) (request : Asked) (now : Moment) (n : Option Node) → Fits (do_at s request now n)
 at_fits sizes s request now None = refused s _
@@ -79,4 +80,4 @@ at_fits sizes s request now (Some n) = act_fits sizes s request.header request.a
 
 pub fits : RecordSizes → (s : State) (request : Asked) (now : Moment) → FitsAnswer (done s request now).said
 unfolding done
-fits sizes s request now = at_fits sizes s request now (node_at s request.header.nodeid)
+fits sizes s request now = chosen (names_node request.act) _ _ (at_fits sizes s request now (node_at s request.header.nodeid)) (answered s [] (omega arith))

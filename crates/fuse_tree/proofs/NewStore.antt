@@ -1,5 +1,5 @@
 -- A new store is a tree.
-use Rattle.std.proofs.Common.{◌≡◌, refl, arith}
+use Rattle.std.proofs.Common.{refl, arith}
 use Rattle.fuse_wire.specs.declared.moment.Moment.{Moment}
 use Rattle.fuse_tree.specs.State.{Tree, new_store}
 

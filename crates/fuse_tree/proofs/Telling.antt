@@ -2,7 +2,7 @@
 use Rattle.std.proofs.Common.{◌≡◌, List, [], ◌∷◌, map, refl, sym, ap, ◌∙◌}
 use Rattle.fuse_tree.specs.declared.rows.Full.{Full}
 use Rattle.fuse_tree.specs.State.{State, Node}
-use Rattle.fuse_tree.specs.Rows.{Rows, rowed, rows_of_state, full_of}
+use Rattle.fuse_tree.specs.Rows.{Rows, rowed, full_of}
 use Rattle.fuse_tree.specs.Plan.{RowsTellState}
 
 abbrev node_of : Full → Node

@@ -6,7 +6,6 @@ use Rattle.fuse_wire.specs.declared.moment.Moment.{Moment}
 use Rattle.fuse_request.specs.declared.request.InHeader.{InHeader}
 use Rattle.fuse_request.specs.Act.{Act, Asked}
 use Rattle.fuse_request.specs.Act as acts
-use Rattle.fuse_answer.specs.Said.{Said}
 use Rattle.fuse_answer.specs.Bodies.{entry_bytes, attr_out_bytes}
 use Rattle.fuse_answer.specs.declared.records.Attr.{Attr}
 use Rattle.fuse_tree.specs.declared.limits.TheConstants.{MAX_NODES, MAX_FILE, ROOT_ID, BLOCK_SIZE, SECTOR_SIZE}

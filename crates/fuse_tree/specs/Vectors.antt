@@ -1,5 +1,5 @@
 -- Worked rows (own profile): what `done` says of the first run, and of a name that is missing.
-use Rattle.std.specs.Prelude.{◌≡◌, ℕ, List, [], ◌∷◌, replicate, codes}
+use Rattle.std.specs.Prelude.{◌≡◌, ℕ, List, [], replicate, codes}
 use Rattle.fuse_wire.specs.declared.moment.Moment.{Moment}
 use Rattle.fuse_wire.specs.declared.errno.Errno.{Errno}
 use Rattle.fuse_wire.specs.declared.errno.TheConstants.Errno.{ENOENT, EEXIST, EINVAL, ENAMETOOLONG, ENOSYS, ESTALE}

@@ -27,13 +27,43 @@ fn vectors() {
 }
 
 // The entry of `a` in the first run.
-const ENTRY: [u8; 128] = [
-    2, 0, 0, 0, 0, 0, 0, 0, 0, 0, 0, 0, 0, 0, 0, 0, 1, 0, 0, 0, 0, 0, 0, 0, 1, 0, 0, 0, 0, 0, 0, 0,
-    0, 0, 0, 0, 0, 0, 0, 0, 2, 0, 0, 0, 0, 0, 0, 0, 0, 0, 0, 0, 0, 0, 0, 0, 0, 0, 0, 0, 0, 0, 0, 0,
-    0xe8, 3, 0, 0, 0, 0, 0, 0, 0xe8, 3, 0, 0, 0, 0, 0, 0, 0xe8, 3, 0, 0, 0, 0, 0, 0, 0, 0, 0, 0, 0,
-    0, 0, 0, 0, 0, 0, 0, 0xed, 0x41, 0, 0, 2, 0, 0, 0, 0xe8, 3, 0, 0, 0xe8, 3, 0, 0, 0, 0, 0, 0, 0,
-    0x10, 0, 0, 0, 0, 0, 0,
-];
+fn entry_of_a() -> &'static [u8] {
+    b"\x02\0\0\0\0\0\0\0\
+      \0\0\0\0\0\0\0\0\
+      \x01\0\0\0\0\0\0\0\
+      \x01\0\0\0\0\0\0\0\
+      \0\0\0\0\0\0\0\0\
+      \x02\0\0\0\0\0\0\0\
+      \0\0\0\0\0\0\0\0\
+      \0\0\0\0\0\0\0\0\
+      \xe8\x03\0\0\0\0\0\0\
+      \xe8\x03\0\0\0\0\0\0\
+      \xe8\x03\0\0\0\0\0\0\
+      \0\0\0\0\0\0\0\0\
+      \0\0\0\0\xed\x41\0\0\
+      \x02\0\0\0\xe8\x03\0\0\
+      \xe8\x03\0\0\0\0\0\0\
+      \0\x10\0\0\0\0\0\0"
+        .as_slice()
+}
+
+// What GETATTR of `a` is answered there.
+fn attr_of_a() -> &'static [u8] {
+    b"\x01\0\0\0\0\0\0\0\
+      \0\0\0\0\0\0\0\0\
+      \x02\0\0\0\0\0\0\0\
+      \0\0\0\0\0\0\0\0\
+      \0\0\0\0\0\0\0\0\
+      \xe8\x03\0\0\0\0\0\0\
+      \xe8\x03\0\0\0\0\0\0\
+      \xe8\x03\0\0\0\0\0\0\
+      \0\0\0\0\0\0\0\0\
+      \0\0\0\0\xed\x41\0\0\
+      \x02\0\0\0\xe8\x03\0\0\
+      \xe8\x03\0\0\0\0\0\0\
+      \0\x10\0\0\0\0\0\0"
+        .as_slice()
+}
 
 const MKDIR_A: Op<'static> = Op::Mkdir {
     mode: 0o755,
@@ -80,12 +110,8 @@ fn answered(look: &mut PlainRows, alloc: Global, nodeid: u64, op: Op<'_>) -> Res
     }
 }
 
-// The error number of what is planned, which changes nothing where it is not 0.
-fn errno_of(look: &mut PlainRows, alloc: Global, nodeid: u64, op: Op<'_>) -> Result<u32, Fail>
-    requires { fault_of look.old ≡ None }
-    ensures { OnOk result (fault_of look.new ≡ None) }
-{
-    let planned = answered(look, alloc, nodeid, op)?;
+// The error number of what is planned, which has no body and no changes where it is not 0.
+fn errno_of(planned: &Planned) -> Result<u32, Fail> {
     let errno = planned.answer.errno.0;
     let is_alone = planned.answer.body.as_slice().is_empty()
         && planned.changes.as_slice().is_empty();
@@ -97,19 +123,22 @@ fn errno_of(look: &mut PlainRows, alloc: Global, nodeid: u64, op: Op<'_>) -> Res
 }
 
 fn is_entry(body: &[u8]) -> bool {
-    body == ENTRY.as_slice()
+    body == entry_of_a()
 }
 
-// Whether it is the attribute answer of `a`: valid for a second, and the attributes of the entry.
 fn is_attributes(body: &[u8]) -> bool {
-    body.len() == 104 && body[..8] == ENTRY[16..24] && body[16..] == ENTRY[40..]
+    body == attr_of_a()
+}
+
+// What is planned in a new store.
+fn planned_first(alloc: Global, nodeid: u64, op: Op<'_>) -> Result<Planned, Fail> {
+    let mut look = PlainRows::new(alloc, at(0))?;
+    answered(&mut look, alloc, nodeid, op)
 }
 
 #[test]
 fn makes_a_directory(rt: HostRuntime) -> Result<(), Fail> {
-    let alloc = rt.alloc();
-    let mut look = PlainRows::new(alloc, at(0))?;
-    let made = answered(&mut look, alloc, 1, MKDIR_A)?;
+    let made = planned_first(rt.alloc(), 1, MKDIR_A)?;
     assert_eq!(rt; made.answer.errno.0, 0);
     assert!(rt; is_entry(made.answer.body.as_slice()));
     assert_eq!(rt; made.changes.as_slice().len(), 4);
@@ -126,24 +155,35 @@ fn with_a(alloc: Global) -> Result<PlainRows, Fail>
     Ok(look)
 }
 
+fn nodes_with_a(alloc: Global) -> Result<u64, Fail> {
+    Ok(with_a(alloc)?.counted().nodes)
+}
+
+// What is planned where `a` was made.
+fn planned_next(alloc: Global, nodeid: u64, op: Op<'_>) -> Result<Planned, Fail> {
+    let mut look = with_a(alloc)?;
+    answered(&mut look, alloc, nodeid, op)
+}
+
 #[test]
 fn finds_a_directory(rt: HostRuntime) -> Result<(), Fail> {
     let alloc = rt.alloc();
-    let mut look = with_a(alloc)?;
-    assert_eq!(rt; look.counted().nodes, 2);
-    assert_eq!(rt; errno_of(&mut look, alloc, 1, MKDIR_A)?, 17);
-    let found = answered(&mut look, alloc, 1, Op::Lookup { name: b"a" })?;
+    assert_eq!(rt; nodes_with_a(alloc)?, 2);
+    let again = planned_next(alloc, 1, MKDIR_A)?;
+    assert_eq!(rt; errno_of(&again)?, 17);
+    let found = planned_next(alloc, 1, Op::Lookup { name: b"a" })?;
     assert!(rt; is_entry(found.answer.body.as_slice()));
     Ok(())
 }
 
+const GETATTR: Op<'static> = Op::Getattr { flags: 0, fh: 0 };
+
 #[test]
 fn tells_attributes(rt: HostRuntime) -> Result<(), Fail> {
     let alloc = rt.alloc();
-    let mut look = with_a(alloc)?;
-    let told = answered(&mut look, alloc, 2, Op::Getattr { flags: 0, fh: 0 })?;
+    let told = planned_next(alloc, 2, GETATTR)?;
     assert!(rt; is_attributes(told.answer.body.as_slice()));
-    let root = answered(&mut look, alloc, 1, Op::Getattr { flags: 0, fh: 0 })?;
+    let root = planned_next(alloc, 1, GETATTR)?;
     // The root has one directory in it.
     assert_eq!(rt; root.answer.body.as_slice().get(80).copied(), Some(3));
     Ok(())
@@ -166,54 +206,77 @@ fn nameless(node: u64, mode: u32, subdirs: u32) -> NodeRow {
     }
 }
 
-#[test]
-fn refuses(rt: HostRuntime) -> Result<(), Fail> {
-    let alloc = rt.alloc();
+// A store that has the root, and a directory 2 and a file 3 without names.
+fn with_nameless(alloc: Global) -> Result<PlainRows, Fail>
+    ensures { IfOk result (λ look. fault_of look ≡ None) }
+{
     let mut look = PlainRows::new(alloc, at(0))?;
     look.apply(Change::Node(nameless(2, S_IFDIR, 0)))?;
     look.apply(Change::Node(nameless(3, S_IFREG, 0)))?;
-    let hello = Op::Lookup { name: b"hello" };
-    assert_eq!(rt; errno_of(&mut look, alloc, 1, hello)?, 2);
-    assert_eq!(rt; errno_of(&mut look, alloc, 2, hello)?, 2);
-    assert_eq!(rt; errno_of(&mut look, alloc, 3, hello)?, 20);
-    assert_eq!(rt; errno_of(&mut look, alloc, 4, hello)?, 116);
-    assert_eq!(rt; errno_of(&mut look, alloc, 2, MKDIR_A)?, 2);
-    assert_eq!(rt; errno_of(&mut look, alloc, 3, MKDIR_A)?, 20);
-    assert_eq!(rt; errno_of(&mut look, alloc, 4, MKDIR_A)?, 116);
-    assert_eq!(rt;
-        errno_of(&mut look, alloc, 4, Op::Getattr { flags: 0, fh: 0 })?,
-        116
-    );
-    let create = Op::Unsupported {
-        opcode: 35,
-        body: b"",
-    };
-    assert_eq!(rt; errno_of(&mut look, alloc, 1, create)?, 38);
+    Ok(look)
+}
+
+// The error number of what is planned there.
+fn refusal(alloc: Global, nodeid: u64, op: Op<'_>) -> Result<u32, Fail> {
+    let mut look = with_nameless(alloc)?;
+    let planned = answered(&mut look, alloc, nodeid, op)?;
+    errno_of(&planned)
+}
+
+const HELLO: Op<'static> = Op::Lookup { name: b"hello" };
+
+const CREATE: Op<'static> = Op::Unsupported {
+    opcode: 35,
+    body: b"",
+};
+
+#[test]
+fn refuses(rt: HostRuntime) -> Result<(), Fail> {
+    let alloc = rt.alloc();
+    for (nodeid, errno) in [(1, 2), (2, 2), (3, 20), (4, 116)] {
+        assert_eq!(rt; refusal(alloc, nodeid, HELLO)?, errno);
+    }
+    for (nodeid, errno) in [(2, 2), (3, 20), (4, 116)] {
+        assert_eq!(rt; refusal(alloc, nodeid, MKDIR_A)?, errno);
+    }
+    assert_eq!(rt; refusal(alloc, 4, GETATTR)?, 116);
+    assert_eq!(rt; refusal(alloc, 1, CREATE)?, 38);
     // DESTROY alone looks at no node.
-    assert_eq!(rt; errno_of(&mut look, alloc, 4, Op::Destroy)?, 0);
+    assert_eq!(rt; refusal(alloc, 4, Op::Destroy)?, 0);
     Ok(())
 }
 
-fn make(name: &[u8]) -> Op<'_> {
-    Op::Mkdir {
+// The error number of MKDIR of this name in the root.
+fn named(alloc: Global, name: &[u8]) -> Result<u32, Fail> {
+    let make = Op::Mkdir {
         mode: 0o755,
         umask: 0o022,
         name,
-    }
+    };
+    refusal(alloc, 1, make)
 }
+
+const NAMES: [(&[u8], u32); 5] = [
+    (b"", 22),
+    (b".", 22),
+    (b"..", 22),
+    (b"a/b", 22),
+    (b"...", 0),
+];
 
 #[test]
 fn refuses_names(rt: HostRuntime) -> Result<(), Fail> {
-    let alloc = rt.alloc();
-    let mut look = PlainRows::new(alloc, at(0))?;
-    assert_eq!(rt; errno_of(&mut look, alloc, 1, make(b""))?, 22);
-    assert_eq!(rt; errno_of(&mut look, alloc, 1, make(b"."))?, 22);
-    assert_eq!(rt; errno_of(&mut look, alloc, 1, make(b".."))?, 22);
-    assert_eq!(rt; errno_of(&mut look, alloc, 1, make(b"a/b"))?, 22);
-    assert_eq!(rt; errno_of(&mut look, alloc, 1, make(b"..."))?, 0);
+    for (name, errno) in NAMES {
+        assert_eq!(rt; named(rt.alloc(), name)?, errno);
+    }
+    Ok(())
+}
+
+#[test]
+fn refuses_long_names(rt: HostRuntime) -> Result<(), Fail> {
     let name = [b'a'; 256];
-    assert_eq!(rt; errno_of(&mut look, alloc, 1, make(&name))?, 36);
-    assert_eq!(rt; errno_of(&mut look, alloc, 1, make(&name[1..]))?, 0);
+    assert_eq!(rt; named(rt.alloc(), &name)?, 36);
+    assert_eq!(rt; named(rt.alloc(), &name[1..])?, 0);
     Ok(())
 }
 
@@ -229,91 +292,60 @@ const NEW: Counters = Counters {
 fn counted(alloc: Global, counters: Counters) -> Result<u32, Fail> {
     let mut look = PlainRows::new(alloc, at(0))?;
     look.apply(Change::Counters(counters))?;
-    errno_of(&mut look, alloc, 1, MKDIR_A)
+    let planned = answered(&mut look, alloc, 1, MKDIR_A)?;
+    errno_of(&planned)
+}
+
+// The error numbers where there are so many nodes, and where these numbers come next.
+fn with_nodes(alloc: Global, nodes: u64) -> Result<u32, Fail> {
+    counted(alloc, Counters { nodes, ..NEW })
+}
+
+fn with_next_node(alloc: Global, next_node: u64) -> Result<u32, Fail> {
+    counted(alloc, Counters { next_node, ..NEW })
+}
+
+fn with_next_cookie(alloc: Global, next_cookie: u64) -> Result<u32, Fail> {
+    let counters = Counters { next_cookie, ..NEW };
+    counted(alloc, counters)
 }
 
 #[test]
 fn limits(rt: HostRuntime) -> Result<(), Fail> {
     let alloc = rt.alloc();
     let end = 1 << 62;
-    assert_eq!(rt;
-        counted(
-            alloc,
-            Counters {
-                nodes: 65_535,
-                ..NEW
-            }
-        )?,
-        0
-    );
-    assert_eq!(rt;
-        counted(
-            alloc,
-            Counters {
-                nodes: 65_536,
-                ..NEW
-            }
-        )?,
-        28
-    );
-    assert_eq!(rt;
-        counted(
-            alloc,
-            Counters {
-                next_node: end - 1,
-                ..NEW
-            }
-        )?,
-        0
-    );
-    assert_eq!(rt;
-        counted(
-            alloc,
-            Counters {
-                next_node: end,
-                ..NEW
-            }
-        )?,
-        28
-    );
-    assert_eq!(rt;
-        counted(
-            alloc,
-            Counters {
-                next_cookie: end - 1,
-                ..NEW
-            }
-        )?,
-        0
-    );
-    assert_eq!(rt;
-        counted(
-            alloc,
-            Counters {
-                next_cookie: end,
-                ..NEW
-            }
-        )?,
-        28
-    );
+    assert_eq!(rt; with_nodes(alloc, 65_535)?, 0);
+    assert_eq!(rt; with_nodes(alloc, 65_536)?, 28);
+    assert_eq!(rt; with_next_node(alloc, end - 1)?, 0);
+    assert_eq!(rt; with_next_node(alloc, end)?, 28);
+    assert_eq!(rt; with_next_cookie(alloc, end - 1)?, 0);
+    assert_eq!(rt; with_next_cookie(alloc, end)?, 28);
     Ok(())
+}
+
+// Whether what is planned after this change of a new store is said to be of no tree.
+fn is_no_tree(alloc: Global, change: Change, nodeid: u64, op: Op<'_>) -> Result<bool, Fail> {
+    let mut look = PlainRows::new(alloc, at(0))?;
+    look.apply(change)?;
+    let told = planned(&mut look, alloc, nodeid, op);
+    Ok(matches!(told, Err(PlanFault::NotATree)))
+}
+
+fn entry_of_nothing(alloc: Global) -> Result<Change, Fail> {
+    Ok(Change::Entry(EntryRow {
+        dir: 1,
+        name: ByteList::from_vec(Vec::from_slice(alloc, b"a")?),
+        child: 2,
+        cookie: 3,
+    }))
 }
 
 #[test]
 fn tells_what_is_no_tree(rt: HostRuntime) -> Result<(), Fail> {
     let alloc = rt.alloc();
-    let mut look = PlainRows::new(alloc, at(0))?;
-    look.apply(Change::Node(nameless(2, S_IFDIR, 65_537)))?;
-    let told = planned(&mut look, alloc, 2, Op::Getattr { flags: 0, fh: 0 });
-    assert!(rt; matches!(told, Err(PlanFault::NotATree)));
-    let mut look = PlainRows::new(alloc, at(0))?;
-    look.apply(Change::Entry(EntryRow {
-        dir: 1,
-        name: ByteList::from_vec(Vec::from_slice(alloc, b"a")?),
-        child: 2,
-        cookie: 3,
-    }))?;
-    let found = planned(&mut look, alloc, 1, Op::Lookup { name: b"a" });
-    assert!(rt; matches!(found, Err(PlanFault::NotATree)));
+    let full = Change::Node(nameless(2, S_IFDIR, 65_537));
+    assert!(rt; is_no_tree(alloc, full, 2, GETATTR)?);
+    let lost = entry_of_nothing(alloc)?;
+    assert!(rt; is_no_tree(alloc, lost, 1, Op::Lookup { name: b"a" })?);
     Ok(())
 }

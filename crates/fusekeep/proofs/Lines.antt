@@ -1,5 +1,5 @@
 -- Answers one after another, and their lines.
-use Rattle.std.proofs.Common.{◌≡◌, true, false, ◌==◌, ◌≤◌, ◌<◌, ◌+◌, ◌^◌, ℕ, zero, suc, List, [], ◌∷◌, ◌++◌, length, take, drop, inl, inr, Option, Some, None, refl, sym, ap, subst, ◌∙◌, append_assoc, arith, length-append, append-nil}
+use Rattle.std.proofs.Common.{◌≡◌, true, false, ◌==◌, ◌<◌, ◌+◌, ◌^◌, ℕ, zero, suc, List, [], ◌∷◌, ◌++◌, length, take, drop, inl, inr, Option, refl, sym, ap, subst, ◌∙◌, append_assoc, arith, length-append, append-nil}
 use Rattle.std.specs.Io.KnownBytes.{Appends}
 use Rattle.std.proofs.KnownBytes.{Appends-nil, Appends-trans}
 use Rattle.std.proofs.lemmas.Bool.{cases_lt}
@@ -9,7 +9,7 @@ use Rattle.hex.specs.Hex.{encode_lower}
 use Rattle.fuse_wire.specs.Bytes.{le, IsBytes, IsOneNumber}
 use Rattle.fuse_request.specs.Stream.{joined}
 use Rattle.fuse_answer.specs.Laws.{BeginsWithLen}
-use Rattle.fusekeep.specs.Printing.{line, answer_line, answer_lines, IsAnswer}
+use Rattle.fusekeep.specs.Printing.{line, answer_lines, IsAnswer}
 
 -- the first answer that isn't nothing
 pub record First (answers : List (List ℕ)) : Type 0 where
@@ -42,18 +42,24 @@ drop_front zero (x ∷ front) rest is = absurd (omega arith)
 drop_front (suc w) [] rest is = absurd (omega arith)
 drop_front (suc w) (x ∷ front) rest is = drop_front w front rest (omega arith)
 
+-- the bytes of a length at the front
+len_bytes : (sent answer others : List ℕ) → BeginsWithLen answer → sent ≡ answer ++ others → take 4 sent ≡ le 4 (length answer)
+len_bytes sent answer others begins parts =
+    let own : List ℕ = le 4 (length answer) in
+    let four : length own ≡ 4 = omega (arith, ap (length {A = ℕ}) begins.parts, length-append own begins.rest, begins.four) in
+    let whole : sent ≡ own ++ (begins.rest ++ others) = parts ∙ ap (λ (x : List ℕ). x ++ others) begins.parts ∙ append_assoc own begins.rest others in
+    ap (take 4) whole ∙ take_front 4 own (begins.rest ++ others) four
+
+same_number : IsOneNumber → (w : ℕ) (bytes : List ℕ) (m n : ℕ) → length bytes ≡ w → IsBytes bytes → m < 256 ^ w → n < 256 ^ w → le w m ≡ bytes → le w n ≡ bytes → m ≡ n
+same_number one w bytes m n len each fits fits' is is' = let k = one w bytes len each in k.3 m fits is ∙ sym (k.3 n fits' is')
+
 -- the number at the front of an answer is its length
 pub len_at_front : IsOneNumber → (sent rest answer others : List ℕ) (len : ℕ) → IsBytes (take 4 sent) → len < 256 ^ 4 → sent ≡ le 4 len ++ rest → length sent ≡ 4 + length rest
     → BeginsWithLen answer → sent ≡ answer ++ others → len ≡ length answer
 len_at_front one sent rest answer others len bytes small read size begins parts =
-    let front : length (le 4 len) ≡ 4 = omega (arith, ap (length {A = ℕ}) read, length-append (le 4 len) rest, size) in
-    let own : length (le 4 (length answer)) ≡ 4 = omega (arith, ap (length {A = ℕ}) begins.parts, length-append (le 4 (length answer)) begins.rest, begins.four) in
-    let here : take 4 sent ≡ le 4 len = ap (take 4) read ∙ take_front 4 (le 4 len) rest front in
-    let there : take 4 sent ≡ le 4 (length answer) =
-    ap (take 4) (parts ∙ ap (λ (x : List ℕ). x ++ others) begins.parts ∙ append_assoc (le 4 (length answer)) begins.rest others)
-    ∙ take_front 4 (le 4 (length answer)) (begins.rest ++ others) own in
-    let n = one 4 (take 4 sent) (ap (length {A = ℕ}) here ∙ front) bytes in
-    n.3 len small (sym here) ∙ sym (n.3 (length answer) (omega (arith, begins.fits)) (sym there))
+    let four : length (le 4 len) ≡ 4 = omega (arith, ap (length {A = ℕ}) read, length-append (le 4 len) rest, size) in
+    let here : take 4 sent ≡ le 4 len = ap (take 4) read ∙ take_front 4 (le 4 len) rest four in
+    same_number one 4 (take 4 sent) len (length answer) (ap (length {A = ℕ}) here ∙ four) bytes small (omega (arith, begins.fits)) (sym here) (sym (len_bytes sent answer others begins parts))
 
 pub bytes_take : (n : ℕ) (bytes : List ℕ) → IsBytes bytes → IsBytes (take n bytes)
 bytes_take n bytes each i =

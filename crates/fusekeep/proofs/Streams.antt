@@ -1,5 +1,5 @@
 -- What a session worked off of a stream.
-use Rattle.std.proofs.Common.{◌≡◌, ◌⊎◌, inl, inr, ◌≤◌, ◌<◌, ◌+◌, ◌&&◌, ◌||◌, nat_lt, nat_le, if◌then◌else◌, ℕ, Bool, true, false, List, [], ◌∷◌, ◌++◌, length, map, Option, Some, None, refl, sym, ap, subst, ◌∙◌, append_assoc, append-nil, arith, length-append}
+use Rattle.std.proofs.Common.{◌≡◌, ◌⊎◌, inl, inr, ◌≤◌, ◌<◌, ◌+◌, ◌&&◌, nat_lt, nat_le, if◌then◌else◌, ℕ, Bool, true, false, List, [], ◌∷◌, ◌++◌, length, Option, Some, None, refl, sym, ap, subst, ◌∙◌, append_assoc, append-nil, arith, length-append}
 use Rattle.std.specs.List.{AllByRecursion}
 use Rattle.std.specs.Option.{option_or}
 use Rattle.std.specs.Io.KnownBytes.{Appends, Consumes, IsAtEnd, append_known}
@@ -24,17 +24,17 @@ use Rattle.fuse_store.specs.Stands.{Records, StandsFor}
 use Rattle.fuse_session.specs.declared.counts.SessionCounts.{SessionCounts}
 use Rattle.fuse_session.specs.declared.ended.Ended.{Ended}
 use Rattle.fuse_session.specs.declared.ended.Ended.TheVariants as session
-use Rattle.fuse_session.specs.Port.{PortState, fresh, HasEnded}
-use Rattle.fuse_session.specs.Worked.{Timed, bytes_of, kept_in, answers, answer_by, unique_of, GoesOn, Works, EndsLast, StartsZero, Moments, message_id}
+use Rattle.fuse_session.specs.Port.{PortState, fresh}
+use Rattle.fuse_session.specs.Worked.{Timed, bytes_of, kept_in, answers, answer_by, unique_of, GoesOn, Works, EndsLast, StartsZero, message_id}
 use Rattle.fuse_session.specs.Settling.{Mark, replies, settles, settled_in, NoneComesAgain, MayCome, Places, PlaceFirst}
 use Rattle.fuse_session.specs.Counting.{counted}
 use Rattle.fuse_session.specs.Serving.{Turned, Whole, Life}
 use Rattle.fuse_session.specs.Ends.{EndsAs, ended_store}
 use Rattle.fusekeep.specs.declared.ending.Ending.{Ending}
-use Rattle.fusekeep.specs.declared.ending.Ending.TheVariants.{Done, Short, TooLong, Cut, ZeroUnique}
+use Rattle.fusekeep.specs.declared.ending.Ending.TheVariants.{Done, ZeroUnique}
 use Rattle.fusekeep.specs.Endings.{session_ending, stream_ending, store_ending, status_of, IsOfStream}
 use Rattle.fusekeep.specs.Printing.{IsAnswer}
-use Rattle.fusekeep.specs.Replaying.{EndsAt, EndsFaulty, Replay, Replayed, Faulted, Sends, Prints, PrintsAnswers}
+use Rattle.fusekeep.specs.Replaying.{EndsAt, EndsFaulty, Replayed, Faulted, Sends, Prints, PrintsAnswers}
 
 -- ---- no answer was told to be awaited by nobody
 
@@ -204,7 +204,7 @@ halted : CutJoins → (holds holds' : Rows → Records → Type 0) (honest' : Ty
     → Told p sent → Consumes (Some input) p.coming received → (cut received).0 ≡ front ++ others → place ≡ 0 + length (joined front)
     → Turned holds holds' honest' (λ t. t ≡ moment) (fresh (Some input) (Some []) false) p [] ids' front going counts
     → ((s : State) (h : History) (timed : List Timed) (more : List (List ℕ)) → (going ≡ true → GoesOn s h timed) → (going ≡ false → EndsLast s h timed) → place ≡ length (joined (bytes_of timed))
-        → EndsAt ending s h timed (others ++ more) (length (joined (bytes_of timed))) (cut input).1)
+    → EndsAt ending s h timed (others ++ more) (length (joined (bytes_of timed))) (cut input).1)
     → Replayed holds holds' honest' moment input ending (Sends sent counts)
 halted joins holds holds' honest' moment input sent p ids' received front others going place counts ending told came_from parts place_is turned ends =
     let c = came input p.coming received came_from in

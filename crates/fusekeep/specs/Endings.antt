@@ -1,5 +1,5 @@
 -- The table of endings: the exit status of each, and its line on standard error (own profile).
-use Rattle.std.specs.Prelude.{◌≤◌, List, ℕ, ◌++◌, codes, decimal, Option, Some, None}
+use Rattle.std.specs.Prelude.{◌≤◌, ◌<◌, List, ℕ, ◌++◌, codes, decimal, Option, Some, None}
 use Rattle.fuse_request.specs.declared.framer.FrameFault.{FrameFault}
 use Rattle.fuse_request.specs.declared.framer.FrameFault.TheVariants as frame
 use Rattle.fuse_store.specs.declared.fault.StoreFault.{StoreFault}
@@ -7,7 +7,7 @@ use Rattle.fuse_store.specs.declared.fault.StoreFault.TheVariants as store
 use Rattle.fuse_session.specs.declared.ended.Ended.{Ended}
 use Rattle.fuse_session.specs.declared.ended.Ended.TheVariants as session
 use Rattle.fusekeep.specs.declared.ending.Ending.{Ending}
-use Rattle.fusekeep.specs.declared.ending.Ending.TheVariants.{Done, Short, TooLong, Cut, ZeroUnique, Usage, Sql, NotAStore, Version, Damaged, PortFailed, PortTurns, Memory}
+use Rattle.fusekeep.specs.declared.ending.Ending.TheVariants.{Done, Short, TooLong, Cut, ZeroUnique, Malformed, Usage, Sql, NotAStore, Version, Damaged, PortFailed, PortTurns, Memory}
 
 abbrev pub status_of : Ending → ℕ
 status_of Done = 0
@@ -15,6 +15,7 @@ status_of (Short _ _) = 1
 status_of (TooLong _ _) = 1
 status_of (Cut _ _ _) = 1
 status_of (ZeroUnique _) = 1
+status_of Malformed = 1
 status_of Usage = 2
 status_of Sql = 3
 status_of NotAStore = 3
@@ -28,7 +29,11 @@ status_of Memory = 5
 abbrev pub IsOfStream : Ending → Type 0
 IsOfStream ending = status_of ending ≤ 1
 
--- the line, without its line feed; of words that are no command clap has said all
+-- and here it wasn't
+abbrev pub IsNotOfStream : Ending → Type 0
+IsNotOfStream ending = 1 < status_of ending
+
+-- the line, without its line feed; of words that are no command clap has said all, and of malformed messages the counts
 abbrev pub line_of : Ending → Option (List ℕ)
 line_of Done = None
 line_of (Short at len) = Some (codes "stream: Short at " ++ (decimal at ++ (codes ": len " ++ decimal len)))
@@ -36,6 +41,7 @@ line_of (TooLong at len) = Some (codes "stream: TooLong at " ++ (decimal at ++ (
 line_of (Cut at have need) =
     Some (codes "stream: Cut at " ++ (decimal at ++ (codes ": have " ++ (decimal have ++ (codes ", need " ++ decimal need)))))
 line_of (ZeroUnique at) = Some (codes "stream: ZeroUnique at " ++ decimal at)
+line_of Malformed = None
 line_of Usage = None
 line_of Sql = Some (codes "store: Sql")
 line_of NotAStore = Some (codes "store: NotAStore")

@@ -1,3 +1,6 @@
+pub mod Checking
+pub mod Dumping
+pub mod Messages
 pub mod Endings
 pub mod Printing
 pub mod Replaying

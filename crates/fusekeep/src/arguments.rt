@@ -6,17 +6,50 @@ use std::convert::AsStr;
 /// The file name that means standard input.
 pub const STANDARD_INPUT: &str = "-";
 
+const DUMP: &str = "dump";
+
+const CHECK: &str = "check";
+
 const REPLAY: &str = "replay";
 
 const AT: &str = "at";
+
+const FILE: &str = "file";
 
 const STREAM: &str = "stream";
 
 /// What the words of a command line ask for.
 #[derive(Clone, Copy, Debug, PartialEq, Eq)]
 pub enum Run<'a> {
+    /// To print a line for each message of a stream.
+    Dump { file: &'a str },
+    /// To count the messages of a stream.
+    Check { file: &'a str },
     /// To serve a recorded stream, each request at the same second.
     Replay { at: u64, stream: &'a str },
+}
+
+impl<'a> Run<'a> {
+    /// The file of the stream, or `STANDARD_INPUT`.
+    pub fn input(&self) -> &'a str {
+        match *self {
+            Run::Dump { file } | Run::Check { file } => file,
+            Run::Replay { stream, .. } => stream,
+        }
+    }
+}
+
+// A command that looks at the stream of one file.
+fn file_command<'a>(
+    alloc: Global,
+    name: &'static str,
+    about: &'static str,
+) -> Result<Command<'a>, AllocError> {
+    let file = Arg::new(alloc, FILE)
+        .value_name("FILE")
+        .required(true)
+        .help("The file of the stream, or - for standard input");
+    Command::new(alloc, name).about(about).arg(file)
 }
 
 fn at_argument<'a>(alloc: Global) -> Arg<'a> {
@@ -46,6 +79,8 @@ fn program_command<'a>(alloc: Global) -> Result<Command<'a>, AllocError> {
     Command::new(alloc, "fusekeep")
         .about("Serves FUSE requests, with recovery by resends")
         .subcommand_required(true)
+        .subcommand(file_command(alloc, DUMP, "Prints a line for each message of a stream")?)?
+        .subcommand(file_command(alloc, CHECK, "Counts the messages of a stream")?)?
         .subcommand(replay_command(alloc)?)
 }
 
@@ -57,6 +92,12 @@ fn replay_run<'a>(found: &ArgMatches<'a>) -> Option<Run<'a>> {
 
 fn run_of<'a>(matches: &ArgMatches<'a>) -> Option<Run<'a>> {
     match matches.subcommand()? {
+        (DUMP, found) => Some(Run::Dump {
+            file: found.get_str(FILE)?,
+        }),
+        (CHECK, found) => Some(Run::Check {
+            file: found.get_str(FILE)?,
+        }),
         (REPLAY, found) => replay_run(found),
         _ => None,
     }

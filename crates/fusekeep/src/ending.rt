@@ -19,6 +19,8 @@ pub enum Ending {
     Cut { at: u64, have: u64, need: u64 },
     /// A message has no id to be answered under.
     ZeroUnique { at: u64 },
+    /// Some messages of the stream spell no request.
+    Malformed,
     /// The words of the command line are no command, or ask for help.
     Usage,
     /// The database refused a statement.
@@ -94,7 +96,8 @@ impl Ending {
             Ending::Short { .. }
             | Ending::TooLong { .. }
             | Ending::Cut { .. }
-            | Ending::ZeroUnique { .. } => 1,
+            | Ending::ZeroUnique { .. }
+            | Ending::Malformed => 1,
             Ending::Usage => 2,
             Ending::Sql | Ending::NotAStore | Ending::Version(_) | Ending::Damaged => 3,
             Ending::PortFailed | Ending::PortTurns => 4,
@@ -102,12 +105,12 @@ impl Ending {
         }
     }
 
-    /// What standard error is told: nothing where all went well, and where clap has said it.
+    /// What standard error is told: nothing where all went well, where clap has said it, and where the counts say it.
     pub fn line(self) -> Option<FaultLine>
         ensures { result ≡ option_map (λ _. record { ending = self }) (line_of self) }
     {
         match self {
-            Ending::Done | Ending::Usage => None,
+            Ending::Done | Ending::Malformed | Ending::Usage => None,
             _ => Some(FaultLine { ending: self }),
         }
     }
@@ -126,7 +129,7 @@ impl fmt::Display for FaultLine {
 
     fn fmt<W: fmt::Write>(&self, f: &mut fmt::Formatter<W>) -> fmt::Result {
         match self.ending {
-            Ending::Done | Ending::Usage => Ok(()),
+            Ending::Done | Ending::Malformed | Ending::Usage => Ok(()),
             Ending::Short { at, len } => write!(f, "stream: Short at {at}: len {len}"),
             Ending::TooLong { at, len } => write!(f, "stream: TooLong at {at}: len {len}"),
             Ending::Cut { at, have, need } => {

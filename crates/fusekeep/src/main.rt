@@ -2,21 +2,27 @@
 #![tactic(auto)]
 
 mod arguments;
+mod check;
 mod count_line;
+mod dump;
 mod ending;
+mod messages;
 mod printing;
 mod replay;
 #[cfg(test)]
 mod tests;
 
 use arguments::{Run, STANDARD_INPUT, parse, unreadable};
+use check::run_check;
 use clap::Error;
 use clap::error::ErrorKind;
+use dump::run_dump;
 use ending::Ending;
 use fuse_store::PlainKeeper;
 use fuse_wire::Moment;
 use replay::run_replay;
-use std::io::{BufWriter, Read};
+use std::alloc::Global;
+use std::io::{BufWriter, Read, Write};
 use std::process::ExitCode;
 use std::rt::{Env, Files};
 use std::{env, fs, io};
@@ -50,31 +56,45 @@ fn run<R: Env + Files + Input + Print + Eprint + AllocGlobal>(rt: &R) -> Ending 
         return Ending::Memory;
     };
     match parse(rt.alloc(), words.as_slice()) {
-        Ok(Run::Replay { at, stream }) => replay_stream(rt, at, stream),
+        Ok(run) => run_on_input(rt, run),
         Err(error) => refuse(rt, error),
     }
 }
 
-// Opens the input, and replays it.
-fn replay_stream<R: Files + Input + Print + AllocGlobal>(rt: &R, at: u64, stream: &str) -> Ending {
-    let moment = Moment { secs: at, nanos: 0 };
-    if stream == STANDARD_INPUT {
-        return replay_from(rt, &mut rt.reader(), moment);
+// Opens the input, and runs on it.
+fn run_on_input<R: Files + Input + Print + AllocGlobal>(rt: &R, run: Run<'_>) -> Ending {
+    if run.input() == STANDARD_INPUT {
+        return run_on(rt, rt.reader(), run);
     }
-    match fs::open(rt, stream) {
-        Ok(mut file) => replay_from(rt, &mut file, moment),
+    match fs::open(rt, run.input()) {
+        Ok(file) => run_on(rt, file, run),
         Err(_) => Ending::PortFailed,
     }
 }
 
-// Makes the store, and replays over it.
-fn replay_from<R: Print + AllocGlobal, S: Read>(rt: &R, reader: &mut S, moment: Moment) -> Ending {
+// Runs on what a reader gives, and prints through a buffer.
+fn run_on<R: Print + AllocGlobal, S: Read + Drop>(rt: &R, mut reader: S, run: Run<'_>) -> Ending {
     let alloc = rt.alloc();
-    let Ok(mut keeper) = PlainKeeper::new(alloc, START) else {
-        return Ending::Memory;
-    };
     let Ok(mut writer) = BufWriter::new(alloc, io::writer(rt)) else {
         return Ending::Memory;
     };
-    run_replay(alloc, &mut keeper, reader, &mut writer, moment)
+    match run {
+        Run::Dump { .. } => run_dump(alloc, reader, &mut writer),
+        Run::Check { .. } => run_check(alloc, reader, &mut writer),
+        Run::Replay { at, .. } => replay_from(alloc, &mut reader, &mut writer, at),
+    }
+}
+
+// Makes the store, and replays over it.
+fn replay_from<S: Read, W: Write>(
+    alloc: Global,
+    reader: &mut S,
+    writer: &mut W,
+    at: u64,
+) -> Ending {
+    let Ok(mut keeper) = PlainKeeper::new(alloc, START) else {
+        return Ending::Memory;
+    };
+    let moment = Moment { secs: at, nanos: 0 };
+    run_replay(alloc, &mut keeper, reader, writer, moment)
 }

@@ -33,7 +33,7 @@ fn serve_stream<K: Keeper, R: Read>(
     reader: &mut R,
     moment: Moment,
 ) -> Session
-    requires { K.has_failed keeper.old ≡ false }
+    requires going { K.has_failed keeper.old ≡ false }
     ensures replayed { IsOfStream result.ending → (input : List ℕ) → R.remaining reader.old ≡ Some input
         → Replayed (K.holds keeper.old) (K.holds keeper.new) (K.is_honest keeper.new) moment input result.ending (Sends result.sent.items result.counts) }
     ensures faulted { status_of result.ending ≡ 3 → (input : List ℕ) → R.remaining reader.old ≡ Some input
@@ -53,11 +53,7 @@ fn serve_stream<K: Keeper, R: Read>(
 }
 
 // Prints the answers, and the counts where the stream was served as far as it goes.
-fn print_session<W: Write>(
-    alloc: Global,
-    writer: &mut W,
-    session: &Session,
-) -> Result<(), Ending>
+fn print_session<W: Write>(alloc: Global, writer: &mut W, session: &Session) -> Result<(), Ending>
     ensures fault { (IsOfStream session.now.ending → ⊥) → OnOk result ((answers : List (List ℕ)) → AllByRecursion IsAnswer answers → session.now.sent.items ≡ joined answers
         → PrintsAnswers (W.contents writer.old) (W.contents writer.new) answers) }
     ensures ok { IsOfStream session.now.ending → OnOk result ((answers : List (List ℕ)) → AllByRecursion IsAnswer answers → session.now.sent.items ≡ joined answers
@@ -83,7 +79,7 @@ pub fn run_replay<K: Keeper, R: Read, W: Write>(
     writer: &mut W,
     moment: Moment,
 ) -> Ending
-    requires { K.has_failed keeper.old ≡ false }
+    requires going { K.has_failed keeper.old ≡ false }
     // At status 0 or 1: what was worked off of the input, what is printed of it, and what the keeper then stands for.
     ensures replayed { IsOfStream result → (input : List ℕ) → R.remaining reader.old ≡ Some input
         → Replayed (K.holds keeper.old) (K.holds keeper.new) (K.is_honest keeper.new) moment input result (Prints (W.contents writer.old) (W.contents writer.new)) }

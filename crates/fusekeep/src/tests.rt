@@ -12,6 +12,7 @@ use std::process::Abort;
 use std::test::Fail;
 
 mod fakes;
+mod looks;
 mod rows;
 mod tables;
 

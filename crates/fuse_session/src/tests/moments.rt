@@ -1,6 +1,6 @@
 // How often the clock is asked.
 
-use super::put_mkdir;
+use super::messages::put_mkdir;
 use crate::{Clock, MemoryPort, serve};
 use fuse_store::{Keeper, PlainKeeper};
 use fuse_wire::Moment;

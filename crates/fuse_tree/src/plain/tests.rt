@@ -1,3 +1,6 @@
+ghost use Rattle.std.specs.Prelude.{◌≡◌, None, IfOk};
+ghost use Rattle.fuse_tree.specs.PlainRows.{fault_of};
+
 use super::*;
 use crate::limits::ROOT_ID;
 use crate::mode::S_IFREG;
@@ -86,14 +89,33 @@ fn some_rows(alloc: Global) -> Result<PlainRows, Fail> {
     Ok(rows)
 }
 
+// What a new store's looks tell.
+fn new_root(alloc: Global) -> Result<NodeRow, Fail> {
+    let mut rows = PlainRows::new(alloc, EARLY)?;
+    Ok(rows.node(ROOT_ID)?.ok_or("a root")?)
+}
+
+fn new_counters(alloc: Global) -> Result<Counters, Fail> {
+    let mut rows = PlainRows::new(alloc, EARLY)?;
+    Ok(rows.counters()?)
+}
+
+fn new_counted(alloc: Global) -> Result<Counters, Fail> {
+    let rows = PlainRows::new(alloc, EARLY)?;
+    Ok(rows.counted())
+}
+
+fn new_settings(alloc: Global) -> Result<Option<Settings>, Fail> {
+    let mut rows = PlainRows::new(alloc, EARLY)?;
+    Ok(rows.settings()?)
+}
+
 #[test]
 fn a_new_store_has_a_root(rt: HostRuntime) -> Result<(), Fail> {
-    let mut rows = PlainRows::new(rt.alloc(), EARLY)?;
-    let root = rows.node(ROOT_ID)?.ok_or("a root")?;
-    assert_eq!(rt; root.mode, 0o040755);
-    assert_eq!(rt; rows.counters()?.next_cookie, 3);
-    assert_eq!(rt; rows.counted().nodes, 1);
-    assert_eq!(rt; rows.settings()?, None);
+    assert_eq!(rt; new_root(rt.alloc())?.mode, 0o040755);
+    assert_eq!(rt; new_counters(rt.alloc())?.next_cookie, 3);
+    assert_eq!(rt; new_counted(rt.alloc())?.nodes, 1);
+    assert_eq!(rt; new_settings(rt.alloc())?, None);
     Ok(())
 }
 
@@ -152,23 +174,58 @@ fn keeps_counters_and_settings(rt: HostRuntime) -> Result<(), Fail> {
     Ok(())
 }
 
+// A copy of the rows.
+fn copied(alloc: Global) -> Result<PlainRows, Fail>
+    ensures { IfOk result (λ copy. fault_of copy ≡ None) }
+{
+    Ok(some_rows(alloc)?.to_copy()?)
+}
+
+fn node_in(alloc: Global, number: u64) -> Result<Option<NodeRow>, Fail> {
+    let mut copy = copied(alloc)?;
+    Ok(copy.node(number)?)
+}
+
+fn handle_in(alloc: Global, fh: u64) -> Result<Option<HandleRow>, Fail> {
+    let mut copy = copied(alloc)?;
+    Ok(copy.handle(fh)?)
+}
+
+// The bytes of node 2, and what has failed after that.
+fn bytes_in(alloc: Global, offset: u64, len: u32) -> Result<(ByteList, Option<LookFault>), Fail> {
+    let mut copy = copied(alloc)?;
+    let bytes = copy.bytes(2, offset, len)?;
+    Ok((bytes, copy.failed()))
+}
+
 #[test]
 fn looks_at_nodes_and_handles(rt: HostRuntime) -> Result<(), Fail> {
-    let mut copy = some_rows(rt.alloc())?.to_copy()?;
-    assert_eq!(rt; copy.node(2)?, Some(file(2, ROOT_ID)));
-    assert_eq!(rt; copy.node(9)?, None);
-    assert_eq!(rt; copy.handle(1)?, Some(HANDLE));
-    assert_eq!(rt; copy.bytes(2, 1, 9)?.as_slice(), b"ne".as_slice());
-    assert_eq!(rt; copy.failed(), None);
+    let alloc = rt.alloc();
+    assert_eq!(rt; node_in(alloc, 2)?, Some(file(2, ROOT_ID)));
+    assert_eq!(rt; node_in(alloc, 9)?, None);
+    assert_eq!(rt; handle_in(alloc, 1)?, Some(HANDLE));
+    let found = bytes_in(alloc, 1, 9)?;
+    assert_eq!(rt; found.0.as_slice(), b"ne".as_slice());
+    assert_eq!(rt; found.1, None);
     Ok(())
+}
+
+// The cookie of the root's entry of this name.
+fn cookie_of(alloc: Global, name: &[u8]) -> Result<u64, Fail> {
+    let mut copy = copied(alloc)?;
+    let found = copy.entry(ROOT_ID, name)?.ok_or("an entry")?;
+    Ok(found.cookie)
+}
+
+fn entries_in(alloc: Global, cookie: u64, limit: usize) -> Result<Vec<EntryRow>, Fail> {
+    let mut copy = copied(alloc)?;
+    Ok(copy.entries_after(ROOT_ID, cookie, limit)?)
 }
 
 #[test]
 fn looks_at_entries(rt: HostRuntime) -> Result<(), Fail> {
-    let mut copy = some_rows(rt.alloc())?.to_copy()?;
-    let found = copy.entry(ROOT_ID, b"b")?.ok_or("an entry")?;
-    assert_eq!(rt; found.cookie, 4);
-    let first = copy.entries_after(ROOT_ID, 2, 1)?;
+    assert_eq!(rt; cookie_of(rt.alloc(), b"b")?, 4);
+    let first = entries_in(rt.alloc(), 2, 1)?;
     assert_eq!(rt; first.len(), 1);
     assert_eq!(rt; first[0].cookie, 3);
     Ok(())

@@ -79,13 +79,7 @@ fn failing_reader(rt: HostRuntime) -> Result<(), Fail> {
 fn printed_to<W: Write>(alloc: Global, stream: &[u8], writer: &mut W) -> Result<Ending, Fail> {
     let mut keeper = PlainKeeper::new(alloc, START)?;
     let mut reader = stream;
-    Ok(run_replay(
-        alloc,
-        &mut keeper,
-        &mut reader,
-        writer,
-        AT_1000,
-    ))
+    Ok(run_replay(alloc, &mut keeper, &mut reader, writer, AT_1000))
 }
 
 #[test]

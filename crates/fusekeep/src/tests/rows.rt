@@ -305,6 +305,12 @@ fn mkdirs(alloc: Global, count: u8) -> Result<Vec<u8>, Fail> {
     Ok(stream)
 }
 
+// How the line begins that answers the MKDIR of this place.
+fn made_line(alloc: Global, place: u8) -> Result<String, Fail> {
+    let (unique, node) = (4 + 2 * u32::from(place), 2 + u32::from(place));
+    Ok(format!(in alloc; "9000000000000000{unique:02x}00000000000000{node:02x}00000000000000")?)
+}
+
 #[test]
 fn seventeen(rt: HostRuntime) -> Result<(), Fail> {
     let alloc = rt.alloc();
@@ -312,18 +318,15 @@ fn seventeen(rt: HostRuntime) -> Result<(), Fail> {
     let (ending, printed) = replayed(alloc, &mut stream.as_slice())?;
     assert_eq!(rt; ending, Ending::Done);
     let text = String::from_utf8(printed)?;
-    let mut lines = text.lines();
-    for i in 0..17 {
-        let line = lines.next().ok_or("a line for each answer")?;
-        let (unique, node) = (4 + 2 * i, 2 + i);
-        let head = format!(in alloc; "9000000000000000{unique:02x}00000000000000{node:02x}00000000000000")?;
+    for (place, line) in (0..17u8).zip(text.lines()) {
         assert_eq!(rt; line.len(), 288);
-        assert!(rt; line.starts_with(head.as_str()), "{i}");
+        assert!(rt;
+            line.starts_with(made_line(alloc, place)?.as_str()),
+            "{place}"
+        );
     }
-    assert_eq!(rt;
-        lines.next(),
-        Some("served messages=17 kept=17 repeated=0 bare=0 silent=0 interrupts=0")
-    );
-    assert_eq!(rt; lines.next(), None);
+    assert_eq!(rt; text.lines().count(), 18);
+    let counts = "\nserved messages=17 kept=17 repeated=0 bare=0 silent=0 interrupts=0\n";
+    assert!(rt; text.ends_with(counts));
     Ok(())
 }

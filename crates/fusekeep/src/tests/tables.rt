@@ -28,6 +28,7 @@ fn endings(rt: HostRuntime) -> Result<(), Fail> {
             "stream: Cut at 46: have 3, need 4",
         ),
         (Ending::ZeroUnique { at: 7 }, 1, "stream: ZeroUnique at 7"),
+        (Ending::Malformed, 1, ""),
         (Ending::Usage, 2, ""),
         (Ending::Sql, 3, "store: Sql"),
         (Ending::of(StoreFault::NotAStore), 3, "store: NotAStore"),
@@ -71,6 +72,24 @@ fn good_words(rt: HostRuntime) -> Result<(), Fail> {
     Ok(())
 }
 
+#[test]
+fn words_of_looks(rt: HostRuntime) -> Result<(), Fail> {
+    let words = ["fusekeep", "dump", "-"];
+    let run = parse(rt.alloc(), words.as_slice())?;
+    assert_eq!(rt; run, Run::Dump { file: "-" });
+    assert_eq!(rt; run.input(), "-");
+    let words = ["fusekeep", "check", "first.stream"];
+    let run = parse(rt.alloc(), words.as_slice())?;
+    assert_eq!(rt;
+        run,
+        Run::Check {
+            file: "first.stream"
+        }
+    );
+    assert_eq!(rt; run.input(), "first.stream");
+    Ok(())
+}
+
 fn kind_of(alloc: Global, words: &[&str]) -> Option<ErrorKind> {
     match parse(alloc, words) {
         Ok(_) => None,
@@ -83,17 +102,32 @@ fn wrong_words(rt: HostRuntime) {
     let alloc = rt.alloc();
     let missing = Some(ErrorKind::MissingRequiredArgument);
     assert_eq!(rt; kind_of(alloc, &["fusekeep", "replay", "-"]), missing);
-    assert_eq!(rt; kind_of(alloc, &["fusekeep", "replay", "--at", "1000"]), missing);
-    assert_eq!(rt; kind_of(alloc, &["fusekeep"]), Some(ErrorKind::MissingSubcommand));
+    assert_eq!(rt;
+        kind_of(alloc, &["fusekeep", "replay", "--at", "1000"]),
+        missing
+    );
+    assert_eq!(rt;
+        kind_of(alloc, &["fusekeep"]),
+        Some(ErrorKind::MissingSubcommand)
+    );
     assert_eq!(rt;
         kind_of(alloc, &["fusekeep", "reply"]),
         Some(ErrorKind::InvalidSubcommand)
     );
-    assert_eq!(rt; kind_of(alloc, &["fusekeep", "--help"]), Some(ErrorKind::DisplayHelp));
-    let invalid = Some(ErrorKind::ValueValidation);
-    assert_eq!(rt; kind_of(alloc, &["fusekeep", "replay", "--at", "soon", "-"]), invalid);
     assert_eq!(rt;
-        kind_of(alloc, &["fusekeep", "replay", "--at", "18446744073709551616", "-"]),
+        kind_of(alloc, &["fusekeep", "--help"]),
+        Some(ErrorKind::DisplayHelp)
+    );
+    let invalid = Some(ErrorKind::ValueValidation);
+    assert_eq!(rt;
+        kind_of(alloc, &["fusekeep", "replay", "--at", "soon", "-"]),
+        invalid
+    );
+    assert_eq!(rt;
+        kind_of(
+            alloc,
+            &["fusekeep", "replay", "--at", "18446744073709551616", "-"]
+        ),
         invalid
     );
     assert_eq!(rt;

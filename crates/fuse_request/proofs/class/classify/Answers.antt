@@ -1,6 +1,7 @@
 use Rattle.std.proofs.Common.{sym, ap, ◌∙◌}
 use Rattle.fuse_request.specs.Act.{asked}
-use Rattle.fuse_request.specs.Opcodes.{silent, is_built}
+use Rattle.fuse_wire.specs.Opcodes.{silent}
+use Rattle.fuse_request.specs.Opcodes.{is_built}
 use Rattle.fuse_request.proofs.Classes.{classed_silent, classed_fault, classed_unsupported, classed_kept}
 use Rattle.fuse_request.proofs.class.classify.Goals as goal
 
@@ -11,7 +12,7 @@ returns-then-is_silent c =
 
 pub returns-in_default : goal.returns-in_default
 returns-in_default c =
-    let h = classed_fault c.args.message.now c.in_default.field-0 (sym (c.is_silent.ensures ∙ ap silent c.u32_at-opcode.ensures) ∙ c.if-is_silent.false) c.in_default.ensures.fault in
+    let h = classed_fault c.args.message.now c.in_default.field-0 (sym (c.is_silent.ensures ∙ ap silent c.u32_at-opcode.ensures) ∙ c.if-is_silent.false) (sym c.in_default.ensures.fault) in
     record { class = h.0; spells = h.1 }
 
 pub returns-then-not-is_built : goal.returns-then-not-is_built

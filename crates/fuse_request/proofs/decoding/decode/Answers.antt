@@ -1,4 +1,4 @@
-use Rattle.fuse_request.proofs.Heads.{only_one, read_at}
+use Rattle.fuse_request.proofs.Heads.{fault_read, only_one, read_at}
 use Rattle.fuse_request.proofs.Classes.{kept_read}
 use Rattle.fuse_request.proofs.decoding.decode.Goals as goal
 
@@ -10,3 +10,6 @@ returns-clause-placed c = read_at c.args.message.now c.read.result c.read.ensure
 
 pub returns-clause-kept : goal.returns-clause-kept
 returns-clause-kept c = kept_read c.args.message.now c.read.result c.read.ensures.found c.read.ensures.fault
+
+pub returns-clause-fault : goal.returns-clause-fault
+returns-clause-fault c = fault_read c.args.message.now c.read.result c.read.ensures.found c.read.ensures.fault

@@ -1,7 +1,6 @@
-use Rattle.std.proofs.Common.{sym, ap}
+use Rattle.std.proofs.Common.{ap}
 use Rattle.std.specs.Prelude.{is_none}
-use Rattle.fuse_request.proofs.Heads.{no_fault}
 use Rattle.fuse_session.proofs.counts.is_well_formed.Goals as goal
 
 pub returns-in-Ok : goal.returns-in-Ok
-returns-in-Ok c = sym (ap is_none (no_fault _ _ c.in-Ok.ensures.found))
+returns-in-Ok c = ap is_none c.in-Ok.ensures.fault

@@ -56,7 +56,7 @@ pub returns-in-Err-work_off-clause-life : goal.returns-in-Err-work_off-clause-li
 returns-in-Err-work_off-clause-life g c =
     let k = c.args.keeper.now in
     let k' = c.work_off.new.keeper in
-    life_heard (g.K.Keeper.holds k) (g.K.Keeper.holds k') _ _ (g.K.Keeper.leaves_whole k) (g.K.Keeper.leaves_whole k') (g.K.Keeper.may_leave k) (g.K.Keeper.may_leave k') (g.C.Clock.may_answer c.args.clock.now) _ _ _ (ids_of c.args.pending.now.items)
+    life_heard c.histories_grow.ensures (g.K.Keeper.holds k) (g.K.Keeper.holds k') _ _ (g.K.Keeper.leaves_whole k) (g.K.Keeper.leaves_whole k') (g.K.Keeper.may_leave k) (g.K.Keeper.may_leave k') (g.C.Clock.may_answer c.args.clock.now) _ _ _ (ids_of c.args.pending.now.items)
     c.args.framer.now c.hear.new.framer c.in-Ok.waiting.messages.items c.as_slice-slice.result.now c.in-Ok.waiting.fault _ _ _ _ _ _
     c.in-Ok.ensures.ok c.in-Ok.ensures.hearing c.as_slice-slice.ensures.value c.ended_of.ensures.store c.ended_of.ensures.memory c.in-Err-work_off.ensures.err (stop_may_end (g.K.Keeper.may_answer k) c.in-Err-work_off.stop c.ended_of.result c.ended_of.ensures.is) c.in-Err-work_off.ensures.quiet (g.met.K.Keeper.clean_is_honest k')
 
@@ -85,7 +85,7 @@ returns-in-Ok-finish-clause-ok g c =
     let fin = c.in-Ok-finish.ensures.ok in
     subst (λ x. Whole (g.K.Keeper.holds k) (g.K.Keeper.holds k') (g.K.Keeper.is_honest k') (g.C.Clock.may_answer c.args.clock.now) (g.P.Port.told c.args.port.now) (g.P.Port.told c.work_off.new.port)
     (ids_of c.args.pending.now.items) (ids_of c.work_off.new.pending.items) c.args.framer.now.bytes c.hear.new.framer.bytes c.args.framer.now.at c.hear.new.framer.at x) (sym fin.0)
-    (whole_heard (g.K.Keeper.holds k) (g.K.Keeper.holds k') _ _ _ _ _ (ids_of c.args.pending.now.items) (ids_of c.work_off.new.pending.items) c.args.framer.now c.hear.new.framer c.in-Ok.waiting.messages.items c.as_slice-slice.result.now c.in-Ok.waiting.fault _ _
+    (whole_heard c.histories_grow.ensures (g.K.Keeper.holds k) (g.K.Keeper.holds k') _ _ _ _ _ (ids_of c.args.pending.now.items) (ids_of c.work_off.new.pending.items) c.args.framer.now c.hear.new.framer c.in-Ok.waiting.messages.items c.as_slice-slice.result.now c.in-Ok.waiting.fault _ _
     c.in-Ok-work_off.work.rest c.in-Ok-work_off.work.counts c.in-Ok.ensures.ok c.in-Ok.ensures.hearing c.as_slice-slice.ensures.value fin.1 c.in-Ok-work_off.ensures.ok c.in-Ok-work_off.ensures.quiet)
 
 pub returns-in-Ok-finish-clause-opened : goal.returns-in-Ok-finish-clause-opened
@@ -114,7 +114,7 @@ pub returns-clause-life : goal.returns-clause-life
 returns-clause-life g c =
     let k = c.args.keeper.now in
     let k' = c.work_off.new.keeper in
-    life_worked (g.K.Keeper.holds k) (g.K.Keeper.holds k') _ _ (g.K.Keeper.leaves_whole k) (g.K.Keeper.leaves_whole k') (g.K.Keeper.may_leave k) (g.K.Keeper.may_leave k') _ _ _ _ (ids_of c.args.pending.now.items) (ids_of c.work_off.new.pending.items)
+    life_worked c.histories_grow.ensures (g.K.Keeper.holds k) (g.K.Keeper.holds k') _ _ (g.K.Keeper.leaves_whole k) (g.K.Keeper.leaves_whole k') (g.K.Keeper.may_leave k) (g.K.Keeper.may_leave k') _ _ _ _ (ids_of c.args.pending.now.items) (ids_of c.work_off.new.pending.items)
     c.args.framer.now c.hear.new.framer c.in-Ok.waiting.messages.items c.as_slice-slice.result.now c.in-Ok.waiting.fault _ _ c.in-Ok-work_off.work.rest c.in-Ok-work_off.work.counts _ _ _ (finished_store c.in-Err-finish.served.ended _ _ _ c.in-Err-finish.ensures.err.1).0
     c.in-Ok.ensures.ok c.in-Ok.ensures.hearing c.as_slice-slice.ensures.value c.in-Ok-work_off.ensures.ok c.in-Ok-work_off.ensures.quiet (g.met.K.Keeper.clean_is_honest k') c.in-Ok-work_off.ensures.firm
 
@@ -123,7 +123,7 @@ returns-clause-ends g c =
     let k = c.args.keeper.now in
     let k' = c.work_off.new.keeper in
     let fin = c.in-Err-finish.ensures.err in
-    ends_finished (g.K.Keeper.holds k) (g.K.Keeper.holds k') _ _ _ _ _ (ids_of c.args.pending.now.items) (ids_of c.work_off.new.pending.items)
+    ends_finished c.histories_grow.ensures (g.K.Keeper.holds k) (g.K.Keeper.holds k') _ _ _ _ _ (ids_of c.args.pending.now.items) (ids_of c.work_off.new.pending.items)
     c.args.framer.now c.hear.new.framer c.in-Ok.waiting.messages.items c.as_slice-slice.result.now c.in-Ok.waiting.fault _ c.in-Ok-work_off.work.place c.in-Ok-work_off.work.rest c.in-Ok-work_off.work.counts c.in-Err-finish.served.counts 0 c.in-Err-finish.served.ended
     fin.1 fin.0 c.in-Ok.ensures.ok c.in-Ok.ensures.hearing c.as_slice-slice.ensures.value (omega (arith, c.fed.ensures, c.held.ensures)) c.in-Ok-work_off.ensures.ok c.in-Ok-work_off.ensures.quiet
 

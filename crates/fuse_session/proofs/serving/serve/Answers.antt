@@ -51,7 +51,7 @@ loop-turn-preserved g c =
     let e = c.in-Ok-one_turn.ensures in
     let k' = c.one_turn.new.keeper in
     record {
-      whole = whole_step c.cut_joins.ensures (g.K.Keeper.holds c.args.keeper.now) (g.K.Keeper.holds c.loop-turn.keeper) (g.K.Keeper.holds k') _ _ _ _ _ _ _ [] (ids_of c.loop-turn.pending.items) (ids_of c.one_turn.new.pending.items) [] _ _ 0 _ _ c.loop-turn.counts c.in-Ok-one_turn.more c.sum_of-counts.result
+      whole = whole_step c.histories_grow.ensures c.cut_joins.ensures (g.K.Keeper.holds c.args.keeper.now) (g.K.Keeper.holds c.loop-turn.keeper) (g.K.Keeper.holds k') _ _ _ _ _ _ _ [] (ids_of c.loop-turn.pending.items) (ids_of c.one_turn.new.pending.items) [] _ _ 0 _ _ c.loop-turn.counts c.in-Ok-one_turn.more c.sum_of-counts.result
           c.sum_of-counts.ensures inv.whole e.ok e.honest inv.same;
       ready = e.opened;
       below = subst (λ x. IsBelow x ((c.loop-turn.turn + 1) * 2 ^ 20)) (sym c.sum_of-counts.ensures) (below_more _ (c.loop-turn.turn * 2 ^ 20 + 2 ^ 20) _ (omega arith) (plus_below c.loop-turn.counts c.in-Ok-one_turn.more (c.loop-turn.turn * 2 ^ 20) (2 ^ 20) inv.below e.below));
@@ -75,7 +75,7 @@ pub returns-in-Err-clause-ends : goal.returns-in-Err-clause-ends
 returns-in-Err-clause-ends g c =
     let inv = c.loop-turn.invariant in
     let e = c.in-Err.ensures in
-    ends_step c.cut_joins.ensures (g.K.Keeper.holds c.args.keeper.now) (g.K.Keeper.holds c.loop-turn.keeper) (g.K.Keeper.holds c.one_turn.new.keeper) _ _ _ _ _ _ _ [] (ids_of c.loop-turn.pending.items) [] _ 0 _ 0 c.args.turns c.in-Err.served.ended c.loop-turn.counts c.in-Err.served.counts c.sum_of-sum.result
+    ends_step c.histories_grow.ensures c.cut_joins.ensures (g.K.Keeper.holds c.args.keeper.now) (g.K.Keeper.holds c.loop-turn.keeper) (g.K.Keeper.holds c.one_turn.new.keeper) _ _ _ _ _ _ _ [] (ids_of c.loop-turn.pending.items) [] _ 0 _ 0 c.args.turns c.in-Err.served.ended c.loop-turn.counts c.in-Err.served.counts c.sum_of-sum.result
     c.sum_of-sum.ensures inv.whole e.ends e.not_turns inv.receive_failures e.honest inv.same
 
 pub returns-in-Err-clause-life : goal.returns-in-Err-clause-life
@@ -85,7 +85,7 @@ returns-in-Err-clause-life g c =
     let k = c.args.keeper.now in
     let m = c.loop-turn.keeper in
     let k' = c.one_turn.new.keeper in
-    life_more c.cut_joins.ensures (g.K.Keeper.holds k) (g.K.Keeper.holds m) (g.K.Keeper.holds k') _ _ _ (g.K.Keeper.leaves_whole k) (g.K.Keeper.leaves_whole m) (g.K.Keeper.leaves_whole k') (g.K.Keeper.may_leave k) (g.K.Keeper.may_leave m) (g.K.Keeper.may_leave k') _ _ _ _ _ []
+    life_more c.histories_grow.ensures c.cut_joins.ensures (g.K.Keeper.holds k) (g.K.Keeper.holds m) (g.K.Keeper.holds k') _ _ _ (g.K.Keeper.leaves_whole k) (g.K.Keeper.leaves_whole m) (g.K.Keeper.leaves_whole k') (g.K.Keeper.may_leave k) (g.K.Keeper.may_leave m) (g.K.Keeper.may_leave k') _ _ _ _ _ []
     (ids_of c.loop-turn.pending.items) [] _ 0 _ c.loop-turn.counts _ _ _ _ inv.whole e.life (may_end (g.K.Keeper.may_answer k) (g.K.Keeper.may_answer m) c.in-Err.served.ended inv.may) (g.met.K.Keeper.clean_is_honest k') e.honest inv.firm inv.same
 
 pub returns-in-Err-clause-exactly : goal.returns-in-Err-clause-exactly

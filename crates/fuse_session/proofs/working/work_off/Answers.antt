@@ -29,7 +29,7 @@ loop-at-init g c = record {
 pub returns-in-Err-clause-err : goal.returns-in-Err-clause-err
 returns-in-Err-clause-err g c =
     let inv = c.loop-at.invariant in
-    group_broken (g.K.Keeper.holds c.args.keeper.now) (g.K.Keeper.holds c.loop-at.keeper) (g.K.Keeper.holds c.work_group.new.keeper) _ _ _ _ _ _ _ _ _ _ _ _ _ _ _ _ c.args.messages.now _ c.loop-at.at _ _ _ _ _
+    group_broken c.histories_grow.ensures (g.K.Keeper.holds c.args.keeper.now) (g.K.Keeper.holds c.loop-at.keeper) (g.K.Keeper.holds c.work_group.new.keeper) _ _ _ _ _ _ _ _ _ _ _ _ _ _ _ _ c.args.messages.now _ c.loop-at.at _ _ _ _ _
     refl inv.turned c.in-Err.ensures.err (may_stop (g.K.Keeper.may_answer c.args.keeper.now) (g.K.Keeper.may_answer c.loop-at.keeper) c.in-Err.stop inv.may) (g.met.K.Keeper.clean_is_honest c.work_group.new.keeper) c.in-Err.ensures.honest inv.firm inv.same
 
 pub length_of-size-requires : goal.length_of-size-requires
@@ -62,7 +62,7 @@ returns-then-over-clause-ok g c =
     worked_off (g.K.Keeper.holds c.args.keeper.now) (g.K.Keeper.holds c.work_group.new.keeper) _ _ _ _ (ids_of c.args.pending.now.items) (ids_of c.work_group.new.pending.items) ms (take (length ms - i) (drop i ms)) i n c.in-Ok.turn.rest c.args.begin _ c.sum_of-sum.result
     refl (is_over (goes_on c.in-Ok.turn.rest) (sym c.is_over-over.ensures ∙ c.if-over.true)) c.in-Ok.ensures.zero
     (omega (arith, inv.placed, c.length_of-size.ensures, joined_more ms (take (i + n - i) (drop i ms)) i n (worked_slice ms i n)))
-    (group_more (g.K.Keeper.holds c.args.keeper.now) (g.K.Keeper.holds c.loop-at.keeper) (g.K.Keeper.holds c.work_group.new.keeper) _ _ _ _ _ _ _ _ _ _ ms (take (length ms - i) (drop i ms)) i n (lasts c.in-Ok.turn.rest) c.loop-at.counts c.in-Ok.turn.counts c.sum_of-sum.result
+    (group_more c.histories_grow.ensures (g.K.Keeper.holds c.args.keeper.now) (g.K.Keeper.holds c.loop-at.keeper) (g.K.Keeper.holds c.work_group.new.keeper) _ _ _ _ _ _ _ _ _ _ ms (take (length ms - i) (drop i ms)) i n (lasts c.in-Ok.turn.rest) c.loop-at.counts c.in-Ok.turn.counts c.sum_of-sum.result
     refl c.sum_of-sum.ensures inv.turned c.in-Ok.ensures.ok c.in-Ok.ensures.honest inv.same)
 
 pub loop-at-preserved : goal.loop-at-preserved
@@ -77,7 +77,7 @@ loop-at-preserved g c =
       within = within_parts ms i n inv.within c.in-Ok.ensures.within;
       turned = subst (λ b. Turned (g.K.Keeper.holds c.args.keeper.now) (g.K.Keeper.holds k') (g.K.Keeper.is_honest k') (g.C.Clock.may_answer c.args.clock.now) (g.P.Port.told c.args.port.now) (g.P.Port.told c.work_group.new.port)
           (ids_of c.args.pending.now.items) (ids_of c.work_group.new.pending.items) (take (i + n) ms) b c.sum_of-sum.result) (lasts_on c.in-Ok.turn.rest on)
-          (group_more (g.K.Keeper.holds c.args.keeper.now) (g.K.Keeper.holds c.loop-at.keeper) (g.K.Keeper.holds k') _ _ _ _ _ _ _ _ _ _ ms (take (length ms - i) (drop i ms)) i n (lasts c.in-Ok.turn.rest) c.loop-at.counts c.in-Ok.turn.counts c.sum_of-sum.result
+          (group_more c.histories_grow.ensures (g.K.Keeper.holds c.args.keeper.now) (g.K.Keeper.holds c.loop-at.keeper) (g.K.Keeper.holds k') _ _ _ _ _ _ _ _ _ _ ms (take (length ms - i) (drop i ms)) i n (lasts c.in-Ok.turn.rest) c.loop-at.counts c.in-Ok.turn.counts c.sum_of-sum.result
           refl c.sum_of-sum.ensures inv.turned c.in-Ok.ensures.ok c.in-Ok.ensures.honest inv.same);
       placed = omega (arith, inv.placed, c.length_of-size.ensures, joined_more ms (take (i + n - i) (drop i ms)) i n (worked_slice ms i n));
       below = subst (λ x. IsBelow x (i + n)) (sym c.sum_of-sum.ensures) (plus_below c.loop-at.counts c.in-Ok.turn.counts i n inv.below c.in-Ok.ensures.below);

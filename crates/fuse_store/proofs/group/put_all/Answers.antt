@@ -1,4 +1,4 @@
-use Rattle.std.proofs.Common.{◌≡◌, ℕ, ◌+◌, ◌≤◌, ◌∙◌, sym, ap, arith, Some, vec_len}
+use Rattle.std.proofs.Common.{◌≡◌, ◌+◌, ◌∙◌, sym, ap, arith, Some, vec_len}
 use Rattle.fuse_store.specs.Plain.{mapped, over}
 use Rattle.fuse_store.proofs.Overlays.{put_step, value_by}
 use Rattle.fuse_store.proofs.group.put_all.Goals as goal

@@ -1,4 +1,4 @@
-use Rattle.std.proofs.Common.{◌≡◌, sym, ap, length, ◌∙◌, arith, length-append}
+use Rattle.std.proofs.Common.{sym, ap, length, ◌∙◌, arith, length-append}
 use Rattle.fusekeep.proofs.Lines.{len_at_front, bytes_take}
 use Rattle.fusekeep.proofs.printing.front_len.Goals as goal
 

@@ -1,4 +1,4 @@
-use Rattle.std.proofs.Common.{◌≡◌, sym, ◌∙◌}
+use Rattle.std.proofs.Common.{sym, ◌∙◌}
 use Rattle.fusekeep.proofs.Lines.{written_none, written_more, written_all, is_none, isnt_none}
 use Rattle.fusekeep.proofs.printing.write_answers.Goals as goal
 

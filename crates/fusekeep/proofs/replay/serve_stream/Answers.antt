@@ -1,4 +1,4 @@
-use Rattle.std.proofs.Common.{◌≡◌, [], ℕ, List, Some, false, refl, ap, ◌∙◌}
+use Rattle.std.proofs.Common.{ℕ, List, Some, false, refl, ap, ◌∙◌}
 use Rattle.fuse_session.specs.Port.{fresh}
 use Rattle.fuse_session.specs.Stream.{stream_told}
 use Rattle.fusekeep.proofs.Streams.{session_replayed, session_faulted}

@@ -1,0 +1,19 @@
+use Rattle.std.proofs.Common.{refl, arith}
+use Rattle.fuse_request.specs.Act.{asked}
+use Rattle.fuse_request.specs.Encoding.{HasNumbers}
+use Rattle.fuse_request.proofs.Canons.{spelled_again, well}
+use Rattle.fuse_request.proofs.encoding.encode.Goals as goal
+
+pub returns-then-len-clause-too_long : goal.returns-then-len-clause-too_long
+returns-then-len-clause-too_long c = (λ _. omega (arith, c.message_len-len.ensures.len, c.if-len.true), λ _. refl)
+
+pub returns-then-is_err-clause-too_long : goal.returns-then-is_err-clause-too_long
+returns-then-is_err-clause-too_long c = (λ is. absurd cc, λ long. absurd (omega (arith, long, c.message_len-len.ensures.len, c.if-len.false)))
+
+pub returns-clause-too_long : goal.returns-clause-too_long
+returns-clause-too_long c = (λ is. absurd cc, λ long. absurd (omega (arith, long, c.message_len-len.ensures.len, c.if-len.false)))
+
+pub returns-clause-spelled : goal.returns-clause-spelled
+returns-clause-spelled c =
+    let v = asked c.args.request.now in
+    spelled_again v c.requires (well c.put_message.result (HasNumbers v) c.is_err.result c.put_message.ensures.fits c.is_err.ensures.value c.if-is_err.false)

@@ -1,0 +1,11 @@
+use Rattle.std.specs.Prelude.{◌≡◌, ◌++◌, ℕ, List, drop}
+use Rattle.fuse_wire.specs.Layout.{form}
+use Rattle.fuse_request.specs.Encoding.{AllFit, laid}
+use Rattle.fuse_request.proofs.encoding.put_fields.Given as goal
+
+abbrev pub invariant-loop-field : goal.invariant-loop-field
+invariant-loop-field l = record {
+  rest : l.out.items ++ form (laid (drop l.field-index l.fields)) ≡ l.initial.out.items ++ form (laid l.fields);
+  fits : AllFit (laid (drop l.field-index l.fields)) → AllFit (laid l.fields);
+  more : (more : List ℕ) × (l.out.items ≡ l.initial.out.items ++ more);
+}

@@ -1,0 +1,40 @@
+-- What stands stays standing, and how histories grow.
+use Rattle.std.proofs.Common.{◌≡◌, ◌⊎◌, inl, inr, ℕ, Bool, true, false, List, [], ◌∷◌, ◌++◌, refl, sym, ◌∙◌}
+use Rattle.fuse_tree.specs.State.{State}
+use Rattle.fuse_tree.specs.Rows.{Rows}
+use Rattle.fuse_store.specs.History.{Entry, History, add, grown, is_in, Includes}
+use Rattle.fuse_store.specs.Stands.{Records, Stands, AreThese}
+
+pub grown-append : (h : History) (xs ys : List Entry) → grown h (xs ++ ys) ≡ grown (grown h xs) ys
+grown-append h [] ys = refl
+grown-append h (x ∷ xs) ys = grown-append (add h x) xs ys
+
+tested : (b : Bool) → (b ≡ true) ⊎ (b ≡ false)
+tested true = inl refl
+tested false = inr refl
+
+pub unsettled_too : (all some : List ℕ) (i : ℕ) → Includes all some → is_in all i ≡ false → is_in some i ≡ false
+unsettled_too all some i within isnt = elim (tested (is_in some i)) [
+  | inl there ↦ absurd (let e = within i there in cc)
+  | inr absent ↦ absent
+]
+
+-- the rows and records once more
+pub Stands-same : (rows : Rows) (records : Records) (x : Rows) (r : Records) (s : State) (h : History) (t : List ℕ) → AreThese rows records x r → Stands rows records s h t → Stands x r s h t
+Stands-same rows records x r s h t same so = record {
+  tree = so.tree;
+  distinct = so.distinct;
+  rows_are = same.0 ∙ so.rows_are;
+  right = λ i a is. so.right i a (sym (same.1 i) ∙ is);
+  kept = λ i fresh. same.1 i ∙ so.kept i fresh;
+}
+
+-- more may be settled
+pub Stands-settled : (rows : Rows) (records : Records) (s : State) (h : History) (t more : List ℕ) → Includes more t → Stands rows records s h t → Stands rows records s h more
+Stands-settled rows records s h t more within so = record {
+  tree = so.tree;
+  distinct = so.distinct;
+  rows_are = so.rows_are;
+  right = so.right;
+  kept = λ i fresh. so.kept i (unsettled_too more t i within fresh);
+}

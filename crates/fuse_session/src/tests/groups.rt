@@ -1,0 +1,125 @@
+//! Which messages are answered, and in which groups.
+use super::*;
+
+#[test]
+fn seventeen(rt: HostRuntime) -> Result<(), Fail> {
+    let alloc = rt.alloc();
+    let mut keeper = PlainKeeper::new(alloc, START)?;
+    let input = mkdirs(alloc, 0, 17, 0)?;
+    let run = serve_once(alloc, &mut keeper, input, plain_peer(alloc))?;
+    assert!(rt; run.ended_well());
+    assert_eq!(rt; run.sent(), entries(alloc, 0, 17, 0)?.as_slice());
+    assert_eq!(rt; run.counts.kept, 17);
+    assert_eq!(rt; held(&mut keeper)?, (18, 17));
+    Ok(())
+}
+
+#[test]
+fn repeat_in_group(rt: HostRuntime) -> Result<(), Fail> {
+    let alloc = rt.alloc();
+    let mut keeper = PlainKeeper::new(alloc, START)?;
+    let mut input = Vec::new(alloc);
+    put_mkdir(&mut input, 4, b'a')?;
+    put_mkdir(&mut input, RESENT | 4, b'a')?;
+    let run = serve_once(alloc, &mut keeper, input, plain_peer(alloc))?;
+    let mut wanted = Vec::new(alloc);
+    put_entry(&mut wanted, 4, 2)?;
+    put_entry(&mut wanted, RESENT | 4, 2)?;
+    assert!(rt; run.ended_well());
+    assert_eq!(rt; run.sent(), wanted.as_slice());
+    assert_eq!(rt; run.counts.kept, 2);
+    assert_eq!(rt; run.counts.repeated, 1);
+    assert_eq!(rt; held(&mut keeper)?, (2, 1));
+    Ok(())
+}
+
+// Row zero-unique.
+#[test]
+fn zero_unique(rt: HostRuntime) -> Result<(), Fail> {
+    let alloc = rt.alloc();
+    for unique in [0, RESENT] {
+        let mut keeper = PlainKeeper::new(alloc, START)?;
+        let mut input = Vec::new(alloc);
+        put_getattr(&mut input, unique, 1)?;
+        let first = serve_once(alloc, &mut keeper, input, plain_peer(alloc))?;
+        assert!(rt; matches!(first.ended, Ended::ZeroUnique { at: 0 }));
+        assert_eq!(rt; first.sent().len(), 0);
+        let mut input = Vec::new(alloc);
+        put_mkdir(&mut input, 4, b'a')?;
+        put_getattr(&mut input, unique, 1)?;
+        put_mkdir(&mut input, 6, b'b')?;
+        let second = serve_once(alloc, &mut keeper, input, plain_peer(alloc))?;
+        assert!(rt; matches!(second.ended, Ended::ZeroUnique { at: 50 }));
+        assert_eq!(rt; second.sent(), entries(alloc, 0, 1, 0)?.as_slice());
+        assert_eq!(rt;
+            held(&mut keeper)?,
+            (2, 1),
+            "nothing after it is worked off"
+        );
+    }
+    Ok(())
+}
+
+#[test]
+fn silent_and_unsupported(rt: HostRuntime) -> Result<(), Fail> {
+    let alloc = rt.alloc();
+    let mut keeper = PlainKeeper::new(alloc, START)?;
+    let mut input = Vec::new(alloc);
+    put_forget(&mut input, 0)?;
+    put_create(&mut input, 4)?;
+    let run = serve_once(alloc, &mut keeper, input, plain_peer(alloc))?;
+    assert!(rt; run.ended_well());
+    assert_eq!(rt;
+        run.sent(),
+        hex(alloc, "10000000 daffffff 0400000000000000")?.as_slice()
+    );
+    let wanted = SessionCounts {
+        messages: 2,
+        bare: 1,
+        silent: 1,
+        ..SessionCounts::NONE
+    };
+    assert_eq!(rt; run.counts, wanted);
+    assert_eq!(rt; held(&mut keeper)?, (1, 0));
+    Ok(())
+}
+
+#[test]
+fn destroy_first(rt: HostRuntime) -> Result<(), Fail> {
+    let alloc = rt.alloc();
+    let mut keeper = PlainKeeper::new(alloc, START)?;
+    let mut input = Vec::new(alloc);
+    put_destroy(&mut input, 4)?;
+    put_mkdir(&mut input, 6, b'a')?;
+    let run = serve_once(alloc, &mut keeper, input, plain_peer(alloc))?;
+    assert!(rt; matches!(run.ended, Ended::Destroyed));
+    assert_eq!(rt;
+        run.sent(),
+        hex(alloc, "10000000 00000000 0400000000000000")?.as_slice()
+    );
+    assert_eq!(rt; held(&mut keeper)?, (1, 1), "the directory isn't there");
+    Ok(())
+}
+
+// What another request recorded under the id of a DESTROY decides whether the session ends.
+#[test]
+fn destroy_under_a_recorded_id(rt: HostRuntime) -> Result<(), Fail> {
+    let alloc = rt.alloc();
+    let mut keeper = PlainKeeper::new(alloc, START)?;
+    let mut input = Vec::new(alloc);
+    put_lookup(&mut input, 8)?;
+    put_destroy(&mut input, 8)?;
+    put_mkdir(&mut input, 4, b'a')?;
+    put_destroy(&mut input, RESENT | 4)?;
+    put_mkdir(&mut input, 6, b'b')?;
+    let run = serve_once(alloc, &mut keeper, input, plain_peer(alloc))?;
+    let mut wanted = Vec::new(alloc);
+    put_error(&mut wanted, 8, ENOENT)?;
+    put_error(&mut wanted, 8, ENOENT)?;
+    put_entry(&mut wanted, 4, 2)?;
+    put_entry(&mut wanted, RESENT | 4, 2)?;
+    assert!(rt; matches!(run.ended, Ended::Destroyed));
+    assert_eq!(rt; run.sent(), wanted.as_slice());
+    assert_eq!(rt; held(&mut keeper)?, (2, 2));
+    Ok(())
+}

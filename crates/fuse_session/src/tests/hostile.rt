@@ -1,0 +1,297 @@
+//! A stream that is cut anywhere, or of which a byte of a header is another.
+use super::*;
+
+// MKDIR, LOOKUP, GETATTR of the new directory, FORGET, and the MKDIR resent: where each begins, and its length.
+const PLACES: [(usize, u32); 5] = [(0, 50), (50, 46), (96, 56), (152, 48), (200, 50)];
+
+const WHOLE: usize = 250;
+
+const HEADER: usize = 40;
+
+fn five_messages(alloc: Global) -> Result<Vec<u8>, AllocError> {
+    let mut out = Vec::new(alloc);
+    put_mkdir(&mut out, 4, b'a')?;
+    put_lookup(&mut out, 6)?;
+    put_getattr(&mut out, 8, 2)?;
+    put_forget(&mut out, 10)?;
+    put_mkdir(&mut out, RESENT | 4, b'a')?;
+    Ok(out)
+}
+
+// What one message is answered.
+#[derive(Clone, Copy, Debug, PartialEq, Eq)]
+enum Said {
+    // The entry of node 2.
+    Entry,
+    // The attributes of node 2.
+    Attr,
+    Error(u32),
+    Nothing,
+}
+
+const PLAIN: [Said; 5] = [
+    Said::Entry,
+    Said::Error(ENOENT),
+    Said::Attr,
+    Said::Nothing,
+    Said::Entry,
+];
+
+// The fields of the header behind `len`.
+#[derive(Clone, Copy, Debug, PartialEq, Eq)]
+enum Field {
+    Opcode,
+    Unique,
+    Node,
+    Owner,
+    Process,
+    Extensions,
+    Padding,
+}
+
+fn field_at(byte: usize) -> Field {
+    match byte {
+        0..8 => Field::Opcode,
+        8..16 => Field::Unique,
+        16..24 => Field::Node,
+        24..32 => Field::Owner,
+        32..36 => Field::Process,
+        36..38 => Field::Extensions,
+        _ => Field::Padding,
+    }
+}
+
+// What the five are answered where a field of one of them is another. An unknown opcode is unsupported, also in place
+// of FORGET's; no node has the number; the extensions are longer than the message. Where the first MKDIR is refused
+// without a record, the resent one makes the directory; where the resent one has another id, it finds it there.
+fn said_with(message: usize, field: Field) -> [Said; 5] {
+    let [mkdir, lookup, getattr, forget, again] = PLAIN;
+    match (message, field) {
+        (0, Field::Opcode) => [
+            Said::Error(ENOSYS),
+            lookup,
+            Said::Error(ESTALE),
+            forget,
+            again,
+        ],
+        (0, Field::Extensions) => [
+            Said::Error(EINVAL),
+            lookup,
+            Said::Error(ESTALE),
+            forget,
+            again,
+        ],
+        (0, Field::Node) => {
+            let stale = Said::Error(ESTALE);
+            [stale, lookup, stale, forget, stale]
+        }
+        (0 | 4, Field::Unique) => [mkdir, lookup, getattr, forget, Said::Error(EEXIST)],
+        (1, Field::Opcode) => [mkdir, Said::Error(ENOSYS), getattr, forget, again],
+        (1, Field::Extensions) => [mkdir, Said::Error(EINVAL), getattr, forget, again],
+        (1, Field::Node) => [mkdir, Said::Error(ESTALE), getattr, forget, again],
+        (2, Field::Opcode) => [mkdir, lookup, Said::Error(ENOSYS), forget, again],
+        (2, Field::Extensions) => [mkdir, lookup, Said::Error(EINVAL), forget, again],
+        (2, Field::Node) => [mkdir, lookup, Said::Error(ESTALE), forget, again],
+        (3, Field::Opcode) => [mkdir, lookup, getattr, Said::Error(ENOSYS), again],
+        (4, Field::Opcode) => [mkdir, lookup, getattr, forget, Said::Error(ENOSYS)],
+        (4, Field::Extensions) => [mkdir, lookup, getattr, forget, Said::Error(EINVAL)],
+        _ => PLAIN,
+    }
+}
+
+// The unique of the message that begins here.
+fn unique_at(stream: &[u8], place: usize) -> u64 {
+    let mut unique = [0; 8];
+    let from = place.saturating_add(8);
+    if let Some(bytes) = stream.get(from..from.saturating_add(8)) {
+        for (to, byte) in unique.iter_mut().zip(bytes) {
+            *to = *byte;
+        }
+    }
+    u64::from_le_bytes(unique)
+}
+
+// The answers to the first messages of a stream.
+fn answers(
+    alloc: Global,
+    stream: &[u8],
+    said: &[Said; 5],
+    count: usize,
+) -> Result<Vec<u8>, AllocError> {
+    let mut out = Vec::new(alloc);
+    for ((place, _), one) in PLACES.iter().zip(said).take(count) {
+        let unique = unique_at(stream, *place);
+        match one {
+            Said::Entry => put_entry(&mut out, unique, 2)?,
+            Said::Attr => put_attr(&mut out, unique, 2)?,
+            Said::Error(errno) => put_error(&mut out, unique, *errno)?,
+            Said::Nothing => {}
+        }
+    }
+    Ok(out)
+}
+
+// How a session ends, by numbers alone.
+#[derive(Clone, Copy, Debug, PartialEq, Eq)]
+enum Told {
+    End,
+    TooLong { at: u64, len: u32 },
+    Cut { at: u64, have: u64, need: u64 },
+    Other,
+}
+
+fn told_of(ended: &Ended) -> Told {
+    match ended {
+        Ended::End => Told::End,
+        Ended::Frame(FrameFault::TooLong { at, len }) => Told::TooLong { at: *at, len: *len },
+        Ended::Frame(FrameFault::Cut { at, have, need }) => Told::Cut {
+            at: *at,
+            have: u64::from(*have),
+            need: u64::from(*need),
+        },
+        _ => Told::Other,
+    }
+}
+
+// The end on a rest of a message that begins here and has this length.
+fn cut_at(at: usize, have: usize, len: u32) -> Told {
+    Told::Cut {
+        at: at as u64,
+        have: have as u64,
+        need: if have < 4 { 4 } else { u64::from(len) },
+    }
+}
+
+// How many messages are whole in this many bytes, and how serving them ends.
+fn end_of(size: usize) -> (usize, Told) {
+    let mut whole: usize = 0;
+    for (at, len) in PLACES {
+        if size <= at {
+            return (whole, Told::End);
+        }
+        let have = size.saturating_sub(at);
+        if have < len as usize {
+            return (whole, cut_at(at, have, len));
+        }
+        whole = whole.saturating_add(1);
+    }
+    (whole, Told::End)
+}
+
+// The same where this byte of a message's `len` is ff: above 255 it is longer than what is there, and above 65,535 too
+// long.
+fn end_with_length(size: usize, message: usize, byte: usize) -> (usize, Told) {
+    let (at, len) = PLACES.get(message).copied().unwrap_or((0, 0));
+    if size <= at.saturating_add(byte) {
+        return end_of(size);
+    }
+    let have = size.saturating_sub(at);
+    let told = match byte {
+        0 => cut_at(at, have, 0xff),
+        1 => cut_at(at, have, len | 0xff00),
+        _ if have < 4 => cut_at(at, have, 0),
+        2 => Told::TooLong {
+            at: at as u64,
+            len: 0xff_0000 | len,
+        },
+        _ => Told::TooLong {
+            at: at as u64,
+            len: 0xff00_0000 | len,
+        },
+    };
+    (message, told)
+}
+
+// Serves a stream from a new store: how it ends, and what was sent.
+fn serve_new(alloc: Global, stream: &[u8]) -> Result<Run, Fail> {
+    let mut keeper = PlainKeeper::new(alloc, START)?;
+    let input = stream.to_vec(alloc)?;
+    Ok(serve_once(alloc, &mut keeper, input, plain_peer(alloc))?)
+}
+
+// A stream of which this byte of the message that begins here is another.
+fn with_ff(alloc: Global, stream: &[u8], at: usize, byte: usize) -> Result<Vec<u8>, AllocError> {
+    let mut changed = stream.to_vec(alloc)?;
+    if let Some(byte) = changed.as_mut_slice().get_mut(at.saturating_add(byte)) {
+        *byte = 0xff;
+    }
+    Ok(changed)
+}
+
+// Whether a stream ends so, with the answers to its first messages sent.
+fn ends_so(
+    alloc: Global,
+    stream: &[u8],
+    said: &[Said; 5],
+    end: (usize, Told),
+) -> Result<bool, Fail> {
+    let (count, told) = end;
+    let wanted = answers(alloc, stream, said, count)?;
+    let run = serve_new(alloc, stream)?;
+    Ok(told_of(&run.ended) == told && run.sent() == wanted.as_slice())
+}
+
+#[test]
+fn each_prefix(rt: HostRuntime) -> Result<(), Fail> {
+    let alloc = rt.alloc();
+    let stream = five_messages(alloc)?;
+    assert_eq!(rt; stream.len(), WHOLE);
+    for size in 0..WHOLE + 1 {
+        let prefix = front(stream.as_slice(), size);
+        assert!(rt;
+            ends_so(alloc, prefix, &PLAIN, end_of(size))?,
+            "{size} bytes"
+        );
+    }
+    Ok(())
+}
+
+// The whole stream, and what ends within the first bytes of the message.
+#[test]
+fn each_other_length(rt: HostRuntime) -> Result<(), Fail> {
+    let alloc = rt.alloc();
+    let stream = five_messages(alloc)?;
+    for (message, (at, _)) in PLACES.iter().enumerate() {
+        for byte in 0..4 {
+            let changed = with_ff(alloc, stream.as_slice(), *at, byte)?;
+            for have in 0..6 {
+                let size = if have == 0 {
+                    WHOLE
+                } else {
+                    at.saturating_add(have)
+                };
+                let end = end_with_length(size, message, byte);
+                let prefix = front(changed.as_slice(), size);
+                assert!(rt;
+                    ends_so(alloc, prefix, &PLAIN, end)?,
+                    "{size} bytes, {byte} of {message}"
+                );
+            }
+        }
+    }
+    Ok(())
+}
+
+// The owner of the new directory is the one that the first header names: of that, the end alone is told.
+#[test]
+fn each_other_byte_of_a_header(rt: HostRuntime) -> Result<(), Fail> {
+    let alloc = rt.alloc();
+    let stream = five_messages(alloc)?;
+    for (message, (at, _)) in PLACES.iter().enumerate() {
+        for byte in 4..HEADER {
+            let field = field_at(byte);
+            let changed = with_ff(alloc, stream.as_slice(), *at, byte)?;
+            if (message, field) == (0, Field::Owner) {
+                let run = serve_new(alloc, changed.as_slice())?;
+                assert!(rt; run.ended_well(), "{byte} of {message}");
+            } else {
+                let said = said_with(message, field);
+                assert!(rt;
+                    ends_so(alloc, changed.as_slice(), &said, (5, Told::End))?,
+                    "{byte} of {message}"
+                );
+            }
+        }
+    }
+    Ok(())
+}

@@ -1,0 +1,223 @@
+//! Requests and answers as the rows have them.
+use super::*;
+
+/// The bit of `unique` that marks a resend.
+pub const RESENT: u64 = 0x8000_0000_0000_0000;
+
+pub const ENOENT: u32 = 2;
+
+pub const EEXIST: u32 = 17;
+
+pub const EINVAL: u32 = 22;
+
+pub const ENOSYS: u32 = 38;
+
+pub const ESTALE: u32 = 116;
+
+/// Row missing-lookup: LOOKUP `hello`, unique 4, and its answer.
+pub const LOOKUP_HELLO: &str =
+    "2e000000 01000000 0400000000000000 0100000000000000 e8030000 e8030000 4d000000 00000000 68656c6c6f00";
+
+pub const NOT_THERE: &str = "10000000 feffffff 0400000000000000";
+
+/// Row first-run: MKDIR `a` with unique 6, the same resent, and GETATTR of node 2 with unique 8.
+pub const FIRST_RUN: &str =
+    "32000000 09000000 0600000000000000 0100000000000000 e8030000 e8030000 4d000000 00000000 ed010000 12000000 6100
+    32000000 09000000 0600000000000080 0100000000000000 e8030000 e8030000 4d000000 00000000 ed010000 12000000 6100
+    38000000 03000000 0800000000000000 0200000000000000 e8030000 e8030000 4d000000 00000000 00000000000000000000000000000000";
+
+pub const FIRST_ANSWERS: &str = "90000000 00000000 0600000000000000
+    0200000000000000 0000000000000000 0100000000000000 0100000000000000 0000000000000000
+    0200000000000000 0000000000000000 0000000000000000 e803000000000000 e803000000000000 e803000000000000
+    000000000000000000000000 ed410000 02000000 e8030000 e8030000 00000000 00100000 00000000
+    90000000 00000000 0600000000000080
+    0200000000000000 0000000000000000 0100000000000000 0100000000000000 0000000000000000
+    0200000000000000 0000000000000000 0000000000000000 e803000000000000 e803000000000000 e803000000000000
+    000000000000000000000000 ed410000 02000000 e8030000 e8030000 00000000 00100000 00000000
+    78000000 00000000 0800000000000000 0100000000000000 0000000000000000
+    0200000000000000 0000000000000000 0000000000000000 e803000000000000 e803000000000000 e803000000000000
+    000000000000000000000000 ed410000 02000000 e8030000 e8030000 00000000 00100000 00000000";
+
+/// The end of each header: uid and gid 1000, pid 77, no extensions.
+const TAIL: &str = "e8030000 e8030000 4d000000 00000000";
+
+fn digit(c: u8) -> Option<u8> {
+    match c {
+        b'0'..=b'9' => Some(c - b'0'),
+        b'a'..=b'f' => Some(c - b'a' + 10),
+        _ => None,
+    }
+}
+
+/// Appends hexadecimal as the rows have it, with spaces.
+pub fn put_hex(out: &mut Vec<u8>, text: &str) -> Result<(), AllocError> {
+    let mut first: Option<u8> = None;
+    for c in text.as_bytes() {
+        if let Some(low) = digit(*c) {
+            match first {
+                Some(high) => {
+                    out.push((high << 4) | low)?;
+                    first = None;
+                }
+                None => first = Some(low),
+            }
+        }
+    }
+    Ok(())
+}
+
+pub fn hex(alloc: Global, text: &str) -> Result<Vec<u8>, AllocError> {
+    let mut out = Vec::new(alloc);
+    put_hex(&mut out, text)?;
+    Ok(out)
+}
+
+fn put_header(
+    out: &mut Vec<u8>,
+    len: u32,
+    opcode: u32,
+    unique: u64,
+    node: u64,
+) -> Result<(), AllocError> {
+    out.extend_from_slice(&len.to_le_bytes())?;
+    out.extend_from_slice(&opcode.to_le_bytes())?;
+    out.extend_from_slice(&unique.to_le_bytes())?;
+    out.extend_from_slice(&node.to_le_bytes())?;
+    put_hex(out, TAIL)
+}
+
+/// MKDIR of a name of one letter in the root: 50 bytes.
+pub fn put_mkdir(out: &mut Vec<u8>, unique: u64, name: u8) -> Result<(), AllocError> {
+    put_header(out, 50, 9, unique, 1)?;
+    put_hex(out, "ed010000 12000000")?;
+    out.extend_from_slice(&[name, 0])
+}
+
+/// LOOKUP of `hello` in the root: 46 bytes.
+pub fn put_lookup(out: &mut Vec<u8>, unique: u64) -> Result<(), AllocError> {
+    put_header(out, 46, 1, unique, 1)?;
+    put_hex(out, "68656c6c6f00")
+}
+
+/// GETATTR: 56 bytes.
+pub fn put_getattr(out: &mut Vec<u8>, unique: u64, node: u64) -> Result<(), AllocError> {
+    put_header(out, 56, 3, unique, node)?;
+    out.extend_from_slice(&[0; 16])
+}
+
+/// FORGET of one lookup of the root: 48 bytes.
+pub fn put_forget(out: &mut Vec<u8>, unique: u64) -> Result<(), AllocError> {
+    put_header(out, 48, 2, unique, 1)?;
+    put_hex(out, "0100000000000000")
+}
+
+/// CREATE, of which the server knows nothing: 40 bytes.
+pub fn put_create(out: &mut Vec<u8>, unique: u64) -> Result<(), AllocError> {
+    put_header(out, 40, 35, unique, 1)
+}
+
+/// DESTROY: 40 bytes.
+pub fn put_destroy(out: &mut Vec<u8>, unique: u64) -> Result<(), AllocError> {
+    put_header(out, 40, 38, unique, 0)
+}
+
+/// MKDIRs of distinct names, the first `from` of them left out, under the uniques 4, 6 and so on with this bit.
+pub fn mkdirs(alloc: Global, from: u8, to: u8, bit: u64) -> Result<Vec<u8>, AllocError> {
+    let mut out = Vec::new(alloc);
+    for i in from..to {
+        put_mkdir(&mut out, bit | (4 + 2 * u64::from(i)), 48 + i % 128)?;
+    }
+    Ok(out)
+}
+
+// The attributes of a directory without children that was made at 1,000 s.
+fn put_attributes(out: &mut Vec<u8>, node: u64) -> Result<(), AllocError> {
+    out.extend_from_slice(&node.to_le_bytes())?;
+    put_hex(
+        out,
+        "0000000000000000 0000000000000000 e803000000000000 e803000000000000 e803000000000000
+        000000000000000000000000 ed410000 02000000 e8030000 e8030000 00000000 00100000 00000000",
+    )
+}
+
+/// The answer to a MKDIR that made this node: 144 bytes.
+pub fn put_entry(out: &mut Vec<u8>, unique: u64, node: u64) -> Result<(), AllocError> {
+    put_hex(out, "90000000 00000000")?;
+    out.extend_from_slice(&unique.to_le_bytes())?;
+    out.extend_from_slice(&node.to_le_bytes())?;
+    put_hex(
+        out,
+        "0000000000000000 0100000000000000 0100000000000000 0000000000000000",
+    )?;
+    put_attributes(out, node)
+}
+
+/// The answer to a GETATTR of such a node: 120 bytes.
+pub fn put_attr(out: &mut Vec<u8>, unique: u64, node: u64) -> Result<(), AllocError> {
+    put_hex(out, "78000000 00000000")?;
+    out.extend_from_slice(&unique.to_le_bytes())?;
+    put_hex(out, "0100000000000000 0000000000000000")?;
+    put_attributes(out, node)
+}
+
+/// A refusal: 16 bytes.
+pub fn put_error(out: &mut Vec<u8>, unique: u64, errno: u32) -> Result<(), AllocError> {
+    put_hex(out, "10000000")?;
+    out.extend_from_slice(&errno.wrapping_neg().to_le_bytes())?;
+    out.extend_from_slice(&unique.to_le_bytes())
+}
+
+/// The answers to MKDIRs of distinct names that make the nodes from 2 on, the first `from` of them left out.
+pub fn entries(alloc: Global, from: u8, to: u8, bit: u64) -> Result<Vec<u8>, AllocError> {
+    let mut out = Vec::new(alloc);
+    for i in from..to {
+        let number = u64::from(i);
+        put_entry(&mut out, bit | (4 + 2 * number), 2 + number)?;
+    }
+    Ok(out)
+}
+
+/// Row first-run: the lengths of its messages and of their answers.
+pub const ASKED: [usize; 3] = [50, 50, 56];
+
+pub const ANSWERED: [usize; 3] = [144, 144, 120];
+
+/// A message in each piece, or all in one.
+pub fn put_pieces(arrivals: &mut Vec<Arrival>, each: bool, count: usize) -> Result<(), AllocError> {
+    if each {
+        for len in ASKED.iter().take(count) {
+            arrivals.push(Arrival::Piece(*len))?;
+        }
+    }
+    Ok(())
+}
+
+/// Sets the bit that marks a resend in each message of row first-run or in each of its answers.
+pub fn mark_resent(bytes: &mut Vec<u8>, lengths: &[usize]) {
+    let mut at: usize = 0;
+    for len in lengths {
+        if let Some(place) = bytes.as_mut_slice().get_mut(at.saturating_add(15)) {
+            *place |= 0x80;
+        }
+        at = at.saturating_add(*len);
+    }
+}
+
+/// How long the first of these are together.
+pub fn size_of_first(lengths: &[usize], count: usize) -> usize {
+    let mut size: usize = 0;
+    for len in lengths.iter().take(count) {
+        size = size.saturating_add(*len);
+    }
+    size
+}
+
+/// The first bytes, so many of them as there are.
+pub fn front(bytes: &[u8], size: usize) -> &[u8] {
+    bytes.get(..size).unwrap_or(bytes)
+}
+
+/// What follows the first bytes.
+pub fn behind(bytes: &[u8], size: usize) -> &[u8] {
+    bytes.get(size..).unwrap_or(&[])
+}

@@ -1,0 +1,97 @@
+//! Want of memory, where the test is run with each allocation refused in turn.
+use super::*;
+
+// Row first-run, the same resent, and what is to be sent for both.
+#[derive(Drop)]
+struct Rows {
+    asked: Vec<u8>,
+    resent: Vec<u8>,
+    answers: Vec<u8>,
+    resent_answers: Vec<u8>,
+}
+
+fn make_rows(alloc: Global) -> Result<Rows, AllocError> {
+    let asked = hex(alloc, FIRST_RUN)?;
+    let answers = hex(alloc, FIRST_ANSWERS)?;
+    let mut resent = asked.clone()?;
+    let mut resent_answers = answers.clone()?;
+    mark_resent(&mut resent, &ASKED);
+    mark_resent(&mut resent_answers, &ANSWERED);
+    Ok(Rows {
+        asked,
+        resent,
+        answers,
+        resent_answers,
+    })
+}
+
+// How many answers were sent, each of them whole.
+fn answers_sent(sent: &[u8], answers: &[u8]) -> Option<usize> {
+    for count in 0..4 {
+        let size = size_of_first(&ANSWERED, count);
+        if sent.len() == size && sent == front(answers, size) {
+            return Some(count);
+        }
+    }
+    None
+}
+
+// The messages that have no answer are resent: the answers are those of the row, and so is the tree.
+fn passes_again(
+    alloc: Global,
+    keeper: &mut PlainKeeper,
+    rows: &Rows,
+    first: usize,
+) -> Result<bool, AllocError> {
+    let begin = size_of_first(&ASKED, first);
+    let answered = size_of_first(&ANSWERED, first);
+    let rest = behind(rows.resent.as_slice(), begin).to_vec(alloc)?;
+    let Ok(run) = serve_once(alloc, keeper, rest, plain_peer(alloc)) else {
+        return Ok(false);
+    };
+    Ok(
+        run.ended_well()
+            && run.sent() == behind(rows.resent_answers.as_slice(), answered)
+            && matches!(held(keeper), Ok((2, 2))),
+    )
+}
+
+// Serves row first-run, in three groups or in one. A fault is the named want of memory, or the port's. It leaves whole
+// answers sent, and in the keeper what they tell, or where the keeper failed what the groups before did.
+fn is_right(alloc: Global, each: bool) -> Result<bool, AllocError> {
+    let rows = make_rows(alloc)?;
+    let Ok(mut keeper) = PlainKeeper::new(alloc, START) else {
+        return Err(AllocError);
+    };
+    let mut peer = plain_peer(alloc);
+    put_pieces(&mut peer.arrivals, each, 3)?;
+    let Ok(run) = serve_once(alloc, &mut keeper, rows.asked.clone()?, peer) else {
+        return Ok(false);
+    };
+    let Some(count) = answers_sent(run.sent(), rows.answers.as_slice()) else {
+        return Ok(false);
+    };
+    match run.ended {
+        Ended::End => Ok(count == 3 && matches!(held(&mut keeper), Ok((2, 2)))),
+        Ended::Memory | Ended::PortFailed => passes_again(alloc, &mut keeper, &rows, count),
+        Ended::Store(StoreFault::Memory) => {
+            let left = match (each, count) {
+                (_, 0) => (1, 0),
+                (true, 1 | 2) => (2, 1),
+                _ => (0, 0),
+            };
+            Ok(keeper.failed() && matches!(held(&mut keeper), Ok(found) if found == left))
+        }
+        _ => Ok(false),
+    }
+}
+
+#[test]
+fn refused_memory(rt: HostRuntime) {
+    let alloc = rt.alloc();
+    for each in [false, true] {
+        // Where the test's own memory is refused, it says nothing.
+        let right = is_right(alloc, each).unwrap_or(true);
+        assert!(rt; right, "in a group of its own: {each}");
+    }
+}

@@ -1,0 +1,12 @@
+use Rattle.std.proofs.Common.{◌≡◌, ◌++◌, ℕ, List, [], Option, Some, None, refl, sym, ap, ◌∙◌}
+use Rattle.std.specs.Io.KnownBytes.{prepend_known}
+use Rattle.fuse_request.specs.Framing.{Held}
+use Rattle.fusekeep.proofs.messages.Messages.new.Goals as goal
+
+none_held : (rest : Option (List ℕ)) → prepend_known [] rest ≡ rest
+none_held None = refl
+none_held (Some r) = refl
+
+pub returns-clause-ok : goal.returns-clause-ok
+returns-clause-ok g c =
+    (ap (λ (h : Held). prepend_known h.bytes (g.R.Read.remaining c.args.reader)) c.new.ensures ∙ none_held (g.R.Read.remaining c.args.reader), ap (λ (h : Held). h.at) c.new.ensures)
