@@ -1,11 +1,12 @@
 -- Parts that stand one after the other, and how many bytes they take.
-use Rattle.std.proofs.Common.{◌≡◌, ℕ, List, [], ◌∷◌, ◌++◌, ◌+◌, ◌≤◌, length, Result, Ok, Err, refl, sym, ap, ◌∙◌, append_assoc, arith}
+use Rattle.std.proofs.Common.{◌≡◌, ℕ, suc, get_or, List, [], ◌∷◌, ◌++◌, ◌+◌, ◌<◌, ◌≤◌, ◌^◌, length, Result, Ok, Err, refl, sym, ap, subst, ◌∙◌, append_assoc, arith}
 use Rattle.std.specs.Prelude.{OnOk, replicate}
 use Rattle.std.proofs.lemmas.List.{append-nil, length-append, length-replicate}
 use Rattle.fuse_wire.specs.Bytes.{le}
-use Rattle.fuse_wire.specs.Layout.{Part, number, unused, text, bytes, widths, form}
+use Rattle.fuse_wire.specs.Layout.{Part, number, unused, text, bytes, Lays, HasForm, widths, form}
 use Rattle.fuse_wire.proofs.Numbers.{length-le}
-use Rattle.fuse_answer.specs.Bodies.{attr_parts, entry_parts, attr_out_parts, open_parts, write_parts, init_parts, attr_bytes, entry_bytes, attr_out_bytes, open_bytes, write_bytes, init_bytes}
+use Rattle.fuse_wire.proofs.Layouts.{Lays-form}
+use Rattle.fuse_answer.specs.Bodies.{numbers, attr_parts, entry_parts, attr_out_parts, open_parts, write_parts, init_parts, attr_bytes, entry_bytes, attr_out_bytes, open_bytes, write_bytes, init_bytes}
 use Rattle.fuse_answer.specs.Laws.{BeginsWithLen}
 use Rattle.fuse_answer.specs.Wire.{negated, wire, wire_head}
 use Rattle.fuse_answer.specs.declared.records.Attr.{Attr}
@@ -81,6 +82,44 @@ length_write w = length-form (write_parts w)
 pub length_init : (i : InitOut) → length (init_bytes i) ≡ 64
 unfolding init_bytes
 length_init i = length-form (init_parts i)
+
+-- the bytes of a record are laid out as it is
+pub laid_attr : (a : Attr) (body : List ℕ) → body ≡ attr_bytes a → HasForm (attr_parts a) → Lays (attr_parts a) body
+unfolding attr_bytes
+laid_attr a body e h = subst (Lays (attr_parts a)) (sym e) (Lays-form (attr_parts a) h)
+
+pub laid_entry : (x : EntryOut) (body : List ℕ) → body ≡ entry_bytes x → HasForm (entry_parts x) → Lays (entry_parts x) body
+unfolding entry_bytes
+laid_entry x body e h = subst (Lays (entry_parts x)) (sym e) (Lays-form (entry_parts x) h)
+
+pub laid_attr_out : (a : AttrOut) (body : List ℕ) → body ≡ attr_out_bytes a → HasForm (attr_out_parts a) → Lays (attr_out_parts a) body
+unfolding attr_out_bytes
+laid_attr_out a body e h = subst (Lays (attr_out_parts a)) (sym e) (Lays-form (attr_out_parts a) h)
+
+pub laid_open : (o : OpenOut) (body : List ℕ) → body ≡ open_bytes o → HasForm (open_parts o) → Lays (open_parts o) body
+unfolding open_bytes
+laid_open o body e h = subst (Lays (open_parts o)) (sym e) (Lays-form (open_parts o) h)
+
+pub laid_write : (w : WriteOut) (body : List ℕ) → body ≡ write_bytes w → HasForm (write_parts w) → Lays (write_parts w) body
+unfolding write_bytes
+laid_write w body e h = subst (Lays (write_parts w)) (sym e) (Lays-form (write_parts w) h)
+
+pub laid_init : (i : InitOut) (body : List ℕ) → body ≡ init_bytes i → HasForm (init_parts i) → Lays (init_parts i) body
+unfolding init_bytes
+laid_init i body e h = subst (Lays (init_parts i)) (sym e) (Lays-form (init_parts i) h)
+
+-- parts that have a form, one after the other
+pub has-append : (ps qs : List Part) → HasForm ps → HasForm qs → HasForm (ps ++ qs)
+has-append [] qs h g = g
+has-append (number w n ∷ ps) qs h g = (h.0, has-append ps qs h.1 g)
+has-append (unused w ∷ ps) qs h g = has-append ps qs h g
+has-append (text t ∷ ps) qs h g = (h.0, has-append ps qs h.1 g)
+has-append (bytes xs ∷ ps) qs h g = has-append ps qs h g
+
+-- numbers that fit their width
+pub has-numbers : (w : ℕ) (ns : List ℕ) → ((i : ℕ) → get_or ns i 0 < 256 ^ w) → HasForm (numbers w ns)
+has-numbers w [] h = tt
+has-numbers w (n ∷ ns) h = (h 0, has-numbers w ns (λ i. h (suc i)))
 
 -- headers of the same numbers are the same
 pub same-head : (body body' : List ℕ) (e e' u : ℕ) → body ≡ body' → e ≡ e'

@@ -1,5 +1,6 @@
 ghost use Rattle.std.specs.Prelude.{◌≡◌, ◌++◌, length, OnOk, IfOk};
-ghost use Rattle.fuse_answer.specs.Bodies.{init_bytes};
+ghost use Rattle.fuse_wire.specs.Layout.{HasForm, Lays};
+ghost use Rattle.fuse_answer.specs.Bodies.{init_parts, init_bytes};
 ghost use Rattle.fuse_answer.specs.declared.init_out.TheConstants.InitOut.{SIZE as INIT_SIZE};
 
 use crate::numbers::put_u32s;
@@ -29,7 +30,8 @@ impl InitOut {
 
     // Appends the bytes.
     fn put(&self, out: &mut Vec<u8>) -> Result<(), Memory>
-        ensures { OnOk result (out.new.items ≡ out.old.items ++ init_bytes self.now) }
+        ensures bytes { OnOk result (out.new.items ≡ out.old.items ++ init_bytes self.now) }
+        ensures fits { OnOk result (HasForm (init_parts self.now)) }
     {
         put_u32s(
             out,
@@ -44,10 +46,11 @@ impl InitOut {
         put_bytes(out, &[0; 24])
     }
 
-    #[tactic(auto, using(crate::proofs::Forms::length_init))]
+    #[tactic(auto, using(crate::proofs::Forms::length_init, crate::proofs::Forms::laid_init))]
     pub fn body_of(&self, alloc: Global) -> Result<Vec<u8>, Memory>
         ensures bytes { IfOk result (λ body. body.items ≡ init_bytes self.now) }
         ensures size { IfOk result (λ body. length body.items ≡ INIT_SIZE) }
+        ensures laid { IfOk result (λ body. Lays (init_parts self.now) body.items) }
     {
         let mut body = Vec::with_capacity(alloc, InitOut::SIZE)?;
         self.put(&mut body)?;

@@ -1,5 +1,6 @@
 ghost use Rattle.std.specs.Prelude.{◌≡◌, ◌++◌, length, OnOk, IfOk};
-ghost use Rattle.fuse_answer.specs.Bodies.{header_bytes, attr_bytes, entry_bytes, attr_out_bytes, open_bytes, write_bytes};
+ghost use Rattle.fuse_wire.specs.Layout.{HasForm, Lays};
+ghost use Rattle.fuse_answer.specs.Bodies.{attr_parts, entry_parts, attr_out_parts, open_parts, write_parts, header_bytes, attr_bytes, entry_bytes, attr_out_bytes, open_bytes, write_bytes};
 ghost use Rattle.fuse_answer.specs.declared.records.TheConstants.OutHeader.{SIZE as HEADER_SIZE};
 ghost use Rattle.fuse_answer.specs.declared.records.TheConstants.Attr.{SIZE as ATTR_SIZE};
 ghost use Rattle.fuse_answer.specs.declared.records.TheConstants.EntryOut.{SIZE as ENTRY_SIZE};
@@ -105,7 +106,8 @@ impl Attr {
 
     // Appends the bytes.
     fn put(&self, out: &mut Vec<u8>) -> Result<(), Memory>
-        ensures { OnOk result (out.new.items ≡ out.old.items ++ attr_bytes self.now) }
+        ensures bytes { OnOk result (out.new.items ≡ out.old.items ++ attr_bytes self.now) }
+        ensures fits { OnOk result (HasForm (attr_parts self.now)) }
     {
         put_u64s(
             out,
@@ -135,10 +137,11 @@ impl Attr {
         )
     }
 
-    #[tactic(auto, using(crate::proofs::Forms::length_attr))]
+    #[tactic(auto, using(crate::proofs::Forms::length_attr, crate::proofs::Forms::laid_attr))]
     pub fn body_of(&self, alloc: Global) -> Result<Vec<u8>, Memory>
         ensures bytes { IfOk result (λ body. body.items ≡ attr_bytes self.now) }
         ensures size { IfOk result (λ body. length body.items ≡ ATTR_SIZE) }
+        ensures laid { IfOk result (λ body. Lays (attr_parts self.now) body.items) }
     {
         let mut body = Vec::with_capacity(alloc, Attr::SIZE)?;
         self.put(&mut body)?;
@@ -152,7 +155,8 @@ impl EntryOut {
 
     // Appends the bytes.
     fn put(&self, out: &mut Vec<u8>) -> Result<(), Memory>
-        ensures { OnOk result (out.new.items ≡ out.old.items ++ entry_bytes self.now) }
+        ensures bytes { OnOk result (out.new.items ≡ out.old.items ++ entry_bytes self.now) }
+        ensures fits { OnOk result (HasForm (entry_parts self.now)) }
     {
         put_u64s(
             out,
@@ -167,10 +171,11 @@ impl EntryOut {
         self.attr.put(out)
     }
 
-    #[tactic(auto, using(crate::proofs::Forms::length_entry))]
+    #[tactic(auto, using(crate::proofs::Forms::length_entry, crate::proofs::Forms::laid_entry))]
     pub fn body_of(&self, alloc: Global) -> Result<Vec<u8>, Memory>
         ensures bytes { IfOk result (λ body. body.items ≡ entry_bytes self.now) }
         ensures size { IfOk result (λ body. length body.items ≡ ENTRY_SIZE) }
+        ensures laid { IfOk result (λ body. Lays (entry_parts self.now) body.items) }
     {
         let mut body = Vec::with_capacity(alloc, EntryOut::SIZE)?;
         self.put(&mut body)?;
@@ -184,7 +189,8 @@ impl AttrOut {
 
     // Appends the bytes.
     fn put(&self, out: &mut Vec<u8>) -> Result<(), Memory>
-        ensures { OnOk result (out.new.items ≡ out.old.items ++ attr_out_bytes self.now) }
+        ensures bytes { OnOk result (out.new.items ≡ out.old.items ++ attr_out_bytes self.now) }
+        ensures fits { OnOk result (HasForm (attr_out_parts self.now)) }
     {
         put_u64(out, self.attr_valid)?;
         put_u32(out, self.attr_valid_nsec)?;
@@ -192,10 +198,11 @@ impl AttrOut {
         self.attr.put(out)
     }
 
-    #[tactic(auto, using(crate::proofs::Forms::length_attr_out))]
+    #[tactic(auto, using(crate::proofs::Forms::length_attr_out, crate::proofs::Forms::laid_attr_out))]
     pub fn body_of(&self, alloc: Global) -> Result<Vec<u8>, Memory>
         ensures bytes { IfOk result (λ body. body.items ≡ attr_out_bytes self.now) }
         ensures size { IfOk result (λ body. length body.items ≡ ATTR_OUT_SIZE) }
+        ensures laid { IfOk result (λ body. Lays (attr_out_parts self.now) body.items) }
     {
         let mut body = Vec::with_capacity(alloc, AttrOut::SIZE)?;
         self.put(&mut body)?;
@@ -209,17 +216,19 @@ impl OpenOut {
 
     // Appends the bytes.
     fn put(&self, out: &mut Vec<u8>) -> Result<(), Memory>
-        ensures { OnOk result (out.new.items ≡ out.old.items ++ open_bytes self.now) }
+        ensures bytes { OnOk result (out.new.items ≡ out.old.items ++ open_bytes self.now) }
+        ensures fits { OnOk result (HasForm (open_parts self.now)) }
     {
         put_u64(out, self.fh)?;
         put_u32(out, self.open_flags)?;
         put_i32(out, self.backing_id)
     }
 
-    #[tactic(auto, using(crate::proofs::Forms::length_open))]
+    #[tactic(auto, using(crate::proofs::Forms::length_open, crate::proofs::Forms::laid_open))]
     pub fn body_of(&self, alloc: Global) -> Result<Vec<u8>, Memory>
         ensures bytes { IfOk result (λ body. body.items ≡ open_bytes self.now) }
         ensures size { IfOk result (λ body. length body.items ≡ OPEN_SIZE) }
+        ensures laid { IfOk result (λ body. Lays (open_parts self.now) body.items) }
     {
         let mut body = Vec::with_capacity(alloc, OpenOut::SIZE)?;
         self.put(&mut body)?;
@@ -233,16 +242,18 @@ impl WriteOut {
 
     // Appends the bytes.
     fn put(&self, out: &mut Vec<u8>) -> Result<(), Memory>
-        ensures { OnOk result (out.new.items ≡ out.old.items ++ write_bytes self.now) }
+        ensures bytes { OnOk result (out.new.items ≡ out.old.items ++ write_bytes self.now) }
+        ensures fits { OnOk result (HasForm (write_parts self.now)) }
     {
         put_u32(out, self.size)?;
         put_bytes(out, &[0; 4])
     }
 
-    #[tactic(auto, using(crate::proofs::Forms::length_write))]
+    #[tactic(auto, using(crate::proofs::Forms::length_write, crate::proofs::Forms::laid_write))]
     pub fn body_of(&self, alloc: Global) -> Result<Vec<u8>, Memory>
         ensures bytes { IfOk result (λ body. body.items ≡ write_bytes self.now) }
         ensures size { IfOk result (λ body. length body.items ≡ WRITE_SIZE) }
+        ensures laid { IfOk result (λ body. Lays (write_parts self.now) body.items) }
     {
         let mut body = Vec::with_capacity(alloc, WriteOut::SIZE)?;
         self.put(&mut body)?;

@@ -6,9 +6,9 @@ use Rattle.fuse_answer.specs.Bodies.{open_parts, open_bytes}
 use Rattle.fuse_answer.proofs.Forms.{on_ok, put-number}
 use Rattle.fuse_answer.proofs.records.OpenOut.put.Goals as goal
 
-pub returns : goal.returns
+pub returns-clause-bytes : goal.returns-clause-bytes
 unfolding open_bytes
-returns c =
+returns-clause-bytes c =
     let o = c.args.self.now in
     let old = c.args.out.now.items in
     let ps = open_parts o in

@@ -3,9 +3,9 @@ use Rattle.fuse_answer.specs.Bodies.{write_parts, write_bytes}
 use Rattle.fuse_answer.proofs.Forms.{on_ok, put-number, put-unused}
 use Rattle.fuse_answer.proofs.records.WriteOut.put.Goals as goal
 
-pub returns : goal.returns
+pub returns-clause-bytes : goal.returns-clause-bytes
 unfolding write_bytes
-returns c =
+returns-clause-bytes c =
     let w = c.args.self.now in
     let old = c.args.out.now.items in
     let ps = write_parts w in
