@@ -28,8 +28,8 @@ use Rattle.fuse_session.specs.Port.{PortState, fresh}
 use Rattle.fuse_session.specs.Worked.{Timed, bytes_of, kept_in, answers, answer_by, unique_of, GoesOn, Works, EndsLast, StartsZero, message_id}
 use Rattle.fuse_session.specs.Settling.{Mark, replies, settles, settled_in, NoneComesAgain, MayCome, Places, PlaceFirst}
 use Rattle.fuse_session.specs.Counting.{counted}
-use Rattle.fuse_session.specs.Serving.{Turned, Whole, Life}
-use Rattle.fuse_session.specs.Ends.{EndsAs, ended_store}
+use Rattle.fuse_session.specs.Serving.{Turned, Whole}
+use Rattle.fuse_session.specs.Ends.{EndsAs, SentExactly, ExactAt}
 use Rattle.fusekeep.specs.declared.ending.Ending.{Ending}
 use Rattle.fusekeep.specs.declared.ending.Ending.TheVariants.{Done, ZeroUnique}
 use Rattle.fusekeep.specs.Endings.{session_ending, stream_ending, store_ending, status_of, IsOfStream}
@@ -280,60 +280,54 @@ session_replayed joins steps holds holds' honest' moment input sent q p turns e 
 
 -- ---- a fault of the store
 
-store_ended : (e : Ended) → status_of (session_ending e) ≡ 3 → ended_store e ≡ true
-store_ended session.End is = absurd (omega (arith, is))
-store_ended session.Destroyed is = absurd (omega (arith, is))
-store_ended session.Turns is = absurd (omega (arith, is))
-store_ended (session.Frame (frame.Short at len)) is = absurd (omega (arith, is))
-store_ended (session.Frame (frame.TooLong at len)) is = absurd (omega (arith, is))
-store_ended (session.Frame (frame.Cut at have need)) is = absurd (omega (arith, is))
-store_ended (session.Frame frame.Memory) is = absurd (omega (arith, is))
-store_ended (session.ZeroUnique at) is = absurd (omega (arith, is))
-store_ended session.PortFailed is = absurd (omega (arith, is))
-store_ended (session.Store f) is = refl
-store_ended session.Memory is = absurd (omega (arith, is))
-
-no_part : (later : List (List ℕ)) (part unsent : List ℕ) → joined later ≡ part ++ unsent → later ≡ [] → part ≡ []
-no_part later [] unsent begun none = refl
-no_part later (x ∷ part) unsent begun none = absurd (cc (sym (ap joined none) ∙ begun))
-
-faulted : CutJoins → (holds holds' : Rows → Records → Type 0) (clean' honest' firm whole' : Type 0) (left' : Rows → Records → Type 0) (moment : Moment) (input sent : List ℕ) (p : PortState) (want : Bool) → Told p sent
-    → Life holds holds' clean' honest' firm whole' left' (λ t. t ≡ moment) (fresh (Some input) (Some []) false) p [] [] true want → Faulted holds holds' clean' moment input (λ answers. sent ≡ joined answers)
-faulted joins holds holds' clean' honest' firm whole' left' moment input sent p want told life =
-    let b = life.broken in
-    let r = b.replied in
+faulted : CutJoins → (holds holds' : Rows → Records → Type 0) (clean' honest' may_fault : Type 0) (moment : Moment) (input sent : List ℕ) (p : PortState) → (clean' → honest') → Told p sent
+    → SentExactly holds honest' (λ s g t. clean' → StandsFor holds' s g t × may_fault) (λ t. t ≡ moment) (fresh (Some input) (Some []) false) p [] [] → Faulted holds holds' clean' moment input (λ answers. sent ≡ joined answers)
+faulted joins holds holds' clean' honest' may_fault moment input sent p clean_honest told life =
+    let r = life.replied in
     let c = came input p.coming life.received life.came in
     let more = (cut ((cut life.received).1 ++ c.later)).0 in
-    let taken = all_taken (Some []) b.marks r.places (sym r.gone ∙ told.gone) r.placed in
-    let sent_so = sent_is p.sent sent (joined (replies b.marks) ++ b.part) told.sent_is r.sent in
+    let taken = all_taken (Some []) life.marks r.places (sym r.gone ∙ told.gone) r.placed in
+    let sent_so = sent_is p.sent sent (joined (replies life.marks) ++ []) told.sent_is r.sent in
     record {
-      timed = b.timed;
-      others = b.others ++ more;
-      parts = ap (λ (x : List (List ℕ) × List ℕ). x.0) (cut_came joins input life.received c.later c.parts) ∙ ap (λ ms. ms ++ more) b.front ∙ append_assoc (bytes_of b.timed) b.others more;
-      moments = b.moments;
+      timed = life.timed;
+      others = life.others ++ more;
+      parts = ap (λ (x : List (List ℕ) × List ℕ). x.0) (cut_came joins input life.received c.later c.parts) ∙ ap (λ ms. ms ++ more) life.front ∙ append_assoc (bytes_of life.timed) life.others more;
+      moments = life.moments;
       all = λ clean s h t so may.
-          let l = b.life clean s h t so (λ i there. absurd (cc there)) (none_again t (bytes_of b.timed) b.marks taken may) in
+          let l = life.exactly (clean_honest clean) s h t so (λ i there. absurd (cc there)) (none_again t (bytes_of life.timed) life.marks taken may) in
           let g = grown h (kept_in l.worked) in
-          let over = l.exactly refl in
-          let same : t ++ settled_in false (bytes_of l.worked) b.marks ≡ t = ap (λ (x : List ℕ). t ++ x) (settled_nothing (bytes_of l.worked) b.marks taken) ∙ append-nil t in
-          let all_sent : answers s g l.worked ≡ replies b.marks = l.sent ∙ ap (λ x. replies b.marks ++ x) over ∙ append-nil (replies b.marks) in
+          let same : t ++ settled_in false (bytes_of l.worked) life.marks ≡ t = ap (λ (x : List ℕ). t ++ x) (settled_nothing (bytes_of l.worked) life.marks taken) ∙ append-nil t in
           record {
             worked = l.worked;
             unworked = l.unworked;
             parts = l.parts;
             works = l.works;
-            stands = subst (StandsFor holds' s g) same l.stands;
-            gave = sent_so ∙ ap (λ (x : List ℕ). joined (replies b.marks) ++ x) (no_part l.later b.part l.unsent l.begun over) ∙ append-nil (joined (replies b.marks)) ∙ ap joined (sym all_sent);
+            stands = subst (StandsFor holds' s g) same (l.stands clean).0;
+            gave = sent_so ∙ append-nil (joined (replies life.marks)) ∙ ap joined l.sent;
           };
     }
 
-pub session_faulted : CutJoins → (holds holds' : Rows → Records → Type 0) (clean' honest' firm whole' : Type 0) (left' : Rows → Records → Type 0) (moment : Moment) (input sent : List ℕ) (q p : PortState) (want : Bool) (e : Ended) (ending : Ending)
-    → ending ≡ session_ending e → q ≡ fresh (Some input) (Some []) false → p.gone ≡ [] → p.sent ≡ Some sent → Life holds holds' clean' honest' firm whole' left' (λ t. t ≡ moment) q p [] [] (ended_store e) want → status_of ending ≡ 3
+-- status 3 comes by a fault of the store alone
+store_faulted : CutJoins → (holds holds' : Rows → Records → Type 0) (clean' honest' : Type 0) (may_fault : StoreFault → Type 0) (moment : Moment) (input sent : List ℕ) (p : PortState) (e : Ended) → (clean' → honest') → Told p sent
+    → status_of (session_ending e) ≡ 3 → ExactAt holds holds' clean' honest' may_fault (λ t. t ≡ moment) (fresh (Some input) (Some []) false) p [] [] e → Faulted holds holds' clean' moment input (λ answers. sent ≡ joined answers)
+store_faulted joins holds holds' clean' honest' may_fault moment input sent p (session.Store f) clean_honest told is life = faulted joins holds holds' clean' honest' (may_fault f) moment input sent p clean_honest told life
+store_faulted joins holds holds' clean' honest' may_fault moment input sent p session.End clean_honest told is life = absurd (omega (arith, is))
+store_faulted joins holds holds' clean' honest' may_fault moment input sent p session.Destroyed clean_honest told is life = absurd (omega (arith, is))
+store_faulted joins holds holds' clean' honest' may_fault moment input sent p session.Turns clean_honest told is life = absurd (omega (arith, is))
+store_faulted joins holds holds' clean' honest' may_fault moment input sent p (session.Frame (frame.Short at len)) clean_honest told is life = absurd (omega (arith, is))
+store_faulted joins holds holds' clean' honest' may_fault moment input sent p (session.Frame (frame.TooLong at len)) clean_honest told is life = absurd (omega (arith, is))
+store_faulted joins holds holds' clean' honest' may_fault moment input sent p (session.Frame (frame.Cut at have need)) clean_honest told is life = absurd (omega (arith, is))
+store_faulted joins holds holds' clean' honest' may_fault moment input sent p (session.Frame frame.Memory) clean_honest told is life = absurd (omega (arith, is))
+store_faulted joins holds holds' clean' honest' may_fault moment input sent p (session.ZeroUnique at) clean_honest told is life = absurd (omega (arith, is))
+store_faulted joins holds holds' clean' honest' may_fault moment input sent p session.PortFailed clean_honest told is life = absurd (omega (arith, is))
+store_faulted joins holds holds' clean' honest' may_fault moment input sent p session.Memory clean_honest told is life = absurd (omega (arith, is))
+
+pub session_faulted : CutJoins → (holds holds' : Rows → Records → Type 0) (clean' honest' : Type 0) (may_fault : StoreFault → Type 0) (moment : Moment) (input sent : List ℕ) (q p : PortState) (e : Ended) (ending : Ending) → (clean' → honest')
+    → ending ≡ session_ending e → q ≡ fresh (Some input) (Some []) false → p.gone ≡ [] → p.sent ≡ Some sent → ExactAt holds holds' clean' honest' may_fault (λ t. t ≡ moment) q p [] [] e → status_of ending ≡ 3
     → Faulted holds holds' clean' moment input (λ answers. sent ≡ joined answers)
-session_faulted joins holds holds' clean' honest' firm whole' left' moment input sent q p want e ending is start gone told life of_store =
-    faulted joins holds holds' clean' honest' firm whole' left' moment input sent p want (record { gone = gone; sent_is = told })
-    (subst (λ b. Life holds holds' clean' honest' firm whole' left' (λ t. t ≡ moment) (fresh (Some input) (Some []) false) p [] [] b want) (store_ended e (sym (ap status_of is) ∙ of_store))
-    (subst (λ x. Life holds holds' clean' honest' firm whole' left' (λ t. t ≡ moment) x p [] [] (ended_store e) want) start life))
+session_faulted joins holds holds' clean' honest' may_fault moment input sent q p e ending clean_honest is start gone told life three =
+    store_faulted joins holds holds' clean' honest' may_fault moment input sent p e clean_honest (record { gone = gone; sent_is = told }) (sym (ap status_of is) ∙ three)
+    (subst (λ x. ExactAt holds holds' clean' honest' may_fault (λ t. t ≡ moment) x p [] [] e) start life)
 
 -- ---- what is printed of it
 
