@@ -31,7 +31,7 @@ struct Look<'a> {
     check_ends: Ending,
 }
 
-fn look(rt: &(impl Abort + AllocGlobal), row: &Look<'_>) -> Result<(), Fail> {
+fn compare(rt: &(impl Abort + AllocGlobal), row: &Look<'_>) -> Result<(), Fail> {
     let alloc = rt.alloc();
     let stream = bytes_of(alloc, row.stream)?;
     let mut printed = Vec::new(alloc);
@@ -89,7 +89,7 @@ fn looks(rt: HostRuntime) -> Result<(), Fail> {
             check_ends: Ending::Malformed,
         },
     ] {
-        look(&rt, row)?;
+        compare(&rt, row)?;
     }
     Ok(())
 }
@@ -130,7 +130,7 @@ fn looks_at_faulty_streams(rt: HostRuntime) -> Result<(), Fail> {
             check_ends: Ending::Done,
         },
     ] {
-        look(&rt, row)?;
+        compare(&rt, row)?;
     }
     Ok(())
 }
