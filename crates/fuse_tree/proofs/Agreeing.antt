@@ -1,9 +1,8 @@
 -- A plan over the rows of a state agrees with what is done in that state.
-use Rattle.std.proofs.Common.{◌≡◌, ℕ, Bool, true, false, cond, if◌then◌else◌, not, List, [], length, Option, Some, None, refl, sym, ap, subst}
-use Rattle.std.specs.Prelude.{is_some, Result, Ok, Err, IfOk, IfErr}
+use Rattle.std.proofs.Common.{◌≡◌, ℕ, true, if◌then◌else◌, not, List, [], Option, Some, None, refl, sym, subst}
+use Rattle.std.specs.Prelude.{Result, Ok, Err, IfOk, IfErr}
 use Rattle.std.specs.Option.{option_map}
-use Rattle.fuse_wire.specs.declared.errno.Errno.{Errno}
-use Rattle.fuse_wire.specs.declared.errno.TheConstants.Errno.{ENOENT, EEXIST, ENOTDIR, ENOSPC, ENOSYS, ESTALE}
+use Rattle.fuse_wire.specs.declared.errno.TheConstants.Errno.{ENOENT, ENOTDIR, ENOSYS, ESTALE}
 use Rattle.fuse_wire.specs.declared.moment.Moment.{Moment}
 use Rattle.fuse_request.specs.declared.request.InHeader.{InHeader}
 use Rattle.fuse_request.specs.declared.request.Op.{Op}
@@ -12,61 +11,19 @@ use Rattle.fuse_request.specs.Act.{Act, Asked, act}
 use Rattle.fuse_request.specs.Act as acts
 use Rattle.fuse_tree.specs.declared.planning.fault.PlanFault.{PlanFault}
 use Rattle.fuse_tree.specs.declared.planning.fault.PlanFault.TheVariants as faults
-use Rattle.fuse_tree.specs.declared.planning.make.NewNode.{NewNode}
 use Rattle.fuse_tree.specs.declared.rows.EntryRow.{EntryRow}
-use Rattle.fuse_tree.specs.declared.rows.Full.{Full}
 use Rattle.fuse_tree.specs.declared.rows.NodeRow.{NodeRow}
 use Rattle.fuse_tree.specs.declared.rows.Planned.{Planned}
 use Rattle.fuse_tree.specs.State.{State, Node, Tree, is_dir, node_at, is_named, name_fault}
-use Rattle.fuse_tree.specs.Rows.{row_of, rowed, rows_of_state, row_at, entry_at, apply}
-use Rattle.fuse_tree.specs.Do.{Done, make, mkdir, lookup_child, lookup_entry, lookup, begun, dir_mode, is_full, refuse, refuse_for, done, do_at, do_act, answer, names_node}
+use Rattle.fuse_tree.specs.Rows.{row_of, rowed, rows_of_state, row_at, entry_at}
+use Rattle.fuse_tree.specs.Done.{Done, answer}
+use Rattle.fuse_tree.specs.Do.{lookup_child, lookup_entry, lookup, done, do_at, do_act, names_node}
 use Rattle.fuse_tree.specs.Plan.{Meets, TreeKept, look_fault}
-use Rattle.fuse_tree.specs.Planning.{Tells, refused, refused_for, entry_body, plan_make, plan_mkdir, plan_lookup, plan_of, plan_at, plan_act, plan_child, child_of}
+use Rattle.fuse_tree.specs.Reading.{Tells, child_of}
+use Rattle.fuse_tree.specs.Planning.{plan_lookup, plan_of, plan_at, plan_act, plan_child}
+use Rattle.fuse_tree.proofs.Agreement.{Agrees, refused_agrees, both, both_for}
+use Rattle.fuse_tree.proofs.MakingAgrees.{mkdir_agrees}
 use Rattle.fuse_tree.proofs.Puts.{row_found, node_found}
-use Rattle.fuse_tree.proofs.Making.{new_full, make_rows, make_tree}
-
-pub record Agrees (s : State) (p : Planned) (d : Done) : Type 0 where
-  pub answer : p.answer ≡ d.said
-  pub rows : apply (rows_of_state s) p.changes ≡ rows_of_state d.state
-  pub tree : Tree d.state
-
-refused_agrees : (s : State) → Tree s → (errno : Errno) → Agrees s (refused errno) (refuse s errno)
-refused_agrees s tree errno = record { answer = refl; rows = refl; tree = tree }
-
--- both tests of a check go the same way
-both : (s : State) (b : Bool) (p q : Planned) (d e : Done) → (b ≡ true → Agrees s p d) → (b ≡ false → Agrees s q e) → Agrees s (cond b p q) (cond b d e)
-both s true p q d e there other = there refl
-both s false p q d e there other = other refl
-
-both_for : (s : State) (fault : Option Errno) (p : Planned) (d : Done) → Tree s → (fault ≡ None → Agrees s p d) → Agrees s (refused_for fault p) (refuse_for s fault d)
-both_for s None p d tree other = other refl
-both_for s (Some errno) p d tree other = refused_agrees s tree errno
-
-not_false : (b : Bool) → not b ≡ false → b ≡ true
-not_false true e = refl
-not_false false e = absurd cc
-
-none_some : {A : Type 0} (o : Option A) → is_some o ≡ false → o ≡ None
-none_some None e = refl
-none_some (Some x) e = absurd cc
-
-make_agrees : (s : State) (fresh : NewNode) (name : List ℕ) (d : Node) → Tree s → node_at s d.number ≡ Some d → is_dir d.mode ≡ true → name_fault name ≡ None
-    → Agrees s (plan_make fresh name (row_of s d) (rows_of_state s)) (make s fresh name d)
-make_agrees s fresh name d tree e dir name_ok =
-    both s (not (is_named s d.number)) _ _ _ _ (λ _. refused_agrees s tree ENOENT) (λ named.
-    both s (is_some (entry_at s.entries d.number name)) _ _ _ _ (λ _. refused_agrees s tree EEXIST) (λ free.
-    both s (is_full (length s.nodes) s.next_node s.next_cookie) _ _ _ _ (λ _. refused_agrees s tree ENOSPC) (λ room. record {
-      answer = ap (λ (f : Full). record { errno = 0; body = entry_body f.row }) (sym (new_full s fresh name d tree e));
-      rows = make_rows s fresh name d tree e;
-      tree = make_tree s fresh name d tree e dir name_ok (not_false _ named) (none_some _ free) room;
-    })))
-
-mkdir_agrees : (s : State) (header : InHeader) (mode : ℕ) (name : List ℕ) (now : Moment) (d : Node) → Tree s → node_at s d.number ≡ Some d
-    → Agrees s (plan_mkdir header mode name now (row_of s d) (rows_of_state s)) (mkdir s header mode name now d)
-mkdir_agrees s header mode name now d tree e =
-    both s (not (is_dir d.mode)) _ _ _ _ (λ _. refused_agrees s tree ENOTDIR) (λ dir.
-    both_for s (name_fault name) _ _ tree (λ name_ok.
-    make_agrees s (begun header (dir_mode mode) 0 now) name d tree e (not_false _ dir) name_ok))
 
 child_agrees : (s : State) → Tree s → (o : Option Node) → Agrees s (plan_child (option_map (row_of s) o)) (lookup_child s o)
 child_agrees s tree None = refused_agrees s tree ENOENT

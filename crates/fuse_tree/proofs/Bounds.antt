@@ -5,7 +5,7 @@ use Rattle.fuse_tree.specs.declared.rows.EntryRow.{EntryRow}
 use Rattle.fuse_tree.specs.declared.rows.NodeRow.{NodeRow}
 use Rattle.fuse_tree.specs.State.{State, Node, Tree, IsNode, IsEntry, is_below, has_number, node_at, is_entry}
 use Rattle.fuse_tree.specs.Rows.{Rows, IsRowed, row_of, rowed, rows_of_state, row_at, entry_at}
-use Rattle.fuse_tree.specs.Planning.{IsWithin}
+use Rattle.fuse_tree.specs.Reading.{IsWithin}
 use Rattle.fuse_tree.proofs.Lists.{found, any_gives, none_found, length_filtered}
 use Rattle.fuse_tree.proofs.Puts.{row_found}
 

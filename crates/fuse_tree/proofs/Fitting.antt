@@ -1,34 +1,18 @@
 -- What is answered fits.
-use Rattle.std.proofs.Common.{◌≤◌, ℕ, Bool, true, false, not, if◌then◌else◌, List, [], length, Option, Some, None, is_some, refl, arith}
-use Rattle.fuse_wire.specs.declared.errno.Errno.{Errno}
+use Rattle.std.proofs.Common.{ℕ, not, List, [], Option, Some, None, arith}
 use Rattle.fuse_wire.specs.declared.moment.Moment.{Moment}
 use Rattle.fuse_request.specs.declared.request.InHeader.{InHeader}
 use Rattle.fuse_request.specs.Act.{Act, Asked}
 use Rattle.fuse_request.specs.Act as acts
 use Rattle.fuse_answer.specs.Said.{FitsAnswer}
 use Rattle.fuse_answer.specs.Laws.{RecordSizes}
-use Rattle.fuse_tree.specs.declared.planning.make.NewNode.{NewNode}
 use Rattle.fuse_tree.specs.declared.rows.EntryRow.{EntryRow}
 use Rattle.fuse_tree.specs.State.{State, Node, is_dir, is_named, node_at, name_fault}
 use Rattle.fuse_tree.specs.Rows.{entry_at}
-use Rattle.fuse_tree.specs.Do.{Done, refuse, refuse_for, answer, attr_of, entry_of, attr_out_of, lookup_child, lookup_entry, lookup_named, lookup, getattr, new_node, with_node, begun, is_full, make, dir_mode, mkdir, do_act, do_at, names_node, done}
-
-abbrev Fits : Done → Type 0
-Fits d = FitsAnswer d.said
-
-refused : (s : State) (errno : Errno) → Fits (refuse s errno)
-refused s errno = record { refusal = λ _. refl; short = omega arith }
-
-answered : (s : State) (body : List ℕ) → length body ≤ 1048576 → Fits (answer s body)
-answered s body short = record { refusal = λ isnt. absurd (isnt refl); short = short }
-
-chosen : (b : Bool) (d e : Done) → Fits d → Fits e → Fits (if b then d else e)
-chosen true d e one two = one
-chosen false d e one two = two
-
-refused_for : (s : State) (fault : Option Errno) (d : Done) → Fits d → Fits (refuse_for s fault d)
-refused_for s (Some errno) d so = refused s errno
-refused_for s None d so = so
+use Rattle.fuse_tree.specs.Done.{attr_of, entry_of, attr_out_of}
+use Rattle.fuse_tree.specs.Do.{lookup_child, lookup_entry, lookup_named, lookup, getattr, do_act, do_at, names_node, done}
+use Rattle.fuse_tree.proofs.Fit.{Fits, refused, answered, chosen, refused_for}
+use Rattle.fuse_tree.proofs.MakingFits.{mkdir_fits}
 
 -- ---- LOOKUP
 
@@ -50,20 +34,6 @@ lookup_fits sizes s name n =
 
 getattr_fits : RecordSizes → (s : State) (n : Node) → Fits (getattr s n)
 getattr_fits sizes s n = answered s _ (omega (arith, sizes.1 (attr_out_of (attr_of s n))))
-
--- ---- MKDIR
-
-make_fits : RecordSizes → (s : State) (fresh : NewNode) (name : List ℕ) (n : Node) → Fits (make s fresh name n)
-make_fits sizes s fresh name n =
-    chosen (not (is_named s n.number)) _ _ (refused s _)
-    (chosen (is_some (entry_at s.entries n.number name)) _ _ (refused s _)
-    (chosen (is_full (length s.nodes) s.next_node s.next_cookie) _ _ (refused s _)
-    (answered (with_node s fresh n.number name) _ (omega (arith, sizes.0 (entry_of (attr_of (with_node s fresh n.number name) (new_node s fresh))))))))
-
-mkdir_fits : RecordSizes → (s : State) (header : InHeader) (mode : ℕ) (name : List ℕ) (now : Moment) (n : Node) → Fits (mkdir s header mode name now n)
-mkdir_fits sizes s header mode name now n =
-    chosen (not (is_dir n.mode)) _ _ (refused s _)
-    (refused_for s (name_fault name) _ (make_fits sizes s (begun header (dir_mode mode) 0 now) name n))
 
 -- ---- all requests
 

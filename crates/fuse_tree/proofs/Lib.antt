@@ -1,9 +1,13 @@
 pub mod Agreeing
+mod Agreement
 pub mod Bounds
 pub mod Counts
+mod Fit
 pub mod Fitting
 pub mod Lists
 pub mod Making
+mod MakingAgrees
+mod MakingFits
 mod Mounts
 pub mod NewStore
 mod Placed

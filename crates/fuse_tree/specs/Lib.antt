@@ -3,7 +3,11 @@ pub mod Rows
 pub mod NumbersOnce
 pub mod PlainRows
 pub mod Clearing
+pub mod Done
+pub mod Making
 pub mod Do
 pub mod Plan
+pub mod Reading
+pub mod PlanMaking
 pub mod Planning
 pub mod Vectors

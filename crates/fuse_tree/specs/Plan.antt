@@ -9,7 +9,8 @@ use Rattle.fuse_tree.specs.declared.planning.fault.PlanFault.TheVariants as faul
 use Rattle.fuse_tree.specs.declared.rows.Planned.{Planned}
 use Rattle.fuse_tree.specs.State.{State, Tree, new_store}
 use Rattle.fuse_tree.specs.Rows.{rowed, apply}
-use Rattle.fuse_tree.specs.Do.{Done, done}
+use Rattle.fuse_tree.specs.Done.{Done}
+use Rattle.fuse_tree.specs.Do.{done}
 
 -- the plan is what is done: its answer is the one said, and its changes make the rows of the state after it, a tree
 pub record Meets (s : State) (p : Planned) (d : Done) : Type 0 where

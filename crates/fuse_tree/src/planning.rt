@@ -4,7 +4,8 @@ ghost use Rattle.fuse_tree.specs.State.{State, Tree};
 ghost use Rattle.fuse_tree.specs.Rows.{rowed};
 ghost use Rattle.fuse_tree.specs.Do.{done};
 ghost use Rattle.fuse_tree.specs.Plan.{Meets, look_fault};
-ghost use Rattle.fuse_tree.specs.Planning.{IsWithin, Reads, plan_act, plan_of};
+ghost use Rattle.fuse_tree.specs.Reading.{IsWithin, Reads};
+ghost use Rattle.fuse_tree.specs.Planning.{plan_act, plan_of};
 
 mod answers;
 mod attributes;

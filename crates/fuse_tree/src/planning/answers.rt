@@ -1,7 +1,7 @@
 ghost use Rattle.std.specs.Prelude.{◌≡◌, [], IfOk};
 ghost use Rattle.fuse_answer.specs.Said.{Said};
-ghost use Rattle.fuse_tree.specs.Planning as planning;
-ghost use Rattle.fuse_tree.specs.Planning.{IsWithin, entry_body, attr_body, told};
+ghost use Rattle.fuse_tree.specs.Reading as planning;
+ghost use Rattle.fuse_tree.specs.Reading.{IsWithin, entry_body, attr_body, told};
 
 use super::attributes::attributes_of;
 use crate::limits::VALID_SECS;

@@ -1,6 +1,6 @@
 ghost use Rattle.std.specs.Prelude.{◌≡◌};
 ghost use Rattle.fuse_tree.specs.State.{is_dir};
-ghost use Rattle.fuse_tree.specs.Planning.{IsWithin, row_is_named, row_links, row_attr};
+ghost use Rattle.fuse_tree.specs.Reading.{IsWithin, row_is_named, row_links, row_attr};
 
 use crate::limits::{BLOCK_SIZE, ROOT_ID, SECTOR_SIZE};
 use crate::mode::{S_IFDIR, TYPE_UNIT, TYPES};

@@ -1,7 +1,7 @@
 ghost use Rattle.std.specs.Prelude.{◌≡◌, None, is_some, IfOk, IfSome, OnErr};
 ghost use Rattle.fuse_tree.specs.Rows.{row_at, entry_at};
 ghost use Rattle.fuse_tree.specs.Plan.{look_fault};
-ghost use Rattle.fuse_tree.specs.Planning.{IsWithin, Reads, child_at};
+ghost use Rattle.fuse_tree.specs.Reading.{IsWithin, Reads, child_at};
 
 use super::fault::PlanFault;
 use crate::limits::{MAX_FILE, MAX_NODES};

@@ -1,7 +1,7 @@
 ghost use Rattle.std.specs.Prelude.{◌≡◌, None, OnErr};
 ghost use Rattle.fuse_tree.specs.Plan.{look_fault};
-ghost use Rattle.fuse_tree.specs.Planning as planning;
-ghost use Rattle.fuse_tree.specs.Planning.{IsWithin, Reads};
+ghost use Rattle.fuse_tree.specs.PlanMaking as planning;
+ghost use Rattle.fuse_tree.specs.Reading.{IsWithin, Reads};
 
 use super::answers::refused;
 use super::attributes::is_directory;

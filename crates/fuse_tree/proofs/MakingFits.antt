@@ -1,0 +1,23 @@
+-- What is answered for a new node fits.
+use Rattle.std.proofs.Common.{ℕ, not, List, length, is_some, arith}
+use Rattle.fuse_wire.specs.declared.moment.Moment.{Moment}
+use Rattle.fuse_request.specs.declared.request.InHeader.{InHeader}
+use Rattle.fuse_answer.specs.Laws.{RecordSizes}
+use Rattle.fuse_tree.specs.declared.planning.make.NewNode.{NewNode}
+use Rattle.fuse_tree.specs.State.{State, Node, is_dir, is_named, name_fault}
+use Rattle.fuse_tree.specs.Rows.{entry_at}
+use Rattle.fuse_tree.specs.Done.{attr_of, entry_of}
+use Rattle.fuse_tree.specs.Making.{new_node, with_node, begun, is_full, make, dir_mode, mkdir}
+use Rattle.fuse_tree.proofs.Fit.{Fits, refused, answered, chosen, refused_for}
+
+pub make_fits : RecordSizes → (s : State) (fresh : NewNode) (name : List ℕ) (n : Node) → Fits (make s fresh name n)
+make_fits sizes s fresh name n =
+    chosen (not (is_named s n.number)) _ _ (refused s _)
+    (chosen (is_some (entry_at s.entries n.number name)) _ _ (refused s _)
+    (chosen (is_full (length s.nodes) s.next_node s.next_cookie) _ _ (refused s _)
+    (answered (with_node s fresh n.number name) _ (omega (arith, sizes.0 (entry_of (attr_of (with_node s fresh n.number name) (new_node s fresh))))))))
+
+pub mkdir_fits : RecordSizes → (s : State) (header : InHeader) (mode : ℕ) (name : List ℕ) (now : Moment) (n : Node) → Fits (mkdir s header mode name now n)
+mkdir_fits sizes s header mode name now n =
+    chosen (not (is_dir n.mode)) _ _ (refused s _)
+    (refused_for s (name_fault name) _ (make_fits sizes s (begun header (dir_mode mode) 0 now) name n))

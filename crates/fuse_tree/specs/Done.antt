@@ -1,0 +1,68 @@
+-- The state after a request and its answer (own profile): what the definitions of the operations share.
+use Rattle.std.specs.Prelude.{◌+◌, ◌-◌, ◌/◌, ◌==◌, ℕ, if◌then◌else◌, List, [], length, map, Option, Some, None}
+use Rattle.fuse_wire.specs.declared.errno.Errno.{Errno}
+use Rattle.fuse_wire.specs.declared.moment.Moment.{Moment}
+use Rattle.fuse_answer.specs.Said.{Said}
+use Rattle.fuse_answer.specs.declared.records.Attr.{Attr}
+use Rattle.fuse_answer.specs.declared.records.EntryOut.{EntryOut}
+use Rattle.fuse_answer.specs.declared.records.AttrOut.{AttrOut}
+use Rattle.fuse_tree.specs.declared.limits.TheConstants.{BLOCK_SIZE, SECTOR_SIZE, VALID_SECS}
+use Rattle.fuse_tree.specs.State.{State, Node, links_of}
+
+-- the state after a request, and what it is answered
+pub record Done : Type 0 where
+  pub state : State
+  pub said : Said
+
+-- nothing changes, and the answer is an error
+abbrev pub refuse : State → Errno → Done
+refuse s errno = record { state = s; said = record { errno = errno.0; body = [] } }
+
+-- a refusal where there is a fault, and else what is done
+abbrev pub refuse_for : State → Option Errno → Done → Done
+refuse_for s (Some errno) d = refuse s errno
+refuse_for s None d = d
+
+-- the answer is a body
+abbrev pub answer : State → List ℕ → Done
+answer s body = record { state = s; said = record { errno = 0; body = body } }
+
+-- ---- what is told of a node
+
+abbrev pub attr_of : State → Node → Attr
+attr_of s n = record {
+  ino = n.number;
+  size = length n.content;
+  blocks = (length n.content + (SECTOR_SIZE - 1)) / SECTOR_SIZE;
+  atime = n.atime.secs;
+  mtime = n.mtime.secs;
+  ctime = n.ctime.secs;
+  atimensec = n.atime.nanos;
+  mtimensec = n.mtime.nanos;
+  ctimensec = n.ctime.nanos;
+  mode = n.mode;
+  nlink = links_of s n;
+  uid = n.uid;
+  gid = n.gid;
+  rdev = n.rdev;
+  blksize = BLOCK_SIZE;
+  flags = 0;
+}
+
+-- an entry's answer, valid for a second
+abbrev pub entry_of : Attr → EntryOut
+entry_of attr = record { nodeid = attr.ino; generation = 0; entry_valid = VALID_SECS; attr_valid = VALID_SECS; entry_valid_nsec = 0; attr_valid_nsec = 0; attr = attr }
+
+-- an attribute answer, valid for a second
+abbrev pub attr_out_of : Attr → AttrOut
+attr_out_of attr = record { attr_valid = VALID_SECS; attr_valid_nsec = 0; attr = attr }
+
+-- ---- times
+
+-- where the node is this directory, its times are the moment
+abbrev pub touched : ℕ → Moment → Node → Node
+touched dir now n = record n { mtime = if n.number == dir then now else n.mtime; ctime = if n.number == dir then now else n.ctime }
+
+-- the state whose entries in this directory change at this moment
+abbrev pub touch : ℕ → Moment → State → State
+touch dir now s = record s { nodes = map (touched dir now) s.nodes }

@@ -1,0 +1,74 @@
+-- What MKNOD and MKDIR do (own profile): a new node and its entry.
+use Rattle.std.specs.Prelude.{◌+◌, ◌%◌, ◌||◌, ℕ, Bool, not, nat_le, if◌then◌else◌, List, [], ◌∷◌, ◌++◌, length, is_some}
+use Rattle.fuse_wire.specs.declared.errno.TheConstants.Errno.{ENOENT, EEXIST, ENOTDIR, ENOSPC}
+use Rattle.fuse_wire.specs.declared.moment.Moment.{Moment}
+use Rattle.fuse_request.specs.declared.request.InHeader.{InHeader}
+use Rattle.fuse_answer.specs.Bodies.{entry_bytes}
+use Rattle.fuse_tree.specs.declared.limits.TheConstants.{MAX_NODES, COUNTER_END}
+use Rattle.fuse_tree.specs.declared.mode.TheConstants.{S_IFDIR, TYPE_UNIT}
+use Rattle.fuse_tree.specs.declared.planning.make.NewNode.{NewNode}
+use Rattle.fuse_tree.specs.declared.rows.EntryRow.{EntryRow}
+use Rattle.fuse_tree.specs.State.{State, Node, is_dir, is_named, name_fault}
+use Rattle.fuse_tree.specs.Rows.{entry_at}
+use Rattle.fuse_tree.specs.Done.{Done, refuse, refuse_for, answer, attr_of, entry_of, touch}
+
+-- what a request's new node begins with
+abbrev pub begun : InHeader → ℕ → ℕ → Moment → NewNode
+begun header mode rdev now = record { mode = mode; uid = header.uid; gid = header.gid; rdev = rdev; made = now }
+
+abbrev pub new_node : State → NewNode → Node
+new_node s fresh = record {
+  number = s.next_node;
+  mode = fresh.mode;
+  uid = fresh.uid;
+  gid = fresh.gid;
+  rdev = fresh.rdev;
+  atime = fresh.made;
+  mtime = fresh.made;
+  ctime = fresh.made;
+  content = [];
+}
+
+abbrev pub new_entry : State → ℕ → List ℕ → EntryRow
+new_entry s dir name = record { dir = dir; name = name; child = s.next_node; cookie = s.next_cookie }
+
+-- the state with a node and its entry more
+abbrev pub grow : Node → EntryRow → State → State
+grow n e s = record s {
+  nodes = s.nodes ++ n ∷ [];
+  entries = s.entries ++ e ∷ [];
+  next_node = s.next_node + 1;
+  next_cookie = s.next_cookie + 1;
+}
+
+-- the state with a new node under this name in the directory
+abbrev pub with_node : State → NewNode → ℕ → List ℕ → State
+with_node s fresh dir name = grow (new_node s fresh) (new_entry s dir name) (touch dir fresh.made s)
+
+-- no room for a node: there are too many, or a counter is at its end
+abbrev pub is_full : ℕ → ℕ → ℕ → Bool
+is_full nodes next_node next_cookie = nat_le MAX_NODES nodes || nat_le COUNTER_END next_node || nat_le COUNTER_END next_cookie
+
+-- a new node, where there is room for it
+abbrev pub make_with_room : State → NewNode → ℕ → List ℕ → Done
+make_with_room s fresh dir name =
+    if is_full (length s.nodes) s.next_node s.next_cookie then refuse s ENOSPC
+    else answer (with_node s fresh dir name) (entry_bytes (entry_of (attr_of (with_node s fresh dir name) (new_node s fresh))))
+
+-- a new node in directory n, where the name is free
+abbrev pub make : State → NewNode → List ℕ → Node → Done
+make s fresh name n =
+    if not (is_named s n.number) then refuse s ENOENT
+    else if is_some (entry_at s.entries n.number name) then refuse s EEXIST
+    else make_with_room s fresh n.number name
+
+-- ---- MKDIR
+
+-- the mode of a new directory: its type, and the permissions asked for
+abbrev pub dir_mode : ℕ → ℕ
+dir_mode mode = S_IFDIR + mode % TYPE_UNIT
+
+abbrev pub mkdir : State → InHeader → ℕ → List ℕ → Moment → Node → Done
+mkdir s header mode name now n =
+    if not (is_dir n.mode) then refuse s ENOTDIR
+    else refuse_for s (name_fault name) (make s (begun header (dir_mode mode) 0 now) name n)

@@ -1,0 +1,90 @@
+-- What the parts of `plan` read off the rows (own profile): what the plans of the operations share.
+use Rattle.std.specs.Prelude.{◌≡◌, ◌≤◌, ◌+◌, ◌-◌, ◌/◌, ◌==◌, ◌||◌, ℕ, Bool, not, if◌then◌else◌, List, [], Option, Some, None, Result, IfOk, IfErr, ◌≢◌}
+use Rattle.fuse_wire.specs.declared.errno.Errno.{Errno}
+use Rattle.fuse_answer.specs.Bodies.{entry_bytes, attr_out_bytes}
+use Rattle.fuse_answer.specs.declared.records.Attr.{Attr}
+use Rattle.fuse_tree.specs.declared.limits.TheConstants.{MAX_NODES, MAX_FILE, ROOT_ID, BLOCK_SIZE, SECTOR_SIZE}
+use Rattle.fuse_tree.specs.declared.planning.fault.PlanFault.{PlanFault}
+use Rattle.fuse_tree.specs.declared.planning.fault.PlanFault.TheVariants as faults
+use Rattle.fuse_tree.specs.declared.rows.NodeRow.{NodeRow}
+use Rattle.fuse_tree.specs.declared.rows.EntryRow.{EntryRow}
+use Rattle.fuse_tree.specs.declared.rows.Planned.{Planned}
+use Rattle.fuse_tree.specs.State.{is_dir}
+use Rattle.fuse_tree.specs.Rows.{Rows, IsRowed, row_at, entry_at}
+use Rattle.fuse_tree.specs.Plan.{look_fault}
+use Rattle.fuse_tree.specs.Done.{entry_of, attr_out_of}
+
+-- ---- what the parts answer
+
+-- where it is answered, it is this, and the rows are not said to be those of no tree
+abbrev pub Tells : {X : Type 0} → Result X PlanFault → X → Type 0
+Tells result told = IfOk result (λ x. x ≡ told) × IfErr result (λ fault. fault ≢ faults.NotATree)
+
+-- where no look failed and nothing wrong was taken, over the rows of a tree it is what is read off them
+abbrev pub Reads : {X : Type 0} → Type 0 → (Rows → Type 0) → Result X PlanFault → (Rows → X) → Type 0
+Reads clean sees result told = look_fault result ≡ None → clean → (rows : Rows) → IsRowed rows → sees rows → Tells result (told rows)
+
+-- a row within the bounds of each tree
+pub record IsWithin (row : NodeRow) : Type 0 where
+  pub size : row.size ≤ MAX_FILE
+  pub subdirs : row.subdirs ≤ MAX_NODES
+
+-- ---- answers
+
+abbrev pub refused : Errno → Planned
+refused errno = record { answer = record { errno = errno.0; body = [] }; changes = [] }
+
+-- a refusal where there is a fault, and else what is planned
+abbrev pub refused_for : Option Errno → Planned → Planned
+refused_for (Some errno) p = refused errno
+refused_for None p = p
+
+abbrev pub told : List ℕ → Planned
+told body = record { answer = record { errno = 0; body = body }; changes = [] }
+
+-- ---- what a row tells
+
+abbrev pub row_is_named : NodeRow → Bool
+row_is_named row = (row.node == ROOT_ID) || not (row.up == 0)
+
+abbrev pub row_links : NodeRow → ℕ
+row_links row =
+    if not (row_is_named row) then 0
+    else if is_dir row.mode then 2 + row.subdirs
+    else 1
+
+abbrev pub row_attr : NodeRow → Attr
+row_attr row = record {
+  ino = row.node;
+  size = row.size;
+  blocks = (row.size + (SECTOR_SIZE - 1)) / SECTOR_SIZE;
+  atime = row.atime.secs;
+  mtime = row.mtime.secs;
+  ctime = row.ctime.secs;
+  atimensec = row.atime.nanos;
+  mtimensec = row.mtime.nanos;
+  ctimensec = row.ctime.nanos;
+  mode = row.mode;
+  nlink = row_links row;
+  uid = row.uid;
+  gid = row.gid;
+  rdev = row.rdev;
+  blksize = BLOCK_SIZE;
+  flags = 0;
+}
+
+abbrev pub entry_body : NodeRow → List ℕ
+entry_body row = entry_bytes (entry_of (row_attr row))
+
+abbrev pub attr_body : NodeRow → List ℕ
+attr_body row = attr_out_bytes (attr_out_of (row_attr row))
+
+-- ---- what an entry leads to
+
+abbrev pub child_of : Rows → Option EntryRow → Option NodeRow
+child_of rows None = None
+child_of rows (Some e) = row_at rows e.child
+
+-- the row of the node under this name in the directory
+abbrev pub child_at : Rows → ℕ → List ℕ → Option NodeRow
+child_at rows dir name = child_of rows (entry_at rows.entries dir name)
