@@ -17,3 +17,8 @@ plain_failed k = k.failed
 -- it answers want of memory alone
 abbrev pub plain_may_answer : PlainKeeper → StoreFault → Type 0
 plain_may_answer k fault = fault ≡ Memory
+
+-- what one of them holds, the other holds too
+abbrev pub HoldsSame : PlainKeeper → PlainKeeper → Type 0
+HoldsSame k k' = ((rows : Rows) (records : Records) → plain_holds k rows records → plain_holds k' rows records)
+    × ((rows : Rows) (records : Records) → plain_holds k' rows records → plain_holds k rows records)
