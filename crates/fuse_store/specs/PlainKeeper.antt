@@ -1,5 +1,5 @@
 -- What a keeper of lists holds.
-use Rattle.std.specs.Prelude.{◌≡◌, Bool}
+use Rattle.std.specs.Prelude.{◌≡◌, Bool, false}
 use Rattle.fuse_tree.specs.Rows.{Rows}
 use Rattle.fuse_tree.specs.PlainRows.{rows_of}
 use Rattle.fuse_store.specs.declared.fault.StoreFault.{StoreFault}
@@ -18,7 +18,6 @@ plain_failed k = k.failed
 abbrev pub plain_may_answer : PlainKeeper → StoreFault → Type 0
 plain_may_answer k fault = fault ≡ Memory
 
--- what one of them holds, the other holds too
-abbrev pub HoldsSame : PlainKeeper → PlainKeeper → Type 0
-HoldsSame k k' = ((rows : Rows) (records : Records) → plain_holds k rows records → plain_holds k' rows records)
-    × ((rows : Rows) (records : Records) → plain_holds k' rows records → plain_holds k rows records)
+-- the same, where no call has failed
+abbrev pub unfailed : PlainKeeper → PlainKeeper
+unfailed k = record k { failed = false }

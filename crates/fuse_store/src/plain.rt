@@ -1,5 +1,5 @@
 // A keeper of lists.
-ghost use Rattle.std.specs.Prelude.{◌≡◌, ℕ, Bool, List, false, [], length, All, IfOk, OnOk, OnErr, IfErr, IsOk};
+ghost use Rattle.std.specs.Prelude.{◌≡◌, ℕ, Bool, List, false, [], length, All, IfOk, OnOk, OnErr, IfErr, Ok};
 ghost use Rattle.fuse_tree.specs.State.{State, new_store};
 ghost use Rattle.fuse_tree.specs.Rows.{IsRowed};
 ghost use Rattle.fuse_tree.specs.PlainRows.{rows_of};
@@ -149,13 +149,11 @@ impl Keeper for PlainKeeper {
 }
 
 impl Restart for PlainKeeper {
-    ghost use Rattle.fuse_store.specs.PlainKeeper.{plain_holds, plain_failed, HoldsSame};
+    ghost use Rattle.fuse_store.specs.PlainKeeper.{unfailed};
 
-    /// The same, and as if no call had failed. Takes no memory.
+    /// The same keeper, as if no call of it had failed. Takes no memory.
     fn restart(mut self) -> Result<PlainKeeper, StoreFault>
-        ensures ok { IsOk result }
-        ensures same { IfOk result (λ k. HoldsSame self k) }
-        ensures going { IfOk result (λ k. plain_failed k ≡ false) }
+        ensures { result ≡ Ok (unfailed self) }
     {
         self.failed = false;
         Ok(self)

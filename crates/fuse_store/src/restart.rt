@@ -11,11 +11,11 @@ use crate::keeper::Keeper;
 pub trait Restart: Keeper {
     /// Opens again what it stands on. A fault leaves no keeper.
     fn restart(self) -> Result<Self, StoreFault>
-        ensures same { IfOk result (λ k. is_honest k → KeepsHeld (holds self) (holds k)) }
+        ensures same { IfOk result (λ k. Self.is_honest k → KeepsHeld (Self.holds self) (Self.holds k)) }
         // What it opens is what a crash could have left.
-        ensures left { IfOk result (λ k. is_honest k → leaves_whole self → (rows : Rows) (records : Records) → holds k rows records → may_leave self rows records) }
-        ensures firm { IfOk result (λ k. is_honest k → IsFirm (holds self) (leaves_whole self) (may_leave self) → IsFirm (holds k) (leaves_whole k) (may_leave k)) }
-        ensures may { IfOk result (λ k. (f : StoreFault) → may_answer k f → may_answer self f) }
-        ensures honest { IfOk result (λ k. is_honest k → is_honest self) }
-        ensures going { IfOk result (λ k. has_failed k ≡ false) };
+        ensures left { IfOk result (λ k. Self.is_honest k → Self.leaves_whole self → (rows : Rows) (records : Records) → Self.holds k rows records → Self.may_leave self rows records) }
+        ensures firm { IfOk result (λ k. Self.is_honest k → IsFirm (Self.holds self) (Self.leaves_whole self) (Self.may_leave self) → IsFirm (Self.holds k) (Self.leaves_whole k) (Self.may_leave k)) }
+        ensures may { IfOk result (λ k. (f : StoreFault) → Self.may_answer k f → Self.may_answer self f) }
+        ensures honest { IfOk result (λ k. Self.is_honest k → Self.is_honest self) }
+        ensures going { IfOk result (λ k. Self.has_failed k ≡ false) };
 }
