@@ -3,6 +3,7 @@
 
 mod driving;
 mod event;
+mod gathering;
 mod kernel;
 mod life;
 
