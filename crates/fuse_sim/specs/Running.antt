@@ -1,18 +1,22 @@
 -- Events as they are run, group after group.
-use Rattle.std.specs.Prelude.{◌≡◌, ◌⊎◌, ℕ, Bool, true, false, if◌then◌else◌, List, [], ◌∷◌, ◌++◌, length, map, take, drop, All, Option, None, slice_get, IfSome}
+use Rattle.std.specs.Prelude.{◌≡◌, ◌<◌, ◌⊎◌, ℕ, Bool, true, false, if◌then◌else◌, List, [], ◌∷◌, ◌++◌, length, map, take, drop, All, Option, Some, None}
 use Rattle.std.specs.List.{flat_map}
 use Rattle.fuse_wire.specs.declared.moment.Moment.{Moment}
 use Rattle.fuse_answer.specs.Said.{Said}
+use Rattle.fuse_answer.specs.Wire.{wire}
 use Rattle.fuse_request.specs.declared.request.Request.{Request}
+use Rattle.fuse_request.specs.declared.class.Class.{Class}
+use Rattle.fuse_request.specs.declared.class.Class.TheVariants.{Silent, Bare, Kept}
 use Rattle.fuse_request.specs.Classes.{class_of}
 use Rattle.fuse_tree.specs.State.{State}
 use Rattle.fuse_tree.specs.Rows.{Rows}
 use Rattle.fuse_store.specs.History.{Entry, History, is_in, ids_in, Includes}
+use Rattle.fuse_store.specs.declared.keeper.Done.{Done}
 use Rattle.fuse_store.specs.Stands.{Records, StandsFor}
 use Rattle.fuse_store.specs.declared.keeper.TheConstants.{MAX_GROUP}
 use Rattle.fuse_store.specs.Group.{entries_of}
 use Rattle.fuse_session.specs.Worked.{unique_of}
-use Rattle.fuse_session.specs.Group.{head_wire, left_by}
+use Rattle.fuse_session.specs.Group.{left_by}
 use Rattle.fuse_sim.specs.declared.event.Fate.{Fate}
 use Rattle.fuse_sim.specs.declared.event.Fate.TheVariants.{Answered, AnswerLost, DiedBeforeCommit, DiedAfterCommit}
 use Rattle.fuse_sim.specs.declared.event.Event.{Event}
@@ -57,3 +61,36 @@ handed_to (e ∷ es) pending = pending
 abbrev pub left_pending : List Entry → List ℕ → List ℕ
 left_pending [] pending = pending
 left_pending (e ∷ es) pending = []
+
+abbrev pub answers_in : List Done → List Said
+answers_in dones = map (λ d. d.answer) dones
+
+-- the answer to a message, where these answers to kept ones are left
+abbrev pub head_answer : Class → ℕ → List Said → Option (List ℕ)
+head_answer Silent unique answers = None
+head_answer (Bare errno) unique answers = Some (wire errno.0 [] unique)
+head_answer Kept unique [] = None
+head_answer Kept unique (a ∷ answers) = Some (wire a.errno a.body unique)
+
+-- what the kernel takes of it
+abbrev pub head_outcome : Event → List Said → Option (List ℕ)
+head_outcome e answers = where_taken (is_taken e.fate) (head_answer (class_of e.bytes) (unique_of e.bytes) answers)
+
+-- the outcomes of a group's events, by the answers to its kept messages
+abbrev pub outcomes_by : List Event → List Said → List (Option (List ℕ))
+outcomes_by [] answers = []
+outcomes_by (e ∷ es) answers = head_outcome e answers ∷ outcomes_by es (left_by (class_of e.bytes) answers)
+
+-- there is an answer for each kept message
+abbrev pub HasAnswers : List Event → List Said → Type 0
+HasAnswers [] answers = Unit {0}
+HasAnswers (e ∷ es) answers = (class_of e.bytes ≡ Kept → 0 < length answers) × HasAnswers es (left_by (class_of e.bytes) answers)
+
+abbrev pub settles_in : List Event → List ℕ
+settles_in events = flat_map settles events
+
+-- outcomes were added
+pub record Adds (old new : List (Option Outcome)) (outcomes : List (Option (List ℕ))) : Type 0 where
+  pub added : List (Option Outcome)
+  pub items : new ≡ old ++ added
+  pub are : map given added ≡ outcomes

@@ -1,6 +1,7 @@
 //! The kernel's side of a session, and whole mounts with their crashes.
 #![tactic(auto)]
 
+mod answering;
 mod driving;
 mod event;
 mod gathering;
