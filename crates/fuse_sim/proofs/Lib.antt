@@ -1,6 +1,7 @@
 pub mod Alone
 pub mod Gathered
 pub mod Outcomes
+pub mod Settled
 pub mod Driven
 pub mod Pendings
 pub mod Lifetimes

@@ -7,6 +7,7 @@ mod event;
 mod gathering;
 mod kernel;
 mod life;
+mod performing;
 
 pub use event::{DriveFault, Event, Fate, Outcome};
 
