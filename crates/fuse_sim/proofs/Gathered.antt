@@ -30,7 +30,7 @@ commits-append [] ys = refl
 commits-append (x ∷ xs) ys = ap (λ r. commits x ++ r) (commits-append xs ys) ∙ sym (append_assoc (commits x) (commits_in xs) (commits_in ys))
 
 -- an event that isn't lost commits its message
-commits_kept : (fate : Fate) (es : List Entry) → dies_before fate ≡ false → commits_by fate es ≡ es
+pub commits_kept : (fate : Fate) (es : List Entry) → dies_before fate ≡ false → commits_by fate es ≡ es
 commits_kept Answered es is = refl
 commits_kept AnswerLost es is = refl
 commits_kept DiedBeforeCommit es is = absurd (cc is)

@@ -10,9 +10,9 @@ use Rattle.fuse_request.specs.declared.class.Class.TheVariants.{Silent, Bare, Ke
 use Rattle.fuse_request.specs.Classes.{class_of}
 use Rattle.fuse_tree.specs.State.{State}
 use Rattle.fuse_tree.specs.Rows.{Rows}
-use Rattle.fuse_store.specs.History.{Entry, History, is_in, ids_in, Includes}
+use Rattle.fuse_store.specs.History.{Entry, History, is_in, ids_in, Includes, IsUnsettled}
 use Rattle.fuse_store.specs.declared.keeper.Done.{Done}
-use Rattle.fuse_store.specs.Stands.{Records, StandsFor}
+use Rattle.fuse_store.specs.Stands.{Records, StandsFor, OthersStay}
 use Rattle.fuse_store.specs.declared.keeper.TheConstants.{MAX_GROUP}
 use Rattle.fuse_store.specs.Group.{entries_of}
 use Rattle.fuse_session.specs.Worked.{unique_of}
@@ -94,3 +94,19 @@ pub record Adds (old new : List (Option Outcome)) (outcomes : List (Option (List
   pub added : List (Option Outcome)
   pub items : new ≡ old ++ added
   pub are : map given added ≡ outcomes
+
+-- no event of a group is lost
+abbrev pub NoneLost : List Event → Type 0
+NoneLost run = All (λ e. dies_before e.fate ≡ false) run
+
+-- a group was performed, and its outcomes were added, by any keeper
+pub record Worked (holds holds' : Rows → Records → Type 0) (honest' : Type 0) (run : List Event) (pending pending' : List ℕ) (old new : List (Option Outcome)) : Type 0 where
+  pub added : List (Option Outcome)
+  pub items : new ≡ old ++ added
+  pub stands : honest' → (s : State) (h : History) (t : List ℕ) → StandsFor holds s h t → All (IsUnsettled (t ++ handed_to (commits_in run) pending)) (commits_in run)
+      → StandsFor holds' s (committed h run) (t ++ handed_to (commits_in run) pending)
+  pub outcomes : honest' → (s : State) (h : History) (t : List ℕ) → StandsFor holds s h t → All (IsUnsettled (t ++ handed_to (commits_in run) pending)) (commits_in run)
+      → map given added ≡ map (outcome_of s (committed h run)) run
+  pub records : honest' → (rows : Rows) (records : Records) → holds rows records
+      → (rows' : Rows) × (records' : Records) × holds' rows' records' × OthersStay records (handed_to (commits_in run) pending) (commits_in run) records'
+  pub handed : pending' ≡ left_pending (commits_in run) pending ++ settles_in run
