@@ -1,5 +1,5 @@
 -- Events as they are run, group after group.
-use Rattle.std.specs.Prelude.{◌≡◌, ◌<◌, ◌⊎◌, ℕ, Bool, true, false, if◌then◌else◌, List, [], ◌∷◌, ◌++◌, length, map, take, drop, All, Option, Some, None}
+use Rattle.std.specs.Prelude.{◌≡◌, ◌<◌, ◌⊎◌, ℕ, Bool, true, false, if◌then◌else◌, List, [], ◌∷◌, ◌++◌, length, map, take, drop, All, Option, Some, None, slice_get, IfSome, IsSomeAnd}
 use Rattle.std.specs.List.{flat_map}
 use Rattle.fuse_wire.specs.declared.moment.Moment.{Moment}
 use Rattle.fuse_answer.specs.Said.{Said}
@@ -12,7 +12,7 @@ use Rattle.fuse_tree.specs.State.{State}
 use Rattle.fuse_tree.specs.Rows.{Rows}
 use Rattle.fuse_store.specs.History.{Entry, History, is_in, ids_in, Includes, IsUnsettled}
 use Rattle.fuse_store.specs.declared.keeper.Done.{Done}
-use Rattle.fuse_store.specs.Stands.{Records, StandsFor, OthersStay}
+use Rattle.fuse_store.specs.Stands.{Records, StandsFor, OthersStay, KeepsHeld}
 use Rattle.fuse_store.specs.declared.keeper.TheConstants.{MAX_GROUP}
 use Rattle.fuse_store.specs.Group.{entries_of}
 use Rattle.fuse_session.specs.Worked.{unique_of}
@@ -21,7 +21,8 @@ use Rattle.fuse_sim.specs.declared.event.Fate.{Fate}
 use Rattle.fuse_sim.specs.declared.event.Fate.TheVariants.{Answered, AnswerLost, DiedBeforeCommit, DiedAfterCommit}
 use Rattle.fuse_sim.specs.declared.event.Event.{Event}
 use Rattle.fuse_sim.specs.declared.event.Outcome.{Outcome}
-use Rattle.fuse_sim.specs.Driving.{commits_in, committed, settles, outcome_of, given, is_taken, where_taken, dies, NoneAgain, IsFit}
+use Rattle.fuse_sim.specs.declared.event.DriveFault.{DriveFault}
+use Rattle.fuse_sim.specs.Driving.{commits_in, committed, settles, outcome_of, given, is_taken, where_taken, dies, NoneAgain, IsFit, HoldsIn, event_of, before, CausedBy, OfRestart, is_store, LeftBy}
 use Rattle.fuse_sim.specs.HandedOn.{Ledger, ledger_after, handed_on}
 
 abbrev pub dies_before : Fate → Bool
@@ -110,3 +111,39 @@ pub record Worked (holds holds' : Rows → Records → Type 0) (honest' : Type 0
   pub records : honest' → (rows : Rows) (records : Records) → holds rows records
       → (rows' : Rows) × (records' : Records) × holds' rows' records' × OthersStay records (handed_to (commits_in run) pending) (commits_in run) records'
   pub handed : pending' ≡ left_pending (commits_in run) pending ++ settles_in run
+
+-- what becomes of records: those that are handed on go, and of the other ids those that don't come stay
+pub record RecordsRan (l : Ledger) (es : List Event) (records records' : Records) : Type 0 where
+  pub others : (i : ℕ) → is_in (ids_in (commits_in es)) i ≡ false → records' i ≡ (if is_in (handed_on l es) i then None else records i)
+  pub gone : (u : List ℕ) → Includes u l.pending → NoneAgain u es → (i : ℕ) → is_in (handed_on l es) i ≡ true → records' i ≡ None
+
+-- events were run, from a ledger on
+pub record Ran (holds holds' : Rows → Records → Type 0) (honest' : Type 0) (l : Ledger) (es : List Event) (old new : List (Option Outcome)) : Type 0 where
+  pub added : List (Option Outcome)
+  pub items : new ≡ old ++ added
+  pub stands : honest' → (s : State) (h : History) (t u : List ℕ) → StandsFor holds s h t → Includes u t → Includes u l.pending → NoneAgain u es
+      → StandsFor holds' s (committed h es) (t ++ handed_on l es)
+  pub outcomes : honest' → (s : State) (h : History) (t u : List ℕ) → StandsFor holds s h t → Includes u t → Includes u l.pending → NoneAgain u es
+      → map given added ≡ map (outcome_of s (committed h es)) es
+  pub records : honest' → (rows : Rows) (records : Records) → holds rows records
+      → (rows' : Rows) × (records' : Records) × holds' rows' records' × RecordsRan l es records records'
+
+-- no more kept messages are in the group that was begun, or none begins here
+abbrev pub MayBegin : Ledger → List Event → Type 0
+MayBegin l others = (l.room ≡ 0) ⊎ StartsNone others
+
+-- the first events were run, and these are pending
+pub record Moved (holds holds' : Rows → Records → Type 0) (honest' : Type 0) (l : Ledger) (es others : List Event) (pending' : List ℕ) (old new : List (Option Outcome)) : Type 0 where
+  pub fit : All IsFit es
+  pub ran : Ran holds holds' honest' l es old new
+  pub pending : pending' ≡ (ledger_after l es).pending
+  pub begin : MayBegin (ledger_after l es) others
+
+-- a fault came at the events that begin at a place: what it names, and the keeper that it leaves
+pub record Stops {K : Type 0} (holds : K → Rows → Records → Type 0) (honest clean : K → Type 0) (failed : K → Bool) (old new : Option K) (events : List Event) (at : ℕ) (fault : DriveFault) : Type 0 where
+  pub named : IsSomeAnd (slice_get events (event_of fault)) (CausedBy fault)
+  pub earlier : All IsFit (take at events) → All IsFit (before fault events)
+  pub left : LeftBy honest clean (is_store fault) new ((event_of fault ≡ at) × KeepsHeld (HoldsIn holds old) (HoldsIn holds new))
+  pub emptied : new ≡ None → OfRestart events fault
+  pub has_failed : IfSome new (λ k. failed k ≡ is_store fault)
+  pub was_honest : IsSomeAnd new honest → IsSomeAnd old honest

@@ -8,6 +8,7 @@ mod gathering;
 mod kernel;
 mod life;
 mod performing;
+mod running;
 
 pub use event::{DriveFault, Event, Fate, Outcome};
 

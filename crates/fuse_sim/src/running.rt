@@ -1,0 +1,97 @@
+// Running the events that come next: a group of them, or one that is lost.
+ghost use Rattle.std.specs.Prelude.{◌≡◌, ◌≤◌, ◌<◌, ◌+◌, ◌-◌, false, true, if◌then◌else◌, [], length, take, drop, IsSome, IsSomeAnd, IfSome, None, IfOk, IfErr, OnOk, OnErr, All, is_err, vec_capacity};
+ghost use Rattle.fuse_store.specs.Stands.{KeepsHeld};
+ghost use Rattle.fuse_store.specs.Group.{entries_of, HasId, IsKept, ids_of};
+ghost use Rattle.fuse_store.specs.declared.keeper.TheConstants.{MAX_GROUP as max_group, MAX_SETTLED as max_settled};
+ghost use Rattle.fuse_sim.specs.Driving.{HoldsIn, IsFit, commits_in, event_of, is_store};
+ghost use Rattle.fuse_sim.specs.Running.{NoneLost, Worked, Moved, Stops, StartsNone};
+
+use crate::event::{DriveFault, Event, Outcome};
+use crate::gathering::gather;
+use crate::performing::work_run;
+use fuse_request::Request;
+use fuse_store::{Restart, StoreFault};
+use fuse_wire::{Id, Moment};
+use std::alloc::{AllocError, Global};
+
+// Opens the keeper again. A fault leaves none.
+fn reopen<K: Restart>(keeper: &mut Option<K>) -> Result<(), StoreFault>
+    requires { IsSome keeper.old }
+    ensures same { OnOk result (IsSomeAnd keeper.new K.is_honest → KeepsHeld (HoldsIn K.holds keeper.old) (HoldsIn K.holds keeper.new)) }
+    ensures honest { OnOk result (IsSomeAnd keeper.new K.is_honest → IsSomeAnd keeper.old K.is_honest) }
+    ensures going { OnOk result (IsSomeAnd keeper.new (λ k. K.has_failed k ≡ false)) }
+    ensures err { OnErr result (keeper.new ≡ None) }
+{
+    let old = keeper.take().unwrap();
+    *keeper = Some(old.restart()?);
+    Ok(())
+}
+
+// Where the server dies at an event, of this number, it starts again, and nothing is pending.
+fn end_group<K: Restart>(
+    keeper: &mut Option<K>,
+    dies: bool,
+    event: usize,
+    pending: &mut Vec<Id>,
+) -> Result<(), DriveFault>
+    requires { IsSomeAnd keeper.old (λ k. K.has_failed k ≡ false) }
+    ensures same { OnOk result (IsSomeAnd keeper.new K.is_honest → KeepsHeld (HoldsIn K.holds keeper.old) (HoldsIn K.holds keeper.new)) }
+    ensures honest { OnOk result (IsSomeAnd keeper.new K.is_honest → IsSomeAnd keeper.old K.is_honest) }
+    ensures going { OnOk result (IsSomeAnd keeper.new (λ k. K.has_failed k ≡ false)) }
+    ensures pending { OnOk result (pending.new.items ≡ (if dies then [] else pending.old.items)) }
+    ensures err { OnErr result ((keeper.new ≡ None) × (dies ≡ true)) }
+    ensures fault { IfErr result (λ f. (is_store f ≡ true) × (event_of f ≡ event)) }
+{
+    if !dies {
+        return Ok(());
+    }
+    pending.clear();
+    match reopen(keeper) {
+        Ok(()) => Ok(()),
+        Err(fault) => Err(DriveFault::Store { event, fault }),
+    }
+}
+
+// Room for the outcomes of so many events, and for so many ids.
+fn make_room(
+    outcomes: &mut Vec<Option<Outcome>>,
+    events: usize,
+    pending: &mut Vec<Id>,
+    ids: usize,
+) -> Result<(), AllocError>
+    ensures outcomes { outcomes.new.items ≡ outcomes.old.items }
+    ensures pending { pending.new.items ≡ pending.old.items }
+    ensures room { OnOk result (length outcomes.new.items + events ≤ vec_capacity outcomes.new) }
+    ensures places { OnOk result (length pending.new.items + ids ≤ vec_capacity pending.new) }
+{
+    outcomes.reserve(events)?;
+    pending.reserve(ids)
+}
+
+// Performs a group that was read off events, on the keeper that is there, and gives them their outcomes.
+fn work_group<K: Restart>(
+    alloc: Global,
+    keeper: &mut Option<K>,
+    run: &[Event],
+    taken: &[(Request<'_>, Moment)],
+    pending: &mut Vec<Id>,
+    outcomes: &mut Vec<Option<Outcome>>,
+) -> Result<(), StoreFault>
+    requires fit { All IsFit run.now }
+    requires goes { NoneLost run.now }
+    requires entries { entries_of taken.now ≡ commits_in run.now }
+    requires short { length taken.now ≤ max_group }
+    requires few { length pending.old.items ≤ max_settled }
+    requires named { All HasId (entries_of taken.now) }
+    requires kept { All IsKept (entries_of taken.now) }
+    requires going { IsSomeAnd keeper.old (λ k. K.has_failed k ≡ false) }
+    requires room { length outcomes.old.items + length run.now ≤ vec_capacity outcomes.old }
+    requires places { length pending.old.items + length taken.now ≤ vec_capacity pending.old }
+    ensures ok { OnOk result (Worked (HoldsIn K.holds keeper.old) (HoldsIn K.holds keeper.new) (IsSomeAnd keeper.new K.is_honest) run.now (ids_of pending.old.items) (ids_of pending.new.items) outcomes.old.items outcomes.new.items) }
+    ensures err { OnErr result (IsSomeAnd keeper.new K.is_clean → KeepsHeld (HoldsIn K.holds keeper.old) (HoldsIn K.holds keeper.new)) }
+    ensures honest { IsSomeAnd keeper.new K.is_honest → IsSomeAnd keeper.old K.is_honest }
+    ensures failed { IsSomeAnd keeper.new (λ k. K.has_failed k ≡ is_err result) }
+{
+    let inner = keeper.as_mut().unwrap();
+    work_run(alloc, inner, run, taken, pending, outcomes)
+}
