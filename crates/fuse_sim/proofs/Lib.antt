@@ -3,6 +3,8 @@ pub mod Gathered
 pub mod Outcomes
 pub mod Settled
 pub mod Groups
+pub mod Ledgers
 pub mod Driven
+pub mod Moves
 pub mod Pendings
 pub mod Lifetimes

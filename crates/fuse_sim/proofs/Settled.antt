@@ -12,7 +12,7 @@ use Rattle.fuse_sim.specs.Running.{handed_to, left_pending}
 
 -- ---- ids
 
-tested : (b : Bool) → (b ≡ true) ⊎ (b ≡ false)
+pub tested : (b : Bool) → (b ≡ true) ⊎ (b ≡ false)
 tested true = inl refl
 tested false = inr refl
 
@@ -28,7 +28,7 @@ either : (a b : Bool) → (a || b) ≡ true → (a ≡ true) ⊎ (b ≡ true)
 either true b is = inl refl
 either false b is = inr is
 
-is_in-append : (xs ys : List ℕ) (i : ℕ) → is_in (xs ++ ys) i ≡ (is_in xs i || is_in ys i)
+pub is_in-append : (xs ys : List ℕ) (i : ℕ) → is_in (xs ++ ys) i ≡ (is_in xs i || is_in ys i)
 is_in-append [] ys i = refl
 is_in-append (x ∷ xs) ys i = elim (x == i) as (λ b. (if b then true else is_in (xs ++ ys) i) ≡ ((if b then true else is_in xs i) || is_in ys i)) [ true ↦ refl | false ↦ is_in-append xs ys i ]
 

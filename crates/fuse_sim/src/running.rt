@@ -95,3 +95,39 @@ fn work_group<K: Restart>(
     let inner = keeper.as_mut().unwrap();
     work_run(alloc, inner, run, taken, pending, outcomes)
 }
+
+// Runs the group that begins at a place, and says how many events it has.
+fn run_group<K: Restart>(
+    alloc: Global,
+    keeper: &mut Option<K>,
+    events: &[Event],
+    at: usize,
+    pending: &mut Vec<Id>,
+    outcomes: &mut Vec<Option<Outcome>>,
+) -> Result<usize, DriveFault>
+    requires begins { StartsNone (drop at events.now) → ⊥ }
+    requires few { length pending.old.items ≤ max_settled }
+    requires going { IsSomeAnd keeper.old (λ k. K.has_failed k ≡ false) }
+    ensures moves { IfOk result (λ n. 0 < n) }
+    ensures within { IfOk result (λ n. at + n ≤ length events.now) }
+    ensures ok { IfOk result (λ n. Moved (HoldsIn K.holds keeper.old) (HoldsIn K.holds keeper.new) (IsSomeAnd keeper.new K.is_honest) (record { room = 0; pending = ids_of pending.old.items })
+        (take n (drop at events.now)) (drop (at + n) events.now) (ids_of pending.new.items) outcomes.old.items outcomes.new.items) }
+    ensures few { OnOk result (length pending.new.items ≤ max_settled) }
+    ensures going { OnOk result (IsSomeAnd keeper.new (λ k. K.has_failed k ≡ false)) }
+    ensures honest { OnOk result (IsSomeAnd keeper.new K.is_honest → IsSomeAnd keeper.old K.is_honest) }
+    ensures err { IfErr result (λ fault. Stops K.holds K.is_honest K.is_clean K.has_failed keeper.old keeper.new events.now at fault) }
+{
+    let Ok(group) = gather(alloc, &events[at..]) else {
+        return Err(DriveFault::Memory { event: at });
+    };
+    let run = &events[at..at + group.count];
+    let taken = group.taken.as_slice();
+    if make_room(outcomes, run.len(), pending, taken.len()).is_err() {
+        return Err(DriveFault::Memory { event: at });
+    }
+    if let Err(fault) = work_group(alloc, keeper, run, taken, pending, outcomes) {
+        return Err(DriveFault::Store { event: at, fault });
+    }
+    end_group(keeper, group.died, at + group.count - 1, pending)?;
+    Ok(group.count)
+}
