@@ -6,5 +6,6 @@ pub mod Groups
 pub mod Ledgers
 pub mod Driven
 pub mod Moves
+pub mod Stopping
 pub mod Pendings
 pub mod Lifetimes

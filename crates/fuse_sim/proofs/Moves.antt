@@ -3,6 +3,7 @@ use Rattle.std.proofs.Common.{◌≡◌, ◌⊎◌, inl, inr, ⊎_elim, ℕ, zer
 use Rattle.std.proofs.lemmas.List.{append-nil, map-append, length-map}
 use Rattle.std.proofs.lemmas.List.Elements.{All-nil, All-cons}
 use Rattle.fuse_wire.specs.declared.moment.Moment.{Moment}
+use Rattle.fuse_wire.specs.declared.id.Id.{Id}
 use Rattle.fuse_answer.specs.Said.{Said}
 use Rattle.fuse_request.specs.declared.request.Request.{Request}
 use Rattle.fuse_request.specs.Classes.{class_of}
@@ -10,7 +11,7 @@ use Rattle.fuse_tree.specs.State.{State}
 use Rattle.fuse_tree.specs.Rows.{Rows}
 use Rattle.fuse_store.specs.History.{Entry, entry_id, History, HistoriesGrow, grown, is_in, ids_in, Includes, IsUnsettled}
 use Rattle.fuse_store.specs.Stands.{Records, StandsFor, KeepsHeld, OthersStay}
-use Rattle.fuse_store.specs.Group.{entry_of, entries_of}
+use Rattle.fuse_store.specs.Group.{entry_of, entries_of, ids_of}
 use Rattle.fuse_session.specs.Worked.{entry_if, message_entry, unique_of}
 use Rattle.fuse_sim.specs.declared.event.Fate.{Fate}
 use Rattle.fuse_sim.specs.declared.event.Fate.TheVariants.{Answered, AnswerLost, DiedBeforeCommit, DiedAfterCommit}
@@ -21,7 +22,7 @@ use Rattle.fuse_sim.specs.HandedOn.{Ledger, fresh, handed_at, handed_on, ledger_
 use Rattle.fuse_sim.specs.Running.{dies_before, IsRun, StartsNone, Gathers, NoneLost, handed_to, left_pending, settles_in, RecordsRan, Ran, MayBegin, Moved, Worked}
 use Rattle.fuse_sim.proofs.Gathered.{commits-append}
 use Rattle.fuse_sim.proofs.Settled.{is_in-append, tested, includes_both, in_either, unsettled_too, stands_kept}
-use Rattle.fuse_sim.proofs.Ledgers.{RunLedger, run_begins}
+use Rattle.fuse_sim.proofs.Ledgers.{RunLedger, run_begins, few_pending}
 use Rattle.fuse_sim.proofs.Driven.{committed-append, outcomes-append, all_unsettled_too, none_again, again-parts, pending_settled, handed_settled, settled_all, ledger-append, handed-append}
 
 -- ---- records
@@ -219,3 +220,17 @@ group_moved holds mid holds' honest honest' died run slice others taken p p_mid 
       pending = left ∙ ap (λ (x : List ℕ). if died then [] else x) worked.handed ∙ sym ledger.pending_is;
       begin = may_begin died (record { room = 0; pending = p }) run others _ _ ledger (stops_at run others taken died gathers.entries stops);
     }
+
+pub ids_left : (died : Bool) (pending' pending : List Id) → pending' ≡ (if died then [] else pending) → ids_of pending' ≡ (if died then [] else ids_of pending)
+ids_left true pending' pending is = ap ids_of is
+ids_left false pending' pending is = ap ids_of is
+
+few_if : (died : Bool) (pending' pending : List Id) (n : ℕ) → pending' ≡ (if died then [] else pending) → length pending ≤ n → length pending' ≤ n
+few_if true pending' pending n is few = omega (arith, ap length is)
+few_if false pending' pending n is few = omega (arith, ap length is, few)
+
+-- no more than 16 are pending
+pub few_left : (died : Bool) (run : List Event) (old pending pending' : List Id) (n : ℕ) → pending' ≡ (if died then [] else pending) → ids_of pending ≡ left_pending (commits_in run) (ids_of old) ++ settles_in run
+    → length old ≤ n → length (commits_in run) ≤ n → length pending' ≤ n
+few_left died run old pending pending' n left handed few many = few_if died pending' pending n left
+    (omega (arith, ap length handed, length-map pending (λ (id : Id). id.0), few_pending run (ids_of old) n (omega (arith, few, length-map old (λ (id : Id). id.0))) many))

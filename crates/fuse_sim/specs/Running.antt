@@ -44,6 +44,11 @@ abbrev pub StartsNone : List Event → Type 0
 StartsNone [] = Unit {0}
 StartsNone (e ∷ es) = (dies_before e.fate ≡ true) ⊎ ¬ IsFit e
 
+-- a group begins here
+abbrev pub Begins : List Event → Type 0
+Begins [] = ⊥
+Begins (e ∷ es) = IsFit e × (dies_before e.fate ≡ false)
+
 -- a group with these requests ends before an event
 abbrev pub EndsWith : List (Request × Moment) → Event → Type 0
 EndsWith taken e = (length taken ≡ MAX_GROUP) ⊎ ((dies_before e.fate ≡ true) ⊎ ¬ IsFit e)

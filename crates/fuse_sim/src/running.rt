@@ -4,7 +4,7 @@ ghost use Rattle.fuse_store.specs.Stands.{KeepsHeld};
 ghost use Rattle.fuse_store.specs.Group.{entries_of, HasId, IsKept, ids_of};
 ghost use Rattle.fuse_store.specs.declared.keeper.TheConstants.{MAX_GROUP as max_group, MAX_SETTLED as max_settled};
 ghost use Rattle.fuse_sim.specs.Driving.{HoldsIn, IsFit, commits_in, event_of, is_store};
-ghost use Rattle.fuse_sim.specs.Running.{NoneLost, Worked, Moved, Stops, StartsNone};
+ghost use Rattle.fuse_sim.specs.Running.{NoneLost, Worked, Moved, Stops, Begins};
 
 use crate::event::{DriveFault, Event, Outcome};
 use crate::gathering::gather;
@@ -105,7 +105,7 @@ fn run_group<K: Restart>(
     pending: &mut Vec<Id>,
     outcomes: &mut Vec<Option<Outcome>>,
 ) -> Result<usize, DriveFault>
-    requires begins { StartsNone (drop at events.now) → ⊥ }
+    requires begins { Begins (drop at events.now) }
     requires few { length pending.old.items ≤ max_settled }
     requires going { IsSomeAnd keeper.old (λ k. K.has_failed k ≡ false) }
     ensures moves { IfOk result (λ n. 0 < n) }
