@@ -13,7 +13,7 @@ use Rattle.fuse_wire.specs.declared.moment.Moment.{Moment}
 use Rattle.fuse_store.specs.History.{Entry, entry_id, History, HistoriesGrow, add, grown, said, is_in, ids_in, Includes, IsUnsettled}
 use Rattle.fuse_store.specs.Stands.{Records, StandsFor, KeepsHeld, OthersStay}
 use Rattle.fuse_session.specs.Worked.{entry_if, message_entry, message_id, unique_of}
-use Rattle.fuse_session.specs.Settling.{comes_again, MayCome}
+use Rattle.fuse_session.specs.Settling.{settles_if, comes_again, MayCome}
 use Rattle.fuse_sim.specs.declared.event.Fate.{Fate}
 use Rattle.fuse_sim.specs.declared.event.Fate.TheVariants.{Answered, AnswerLost, DiedBeforeCommit, DiedAfterCommit}
 use Rattle.fuse_sim.specs.declared.event.Event.{Event}
@@ -123,7 +123,7 @@ settled_still u [] i there = there
 settled_still u (e ∷ es) i there = settled_still (u ++ settles e) es i (includes_left u (settles e) i there)
 
 -- what is pending, and what is handed on, was settled
-includes_none : (u : List ℕ) → Includes u []
+pub includes_none : (u : List ℕ) → Includes u []
 includes_none u i there = absurd (cc there)
 
 pending_joined : (u p settled : List ℕ) (room : ℕ) → Includes u p → Includes (u ++ settled) (joined room p settled).pending
@@ -170,3 +170,25 @@ pub handed-append : (l : Ledger) (xs ys : List Event) → handed_on l (xs ++ ys)
 handed-append l [] ys = refl
 handed-append l (x ∷ xs) ys = ap (λ (r : List ℕ). handed_at (commits x) l ++ r) (handed-append (after_event l x) xs ys)
     ∙ sym (append_assoc (handed_at (commits x) l) (handed_on (after_event l x) xs) (handed_on (ledger_after (after_event l x) xs) ys))
+
+-- what is settled came
+settles_came_by : (fate : Fate) (class : Class) (bytes : List ℕ) (moment : Moment) → Includes (ids_in (commits_by fate (entry_if class (message_entry bytes moment)))) (settles_if (is_taken fate) class (message_id bytes))
+settles_came_by Answered Silent bytes moment = includes_none []
+settles_came_by Answered (Bare errno) bytes moment = includes_none []
+settles_came_by Answered Kept bytes moment = λ i there. there
+settles_came_by AnswerLost class bytes moment = includes_none _
+settles_came_by DiedBeforeCommit class bytes moment = includes_none []
+settles_came_by DiedAfterCommit class bytes moment = includes_none _
+
+settled_came : (u : List ℕ) (es : List Event) → Includes (u ++ ids_in (commits_in es)) (settled_by u es)
+settled_came u [] = includes_left u []
+settled_came u (e ∷ es) =
+    let ids : ids_in (commits_in (e ∷ es)) ≡ ids_in (commits e) ++ ids_in (commits_in es) = map-append entry_id (commits e) (commits_in es) in
+    let whole = u ++ ids_in (commits_in (e ∷ es)) in
+    let here : Includes whole (ids_in (commits e)) = λ i there. includes_right u (ids_in (commits_in (e ∷ es))) i (ap (λ x. is_in x i) ids ∙ includes_left (ids_in (commits e)) (ids_in (commits_in es)) i there) in
+    let later : Includes whole (ids_in (commits_in es)) = λ i there. includes_right u (ids_in (commits_in (e ∷ es))) i (ap (λ x. is_in x i) ids ∙ includes_right (ids_in (commits e)) (ids_in (commits_in es)) i there) in
+    let first : Includes whole (u ++ settles e) = includes_both whole u (settles e) (includes_left u (ids_in (commits_in (e ∷ es)))) (λ i there. here i (settles_came_by e.fate (class_of e.bytes) e.bytes e.moment i there)) in
+    λ i there. includes_both whole (u ++ settles e) (ids_in (commits_in es)) first later i (settled_came (u ++ settles e) es i there)
+
+pub handed_came : (es : List Event) → Includes (ids_in (commits_in es)) (handed_on fresh es)
+handed_came es i there = settled_came [] es i (handed_settled [] fresh es (includes_none []) i there)

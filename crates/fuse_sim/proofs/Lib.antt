@@ -7,5 +7,6 @@ pub mod Ledgers
 pub mod Driven
 pub mod Moves
 pub mod Stopping
+pub mod Endings
 pub mod Pendings
 pub mod Lifetimes

@@ -1,5 +1,5 @@
 -- Events that were run, group after group.
-use Rattle.std.proofs.Common.{◌≡◌, ◌⊎◌, inl, inr, ⊎_elim, ℕ, zero, suc, ◌+◌, ◌-◌, ◌≤◌, ◌<◌, Bool, true, false, ◌||◌, ◌==◌, if◌then◌else◌, List, [], ◌∷◌, ◌++◌, length, map, take, drop, get_or, All, Option, Some, None, refl, sym, ap, subst, ◌∙◌, append_assoc, arith}
+use Rattle.std.proofs.Common.{◌≡◌, ◌⊎◌, inl, inr, ⊎_elim, ℕ, zero, suc, ◌+◌, ◌-◌, ◌≤◌, ◌<◌, Bool, true, false, ◌||◌, ◌==◌, if◌then◌else◌, List, [], ◌∷◌, ◌++◌, length, map, take, drop, get_or, All, Option, Some, None, refl, sym, ap, subst, ◌∙◌, append_assoc, drop-cons, arith}
 use Rattle.std.proofs.lemmas.List.{append-nil, map-append, length-map}
 use Rattle.std.proofs.lemmas.List.Elements.{All-nil, All-cons}
 use Rattle.fuse_wire.specs.declared.moment.Moment.{Moment}
@@ -17,10 +17,10 @@ use Rattle.fuse_sim.specs.declared.event.Fate.{Fate}
 use Rattle.fuse_sim.specs.declared.event.Fate.TheVariants.{Answered, AnswerLost, DiedBeforeCommit, DiedAfterCommit}
 use Rattle.fuse_sim.specs.declared.event.Event.{Event}
 use Rattle.fuse_sim.specs.declared.event.Outcome.{Outcome}
-use Rattle.fuse_sim.specs.Driving.{commits, commits_by, commits_in, committed, outcome_of, given, is_taken, where_taken, answer_in, settled_by, NoneAgain, IsFit, dies}
-use Rattle.fuse_sim.specs.HandedOn.{Ledger, fresh, handed_at, handed_on, ledger_after}
-use Rattle.fuse_sim.specs.Running.{dies_before, IsRun, StartsNone, Gathers, NoneLost, handed_to, left_pending, settles_in, RecordsRan, Ran, MayBegin, Moved, Worked}
-use Rattle.fuse_sim.proofs.Gathered.{commits-append}
+use Rattle.fuse_sim.specs.Driving.{commits, commits_by, commits_in, committed, outcome_of, given, is_taken, where_taken, answer_in, settles, settled_by, NoneAgain, IsFit, dies}
+use Rattle.fuse_sim.specs.HandedOn.{Ledger, fresh, after_commit, crashed_if, handed_at, handed_on, ledger_after}
+use Rattle.fuse_sim.specs.Running.{dies_before, IsRun, StartsNone, Begins, Gathers, NoneLost, handed_to, left_pending, settles_in, RecordsRan, Ran, MayBegin, Moved, Worked}
+use Rattle.fuse_sim.proofs.Gathered.{commits-append, only_one}
 use Rattle.fuse_sim.proofs.Settled.{is_in-append, tested, includes_both, in_either, unsettled_too, stands_kept}
 use Rattle.fuse_sim.proofs.Ledgers.{RunLedger, run_begins, few_pending}
 use Rattle.fuse_sim.proofs.Driven.{committed-append, outcomes-append, all_unsettled_too, none_again, again-parts, pending_settled, handed_settled, settled_all, ledger-append, handed-append}
@@ -234,3 +234,45 @@ pub few_left : (died : Bool) (run : List Event) (old pending pending' : List Id)
     → length old ≤ n → length (commits_in run) ≤ n → length pending' ≤ n
 few_left died run old pending pending' n left handed few many = few_if died pending' pending n left
     (omega (arith, ap length handed, length-map pending (λ (id : Id). id.0), few_pending run (ids_of old) n (omega (arith, few, length-map old (λ (id : Id). id.0))) many))
+
+-- ---- what comes next
+
+begins_not : (es : List Event) → Begins es → StartsNone es → ⊥
+begins_not [] begins none = absurd begins
+begins_not (e ∷ es) begins none = elim none [
+  | inl lost ↦ absurd (let goes_on = begins.1 in cc (lost, goes_on))
+  | inr unfit ↦ unfit begins.0
+]
+
+begins_with : (l : Ledger) (p : List ℕ) (others : List Event) → l.pending ≡ p → MayBegin l others → Begins others → record { room = 0; pending = p } ≡ l
+begins_with l p others same may begins =
+    let room : l.room ≡ 0 = elim may [ inl none ↦ none | inr ends ↦ absurd (begins_not others begins ends) ] in
+    ap (λ (q : List ℕ). record { room = 0; pending = q }) (sym same) ∙ ap (λ (n : ℕ). record { room = n; pending = l.pending }) (sym room)
+
+pub begins_at : (events : List Event) (at : ℕ) (e : Event) → at < length events → e ≡ get_or events at e → IsFit e → dies_before e.fate ≡ false → Begins (drop at events)
+begins_at events at e lt is fit goes_on = subst Begins (sym (drop-cons events at e lt)) (subst (λ (x : Event). IsFit x × (dies_before x.fate ≡ false)) is (fit, goes_on))
+
+pub next_moved : (holds holds' : Rows → Records → Type 0) (honest' : Type 0) (p p' : List ℕ) (run others rest : List Event) (old new : List (Option Outcome)) → Begins others
+    → Moved holds holds' honest' (record { room = 0; pending = p }) run rest p' old new → (l : Ledger) → l.pending ≡ p → MayBegin l others → Moved holds holds' honest' l run rest p' old new
+next_moved holds holds' honest' p p' run others rest old new begins moved l same may =
+    subst (λ x. Moved holds holds' honest' x run rest p' old new) (begins_with l p others same may begins) moved
+
+is_lost : (fate : Fate) → dies_before fate ≡ true → fate ≡ DiedBeforeCommit
+is_lost Answered is = absurd (cc is)
+is_lost AnswerLost is = absurd (cc is)
+is_lost DiedBeforeCommit is = refl
+is_lost DiedAfterCommit is = absurd (cc is)
+
+pub lost_moved : (holds holds' : Rows → Records → Type 0) (honest' : Type 0) (l : Ledger) (events rest : List Event) (at : ℕ) (e : Event) (p' : List ℕ) (old new : List (Option Outcome))
+    → at < length events → e ≡ get_or events at e → IsFit e → dies_before e.fate ≡ true → new ≡ old ++ None ∷ [] → p' ≡ [] → (honest' → KeepsHeld holds holds')
+    → Moved holds holds' honest' l (take 1 (drop at events)) rest p' old new
+lost_moved holds holds' honest' l events rest at e p' old new lt is fit before pushed none keeps =
+    let lost = is_lost e.fate before in
+    let one : e ∷ [] ≡ take 1 (drop at events) = ap (λ (x : Event). x ∷ []) is ∙ ap (take 1) (sym (drop-cons events at e lt)) in
+    let crashed : ledger_after l (e ∷ []) ≡ fresh = ap (λ f. crashed_if (dies f) (after_commit (commits e) l (settles e))) lost in
+    subst (λ run. Moved holds holds' honest' l run rest p' old new) one (record {
+      fit = only_one IsFit e fit;
+      ran = lost_ran holds holds' honest' l e old new lost pushed keeps;
+      pending = none ∙ ap (λ (x : Ledger). x.pending) (sym crashed);
+      begin = inl (ap (λ (x : Ledger). x.room) crashed);
+    })

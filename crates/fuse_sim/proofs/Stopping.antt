@@ -7,6 +7,7 @@ use Rattle.fuse_tree.specs.Rows.{Rows}
 use Rattle.fuse_store.specs.declared.fault.StoreFault.{StoreFault}
 use Rattle.fuse_store.specs.Stands.{Records, KeepsHeld}
 use Rattle.fuse_sim.specs.declared.event.Fate.{Fate}
+use Rattle.fuse_sim.specs.declared.event.Fate.TheVariants.{Answered, AnswerLost, DiedBeforeCommit, DiedAfterCommit}
 use Rattle.fuse_sim.specs.declared.event.Event.{Event}
 use Rattle.fuse_sim.specs.declared.event.DriveFault.{DriveFault}
 use Rattle.fuse_sim.specs.declared.event.DriveFault.TheVariants.{NotAMessage, ZeroUnique, Store, Memory}
@@ -160,3 +161,9 @@ begins_some (e ∷ events) begins = omega arith
 -- the group lies within the events
 pub within_rest : (events : List Event) (at count : ℕ) → Begins (drop at events) → count ≤ length (take (length events - at) (drop at events)) → at + count ≤ length events
 within_rest events at count begins within = omega (arith, within, ap length (whole_rest events at), length-drop at events, begins_some (drop at events) begins)
+
+pub lost_dies : (fate : Fate) → dies_before fate ≡ true → dies fate ≡ true
+lost_dies Answered is = absurd (cc is)
+lost_dies AnswerLost is = absurd (cc is)
+lost_dies DiedBeforeCommit is = refl
+lost_dies DiedAfterCommit is = refl

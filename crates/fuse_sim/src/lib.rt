@@ -10,6 +10,7 @@ mod life;
 mod performing;
 mod running;
 
+pub use driving::drive;
 pub use event::{DriveFault, Event, Fate, Outcome};
 
 #[cfg(test)]

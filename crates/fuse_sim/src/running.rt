@@ -4,10 +4,11 @@ ghost use Rattle.fuse_store.specs.Stands.{KeepsHeld};
 ghost use Rattle.fuse_store.specs.Group.{entries_of, HasId, IsKept, ids_of};
 ghost use Rattle.fuse_store.specs.declared.keeper.TheConstants.{MAX_GROUP as max_group, MAX_SETTLED as max_settled};
 ghost use Rattle.fuse_sim.specs.Driving.{HoldsIn, IsFit, commits_in, event_of, is_store};
-ghost use Rattle.fuse_sim.specs.Running.{NoneLost, Worked, Moved, Stops, Begins};
+ghost use Rattle.fuse_sim.specs.HandedOn.{Ledger};
+ghost use Rattle.fuse_sim.specs.Running.{NoneLost, Worked, Moved, Stops, Begins, MayBegin};
 
 use crate::event::{DriveFault, Event, Outcome};
-use crate::gathering::gather;
+use crate::gathering::{gather, is_before_commit, test_event};
 use crate::performing::work_run;
 use fuse_request::Request;
 use fuse_store::{Restart, StoreFault};
@@ -130,4 +131,39 @@ fn run_group<K: Restart>(
     }
     end_group(keeper, group.died, at + group.count - 1, pending)?;
     Ok(group.count)
+}
+
+/// Runs what comes next: the group that begins at a place, or an event that is lost. Says how many events those are.
+pub(crate) fn run_next<K: Restart>(
+    alloc: Global,
+    keeper: &mut Option<K>,
+    events: &[Event],
+    at: usize,
+    pending: &mut Vec<Id>,
+    outcomes: &mut Vec<Option<Outcome>>,
+) -> Result<usize, DriveFault>
+    requires at { at < length events.now }
+    requires few { length pending.old.items ≤ max_settled }
+    requires going { IsSomeAnd keeper.old (λ k. K.has_failed k ≡ false) }
+    ensures moves { IfOk result (λ n. 0 < n) }
+    ensures within { IfOk result (λ n. at + n ≤ length events.now) }
+    ensures ok { IfOk result (λ n. (l : Ledger) → l.pending ≡ ids_of pending.old.items → MayBegin l (drop at events.now)
+        → Moved (HoldsIn K.holds keeper.old) (HoldsIn K.holds keeper.new) (IsSomeAnd keeper.new K.is_honest) l
+        (take n (drop at events.now)) (drop (at + n) events.now) (ids_of pending.new.items) outcomes.old.items outcomes.new.items) }
+    ensures few { OnOk result (length pending.new.items ≤ max_settled) }
+    ensures going { OnOk result (IsSomeAnd keeper.new (λ k. K.has_failed k ≡ false)) }
+    ensures honest { OnOk result (IsSomeAnd keeper.new K.is_honest → IsSomeAnd keeper.old K.is_honest) }
+    ensures err { IfErr result (λ fault. Stops K.holds K.is_honest K.is_clean K.has_failed keeper.old keeper.new events.now at fault) }
+{
+    let event = &events[at];
+    test_event(event, at)?;
+    if !is_before_commit(event.fate) {
+        return run_group(alloc, keeper, events, at, pending, outcomes);
+    }
+    if make_room(outcomes, 1, pending, 0).is_err() {
+        return Err(DriveFault::Memory { event: at });
+    }
+    end_group(keeper, true, at, pending)?;
+    outcomes.push_reserved(None);
+    Ok(1)
 }
