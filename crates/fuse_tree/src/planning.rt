@@ -15,6 +15,7 @@ mod getattr;
 mod lookup;
 mod make;
 mod mkdir;
+mod mknod;
 mod names;
 
 use crate::look::Look;
@@ -27,6 +28,7 @@ use fuse_wire::{Errno, Moment};
 use getattr::plan_getattr;
 use lookup::plan_lookup;
 use mkdir::plan_mkdir;
+use mknod::plan_mknod;
 use std::alloc::Global;
 
 /// What the request answers in the tree whose rows lie behind `look`, and which rows it changes.
@@ -93,10 +95,15 @@ fn plan_op<L: Look>(
         Op::Mkdir { mode, name, .. } => {
             plan_mkdir(look, alloc, &request.header, *mode, name, now, row)
         }
+        Op::Mknod {
+            mode,
+            rdev,
+            name,
+            ..
+        } => plan_mknod(look, alloc, &request.header, *mode, *rdev, name, now, row),
         Op::Destroy => Ok(done_nothing(alloc)),
         Op::Forget { .. }
         | Op::Setattr(_)
-        | Op::Mknod { .. }
         | Op::Unlink { .. }
         | Op::Rmdir { .. }
         | Op::Rename { .. }

@@ -8,6 +8,8 @@ use fuse_wire::{ByteList, Moment};
 use std::alloc::Global;
 use std::test::*;
 
+mod mknod;
+
 // The definitions answer the first run so.
 #[tactic(auto, unfolding(crate::specs::Do::done))]
 fn first_run()
