@@ -5,9 +5,11 @@ pub mod PlainRows
 pub mod Clearing
 pub mod Done
 pub mod Making
+pub mod Removing
 pub mod Do
 pub mod Plan
 pub mod Reading
 pub mod PlanMaking
+pub mod PlanRemoving
 pub mod Planning
 pub mod Vectors
