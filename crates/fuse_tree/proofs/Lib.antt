@@ -4,6 +4,8 @@ pub mod Bounds
 pub mod Counts
 mod Fit
 pub mod Fitting
+mod InitAgrees
+mod InitFits
 pub mod Lists
 pub mod Making
 mod MakingAgrees

@@ -4,10 +4,12 @@ pub mod NumbersOnce
 pub mod PlainRows
 pub mod Clearing
 pub mod Done
+pub mod Init
 pub mod Making
 pub mod Do
 pub mod Plan
 pub mod Reading
+pub mod PlanInit
 pub mod PlanMaking
 pub mod Planning
 pub mod Vectors

@@ -92,3 +92,17 @@ pub(crate) fn find_counters<L: Look>(look: &mut L) -> Result<Counters, PlanFault
         Err(fault) => Err(PlanFault::Look(fault)),
     }
 }
+
+// Whether an INIT is agreed on.
+pub(crate) fn has_settings<L: Look>(look: &mut L) -> Result<bool, PlanFault>
+    requires { L.fault look.old ≡ None }
+    ensures settled { Reads (L.is_clean look.new) (L.sees look.old) result (λ rows. is_some rows.settings) }
+    ensures fault { L.fault look.new ≡ look_fault result }
+    ensures looks { look_fault result ≡ None → L.looks look.old look.new }
+    ensures fails { OnErr result (L.fails look.old look.new) }
+{
+    match look.settings() {
+        Ok(settings) => Ok(settings.is_some()),
+        Err(fault) => Err(PlanFault::Look(fault)),
+    }
+}
