@@ -14,7 +14,7 @@ use Rattle.fuse_tree.specs.Rows.{Rows, row_at}
 use Rattle.fuse_tree.specs.Do.{names_node, offer_of}
 use Rattle.fuse_tree.specs.Reading.{refused, refused_for, told, row_is_named, entry_body, attr_body, child_at}
 use Rattle.fuse_tree.specs.PlanInit.{plan_init}
-use Rattle.fuse_tree.specs.PlanMaking.{plan_mkdir}
+use Rattle.fuse_tree.specs.PlanMaking.{plan_mkdir, plan_mknod}
 
 -- ---- LOOKUP
 
@@ -36,6 +36,7 @@ abbrev pub plan_act : InHeader → Act → Moment → NodeRow → Rows → Plann
 plan_act header (acts.Lookup name) now row rows = plan_lookup name row rows
 plan_act header (acts.Getattr flags fh) now row rows = told (attr_body row)
 plan_act header (acts.Mkdir mode umask name) now row rows = plan_mkdir header mode name now row rows
+plan_act header (acts.Mknod mode rdev umask name) now row rows = plan_mknod header mode rdev name now row rows
 plan_act header acts.Destroy now row rows = told []
 plan_act header _ now row rows = refused ENOSYS
 

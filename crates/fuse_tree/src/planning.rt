@@ -16,6 +16,7 @@ mod init;
 mod lookup;
 mod make;
 mod mkdir;
+mod mknod;
 mod names;
 
 use crate::look::Look;
@@ -29,6 +30,7 @@ use getattr::plan_getattr;
 use init::plan_init;
 use lookup::plan_lookup;
 use mkdir::plan_mkdir;
+use mknod::plan_mknod;
 use std::alloc::Global;
 
 /// What the request answers in the tree whose rows lie behind `look`, and which rows it changes.
@@ -118,10 +120,15 @@ fn plan_op<L: Look>(
         Op::Mkdir { mode, name, .. } => {
             plan_mkdir(look, alloc, &request.header, *mode, name, now, row)
         }
+        Op::Mknod {
+            mode,
+            rdev,
+            name,
+            ..
+        } => plan_mknod(look, alloc, &request.header, *mode, *rdev, name, now, row),
         Op::Destroy => Ok(done_nothing(alloc)),
         Op::Forget { .. }
         | Op::Setattr(_)
-        | Op::Mknod { .. }
         | Op::Unlink { .. }
         | Op::Rmdir { .. }
         | Op::Rename { .. }

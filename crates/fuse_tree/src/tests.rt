@@ -17,6 +17,9 @@ fn inits()
 {}
 
 // They answer the first run so.
+mod mknod;
+
+// The definitions answer the first run so.
 #[tactic(auto, unfolding(crate::specs::Do::done))]
 fn first_run()
     ensures { FirstRun }
