@@ -4,13 +4,13 @@ use Rattle.fuse_wire.specs.declared.access_mode.AccessMode.{AccessMode}
 use Rattle.fuse_tree.specs.declared.rows.HandleRow.{HandleRow}
 use Rattle.fuse_tree.specs.Rows.{handle_at}
 
-abbrev pub access_of : ℕ → Option HandleRow → Option AccessMode
-access_of node None = None
-access_of node (Some h) = if h.node == node then Some h.access else None
+abbrev pub access_in : ℕ → Option HandleRow → Option AccessMode
+access_in node None = None
+access_in node (Some h) = if h.node == node then Some h.access else None
 
 -- what fh is open for at this node: none where it isn't open, or is of another node
 abbrev pub access_at : List HandleRow → ℕ → ℕ → Option AccessMode
-access_at handles fh node = access_of node (handle_at handles fh)
+access_at handles fh node = access_in node (handle_at handles fh)
 
 -- fh is open at this node
 abbrev pub is_open : List HandleRow → ℕ → ℕ → Bool
