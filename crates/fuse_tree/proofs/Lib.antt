@@ -4,6 +4,7 @@ pub mod Bounds
 pub mod Counts
 mod Fit
 pub mod Fitting
+pub mod Heights
 pub mod Lists
 pub mod Making
 mod MakingAgrees
