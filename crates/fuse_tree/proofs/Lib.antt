@@ -16,3 +16,4 @@ pub mod Puts
 pub mod Telling
 pub mod Trees
 pub mod Ups
+pub mod Walking

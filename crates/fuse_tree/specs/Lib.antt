@@ -5,6 +5,7 @@ pub mod PlainRows
 pub mod Clearing
 pub mod Done
 pub mod Making
+pub mod Renaming
 pub mod Do
 pub mod Plan
 pub mod Reading

@@ -16,6 +16,7 @@ mod lookup;
 mod make;
 mod mkdir;
 mod names;
+mod walking;
 
 use crate::look::Look;
 use crate::rows::{NodeRow, Planned};
