@@ -1,17 +1,16 @@
 -- What the walk upwards reads off the rows of a tree.
-use Rattle.std.proofs.Common.{◌≡◌, ◌==◌, ◌≤◌, ◌<◌, ◌≢◌, ◌+◌, ◌-◌, ◌||◌, ℕ, zero, suc, Bool, true, false, eqb, List, length, Option, Some, None, refl, sym, ap, subst, ◌∙◌, add-one, arith}
+use Rattle.std.proofs.Common.{◌≡◌, ◌==◌, ◌≤◌, ◌<◌, ◌≢◌, ◌+◌, ◌-◌, ◌||◌, ℕ, zero, suc, Bool, true, false, eqb, List, Option, Some, None, refl, sym, ap, subst, ◌∙◌, arith}
 use Rattle.std.specs.Option.{option_map}
-use Rattle.std.specs.List.{AllByRecursion, list_any}
 use Rattle.std.proofs.lemmas.Bool.{eqb-true, eqb-false, ne_eqb, eq-eqb}
 use Rattle.fuse_tree.specs.declared.rows.EntryRow.{EntryRow}
 use Rattle.fuse_tree.specs.declared.rows.NodeRow.{NodeRow}
 use Rattle.fuse_tree.specs.State.{State, Node, Tree, IsEntry, has_number, node_at, up_of, above}
-use Rattle.fuse_tree.specs.Rows.{Rows, IsRowed, row_of, rowed, rows_of_state, row_at}
+use Rattle.fuse_tree.specs.Rows.{Rows, IsRowed, row_of, rows_of_state, row_at}
 use Rattle.fuse_tree.specs.Renaming.{leads_to}
 use Rattle.fuse_tree.proofs.Lists.{all_more, any_gives, none_found}
 use Rattle.fuse_tree.proofs.Puts.{row_found, node_found}
 use Rattle.fuse_tree.proofs.Bounds.{map_none, rowed_is}
-use Rattle.fuse_tree.proofs.Heights.{IsRooted, rooted, up_none, above_on, stays_none, ends_within}
+use Rattle.fuse_tree.proofs.Heights.{rooted, up_none, above_on, stays_none, ends_within}
 
 -- ---- the directory above
 

@@ -10,5 +10,5 @@ invariant-loop-step g l = record {
   fault : g.L.Look.fault l.look ≡ None;
   looks : g.L.Look.looks l.fn.look l.look;
   way : g.L.Look.is_clean l.look → (rows : Rows) → IsRowed rows → g.L.Look.sees l.fn.look rows
-      → (above rows.entries l.step l.dir ≡ l.place) × (leads_to rows.entries l.step l.node l.dir ≡ false);
+      → (above rows.entries l._step l.dir ≡ l.place) × (leads_to rows.entries l._step l.node l.dir ≡ false);
 }
