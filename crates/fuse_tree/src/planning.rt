@@ -16,6 +16,7 @@ mod lookup;
 mod make;
 mod mkdir;
 mod names;
+mod rename;
 mod walking;
 
 use crate::look::Look;
