@@ -6,6 +6,7 @@ mod Fit
 pub mod Fitting
 mod InitAgrees
 mod InitFits
+pub mod Heights
 pub mod Lists
 pub mod Making
 mod MakingAgrees
@@ -17,3 +18,4 @@ pub mod Puts
 pub mod Telling
 pub mod Trees
 pub mod Ups
+pub mod Walking

@@ -7,6 +7,7 @@ pub mod Clearing
 pub mod Done
 pub mod Init
 pub mod Making
+pub mod Renaming
 pub mod Do
 pub mod Plan
 pub mod Reading

@@ -18,6 +18,8 @@ mod make;
 mod mkdir;
 mod mknod;
 mod names;
+mod rename;
+mod walking;
 
 use crate::look::Look;
 use crate::rows::{NodeRow, Planned};
