@@ -4,9 +4,9 @@ pub mod Bounds
 pub mod Counts
 mod Fit
 pub mod Fitting
+pub mod Heights
 mod InitAgrees
 mod InitFits
-pub mod Heights
 pub mod Lists
 pub mod Making
 mod MakingAgrees
