@@ -34,7 +34,7 @@ profile =
     ∷ later READ (codes "READ") (fixed READ_IN)
     ∷ later WRITE (codes "WRITE") (counted WRITE_IN 16 1)
     ∷ later RELEASE (codes "RELEASE") (fixed RELEASE_IN)
-    ∷ later INIT (codes "INIT") init_fault
+    ∷ built INIT (codes "INIT") init_fault
     ∷ later OPENDIR (codes "OPENDIR") (fixed OPEN_IN)
     ∷ later READDIR (codes "READDIR") (fixed READ_IN)
     ∷ later RELEASEDIR (codes "RELEASEDIR") (fixed RELEASE_IN)

@@ -6,6 +6,9 @@ pub mod EntryGone
 mod Fit
 pub mod Fitting
 pub mod GoneRows
+pub mod Heights
+mod InitAgrees
+mod InitFits
 pub mod Lists
 pub mod Making
 mod MakingAgrees
@@ -17,3 +20,4 @@ pub mod Puts
 pub mod Telling
 pub mod Trees
 pub mod Ups
+pub mod Walking
