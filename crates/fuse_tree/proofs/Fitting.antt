@@ -16,6 +16,7 @@ use Rattle.fuse_tree.specs.Do.{lookup_child, lookup_entry, lookup_named, lookup,
 use Rattle.fuse_tree.proofs.Fit.{Fits, refused, answered, chosen, refused_for}
 use Rattle.fuse_tree.proofs.InitFits.{init_fits}
 use Rattle.fuse_tree.proofs.MakingFits.{mkdir_fits, mknod_fits}
+use Rattle.fuse_tree.proofs.RemovingFits.{unlink_fits, rmdir_fits}
 
 -- ---- LOOKUP
 
@@ -45,6 +46,8 @@ act_fits sizes s header (acts.Lookup name) now n = lookup_fits sizes s name n
 act_fits sizes s header (acts.Getattr flags fh) now n = getattr_fits sizes s n
 act_fits sizes s header (acts.Mkdir mode umask name) now n = mkdir_fits sizes s header mode name now n
 act_fits sizes s header (acts.Mknod mode rdev umask name) now n = mknod_fits sizes s header mode rdev name now n
+act_fits sizes s header (acts.Unlink name) now n = unlink_fits s name now n
+act_fits sizes s header (acts.Rmdir name) now n = rmdir_fits s name now n
 act_fits sizes s header acts.Destroy now n = answered s [] (omega arith)
 act_fits sizes s header _ now n = refused s _
 

@@ -1,0 +1,38 @@
+-- What is answered for an entry gone fits.
+use Rattle.std.proofs.Common.{ℕ, not, List, [], Option, Some, None, arith}
+use Rattle.fuse_wire.specs.declared.moment.Moment.{Moment}
+use Rattle.fuse_tree.specs.declared.rows.EntryRow.{EntryRow}
+use Rattle.fuse_tree.specs.State.{State, Node, is_dir, node_at, is_named, name_fault}
+use Rattle.fuse_tree.specs.Rows.{entry_at}
+use Rattle.fuse_tree.specs.Removing.{entry_gone, has_entries, unlink_child, unlink_entry, unlink_named, unlink, rmdir_child, rmdir_entry, rmdir_named, rmdir}
+use Rattle.fuse_tree.proofs.Fit.{Fits, refused, answered, chosen, refused_for}
+
+unlink_child_fits : (s : State) (e : EntryRow) (now : Moment) (o : Option Node) → Fits (unlink_child s e now o)
+unlink_child_fits s e now None = refused s _
+unlink_child_fits s e now (Some c) = chosen (is_dir c.mode) _ _ (refused s _) (answered (entry_gone e now s) [] (omega arith))
+
+unlink_entry_fits : (s : State) (now : Moment) (o : Option EntryRow) → Fits (unlink_entry s now o)
+unlink_entry_fits s now None = refused s _
+unlink_entry_fits s now (Some e) = unlink_child_fits s e now (node_at s e.child)
+
+pub unlink_fits : (s : State) (name : List ℕ) (now : Moment) (n : Node) → Fits (unlink s name now n)
+unlink_fits s name now n =
+    chosen (not (is_dir n.mode)) _ _ (refused s _)
+    (refused_for s (name_fault name) (unlink_named s name now n)
+    (chosen (not (is_named s n.number)) _ _ (refused s _) (unlink_entry_fits s now (entry_at s.entries n.number name))))
+
+rmdir_child_fits : (s : State) (e : EntryRow) (now : Moment) (o : Option Node) → Fits (rmdir_child s e now o)
+rmdir_child_fits s e now None = refused s _
+rmdir_child_fits s e now (Some c) =
+    chosen (not (is_dir c.mode)) _ _ (refused s _)
+    (chosen (has_entries s.entries c.number) _ _ (refused s _) (answered (entry_gone e now s) [] (omega arith)))
+
+rmdir_entry_fits : (s : State) (now : Moment) (o : Option EntryRow) → Fits (rmdir_entry s now o)
+rmdir_entry_fits s now None = refused s _
+rmdir_entry_fits s now (Some e) = rmdir_child_fits s e now (node_at s e.child)
+
+pub rmdir_fits : (s : State) (name : List ℕ) (now : Moment) (n : Node) → Fits (rmdir s name now n)
+rmdir_fits s name now n =
+    chosen (not (is_dir n.mode)) _ _ (refused s _)
+    (refused_for s (name_fault name) (rmdir_named s name now n)
+    (chosen (not (is_named s n.number)) _ _ (refused s _) (rmdir_entry_fits s now (entry_at s.entries n.number name))))
