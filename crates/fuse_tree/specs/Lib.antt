@@ -7,11 +7,13 @@ pub mod Clearing
 pub mod Done
 pub mod Init
 pub mod Making
+pub mod Removing
 pub mod Renaming
 pub mod Do
 pub mod Plan
 pub mod Reading
 pub mod PlanInit
 pub mod PlanMaking
+pub mod PlanRemoving
 pub mod Planning
 pub mod Vectors
