@@ -20,7 +20,7 @@ within s number row (Some n) tree e is =
 within_state : (s : State) (number : ℕ) (row : NodeRow) → Tree s → row_at (rows_of_state s) number ≡ Some row → IsWithin row
 within_state s number row tree is = within s number row (node_at s number) tree refl (sym (row_found s number) ∙ is)
 
-rowed_is : (s : State) → rowed s ≡ rows_of_state s
+pub rowed_is : (s : State) → rowed s ≡ rows_of_state s
 unfolding rowed
 rowed_is s = refl
 
@@ -30,7 +30,7 @@ unfolding IsRowed
 row_within rows number row is e =
     let s = is.0 in within_state s number row is.1 (subst (λ (r : Rows). row_at r number ≡ Some row) (is.2 ∙ rowed_is s) e)
 
-map_none : {A B : Type 0} (f : A → B) (o : Option A) → option_map f o ≡ None → o ≡ None
+pub map_none : {A B : Type 0} (f : A → B) (o : Option A) → option_map f o ≡ None → o ≡ None
 map_none f None e = refl
 map_none f (Some x) e = absurd cc
 

@@ -4,6 +4,9 @@ pub mod Bounds
 pub mod Counts
 mod Fit
 pub mod Fitting
+pub mod Heights
+mod InitAgrees
+mod InitFits
 pub mod Lists
 pub mod Making
 mod MakingAgrees
@@ -15,3 +18,4 @@ pub mod Puts
 pub mod Telling
 pub mod Trees
 pub mod Ups
+pub mod Walking

@@ -1,13 +1,17 @@
 pub mod State
 pub mod Rows
+pub mod Handles
 pub mod NumbersOnce
 pub mod PlainRows
 pub mod Clearing
 pub mod Done
+pub mod Init
 pub mod Making
+pub mod Renaming
 pub mod Do
 pub mod Plan
 pub mod Reading
+pub mod PlanInit
 pub mod PlanMaking
 pub mod Planning
 pub mod Vectors
