@@ -1,5 +1,5 @@
 -- A plan over the rows of a state agrees with what is done in that state.
-use Rattle.std.proofs.Common.{◌≡◌, ℕ, true, if◌then◌else◌, not, List, [], Option, Some, None, refl, sym, subst}
+use Rattle.std.proofs.Common.{◌≡◌, ℕ, true, not, List, Option, Some, None, refl, sym, subst}
 use Rattle.std.specs.Prelude.{Result, Ok, Err, IfOk, IfErr, is_some}
 use Rattle.std.specs.Option.{option_map}
 use Rattle.fuse_wire.specs.declared.errno.TheConstants.Errno.{ENOENT, ENOTDIR, ENOSYS, EPROTO, ESTALE}
@@ -8,8 +8,9 @@ use Rattle.fuse_request.specs.declared.request.InHeader.{InHeader}
 use Rattle.fuse_request.specs.declared.request.InitIn.{InitIn}
 use Rattle.fuse_request.specs.declared.request.Op.{Op}
 use Rattle.fuse_request.specs.declared.request.Op.TheVariants as ops
-use Rattle.fuse_request.specs.Act.{Act, Asked, act}
+use Rattle.fuse_request.specs.Act.{Act, Asked, act, opcode_of}
 use Rattle.fuse_request.specs.Act as acts
+use Rattle.fuse_answer.specs.Replies.{IsRead}
 use Rattle.fuse_init.specs.Agree.{agree}
 use Rattle.fuse_tree.specs.declared.planning.fault.PlanFault.{PlanFault}
 use Rattle.fuse_tree.specs.declared.planning.fault.PlanFault.TheVariants as faults
@@ -18,9 +19,8 @@ use Rattle.fuse_tree.specs.declared.rows.NodeRow.{NodeRow}
 use Rattle.fuse_tree.specs.declared.rows.Planned.{Planned}
 use Rattle.fuse_tree.specs.State.{State, Node, Tree, is_dir, node_at, is_named, name_fault}
 use Rattle.fuse_tree.specs.Rows.{row_of, rowed, rows_of_state, row_at, entry_at}
-use Rattle.fuse_tree.specs.Done.{Done}
 use Rattle.fuse_tree.specs.Do.{lookup_child, lookup_entry, lookup, done, do_at, do_act, do_agreed, do_offered, offer_of, names_node}
-use Rattle.fuse_tree.specs.Plan.{Meets, TreeKept, look_fault}
+use Rattle.fuse_tree.specs.Plan.{Meets, TreeKept, AnswersAreRead, look_fault}
 use Rattle.fuse_tree.specs.Reading.{Tells, child_of}
 use Rattle.fuse_tree.specs.Planning.{plan_lookup, plan_of, plan_offered, plan_agreed, plan_at, plan_act, plan_child}
 use Rattle.fuse_tree.proofs.Agreement.{Agrees, refused_agrees, both, both_for}
@@ -82,6 +82,10 @@ tree_kept s request now tree = (plan_meets s request now tree).tree
 pub answered : (s : State) (request : Asked) (now : Moment) (result : Result Planned PlanFault) → Tree s → (look_fault result ≡ None → Tells result (plan_of request now (rowed s))) → IfOk result (λ p. Meets s p (done s request now))
 answered s request now (Ok p) tree tells = subst (λ (q : Planned). Meets s q (done s request now)) (sym (tells refl).0) (plan_meets s request now tree)
 answered s request now (Err fault) tree tells = tt
+
+pub read : (s : State) (request : Asked) (now : Moment) (result : Result Planned PlanFault) → AnswersAreRead → Tree s → IfOk result (λ p. Meets s p (done s request now)) → IfOk result (λ p. IsRead (opcode_of request.act) p.answer)
+read s request now (Ok p) law tree meets = subst (IsRead (opcode_of request.act)) (sym meets.answer) (law s request now tree)
+read s request now (Err fault) law tree meets = tt
 
 pub no_tree : (q : Planned) (result : Result Planned PlanFault) → IfErr result (λ fault. fault ≡ faults.NotATree → (look_fault result ≡ None → Tells result q) → ⊥)
 no_tree q (Ok p) = tt

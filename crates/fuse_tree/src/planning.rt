@@ -1,5 +1,6 @@
 ghost use Rattle.std.specs.Prelude.{◌≡◌, None, IfOk, IfErr, OnOk, OnErr};
-ghost use Rattle.fuse_request.specs.Act.{asked, act};
+ghost use Rattle.fuse_request.specs.Act.{asked, act, opcode_of};
+ghost use Rattle.fuse_answer.specs.Replies.{IsRead};
 ghost use Rattle.fuse_tree.specs.State.{State, Tree};
 ghost use Rattle.fuse_tree.specs.Rows.{rowed};
 ghost use Rattle.fuse_tree.specs.Do.{done};
@@ -24,6 +25,7 @@ mod rmdir;
 mod unlink;
 mod walking;
 
+use crate::laws::answers_are_read;
 use crate::look::Look;
 use crate::rows::{NodeRow, Planned};
 use answers::{done_nothing, refused};
@@ -51,6 +53,8 @@ pub fn plan<L: Look>(
     requires { L.fault look.old ≡ None }
     // Over the rows of a tree, it is what the request does there.
     ensures meets { L.is_clean look.new → (s : State) → Tree s → L.sees look.old (rowed s) → IfOk result (λ p. Meets s p (done s (asked request.now) now)) }
+    // Its answer is read as one to the request's opcode.
+    ensures read { L.is_clean look.new → (s : State) → Tree s → L.sees look.old (rowed s) → IfOk result (λ p. IsRead (opcode_of (act request.now.op)) p.answer) }
     // The rows are said to be those of no tree only where they are.
     ensures not_a_tree { IfErr result (λ f. f ≡ PlanFault.NotATree → L.is_clean look.new → (s : State) → Tree s → L.sees look.old (rowed s) → ⊥) }
     // The look's fault is then the one that is answered, and none where none is.
@@ -58,6 +62,7 @@ pub fn plan<L: Look>(
     ensures looks { OnOk result (L.looks look.old look.new) }
     ensures fails { OnErr result (L.fails look.old look.new) }
 {
+    answers_are_read();
     plan_request(look, alloc, request, now)
 }
 

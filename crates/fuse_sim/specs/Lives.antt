@@ -1,0 +1,1 @@
+-- Lives of a server within one mount.

@@ -1,0 +1,1 @@
+-- What is pending on the kernel's side.

@@ -1,0 +1,1 @@
+// The kernel's side: requests that are pending, sent again, and taken.

@@ -1,0 +1,12 @@
+//! The kernel's side of a session, and whole mounts with their crashes.
+#![tactic(auto)]
+
+mod driving;
+mod event;
+mod kernel;
+mod life;
+
+pub use event::{DriveFault, Event, Fate, Outcome};
+
+#[cfg(test)]
+mod tests;

@@ -1,0 +1,1 @@
+// What several lives of a server did in one mount.
