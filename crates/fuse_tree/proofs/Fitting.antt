@@ -18,6 +18,7 @@ use Rattle.fuse_tree.proofs.Fit.{Fits, refused, answered, chosen, refused_for, R
 use Rattle.fuse_tree.proofs.InitFits.{init_fits, init_reads}
 use Rattle.fuse_tree.proofs.MakingFits.{mkdir_fits, mknod_fits, mkdir_reads, mknod_reads}
 use Rattle.fuse_tree.specs.Plan.{AnswersAreRead}
+use Rattle.fuse_tree.proofs.RemovingFits.{unlink_fits, rmdir_fits, unlink_reads, rmdir_reads}
 
 -- ---- LOOKUP
 
@@ -64,6 +65,8 @@ act_fits sizes s header (acts.Lookup name) now n = lookup_fits sizes s name n
 act_fits sizes s header (acts.Getattr flags fh) now n = getattr_fits sizes s n
 act_fits sizes s header (acts.Mkdir mode umask name) now n = mkdir_fits sizes s header mode name now n
 act_fits sizes s header (acts.Mknod mode rdev umask name) now n = mknod_fits sizes s header mode rdev name now n
+act_fits sizes s header (acts.Unlink name) now n = unlink_fits s name now n
+act_fits sizes s header (acts.Rmdir name) now n = rmdir_fits s name now n
 act_fits sizes s header acts.Destroy now n = answered s [] (omega arith)
 act_fits sizes s header _ now n = refused s _
 
@@ -89,6 +92,8 @@ act_reads back s header (acts.Lookup name) now n tree = lookup_reads back s name
 act_reads back s header (acts.Getattr flags fh) now n tree = getattr_reads back s n
 act_reads back s header (acts.Mkdir mode umask name) now n tree = mkdir_reads back s header mode name now n
 act_reads back s header (acts.Mknod mode rdev umask name) now n tree = mknod_reads back s header mode rdev name now n
+act_reads back s header (acts.Unlink name) now n tree = unlink_reads s name now n
+act_reads back s header (acts.Rmdir name) now n tree = rmdir_reads s name now n
 act_reads back s header acts.Destroy now n tree = answered_reads s [] no_body
 act_reads back s header _ now n tree = refused_reads s _ refl
 

@@ -17,6 +17,8 @@ mod Mounts
 pub mod NewStore
 mod Placed
 pub mod Puts
+mod RemovingAgrees
+mod RemovingFits
 pub mod Telling
 pub mod Trees
 pub mod Ups

@@ -19,7 +19,10 @@ mod make;
 mod mkdir;
 mod mknod;
 mod names;
+mod remove;
 mod rename;
+mod rmdir;
+mod unlink;
 mod walking;
 
 use crate::laws::answers_are_read;
@@ -35,7 +38,9 @@ use init::plan_init;
 use lookup::plan_lookup;
 use mkdir::plan_mkdir;
 use mknod::plan_mknod;
+use rmdir::plan_rmdir;
 use std::alloc::Global;
+use unlink::plan_unlink;
 
 /// What the request answers in the tree whose rows lie behind `look`, and which rows it changes.
 /// Nothing is changed. An operation that is not built, or not of the profile, is answered ENOSYS.
@@ -133,11 +138,11 @@ fn plan_op<L: Look>(
             name,
             ..
         } => plan_mknod(look, alloc, &request.header, *mode, *rdev, name, now, row),
+        Op::Unlink { name } => plan_unlink(look, alloc, name, now, row),
+        Op::Rmdir { name } => plan_rmdir(look, alloc, name, now, row),
         Op::Destroy => Ok(done_nothing(alloc)),
         Op::Forget { .. }
         | Op::Setattr(_)
-        | Op::Unlink { .. }
-        | Op::Rmdir { .. }
         | Op::Rename { .. }
         | Op::OpenFile { .. }
         | Op::Read(_)
