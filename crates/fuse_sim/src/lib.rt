@@ -7,6 +7,8 @@ mod kernel;
 mod life;
 
 pub use event::{DriveFault, Event, Fate, Outcome};
+pub use kernel::{Kernel, TakeFault};
+pub use life::{lives, runs_are_lives};
 
 #[cfg(test)]
 mod tests;

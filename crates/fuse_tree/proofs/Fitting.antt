@@ -17,8 +17,8 @@ use Rattle.fuse_tree.specs.Do.{lookup_child, lookup_entry, lookup_named, lookup,
 use Rattle.fuse_tree.proofs.Fit.{Fits, refused, answered, chosen, refused_for, Reads, refused_reads, answered_reads, chosen_reads, refused_name_reads, no_body}
 use Rattle.fuse_tree.proofs.InitFits.{init_fits, init_reads}
 use Rattle.fuse_tree.proofs.MakingFits.{mkdir_fits, mknod_fits, mkdir_reads, mknod_reads}
-use Rattle.fuse_tree.proofs.RemovingFits.{unlink_fits, rmdir_fits, unlink_reads, rmdir_reads}
 use Rattle.fuse_tree.specs.Plan.{AnswersAreRead}
+use Rattle.fuse_tree.proofs.RemovingFits.{unlink_fits, rmdir_fits, unlink_reads, rmdir_reads}
 
 -- ---- LOOKUP
 

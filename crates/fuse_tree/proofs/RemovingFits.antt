@@ -6,9 +6,7 @@ use Rattle.fuse_tree.specs.declared.rows.EntryRow.{EntryRow}
 use Rattle.fuse_tree.specs.State.{State, Node, is_dir, node_at, is_named, name_fault}
 use Rattle.fuse_tree.specs.Rows.{entry_at}
 use Rattle.fuse_tree.specs.Removing.{entry_gone, has_entries, unlink_child, unlink_entry, unlink_named, unlink, rmdir_child, rmdir_entry, rmdir_named, rmdir}
-use Rattle.fuse_tree.proofs.Fit.{Fits, refused, answered, chosen, refused_for, Reads, refused_reads, answered_reads, chosen_reads, refused_name_reads, no_body}
-
--- ---- UNLINK
+use Rattle.fuse_tree.proofs.Fit.{Fits, Reads, refused, answered, chosen, refused_for, refused_reads, answered_reads, chosen_reads, refused_name_reads, no_body}
 
 unlink_child_fits : (s : State) (e : EntryRow) (now : Moment) (o : Option Node) → Fits (unlink_child s e now o)
 unlink_child_fits s e now None = refused s _
@@ -23,22 +21,6 @@ unlink_fits s name now n =
     chosen (not (is_dir n.mode)) _ _ (refused s _)
     (refused_for s (name_fault name) (unlink_named s name now n)
     (chosen (not (is_named s n.number)) _ _ (refused s _) (unlink_entry_fits s now (entry_at s.entries n.number name))))
-
-unlink_child_reads : (s : State) (e : EntryRow) (now : Moment) (o : Option Node) → Reads Nothing (unlink_child s e now o)
-unlink_child_reads s e now None = refused_reads s _ refl
-unlink_child_reads s e now (Some c) = chosen_reads (is_dir c.mode) _ _ (refused_reads s _ refl) (answered_reads (entry_gone e now s) [] no_body)
-
-unlink_entry_reads : (s : State) (now : Moment) (o : Option EntryRow) → Reads Nothing (unlink_entry s now o)
-unlink_entry_reads s now None = refused_reads s _ refl
-unlink_entry_reads s now (Some e) = unlink_child_reads s e now (node_at s e.child)
-
-pub unlink_reads : (s : State) (name : List ℕ) (now : Moment) (n : Node) → Reads Nothing (unlink s name now n)
-unlink_reads s name now n =
-    chosen_reads (not (is_dir n.mode)) _ _ (refused_reads s _ refl)
-    (refused_name_reads s name _
-    (chosen_reads (not (is_named s n.number)) _ _ (refused_reads s _ refl) (unlink_entry_reads s now (entry_at s.entries n.number name))))
-
--- ---- RMDIR
 
 rmdir_child_fits : (s : State) (e : EntryRow) (now : Moment) (o : Option Node) → Fits (rmdir_child s e now o)
 rmdir_child_fits s e now None = refused s _
@@ -56,6 +38,22 @@ rmdir_fits s name now n =
     (refused_for s (name_fault name) (rmdir_named s name now n)
     (chosen (not (is_named s n.number)) _ _ (refused s _) (rmdir_entry_fits s now (entry_at s.entries n.number name))))
 
+-- ---- and is read
+
+unlink_child_reads : (s : State) (e : EntryRow) (now : Moment) (o : Option Node) → Reads Nothing (unlink_child s e now o)
+unlink_child_reads s e now None = refused_reads s _ refl
+unlink_child_reads s e now (Some c) = chosen_reads (is_dir c.mode) _ _ (refused_reads s _ refl) (answered_reads (entry_gone e now s) [] no_body)
+
+unlink_entry_reads : (s : State) (now : Moment) (o : Option EntryRow) → Reads Nothing (unlink_entry s now o)
+unlink_entry_reads s now None = refused_reads s _ refl
+unlink_entry_reads s now (Some e) = unlink_child_reads s e now (node_at s e.child)
+
+pub unlink_reads : (s : State) (name : List ℕ) (now : Moment) (n : Node) → Reads Nothing (unlink s name now n)
+unlink_reads s name now n =
+    chosen_reads (not (is_dir n.mode)) _ _ (refused_reads s _ refl)
+    (refused_name_reads s name (unlink_named s name now n)
+    (chosen_reads (not (is_named s n.number)) _ _ (refused_reads s _ refl) (unlink_entry_reads s now (entry_at s.entries n.number name))))
+
 rmdir_child_reads : (s : State) (e : EntryRow) (now : Moment) (o : Option Node) → Reads Nothing (rmdir_child s e now o)
 rmdir_child_reads s e now None = refused_reads s _ refl
 rmdir_child_reads s e now (Some c) =
@@ -69,5 +67,5 @@ rmdir_entry_reads s now (Some e) = rmdir_child_reads s e now (node_at s e.child)
 pub rmdir_reads : (s : State) (name : List ℕ) (now : Moment) (n : Node) → Reads Nothing (rmdir s name now n)
 rmdir_reads s name now n =
     chosen_reads (not (is_dir n.mode)) _ _ (refused_reads s _ refl)
-    (refused_name_reads s name _
+    (refused_name_reads s name (rmdir_named s name now n)
     (chosen_reads (not (is_named s n.number)) _ _ (refused_reads s _ refl) (rmdir_entry_reads s now (entry_at s.entries n.number name))))
