@@ -10,6 +10,9 @@ mod MakingAgrees
 mod MakingFits
 mod Mounts
 pub mod NewStore
+mod Opening
+mod OpeningAgrees
+mod OpeningFits
 mod Placed
 pub mod Puts
 pub mod Telling

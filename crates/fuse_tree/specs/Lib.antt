@@ -6,9 +6,11 @@ pub mod PlainRows
 pub mod Clearing
 pub mod Done
 pub mod Making
+pub mod Opening
 pub mod Do
 pub mod Plan
 pub mod Reading
 pub mod PlanMaking
+pub mod PlanOpening
 pub mod Planning
 pub mod Vectors

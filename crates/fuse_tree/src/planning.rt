@@ -16,6 +16,8 @@ mod lookup;
 mod make;
 mod mkdir;
 mod names;
+mod open;
+mod release;
 
 use crate::look::Look;
 use crate::rows::{NodeRow, Planned};
@@ -27,6 +29,8 @@ use fuse_wire::{Errno, Moment};
 use getattr::plan_getattr;
 use lookup::plan_lookup;
 use mkdir::plan_mkdir;
+use open::{plan_open, plan_open_dir};
+use release::{plan_release, plan_release_dir};
 use std::alloc::Global;
 
 /// What the request answers in the tree whose rows lie behind `look`, and which rows it changes.
@@ -93,6 +97,10 @@ fn plan_op<L: Look>(
         Op::Mkdir { mode, name, .. } => {
             plan_mkdir(look, alloc, &request.header, *mode, name, now, row)
         }
+        Op::OpenFile { flags, .. } => plan_open(look, alloc, *flags, row),
+        Op::OpenDir { .. } => plan_open_dir(look, alloc, row),
+        Op::Release(release) => plan_release(look, alloc, release.fh, row),
+        Op::ReleaseDir(release) => plan_release_dir(look, alloc, release.fh, row),
         Op::Destroy => Ok(done_nothing(alloc)),
         Op::Forget { .. }
         | Op::Setattr(_)
@@ -100,14 +108,10 @@ fn plan_op<L: Look>(
         | Op::Unlink { .. }
         | Op::Rmdir { .. }
         | Op::Rename { .. }
-        | Op::OpenFile { .. }
         | Op::Read(_)
         | Op::Write { .. }
-        | Op::Release(_)
         | Op::Init(_)
-        | Op::OpenDir { .. }
         | Op::ReadDir(_)
-        | Op::ReleaseDir(_)
         | Op::Interrupt { .. }
         | Op::BatchForget { .. }
         | Op::Rename2 { .. }
