@@ -1,5 +1,6 @@
 -- How long answers are (fuse.h).
 use Rattle.std.specs.Prelude.{◌≡◌, ◌<◌, ◌≤◌, ◌+◌, ◌^◌, ℕ, List, ◌++◌, length}
+use Rattle.std.specs.List.{sum_by}
 use Rattle.fuse_wire.specs.Bytes.{le}
 use Rattle.fuse_answer.specs.declared.answer.TheConstants.{MAX_BODY}
 use Rattle.fuse_answer.specs.declared.records.AttrOut.{AttrOut}
@@ -13,6 +14,7 @@ use Rattle.fuse_answer.specs.declared.records.TheConstants.OpenOut.{SIZE as OPEN
 use Rattle.fuse_answer.specs.declared.records.TheConstants.WriteOut.{SIZE as WRITE_SIZE}
 use Rattle.fuse_answer.specs.declared.init_out.TheConstants.InitOut.{SIZE as INIT_SIZE}
 use Rattle.fuse_answer.specs.Bodies.{entry_bytes, attr_out_bytes, open_bytes, write_bytes, init_bytes}
+use Rattle.fuse_answer.specs.Entries.{Entry, packed_len, entries_bytes}
 use Rattle.fuse_answer.specs.Wire.{wire}
 
 -- the bytes begin with their own number, in 4 bytes
@@ -26,7 +28,7 @@ pub record BeginsWithLen (b : List ℕ) : Type 0 where
 abbrev pub LenStandsFirst : Type 0
 LenStandsFirst = (errno : ℕ) (body : List ℕ) (unique : ℕ) → length body ≤ MAX_BODY → BeginsWithLen (wire errno body unique)
 
--- the records have the sizes of fuse.h
+-- the records have the sizes of fuse.h, and entries of a directory take what they take together
 abbrev pub RecordSizes : Type 0
 RecordSizes =
     ((e : EntryOut) → length (entry_bytes e) ≡ ENTRY_SIZE)
@@ -34,3 +36,4 @@ RecordSizes =
     × ((o : OpenOut) → length (open_bytes o) ≡ OPEN_SIZE)
     × ((w : WriteOut) → length (write_bytes w) ≡ WRITE_SIZE)
     × ((i : InitOut) → length (init_bytes i) ≡ INIT_SIZE)
+    × ((es : List Entry) → length (entries_bytes es) ≡ sum_by packed_len es)
