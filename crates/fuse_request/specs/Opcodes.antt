@@ -36,7 +36,7 @@ profile =
     ∷ built RELEASE (codes "RELEASE") (fixed RELEASE_IN)
     ∷ later INIT (codes "INIT") init_fault
     ∷ built OPENDIR (codes "OPENDIR") (fixed OPEN_IN)
-    ∷ later READDIR (codes "READDIR") (fixed READ_IN)
+    ∷ built READDIR (codes "READDIR") (fixed READ_IN)
     ∷ built RELEASEDIR (codes "RELEASEDIR") (fixed RELEASE_IN)
     ∷ later INTERRUPT (codes "INTERRUPT") (fixed INTERRUPT_IN)
     ∷ built DESTROY (codes "DESTROY") (fixed 0)

@@ -77,7 +77,7 @@ pub fn is_built(opcode: u32) -> bool
 {
     matches!(
         opcode,
-        LOOKUP | GETATTR | MKDIR | OPEN | RELEASE | OPENDIR | RELEASEDIR | DESTROY
+        LOOKUP | GETATTR | MKDIR | OPEN | RELEASE | OPENDIR | READDIR | RELEASEDIR | DESTROY
     )
 }
 

@@ -1,5 +1,6 @@
 -- What the rows of a tree can't pass, so that a plan over them never gives up.
 use Rattle.std.proofs.Common.{◌≡◌, ◌==◌, ℕ, true, false, List, [], ◌∷◌, length, Option, Some, None, refl, sym, subst, ◌∙◌, arith}
+use Rattle.std.specs.List.{list_any}
 use Rattle.std.specs.Option.{option_map}
 use Rattle.fuse_tree.specs.declared.rows.EntryRow.{EntryRow}
 use Rattle.fuse_tree.specs.declared.rows.HandleRow.{HandleRow}
@@ -22,7 +23,7 @@ within s number row (Some n) tree e is =
 within_state : (s : State) (number : ℕ) (row : NodeRow) → Tree s → row_at (rows_of_state s) number ≡ Some row → IsWithin row
 within_state s number row tree is = within s number row (node_at s number) tree refl (sym (row_found s number) ∙ is)
 
-rowed_is : (s : State) → rowed s ≡ rows_of_state s
+pub rowed_is : (s : State) → rowed s ≡ rows_of_state s
 unfolding rowed
 rowed_is s = refl
 
@@ -36,11 +37,16 @@ map_none : {A B : Type 0} (f : A → B) (o : Option A) → option_map f o ≡ No
 map_none f None e = refl
 map_none f (Some x) e = absurd cc
 
+-- a node that is there has a row
+pub child_there : (s : State) (child : ℕ) → list_any (has_number child) s.nodes ≡ true → row_at (rows_of_state s) child ≡ None → ⊥
+child_there s child there none =
+    let missing : node_at s child ≡ None = map_none (row_of s) (node_at s child) (sym (row_found s child) ∙ none) in
+    any_gives (λ n. (n.number == child) ≡ false) (has_number child) ⊥ s.nodes (none_found (λ n. n.number == child) s.nodes missing) there (λ n fails passes. absurd cc)
+
 child_in_state : (s : State) (dir : ℕ) (name : List ℕ) (x : EntryRow) → Tree s → entry_at s.entries dir name ≡ Some x → row_at (rows_of_state s) x.child ≡ None → ⊥
 child_in_state s dir name x tree e none =
     let p = (found (IsEntry s.nodes s.entries s.next_cookie) (is_entry dir name) s.entries x tree.entries e).0 in
-    let missing : node_at s x.child ≡ None = map_none (row_of s) (node_at s x.child) (sym (row_found s x.child) ∙ none) in
-    any_gives (λ n. (n.number == x.child) ≡ false) (has_number x.child) ⊥ s.nodes (none_found (λ n. n.number == x.child) s.nodes missing) p.child (λ n fails passes. absurd cc)
+    child_there s x.child p.child none
 
 -- an entry that is found among those of a tree leads to a row
 pub child_row : (rows : Rows) (dir : ℕ) (name : List ℕ) (x : EntryRow) → IsRowed rows → entry_at rows.entries dir name ≡ Some x → row_at rows x.child ≡ None → ⊥

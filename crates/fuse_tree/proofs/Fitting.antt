@@ -12,6 +12,7 @@ use Rattle.fuse_tree.specs.Rows.{entry_at}
 use Rattle.fuse_tree.specs.Done.{attr_of, entry_of, attr_out_of}
 use Rattle.fuse_tree.specs.Do.{lookup_child, lookup_entry, lookup_named, lookup, getattr, do_act, do_at, names_node, done}
 use Rattle.fuse_tree.proofs.Fit.{Fits, refused, answered, chosen, refused_for}
+use Rattle.fuse_tree.proofs.ListingFits.{read_dir_fits}
 use Rattle.fuse_tree.proofs.MakingFits.{mkdir_fits}
 use Rattle.fuse_tree.proofs.OpeningFits.{open_fits, open_dir_fits, release_fits, release_dir_fits}
 
@@ -44,6 +45,7 @@ act_fits sizes s header (acts.Getattr flags fh) now n = getattr_fits sizes s n
 act_fits sizes s header (acts.Mkdir mode umask name) now n = mkdir_fits sizes s header mode name now n
 act_fits sizes s header (acts.OpenFile flags open_flags) now n = open_fits sizes s flags n
 act_fits sizes s header (acts.OpenDir flags open_flags) now n = open_dir_fits sizes s n
+act_fits sizes s header (acts.ReadDir x) now n = read_dir_fits sizes s x n
 act_fits sizes s header (acts.Release x) now n = release_fits s x.fh n
 act_fits sizes s header (acts.ReleaseDir x) now n = release_dir_fits s x.fh n
 act_fits sizes s header acts.Destroy now n = answered s [] (omega arith)

@@ -4,6 +4,10 @@ pub mod Bounds
 pub mod Counts
 mod Fit
 pub mod Fitting
+mod Fronts
+mod Listing
+mod ListingAgrees
+mod ListingFits
 pub mod Lists
 pub mod Making
 mod MakingAgrees
@@ -15,6 +19,7 @@ mod OpeningAgrees
 mod OpeningFits
 mod Placed
 pub mod Puts
+mod Shown
 pub mod Telling
 pub mod Trees
 pub mod Ups

@@ -7,10 +7,12 @@ pub mod Clearing
 pub mod Done
 pub mod Making
 pub mod Opening
+pub mod Listing
 pub mod Do
 pub mod Plan
 pub mod Reading
 pub mod PlanMaking
 pub mod PlanOpening
+pub mod PlanListing
 pub mod Planning
 pub mod Vectors

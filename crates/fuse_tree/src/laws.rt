@@ -1,3 +1,4 @@
+ghost use Rattle.fuse_tree.specs.Listing.{ListingIsLongest};
 ghost use Rattle.fuse_tree.specs.Plan.{TreeKept, NewStoreIsTree, RowsTellState, AnswersFit};
 
 use fuse_answer::record_sizes;
@@ -23,3 +24,8 @@ pub fn answers_fit()
 {
     record_sizes();
 }
+
+/// The entries of a directory rise, and as many are told as fit.
+pub fn listing_is_longest()
+    ensures { ListingIsLongest }
+{}

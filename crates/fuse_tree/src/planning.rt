@@ -17,6 +17,7 @@ mod make;
 mod mkdir;
 mod names;
 mod open;
+mod read_dir;
 mod release;
 
 use crate::look::Look;
@@ -30,6 +31,7 @@ use getattr::plan_getattr;
 use lookup::plan_lookup;
 use mkdir::plan_mkdir;
 use open::{plan_open, plan_open_dir};
+use read_dir::plan_read_dir;
 use release::{plan_release, plan_release_dir};
 use std::alloc::Global;
 
@@ -99,6 +101,7 @@ fn plan_op<L: Look>(
         }
         Op::OpenFile { flags, .. } => plan_open(look, alloc, *flags, row),
         Op::OpenDir { .. } => plan_open_dir(look, alloc, row),
+        Op::ReadDir(asked) => plan_read_dir(look, alloc, asked, row),
         Op::Release(release) => plan_release(look, alloc, release.fh, row),
         Op::ReleaseDir(release) => plan_release_dir(look, alloc, release.fh, row),
         Op::Destroy => Ok(done_nothing(alloc)),
@@ -111,7 +114,6 @@ fn plan_op<L: Look>(
         | Op::Read(_)
         | Op::Write { .. }
         | Op::Init(_)
-        | Op::ReadDir(_)
         | Op::Interrupt { .. }
         | Op::BatchForget { .. }
         | Op::Rename2 { .. }
