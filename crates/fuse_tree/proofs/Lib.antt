@@ -2,12 +2,17 @@ pub mod Agreeing
 mod Agreement
 pub mod Bounds
 pub mod Counts
+pub mod EntryGone
 mod Fit
 pub mod Fitting
 mod Fronts
 mod Listing
 mod ListingAgrees
 mod ListingFits
+pub mod GoneRows
+pub mod Heights
+mod InitAgrees
+mod InitFits
 pub mod Lists
 pub mod Making
 mod MakingAgrees
@@ -20,6 +25,9 @@ mod OpeningFits
 mod Placed
 pub mod Puts
 mod Shown
+mod RemovingAgrees
+mod RemovingFits
 pub mod Telling
 pub mod Trees
 pub mod Ups
+pub mod Walking

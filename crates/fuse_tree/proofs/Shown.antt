@@ -31,7 +31,7 @@ name_fits name none =
 shown_of : (s : State) (e : EntryRow) → IsEntry s.nodes s.entries s.next_cookie e → IsShown (rows_of_state s) e
 shown_of s e p = let n = name_fits e.name p.name in record { some = n.some; short = n.short; there = child_there s e.child p.child }
 
-all_taken : {A : Type 0} (P : A → Type 0) (n : ℕ) (xs : List A) → AllByRecursion P xs → AllByRecursion P (take n xs)
+pub all_taken : {A : Type 0} (P : A → Type 0) (n : ℕ) (xs : List A) → AllByRecursion P xs → AllByRecursion P (take n xs)
 all_taken P zero xs all = tt
 all_taken P (suc n) [] all = tt
 all_taken P (suc n) (x ∷ xs) all = (all.0, all_taken P n xs all.1)
