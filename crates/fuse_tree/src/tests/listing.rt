@@ -1,4 +1,4 @@
-// READDIR.
+//! READDIR: row `readdir`, entries of a directory, and its refusals.
 ghost use Rattle.std.specs.Prelude.{◌≡◌, None, IfOk, OnOk};
 ghost use Rattle.fuse_tree.specs.PlainRows.{fault_of};
 
