@@ -5,6 +5,10 @@ pub mod Counts
 pub mod EntryGone
 mod Fit
 pub mod Fitting
+mod Fronts
+mod Listing
+mod ListingAgrees
+mod ListingFits
 pub mod GoneRows
 pub mod Heights
 mod InitAgrees
@@ -15,8 +19,12 @@ mod MakingAgrees
 mod MakingFits
 mod Mounts
 pub mod NewStore
+mod Opening
+mod OpeningAgrees
+mod OpeningFits
 mod Placed
 pub mod Puts
+mod Shown
 mod RemovingAgrees
 mod RemovingFits
 pub mod Telling

@@ -9,11 +9,15 @@ pub mod Init
 pub mod Making
 pub mod Removing
 pub mod Renaming
+pub mod Opening
+pub mod Listing
 pub mod Do
 pub mod Plan
 pub mod Reading
 pub mod PlanInit
 pub mod PlanMaking
 pub mod PlanRemoving
+pub mod PlanOpening
+pub mod PlanListing
 pub mod Planning
 pub mod Vectors
