@@ -24,7 +24,7 @@ profile =
     built LOOKUP (codes "LOOKUP") name_fault
     ∷ later FORGET (codes "FORGET") (fixed FORGET_IN)
     ∷ built GETATTR (codes "GETATTR") (fixed GETATTR_IN)
-    ∷ later SETATTR (codes "SETATTR") (fixed SETATTR_IN)
+    ∷ built SETATTR (codes "SETATTR") (fixed SETATTR_IN)
     ∷ later MKNOD (codes "MKNOD") (at_least MKNOD_IN name_fault)
     ∷ built MKDIR (codes "MKDIR") (at_least MKDIR_IN name_fault)
     ∷ later UNLINK (codes "UNLINK") name_fault

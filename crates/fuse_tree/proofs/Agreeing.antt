@@ -16,13 +16,14 @@ use Rattle.fuse_tree.specs.declared.rows.NodeRow.{NodeRow}
 use Rattle.fuse_tree.specs.declared.rows.Planned.{Planned}
 use Rattle.fuse_tree.specs.State.{State, Node, Tree, is_dir, node_at, is_named, name_fault}
 use Rattle.fuse_tree.specs.Rows.{row_of, rowed, rows_of_state, row_at, entry_at}
-use Rattle.fuse_tree.specs.Done.{Done, answer}
+use Rattle.fuse_tree.specs.Done.{answer}
 use Rattle.fuse_tree.specs.Do.{lookup_child, lookup_entry, lookup, done, do_at, do_act, names_node}
 use Rattle.fuse_tree.specs.Plan.{Meets, TreeKept, look_fault}
 use Rattle.fuse_tree.specs.Reading.{Tells, child_of}
 use Rattle.fuse_tree.specs.Planning.{plan_lookup, plan_of, plan_at, plan_act, plan_child}
 use Rattle.fuse_tree.proofs.Agreement.{Agrees, refused_agrees, both, both_for}
 use Rattle.fuse_tree.proofs.MakingAgrees.{mkdir_agrees}
+use Rattle.fuse_tree.proofs.SettingAgrees.{setattr_agrees}
 use Rattle.fuse_tree.proofs.Puts.{row_found, node_found}
 
 child_agrees : (s : State) → Tree s → (o : Option Node) → Agrees s (plan_child (option_map (row_of s) o)) (lookup_child s o)
@@ -43,6 +44,7 @@ lookup_agrees s name d tree =
 act_agrees : (s : State) (header : InHeader) (a : Act) (now : Moment) (d : Node) → Tree s → node_at s d.number ≡ Some d → Agrees s (plan_act header a now (row_of s d) (rows_of_state s)) (do_act s header a now d)
 act_agrees s header (acts.Lookup name) now d tree e = lookup_agrees s name d tree
 act_agrees s header (acts.Getattr flags fh) now d tree e = record { answer = refl; rows = refl; tree = tree }
+act_agrees s header (acts.Setattr set) now d tree e = setattr_agrees s set now d tree e
 act_agrees s header (acts.Mkdir mode umask name) now d tree e = mkdir_agrees s header mode name now d tree e
 act_agrees s header acts.Destroy now d tree e = record { answer = refl; rows = refl; tree = tree }
 act_agrees s header _ now d tree e = refused_agrees s tree ENOSYS

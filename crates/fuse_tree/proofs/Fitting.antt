@@ -13,6 +13,7 @@ use Rattle.fuse_tree.specs.Done.{attr_of, entry_of, attr_out_of}
 use Rattle.fuse_tree.specs.Do.{lookup_child, lookup_entry, lookup_named, lookup, getattr, do_act, do_at, names_node, done}
 use Rattle.fuse_tree.proofs.Fit.{Fits, refused, answered, chosen, refused_for}
 use Rattle.fuse_tree.proofs.MakingFits.{mkdir_fits}
+use Rattle.fuse_tree.proofs.SettingFits.{setattr_fits}
 
 -- ---- LOOKUP
 
@@ -40,6 +41,7 @@ getattr_fits sizes s n = answered s _ (omega (arith, sizes.1 (attr_out_of (attr_
 act_fits : RecordSizes → (s : State) (header : InHeader) (act : Act) (now : Moment) (n : Node) → Fits (do_act s header act now n)
 act_fits sizes s header (acts.Lookup name) now n = lookup_fits sizes s name n
 act_fits sizes s header (acts.Getattr flags fh) now n = getattr_fits sizes s n
+act_fits sizes s header (acts.Setattr set) now n = setattr_fits sizes s set now n
 act_fits sizes s header (acts.Mkdir mode umask name) now n = mkdir_fits sizes s header mode name now n
 act_fits sizes s header acts.Destroy now n = answered s [] (omega arith)
 act_fits sizes s header _ now n = refused s _

@@ -1,6 +1,7 @@
 pub mod Agreeing
 mod Agreement
 pub mod Bounds
+pub mod Changing
 pub mod Counts
 mod Fit
 pub mod Fitting
@@ -8,6 +9,8 @@ pub mod Lists
 pub mod Making
 mod MakingAgrees
 mod MakingFits
+mod SettingAgrees
+mod SettingFits
 mod Mounts
 pub mod NewStore
 mod Placed

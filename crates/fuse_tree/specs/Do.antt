@@ -12,6 +12,7 @@ use Rattle.fuse_tree.specs.State.{State, Node, is_dir, node_at, is_named, name_f
 use Rattle.fuse_tree.specs.Rows.{entry_at}
 use Rattle.fuse_tree.specs.Done.{Done, refuse, refuse_for, answer, attr_of, entry_of, attr_out_of}
 use Rattle.fuse_tree.specs.Making.{mkdir}
+use Rattle.fuse_tree.specs.Setting.{setattr}
 
 -- ---- LOOKUP
 
@@ -43,6 +44,7 @@ getattr s n = answer s (attr_out_bytes (attr_out_of (attr_of s n)))
 abbrev pub do_act : State → InHeader → Act → Moment → Node → Done
 do_act s header (acts.Lookup name) now n = lookup s name n
 do_act s header (acts.Getattr flags fh) now n = getattr s n
+do_act s header (acts.Setattr set) now n = setattr s set now n
 do_act s header (acts.Mkdir mode umask name) now n = mkdir s header mode name now n
 do_act s header acts.Destroy now n = answer s []
 do_act s header _ now n = refuse s ENOSYS

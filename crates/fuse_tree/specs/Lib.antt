@@ -5,9 +5,12 @@ pub mod PlainRows
 pub mod Clearing
 pub mod Done
 pub mod Making
+pub mod Changing
+pub mod Setting
 pub mod Do
 pub mod Plan
 pub mod Reading
 pub mod PlanMaking
+pub mod PlanSetting
 pub mod Planning
 pub mod Vectors

@@ -12,6 +12,7 @@ use Rattle.fuse_tree.specs.Rows.{Rows, row_at}
 use Rattle.fuse_tree.specs.Do.{names_node}
 use Rattle.fuse_tree.specs.Reading.{refused, refused_for, told, row_is_named, entry_body, attr_body, child_at}
 use Rattle.fuse_tree.specs.PlanMaking.{plan_mkdir}
+use Rattle.fuse_tree.specs.PlanSetting.{plan_setattr}
 
 -- ---- LOOKUP
 
@@ -32,6 +33,7 @@ plan_lookup name row rows =
 abbrev pub plan_act : InHeader → Act → Moment → NodeRow → Rows → Planned
 plan_act header (acts.Lookup name) now row rows = plan_lookup name row rows
 plan_act header (acts.Getattr flags fh) now row rows = told (attr_body row)
+plan_act header (acts.Setattr set) now row rows = plan_setattr set now row
 plan_act header (acts.Mkdir mode umask name) now row rows = plan_mkdir header mode name now row rows
 plan_act header acts.Destroy now row rows = told []
 plan_act header _ now row rows = refused ENOSYS

@@ -16,6 +16,7 @@ mod lookup;
 mod make;
 mod mkdir;
 mod names;
+mod setattr;
 
 use crate::look::Look;
 use crate::rows::{NodeRow, Planned};
@@ -27,6 +28,7 @@ use fuse_wire::{Errno, Moment};
 use getattr::plan_getattr;
 use lookup::plan_lookup;
 use mkdir::plan_mkdir;
+use setattr::plan_setattr;
 use std::alloc::Global;
 
 /// What the request answers in the tree whose rows lie behind `look`, and which rows it changes.
@@ -90,12 +92,12 @@ fn plan_op<L: Look>(
     match &request.op {
         Op::Lookup { name } => plan_lookup(look, alloc, name, row),
         Op::Getattr { .. } => Ok(plan_getattr(alloc, row)?),
+        Op::Setattr(set) => Ok(plan_setattr(alloc, set, now, row)?),
         Op::Mkdir { mode, name, .. } => {
             plan_mkdir(look, alloc, &request.header, *mode, name, now, row)
         }
         Op::Destroy => Ok(done_nothing(alloc)),
         Op::Forget { .. }
-        | Op::Setattr(_)
         | Op::Mknod { .. }
         | Op::Unlink { .. }
         | Op::Rmdir { .. }

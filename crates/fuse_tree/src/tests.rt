@@ -8,6 +8,8 @@ use fuse_wire::{ByteList, Moment};
 use std::alloc::Global;
 use std::test::*;
 
+mod setattr;
+
 // The definitions answer the first run so.
 #[tactic(auto, unfolding(crate::specs::Do::done))]
 fn first_run()
@@ -75,10 +77,11 @@ fn at(secs: u64) -> Moment {
     Moment { secs, nanos: 0 }
 }
 
-// What is planned at 1000 s, with the ids of the worked rows.
-fn planned(
+// What is planned at this moment, with the ids of the worked rows.
+fn planned_at(
     look: &mut PlainRows,
     alloc: Global,
+    now: Moment,
     nodeid: u64,
     op: Op<'_>,
 ) -> Result<Planned, PlanFault>
@@ -97,17 +100,30 @@ fn planned(
         op,
         ext: b"",
     };
-    plan(look, alloc, &request, at(1000))
+    plan(look, alloc, &request, now)
+}
+
+fn answered_at(
+    look: &mut PlainRows,
+    alloc: Global,
+    now: Moment,
+    nodeid: u64,
+    op: Op<'_>,
+) -> Result<Planned, Fail>
+    requires { fault_of look.old ≡ None }
+    ensures { OnOk result (fault_of look.new ≡ None) }
+{
+    match planned_at(look, alloc, now, nodeid, op) {
+        Ok(planned) => Ok(planned),
+        Err(_) => Err("a plan".into()),
+    }
 }
 
 fn answered(look: &mut PlainRows, alloc: Global, nodeid: u64, op: Op<'_>) -> Result<Planned, Fail>
     requires { fault_of look.old ≡ None }
     ensures { OnOk result (fault_of look.new ≡ None) }
 {
-    match planned(look, alloc, nodeid, op) {
-        Ok(planned) => Ok(planned),
-        Err(_) => Err("a plan".into()),
-    }
+    answered_at(look, alloc, at(1000), nodeid, op)
 }
 
 // The error number of what is planned, which has no body and no changes where it is not 0.
@@ -327,7 +343,7 @@ fn limits(rt: HostRuntime) -> Result<(), Fail> {
 fn is_no_tree(alloc: Global, change: Change, nodeid: u64, op: Op<'_>) -> Result<bool, Fail> {
     let mut look = PlainRows::new(alloc, at(0))?;
     look.apply(change)?;
-    let told = planned(&mut look, alloc, nodeid, op);
+    let told = planned_at(&mut look, alloc, at(1000), nodeid, op);
     Ok(matches!(told, Err(PlanFault::NotATree)))
 }
 
