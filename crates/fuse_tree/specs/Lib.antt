@@ -1,5 +1,6 @@
 pub mod State
 pub mod Rows
+pub mod Handles
 pub mod NumbersOnce
 pub mod PlainRows
 pub mod Clearing

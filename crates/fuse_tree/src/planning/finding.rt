@@ -1,12 +1,14 @@
 ghost use Rattle.std.specs.Prelude.{◌≡◌, None, is_some, IfOk, IfSome, OnErr};
-ghost use Rattle.fuse_tree.specs.Rows.{row_at, entry_at};
+ghost use Rattle.fuse_tree.specs.Rows.{row_at, entry_at, handle_at};
+ghost use Rattle.fuse_tree.specs.Handles.{access_at, is_open};
 ghost use Rattle.fuse_tree.specs.Plan.{look_fault};
 ghost use Rattle.fuse_tree.specs.Reading.{IsWithin, Reads, child_at};
 
 use super::fault::PlanFault;
 use crate::limits::{MAX_FILE, MAX_NODES};
 use crate::look::Look;
-use crate::rows::{Counters, EntryRow, NodeRow};
+use crate::rows::{Counters, EntryRow, HandleRow, NodeRow};
+use fuse_wire::AccessMode;
 
 // The row of a node, within the bounds of each tree.
 #[tactic(auto, using(crate::proofs::Bounds::row_within))]
@@ -91,4 +93,46 @@ pub(crate) fn find_counters<L: Look>(look: &mut L) -> Result<Counters, PlanFault
         Ok(row) => Ok(row),
         Err(fault) => Err(PlanFault::Look(fault)),
     }
+}
+
+pub(crate) fn find_handle<L: Look>(look: &mut L, fh: u64) -> Result<Option<HandleRow>, PlanFault>
+    requires { L.fault look.old ≡ None }
+    ensures row { Reads (L.is_clean look.new) (L.sees look.old) result (λ rows. handle_at rows.handles fh) }
+    ensures fault { L.fault look.new ≡ look_fault result }
+    ensures looks { look_fault result ≡ None → L.looks look.old look.new }
+    ensures fails { OnErr result (L.fails look.old look.new) }
+{
+    match look.handle(fh) {
+        Ok(row) => Ok(row),
+        Err(fault) => Err(PlanFault::Look(fault)),
+    }
+}
+
+// What the handle is open for at this node. `None` where it is not open, or is of another node.
+pub(crate) fn find_access<L: Look>(
+    look: &mut L,
+    fh: u64,
+    node: u64,
+) -> Result<Option<AccessMode>, PlanFault>
+    requires { L.fault look.old ≡ None }
+    ensures access { Reads (L.is_clean look.new) (L.sees look.old) result (λ rows. access_at rows.handles fh node) }
+    ensures fault { L.fault look.new ≡ look_fault result }
+    ensures looks { look_fault result ≡ None → L.looks look.old look.new }
+    ensures fails { OnErr result (L.fails look.old look.new) }
+{
+    match find_handle(look, fh)? {
+        Some(handle) if handle.node == node => Ok(Some(handle.access)),
+        _ => Ok(None),
+    }
+}
+
+// Whether the handle is open at this node.
+pub(crate) fn is_open_at<L: Look>(look: &mut L, fh: u64, node: u64) -> Result<bool, PlanFault>
+    requires { L.fault look.old ≡ None }
+    ensures open { Reads (L.is_clean look.new) (L.sees look.old) result (λ rows. is_open rows.handles fh node) }
+    ensures fault { L.fault look.new ≡ look_fault result }
+    ensures looks { look_fault result ≡ None → L.looks look.old look.new }
+    ensures fails { OnErr result (L.fails look.old look.new) }
+{
+    Ok(find_access(look, fh, node)?.is_some())
 }
