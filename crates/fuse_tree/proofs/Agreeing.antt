@@ -24,6 +24,7 @@ use Rattle.fuse_tree.specs.Planning.{plan_lookup, plan_of, plan_at, plan_act, pl
 use Rattle.fuse_tree.proofs.Agreement.{Agrees, refused_agrees, both, both_for}
 use Rattle.fuse_tree.proofs.MakingAgrees.{mkdir_agrees}
 use Rattle.fuse_tree.proofs.SettingAgrees.{setattr_agrees}
+use Rattle.fuse_tree.proofs.OpeningAgrees.{open_agrees, open_dir_agrees, release_agrees, release_dir_agrees}
 use Rattle.fuse_tree.proofs.Puts.{row_found, node_found}
 
 child_agrees : (s : State) → Tree s → (o : Option Node) → Agrees s (plan_child (option_map (row_of s) o)) (lookup_child s o)
@@ -46,6 +47,10 @@ act_agrees s header (acts.Lookup name) now d tree e = lookup_agrees s name d tre
 act_agrees s header (acts.Getattr flags fh) now d tree e = record { answer = refl; rows = refl; tree = tree }
 act_agrees s header (acts.Setattr set) now d tree e = setattr_agrees s set now d tree e
 act_agrees s header (acts.Mkdir mode umask name) now d tree e = mkdir_agrees s header mode name now d tree e
+act_agrees s header (acts.OpenFile flags open_flags) now d tree e = open_agrees s flags d tree e
+act_agrees s header (acts.OpenDir flags open_flags) now d tree e = open_dir_agrees s d tree e
+act_agrees s header (acts.Release x) now d tree e = release_agrees s x.fh d tree
+act_agrees s header (acts.ReleaseDir x) now d tree e = release_dir_agrees s x.fh d tree
 act_agrees s header acts.Destroy now d tree e = record { answer = refl; rows = refl; tree = tree }
 act_agrees s header _ now d tree e = refused_agrees s tree ENOSYS
 

@@ -1,10 +1,12 @@
 -- What the rows of a tree can't pass, so that a plan over them never gives up.
-use Rattle.std.proofs.Common.{◌≡◌, ◌==◌, ℕ, false, List, Option, Some, None, refl, sym, subst, ◌∙◌, arith}
+use Rattle.std.proofs.Common.{◌≡◌, ◌==◌, ℕ, true, false, List, [], ◌∷◌, length, Option, Some, None, refl, sym, subst, ◌∙◌, arith}
 use Rattle.std.specs.Option.{option_map}
 use Rattle.fuse_tree.specs.declared.rows.EntryRow.{EntryRow}
+use Rattle.fuse_tree.specs.declared.rows.HandleRow.{HandleRow}
 use Rattle.fuse_tree.specs.declared.rows.NodeRow.{NodeRow}
 use Rattle.fuse_tree.specs.State.{State, Node, Tree, IsNode, IsEntry, is_below, has_number, node_at, is_entry}
 use Rattle.fuse_tree.specs.Rows.{Rows, IsRowed, row_of, rowed, rows_of_state, row_at, entry_at}
+use Rattle.fuse_tree.specs.Handles.{is_open}
 use Rattle.fuse_tree.specs.Reading.{IsWithin}
 use Rattle.fuse_tree.proofs.Lists.{found, any_gives, none_found, length_filtered}
 use Rattle.fuse_tree.proofs.Puts.{row_found}
@@ -47,6 +49,18 @@ child_row rows dir name x is e none =
     let s = is.0 in
     let same : rows ≡ rows_of_state s = is.2 ∙ rowed_is s in
     child_in_state s dir name x is.1 (subst (λ (r : Rows). entry_at r.entries dir name ≡ Some x) same e) (subst (λ (r : Rows). row_at r x.child ≡ None) same none)
+
+open_counted : (handles : List HandleRow) (fh node : ℕ) → is_open handles fh node ≡ true → length handles ≡ 0 → ⊥
+open_counted [] fh node there none = absurd cc
+open_counted (h ∷ handles) fh node there none = absurd cc
+
+-- where a handle is open in a tree, handles are counted
+pub handle_counted : (rows : Rows) (fh node : ℕ) → IsRowed rows → is_open rows.handles fh node ≡ true → rows.counters.handles ≡ 0 → ⊥
+unfolding IsRowed
+handle_counted rows fh node is there none =
+    let s = is.0 in
+    let same : rows ≡ rows_of_state s = is.2 ∙ rowed_is s in
+    open_counted s.handles fh node (subst (λ (r : Rows). is_open r.handles fh node ≡ true) same there) (subst (λ (r : Rows). r.counters.handles ≡ 0) same none)
 
 -- the rows of a tree are those of one
 pub is_rowed : (s : State) → Tree s → IsRowed (rowed s)

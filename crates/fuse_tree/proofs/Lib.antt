@@ -13,6 +13,9 @@ mod SettingAgrees
 mod SettingFits
 mod Mounts
 pub mod NewStore
+mod Opening
+mod OpeningAgrees
+mod OpeningFits
 mod Placed
 pub mod Puts
 pub mod Telling

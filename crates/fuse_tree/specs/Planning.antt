@@ -13,6 +13,7 @@ use Rattle.fuse_tree.specs.Do.{names_node}
 use Rattle.fuse_tree.specs.Reading.{refused, refused_for, told, row_is_named, entry_body, attr_body, child_at}
 use Rattle.fuse_tree.specs.PlanMaking.{plan_mkdir}
 use Rattle.fuse_tree.specs.PlanSetting.{plan_setattr}
+use Rattle.fuse_tree.specs.PlanOpening.{plan_open, plan_open_dir, plan_release, plan_release_dir}
 
 -- ---- LOOKUP
 
@@ -35,6 +36,10 @@ plan_act header (acts.Lookup name) now row rows = plan_lookup name row rows
 plan_act header (acts.Getattr flags fh) now row rows = told (attr_body row)
 plan_act header (acts.Setattr set) now row rows = plan_setattr set now row
 plan_act header (acts.Mkdir mode umask name) now row rows = plan_mkdir header mode name now row rows
+plan_act header (acts.OpenFile flags open_flags) now row rows = plan_open flags row rows
+plan_act header (acts.OpenDir flags open_flags) now row rows = plan_open_dir row rows
+plan_act header (acts.Release x) now row rows = plan_release x.fh row rows
+plan_act header (acts.ReleaseDir x) now row rows = plan_release_dir x.fh row rows
 plan_act header acts.Destroy now row rows = told []
 plan_act header _ now row rows = refused ENOSYS
 

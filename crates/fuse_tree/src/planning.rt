@@ -16,6 +16,8 @@ mod lookup;
 mod make;
 mod mkdir;
 mod names;
+mod open;
+mod release;
 mod setattr;
 
 use crate::look::Look;
@@ -28,6 +30,8 @@ use fuse_wire::{Errno, Moment};
 use getattr::plan_getattr;
 use lookup::plan_lookup;
 use mkdir::plan_mkdir;
+use open::{plan_open, plan_open_dir};
+use release::{plan_release, plan_release_dir};
 use setattr::plan_setattr;
 use std::alloc::Global;
 
@@ -96,20 +100,20 @@ fn plan_op<L: Look>(
         Op::Mkdir { mode, name, .. } => {
             plan_mkdir(look, alloc, &request.header, *mode, name, now, row)
         }
+        Op::OpenFile { flags, .. } => plan_open(look, alloc, *flags, row),
+        Op::OpenDir { .. } => plan_open_dir(look, alloc, row),
+        Op::Release(release) => plan_release(look, alloc, release.fh, row),
+        Op::ReleaseDir(release) => plan_release_dir(look, alloc, release.fh, row),
         Op::Destroy => Ok(done_nothing(alloc)),
         Op::Forget { .. }
         | Op::Mknod { .. }
         | Op::Unlink { .. }
         | Op::Rmdir { .. }
         | Op::Rename { .. }
-        | Op::OpenFile { .. }
         | Op::Read(_)
         | Op::Write { .. }
-        | Op::Release(_)
         | Op::Init(_)
-        | Op::OpenDir { .. }
         | Op::ReadDir(_)
-        | Op::ReleaseDir(_)
         | Op::Interrupt { .. }
         | Op::BatchForget { .. }
         | Op::Rename2 { .. }

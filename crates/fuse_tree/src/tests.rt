@@ -2,6 +2,8 @@ ghost use Rattle.std.specs.Prelude.{◌≡◌, None, IfOk, OnOk};
 ghost use Rattle.fuse_tree.specs.PlainRows.{fault_of};
 ghost use Rattle.fuse_tree.specs.Vectors.{FirstRun, Refusals};
 
+mod opening;
+
 use super::*;
 use fuse_request::{InHeader, Op, Request};
 use fuse_wire::{ByteList, Moment};

@@ -1,6 +1,5 @@
 ghost use Rattle.std.specs.Prelude.{◌≡◌};
-ghost use Rattle.fuse_tree.specs.State as state;
-ghost use Rattle.fuse_tree.specs.State.{is_dir};
+ghost use Rattle.fuse_tree.specs.State.{is_dir, is_file};
 ghost use Rattle.fuse_tree.specs.Reading.{IsWithin, row_is_named, row_links, row_attr};
 
 use crate::limits::{BLOCK_SIZE, ROOT_ID, SECTOR_SIZE};
@@ -14,8 +13,8 @@ pub(crate) fn is_directory(mode: u32) -> bool
     mode / TYPE_UNIT % TYPES == S_IFDIR / TYPE_UNIT
 }
 
-pub(crate) fn is_file(mode: u32) -> bool
-    ensures { result ≡ state.is_file mode }
+pub(crate) fn is_regular_file(mode: u32) -> bool
+    ensures { result ≡ is_file mode }
 {
     mode / TYPE_UNIT % TYPES == S_IFREG / TYPE_UNIT
 }

@@ -6,7 +6,7 @@ ghost use Rattle.fuse_tree.specs.PlanSetting.{set_row, size_changes};
 ghost use Rattle.fuse_tree.specs.Reading.{IsWithin};
 
 use super::answers::{attr_answer, refused};
-use super::attributes::{is_directory, is_file};
+use super::attributes::{is_directory, is_regular_file};
 use crate::limits::MAX_FILE;
 use crate::mode::TYPE_UNIT;
 use crate::rows::{Change, ChangeList, NodeRow, Planned};
@@ -62,7 +62,7 @@ fn fault_of_set(set: &SetattrIn, mode: u32) -> Option<Errno>
         None
     } else if is_directory(mode) {
         Some(Errno::EISDIR)
-    } else if !is_file(mode) {
+    } else if !is_regular_file(mode) {
         Some(Errno::EINVAL)
     } else if set.size > MAX_FILE {
         Some(Errno::EFBIG)
