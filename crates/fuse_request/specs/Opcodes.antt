@@ -31,8 +31,8 @@ profile =
     ∷ later RMDIR (codes "RMDIR") name_fault
     ∷ later RENAME (codes "RENAME") (at_least RENAME_IN names_fault)
     ∷ built OPEN (codes "OPEN") (fixed OPEN_IN)
-    ∷ later READ (codes "READ") (fixed READ_IN)
-    ∷ later WRITE (codes "WRITE") (counted WRITE_IN 16 1)
+    ∷ built READ (codes "READ") (fixed READ_IN)
+    ∷ built WRITE (codes "WRITE") (counted WRITE_IN 16 1)
     ∷ built RELEASE (codes "RELEASE") (fixed RELEASE_IN)
     ∷ later INIT (codes "INIT") init_fault
     ∷ built OPENDIR (codes "OPENDIR") (fixed OPEN_IN)

@@ -75,10 +75,20 @@ pub fn is_in_profile(opcode: u32) -> bool
 pub fn is_built(opcode: u32) -> bool
     ensures { result ≡ opcodes.is_built opcode }
 {
-    matches!(
-        opcode,
-        LOOKUP | GETATTR | SETATTR | MKDIR | OPEN | RELEASE | OPENDIR | RELEASEDIR | DESTROY
-    )
+    match opcode {
+        LOOKUP
+        | GETATTR
+        | SETATTR
+        | MKDIR
+        | OPEN
+        | READ
+        | WRITE
+        | RELEASE
+        | OPENDIR
+        | RELEASEDIR
+        | DESTROY => true,
+        _ => false,
+    }
 }
 
 /// Whether messages of this opcode are never answered.

@@ -24,6 +24,7 @@ use Rattle.fuse_tree.specs.Planning.{plan_lookup, plan_of, plan_at, plan_act, pl
 use Rattle.fuse_tree.proofs.Agreement.{Agrees, refused_agrees, both, both_for}
 use Rattle.fuse_tree.proofs.MakingAgrees.{mkdir_agrees}
 use Rattle.fuse_tree.proofs.SettingAgrees.{setattr_agrees}
+use Rattle.fuse_tree.proofs.WritingAgrees.{write_agrees, read_agrees}
 use Rattle.fuse_tree.proofs.OpeningAgrees.{open_agrees, open_dir_agrees, release_agrees, release_dir_agrees}
 use Rattle.fuse_tree.proofs.Puts.{row_found, node_found}
 
@@ -48,6 +49,8 @@ act_agrees s header (acts.Getattr flags fh) now d tree e = record { answer = ref
 act_agrees s header (acts.Setattr set) now d tree e = setattr_agrees s set now d tree e
 act_agrees s header (acts.Mkdir mode umask name) now d tree e = mkdir_agrees s header mode name now d tree e
 act_agrees s header (acts.OpenFile flags open_flags) now d tree e = open_agrees s flags d tree e
+act_agrees s header (acts.Read asked) now d tree e = read_agrees s asked d tree e
+act_agrees s header (acts.Write fh offset write_flags lock_owner flags payload) now d tree e = write_agrees s offset payload now d tree e fh
 act_agrees s header (acts.OpenDir flags open_flags) now d tree e = open_dir_agrees s d tree e
 act_agrees s header (acts.Release x) now d tree e = release_agrees s x.fh d tree
 act_agrees s header (acts.ReleaseDir x) now d tree e = release_dir_agrees s x.fh d tree

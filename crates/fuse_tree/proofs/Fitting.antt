@@ -14,6 +14,7 @@ use Rattle.fuse_tree.specs.Do.{lookup_child, lookup_entry, lookup_named, lookup,
 use Rattle.fuse_tree.proofs.Fit.{Fits, refused, answered, chosen, refused_for}
 use Rattle.fuse_tree.proofs.MakingFits.{mkdir_fits}
 use Rattle.fuse_tree.proofs.SettingFits.{setattr_fits}
+use Rattle.fuse_tree.proofs.WritingFits.{write_fits, read_fits}
 use Rattle.fuse_tree.proofs.OpeningFits.{open_fits, open_dir_fits, release_fits, release_dir_fits}
 
 -- ---- LOOKUP
@@ -45,6 +46,8 @@ act_fits sizes s header (acts.Getattr flags fh) now n = getattr_fits sizes s n
 act_fits sizes s header (acts.Setattr set) now n = setattr_fits sizes s set now n
 act_fits sizes s header (acts.Mkdir mode umask name) now n = mkdir_fits sizes s header mode name now n
 act_fits sizes s header (acts.OpenFile flags open_flags) now n = open_fits sizes s flags n
+act_fits sizes s header (acts.Read asked) now n = read_fits s asked n
+act_fits sizes s header (acts.Write fh offset write_flags lock_owner flags payload) now n = write_fits sizes s fh offset payload now n
 act_fits sizes s header (acts.OpenDir flags open_flags) now n = open_dir_fits sizes s n
 act_fits sizes s header (acts.Release x) now n = release_fits s x.fh n
 act_fits sizes s header (acts.ReleaseDir x) now n = release_dir_fits s x.fh n

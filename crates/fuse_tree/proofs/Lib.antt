@@ -5,12 +5,15 @@ pub mod Changing
 pub mod Counts
 mod Fit
 pub mod Fitting
+mod Lengths
 pub mod Lists
 pub mod Making
 mod MakingAgrees
 mod MakingFits
 mod SettingAgrees
 mod SettingFits
+mod WritingAgrees
+mod WritingFits
 mod Mounts
 pub mod NewStore
 mod Opening

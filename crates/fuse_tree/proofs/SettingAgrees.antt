@@ -1,8 +1,7 @@
 -- The plan of SETATTR agrees with what is done.
-use Rattle.std.proofs.Common.{◌≡◌, ◌≤◌, ◌<◌, ◌+◌, ◌-◌, ◌*◌, ◌/◌, ◌%◌, ◌==◌, ℕ, Bool, true, false, cond, eqb, not, List, [], ◌∷◌, length, map, take, Some, None, refl, sym, ap, ◌∙◌, arith}
-use Rattle.std.specs.Prelude.{replicate, nat_lt}
+use Rattle.std.proofs.Common.{◌≡◌, ◌≤◌, ◌<◌, ◌+◌, ◌*◌, ◌/◌, ◌%◌, ◌==◌, ℕ, Bool, true, false, cond, eqb, not, List, [], ◌∷◌, length, map, Some, None, refl, sym, ap, ◌∙◌, arith}
+use Rattle.std.specs.Prelude.{nat_lt}
 use Rattle.std.proofs.lemmas.Bool.{ltb-false}
-use Rattle.std.proofs.lemmas.List.{length-append, length-take, length-replicate}
 use Rattle.std.proofs.lemmas.Nat.{div-mul-add}
 use Rattle.fuse_wire.specs.declared.errno.TheConstants.Errno.{EISDIR, EINVAL, EFBIG}
 use Rattle.fuse_wire.specs.declared.moment.Moment.{Moment}
@@ -17,11 +16,9 @@ use Rattle.fuse_tree.specs.PlanSetting.{set_row, set_changes, plan_setattr}
 use Rattle.fuse_tree.specs.Reading.{attr_body}
 use Rattle.fuse_tree.proofs.Lists.{found}
 use Rattle.fuse_tree.proofs.Agreement.{Agrees, both_for}
+use Rattle.fuse_tree.proofs.Lengths.{length_sized}
 use Rattle.fuse_tree.proofs.Trees.{SamePlace}
 use Rattle.fuse_tree.proofs.Changing.{full_then, changed_rows, changed_tree}
-
-pub length_sized : (size : ℕ) (content : List ℕ) → length (sized size content) ≡ size
-length_sized size content = omega (arith, length-append (take size content) (replicate (size - length content) 0), length-take size content, length-replicate {A = ℕ} (size - length content) 0)
 
 -- ---- the node after it
 

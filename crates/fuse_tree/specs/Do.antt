@@ -13,6 +13,7 @@ use Rattle.fuse_tree.specs.Rows.{entry_at}
 use Rattle.fuse_tree.specs.Done.{Done, refuse, refuse_for, answer, attr_of, entry_of, attr_out_of}
 use Rattle.fuse_tree.specs.Making.{mkdir}
 use Rattle.fuse_tree.specs.Setting.{setattr}
+use Rattle.fuse_tree.specs.Writing.{write, read}
 use Rattle.fuse_tree.specs.Opening.{open_file, open_dir, release, release_dir}
 
 -- ---- LOOKUP
@@ -48,6 +49,8 @@ do_act s header (acts.Getattr flags fh) now n = getattr s n
 do_act s header (acts.Setattr set) now n = setattr s set now n
 do_act s header (acts.Mkdir mode umask name) now n = mkdir s header mode name now n
 do_act s header (acts.OpenFile flags open_flags) now n = open_file s flags n
+do_act s header (acts.Read asked) now n = read s asked n
+do_act s header (acts.Write fh offset write_flags lock_owner flags payload) now n = write s fh offset payload now n
 do_act s header (acts.OpenDir flags open_flags) now n = open_dir s n
 do_act s header (acts.Release x) now n = release s x.fh n
 do_act s header (acts.ReleaseDir x) now n = release_dir s x.fh n

@@ -8,12 +8,14 @@ pub mod Done
 pub mod Making
 pub mod Changing
 pub mod Setting
+pub mod Writing
 pub mod Opening
 pub mod Do
 pub mod Plan
 pub mod Reading
 pub mod PlanMaking
 pub mod PlanSetting
+pub mod PlanWriting
 pub mod PlanOpening
 pub mod Planning
 pub mod Vectors

@@ -13,6 +13,7 @@ use Rattle.fuse_tree.specs.Do.{names_node}
 use Rattle.fuse_tree.specs.Reading.{refused, refused_for, told, row_is_named, entry_body, attr_body, child_at}
 use Rattle.fuse_tree.specs.PlanMaking.{plan_mkdir}
 use Rattle.fuse_tree.specs.PlanSetting.{plan_setattr}
+use Rattle.fuse_tree.specs.PlanWriting.{plan_write, plan_read}
 use Rattle.fuse_tree.specs.PlanOpening.{plan_open, plan_open_dir, plan_release, plan_release_dir}
 
 -- ---- LOOKUP
@@ -37,6 +38,8 @@ plan_act header (acts.Getattr flags fh) now row rows = told (attr_body row)
 plan_act header (acts.Setattr set) now row rows = plan_setattr set now row
 plan_act header (acts.Mkdir mode umask name) now row rows = plan_mkdir header mode name now row rows
 plan_act header (acts.OpenFile flags open_flags) now row rows = plan_open flags row rows
+plan_act header (acts.Read asked) now row rows = plan_read asked row rows
+plan_act header (acts.Write fh offset write_flags lock_owner flags payload) now row rows = plan_write fh offset payload now row rows
 plan_act header (acts.OpenDir flags open_flags) now row rows = plan_open_dir row rows
 plan_act header (acts.Release x) now row rows = plan_release x.fh row rows
 plan_act header (acts.ReleaseDir x) now row rows = plan_release_dir x.fh row rows

@@ -12,8 +12,8 @@ mod rows;
 
 pub use laws::{answers_fit, new_store_is_tree, rows_tell_state, tree_kept};
 pub use limits::{
-    BLOCK_SIZE, COUNTER_END, MAX_FILE, MAX_HANDLES, MAX_NAME, MAX_NODES, ROOT_ID, SECTOR_SIZE,
-    VALID_SECS,
+    BLOCK_SIZE, COUNTER_END, MAX_FILE, MAX_HANDLES, MAX_NAME, MAX_NODES, MAX_READ, ROOT_ID,
+    SECTOR_SIZE, VALID_SECS,
 };
 pub use look::{Look, LookFault};
 pub use mode::{S_IFDIR, S_IFREG, TYPE_UNIT, TYPES};

@@ -17,8 +17,10 @@ mod make;
 mod mkdir;
 mod names;
 mod open;
+mod read;
 mod release;
 mod setattr;
+mod write;
 
 use crate::look::Look;
 use crate::rows::{NodeRow, Planned};
@@ -31,9 +33,11 @@ use getattr::plan_getattr;
 use lookup::plan_lookup;
 use mkdir::plan_mkdir;
 use open::{plan_open, plan_open_dir};
+use read::plan_read;
 use release::{plan_release, plan_release_dir};
 use setattr::plan_setattr;
 use std::alloc::Global;
+use write::plan_write;
 
 /// What the request answers in the tree whose rows lie behind `look`, and which rows it changes.
 /// Nothing is changed. An operation that is not built, or not of the profile, is answered ENOSYS.
@@ -101,6 +105,13 @@ fn plan_op<L: Look>(
             plan_mkdir(look, alloc, &request.header, *mode, name, now, row)
         }
         Op::OpenFile { flags, .. } => plan_open(look, alloc, *flags, row),
+        Op::Read(asked) => plan_read(look, alloc, asked, row),
+        Op::Write {
+            fh,
+            offset,
+            payload,
+            ..
+        } => plan_write(look, alloc, *fh, *offset, payload, now, row),
         Op::OpenDir { .. } => plan_open_dir(look, alloc, row),
         Op::Release(release) => plan_release(look, alloc, release.fh, row),
         Op::ReleaseDir(release) => plan_release_dir(look, alloc, release.fh, row),
@@ -110,8 +121,6 @@ fn plan_op<L: Look>(
         | Op::Unlink { .. }
         | Op::Rmdir { .. }
         | Op::Rename { .. }
-        | Op::Read(_)
-        | Op::Write { .. }
         | Op::Init(_)
         | Op::ReadDir(_)
         | Op::Interrupt { .. }
