@@ -2,15 +2,16 @@ ghost use Rattle.std.specs.Prelude.{◌≡◌, None, IfOk, OnOk};
 ghost use Rattle.fuse_tree.specs.PlainRows.{fault_of};
 ghost use Rattle.fuse_tree.specs.Vectors.{FirstRun, Refusals};
 
+mod contents;
+mod file;
 mod opening;
+mod setattr;
 
 use super::*;
 use fuse_request::{InHeader, Op, Request};
 use fuse_wire::{ByteList, Moment};
 use std::alloc::Global;
 use std::test::*;
-
-mod setattr;
 
 // The definitions answer the first run so.
 #[tactic(auto, unfolding(crate::specs::Do::done))]

@@ -2,6 +2,7 @@
 ghost use Rattle.std.specs.Prelude.{◌≡◌, None, IfOk, OnOk};
 ghost use Rattle.fuse_tree.specs.PlainRows.{fault_of};
 
+use super::file::*;
 use super::*;
 use fuse_request::SetattrIn;
 
@@ -24,31 +25,6 @@ const NOTHING: SetattrIn = SetattrIn {
 
 fn setting(valid: u32) -> SetattrIn {
     SetattrIn { valid, ..NOTHING }
-}
-
-// File 2 is `f`, of 1000 s, and holds `one`; 3 is a FIFO and 4 a directory, without names.
-fn with_file(alloc: Global) -> Result<PlainRows, Fail>
-    ensures { IfOk result (λ look. fault_of look ≡ None) }
-{
-    let mut look = PlainRows::new(alloc, at(0))?;
-    look.apply(Change::Node(NodeRow {
-        uid: 1000,
-        gid: 1000,
-        size: 3,
-        atime: at(1000),
-        mtime: at(1000),
-        ctime: at(1000),
-        up: 1,
-        ..nameless(2, S_IFREG + 0o644, 0)
-    }))?;
-    look.apply(Change::Written {
-        node: 2,
-        offset: 0,
-        bytes: ByteList::from_vec(Vec::from_slice(alloc, b"one")?),
-    })?;
-    look.apply(Change::Node(nameless(3, 0o010644, 0)))?;
-    look.apply(Change::Node(nameless(4, S_IFDIR + 0o755, 0)))?;
-    Ok(look)
 }
 
 // What SETATTR is answered at 2000 s.
@@ -86,7 +62,7 @@ fn is_longer(body: &[u8]) -> bool {
 fn content_after(alloc: Global, size: u64) -> Result<ByteList, Fail> {
     let mut look = with_file(alloc)?;
     let sets = SetattrIn { size, ..setting(8) };
-    let planned = set(&mut look, alloc, 2, sets)?;
+    let planned = set(&mut look, alloc, FILE, sets)?;
     look.apply_all(planned.changes)?;
     match look.bytes(2, 0, 100) {
         Ok(content) => Ok(content),
@@ -98,7 +74,7 @@ fn content_after(alloc: Global, size: u64) -> Result<ByteList, Fail> {
 #[test]
 fn sets_size_and_mode(rt: HostRuntime) -> Result<(), Fail> {
     let alloc = rt.alloc();
-    let longer = set_first(alloc, 2, setting(8))?;
+    let longer = set_first(alloc, FILE, setting(8))?;
     assert!(rt; is_longer(longer.answer.body.as_slice()));
     for (size, content) in [
         (5, b"one\0\0".as_slice()),
@@ -109,7 +85,7 @@ fn sets_size_and_mode(rt: HostRuntime) -> Result<(), Fail> {
         assert_eq!(rt; content_after(alloc, size)?.as_slice(), content);
     }
     // The type stays: the mode is 0o100600.
-    let mode = set_first(alloc, 2, setting(1))?;
+    let mode = set_first(alloc, FILE, setting(1))?;
     assert_eq!(rt;
         mode.answer.body.as_slice().get(76..80),
         Some(b"\x80\x81\0\0".as_slice())
@@ -119,7 +95,7 @@ fn sets_size_and_mode(rt: HostRuntime) -> Result<(), Fail> {
 
 // The row that is written of the file.
 fn row_after(alloc: Global, valid: u32) -> Result<NodeRow, Fail> {
-    match set_first(alloc, 2, setting(valid))?
+    match set_first(alloc, FILE, setting(valid))?
         .changes
         .as_slice()
         .first()
@@ -190,18 +166,18 @@ fn sets_what_is_named(rt: HostRuntime) -> Result<(), Fail> {
 fn refuses_sizes(rt: HostRuntime) -> Result<(), Fail> {
     let alloc = rt.alloc();
     for (nodeid, size, errno) in [
-        (3, 5, 22),
-        (4, 5, 21),
-        (4, 16_777_217, 21),
-        (3, 16_777_217, 22),
-        (2, 16_777_217, 27),
-        (5, 5, 116),
+        (FIFO, 5, 22),
+        (DIR, 5, 21),
+        (DIR, 16_777_217, 21),
+        (FIFO, 16_777_217, 22),
+        (FILE, 16_777_217, 27),
+        (6, 5, 116),
     ] {
         let sets = SetattrIn { size, ..setting(8) };
         assert_eq!(rt; errno_of(&set_first(alloc, nodeid, sets)?)?, errno);
     }
     // Without SIZE they may be of any kind.
-    for nodeid in [3, 4] {
+    for nodeid in [FIFO, DIR] {
         assert_eq!(rt; set_first(alloc, nodeid, setting(1))?.answer.errno.0, 0);
     }
     Ok(())
