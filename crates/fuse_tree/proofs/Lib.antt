@@ -20,6 +20,7 @@ mod Opening
 mod OpeningAgrees
 mod OpeningFits
 mod Placed
+pub mod Ranges
 pub mod Puts
 pub mod Telling
 pub mod Trees

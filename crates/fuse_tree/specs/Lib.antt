@@ -4,6 +4,7 @@ pub mod Handles
 pub mod NumbersOnce
 pub mod PlainRows
 pub mod Clearing
+pub mod Pieces
 pub mod Done
 pub mod Making
 pub mod Changing

@@ -5,6 +5,7 @@ ghost use Rattle.fuse_tree.specs.Vectors.{FirstRun, Refusals};
 mod contents;
 mod file;
 mod opening;
+mod pieces;
 mod setattr;
 
 use super::*;
