@@ -24,15 +24,15 @@ profile =
     built LOOKUP (codes "LOOKUP") name_fault
     ∷ later FORGET (codes "FORGET") (fixed FORGET_IN)
     ∷ built GETATTR (codes "GETATTR") (fixed GETATTR_IN)
-    ∷ later SETATTR (codes "SETATTR") (fixed SETATTR_IN)
+    ∷ built SETATTR (codes "SETATTR") (fixed SETATTR_IN)
     ∷ built MKNOD (codes "MKNOD") (at_least MKNOD_IN name_fault)
     ∷ built MKDIR (codes "MKDIR") (at_least MKDIR_IN name_fault)
     ∷ built UNLINK (codes "UNLINK") name_fault
     ∷ built RMDIR (codes "RMDIR") name_fault
     ∷ later RENAME (codes "RENAME") (at_least RENAME_IN names_fault)
     ∷ built OPEN (codes "OPEN") (fixed OPEN_IN)
-    ∷ later READ (codes "READ") (fixed READ_IN)
-    ∷ later WRITE (codes "WRITE") (counted WRITE_IN 16 1)
+    ∷ built READ (codes "READ") (fixed READ_IN)
+    ∷ built WRITE (codes "WRITE") (counted WRITE_IN 16 1)
     ∷ built RELEASE (codes "RELEASE") (fixed RELEASE_IN)
     ∷ built INIT (codes "INIT") init_fault
     ∷ built OPENDIR (codes "OPENDIR") (fixed OPEN_IN)

@@ -21,6 +21,8 @@ use Rattle.fuse_tree.specs.Plan.{AnswersAreRead}
 use Rattle.fuse_tree.proofs.RemovingFits.{unlink_fits, rmdir_fits, unlink_reads, rmdir_reads}
 use Rattle.fuse_tree.proofs.ListingFits.{read_dir_fits, read_dir_reads}
 use Rattle.fuse_tree.proofs.OpeningFits.{open_fits, open_dir_fits, release_fits, release_dir_fits, open_reads, open_dir_reads, release_reads, release_dir_reads}
+use Rattle.fuse_tree.proofs.SettingFits.{setattr_fits, setattr_reads}
+use Rattle.fuse_tree.proofs.WritingFits.{write_fits, read_fits, write_reads, read_reads}
 
 -- ---- LOOKUP
 
@@ -65,11 +67,14 @@ getattr_reads back s n = answered_reads s _ (back.attributes (attr_out_of (attr_
 act_fits : RecordSizes → (s : State) (header : InHeader) (act : Act) (now : Moment) (n : Node) → Fits (do_act s header act now n)
 act_fits sizes s header (acts.Lookup name) now n = lookup_fits sizes s name n
 act_fits sizes s header (acts.Getattr flags fh) now n = getattr_fits sizes s n
+act_fits sizes s header (acts.Setattr set) now n = setattr_fits sizes s set now n
 act_fits sizes s header (acts.Mkdir mode umask name) now n = mkdir_fits sizes s header mode name now n
 act_fits sizes s header (acts.Mknod mode rdev umask name) now n = mknod_fits sizes s header mode rdev name now n
 act_fits sizes s header (acts.Unlink name) now n = unlink_fits s name now n
 act_fits sizes s header (acts.Rmdir name) now n = rmdir_fits s name now n
 act_fits sizes s header (acts.OpenFile flags open_flags) now n = open_fits sizes s flags n
+act_fits sizes s header (acts.Read asked) now n = read_fits s asked n
+act_fits sizes s header (acts.Write fh offset write_flags lock_owner flags payload) now n = write_fits sizes s fh offset payload now n
 act_fits sizes s header (acts.OpenDir flags open_flags) now n = open_dir_fits sizes s n
 act_fits sizes s header (acts.ReadDir x) now n = read_dir_fits sizes s x n
 act_fits sizes s header (acts.Release x) now n = release_fits s x.fh n
@@ -97,6 +102,9 @@ fits sizes s request now = offered_fits sizes s request now (offer_of request.ac
 act_reads : ReadBack → (s : State) (header : InHeader) (act : Act) (now : Moment) (n : Node) → Tree s → Reads (kind_of (opcode_of act)) (do_act s header act now n)
 act_reads back s header (acts.Lookup name) now n tree = lookup_reads back s name n
 act_reads back s header (acts.Getattr flags fh) now n tree = getattr_reads back s n
+act_reads back s header (acts.Setattr set) now n tree = setattr_reads back s set now n
+act_reads back s header (acts.Read asked) now n tree = read_reads s asked n
+act_reads back s header (acts.Write fh offset write_flags lock_owner flags payload) now n tree = write_reads back s fh offset payload now n
 act_reads back s header (acts.Mkdir mode umask name) now n tree = mkdir_reads back s header mode name now n
 act_reads back s header (acts.Mknod mode rdev umask name) now n tree = mknod_reads back s header mode rdev name now n
 act_reads back s header (acts.Unlink name) now n tree = unlink_reads s name now n

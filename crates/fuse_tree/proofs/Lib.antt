@@ -1,18 +1,20 @@
 pub mod Agreeing
 mod Agreement
 pub mod Bounds
+pub mod Changing
 pub mod Counts
 pub mod EntryGone
 mod Fit
 pub mod Fitting
 mod Fronts
-mod Listing
-mod ListingAgrees
-mod ListingFits
 pub mod GoneRows
 pub mod Heights
 mod InitAgrees
 mod InitFits
+mod Lengths
+mod Listing
+mod ListingAgrees
+mod ListingFits
 pub mod Lists
 pub mod Making
 mod MakingAgrees
@@ -24,10 +26,15 @@ mod OpeningAgrees
 mod OpeningFits
 mod Placed
 pub mod Puts
-mod Shown
+pub mod Ranges
 mod RemovingAgrees
 mod RemovingFits
+mod SettingAgrees
+mod SettingFits
+mod Shown
 pub mod Telling
 pub mod Trees
 pub mod Ups
 pub mod Walking
+mod WritingAgrees
+mod WritingFits

@@ -16,6 +16,8 @@ use Rattle.fuse_tree.specs.Done.{Done, refuse, refuse_for, answer, attr_of, entr
 use Rattle.fuse_tree.specs.Init.{init}
 use Rattle.fuse_tree.specs.Listing.{read_dir}
 use Rattle.fuse_tree.specs.Making.{mkdir, mknod}
+use Rattle.fuse_tree.specs.Setting.{setattr}
+use Rattle.fuse_tree.specs.Writing.{write, read}
 use Rattle.fuse_tree.specs.Opening.{open_file, open_dir, release, release_dir}
 use Rattle.fuse_tree.specs.Removing.{unlink, rmdir}
 
@@ -49,11 +51,14 @@ getattr s n = answer s (attr_out_bytes (attr_out_of (attr_of s n)))
 abbrev pub do_act : State → InHeader → Act → Moment → Node → Done
 do_act s header (acts.Lookup name) now n = lookup s name n
 do_act s header (acts.Getattr flags fh) now n = getattr s n
+do_act s header (acts.Setattr set) now n = setattr s set now n
 do_act s header (acts.Mkdir mode umask name) now n = mkdir s header mode name now n
 do_act s header (acts.Mknod mode rdev umask name) now n = mknod s header mode rdev name now n
 do_act s header (acts.Unlink name) now n = unlink s name now n
 do_act s header (acts.Rmdir name) now n = rmdir s name now n
 do_act s header (acts.OpenFile flags open_flags) now n = open_file s flags n
+do_act s header (acts.Read asked) now n = read s asked n
+do_act s header (acts.Write fh offset write_flags lock_owner flags payload) now n = write s fh offset payload now n
 do_act s header (acts.OpenDir flags open_flags) now n = open_dir s n
 do_act s header (acts.ReadDir x) now n = read_dir s x n
 do_act s header (acts.Release x) now n = release s x.fh n

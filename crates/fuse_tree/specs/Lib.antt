@@ -4,11 +4,15 @@ pub mod Handles
 pub mod NumbersOnce
 pub mod PlainRows
 pub mod Clearing
+pub mod Pieces
 pub mod Done
 pub mod Init
 pub mod Making
 pub mod Removing
 pub mod Renaming
+pub mod Changing
+pub mod Setting
+pub mod Writing
 pub mod Opening
 pub mod Listing
 pub mod Do
@@ -17,6 +21,8 @@ pub mod Reading
 pub mod PlanInit
 pub mod PlanMaking
 pub mod PlanRemoving
+pub mod PlanSetting
+pub mod PlanWriting
 pub mod PlanOpening
 pub mod PlanListing
 pub mod Planning

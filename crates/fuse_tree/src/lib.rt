@@ -6,6 +6,7 @@ mod limits;
 mod look;
 mod mode;
 mod mount;
+mod pieces;
 mod plain;
 mod planning;
 mod rows;
@@ -21,6 +22,7 @@ pub use limits::{
 pub use look::{Look, LookFault};
 pub use mode::{S_IFBLK, S_IFCHR, S_IFDIR, S_IFIFO, S_IFREG, S_IFSOCK, TYPE_UNIT, TYPES};
 pub use mount::clearing;
+pub use pieces::{Piece, Pieces};
 pub use plain::PlainRows;
 pub use planning::{PlanFault, plan};
 pub use rows::{Change, ChangeList, Counters, EntryRow, Full, HandleRow, NodeRow, Planned};
