@@ -25,18 +25,18 @@ profile =
     ∷ later FORGET (codes "FORGET") (fixed FORGET_IN)
     ∷ built GETATTR (codes "GETATTR") (fixed GETATTR_IN)
     ∷ built SETATTR (codes "SETATTR") (fixed SETATTR_IN)
-    ∷ later MKNOD (codes "MKNOD") (at_least MKNOD_IN name_fault)
+    ∷ built MKNOD (codes "MKNOD") (at_least MKNOD_IN name_fault)
     ∷ built MKDIR (codes "MKDIR") (at_least MKDIR_IN name_fault)
-    ∷ later UNLINK (codes "UNLINK") name_fault
-    ∷ later RMDIR (codes "RMDIR") name_fault
+    ∷ built UNLINK (codes "UNLINK") name_fault
+    ∷ built RMDIR (codes "RMDIR") name_fault
     ∷ later RENAME (codes "RENAME") (at_least RENAME_IN names_fault)
     ∷ built OPEN (codes "OPEN") (fixed OPEN_IN)
     ∷ built READ (codes "READ") (fixed READ_IN)
     ∷ built WRITE (codes "WRITE") (counted WRITE_IN 16 1)
     ∷ built RELEASE (codes "RELEASE") (fixed RELEASE_IN)
-    ∷ later INIT (codes "INIT") init_fault
+    ∷ built INIT (codes "INIT") init_fault
     ∷ built OPENDIR (codes "OPENDIR") (fixed OPEN_IN)
-    ∷ later READDIR (codes "READDIR") (fixed READ_IN)
+    ∷ built READDIR (codes "READDIR") (fixed READ_IN)
     ∷ built RELEASEDIR (codes "RELEASEDIR") (fixed RELEASE_IN)
     ∷ later INTERRUPT (codes "INTERRUPT") (fixed INTERRUPT_IN)
     ∷ built DESTROY (codes "DESTROY") (fixed 0)

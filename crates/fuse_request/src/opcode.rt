@@ -75,20 +75,8 @@ pub fn is_in_profile(opcode: u32) -> bool
 pub fn is_built(opcode: u32) -> bool
     ensures { result ≡ opcodes.is_built opcode }
 {
-    match opcode {
-        LOOKUP
-        | GETATTR
-        | SETATTR
-        | MKDIR
-        | OPEN
-        | READ
-        | WRITE
-        | RELEASE
-        | OPENDIR
-        | RELEASEDIR
-        | DESTROY => true,
-        _ => false,
-    }
+    let is_later = matches!(opcode, RENAME | RENAME2);
+    is_in_profile(opcode) && !is_silent(opcode) && !is_later
 }
 
 /// Whether messages of this opcode are never answered.

@@ -3,9 +3,18 @@ mod Agreement
 pub mod Bounds
 pub mod Changing
 pub mod Counts
+pub mod EntryGone
 mod Fit
 pub mod Fitting
 mod Lengths
+mod Fronts
+mod Listing
+mod ListingAgrees
+mod ListingFits
+pub mod GoneRows
+pub mod Heights
+mod InitAgrees
+mod InitFits
 pub mod Lists
 pub mod Making
 mod MakingAgrees
@@ -22,6 +31,10 @@ mod OpeningFits
 mod Placed
 pub mod Ranges
 pub mod Puts
+mod Shown
+mod RemovingAgrees
+mod RemovingFits
 pub mod Telling
 pub mod Trees
 pub mod Ups
+pub mod Walking

@@ -5,7 +5,6 @@ use Rattle.std.specs.List.{AllByRecursion, list_any}
 use Rattle.std.proofs.lemmas.Bool.{eqb-true, ne_eqb, leb-false}
 use Rattle.std.proofs.lemmas.List.{length-append}
 use Rattle.fuse_wire.specs.declared.access_mode.AccessMode.{AccessMode}
-use Rattle.fuse_wire.specs.declared.errno.Errno.{Errno}
 use Rattle.fuse_wire.specs.declared.errno.TheConstants.Errno.{ENFILE, ENOSPC}
 use Rattle.fuse_tree.specs.declared.limits.TheConstants.{MAX_HANDLES, COUNTER_END}
 use Rattle.fuse_tree.specs.declared.rows.HandleRow.{HandleRow}
@@ -14,6 +13,7 @@ use Rattle.fuse_tree.specs.Rows.{rows_of_state, counters_of, handle_at, apply}
 use Rattle.fuse_tree.specs.Handles.{access_in, is_open}
 use Rattle.fuse_tree.specs.Opening.{open_fault, new_handle, opened, closed}
 use Rattle.fuse_tree.specs.PlanOpening.{opened_changes, plan_closed}
+use Rattle.fuse_tree.proofs.Agreement.{no_fault}
 use Rattle.fuse_tree.proofs.Lists.{or_true, all_more, all_grown, all_kept, apart_grown, apart_filtered, length_filtered, cond_found}
 use Rattle.fuse_tree.proofs.Trees.{handle_moved}
 
@@ -22,11 +22,6 @@ use Rattle.fuse_tree.proofs.Trees.{handle_moved}
 pub record Room (s : State) : Type 0 where
   pub few : length s.handles < MAX_HANDLES
   pub left : s.next_fh < COUNTER_END
-
-no_fault : (b c : Bool) (e f : Errno) → cond b (Some e) (cond c (Some f) None) ≡ None → (b ≡ false) × (c ≡ false)
-no_fault true c e f none = absurd cc
-no_fault false true e f none = absurd cc
-no_fault false false e f none = (refl, refl)
 
 pub room : (s : State) → open_fault (length s.handles) s.next_fh ≡ None → Room s
 room s none =

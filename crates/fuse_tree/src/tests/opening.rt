@@ -1,15 +1,13 @@
-// OPEN, OPENDIR, RELEASE and RELEASEDIR.
+//! OPEN, OPENDIR, RELEASE and RELEASEDIR: what they answer, their limits and refusals.
 ghost use Rattle.std.specs.Prelude.{◌≡◌, None, IfOk, OnOk};
 ghost use Rattle.fuse_tree.specs.PlainRows.{fault_of};
 
 use super::*;
 use fuse_request::ReleaseIn;
 
-const S_IFIFO: u32 = 0o010000;
+pub(super) const DIR: u64 = 2;
 
-const DIR: u64 = 2;
-
-const FILE: u64 = 3;
+pub(super) const FILE: u64 = 3;
 
 const FIFO: u64 = 4;
 
@@ -20,7 +18,7 @@ fn open(flags: u32) -> Op<'static> {
     }
 }
 
-const OPENDIR: Op<'static> = Op::OpenDir {
+pub(super) const OPENDIR: Op<'static> = Op::OpenDir {
     flags: 0,
     open_flags: 0,
 };
@@ -43,7 +41,12 @@ fn release_dir(fh: u64) -> Op<'static> {
 }
 
 // The body of what is answered. The changes are made.
-fn done(look: &mut PlainRows, alloc: Global, nodeid: u64, op: Op<'_>) -> Result<ByteList, Fail>
+pub(super) fn done(
+    look: &mut PlainRows,
+    alloc: Global,
+    nodeid: u64,
+    op: Op<'_>,
+) -> Result<ByteList, Fail>
     requires { fault_of look.old ≡ None }
     ensures { OnOk result (fault_of look.new ≡ None) }
 {
@@ -54,7 +57,7 @@ fn done(look: &mut PlainRows, alloc: Global, nodeid: u64, op: Op<'_>) -> Result<
 
 // A store with a directory, a file and a FIFO. The file is open under 1 and 2, the root under 3, and
 // the directory under 4.
-fn with_open(alloc: Global) -> Result<PlainRows, Fail>
+pub(super) fn with_open(alloc: Global) -> Result<PlainRows, Fail>
     ensures { IfOk result (λ look. fault_of look ≡ None) }
 {
     let mut look = with_nameless(alloc)?;
