@@ -19,7 +19,6 @@ use Rattle.fuse_tree.specs.declared.rows.NodeRow.{NodeRow}
 use Rattle.fuse_tree.specs.declared.rows.Planned.{Planned}
 use Rattle.fuse_tree.specs.State.{State, Node, Tree, is_dir, node_at, is_named, name_fault}
 use Rattle.fuse_tree.specs.Rows.{row_of, rowed, rows_of_state, row_at, entry_at}
-use Rattle.fuse_tree.specs.Done.{answer}
 use Rattle.fuse_tree.specs.Do.{lookup_child, lookup_entry, lookup, done, do_at, do_act, names_node, do_agreed, do_offered, offer_of}
 use Rattle.fuse_tree.specs.Plan.{Meets, TreeKept, look_fault, AnswersAreRead}
 use Rattle.fuse_tree.specs.Reading.{Tells, child_of}

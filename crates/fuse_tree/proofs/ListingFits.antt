@@ -1,5 +1,5 @@
 -- What is answered to READDIR fits, and is read.
-use Rattle.std.proofs.Common.{◌≡◌, ◌≤◌, ℕ, Bool, true, false, if◌then◌else◌, not, nat_lt, List, refl, arith}
+use Rattle.std.proofs.Common.{◌≤◌, ℕ, not, nat_lt, List, refl, arith}
 use Rattle.std.specs.List.{AllByRecursion}
 use Rattle.std.proofs.lemmas.Bool.{ltb-false}
 use Rattle.fuse_request.specs.declared.request.ReadIn.{ReadIn}
@@ -9,7 +9,6 @@ use Rattle.fuse_answer.specs.Replies.{Directory}
 use Rattle.fuse_tree.specs.declared.limits.TheConstants.{MAX_READ}
 use Rattle.fuse_tree.specs.State.{State, Node, Tree, is_dir, is_named}
 use Rattle.fuse_tree.specs.Handles.{is_open}
-use Rattle.fuse_tree.specs.Done.{Done}
 use Rattle.fuse_tree.specs.Listing.{entries_behind, first_fits, longest_front, list_front, read_dir}
 use Rattle.fuse_tree.proofs.Fit.{Fits, Reads, refused, answered, chosen, chosen_then, refused_reads, answered_reads, chosen_reads}
 use Rattle.fuse_tree.proofs.Fronts.{longest}

@@ -1,16 +1,14 @@
 -- What WRITE and READ answer fits, and is read.
-use Rattle.std.proofs.Common.{◌≡◌, ◌+◌, ◌==◌, ℕ, Bool, true, false, if◌then◌else◌, not, List, length, take, drop, [], refl, sym, arith}
+use Rattle.std.proofs.Common.{◌+◌, ◌==◌, ℕ, not, List, length, take, drop, [], refl, sym, arith}
 use Rattle.std.specs.Prelude.{nat_lt}
 use Rattle.std.proofs.lemmas.Bool.{ltb-false}
 use Rattle.std.proofs.lemmas.List.{length-take, append-nil}
 use Rattle.fuse_wire.specs.declared.moment.Moment.{Moment}
 use Rattle.fuse_request.specs.declared.request.ReadIn.{ReadIn}
-use Rattle.fuse_wire.specs.Layout.{bytes}
 use Rattle.fuse_answer.specs.Laws.{ReadBack, RecordSizes}
 use Rattle.fuse_answer.specs.Replies.{Data, AWrite, IsBody, of_data}
 use Rattle.fuse_tree.specs.State.{State, Node, is_dir}
 use Rattle.fuse_tree.specs.Handles.{access_at}
-use Rattle.fuse_tree.specs.Done.{Done}
 use Rattle.fuse_tree.specs.Writing.{may_write, with_bytes, write, may_read, read}
 use Rattle.fuse_tree.proofs.Fit.{Fits, Reads, refused, answered, chosen, chosen_then, refused_reads, answered_reads, chosen_reads}
 
