@@ -6,12 +6,15 @@ pub mod Counts
 pub mod EntryGone
 mod Fit
 pub mod Fitting
-mod Lengths
 mod Fronts
 pub mod GoneRows
 pub mod Heights
 mod InitAgrees
 mod InitFits
+mod Lengths
+mod Listing
+mod ListingAgrees
+mod ListingFits
 pub mod Lists
 pub mod Making
 mod MakingAgrees
