@@ -75,7 +75,8 @@ pub fn is_in_profile(opcode: u32) -> bool
 pub fn is_built(opcode: u32) -> bool
     ensures { result ≡ opcodes.is_built opcode }
 {
-    matches!(opcode, LOOKUP | GETATTR | MKDIR | INIT | DESTROY)
+    let is_later = matches!(opcode, SETATTR | RENAME | READ | WRITE | RENAME2);
+    is_in_profile(opcode) && !is_silent(opcode) && !is_later
 }
 
 /// Whether messages of this opcode are never answered.

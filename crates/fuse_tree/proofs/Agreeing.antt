@@ -25,7 +25,10 @@ use Rattle.fuse_tree.specs.Reading.{Tells, child_of}
 use Rattle.fuse_tree.specs.Planning.{plan_lookup, plan_of, plan_offered, plan_agreed, plan_at, plan_act, plan_child}
 use Rattle.fuse_tree.proofs.Agreement.{Agrees, refused_agrees, both, both_for}
 use Rattle.fuse_tree.proofs.InitAgrees.{init_agrees}
-use Rattle.fuse_tree.proofs.MakingAgrees.{mkdir_agrees}
+use Rattle.fuse_tree.proofs.ListingAgrees.{read_dir_agrees}
+use Rattle.fuse_tree.proofs.MakingAgrees.{mkdir_agrees, mknod_agrees}
+use Rattle.fuse_tree.proofs.OpeningAgrees.{open_agrees, open_dir_agrees, release_agrees, release_dir_agrees}
+use Rattle.fuse_tree.proofs.RemovingAgrees.{unlink_agrees, rmdir_agrees}
 use Rattle.fuse_tree.proofs.Puts.{row_found, node_found}
 
 child_agrees : (s : State) → Tree s → (o : Option Node) → Agrees s (plan_child (option_map (row_of s) o)) (lookup_child s o)
@@ -47,6 +50,14 @@ act_agrees : (s : State) (header : InHeader) (a : Act) (now : Moment) (d : Node)
 act_agrees s header (acts.Lookup name) now d tree e = lookup_agrees s name d tree
 act_agrees s header (acts.Getattr flags fh) now d tree e = record { answer = refl; rows = refl; tree = tree }
 act_agrees s header (acts.Mkdir mode umask name) now d tree e = mkdir_agrees s header mode name now d tree e
+act_agrees s header (acts.Mknod mode rdev umask name) now d tree e = mknod_agrees s header mode rdev name now d tree e
+act_agrees s header (acts.Unlink name) now d tree e = unlink_agrees s name now d tree e
+act_agrees s header (acts.Rmdir name) now d tree e = rmdir_agrees s name now d tree e
+act_agrees s header (acts.OpenFile flags open_flags) now d tree e = open_agrees s flags d tree e
+act_agrees s header (acts.OpenDir flags open_flags) now d tree e = open_dir_agrees s d tree e
+act_agrees s header (acts.ReadDir x) now d tree e = read_dir_agrees s x d tree
+act_agrees s header (acts.Release x) now d tree e = release_agrees s x.fh d tree
+act_agrees s header (acts.ReleaseDir x) now d tree e = release_dir_agrees s x.fh d tree
 act_agrees s header acts.Destroy now d tree e = record { answer = refl; rows = refl; tree = tree }
 act_agrees s header _ now d tree e = refused_agrees s tree ENOSYS
 

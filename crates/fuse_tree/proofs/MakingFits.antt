@@ -8,8 +8,8 @@ use Rattle.fuse_tree.specs.declared.planning.make.NewNode.{NewNode}
 use Rattle.fuse_tree.specs.State.{State, Node, is_dir, is_named, name_fault}
 use Rattle.fuse_tree.specs.Rows.{entry_at}
 use Rattle.fuse_tree.specs.Done.{attr_of, entry_of}
-use Rattle.fuse_tree.specs.Making.{new_node, with_node, begun, is_full, make, dir_mode, mkdir}
-use Rattle.fuse_tree.proofs.Fit.{Fits, Reads, refused, answered, chosen, refused_for, refused_reads, answered_reads, chosen_reads, refused_name_reads}
+use Rattle.fuse_tree.specs.Making.{new_node, with_node, begun, is_full, make, dir_mode, mkdir, type_bits, may_make, node_mode, node_rdev, mknod}
+use Rattle.fuse_tree.proofs.Fit.{Fits, refused, answered, chosen, refused_for, Reads, refused_reads, answered_reads, chosen_reads, refused_name_reads}
 
 pub make_fits : RecordSizes → (s : State) (fresh : NewNode) (name : List ℕ) (n : Node) → Fits (make s fresh name n)
 make_fits sizes s fresh name n =
@@ -23,6 +23,12 @@ mkdir_fits sizes s header mode name now n =
     chosen (not (is_dir n.mode)) _ _ (refused s _)
     (refused_for s (name_fault name) _ (make_fits sizes s (begun header (dir_mode mode) 0 now) name n))
 
+pub mknod_fits : RecordSizes → (s : State) (header : InHeader) (mode rdev : ℕ) (name : List ℕ) (now : Moment) (n : Node) → Fits (mknod s header mode rdev name now n)
+mknod_fits sizes s header mode rdev name now n =
+    chosen (not (is_dir n.mode)) _ _ (refused s _)
+    (chosen (not (may_make (type_bits mode))) _ _ (refused s _)
+    (refused_for s (name_fault name) _ (make_fits sizes s (begun header (node_mode mode) (node_rdev mode rdev) now) name n)))
+
 pub make_reads : ReadBack → (s : State) (fresh : NewNode) (name : List ℕ) (n : Node) → Reads AnEntry (make s fresh name n)
 make_reads back s fresh name n =
     chosen_reads (not (is_named s n.number)) _ _ (refused_reads s _ refl)
@@ -34,3 +40,9 @@ pub mkdir_reads : ReadBack → (s : State) (header : InHeader) (mode : ℕ) (nam
 mkdir_reads back s header mode name now n =
     chosen_reads (not (is_dir n.mode)) _ _ (refused_reads s _ refl)
     (refused_name_reads s name _ (make_reads back s (begun header (dir_mode mode) 0 now) name n))
+
+pub mknod_reads : ReadBack → (s : State) (header : InHeader) (mode rdev : ℕ) (name : List ℕ) (now : Moment) (n : Node) → Reads AnEntry (mknod s header mode rdev name now n)
+mknod_reads back s header mode rdev name now n =
+    chosen_reads (not (is_dir n.mode)) _ _ (refused_reads s _ refl)
+    (chosen_reads (not (may_make (type_bits mode))) _ _ (refused_reads s _ refl)
+    (refused_name_reads s name _ (make_reads back s (begun header (node_mode mode) (node_rdev mode rdev) now) name n)))

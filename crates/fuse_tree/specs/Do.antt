@@ -14,7 +14,10 @@ use Rattle.fuse_tree.specs.State.{State, Node, is_dir, node_at, is_named, name_f
 use Rattle.fuse_tree.specs.Rows.{entry_at}
 use Rattle.fuse_tree.specs.Done.{Done, refuse, refuse_for, answer, attr_of, entry_of, attr_out_of}
 use Rattle.fuse_tree.specs.Init.{init}
-use Rattle.fuse_tree.specs.Making.{mkdir}
+use Rattle.fuse_tree.specs.Listing.{read_dir}
+use Rattle.fuse_tree.specs.Making.{mkdir, mknod}
+use Rattle.fuse_tree.specs.Opening.{open_file, open_dir, release, release_dir}
+use Rattle.fuse_tree.specs.Removing.{unlink, rmdir}
 
 -- ---- LOOKUP
 
@@ -47,6 +50,14 @@ abbrev pub do_act : State → InHeader → Act → Moment → Node → Done
 do_act s header (acts.Lookup name) now n = lookup s name n
 do_act s header (acts.Getattr flags fh) now n = getattr s n
 do_act s header (acts.Mkdir mode umask name) now n = mkdir s header mode name now n
+do_act s header (acts.Mknod mode rdev umask name) now n = mknod s header mode rdev name now n
+do_act s header (acts.Unlink name) now n = unlink s name now n
+do_act s header (acts.Rmdir name) now n = rmdir s name now n
+do_act s header (acts.OpenFile flags open_flags) now n = open_file s flags n
+do_act s header (acts.OpenDir flags open_flags) now n = open_dir s n
+do_act s header (acts.ReadDir x) now n = read_dir s x n
+do_act s header (acts.Release x) now n = release s x.fh n
+do_act s header (acts.ReleaseDir x) now n = release_dir s x.fh n
 do_act s header acts.Destroy now n = answer s []
 do_act s header _ now n = refuse s ENOSYS
 

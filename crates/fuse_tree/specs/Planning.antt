@@ -14,7 +14,10 @@ use Rattle.fuse_tree.specs.Rows.{Rows, row_at}
 use Rattle.fuse_tree.specs.Do.{names_node, offer_of}
 use Rattle.fuse_tree.specs.Reading.{refused, refused_for, told, row_is_named, entry_body, attr_body, child_at}
 use Rattle.fuse_tree.specs.PlanInit.{plan_init}
-use Rattle.fuse_tree.specs.PlanMaking.{plan_mkdir}
+use Rattle.fuse_tree.specs.PlanListing.{plan_read_dir}
+use Rattle.fuse_tree.specs.PlanMaking.{plan_mkdir, plan_mknod}
+use Rattle.fuse_tree.specs.PlanOpening.{plan_open, plan_open_dir, plan_release, plan_release_dir}
+use Rattle.fuse_tree.specs.PlanRemoving.{plan_unlink, plan_rmdir}
 
 -- ---- LOOKUP
 
@@ -36,6 +39,14 @@ abbrev pub plan_act : InHeader → Act → Moment → NodeRow → Rows → Plann
 plan_act header (acts.Lookup name) now row rows = plan_lookup name row rows
 plan_act header (acts.Getattr flags fh) now row rows = told (attr_body row)
 plan_act header (acts.Mkdir mode umask name) now row rows = plan_mkdir header mode name now row rows
+plan_act header (acts.Mknod mode rdev umask name) now row rows = plan_mknod header mode rdev name now row rows
+plan_act header (acts.Unlink name) now row rows = plan_unlink name now row rows
+plan_act header (acts.Rmdir name) now row rows = plan_rmdir name now row rows
+plan_act header (acts.OpenFile flags open_flags) now row rows = plan_open flags row rows
+plan_act header (acts.OpenDir flags open_flags) now row rows = plan_open_dir row rows
+plan_act header (acts.ReadDir x) now row rows = plan_read_dir x row rows
+plan_act header (acts.Release x) now row rows = plan_release x.fh row rows
+plan_act header (acts.ReleaseDir x) now row rows = plan_release_dir x.fh row rows
 plan_act header acts.Destroy now row rows = told []
 plan_act header _ now row rows = refused ENOSYS
 

@@ -10,13 +10,16 @@ mod plain;
 mod planning;
 mod rows;
 
-pub use laws::{answers_are_read, answers_fit, new_store_is_tree, rows_tell_state, tree_kept};
+pub use laws::{
+    answers_are_read, answers_fit, listing_is_longest, new_store_is_tree, rows_tell_state,
+    tree_kept,
+};
 pub use limits::{
-    BLOCK_SIZE, COUNTER_END, MAX_FILE, MAX_HANDLES, MAX_NAME, MAX_NODES, ROOT_ID, SECTOR_SIZE,
-    VALID_SECS,
+    BLOCK_SIZE, COUNTER_END, MAX_FILE, MAX_HANDLES, MAX_NAME, MAX_NODES, MAX_READ, ROOT_ID,
+    SECTOR_SIZE, VALID_SECS,
 };
 pub use look::{Look, LookFault};
-pub use mode::{S_IFDIR, S_IFREG, TYPE_UNIT, TYPES};
+pub use mode::{S_IFBLK, S_IFCHR, S_IFDIR, S_IFIFO, S_IFREG, S_IFSOCK, TYPE_UNIT, TYPES};
 pub use mount::clearing;
 pub use plain::PlainRows;
 pub use planning::{PlanFault, plan};

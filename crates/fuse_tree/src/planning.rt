@@ -17,7 +17,16 @@ mod init;
 mod lookup;
 mod make;
 mod mkdir;
+mod mknod;
 mod names;
+mod open;
+mod read_dir;
+mod release;
+mod remove;
+mod rename;
+mod rmdir;
+mod unlink;
+mod walking;
 
 use crate::laws::answers_are_read;
 use crate::look::Look;
@@ -31,7 +40,13 @@ use getattr::plan_getattr;
 use init::plan_init;
 use lookup::plan_lookup;
 use mkdir::plan_mkdir;
+use mknod::plan_mknod;
+use open::{plan_open, plan_open_dir};
+use read_dir::plan_read_dir;
+use release::{plan_release, plan_release_dir};
+use rmdir::plan_rmdir;
 use std::alloc::Global;
+use unlink::plan_unlink;
 
 /// What the request answers in the tree whose rows lie behind `look`, and which rows it changes.
 /// Nothing is changed. An operation that is not built, or not of the profile, is answered ENOSYS.
@@ -123,21 +138,26 @@ fn plan_op<L: Look>(
         Op::Mkdir { mode, name, .. } => {
             plan_mkdir(look, alloc, &request.header, *mode, name, now, row)
         }
+        Op::Mknod {
+            mode,
+            rdev,
+            name,
+            ..
+        } => plan_mknod(look, alloc, &request.header, *mode, *rdev, name, now, row),
+        Op::Unlink { name } => plan_unlink(look, alloc, name, now, row),
+        Op::Rmdir { name } => plan_rmdir(look, alloc, name, now, row),
+        Op::OpenFile { flags, .. } => plan_open(look, alloc, *flags, row),
+        Op::OpenDir { .. } => plan_open_dir(look, alloc, row),
+        Op::ReadDir(asked) => plan_read_dir(look, alloc, asked, row),
+        Op::Release(release) => plan_release(look, alloc, release.fh, row),
+        Op::ReleaseDir(release) => plan_release_dir(look, alloc, release.fh, row),
         Op::Destroy => Ok(done_nothing(alloc)),
         Op::Forget { .. }
         | Op::Setattr(_)
-        | Op::Mknod { .. }
-        | Op::Unlink { .. }
-        | Op::Rmdir { .. }
         | Op::Rename { .. }
-        | Op::OpenFile { .. }
         | Op::Read(_)
         | Op::Write { .. }
-        | Op::Release(_)
         | Op::Init(_)
-        | Op::OpenDir { .. }
-        | Op::ReadDir(_)
-        | Op::ReleaseDir(_)
         | Op::Interrupt { .. }
         | Op::BatchForget { .. }
         | Op::Rename2 { .. }

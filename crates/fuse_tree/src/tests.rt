@@ -3,6 +3,10 @@ ghost use Rattle.fuse_tree.specs.PlainRows.{fault_of};
 ghost use Rattle.fuse_tree.specs.Vectors.{Inits, FirstRun, Refusals};
 
 mod init;
+mod listing;
+mod mknod;
+mod opening;
+mod removing;
 
 use super::*;
 use fuse_request::{InHeader, InitIn, Op, Request};
