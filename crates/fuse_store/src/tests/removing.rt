@@ -4,19 +4,6 @@ ghost use Rattle.fuse_wire.specs.Ids.{id_of};
 ghost use Rattle.fuse_request.specs.Act.{act, IsBuilt};
 
 use super::*;
-use fuse_request::InitIn;
-
-// INIT as row `init-agreed` offers it.
-fn init(unique: u64) -> Request<'static> {
-    let offer = InitIn {
-        major: 7,
-        minor: 40,
-        max_readahead: 131_072,
-        flags: 0x4000_2021,
-        flags2: Some(0x80),
-    };
-    request(unique, 0, Op::Init(offer))
-}
 
 fn mknod<'a>(unique: u64, name: &'a [u8]) -> Request<'a> {
     let op = Op::Mknod {
@@ -61,13 +48,6 @@ fn perform<K: Keeper>(keeper: &mut K, request: Request<'_>) -> Result<Option<Don
         return Ok(None);
     }
     ask_one(keeper, request, &[])
-}
-
-// A new keeper that has agreed on an INIT.
-fn begun(rt: &HostRuntime) -> Result<PlainKeeper, StoreFault> {
-    let mut keeper = new_keeper(rt)?;
-    perform(&mut keeper, init(2))?;
-    Ok(keeper)
 }
 
 // Whether the request is answered so, without a body.
