@@ -10,6 +10,8 @@ pub mod Making
 mod MakingAgrees
 mod MakingFits
 mod Mounts
+pub mod MovedTrees
+pub mod Moving
 pub mod NewStore
 mod Placed
 pub mod Puts
