@@ -10,6 +10,7 @@ pub mod Making
 mod MakingAgrees
 mod MakingFits
 mod Mounts
+pub mod MovedCounts
 pub mod MovedTrees
 pub mod Moving
 pub mod NewStore
