@@ -2,11 +2,17 @@
 use Rattle.std.specs.Prelude.{◌≡◌, ◌<◌, ◌≤◌, ◌+◌, ◌^◌, ℕ, List, ◌++◌, length}
 use Rattle.fuse_wire.specs.Bytes.{le}
 use Rattle.fuse_answer.specs.declared.answer.TheConstants.{MAX_BODY}
+use Rattle.fuse_answer.specs.declared.init_out.InitOut.{InitOut}
+use Rattle.fuse_answer.specs.declared.init_out.TheConstants.InitOut.{SIZE as INIT_SIZE}
 use Rattle.fuse_answer.specs.declared.records.AttrOut.{AttrOut}
 use Rattle.fuse_answer.specs.declared.records.EntryOut.{EntryOut}
+use Rattle.fuse_answer.specs.declared.records.OpenOut.{OpenOut}
+use Rattle.fuse_answer.specs.declared.records.WriteOut.{WriteOut}
 use Rattle.fuse_answer.specs.declared.records.TheConstants.AttrOut.{SIZE as ATTR_OUT_SIZE}
 use Rattle.fuse_answer.specs.declared.records.TheConstants.EntryOut.{SIZE as ENTRY_SIZE}
-use Rattle.fuse_answer.specs.Bodies.{entry_bytes, attr_out_bytes}
+use Rattle.fuse_answer.specs.declared.records.TheConstants.OpenOut.{SIZE as OPEN_SIZE}
+use Rattle.fuse_answer.specs.declared.records.TheConstants.WriteOut.{SIZE as WRITE_SIZE}
+use Rattle.fuse_answer.specs.Bodies.{entry_bytes, attr_out_bytes, open_bytes, write_bytes, init_bytes}
 use Rattle.fuse_answer.specs.Wire.{wire}
 
 -- the bytes begin with their own number, in 4 bytes
@@ -22,4 +28,9 @@ LenStandsFirst = (errno : ℕ) (body : List ℕ) (unique : ℕ) → length body 
 
 -- the records have the sizes of fuse.h
 abbrev pub RecordSizes : Type 0
-RecordSizes = ((e : EntryOut) → length (entry_bytes e) ≡ ENTRY_SIZE) × ((a : AttrOut) → length (attr_out_bytes a) ≡ ATTR_OUT_SIZE)
+RecordSizes =
+    ((e : EntryOut) → length (entry_bytes e) ≡ ENTRY_SIZE)
+    × ((a : AttrOut) → length (attr_out_bytes a) ≡ ATTR_OUT_SIZE)
+    × ((o : OpenOut) → length (open_bytes o) ≡ OPEN_SIZE)
+    × ((w : WriteOut) → length (write_bytes w) ≡ WRITE_SIZE)
+    × ((i : InitOut) → length (init_bytes i) ≡ INIT_SIZE)

@@ -25,7 +25,7 @@ profile =
     ∷ later FORGET (codes "FORGET") (fixed FORGET_IN)
     ∷ built GETATTR (codes "GETATTR") (fixed GETATTR_IN)
     ∷ later SETATTR (codes "SETATTR") (fixed SETATTR_IN)
-    ∷ later MKNOD (codes "MKNOD") (at_least MKNOD_IN name_fault)
+    ∷ built MKNOD (codes "MKNOD") (at_least MKNOD_IN name_fault)
     ∷ built MKDIR (codes "MKDIR") (at_least MKDIR_IN name_fault)
     ∷ later UNLINK (codes "UNLINK") name_fault
     ∷ later RMDIR (codes "RMDIR") name_fault
@@ -34,7 +34,7 @@ profile =
     ∷ later READ (codes "READ") (fixed READ_IN)
     ∷ later WRITE (codes "WRITE") (counted WRITE_IN 16 1)
     ∷ later RELEASE (codes "RELEASE") (fixed RELEASE_IN)
-    ∷ later INIT (codes "INIT") init_fault
+    ∷ built INIT (codes "INIT") init_fault
     ∷ later OPENDIR (codes "OPENDIR") (fixed OPEN_IN)
     ∷ later READDIR (codes "READDIR") (fixed READ_IN)
     ∷ later RELEASEDIR (codes "RELEASEDIR") (fixed RELEASE_IN)

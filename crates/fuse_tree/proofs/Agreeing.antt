@@ -1,14 +1,16 @@
 -- A plan over the rows of a state agrees with what is done in that state.
 use Rattle.std.proofs.Common.{◌≡◌, ℕ, true, if◌then◌else◌, not, List, [], Option, Some, None, refl, sym, subst}
-use Rattle.std.specs.Prelude.{Result, Ok, Err, IfOk, IfErr}
+use Rattle.std.specs.Prelude.{Result, Ok, Err, IfOk, IfErr, is_some}
 use Rattle.std.specs.Option.{option_map}
-use Rattle.fuse_wire.specs.declared.errno.TheConstants.Errno.{ENOENT, ENOTDIR, ENOSYS, ESTALE}
+use Rattle.fuse_wire.specs.declared.errno.TheConstants.Errno.{ENOENT, ENOTDIR, ENOSYS, EPROTO, ESTALE}
 use Rattle.fuse_wire.specs.declared.moment.Moment.{Moment}
 use Rattle.fuse_request.specs.declared.request.InHeader.{InHeader}
+use Rattle.fuse_request.specs.declared.request.InitIn.{InitIn}
 use Rattle.fuse_request.specs.declared.request.Op.{Op}
 use Rattle.fuse_request.specs.declared.request.Op.TheVariants as ops
 use Rattle.fuse_request.specs.Act.{Act, Asked, act}
 use Rattle.fuse_request.specs.Act as acts
+use Rattle.fuse_init.specs.Agree.{agree}
 use Rattle.fuse_tree.specs.declared.planning.fault.PlanFault.{PlanFault}
 use Rattle.fuse_tree.specs.declared.planning.fault.PlanFault.TheVariants as faults
 use Rattle.fuse_tree.specs.declared.rows.EntryRow.{EntryRow}
@@ -16,13 +18,14 @@ use Rattle.fuse_tree.specs.declared.rows.NodeRow.{NodeRow}
 use Rattle.fuse_tree.specs.declared.rows.Planned.{Planned}
 use Rattle.fuse_tree.specs.State.{State, Node, Tree, is_dir, node_at, is_named, name_fault}
 use Rattle.fuse_tree.specs.Rows.{row_of, rowed, rows_of_state, row_at, entry_at}
-use Rattle.fuse_tree.specs.Done.{Done, answer}
-use Rattle.fuse_tree.specs.Do.{lookup_child, lookup_entry, lookup, done, do_at, do_act, names_node}
+use Rattle.fuse_tree.specs.Done.{Done}
+use Rattle.fuse_tree.specs.Do.{lookup_child, lookup_entry, lookup, done, do_at, do_act, do_agreed, do_offered, offer_of, names_node}
 use Rattle.fuse_tree.specs.Plan.{Meets, TreeKept, look_fault}
 use Rattle.fuse_tree.specs.Reading.{Tells, child_of}
-use Rattle.fuse_tree.specs.Planning.{plan_lookup, plan_of, plan_at, plan_act, plan_child}
+use Rattle.fuse_tree.specs.Planning.{plan_lookup, plan_of, plan_offered, plan_agreed, plan_at, plan_act, plan_child}
 use Rattle.fuse_tree.proofs.Agreement.{Agrees, refused_agrees, both, both_for}
-use Rattle.fuse_tree.proofs.MakingAgrees.{mkdir_agrees}
+use Rattle.fuse_tree.proofs.InitAgrees.{init_agrees}
+use Rattle.fuse_tree.proofs.MakingAgrees.{mkdir_agrees, mknod_agrees}
 use Rattle.fuse_tree.proofs.Puts.{row_found, node_found}
 
 child_agrees : (s : State) → Tree s → (o : Option Node) → Agrees s (plan_child (option_map (row_of s) o)) (lookup_child s o)
@@ -44,6 +47,7 @@ act_agrees : (s : State) (header : InHeader) (a : Act) (now : Moment) (d : Node)
 act_agrees s header (acts.Lookup name) now d tree e = lookup_agrees s name d tree
 act_agrees s header (acts.Getattr flags fh) now d tree e = record { answer = refl; rows = refl; tree = tree }
 act_agrees s header (acts.Mkdir mode umask name) now d tree e = mkdir_agrees s header mode name now d tree e
+act_agrees s header (acts.Mknod mode rdev umask name) now d tree e = mknod_agrees s header mode rdev name now d tree e
 act_agrees s header acts.Destroy now d tree e = record { answer = refl; rows = refl; tree = tree }
 act_agrees s header _ now d tree e = refused_agrees s tree ENOSYS
 
@@ -57,13 +61,17 @@ node_agrees : (s : State) (request : Asked) (now : Moment) → Tree s → Agrees
 node_agrees s request now tree =
     subst (λ (o : Option NodeRow). Agrees s (plan_at request now o (rows_of_state s)) (do_at s request now (node_at s request.header.nodeid))) (sym (row_found s request.header.nodeid)) (at_agrees s request now (node_at s request.header.nodeid) tree refl)
 
-plan_agrees : (s : State) (request : Asked) (now : Moment) → Tree s → Agrees s (plan_of request now (rows_of_state s)) (if names_node request.act then do_at s request now (node_at s request.header.nodeid) else answer s [])
-plan_agrees s request now tree = both s (names_node request.act) _ _ _ _ (λ _. node_agrees s request now tree) (λ _. record { answer = refl; rows = refl; tree = tree })
+agreed_agrees : (s : State) (request : Asked) (now : Moment) → Tree s → Agrees s (plan_agreed request now (rows_of_state s)) (do_agreed s request now)
+agreed_agrees s request now tree = both s (names_node request.act) _ _ _ _ (λ _. node_agrees s request now tree) (λ _. record { answer = refl; rows = refl; tree = tree })
+
+plan_agrees : (s : State) (request : Asked) (now : Moment) (offer : Option InitIn) → Tree s → Agrees s (plan_offered request now offer (rows_of_state s)) (do_offered s request now offer)
+plan_agrees s request now (Some offer) tree = init_agrees s (agree offer) tree
+plan_agrees s request now None tree = both s (is_some s.settings) _ _ _ _ (λ _. agreed_agrees s request now tree) (λ _. refused_agrees s tree EPROTO)
 
 -- what a plan over the rows of a tree is
 pub plan_meets : (s : State) (request : Asked) (now : Moment) → Tree s → Meets s (plan_of request now (rowed s)) (done s request now)
 unfolding rowed done
-plan_meets s request now tree = let a = plan_agrees s request now tree in record { answer = a.answer; rows = a.rows; tree = a.tree }
+plan_meets s request now tree = let a = plan_agrees s request now (offer_of request.act) tree in record { answer = a.answer; rows = a.rows; tree = a.tree }
 
 pub tree_kept : TreeKept
 tree_kept s request now tree = (plan_meets s request now tree).tree
@@ -82,3 +90,8 @@ no_tree q (Err faults.NotATree) = λ is tells. (tells refl).1 refl
 pub looks_at_node : (op : Op) → ¬ (op ≡ ops.Destroy) → names_node (act op) ≡ true
 looks_at_node ops.Destroy h = absurd (h refl)
 looks_at_node _ h = refl
+
+-- every request but INIT offers nothing
+pub offers_nothing : (op : Op) → ((offer : InitIn) → ¬ (op ≡ ops.Init offer)) → offer_of (act op) ≡ None
+offers_nothing (ops.Init offer) h = absurd (h offer refl)
+offers_nothing _ h = refl

@@ -1,12 +1,16 @@
 -- What the rows of a tree can't pass, so that a plan over them never gives up.
-use Rattle.std.proofs.Common.{◌≡◌, ◌==◌, ℕ, false, List, Option, Some, None, refl, sym, subst, ◌∙◌, arith}
+use Rattle.std.proofs.Common.{◌≡◌, ◌==◌, ◌≤◌, ◌&&◌, ◌||◌, ℕ, true, false, cond, not, eqb, List, [], ◌∷◌, length, take, Option, Some, None, refl, sym, subst, ◌∙◌, arith}
+use Rattle.std.specs.Prelude.{filter, nat_lt}
+use Rattle.std.proofs.lemmas.Bool.{lt-ltb}
+use Rattle.std.specs.List.{AllByRecursion}
 use Rattle.std.specs.Option.{option_map}
 use Rattle.fuse_tree.specs.declared.rows.EntryRow.{EntryRow}
 use Rattle.fuse_tree.specs.declared.rows.NodeRow.{NodeRow}
 use Rattle.fuse_tree.specs.State.{State, Node, Tree, IsNode, IsEntry, is_below, has_number, node_at, is_entry}
-use Rattle.fuse_tree.specs.Rows.{Rows, IsRowed, row_of, rowed, rows_of_state, row_at, entry_at}
+use Rattle.fuse_tree.specs.Rows.{Rows, IsRowed, row_of, rowed, rows_of_state, row_at, entry_at, is_after, entries_after}
 use Rattle.fuse_tree.specs.Reading.{IsWithin}
-use Rattle.fuse_tree.proofs.Lists.{found, any_gives, none_found, length_filtered}
+use Rattle.fuse_tree.specs.Removing.{has_entries}
+use Rattle.fuse_tree.proofs.Lists.{all_more, found, any_gives, none_found, length_filtered}
 use Rattle.fuse_tree.proofs.Puts.{row_found}
 
 within : (s : State) (number : ℕ) (row : NodeRow) (o : Option Node) → Tree s → node_at s number ≡ o → option_map (row_of s) o ≡ Some row → IsWithin row
@@ -52,3 +56,23 @@ child_row rows dir name x is e none =
 pub is_rowed : (s : State) → Tree s → IsRowed (rowed s)
 unfolding IsRowed
 is_rowed s tree = (s, tree, refl)
+
+-- an entry of a tree has a cookie above 0, so the first entry of a directory is among those behind 0
+first_after : (es : List EntryRow) (dir : ℕ) → AllByRecursion (λ e. 3 ≤ e.cookie) es → not (eqb (length (take 1 (filter (is_after dir 0) es))) 0) ≡ has_entries es dir
+first_after [] dir all = refl
+first_after (e ∷ es) dir all =
+    let three : 3 ≤ e.cookie = all.0 in
+    let above : nat_lt 0 e.cookie ≡ true = lt-ltb 0 e.cookie (omega arith) in
+    let rest = first_after es dir all.1 in
+    rw above (elim (eqb e.dir dir) as (λ b. not (eqb (length (take 1 (cond (b && true) (e ∷ filter (is_after dir 0) es) (filter (is_after dir 0) es)))) 0) ≡ (b || has_entries es dir)) [
+      | true ↦ refl
+      | false ↦ rest
+    ])
+
+-- whether an entry stands in a directory is told by the first one behind cookie 0
+pub entries_told : (rows : Rows) (dir : ℕ) → IsRowed rows → not (eqb (length (entries_after rows dir 0 1)) 0) ≡ has_entries rows.entries dir
+unfolding IsRowed
+entries_told rows dir is =
+    let s = is.0 in
+    let same : rows ≡ rows_of_state s = is.2 ∙ rowed_is s in
+    subst (λ (r : Rows). not (eqb (length (entries_after r dir 0 1)) 0) ≡ has_entries r.entries dir) (sym same) (first_after s.entries dir (all_more (IsEntry s.nodes s.entries s.next_cookie) (λ e. 3 ≤ e.cookie) s.entries (λ e p. p.from_three) is.1.entries))

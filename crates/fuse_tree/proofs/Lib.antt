@@ -2,9 +2,13 @@ pub mod Agreeing
 mod Agreement
 pub mod Bounds
 pub mod Counts
+pub mod EntryGone
 mod Fit
 pub mod Fitting
+pub mod GoneRows
 pub mod Heights
+mod InitAgrees
+mod InitFits
 pub mod Lists
 pub mod Making
 mod MakingAgrees

@@ -7,7 +7,7 @@ use Rattle.fuse_tree.specs.declared.planning.make.NewNode.{NewNode}
 use Rattle.fuse_tree.specs.State.{State, Node, is_dir, is_named, name_fault}
 use Rattle.fuse_tree.specs.Rows.{entry_at}
 use Rattle.fuse_tree.specs.Done.{attr_of, entry_of}
-use Rattle.fuse_tree.specs.Making.{new_node, with_node, begun, is_full, make, dir_mode, mkdir}
+use Rattle.fuse_tree.specs.Making.{new_node, with_node, begun, is_full, make, dir_mode, mkdir, type_bits, may_make, node_mode, node_rdev, mknod}
 use Rattle.fuse_tree.proofs.Fit.{Fits, refused, answered, chosen, refused_for}
 
 pub make_fits : RecordSizes → (s : State) (fresh : NewNode) (name : List ℕ) (n : Node) → Fits (make s fresh name n)
@@ -21,3 +21,9 @@ pub mkdir_fits : RecordSizes → (s : State) (header : InHeader) (mode : ℕ) (n
 mkdir_fits sizes s header mode name now n =
     chosen (not (is_dir n.mode)) _ _ (refused s _)
     (refused_for s (name_fault name) _ (make_fits sizes s (begun header (dir_mode mode) 0 now) name n))
+
+pub mknod_fits : RecordSizes → (s : State) (header : InHeader) (mode rdev : ℕ) (name : List ℕ) (now : Moment) (n : Node) → Fits (mknod s header mode rdev name now n)
+mknod_fits sizes s header mode rdev name now n =
+    chosen (not (is_dir n.mode)) _ _ (refused s _)
+    (chosen (not (may_make (type_bits mode))) _ _ (refused s _)
+    (refused_for s (name_fault name) _ (make_fits sizes s (begun header (node_mode mode) (node_rdev mode rdev) now) name n)))

@@ -1,17 +1,20 @@
 -- What `plan` reads off the rows (own profile), in the order of its checks.
-use Rattle.std.specs.Prelude.{ℕ, not, if◌then◌else◌, List, [], Option, Some, None}
-use Rattle.fuse_wire.specs.declared.errno.TheConstants.Errno.{ENOENT, ENOTDIR, ENOSYS, ESTALE}
+use Rattle.std.specs.Prelude.{ℕ, not, if◌then◌else◌, List, [], Option, Some, None, is_some}
+use Rattle.fuse_wire.specs.declared.errno.TheConstants.Errno.{ENOENT, ENOTDIR, ENOSYS, EPROTO, ESTALE}
 use Rattle.fuse_wire.specs.declared.moment.Moment.{Moment}
 use Rattle.fuse_request.specs.declared.request.InHeader.{InHeader}
+use Rattle.fuse_request.specs.declared.request.InitIn.{InitIn}
 use Rattle.fuse_request.specs.Act.{Act, Asked}
 use Rattle.fuse_request.specs.Act as acts
+use Rattle.fuse_init.specs.Agree.{agree}
 use Rattle.fuse_tree.specs.declared.rows.NodeRow.{NodeRow}
 use Rattle.fuse_tree.specs.declared.rows.Planned.{Planned}
 use Rattle.fuse_tree.specs.State.{is_dir, name_fault}
 use Rattle.fuse_tree.specs.Rows.{Rows, row_at}
-use Rattle.fuse_tree.specs.Do.{names_node}
+use Rattle.fuse_tree.specs.Do.{names_node, offer_of}
 use Rattle.fuse_tree.specs.Reading.{refused, refused_for, told, row_is_named, entry_body, attr_body, child_at}
-use Rattle.fuse_tree.specs.PlanMaking.{plan_mkdir}
+use Rattle.fuse_tree.specs.PlanInit.{plan_init}
+use Rattle.fuse_tree.specs.PlanMaking.{plan_mkdir, plan_mknod}
 
 -- ---- LOOKUP
 
@@ -33,6 +36,7 @@ abbrev pub plan_act : InHeader → Act → Moment → NodeRow → Rows → Plann
 plan_act header (acts.Lookup name) now row rows = plan_lookup name row rows
 plan_act header (acts.Getattr flags fh) now row rows = told (attr_body row)
 plan_act header (acts.Mkdir mode umask name) now row rows = plan_mkdir header mode name now row rows
+plan_act header (acts.Mknod mode rdev umask name) now row rows = plan_mknod header mode rdev name now row rows
 plan_act header acts.Destroy now row rows = told []
 plan_act header _ now row rows = refused ENOSYS
 
@@ -40,5 +44,13 @@ abbrev pub plan_at : Asked → Moment → Option NodeRow → Rows → Planned
 plan_at request now None rows = refused ESTALE
 plan_at request now (Some row) rows = plan_act request.header request.act now row rows
 
+-- where settings are agreed on
+abbrev pub plan_agreed : Asked → Moment → Rows → Planned
+plan_agreed request now rows = if names_node request.act then plan_at request now (row_at rows request.header.nodeid) rows else told []
+
+abbrev pub plan_offered : Asked → Moment → Option InitIn → Rows → Planned
+plan_offered request now (Some offer) rows = plan_init (agree offer)
+plan_offered request now None rows = if is_some rows.settings then plan_agreed request now rows else refused EPROTO
+
 abbrev pub plan_of : Asked → Moment → Rows → Planned
-plan_of request now rows = if names_node request.act then plan_at request now (row_at rows request.header.nodeid) rows else told []
+plan_of request now rows = plan_offered request now (offer_of request.act) rows

@@ -16,7 +16,7 @@ pub use limits::{
     VALID_SECS,
 };
 pub use look::{Look, LookFault};
-pub use mode::{S_IFDIR, S_IFREG, TYPE_UNIT, TYPES};
+pub use mode::{S_IFBLK, S_IFCHR, S_IFDIR, S_IFIFO, S_IFREG, S_IFSOCK, TYPE_UNIT, TYPES};
 pub use mount::clearing;
 pub use plain::PlainRows;
 pub use planning::{PlanFault, plan};

@@ -5,16 +5,18 @@ ghost use Rattle.fuse_tree.specs.Rows.{rowed};
 ghost use Rattle.fuse_tree.specs.Do.{done};
 ghost use Rattle.fuse_tree.specs.Plan.{Meets, look_fault};
 ghost use Rattle.fuse_tree.specs.Reading.{IsWithin, Reads};
-ghost use Rattle.fuse_tree.specs.Planning.{plan_act, plan_of};
+ghost use Rattle.fuse_tree.specs.Planning.{plan_act, plan_agreed as planned_agreed, plan_of};
 
 mod answers;
 mod attributes;
 mod fault;
 mod finding;
 mod getattr;
+mod init;
 mod lookup;
 mod make;
 mod mkdir;
+mod mknod;
 mod names;
 mod rename;
 mod walking;
@@ -23,12 +25,14 @@ use crate::look::Look;
 use crate::rows::{NodeRow, Planned};
 use answers::{done_nothing, refused};
 pub use fault::PlanFault;
-use finding::find_node;
+use finding::{find_node, has_settings};
 use fuse_request::{Op, Request};
 use fuse_wire::{Errno, Moment};
 use getattr::plan_getattr;
+use init::plan_init;
 use lookup::plan_lookup;
 use mkdir::plan_mkdir;
+use mknod::plan_mknod;
 use std::alloc::Global;
 
 /// What the request answers in the tree whose rows lie behind `look`, and which rows it changes.
@@ -52,7 +56,8 @@ pub fn plan<L: Look>(
     plan_request(look, alloc, request, now)
 }
 
-#[tactic(auto, using(crate::proofs::Agreeing::looks_at_node))]
+// INIT is answered always, and all else where an INIT is agreed on.
+#[tactic(auto, using(crate::proofs::Agreeing::offers_nothing))]
 fn plan_request<L: Look>(
     look: &mut L,
     alloc: Global,
@@ -61,6 +66,28 @@ fn plan_request<L: Look>(
 ) -> Result<Planned, PlanFault>
     requires { L.fault look.old ≡ None }
     ensures plan { Reads (L.is_clean look.new) (L.sees look.old) result (plan_of (asked request.now) now) }
+    ensures fault { L.fault look.new ≡ look_fault result }
+    ensures looks { look_fault result ≡ None → L.looks look.old look.new }
+    ensures fails { OnErr result (L.fails look.old look.new) }
+{
+    if let Op::Init(offer) = &request.op {
+        return Ok(plan_init(alloc, offer)?);
+    }
+    if !has_settings(look)? {
+        return Ok(refused(alloc, Errno::EPROTO));
+    }
+    plan_agreed(look, alloc, request, now)
+}
+
+#[tactic(auto, using(crate::proofs::Agreeing::looks_at_node))]
+fn plan_agreed<L: Look>(
+    look: &mut L,
+    alloc: Global,
+    request: &Request<'_>,
+    now: Moment,
+) -> Result<Planned, PlanFault>
+    requires { L.fault look.old ≡ None }
+    ensures plan { Reads (L.is_clean look.new) (L.sees look.old) result (planned_agreed (asked request.now) now) }
     ensures fault { L.fault look.new ≡ look_fault result }
     ensures looks { look_fault result ≡ None → L.looks look.old look.new }
     ensures fails { OnErr result (L.fails look.old look.new) }
@@ -95,10 +122,15 @@ fn plan_op<L: Look>(
         Op::Mkdir { mode, name, .. } => {
             plan_mkdir(look, alloc, &request.header, *mode, name, now, row)
         }
+        Op::Mknod {
+            mode,
+            rdev,
+            name,
+            ..
+        } => plan_mknod(look, alloc, &request.header, *mode, *rdev, name, now, row),
         Op::Destroy => Ok(done_nothing(alloc)),
         Op::Forget { .. }
         | Op::Setattr(_)
-        | Op::Mknod { .. }
         | Op::Unlink { .. }
         | Op::Rmdir { .. }
         | Op::Rename { .. }

@@ -292,6 +292,41 @@ fn zero_unique(rt: HostRuntime) -> Result<(), Fail> {
     )
 }
 
+#[test]
+fn silent_messages(rt: HostRuntime) -> Result<(), Fail> {
+    let items = "0200000000000000 0100000000000000 0300000000000000 0100000000000000";
+    check(
+        &rt,
+        &Row {
+            name: "an INTERRUPT, one with 7 bytes, a FORGET with 7 bytes, BATCH_FORGET of 2 and with a count of 3, NOTIFY_REPLY",
+            stream: &[
+                "30000000 24000000 0600000000000000 0000000000000000",
+                TAIL,
+                "0400000000000000",
+                "2f000000 24000000 0800000000000000 0000000000000000",
+                TAIL,
+                "04000000000000",
+                "2f000000 02000000 0a00000000000000 0100000000000000",
+                TAIL,
+                "01000000000000",
+                "50000000 2a000000 0c00000000000000 0000000000000000",
+                TAIL,
+                "02000000 00000000",
+                items,
+                "50000000 2a000000 0e00000000000000 0000000000000000",
+                TAIL,
+                "03000000 00000000",
+                items,
+                "28000000 29000000 1000000000000000 0000000000000000",
+                TAIL,
+            ],
+            lines: &[],
+            counts: "served messages=6 kept=0 repeated=0 bare=0 silent=6 interrupts=1",
+            ending: Ending::Done,
+        },
+    )
+}
+
 // MKDIRs of distinct names in the root, under the uniques 4, 6 and so on.
 fn mkdirs(alloc: Global, count: u8) -> Result<Vec<u8>, Fail> {
     let mut stream = Vec::new(alloc);
