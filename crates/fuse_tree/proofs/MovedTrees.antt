@@ -6,7 +6,8 @@ use Rattle.std.proofs.lemmas.Bool.Decides.{eqb_tells}
 use Rattle.fuse_tree.specs.declared.limits.TheConstants.{COUNTER_END}
 use Rattle.fuse_tree.specs.declared.rows.EntryRow.{EntryRow}
 use Rattle.fuse_tree.specs.State.{State, Tree, IsEntry, Apart, AreApart, Reaches, above, up_of, is_dir_of, is_entry, name_fault}
-use Rattle.fuse_tree.specs.Renaming.{without, placed}
+use Rattle.fuse_tree.specs.Removing.{without}
+use Rattle.fuse_tree.specs.Renaming.{placed}
 use Rattle.fuse_tree.proofs.Lists.{all_more, all_both, all_kept, all_grown, apart_filtered, apart_grown, found}
 use Rattle.fuse_tree.proofs.Ups.{up_more, reaches_same}
 use Rattle.fuse_tree.proofs.Heights.{rooted, not_under_own}

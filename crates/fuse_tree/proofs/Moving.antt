@@ -8,7 +8,7 @@ use Rattle.std.proofs.lemmas.Bool.Decides.{eqb_tells}
 use Rattle.fuse_tree.specs.declared.rows.EntryRow.{EntryRow}
 use Rattle.fuse_tree.specs.State.{Apart, AreApart, Reaches, above, up_of, is_entry}
 use Rattle.fuse_tree.proofs.Lists.{all_more, all_both, all_filtered, and_true, cond_found, found}
-use Rattle.fuse_tree.proofs.Ups.{up_in}
+use Rattle.fuse_tree.proofs.EntryGone.{up_less}
 
 -- ---- one entry among the others
 
@@ -62,21 +62,6 @@ up_found test es e apart is = step es (others_differ test es e apart is) is
             | inr h ↦ rw (ne_eqb x.child e.child other.child) (step xs all.1 h.1)
           ]
         ]
-
--- without entries of node k, every other has the same directory above
-pub up_less : (test : EntryRow → Bool) (es : List EntryRow) (k j : ℕ) → AllByRecursion (λ e. test e ≡ false → e.child ≡ k) es → j ≢ k → up_of (filter test es) j ≡ up_of es j
-up_less test [] k j only ne = refl
-up_less test (e ∷ es) k j only ne =
-    let rest = up_less test es k j only.1 ne in
-    let step : (b : Bool) → test e ≡ b → up_of (cond b (e ∷ filter test es) (filter test es)) j ≡ cond (eqb e.child j) e.dir (up_of es j) =
-    elim [
-      | true ↦ λ is. ap (λ (r : ℕ). cond (eqb e.child j) e.dir r) rest
-      | false ↦ λ is. (
-          let child : e.child ≡ k = only.0 is in
-          let other : e.child ≢ j = omega arith in
-          rw (ne_eqb e.child j other) rest)
-    ] in
-    step (test e) refl
 
 -- an entry behind the others tells the directory above its child, where none of them does
 pub up_last : (es : List EntryRow) (e : EntryRow) → AllByRecursion (λ z. z.child ≢ e.child) es → up_of (es ++ e ∷ []) e.child ≡ e.dir
