@@ -15,6 +15,7 @@ mod MakingAgrees
 mod MakingFits
 mod Mounts
 pub mod MovedCounts
+pub mod MovedRows
 pub mod MovedTrees
 pub mod Moving
 pub mod NewStore

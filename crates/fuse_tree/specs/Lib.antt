@@ -15,5 +15,6 @@ pub mod Reading
 pub mod PlanInit
 pub mod PlanMaking
 pub mod PlanRemoving
+pub mod PlanRenaming
 pub mod Planning
 pub mod Vectors

@@ -1,0 +1,138 @@
+-- What the plans of RENAME and RENAME2 read off the rows (own profile), in the order of their checks.
+use Rattle.std.specs.Prelude.{◌+◌, ◌-◌, ◌==◌, ◌&&◌, ◌||◌, ℕ, Bool, false, nat_le, nat_lt, if◌then◌else◌, List, [], ◌∷◌, ◌++◌, is_some, Option, Some, None}
+use Rattle.fuse_wire.specs.declared.errno.Errno.{Errno}
+use Rattle.fuse_wire.specs.declared.errno.TheConstants.Errno.{ENOENT, EEXIST, EINVAL, ENOSPC, ESTALE}
+use Rattle.fuse_wire.specs.declared.moment.Moment.{Moment}
+use Rattle.fuse_tree.specs.declared.limits.TheConstants.{COUNTER_END}
+use Rattle.fuse_tree.specs.declared.planning.finding.Link.{Link}
+use Rattle.fuse_tree.specs.declared.planning.rename.TheConstants.{RENAME_NOREPLACE, RENAME_EXCHANGE}
+use Rattle.fuse_tree.specs.declared.rows.NodeRow.{NodeRow}
+use Rattle.fuse_tree.specs.declared.rows.Counters.{Counters as CountersRow}
+use Rattle.fuse_tree.specs.declared.rows.Change.{Change}
+use Rattle.fuse_tree.specs.declared.rows.Change.TheVariants as changes
+use Rattle.fuse_tree.specs.declared.rows.Planned.{Planned}
+use Rattle.fuse_tree.specs.State.{is_dir}
+use Rattle.fuse_tree.specs.Rows.{Rows, row_at}
+use Rattle.fuse_tree.specs.Reading.{refused, refused_for, told, row_is_named}
+use Rattle.fuse_tree.specs.Removing.{has_entries}
+use Rattle.fuse_tree.specs.PlanRemoving.{link_at, unnamed_row}
+use Rattle.fuse_tree.specs.Renaming.{Renaming, leads_to, asked_fault, kinds_fault}
+
+-- ---- rows
+
+abbrev pub more : Bool → ℕ → ℕ
+more enters n = if enters then n + 1 else n
+
+abbrev pub fewer : Bool → ℕ → ℕ
+fewer leaves n = if leaves then n - 1 else n
+
+-- a directory's row when a directory leaves it, or enters it
+abbrev pub dir_row : Moment → Bool → Bool → NodeRow → NodeRow
+dir_row now leaves enters row = record row { mtime = now; ctime = now; subdirs = fewer leaves (more enters row.subdirs) }
+
+-- a child's row when it comes to stand in another directory
+abbrev pub moved_row : Moment → ℕ → NodeRow → NodeRow
+moved_row now up child = record child { ctime = now; up = up }
+
+abbrev pub is_dir_link : Link → Bool
+is_dir_link link = is_dir link.child.mode
+
+abbrev pub is_dir_other : Option Link → Bool
+is_dir_other None = false
+is_dir_other (Some other) = is_dir_link other
+
+-- ---- checks
+
+-- both places are the same entry
+abbrev pub is_same_link : Link → Option Link → Bool
+is_same_link source None = false
+is_same_link source (Some other) = source.cookie == other.cookie
+
+-- the child is a directory that can't come to stand in this one
+abbrev pub row_holds : Rows → NodeRow → ℕ → Bool
+row_holds rows child dir = is_dir child.mode && leads_to rows.entries rows.counters.nodes child.node dir
+
+-- why the source can't come to stand where the other link is
+abbrev pub link_fault : Rows → Link → Option Link → Option Errno
+link_fault rows source None = None
+link_fault rows source (Some other) = kinds_fault (is_dir_link source) (is_dir_link other) (has_entries rows.entries other.child.node)
+
+-- ---- RENAME
+
+-- what stood at the new place goes
+abbrev pub lost_changes : Moment → Option Link → List Change
+lost_changes now None = []
+lost_changes now (Some other) = changes.EntryGone other.cookie ∷ changes.Node (unnamed_row now other.child) ∷ []
+
+-- the rows of both directories, or of the one that both are
+abbrev pub rename_dirs : Moment → NodeRow → NodeRow → Bool → Bool → List Change
+rename_dirs now from to moves lost =
+    if from.node == to.node then changes.Node (dir_row now lost false from) ∷ []
+    else changes.Node (dir_row now moves false from) ∷ changes.Node (dir_row now lost moves to) ∷ []
+
+abbrev pub rename_changes : Renaming → CountersRow → NodeRow → NodeRow → Link → Option Link → List Change
+rename_changes r counters from to source other =
+    lost_changes r.now other ++ changes.EntryGone source.cookie ∷ rename_dirs r.now from to (is_dir_link source) (is_dir_other other)
+    ++ changes.Node (moved_row r.now to.node source.child)
+    ∷ changes.Entry (record { dir = to.node; name = r.new_name; child = source.child.node; cookie = counters.next_cookie })
+    ∷ changes.Counters (record counters { next_cookie = counters.next_cookie + 1 }) ∷ []
+
+abbrev pub plan_rename_with_room : Renaming → NodeRow → NodeRow → Link → Option Link → Rows → Planned
+plan_rename_with_room r from to source other rows =
+    if nat_le COUNTER_END rows.counters.next_cookie then refused ENOSPC
+    else record { answer = record { errno = 0; body = [] }; changes = rename_changes r rows.counters from to source other }
+
+abbrev pub plan_rename_link : Renaming → NodeRow → NodeRow → Link → Option Link → Rows → Planned
+plan_rename_link r from to source other rows =
+    if is_same_link source other then told []
+    else if row_holds rows source.child to.node then refused EINVAL
+    else refused_for (link_fault rows source other) (plan_rename_with_room r from to source other rows)
+
+-- ---- EXCHANGE
+
+-- the rows of both directories, or of the one that both are
+abbrev pub exchange_dirs : Moment → NodeRow → NodeRow → Bool → Bool → List Change
+exchange_dirs now from to moves comes =
+    if from.node == to.node then changes.Node (dir_row now false false from) ∷ []
+    else changes.Node (dir_row now moves comes from) ∷ changes.Node (dir_row now comes moves to) ∷ []
+
+abbrev pub exchange_changes : Renaming → CountersRow → NodeRow → NodeRow → Link → Link → List Change
+exchange_changes r counters from to source other =
+    changes.EntryGone source.cookie ∷ changes.EntryGone other.cookie ∷ exchange_dirs r.now from to (is_dir_link source) (is_dir_link other)
+    ++ changes.Node (moved_row r.now to.node source.child) ∷ changes.Node (moved_row r.now from.node other.child)
+    ∷ changes.Entry (record { dir = from.node; name = r.old_name; child = other.child.node; cookie = counters.next_cookie })
+    ∷ changes.Entry (record { dir = to.node; name = r.new_name; child = source.child.node; cookie = counters.next_cookie + 1 })
+    ∷ changes.Counters (record counters { next_cookie = counters.next_cookie + 2 }) ∷ []
+
+abbrev pub plan_exchange_with_room : Renaming → NodeRow → NodeRow → Link → Link → Rows → Planned
+plan_exchange_with_room r from to source other rows =
+    if nat_lt (COUNTER_END - 2) rows.counters.next_cookie then refused ENOSPC
+    else record { answer = record { errno = 0; body = [] }; changes = exchange_changes r rows.counters from to source other }
+
+abbrev pub plan_exchange_link : Renaming → NodeRow → NodeRow → Link → Option Link → Rows → Planned
+plan_exchange_link r from to source None rows = refused ENOENT
+plan_exchange_link r from to source (Some other) rows =
+    if source.cookie == other.cookie then told []
+    else if row_holds rows source.child to.node || row_holds rows other.child from.node then refused EINVAL
+    else plan_exchange_with_room r from to source other rows
+
+-- ---- by the flags
+
+abbrev pub plan_rename_by : Renaming → NodeRow → NodeRow → Link → Option Link → Rows → Planned
+plan_rename_by r from to source other rows =
+    if r.flags == RENAME_EXCHANGE then plan_exchange_link r from to source other rows
+    else if (r.flags == RENAME_NOREPLACE) && is_some other then refused EEXIST
+    else plan_rename_link r from to source other rows
+
+abbrev pub plan_rename_from : Renaming → NodeRow → NodeRow → Option Link → Rows → Planned
+plan_rename_from r from to None rows = refused ENOENT
+plan_rename_from r from to (Some source) rows = plan_rename_by r from to source (link_at rows to.node r.new_name) rows
+
+abbrev pub plan_rename_between : Renaming → NodeRow → Option NodeRow → Rows → Planned
+plan_rename_between r from None rows = refused ESTALE
+plan_rename_between r from (Some to) rows =
+    refused_for (asked_fault r (is_dir from.mode && is_dir to.mode) (row_is_named from && row_is_named to))
+    (plan_rename_from r from to (link_at rows from.node r.old_name) rows)
+
+abbrev pub plan_rename : Renaming → NodeRow → Rows → Planned
+plan_rename r from rows = plan_rename_between r from (row_at rows r.new_dir) rows
