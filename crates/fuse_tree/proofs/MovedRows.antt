@@ -69,7 +69,7 @@ abbrev pub shifted : (ℕ → Bool) → (ℕ → Bool) → Moment → List Entry
 shifted D C now fs next s = record s { nodes = map (timed D C now) s.nodes; entries = fs; next_cookie = next }
 
 module _ (s : State) (D C : ℕ → Bool) (now : Moment) (fs : List EntryRow) (next : ℕ) where
-  abbrev then_full : Node → Full
+  abbrev pub then_full : Node → Full
   then_full n = full_of (shifted D C now fs next s) (timed D C now n)
 
   pub dir_then : (n : Node) (m : ℕ) → D n.number ≡ true → up_of fs n.number ≡ up_of s.entries n.number → subdirs_of (shifted D C now fs next s) n.number ≡ m

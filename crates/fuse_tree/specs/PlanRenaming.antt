@@ -30,6 +30,13 @@ fewer leaves n = if leaves then n - 1 else n
 abbrev pub dir_row : Moment → Bool → Bool → NodeRow → NodeRow
 dir_row now leaves enters row = record row { mtime = now; ctime = now; subdirs = fewer leaves (more enters row.subdirs) }
 
+-- the rows of both directories, or of the one that both are, when a directory moves from the first to the second,
+-- one comes into the first, and one is lost to the second
+abbrev pub dirs_changes : Renaming → NodeRow → NodeRow → Bool → Bool → Bool → List Change
+dirs_changes r from to moves comes lost =
+    if from.node == r.new_dir then changes.Node (dir_row r.now lost comes from) ∷ []
+    else changes.Node (dir_row r.now moves comes from) ∷ changes.Node (dir_row r.now lost moves to) ∷ []
+
 -- a child's row when it comes to stand in another directory
 abbrev pub moved_row : Moment → ℕ → NodeRow → NodeRow
 moved_row now up child = record child { ctime = now; up = up }
@@ -64,17 +71,11 @@ abbrev pub lost_changes : Moment → Option Link → List Change
 lost_changes now None = []
 lost_changes now (Some other) = changes.EntryGone other.cookie ∷ changes.Node (unnamed_row now other.child) ∷ []
 
--- the rows of both directories, or of the one that both are
-abbrev pub rename_dirs : Moment → NodeRow → NodeRow → Bool → Bool → List Change
-rename_dirs now from to moves lost =
-    if from.node == to.node then changes.Node (dir_row now lost false from) ∷ []
-    else changes.Node (dir_row now moves false from) ∷ changes.Node (dir_row now lost moves to) ∷ []
-
 abbrev pub rename_changes : Renaming → CountersRow → NodeRow → NodeRow → Link → Option Link → List Change
 rename_changes r counters from to source other =
-    lost_changes r.now other ++ changes.EntryGone source.cookie ∷ rename_dirs r.now from to (is_dir_link source) (is_dir_other other)
-    ++ changes.Node (moved_row r.now to.node source.child)
-    ∷ changes.Entry (record { dir = to.node; name = r.new_name; child = source.child.node; cookie = counters.next_cookie })
+    lost_changes r.now other ++ changes.EntryGone source.cookie ∷ dirs_changes r from to (is_dir_link source) false (is_dir_other other)
+    ++ changes.Node (moved_row r.now r.new_dir source.child)
+    ∷ changes.Entry (record { dir = r.new_dir; name = r.new_name; child = source.child.node; cookie = counters.next_cookie })
     ∷ changes.Counters (record counters { next_cookie = counters.next_cookie + 1 }) ∷ []
 
 abbrev pub plan_rename_with_room : Renaming → NodeRow → NodeRow → Link → Option Link → Rows → Planned
@@ -85,23 +86,18 @@ plan_rename_with_room r from to source other rows =
 abbrev pub plan_rename_link : Renaming → NodeRow → NodeRow → Link → Option Link → Rows → Planned
 plan_rename_link r from to source other rows =
     if is_same_link source other then told []
-    else if row_holds rows source.child to.node then refused EINVAL
+    else if row_holds rows source.child r.new_dir then refused EINVAL
     else refused_for (link_fault rows source other) (plan_rename_with_room r from to source other rows)
 
 -- ---- EXCHANGE
 
--- the rows of both directories, or of the one that both are
-abbrev pub exchange_dirs : Moment → NodeRow → NodeRow → Bool → Bool → List Change
-exchange_dirs now from to moves comes =
-    if from.node == to.node then changes.Node (dir_row now false false from) ∷ []
-    else changes.Node (dir_row now moves comes from) ∷ changes.Node (dir_row now comes moves to) ∷ []
-
 abbrev pub exchange_changes : Renaming → CountersRow → NodeRow → NodeRow → Link → Link → List Change
 exchange_changes r counters from to source other =
-    changes.EntryGone source.cookie ∷ changes.EntryGone other.cookie ∷ exchange_dirs r.now from to (is_dir_link source) (is_dir_link other)
-    ++ changes.Node (moved_row r.now to.node source.child) ∷ changes.Node (moved_row r.now from.node other.child)
+    changes.EntryGone source.cookie ∷ changes.EntryGone other.cookie ∷ changes.Node (moved_row r.now from.node other.child)
+    ∷ dirs_changes r from to (is_dir_link source) (is_dir_link other) (is_dir_link other)
+    ++ changes.Node (moved_row r.now r.new_dir source.child)
     ∷ changes.Entry (record { dir = from.node; name = r.old_name; child = other.child.node; cookie = counters.next_cookie })
-    ∷ changes.Entry (record { dir = to.node; name = r.new_name; child = source.child.node; cookie = counters.next_cookie + 1 })
+    ∷ changes.Entry (record { dir = r.new_dir; name = r.new_name; child = source.child.node; cookie = counters.next_cookie + 1 })
     ∷ changes.Counters (record counters { next_cookie = counters.next_cookie + 2 }) ∷ []
 
 abbrev pub plan_exchange_with_room : Renaming → NodeRow → NodeRow → Link → Link → Rows → Planned
@@ -113,7 +109,7 @@ abbrev pub plan_exchange_link : Renaming → NodeRow → NodeRow → Link → Op
 plan_exchange_link r from to source None rows = refused ENOENT
 plan_exchange_link r from to source (Some other) rows =
     if source.cookie == other.cookie then told []
-    else if row_holds rows source.child to.node || row_holds rows other.child from.node then refused EINVAL
+    else if row_holds rows source.child r.new_dir || row_holds rows other.child from.node then refused EINVAL
     else plan_exchange_with_room r from to source other rows
 
 -- ---- by the flags
@@ -126,7 +122,7 @@ plan_rename_by r from to source other rows =
 
 abbrev pub plan_rename_from : Renaming → NodeRow → NodeRow → Option Link → Rows → Planned
 plan_rename_from r from to None rows = refused ENOENT
-plan_rename_from r from to (Some source) rows = plan_rename_by r from to source (link_at rows to.node r.new_name) rows
+plan_rename_from r from to (Some source) rows = plan_rename_by r from to source (link_at rows r.new_dir r.new_name) rows
 
 abbrev pub plan_rename_between : Renaming → NodeRow → Option NodeRow → Rows → Planned
 plan_rename_between r from None rows = refused ESTALE
