@@ -21,6 +21,7 @@ pub mod Moving
 pub mod NewStore
 mod Placed
 pub mod Puts
+pub mod RenameFree
 pub mod RenameRows
 pub mod Telling
 pub mod Trees
