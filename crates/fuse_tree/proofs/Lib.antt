@@ -22,6 +22,7 @@ pub mod NewStore
 mod Placed
 pub mod Puts
 pub mod RenameFree
+pub mod RenameOver
 pub mod RenameRows
 pub mod Telling
 pub mod Trees
