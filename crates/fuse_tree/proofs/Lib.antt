@@ -3,6 +3,7 @@ mod Agreement
 pub mod Bounds
 pub mod Counts
 pub mod EntryGone
+pub mod Exchanges
 mod Fit
 pub mod Fitting
 pub mod GoneRows
