@@ -22,6 +22,7 @@ pub mod Moving
 pub mod NewStore
 mod Placed
 pub mod Puts
+mod RenameAgrees
 pub mod RenameFree
 pub mod RenameOver
 pub mod RenameRows
