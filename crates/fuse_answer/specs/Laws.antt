@@ -1,5 +1,6 @@
--- How long answers are (fuse.h).
+-- How long answers are, and which of them are read (fuse.h).
 use Rattle.std.specs.Prelude.{◌≡◌, ◌<◌, ◌≤◌, ◌+◌, ◌^◌, ℕ, List, ◌++◌, length}
+use Rattle.std.specs.List.{AllByRecursion}
 use Rattle.fuse_wire.specs.Bytes.{le}
 use Rattle.fuse_answer.specs.declared.answer.TheConstants.{MAX_BODY}
 use Rattle.fuse_answer.specs.declared.init_out.InitOut.{InitOut}
@@ -13,6 +14,9 @@ use Rattle.fuse_answer.specs.declared.records.TheConstants.EntryOut.{SIZE as ENT
 use Rattle.fuse_answer.specs.declared.records.TheConstants.OpenOut.{SIZE as OPEN_SIZE}
 use Rattle.fuse_answer.specs.declared.records.TheConstants.WriteOut.{SIZE as WRITE_SIZE}
 use Rattle.fuse_answer.specs.Bodies.{entry_bytes, attr_out_bytes, open_bytes, write_bytes, init_bytes}
+use Rattle.fuse_answer.specs.Entries.{Entry, IsNamed, entries_bytes}
+use Rattle.fuse_answer.specs.Replies.{AnEntry, Attributes, AnOpen, AWrite, AnInit, Directory, kind_of, IsBody, IsRead, IsOfKind}
+use Rattle.fuse_answer.specs.Said.{Said, FitsAnswer}
 use Rattle.fuse_answer.specs.Wire.{wire}
 
 -- the bytes begin with their own number, in 4 bytes
@@ -34,3 +38,13 @@ RecordSizes =
     × ((o : OpenOut) → length (open_bytes o) ≡ OPEN_SIZE)
     × ((w : WriteOut) → length (write_bytes w) ≡ WRITE_SIZE)
     × ((i : InitOut) → length (init_bytes i) ≡ INIT_SIZE)
+
+-- what fits and is of the opcode's kind is read; each record is a body of its kind, and so are entries whose names are
+pub record ReadBack : Type 0 where
+  pub said : (opcode : ℕ) (a : Said) → FitsAnswer a → IsOfKind (kind_of opcode) a → IsRead opcode a
+  pub entry : (e : EntryOut) → IsBody AnEntry (entry_bytes e)
+  pub attributes : (a : AttrOut) → IsBody Attributes (attr_out_bytes a)
+  pub opened : (o : OpenOut) → IsBody AnOpen (open_bytes o)
+  pub written : (w : WriteOut) → IsBody AWrite (write_bytes w)
+  pub init : (i : InitOut) → IsBody AnInit (init_bytes i)
+  pub listing : (es : List Entry) → AllByRecursion IsNamed es → IsBody Directory (entries_bytes es)

@@ -1,4 +1,4 @@
-ghost use Rattle.fuse_answer.specs.Laws.{LenStandsFirst, RecordSizes};
+ghost use Rattle.fuse_answer.specs.Laws.{LenStandsFirst, ReadBack, RecordSizes};
 
 /// Every answer begins with its own length.
 pub fn len_stands_first()
@@ -8,4 +8,9 @@ pub fn len_stands_first()
 /// How long the records are.
 pub fn record_sizes()
     ensures { RecordSizes }
+{}
+
+/// Which answers are read.
+pub fn read_back()
+    ensures { ReadBack }
 {}

@@ -27,8 +27,8 @@ profile =
     ∷ later SETATTR (codes "SETATTR") (fixed SETATTR_IN)
     ∷ built MKNOD (codes "MKNOD") (at_least MKNOD_IN name_fault)
     ∷ built MKDIR (codes "MKDIR") (at_least MKDIR_IN name_fault)
-    ∷ later UNLINK (codes "UNLINK") name_fault
-    ∷ later RMDIR (codes "RMDIR") name_fault
+    ∷ built UNLINK (codes "UNLINK") name_fault
+    ∷ built RMDIR (codes "RMDIR") name_fault
     ∷ later RENAME (codes "RENAME") (at_least RENAME_IN names_fault)
     ∷ later OPEN (codes "OPEN") (fixed OPEN_IN)
     ∷ later READ (codes "READ") (fixed READ_IN)

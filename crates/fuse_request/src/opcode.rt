@@ -75,7 +75,10 @@ pub fn is_in_profile(opcode: u32) -> bool
 pub fn is_built(opcode: u32) -> bool
     ensures { result ≡ opcodes.is_built opcode }
 {
-    matches!(opcode, LOOKUP | GETATTR | MKNOD | MKDIR | INIT | DESTROY)
+    matches!(
+        opcode,
+        LOOKUP | GETATTR | MKNOD | MKDIR | UNLINK | RMDIR | INIT | DESTROY
+    )
 }
 
 /// Whether messages of this opcode are never answered.

@@ -4,7 +4,7 @@ ghost use Rattle.fuse_wire.specs.Ids.{id_of};
 ghost use Rattle.fuse_request.specs.Act.{act, IsBuilt};
 ghost use Rattle.fuse_store.specs.declared.keeper.TheConstants.{MAX_SETTLED as MOST_SETTLED};
 
-use crate::{Done, Keeper, MAX_SETTLED, PlainKeeper, StoreCounts, StoreFault};
+use crate::{Done, Keeper, MAX_SETTLED, PlainKeeper, Restart, StoreCounts, StoreFault};
 use fuse_request::{InHeader, Op, Request};
 use fuse_wire::{Errno, Id, Memory, Moment, UNIQUE_RESEND};
 
@@ -332,6 +332,22 @@ fn a_mount_keeps_names_and_counters(rt: HostRuntime) -> Result<(), StoreFault> {
     assert!(rt; holds(&mut keeper, 2, 0)?, "begun");
     assert!(rt; gives_node(&mut keeper, mkdir(4, b"b"), 3)?, "made");
     assert!(rt; gives_node(&mut keeper, lookup(6, b"a"), 2)?, "found");
+    Ok(())
+}
+
+fn reopened<K: Restart>(keeper: K) -> Result<K, StoreFault> {
+    keeper.restart()
+}
+
+#[test]
+fn a_restart_keeps_all(rt: HostRuntime) -> Result<(), StoreFault> {
+    let mut keeper = new_keeper(&rt)?;
+    assert!(rt; makes_a(&mut keeper, mkdir(4, b"a"), false)?, "before");
+    let mut opened = reopened(keeper)?;
+    assert!(rt; !has_failed(&opened), "opened");
+    assert!(rt; holds(&mut opened, 2, 1)?, "held");
+    let resent = mkdir(UNIQUE_RESEND + 4, b"a");
+    assert!(rt; makes_a(&mut opened, resent, true)?, "resent");
     Ok(())
 }
 

@@ -1,5 +1,5 @@
 -- A plan over the rows of a state agrees with what is done in that state.
-use Rattle.std.proofs.Common.{◌≡◌, ℕ, true, if◌then◌else◌, not, List, [], Option, Some, None, refl, sym, subst}
+use Rattle.std.proofs.Common.{◌≡◌, ℕ, true, not, List, Option, Some, None, refl, sym, subst}
 use Rattle.std.specs.Prelude.{Result, Ok, Err, IfOk, IfErr, is_some}
 use Rattle.std.specs.Option.{option_map}
 use Rattle.fuse_wire.specs.declared.errno.TheConstants.Errno.{ENOENT, ENOTDIR, ENOSYS, EPROTO, ESTALE}
@@ -8,8 +8,9 @@ use Rattle.fuse_request.specs.declared.request.InHeader.{InHeader}
 use Rattle.fuse_request.specs.declared.request.InitIn.{InitIn}
 use Rattle.fuse_request.specs.declared.request.Op.{Op}
 use Rattle.fuse_request.specs.declared.request.Op.TheVariants as ops
-use Rattle.fuse_request.specs.Act.{Act, Asked, act}
+use Rattle.fuse_request.specs.Act.{Act, Asked, act, opcode_of}
 use Rattle.fuse_request.specs.Act as acts
+use Rattle.fuse_answer.specs.Replies.{IsRead}
 use Rattle.fuse_init.specs.Agree.{agree}
 use Rattle.fuse_tree.specs.declared.planning.fault.PlanFault.{PlanFault}
 use Rattle.fuse_tree.specs.declared.planning.fault.PlanFault.TheVariants as faults
@@ -18,14 +19,14 @@ use Rattle.fuse_tree.specs.declared.rows.NodeRow.{NodeRow}
 use Rattle.fuse_tree.specs.declared.rows.Planned.{Planned}
 use Rattle.fuse_tree.specs.State.{State, Node, Tree, is_dir, node_at, is_named, name_fault}
 use Rattle.fuse_tree.specs.Rows.{row_of, rowed, rows_of_state, row_at, entry_at}
-use Rattle.fuse_tree.specs.Done.{Done}
 use Rattle.fuse_tree.specs.Do.{lookup_child, lookup_entry, lookup, done, do_at, do_act, do_agreed, do_offered, offer_of, names_node}
-use Rattle.fuse_tree.specs.Plan.{Meets, TreeKept, look_fault}
+use Rattle.fuse_tree.specs.Plan.{Meets, TreeKept, AnswersAreRead, look_fault}
 use Rattle.fuse_tree.specs.Reading.{Tells, child_of}
 use Rattle.fuse_tree.specs.Planning.{plan_lookup, plan_of, plan_offered, plan_agreed, plan_at, plan_act, plan_child}
 use Rattle.fuse_tree.proofs.Agreement.{Agrees, refused_agrees, both, both_for}
 use Rattle.fuse_tree.proofs.InitAgrees.{init_agrees}
 use Rattle.fuse_tree.proofs.MakingAgrees.{mkdir_agrees, mknod_agrees}
+use Rattle.fuse_tree.proofs.RemovingAgrees.{unlink_agrees, rmdir_agrees}
 use Rattle.fuse_tree.proofs.Puts.{row_found, node_found}
 
 child_agrees : (s : State) → Tree s → (o : Option Node) → Agrees s (plan_child (option_map (row_of s) o)) (lookup_child s o)
@@ -48,6 +49,8 @@ act_agrees s header (acts.Lookup name) now d tree e = lookup_agrees s name d tre
 act_agrees s header (acts.Getattr flags fh) now d tree e = record { answer = refl; rows = refl; tree = tree }
 act_agrees s header (acts.Mkdir mode umask name) now d tree e = mkdir_agrees s header mode name now d tree e
 act_agrees s header (acts.Mknod mode rdev umask name) now d tree e = mknod_agrees s header mode rdev name now d tree e
+act_agrees s header (acts.Unlink name) now d tree e = unlink_agrees s name now d tree e
+act_agrees s header (acts.Rmdir name) now d tree e = rmdir_agrees s name now d tree e
 act_agrees s header acts.Destroy now d tree e = record { answer = refl; rows = refl; tree = tree }
 act_agrees s header _ now d tree e = refused_agrees s tree ENOSYS
 
@@ -79,6 +82,10 @@ tree_kept s request now tree = (plan_meets s request now tree).tree
 pub answered : (s : State) (request : Asked) (now : Moment) (result : Result Planned PlanFault) → Tree s → (look_fault result ≡ None → Tells result (plan_of request now (rowed s))) → IfOk result (λ p. Meets s p (done s request now))
 answered s request now (Ok p) tree tells = subst (λ (q : Planned). Meets s q (done s request now)) (sym (tells refl).0) (plan_meets s request now tree)
 answered s request now (Err fault) tree tells = tt
+
+pub read : (s : State) (request : Asked) (now : Moment) (result : Result Planned PlanFault) → AnswersAreRead → Tree s → IfOk result (λ p. Meets s p (done s request now)) → IfOk result (λ p. IsRead (opcode_of request.act) p.answer)
+read s request now (Ok p) law tree meets = subst (IsRead (opcode_of request.act)) (sym meets.answer) (law s request now tree)
+read s request now (Err fault) law tree meets = tt
 
 pub no_tree : (q : Planned) (result : Result Planned PlanFault) → IfErr result (λ fault. fault ≡ faults.NotATree → (look_fault result ≡ None → Tells result q) → ⊥)
 no_tree q (Ok p) = tt

@@ -82,8 +82,9 @@ only_found test [] e apart is = absurd cc
 only_found test (x ∷ es) e apart is =
     elim (cond_found (test x) x e (find test es) is) [
       | inl h ↦ (
-          (record { cookie = λ _. h.1; child = λ _. h.1 }, all_more (AreApart e) (IsOnly e) es (λ y p. behind y p) (subst (λ (z : EntryRow). AllByRecursion (AreApart z) es) h.1 apart.0)),
-          subst (λ (z : EntryRow). cond (eqb x.child z.child) x.dir (up_of es z.child) ≡ z.dir) h.1 (rw (eq-eqb x.child x.child refl) refl))
+        (record { cookie = λ _. h.1; child = λ _. h.1 }, all_more (AreApart e) (IsOnly e) es (λ y p. behind y p) (subst (λ (z : EntryRow). AllByRecursion (AreApart z) es) h.1 apart.0)),
+        subst (λ (z : EntryRow). cond (eqb x.child z.child) x.dir (up_of es z.child) ≡ z.dir) h.1 (rw (eq-eqb x.child x.child refl) refl),
+      )
       | inr h ↦ (
           let p = (found (AreApart x) test es e apart.0 h.1).0 in
           let rest = only_found test es e apart.1 h.1 in

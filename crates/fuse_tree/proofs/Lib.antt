@@ -22,6 +22,8 @@ pub mod Moving
 pub mod NewStore
 mod Placed
 pub mod Puts
+mod RemovingAgrees
+mod RemovingFits
 mod RenameAgrees
 pub mod RenameFree
 pub mod RenameOver

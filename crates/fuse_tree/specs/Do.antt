@@ -15,6 +15,7 @@ use Rattle.fuse_tree.specs.Rows.{entry_at}
 use Rattle.fuse_tree.specs.Done.{Done, refuse, refuse_for, answer, attr_of, entry_of, attr_out_of}
 use Rattle.fuse_tree.specs.Init.{init}
 use Rattle.fuse_tree.specs.Making.{mkdir, mknod}
+use Rattle.fuse_tree.specs.Removing.{unlink, rmdir}
 
 -- ---- LOOKUP
 
@@ -48,6 +49,8 @@ do_act s header (acts.Lookup name) now n = lookup s name n
 do_act s header (acts.Getattr flags fh) now n = getattr s n
 do_act s header (acts.Mkdir mode umask name) now n = mkdir s header mode name now n
 do_act s header (acts.Mknod mode rdev umask name) now n = mknod s header mode rdev name now n
+do_act s header (acts.Unlink name) now n = unlink s name now n
+do_act s header (acts.Rmdir name) now n = rmdir s name now n
 do_act s header acts.Destroy now n = answer s []
 do_act s header _ now n = refuse s ENOSYS
 

@@ -15,6 +15,7 @@ use Rattle.fuse_tree.specs.Do.{names_node, offer_of}
 use Rattle.fuse_tree.specs.Reading.{refused, refused_for, told, row_is_named, entry_body, attr_body, child_at}
 use Rattle.fuse_tree.specs.PlanInit.{plan_init}
 use Rattle.fuse_tree.specs.PlanMaking.{plan_mkdir, plan_mknod}
+use Rattle.fuse_tree.specs.PlanRemoving.{plan_unlink, plan_rmdir}
 
 -- ---- LOOKUP
 
@@ -37,6 +38,8 @@ plan_act header (acts.Lookup name) now row rows = plan_lookup name row rows
 plan_act header (acts.Getattr flags fh) now row rows = told (attr_body row)
 plan_act header (acts.Mkdir mode umask name) now row rows = plan_mkdir header mode name now row rows
 plan_act header (acts.Mknod mode rdev umask name) now row rows = plan_mknod header mode rdev name now row rows
+plan_act header (acts.Unlink name) now row rows = plan_unlink name now row rows
+plan_act header (acts.Rmdir name) now row rows = plan_rmdir name now row rows
 plan_act header acts.Destroy now row rows = told []
 plan_act header _ now row rows = refused ENOSYS
 

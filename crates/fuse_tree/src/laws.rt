@@ -1,6 +1,6 @@
-ghost use Rattle.fuse_tree.specs.Plan.{TreeKept, NewStoreIsTree, RowsTellState, AnswersFit};
+ghost use Rattle.fuse_tree.specs.Plan.{TreeKept, NewStoreIsTree, RowsTellState, AnswersFit, AnswersAreRead};
 
-use fuse_answer::record_sizes;
+use fuse_answer::{read_back, record_sizes};
 
 /// What is done in a tree leaves a tree.
 pub fn tree_kept()
@@ -21,5 +21,13 @@ pub fn rows_tell_state()
 pub fn answers_fit()
     ensures { AnswersFit }
 {
+    record_sizes();
+}
+
+/// What is answered is read.
+pub fn answers_are_read()
+    ensures { AnswersAreRead }
+{
+    read_back();
     record_sizes();
 }

@@ -10,7 +10,7 @@ mod plain;
 mod planning;
 mod rows;
 
-pub use laws::{answers_fit, new_store_is_tree, rows_tell_state, tree_kept};
+pub use laws::{answers_are_read, answers_fit, new_store_is_tree, rows_tell_state, tree_kept};
 pub use limits::{
     BLOCK_SIZE, COUNTER_END, MAX_FILE, MAX_HANDLES, MAX_NAME, MAX_NODES, ROOT_ID, SECTOR_SIZE,
     VALID_SECS,

@@ -1,5 +1,6 @@
 ghost use Rattle.std.specs.Prelude.{◌≡◌, None, IfOk, IfErr, OnOk, OnErr};
-ghost use Rattle.fuse_request.specs.Act.{asked, act};
+ghost use Rattle.fuse_request.specs.Act.{asked, act, opcode_of};
+ghost use Rattle.fuse_answer.specs.Replies.{IsRead};
 ghost use Rattle.fuse_tree.specs.State.{State, Tree};
 ghost use Rattle.fuse_tree.specs.Rows.{rowed};
 ghost use Rattle.fuse_tree.specs.Do.{done};
@@ -18,9 +19,13 @@ mod make;
 mod mkdir;
 mod mknod;
 mod names;
+mod remove;
 mod rename;
+mod rmdir;
+mod unlink;
 mod walking;
 
+use crate::laws::answers_are_read;
 use crate::look::Look;
 use crate::rows::{NodeRow, Planned};
 use answers::{done_nothing, refused};
@@ -33,7 +38,9 @@ use init::plan_init;
 use lookup::plan_lookup;
 use mkdir::plan_mkdir;
 use mknod::plan_mknod;
+use rmdir::plan_rmdir;
 use std::alloc::Global;
+use unlink::plan_unlink;
 
 /// What the request answers in the tree whose rows lie behind `look`, and which rows it changes.
 /// Nothing is changed. An operation that is not built, or not of the profile, is answered ENOSYS.
@@ -46,6 +53,8 @@ pub fn plan<L: Look>(
     requires { L.fault look.old ≡ None }
     // Over the rows of a tree, it is what the request does there.
     ensures meets { L.is_clean look.new → (s : State) → Tree s → L.sees look.old (rowed s) → IfOk result (λ p. Meets s p (done s (asked request.now) now)) }
+    // Its answer is read as one to the request's opcode.
+    ensures read { L.is_clean look.new → (s : State) → Tree s → L.sees look.old (rowed s) → IfOk result (λ p. IsRead (opcode_of (act request.now.op)) p.answer) }
     // The rows are said to be those of no tree only where they are.
     ensures not_a_tree { IfErr result (λ f. f ≡ PlanFault.NotATree → L.is_clean look.new → (s : State) → Tree s → L.sees look.old (rowed s) → ⊥) }
     // The look's fault is then the one that is answered, and none where none is.
@@ -53,6 +62,7 @@ pub fn plan<L: Look>(
     ensures looks { OnOk result (L.looks look.old look.new) }
     ensures fails { OnErr result (L.fails look.old look.new) }
 {
+    answers_are_read();
     plan_request(look, alloc, request, now)
 }
 
@@ -128,11 +138,11 @@ fn plan_op<L: Look>(
             name,
             ..
         } => plan_mknod(look, alloc, &request.header, *mode, *rdev, name, now, row),
+        Op::Unlink { name } => plan_unlink(look, alloc, name, now, row),
+        Op::Rmdir { name } => plan_rmdir(look, alloc, name, now, row),
         Op::Destroy => Ok(done_nothing(alloc)),
         Op::Forget { .. }
         | Op::Setattr(_)
-        | Op::Unlink { .. }
-        | Op::Rmdir { .. }
         | Op::Rename { .. }
         | Op::OpenFile { .. }
         | Op::Read(_)

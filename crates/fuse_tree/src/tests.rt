@@ -3,6 +3,8 @@ ghost use Rattle.fuse_tree.specs.PlainRows.{fault_of};
 ghost use Rattle.fuse_tree.specs.Vectors.{Inits, FirstRun, Refusals};
 
 mod init;
+mod mknod;
+mod removing;
 
 use super::*;
 use fuse_request::{InHeader, InitIn, Op, Request};
@@ -17,9 +19,6 @@ fn inits()
 {}
 
 // They answer the first run so.
-mod mknod;
-
-// The definitions answer the first run so.
 #[tactic(auto, unfolding(crate::specs::Do::done))]
 fn first_run()
     ensures { FirstRun }

@@ -2,7 +2,7 @@
 use super::*;
 use fuse_wire::Fields;
 
-const fn mknod(mode: u32, rdev: u32, name: &[u8]) -> Op<'_> {
+pub(super) const fn mknod(mode: u32, rdev: u32, name: &[u8]) -> Op<'_> {
     Op::Mknod {
         mode,
         rdev,
@@ -46,7 +46,7 @@ fn makes_a_file(rt: HostRuntime) -> Result<(), Fail> {
 }
 
 // The number in an answer, at this place.
-fn number_at(body: &[u8], at: usize) -> Option<u32> {
+pub(super) fn number_at(body: &[u8], at: usize) -> Option<u32> {
     Fields::new(body.get(at..)?).u32()
 }
 
@@ -133,7 +133,7 @@ fn long_names(rt: HostRuntime) -> Result<(), Fail> {
 
 // Row `limits`: what MKNOD of `f` in the root is answered where this cookie comes next.
 fn with_cookie(alloc: Global, next_cookie: u64) -> Result<u32, Fail> {
-    let mut look = PlainRows::new(alloc, at(0))?;
+    let mut look = begun(alloc)?;
     look.apply(Change::Counters(Counters { next_cookie, ..NEW }))?;
     let planned = answered(&mut look, alloc, 1, mknod(0o644, 0, b"f"))?;
     errno_of(&planned)

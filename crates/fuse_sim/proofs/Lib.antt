@@ -1,0 +1,4 @@
+pub mod Driven
+pub mod Marks
+pub mod Pendings
+pub mod Lifetimes

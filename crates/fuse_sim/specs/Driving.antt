@@ -1,0 +1,1 @@
+-- What events do to a keeper, and what they are answered.

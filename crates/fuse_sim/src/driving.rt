@@ -1,0 +1,1 @@
+// Events run over a keeper, in groups.

@@ -1,0 +1,44 @@
+// Events: a message that comes, and what becomes of its answer.
+use fuse_store::StoreFault;
+use fuse_wire::{ByteList, Moment};
+
+/// What becomes of a message and of its answer.
+#[derive(Clone, Copy, Debug, PartialEq, Eq)]
+pub enum Fate {
+    /// The kernel takes the answer.
+    Answered,
+    /// The answer is lost after the commit.
+    AnswerLost,
+    /// The server dies before it commits, and starts again.
+    DiedBeforeCommit,
+    /// The server dies after its commit and before the answer is taken, and starts again.
+    DiedAfterCommit,
+}
+
+/// A message that comes, its moment, and its fate.
+#[derive(Drop)]
+pub struct Event {
+    pub bytes: ByteList,
+    pub moment: Moment,
+    pub fate: Fate,
+}
+
+/// What an event was answered with.
+#[derive(Drop)]
+pub struct Outcome {
+    pub head: [u8; 16],
+    pub body: ByteList,
+}
+
+/// Why events weren't run to their end. Events are counted from 0.
+#[derive(Debug, Drop)]
+pub enum DriveFault {
+    /// The event's bytes aren't just one message.
+    NotAMessage { event: usize },
+    /// The event's message would be answered under unique 0.
+    ZeroUnique { event: usize },
+    /// The store failed, or opening it again did.
+    Store { event: usize, fault: StoreFault },
+    /// There was no memory for the answers.
+    Memory { event: usize },
+}

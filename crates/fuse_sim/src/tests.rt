@@ -1,0 +1,3 @@
+// Tests: events, the kernel's side, and the vectors of both.
+mod driven;
+mod pending;

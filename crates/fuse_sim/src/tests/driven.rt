@@ -1,0 +1,1 @@
+// Events with each fate.
