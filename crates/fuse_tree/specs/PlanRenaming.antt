@@ -1,10 +1,11 @@
 -- What the plans of RENAME and RENAME2 read off the rows (own profile), in the order of their checks.
 use Rattle.std.specs.Prelude.{◌+◌, ◌-◌, ◌==◌, ◌&&◌, ◌||◌, ℕ, Bool, false, nat_le, nat_lt, if◌then◌else◌, List, [], ◌∷◌, ◌++◌, is_some, Option, Some, None}
 use Rattle.fuse_wire.specs.declared.errno.Errno.{Errno}
-use Rattle.fuse_wire.specs.declared.errno.TheConstants.Errno.{ENOENT, EEXIST, EINVAL, ENOSPC, ESTALE}
+use Rattle.fuse_wire.specs.declared.errno.TheConstants.Errno.{ENOENT, EEXIST, EINVAL, ENOSPC, ENOTEMPTY, ESTALE}
 use Rattle.fuse_wire.specs.declared.moment.Moment.{Moment}
 use Rattle.fuse_tree.specs.declared.limits.TheConstants.{COUNTER_END}
 use Rattle.fuse_tree.specs.declared.planning.finding.Link.{Link}
+use Rattle.fuse_tree.specs.declared.planning.rename.RenameIn.{RenameIn}
 use Rattle.fuse_tree.specs.declared.planning.rename.TheConstants.{RENAME_NOREPLACE, RENAME_EXCHANGE}
 use Rattle.fuse_tree.specs.declared.rows.NodeRow.{NodeRow}
 use Rattle.fuse_tree.specs.declared.rows.Counters.{Counters as CountersRow}
@@ -17,6 +18,10 @@ use Rattle.fuse_tree.specs.Reading.{refused, refused_for, told, row_is_named}
 use Rattle.fuse_tree.specs.Removing.{has_entries}
 use Rattle.fuse_tree.specs.PlanRemoving.{link_at, unnamed_row}
 use Rattle.fuse_tree.specs.Renaming.{Renaming, leads_to, asked_fault, kinds_fault}
+
+-- what is asked, its names as lists
+abbrev pub renaming_of : RenameIn → Renaming
+renaming_of asked = record { new_dir = asked.new_dir; flags = asked.flags; old_name = asked.old_name.now; new_name = asked.new_name.now; now = asked.at }
 
 -- ---- rows
 
@@ -59,6 +64,10 @@ is_same_link source (Some other) = source.cookie == other.cookie
 abbrev pub row_holds : Rows → NodeRow → ℕ → Bool
 row_holds rows child dir = is_dir child.mode && leads_to rows.entries rows.counters.nodes child.node dir
 
+-- why a node with entries can't be replaced
+abbrev pub entries_fault : Rows → ℕ → Option Errno
+entries_fault rows dir = if has_entries rows.entries dir then Some ENOTEMPTY else None
+
 -- why the source can't come to stand where the other link is
 abbrev pub link_fault : Rows → Link → Option Link → Option Errno
 link_fault rows source None = None
@@ -83,11 +92,14 @@ plan_rename_with_room r from to source other rows =
     if nat_le COUNTER_END rows.counters.next_cookie then refused ENOSPC
     else record { answer = record { errno = 0; body = [] }; changes = rename_changes r rows.counters from to source other }
 
+abbrev pub plan_rename_fitting : Renaming → NodeRow → NodeRow → Link → Option Link → Rows → Planned
+plan_rename_fitting r from to source other rows = refused_for (link_fault rows source other) (plan_rename_with_room r from to source other rows)
+
 abbrev pub plan_rename_link : Renaming → NodeRow → NodeRow → Link → Option Link → Rows → Planned
 plan_rename_link r from to source other rows =
     if is_same_link source other then told []
     else if row_holds rows source.child r.new_dir then refused EINVAL
-    else refused_for (link_fault rows source other) (plan_rename_with_room r from to source other rows)
+    else plan_rename_fitting r from to source other rows
 
 -- ---- EXCHANGE
 
@@ -105,12 +117,16 @@ plan_exchange_with_room r from to source other rows =
     if nat_lt (COUNTER_END - 2) rows.counters.next_cookie then refused ENOSPC
     else record { answer = record { errno = 0; body = [] }; changes = exchange_changes r rows.counters from to source other }
 
+abbrev pub plan_exchange_apart : Renaming → NodeRow → NodeRow → Link → Link → Rows → Planned
+plan_exchange_apart r from to source other rows =
+    if row_holds rows source.child r.new_dir || row_holds rows other.child from.node then refused EINVAL
+    else plan_exchange_with_room r from to source other rows
+
 abbrev pub plan_exchange_link : Renaming → NodeRow → NodeRow → Link → Option Link → Rows → Planned
 plan_exchange_link r from to source None rows = refused ENOENT
 plan_exchange_link r from to source (Some other) rows =
     if source.cookie == other.cookie then told []
-    else if row_holds rows source.child r.new_dir || row_holds rows other.child from.node then refused EINVAL
-    else plan_exchange_with_room r from to source other rows
+    else plan_exchange_apart r from to source other rows
 
 -- ---- by the flags
 

@@ -10,6 +10,7 @@ ghost use Rattle.fuse_tree.specs.Planning.{plan_act, plan_agreed as planned_agre
 
 mod answers;
 mod attributes;
+mod exchange;
 mod fault;
 mod finding;
 mod getattr;
@@ -18,6 +19,7 @@ mod lookup;
 mod make;
 mod mkdir;
 mod mknod;
+mod moving;
 mod names;
 mod remove;
 mod rename;
