@@ -19,6 +19,7 @@ use Rattle.fuse_tree.specs.declared.rows.NodeRow.{NodeRow}
 use Rattle.fuse_tree.specs.declared.rows.Planned.{Planned}
 use Rattle.fuse_tree.specs.State.{State, Node, Tree, is_dir, node_at, is_named, name_fault}
 use Rattle.fuse_tree.specs.Rows.{row_of, rowed, rows_of_state, row_at, entry_at}
+use Rattle.fuse_tree.specs.Renaming.{asking}
 use Rattle.fuse_tree.specs.Do.{lookup_child, lookup_entry, lookup, done, do_at, do_act, do_agreed, do_offered, offer_of, names_node}
 use Rattle.fuse_tree.specs.Plan.{Meets, TreeKept, AnswersAreRead, look_fault}
 use Rattle.fuse_tree.specs.Reading.{Tells, child_of}
@@ -27,6 +28,7 @@ use Rattle.fuse_tree.proofs.Agreement.{Agrees, refused_agrees, both, both_for}
 use Rattle.fuse_tree.proofs.InitAgrees.{init_agrees}
 use Rattle.fuse_tree.proofs.MakingAgrees.{mkdir_agrees, mknod_agrees}
 use Rattle.fuse_tree.proofs.RemovingAgrees.{unlink_agrees, rmdir_agrees}
+use Rattle.fuse_tree.proofs.RenameAgrees.{renaming_agrees}
 use Rattle.fuse_tree.proofs.Puts.{row_found, node_found}
 
 child_agrees : (s : State) → Tree s → (o : Option Node) → Agrees s (plan_child (option_map (row_of s) o)) (lookup_child s o)
@@ -51,6 +53,8 @@ act_agrees s header (acts.Mkdir mode umask name) now d tree e = mkdir_agrees s h
 act_agrees s header (acts.Mknod mode rdev umask name) now d tree e = mknod_agrees s header mode rdev name now d tree e
 act_agrees s header (acts.Unlink name) now d tree e = unlink_agrees s name now d tree e
 act_agrees s header (acts.Rmdir name) now d tree e = rmdir_agrees s name now d tree e
+act_agrees s header (acts.Rename new_dir old_name new_name) now d tree e = renaming_agrees s (asking new_dir 0 old_name new_name now) d tree e
+act_agrees s header (acts.Rename2 new_dir flags old_name new_name) now d tree e = renaming_agrees s (asking new_dir flags old_name new_name now) d tree e
 act_agrees s header acts.Destroy now d tree e = record { answer = refl; rows = refl; tree = tree }
 act_agrees s header _ now d tree e = refused_agrees s tree ENOSYS
 

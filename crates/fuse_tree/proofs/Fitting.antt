@@ -13,12 +13,14 @@ use Rattle.fuse_tree.specs.declared.rows.EntryRow.{EntryRow}
 use Rattle.fuse_tree.specs.State.{State, Node, Tree, is_dir, is_named, node_at, name_fault}
 use Rattle.fuse_tree.specs.Rows.{entry_at}
 use Rattle.fuse_tree.specs.Done.{Done, answer, attr_of, entry_of, attr_out_of}
+use Rattle.fuse_tree.specs.Renaming.{asking}
 use Rattle.fuse_tree.specs.Do.{lookup_child, lookup_entry, lookup_named, lookup, getattr, do_act, do_at, do_agreed, do_offered, offer_of, names_node, done}
 use Rattle.fuse_tree.proofs.Fit.{Fits, refused, answered, chosen, refused_for, Reads, refused_reads, answered_reads, chosen_reads, refused_name_reads, no_body}
 use Rattle.fuse_tree.proofs.InitFits.{init_fits, init_reads}
 use Rattle.fuse_tree.proofs.MakingFits.{mkdir_fits, mknod_fits, mkdir_reads, mknod_reads}
 use Rattle.fuse_tree.specs.Plan.{AnswersAreRead}
 use Rattle.fuse_tree.proofs.RemovingFits.{unlink_fits, rmdir_fits, unlink_reads, rmdir_reads}
+use Rattle.fuse_tree.proofs.RenameFits.{rename_fits, rename_reads}
 
 -- ---- LOOKUP
 
@@ -67,6 +69,8 @@ act_fits sizes s header (acts.Mkdir mode umask name) now n = mkdir_fits sizes s 
 act_fits sizes s header (acts.Mknod mode rdev umask name) now n = mknod_fits sizes s header mode rdev name now n
 act_fits sizes s header (acts.Unlink name) now n = unlink_fits s name now n
 act_fits sizes s header (acts.Rmdir name) now n = rmdir_fits s name now n
+act_fits sizes s header (acts.Rename new_dir old_name new_name) now n = rename_fits s (asking new_dir 0 old_name new_name now) n
+act_fits sizes s header (acts.Rename2 new_dir flags old_name new_name) now n = rename_fits s (asking new_dir flags old_name new_name now) n
 act_fits sizes s header acts.Destroy now n = answered s [] (omega arith)
 act_fits sizes s header _ now n = refused s _
 
@@ -94,6 +98,8 @@ act_reads back s header (acts.Mkdir mode umask name) now n tree = mkdir_reads ba
 act_reads back s header (acts.Mknod mode rdev umask name) now n tree = mknod_reads back s header mode rdev name now n
 act_reads back s header (acts.Unlink name) now n tree = unlink_reads s name now n
 act_reads back s header (acts.Rmdir name) now n tree = rmdir_reads s name now n
+act_reads back s header (acts.Rename new_dir old_name new_name) now n tree = rename_reads s (asking new_dir 0 old_name new_name now) n
+act_reads back s header (acts.Rename2 new_dir flags old_name new_name) now n tree = rename_reads s (asking new_dir flags old_name new_name now) n
 act_reads back s header acts.Destroy now n tree = answered_reads s [] no_body
 act_reads back s header _ now n tree = refused_reads s _ refl
 

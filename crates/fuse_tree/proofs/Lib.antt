@@ -25,6 +25,7 @@ pub mod Puts
 mod RemovingAgrees
 mod RemovingFits
 mod RenameAgrees
+mod RenameFits
 pub mod RenameFree
 pub mod RenameOver
 pub mod RenameRows

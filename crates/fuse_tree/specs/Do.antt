@@ -16,6 +16,7 @@ use Rattle.fuse_tree.specs.Done.{Done, refuse, refuse_for, answer, attr_of, entr
 use Rattle.fuse_tree.specs.Init.{init}
 use Rattle.fuse_tree.specs.Making.{mkdir, mknod}
 use Rattle.fuse_tree.specs.Removing.{unlink, rmdir}
+use Rattle.fuse_tree.specs.Renaming.{asking, rename}
 
 -- ---- LOOKUP
 
@@ -51,6 +52,8 @@ do_act s header (acts.Mkdir mode umask name) now n = mkdir s header mode name no
 do_act s header (acts.Mknod mode rdev umask name) now n = mknod s header mode rdev name now n
 do_act s header (acts.Unlink name) now n = unlink s name now n
 do_act s header (acts.Rmdir name) now n = rmdir s name now n
+do_act s header (acts.Rename new_dir old_name new_name) now n = rename s (asking new_dir 0 old_name new_name now) n
+do_act s header (acts.Rename2 new_dir flags old_name new_name) now n = rename s (asking new_dir flags old_name new_name now) n
 do_act s header acts.Destroy now n = answer s []
 do_act s header _ now n = refuse s ENOSYS
 

@@ -15,7 +15,9 @@ use Rattle.fuse_tree.specs.Do.{names_node, offer_of}
 use Rattle.fuse_tree.specs.Reading.{refused, refused_for, told, row_is_named, entry_body, attr_body, child_at}
 use Rattle.fuse_tree.specs.PlanInit.{plan_init}
 use Rattle.fuse_tree.specs.PlanMaking.{plan_mkdir, plan_mknod}
+use Rattle.fuse_tree.specs.Renaming.{asking}
 use Rattle.fuse_tree.specs.PlanRemoving.{plan_unlink, plan_rmdir}
+use Rattle.fuse_tree.specs.PlanRenaming.{plan_rename}
 
 -- ---- LOOKUP
 
@@ -40,6 +42,8 @@ plan_act header (acts.Mkdir mode umask name) now row rows = plan_mkdir header mo
 plan_act header (acts.Mknod mode rdev umask name) now row rows = plan_mknod header mode rdev name now row rows
 plan_act header (acts.Unlink name) now row rows = plan_unlink name now row rows
 plan_act header (acts.Rmdir name) now row rows = plan_rmdir name now row rows
+plan_act header (acts.Rename new_dir old_name new_name) now row rows = plan_rename (asking new_dir 0 old_name new_name now) row rows
+plan_act header (acts.Rename2 new_dir flags old_name new_name) now row rows = plan_rename (asking new_dir flags old_name new_name now) row rows
 plan_act header acts.Destroy now row rows = told []
 plan_act header _ now row rows = refused ENOSYS
 

@@ -20,6 +20,9 @@ pub record Renaming : Type 0 where
   pub new_name : List ℕ
   pub now : Moment
 
+abbrev pub asking : ℕ → ℕ → List ℕ → List ℕ → Moment → Renaming
+asking new_dir flags old_name new_name now = record { new_dir = new_dir; flags = flags; old_name = old_name; new_name = new_name; now = now }
+
 -- ---- what lies under a node
 
 -- one of so many places on the way up is this node; the first place is where it begins

@@ -40,6 +40,7 @@ use init::plan_init;
 use lookup::plan_lookup;
 use mkdir::plan_mkdir;
 use mknod::plan_mknod;
+use rename::{asking, plan_rename};
 use rmdir::plan_rmdir;
 use std::alloc::Global;
 use unlink::plan_unlink;
@@ -142,10 +143,26 @@ fn plan_op<L: Look>(
         } => plan_mknod(look, alloc, &request.header, *mode, *rdev, name, now, row),
         Op::Unlink { name } => plan_unlink(look, alloc, name, now, row),
         Op::Rmdir { name } => plan_rmdir(look, alloc, name, now, row),
+        Op::Rename {
+            new_dir,
+            old_name,
+            new_name,
+        } => {
+            let asked = asking(*new_dir, 0, old_name, new_name, now);
+            plan_rename(look, alloc, &asked, row)
+        }
+        Op::Rename2 {
+            new_dir,
+            flags,
+            old_name,
+            new_name,
+        } => {
+            let asked = asking(*new_dir, *flags, old_name, new_name, now);
+            plan_rename(look, alloc, &asked, row)
+        }
         Op::Destroy => Ok(done_nothing(alloc)),
         Op::Forget { .. }
         | Op::Setattr(_)
-        | Op::Rename { .. }
         | Op::OpenFile { .. }
         | Op::Read(_)
         | Op::Write { .. }
@@ -156,7 +173,6 @@ fn plan_op<L: Look>(
         | Op::ReleaseDir(_)
         | Op::Interrupt { .. }
         | Op::BatchForget { .. }
-        | Op::Rename2 { .. }
         | Op::Unsupported { .. } => Ok(refused(alloc, Errno::ENOSYS)),
     }
 }

@@ -3,6 +3,7 @@ ghost use Rattle.fuse_tree.specs.Plan.{look_fault};
 ghost use Rattle.fuse_tree.specs.State.{is_dir};
 ghost use Rattle.fuse_tree.specs.Reading.{IsWithin, Reads, row_is_named};
 ghost use Rattle.fuse_tree.specs.PlanRemoving.{link_at};
+ghost use Rattle.fuse_tree.specs.Renaming as renaming;
 ghost use Rattle.fuse_tree.specs.Renaming.{asked_fault};
 ghost use Rattle.fuse_tree.specs.PlanRenaming as planning;
 ghost use Rattle.fuse_tree.specs.PlanRenaming.{renaming_of, is_same_link, row_holds, link_fault, plan_rename_from, plan_rename_by, plan_rename_link, plan_rename_fitting, plan_rename_with_room};
@@ -35,6 +36,25 @@ pub struct RenameIn<'a> {
     pub old_name: &'a [u8],
     pub new_name: &'a [u8],
     pub at: Moment,
+}
+
+// What is asked with these flags.
+pub(crate) fn asking<'a>(
+    new_dir: u64,
+    flags: u32,
+    old_name: &'a [u8],
+    new_name: &'a [u8],
+    at: Moment,
+) -> RenameIn<'a>
+    ensures { renaming_of result ≡ renaming.asking new_dir flags old_name.now new_name.now at }
+{
+    RenameIn {
+        new_dir,
+        flags,
+        old_name,
+        new_name,
+        at,
+    }
 }
 
 // RENAME and RENAME2 of a name in the node of this row.
