@@ -77,7 +77,7 @@ pub fn is_built(opcode: u32) -> bool
 {
     matches!(
         opcode,
-        LOOKUP | GETATTR | MKNOD | MKDIR | UNLINK | RMDIR | INIT | DESTROY
+        LOOKUP | GETATTR | MKNOD | MKDIR | UNLINK | RMDIR | RENAME | INIT | DESTROY | RENAME2
     )
 }
 

@@ -1,5 +1,5 @@
 -- A plan agrees with what is done: what the operations' lemmas share.
-use Rattle.std.proofs.Common.{◌≡◌, ℕ, Bool, true, false, cond, not, List, Option, Some, None, refl}
+use Rattle.std.proofs.Common.{◌≡◌, Bool, true, false, cond, not, Option, Some, None, refl}
 use Rattle.std.specs.Prelude.{is_some}
 use Rattle.fuse_wire.specs.declared.errno.Errno.{Errno}
 use Rattle.fuse_tree.specs.declared.rows.Planned.{Planned}

@@ -1,6 +1,6 @@
 -- Two children that change places: the rows, and the tree that goes on.
-use Rattle.std.proofs.Common.{◌≡◌, ◌≢◌, ◌<◌, ◌≤◌, ◌+◌, ◌&&◌, ◌||◌, ◌==◌, ℕ, Bool, true, false, cond, not, eqb, List, [], ◌∷◌, ◌++◌, length, map, Some, None, refl, sym, ap, subst, ◌∙◌, ◌⊎◌, inl, inr, arith}
-use Rattle.std.specs.Prelude.{filter, find}
+use Rattle.std.proofs.Common.{◌≡◌, ◌≢◌, ◌≤◌, ◌+◌, ◌||◌, ◌==◌, ℕ, Bool, true, false, cond, eqb, List, [], ◌∷◌, ◌++◌, map, Some, refl, sym, ap, ◌∙◌, inl, inr, arith}
+use Rattle.std.specs.Prelude.{filter}
 use Rattle.std.specs.List.{AllByRecursion, list_any}
 use Rattle.std.proofs.lemmas.Bool.{ne_eqb, eq-eqb}
 use Rattle.std.proofs.lemmas.Bool.Decides.{eqb_tells}
@@ -10,7 +10,7 @@ use Rattle.fuse_tree.specs.declared.rows.Change.{Change}
 use Rattle.fuse_tree.specs.declared.rows.Change.TheVariants as changes
 use Rattle.fuse_tree.specs.declared.rows.EntryRow.{EntryRow}
 use Rattle.fuse_tree.specs.declared.rows.NodeRow.{NodeRow}
-use Rattle.fuse_tree.specs.State.{State, Node, Tree, IsNode, IsEntry, Reaches, above, is_dir, is_dir_of, is_entry, is_named, name_fault, node_at, up_of, subdirs_of}
+use Rattle.fuse_tree.specs.State.{State, Node, Tree, IsNode, above, is_dir, is_entry, node_at, up_of, subdirs_of}
 use Rattle.fuse_tree.specs.Rows.{full_of, row_of, rows_of_state, counters_of, entry_at, apply}
 use Rattle.fuse_tree.specs.Done.{touched, touch}
 use Rattle.fuse_tree.specs.Removing.{marked, mark, without}
@@ -112,7 +112,7 @@ module _ (s : State) (r : Renaming) (d t c o : Node) (e f : EntryRow) (tree : Tr
   abbrev planned : Bool → ℕ → ℕ → List Change
   planned both k l =
       changes.EntryGone e.cookie ∷ changes.EntryGone f.cookie ∷ changes.Node other_row ∷ cond both (changes.Node (dir_row r.now (is_dir o.mode) (is_dir o.mode) (row_of s d)) ∷ [])
-          (changes.Node (dir_row r.now (is_dir c.mode) (is_dir o.mode) (row_of s d)) ∷ changes.Node (dir_row r.now (is_dir o.mode) (is_dir c.mode) (row_of s t)) ∷ [])
+      (changes.Node (dir_row r.now (is_dir c.mode) (is_dir o.mode) (row_of s d)) ∷ changes.Node (dir_row r.now (is_dir o.mode) (is_dir c.mode) (row_of s t)) ∷ [])
       ++ changes.Node (moved_row r.now r.new_dir (row_of s c)) ∷ changes.Entry (record { dir = d.number; name = r.old_name; child = l; cookie = s.next_cookie })
       ∷ changes.Entry (record { dir = r.new_dir; name = r.new_name; child = k; cookie = s.next_cookie + 1 }) ∷ changes.Counters (record (counters_of s) { next_cookie = next }) ∷ []
 
@@ -129,17 +129,19 @@ module _ (s : State) (r : Renaming) (d t c o : Node) (e f : EntryRow) (tree : Tr
   two_list = apart_rows s r.now fs next d.number r.new_dir e.child Y d t c tree at_d at_t at_c x_dir x_to (y_not d.number y_dir) (y_not r.new_dir y_to) ups up_x (is_dir c.mode) (is_dir o.mode) (is_dir o.mode) recounted (one_of e.child c at_c)
 
   other_there : IsRowOf s (then_full s dirs children r.now fs next) other_row
-  other_there =
-      (o, at_own s f.child o tree at_o,
-      lost_is s r.now fs next d.number r.new_dir e.child Y d t c tree at_d at_t at_c x_dir x_to (y_not d.number y_dir) (y_not r.new_dir y_to) ups up_x f.child o d.number at_o (eq-eqb f.child f.child refl) y_dir y_to up_y (recounted.other f.child (one_of f.child o at_o) y_dir y_to))
+  other_there = (
+    o,
+    at_own s f.child o tree at_o,
+    lost_is s r.now fs next d.number r.new_dir e.child Y d t c tree at_d at_t at_c x_dir x_to (y_not d.number y_dir) (y_not r.new_dir y_to) ups up_x f.child o d.number at_o (eq-eqb f.child f.child refl) y_dir y_to up_y (recounted.other f.child (one_of f.child o at_o) y_dir y_to),
+  )
 
   others_by : (rows : List NodeRow) → ((n : Node) → 1 ≤ n.number → Y n.number ≡ false → list_any (λ row. n.number == row.node) rows ≡ false → full_of s n ≡ then_full s dirs children r.now fs next n)
       → AllByRecursion (λ n. list_any (λ row. n.number == row.node) (other_row ∷ rows) ≡ false → full_of s n ≡ then_full s dirs children r.now fs next n) s.nodes
   others_by rows so =
       all_more (IsNode s.next_node) (λ n. list_any (λ row. n.number == row.node) (other_row ∷ rows) ≡ false → full_of s n ≡ then_full s dirs children r.now fs next n) s.nodes
       (λ n p none. (
-        let h = or_false (eqb n.number o.number) (list_any (λ row. n.number == row.node) rows) none in
-        so n p.from_one (ap (eqb n.number) (sym o_is) ∙ h.0) h.1)) tree.nodes
+      let h = or_false (eqb n.number o.number) (list_any (λ row. n.number == row.node) rows) none in
+      so n p.from_one (ap (eqb n.number) (sym o_is) ∙ h.0) h.1)) tree.nodes
 
   in_one : d.number ≡ r.new_dir → apply (rows_of_state s) (planned true e.child f.child) ≡ rows_of_state (exchanged r d.number e f s)
   in_one same =

@@ -1,13 +1,11 @@
 -- What is counted of a tree of which nodes come to stand elsewhere.
-use Rattle.std.proofs.Common.{◌≡◌, ◌≢◌, ◌<◌, ◌≤◌, ◌+◌, ◌-◌, ◌&&◌, ◌==◌, ℕ, suc, Bool, true, false, cond, eqb, List, [], ◌∷◌, length, map, Some, None, refl, sym, ap, subst, ◌∙◌, inl, inr, arith}
+use Rattle.std.proofs.Common.{◌≡◌, ◌≢◌, ◌<◌, ◌≤◌, ◌+◌, ◌&&◌, ◌==◌, ℕ, Bool, true, false, cond, eqb, List, [], ◌∷◌, length, Some, refl, sym, ap, subst, ◌∙◌, inl, inr, arith}
 use Rattle.std.specs.Prelude.{find, filter}
 use Rattle.std.specs.List.{AllByRecursion}
 use Rattle.std.proofs.lemmas.Bool.{eqb-true, eqb-false, ne_eqb, eq-eqb}
-use Rattle.std.proofs.lemmas.Bool.Decides.{eqb_tells}
-use Rattle.fuse_tree.specs.declared.rows.EntryRow.{EntryRow}
-use Rattle.fuse_tree.specs.State.{State, Node, Tree, Apart, is_dir, up_of, is_below, subdirs_of, node_at}
+use Rattle.fuse_tree.specs.State.{Node, Apart}
 use Rattle.fuse_tree.specs.PlanRenaming.{more, fewer}
-use Rattle.fuse_tree.proofs.Lists.{all_more, cond_found, count_mapped}
+use Rattle.fuse_tree.proofs.Lists.{cond_found}
 
 abbrev pub one_if : Bool → ℕ
 one_if b = cond b 1 0
@@ -88,6 +86,7 @@ counts_gone before after dir to moves lost one_dir one_to sums = record {
     one true false A B is = omega arith
     one false true A B is = omega arith
     one false false A B is = omega arith
+
     from : (m l : Bool) (A B : ℕ) → A + one_if (m && true) + one_if (l && false) ≡ B + one_if (m && false) + one_if (l && false) → A ≡ fewer m (more false B)
     from true true A B is = omega arith
     from true false A B is = omega arith
@@ -108,6 +107,7 @@ counts_swapped before after dir to moves lost sums = record {
     one true false A B is = omega arith
     one false true A B is = omega arith
     one false false A B is = omega arith
+
     from : (m l : Bool) (A B : ℕ) → A + one_if (m && true) + one_if (l && false) ≡ B + one_if (m && false) + one_if (l && true) → A ≡ fewer m (more l B)
     from true true A B is = omega arith
     from true false A B is = omega arith

@@ -1,5 +1,5 @@
 -- The rows of a state of which nodes come to stand elsewhere, and the times of their directories change.
-use Rattle.std.proofs.Common.{◌≡◌, ◌≢◌, ◌+◌, ◌-◌, ◌&&◌, ◌||◌, ◌==◌, ℕ, Bool, true, false, cond, eqb, List, [], ◌∷◌, length, map, Some, refl, sym, ap, subst, ◌∙◌, inl, inr, arith}
+use Rattle.std.proofs.Common.{◌≡◌, ◌≢◌, ◌+◌, ◌&&◌, ◌||◌, ◌==◌, ℕ, Bool, true, false, cond, eqb, List, [], ◌∷◌, length, map, Some, refl, sym, ap, ◌∙◌, arith}
 use Rattle.std.specs.Prelude.{filter}
 use Rattle.std.specs.List.{AllByRecursion, list_any}
 use Rattle.std.proofs.lemmas.Bool.{ne_eqb, eq-eqb, eqb-true, eqb-false}
@@ -46,8 +46,10 @@ puts_meet s G H (row ∷ rows) tree numbers contents each others =
         step : (b : Bool) → (cond b (record (H n) { row = row }) (H n)).content ≡ (H n).content
         step true = refl
         step false = refl
+
     tested : (n : Node) → eqb (H n).row.node row.node ≡ eqb n.number row.node
     tested n = ap (λ (i : ℕ). eqb i row.node) (numbers n)
+
     here : (n d : Node) → G d ≡ record { row = row; content = d.content } → (n.number ≡ row.node → n ≡ d) → (eqb n.number row.node ≡ false → H n ≡ G n) → (b : Bool) → eqb n.number row.node ≡ b → with_row row (H n) ≡ G n
     here n d is one other true at =
         let same : n ≡ d = one (eqb-true n.number row.node at) in
@@ -129,6 +131,7 @@ module _ (s : State) (D C : ℕ → Bool) (now : Moment) (fs : List EntryRow) (n
       to_mid : (ns : List Node) → AllByRecursion (λ n. n.number ≢ x → cond (eqb n.number x) (is_below fs k n) (is_below s.entries k n) ≡ is_below s.entries k n) ns
       to_mid [] = tt
       to_mid (n ∷ ns) = (λ ne. rw (ne_eqb n.number x ne) refl, to_mid ns)
+
       from_mid : (ns : List Node) → AllByRecursion (λ n. n.number ≢ y → is_below fs k n ≡ cond (eqb n.number x) (is_below fs k n) (is_below s.entries k n)) ns
       from_mid [] = tt
       from_mid (n ∷ ns) = (λ ne. step n ne (eqb n.number x) refl, from_mid ns)
@@ -136,5 +139,6 @@ module _ (s : State) (D C : ℕ → Bool) (now : Moment) (fs : List EntryRow) (n
           step : (m : Node) → m.number ≢ y → (b : Bool) → eqb m.number x ≡ b → is_below fs k m ≡ cond b (is_below fs k m) (is_below s.entries k m)
           step m ne true at = refl
           step m ne false at = rw (others m.number (eqb-false m.number x at) ne) refl
+
       summed : (t lp lm lq qc mc mo po a b d e : ℕ) → t ≡ lp → lm + qc ≡ lq + mc → lp + mo ≡ lm + po → qc ≡ a → mc ≡ b → mo ≡ d → po ≡ e → t + a + d ≡ lq + b + e
       summed t lp lm lq qc mc mo po a b d e whole first second is_a is_b is_d is_e = omega arith

@@ -1,13 +1,12 @@
 -- Entries that go, move or change places: who stands above whom then.
-use Rattle.std.proofs.Common.{◌≡◌, ◌≢◌, ◌<◌, ◌≤◌, ◌+◌, ◌==◌, ◌&&◌, ℕ, zero, suc, Bool, true, false, not, cond, eqb, List, [], ◌∷◌, ◌++◌, length, Option, Some, None, refl, sym, ap, subst, ◌∙◌, ◌⊎◌, inl, inr, arith}
+use Rattle.std.proofs.Common.{◌≡◌, ◌≢◌, ◌<◌, ◌==◌, ℕ, zero, suc, Bool, true, false, not, eqb, List, [], ◌∷◌, ◌++◌, Some, refl, sym, ap, subst, ◌∙◌, ◌⊎◌, inl, inr, arith}
 use Rattle.std.specs.Prelude.{find, filter, nat_eq}
-use Rattle.std.specs.List.{AllByRecursion, list_any}
+use Rattle.std.specs.List.{AllByRecursion}
 use Rattle.std.specs.Cmp.Lexicographic.{pointwise, same_text}
-use Rattle.std.proofs.lemmas.Bool.{eqb-true, eqb-false, ne_eqb, eq-eqb}
-use Rattle.std.proofs.lemmas.Bool.Decides.{eqb_tells}
+use Rattle.std.proofs.lemmas.Bool.{eqb-true, ne_eqb, eq-eqb}
 use Rattle.fuse_tree.specs.declared.rows.EntryRow.{EntryRow}
 use Rattle.fuse_tree.specs.State.{Apart, AreApart, Reaches, above, up_of, is_entry}
-use Rattle.fuse_tree.proofs.Lists.{all_more, all_both, all_filtered, and_true, cond_found, found}
+use Rattle.fuse_tree.proofs.Lists.{all_more, all_filtered, and_true, cond_found, found}
 use Rattle.fuse_tree.proofs.EntryGone.{up_less}
 
 -- ---- one entry among the others

@@ -1,8 +1,8 @@
 -- The plan of RENAME and RENAME2 agrees with what is done.
-use Rattle.std.proofs.Common.{◌≡◌, ◌≢◌, ◌<◌, ◌≤◌, ◌+◌, ◌-◌, ◌&&◌, ◌||◌, ◌==◌, ℕ, Bool, true, false, cond, not, eqb, List, [], ◌∷◌, Option, Some, None, refl, sym, ap, subst, ◌∙◌, inl, inr, arith}
+use Rattle.std.proofs.Common.{◌≡◌, ◌≢◌, ◌≤◌, ◌-◌, ◌&&◌, ◌||◌, ◌==◌, ℕ, Bool, true, false, cond, not, eqb, List, [], ◌∷◌, Option, Some, None, refl, sym, ap, subst, ◌∙◌, arith}
 use Rattle.std.specs.Prelude.{find, nat_le, nat_lt, is_some}
 use Rattle.std.specs.Option.{option_map}
-use Rattle.std.specs.List.{AllByRecursion, list_any}
+use Rattle.std.specs.List.{list_any}
 use Rattle.std.specs.Cmp.Lexicographic.{same_text}
 use Rattle.std.proofs.lemmas.Bool.{eqb-true, eqb-false, leb-false, ltb-false}
 use Rattle.fuse_wire.specs.declared.errno.Errno.{Errno}
@@ -13,20 +13,20 @@ use Rattle.fuse_tree.specs.declared.planning.rename.TheConstants.{RENAME_NOREPLA
 use Rattle.fuse_tree.specs.declared.rows.EntryRow.{EntryRow}
 use Rattle.fuse_tree.specs.declared.rows.NodeRow.{NodeRow}
 use Rattle.fuse_tree.specs.declared.rows.Planned.{Planned}
-use Rattle.fuse_tree.specs.State.{State, Node, Tree, IsNode, IsEntry, Reaches, above, is_dir, is_dir_of, has_number, is_entry, is_named, name_fault, node_at}
-use Rattle.fuse_tree.specs.Rows.{row_of, rows_of_state, row_at, entry_at}
-use Rattle.fuse_tree.specs.Done.{Done, refuse_for, answer}
+use Rattle.fuse_tree.specs.State.{State, Node, Tree, IsNode, IsEntry, Reaches, is_dir, is_dir_of, has_number, is_entry, is_named, name_fault, node_at}
+use Rattle.fuse_tree.specs.Rows.{row_of, rows_of_state, entry_at}
+use Rattle.fuse_tree.specs.Done.{Done, refuse_for}
 use Rattle.fuse_tree.specs.Reading.{refused_for}
 use Rattle.fuse_tree.specs.Removing.{has_entries}
-use Rattle.fuse_tree.specs.Renaming.{Renaming, lies_in, is_dir_at, holds, asked_fault, earlier, kinds_fault, place_fault, renamed, exchanged, rename_with_room, rename_entry, exchange_with_room, exchange_entry, rename_by, rename_from, rename_between, rename}
-use Rattle.fuse_tree.specs.PlanRemoving.{link_of, link_at}
-use Rattle.fuse_tree.specs.PlanRenaming.{row_holds, link_fault, plan_rename_with_room, plan_rename_link, plan_exchange_with_room, plan_exchange_link, plan_rename_by, plan_rename_from, plan_rename_between, plan_rename}
+use Rattle.fuse_tree.specs.Renaming.{Renaming, lies_in, is_dir_at, holds, asked_fault, earlier, kinds_fault, place_fault, rename_entry, exchange_entry, rename_by, rename_from, rename_between, rename}
+use Rattle.fuse_tree.specs.PlanRemoving.{link_of}
+use Rattle.fuse_tree.specs.PlanRenaming.{row_holds, link_fault, plan_rename_link, plan_exchange_link, plan_rename_by, plan_rename_from, plan_rename_between, plan_rename}
 use Rattle.fuse_tree.proofs.Agreement.{Agrees, refused_agrees, both, both_for}
 use Rattle.fuse_tree.proofs.Lists.{any_gives, found, and_true, or_false}
 use Rattle.fuse_tree.proofs.Puts.{row_found, node_found, only_one, dir_there}
 use Rattle.fuse_tree.proofs.Heights.{rooted, not_under_own}
 use Rattle.fuse_tree.proofs.GoneRows.{none_in_empty}
-use Rattle.fuse_tree.proofs.Moving.{Differs, up_found}
+use Rattle.fuse_tree.proofs.Moving.{up_found}
 use Rattle.fuse_tree.proofs.MovedTrees.{f_differs}
 use Rattle.fuse_tree.proofs.Walking.{never_held}
 use Rattle.fuse_tree.proofs.RenameFree.{free_rows, free_tree}
@@ -93,15 +93,17 @@ found_entry s dir name e tree at =
     let place = and_true (eqb e.dir dir) _ p.1 in
     let c = there_found (has_number e.child) s.nodes p.0.child in
     let one : 1 ≤ c.0.number = (found (IsNode s.next_node) (has_number e.child) s.nodes c.0 tree.nodes c.1).0.from_one in
-    let is : c.0.number ≡ e.child = (node_found s e.child c.0 tree c.1).0 in
-    (c.0, record {
-      entry = p.0;
-      dir_is = eqb-true e.dir dir place.0;
-      name_is = same_text e.name name (sym place.1);
-      child = c.1;
-      given = omega arith;
-      link = ap (option_map (λ (row : NodeRow). record { cookie = e.cookie; child = row })) (row_found s e.child ∙ ap (option_map (row_of s)) c.1);
-    })
+    let is : c.0.number ≡ e.child = (node_found s e.child c.0 tree c.1).0 in (
+      c.0,
+      record {
+        entry = p.0;
+        dir_is = eqb-true e.dir dir place.0;
+        name_is = same_text e.name name (sym place.1);
+        child = c.1;
+        given = omega arith;
+        link = ap (option_map (λ (row : NodeRow). record { cookie = e.cookie; child = row })) (row_found s e.child ∙ ap (option_map (row_of s)) c.1);
+      },
+    )
 
 dir_at : (s : State) (k : ℕ) (n : Node) → Tree s → node_at s k ≡ Some n → is_dir_at s k ≡ is_dir n.mode
 dir_at s k n tree at = step (is_dir n.mode) refl (is_dir_at s k) refl
@@ -112,9 +114,9 @@ dir_at s k n tree at = step (is_dir n.mode) refl (is_dir_at s k) refl
     step false is true e =
         absurd (any_gives (λ m. m.number ≡ k → m ≡ n) (is_dir_of k) ⊥ s.nodes (only_one k n s.nodes tree.nodes_rise at) e
         (λ m one test. (
-          let parts = and_true _ _ test in
-          let same : is_dir n.mode ≡ true = subst (λ (i : Node). is_dir i.mode ≡ true) (one (eqb-true m.number k parts.0)) parts.1 in
-          cc)))
+        let parts = and_true _ _ test in
+        let same : is_dir n.mode ≡ true = subst (λ (i : Node). is_dir i.mode ≡ true) (one (eqb-true m.number k parts.0)) parts.1 in
+        cc)))
 
 same_holds : (s : State) (k dir : ℕ) (n : Node) → Tree s → node_at s k ≡ Some n → row_holds (rows_of_state s) (row_of s n) dir ≡ holds s k dir
 same_holds s k dir n tree at =
@@ -235,10 +237,10 @@ between_agrees : (s : State) (r : Renaming) (d : Node) → Tree s → node_at s 
 between_agrees s r d tree at_d None at = refused_agrees s tree ESTALE
 between_agrees s r d tree at_d (Some t) at =
     both_for s (asked_fault r (is_dir d.mode && is_dir t.mode) (is_named s d.number && is_named s t.number)) _ _ tree (λ none. (
-      let asks = asked_none r (is_dir d.mode && is_dir t.mode) (is_named s d.number && is_named s t.number) none in
-      let dirs = and_true (is_dir d.mode) (is_dir t.mode) asks.dirs in
-      let named = subst (λ (k : ℕ). is_named s k ≡ true) (node_found s r.new_dir t tree at).0 (and_true (is_named s d.number) (is_named s t.number) asks.named).1 in
-      from_agrees s r d t tree at_d at dirs.0 dirs.1 named asks.new_name (entry_at s.entries d.number r.old_name) refl))
+    let asks = asked_none r (is_dir d.mode && is_dir t.mode) (is_named s d.number && is_named s t.number) none in
+    let dirs = and_true (is_dir d.mode) (is_dir t.mode) asks.dirs in
+    let named = subst (λ (k : ℕ). is_named s k ≡ true) (node_found s r.new_dir t tree at).0 (and_true (is_named s d.number) (is_named s t.number) asks.named).1 in
+    from_agrees s r d t tree at_d at dirs.0 dirs.1 named asks.new_name (entry_at s.entries d.number r.old_name) refl))
 
 -- RENAME2, and with flags 0 RENAME
 pub renaming_agrees : (s : State) (r : Renaming) (d : Node) → Tree s → node_at s d.number ≡ Some d → Agrees s (plan_rename r (row_of s d) (rows_of_state s)) (rename s r d)

@@ -3,14 +3,14 @@ use Rattle.std.proofs.Common.{◌≡◌, ◌-◌, ◌&&◌, ◌||◌, ◌==◌, 
 use Rattle.std.specs.Prelude.{nat_le, nat_lt}
 use Rattle.fuse_wire.specs.declared.errno.Errno.{Errno}
 use Rattle.fuse_answer.specs.Replies.{Kind, Nothing}
-use Rattle.fuse_tree.specs.declared.limits.TheConstants.{MAX_NAME, COUNTER_END}
+use Rattle.fuse_tree.specs.declared.limits.TheConstants.{COUNTER_END}
 use Rattle.fuse_tree.specs.declared.planning.rename.TheConstants.{RENAME_NOREPLACE, RENAME_EXCHANGE}
 use Rattle.fuse_tree.specs.declared.rows.EntryRow.{EntryRow}
 use Rattle.fuse_tree.specs.State.{State, Node, is_dir, is_named, is_odd_name, name_fault, node_at}
 use Rattle.fuse_tree.specs.Rows.{entry_at}
-use Rattle.fuse_tree.specs.Done.{Done, refuse_for, answer}
+use Rattle.fuse_tree.specs.Done.{Done, refuse_for}
 use Rattle.fuse_tree.specs.Removing.{has_entries}
-use Rattle.fuse_tree.specs.Renaming.{Renaming, is_dir_at, holds, is_same, earlier, asked_fault, kinds_fault, place_fault, renamed, exchanged, rename_with_room, rename_entry, exchange_with_room, exchange_entry, rename_by, rename_from, rename_between, rename}
+use Rattle.fuse_tree.specs.Renaming.{Renaming, is_dir_at, holds, is_same, earlier, asked_fault, place_fault, renamed, exchanged, rename_with_room, rename_entry, exchange_entry, rename_by, rename_from, rename_between, rename}
 use Rattle.fuse_tree.proofs.Fit.{Fits, Reads, refused, answered, chosen, refused_for, is_error, refused_reads, answered_reads, chosen_reads, no_body}
 
 -- ---- fits

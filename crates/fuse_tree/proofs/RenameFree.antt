@@ -1,23 +1,19 @@
 -- RENAME onto a free name: its rows, and the tree that goes on.
-use Rattle.std.proofs.Common.{◌≡◌, ◌≢◌, ◌<◌, ◌≤◌, ◌+◌, ◌&&◌, ◌||◌, ◌==◌, ℕ, Bool, true, false, cond, not, eqb, List, [], ◌∷◌, ◌++◌, length, map, Some, None, refl, sym, ap, subst, ◌∙◌, inl, inr, arith}
-use Rattle.std.specs.Prelude.{filter, find}
-use Rattle.std.specs.List.{AllByRecursion, list_any}
-use Rattle.std.proofs.lemmas.Bool.{ne_eqb, eq-eqb}
+use Rattle.std.proofs.Common.{◌≡◌, ◌≢◌, ◌<◌, ◌≤◌, ◌+◌, ◌||◌, ◌==◌, ℕ, Bool, true, false, cond, eqb, List, [], ◌∷◌, ◌++◌, map, Some, None, refl, sym, ap, ◌∙◌, inl, inr, arith}
+use Rattle.std.specs.Prelude.{filter}
 use Rattle.std.proofs.lemmas.Bool.Decides.{eqb_tells}
 use Rattle.fuse_wire.specs.declared.moment.Moment.{Moment}
 use Rattle.fuse_tree.specs.declared.limits.TheConstants.{COUNTER_END}
 use Rattle.fuse_tree.specs.declared.rows.Change.{Change}
 use Rattle.fuse_tree.specs.declared.rows.Change.TheVariants as changes
 use Rattle.fuse_tree.specs.declared.rows.EntryRow.{EntryRow}
-use Rattle.fuse_tree.specs.declared.rows.Full.{Full}
-use Rattle.fuse_tree.specs.declared.rows.NodeRow.{NodeRow}
-use Rattle.fuse_tree.specs.State.{State, Node, Tree, IsNode, Reaches, above, is_dir, is_dir_of, is_entry, is_named, name_fault, node_at, up_of, subdirs_of}
-use Rattle.fuse_tree.specs.Rows.{full_of, row_of, rows_of_state, counters_of, entry_at, apply}
+use Rattle.fuse_tree.specs.State.{State, Node, Tree, IsNode, above, is_dir, is_entry, is_named, name_fault, node_at, up_of, subdirs_of}
+use Rattle.fuse_tree.specs.Rows.{row_of, rows_of_state, counters_of, entry_at, apply}
 use Rattle.fuse_tree.specs.Done.{touched, touch}
 use Rattle.fuse_tree.specs.Removing.{marked, mark, without}
 use Rattle.fuse_tree.specs.Renaming.{Renaming, placed, renamed}
 use Rattle.fuse_tree.specs.PlanRenaming.{dir_row, moved_row, rename_changes}
-use Rattle.fuse_tree.proofs.Lists.{all_more, all_both, all_kept, found, none_found, and_true}
+use Rattle.fuse_tree.proofs.Lists.{all_more, all_kept, found, none_found}
 use Rattle.fuse_tree.proofs.Trees.{named_climbs}
 use Rattle.fuse_tree.proofs.Puts.{node_found, dir_there}
 use Rattle.fuse_tree.proofs.Making.{tree_touched}
@@ -26,7 +22,7 @@ use Rattle.fuse_tree.proofs.Moving.{keeps, up_found}
 use Rattle.fuse_tree.proofs.MovedTrees.{tree_moved, up_moved, up_here}
 use Rattle.fuse_tree.proofs.MovedCounts.{Recounted, Sums, counts_gone}
 use Rattle.fuse_tree.proofs.MovedRows.{timed, shifted, one_shifted}
-use Rattle.fuse_tree.proofs.RenameRows.{D, C, G, rows_shifted, apart_rows, one_rows, apart_are, one_are, apart_rest, one_rest}
+use Rattle.fuse_tree.proofs.RenameRows.{rows_shifted, apart_rows, one_rows, apart_are, one_are, apart_rest, one_rest}
 
 abbrev pub nobody : ℕ → Bool
 nobody k = false
@@ -85,7 +81,7 @@ module _ (s : State) (r : Renaming) (d t c : Node) (e : EntryRow) (tree : Tree s
   abbrev planned : Bool → ℕ → List Change
   planned both k =
       changes.EntryGone e.cookie ∷ cond both (changes.Node (dir_row r.now false false (row_of s d)) ∷ [])
-          (changes.Node (dir_row r.now (is_dir c.mode) false (row_of s d)) ∷ changes.Node (dir_row r.now false (is_dir c.mode) (row_of s t)) ∷ [])
+      (changes.Node (dir_row r.now (is_dir c.mode) false (row_of s d)) ∷ changes.Node (dir_row r.now false (is_dir c.mode) (row_of s t)) ∷ [])
       ++ changes.Node (moved_row r.now r.new_dir (row_of s c)) ∷ changes.Entry (child k) ∷ changes.Counters (record (counters_of s) { next_cookie = next }) ∷ []
 
   c_is : c.number ≡ e.child
@@ -116,6 +112,6 @@ module _ (s : State) (r : Renaming) (d t c : Node) (e : EntryRow) (tree : Tree s
   pub free_tree : is_dir t.mode ≡ true → is_named s r.new_dir ≡ true → name_fault r.new_name ≡ None → entry_at s.entries r.new_dir r.new_name ≡ None → ((n : ℕ) → above s.entries n r.new_dir ≢ e.child) → s.next_cookie < COUNTER_END → Tree (renamed r d.number e None s)
   free_tree dir named name_ok free never room =
       let moved = tree_moved s (is_entry d.number r.old_name) e r.new_dir r.new_name tree at_e (dir_there r.new_dir t s.nodes at_t dir) (named_climbs s r.new_dir tree named) never name_ok
-          (all_kept (λ z. is_entry r.new_dir r.new_name z ≡ false) (keeps e.cookie) s.entries (none_found (is_entry r.new_dir r.new_name) s.entries free)) room in
+      (all_kept (λ z. is_entry r.new_dir r.new_name z ≡ false) (keeps e.cookie) s.entries (none_found (is_entry r.new_dir r.new_name) s.entries free)) room in
       let s1 = placed r.new_dir r.new_name e.child (without e.cookie s) in
       tree_touched (touch d.number r.now (mark e.child r.now s1)) r.new_dir r.now (tree_touched (mark e.child r.now s1) d.number r.now (tree_marked s1 e.child r.now moved))

@@ -1,5 +1,5 @@
 -- RENAME onto a name that is taken: its rows, and the tree that goes on.
-use Rattle.std.proofs.Common.{◌≡◌, ◌≢◌, ◌<◌, ◌≤◌, ◌+◌, ◌&&◌, ◌||◌, ◌==◌, ℕ, Bool, true, false, cond, not, eqb, List, [], ◌∷◌, ◌++◌, length, map, Some, None, refl, sym, ap, subst, ◌∙◌, ◌⊎◌, inl, inr, arith}
+use Rattle.std.proofs.Common.{◌≡◌, ◌≢◌, ◌<◌, ◌≤◌, ◌+◌, ◌||◌, ◌==◌, ℕ, Bool, true, false, cond, not, eqb, List, [], ◌∷◌, ◌++◌, map, Some, None, refl, sym, ap, subst, ◌∙◌, ◌⊎◌, inl, inr, arith}
 use Rattle.std.specs.Prelude.{filter, find}
 use Rattle.std.specs.List.{AllByRecursion, list_any}
 use Rattle.std.proofs.lemmas.Bool.{ne_eqb, eq-eqb}
@@ -10,7 +10,7 @@ use Rattle.fuse_tree.specs.declared.rows.Change.{Change}
 use Rattle.fuse_tree.specs.declared.rows.Change.TheVariants as changes
 use Rattle.fuse_tree.specs.declared.rows.EntryRow.{EntryRow}
 use Rattle.fuse_tree.specs.declared.rows.NodeRow.{NodeRow}
-use Rattle.fuse_tree.specs.State.{State, Node, Tree, IsNode, IsEntry, Reaches, above, is_dir, is_dir_of, is_entry, is_named, name_fault, node_at, up_of, subdirs_of}
+use Rattle.fuse_tree.specs.State.{State, Node, Tree, IsNode, above, is_dir, is_entry, is_named, name_fault, node_at, up_of, subdirs_of}
 use Rattle.fuse_tree.specs.Rows.{full_of, row_of, rows_of_state, counters_of, entry_at, apply}
 use Rattle.fuse_tree.specs.Done.{touched, touch}
 use Rattle.fuse_tree.specs.Removing.{marked, mark, without}
@@ -145,7 +145,7 @@ module _ (s : State) (r : Renaming) (d t c o : Node) (e f : EntryRow) (tree : Tr
   abbrev planned : Bool → ℕ → List Change
   planned both k =
       changes.EntryGone f.cookie ∷ changes.Node lost_row ∷ changes.EntryGone e.cookie ∷ cond both (changes.Node (dir_row r.now (is_dir o.mode) false (row_of s d)) ∷ [])
-          (changes.Node (dir_row r.now (is_dir c.mode) false (row_of s d)) ∷ changes.Node (dir_row r.now (is_dir o.mode) (is_dir c.mode) (row_of s t)) ∷ [])
+      (changes.Node (dir_row r.now (is_dir c.mode) false (row_of s d)) ∷ changes.Node (dir_row r.now (is_dir o.mode) (is_dir c.mode) (row_of s t)) ∷ [])
       ++ changes.Node (moved_row r.now r.new_dir (row_of s c)) ∷ changes.Entry (child k) ∷ changes.Counters (record (counters_of s) { next_cookie = next }) ∷ []
 
   c_is : c.number ≡ e.child
@@ -161,17 +161,19 @@ module _ (s : State) (r : Renaming) (d t c o : Node) (e f : EntryRow) (tree : Tr
   two_list = apart_rows s r.now fs next d.number r.new_dir e.child Y d t c tree at_d at_t at_c x_dir x_to (y_not d.number y_dir) (y_not r.new_dir y_to) ups up_x (is_dir c.mode) false (is_dir o.mode) recounted (one_of e.child c at_c)
 
   lost_there : IsRowOf s (then_full s dirs children r.now fs next) lost_row
-  lost_there =
-      (o, at_own s f.child o tree at_o,
-      lost_is s r.now fs next d.number r.new_dir e.child Y d t c tree at_d at_t at_c x_dir x_to (y_not d.number y_dir) (y_not r.new_dir y_to) ups up_x f.child o 0 at_o (eq-eqb f.child f.child refl) y_dir y_to up_y (recounted.other f.child (one_of f.child o at_o) y_dir y_to))
+  lost_there = (
+    o,
+    at_own s f.child o tree at_o,
+    lost_is s r.now fs next d.number r.new_dir e.child Y d t c tree at_d at_t at_c x_dir x_to (y_not d.number y_dir) (y_not r.new_dir y_to) ups up_x f.child o 0 at_o (eq-eqb f.child f.child refl) y_dir y_to up_y (recounted.other f.child (one_of f.child o at_o) y_dir y_to),
+  )
 
   others_by : (rows : List NodeRow) → ((n : Node) → 1 ≤ n.number → Y n.number ≡ false → list_any (λ row. n.number == row.node) rows ≡ false → full_of s n ≡ then_full s dirs children r.now fs next n)
       → AllByRecursion (λ n. list_any (λ row. n.number == row.node) (lost_row ∷ rows) ≡ false → full_of s n ≡ then_full s dirs children r.now fs next n) s.nodes
   others_by rows so =
       all_more (IsNode s.next_node) (λ n. list_any (λ row. n.number == row.node) (lost_row ∷ rows) ≡ false → full_of s n ≡ then_full s dirs children r.now fs next n) s.nodes
       (λ n p none. (
-        let h = or_false (eqb n.number o.number) (list_any (λ row. n.number == row.node) rows) none in
-        so n p.from_one (ap (eqb n.number) (sym o_is) ∙ h.0) h.1)) tree.nodes
+      let h = or_false (eqb n.number o.number) (list_any (λ row. n.number == row.node) rows) none in
+      so n p.from_one (ap (eqb n.number) (sym o_is) ∙ h.0) h.1)) tree.nodes
 
   in_one : d.number ≡ r.new_dir → apply (rows_of_state s) (planned true e.child) ≡ rows_of_state (renamed r d.number e (Some f) s)
   in_one same =
@@ -216,7 +218,7 @@ module _ (s : State) (r : Renaming) (d t c o : Node) (e f : EntryRow) (tree : Tr
   over_tree dir named name_ok f_name never room =
       let climb = reaches_less (keeps f.cookie) s.entries f.child (gone_child s.entries f others_f) empty given r.new_dir (λ same. y_to (sym same)) (named_climbs s r.new_dir tree named) in
       let free = all_more (Differs f) (λ z. is_entry r.new_dir r.new_name z ≡ false) rest
-          (λ z p. subst (λ (n : List ℕ). is_entry r.new_dir n z ≡ false) f_name (subst (λ (k : ℕ). is_entry k f.name z ≡ false) f_dir p.place)) rest_differ_f in
+      (λ z p. subst (λ (n : List ℕ). is_entry r.new_dir n z ≡ false) f_name (subst (λ (k : ℕ). is_entry k f.name z ≡ false) f_dir p.place)) rest_differ_f in
       let moved = tree_moved s1 one e r.new_dir r.new_name gone_tree (find_kept one (keeps f.cookie) s.entries e at_e e_stays) (dir_there r.new_dir t s.nodes at_t dir) climb (never_then never) name_ok free room in
       let s2 = placed r.new_dir r.new_name e.child (without e.cookie s1) in
       let s3 = touch f.dir r.now s2 in

@@ -1,20 +1,19 @@
 -- The rows of RENAME and RENAME2 are those of the state that they leave.
-use Rattle.std.proofs.Common.{◌≡◌, ◌≢◌, ◌≤◌, ◌+◌, ◌-◌, ◌&&◌, ◌||◌, ◌==◌, ℕ, Bool, true, false, cond, eqb, List, [], ◌∷◌, ◌++◌, length, map, Option, Some, None, refl, sym, ap, subst, ◌∙◌, inl, inr, arith}
-use Rattle.std.specs.Prelude.{filter}
+use Rattle.std.proofs.Common.{◌≡◌, ◌≢◌, ◌≤◌, ◌||◌, ◌==◌, ℕ, Bool, true, false, eqb, List, [], ◌∷◌, length, map, Some, refl, sym, ap, subst, ◌∙◌}
 use Rattle.std.specs.List.{AllByRecursion, list_any}
-use Rattle.std.proofs.lemmas.Bool.{ne_eqb, eq-eqb, eqb-true, eqb-false}
+use Rattle.std.proofs.lemmas.Bool.{ne_eqb, eq-eqb, eqb-false}
 use Rattle.std.proofs.lemmas.List.{length-map}
 use Rattle.fuse_wire.specs.declared.moment.Moment.{Moment}
 use Rattle.fuse_tree.specs.declared.rows.EntryRow.{EntryRow}
 use Rattle.fuse_tree.specs.declared.rows.Full.{Full}
 use Rattle.fuse_tree.specs.declared.rows.NodeRow.{NodeRow}
-use Rattle.fuse_tree.specs.State.{State, Node, Tree, is_dir, node_at, up_of, subdirs_of}
+use Rattle.fuse_tree.specs.State.{State, Node, Tree, node_at, up_of, subdirs_of}
 use Rattle.fuse_tree.specs.Rows.{full_of, row_of, rows_of_state, counters_of}
 use Rattle.fuse_tree.specs.PlanRenaming.{more, fewer, dir_row, moved_row}
 use Rattle.fuse_tree.proofs.Lists.{or_false}
 use Rattle.fuse_tree.proofs.Puts.{node_found}
 use Rattle.fuse_tree.proofs.Making.{twice}
-use Rattle.fuse_tree.proofs.MovedCounts.{Recounted, Sums, counts_gone, counts_swapped}
+use Rattle.fuse_tree.proofs.MovedCounts.{Recounted}
 use Rattle.fuse_tree.proofs.MovedRows.{puts, IsRowOf, puts_meet, timed, shifted, then_full, dir_then, child_then, other_then}
 
 or_true : (b : Bool) → (b || true) ≡ true

@@ -108,9 +108,9 @@ never_leads s node dir tree given none n =
     elim (cases_lt n (length s.nodes)) [
       | inl lt ↦ earlier_not s.entries (length s.nodes) n node dir none lt
       | inr le ↦ λ at. given (
-        let more = n - length s.nodes in
-        let split : n ≡ length s.nodes + more = omega arith in
-        sym at ∙ ap (λ (i : ℕ). above s.entries i dir) split ∙ above_on s.entries (length s.nodes) more dir ∙ ap (above s.entries more) (ends_within s tree dir) ∙ stays_none s.entries (rooted s tree).none more)
+          let more = n - length s.nodes in
+          let split : n ≡ length s.nodes + more = omega arith in
+          sym at ∙ ap (λ (i : ℕ). above s.entries i dir) split ∙ above_on s.entries (length s.nodes) more dir ∙ ap (above s.entries more) (ends_within s tree dir) ∙ stays_none s.entries (rooted s tree).none more)
     ]
 
 -- what lies above a directory is a directory
@@ -130,6 +130,6 @@ never_held s node dir tree given is_dir none n = step (is_dir_at s node) refl no
     step : (b : Bool) → is_dir_at s node ≡ b → (b && lies_in s node dir) ≡ false → above s.entries n dir ≢ node
     step true is isnt = never_leads s node dir tree given isnt n
     step false is isnt = λ at. (
-      let there = dirs_above s n dir tree is_dir (λ zero_there. given (sym at ∙ zero_there)) in
-      let here : is_dir_at s node ≡ true = subst (λ (i : ℕ). is_dir_at s i ≡ true) at there in
-      absurd cc)
+        let there = dirs_above s n dir tree is_dir (λ zero_there. given (sym at ∙ zero_there)) in
+        let here : is_dir_at s node ≡ true = subst (λ (i : ℕ). is_dir_at s i ≡ true) at there in
+        absurd cc)

@@ -109,11 +109,7 @@ pub(crate) fn rename_changes_of(
     let moves = is_directory(source.child.mode);
     let lost = is_directory_there(other);
     put_dirs(&mut changes, asked, from, to, moves, false, lost)?;
-    changes.push(Change::Node(moved_row_of(
-        asked.at,
-        asked.new_dir,
-        &source.child,
-    )))?;
+    changes.push(Change::Node(moved_row_of(asked.at, asked.new_dir, &source.child)))?;
     let name = ByteList::from_vec(Vec::from_slice(alloc, asked.new_name)?);
     changes.push(Change::Entry(EntryRow {
         dir: asked.new_dir,
@@ -150,19 +146,11 @@ pub(crate) fn exchange_changes_of(
     changes.push(Change::EntryGone {
         cookie: other.cookie,
     })?;
-    changes.push(Change::Node(moved_row_of(
-        asked.at,
-        from.node,
-        &other.child,
-    )))?;
+    changes.push(Change::Node(moved_row_of(asked.at, from.node, &other.child)))?;
     let moves = is_directory(source.child.mode);
     let comes = is_directory(other.child.mode);
     put_dirs(&mut changes, asked, from, to, moves, comes, comes)?;
-    changes.push(Change::Node(moved_row_of(
-        asked.at,
-        asked.new_dir,
-        &source.child,
-    )))?;
+    changes.push(Change::Node(moved_row_of(asked.at, asked.new_dir, &source.child)))?;
     let old_name = ByteList::from_vec(Vec::from_slice(alloc, asked.old_name)?);
     changes.push(Change::Entry(EntryRow {
         dir: from.node,
