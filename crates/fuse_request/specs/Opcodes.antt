@@ -29,7 +29,7 @@ profile =
     ∷ built MKDIR (codes "MKDIR") (at_least MKDIR_IN name_fault)
     ∷ built UNLINK (codes "UNLINK") name_fault
     ∷ built RMDIR (codes "RMDIR") name_fault
-    ∷ later RENAME (codes "RENAME") (at_least RENAME_IN names_fault)
+    ∷ built RENAME (codes "RENAME") (at_least RENAME_IN names_fault)
     ∷ built OPEN (codes "OPEN") (fixed OPEN_IN)
     ∷ built READ (codes "READ") (fixed READ_IN)
     ∷ built WRITE (codes "WRITE") (counted WRITE_IN 16 1)
@@ -41,7 +41,7 @@ profile =
     ∷ later INTERRUPT (codes "INTERRUPT") (fixed INTERRUPT_IN)
     ∷ built DESTROY (codes "DESTROY") (fixed 0)
     ∷ later BATCH_FORGET (codes "BATCH_FORGET") (counted BATCH_FORGET_IN 0 FORGET_ONE)
-    ∷ later RENAME2 (codes "RENAME2") (at_least RENAME2_IN names_fault)
+    ∷ built RENAME2 (codes "RENAME2") (at_least RENAME2_IN names_fault)
     ∷ []
 
 abbrev pub find : ℕ → List Opcode → Option Opcode

@@ -75,8 +75,7 @@ pub fn is_in_profile(opcode: u32) -> bool
 pub fn is_built(opcode: u32) -> bool
     ensures { result ≡ opcodes.is_built opcode }
 {
-    let is_later = matches!(opcode, RENAME | RENAME2);
-    is_in_profile(opcode) && !is_silent(opcode) && !is_later
+    is_in_profile(opcode) && !is_silent(opcode)
 }
 
 /// Whether messages of this opcode are never answered.

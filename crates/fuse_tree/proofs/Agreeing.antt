@@ -21,6 +21,7 @@ use Rattle.fuse_tree.specs.State.{State, Node, Tree, is_dir, node_at, is_named, 
 use Rattle.fuse_tree.specs.Rows.{row_of, rowed, rows_of_state, row_at, entry_at}
 use Rattle.fuse_tree.specs.Do.{lookup_child, lookup_entry, lookup, done, do_at, do_act, names_node, do_agreed, do_offered, offer_of}
 use Rattle.fuse_tree.specs.Plan.{Meets, TreeKept, look_fault, AnswersAreRead}
+use Rattle.fuse_tree.specs.Renaming.{asking}
 use Rattle.fuse_tree.specs.Reading.{Tells, child_of}
 use Rattle.fuse_tree.specs.Planning.{plan_lookup, plan_of, plan_offered, plan_agreed, plan_at, plan_act, plan_child}
 use Rattle.fuse_tree.proofs.Agreement.{Agrees, refused_agrees, both, both_for}
@@ -31,6 +32,7 @@ use Rattle.fuse_tree.proofs.InitAgrees.{init_agrees}
 use Rattle.fuse_tree.proofs.ListingAgrees.{read_dir_agrees}
 use Rattle.fuse_tree.proofs.OpeningAgrees.{open_agrees, open_dir_agrees, release_agrees, release_dir_agrees}
 use Rattle.fuse_tree.proofs.RemovingAgrees.{unlink_agrees, rmdir_agrees}
+use Rattle.fuse_tree.proofs.RenameAgrees.{renaming_agrees}
 use Rattle.fuse_tree.proofs.Puts.{row_found, node_found}
 
 child_agrees : (s : State) → Tree s → (o : Option Node) → Agrees s (plan_child (option_map (row_of s) o)) (lookup_child s o)
@@ -63,6 +65,8 @@ act_agrees s header (acts.OpenDir flags open_flags) now d tree e = open_dir_agre
 act_agrees s header (acts.ReadDir x) now d tree e = read_dir_agrees s x d tree
 act_agrees s header (acts.Release x) now d tree e = release_agrees s x.fh d tree
 act_agrees s header (acts.ReleaseDir x) now d tree e = release_dir_agrees s x.fh d tree
+act_agrees s header (acts.Rename new_dir old_name new_name) now d tree e = renaming_agrees s (asking new_dir 0 old_name new_name now) d tree e
+act_agrees s header (acts.Rename2 new_dir flags old_name new_name) now d tree e = renaming_agrees s (asking new_dir flags old_name new_name now) d tree e
 act_agrees s header acts.Destroy now d tree e = record { answer = refl; rows = refl; tree = tree }
 act_agrees s header _ now d tree e = refused_agrees s tree ENOSYS
 

@@ -14,6 +14,7 @@ use Rattle.fuse_tree.specs.State.{State, Node, Tree, is_dir, is_named, node_at, 
 use Rattle.fuse_tree.specs.Rows.{entry_at}
 use Rattle.fuse_tree.specs.Done.{attr_of, entry_of, attr_out_of, Done, answer}
 use Rattle.fuse_tree.specs.Do.{lookup_child, lookup_entry, lookup_named, lookup, getattr, do_act, do_at, names_node, done, do_agreed, do_offered, offer_of}
+use Rattle.fuse_tree.specs.Renaming.{asking}
 use Rattle.fuse_tree.proofs.Fit.{Fits, refused, answered, chosen, refused_for, Reads, refused_reads, answered_reads, chosen_reads, refused_name_reads, no_body}
 use Rattle.fuse_tree.proofs.MakingFits.{mkdir_fits, mknod_fits, mkdir_reads, mknod_reads}
 use Rattle.fuse_tree.proofs.SettingFits.{setattr_fits, setattr_reads}
@@ -23,6 +24,7 @@ use Rattle.fuse_tree.proofs.InitFits.{init_fits, init_reads}
 use Rattle.fuse_tree.specs.Plan.{AnswersAreRead}
 use Rattle.fuse_tree.proofs.RemovingFits.{unlink_fits, rmdir_fits, unlink_reads, rmdir_reads}
 use Rattle.fuse_tree.proofs.ListingFits.{read_dir_fits, read_dir_reads}
+use Rattle.fuse_tree.proofs.RenameFits.{rename_fits, rename_reads}
 
 -- ---- LOOKUP
 
@@ -79,6 +81,8 @@ act_fits sizes s header (acts.OpenDir flags open_flags) now n = open_dir_fits si
 act_fits sizes s header (acts.ReadDir x) now n = read_dir_fits sizes s x n
 act_fits sizes s header (acts.Release x) now n = release_fits s x.fh n
 act_fits sizes s header (acts.ReleaseDir x) now n = release_dir_fits s x.fh n
+act_fits sizes s header (acts.Rename new_dir old_name new_name) now n = rename_fits s (asking new_dir 0 old_name new_name now) n
+act_fits sizes s header (acts.Rename2 new_dir flags old_name new_name) now n = rename_fits s (asking new_dir flags old_name new_name now) n
 act_fits sizes s header acts.Destroy now n = answered s [] (omega arith)
 act_fits sizes s header _ now n = refused s _
 
@@ -114,6 +118,8 @@ act_reads back s header (acts.OpenDir flags open_flags) now n tree = open_dir_re
 act_reads back s header (acts.ReadDir x) now n tree = read_dir_reads back s x n tree
 act_reads back s header (acts.Release x) now n tree = release_reads s x.fh n
 act_reads back s header (acts.ReleaseDir x) now n tree = release_dir_reads s x.fh n
+act_reads back s header (acts.Rename new_dir old_name new_name) now n tree = rename_reads s (asking new_dir 0 old_name new_name now) n
+act_reads back s header (acts.Rename2 new_dir flags old_name new_name) now n tree = rename_reads s (asking new_dir flags old_name new_name now) n
 act_reads back s header acts.Destroy now n tree = answered_reads s [] no_body
 act_reads back s header _ now n tree = refused_reads s _ refl
 

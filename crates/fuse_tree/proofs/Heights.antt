@@ -148,3 +148,12 @@ ends_within s tree k = step (eqb (up_of s.entries k) 0) refl
         let split : length s.nodes ≡ climb.0 + suc (length s.nodes - suc climb.0) = omega arith in
         let left = length s.nodes - suc climb.0 in
         ap (λ (n : ℕ). above s.entries n k) split ∙ above_on s.entries climb.0 (suc left) k ∙ ap (above s.entries (suc left)) climb.1 ∙ past_top s.entries root left
+
+-- no node lies under itself
+pub not_under_own : (es : List EntryRow) → IsRooted es → (k q : ℕ) → up_of es k ≡ q → Reaches es q → (n : ℕ) → above es n q ≢ k
+not_under_own es root k q up climb n under =
+    let m = climb.0 in
+    let high : above es (suc m) k ≡ 1 = ap (above es m) up ∙ climb.1 in
+    let round : above es (n + suc m) q ≡ 1 = above_on es n (suc m) q ∙ ap (above es (suc m)) under ∙ high in
+    let le = one_height es root (n + suc m) m q round climb.1 in
+    omega arith

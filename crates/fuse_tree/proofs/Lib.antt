@@ -4,6 +4,7 @@ pub mod Bounds
 pub mod Changing
 pub mod Counts
 pub mod EntryGone
+pub mod Exchanges
 mod Fit
 pub mod Fitting
 mod Fronts
@@ -20,6 +21,10 @@ pub mod Making
 mod MakingAgrees
 mod MakingFits
 mod Mounts
+pub mod MovedCounts
+pub mod MovedRows
+pub mod MovedTrees
+pub mod Moving
 pub mod NewStore
 mod Opening
 mod OpeningAgrees
@@ -29,6 +34,11 @@ pub mod Puts
 pub mod Ranges
 mod RemovingAgrees
 mod RemovingFits
+mod RenameAgrees
+mod RenameFits
+pub mod RenameFree
+pub mod RenameOver
+pub mod RenameRows
 mod SettingAgrees
 mod SettingFits
 mod Shown

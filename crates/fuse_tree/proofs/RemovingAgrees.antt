@@ -1,5 +1,5 @@
 -- The plans of an entry gone agree with what is done.
-use Rattle.std.proofs.Common.{◌≡◌, ◌≢◌, ◌==◌, ℕ, true, false, not, List, [], Option, Some, None, refl, sym, subst, ◌∙◌}
+use Rattle.std.proofs.Common.{◌≡◌, ◌≢◌, ℕ, not, List, [], Option, Some, None, refl, sym, subst}
 use Rattle.std.specs.Option.{option_map}
 use Rattle.std.specs.List.{AllByRecursion}
 use Rattle.std.proofs.lemmas.Bool.{eqb-true}
@@ -13,7 +13,7 @@ use Rattle.fuse_tree.specs.Rows.{row_of, rows_of_state, entry_at}
 use Rattle.fuse_tree.specs.Done.{answer}
 use Rattle.fuse_tree.specs.Removing.{entry_gone, has_entries, unlink_child, unlink_entry, unlink, rmdir_child, rmdir_entry, rmdir}
 use Rattle.fuse_tree.specs.PlanRemoving.{link_of, plan_gone, plan_unlink_link, plan_unlink, plan_rmdir_link, plan_rmdir}
-use Rattle.fuse_tree.proofs.Agreement.{Agrees, refused_agrees, both, both_for, not_false}
+use Rattle.fuse_tree.proofs.Agreement.{Agrees, refused_agrees, both, both_for}
 use Rattle.fuse_tree.proofs.Lists.{found, and_true}
 use Rattle.fuse_tree.proofs.Puts.{row_found, node_found}
 use Rattle.fuse_tree.proofs.EntryGone.{standing}

@@ -1,13 +1,14 @@
 -- What the walk upwards reads off the rows of a tree.
-use Rattle.std.proofs.Common.{◌≡◌, ◌==◌, ◌≤◌, ◌<◌, ◌≢◌, ◌+◌, ◌-◌, ◌||◌, ℕ, zero, suc, Bool, true, false, eqb, List, Option, Some, None, refl, sym, ap, subst, ◌∙◌, arith}
+use Rattle.std.proofs.Common.{◌≡◌, ◌==◌, ◌≤◌, ◌<◌, ◌≢◌, ◌+◌, ◌-◌, ◌&&◌, ◌||◌, ℕ, zero, suc, Bool, true, false, eqb, List, length, Option, Some, None, refl, sym, ap, subst, ◌∙◌, inl, inr, arith}
 use Rattle.std.specs.Option.{option_map}
-use Rattle.std.proofs.lemmas.Bool.{eqb-true, eqb-false, ne_eqb, eq-eqb}
+use Rattle.std.proofs.lemmas.Bool.{eqb-true, eqb-false, ne_eqb, eq-eqb, cases_lt}
 use Rattle.fuse_tree.specs.declared.rows.EntryRow.{EntryRow}
 use Rattle.fuse_tree.specs.declared.rows.NodeRow.{NodeRow}
 use Rattle.fuse_tree.specs.State.{State, Node, Tree, IsEntry, has_number, node_at, up_of, above}
 use Rattle.fuse_tree.specs.Rows.{Rows, IsRowed, row_of, rows_of_state, row_at}
-use Rattle.fuse_tree.specs.Renaming.{leads_to}
+use Rattle.fuse_tree.specs.Renaming.{leads_to, lies_in, is_dir_at, holds}
 use Rattle.fuse_tree.proofs.Lists.{all_more, any_gives, none_found}
+use Rattle.fuse_tree.proofs.Ups.{up_in}
 use Rattle.fuse_tree.proofs.Puts.{row_found, node_found}
 use Rattle.fuse_tree.proofs.Bounds.{map_none, rowed_is}
 use Rattle.fuse_tree.proofs.Heights.{rooted, up_none, above_on, stays_none, ends_within}
@@ -95,3 +96,40 @@ above_next rows i dir place up at step = above_on rows.entries i 1 dir ∙ ap (u
 
 pub leads_next : (rows : Rows) (i node dir place : ℕ) → above rows.entries i dir ≡ place → place ≢ node → leads_to rows.entries i node dir ≡ false → leads_to rows.entries (i + 1) node dir ≡ false
 leads_next rows i node dir place at other none_yet = let e : i + 1 ≡ suc i = omega arith in ap (λ (n : ℕ). leads_to rows.entries n node dir) e ∙ rw (none_yet, at, ne_eqb place node other) refl
+
+-- ---- what a directory doesn't lie in
+
+earlier_not : (es : List EntryRow) (n i node dir : ℕ) → leads_to es n node dir ≡ false → i < n → above es i dir ≢ node
+earlier_not es n i node dir none lt at = absurd (let e = leads_later es n i node dir lt at in cc)
+
+-- no way up leads to a node that the first places aren't
+never_leads : (s : State) (node dir : ℕ) → Tree s → node ≢ 0 → lies_in s node dir ≡ false → (n : ℕ) → above s.entries n dir ≢ node
+never_leads s node dir tree given none n =
+    elim (cases_lt n (length s.nodes)) [
+      | inl lt ↦ earlier_not s.entries (length s.nodes) n node dir none lt
+      | inr le ↦ λ at. given (
+          let more = n - length s.nodes in
+          let split : n ≡ length s.nodes + more = omega arith in
+          sym at ∙ ap (λ (i : ℕ). above s.entries i dir) split ∙ above_on s.entries (length s.nodes) more dir ∙ ap (above s.entries more) (ends_within s tree dir) ∙ stays_none s.entries (rooted s tree).none more)
+    ]
+
+-- what lies above a directory is a directory
+dirs_above : (s : State) (n k : ℕ) → Tree s → is_dir_at s k ≡ true → above s.entries n k ≢ 0 → is_dir_at s (above s.entries n k) ≡ true
+dirs_above s zero k tree dir given = dir
+dirs_above s (suc n) k tree dir given =
+    dirs_above s n (up_of s.entries k) tree
+    (up_in (λ i. i ≢ 0 → is_dir_at s i ≡ true) s.entries k
+    (all_more (IsEntry s.nodes s.entries s.next_cookie) (λ e. e.dir ≢ 0 → is_dir_at s e.dir ≡ true) s.entries (λ e p ne. p.dir) tree.entries) (λ ne. absurd (ne refl))
+    (λ none. given (ap (above s.entries n) none ∙ stays_none s.entries (rooted s tree).none n)))
+    given
+
+-- no way up from a directory leads to a node that can come to stand in it
+pub never_held : (s : State) (node dir : ℕ) → Tree s → node ≢ 0 → is_dir_at s dir ≡ true → holds s node dir ≡ false → (n : ℕ) → above s.entries n dir ≢ node
+never_held s node dir tree given is_dir none n = step (is_dir_at s node) refl none
+  where
+    step : (b : Bool) → is_dir_at s node ≡ b → (b && lies_in s node dir) ≡ false → above s.entries n dir ≢ node
+    step true is isnt = never_leads s node dir tree given isnt n
+    step false is isnt = λ at. (
+        let there = dirs_above s n dir tree is_dir (λ zero_there. given (sym at ∙ zero_there)) in
+        let here : is_dir_at s node ≡ true = subst (λ (i : ℕ). is_dir_at s i ≡ true) at there in
+        absurd cc)

@@ -20,6 +20,7 @@ use Rattle.fuse_tree.specs.Init.{init}
 use Rattle.fuse_tree.specs.Listing.{read_dir}
 use Rattle.fuse_tree.specs.Opening.{open_file, open_dir, release, release_dir}
 use Rattle.fuse_tree.specs.Removing.{unlink, rmdir}
+use Rattle.fuse_tree.specs.Renaming.{asking, rename}
 
 -- ---- LOOKUP
 
@@ -63,6 +64,8 @@ do_act s header (acts.OpenDir flags open_flags) now n = open_dir s n
 do_act s header (acts.ReadDir x) now n = read_dir s x n
 do_act s header (acts.Release x) now n = release s x.fh n
 do_act s header (acts.ReleaseDir x) now n = release_dir s x.fh n
+do_act s header (acts.Rename new_dir old_name new_name) now n = rename s (asking new_dir 0 old_name new_name now) n
+do_act s header (acts.Rename2 new_dir flags old_name new_name) now n = rename s (asking new_dir flags old_name new_name now) n
 do_act s header acts.Destroy now n = answer s []
 do_act s header _ now n = refuse s ENOSYS
 

@@ -25,5 +25,6 @@ pub mod PlanWriting
 pub mod PlanRemoving
 pub mod PlanOpening
 pub mod PlanListing
+pub mod PlanRenaming
 pub mod Planning
 pub mod Vectors

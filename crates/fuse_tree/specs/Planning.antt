@@ -19,7 +19,9 @@ use Rattle.fuse_tree.specs.PlanWriting.{plan_write, plan_read}
 use Rattle.fuse_tree.specs.PlanInit.{plan_init}
 use Rattle.fuse_tree.specs.PlanListing.{plan_read_dir}
 use Rattle.fuse_tree.specs.PlanOpening.{plan_open, plan_open_dir, plan_release, plan_release_dir}
+use Rattle.fuse_tree.specs.Renaming.{asking}
 use Rattle.fuse_tree.specs.PlanRemoving.{plan_unlink, plan_rmdir}
+use Rattle.fuse_tree.specs.PlanRenaming.{plan_rename}
 
 -- ---- LOOKUP
 
@@ -52,6 +54,8 @@ plan_act header (acts.OpenDir flags open_flags) now row rows = plan_open_dir row
 plan_act header (acts.ReadDir x) now row rows = plan_read_dir x row rows
 plan_act header (acts.Release x) now row rows = plan_release x.fh row rows
 plan_act header (acts.ReleaseDir x) now row rows = plan_release_dir x.fh row rows
+plan_act header (acts.Rename new_dir old_name new_name) now row rows = plan_rename (asking new_dir 0 old_name new_name now) row rows
+plan_act header (acts.Rename2 new_dir flags old_name new_name) now row rows = plan_rename (asking new_dir flags old_name new_name now) row rows
 plan_act header acts.Destroy now row rows = told []
 plan_act header _ now row rows = refused ENOSYS
 

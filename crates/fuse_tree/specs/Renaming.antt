@@ -1,5 +1,5 @@
 -- What RENAME and RENAME2 do (own profile): an entry moves, or two children change places.
-use Rattle.std.specs.Prelude.{◌+◌, ◌-◌, ◌==◌, ◌&&◌, ◌||◌, ℕ, zero, suc, Bool, false, not, nat_le, nat_lt, if◌then◌else◌, List, [], ◌∷◌, ◌++◌, length, map, filter, is_some, Option, Some, None}
+use Rattle.std.specs.Prelude.{◌+◌, ◌-◌, ◌==◌, ◌&&◌, ◌||◌, ℕ, zero, suc, Bool, false, not, nat_le, nat_lt, if◌then◌else◌, List, [], ◌∷◌, ◌++◌, length, is_some, Option, Some, None}
 use Rattle.std.specs.List.{list_any}
 use Rattle.fuse_wire.specs.declared.errno.Errno.{Errno}
 use Rattle.fuse_wire.specs.declared.errno.TheConstants.Errno.{ENOENT, EEXIST, ENOTDIR, EISDIR, EINVAL, ENOSPC, ENOTEMPTY, ESTALE}
@@ -10,6 +10,7 @@ use Rattle.fuse_tree.specs.declared.rows.EntryRow.{EntryRow}
 use Rattle.fuse_tree.specs.State.{State, Node, is_dir, is_dir_of, is_named, name_fault, node_at, above}
 use Rattle.fuse_tree.specs.Rows.{entry_at}
 use Rattle.fuse_tree.specs.Done.{Done, refuse, refuse_for, answer, touch}
+use Rattle.fuse_tree.specs.Removing.{mark, without, entry_gone, has_entries}
 
 -- what is asked: from a name in the node of the header to a name in another directory, and at which moment
 pub record Renaming : Type 0 where
@@ -18,6 +19,9 @@ pub record Renaming : Type 0 where
   pub old_name : List ℕ
   pub new_name : List ℕ
   pub now : Moment
+
+abbrev pub asking : ℕ → ℕ → List ℕ → List ℕ → Moment → Renaming
+asking new_dir flags old_name new_name now = record { new_dir = new_dir; flags = flags; old_name = old_name; new_name = new_name; now = now }
 
 -- ---- what lies under a node
 
@@ -40,17 +44,6 @@ holds s node dir = is_dir_at s node && lies_in s node dir
 
 -- ---- states
 
--- the status of this node changes at this moment
-abbrev pub marked : ℕ → Moment → Node → Node
-marked number now n = record n { ctime = if n.number == number then now else n.ctime }
-
-abbrev pub mark : ℕ → Moment → State → State
-mark number now s = record s { nodes = map (marked number now) s.nodes }
-
--- the entry with this cookie is gone
-abbrev pub without : ℕ → State → State
-without cookie s = record s { entries = filter (λ e. not (e.cookie == cookie)) s.entries }
-
 -- a node under a name in a directory, by the next cookie
 abbrev pub placed : ℕ → List ℕ → ℕ → State → State
 placed dir name child s = record s {
@@ -61,7 +54,7 @@ placed dir name child s = record s {
 -- the entry that stood at the new place is gone
 abbrev pub replaced : Renaming → Option EntryRow → State → State
 replaced r None s = s
-replaced r (Some other) s = mark other.child r.now (without other.cookie s)
+replaced r (Some other) s = entry_gone other r.now s
 
 -- the times of both directories are the moment
 abbrev pub both_touched : Renaming → ℕ → State → State
@@ -103,9 +96,6 @@ kinds_fault is_dir other_is_dir other_has_entries =
     else if not is_dir && other_is_dir then Some EISDIR
     else if other_has_entries then Some ENOTEMPTY
     else None
-
-abbrev pub has_entries : List EntryRow → ℕ → Bool
-has_entries entries dir = list_any (λ e. e.dir == dir) entries
 
 -- why the child can't come to stand where the other entry is
 abbrev pub place_fault : State → ℕ → Option EntryRow → Option Errno

@@ -10,6 +10,7 @@ ghost use Rattle.fuse_tree.specs.Planning.{plan_act, plan_agreed as planned_agre
 
 mod answers;
 mod attributes;
+mod exchange;
 mod fault;
 mod finding;
 mod getattr;
@@ -18,6 +19,7 @@ mod lookup;
 mod make;
 mod mkdir;
 mod mknod;
+mod moving;
 mod names;
 mod open;
 mod read;
@@ -48,6 +50,7 @@ use open::{plan_open, plan_open_dir};
 use read::plan_read;
 use read_dir::plan_read_dir;
 use release::{plan_release, plan_release_dir};
+use rename::{asking, plan_rename};
 use rmdir::plan_rmdir;
 use setattr::plan_setattr;
 use std::alloc::Global;
@@ -165,13 +168,28 @@ fn plan_op<L: Look>(
         Op::ReadDir(asked) => plan_read_dir(look, alloc, asked, row),
         Op::Release(release) => plan_release(look, alloc, release.fh, row),
         Op::ReleaseDir(release) => plan_release_dir(look, alloc, release.fh, row),
+        Op::Rename {
+            new_dir,
+            old_name,
+            new_name,
+        } => {
+            let asked = asking(*new_dir, 0, old_name, new_name, now);
+            plan_rename(look, alloc, &asked, row)
+        }
+        Op::Rename2 {
+            new_dir,
+            flags,
+            old_name,
+            new_name,
+        } => {
+            let asked = asking(*new_dir, *flags, old_name, new_name, now);
+            plan_rename(look, alloc, &asked, row)
+        }
         Op::Destroy => Ok(done_nothing(alloc)),
         Op::Forget { .. }
-        | Op::Rename { .. }
         | Op::Init(_)
         | Op::Interrupt { .. }
         | Op::BatchForget { .. }
-        | Op::Rename2 { .. }
         | Op::Unsupported { .. } => Ok(refused(alloc, Errno::ENOSYS)),
     }
 }
