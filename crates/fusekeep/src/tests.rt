@@ -13,6 +13,7 @@ use std::test::Fail;
 
 mod fakes;
 mod looks;
+mod names;
 mod rows;
 mod tables;
 
