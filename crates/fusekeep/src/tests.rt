@@ -14,6 +14,7 @@ use std::test::Fail;
 mod fakes;
 mod inits;
 mod looks;
+mod names;
 mod rows;
 mod tables;
 
