@@ -17,7 +17,7 @@ use Rattle.fuse_request.specs.declared.decoding.Malformed.{Malformed}
 use Rattle.fuse_request.specs.Act.{Asked, Act, asked, opcode_of}
 use Rattle.fuse_request.specs.Spelling.{IsNamed, parts, header_parts, Spells}
 use Rattle.fuse_request.specs.Faults.{body_fault, first_fault}
-use Rattle.fuse_request.specs.Places.{act_at, header_at, act_in, ext_in, asked_at}
+use Rattle.fuse_request.specs.Places.{act_at, header_at, act_in, ext_in, asked_at, SpelledAt}
 use Rattle.fuse_request.proofs.Acts.{one_act}
 
 -- what the message says at the places of v
@@ -79,6 +79,9 @@ is_at v m s =
     let one = one_act v.act p.body p.laid s.named in
     let act_is : act_at (number_of 4 (drop 4 m)) (body_of m) ≡ v.act = rw (p.opcode, p.body_is) one.0 in
     rw (p.unique, p.nodeid, p.uid, p.gid, p.pid, act_is, p.ext_is) refl
+
+pub spelled_at : SpelledAt
+spelled_at v m s = let p = has_parts v m s in record { long = p.long; opcode = p.opcode; says = is_at v m s }
 
 -- a message spells one request at most
 pub one_request : (u v : Asked) (m : List ℕ) → Spells u m → Spells v m → u ≡ v

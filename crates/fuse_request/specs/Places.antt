@@ -1,16 +1,18 @@
 -- What a message says at the places of its opcode, where it spells anything.
-use Rattle.std.specs.Prelude.{◌-◌, ◌==◌, ℕ, zero, suc, if◌then◌else◌, List, [], ◌∷◌, length, drop, Option, Some, None}
+use Rattle.std.specs.Prelude.{◌≡◌, ◌≤◌, ◌-◌, ◌==◌, ℕ, zero, suc, if◌then◌else◌, List, [], ◌∷◌, length, drop, Option, Some, None}
 use Rattle.std.specs.Option.{unwrap_or}
 use Rattle.fuse_wire.specs.Bytes.{number_of, after_nul}
 use Rattle.fuse_request.specs.declared.lengths.TheConstants.{COMPAT_INIT_IN, MKNOD_IN, MKDIR_IN, RENAME_IN, RENAME2_IN, WRITE_IN, BATCH_FORGET_IN}
 use Rattle.fuse_wire.specs.declared.opcode.TheConstants.{LOOKUP, FORGET, GETATTR, SETATTR, MKNOD, MKDIR, UNLINK, RMDIR, RENAME, OPEN, READ, WRITE, RELEASE, INIT, OPENDIR, READDIR, RELEASEDIR, INTERRUPT, DESTROY, BATCH_FORGET, RENAME2}
+use Rattle.fuse_request.specs.declared.header.TheConstants.{MIN_MESSAGE}
 use Rattle.fuse_request.specs.declared.request.InHeader.{InHeader}
 use Rattle.fuse_request.specs.declared.request.InitIn.{InitIn}
 use Rattle.fuse_request.specs.declared.request.ReadIn.{ReadIn}
 use Rattle.fuse_request.specs.declared.request.ReleaseIn.{ReleaseIn}
 use Rattle.fuse_request.specs.declared.request.SetattrIn.{SetattrIn}
 use Rattle.fuse_request.specs.Header.{raw_of, ext_len, body_of}
-use Rattle.fuse_request.specs.Act.{Act, Lookup, Forget, Getattr, Setattr, Mknod, Mkdir, Unlink, Rmdir, Rename, OpenFile, Read, Write, Release, Init, OpenDir, ReadDir, ReleaseDir, Interrupt, Destroy, BatchForget, Rename2, Unsupported, Asked}
+use Rattle.fuse_request.specs.Act.{Act, Lookup, Forget, Getattr, Setattr, Mknod, Mkdir, Unlink, Rmdir, Rename, OpenFile, Read, Write, Release, Init, OpenDir, ReadDir, ReleaseDir, Interrupt, Destroy, BatchForget, Rename2, Unsupported, Asked, opcode_of}
+use Rattle.fuse_request.specs.Spelling.{Spells}
 
 -- the first name
 abbrev pub before_nul : List ℕ → List ℕ
@@ -121,3 +123,13 @@ ext_in m = drop (length m - ext_len m) m
 
 abbrev pub asked_at : List ℕ → Asked
 asked_at m = record { header = header_at m; act = act_in m; ext = ext_in m }
+
+-- the message has a header, with the opcode of the request, and says it at the places of that opcode
+pub record StandsAt (v : Asked) (m : List ℕ) : Type 0 where
+  pub long : MIN_MESSAGE ≤ length m
+  pub opcode : (raw_of m).opcode ≡ opcode_of v.act
+  pub says : asked_at m ≡ v
+
+-- so does every message that spells the request
+abbrev pub SpelledAt : Type 0
+SpelledAt = (v : Asked) (m : List ℕ) → Spells v m → StandsAt v m

@@ -1,4 +1,5 @@
 ghost use Rattle.fuse_request.specs.Canon.{CanonSpells};
+ghost use Rattle.fuse_request.specs.Places.{SpelledAt};
 ghost use Rattle.fuse_request.specs.Stream.{IsOneCut, CutJoins, CutSteps};
 
 /// A stream has one cut into messages and a rest.
@@ -19,4 +20,9 @@ pub fn cut_steps()
 /// What has a spelling is spelled by its canon.
 pub fn canon_spells()
     ensures { CanonSpells }
+{}
+
+/// What a message spells stands at the places of its opcode.
+pub fn spelled_at()
+    ensures { SpelledAt }
 {}

@@ -8,5 +8,6 @@ pub mod Driven
 pub mod Moves
 pub mod Stopping
 pub mod Endings
+pub mod Marks
 pub mod Pendings
 pub mod Lifetimes

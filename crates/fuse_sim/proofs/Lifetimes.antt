@@ -1,1 +1,155 @@
--- Lemmas on lives.
+-- Lives, one after another, and how a run of a server is one.
+use Rattle.std.proofs.Common.{◌≡◌, ◌⊎◌, inl, inr, ℕ, Bool, true, false, ◌==◌, ◌||◌, if◌then◌else◌, List, [], ◌∷◌, ◌++◌, map, refl, sym, ap, subst, ◌∙◌, append_assoc, arith}
+use Rattle.std.proofs.lemmas.List.{map-append}
+use Rattle.std.proofs.lemmas.List.Concat.{flat_map-append}
+use Rattle.std.specs.Io.KnownBytes.{Appends, Consumes}
+use Rattle.fuse_wire.specs.declared.moment.Moment.{Moment}
+use Rattle.fuse_answer.specs.Said.{Said}
+use Rattle.fuse_request.specs.declared.class.Class.{Class}
+use Rattle.fuse_request.specs.declared.class.Class.TheVariants.{Silent, Bare, Kept}
+use Rattle.fuse_request.specs.Classes.{class_of}
+use Rattle.fuse_request.specs.Stream.{cut, joined}
+use Rattle.fuse_tree.specs.State.{State}
+use Rattle.fuse_store.specs.History.{Entry, entry_id, History, has, Distinct, add, said, grown, HistoriesGrow}
+use Rattle.fuse_session.specs.Port.{PortState}
+use Rattle.fuse_session.specs.Serving.{Lived}
+use Rattle.fuse_session.specs.Settling.{Mark, replies, settled_in, Replied}
+use Rattle.fuse_session.specs.Worked.{Timed, bytes_of, kept_in, entries_at, entry_if, timed_entry, message_id, unique_of, answered, answers, answer_by, out, Moments}
+use Rattle.fuse_sim.specs.Lives.{Lifetime, IsLife, AreLives, after_lives, all_worked, AllSend, Ran}
+
+tested : (b : Bool) → (b ≡ true) ⊎ (b ≡ false)
+tested true = inl refl
+tested false = inr refl
+
+-- ---- no request stands twice
+
+has-append : (h : History) (e : Entry) (i : ℕ) → has (h ++ e ∷ []) i ≡ (has h i || (entry_id e == i))
+unfolding has
+has-append [] e i = elim (entry_id e == i) as (λ b. (if b then true else false) ≡ b) [ true ↦ refl | false ↦ refl ]
+has-append (x ∷ h) e i =
+    elim (entry_id x == i) as (λ b. (if b then true else has (h ++ e ∷ []) i) ≡ ((if b then true else has h i) || (entry_id e == i)))
+    [ true ↦ refl | false ↦ has-append h e i ]
+
+other : (b c : Bool) → (if b then true else c) ≡ false → (b ≡ false) × (c ≡ false)
+other true c isnt = absurd (cc isnt)
+other false c isnt = (refl, isnt)
+
+turned : (m n : ℕ) → (m == n) ≡ false → (n == m) ≡ false
+turned m n isnt = grind arith
+
+not_there : (a b : Bool) → a ≡ false → b ≡ false → (a || b) ≡ false
+not_there a b p q = rw (p, q)
+
+Distinct-append : (h : History) (e : Entry) → Distinct h → has h (entry_id e) ≡ false → Distinct (h ++ e ∷ [])
+unfolding Distinct has
+Distinct-append [] e each none = (refl, tt)
+Distinct-append (x ∷ h) e each none =
+    let apart = other (entry_id x == entry_id e) (has h (entry_id e)) none in
+    (has-append h e (entry_id x) ∙ not_there _ _ each.0 (turned _ _ apart.0), Distinct-append h e each.1 apart.1)
+
+Distinct-add : (h : History) (e : Entry) → Distinct h → Distinct (add h e)
+unfolding add
+Distinct-add h e each = elim (tested (has h (entry_id e))) [
+  | inl there ↦ rw there each
+  | inr none ↦ rw none (Distinct-append h e each none)
+]
+
+Distinct-grown : (h : History) (es : List Entry) → Distinct h → Distinct (grown h es)
+Distinct-grown h [] each = each
+Distinct-grown h (e ∷ es) each = Distinct-grown (add h e) es (Distinct-add h e each)
+
+Distinct-none : Distinct []
+unfolding Distinct
+Distinct-none = tt
+
+-- ---- the last history
+
+grown-append : (h : History) (xs ys : List Entry) → grown h (xs ++ ys) ≡ grown (grown h xs) ys
+grown-append h [] ys = refl
+grown-append h (x ∷ xs) ys = grown-append (add h x) xs ys
+
+kept_in-append : (xs ys : List Timed) → kept_in (xs ++ ys) ≡ kept_in xs ++ kept_in ys
+kept_in-append [] ys = refl
+kept_in-append (x ∷ xs) ys = ap (λ r. entries_at x ++ r) (kept_in-append xs ys) ∙ sym (append_assoc (entries_at x) (kept_in xs) (kept_in ys))
+
+grown_kept : (h : History) (xs ys : List Timed) → grown h (kept_in (xs ++ ys)) ≡ grown (grown h (kept_in xs)) (kept_in ys)
+grown_kept h xs ys = ap (grown h) (kept_in-append xs ys) ∙ grown-append h (kept_in xs) (kept_in ys)
+
+later : (h : History) (ls : List Lifetime) → after_lives h ls ≡ grown h (kept_in (all_worked ls))
+later h [] = refl
+later h (l ∷ ls) = later (grown h (kept_in l.worked)) ls ∙ sym (grown_kept h l.worked (all_worked ls))
+
+pub in_a_row : (ls : List Lifetime) → after_lives [] ls ≡ grown [] (kept_in (all_worked ls))
+in_a_row ls = later [] ls
+
+pub once_each : (ls : List Lifetime) → Distinct (after_lives [] ls)
+once_each ls = subst Distinct (sym (in_a_row ls)) (Distinct-grown [] (kept_in (all_worked ls)) Distinct-none)
+
+-- ---- later requests change no answer
+
+kept_there : HistoriesGrow → (h : History) (t : Timed) (class : Class) → class ≡ Kept → has (grown h (entry_if class (timed_entry t))) (message_id t.bytes) ≡ true
+kept_there grows h t Silent kept = absurd (cc kept)
+kept_there grows h t (Bare errno) kept = absurd (cc kept)
+kept_there grows h t Kept kept = grows.added h (timed_entry t)
+
+answer_stays : HistoriesGrow → (s : State) (g : History) (es : List Entry) (id unique : ℕ) (class : Class) → (class ≡ Kept → has g id ≡ true)
+    → answer_by class (said s (grown g es) id) unique ≡ answer_by class (said s g id) unique
+answer_stays grows s g es id unique Silent there = refl
+answer_stays grows s g es id unique (Bare errno) there = refl
+answer_stays grows s g es id unique Kept there = ap (λ o. answer_by Kept o unique) (grows.stays s g es id (there refl))
+
+answered_stays : HistoriesGrow → (s : State) (h : History) (t : Timed) (es : List Entry) → answered s (grown (grown h (entries_at t)) es) t ≡ answered s (grown h (entries_at t)) t
+answered_stays grows s h t es = answer_stays grows s (grown h (entries_at t)) es (message_id t.bytes) (unique_of t.bytes) (class_of t.bytes) (kept_there grows h t (class_of t.bytes))
+
+-- what is answered where two histories agree on what follows each message
+answers_stay : HistoriesGrow → (s : State) (h : History) (ts : List Timed) (es ds : List Entry) → answers s (grown (grown h (kept_in ts)) es) ts ≡ answers s (grown (grown h (kept_in ts)) ds) ts
+answers_stay grows s h [] es ds = refl
+answers_stay grows s h (t ∷ ts) es ds =
+    let g = grown h (entries_at t) in
+    let place : (xs : List Entry) → grown (grown h (kept_in (t ∷ ts))) xs ≡ grown (grown g (kept_in ts)) xs = λ xs. ap (λ x. grown x xs) (grown-append h (entries_at t) (kept_in ts)) in
+    let first : (xs : List Entry) → answered s (grown (grown g (kept_in ts)) xs) t ≡ answered s g t =
+    λ xs. ap (λ x. answered s x t) (sym (grown-append g (kept_in ts) xs)) ∙ answered_stays grows s h t (kept_in ts ++ xs) in
+    ap (λ x. answered s x t ∷ answers s x ts) (place es)
+    ∙ ap (λ r. r ∷ answers s (grown (grown g (kept_in ts)) es) ts) (first es ∙ sym (first ds))
+    ∙ ap (λ r. answered s (grown (grown g (kept_in ts)) ds) t ∷ r) (answers_stay grows s g ts es ds)
+    ∙ ap (λ x. answered s x t ∷ answers s x ts) (sym (place ds))
+
+sends_by : HistoriesGrow → (s : State) (h : History) (ls : List Lifetime) → AreLives s h ls → AllSend s (after_lives h ls) ls
+sends_by grows s h [] lives = tt
+sends_by grows s h (l ∷ ls) lives =
+    let g = grown h (kept_in l.worked) in
+    let more = kept_in (all_worked ls) ++ kept_in l.worked in
+    let end : grown (after_lives g ls) (kept_in l.worked) ≡ grown g more =
+    ap (λ x. grown x (kept_in l.worked)) (later g ls) ∙ sym (grown-append g (kept_in (all_worked ls)) (kept_in l.worked)) in
+    let same : out s (after_lives g ls) l.worked ≡ out s h l.worked =
+    ap (λ x. joined (answers s x l.worked)) end ∙ ap joined (answers_stay grows s h l.worked more []) in
+    ((lives.0.unsent, same ∙ lives.0.sends), sends_by grows s g ls lives.1)
+
+pub all_send : HistoriesGrow → (s : State) (ls : List Lifetime) → AreLives s [] ls → AllSend s (after_lives [] ls) ls
+all_send grows s ls lives = sends_by grows s [] ls lives
+
+-- ---- a run of a server is a life
+
+Moments-front : (may : Moment → Type 0) (xs ys : List Timed) → Moments may (xs ++ ys) → Moments may xs
+Moments-front may [] ys all = tt
+Moments-front may (x ∷ xs) ys all = (all.0, Moments-front may xs ys all.1)
+
+pub run_lived : (stood : History → List ℕ → Type 0) (may : Moment → Type 0) (s : State) (h : History) (t : List ℕ) (old new : PortState) (received : List ℕ) (timed : List Timed) (others : List (List ℕ)) (marks : List Mark) (part : List ℕ)
+    → Consumes old.coming new.coming received → (cut received).0 ≡ bytes_of timed ++ others → Moments may timed → Replied old new marks part
+    → Lived stood s h old.confirms t timed marks part → Ran stood may s h t old new
+run_lived stood may s h t old new received timed others marks part came front moments replied l =
+    let sent = joined (replies marks) ++ part in
+    let parts : bytes_of timed ++ others ≡ bytes_of l.worked ++ (bytes_of l.unworked ++ others) =
+    ap (λ (x : List Timed). bytes_of x ++ others) l.parts ∙ ap (λ (x : List (List ℕ)). x ++ others) (map-append (λ (x : Timed). x.bytes) l.worked l.unworked)
+    ∙ append_assoc (bytes_of l.worked) (bytes_of l.unworked) others in
+    let split : out s h l.worked ≡ joined (replies marks) ++ joined l.later = ap joined l.sent ∙ flat_map-append (λ (m : List ℕ). m) (replies marks) l.later in
+    let begun : joined (replies marks) ++ joined l.later ≡ sent ++ l.unsent =
+    ap (λ (x : List ℕ). joined (replies marks) ++ x) l.begun ∙ sym (append_assoc (joined (replies marks)) part l.unsent) in
+    record {
+      life = record { received = received; sent = sent; worked = l.worked; settled = settled_in old.confirms (bytes_of l.worked) marks };
+      lived = record { others = bytes_of l.unworked ++ others; front = front ∙ parts; works = l.works; unsent = l.unsent; sends = split ∙ begun };
+      came = came;
+      went = replied.sent;
+      moments = Moments-front may l.worked l.unworked (subst (Moments may) l.parts moments);
+      stands = l.stands;
+    }

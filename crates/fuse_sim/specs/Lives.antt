@@ -1,1 +1,54 @@
--- Lives of a server within one mount.
+-- Lives of a server within one mount, one after another, each over what the one before left (own profile).
+use Rattle.std.specs.Prelude.{◌≡◌, List, [], ◌∷◌, ◌++◌, ℕ}
+use Rattle.std.specs.Io.KnownBytes.{Appends, Consumes}
+use Rattle.fuse_wire.specs.declared.moment.Moment.{Moment}
+use Rattle.fuse_request.specs.Stream.{cut}
+use Rattle.fuse_tree.specs.State.{State}
+use Rattle.fuse_store.specs.History.{History, grown}
+use Rattle.fuse_session.specs.Port.{PortState}
+use Rattle.fuse_session.specs.Worked.{Timed, bytes_of, kept_in, out, Works, Moments}
+
+-- the bytes that came, those that were sent, the messages that were worked off, and the ids that their answers settled
+pub record Lifetime : Type 0 where
+  pub received : List ℕ
+  pub sent : List ℕ
+  pub worked : List Timed
+  pub settled : List ℕ
+
+-- the first messages that came were worked off, up to one that ends the session at most, and a front of what is to be
+-- sent for them was sent
+pub record IsLife (s : State) (h : History) (life : Lifetime) : Type 0 where
+  pub others : List (List ℕ)
+  pub front : (cut life.received).0 ≡ bytes_of life.worked ++ others
+  pub works : Works s h life.worked
+  pub unsent : List ℕ
+  pub sends : out s h life.worked ≡ life.sent ++ unsent
+
+-- each life begins with the history that the one before left
+abbrev pub AreLives : State → History → List Lifetime → Type 0
+AreLives s h [] = Unit {0}
+AreLives s h (life ∷ lives) = IsLife s h life × AreLives s (grown h (kept_in life.worked)) lives
+
+-- the last history
+abbrev pub after_lives : History → List Lifetime → History
+after_lives h [] = h
+after_lives h (life ∷ lives) = after_lives (grown h (kept_in life.worked)) lives
+
+-- all messages that were worked off, in a row
+abbrev pub all_worked : List Lifetime → List Timed
+all_worked [] = []
+all_worked (life ∷ lives) = life.worked ++ all_worked lives
+
+-- what each life sent is a front of what is to be sent where this is the history
+abbrev pub AllSend : State → History → List Lifetime → Type 0
+AllSend s last [] = Unit {0}
+AllSend s last (life ∷ lives) = ((unsent : List ℕ) × (out s last life.worked ≡ life.sent ++ unsent)) × AllSend s last lives
+
+-- a run of a server was a life: what its port tells of it, what moments its clock gave, and what is left
+pub record Ran (stood : History → List ℕ → Type 0) (may : Moment → Type 0) (s : State) (h : History) (t : List ℕ) (old new : PortState) : Type 0 where
+  pub life : Lifetime
+  pub lived : IsLife s h life
+  pub came : Consumes old.coming new.coming life.received
+  pub went : Appends old.sent new.sent life.sent
+  pub moments : Moments may life.worked
+  pub stands : stood (grown h (kept_in life.worked)) (t ++ life.settled)

@@ -1,1 +1,104 @@
--- What is pending on the kernel's side.
+-- What is pending on the kernel's side: the requests that were sent and whose answers weren't taken, in order (own
+-- profile).
+use Rattle.std.specs.Prelude.{◌≡◌, ◌≢◌, ◌<◌, ◌≤◌, ◌+◌, ◌==◌, ℕ, suc, Bool, true, false, not, if◌then◌else◌, List, [], ◌∷◌, ◌++◌, length, map, drop, All, Vec, take, Option, Some, None, Result, Ok, Err}
+use Rattle.std.specs.Global.{Global}
+use Rattle.std.specs.List.{filter}
+use Rattle.fuse_wire.specs.Bytes.{le, number_of}
+use Rattle.fuse_wire.specs.Ids.{id_of}
+use Rattle.fuse_wire.specs.Opcodes.{silent}
+use Rattle.fuse_wire.specs.declared.id.TheConstants.{UNIQUE_RESEND}
+use Rattle.fuse_request.specs.Act.{Asked, opcode_of}
+use Rattle.fuse_request.specs.Canon.{canon}
+use Rattle.fuse_request.specs.Places.{asked_at}
+use Rattle.fuse_request.specs.Spelling.{Spells}
+use Rattle.fuse_answer.specs.declared.records.TheConstants.OutHeader.{SIZE as HEADER_SIZE}
+use Rattle.fuse_answer.specs.declared.reply.BadAnswer.{BadAnswer}
+use Rattle.fuse_answer.specs.declared.reply.BadAnswer.TheVariants.{Short}
+use Rattle.fuse_answer.specs.Replies.{Told, Answers, FirstFault}
+use Rattle.fuse_store.specs.History.{is_in}
+use Rattle.fuse_sim.specs.declared.kernel.TakeFault.{TakeFault}
+use Rattle.fuse_sim.specs.declared.kernel.TakeFault.TheVariants.{Unknown, BadAnswer as Bad}
+
+abbrev pub is_silent : Asked → Bool
+is_silent r = silent (opcode_of r.act)
+
+abbrev pub request_id : Asked → ℕ
+request_id r = id_of r.header.unique
+
+abbrev pub request_ids : List Asked → List ℕ
+request_ids rs = map request_id rs
+
+-- a request that may be sent: unless it is silent, it can be answered, and no pending one has its id
+abbrev pub MayBeSent : List Asked → Asked → Type 0
+MayBeSent pending r = is_silent r ≡ false → (request_id r ≢ 0) × (is_in (request_ids pending) (request_id r) ≡ false)
+
+-- what is pending of a request that was sent
+abbrev pub owed : Asked → List Asked
+owed r = if is_silent r then [] else r ∷ []
+
+-- the request as it is sent again, with bit 63 of its unique set
+abbrev pub again : Asked → Asked
+again r = record r { header = record r.header { unique = id_of r.header.unique + UNIQUE_RESEND } }
+
+-- the requests from place n on, those at these places as they are sent again
+abbrev pub again_from : ℕ → List ℕ → List Asked → List Asked
+again_from n places [] = []
+again_from n places (r ∷ rs) = (if is_in places n then again r else r) ∷ again_from (suc n) places rs
+
+abbrev pub all_again : List ℕ → List Asked → List Asked
+all_again places rs = again_from 0 places rs
+
+-- the unique that an answer bears
+abbrev pub borne : List ℕ → ℕ
+borne answer = number_of 8 (drop 8 answer)
+
+abbrev pub has_unique : ℕ → Asked → Bool
+has_unique unique r = r.header.unique == unique
+
+-- the pending request of this unique, and the others
+abbrev pub owner : ℕ → List Asked → Option Asked
+owner unique [] = None
+owner unique (r ∷ rs) = if has_unique unique r then Some r else owner unique rs
+
+abbrev pub others : ℕ → List Asked → List Asked
+others unique rs = filter (λ r. not (has_unique unique r)) rs
+
+-- what becomes of an answer that bears the unique of this pending request, or of none
+abbrev pub TakenOf : Option Asked → List Asked → List Asked → List ℕ → Result (Unit {0}) TakeFault → Type 0
+TakenOf None old new answer result = result ≡ Err Unknown
+TakenOf (Some r) old new answer (Ok _) = ((told : Told) × Answers (opcode_of r.act) told answer) × (new ≡ others (borne answer) old)
+TakenOf (Some r) old new answer (Err Unknown) = ⊥
+TakenOf (Some r) old new answer (Err (Bad fault)) = FirstFault (opcode_of r.act) answer fault × ((told : Told) → Answers (opcode_of r.act) told answer → ⊥)
+
+-- ---- how the kernel keeps them
+
+-- a message that spells a request which is answered, with zeros where a field isn't used
+pub record IsOwed (m : List ℕ) : Type 0 where
+  pub spells : Spells (asked_at m) m
+  pub canon_is : m ≡ canon (asked_at m)
+  pub loud : is_silent (asked_at m) ≡ false
+
+-- the bytes of a message with bit 63 of its unique set
+abbrev pub marked : List ℕ → List ℕ
+marked m = take 8 m ++ (le 8 (id_of (number_of 8 (drop 8 m)) + UNIQUE_RESEND) ++ drop 16 m)
+
+-- no number stands twice
+abbrev pub NoneTwice : List ℕ → Type 0
+NoneTwice [] = Unit {0}
+NoneTwice (x ∷ xs) = (is_in xs x ≡ false) × NoneTwice xs
+
+abbrev pub messages_in : List (Vec ℕ Global) → List (List ℕ)
+messages_in pending = map (λ m. m.items) pending
+
+abbrev pub requests_in : List (Vec ℕ Global) → List Asked
+requests_in pending = map asked_at (messages_in pending)
+
+pub record ArePending (pending : List (Vec ℕ Global)) : Type 0 where
+  pub each : All IsOwed (messages_in pending)
+  pub once : NoneTwice (request_ids (requests_in pending))
+
+-- the first pending request of this unique stands at a place
+abbrev pub StandsFirst : ℕ → List Asked → Option ℕ → Type 0
+StandsFirst unique rs None = owner unique rs ≡ None
+StandsFirst unique rs (Some place) =
+    (before : List Asked) × (one : Asked) × (after : List Asked) × (rs ≡ before ++ one ∷ after) × (length before ≡ place) × (owner unique before ≡ None) × (has_unique unique one ≡ true)

@@ -1,1 +1,46 @@
 // What several lives of a server did in one mount.
+ghost use Rattle.std.specs.Prelude.{◌≡◌, ℕ, List, []};
+ghost use Rattle.fuse_tree.specs.State.{State};
+ghost use Rattle.fuse_store.specs.History.{History, Distinct, grown};
+ghost use Rattle.fuse_store.specs.Stands.{Stands, StandsFor, Leaves, IsFirm};
+ghost use Rattle.fuse_session.specs.declared.ended.Ended.{Ended as EndedValue};
+ghost use Rattle.fuse_session.specs.Ends.{MayEnd, ended_store, ended_memory};
+ghost use Rattle.fuse_session.specs.Port.{PortState};
+ghost use Rattle.fuse_session.specs.Serving.{Life};
+ghost use Rattle.fuse_session.specs.Settling.{NoneComesAgain};
+ghost use Rattle.fuse_session.specs.Worked.{bytes_of, kept_in};
+ghost use Rattle.fuse_sim.specs.Lives.{Lifetime, AreLives, after_lives, all_worked, AllSend, Ran};
+
+use fuse_session::Clock;
+use fuse_store::{Keeper, histories_grow};
+
+/// Over every list of lives of one mount, each beginning with the history that the one before left and the first with
+/// none.
+pub fn lives()
+    // The last history is that of all messages that they worked off, in a row,
+    ensures in_a_row { (ls : List Lifetime) → after_lives [] ls ≡ grown [] (kept_in (all_worked ls)) }
+    // in which no request stands twice,
+    ensures once { (ls : List Lifetime) → Distinct (after_lives [] ls) }
+    // and what each life sent is a front of what is to be sent by that history.
+    ensures send { (s : State) (ls : List Lifetime) → AreLives s [] ls → AllSend s (after_lives [] ls) ls }
+{
+    histories_grow();
+}
+
+/// Each run of `serve` is such a life: `run` is what its clause `life` says, of a keeper that was `k` and is `k'`, at
+/// whatever end. Its premise is that no kept message comes again whose answer was settled before or by the run.
+pub fn runs_are_lives<K: Keeper, C: Clock>()
+    // What the keeper is left with stands for the history that the life leaves, where its store is clean,
+    ensures ends { (k k' : K) (c : C) (old new : PortState) (ended : EndedValue)
+        (run : Life (K.holds k) (K.holds k') (K.is_clean k') (K.is_honest k') (IsFirm (K.holds k) (K.leaves_whole k) (K.may_leave k)) (K.leaves_whole k') (K.may_leave k')
+        (C.may_answer c) old new [] [] (ended_store ended) (ended_memory ended) (MayEnd (K.may_answer k) ended))
+        (s : State) (h : History) (t : List ℕ) → StandsFor (K.holds k) s h t → NoneComesAgain old.confirms t (bytes_of run.broken.timed) run.broken.marks
+        → K.is_clean k' → Ran (StandsFor (K.holds k') s) (C.may_answer c) s h t old new }
+    // and so does whatever a crash then leaves, where the keeper was firm.
+    ensures crashes { (k k' : K) (c : C) (old new : PortState) (ended : EndedValue)
+        (run : Life (K.holds k) (K.holds k') (K.is_clean k') (K.is_honest k') (IsFirm (K.holds k) (K.leaves_whole k) (K.may_leave k)) (K.leaves_whole k') (K.may_leave k')
+        (C.may_answer c) old new [] [] (ended_store ended) (ended_memory ended) (MayEnd (K.may_answer k) ended))
+        (s : State) (h : History) (t : List ℕ) → StandsFor (K.holds k) s h t → NoneComesAgain old.confirms t (bytes_of run.broken.timed) run.broken.marks
+        → K.is_honest k' → IsFirm (K.holds k) (K.leaves_whole k) (K.may_leave k)
+        → Leaves (K.leaves_whole k') (K.may_leave k') (λ x r. Ran (Stands x r s) (C.may_answer c) s h t old new) }
+{}

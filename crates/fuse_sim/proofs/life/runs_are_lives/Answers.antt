@@ -1,0 +1,22 @@
+use Rattle.std.proofs.Common.{◌≡◌, ℕ, true, List, []}
+use Rattle.fuse_store.specs.History.{Includes}
+use Rattle.fuse_sim.proofs.Lifetimes.{run_lived}
+use Rattle.fuse_sim.proofs.life.runs_are_lives.Goals as goal
+
+-- at the beginning of a run nothing is to be handed on
+none_pending : (t : List ℕ) → Includes t []
+none_pending t i there = absurd (cc there)
+
+pub returns : goal.returns
+returns g c = record {
+  ends = λ k k' clock old new ended run s h t stands none clean.
+      let b = run.broken in
+      run_lived _ _ s h t old new run.received b.timed b.others b.marks b.part run.came b.front b.moments b.replied
+      (b.life clean s h t stands (none_pending t) none);
+  crashes = λ k k' clock old new ended run s h t stands none honest firm.
+      let b = run.broken in
+      let left = b.crash honest firm s h t stands (none_pending t) none in (
+        left.0,
+        λ x r may. run_lived _ _ s h t old new run.received b.timed b.others b.marks b.part run.came b.front b.moments b.replied (left.1 x r may),
+      );
+}
