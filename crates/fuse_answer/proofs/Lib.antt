@@ -3,3 +3,4 @@ pub mod Readings
 pub mod Listings
 pub mod Answering
 pub mod Packings
+pub mod ReadingBack

@@ -23,6 +23,7 @@ use Rattle.fuse_answer.specs.declared.reply.BadAnswer.{BadAnswer}
 use Rattle.fuse_answer.specs.declared.reply.BadAnswer.TheVariants.{Short, LenDiffers, ErrorRange, BodyAfterError, BodyLength, BadDirent}
 use Rattle.fuse_answer.specs.Bodies.{entry_parts, attr_out_parts, open_parts, write_parts, init_parts}
 use Rattle.fuse_answer.specs.Entries.{IsListing}
+use Rattle.fuse_answer.specs.Said.{Said}
 use Rattle.fuse_answer.specs.Wire.{negated, wire}
 
 -- the kinds of bodies
@@ -119,6 +120,10 @@ pub record Holds (kind : Kind) (c : Content) (b : List ℕ) : Type 0 where
   pub laid : Lays (content_parts c) b
   pub proper : IsProper c
 
+-- the bytes are a body of a kind
+abbrev pub IsBody : Kind → List ℕ → Type 0
+IsBody kind b = (c : Content) × Holds kind c b
+
 pub record Told : Type 0 where
   pub unique : ℕ
   pub errno : ℕ
@@ -140,6 +145,14 @@ pub record Answers (opcode : ℕ) (t : Told) (message : List ℕ) : Type 0 where
   pub len : length message < 2 ^ 32
   pub unique : t.unique < 2 ^ 64
   pub said : IsOf opcode t body
+
+-- what is said is read as the answer to a request of this opcode, whichever its unique is
+abbrev pub IsRead : ℕ → Said → Type 0
+IsRead opcode a = (unique : ℕ) → unique < 2 ^ 64 → (c : Content) × Answers opcode (record { unique = unique; errno = a.errno; content = c }) (wire a.errno a.body unique)
+
+-- an error and no body, or no error and a body of the kind
+abbrev pub IsOfKind : Kind → Said → Type 0
+IsOfKind kind a = ((a.errno ≡ 0) × IsBody kind a.body) ⊎ ((a.errno ≢ 0) × (a.errno ≤ MAX_ERRNO) × (a.body ≡ []))
 
 -- there is a size, and the length is another
 abbrev pub IsOtherThan : Option ℕ → ℕ → Type 0

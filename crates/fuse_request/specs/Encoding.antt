@@ -1,11 +1,13 @@
 -- What the writers of messages append.
-use Rattle.std.specs.Prelude.{◌≡◌, ◌<◌, ◌^◌, ◌/◌, ℕ, List, [], ◌∷◌, ◌++◌, length}
+use Rattle.std.specs.Prelude.{◌≡◌, ◌<◌, ◌^◌, ◌/◌, ℕ, None, List, [], ◌∷◌, ◌++◌, length}
 use Rattle.fuse_wire.specs.Layout.{Part, number, unused, text, bytes}
 use Rattle.fuse_request.specs.declared.encoding.Field.{Field}
 use Rattle.fuse_request.specs.declared.encoding.Field.TheVariants as fields
 use Rattle.fuse_request.specs.Act.{Asked}
 use Rattle.fuse_request.specs.Canon.{len_of}
 use Rattle.fuse_request.specs.Spelling.{parts, header_parts}
+use Rattle.fuse_request.specs.Faults.{first_fault}
+use Rattle.fuse_request.specs.Places.{asked_at}
 
 -- the parts that fields are
 abbrev pub part_of : Field → Part
@@ -37,3 +39,7 @@ Extends old new = (more : List ℕ) × (new ≡ old ++ more)
 -- the numbers of a message fit
 abbrev pub HasNumbers : Asked → Type 0
 HasNumbers v = AllFit (header_parts (len_of v) (length v.ext / 8) v) × AllFit (parts v.act)
+
+-- the message has no fault, and what stands at its places is the request: by its contract `decode` answers just that
+abbrev pub ReadsAs : List ℕ → Asked → Type 0
+ReadsAs message v = (first_fault message ≡ None) × (asked_at message ≡ v)

@@ -4,7 +4,6 @@ ghost use Rattle.fuse_request.specs.Places as places;
 ghost use Rattle.fuse_request.specs.Readers.{GivesLastName, GivesTwoNames, Reads};
 
 use crate::decoding::Malformed;
-use crate::header::{u32_at, u64_at};
 use crate::lengths::{
     BATCH_FORGET_IN, COMPAT_INIT_IN, FORGET_IN, FORGET_ONE, GETATTR_IN, INIT_IN, INTERRUPT_IN,
     MKDIR_IN, MKNOD_IN, OPEN_IN, READ_IN, RELEASE_IN, RENAME_IN, RENAME2_IN, SETATTR_IN, WRITE_IN,
@@ -14,7 +13,7 @@ use crate::opcode::{
     READ, READDIR, RELEASE, RELEASEDIR, RENAME, RENAME2, RMDIR, SETATTR, UNLINK, WRITE,
 };
 use crate::request::{InitIn, Op, ReadIn, ReleaseIn, SetattrIn};
-use fuse_wire::Fields;
+use fuse_wire::{Fields, u32_at, u64_at};
 
 // A name that is the last of its body.
 #[tactic(auto, using(crate::proofs::BodyFaults::endless, crate::proofs::BodyFaults::not_all))]

@@ -3,9 +3,9 @@ ghost use Rattle.fuse_wire.specs.Bytes.{number_of};
 ghost use Rattle.fuse_request.specs.Classes.{class_of, IsOfClass, is_zero};
 
 use crate::decoding::decode;
-use crate::header::{MIN_MESSAGE, u32_at, u64_at};
+use crate::header::MIN_MESSAGE;
 use crate::opcode::{is_built, is_silent};
-use fuse_wire::{Errno, Id};
+use fuse_wire::{Errno, Id, u32_at, u64_at};
 
 /// How a message is answered.
 #[derive(Clone, Copy, Debug, PartialEq, Eq)]

@@ -4,7 +4,7 @@ ghost use Rattle.fuse_wire.specs.Layout.{form, widths};
 ghost use Rattle.fuse_request.specs.Act.{act, asked};
 ghost use Rattle.fuse_request.specs.Act as acts;
 ghost use Rattle.fuse_request.specs.Canon.{canon, len_of, no_nul, sayable, sayable_act};
-ghost use Rattle.fuse_request.specs.Encoding.{AllFit, Extends, HasNumbers, laid, part_of};
+ghost use Rattle.fuse_request.specs.Encoding.{AllFit, Extends, HasNumbers, ReadsAs, laid, part_of};
 ghost use Rattle.fuse_request.specs.Spelling.{Spells, header_parts, parts};
 
 use crate::header::{MAX_MESSAGE, MIN_MESSAGE};
@@ -168,6 +168,94 @@ fn put_init(out: &mut Vec<u8>, x: &InitIn) -> Result<(), Memory>
     }
 }
 
+fn put_mknod(
+    out: &mut Vec<u8>,
+    mode: u32,
+    rdev: u32,
+    umask: u32,
+    name: &[u8],
+) -> Result<(), Memory>
+    ensures ok { OnOk result (out.new.items ≡ out.old.items ++ form (parts (acts.Mknod mode rdev umask name.now))) }
+    ensures fits { OnOk result (AllFit (parts (acts.Mknod mode rdev umask name.now))) }
+    ensures grows { Extends out.old.items out.new.items }
+{
+    put_fields(
+        out,
+        &[
+            Field::U32(mode),
+            Field::U32(rdev),
+            Field::U32(umask),
+            Field::Unused4,
+            Field::Name(name),
+        ],
+    )
+}
+
+fn put_rename2<'a>(
+    out: &mut Vec<u8>,
+    new_dir: u64,
+    flags: u32,
+    old_name: &'a [u8],
+    new_name: &'a [u8],
+) -> Result<(), Memory>
+    ensures ok { OnOk result (out.new.items ≡ out.old.items ++ form (parts (acts.Rename2 new_dir flags old_name.now new_name.now))) }
+    ensures fits { OnOk result (AllFit (parts (acts.Rename2 new_dir flags old_name.now new_name.now))) }
+    ensures grows { Extends out.old.items out.new.items }
+{
+    put_fields(
+        out,
+        &[
+            Field::U64(new_dir),
+            Field::U32(flags),
+            Field::Unused4,
+            Field::Name(old_name),
+            Field::Name(new_name),
+        ],
+    )
+}
+
+fn put_write(
+    out: &mut Vec<u8>,
+    fh: u64,
+    offset: u64,
+    write_flags: u32,
+    lock_owner: u64,
+    flags: u32,
+    payload: &[u8],
+) -> Result<(), Memory>
+    requires { length payload.now ≤ MAX_MESSAGE }
+    ensures ok { OnOk result (out.new.items ≡ out.old.items ++ form (parts (acts.Write fh offset write_flags lock_owner flags payload.now))) }
+    ensures fits { OnOk result (AllFit (parts (acts.Write fh offset write_flags lock_owner flags payload.now))) }
+    ensures grows { Extends out.old.items out.new.items }
+{
+    put_fields(
+        out,
+        &[
+            Field::U64(fh),
+            Field::U64(offset),
+            Field::U32(payload.len() as u32),
+            Field::U32(write_flags),
+            Field::U64(lock_owner),
+            Field::U32(flags),
+            Field::Unused4,
+            Field::Bytes(payload),
+        ],
+    )
+}
+
+fn put_batch_forget(out: &mut Vec<u8>, items: &[u8]) -> Result<(), Memory>
+    requires { length items.now ≤ MAX_MESSAGE }
+    ensures ok { OnOk result (out.new.items ≡ out.old.items ++ form (parts (acts.BatchForget items.now))) }
+    ensures fits { OnOk result (AllFit (parts (acts.BatchForget items.now))) }
+    ensures grows { Extends out.old.items out.new.items }
+{
+    let count = (items.len() / FORGET_ONE) as u32;
+    put_fields(
+        out,
+        &[Field::U32(count), Field::Unused4, Field::Bytes(items)],
+    )
+}
+
 // Appends the body of a request.
 fn put_op(out: &mut Vec<u8>, op: &Op<'_>) -> Result<(), Memory>
     requires short { widths (parts (act op.now)) ≤ MAX_MESSAGE }
@@ -188,10 +276,7 @@ fn put_op(out: &mut Vec<u8>, op: &Op<'_>) -> Result<(), Memory>
             rdev,
             umask,
             name,
-        } => put_fields(
-            out,
-            &[U32(mode), U32(rdev), U32(umask), Unused4, Name(name)],
-        ),
+        } => put_mknod(out, mode, rdev, umask, name),
         Op::Mkdir { mode, umask, name } => put_fields(out, &[U32(mode), U32(umask), Name(name)]),
         Op::Rename {
             new_dir,
@@ -209,46 +294,18 @@ fn put_op(out: &mut Vec<u8>, op: &Op<'_>) -> Result<(), Memory>
             lock_owner,
             flags,
             payload,
-        } => put_fields(
-            out,
-            &[
-                U64(fh),
-                U64(offset),
-                U32(payload.len() as u32),
-                U32(write_flags),
-                U64(lock_owner),
-                U32(flags),
-                Unused4,
-                Bytes(payload),
-            ],
-        ),
+        } => put_write(out, fh, offset, write_flags, lock_owner, flags, payload),
         Op::Release(x) | Op::ReleaseDir(x) => put_release(out, &x),
         Op::Init(x) => put_init(out, &x),
         Op::Interrupt { unique } => put_fields(out, &[U64(unique)]),
         Op::Destroy => Ok(()),
-        Op::BatchForget { items } => put_fields(
-            out,
-            &[
-                U32((items.len() / FORGET_ONE) as u32),
-                Unused4,
-                Bytes(items),
-            ],
-        ),
+        Op::BatchForget { items } => put_batch_forget(out, items),
         Op::Rename2 {
             new_dir,
             flags,
             old_name,
             new_name,
-        } => put_fields(
-            out,
-            &[
-                U64(new_dir),
-                U32(flags),
-                Unused4,
-                Name(old_name),
-                Name(new_name),
-            ],
-        ),
+        } => put_rename2(out, new_dir, flags, old_name, new_name),
         Op::Unsupported { body, .. } => put_fields(out, &[Bytes(body)]),
     }
 }
@@ -432,8 +489,9 @@ pub fn encode(request: &Request<'_>, out: &mut Vec<u8>) -> Result<(), EncodeFaul
     requires { sayable (asked request.now) ≡ true }
     ensures ok { OnOk result (out.new.items ≡ out.old.items ++ canon (asked request.now)) }
     ensures err { OnErr result (out.new.items ≡ out.old.items) }
-    // So what decode reads in the message is the request.
     ensures spelled { OnOk result (Spells (asked request.now) (canon (asked request.now))) }
+    // What decode answers for the message is the request.
+    ensures decoded { OnOk result (ReadsAs (canon (asked request.now)) (asked request.now)) }
     // It is tested before anything is written.
     ensures too_long { (result ≡ Err EncodeFault.TooLong) ↔ (MAX_MESSAGE < len_of (asked request.now)) }
 {

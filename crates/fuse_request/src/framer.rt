@@ -5,8 +5,9 @@ ghost use Rattle.fuse_wire.specs.Bytes.{number_of};
 ghost use Rattle.fuse_request.specs.Stream.{is_whole};
 ghost use Rattle.fuse_request.specs.Framing.{bad_length, end_fault, ends, fed_of, GivesNext};
 
-use crate::header::{MAX_MESSAGE, MIN_MESSAGE, u32_at};
+use crate::header::{MAX_MESSAGE, MIN_MESSAGE};
 use bytes::{Bytes, BytesMut};
+use fuse_wire::u32_at;
 use std::alloc::Global;
 use std::marker::Model;
 

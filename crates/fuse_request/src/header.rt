@@ -2,7 +2,7 @@ ghost use Rattle.std.specs.Prelude.{◌≡◌, ◌≤◌, ◌+◌, drop, Some, N
 ghost use Rattle.fuse_wire.specs.Bytes.{number_of};
 ghost use Rattle.fuse_request.specs.Header.{raw_of};
 
-use byteorder::{ByteOrder, LittleEndian};
+use fuse_wire::{u16_at, u32_at, u64_at};
 
 /// The length of the shortest message: a header alone, `fuse_in_header` of `fuse.h`.
 pub const MIN_MESSAGE: usize = 40;
@@ -22,32 +22,6 @@ pub struct RawHeader {
     pub pid: u32,
     pub total_extlen: u16,
     pub padding: u16,
-}
-
-#[tactic(auto, unfolding(fuse_wire::specs::Bytes::number_of))]
-fn u16_at(bytes: &[u8], at: usize) -> u16
-    requires { at + 2 ≤ length bytes.now }
-    ensures { result ≡ number_of 2 (drop at bytes.now) }
-{
-    LittleEndian::read_u16(&bytes[at..])
-}
-
-// The number in the four bytes at this place.
-#[tactic(auto, unfolding(fuse_wire::specs::Bytes::number_of))]
-pub(crate) fn u32_at(bytes: &[u8], at: usize) -> u32
-    requires { at + 4 ≤ length bytes.now }
-    ensures { result ≡ number_of 4 (drop at bytes.now) }
-{
-    LittleEndian::read_u32(&bytes[at..])
-}
-
-// The number in the eight bytes at this place.
-#[tactic(auto, unfolding(fuse_wire::specs::Bytes::number_of))]
-pub(crate) fn u64_at(bytes: &[u8], at: usize) -> u64
-    requires { at + 8 ≤ length bytes.now }
-    ensures { result ≡ number_of 8 (drop at bytes.now) }
-{
-    LittleEndian::read_u64(&bytes[at..])
 }
 
 /// The header of a message. `None` where there are fewer bytes than a header has.

@@ -80,12 +80,17 @@ front_more old mid new bytes rest n isnt one two =
       quiet = quiet_more old mid new one.quiet two.quiet;
     }
 
+empty_behind : (xs ys : List ℕ) → xs ++ ys ≡ [] → ys ≡ []
+empty_behind [] ys is = is
+empty_behind (x ∷ xs) ys is = absurd (cc is)
+
 -- nobody waits for it
-pub front_gone : (old mid new : PortState) (bytes rest : List ℕ) → SentFront old mid bytes rest → Sends mid new Gone rest → SentWhole old new bytes true
-front_gone old mid new bytes rest one two =
+pub front_gone : (old mid new : PortState) (bytes rest : List ℕ) → (rest ≡ [] → ⊥) → SentFront old mid bytes rest → Sends mid new Gone rest → SentWhole old new bytes true
+front_gone old mid new bytes rest some one two =
     let is : take two.count rest ≡ rest = take_all two.count rest (omega (arith, two.counts)) in
     let place = two.gone in
     record {
+      some = λ none. absurd (some (empty_behind one.part rest (sym one.parts ∙ none)));
       sent = subst (Appends old.sent new.sent) (sym one.parts) (appends_more old.sent mid.sent new.sent one.part rest one.sent (subst (Appends mid.sent new.sent) is two.sent));
       failures = two.failures ∙ omega (arith, one.failures);
       gone = (place.0, place.1 ∙ ap (λ (g : List ℕ). g ++ (place.0 ∷ [])) one.gone, place.2);
@@ -95,6 +100,7 @@ front_gone old mid new bytes rest one two =
 -- all of it was taken
 pub front_whole : (old new : PortState) (bytes rest : List ℕ) → rest ≡ [] → SentFront old new bytes rest → SentWhole old new bytes false
 front_whole old new bytes rest none one = record {
+  some = λ _. refl;
   sent = subst (Appends old.sent new.sent) (sym (one.parts ∙ ap (λ r. one.part ++ r) none ∙ append-nil one.part)) one.sent;
   failures = one.failures;
   gone = one.gone;

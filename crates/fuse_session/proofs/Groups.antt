@@ -1,5 +1,5 @@
 -- A group performed, and its answers sent.
-use Rattle.std.proofs.Common.{◌≡◌, ◌⊎◌, inl, inr, ⊎_elim, ℕ, suc, ◌-◌, ◌≤◌, ◌<◌, Bool, true, false, ◌&&◌, ◌||◌, ◌==◌, List, [], ◌∷◌, ◌++◌, length, map, take, drop, All, Some, slice_get, refl, sym, ap, subst, ◌∙◌, arith}
+use Rattle.std.proofs.Common.{◌≡◌, ◌⊎◌, inl, inr, ⊎_elim, ℕ, suc, ◌-◌, ◌≤◌, ◌<◌, Bool, true, false, ◌&&◌, ◌||◌, ◌==◌, List, [], ◌∷◌, ◌++◌, ◌+◌, length, map, take, drop, All, Some, slice_get, refl, sym, ap, subst, ◌∙◌, arith}
 use Rattle.std.proofs.lemmas.List.{append-nil, take-append-drop, length-map}
 use Rattle.fuse_wire.specs.declared.moment.Moment.{Moment}
 use Rattle.fuse_answer.specs.Said.{Said}
@@ -11,8 +11,8 @@ use Rattle.fuse_request.specs.Stream.{joined}
 use Rattle.fuse_tree.specs.State.{State}
 use Rattle.fuse_tree.specs.Rows.{Rows}
 use Rattle.fuse_store.specs.declared.keeper.Done.{Done}
-use Rattle.fuse_store.specs.History.{Entry, entry_id, History, grown, is_in, ids_in, Includes, IsUnsettled, repeats, HistoriesGrow}
-use Rattle.fuse_store.specs.Stands.{Records, Stands, StandsFor, StandsForEither, Performed, AreThese, Leaves, IsFirm, KeepsHeld, OthersStay}
+use Rattle.fuse_store.specs.History.{Entry, History, grown, is_in, ids_in, Includes, IsUnsettled, repeats, HistoriesGrow}
+use Rattle.fuse_store.specs.Stands.{Records, Stands, StandsFor, StandsForEither, Performed, AreThese, Leaves, IsFirm, KeepsHeld}
 use Rattle.fuse_store.specs.Group.{entry_of, entries_of}
 use Rattle.fuse_session.proofs.Standing.{Stands-same, Stands-settled}
 use Rattle.fuse_session.specs.declared.counts.SessionCounts.{SessionCounts}
@@ -22,13 +22,14 @@ use Rattle.fuse_session.specs.declared.sending.SendFault.{SendFault}
 use Rattle.fuse_session.specs.declared.sending.SendFault.TheVariants.{Memory}
 use Rattle.fuse_session.specs.Port.{PortState}
 use Rattle.fuse_session.specs.Worked.{Timed, bytes_of, kept_in, entry_if, timed_entry, answers, Works, StartsZero}
-use Rattle.fuse_session.specs.Settling.{Mark, replies, settled_in, NoneComesAgain, Replied, AtMostMore, HandsOn}
+use Rattle.fuse_session.specs.Settling.{Mark, replies, settled_in, NoneComesAgain, Replied, BeginsNext, FewHave}
 use Rattle.fuse_session.specs.Group.{Gathers, IsStuck, answers_in, repeats_in, wires, left_by, told, tallied, rest_by, last_zero, AreEnough, SentAll, SentSome}
 use Rattle.fuse_session.specs.Serving.{Turned, Lived, Exact, Broken, lasts}
-use Rattle.fuse_session.proofs.Replies.{replied_none}
+use Rattle.fuse_session.proofs.Replies.{begins_none, replied_none}
 use Rattle.fuse_session.proofs.Outs.{wires_are, told_is, answers_are_outs, outs_front}
 use Rattle.fuse_session.proofs.Ending.{works_group, goes_none, goes_last, ends_last}
-use Rattle.fuse_session.proofs.Settled.{includes_left, includes_right, in_either, group_unsettled, settled_none, more_step, all_settled}
+use Rattle.fuse_session.proofs.Settled.{includes_left, includes_right, in_either, group_unsettled, settled_none}
+use Rattle.fuse_session.proofs.Handing.{few_kept, few_same, few_sent, few_unsent}
 use Rattle.fuse_session.proofs.Counted.{tallied_is}
 
 -- ---- what stands, and what a crash leaves
@@ -61,13 +62,14 @@ lived_none stood s h c t timed so = record {
   sent = refl;
   unsent = [];
   begun = refl;
+  next = refl;
 }
 
 -- all of it was
 pub lived_all : (stood : History → List ℕ → Type 0) (s : State) (h : History) (c : Bool) (t : List ℕ) (timed : List Timed) (marks : List Mark) (part unsent : List ℕ) (later : List (List ℕ))
-    → Works s h timed → stood (grown h (kept_in timed)) (t ++ settled_in c (bytes_of timed) marks) → answers s (grown h (kept_in timed)) timed ≡ replies marks ++ later → joined later ≡ part ++ unsent
+    → Works s h timed → stood (grown h (kept_in timed)) (t ++ settled_in c (bytes_of timed) marks) → answers s (grown h (kept_in timed)) timed ≡ replies marks ++ later → joined later ≡ part ++ unsent → BeginsNext later part
     → Lived stood s h c t timed marks part
-lived_all stood s h c t timed marks part unsent later works so sent begun = record {
+lived_all stood s h c t timed marks part unsent later works so sent begun next = record {
   worked = timed;
   unworked = [];
   parts = sym (append-nil timed);
@@ -77,6 +79,7 @@ lived_all stood s h c t timed marks part unsent later works so sent begun = reco
   sent = sent;
   unsent = unsent;
   begun = begun;
+  next = next;
 }
 
 -- exactly nothing was sent
@@ -104,7 +107,7 @@ exact_all stood s h c t timed marks works so sent = record {
 
 -- nothing was done at all
 pub broken_none : (holds holds' : Rows → Records → Type 0) (clean' honest' firm whole' : Type 0) (left' : Rows → Records → Type 0) (may : Moment → Type 0) (p q : PortState) (pending : List ℕ) (messages : List (List ℕ)) (exact whole : Bool) (faulted : Type 0) → exact ≡ false → Replied p q [] []
-    → (clean' → KeepsHeld holds holds') → (firm → (s : State) (h : History) (t : List ℕ) → StandsFor holds s h t → Leaves whole' left' (λ x r. Stands x r s h t))
+    → KeepsHeld holds holds' → (firm → (s : State) (h : History) (t : List ℕ) → StandsFor holds s h t → Leaves whole' left' (λ x r. Stands x r s h t))
     → Broken holds holds' clean' honest' firm whole' left' may p q pending messages exact whole faulted
 broken_none holds holds' clean' honest' firm whole' left' may p q pending messages exact whole faulted inexact replied keeps leaves = record {
   timed = [];
@@ -116,9 +119,10 @@ broken_none holds holds' clean' honest' firm whole' left' may p q pending messag
   replied = replied;
   no_part = λ _. refl;
   exactly = λ _ honest s h t so within again. exact_none (λ g u. exact ≡ true → clean' → StandsFor holds' s g u × faulted) s h p.confirms t [] (λ is clean. absurd (cc (is, inexact)));
-  life = λ clean s h t so within again. lived_none (StandsFor holds' s) s h p.confirms t [] (stands_kept holds holds' s h t (keeps clean) so);
+  life = λ clean s h t so within again. lived_none (StandsFor holds' s) s h p.confirms t [] (stands_kept holds holds' s h t keeps so);
   crash = λ honest is_firm s h t so within again. leaves_map whole' left' (λ x r. Stands x r s h t) (λ x r. Lived (Stands x r s) s h p.confirms t [] [] [])
       (λ x r left. lived_none (Stands x r s) s h p.confirms t [] left) (leaves is_firm s h t so);
+  few = λ honest clean t again h. (pending, few_same holds' p.confirms t pending [] (few_kept holds holds' t pending keeps h));
 }
 
 -- ---- a group that wasn't performed
@@ -128,7 +132,7 @@ stored : (s : State) (h : History) (c : Bool) (t : List ℕ) (ts : List Timed) (
 stored s h c t ts es x r is works either = ⊎_elim
     (λ before. lived_none (Stands x r s) s h c t ts before)
     (λ after. lived_all (Stands x r s) s h c t ts [] [] (joined (answers s (grown h (kept_in ts)) ts)) (answers s (grown h (kept_in ts)) ts) works
-    (subst (λ u. Stands x r s (grown h (kept_in ts)) u) (sym (ap (λ (q : List ℕ). t ++ q) (settled_none c (bytes_of ts)) ∙ append-nil t)) (subst (λ l. Stands x r s (grown h l) t) is after)) refl refl)
+    (subst (λ u. Stands x r s (grown h (kept_in ts)) u) (sym (ap (λ (q : List ℕ). t ++ q) (settled_none c (bytes_of ts)) ∙ append-nil t)) (subst (λ l. Stands x r s (grown h l) t) is after)) refl refl (begins_none (answers s (grown h (kept_in ts)) ts)))
     either
 
 pub broken_store : (holds holds' : Rows → Records → Type 0) (clean' honest' whole whole' : Type 0) (left left' : Rows → Records → Type 0) (may : Moment → Type 0) (p : PortState) (pending : List ℕ)
@@ -154,6 +158,7 @@ broken_store holds holds' clean' honest' whole whole' left left' may p pending m
           leaves_map whole' left' (StandsForEither s h t s (grown h (entries_of group)) t) (λ x r. Lived (Stands x r s) s h p.confirms t ts [] [])
           (λ x r either. stored s h p.confirms t ts (entries_of group) x r es (works_group s h ts gathers.no_zero gathers.only) either)
           (crash s h t so within (subst (All (IsUnsettled t)) (sym es) (group_unsettled p.confirms t ts [] again)) firm);
+      few = λ honest clean t again h. (pending, few_same holds' p.confirms t pending ts (few_kept holds holds' t pending (keeps (clean refl)) h));
     }
 
 -- ---- a group that was performed
@@ -175,14 +180,15 @@ now_stands : (holds : Rows → Records → Type 0) (s : State) (h : History) (t 
 now_stands holds s h t more es ts dones done is = stands_later holds s (grown h (kept_in ts)) t (t ++ more) (includes_left t more) (subst (λ l. StandsFor holds s (grown h l) t) is done.stands)
 
 -- its answers weren't all sent
-pub broken_sent : HistoriesGrow → (holds holds' : Rows → Records → Type 0) (clean' honest' whole whole' : Type 0) (left left' : Rows → Records → Type 0) (may : Moment → Type 0) (p q : PortState) (pending : List ℕ)
+pub broken_sent : HistoriesGrow → (holds holds' : Rows → Records → Type 0) (clean' honest' whole whole' : Type 0) (left left' : Rows → Records → Type 0) (may : Moment → Type 0) (p q : PortState) (pending mid : List ℕ)
     (messages : List (List ℕ)) (count : ℕ) (taken : List (Request × Moment)) (ends : Bool) (group : List (Request × Moment)) (front : List (List ℕ)) (dones list : List Done) (fault : SendFault) (exact want : Bool) (faulted : Type 0)
     → Gathers may (take count messages) taken ends → group ≡ taken → front ≡ take count messages → (clean' → honest')
     → (honest' → (s : State) (h : History) (t : List ℕ) → StandsFor holds s h t → Includes t pending → All (IsUnsettled t) (entries_of group) → Performed holds' s h t (entries_of group) dones)
     → (honest' → IsFirm holds whole left → IsFirm holds' whole' left')
+    → (honest' → (u : List ℕ) → All (IsUnsettled u) (entries_of group) → FewHave holds u pending → FewHave holds' u mid) → length mid + length (entries_of group) ≤ 16
     → list ≡ dones → SentSome p q (wires front (answers_in list)) fault → exact ≡ false → (want ≡ true → fault ≡ Memory)
     → Broken holds holds' clean' honest' (IsFirm holds whole left) whole' left' may p q pending messages exact want faulted
-broken_sent grows holds holds' clean' honest' whole whole' left left' may p q pending messages count taken ends group front dones list fault exact want faulted gathers same same_front clean_honest performed firm_still same_list sent inexact memory =
+broken_sent grows holds holds' clean' honest' whole whole' left left' may p q pending mid messages count taken ends group front dones list fault exact want faulted gathers same same_front clean_honest performed firm_still few size same_list sent inexact memory =
     let some = subst (λ l. SentSome p q (wires front (answers_in l)) fault) same_list sent in
     let ts = gathers.timed in
     let es : entries_of group ≡ kept_in ts = ap entries_of same ∙ gathers.entries in
@@ -213,13 +219,16 @@ broken_sent grows holds holds' clean' honest' whole whole' left left' may p q pe
       life = λ clean s h t so within again.
           let d = done (clean_honest clean) s h t so within again in
           lived_all (StandsFor holds' s) s h p.confirms t ts some.marks some.part some.unsent some.later (works s h) (now_stands holds' s h t _ (entries_of group) ts dones d es)
-          (sym (sent_are grows holds' s h t (entries_of group) ts front dones d es bytes) ∙ some.whole) some.begun;
+          (sym (sent_are grows holds' s h t (entries_of group) ts front dones d es bytes) ∙ some.whole) some.begun some.next;
       crash = λ honest firm s h t so within again.
           let d = done honest s h t so within again in
           leaves_map whole' left' (λ x r. Stands x r s (grown h (kept_in ts)) (t ++ settled_in p.confirms (bytes_of ts) some.marks)) (λ x r. Lived (Stands x r s) s h p.confirms t ts some.marks some.part)
           (λ x r stands. lived_all (Stands x r s) s h p.confirms t ts some.marks some.part some.unsent some.later (works s h) stands
-          (sym (sent_are grows holds' s h t (entries_of group) ts front dones d es bytes) ∙ some.whole) some.begun)
+          (sym (sent_are grows holds' s h t (entries_of group) ts front dones d es bytes) ∙ some.whole) some.begun some.next)
           (firm_leaves holds' whole' left' s (grown h (kept_in ts)) _ (firm_still honest firm) (now_stands holds' s h t (settled_in p.confirms (bytes_of ts) some.marks) (entries_of group) ts dones d es));
+      few = λ honest clean t again h.
+          (mid ++ ids_in (entries_of group), few_unsent holds' p.confirms t mid (entries_of group) ts some.marks es size
+          (few honest t (subst (All (IsUnsettled t)) (sym es) (group_unsettled p.confirms t ts some.marks again)) h));
     }
 
 -- ---- a group that was answered
@@ -250,9 +259,10 @@ pub turned : HistoriesGrow → (holds holds' : Rows → Records → Type 0) (hon
     → Gathers may (take count messages) taken ends → group ≡ taken → front ≡ take count messages
     → (honest' → (s : State) (h : History) (t : List ℕ) → StandsFor holds s h t → Includes t pending → All (IsUnsettled t) (entries_of group) → Performed holds' s h t (entries_of group) dones)
     → ((u : List ℕ) → Includes u pending → Includes u mid)
+    → (honest' → (u : List ℕ) → All (IsUnsettled u) (entries_of group) → FewHave holds u pending → FewHave holds' u mid) → length pending' ≤ 16
     → SentAll p q front (wires front (answers_in list)) mid pending' → list ≡ dones → rest ≡ rest_by (ends && last_zero (answers_in list)) stuck → counts ≡ tallied front (repeats_in list)
     → Turned holds holds' honest' may p q pending pending' (take count messages) (lasts rest) counts
-turned grows holds holds' honest' may p q pending mid pending' messages count taken ends group front dones list stuck rest counts gathers same same_front performed handed sent same_list is counts_are =
+turned grows holds holds' honest' may p q pending mid pending' messages count taken ends group front dones list stuck rest counts gathers same same_front performed handed few size sent same_list is counts_are =
     let all = subst (λ l. SentAll p q front (wires front (answers_in l)) mid pending') same_list sent in
     let ts = gathers.timed in
     let es : entries_of group ≡ kept_in ts = ap entries_of same ∙ gathers.entries in
@@ -281,6 +291,8 @@ turned grows holds holds' honest' may p q pending mid pending' messages count ta
             sent = all.whole ∙ sent_are grows holds' s h t (entries_of group) ts front dones d es bytes;
             counts_are = counts_are ∙ ap (λ l. tallied front (repeats_in l)) same_list ∙ ap (λ f. tallied f (repeats_in dones)) bytes ∙ ap (tallied (bytes_of ts)) (d.repeated ∙ ap (repeats h) es) ∙ tallied_is ts h;
           };
+      few = λ honest t again h.
+          few_sent holds' p.confirms t mid pending' front ts all.marks bytes all.handed size (few honest t (subst (All (IsUnsettled t)) (sym es) (group_unsettled p.confirms t ts all.marks again)) h);
     }
 
 pub stuck_zero : (ended stuck : Bool) → rest_by ended stuck ≡ ZeroUnique → stuck ≡ true
@@ -318,43 +330,3 @@ pub are_enough : (may : Moment → Type 0) (front : List (List ℕ)) (taken : Li
 are_enough may front taken ends slice group dones list gathers same same_group count same_list =
     subst (λ f. AreEnough f (answers_in list)) (sym (same ∙ gathers.bytes))
     (enough gathers.timed (answers_in list) (length-map list (λ (d : Done). d.answer) ∙ ap length same_list ∙ count ∙ ap length same_group ∙ sym (length-map taken entry_of) ∙ ap length gathers.entries))
-
--- ---- at most 16 records more
-
-pub hands_more : (before : Records) (holds holds' : Rows → Records → Type 0) (pending mid : List ℕ) (group : List Entry) → length group ≤ 16
-    → ((rows : Rows) (records : Records) → holds rows records → (rows' : Rows) × (records' : Records) × holds' rows' records' × OthersStay records pending group records')
-    → HandsOn before holds pending → HandsOn before holds' (mid ++ ids_in group)
-hands_more before holds holds' pending mid group few others h =
-    let o = others h.rows h.records h.held in
-    record {
-      rows = o.0;
-      records = o.1;
-      held = o.2;
-      more = ids_in group;
-      few = subst (λ n. n ≤ 16) (sym (length-map group entry_id)) few;
-      some = more_step before h.records o.1 h.more pending group h.some h.all o.3;
-      all = includes_right mid (ids_in group);
-    }
-
-pub hands_same : (before : Records) (holds : Rows → Records → Type 0) (pending more : List ℕ) → HandsOn before holds pending → HandsOn before holds (pending ++ more)
-hands_same before holds pending more h = record { rows = h.rows; records = h.records; held = h.held; more = h.more; few = h.few; some = h.some; all = λ i there. includes_left pending more i (h.all i there) }
-
-pub at_most : (before : Records) (holds : Rows → Records → Type 0) (pending : List ℕ) → HandsOn before holds pending → AtMostMore before holds
-at_most before holds pending h = record { rows = h.rows; records = h.records; held = h.held; more = h.more; few = h.few; some = h.some }
-
-pub at_most_kept : (before : Records) (holds holds' : Rows → Records → Type 0) (pending : List ℕ) → KeepsHeld holds holds' → HandsOn before holds pending → AtMostMore before holds'
-at_most_kept before holds holds' pending keeps h = record { rows = h.rows; records = h.records; held = keeps h.rows h.records h.held; more = h.more; few = h.few; some = h.some }
-
--- where the port confirms, the answers to a group settle all its ids
-pub hands_group : (before : Records) (holds : Rows → Records → Type 0) (may : Moment → Type 0) (p q : PortState) (mid pending' : List ℕ) (messages : List (List ℕ)) (taken : List (Request × Moment)) (ends : Bool)
-    (group : List (Request × Moment)) (front answers' : List (List ℕ)) → Gathers may messages taken ends → group ≡ taken → front ≡ messages → p.confirms ≡ true → SentAll p q front answers' mid pending'
-    → HandsOn before holds (mid ++ ids_in (entries_of group)) → HandsOn before holds pending'
-hands_group before holds may p q mid pending' messages taken ends group front answers' gathers same same_front confirms all h =
-    let bytes : front ≡ bytes_of gathers.timed = same_front ∙ gathers.bytes in
-    let full : length all.marks ≡ length gathers.timed = all.full ∙ ap length bytes ∙ length-map gathers.timed (λ (t : Timed). t.bytes) in
-    subst (HandsOn before holds) (sym (all.handed ∙ ap (λ c. mid ++ settled_in c front all.marks) confirms ∙ ap (λ f. mid ++ settled_in true f all.marks) bytes
-    ∙ ap (λ (x : List ℕ). mid ++ x) (all_settled gathers.timed all.marks full ∙ ap ids_in (sym gathers.entries ∙ sym (ap entries_of same))))) h
-
--- at first nothing is to be handed on
-pub hands_start : (holds : Rows → Records → Type 0) (pending : List ℕ) (rows : Rows) (records : Records) → holds rows records → HandsOn records holds pending
-hands_start holds pending rows records held = record { rows = rows; records = records; held = held; more = []; few = omega arith; some = λ i _. inr refl; all = λ i there. absurd (cc there) }

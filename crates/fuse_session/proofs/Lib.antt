@@ -8,6 +8,7 @@ pub mod Settled
 pub mod Gathering
 pub mod Counted
 pub mod Sends
+pub mod Handing
 pub mod Groups
 pub mod Turns
 pub mod Waiting

@@ -6,7 +6,7 @@ use Rattle.std.proofs.lemmas.List.Concat.{flat_map-append}
 use Rattle.std.specs.Io.KnownBytes.{Appends, append_known}
 use Rattle.fuse_request.specs.Stream.{joined}
 use Rattle.fuse_session.specs.Port.{PortState, MoreGone, SentWhole, SentPart}
-use Rattle.fuse_session.specs.Settling.{Mark, replies, PlaceFirst, Places, Replied}
+use Rattle.fuse_session.specs.Settling.{Mark, replies, PlaceFirst, Places, GoneHaveBytes, Replied, BeginsNext}
 use Rattle.fuse_session.proofs.Bytes.{appends_none, appends_more}
 
 pub joined-append : (xs ys : List (List ℕ)) → joined (xs ++ ys) ≡ joined xs ++ joined ys
@@ -56,8 +56,17 @@ known_place (Some p) (Some q) reply place a at = at ∙ ap length a
 
 -- ---- answers
 
+gone-append : (ms ns : List Mark) → GoneHaveBytes ms → GoneHaveBytes ns → GoneHaveBytes (ms ++ ns)
+gone-append [] ns one two = two
+gone-append (m ∷ ms) ns one two = (one.0, gone-append ms ns one.1 two)
+
+-- nothing was sent of the next one
+pub begins_none : (later : List (List ℕ)) → BeginsNext later []
+begins_none [] = refl
+begins_none (answer ∷ later) = (answer, refl)
+
 pub replied_none : (p : PortState) → Replied p p [] []
-replied_none p = record { sent = appends_none p.sent; places = []; gone = sym (append-nil p.gone); placed = refl; confirms = refl }
+replied_none p = record { sent = appends_none p.sent; some = tt; places = []; gone = sym (append-nil p.gone); placed = refl; confirms = refl }
 
 pub replied_more : (a b c : PortState) (ms ns : List Mark) (part : List ℕ) → Replied a b ms [] → Replied b c ns part → Replied a c (ms ++ ns) part
 replied_more a b c ms ns part one two = record {
@@ -65,6 +74,7 @@ replied_more a b c ms ns part one two = record {
       (ap (λ (r : List ℕ). r ++ (joined (replies ns) ++ part)) (append-nil (joined (replies ms))) ∙ sym (append_assoc (joined (replies ms)) (joined (replies ns)) part)
       ∙ ap (λ (r : List ℕ). r ++ part) (sym (joined_replies ms ns)))
       (appends_more a.sent b.sent c.sent (joined (replies ms) ++ []) (joined (replies ns) ++ part) one.sent two.sent);
+  some = gone-append ms ns one.some two.some;
   places = one.places ++ two.places;
   gone = two.gone ∙ ap (λ (g : List ℕ). g ++ two.places) one.gone ∙ append_assoc a.gone one.places two.places;
   placed = places-append a.sent b.sent ms ns one.places two.places (subst (Appends a.sent b.sent) (append-nil (joined (replies ms))) one.sent) one.placed two.placed;
@@ -82,6 +92,7 @@ replied_one old new mark s =
     let p = one_place old new mark.reply mark.gone s.sent s.gone in
     record {
       sent = subst (Appends old.sent new.sent) (sym (append-nil mark.reply) ∙ sym (append-nil (mark.reply ++ []))) s.sent;
+      some = (s.some, tt);
       places = p.0;
       gone = p.1;
       placed = p.2;
@@ -90,4 +101,4 @@ replied_one old new mark s =
 
 -- a part of one
 pub replied_part : (old new : PortState) (bytes : List ℕ) → (s : SentPart old new bytes) → Replied old new [] s.part
-replied_part old new bytes s = record { sent = s.sent; places = []; gone = s.gone ∙ sym (append-nil old.gone); placed = refl; confirms = s.quiet.confirms }
+replied_part old new bytes s = record { sent = s.sent; some = tt; places = []; gone = s.gone ∙ sym (append-nil old.gone); placed = refl; confirms = s.quiet.confirms }

@@ -14,10 +14,10 @@ use Rattle.fuse_session.specs.declared.sending.SendFault.{SendFault}
 use Rattle.fuse_session.specs.declared.sending.SendFault.TheVariants.{Memory, PortFailed}
 use Rattle.fuse_session.specs.Port.{PortState, IsYoung, IsQuiet, SentWhole}
 use Rattle.fuse_session.specs.Worked.{unique_of, message_id}
-use Rattle.fuse_session.specs.Settling.{replies, settles, settles_if, settled_in, Replied}
+use Rattle.fuse_session.specs.Settling.{replies, settles, settles_if, settled_in, Replied, BeginsNext}
 use Rattle.fuse_session.specs.Group.{answers_in, head_wire, left_by, wires, AreEnough, SendFails, SentNext, SentFirst, SentAll, SentSome}
 use Rattle.fuse_session.proofs.Bytes.{appends_none, quiet_none, quiet_more}
-use Rattle.fuse_session.proofs.Replies.{replied_none, replied_more, replied_one, replied_part, replies-append}
+use Rattle.fuse_session.proofs.Replies.{begins_none, replied_none, replied_more, replied_one, replied_part, replies-append}
 use Rattle.fuse_session.proofs.Settled.{settled-append}
 
 pub young_still : (a b : PortState) → b.failures ≡ a.failures → IsQuiet a b → IsYoung a → IsYoung b
@@ -28,7 +28,7 @@ pub sent_nothing : (p : PortState) (m : List ℕ) (pending : List ℕ) → settl
 sent_nothing p m pending none = record {
   mark = record { reply = []; gone = false };
   reply = refl;
-  sent = record { sent = appends_none p.sent; failures = refl; gone = refl; quiet = quiet_none p };
+  sent = record { sent = appends_none p.sent; some = λ _. refl; failures = refl; gone = refl; quiet = quiet_none p };
   handed = sym (ap (λ (r : List ℕ). pending ++ r) none ∙ append-nil pending);
 }
 
@@ -75,6 +75,7 @@ some_by Memory a b c front answers left left' bytes p q is one same = record {
   unsent = joined left;
   whole = one.whole;
   begun = refl;
+  next = begins_none left;
   replied = subst (λ x. Replied a x one.marks []) (sym same) one.replied;
   memory = λ _. refl;
   failed = λ isnt. absurd (cc isnt);
@@ -87,6 +88,7 @@ some_by PortFailed a b c front answers left left' bytes p q is one two = record 
   unsent = two.rest ++ joined left';
   whole = one.whole;
   begun = ap joined is ∙ ap (λ (x : List ℕ). x ++ joined left') two.parts ∙ append_assoc two.part two.rest (joined left');
+  next = subst (λ l. BeginsNext l two.part) (sym is) (two.rest, two.parts);
   replied = subst (λ x. Replied a c x two.part) (append-nil one.marks) (replied_more a b c one.marks [] two.part one.replied (replied_part b c bytes two));
   memory = λ isnt. absurd (cc isnt);
   failed = λ _. omega (arith, two.failures, one.failures);

@@ -19,20 +19,24 @@ use Rattle.fuse_session.specs.declared.group.Rest.TheVariants.{GoesOn as GoesOnH
 use Rattle.fuse_session.specs.declared.group.Stop.{Stop}
 use Rattle.fuse_session.specs.declared.group.Stop.TheVariants.{PortFailed as ByPort, Store as ByStore, Memory as ByMemory}
 use Rattle.fuse_session.specs.Port.{PortState, IsQuiet}
-use Rattle.fuse_session.specs.Settling.{Replied}
+use Rattle.fuse_session.specs.Worked.{Timed, bytes_of}
+use Rattle.fuse_session.specs.Settling.{Mark, settled_in, Replied, FewRecorded}
 use Rattle.fuse_session.specs.Counting.{plus, none_counted}
 use Rattle.fuse_session.specs.Receiving.{IsOpen, IsHearing, Heard, NotHeard}
-use Rattle.fuse_session.specs.Serving.{Turned, Broken, WorkedOff, Whole, Stopped, Life, MayStop, lasts, goes_on}
+use Rattle.fuse_session.specs.Serving.{Turned, Lived, Broken, WorkedOff, Whole, Stopped, Life, FewSettled, MayStop, lasts, goes_on}
 use Rattle.fuse_session.specs.Ends.{Rested, Halted, EndsAs, IsGoodRest, FaultOf, FinishedBy, IsFault, ended_store, ended_memory, SentExactly, ExactAt, MayEnd, ended_at}
 use Rattle.fuse_session.proofs.Bytes.{appends_none, consumes_none, consumes_more}
 use Rattle.fuse_session.proofs.Replies.{joined-append, replied_none}
 use Rattle.fuse_session.proofs.Counted.{none_plus}
+use Rattle.fuse_session.proofs.Settled.{again_fewer}
+use Rattle.fuse_session.proofs.Handing.{few_start}
 use Rattle.fuse_session.proofs.Groups.{broken_none, firm_leaves}
 use Rattle.fuse_session.proofs.Turns.{turned_none, turned_quiet, turned_more, turned_broken, turned_life}
 
 pub hearing_replied : (a b : PortState) → IsHearing a b → Replied a b [] []
 hearing_replied a b h = record {
   sent = subst (λ o. Appends a.sent o []) (sym h.sent) (appends_none a.sent);
+  some = tt;
   places = [];
   gone = h.gone ∙ sym (append-nil a.gone);
   placed = refl;
@@ -207,7 +211,7 @@ life_unheard holds clean honest whole left may p q ids h e exact want faulted in
       received = came.0;
       came = came.1;
       broken = broken_none holds holds clean honest (IsFirm holds whole left) whole left may p q ids (cut (h.bytes ++ came.0)).0 exact want faulted inexact (hearing_replied p q hearing)
-          (λ _ rows records held. held) (λ firm s g t so. firm_leaves holds whole left s g t firm so);
+          (λ rows records held. held) (λ firm s g t so. firm_leaves holds whole left s g t firm so);
     }
 
 whole_unheard : (holds : Rows → Records → Type 0) (honest : Type 0) (may : Moment → Type 0) (p q : PortState) (ids : List ℕ) (h : Held) → IsOpen h → Consumes p.coming q.coming [] → IsHearing p q
@@ -365,7 +369,7 @@ life_none holds clean honest whole left may p ids held exact want faulted inexac
   received = [];
   came = consumes_none p.coming;
   broken = broken_none holds holds clean honest (IsFirm holds whole left) whole left may p p ids (cut (held ++ [])).0 exact want faulted inexact (replied_none p)
-      (λ _ rows records is. is) (λ firm s g t so. firm_leaves holds whole left s g t firm so);
+      (λ rows records is. is) (λ firm s g t so. firm_leaves holds whole left s g t firm so);
 }
 
 -- a turn more, and its counts
@@ -436,3 +440,40 @@ exact_at holds new clean honest firm whole' left' may_fault may p q ids held (St
     exact_life holds new clean honest firm whole' left' may p q ids held true false (may_fault fault) (λ s g u. clean → StandsFor new s g u × may_fault fault) refl (λ s g u stands clean. stands refl clean) l
 exact_at holds new clean honest firm whole' left' may_fault may p q ids held Memory l =
     exact_life holds new clean honest firm whole' left' may p q ids held false true (Unit {0}) (λ s g u. Unit {0}) refl (λ s g u _. tt) l
+
+-- ---- few settled ids have a record
+
+lived_map : (stood stood' : History → List ℕ → Type 0) (s : State) (h : History) (c : Bool) (t : List ℕ) (timed : List Timed) (marks : List Mark) (part : List ℕ) → ((g : History) (u : List ℕ) → stood g u → stood' g u)
+    → Lived stood s h c t timed marks part → Lived stood' s h c t timed marks part
+lived_map stood stood' s h c t timed marks part f l = record {
+  worked = l.worked;
+  unworked = l.unworked;
+  parts = l.parts;
+  works = l.works;
+  stands = f _ _ l.stands;
+  later = l.later;
+  sent = l.sent;
+  unsent = l.unsent;
+  begun = l.begun;
+  next = l.next;
+}
+
+pub few_settled : (holds new : Rows → Records → Type 0) (clean honest firm whole' : Type 0) (left' : Rows → Records → Type 0) (may : Moment → Type 0) (p q : PortState) (store memory : Bool) (faulted : Type 0) → (clean → honest) → clean
+    → Life holds new clean honest firm whole' left' may p q [] [] store memory faulted → FewSettled holds new may p q
+few_settled holds new clean honest firm whole' left' may p q store memory faulted clean_honest is l =
+    let b = l.broken in
+    record {
+      received = l.received;
+      came = l.came;
+      timed = b.timed;
+      others = b.others;
+      marks = b.marks;
+      part = b.part;
+      front = b.front;
+      moments = b.moments;
+      replied = b.replied;
+      few = λ s h t so again.
+          let f = b.few (clean_honest is) (λ _. is) [] (again_fewer p.confirms t [] (bytes_of b.timed) b.marks (λ i there. absurd (cc there)) again) (few_start holds so.rows so.records so.held) in
+          lived_map (StandsFor new s) (λ g u. StandsFor new s g u × FewRecorded new (settled_in p.confirms (bytes_of b.timed) b.marks)) s h p.confirms t b.timed b.marks b.part (λ g u stands. (stands, f))
+          (b.life is s h t so (λ i there. absurd (cc there)) again);
+    }

@@ -1,16 +1,15 @@
--- Which ids are settled, and which records stay, group after group.
-use Rattle.std.proofs.Common.{◌≡◌, ◌⊎◌, inl, inr, ℕ, Bool, true, false, ◌||◌, ◌==◌, if◌then◌else◌, List, [], ◌∷◌, ◌++◌, length, All, Option, None, refl, sym, ap, subst, ◌∙◌, append_assoc, arith}
+-- Which ids are settled, group after group.
+use Rattle.std.proofs.Common.{◌≡◌, ◌⊎◌, inl, inr, ℕ, Bool, true, false, ◌||◌, ◌==◌, if◌then◌else◌, List, [], ◌∷◌, ◌++◌, length, All, refl, sym, ap, subst, ◌∙◌, append_assoc, arith}
 use Rattle.std.proofs.lemmas.List.{append-nil, map-append}
-use Rattle.std.proofs.lemmas.List.Elements.{All-append, All-nil, All-cons}
-use Rattle.fuse_answer.specs.Said.{Said}
+use Rattle.std.proofs.lemmas.Bool.{eqb-true}
+use Rattle.std.proofs.lemmas.List.Elements.{All-append, All-nil, All-cons, All-head, All-tail}
 use Rattle.fuse_request.specs.declared.class.Class.{Class}
 use Rattle.fuse_request.specs.declared.class.Class.TheVariants.{Silent, Bare, Kept}
 use Rattle.fuse_request.specs.Classes.{class_of}
 use Rattle.fuse_store.specs.History.{Entry, entry_id, is_in, ids_in, Includes, IsUnsettled}
-use Rattle.fuse_store.specs.Stands.{Records, OthersStay}
 use Rattle.fuse_session.proofs.Standing.{unsettled_too}
 use Rattle.fuse_session.specs.Worked.{Timed, bytes_of, kept_in, entries_at, entry_if, timed_entry, message_id}
-use Rattle.fuse_session.specs.Settling.{Mark, settles, settles_if, settled_in, comes_again, NoneComesAgain, SomeAndMore}
+use Rattle.fuse_session.specs.Settling.{Mark, settles, settles_if, settled_in, comes_again, NoneComesAgain}
 
 or_true : (a b : Bool) → b ≡ true → (a || b) ≡ true
 or_true true b is = refl
@@ -27,6 +26,13 @@ either false b is = inr is
 is_in-append : (xs ys : List ℕ) (i : ℕ) → is_in (xs ++ ys) i ≡ (is_in xs i || is_in ys i)
 is_in-append [] ys i = refl
 is_in-append (x ∷ xs) ys i = elim (x == i) as (λ b. (if b then true else is_in (xs ++ ys) i) ≡ ((if b then true else is_in xs i) || is_in ys i)) [ true ↦ refl | false ↦ is_in-append xs ys i ]
+
+pub in_either : (xs ys : List ℕ) (i : ℕ) → is_in (xs ++ ys) i ≡ true → (is_in xs i ≡ true) ⊎ (is_in ys i ≡ true)
+in_either xs ys i there = either (is_in xs i) (is_in ys i) (sym (is_in-append xs ys i) ∙ there)
+
+if_not : (b rest : Bool) → (b ≡ true → ⊥) → rest ≡ false → (if b then true else rest) ≡ false
+if_not true rest isnt absent = absurd (isnt refl)
+if_not false rest isnt absent = absent
 
 pub includes_left : (t more : List ℕ) → Includes (t ++ more) t
 includes_left t more i there = is_in-append t more i ∙ or_left (is_in t i) (is_in more i) there
@@ -75,17 +81,7 @@ group_unsettled c t (m ∷ ts) (mark ∷ marks) each =
     All-append (IsUnsettled t) (entries_at m) (kept_in ts) (one_unsettled t m (class_of m.bytes) each.0)
     (fewer t (settles c m.bytes mark) (kept_in ts) (group_unsettled c (t ++ settles c m.bytes mark) ts marks each.1))
 
--- ---- which records stay
-
--- what is left of one record
-left_of : (b : Bool) (o now base : Option Said) → now ≡ (if b then None else o) → (b ≡ false → (o ≡ None) ⊎ (o ≡ base)) → (now ≡ None) ⊎ (now ≡ base)
-left_of true o now base is so = inl is
-left_of false o now base is so = elim (so refl) [ inl none ↦ inl (is ∙ none) | inr same ↦ inr (is ∙ same) ]
-
--- where all ids of the last group are handed on, the records are some of those of before and some of this group
-pub more_step : (before old new : Records) (last settled : List ℕ) (group : List Entry) → SomeAndMore before last old → Includes settled last → OthersStay old settled group new → SomeAndMore before (ids_in group) new
-more_step before old new last settled group some all others i isnt =
-    left_of (is_in settled i) (old i) (new i) (before i) (others i isnt) (λ absent. some i (unsettled_too settled last i all absent))
+-- ---- what is settled by a group
 
 -- where the port confirms, the answers to messages settle the ids of all kept ones
 kept_settled : (t : Timed) (m : Mark) (class : Class) → settles_if (true || m.gone) class (message_id t.bytes) ≡ ids_in (entry_if class (timed_entry t))
@@ -104,5 +100,47 @@ all_settled (t ∷ ts) (m ∷ marks) same =
     ap (λ (r : List ℕ). r ++ settled_in true (bytes_of ts) marks) (kept_settled t m (class_of t.bytes))
     ∙ ap (λ (r : List ℕ). ids_in (entries_at t) ++ r) (all_settled ts marks (omega arith)) ∙ sym (ids-append (entries_at t) (kept_in ts))
 
-pub in_either : (xs ys : List ℕ) (i : ℕ) → is_in (xs ++ ys) i ≡ true → (is_in xs i ≡ true) ⊎ (is_in ys i ≡ true)
-in_either xs ys i there = either (is_in xs i) (is_in ys i) (sym (is_in-append xs ys i) ∙ there)
+one_within : (b : Bool) (t : Timed) (class : Class) (i : ℕ) → is_in (settles_if b class (message_id t.bytes)) i ≡ true → is_in (ids_in (entry_if class (timed_entry t))) i ≡ true
+one_within false t class i there = absurd (cc there)
+one_within true t Silent i there = there
+one_within true t (Bare errno) i there = there
+one_within true t Kept i there = there
+
+-- only the ids of kept messages are settled
+pub settled_within : (c : Bool) (ts : List Timed) (marks : List Mark) → Includes (ids_in (kept_in ts)) (settled_in c (bytes_of ts) marks)
+settled_within c [] marks i there = absurd (cc there)
+settled_within c (t ∷ ts) [] i there = absurd (cc there)
+settled_within c (t ∷ ts) (m ∷ marks) i there =
+    let here = ids_in (entries_at t) in
+    let rest = ids_in (kept_in ts) in
+    ap (λ x. is_in x i) (ids-append (entries_at t) (kept_in ts))
+    ∙ (elim (in_either (settles c t.bytes m) (settled_in c (bytes_of ts) marks) i there) [
+      | inl one ↦ includes_left here rest i (one_within (c || m.gone) t (class_of t.bytes) i one)
+      | inr more ↦ includes_right here rest i (settled_within c ts marks i more)
+    ])
+
+-- an id that was settled before is none of a group's
+pub none_again : (u : List ℕ) (es : List Entry) (i : ℕ) → All (IsUnsettled u) es → is_in u i ≡ true → is_in (ids_in es) i ≡ false
+none_again u [] i each there = refl
+none_again u (e ∷ es) i each there =
+    if_not (entry_id e == i) (is_in (ids_in es) i)
+    (λ is. let same = eqb-true (entry_id e) i is in let first = All-head (IsUnsettled u) e es each in absurd (cc (same, first, there)))
+    (none_again u es i (All-tail (IsUnsettled u) e es each) there)
+
+comes_fewer : (t u : List ℕ) (class : Class) (i : ℕ) → Includes t u → comes_again t class i ≡ false → comes_again u class i ≡ false
+comes_fewer t u Silent i within may = refl
+comes_fewer t u (Bare errno) i within may = refl
+comes_fewer t u Kept i within may = unsettled_too t u i within may
+
+includes_more : (t u more : List ℕ) → Includes t u → Includes (t ++ more) (u ++ more)
+includes_more t u more within i there = elim (in_either u more i there) [
+  | inl old ↦ includes_left t more i (within i old)
+  | inr new ↦ includes_right t more i new
+]
+
+-- where fewer were settled before, none comes again either
+pub again_fewer : (c : Bool) (t u : List ℕ) (xs : List (List ℕ)) (ms : List Mark) → Includes t u → NoneComesAgain c t xs ms → NoneComesAgain c u xs ms
+again_fewer c t u [] ms within each = tt
+again_fewer c t u (x ∷ xs) [] within each = (comes_fewer t u (class_of x) (message_id x) within each.0, again_fewer c t u xs [] within each.1)
+again_fewer c t u (x ∷ xs) (m ∷ ms) within each =
+    (comes_fewer t u (class_of x) (message_id x) within each.0, again_fewer c (t ++ settles c x m) (u ++ settles c x m) xs ms (includes_more t u (settles c x m) within) each.1)

@@ -13,7 +13,7 @@ use Rattle.fuse_session.specs.declared.group.Rest.{Rest}
 use Rattle.fuse_session.specs.declared.group.Rest.TheVariants.{GoesOn as GoesOnHere, Destroyed, ZeroUnique}
 use Rattle.fuse_session.specs.Port.{PortState}
 use Rattle.fuse_session.specs.Worked.{Timed, bytes_of, kept_in, answers, says_zero, message_id, StartsZero, GoesOn}
-use Rattle.fuse_session.specs.Settling.{Mark, replies, settled_in, NoneComesAgain, Replied}
+use Rattle.fuse_session.specs.Settling.{Mark, replies, settled_in, NoneComesAgain, Replied, FewHave}
 use Rattle.fuse_session.specs.Counting.{plus, none_counted, counted}
 use Rattle.fuse_session.specs.Serving.{Turned, Lived, Exact, Broken, WorkedOff, lasts, goes_on}
 use Rattle.fuse_session.proofs.Replies.{replied_none, replied_more, joined-append, replies-append}
@@ -44,6 +44,7 @@ turned_quiet holds honest may p q pending replied = record {
     sent = refl;
     counts_are = refl;
   };
+  few = λ honest t again h. subst (λ (u : List ℕ). FewHave holds u pending) (sym (append-nil t)) h;
 }
 
 pub turned_none : (holds : Rows → Records → Type 0) (honest : Type 0) (may : Moment → Type 0) (p : PortState) (pending : List ℕ) → Turned holds holds honest may p p pending pending [] true none_counted
@@ -99,6 +100,11 @@ turned_more grows holds mid new honest honest' may may' p q r ids ids' ids'' fro
         sent = replies-append one.marks two.marks ∙ ap (λ x. x ++ replies two.marks) a.sent ∙ ap (λ x. answers s g one.timed ++ x) b.sent ∙ sym (answers-append grows s h one.timed two.timed);
         counts_are = ap (λ x. plus x counts') a.counts_are ∙ ap (plus (counted h one.timed)) b.counts_are ∙ sym (counted-append h one.timed two.timed);
       };
+  few = λ is t again h.
+      let c = p.confirms in
+      let parts = again_both c q.confirms t one.timed two.timed one.marks two.marks one.replied.confirms one.full again in
+      subst (λ (u : List ℕ). FewHave new u ids'') (settled_both c q.confirms t one.timed two.timed one.marks two.marks one.replied.confirms one.full)
+      (two.few is (t ++ settled_in c (bytes_of one.timed) one.marks) parts.1 (one.few (honest_too is) t parts.0 h));
 }
 
 -- a life after messages that were answered
@@ -119,6 +125,7 @@ lived_more grows stood s h c c' t xs ys ms ns part same full goes sent l =
           ∙ sym (append_assoc (replies ms) (replies ns) l.later) ∙ ap (λ x. x ++ l.later) (sym (replies-append ms ns));
       unsent = l.unsent;
       begun = l.begun;
+      next = l.next;
     }
 
 exact_more : HistoriesGrow → (stood stood' : History → List ℕ → Type 0) (s : State) (h : History) (c c' : Bool) (t : List ℕ) (xs ys : List Timed) (ms ns : List Mark) → c' ≡ c → length ms ≡ length xs
@@ -174,6 +181,10 @@ turned_broken grows holds mid new honest clean' honest' whole whole_mid whole' l
           leaves_map whole' left' (λ x r. Lived (Stands x r s) s g q.confirms u two.timed two.marks two.part) (λ x r. Lived (Stands x r s) s h c t ts marks two.part)
           (λ x r l. lived_more grows (Stands x r s) s h c q.confirms t one.timed two.timed one.marks two.marks two.part one.replied.confirms one.full (a.goes refl) a.sent l)
           (two.crash is (firm_too (honest_too is) firm) s g u a.stands (one.handed t within) parts.1);
+      few = λ is clean t again h.
+          let parts = again_both c q.confirms t one.timed two.timed one.marks two.marks one.replied.confirms one.full again in
+          let f = two.few is clean (t ++ settled_in c (bytes_of one.timed) one.marks) parts.1 (one.few (honest_too is) t parts.0 h) in
+          (f.0, subst (λ (u : List ℕ). FewHave new u f.0) (settled_both c q.confirms t one.timed two.timed one.marks two.marks one.replied.confirms one.full) f.1);
     }
 
 -- what was answered, as a life, with others behind
@@ -195,12 +206,13 @@ turned_life holds new clean honest whole whole' left left' may p q ids ids' fron
       exact_all (λ g u. exact ≡ true → clean → StandsFor new s g u × faulted) s h p.confirms t one.timed one.marks a.works (λ store _. absurd (cc (store, inexact))) a.sent;
   life = λ is s h t so within again.
       let a = one.all (clean_honest is) s h t so within again in
-      lived_all (StandsFor new s) s h p.confirms t one.timed one.marks [] [] [] a.works a.stands (sym (append-nil (replies one.marks) ∙ a.sent)) refl;
+      lived_all (StandsFor new s) s h p.confirms t one.timed one.marks [] [] [] a.works a.stands (sym (append-nil (replies one.marks) ∙ a.sent)) refl refl;
   crash = λ is firm s h t so within again.
       let a = one.all is s h t so within again in
       leaves_map whole' left' (λ x r. Stands x r s (grown h (kept_in one.timed)) (t ++ settled_in p.confirms (bytes_of one.timed) one.marks)) (λ x r. Lived (Stands x r s) s h p.confirms t one.timed one.marks [])
-      (λ x r stands. lived_all (Stands x r s) s h p.confirms t one.timed one.marks [] [] [] a.works stands (sym (append-nil (replies one.marks) ∙ a.sent)) refl)
+      (λ x r stands. lived_all (Stands x r s) s h p.confirms t one.timed one.marks [] [] [] a.works stands (sym (append-nil (replies one.marks) ∙ a.sent)) refl refl)
       (firm_leaves new whole' left' s (grown h (kept_in one.timed)) (t ++ settled_in p.confirms (bytes_of one.timed) one.marks) (firm_still is firm) a.stands);
+  few = λ is clean t again h. (ids', one.few is t again h);
 }
 
 -- ---- places in the messages

@@ -19,7 +19,7 @@ use Rattle.fuse_session.specs.declared.sending.SendFault.{SendFault}
 use Rattle.fuse_session.specs.declared.sending.SendFault.TheVariants.{Memory, PortFailed}
 use Rattle.fuse_session.specs.Port.{PortState, IsQuiet, SentWhole, SentPart}
 use Rattle.fuse_session.specs.Worked.{Timed, bytes_of, kept_in, unique_of, destroys, Moments}
-use Rattle.fuse_session.specs.Settling.{Mark, replies, settles, settled_in, Replied}
+use Rattle.fuse_session.specs.Settling.{Mark, replies, settles, settled_in, Replied, BeginsNext}
 use Rattle.fuse_session.specs.Counting.{counted_one, none_counted, plus, is_interrupt}
 
 -- no message is zero, and none is a kept DESTROY, but for the last
@@ -156,6 +156,7 @@ pub record SentSome (old new : PortState) (answers : List (List ℕ)) (fault : S
   pub unsent : List ℕ
   pub whole : answers ≡ replies marks ++ later
   pub begun : joined later ≡ part ++ unsent
+  pub next : BeginsNext later part
   pub replied : Replied old new marks part
   pub memory : fault ≡ Memory → part ≡ []
   pub failed : fault ≡ PortFailed → old.failures < new.failures

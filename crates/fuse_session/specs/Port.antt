@@ -93,9 +93,10 @@ pub record Sends (old new : PortState) (result : Sent) (bytes : List ℕ) : Type
   pub gone : MoreGone (is_gone result) old.gone new.gone new.sent
   pub quiet : IsQuiet old new
 
--- all of a slice was sent, as one answer, and whether it was answered Gone
+-- all of a slice was sent, as one answer, and whether it was answered Gone, which an empty one never is
 pub record SentWhole (old new : PortState) (bytes : List ℕ) (gone_at_end : Bool) : Type 0 where
   pub sent : Appends old.sent new.sent bytes
+  pub some : bytes ≡ [] → gone_at_end ≡ false
   pub failures : new.failures ≡ old.failures
   pub gone : MoreGone gone_at_end old.gone new.gone new.sent
   pub quiet : IsQuiet old new

@@ -15,7 +15,7 @@ use Rattle.fuse_session.specs.declared.group.Stop.{Stop}
 use Rattle.fuse_session.specs.declared.group.Stop.TheVariants.{PortFailed, Store, Memory}
 use Rattle.fuse_session.specs.Port.{PortState}
 use Rattle.fuse_session.specs.Worked.{Timed, bytes_of, kept_in, answers, GoesOn, Works, EndsLast, StartsZero, Moments}
-use Rattle.fuse_session.specs.Settling.{Mark, replies, settled_in, NoneComesAgain, Replied}
+use Rattle.fuse_session.specs.Settling.{Mark, replies, settled_in, NoneComesAgain, Replied, BeginsNext, FewHave, FewRecorded}
 use Rattle.fuse_session.specs.Counting.{counted}
 
 -- all messages were worked off, and their answers sent
@@ -38,6 +38,8 @@ pub record Turned (holds holds' : Rows → Records → Type 0) (honest' : Type 0
   pub handed : (t : List ℕ) → Includes t pending → Includes (t ++ settled_in old.confirms (bytes_of timed) marks) pending'
   pub all : honest' → (s : State) (h : History) (t : List ℕ) → StandsFor holds s h t → Includes t pending → NoneComesAgain old.confirms t (bytes_of timed) marks
       → Answered (StandsFor holds' s) s h old.confirms t timed marks going counts
+  pub few : honest' → (t : List ℕ) → NoneComesAgain old.confirms t (bytes_of timed) marks → FewHave holds t pending
+      → FewHave holds' (t ++ settled_in old.confirms (bytes_of timed) marks) pending'
 
 -- some of the messages were worked off, and a front of their answers was sent
 pub record Lived (stood : History → List ℕ → Type 0) (s : State) (h : History) (confirms : Bool) (t : List ℕ) (timed : List Timed) (marks : List Mark) (part : List ℕ) : Type 0 where
@@ -50,6 +52,7 @@ pub record Lived (stood : History → List ℕ → Type 0) (s : State) (h : Hist
   pub sent : answers s (grown h (kept_in worked)) worked ≡ replies marks ++ later
   pub unsent : List ℕ
   pub begun : joined later ≡ part ++ unsent
+  pub next : BeginsNext later part
 
 -- some of the messages were worked off, and exactly their answers were sent
 pub record Exact (stood : History → List ℕ → Type 0) (s : State) (h : History) (confirms : Bool) (t : List ℕ) (timed : List Timed) (marks : List Mark) : Type 0 where
@@ -78,6 +81,8 @@ pub record Broken (holds holds' : Rows → Records → Type 0) (clean' honest' f
       → Lived (StandsFor holds' s) s h old.confirms t timed marks part
   pub crash : honest' → firm → (s : State) (h : History) (t : List ℕ) → StandsFor holds s h t → Includes t pending → NoneComesAgain old.confirms t (bytes_of timed) marks
       → Leaves whole' left' (λ x r. Lived (Stands x r s) s h old.confirms t timed marks part)
+  pub few : honest' → (store ≡ true → clean') → (t : List ℕ) → NoneComesAgain old.confirms t (bytes_of timed) marks → FewHave holds t pending
+      → FewRecorded holds' (t ++ settled_in old.confirms (bytes_of timed) marks)
 
 -- nothing ended the session so far
 abbrev pub lasts : Rest → Bool
@@ -119,6 +124,20 @@ pub record Life (holds holds' : Rows → Records → Type 0) (clean' honest' fir
   pub received : List ℕ
   pub came : Consumes old.coming new.coming received
   pub broken : Broken holds holds' clean' honest' firm whole' left' may old new pending (cut (held ++ received)).0 store memory faulted
+
+-- bytes came, the first answers to their messages were sent, and of the ids that these answers settled few have a record
+pub record FewSettled (holds holds' : Rows → Records → Type 0) (may : Moment → Type 0) (old new : PortState) : Type 0 where
+  pub received : List ℕ
+  pub came : Consumes old.coming new.coming received
+  pub timed : List Timed
+  pub others : List (List ℕ)
+  pub marks : List Mark
+  pub part : List ℕ
+  pub front : (cut received).0 ≡ bytes_of timed ++ others
+  pub moments : Moments may timed
+  pub replied : Replied old new marks part
+  pub few : (s : State) (h : History) (t : List ℕ) → StandsFor holds s h t → NoneComesAgain old.confirms t (bytes_of timed) marks
+      → Lived (λ g u. StandsFor holds' s g u × FewRecorded holds' (settled_in old.confirms (bytes_of timed) marks)) s h old.confirms t timed marks part
 
 abbrev pub is_store : Stop → Bool
 is_store PortFailed = false

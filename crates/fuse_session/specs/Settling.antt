@@ -59,13 +59,36 @@ abbrev pub Places : Option (List ℕ) → List Mark → List ℕ → Type 0
 Places sent [] places = places ≡ []
 Places sent (m ∷ marks) places = PlaceFirst m.gone (append_known sent m.reply) (Places (append_known sent m.reply) marks) places
 
+-- only an answer that has bytes is answered Gone
+abbrev pub GoneHaveBytes : List Mark → Type 0
+GoneHaveBytes [] = Unit {0}
+GoneHaveBytes (m ∷ marks) = (m.reply ≡ [] → m.gone ≡ false) × GoneHaveBytes marks
+
 -- these answers were sent whole, and then a part of another one
 pub record Replied (old new : PortState) (marks : List Mark) (part : List ℕ) : Type 0 where
   pub sent : Appends old.sent new.sent (joined (replies marks) ++ part)
+  pub some : GoneHaveBytes marks
   pub places : List ℕ
   pub gone : new.gone ≡ old.gone ++ places
   pub placed : Places old.sent marks places
   pub confirms : new.confirms ≡ old.confirms
+
+-- a part of the next one of the answers that are left
+abbrev pub BeginsNext : List (List ℕ) → List ℕ → Type 0
+BeginsNext [] part = part ≡ []
+BeginsNext (answer ∷ later) part = (unsent : List ℕ) × (answer ≡ part ++ unsent)
+
+-- of these ids at most 16 have a record, and those are among the second ones
+pub record FewHave (holds : Rows → Records → Type 0) (ids more : List ℕ) : Type 0 where
+  pub rows : Rows
+  pub records : Records
+  pub held : holds rows records
+  pub few : length more ≤ 16
+  pub others : (i : ℕ) → is_in ids i ≡ true → is_in more i ≡ false → records i ≡ None
+
+-- of these ids at most 16 have a record
+abbrev pub FewRecorded : (Rows → Records → Type 0) → List ℕ → Type 0
+FewRecorded holds ids = (more : List ℕ) × FewHave holds ids more
 
 -- the records are some of those of before, and some of these ids
 abbrev pub SomeAndMore : Records → List ℕ → Records → Type 0

@@ -10,7 +10,7 @@ ghost use Rattle.fuse_store.specs.Group.{entries_of, HasId, IsKept, ids_of};
 ghost use Rattle.fuse_store.specs.declared.keeper.TheConstants.{MAX_GROUP as max_group, MAX_SETTLED as max_settled};
 ghost use Rattle.fuse_session.specs.Port.{IsYoung, IsQuiet};
 ghost use Rattle.fuse_session.specs.Worked.{StartsZero};
-ghost use Rattle.fuse_session.specs.Settling.{HandsOn, AtMostMore};
+ghost use Rattle.fuse_session.specs.Settling.{HandsOn, AtMostMore, FewHave};
 ghost use Rattle.fuse_session.specs.Counting.{IsBelow};
 ghost use Rattle.fuse_session.specs.Group.{answers_in, last_zero, rest_by, IsStuck};
 ghost use Rattle.fuse_session.specs.Serving.{Turned, Broken, MayStop, lasts, goes_on, is_store, is_memory};
@@ -71,6 +71,8 @@ fn perform_group<K: Keeper>(
     ensures pending { (t : List ℕ) → Includes t (ids_of pending.old.items) → Includes t (ids_of pending.new.items) }
     ensures more { OnOk result (K.is_honest keeper.new → (before : Records) → HandsOn before (K.holds keeper.old) (ids_of pending.old.items)
         → HandsOn before (K.holds keeper.new) (ids_of pending.new.items ++ ids_in (entries_of group.now))) }
+    ensures gone { OnOk result (K.is_honest keeper.new → (t : List ℕ) → All (IsUnsettled t) (entries_of group.now) → FewHave (K.holds keeper.old) t (ids_of pending.old.items)
+        → FewHave (K.holds keeper.new) t (ids_of pending.new.items)) }
     ensures err { OnErr result (K.is_clean keeper.new → KeepsHeld (K.holds keeper.old) (K.holds keeper.new)) }
     ensures fault { K.is_clean keeper.new → (s : State) (h : History) (t : List ℕ) → StandsFor (K.holds keeper.old) s h t → IfErr result (K.may_answer keeper.old) }
     ensures may { (f : StoreFaultValue) → K.may_answer keeper.new f → K.may_answer keeper.old f }

@@ -12,7 +12,7 @@ ghost use Rattle.fuse_session.specs.Port.{IsYoung};
 ghost use Rattle.fuse_session.specs.Settling.{HandsOn, AtMostMore};
 ghost use Rattle.fuse_session.specs.Counting.{none_counted, IsBelow};
 ghost use Rattle.fuse_session.specs.Receiving.{IsOpen};
-ghost use Rattle.fuse_session.specs.Serving.{Whole, Life, is_store, is_memory};
+ghost use Rattle.fuse_session.specs.Serving.{Whole, Life, FewSettled, is_store, is_memory};
 ghost use Rattle.fuse_session.specs.Ends.{EndsAs, ExactAt, MayEnd, FinishedBy, IsFault, ended_at, ended_store, ended_memory};
 
 use crate::clock::Clock;
@@ -170,6 +170,9 @@ pub fn serve<K: Keeper, P: Port, C: Clock>(
 
     // On a port that confirms few records stay.
     ensures at_most { (P.told port.old).confirms ≡ true → K.is_clean keeper.new → (rows : Rows) (records : Records) → K.holds keeper.old rows records → AtMostMore records (K.holds keeper.new) }
+
+    // On any port few of the ids that the answers settled have a record, be it that the port confirms or told Gone of them.
+    ensures settled { K.is_clean keeper.new → FewSettled (K.holds keeper.old) (K.holds keeper.new) (C.may_answer clock.old) (P.told port.old) (P.told port.new) }
 
     // It receives no more often than it may.
     ensures turns { (P.told port.new).receives ≤ (P.told port.old).receives + turns }

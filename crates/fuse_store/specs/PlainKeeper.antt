@@ -1,5 +1,5 @@
 -- What a keeper of lists holds.
-use Rattle.std.specs.Prelude.{◌≡◌, Bool}
+use Rattle.std.specs.Prelude.{◌≡◌, Bool, false}
 use Rattle.fuse_tree.specs.Rows.{Rows}
 use Rattle.fuse_tree.specs.PlainRows.{rows_of}
 use Rattle.fuse_store.specs.declared.fault.StoreFault.{StoreFault}
@@ -17,3 +17,7 @@ plain_failed k = k.failed
 -- it answers want of memory alone
 abbrev pub plain_may_answer : PlainKeeper → StoreFault → Type 0
 plain_may_answer k fault = fault ≡ Memory
+
+-- the same, where no call has failed
+abbrev pub unfailed : PlainKeeper → PlainKeeper
+unfailed k = record k { failed = false }

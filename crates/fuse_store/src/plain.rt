@@ -1,5 +1,5 @@
 // A keeper of lists.
-ghost use Rattle.std.specs.Prelude.{◌≡◌, ℕ, Bool, List, false, [], length, All, IfOk, OnOk, OnErr, IfErr};
+ghost use Rattle.std.specs.Prelude.{◌≡◌, ℕ, Bool, List, false, [], length, All, IfOk, OnOk, OnErr, IfErr, Ok};
 ghost use Rattle.fuse_tree.specs.State.{State, new_store};
 ghost use Rattle.fuse_tree.specs.Rows.{IsRowed};
 ghost use Rattle.fuse_tree.specs.PlainRows.{rows_of};
@@ -11,6 +11,7 @@ ghost use Rattle.fuse_store.specs.Plain.{mapped};
 use crate::fault::StoreFault;
 use crate::group::{settle, take_all};
 use crate::keeper::{Done, Keeper, StoreCounts};
+use crate::restart::Restart;
 use fuse_answer::Answer;
 use fuse_init::Settings;
 use fuse_request::Request;
@@ -145,4 +146,16 @@ impl Keeper for PlainKeeper {
     ghost one_holding = { λ k x y p q one two. (one.0 ∙ sym two.0, λ i. one.1 i ∙ sym (two.1 i)) };
 
     ghost clean_is_honest = { λ k clean. clean };
+}
+
+impl Restart for PlainKeeper {
+    ghost use Rattle.fuse_store.specs.PlainKeeper.{unfailed};
+
+    /// The same keeper, as if no call of it had failed. Takes no memory.
+    fn restart(mut self) -> Result<PlainKeeper, StoreFault>
+        ensures { result ≡ Ok (unfailed self) }
+    {
+        self.failed = false;
+        Ok(self)
+    }
 }

@@ -1,18 +1,30 @@
--- What is answered fits.
-use Rattle.std.proofs.Common.{ℕ, not, List, [], Option, Some, None, arith}
+-- What is answered fits, and is read.
+use Rattle.std.proofs.Common.{ℕ, if◌then◌else◌, not, List, [], Option, Some, None, is_some, refl, arith}
 use Rattle.fuse_wire.specs.declared.moment.Moment.{Moment}
 use Rattle.fuse_request.specs.declared.request.InHeader.{InHeader}
-use Rattle.fuse_request.specs.Act.{Act, Asked}
+use Rattle.fuse_request.specs.declared.request.InitIn.{InitIn}
+use Rattle.fuse_request.specs.Act.{Act, Asked, opcode_of}
 use Rattle.fuse_request.specs.Act as acts
 use Rattle.fuse_answer.specs.Said.{FitsAnswer}
-use Rattle.fuse_answer.specs.Laws.{RecordSizes}
+use Rattle.fuse_answer.specs.Laws.{ReadBack, RecordSizes}
+use Rattle.fuse_answer.specs.Replies.{AnEntry, Attributes, kind_of}
+use Rattle.fuse_init.specs.Agree.{agree}
 use Rattle.fuse_tree.specs.declared.rows.EntryRow.{EntryRow}
-use Rattle.fuse_tree.specs.State.{State, Node, is_dir, is_named, node_at, name_fault}
+use Rattle.fuse_tree.specs.State.{State, Node, Tree, is_dir, is_named, node_at, name_fault}
 use Rattle.fuse_tree.specs.Rows.{entry_at}
-use Rattle.fuse_tree.specs.Done.{attr_of, entry_of, attr_out_of}
-use Rattle.fuse_tree.specs.Do.{lookup_child, lookup_entry, lookup_named, lookup, getattr, do_act, do_at, names_node, done}
-use Rattle.fuse_tree.proofs.Fit.{Fits, refused, answered, chosen, refused_for}
-use Rattle.fuse_tree.proofs.MakingFits.{mkdir_fits}
+use Rattle.fuse_tree.specs.Done.{attr_of, entry_of, attr_out_of, Done, answer}
+use Rattle.fuse_tree.specs.Do.{lookup_child, lookup_entry, lookup_named, lookup, getattr, do_act, do_at, names_node, done, do_agreed, do_offered, offer_of}
+use Rattle.fuse_tree.specs.Renaming.{asking}
+use Rattle.fuse_tree.proofs.Fit.{Fits, refused, answered, chosen, refused_for, Reads, refused_reads, answered_reads, chosen_reads, refused_name_reads, no_body}
+use Rattle.fuse_tree.proofs.MakingFits.{mkdir_fits, mknod_fits, mkdir_reads, mknod_reads}
+use Rattle.fuse_tree.proofs.SettingFits.{setattr_fits, setattr_reads}
+use Rattle.fuse_tree.proofs.WritingFits.{write_fits, read_fits, write_reads, read_reads}
+use Rattle.fuse_tree.proofs.OpeningFits.{open_fits, open_dir_fits, release_fits, release_dir_fits, open_reads, open_dir_reads, release_reads, release_dir_reads}
+use Rattle.fuse_tree.proofs.InitFits.{init_fits, init_reads}
+use Rattle.fuse_tree.specs.Plan.{AnswersAreRead}
+use Rattle.fuse_tree.proofs.RemovingFits.{unlink_fits, rmdir_fits, unlink_reads, rmdir_reads}
+use Rattle.fuse_tree.proofs.ListingFits.{read_dir_fits, read_dir_reads}
+use Rattle.fuse_tree.proofs.RenameFits.{rename_fits, rename_reads}
 
 -- ---- LOOKUP
 
@@ -30,17 +42,47 @@ lookup_fits sizes s name n =
     (refused_for s (name_fault name) (lookup_named s name n)
     (chosen (not (is_named s n.number)) _ _ (refused s _) (entry_fits sizes s (entry_at s.entries n.number name))))
 
+lookup_child_reads : ReadBack → (s : State) (child : Option Node) → Reads AnEntry (lookup_child s child)
+lookup_child_reads back s None = refused_reads s _ refl
+lookup_child_reads back s (Some child) = answered_reads s _ (back.entry (entry_of (attr_of s child)))
+
+lookup_entry_reads : ReadBack → (s : State) (e : Option EntryRow) → Reads AnEntry (lookup_entry s e)
+lookup_entry_reads back s None = refused_reads s _ refl
+lookup_entry_reads back s (Some e) = lookup_child_reads back s (node_at s e.child)
+
+lookup_reads : ReadBack → (s : State) (name : List ℕ) (n : Node) → Reads AnEntry (lookup s name n)
+lookup_reads back s name n =
+    chosen_reads (not (is_dir n.mode)) _ _ (refused_reads s _ refl)
+    (refused_name_reads s name _
+    (chosen_reads (not (is_named s n.number)) _ _ (refused_reads s _ refl) (lookup_entry_reads back s (entry_at s.entries n.number name))))
+
 -- ---- GETATTR
 
 getattr_fits : RecordSizes → (s : State) (n : Node) → Fits (getattr s n)
 getattr_fits sizes s n = answered s _ (omega (arith, sizes.1 (attr_out_of (attr_of s n))))
 
--- ---- all requests
+getattr_reads : ReadBack → (s : State) (n : Node) → Reads Attributes (getattr s n)
+getattr_reads back s n = answered_reads s _ (back.attributes (attr_out_of (attr_of s n)))
+
+-- ---- all requests: what is answered fits
 
 act_fits : RecordSizes → (s : State) (header : InHeader) (act : Act) (now : Moment) (n : Node) → Fits (do_act s header act now n)
 act_fits sizes s header (acts.Lookup name) now n = lookup_fits sizes s name n
 act_fits sizes s header (acts.Getattr flags fh) now n = getattr_fits sizes s n
+act_fits sizes s header (acts.Setattr set) now n = setattr_fits sizes s set now n
 act_fits sizes s header (acts.Mkdir mode umask name) now n = mkdir_fits sizes s header mode name now n
+act_fits sizes s header (acts.Mknod mode rdev umask name) now n = mknod_fits sizes s header mode rdev name now n
+act_fits sizes s header (acts.Unlink name) now n = unlink_fits s name now n
+act_fits sizes s header (acts.Rmdir name) now n = rmdir_fits s name now n
+act_fits sizes s header (acts.OpenFile flags open_flags) now n = open_fits sizes s flags n
+act_fits sizes s header (acts.Read asked) now n = read_fits s asked n
+act_fits sizes s header (acts.Write fh offset write_flags lock_owner flags payload) now n = write_fits sizes s fh offset payload now n
+act_fits sizes s header (acts.OpenDir flags open_flags) now n = open_dir_fits sizes s n
+act_fits sizes s header (acts.ReadDir x) now n = read_dir_fits sizes s x n
+act_fits sizes s header (acts.Release x) now n = release_fits s x.fh n
+act_fits sizes s header (acts.ReleaseDir x) now n = release_dir_fits s x.fh n
+act_fits sizes s header (acts.Rename new_dir old_name new_name) now n = rename_fits s (asking new_dir 0 old_name new_name now) n
+act_fits sizes s header (acts.Rename2 new_dir flags old_name new_name) now n = rename_fits s (asking new_dir flags old_name new_name now) n
 act_fits sizes s header acts.Destroy now n = answered s [] (omega arith)
 act_fits sizes s header _ now n = refused s _
 
@@ -48,6 +90,54 @@ at_fits : RecordSizes → (s : State) (request : Asked) (now : Moment) (n : Opti
 at_fits sizes s request now None = refused s _
 at_fits sizes s request now (Some n) = act_fits sizes s request.header request.act now n
 
+agreed_fits : RecordSizes → (s : State) (request : Asked) (now : Moment) → Fits (do_agreed s request now)
+agreed_fits sizes s request now = chosen (names_node request.act) _ _ (at_fits sizes s request now (node_at s request.header.nodeid)) (answered s [] (omega arith))
+
+offered_fits : RecordSizes → (s : State) (request : Asked) (now : Moment) (offer : Option InitIn) → Fits (do_offered s request now offer)
+offered_fits sizes s request now (Some offer) = init_fits sizes s (agree offer)
+offered_fits sizes s request now None = chosen (is_some s.settings) _ _ (agreed_fits sizes s request now) (refused s _)
+
 pub fits : RecordSizes → (s : State) (request : Asked) (now : Moment) → FitsAnswer (done s request now).said
 unfolding done
-fits sizes s request now = chosen (names_node request.act) _ _ (at_fits sizes s request now (node_at s request.header.nodeid)) (answered s [] (omega arith))
+fits sizes s request now = offered_fits sizes s request now (offer_of request.act)
+
+-- ---- and it is read
+
+act_reads : ReadBack → (s : State) (header : InHeader) (act : Act) (now : Moment) (n : Node) → Tree s → Reads (kind_of (opcode_of act)) (do_act s header act now n)
+act_reads back s header (acts.Lookup name) now n tree = lookup_reads back s name n
+act_reads back s header (acts.Getattr flags fh) now n tree = getattr_reads back s n
+act_reads back s header (acts.Setattr set) now n tree = setattr_reads back s set now n
+act_reads back s header (acts.Mkdir mode umask name) now n tree = mkdir_reads back s header mode name now n
+act_reads back s header (acts.Mknod mode rdev umask name) now n tree = mknod_reads back s header mode rdev name now n
+act_reads back s header (acts.Unlink name) now n tree = unlink_reads s name now n
+act_reads back s header (acts.Rmdir name) now n tree = rmdir_reads s name now n
+act_reads back s header (acts.Read asked) now n tree = read_reads s asked n
+act_reads back s header (acts.Write fh offset write_flags lock_owner flags payload) now n tree = write_reads back s fh offset payload now n
+act_reads back s header (acts.OpenFile flags open_flags) now n tree = open_reads back s flags n
+act_reads back s header (acts.OpenDir flags open_flags) now n tree = open_dir_reads back s n
+act_reads back s header (acts.ReadDir x) now n tree = read_dir_reads back s x n tree
+act_reads back s header (acts.Release x) now n tree = release_reads s x.fh n
+act_reads back s header (acts.ReleaseDir x) now n tree = release_dir_reads s x.fh n
+act_reads back s header (acts.Rename new_dir old_name new_name) now n tree = rename_reads s (asking new_dir 0 old_name new_name now) n
+act_reads back s header (acts.Rename2 new_dir flags old_name new_name) now n tree = rename_reads s (asking new_dir flags old_name new_name now) n
+act_reads back s header acts.Destroy now n tree = answered_reads s [] no_body
+act_reads back s header _ now n tree = refused_reads s _ refl
+
+at_reads : ReadBack → (s : State) (request : Asked) (now : Moment) (n : Option Node) → Tree s → Reads (kind_of (opcode_of request.act)) (do_at s request now n)
+at_reads back s request now None tree = refused_reads s _ refl
+at_reads back s request now (Some n) tree = act_reads back s request.header request.act now n tree
+
+-- DESTROY alone looks at no node
+agreed_reads : (s : State) (a : Act) (d : Done) → Reads (kind_of (opcode_of a)) d → Reads (kind_of (opcode_of a)) (if names_node a then d else answer s [])
+agreed_reads s acts.Destroy d so = answered_reads s [] no_body
+agreed_reads s _ d so = so
+
+offered_reads : ReadBack → (s : State) (request : Asked) (now : Moment) (a : Act) → Reads (kind_of (opcode_of a)) (do_agreed s request now) → Reads (kind_of (opcode_of a)) (do_offered s request now (offer_of a))
+offered_reads back s request now (acts.Init offer) so = init_reads back s offer
+offered_reads back s request now _ so = chosen_reads (is_some s.settings) _ _ so (refused_reads s _ refl)
+
+pub answers_read : ReadBack → RecordSizes → AnswersAreRead
+unfolding done
+answers_read back sizes s request now tree =
+    back.said (opcode_of request.act) _ (fits sizes s request now)
+    (offered_reads back s request now request.act (agreed_reads s request.act _ (at_reads back s request now (node_at s request.header.nodeid) tree)))

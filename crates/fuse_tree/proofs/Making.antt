@@ -19,14 +19,14 @@ use Rattle.fuse_tree.proofs.Counts.{subdirs_grown, no_subdirs}
 use Rattle.fuse_tree.proofs.Trees.{SamePlace, nodes_below, children_below, tree_mapped, tree_grown}
 use Rattle.fuse_tree.proofs.Puts.{node_found, put_changed, put_new, dir_there}
 
-touched_same : (dir : ℕ) (now : Moment) (n : Node) → SamePlace n (touched dir now n)
+pub touched_same : (dir : ℕ) (now : Moment) (n : Node) → SamePlace n (touched dir now n)
 touched_same dir now n = record { number = refl; kind = refl }
 
-tree_touched : (s : State) (dir : ℕ) (now : Moment) → Tree s → Tree (touch dir now s)
+pub tree_touched : (s : State) (dir : ℕ) (now : Moment) → Tree s → Tree (touch dir now s)
 tree_touched s dir now tree =
     tree_mapped s (touched dir now) (touched_same dir now) (all_more (IsNode s.next_node) (λ n. IsNode s.next_node (touched dir now n)) s.nodes (λ n p. record { from_one = p.from_one; below = p.below; content = p.content; size = p.size }) tree.nodes) tree
 
-twice : (f : Node → Node) (g : Node → Full) (ns : List Node) → map g (map f ns) ≡ map (λ n. g (f n)) ns
+pub twice : (f : Node → Node) (g : Node → Full) (ns : List Node) → map g (map f ns) ≡ map (λ n. g (f n)) ns
 twice f g [] = refl
 twice f g (n ∷ ns) = rw (twice f g ns) refl
 

@@ -1,16 +1,16 @@
 -- The plan of a new node agrees with what is done.
 use Rattle.std.proofs.Common.{◌≡◌, ℕ, true, not, List, length, None, Some, sym, ap}
 use Rattle.std.specs.Prelude.{is_some}
-use Rattle.fuse_wire.specs.declared.errno.TheConstants.Errno.{ENOENT, EEXIST, ENOTDIR, ENOSPC}
+use Rattle.fuse_wire.specs.declared.errno.TheConstants.Errno.{ENOENT, EEXIST, ENOTDIR, EINVAL, ENOSPC}
 use Rattle.fuse_wire.specs.declared.moment.Moment.{Moment}
 use Rattle.fuse_request.specs.declared.request.InHeader.{InHeader}
 use Rattle.fuse_tree.specs.declared.planning.make.NewNode.{NewNode}
 use Rattle.fuse_tree.specs.declared.rows.Full.{Full}
 use Rattle.fuse_tree.specs.State.{State, Node, Tree, is_dir, node_at, is_named, name_fault}
 use Rattle.fuse_tree.specs.Rows.{row_of, rows_of_state, entry_at}
-use Rattle.fuse_tree.specs.Making.{make, mkdir, begun, dir_mode, is_full}
+use Rattle.fuse_tree.specs.Making.{make, mkdir, mknod, begun, dir_mode, type_bits, may_make, node_mode, node_rdev, is_full}
 use Rattle.fuse_tree.specs.Reading.{entry_body}
-use Rattle.fuse_tree.specs.PlanMaking.{plan_make, plan_mkdir}
+use Rattle.fuse_tree.specs.PlanMaking.{plan_make, plan_mkdir, plan_mknod}
 use Rattle.fuse_tree.proofs.Agreement.{Agrees, refused_agrees, both, both_for, not_false, none_some}
 use Rattle.fuse_tree.proofs.Making.{new_full, make_rows, make_tree}
 
@@ -31,3 +31,11 @@ mkdir_agrees s header mode name now d tree e =
     both s (not (is_dir d.mode)) _ _ _ _ (λ _. refused_agrees s tree ENOTDIR) (λ dir.
     both_for s (name_fault name) _ _ tree (λ name_ok.
     make_agrees s (begun header (dir_mode mode) 0 now) name d tree e (not_false _ dir) name_ok))
+
+pub mknod_agrees : (s : State) (header : InHeader) (mode rdev : ℕ) (name : List ℕ) (now : Moment) (d : Node) → Tree s → node_at s d.number ≡ Some d
+    → Agrees s (plan_mknod header mode rdev name now (row_of s d) (rows_of_state s)) (mknod s header mode rdev name now d)
+mknod_agrees s header mode rdev name now d tree e =
+    both s (not (is_dir d.mode)) _ _ _ _ (λ _. refused_agrees s tree ENOTDIR) (λ dir.
+    both s (not (may_make (type_bits mode))) _ _ _ _ (λ _. refused_agrees s tree EINVAL) (λ _.
+    both_for s (name_fault name) _ _ tree (λ name_ok.
+    make_agrees s (begun header (node_mode mode) (node_rdev mode rdev) now) name d tree e (not_false _ dir) name_ok)))

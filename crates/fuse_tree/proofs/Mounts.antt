@@ -8,26 +8,10 @@ use Rattle.fuse_tree.specs.declared.rows.EntryRow.{EntryRow}
 use Rattle.fuse_tree.specs.State.{State, Node, Tree, IsNode, IsEntry, Reaches, above, is_dir, is_dir_of, has_number, is_below, is_named, subdirs_of, up_of}
 use Rattle.fuse_tree.specs.Rows.{rowed, full_of}
 use Rattle.fuse_tree.specs.Clearing.{cleared, is_named_row, cleared_rows, Clearing}
-use Rattle.fuse_tree.proofs.Lists.{all_more, all_both, all_kept, apart_filtered, length_filtered, any_gives, and_true}
+use Rattle.fuse_tree.proofs.Lists.{all_more, all_both, all_kept, any_kept, apart_filtered, length_filtered, and_true}
+use Rattle.fuse_tree.proofs.Heights.{rooted, stays_none, dirs_given}
 
 -- ---- lists of which elements go
-
--- an element that passes the test is still there where the test keeps it
-any_kept : {A : Type 0} (test kept : A → Bool) (xs : List A) → ((x : A) → test x ≡ true → kept x ≡ true) → list_any test xs ≡ true → list_any test (filter kept xs) ≡ true
-any_kept test kept [] keeps is = absurd cc
-any_kept test kept (x ∷ xs) keeps is =
-    let step : (b d : Bool) → test x ≡ b → kept x ≡ d → (b || list_any test xs) ≡ true → list_any test (cond d (x ∷ filter kept xs) (filter kept xs)) ≡ true =
-    elim [
-      | true ↦ elim [
-        | true ↦ λ here stays e. rw here refl
-        | false ↦ λ here goes e. absurd (let stays = keeps x here in cc)
-      ]
-      | false ↦ elim [
-        | true ↦ λ here stays e. rw here (any_kept test kept xs keeps e)
-        | false ↦ λ here goes e. any_kept test kept xs keeps e
-      ]
-    ] in
-    step (test x) (kept x) refl refl is
 
 -- those that pass the test are the same where the test keeps them
 filter_twice : {A : Type 0} (test kept : A → Bool) (xs : List A) → ((x : A) → test x ≡ true → kept x ≡ true) → filter test (filter kept xs) ≡ filter test xs
@@ -67,15 +51,6 @@ child_up (e ∷ es) k dirs is =
     elim [ true ↦ λ here. dirs.0 | false ↦ λ there. child_up es k dirs.1 there ] in
     step (eqb e.child k) is
 
--- nothing lies above 0
-none_above : (es : List EntryRow) → AllByRecursion (λ e. e.child ≢ 0) es → up_of es 0 ≡ 0
-none_above [] children = refl
-none_above (e ∷ es) children = rw (ne_eqb e.child 0 children.0) (none_above es children.1)
-
-stays_none : (es : List EntryRow) → up_of es 0 ≡ 0 → (steps : ℕ) → above es steps 0 ≡ 0
-stays_none es none zero = refl
-stays_none es none (suc steps) = ap (above es steps) none ∙ stays_none es none steps
-
 named_by_up : (b : Bool) (up : ℕ) → up ≢ 0 → (b || not (eqb up 0)) ≡ true
 named_by_up true up ne = refl
 named_by_up false up ne = rw (ne_eqb up 0 ne) refl
@@ -86,27 +61,11 @@ reaches_named s k none (zero, at) = rw (eq-eqb k 1 at) refl
 reaches_named s k none (suc steps, at) =
     named_by_up (eqb k 1) (up_of s.entries k) (λ zero_up. let e = stays_none s.entries none steps in let f = ap (above s.entries steps) zero_up in absurd cc)
 
--- ---- what a tree gives
-
-dirs_given : (s : State) → Tree s → AllByRecursion (λ e. e.dir ≢ 0) s.entries
-dirs_given s tree =
-    all_more (IsEntry s.nodes s.entries s.next_cookie) (λ e. e.dir ≢ 0) s.entries
-    (λ e p. any_gives (IsNode s.next_node) (is_dir_of e.dir) (e.dir ≢ 0) s.nodes tree.nodes p.dir
-    (λ n q is. let at : n.number ≡ e.dir = eqb-true n.number e.dir (and_true _ _ is).0 in let one : 1 ≤ n.number = q.from_one in omega arith))
-    tree.entries
-
-children_given : (s : State) → Tree s → AllByRecursion (λ e. e.child ≢ 0) s.entries
-children_given s tree =
-    all_more (IsEntry s.nodes s.entries s.next_cookie) (λ e. e.child ≢ 0) s.entries
-    (λ e p. any_gives (IsNode s.next_node) (has_number e.child) (e.child ≢ 0) s.nodes tree.nodes p.child
-    (λ n q is. let at : n.number ≡ e.child = eqb-true n.number e.child is in let one : 1 ≤ n.number = q.from_one in omega arith))
-    tree.entries
-
 -- ---- the tree that is left
 
 entry_left : (s : State) (e : EntryRow) → Tree s → IsEntry s.nodes s.entries s.next_cookie e → list_any (λ x. eqb x.child e.child) s.entries ≡ true → IsEntry (cleared s).nodes s.entries s.next_cookie e
 entry_left s e tree p child =
-    let named_dir : is_named s e.dir ≡ true = reaches_named s e.dir (none_above s.entries (children_given s tree)) p.reaches in
+    let named_dir : is_named s e.dir ≡ true = reaches_named s e.dir (rooted s tree).none p.reaches in
     let named_child : is_named s e.child ≡ true = named_by_up (eqb e.child 1) (up_of s.entries e.child) (child_up s.entries e.child (dirs_given s tree) child) in
     record {
       dir = any_kept (is_dir_of e.dir) (λ n. is_named s n.number) s.nodes (λ n is. subst (λ (k : ℕ). is_named s k ≡ true) (sym (eqb-true n.number e.dir (and_true _ _ is).0)) named_dir) p.dir;

@@ -1,17 +1,26 @@
 -- What each request does to a state and answers (own profile), over the whole state: the first check that
 -- applies decides. Neither unique nor pid nor the extensions are looked at.
-use Rattle.std.specs.Prelude.{ℕ, Bool, true, false, not, if◌then◌else◌, List, [], Option, Some, None}
-use Rattle.fuse_wire.specs.declared.errno.TheConstants.Errno.{ENOENT, ENOTDIR, ENOSYS, ESTALE}
+use Rattle.std.specs.Prelude.{ℕ, Bool, true, false, not, if◌then◌else◌, List, [], Option, Some, None, is_some}
+use Rattle.fuse_wire.specs.declared.errno.TheConstants.Errno.{ENOENT, ENOTDIR, ENOSYS, EPROTO, ESTALE}
 use Rattle.fuse_wire.specs.declared.moment.Moment.{Moment}
 use Rattle.fuse_request.specs.declared.request.InHeader.{InHeader}
+use Rattle.fuse_request.specs.declared.request.InitIn.{InitIn}
 use Rattle.fuse_request.specs.Act.{Act, Asked}
 use Rattle.fuse_request.specs.Act as acts
 use Rattle.fuse_answer.specs.Bodies.{entry_bytes, attr_out_bytes}
+use Rattle.fuse_init.specs.Agree.{agree}
 use Rattle.fuse_tree.specs.declared.rows.EntryRow.{EntryRow}
 use Rattle.fuse_tree.specs.State.{State, Node, is_dir, node_at, is_named, name_fault}
 use Rattle.fuse_tree.specs.Rows.{entry_at}
 use Rattle.fuse_tree.specs.Done.{Done, refuse, refuse_for, answer, attr_of, entry_of, attr_out_of}
-use Rattle.fuse_tree.specs.Making.{mkdir}
+use Rattle.fuse_tree.specs.Making.{mkdir, mknod}
+use Rattle.fuse_tree.specs.Setting.{setattr}
+use Rattle.fuse_tree.specs.Writing.{write, read}
+use Rattle.fuse_tree.specs.Init.{init}
+use Rattle.fuse_tree.specs.Listing.{read_dir}
+use Rattle.fuse_tree.specs.Opening.{open_file, open_dir, release, release_dir}
+use Rattle.fuse_tree.specs.Removing.{unlink, rmdir}
+use Rattle.fuse_tree.specs.Renaming.{asking, rename}
 
 -- ---- LOOKUP
 
@@ -43,7 +52,20 @@ getattr s n = answer s (attr_out_bytes (attr_out_of (attr_of s n)))
 abbrev pub do_act : State → InHeader → Act → Moment → Node → Done
 do_act s header (acts.Lookup name) now n = lookup s name n
 do_act s header (acts.Getattr flags fh) now n = getattr s n
+do_act s header (acts.Setattr set) now n = setattr s set now n
 do_act s header (acts.Mkdir mode umask name) now n = mkdir s header mode name now n
+do_act s header (acts.Mknod mode rdev umask name) now n = mknod s header mode rdev name now n
+do_act s header (acts.Unlink name) now n = unlink s name now n
+do_act s header (acts.Rmdir name) now n = rmdir s name now n
+do_act s header (acts.OpenFile flags open_flags) now n = open_file s flags n
+do_act s header (acts.Read asked) now n = read s asked n
+do_act s header (acts.Write fh offset write_flags lock_owner flags payload) now n = write s fh offset payload now n
+do_act s header (acts.OpenDir flags open_flags) now n = open_dir s n
+do_act s header (acts.ReadDir x) now n = read_dir s x n
+do_act s header (acts.Release x) now n = release s x.fh n
+do_act s header (acts.ReleaseDir x) now n = release_dir s x.fh n
+do_act s header (acts.Rename new_dir old_name new_name) now n = rename s (asking new_dir 0 old_name new_name now) n
+do_act s header (acts.Rename2 new_dir flags old_name new_name) now n = rename s (asking new_dir flags old_name new_name now) n
 do_act s header acts.Destroy now n = answer s []
 do_act s header _ now n = refuse s ENOSYS
 
@@ -56,6 +78,20 @@ abbrev pub names_node : Act → Bool
 names_node acts.Destroy = false
 names_node _ = true
 
+-- where settings are agreed on
+abbrev pub do_agreed : State → Asked → Moment → Done
+do_agreed s request now = if names_node request.act then do_at s request now (node_at s request.header.nodeid) else answer s []
+
+-- what an INIT offers
+abbrev pub offer_of : Act → Option InitIn
+offer_of (acts.Init offer) = Some offer
+offer_of _ = None
+
+-- INIT is answered always, and all else where settings are agreed on
+abbrev pub do_offered : State → Asked → Moment → Option InitIn → Done
+do_offered s request now (Some offer) = init s (agree offer)
+do_offered s request now None = if is_some s.settings then do_agreed s request now else refuse s EPROTO
+
 -- what a request does at a moment
 unfoldable pub done : State → Asked → Moment → Done
-done s request now = if names_node request.act then do_at s request now (node_at s request.header.nodeid) else answer s []
+done s request now = do_offered s request now (offer_of request.act)

@@ -1,14 +1,14 @@
 -- What MKNOD and MKDIR do (own profile): a new node and its entry.
-use Rattle.std.specs.Prelude.{◌+◌, ◌%◌, ◌||◌, ℕ, Bool, not, nat_le, if◌then◌else◌, List, [], ◌∷◌, ◌++◌, length, is_some}
-use Rattle.fuse_wire.specs.declared.errno.TheConstants.Errno.{ENOENT, EEXIST, ENOTDIR, ENOSPC}
+use Rattle.std.specs.Prelude.{◌+◌, ◌*◌, ◌%◌, ◌==◌, ◌||◌, ℕ, Bool, not, nat_le, if◌then◌else◌, List, [], ◌∷◌, ◌++◌, length, is_some}
+use Rattle.fuse_wire.specs.declared.errno.TheConstants.Errno.{ENOENT, EEXIST, ENOTDIR, EINVAL, ENOSPC}
 use Rattle.fuse_wire.specs.declared.moment.Moment.{Moment}
 use Rattle.fuse_request.specs.declared.request.InHeader.{InHeader}
 use Rattle.fuse_answer.specs.Bodies.{entry_bytes}
 use Rattle.fuse_tree.specs.declared.limits.TheConstants.{MAX_NODES, COUNTER_END}
-use Rattle.fuse_tree.specs.declared.mode.TheConstants.{S_IFDIR, TYPE_UNIT}
+use Rattle.fuse_tree.specs.declared.mode.TheConstants.{S_IFBLK, S_IFCHR, S_IFDIR, S_IFIFO, S_IFREG, S_IFSOCK, TYPE_UNIT}
 use Rattle.fuse_tree.specs.declared.planning.make.NewNode.{NewNode}
 use Rattle.fuse_tree.specs.declared.rows.EntryRow.{EntryRow}
-use Rattle.fuse_tree.specs.State.{State, Node, is_dir, is_named, name_fault}
+use Rattle.fuse_tree.specs.State.{State, Node, type_of, is_dir, is_named, name_fault}
 use Rattle.fuse_tree.specs.Rows.{entry_at}
 use Rattle.fuse_tree.specs.Done.{Done, refuse, refuse_for, answer, attr_of, entry_of, touch}
 
@@ -72,3 +72,30 @@ abbrev pub mkdir : State → InHeader → ℕ → List ℕ → Moment → Node �
 mkdir s header mode name now n =
     if not (is_dir n.mode) then refuse s ENOTDIR
     else refuse_for s (name_fault name) (make s (begun header (dir_mode mode) 0 now) name n)
+
+-- ---- MKNOD
+
+-- the bits of a mode that tell its type
+abbrev pub type_bits : ℕ → ℕ
+type_bits mode = type_of mode * TYPE_UNIT
+
+-- these bits are of a type that MKNOD makes; 0 stands for a regular file
+abbrev pub may_make : ℕ → Bool
+may_make bits = (bits == 0) || (bits == S_IFREG) || (bits == S_IFCHR) || (bits == S_IFBLK) || (bits == S_IFIFO) || (bits == S_IFSOCK)
+
+abbrev pub is_device : ℕ → Bool
+is_device bits = (bits == S_IFCHR) || (bits == S_IFBLK)
+
+-- the mode of a new node: its type, and the permissions asked for
+abbrev pub node_mode : ℕ → ℕ
+node_mode mode = (if type_bits mode == 0 then S_IFREG else type_bits mode) + mode % TYPE_UNIT
+
+-- the device that a new node stands for, where it stands for one
+abbrev pub node_rdev : ℕ → ℕ → ℕ
+node_rdev mode rdev = if is_device (type_bits mode) then rdev else 0
+
+abbrev pub mknod : State → InHeader → ℕ → ℕ → List ℕ → Moment → Node → Done
+mknod s header mode rdev name now n =
+    if not (is_dir n.mode) then refuse s ENOTDIR
+    else if not (may_make (type_bits mode)) then refuse s EINVAL
+    else refuse_for s (name_fault name) (make s (begun header (node_mode mode) (node_rdev mode rdev) now) name n)

@@ -1,7 +1,8 @@
 -- What `plan` answers, and the laws on what requests do (own profile).
 use Rattle.std.specs.Prelude.{◌≡◌, Option, Some, None, Result, Ok, Err}
 use Rattle.fuse_wire.specs.declared.moment.Moment.{Moment}
-use Rattle.fuse_request.specs.Act.{Asked}
+use Rattle.fuse_request.specs.Act.{Asked, opcode_of}
+use Rattle.fuse_answer.specs.Replies.{IsRead}
 use Rattle.fuse_answer.specs.Said.{FitsAnswer}
 use Rattle.fuse_tree.specs.declared.look.LookFault.{LookFault}
 use Rattle.fuse_tree.specs.declared.planning.fault.PlanFault.{PlanFault}
@@ -42,3 +43,7 @@ RowsTellState = (s other : State) → rowed s ≡ rowed other → s ≡ other
 -- what is answered has no body beside an error, and none that is too long
 abbrev pub AnswersFit : Type 0
 AnswersFit = (s : State) (request : Asked) (now : Moment) → FitsAnswer (done s request now).said
+
+-- what is answered in a tree is read as the answer to the request's opcode
+abbrev pub AnswersAreRead : Type 0
+AnswersAreRead = (s : State) (request : Asked) (now : Moment) → Tree s → IsRead (opcode_of request.act) (done s request now).said

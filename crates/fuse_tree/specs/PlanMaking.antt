@@ -1,6 +1,6 @@
 -- What the plans of MKNOD and MKDIR read off the rows (own profile), in the order of their checks.
 use Rattle.std.specs.Prelude.{◌+◌, ℕ, not, if◌then◌else◌, List, [], ◌∷◌, is_some}
-use Rattle.fuse_wire.specs.declared.errno.TheConstants.Errno.{ENOENT, EEXIST, ENOTDIR, ENOSPC}
+use Rattle.fuse_wire.specs.declared.errno.TheConstants.Errno.{ENOENT, EEXIST, ENOTDIR, EINVAL, ENOSPC}
 use Rattle.fuse_wire.specs.declared.moment.Moment.{Moment}
 use Rattle.fuse_request.specs.declared.request.InHeader.{InHeader}
 use Rattle.fuse_tree.specs.declared.planning.make.NewNode.{NewNode}
@@ -12,7 +12,7 @@ use Rattle.fuse_tree.specs.declared.rows.Change.TheVariants as changes
 use Rattle.fuse_tree.specs.declared.rows.Planned.{Planned}
 use Rattle.fuse_tree.specs.State.{is_dir, name_fault}
 use Rattle.fuse_tree.specs.Rows.{Rows, entry_at}
-use Rattle.fuse_tree.specs.Making.{is_full, begun, dir_mode}
+use Rattle.fuse_tree.specs.Making.{is_full, begun, dir_mode, type_bits, may_make, node_mode, node_rdev}
 use Rattle.fuse_tree.specs.Reading.{refused, refused_for, row_is_named, entry_body}
 
 -- ---- a new node
@@ -67,3 +67,11 @@ abbrev pub plan_mkdir : InHeader → ℕ → List ℕ → Moment → NodeRow →
 plan_mkdir header mode name now row rows =
     if not (is_dir row.mode) then refused ENOTDIR
     else refused_for (name_fault name) (plan_make (begun header (dir_mode mode) 0 now) name row rows)
+
+-- ---- MKNOD
+
+abbrev pub plan_mknod : InHeader → ℕ → ℕ → List ℕ → Moment → NodeRow → Rows → Planned
+plan_mknod header mode rdev name now row rows =
+    if not (is_dir row.mode) then refused ENOTDIR
+    else if not (may_make (type_bits mode)) then refused EINVAL
+    else refused_for (name_fault name) (plan_make (begun header (node_mode mode) (node_rdev mode rdev) now) name row rows)

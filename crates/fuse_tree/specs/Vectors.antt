@@ -1,13 +1,14 @@
--- Worked rows (own profile): what `done` says of the first run, and of a name that is missing.
-use Rattle.std.specs.Prelude.{◌≡◌, ℕ, List, [], replicate, codes}
+-- Worked rows (own profile): what `done` says of INIT, of the first run, and of a name that is missing.
+use Rattle.std.specs.Prelude.{◌≡◌, ◌+◌, ◌^◌, ℕ, List, [], Option, Some, None, replicate, codes}
 use Rattle.fuse_wire.specs.declared.moment.Moment.{Moment}
 use Rattle.fuse_wire.specs.declared.errno.Errno.{Errno}
-use Rattle.fuse_wire.specs.declared.errno.TheConstants.Errno.{ENOENT, EEXIST, EINVAL, ENAMETOOLONG, ENOSYS, ESTALE}
+use Rattle.fuse_wire.specs.declared.errno.TheConstants.Errno.{ENOENT, EEXIST, EINVAL, ENAMETOOLONG, ENOSYS, EPROTO, ESTALE}
 use Rattle.fuse_request.specs.Act.{Act, Asked}
 use Rattle.fuse_request.specs.Act as acts
 use Rattle.fuse_answer.specs.Said.{Said}
 use Rattle.fuse_answer.specs.Bodies.{entry_bytes, attr_out_bytes}
 use Rattle.fuse_answer.specs.declared.records.Attr.{Attr}
+use Rattle.fuse_init.specs.declared.settings.Settings.{Settings}
 use Rattle.fuse_tree.specs.State.{State, new_store}
 use Rattle.fuse_tree.specs.Do.{done}
 
@@ -24,13 +25,38 @@ says body = record { errno = 0; body = body }
 abbrev pub refuses : Errno → Said
 refuses errno = record { errno = errno.0; body = [] }
 
--- ---- first-run: MKDIR of `a` at 1000 s, in a store made at second 0
+-- ---- INIT, in a store made at second 0
+
+abbrev pub init : ℕ → ℕ → ℕ → Option ℕ → Act
+init major minor flags flags2 = acts.Init (record { major = major; minor = minor; max_readahead = 131072; flags = flags; flags2 = flags2 })
+
+abbrev pub after_init : State → Act → State
+after_init s a = (done s (asks 2 0 a) (at 1000)).state
+
+-- init-agreed, on which the other rows stand
+abbrev pub first : State
+first = after_init (new_store (at 0)) (init 7 40 0x40002021 (Some 0x80))
+
+abbrev pub agrees : ℕ → ℕ → Option Settings
+agrees minor flags = Some (record { minor = minor; max_readahead = 131072; flags = record { 0 = flags } })
+
+abbrev pub Inits : Type 0
+Inits =
+    (first.settings ≡ agrees 40 (2 ^ 0 + 2 ^ 5 + 2 ^ 30 + 2 ^ 39))
+    × ((after_init first (init 7 31 0x21 None)).settings ≡ agrees 31 (2 ^ 0 + 2 ^ 5))
+    × ((after_init (new_store (at 0)) (init 8 0 0x21 None)).settings ≡ None)
+    × ((after_init first (init 8 0 0x21 None)).settings ≡ first.settings)
+    × ((done (new_store (at 0)) (asks 2 0 (init 7 22 0x21 None)) (at 1000)).said ≡ refuses EPROTO)
+    × ((done (new_store (at 0)) (asks 4 1 (acts.Getattr 0 0)) (at 1000)).said ≡ refuses EPROTO)
+    × ((done (new_store (at 0)) (asks 4 9 acts.Destroy) (at 1000)).said ≡ refuses EPROTO)
+
+-- ---- first-run: MKDIR of `a` at 1000 s
 
 abbrev pub mkdir_a : Act
 mkdir_a = acts.Mkdir 0o755 0o022 (codes "a")
 
 abbrev pub made : State
-made = (done (new_store (at 0)) (asks 6 1 mkdir_a) (at 1000)).state
+made = (done first (asks 6 1 mkdir_a) (at 1000)).state
 
 -- the attributes of `a`
 abbrev pub attr_a : Attr
@@ -58,7 +84,7 @@ entry_a = entry_bytes (record { nodeid = 2; generation = 0; entry_valid = 1; att
 
 abbrev pub FirstRun : Type 0
 FirstRun =
-    ((done (new_store (at 0)) (asks 6 1 mkdir_a) (at 1000)).said ≡ says entry_a)
+    ((done first (asks 6 1 mkdir_a) (at 1000)).said ≡ says entry_a)
     × ((done made (asks 8 2 (acts.Getattr 0 0)) (at 1000)).said ≡ says (attr_out_bytes (record { attr_valid = 1; attr_valid_nsec = 0; attr = attr_a })))
     × ((done made (asks 10 1 (acts.Lookup (codes "a"))) (at 1000)).said ≡ says entry_a)
     × ((done made (asks 12 1 mkdir_a) (at 1000)).said ≡ refuses EEXIST)
@@ -66,7 +92,7 @@ FirstRun =
 -- ---- missing-lookup, and the names and nodes that are refused
 
 abbrev pub lookup_of : ℕ → List ℕ → Said
-lookup_of nodeid name = (done (new_store (at 0)) (asks 4 nodeid (acts.Lookup name)) (at 1000)).said
+lookup_of nodeid name = (done first (asks 4 nodeid (acts.Lookup name)) (at 1000)).said
 
 abbrev pub Refusals : Type 0
 Refusals =
@@ -78,4 +104,4 @@ Refusals =
     × (lookup_of 1 (replicate 256 97) ≡ refuses ENAMETOOLONG)
     × (lookup_of 1 (replicate 255 97) ≡ refuses ENOENT)
     × (lookup_of 2 (codes "hello") ≡ refuses ESTALE)
-    × ((done (new_store (at 0)) (asks 4 1 (acts.Unsupported 35 [])) (at 1000)).said ≡ refuses ENOSYS)
+    × ((done first (asks 4 1 (acts.Unsupported 35 [])) (at 1000)).said ≡ refuses ENOSYS)

@@ -1,6 +1,7 @@
-ghost use Rattle.fuse_tree.specs.Plan.{TreeKept, NewStoreIsTree, RowsTellState, AnswersFit};
+ghost use Rattle.fuse_tree.specs.Listing.{ListingIsLongest};
+ghost use Rattle.fuse_tree.specs.Plan.{TreeKept, NewStoreIsTree, RowsTellState, AnswersFit, AnswersAreRead};
 
-use fuse_answer::record_sizes;
+use fuse_answer::{read_back, record_sizes};
 
 /// What is done in a tree leaves a tree.
 pub fn tree_kept()
@@ -23,3 +24,16 @@ pub fn answers_fit()
 {
     record_sizes();
 }
+
+/// What is answered is read.
+pub fn answers_are_read()
+    ensures { AnswersAreRead }
+{
+    read_back();
+    record_sizes();
+}
+
+/// The entries of a directory rise, and as many are told as fit.
+pub fn listing_is_longest()
+    ensures { ListingIsLongest }
+{}

@@ -4,6 +4,18 @@ pub const S_IFDIR: u32 = 0o040000;
 /// A regular file.
 pub const S_IFREG: u32 = 0o100000;
 
+/// A character device.
+pub const S_IFCHR: u32 = 0o020000;
+
+/// A block device.
+pub const S_IFBLK: u32 = 0o060000;
+
+/// A FIFO.
+pub const S_IFIFO: u32 = 0o010000;
+
+/// A socket.
+pub const S_IFSOCK: u32 = 0o140000;
+
 /// A mode's bits below this one are the permissions. It and the next three tell the type.
 pub const TYPE_UNIT: u32 = 0o10000;
 

@@ -1,33 +1,61 @@
 ghost use Rattle.std.specs.Prelude.{◌≡◌, None, IfOk, IfErr, OnOk, OnErr};
-ghost use Rattle.fuse_request.specs.Act.{asked, act};
+ghost use Rattle.fuse_request.specs.Act.{asked, act, opcode_of};
+ghost use Rattle.fuse_answer.specs.Replies.{IsRead};
 ghost use Rattle.fuse_tree.specs.State.{State, Tree};
 ghost use Rattle.fuse_tree.specs.Rows.{rowed};
 ghost use Rattle.fuse_tree.specs.Do.{done};
 ghost use Rattle.fuse_tree.specs.Plan.{Meets, look_fault};
 ghost use Rattle.fuse_tree.specs.Reading.{IsWithin, Reads};
-ghost use Rattle.fuse_tree.specs.Planning.{plan_act, plan_of};
+ghost use Rattle.fuse_tree.specs.Planning.{plan_act, plan_agreed as planned_agreed, plan_of};
 
 mod answers;
 mod attributes;
+mod exchange;
 mod fault;
 mod finding;
 mod getattr;
+mod init;
 mod lookup;
 mod make;
 mod mkdir;
+mod mknod;
+mod moving;
 mod names;
+mod open;
+mod read;
+mod read_dir;
+mod release;
+mod remove;
+mod rename;
+mod rmdir;
+mod setattr;
+mod unlink;
+mod walking;
+mod write;
 
+use crate::laws::answers_are_read;
 use crate::look::Look;
 use crate::rows::{NodeRow, Planned};
 use answers::{done_nothing, refused};
 pub use fault::PlanFault;
-use finding::find_node;
+use finding::{find_node, has_settings};
 use fuse_request::{Op, Request};
 use fuse_wire::{Errno, Moment};
 use getattr::plan_getattr;
+use init::plan_init;
 use lookup::plan_lookup;
 use mkdir::plan_mkdir;
+use mknod::plan_mknod;
+use open::{plan_open, plan_open_dir};
+use read::plan_read;
+use read_dir::plan_read_dir;
+use release::{plan_release, plan_release_dir};
+use rename::{asking, plan_rename};
+use rmdir::plan_rmdir;
+use setattr::plan_setattr;
 use std::alloc::Global;
+use unlink::plan_unlink;
+use write::plan_write;
 
 /// What the request answers in the tree whose rows lie behind `look`, and which rows it changes.
 /// Nothing is changed. An operation that is not built, or not of the profile, is answered ENOSYS.
@@ -40,6 +68,8 @@ pub fn plan<L: Look>(
     requires { L.fault look.old ≡ None }
     // Over the rows of a tree, it is what the request does there.
     ensures meets { L.is_clean look.new → (s : State) → Tree s → L.sees look.old (rowed s) → IfOk result (λ p. Meets s p (done s (asked request.now) now)) }
+    // Its answer is read as one to the request's opcode.
+    ensures read { L.is_clean look.new → (s : State) → Tree s → L.sees look.old (rowed s) → IfOk result (λ p. IsRead (opcode_of (act request.now.op)) p.answer) }
     // The rows are said to be those of no tree only where they are.
     ensures not_a_tree { IfErr result (λ f. f ≡ PlanFault.NotATree → L.is_clean look.new → (s : State) → Tree s → L.sees look.old (rowed s) → ⊥) }
     // The look's fault is then the one that is answered, and none where none is.
@@ -47,10 +77,12 @@ pub fn plan<L: Look>(
     ensures looks { OnOk result (L.looks look.old look.new) }
     ensures fails { OnErr result (L.fails look.old look.new) }
 {
+    answers_are_read();
     plan_request(look, alloc, request, now)
 }
 
-#[tactic(auto, using(crate::proofs::Agreeing::looks_at_node))]
+// INIT is answered always, and all else where an INIT is agreed on.
+#[tactic(auto, using(crate::proofs::Agreeing::offers_nothing))]
 fn plan_request<L: Look>(
     look: &mut L,
     alloc: Global,
@@ -59,6 +91,28 @@ fn plan_request<L: Look>(
 ) -> Result<Planned, PlanFault>
     requires { L.fault look.old ≡ None }
     ensures plan { Reads (L.is_clean look.new) (L.sees look.old) result (plan_of (asked request.now) now) }
+    ensures fault { L.fault look.new ≡ look_fault result }
+    ensures looks { look_fault result ≡ None → L.looks look.old look.new }
+    ensures fails { OnErr result (L.fails look.old look.new) }
+{
+    if let Op::Init(offer) = &request.op {
+        return Ok(plan_init(alloc, offer)?);
+    }
+    if !has_settings(look)? {
+        return Ok(refused(alloc, Errno::EPROTO));
+    }
+    plan_agreed(look, alloc, request, now)
+}
+
+#[tactic(auto, using(crate::proofs::Agreeing::looks_at_node))]
+fn plan_agreed<L: Look>(
+    look: &mut L,
+    alloc: Global,
+    request: &Request<'_>,
+    now: Moment,
+) -> Result<Planned, PlanFault>
+    requires { L.fault look.old ≡ None }
+    ensures plan { Reads (L.is_clean look.new) (L.sees look.old) result (planned_agreed (asked request.now) now) }
     ensures fault { L.fault look.new ≡ look_fault result }
     ensures looks { look_fault result ≡ None → L.looks look.old look.new }
     ensures fails { OnErr result (L.fails look.old look.new) }
@@ -90,27 +144,52 @@ fn plan_op<L: Look>(
     match &request.op {
         Op::Lookup { name } => plan_lookup(look, alloc, name, row),
         Op::Getattr { .. } => Ok(plan_getattr(alloc, row)?),
+        Op::Setattr(set) => Ok(plan_setattr(alloc, set, now, row)?),
         Op::Mkdir { mode, name, .. } => {
             plan_mkdir(look, alloc, &request.header, *mode, name, now, row)
         }
+        Op::Mknod {
+            mode,
+            rdev,
+            name,
+            ..
+        } => plan_mknod(look, alloc, &request.header, *mode, *rdev, name, now, row),
+        Op::Unlink { name } => plan_unlink(look, alloc, name, now, row),
+        Op::Rmdir { name } => plan_rmdir(look, alloc, name, now, row),
+        Op::OpenFile { flags, .. } => plan_open(look, alloc, *flags, row),
+        Op::Read(asked) => plan_read(look, alloc, asked, row),
+        Op::Write {
+            fh,
+            offset,
+            payload,
+            ..
+        } => plan_write(look, alloc, *fh, *offset, payload, now, row),
+        Op::OpenDir { .. } => plan_open_dir(look, alloc, row),
+        Op::ReadDir(asked) => plan_read_dir(look, alloc, asked, row),
+        Op::Release(release) => plan_release(look, alloc, release.fh, row),
+        Op::ReleaseDir(release) => plan_release_dir(look, alloc, release.fh, row),
+        Op::Rename {
+            new_dir,
+            old_name,
+            new_name,
+        } => {
+            let asked = asking(*new_dir, 0, old_name, new_name, now);
+            plan_rename(look, alloc, &asked, row)
+        }
+        Op::Rename2 {
+            new_dir,
+            flags,
+            old_name,
+            new_name,
+        } => {
+            let asked = asking(*new_dir, *flags, old_name, new_name, now);
+            plan_rename(look, alloc, &asked, row)
+        }
         Op::Destroy => Ok(done_nothing(alloc)),
         Op::Forget { .. }
-        | Op::Setattr(_)
-        | Op::Mknod { .. }
-        | Op::Unlink { .. }
-        | Op::Rmdir { .. }
-        | Op::Rename { .. }
-        | Op::OpenFile { .. }
-        | Op::Read(_)
-        | Op::Write { .. }
-        | Op::Release(_)
         | Op::Init(_)
-        | Op::OpenDir { .. }
-        | Op::ReadDir(_)
-        | Op::ReleaseDir(_)
         | Op::Interrupt { .. }
         | Op::BatchForget { .. }
-        | Op::Rename2 { .. }
         | Op::Unsupported { .. } => Ok(refused(alloc, Errno::ENOSYS)),
     }
 }

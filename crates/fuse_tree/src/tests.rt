@@ -1,14 +1,30 @@
 ghost use Rattle.std.specs.Prelude.{◌≡◌, None, IfOk, OnOk};
 ghost use Rattle.fuse_tree.specs.PlainRows.{fault_of};
-ghost use Rattle.fuse_tree.specs.Vectors.{FirstRun, Refusals};
+ghost use Rattle.fuse_tree.specs.Vectors.{Inits, FirstRun, Refusals};
+
+mod contents;
+mod file;
+mod init;
+mod listing;
+mod mknod;
+mod opening;
+mod pieces;
+mod removing;
+mod setattr;
 
 use super::*;
-use fuse_request::{InHeader, Op, Request};
+use fuse_request::{InHeader, InitIn, Op, Request};
 use fuse_wire::{ByteList, Moment};
 use std::alloc::Global;
 use std::test::*;
 
-// The definitions answer the first run so.
+// The definitions answer INIT so.
+#[tactic(auto, unfolding(crate::specs::Do::done))]
+fn inits()
+    ensures { Inits }
+{}
+
+// They answer the first run so.
 #[tactic(auto, unfolding(crate::specs::Do::done))]
 fn first_run()
     ensures { FirstRun }
@@ -22,6 +38,7 @@ fn refusals()
 
 #[test]
 fn vectors() {
+    inits();
     first_run();
     refusals();
 }
@@ -75,10 +92,11 @@ fn at(secs: u64) -> Moment {
     Moment { secs, nanos: 0 }
 }
 
-// What is planned at 1000 s, with the ids of the worked rows.
-fn planned(
+// What is planned at this moment, with the ids of the worked rows.
+fn planned_at(
     look: &mut PlainRows,
     alloc: Global,
+    now: Moment,
     nodeid: u64,
     op: Op<'_>,
 ) -> Result<Planned, PlanFault>
@@ -97,17 +115,30 @@ fn planned(
         op,
         ext: b"",
     };
-    plan(look, alloc, &request, at(1000))
+    plan(look, alloc, &request, now)
+}
+
+fn answered_at(
+    look: &mut PlainRows,
+    alloc: Global,
+    now: Moment,
+    nodeid: u64,
+    op: Op<'_>,
+) -> Result<Planned, Fail>
+    requires { fault_of look.old ≡ None }
+    ensures { OnOk result (fault_of look.new ≡ None) }
+{
+    match planned_at(look, alloc, now, nodeid, op) {
+        Ok(planned) => Ok(planned),
+        Err(_) => Err("a plan".into()),
+    }
 }
 
 fn answered(look: &mut PlainRows, alloc: Global, nodeid: u64, op: Op<'_>) -> Result<Planned, Fail>
     requires { fault_of look.old ≡ None }
     ensures { OnOk result (fault_of look.new ≡ None) }
 {
-    match planned(look, alloc, nodeid, op) {
-        Ok(planned) => Ok(planned),
-        Err(_) => Err("a plan".into()),
-    }
+    answered_at(look, alloc, at(1000), nodeid, op)
 }
 
 // The error number of what is planned, which has no body and no changes where it is not 0.
@@ -130,9 +161,28 @@ fn is_attributes(body: &[u8]) -> bool {
     body == attr_of_a()
 }
 
-// What is planned in a new store.
-fn planned_first(alloc: Global, nodeid: u64, op: Op<'_>) -> Result<Planned, Fail> {
+// Row init-agreed.
+const INIT: Op<'static> = Op::Init(InitIn {
+    major: 7,
+    minor: 40,
+    max_readahead: 131_072,
+    flags: 0x4000_2021,
+    flags2: Some(0x80),
+});
+
+// A new store in which row init-agreed was answered: all rows begin with it.
+fn begun(alloc: Global) -> Result<PlainRows, Fail>
+    ensures { IfOk result (λ look. fault_of look ≡ None) }
+{
     let mut look = PlainRows::new(alloc, at(0))?;
+    let agreed = answered(&mut look, alloc, 0, INIT)?;
+    look.apply_all(agreed.changes)?;
+    Ok(look)
+}
+
+// What is planned there.
+fn planned_first(alloc: Global, nodeid: u64, op: Op<'_>) -> Result<Planned, Fail> {
+    let mut look = begun(alloc)?;
     answered(&mut look, alloc, nodeid, op)
 }
 
@@ -149,7 +199,7 @@ fn makes_a_directory(rt: HostRuntime) -> Result<(), Fail> {
 fn with_a(alloc: Global) -> Result<PlainRows, Fail>
     ensures { IfOk result (λ look. fault_of look ≡ None) }
 {
-    let mut look = PlainRows::new(alloc, at(0))?;
+    let mut look = begun(alloc)?;
     let made = answered(&mut look, alloc, 1, MKDIR_A)?;
     look.apply_all(made.changes)?;
     Ok(look)
@@ -210,7 +260,7 @@ fn nameless(node: u64, mode: u32, subdirs: u32) -> NodeRow {
 fn with_nameless(alloc: Global) -> Result<PlainRows, Fail>
     ensures { IfOk result (λ look. fault_of look ≡ None) }
 {
-    let mut look = PlainRows::new(alloc, at(0))?;
+    let mut look = begun(alloc)?;
     look.apply(Change::Node(nameless(2, S_IFDIR, 0)))?;
     look.apply(Change::Node(nameless(3, S_IFREG, 0)))?;
     Ok(look)
@@ -290,7 +340,7 @@ const NEW: Counters = Counters {
 
 // The error number of MKDIR of `a` in the root, where these are the counters.
 fn counted(alloc: Global, counters: Counters) -> Result<u32, Fail> {
-    let mut look = PlainRows::new(alloc, at(0))?;
+    let mut look = begun(alloc)?;
     look.apply(Change::Counters(counters))?;
     let planned = answered(&mut look, alloc, 1, MKDIR_A)?;
     errno_of(&planned)
@@ -325,9 +375,9 @@ fn limits(rt: HostRuntime) -> Result<(), Fail> {
 
 // Whether what is planned after this change of a new store is said to be of no tree.
 fn is_no_tree(alloc: Global, change: Change, nodeid: u64, op: Op<'_>) -> Result<bool, Fail> {
-    let mut look = PlainRows::new(alloc, at(0))?;
+    let mut look = begun(alloc)?;
     look.apply(change)?;
-    let told = planned(&mut look, alloc, nodeid, op);
+    let told = planned_at(&mut look, alloc, at(1000), nodeid, op);
     Ok(matches!(told, Err(PlanFault::NotATree)))
 }
 

@@ -1,12 +1,23 @@
 ghost use Rattle.std.specs.Prelude.{◌≡◌, None, is_some, IfOk, IfSome, OnErr};
-ghost use Rattle.fuse_tree.specs.Rows.{row_at, entry_at};
+ghost use Rattle.fuse_tree.specs.Rows.{row_at, entry_at, handle_at};
+ghost use Rattle.fuse_tree.specs.Handles.{access_at, is_open};
 ghost use Rattle.fuse_tree.specs.Plan.{look_fault};
 ghost use Rattle.fuse_tree.specs.Reading.{IsWithin, Reads, child_at};
+ghost use Rattle.fuse_tree.specs.Removing as removing;
+ghost use Rattle.fuse_tree.specs.PlanRemoving.{link_at};
 
 use super::fault::PlanFault;
 use crate::limits::{MAX_FILE, MAX_NODES};
 use crate::look::Look;
-use crate::rows::{Counters, EntryRow, NodeRow};
+use crate::rows::{Counters, EntryRow, HandleRow, NodeRow};
+use fuse_wire::AccessMode;
+
+/// An entry that was looked up: its cookie, and the row of its child.
+#[derive(Clone, Copy)]
+pub struct Link {
+    pub cookie: u64,
+    pub child: NodeRow,
+}
 
 // The row of a node, within the bounds of each tree.
 #[tactic(auto, using(crate::proofs::Bounds::row_within))]
@@ -57,8 +68,33 @@ pub(crate) fn is_taken<L: Look>(look: &mut L, dir: u64, name: &[u8]) -> Result<b
     }
 }
 
-// The row of the node under this name in the directory.
+// The entry of this name in the directory, with the row of its child.
 #[tactic(auto, using(crate::proofs::Bounds::child_row))]
+pub(crate) fn find_link<L: Look>(
+    look: &mut L,
+    dir: u64,
+    name: &[u8],
+) -> Result<Option<Link>, PlanFault>
+    requires { L.fault look.old ≡ None }
+    ensures row { Reads (L.is_clean look.new) (L.sees look.old) result (λ rows. link_at rows dir name.now) }
+    ensures within { IfOk result (λ link. IfSome link (λ l. IsWithin l.child)) }
+    ensures fault { L.fault look.new ≡ look_fault result }
+    ensures looks { look_fault result ≡ None → L.looks look.old look.new }
+    ensures fails { OnErr result (L.fails look.old look.new) }
+{
+    let Some(entry) = find_entry(look, dir, name)? else {
+        return Ok(None);
+    };
+    let Some(child) = find_node(look, entry.child)? else {
+        return Err(PlanFault::NotATree);
+    };
+    Ok(Some(Link {
+        cookie: entry.cookie,
+        child,
+    }))
+}
+
+// The row of the node under this name in the directory.
 pub(crate) fn find_child<L: Look>(
     look: &mut L,
     dir: u64,
@@ -71,13 +107,24 @@ pub(crate) fn find_child<L: Look>(
     ensures looks { look_fault result ≡ None → L.looks look.old look.new }
     ensures fails { OnErr result (L.fails look.old look.new) }
 {
-    let Some(entry) = find_entry(look, dir, name)? else {
+    let Some(link) = find_link(look, dir, name)? else {
         return Ok(None);
     };
-    let Some(child) = find_node(look, entry.child)? else {
-        return Err(PlanFault::NotATree);
-    };
-    Ok(Some(child))
+    Ok(Some(link.child))
+}
+
+// Whether an entry stands in the directory.
+pub(crate) fn has_entries<L: Look>(look: &mut L, dir: u64) -> Result<bool, PlanFault>
+    requires { L.fault look.old ≡ None }
+    ensures row { Reads (L.is_clean look.new) (L.sees look.old) result (λ rows. removing.has_entries rows.entries dir) }
+    ensures fault { L.fault look.new ≡ look_fault result }
+    ensures looks { look_fault result ≡ None → L.looks look.old look.new }
+    ensures fails { OnErr result (L.fails look.old look.new) }
+{
+    match look.entries_after(dir, 0, 1) {
+        Ok(entries) => Ok(!entries.is_empty()),
+        Err(fault) => Err(PlanFault::Look(fault)),
+    }
 }
 
 pub(crate) fn find_counters<L: Look>(look: &mut L) -> Result<Counters, PlanFault>
@@ -89,6 +136,62 @@ pub(crate) fn find_counters<L: Look>(look: &mut L) -> Result<Counters, PlanFault
 {
     match look.counters() {
         Ok(row) => Ok(row),
+        Err(fault) => Err(PlanFault::Look(fault)),
+    }
+}
+
+pub(crate) fn find_handle<L: Look>(look: &mut L, fh: u64) -> Result<Option<HandleRow>, PlanFault>
+    requires { L.fault look.old ≡ None }
+    ensures row { Reads (L.is_clean look.new) (L.sees look.old) result (λ rows. handle_at rows.handles fh) }
+    ensures fault { L.fault look.new ≡ look_fault result }
+    ensures looks { look_fault result ≡ None → L.looks look.old look.new }
+    ensures fails { OnErr result (L.fails look.old look.new) }
+{
+    match look.handle(fh) {
+        Ok(row) => Ok(row),
+        Err(fault) => Err(PlanFault::Look(fault)),
+    }
+}
+
+// What the handle is open for at this node. `None` where it is not open, or is of another node.
+pub(crate) fn find_access<L: Look>(
+    look: &mut L,
+    fh: u64,
+    node: u64,
+) -> Result<Option<AccessMode>, PlanFault>
+    requires { L.fault look.old ≡ None }
+    ensures access { Reads (L.is_clean look.new) (L.sees look.old) result (λ rows. access_at rows.handles fh node) }
+    ensures fault { L.fault look.new ≡ look_fault result }
+    ensures looks { look_fault result ≡ None → L.looks look.old look.new }
+    ensures fails { OnErr result (L.fails look.old look.new) }
+{
+    match find_handle(look, fh)? {
+        Some(handle) if handle.node == node => Ok(Some(handle.access)),
+        _ => Ok(None),
+    }
+}
+
+// Whether the handle is open at this node.
+pub(crate) fn is_open_at<L: Look>(look: &mut L, fh: u64, node: u64) -> Result<bool, PlanFault>
+    requires { L.fault look.old ≡ None }
+    ensures open { Reads (L.is_clean look.new) (L.sees look.old) result (λ rows. is_open rows.handles fh node) }
+    ensures fault { L.fault look.new ≡ look_fault result }
+    ensures looks { look_fault result ≡ None → L.looks look.old look.new }
+    ensures fails { OnErr result (L.fails look.old look.new) }
+{
+    Ok(find_access(look, fh, node)?.is_some())
+}
+
+// Whether an INIT is agreed on.
+pub(crate) fn has_settings<L: Look>(look: &mut L) -> Result<bool, PlanFault>
+    requires { L.fault look.old ≡ None }
+    ensures settled { Reads (L.is_clean look.new) (L.sees look.old) result (λ rows. is_some rows.settings) }
+    ensures fault { L.fault look.new ≡ look_fault result }
+    ensures looks { look_fault result ≡ None → L.looks look.old look.new }
+    ensures fails { OnErr result (L.fails look.old look.new) }
+{
+    match look.settings() {
+        Ok(settings) => Ok(settings.is_some()),
         Err(fault) => Err(PlanFault::Look(fault)),
     }
 }

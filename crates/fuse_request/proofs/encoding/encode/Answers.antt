@@ -1,7 +1,9 @@
 use Rattle.std.proofs.Common.{refl, arith}
 use Rattle.fuse_request.specs.Act.{asked}
 use Rattle.fuse_request.specs.Encoding.{HasNumbers}
+use Rattle.fuse_request.specs.Canon.{canon}
 use Rattle.fuse_request.proofs.Canons.{spelled_again, well}
+use Rattle.fuse_request.proofs.Heads.{no_fault, is_at}
 use Rattle.fuse_request.proofs.encoding.encode.Goals as goal
 
 pub returns-then-len-clause-too_long : goal.returns-then-len-clause-too_long
@@ -17,3 +19,9 @@ pub returns-clause-spelled : goal.returns-clause-spelled
 returns-clause-spelled c =
     let v = asked c.args.request.now in
     spelled_again v c.requires (well c.put_message.result (HasNumbers v) c.is_err.result c.put_message.ensures.fits c.is_err.ensures.value c.if-is_err.false)
+
+pub returns-clause-decoded : goal.returns-clause-decoded
+returns-clause-decoded c =
+    let v = asked c.args.request.now in
+    let s = spelled_again v c.requires (well c.put_message.result (HasNumbers v) c.is_err.result c.put_message.ensures.fits c.is_err.ensures.value c.if-is_err.false) in
+    (no_fault v (canon v) s, is_at v (canon v) s)

@@ -1,10 +1,10 @@
-use Rattle.std.proofs.Common.{sym, subst, arith}
+use Rattle.std.proofs.Common.{sym, ap, subst, arith, length}
 use Rattle.std.proofs.lemmas.List.{length-map}
 use Rattle.fuse_store.specs.History.{Includes}
 use Rattle.fuse_store.specs.Stands.{Records, OthersStay}
 use Rattle.fuse_store.specs.Group.{entry_of, entries_of, ids_of}
 use Rattle.fuse_tree.specs.Rows.{Rows}
-use Rattle.fuse_session.proofs.Groups.{hands_more}
+use Rattle.fuse_session.proofs.Handing.{hands_more, few_performed}
 use Rattle.fuse_session.proofs.group.perform_group.Goals as goal
 
 pub returns-in-Ok-clause-ok : goal.returns-in-Ok-clause-ok
@@ -19,6 +19,16 @@ returns-in-Ok-clause-more g c = λ honest before h.
     let o = c.in-Ok.ensures.others honest rows records held in
     (o.0, o.1, o.2, subst (λ x. OthersStay records (ids_of x) (entries_of group) o.1) c.as_slice.ensures.value o.3))
     h
+
+pub returns-in-Ok-clause-gone : goal.returns-in-Ok-clause-gone
+returns-in-Ok-clause-gone g c = λ honest t other h.
+    let group = c.args.group.now in
+    few_performed (g.K.Keeper.holds c.args.keeper.now) (g.K.Keeper.holds c.perform.new.self) t (ids_of c.args.pending.now.items) (ids_of c.clear.new.self.items) (entries_of group)
+    (omega (arith, ap (λ xs. length (ids_of xs)) c.clear.ensures.items))
+    (λ (rows : Rows) (records : Records) held.
+    let o = c.in-Ok.ensures.others honest rows records held in
+    (o.0, o.1, o.2, subst (λ x. OthersStay records (ids_of x) (entries_of group) o.1) c.as_slice.ensures.value o.3))
+    other h
 
 pub returns-in-Err-clause-crash : goal.returns-in-Err-clause-crash
 returns-in-Err-clause-crash g c = λ s h t so within un firm. c.perform.ensures.crash s h t so (subst (λ x. Includes t (ids_of x)) (sym c.as_slice.ensures.value) within) un firm

@@ -1,8 +1,11 @@
-use Rattle.std.proofs.Common.{true, false, sym, refl, ◌∙◌, take}
+use Rattle.std.proofs.Common.{true, false, sym, ap, refl, ◌∙◌, take, length, arith}
+use Rattle.std.proofs.lemmas.List.{length-map}
+use Rattle.fuse_wire.specs.declared.id.Id.{Id}
 use Rattle.fuse_store.specs.Stands.{Records}
-use Rattle.fuse_store.specs.Group.{ids_of}
+use Rattle.fuse_store.specs.Group.{ids_of, entry_of}
 use Rattle.fuse_session.proofs.Replies.{replied_none}
-use Rattle.fuse_session.proofs.Groups.{broken_none, broken_store, broken_sent, turned, firm_leaves, are_enough, stuck_zero, starts_zero, hands_group, at_most}
+use Rattle.fuse_session.proofs.Groups.{broken_none, broken_store, broken_sent, turned, firm_leaves, are_enough, stuck_zero, starts_zero}
+use Rattle.fuse_session.proofs.Handing.{hands_group, at_most}
 use Rattle.fuse_session.proofs.group.work_group.Goals as goal
 
 pub returns-in_default-clause-err : goal.returns-in_default-clause-err
@@ -10,7 +13,7 @@ returns-in_default-clause-err g c =
     let k = c.args.keeper.now in
     let p = g.P.Port.told c.args.port.now in
     broken_none (g.K.Keeper.holds k) (g.K.Keeper.holds k) _ _ _ _ _ _ p p (ids_of c.args.pending.now.items) c.args.messages.now false true _ refl (replied_none p)
-    (λ _ rows records held. held) (λ firm s h t so. firm_leaves (g.K.Keeper.holds k) (g.K.Keeper.leaves_whole k) (g.K.Keeper.may_leave k) s h t firm so)
+    (λ rows records held. held) (λ firm s h t so. firm_leaves (g.K.Keeper.holds k) (g.K.Keeper.leaves_whole k) (g.K.Keeper.may_leave k) s h t firm so)
 
 pub returns-in-Err-clause-err : goal.returns-in-Err-clause-err
 returns-in-Err-clause-err g c =
@@ -36,7 +39,8 @@ returns-in-Ok-send_answers-clause-ok g c =
     let k' = c.perform_group.new.keeper in
     turned c.histories_grow.ensures (g.K.Keeper.holds k) (g.K.Keeper.holds k') _ (g.C.Clock.may_answer c.args.clock.now) (g.P.Port.told c.args.port.now) _ (ids_of c.args.pending.now.items) (ids_of c.perform_group.new.pending.items) _ c.args.messages.now
     c.in-Ok.gathered.count c.in-Ok.gathered.taken.items c.in-Ok.gathered.ends c.as_slice-group.result.now (take c.in-Ok.gathered.count c.args.messages.now) c.in-Ok-perform_group.dones.items c.as_slice-answered.result.now c.is_stuck-stuck.result c.rest_of-rest.result c.count_all-counts.result
-    c.in-Ok.ensures.gathers c.as_slice-group.ensures.value refl c.in-Ok-perform_group.ensures.ok c.in-Ok-perform_group.ensures.pending c.in-Ok-send_answers.ensures.ok c.as_slice-answered.ensures.value c.rest_of-rest.ensures c.count_all-counts.ensures.tallied
+    c.in-Ok.ensures.gathers c.as_slice-group.ensures.value refl c.in-Ok-perform_group.ensures.ok c.in-Ok-perform_group.ensures.pending c.in-Ok-perform_group.ensures.gone (omega (arith, length-map c.send_answers.new.pending.items (λ (x : Id). x.0), c.in-Ok-send_answers.ensures.few, c.in-Ok-perform_group.ensures.few, ap length c.as_slice-answered.ensures.value))
+     c.in-Ok-send_answers.ensures.ok c.as_slice-answered.ensures.value c.rest_of-rest.ensures c.count_all-counts.ensures.tallied
 
 pub returns-in-Ok-send_answers-clause-more : goal.returns-in-Ok-send_answers-clause-more
 returns-in-Ok-send_answers-clause-more g c = λ confirms honest (before : Records) h.
@@ -49,8 +53,10 @@ returns-clause-err g c =
     let k = c.args.keeper.now in
     let k' = c.perform_group.new.keeper in
     broken_sent c.histories_grow.ensures (g.K.Keeper.holds k) (g.K.Keeper.holds k') _ _ (g.K.Keeper.leaves_whole k) (g.K.Keeper.leaves_whole k') (g.K.Keeper.may_leave k) (g.K.Keeper.may_leave k') (g.C.Clock.may_answer c.args.clock.now) (g.P.Port.told c.args.port.now) _
-    (ids_of c.args.pending.now.items) c.args.messages.now c.in-Ok.gathered.count c.in-Ok.gathered.taken.items c.in-Ok.gathered.ends c.as_slice-group.result.now (take c.in-Ok.gathered.count c.args.messages.now) c.in-Ok-perform_group.dones.items c.as_slice-answered.result.now _ _ _ _
-    c.in-Ok.ensures.gathers c.as_slice-group.ensures.value refl (g.met.K.Keeper.clean_is_honest k') c.in-Ok-perform_group.ensures.ok c.in-Ok-perform_group.ensures.firm c.as_slice-answered.ensures.value c.in-Err-send_answers.ensures.err c.stop_of.ensures.store c.stop_of.ensures.memory
+    (ids_of c.args.pending.now.items) (ids_of c.perform_group.new.pending.items) c.args.messages.now c.in-Ok.gathered.count c.in-Ok.gathered.taken.items c.in-Ok.gathered.ends c.as_slice-group.result.now (take c.in-Ok.gathered.count c.args.messages.now) c.in-Ok-perform_group.dones.items c.as_slice-answered.result.now _ _ _ _
+    c.in-Ok.ensures.gathers c.as_slice-group.ensures.value refl (g.met.K.Keeper.clean_is_honest k') c.in-Ok-perform_group.ensures.ok c.in-Ok-perform_group.ensures.firm c.in-Ok-perform_group.ensures.gone 
+    (omega (arith, length-map c.perform_group.new.pending.items (λ (x : Id). x.0), length-map c.as_slice-group.result.now entry_of, c.in-Ok-perform_group.ensures.count, c.in-Ok-perform_group.ensures.few))
+     c.as_slice-answered.ensures.value c.in-Err-send_answers.ensures.err c.stop_of.ensures.store c.stop_of.ensures.memory
 
 pub returns-clause-at_most : goal.returns-clause-at_most
 returns-clause-at_most g c = λ clean (before : Records) h.

@@ -1,6 +1,6 @@
 use Rattle.std.proofs.Common.{rules, ◌≡◌, [], arith}
 use Rattle.fuse_session.specs.declared.port.Sent.TheVariants.{Took, Failed}
-use Rattle.fuse_session.proofs.Bytes.{front_more, front_failed, took_nothing}
+use Rattle.fuse_session.proofs.Bytes.{front_more, front_gone, front_failed, took_nothing}
 use Rattle.fuse_session.proofs.port.send_whole.Goals as goal
 
 pub loop-rest-preserved : goal.loop-rest-preserved
@@ -11,6 +11,11 @@ returns-then-n-eq0-clause-err g c =
     let some : c.loop-rest.rest.now ≡ [] → ⊥ = search rules in
     front_failed (g.P.Port.told c.args.port.now) (g.P.Port.told c.loop-rest.port) (g.P.Port.told c.send.new.self) c.args.bytes.now c.loop-rest.rest.now (Took c.in-Took.n)
     (took_nothing c.in-Took.n c.loop-rest.rest.now _ _ c.if-n-eq0.true some c.in-Took.ensures.sent.failures) c.in-Took.ensures.sent.gone c.loop-rest.invariant c.in-Took.ensures.sent
+
+pub returns-in-Gone-clause-ok : goal.returns-in-Gone-clause-ok
+returns-in-Gone-clause-ok g c =
+    let some : c.loop-rest.rest.now ≡ [] → ⊥ = search rules in
+    front_gone (g.P.Port.told c.args.port.now) (g.P.Port.told c.loop-rest.port) (g.P.Port.told c.send.new.self) c.args.bytes.now c.loop-rest.rest.now some c.loop-rest.invariant c.in-Gone.ensures.sent
 
 pub returns-in-Failed-clause-err : goal.returns-in-Failed-clause-err
 returns-in-Failed-clause-err g c =

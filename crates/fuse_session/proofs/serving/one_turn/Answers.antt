@@ -5,7 +5,7 @@ use Rattle.fuse_store.specs.Group.{ids_of}
 use Rattle.fuse_session.specs.Counting.{IsBelow}
 use Rattle.fuse_session.specs.Serving.{Whole}
 use Rattle.fuse_session.proofs.Counted.{below_more}
-use Rattle.fuse_session.proofs.Groups.{at_most}
+use Rattle.fuse_session.proofs.Handing.{at_most}
 use Rattle.fuse_session.proofs.Sessions.{life_unheard, ends_unheard, unheard_store, life_heard, fault_ends, fault_not_turns, life_worked, ends_finished, finished_store, whole_heard, stop_may_end}
 use Rattle.fuse_session.proofs.serving.one_turn.Goals as goal
 

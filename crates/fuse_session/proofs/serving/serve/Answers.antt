@@ -6,9 +6,9 @@ use Rattle.fuse_session.specs.declared.ended.Ended.TheVariants.{Memory}
 use Rattle.fuse_session.specs.Settling.{HandsOn}
 use Rattle.fuse_session.specs.Counting.{IsBelow}
 use Rattle.fuse_session.proofs.Counted.{plus_below, below_more}
-use Rattle.fuse_session.proofs.Groups.{at_most, hands_start}
+use Rattle.fuse_session.proofs.Handing.{at_most, hands_start}
 use Rattle.fuse_session.proofs.Waiting.{ready_new, room_still}
-use Rattle.fuse_session.proofs.Sessions.{whole_start, whole_step, whole_life, ends_step, life_more, life_none, may_end, exact_at}
+use Rattle.fuse_session.proofs.Sessions.{whole_start, whole_step, whole_life, ends_step, life_more, life_none, may_end, exact_at, few_settled}
 use Rattle.fuse_session.proofs.serving.serve.Goals as goal
 
 pub returns-in_default-clause-life : goal.returns-in_default-clause-life
@@ -23,6 +23,11 @@ returns-in_default-clause-exactly g c =
 
 pub returns-in_default-clause-at_most : goal.returns-in_default-clause-at_most
 returns-in_default-clause-at_most g c = λ _ _ rows (records : Records) held. at_most records (g.K.Keeper.holds c.args.keeper.now) [] (hands_start (g.K.Keeper.holds c.args.keeper.now) [] rows records held)
+
+pub returns-in_default-clause-settled : goal.returns-in_default-clause-settled
+returns-in_default-clause-settled g c = λ clean.
+    let k = c.args.keeper.now in
+    few_settled (g.K.Keeper.holds k) (g.K.Keeper.holds k) _ _ _ _ (g.K.Keeper.may_leave k) _ _ _ _ _ _ (g.met.K.Keeper.clean_is_honest k) clean (returns-in_default-clause-life g c)
 
 pub loop-turn-init : goal.loop-turn-init
 loop-turn-init g c = record {
@@ -100,6 +105,12 @@ returns-in-Err-clause-at_most g c = λ confirms clean rows (records : Records) h
     let k' = c.one_turn.new.keeper in
     c.in-Err.ensures.at_most (inv.confirms ∙ confirms) clean records (inv.more confirms (c.in-Err.ensures.honest (g.met.K.Keeper.clean_is_honest k' clean)) records (hands_start (g.K.Keeper.holds c.args.keeper.now) [] rows records held))
 
+pub returns-in-Err-clause-settled : goal.returns-in-Err-clause-settled
+returns-in-Err-clause-settled g c = λ clean.
+    let k = c.args.keeper.now in
+    let k' = c.one_turn.new.keeper in
+    few_settled (g.K.Keeper.holds k) (g.K.Keeper.holds k') _ _ _ _ (g.K.Keeper.may_leave k') _ _ _ _ _ _ (g.met.K.Keeper.clean_is_honest k') clean (returns-in-Err-clause-life g c)
+
 pub returns-in-Err-clause-failed : goal.returns-in-Err-clause-failed
 returns-in-Err-clause-failed g c = λ is. omega (arith, c.in-Err.ensures.failed is, c.loop-turn.invariant.failures)
 
@@ -115,6 +126,12 @@ returns-clause-life g c =
     let k' = c.loop-turn.keeper in
     whole_life (g.K.Keeper.holds k) (g.K.Keeper.holds k') _ _ (g.K.Keeper.leaves_whole k) (g.K.Keeper.leaves_whole k') (g.K.Keeper.may_leave k) (g.K.Keeper.may_leave k') _ _ _ [] (ids_of c.loop-turn.pending.items) [] _ 0 _ c.loop-turn.counts _ _ _ refl
     inv.whole (g.met.K.Keeper.clean_is_honest k') inv.firm
+
+pub returns-clause-settled : goal.returns-clause-settled
+returns-clause-settled g c = λ clean.
+    let k = c.args.keeper.now in
+    let k' = c.loop-turn.keeper in
+    few_settled (g.K.Keeper.holds k) (g.K.Keeper.holds k') _ _ _ _ (g.K.Keeper.may_leave k') _ _ _ _ _ _ (g.met.K.Keeper.clean_is_honest k') clean (returns-clause-life g c)
 
 pub returns-clause-at_most : goal.returns-clause-at_most
 returns-clause-at_most g c = λ confirms clean rows (records : Records) held.

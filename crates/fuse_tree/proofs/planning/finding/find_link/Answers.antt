@@ -1,6 +1,6 @@
 use Rattle.std.proofs.Common.{sym, ◌∙◌, refl}
 use Rattle.fuse_tree.proofs.Bounds.{child_row}
-use Rattle.fuse_tree.proofs.planning.finding.find_child.Goals as goal
+use Rattle.fuse_tree.proofs.planning.finding.find_link.Goals as goal
 
 pub returns-in_default-2-clause-row : goal.returns-in_default-2-clause-row
 returns-in_default-2-clause-row g c = λ well clean rows is sees.

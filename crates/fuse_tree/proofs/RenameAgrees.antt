@@ -1,0 +1,248 @@
+-- The plan of RENAME and RENAME2 agrees with what is done.
+use Rattle.std.proofs.Common.{◌≡◌, ◌≢◌, ◌≤◌, ◌-◌, ◌&&◌, ◌||◌, ◌==◌, ℕ, Bool, true, false, cond, not, eqb, List, [], ◌∷◌, Option, Some, None, refl, sym, ap, subst, ◌∙◌, arith}
+use Rattle.std.specs.Prelude.{find, nat_le, nat_lt, is_some}
+use Rattle.std.specs.Option.{option_map}
+use Rattle.std.specs.List.{list_any}
+use Rattle.std.specs.Cmp.Lexicographic.{same_text}
+use Rattle.std.proofs.lemmas.Bool.{eqb-true, eqb-false, leb-false, ltb-false}
+use Rattle.fuse_wire.specs.declared.errno.Errno.{Errno}
+use Rattle.fuse_wire.specs.declared.errno.TheConstants.Errno.{ENOENT, EEXIST, EINVAL, ENOSPC, ESTALE}
+use Rattle.fuse_tree.specs.declared.limits.TheConstants.{COUNTER_END}
+use Rattle.fuse_tree.specs.declared.planning.finding.Link.{Link}
+use Rattle.fuse_tree.specs.declared.planning.rename.TheConstants.{RENAME_NOREPLACE, RENAME_EXCHANGE}
+use Rattle.fuse_tree.specs.declared.rows.EntryRow.{EntryRow}
+use Rattle.fuse_tree.specs.declared.rows.NodeRow.{NodeRow}
+use Rattle.fuse_tree.specs.declared.rows.Planned.{Planned}
+use Rattle.fuse_tree.specs.State.{State, Node, Tree, IsNode, IsEntry, Reaches, is_dir, is_dir_of, has_number, is_entry, is_named, name_fault, node_at}
+use Rattle.fuse_tree.specs.Rows.{row_of, rows_of_state, entry_at}
+use Rattle.fuse_tree.specs.Done.{Done, refuse_for}
+use Rattle.fuse_tree.specs.Reading.{refused_for}
+use Rattle.fuse_tree.specs.Removing.{has_entries}
+use Rattle.fuse_tree.specs.Renaming.{Renaming, lies_in, is_dir_at, holds, asked_fault, earlier, kinds_fault, place_fault, rename_entry, exchange_entry, rename_by, rename_from, rename_between, rename}
+use Rattle.fuse_tree.specs.PlanRemoving.{link_of}
+use Rattle.fuse_tree.specs.PlanRenaming.{row_holds, link_fault, plan_rename_link, plan_exchange_link, plan_rename_by, plan_rename_from, plan_rename_between, plan_rename}
+use Rattle.fuse_tree.proofs.Agreement.{Agrees, refused_agrees, both, both_for}
+use Rattle.fuse_tree.proofs.Lists.{any_gives, found, and_true, or_false}
+use Rattle.fuse_tree.proofs.Puts.{row_found, node_found, only_one, dir_there}
+use Rattle.fuse_tree.proofs.Heights.{rooted, not_under_own}
+use Rattle.fuse_tree.proofs.GoneRows.{none_in_empty}
+use Rattle.fuse_tree.proofs.Moving.{up_found}
+use Rattle.fuse_tree.proofs.MovedTrees.{f_differs}
+use Rattle.fuse_tree.proofs.Walking.{never_held}
+use Rattle.fuse_tree.proofs.RenameFree.{free_rows, free_tree}
+use Rattle.fuse_tree.proofs.RenameOver.{over_rows, over_tree}
+use Rattle.fuse_tree.proofs.Exchanges.{exchange_rows, exchange_tree}
+
+-- ---- tests and faults that are told in two ways
+
+both_as : (s : State) (b b' : Bool) (p q : Planned) (d e : Done) → b' ≡ b → (b ≡ true → Agrees s p d) → (b ≡ false → Agrees s q e) → Agrees s (cond b' p q) (cond b d e)
+both_as s b b' p q d e same there other = subst (λ (x : Bool). Agrees s (cond x p q) (cond b d e)) (sym same) (both s b p q d e there other)
+
+both_for_as : (s : State) (fault fault' : Option Errno) (p : Planned) (d : Done) → Tree s → fault' ≡ fault → (fault ≡ None → Agrees s p d) → Agrees s (refused_for fault' p) (refuse_for s fault d)
+both_for_as s fault fault' p d tree same other = subst (λ (x : Option Errno). Agrees s (refused_for x p) (refuse_for s fault d)) (sym same) (both_for s fault p d tree other)
+
+earlier_none : (one two : Option Errno) → earlier one two ≡ None → (one ≡ None) × (two ≡ None)
+earlier_none (Some errno) two is = absurd cc
+earlier_none None two is = (refl, is)
+
+cond_none : (b : Bool) (errno : Errno) (o : Option Errno) → cond b (Some errno) o ≡ None → (b ≡ false) × (o ≡ None)
+cond_none true errno o is = absurd cc
+cond_none false errno o is = (refl, is)
+
+not_false : (b : Bool) → not b ≡ false → b ≡ true
+not_false true is = refl
+not_false false is = absurd cc
+
+record Asks (r : Renaming) (are_dirs are_named : Bool) : Type 0 where
+  dirs : are_dirs ≡ true
+  new_name : name_fault r.new_name ≡ None
+  named : are_named ≡ true
+
+asked_none : (r : Renaming) (are_dirs are_named : Bool) → asked_fault r are_dirs are_named ≡ None → Asks r are_dirs are_named
+asked_none r are_dirs are_named is =
+    let first = cond_none (not are_dirs) _ _ is in
+    let second = earlier_none (name_fault r.old_name) _ first.1 in
+    let third = earlier_none (name_fault r.new_name) _ second.1 in
+    let fourth = cond_none (nat_lt RENAME_EXCHANGE r.flags) _ _ third.1 in
+    record { dirs = not_false are_dirs first.0; new_name = third.0; named = not_false are_named (cond_none (not are_named) _ _ fourth.1).0 }
+
+kinds_none : (a b h : Bool) → kinds_fault a b h ≡ None → h ≡ false
+kinds_none a b h is = (cond_none h _ _ (cond_none (not a && b) _ _ (cond_none (a && not b) _ _ is).1).1).0
+
+-- ---- what is found in a tree
+
+there_found : {A : Type 0} (test : A → Bool) (xs : List A) → list_any test xs ≡ true → (x : A) × (find test xs ≡ Some x)
+there_found test [] is = absurd cc
+there_found test (x ∷ xs) is =
+    let step : (b : Bool) → (b || list_any test xs) ≡ true → (y : _) × (cond b (Some x) (find test xs) ≡ Some y) =
+    elim [ true ↦ λ here. (x, refl) | false ↦ λ there. there_found test xs there ] in
+    step (test x) is
+
+-- an entry that is found, and its child
+record Found (s : State) (dir : ℕ) (name : List ℕ) (e : EntryRow) (c : Node) : Type 0 where
+  entry : IsEntry s.nodes s.entries s.next_cookie e
+  dir_is : e.dir ≡ dir
+  name_is : e.name ≡ name
+  child : node_at s e.child ≡ Some c
+  given : e.child ≢ 0
+  link : link_of (rows_of_state s) (Some e) ≡ Some (record { cookie = e.cookie; child = row_of s c })
+
+found_entry : (s : State) (dir : ℕ) (name : List ℕ) (e : EntryRow) → Tree s → entry_at s.entries dir name ≡ Some e → (c : Node) × Found s dir name e c
+found_entry s dir name e tree at =
+    let p = found (IsEntry s.nodes s.entries s.next_cookie) (is_entry dir name) s.entries e tree.entries at in
+    let place = and_true (eqb e.dir dir) _ p.1 in
+    let c = there_found (has_number e.child) s.nodes p.0.child in
+    let one : 1 ≤ c.0.number = (found (IsNode s.next_node) (has_number e.child) s.nodes c.0 tree.nodes c.1).0.from_one in
+    let is : c.0.number ≡ e.child = (node_found s e.child c.0 tree c.1).0 in (
+      c.0,
+      record {
+        entry = p.0;
+        dir_is = eqb-true e.dir dir place.0;
+        name_is = same_text e.name name (sym place.1);
+        child = c.1;
+        given = omega arith;
+        link = ap (option_map (λ (row : NodeRow). record { cookie = e.cookie; child = row })) (row_found s e.child ∙ ap (option_map (row_of s)) c.1);
+      },
+    )
+
+dir_at : (s : State) (k : ℕ) (n : Node) → Tree s → node_at s k ≡ Some n → is_dir_at s k ≡ is_dir n.mode
+dir_at s k n tree at = step (is_dir n.mode) refl (is_dir_at s k) refl
+  where
+    step : (b : Bool) → is_dir n.mode ≡ b → (a : Bool) → is_dir_at s k ≡ a → a ≡ b
+    step true is a e = sym e ∙ dir_there k n s.nodes at is
+    step false is false e = refl
+    step false is true e =
+        absurd (any_gives (λ m. m.number ≡ k → m ≡ n) (is_dir_of k) ⊥ s.nodes (only_one k n s.nodes tree.nodes_rise at) e
+        (λ m one test. (
+        let parts = and_true _ _ test in
+        let same : is_dir n.mode ≡ true = subst (λ (i : Node). is_dir i.mode ≡ true) (one (eqb-true m.number k parts.0)) parts.1 in
+        cc)))
+
+same_holds : (s : State) (k dir : ℕ) (n : Node) → Tree s → node_at s k ≡ Some n → row_holds (rows_of_state s) (row_of s n) dir ≡ holds s k dir
+same_holds s k dir n tree at =
+    ap (λ (i : ℕ). is_dir n.mode && lies_in s i dir) (node_found s k n tree at).0
+    ∙ ap (λ (b : Bool). b && lies_in s k dir) (sym (dir_at s k n tree at))
+
+-- ---- from directory d to directory t
+
+module _ (s : State) (r : Renaming) (d t : Node) (tree : Tree s) (at_d : node_at s d.number ≡ Some d) (at_t : node_at s r.new_dir ≡ Some t) (dir_d : is_dir d.mode ≡ true) (dir_t : is_dir t.mode ≡ true)
+    (named : is_named s r.new_dir ≡ true) (name_ok : name_fault r.new_name ≡ None) where
+  abbrev link : EntryRow → Node → Link
+  link e c = record { cookie = e.cookie; child = row_of s c }
+
+  to_there : is_dir_at s r.new_dir ≡ true
+  to_there = dir_at s r.new_dir t tree at_t ∙ dir_t
+
+  from_there : is_dir_at s d.number ≡ true
+  from_there = dir_at s d.number d tree at_d ∙ dir_d
+
+  -- no directory is under its own entry's child
+  not_own : (dir : ℕ) (name : List ℕ) (e : EntryRow) (c : Node) → Found s dir name e c → entry_at s.entries dir name ≡ Some e → e.child ≢ dir
+  not_own dir name e c p at same =
+      not_under_own s.entries (rooted s tree) e.child dir (up_found (is_entry dir name) s.entries e tree.entries_apart at ∙ p.dir_is) (subst (λ (k : ℕ). Reaches s.entries k) p.dir_is p.entry.reaches) 0 (sym same)
+
+  -- ---- RENAME
+
+  free_agrees : (e : EntryRow) (c : Node) → Found s d.number r.old_name e c → entry_at s.entries d.number r.old_name ≡ Some e → entry_at s.entries r.new_dir r.new_name ≡ None
+      → Agrees s (plan_rename_link r (row_of s d) (row_of s t) (link e c) None (rows_of_state s)) (rename_entry s r d.number e None)
+  free_agrees e c p at_e free =
+      both_as s (holds s e.child r.new_dir) _ _ _ _ _ (same_holds s e.child r.new_dir c tree p.child) (λ _. refused_agrees s tree EINVAL) (λ apart.
+      both s (nat_le COUNTER_END s.next_cookie) _ _ _ _ (λ _. refused_agrees s tree ENOSPC) (λ room. (
+      let never = never_held s e.child r.new_dir tree p.given to_there apart in
+      record {
+        answer = refl;
+        rows = free_rows s r d t c e tree at_d at_t p.child at_e p.dir_is (not_own d.number r.old_name e c p at_e) (λ same. never 0 (sym same));
+        tree = free_tree s r d t c e tree at_d at_t p.child at_e p.dir_is (not_own d.number r.old_name e c p at_e) (λ same. never 0 (sym same)) dir_t named name_ok free never (leb-false _ _ room);
+      })))
+
+  over_agrees : (e : EntryRow) (c : Node) (f : EntryRow) (o : Node) → Found s d.number r.old_name e c → entry_at s.entries d.number r.old_name ≡ Some e → Found s r.new_dir r.new_name f o → entry_at s.entries r.new_dir r.new_name ≡ Some f
+      → Agrees s (plan_rename_link r (row_of s d) (row_of s t) (link e c) (Some (link f o)) (rows_of_state s)) (rename_entry s r d.number e (Some f))
+  over_agrees e c f o p at_e q at_f =
+      both s (eqb e.cookie f.cookie) _ _ _ _ (λ _. record { answer = refl; rows = refl; tree = tree }) (λ other.
+      both_as s (holds s e.child r.new_dir) _ _ _ _ _ (same_holds s e.child r.new_dir c tree p.child) (λ _. refused_agrees s tree EINVAL) (λ apart.
+      both_for_as s (place_fault s e.child (Some f)) (link_fault (rows_of_state s) (link e c) (Some (link f o))) _ _ tree
+      (ap (λ (b : Bool). kinds_fault b (is_dir o.mode) (has_entries s.entries o.number)) (sym (dir_at s e.child c tree p.child))
+      ∙ ap (λ (b : Bool). kinds_fault (is_dir_at s e.child) b (has_entries s.entries o.number)) (sym (dir_at s f.child o tree q.child))
+      ∙ ap (λ (k : ℕ). kinds_fault (is_dir_at s e.child) (is_dir_at s f.child) (has_entries s.entries k)) (node_found s f.child o tree q.child).0) (λ fits.
+      both s (nat_le COUNTER_END s.next_cookie) _ _ _ _ (λ _. refused_agrees s tree ENOSPC) (λ room. (
+      let never = never_held s e.child r.new_dir tree p.given to_there apart in
+      let empty = none_in_empty s.entries f.child (kinds_none _ _ _ fits) in
+      let ne = eqb-false e.cookie f.cookie other in
+      let differ = f_differs s (is_entry r.new_dir r.new_name) (is_entry d.number r.old_name) f e r.new_dir d.number r.new_name r.old_name tree at_f at_e (λ same. ne (sym same)) in
+      record {
+        answer = refl;
+        rows = over_rows s r d t c o e f tree at_d at_t p.child q.child at_e at_f p.dir_is q.dir_is differ (not_own d.number r.old_name e c p at_e) (λ same. never 0 (sym same)) (not_own r.new_dir r.new_name f o q at_f) empty;
+        tree = over_tree s r d t c o e f tree at_d at_t p.child q.child at_e at_f p.dir_is q.dir_is differ (not_own d.number r.old_name e c p at_e) (λ same. never 0 (sym same)) (not_own r.new_dir r.new_name f o q at_f) empty dir_t named name_ok q.name_is never (leb-false _ _ room);
+      })))))
+
+  rename_agrees : (e : EntryRow) (c : Node) → Found s d.number r.old_name e c → entry_at s.entries d.number r.old_name ≡ Some e → (other : Option EntryRow) → entry_at s.entries r.new_dir r.new_name ≡ other
+      → Agrees s (plan_rename_link r (row_of s d) (row_of s t) (link e c) (link_of (rows_of_state s) other) (rows_of_state s)) (rename_entry s r d.number e other)
+  rename_agrees e c p at_e None at = free_agrees e c p at_e at
+  rename_agrees e c p at_e (Some f) at =
+      let o = found_entry s r.new_dir r.new_name f tree at in
+      subst (λ (l : Option Link). Agrees s (plan_rename_link r (row_of s d) (row_of s t) (link e c) l (rows_of_state s)) (rename_entry s r d.number e (Some f))) (sym o.1.link)
+      (over_agrees e c f o.0 p at_e o.1 at)
+
+  -- ---- EXCHANGE
+
+  swap_agrees : (e : EntryRow) (c : Node) (f : EntryRow) (o : Node) → Found s d.number r.old_name e c → entry_at s.entries d.number r.old_name ≡ Some e → Found s r.new_dir r.new_name f o → entry_at s.entries r.new_dir r.new_name ≡ Some f
+      → Agrees s (plan_exchange_link r (row_of s d) (row_of s t) (link e c) (Some (link f o)) (rows_of_state s)) (exchange_entry s r d.number e (Some f))
+  swap_agrees e c f o p at_e q at_f =
+      both s (eqb e.cookie f.cookie) _ _ _ _ (λ _. record { answer = refl; rows = refl; tree = tree }) (λ other.
+      both_as s (holds s e.child r.new_dir || holds s f.child d.number) _ _ _ _ _
+      (ap (λ (b : Bool). b || row_holds (rows_of_state s) (row_of s o) d.number) (same_holds s e.child r.new_dir c tree p.child) ∙ ap (λ (b : Bool). holds s e.child r.new_dir || b) (same_holds s f.child d.number o tree q.child))
+      (λ _. refused_agrees s tree EINVAL) (λ apart.
+      both s (nat_lt (COUNTER_END - 2) s.next_cookie) _ _ _ _ (λ _. refused_agrees s tree ENOSPC) (λ room. (
+      let parts = or_false (holds s e.child r.new_dir) (holds s f.child d.number) apart in
+      let never_e = never_held s e.child r.new_dir tree p.given to_there parts.0 in
+      let never_f = never_held s f.child d.number tree q.given from_there parts.1 in
+      let ne = eqb-false e.cookie f.cookie other in
+      let few : s.next_cookie ≤ COUNTER_END - 2 = ltb-false (COUNTER_END - 2) s.next_cookie room in
+      record {
+        answer = refl;
+        rows = exchange_rows s r d t c o e f tree at_d at_t p.child q.child at_e at_f p.dir_is q.dir_is ne (not_own d.number r.old_name e c p at_e) (λ same. never_e 0 (sym same)) (λ same. never_f 0 (sym same)) (not_own r.new_dir r.new_name f o q at_f);
+        tree = exchange_tree s r d t c o e f tree at_d at_t p.child q.child at_e at_f p.dir_is q.dir_is ne (not_own d.number r.old_name e c p at_e) (λ same. never_e 0 (sym same)) (λ same. never_f 0 (sym same)) (not_own r.new_dir r.new_name f o q at_f) p.name_is q.name_is never_e never_f (omega arith);
+      }))))
+
+  exchange_agrees : (e : EntryRow) (c : Node) → Found s d.number r.old_name e c → entry_at s.entries d.number r.old_name ≡ Some e → (other : Option EntryRow) → entry_at s.entries r.new_dir r.new_name ≡ other
+      → Agrees s (plan_exchange_link r (row_of s d) (row_of s t) (link e c) (link_of (rows_of_state s) other) (rows_of_state s)) (exchange_entry s r d.number e other)
+  exchange_agrees e c p at_e None at = refused_agrees s tree ENOENT
+  exchange_agrees e c p at_e (Some f) at =
+      let o = found_entry s r.new_dir r.new_name f tree at in
+      subst (λ (l : Option Link). Agrees s (plan_exchange_link r (row_of s d) (row_of s t) (link e c) l (rows_of_state s)) (exchange_entry s r d.number e (Some f))) (sym o.1.link)
+      (swap_agrees e c f o.0 p at_e o.1 at)
+
+  -- ---- by the flags
+
+  same_some : (other : Option EntryRow) → entry_at s.entries r.new_dir r.new_name ≡ other → is_some (link_of (rows_of_state s) other) ≡ is_some other
+  same_some None at = refl
+  same_some (Some f) at = ap is_some (found_entry s r.new_dir r.new_name f tree at).1.link
+
+  by_agrees : (e : EntryRow) (c : Node) → Found s d.number r.old_name e c → entry_at s.entries d.number r.old_name ≡ Some e → (other : Option EntryRow) → entry_at s.entries r.new_dir r.new_name ≡ other
+      → Agrees s (plan_rename_by r (row_of s d) (row_of s t) (link e c) (link_of (rows_of_state s) other) (rows_of_state s)) (rename_by s r d.number e other)
+  by_agrees e c p at_e other at =
+      both s (r.flags == RENAME_EXCHANGE) _ _ _ _ (λ _. exchange_agrees e c p at_e other at) (λ _.
+      both_as s ((r.flags == RENAME_NOREPLACE) && is_some other) _ _ _ _ _ (ap (λ (b : Bool). (r.flags == RENAME_NOREPLACE) && b) (same_some other at))
+      (λ _. refused_agrees s tree EEXIST) (λ _. rename_agrees e c p at_e other at))
+
+  pub from_agrees : (o : Option EntryRow) → entry_at s.entries d.number r.old_name ≡ o → Agrees s (plan_rename_from r (row_of s d) (row_of s t) (link_of (rows_of_state s) o) (rows_of_state s)) (rename_from s r d.number o)
+  from_agrees None at = refused_agrees s tree ENOENT
+  from_agrees (Some e) at =
+      let c = found_entry s d.number r.old_name e tree at in
+      subst (λ (l : Option Link). Agrees s (plan_rename_from r (row_of s d) (row_of s t) l (rows_of_state s)) (rename_from s r d.number (Some e))) (sym c.1.link)
+      (by_agrees e c.0 c.1 at (entry_at s.entries r.new_dir r.new_name) refl)
+
+between_agrees : (s : State) (r : Renaming) (d : Node) → Tree s → node_at s d.number ≡ Some d → (o : Option Node) → node_at s r.new_dir ≡ o
+    → Agrees s (plan_rename_between r (row_of s d) (option_map (row_of s) o) (rows_of_state s)) (rename_between s r d o)
+between_agrees s r d tree at_d None at = refused_agrees s tree ESTALE
+between_agrees s r d tree at_d (Some t) at =
+    both_for s (asked_fault r (is_dir d.mode && is_dir t.mode) (is_named s d.number && is_named s t.number)) _ _ tree (λ none. (
+    let asks = asked_none r (is_dir d.mode && is_dir t.mode) (is_named s d.number && is_named s t.number) none in
+    let dirs = and_true (is_dir d.mode) (is_dir t.mode) asks.dirs in
+    let named = subst (λ (k : ℕ). is_named s k ≡ true) (node_found s r.new_dir t tree at).0 (and_true (is_named s d.number) (is_named s t.number) asks.named).1 in
+    from_agrees s r d t tree at_d at dirs.0 dirs.1 named asks.new_name (entry_at s.entries d.number r.old_name) refl))
+
+-- RENAME2, and with flags 0 RENAME
+pub renaming_agrees : (s : State) (r : Renaming) (d : Node) → Tree s → node_at s d.number ≡ Some d → Agrees s (plan_rename r (row_of s d) (rows_of_state s)) (rename s r d)
+renaming_agrees s r d tree at_d =
+    subst (λ (o : Option NodeRow). Agrees s (plan_rename_between r (row_of s d) o (rows_of_state s)) (rename s r d)) (sym (row_found s r.new_dir)) (between_agrees s r d tree at_d (node_at s r.new_dir) refl)

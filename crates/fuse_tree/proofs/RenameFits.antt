@@ -1,0 +1,121 @@
+-- What RENAME and RENAME2 answer fits, and is read.
+use Rattle.std.proofs.Common.{◌≡◌, ◌-◌, ◌&&◌, ◌||◌, ◌==◌, ℕ, Bool, true, false, cond, not, List, [], Option, Some, None, is_some, refl, arith}
+use Rattle.std.specs.Prelude.{nat_le, nat_lt}
+use Rattle.fuse_wire.specs.declared.errno.Errno.{Errno}
+use Rattle.fuse_answer.specs.Replies.{Kind, Nothing}
+use Rattle.fuse_tree.specs.declared.limits.TheConstants.{COUNTER_END}
+use Rattle.fuse_tree.specs.declared.planning.rename.TheConstants.{RENAME_NOREPLACE, RENAME_EXCHANGE}
+use Rattle.fuse_tree.specs.declared.rows.EntryRow.{EntryRow}
+use Rattle.fuse_tree.specs.State.{State, Node, is_dir, is_named, is_odd_name, name_fault, node_at}
+use Rattle.fuse_tree.specs.Rows.{entry_at}
+use Rattle.fuse_tree.specs.Done.{Done, refuse_for}
+use Rattle.fuse_tree.specs.Removing.{has_entries}
+use Rattle.fuse_tree.specs.Renaming.{Renaming, is_dir_at, holds, is_same, earlier, asked_fault, place_fault, renamed, exchanged, rename_with_room, rename_entry, exchange_entry, rename_by, rename_from, rename_between, rename}
+use Rattle.fuse_tree.proofs.Fit.{Fits, Reads, refused, answered, chosen, refused_for, is_error, refused_reads, answered_reads, chosen_reads, no_body}
+
+-- ---- fits
+
+room_fits : (s : State) (r : Renaming) (dir : ℕ) (e : EntryRow) (other : Option EntryRow) → Fits (rename_with_room s r dir e other)
+room_fits s r dir e other = chosen (nat_le COUNTER_END s.next_cookie) _ _ (refused s _) (answered (renamed r dir e other s) [] (omega arith))
+
+entry_fits : (s : State) (r : Renaming) (dir : ℕ) (e : EntryRow) (other : Option EntryRow) → Fits (rename_entry s r dir e other)
+entry_fits s r dir e other =
+    chosen (is_same e other) _ _ (answered s [] (omega arith))
+    (chosen (holds s e.child r.new_dir) _ _ (refused s _)
+    (refused_for s (place_fault s e.child other) _ (room_fits s r dir e other)))
+
+exchange_fits : (s : State) (r : Renaming) (dir : ℕ) (e : EntryRow) (other : Option EntryRow) → Fits (exchange_entry s r dir e other)
+exchange_fits s r dir e None = refused s _
+exchange_fits s r dir e (Some other) =
+    chosen (e.cookie == other.cookie) _ _ (answered s [] (omega arith))
+    (chosen (holds s e.child r.new_dir || holds s other.child dir) _ _ (refused s _)
+    (chosen (nat_lt (COUNTER_END - 2) s.next_cookie) _ _ (refused s _) (answered (exchanged r dir e other s) [] (omega arith))))
+
+by_fits : (s : State) (r : Renaming) (dir : ℕ) (e : EntryRow) (other : Option EntryRow) → Fits (rename_by s r dir e other)
+by_fits s r dir e other =
+    chosen (r.flags == RENAME_EXCHANGE) _ _ (exchange_fits s r dir e other)
+    (chosen ((r.flags == RENAME_NOREPLACE) && is_some other) _ _ (refused s _) (entry_fits s r dir e other))
+
+from_fits : (s : State) (r : Renaming) (dir : ℕ) (o : Option EntryRow) → Fits (rename_from s r dir o)
+from_fits s r dir None = refused s _
+from_fits s r dir (Some e) = by_fits s r dir e (entry_at s.entries r.new_dir r.new_name)
+
+between_fits : (s : State) (r : Renaming) (n : Node) (o : Option Node) → Fits (rename_between s r n o)
+between_fits s r n None = refused s _
+between_fits s r n (Some to) =
+    refused_for s (asked_fault r (is_dir n.mode && is_dir to.mode) (is_named s n.number && is_named s to.number)) _ (from_fits s r n.number (entry_at s.entries n.number r.old_name))
+
+pub rename_fits : (s : State) (r : Renaming) (n : Node) → Fits (rename s r n)
+rename_fits s r n = between_fits s r n (node_at s r.new_dir)
+
+-- ---- and is read
+
+-- a fault that is told is an error that an answer may bear
+IsError : Option Errno → Type 0
+IsError None = Unit {0}
+IsError (Some errno) = is_error errno ≡ true
+
+unless : (b : Bool) (errno : Errno) (o : Option Errno) → is_error errno ≡ true → IsError o → IsError (cond b (Some errno) o)
+unfolding IsError
+unless true errno o one two = one
+unless false errno o one two = two
+
+never : IsError None
+unfolding IsError
+never = tt
+
+earlier_error : (one two : Option Errno) → IsError one → IsError two → IsError (earlier one two)
+earlier_error None two a b = b
+earlier_error (Some errno) two a b = a
+
+name_error : (name : List ℕ) → IsError (name_fault name)
+name_error name = unless _ _ _ refl (unless (is_odd_name name) _ _ refl never)
+
+asked_error : (r : Renaming) (are_dirs are_named : Bool) → IsError (asked_fault r are_dirs are_named)
+asked_error r are_dirs are_named =
+    unless (not are_dirs) _ _ refl
+    (earlier_error _ _ (name_error r.old_name) (earlier_error _ _ (name_error r.new_name)
+    (unless (nat_lt RENAME_EXCHANGE r.flags) _ _ refl (unless (not are_named) _ _ refl never))))
+
+place_error : (s : State) (child : ℕ) (other : Option EntryRow) → IsError (place_fault s child other)
+place_error s child None = never
+place_error s child (Some other) =
+    unless (is_dir_at s child && not (is_dir_at s other.child)) _ _ refl
+    (unless (not (is_dir_at s child) && is_dir_at s other.child) _ _ refl (unless (has_entries s.entries other.child) _ _ refl never))
+
+refused_for_reads : {kind : Kind} (s : State) (fault : Option Errno) (d : Done) → IsError fault → Reads kind d → Reads kind (refuse_for s fault d)
+unfolding IsError
+refused_for_reads s None d is so = so
+refused_for_reads s (Some errno) d is so = refused_reads s errno is
+
+entry_reads : (s : State) (r : Renaming) (dir : ℕ) (e : EntryRow) (other : Option EntryRow) → Reads Nothing (rename_entry s r dir e other)
+entry_reads s r dir e other =
+    chosen_reads (is_same e other) _ _ (answered_reads s [] no_body)
+    (chosen_reads (holds s e.child r.new_dir) _ _ (refused_reads s _ refl)
+    (refused_for_reads s (place_fault s e.child other) _ (place_error s e.child other)
+    (chosen_reads (nat_le COUNTER_END s.next_cookie) _ _ (refused_reads s _ refl) (answered_reads (renamed r dir e other s) [] no_body))))
+
+exchange_reads : (s : State) (r : Renaming) (dir : ℕ) (e : EntryRow) (other : Option EntryRow) → Reads Nothing (exchange_entry s r dir e other)
+exchange_reads s r dir e None = refused_reads s _ refl
+exchange_reads s r dir e (Some other) =
+    chosen_reads (e.cookie == other.cookie) _ _ (answered_reads s [] no_body)
+    (chosen_reads (holds s e.child r.new_dir || holds s other.child dir) _ _ (refused_reads s _ refl)
+    (chosen_reads (nat_lt (COUNTER_END - 2) s.next_cookie) _ _ (refused_reads s _ refl) (answered_reads (exchanged r dir e other s) [] no_body)))
+
+from_reads : (s : State) (r : Renaming) (dir : ℕ) (o : Option EntryRow) → Reads Nothing (rename_from s r dir o)
+from_reads s r dir None = refused_reads s _ refl
+from_reads s r dir (Some e) = step (entry_at s.entries r.new_dir r.new_name)
+  where
+    step : (other : Option EntryRow) → Reads Nothing (rename_by s r dir e other)
+    step other =
+        chosen_reads (r.flags == RENAME_EXCHANGE) _ _ (exchange_reads s r dir e other)
+        (chosen_reads ((r.flags == RENAME_NOREPLACE) && is_some other) _ _ (refused_reads s _ refl) (entry_reads s r dir e other))
+
+between_reads : (s : State) (r : Renaming) (n : Node) (o : Option Node) → Reads Nothing (rename_between s r n o)
+between_reads s r n None = refused_reads s _ refl
+between_reads s r n (Some to) =
+    refused_for_reads s (asked_fault r (is_dir n.mode && is_dir to.mode) (is_named s n.number && is_named s to.number)) _
+    (asked_error r (is_dir n.mode && is_dir to.mode) (is_named s n.number && is_named s to.number)) (from_reads s r n.number (entry_at s.entries n.number r.old_name))
+
+pub rename_reads : (s : State) (r : Renaming) (n : Node) → Reads Nothing (rename s r n)
+rename_reads s r n = between_reads s r n (node_at s r.new_dir)

@@ -1,0 +1,115 @@
+ghost use Rattle.std.specs.Prelude.{◌≡◌, ◌||◌, None, OnErr};
+ghost use Rattle.fuse_tree.specs.Plan.{look_fault};
+ghost use Rattle.fuse_tree.specs.Reading.{IsWithin, Reads};
+ghost use Rattle.fuse_tree.specs.PlanRenaming.{renaming_of, row_holds, plan_exchange_link, plan_exchange_apart, plan_exchange_with_room};
+
+use super::answers::{done_nothing, refused};
+use super::fault::PlanFault;
+use super::finding::{Link, find_counters};
+use super::moving::exchange_changes_of;
+use super::rename::{RenameIn, is_held};
+use crate::limits::COUNTER_END;
+use crate::look::Look;
+use crate::rows::{NodeRow, Planned};
+use fuse_wire::Errno;
+use std::alloc::Global;
+
+// RENAME2 that makes the children of two links change places.
+pub(crate) fn exchange_links<L: Look>(
+    look: &mut L,
+    alloc: Global,
+    asked: &RenameIn<'_>,
+    from: &NodeRow,
+    to: &NodeRow,
+    source: &Link,
+    other: Option<Link>,
+) -> Result<Planned, PlanFault>
+    requires fault { L.fault look.old ≡ None }
+    requires from_within { IsWithin from.now }
+    requires to_within { IsWithin to.now }
+    ensures plan { Reads (L.is_clean look.new) (L.sees look.old) result (plan_exchange_link (renaming_of asked.now) from.now to.now source.now other) }
+    ensures fault { L.fault look.new ≡ look_fault result }
+    ensures looks { look_fault result ≡ None → L.looks look.old look.new }
+    ensures fails { OnErr result (L.fails look.old look.new) }
+{
+    let Some(other) = other else {
+        return Ok(refused(alloc, Errno::ENOENT));
+    };
+    if source.cookie == other.cookie {
+        return Ok(done_nothing(alloc));
+    }
+    exchange_apart(look, alloc, asked, from, to, source, &other)
+}
+
+// Where both links aren't the same.
+fn exchange_apart<L: Look>(
+    look: &mut L,
+    alloc: Global,
+    asked: &RenameIn<'_>,
+    from: &NodeRow,
+    to: &NodeRow,
+    source: &Link,
+    other: &Link,
+) -> Result<Planned, PlanFault>
+    requires fault { L.fault look.old ≡ None }
+    requires from_within { IsWithin from.now }
+    requires to_within { IsWithin to.now }
+    ensures plan { Reads (L.is_clean look.new) (L.sees look.old) result (plan_exchange_apart (renaming_of asked.now) from.now to.now source.now other.now) }
+    ensures fault { L.fault look.new ≡ look_fault result }
+    ensures looks { look_fault result ≡ None → L.looks look.old look.new }
+    ensures fails { OnErr result (L.fails look.old look.new) }
+{
+    if is_either_held(look, &source.child, asked.new_dir, &other.child, from.node)? {
+        return Ok(refused(alloc, Errno::EINVAL));
+    }
+    exchange_with_room(look, alloc, asked, from, to, source, other)
+}
+
+// Whether one of two children is a directory that can't come to stand in its new one.
+fn is_either_held<L: Look>(
+    look: &mut L,
+    child: &NodeRow,
+    dir: u64,
+    other: &NodeRow,
+    other_dir: u64,
+) -> Result<bool, PlanFault>
+    requires { L.fault look.old ≡ None }
+    ensures held { Reads (L.is_clean look.new) (L.sees look.old) result (λ rows. row_holds rows child.now dir || row_holds rows other.now other_dir) }
+    ensures fault { L.fault look.new ≡ look_fault result }
+    ensures looks { look_fault result ≡ None → L.looks look.old look.new }
+    ensures fails { OnErr result (L.fails look.old look.new) }
+{
+    if is_held(look, child, dir)? {
+        return Ok(true);
+    }
+    is_held(look, other, other_dir)
+}
+
+// Where there are two cookies left.
+fn exchange_with_room<L: Look>(
+    look: &mut L,
+    alloc: Global,
+    asked: &RenameIn<'_>,
+    from: &NodeRow,
+    to: &NodeRow,
+    source: &Link,
+    other: &Link,
+) -> Result<Planned, PlanFault>
+    requires fault { L.fault look.old ≡ None }
+    requires from_within { IsWithin from.now }
+    requires to_within { IsWithin to.now }
+    ensures plan { Reads (L.is_clean look.new) (L.sees look.old) result (plan_exchange_with_room (renaming_of asked.now) from.now to.now source.now other.now) }
+    ensures fault { L.fault look.new ≡ look_fault result }
+    ensures looks { look_fault result ≡ None → L.looks look.old look.new }
+    ensures fails { OnErr result (L.fails look.old look.new) }
+{
+    let counters = find_counters(look)?;
+    if counters.next_cookie > COUNTER_END - 2 {
+        return Ok(refused(alloc, Errno::ENOSPC));
+    }
+    let changes = exchange_changes_of(alloc, asked, &counters, from, to, source, other)?;
+    Ok(Planned {
+        answer: done_nothing(alloc).answer,
+        changes,
+    })
+}

@@ -1,0 +1,89 @@
+ghost use Rattle.std.specs.Prelude.{◌≡◌, None, OnErr};
+ghost use Rattle.fuse_tree.specs.Making as making;
+ghost use Rattle.fuse_tree.specs.Making.{may_make, node_mode, node_rdev};
+ghost use Rattle.fuse_tree.specs.Plan.{look_fault};
+ghost use Rattle.fuse_tree.specs.PlanMaking as planning;
+ghost use Rattle.fuse_tree.specs.Reading.{IsWithin, Reads};
+
+use super::answers::refused;
+use super::attributes::is_directory;
+use super::fault::PlanFault;
+use super::make::{NewNode, plan_make};
+use super::names::fault_of_name;
+use crate::look::Look;
+use crate::mode::{S_IFBLK, S_IFCHR, S_IFIFO, S_IFREG, S_IFSOCK, TYPE_UNIT, TYPES};
+use crate::rows::{NodeRow, Planned};
+use fuse_request::InHeader;
+use fuse_wire::{Errno, Moment};
+use std::alloc::Global;
+
+// MKNOD of a name in the node of this row.
+pub(crate) fn plan_mknod<L: Look>(
+    look: &mut L,
+    alloc: Global,
+    header: &InHeader,
+    mode: u32,
+    rdev: u32,
+    name: &[u8],
+    now: Moment,
+    row: &NodeRow,
+) -> Result<Planned, PlanFault>
+    requires fault { L.fault look.old ≡ None }
+    requires within { IsWithin row.now }
+    ensures plan { Reads (L.is_clean look.new) (L.sees look.old) result (planning.plan_mknod header.now mode rdev name.now now row.now) }
+    ensures fault { L.fault look.new ≡ look_fault result }
+    ensures looks { look_fault result ≡ None → L.looks look.old look.new }
+    ensures fails { OnErr result (L.fails look.old look.new) }
+{
+    if !is_directory(row.mode) {
+        return Ok(refused(alloc, Errno::ENOTDIR));
+    }
+    if !is_makable(type_bits(mode)) {
+        return Ok(refused(alloc, Errno::EINVAL));
+    }
+    if let Some(errno) = fault_of_name(name) {
+        return Ok(refused(alloc, errno));
+    }
+    let fresh = NewNode {
+        mode: mode_of_node(mode),
+        uid: header.uid,
+        gid: header.gid,
+        rdev: rdev_of_node(mode, rdev),
+        made: now,
+    };
+    plan_make(look, alloc, &fresh, name, row)
+}
+
+// The bits that tell the type.
+fn type_bits(mode: u32) -> u32
+    ensures { result ≡ making.type_bits mode }
+{
+    mode / TYPE_UNIT % TYPES * TYPE_UNIT
+}
+
+// Whether nodes of this type are made so. 0 stands for a regular file.
+fn is_makable(bits: u32) -> bool
+    ensures { result ≡ may_make bits }
+{
+    matches!(bits, 0 | S_IFREG | S_IFCHR | S_IFBLK | S_IFIFO | S_IFSOCK)
+}
+
+fn mode_of_node(mode: u32) -> u32
+    ensures { result ≡ node_mode mode }
+{
+    let bits = type_bits(mode);
+    let kind = if bits == 0 { S_IFREG } else { bits };
+    kind + mode % TYPE_UNIT
+}
+
+// Only a device has the number of one.
+fn rdev_of_node(mode: u32, rdev: u32) -> u32
+    ensures { result ≡ node_rdev mode rdev }
+{
+    let bits = type_bits(mode);
+    if bits == S_IFCHR || bits == S_IFBLK {
+        rdev
+    } else {
+        0
+    }
+}

@@ -1,0 +1,320 @@
+ghost use Rattle.std.specs.Prelude.{◌≡◌, ◌&&◌, None, IfOk, OnErr};
+ghost use Rattle.fuse_tree.specs.Plan.{look_fault};
+ghost use Rattle.fuse_tree.specs.State.{is_dir};
+ghost use Rattle.fuse_tree.specs.Reading.{IsWithin, Reads, row_is_named};
+ghost use Rattle.fuse_tree.specs.PlanRemoving.{link_at};
+ghost use Rattle.fuse_tree.specs.Renaming as renaming;
+ghost use Rattle.fuse_tree.specs.Renaming.{asked_fault};
+ghost use Rattle.fuse_tree.specs.PlanRenaming as planning;
+ghost use Rattle.fuse_tree.specs.PlanRenaming.{renaming_of, is_same_link, row_holds, link_fault, plan_rename_from, plan_rename_by, plan_rename_link, plan_rename_fitting, plan_rename_with_room};
+
+use super::answers::{done_nothing, refused};
+use super::attributes::{is_directory, is_named};
+use super::exchange::exchange_links;
+use super::fault::PlanFault;
+use super::finding::{Link, find_counters, find_link, find_node, has_entries};
+use super::moving::rename_changes_of;
+use super::names::fault_of_name;
+use super::walking::lies_in;
+use crate::limits::COUNTER_END;
+use crate::look::Look;
+use crate::rows::{NodeRow, Planned};
+use fuse_wire::{Errno, Moment};
+use std::alloc::Global;
+
+/// The flag of RENAME2 that refuses to replace an entry.
+pub const RENAME_NOREPLACE: u32 = 1;
+
+/// The flag of RENAME2 that makes two children change places.
+pub const RENAME_EXCHANGE: u32 = 2;
+
+/// What RENAME and RENAME2 ask for, and when. RENAME has no flags.
+#[derive(Clone, Copy)]
+pub struct RenameIn<'a> {
+    pub new_dir: u64,
+    pub flags: u32,
+    pub old_name: &'a [u8],
+    pub new_name: &'a [u8],
+    pub at: Moment,
+}
+
+// What is asked with these flags.
+pub(crate) fn asking<'a>(
+    new_dir: u64,
+    flags: u32,
+    old_name: &'a [u8],
+    new_name: &'a [u8],
+    at: Moment,
+) -> RenameIn<'a>
+    ensures { renaming_of result ≡ renaming.asking new_dir flags old_name.now new_name.now at }
+{
+    RenameIn {
+        new_dir,
+        flags,
+        old_name,
+        new_name,
+        at,
+    }
+}
+
+// RENAME and RENAME2 of a name in the node of this row.
+pub(crate) fn plan_rename<L: Look>(
+    look: &mut L,
+    alloc: Global,
+    asked: &RenameIn<'_>,
+    from: &NodeRow,
+) -> Result<Planned, PlanFault>
+    requires fault { L.fault look.old ≡ None }
+    requires within { IsWithin from.now }
+    ensures plan { Reads (L.is_clean look.new) (L.sees look.old) result (planning.plan_rename (renaming_of asked.now) from.now) }
+    ensures fault { L.fault look.new ≡ look_fault result }
+    ensures looks { look_fault result ≡ None → L.looks look.old look.new }
+    ensures fails { OnErr result (L.fails look.old look.new) }
+{
+    let Some(to) = find_node(look, asked.new_dir)? else {
+        return Ok(refused(alloc, Errno::ESTALE));
+    };
+    if let Some(errno) = fault_of_asked(asked, from, &to) {
+        return Ok(refused(alloc, errno));
+    }
+    rename_from(look, alloc, asked, from, &to)
+}
+
+// What is wrong before any entry is looked at.
+fn fault_of_asked(asked: &RenameIn<'_>, from: &NodeRow, to: &NodeRow) -> Option<Errno>
+    ensures { result ≡ asked_fault (renaming_of asked.now) (is_dir from.now.mode && is_dir to.now.mode) (row_is_named from.now && row_is_named to.now) }
+{
+    if !(is_directory(from.mode) && is_directory(to.mode)) {
+        return Some(Errno::ENOTDIR);
+    }
+    if let Some(errno) = fault_of_name(asked.old_name) {
+        return Some(errno);
+    }
+    if let Some(errno) = fault_of_name(asked.new_name) {
+        return Some(errno);
+    }
+    if asked.flags > RENAME_EXCHANGE {
+        return Some(Errno::EINVAL);
+    }
+    if is_named(from) && is_named(to) {
+        None
+    } else {
+        Some(Errno::ENOENT)
+    }
+}
+
+// Where both are directories with names of their own.
+fn rename_from<L: Look>(
+    look: &mut L,
+    alloc: Global,
+    asked: &RenameIn<'_>,
+    from: &NodeRow,
+    to: &NodeRow,
+) -> Result<Planned, PlanFault>
+    requires fault { L.fault look.old ≡ None }
+    requires from_within { IsWithin from.now }
+    requires to_within { IsWithin to.now }
+    ensures plan { Reads (L.is_clean look.new) (L.sees look.old) result (λ rows. plan_rename_from (renaming_of asked.now) from.now to.now (link_at rows from.now.node asked.now.old_name.now) rows) }
+    ensures fault { L.fault look.new ≡ look_fault result }
+    ensures looks { look_fault result ≡ None → L.looks look.old look.new }
+    ensures fails { OnErr result (L.fails look.old look.new) }
+{
+    let Some(source) = find_link(look, from.node, asked.old_name)? else {
+        return Ok(refused(alloc, Errno::ENOENT));
+    };
+    rename_to(look, alloc, asked, from, to, &source)
+}
+
+// Where this link stands under the old name.
+fn rename_to<L: Look>(
+    look: &mut L,
+    alloc: Global,
+    asked: &RenameIn<'_>,
+    from: &NodeRow,
+    to: &NodeRow,
+    source: &Link,
+) -> Result<Planned, PlanFault>
+    requires fault { L.fault look.old ≡ None }
+    requires from_within { IsWithin from.now }
+    requires to_within { IsWithin to.now }
+    ensures plan { Reads (L.is_clean look.new) (L.sees look.old) result (λ rows. plan_rename_by (renaming_of asked.now) from.now to.now source.now (link_at rows asked.now.new_dir asked.now.new_name.now) rows) }
+    ensures fault { L.fault look.new ≡ look_fault result }
+    ensures looks { look_fault result ≡ None → L.looks look.old look.new }
+    ensures fails { OnErr result (L.fails look.old look.new) }
+{
+    let other = find_link(look, asked.new_dir, asked.new_name)?;
+    rename_by(look, alloc, asked, from, to, source, other)
+}
+
+// By the flags, where the other link stands under the new name.
+fn rename_by<L: Look>(
+    look: &mut L,
+    alloc: Global,
+    asked: &RenameIn<'_>,
+    from: &NodeRow,
+    to: &NodeRow,
+    source: &Link,
+    other: Option<Link>,
+) -> Result<Planned, PlanFault>
+    requires fault { L.fault look.old ≡ None }
+    requires from_within { IsWithin from.now }
+    requires to_within { IsWithin to.now }
+    ensures plan { Reads (L.is_clean look.new) (L.sees look.old) result (plan_rename_by (renaming_of asked.now) from.now to.now source.now other) }
+    ensures fault { L.fault look.new ≡ look_fault result }
+    ensures looks { look_fault result ≡ None → L.looks look.old look.new }
+    ensures fails { OnErr result (L.fails look.old look.new) }
+{
+    if asked.flags == RENAME_EXCHANGE {
+        return exchange_links(look, alloc, asked, from, to, source, other);
+    }
+    if asked.flags == RENAME_NOREPLACE && other.is_some() {
+        return Ok(refused(alloc, Errno::EEXIST));
+    }
+    rename_link(look, alloc, asked, from, to, source, other)
+}
+
+// RENAME of the source to where the other link stands.
+fn rename_link<L: Look>(
+    look: &mut L,
+    alloc: Global,
+    asked: &RenameIn<'_>,
+    from: &NodeRow,
+    to: &NodeRow,
+    source: &Link,
+    other: Option<Link>,
+) -> Result<Planned, PlanFault>
+    requires fault { L.fault look.old ≡ None }
+    requires from_within { IsWithin from.now }
+    requires to_within { IsWithin to.now }
+    ensures plan { Reads (L.is_clean look.new) (L.sees look.old) result (plan_rename_link (renaming_of asked.now) from.now to.now source.now other) }
+    ensures fault { L.fault look.new ≡ look_fault result }
+    ensures looks { look_fault result ≡ None → L.looks look.old look.new }
+    ensures fails { OnErr result (L.fails look.old look.new) }
+{
+    if is_same(source, other) {
+        return Ok(done_nothing(alloc));
+    }
+    if is_held(look, &source.child, asked.new_dir)? {
+        return Ok(refused(alloc, Errno::EINVAL));
+    }
+    rename_fitting(look, alloc, asked, from, to, source, other)
+}
+
+// Whether both places are the same entry.
+fn is_same(source: &Link, other: Option<Link>) -> bool
+    ensures { result ≡ is_same_link source.now other }
+{
+    match other {
+        Some(other) => source.cookie == other.cookie,
+        None => false,
+    }
+}
+
+// Whether the child is a directory that can't come to stand in this one, since this one lies in it.
+pub(crate) fn is_held<L: Look>(look: &mut L, child: &NodeRow, dir: u64) -> Result<bool, PlanFault>
+    requires { L.fault look.old ≡ None }
+    ensures held { Reads (L.is_clean look.new) (L.sees look.old) result (λ rows. row_holds rows child.now dir) }
+    ensures fault { L.fault look.new ≡ look_fault result }
+    ensures looks { look_fault result ≡ None → L.looks look.old look.new }
+    ensures fails { OnErr result (L.fails look.old look.new) }
+{
+    if is_directory(child.mode) {
+        lies_in(look, child.node, dir)
+    } else {
+        Ok(false)
+    }
+}
+
+// Where the source may stand in the new directory.
+fn rename_fitting<L: Look>(
+    look: &mut L,
+    alloc: Global,
+    asked: &RenameIn<'_>,
+    from: &NodeRow,
+    to: &NodeRow,
+    source: &Link,
+    other: Option<Link>,
+) -> Result<Planned, PlanFault>
+    requires fault { L.fault look.old ≡ None }
+    requires from_within { IsWithin from.now }
+    requires to_within { IsWithin to.now }
+    ensures plan { Reads (L.is_clean look.new) (L.sees look.old) result (plan_rename_fitting (renaming_of asked.now) from.now to.now source.now other) }
+    ensures fault { L.fault look.new ≡ look_fault result }
+    ensures looks { look_fault result ≡ None → L.looks look.old look.new }
+    ensures fails { OnErr result (L.fails look.old look.new) }
+{
+    if let Some(errno) = fault_of_place(look, source, other)? {
+        return Ok(refused(alloc, errno));
+    }
+    rename_with_room(look, alloc, asked, from, to, source, other)
+}
+
+// Why the source can't come to stand where the other link is.
+fn fault_of_place<L: Look>(
+    look: &mut L,
+    source: &Link,
+    other: Option<Link>,
+) -> Result<Option<Errno>, PlanFault>
+    requires { L.fault look.old ≡ None }
+    ensures place { Reads (L.is_clean look.new) (L.sees look.old) result (λ rows. link_fault rows source.now other) }
+    ensures fault { L.fault look.new ≡ look_fault result }
+    ensures looks { look_fault result ≡ None → L.looks look.old look.new }
+    ensures fails { OnErr result (L.fails look.old look.new) }
+{
+    let Some(other) = other else {
+        return Ok(None);
+    };
+    let is_dir = is_directory(source.child.mode);
+    let other_is_dir = is_directory(other.child.mode);
+    if is_dir && !other_is_dir {
+        return Ok(Some(Errno::ENOTDIR));
+    }
+    if !is_dir && other_is_dir {
+        return Ok(Some(Errno::EISDIR));
+    }
+    fault_of_entries(look, other.child.node)
+}
+
+// A node in which an entry stands can't be replaced.
+fn fault_of_entries<L: Look>(look: &mut L, dir: u64) -> Result<Option<Errno>, PlanFault>
+    requires { L.fault look.old ≡ None }
+    ensures place { Reads (L.is_clean look.new) (L.sees look.old) result (λ rows. planning.entries_fault rows dir) }
+    ensures fault { L.fault look.new ≡ look_fault result }
+    ensures looks { look_fault result ≡ None → L.looks look.old look.new }
+    ensures fails { OnErr result (L.fails look.old look.new) }
+{
+    if has_entries(look, dir)? {
+        Ok(Some(Errno::ENOTEMPTY))
+    } else {
+        Ok(None)
+    }
+}
+
+// Where there is a cookie left.
+fn rename_with_room<L: Look>(
+    look: &mut L,
+    alloc: Global,
+    asked: &RenameIn<'_>,
+    from: &NodeRow,
+    to: &NodeRow,
+    source: &Link,
+    other: Option<Link>,
+) -> Result<Planned, PlanFault>
+    requires fault { L.fault look.old ≡ None }
+    requires from_within { IsWithin from.now }
+    requires to_within { IsWithin to.now }
+    ensures plan { Reads (L.is_clean look.new) (L.sees look.old) result (plan_rename_with_room (renaming_of asked.now) from.now to.now source.now other) }
+    ensures fault { L.fault look.new ≡ look_fault result }
+    ensures looks { look_fault result ≡ None → L.looks look.old look.new }
+    ensures fails { OnErr result (L.fails look.old look.new) }
+{
+    let counters = find_counters(look)?;
+    if counters.next_cookie >= COUNTER_END {
+        return Ok(refused(alloc, Errno::ENOSPC));
+    }
+    let changes = rename_changes_of(alloc, asked, &counters, from, to, source, other)?;
+    Ok(Planned {
+        answer: done_nothing(alloc).answer,
+        changes,
+    })
+}

@@ -1,0 +1,65 @@
+ghost use Rattle.std.specs.Prelude.{◌≡◌, None, OnErr};
+ghost use Rattle.fuse_tree.specs.Plan.{look_fault};
+ghost use Rattle.fuse_tree.specs.PlanRemoving as planning;
+ghost use Rattle.fuse_tree.specs.PlanRemoving.{plan_unlink_named};
+ghost use Rattle.fuse_tree.specs.Reading.{Reads};
+
+use super::answers::refused;
+use super::attributes::{is_directory, is_named};
+use super::fault::PlanFault;
+use super::finding::find_link;
+use super::names::fault_of_name;
+use super::remove::plan_gone;
+use crate::look::Look;
+use crate::rows::{NodeRow, Planned};
+use fuse_wire::{Errno, Moment};
+use std::alloc::Global;
+
+// UNLINK of a name in the node of this row.
+pub(crate) fn plan_unlink<L: Look>(
+    look: &mut L,
+    alloc: Global,
+    name: &[u8],
+    now: Moment,
+    row: &NodeRow,
+) -> Result<Planned, PlanFault>
+    requires { L.fault look.old ≡ None }
+    ensures plan { Reads (L.is_clean look.new) (L.sees look.old) result (planning.plan_unlink name.now now row.now) }
+    ensures fault { L.fault look.new ≡ look_fault result }
+    ensures looks { look_fault result ≡ None → L.looks look.old look.new }
+    ensures fails { OnErr result (L.fails look.old look.new) }
+{
+    if !is_directory(row.mode) {
+        return Ok(refused(alloc, Errno::ENOTDIR));
+    }
+    if let Some(errno) = fault_of_name(name) {
+        return Ok(refused(alloc, errno));
+    }
+    unlink_named(look, alloc, name, now, row)
+}
+
+// UNLINK where the name may stand in a directory.
+fn unlink_named<L: Look>(
+    look: &mut L,
+    alloc: Global,
+    name: &[u8],
+    now: Moment,
+    row: &NodeRow,
+) -> Result<Planned, PlanFault>
+    requires { L.fault look.old ≡ None }
+    ensures plan { Reads (L.is_clean look.new) (L.sees look.old) result (plan_unlink_named name.now now row.now) }
+    ensures fault { L.fault look.new ≡ look_fault result }
+    ensures looks { look_fault result ≡ None → L.looks look.old look.new }
+    ensures fails { OnErr result (L.fails look.old look.new) }
+{
+    if !is_named(row) {
+        return Ok(refused(alloc, Errno::ENOENT));
+    }
+    let Some(link) = find_link(look, row.node, name)? else {
+        return Ok(refused(alloc, Errno::ENOENT));
+    };
+    if is_directory(link.child.mode) {
+        return Ok(refused(alloc, Errno::EISDIR));
+    }
+    Ok(plan_gone(alloc, now, &link, row)?)
+}

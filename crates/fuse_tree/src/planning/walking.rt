@@ -1,0 +1,64 @@
+ghost use Rattle.std.specs.Prelude.{◌≡◌, None, OnErr};
+ghost use Rattle.fuse_tree.specs.State.{up_of, above};
+ghost use Rattle.fuse_tree.specs.Rows.{Rows, IsRowed};
+ghost use Rattle.fuse_tree.specs.Plan.{look_fault};
+ghost use Rattle.fuse_tree.specs.Renaming.{leads_to};
+ghost use Rattle.fuse_tree.specs.Reading.{Reads, Tells};
+
+use super::fault::PlanFault;
+use super::finding::{find_counters, find_node};
+use crate::look::Look;
+
+// The directory above a node, 0 where no entry leads to it.
+#[tactic(auto, using(crate::proofs::Walking::row_up, crate::proofs::Walking::none_up))]
+fn find_up<L: Look>(look: &mut L, number: u64) -> Result<u64, PlanFault>
+    requires { L.fault look.old ≡ None }
+    ensures up { Reads (L.is_clean look.new) (L.sees look.old) result (λ rows. up_of rows.entries number) }
+    ensures fault { L.fault look.new ≡ look_fault result }
+    ensures looks { look_fault result ≡ None → L.looks look.old look.new }
+    ensures fails { OnErr result (L.fails look.old look.new) }
+{
+    match find_node(look, number)? {
+        Some(row) => Ok(row.up),
+        None => Ok(0),
+    }
+}
+
+// Whether a directory is this node, or lies under it. No way up is longer than the number of nodes.
+#[tactic(auto, using(crate::proofs::Walking::rows_end))]
+pub(crate) fn lies_in<L: Look>(look: &mut L, node: u64, dir: u64) -> Result<bool, PlanFault>
+    requires { L.fault look.old ≡ None }
+    ensures under { Reads (L.is_clean look.new) (L.sees look.old) result (λ rows. leads_to rows.entries rows.counters.nodes node dir) }
+    ensures fault { L.fault look.new ≡ look_fault result }
+    ensures looks { look_fault result ≡ None → L.looks look.old look.new }
+    ensures fails { OnErr result (L.fails look.old look.new) }
+{
+    let counters = find_counters(look)?;
+    go_up(look, node, dir, counters.nodes)
+}
+
+// Whether one of so many places on the way up from a directory is this node. Where the way doesn't end
+// there, the rows are those of no tree.
+fn go_up<L: Look>(look: &mut L, node: u64, dir: u64, places: u64) -> Result<bool, PlanFault>
+    requires { L.fault look.old ≡ None }
+    ensures under { look_fault result ≡ None → L.is_clean look.new → (rows : Rows) → IsRowed rows → L.sees look.old rows → above rows.entries places dir ≡ 0 → Tells result (leads_to rows.entries places node dir) }
+    ensures fault { L.fault look.new ≡ look_fault result }
+    ensures looks { look_fault result ≡ None → L.looks look.old look.new }
+    ensures fails { OnErr result (L.fails look.old look.new) }
+{
+    let mut place = dir;
+    for _step in 0..places {
+        if place == node {
+            return Ok(true);
+        }
+        if place == 0 {
+            return Ok(false);
+        }
+        place = find_up(look, place)?;
+    }
+    if place == 0 {
+        Ok(false)
+    } else {
+        Err(PlanFault::NotATree)
+    }
+}
