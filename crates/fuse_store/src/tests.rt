@@ -412,11 +412,12 @@ fn reopened<K: Restart>(keeper: K) -> Result<K, StoreFault> {
 
 #[test]
 fn a_restart_keeps_all(rt: HostRuntime) -> Result<(), StoreFault> {
-    let mut keeper = new_keeper(&rt)?;
+    let mut keeper = begun(&rt)?;
     assert!(rt; makes_a(&mut keeper, mkdir(4, b"a"), false)?, "before");
     let mut opened = reopened(keeper)?;
     assert!(rt; !has_failed(&opened), "opened");
-    assert!(rt; holds(&mut opened, 2, 1)?, "held");
+    assert!(rt; holds(&mut opened, 2, 2)?, "held");
+    assert!(rt; has_agreed(&mut opened)?, "settings");
     let resent = mkdir(UNIQUE_RESEND + 4, b"a");
     assert!(rt; makes_a(&mut opened, resent, true)?, "resent");
     Ok(())
