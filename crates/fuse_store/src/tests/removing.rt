@@ -18,7 +18,7 @@ fn init(unique: u64) -> Request<'static> {
     request(unique, 0, Op::Init(offer))
 }
 
-fn mknod<'a>(unique: u64, name: &'a [u8]) -> Request<'a> {
+pub(super) fn mknod<'a>(unique: u64, name: &'a [u8]) -> Request<'a> {
     let op = Op::Mknod {
         mode: 0o644,
         rdev: 0,
@@ -52,11 +52,19 @@ fn is_asked(request: &Request<'_>) -> bool
         Op::Mknod { .. } => true,
         Op::Unlink { .. } => true,
         Op::Rmdir { .. } => true,
+        Op::OpenFile { .. } => true,
+        Op::OpenDir { .. } => true,
+        Op::ReadDir(_) => true,
+        Op::Release(_) => true,
+        Op::ReleaseDir(_) => true,
         _ => false,
     }
 }
 
-fn perform<K: Keeper>(keeper: &mut K, request: Request<'_>) -> Result<Option<Done>, StoreFault> {
+pub(super) fn perform<K: Keeper>(
+    keeper: &mut K,
+    request: Request<'_>,
+) -> Result<Option<Done>, StoreFault> {
     if !is_asked(&request) {
         return Ok(None);
     }
@@ -64,14 +72,14 @@ fn perform<K: Keeper>(keeper: &mut K, request: Request<'_>) -> Result<Option<Don
 }
 
 // A new keeper that has agreed on an INIT.
-fn begun(rt: &HostRuntime) -> Result<PlainKeeper, StoreFault> {
+pub(super) fn begun(rt: &HostRuntime) -> Result<PlainKeeper, StoreFault> {
     let mut keeper = new_keeper(rt)?;
     perform(&mut keeper, init(2))?;
     Ok(keeper)
 }
 
 // Whether the request is answered so, without a body.
-fn says<K: Keeper>(
+pub(super) fn says<K: Keeper>(
     keeper: &mut K,
     request: Request<'_>,
     errno: Errno,
