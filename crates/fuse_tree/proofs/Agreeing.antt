@@ -19,16 +19,17 @@ use Rattle.fuse_tree.specs.declared.rows.NodeRow.{NodeRow}
 use Rattle.fuse_tree.specs.declared.rows.Planned.{Planned}
 use Rattle.fuse_tree.specs.State.{State, Node, Tree, is_dir, node_at, is_named, name_fault}
 use Rattle.fuse_tree.specs.Rows.{row_of, rowed, rows_of_state, row_at, entry_at}
-use Rattle.fuse_tree.specs.Do.{lookup_child, lookup_entry, lookup, done, do_at, do_act, names_node, do_agreed, do_offered, offer_of}
-use Rattle.fuse_tree.specs.Plan.{Meets, TreeKept, look_fault, AnswersAreRead}
+use Rattle.fuse_tree.specs.Do.{lookup_child, lookup_entry, lookup, done, do_at, do_act, do_agreed, do_offered, offer_of, names_node}
+use Rattle.fuse_tree.specs.Plan.{Meets, TreeKept, AnswersAreRead, look_fault}
+use Rattle.fuse_tree.specs.Done.{answer}
 use Rattle.fuse_tree.specs.Reading.{Tells, child_of}
 use Rattle.fuse_tree.specs.Planning.{plan_lookup, plan_of, plan_offered, plan_agreed, plan_at, plan_act, plan_child}
 use Rattle.fuse_tree.proofs.Agreement.{Agrees, refused_agrees, both, both_for}
+use Rattle.fuse_tree.proofs.InitAgrees.{init_agrees}
+use Rattle.fuse_tree.proofs.ListingAgrees.{read_dir_agrees}
 use Rattle.fuse_tree.proofs.MakingAgrees.{mkdir_agrees, mknod_agrees}
 use Rattle.fuse_tree.proofs.SettingAgrees.{setattr_agrees}
 use Rattle.fuse_tree.proofs.WritingAgrees.{write_agrees, read_agrees}
-use Rattle.fuse_tree.proofs.InitAgrees.{init_agrees}
-use Rattle.fuse_tree.proofs.ListingAgrees.{read_dir_agrees}
 use Rattle.fuse_tree.proofs.OpeningAgrees.{open_agrees, open_dir_agrees, release_agrees, release_dir_agrees}
 use Rattle.fuse_tree.proofs.RemovingAgrees.{unlink_agrees, rmdir_agrees}
 use Rattle.fuse_tree.proofs.Puts.{row_found, node_found}

@@ -118,14 +118,14 @@ few_steps s tree m k at =
     let root = rooted s tree in
     let each : (i : ℕ) → i < suc m → list_any (λ (n : Node). eqb (above s.entries i n.number) 1) s.nodes ≡ true =
     λ i lt. (
-      let split : m ≡ (m - i) + i = omega arith in
-      let there : above s.entries i (above s.entries (m - i) k) ≡ 1 = sym (above_on s.entries (m - i) i k) ∙ ap (λ (n : ℕ). above s.entries n k) (sym split) ∙ at in
-      any_more (has_number (above s.entries (m - i) k)) (λ n. eqb (above s.entries i n.number) 1) s.nodes
-      (λ n is. eq-eqb _ 1 (ap (above s.entries i) (eqb-true n.number _ is) ∙ there)) (climber_there s tree i (above s.entries (m - i) k) there)) in
+    let split : m ≡ (m - i) + i = omega arith in
+    let there : above s.entries i (above s.entries (m - i) k) ≡ 1 = sym (above_on s.entries (m - i) i k) ∙ ap (λ (n : ℕ). above s.entries n k) (sym split) ∙ at in
+    any_more (has_number (above s.entries (m - i) k)) (λ n. eqb (above s.entries i n.number) 1) s.nodes
+    (λ n is. eq-eqb _ 1 (ap (above s.entries i) (eqb-true n.number _ is) ∙ there)) (climber_there s tree i (above s.entries (m - i) k) there)) in
     let enough = pigeons (λ i n. eqb (above s.entries i n.number) 1) (λ i j n here there. (
-      let one = eqb-true _ 1 here in let two = eqb-true _ 1 there in
-      let le = one_height s.entries root i j n.number one two in let ge = one_height s.entries root j i n.number two one in
-      omega arith)) (suc m) s.nodes each in
+    let one = eqb-true _ 1 here in let two = eqb-true _ 1 there in
+    let le = one_height s.entries root i j n.number one two in let ge = one_height s.entries root j i n.number two one in
+    omega arith)) (suc m) s.nodes each in
     omega arith
 
 -- each way up ends within as many steps as there are nodes
@@ -134,8 +134,10 @@ ends_within s tree k = step (eqb (up_of s.entries k) 0) refl
   where
     root : IsRooted s.entries
     root = rooted s tree
+
     some : 0 < length s.nodes
     some = few_steps s tree 0 1 refl
+
     step : (b : Bool) → eqb (up_of s.entries k) 0 ≡ b → above s.entries (length s.nodes) k ≡ 0
     step true is =
         let split : length s.nodes ≡ suc (length s.nodes - 1) = omega (arith, some) in

@@ -6,35 +6,35 @@ pub mod Counts
 pub mod EntryGone
 mod Fit
 pub mod Fitting
-mod Lengths
 mod Fronts
-mod Listing
-mod ListingAgrees
-mod ListingFits
 pub mod GoneRows
 pub mod Heights
 mod InitAgrees
 mod InitFits
+mod Lengths
+mod Listing
+mod ListingAgrees
+mod ListingFits
 pub mod Lists
 pub mod Making
 mod MakingAgrees
 mod MakingFits
-mod SettingAgrees
-mod SettingFits
-mod WritingAgrees
-mod WritingFits
 mod Mounts
 pub mod NewStore
 mod Opening
 mod OpeningAgrees
 mod OpeningFits
 mod Placed
-pub mod Ranges
 pub mod Puts
-mod Shown
+pub mod Ranges
 mod RemovingAgrees
 mod RemovingFits
+mod SettingAgrees
+mod SettingFits
+mod Shown
 pub mod Telling
 pub mod Trees
 pub mod Ups
 pub mod Walking
+mod WritingAgrees
+mod WritingFits

@@ -13,11 +13,11 @@ use Rattle.fuse_tree.specs.declared.rows.EntryRow.{EntryRow}
 use Rattle.fuse_tree.specs.State.{State, Node, is_dir, node_at, is_named, name_fault}
 use Rattle.fuse_tree.specs.Rows.{entry_at}
 use Rattle.fuse_tree.specs.Done.{Done, refuse, refuse_for, answer, attr_of, entry_of, attr_out_of}
+use Rattle.fuse_tree.specs.Init.{init}
+use Rattle.fuse_tree.specs.Listing.{read_dir}
 use Rattle.fuse_tree.specs.Making.{mkdir, mknod}
 use Rattle.fuse_tree.specs.Setting.{setattr}
 use Rattle.fuse_tree.specs.Writing.{write, read}
-use Rattle.fuse_tree.specs.Init.{init}
-use Rattle.fuse_tree.specs.Listing.{read_dir}
 use Rattle.fuse_tree.specs.Opening.{open_file, open_dir, release, release_dir}
 use Rattle.fuse_tree.specs.Removing.{unlink, rmdir}
 

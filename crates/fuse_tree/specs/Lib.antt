@@ -8,11 +8,11 @@ pub mod Pieces
 pub mod Done
 pub mod Init
 pub mod Making
+pub mod Removing
+pub mod Renaming
 pub mod Changing
 pub mod Setting
 pub mod Writing
-pub mod Removing
-pub mod Renaming
 pub mod Opening
 pub mod Listing
 pub mod Do
@@ -20,9 +20,9 @@ pub mod Plan
 pub mod Reading
 pub mod PlanInit
 pub mod PlanMaking
+pub mod PlanRemoving
 pub mod PlanSetting
 pub mod PlanWriting
-pub mod PlanRemoving
 pub mod PlanOpening
 pub mod PlanListing
 pub mod Planning

@@ -13,11 +13,11 @@ use Rattle.fuse_tree.specs.State.{is_dir, name_fault}
 use Rattle.fuse_tree.specs.Rows.{Rows, row_at}
 use Rattle.fuse_tree.specs.Do.{names_node, offer_of}
 use Rattle.fuse_tree.specs.Reading.{refused, refused_for, told, row_is_named, entry_body, attr_body, child_at}
+use Rattle.fuse_tree.specs.PlanInit.{plan_init}
+use Rattle.fuse_tree.specs.PlanListing.{plan_read_dir}
 use Rattle.fuse_tree.specs.PlanMaking.{plan_mkdir, plan_mknod}
 use Rattle.fuse_tree.specs.PlanSetting.{plan_setattr}
 use Rattle.fuse_tree.specs.PlanWriting.{plan_write, plan_read}
-use Rattle.fuse_tree.specs.PlanInit.{plan_init}
-use Rattle.fuse_tree.specs.PlanListing.{plan_read_dir}
 use Rattle.fuse_tree.specs.PlanOpening.{plan_open, plan_open_dir, plan_release, plan_release_dir}
 use Rattle.fuse_tree.specs.PlanRemoving.{plan_unlink, plan_rmdir}
 

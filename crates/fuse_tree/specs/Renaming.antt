@@ -89,7 +89,7 @@ abbrev pub asked_fault : Renaming → Bool → Bool → Option Errno
 asked_fault r are_dirs are_named =
     if not are_dirs then Some ENOTDIR
     else earlier (name_fault r.old_name) (earlier (name_fault r.new_name)
-        (if nat_lt RENAME_EXCHANGE r.flags then Some EINVAL else if not are_named then Some ENOENT else None))
+    (if nat_lt RENAME_EXCHANGE r.flags then Some EINVAL else if not are_named then Some ENOENT else None))
 
 -- both places are the same entry
 abbrev pub is_same : EntryRow → Option EntryRow → Bool
