@@ -1,5 +1,5 @@
 -- What is answered to READDIR fits, and is read.
-use Rattle.std.proofs.Common.{◌≡◌, ◌≤◌, ℕ, Bool, true, false, if◌then◌else◌, not, nat_lt, List, refl, arith}
+use Rattle.std.proofs.Common.{◌≤◌, ℕ, not, nat_lt, List, refl, arith}
 use Rattle.std.specs.List.{AllByRecursion}
 use Rattle.std.proofs.lemmas.Bool.{ltb-false}
 use Rattle.fuse_request.specs.declared.request.ReadIn.{ReadIn}
@@ -9,9 +9,8 @@ use Rattle.fuse_answer.specs.Replies.{Directory}
 use Rattle.fuse_tree.specs.declared.limits.TheConstants.{MAX_READ}
 use Rattle.fuse_tree.specs.State.{State, Node, Tree, is_dir, is_named}
 use Rattle.fuse_tree.specs.Handles.{is_open}
-use Rattle.fuse_tree.specs.Done.{Done}
 use Rattle.fuse_tree.specs.Listing.{entries_behind, first_fits, longest_front, list_front, read_dir}
-use Rattle.fuse_tree.proofs.Fit.{Fits, Reads, refused, answered, chosen, refused_reads, answered_reads, chosen_reads}
+use Rattle.fuse_tree.proofs.Fit.{Fits, Reads, refused, answered, chosen, chosen_then, refused_reads, answered_reads, chosen_reads}
 use Rattle.fuse_tree.proofs.Fronts.{longest}
 use Rattle.fuse_tree.proofs.Listing.{all_named}
 use Rattle.fuse_tree.proofs.Shown.{all_taken}
@@ -20,10 +19,6 @@ list_fits : RecordSizes → (s : State) (es : List Entry) (size : ℕ) → size 
 list_fits sizes s es size few =
     chosen (not (first_fits es size)) _ _ (refused s _)
     (answered s _ (omega (arith, few, sizes.5 (longest_front es size), (longest es size).fits)))
-
-chosen_then : (b : Bool) (d e : Done) → Fits d → (b ≡ false → Fits e) → Fits (if b then d else e)
-chosen_then true d e one two = one
-chosen_then false d e one two = two refl
 
 pub read_dir_fits : RecordSizes → (s : State) (asked : ReadIn) (n : Node) → Fits (read_dir s asked n)
 read_dir_fits sizes s asked n =

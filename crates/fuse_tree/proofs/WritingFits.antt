@@ -11,7 +11,7 @@ use Rattle.fuse_tree.specs.State.{State, Node, is_dir}
 use Rattle.fuse_tree.specs.Handles.{access_at}
 use Rattle.fuse_tree.specs.Done.{Done}
 use Rattle.fuse_tree.specs.Writing.{may_write, with_bytes, write, may_read, read}
-use Rattle.fuse_tree.proofs.Fit.{Fits, Reads, refused, answered, chosen, refused_reads, answered_reads, chosen_reads, data_body}
+use Rattle.fuse_tree.proofs.Fit.{Fits, Reads, refused, answered, chosen, chosen_then, refused_reads, answered_reads, chosen_reads, data_body}
 
 pub write_fits : RecordSizes → (s : State) (fh offset : ℕ) (payload : List ℕ) (now : Moment) (n : Node) → Fits (write s fh offset payload now n)
 write_fits sizes s fh offset payload now n =
@@ -20,16 +20,11 @@ write_fits sizes s fh offset payload now n =
     (chosen (nat_lt 16777216 (offset + length payload)) _ _ (refused s _)
     (answered (with_bytes s offset payload now n.number) _ (omega (arith, sizes.3 (record { size = length payload }))))))
 
--- the other answer is looked at only where the test fails
-unless : (b : Bool) (d e : Done) → Fits d → (b ≡ false → Fits e) → Fits (if b then d else e)
-unless true d e one two = one
-unless false d e one two = two refl
-
 pub read_fits : (s : State) (asked : ReadIn) (n : Node) → Fits (read s asked n)
 read_fits s asked n =
     chosen (not (may_read (access_at s.handles asked.fh n.number))) _ _ (refused s _)
     (chosen (is_dir n.mode) _ _ (refused s _)
-    (unless (nat_lt 1048576 asked.size) _ _ (refused s _) (λ few.
+    (chosen_then (nat_lt 1048576 asked.size) _ _ (refused s _) (λ few.
     answered s _ (omega (arith, ltb-false 1048576 asked.size few, length-take asked.size (drop asked.offset n.content))))))
 
 -- ---- and is read

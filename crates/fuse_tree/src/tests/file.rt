@@ -78,7 +78,7 @@ fn add_nodes(look: &mut PlainRows) -> Result<(), Fail>
 pub fn with_empty_file(alloc: Global) -> Result<PlainRows, Fail>
     ensures { IfOk result (λ look. fault_of look ≡ None) }
 {
-    let mut look = PlainRows::new(alloc, at(0))?;
+    let mut look = begun(alloc)?;
     add_nodes(&mut look)?;
     open(&mut look, alloc, FILE, 2)?;
     open(&mut look, alloc, FILE, 0)?;
