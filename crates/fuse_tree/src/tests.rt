@@ -118,6 +118,18 @@ fn planned_at(
     plan(look, alloc, &request, now)
 }
 
+fn planned(
+    look: &mut PlainRows,
+    alloc: Global,
+    nodeid: u64,
+    op: Op<'_>,
+) -> Result<Planned, PlanFault>
+    requires { fault_of look.old ≡ None }
+    ensures { OnOk result (fault_of look.new ≡ None) }
+{
+    planned_at(look, alloc, at(1000), nodeid, op)
+}
+
 fn answered_at(
     look: &mut PlainRows,
     alloc: Global,
@@ -377,7 +389,7 @@ fn limits(rt: HostRuntime) -> Result<(), Fail> {
 fn is_no_tree(alloc: Global, change: Change, nodeid: u64, op: Op<'_>) -> Result<bool, Fail> {
     let mut look = begun(alloc)?;
     look.apply(change)?;
-    let told = planned_at(&mut look, alloc, at(1000), nodeid, op);
+    let told = planned(&mut look, alloc, nodeid, op);
     Ok(matches!(told, Err(PlanFault::NotATree)))
 }
 
