@@ -5,6 +5,7 @@ ghost use Rattle.fuse_tree.specs.Vectors.{Inits, FirstRun, Refusals};
 mod init;
 mod mknod;
 mod removing;
+mod renaming;
 
 use super::*;
 use fuse_request::{InHeader, InitIn, Op, Request};
