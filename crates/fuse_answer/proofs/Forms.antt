@@ -52,7 +52,7 @@ pub put-last : {T E : Type 0} (r : Result T E) (old mid new : List ℕ) (ps qs :
     → OnOk r (new ≡ mid ++ form qs) → OnOk r (new ≡ old ++ form (ps ++ qs))
 put-last r old mid new ps qs e = on_ok r (new ≡ mid ++ form qs) (new ≡ old ++ form (ps ++ qs)) (put-more old mid new ps qs e)
 
-length-form : (ps : List Part) → length (form ps) ≡ widths ps
+pub length-form : (ps : List Part) → length (form ps) ≡ widths ps
 length-form [] = refl
 length-form (number w n ∷ ps) = omega (arith, length-append (le w n) (form ps), length-le w n, length-form ps)
 length-form (unused w ∷ ps) = omega (arith, length-append (replicate w 0) (form ps), length-replicate {A = ℕ} w 0, length-form ps)

@@ -3,10 +3,16 @@ use Rattle.std.proofs.Common.{◌≡◌, ℕ, ◌+◌, ◌-◌, ◌<◌, ◌≤�
 use Rattle.std.specs.List.{sum_by}
 use Rattle.std.proofs.lemmas.Bool.{cases_lt}
 use Rattle.std.proofs.lemmas.List.{append-nil, take_more, take-take, length-append}
-use Rattle.std.proofs.lemmas.List.Sums.{sum_by_more, sum_by-take-le}
+use Rattle.std.proofs.lemmas.List.Sums.{sum_by-cons, sum_by_more, sum_by-take-le}
 use Rattle.fuse_wire.specs.Layout.{form, HasForm}
 use Rattle.fuse_wire.proofs.Layouts.{Lays-form, Lays-length}
 use Rattle.fuse_answer.specs.Entries.{Entry, IsNamed, dirent_parts, Lists, packed_len, entries_bytes, IsLongest}
+use Rattle.fuse_answer.proofs.Forms.{length-form}
+
+pub length_entries : (es : List Entry) → length (entries_bytes es) ≡ sum_by packed_len es
+length_entries [] = refl
+length_entries (e ∷ es) =
+    omega (arith, length-append (form (dirent_parts e)) (entries_bytes es), length-form (dirent_parts e), sum_by-cons packed_len e es, length_entries es)
 
 -- the first n entries are put, and fit
 pub record Filled (es : List Entry) (size n : ℕ) (body : List ℕ) : Type 0 where

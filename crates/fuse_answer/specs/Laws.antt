@@ -1,6 +1,6 @@
 -- How long answers are, and which of them are read (fuse.h).
 use Rattle.std.specs.Prelude.{◌≡◌, ◌<◌, ◌≤◌, ◌+◌, ◌^◌, ℕ, List, ◌++◌, length}
-use Rattle.std.specs.List.{AllByRecursion}
+use Rattle.std.specs.List.{AllByRecursion, sum_by}
 use Rattle.fuse_wire.specs.Bytes.{le}
 use Rattle.fuse_answer.specs.declared.answer.TheConstants.{MAX_BODY}
 use Rattle.fuse_answer.specs.declared.init_out.InitOut.{InitOut}
@@ -14,7 +14,7 @@ use Rattle.fuse_answer.specs.declared.records.TheConstants.EntryOut.{SIZE as ENT
 use Rattle.fuse_answer.specs.declared.records.TheConstants.OpenOut.{SIZE as OPEN_SIZE}
 use Rattle.fuse_answer.specs.declared.records.TheConstants.WriteOut.{SIZE as WRITE_SIZE}
 use Rattle.fuse_answer.specs.Bodies.{entry_bytes, attr_out_bytes, open_bytes, write_bytes, init_bytes}
-use Rattle.fuse_answer.specs.Entries.{Entry, IsNamed, entries_bytes}
+use Rattle.fuse_answer.specs.Entries.{Entry, IsNamed, packed_len, entries_bytes}
 use Rattle.fuse_answer.specs.Replies.{AnEntry, Attributes, AnOpen, AWrite, AnInit, Directory, kind_of, IsBody, IsRead, IsOfKind}
 use Rattle.fuse_answer.specs.Said.{Said, FitsAnswer}
 use Rattle.fuse_answer.specs.Wire.{wire}
@@ -30,7 +30,7 @@ pub record BeginsWithLen (b : List ℕ) : Type 0 where
 abbrev pub LenStandsFirst : Type 0
 LenStandsFirst = (errno : ℕ) (body : List ℕ) (unique : ℕ) → length body ≤ MAX_BODY → BeginsWithLen (wire errno body unique)
 
--- the records have the sizes of fuse.h
+-- the records have the sizes of fuse.h, and entries of a directory take what they take together
 abbrev pub RecordSizes : Type 0
 RecordSizes =
     ((e : EntryOut) → length (entry_bytes e) ≡ ENTRY_SIZE)
@@ -38,6 +38,7 @@ RecordSizes =
     × ((o : OpenOut) → length (open_bytes o) ≡ OPEN_SIZE)
     × ((w : WriteOut) → length (write_bytes w) ≡ WRITE_SIZE)
     × ((i : InitOut) → length (init_bytes i) ≡ INIT_SIZE)
+    × ((es : List Entry) → length (entries_bytes es) ≡ sum_by packed_len es)
 
 -- what fits and is of the opcode's kind is read; each record is a body of its kind, and so are entries whose names are
 pub record ReadBack : Type 0 where

@@ -5,7 +5,7 @@ pub fn len_stands_first()
     ensures { LenStandsFirst }
 {}
 
-/// How long the records are.
+/// How long the records are, and entries of a directory.
 pub fn record_sizes()
     ensures { RecordSizes }
 {}

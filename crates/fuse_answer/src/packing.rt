@@ -56,6 +56,7 @@ fn put_fitting(body: &mut Vec<u8>, entries: &[Dirent<'_>], size: usize) -> Resul
     ensures longest { IfOk result (λ taken. IsLongest (map entry_of entries.now) size taken) }
     ensures bytes { IfOk result (λ taken. body.new.items ≡ entries_bytes (take taken (map entry_of entries.now))) }
     ensures lists { IfOk result (λ taken. Lists (take taken (map entry_of entries.now)) body.new.items) }
+    ensures within { IfOk result (λ taken. length body.new.items ≤ size) }
 {
     for (taken, dirent) in entries.iter().enumerate() {
         if packed_len(dirent.name.len()) > size - body.len() {
@@ -85,6 +86,7 @@ pub fn pack(alloc: Global, entries: &[Dirent<'_>], size: u32) -> Result<Packed, 
     ensures bytes { IfOk result (λ packed. packed.body ≡ entries_bytes (take packed.taken (map entry_of entries.now))) }
     // So `unpack` gives them back.
     ensures lists { IfOk result (λ packed. Lists (take packed.taken (map entry_of entries.now)) packed.body) }
+    ensures within { IfOk result (λ packed. length packed.body ≤ size) }
 
     ensures first { FirstIsTooBig (map entry_of entries.now) size ↔ (result ≡ Err first_too_big) }
 {

@@ -24,20 +24,20 @@ profile =
     built LOOKUP (codes "LOOKUP") name_fault
     ∷ later FORGET (codes "FORGET") (fixed FORGET_IN)
     ∷ built GETATTR (codes "GETATTR") (fixed GETATTR_IN)
-    ∷ later SETATTR (codes "SETATTR") (fixed SETATTR_IN)
+    ∷ built SETATTR (codes "SETATTR") (fixed SETATTR_IN)
     ∷ built MKNOD (codes "MKNOD") (at_least MKNOD_IN name_fault)
     ∷ built MKDIR (codes "MKDIR") (at_least MKDIR_IN name_fault)
     ∷ built UNLINK (codes "UNLINK") name_fault
     ∷ built RMDIR (codes "RMDIR") name_fault
     ∷ built RENAME (codes "RENAME") (at_least RENAME_IN names_fault)
-    ∷ later OPEN (codes "OPEN") (fixed OPEN_IN)
-    ∷ later READ (codes "READ") (fixed READ_IN)
-    ∷ later WRITE (codes "WRITE") (counted WRITE_IN 16 1)
-    ∷ later RELEASE (codes "RELEASE") (fixed RELEASE_IN)
+    ∷ built OPEN (codes "OPEN") (fixed OPEN_IN)
+    ∷ built READ (codes "READ") (fixed READ_IN)
+    ∷ built WRITE (codes "WRITE") (counted WRITE_IN 16 1)
+    ∷ built RELEASE (codes "RELEASE") (fixed RELEASE_IN)
     ∷ built INIT (codes "INIT") init_fault
-    ∷ later OPENDIR (codes "OPENDIR") (fixed OPEN_IN)
-    ∷ later READDIR (codes "READDIR") (fixed READ_IN)
-    ∷ later RELEASEDIR (codes "RELEASEDIR") (fixed RELEASE_IN)
+    ∷ built OPENDIR (codes "OPENDIR") (fixed OPEN_IN)
+    ∷ built READDIR (codes "READDIR") (fixed READ_IN)
+    ∷ built RELEASEDIR (codes "RELEASEDIR") (fixed RELEASE_IN)
     ∷ later INTERRUPT (codes "INTERRUPT") (fixed INTERRUPT_IN)
     ∷ built DESTROY (codes "DESTROY") (fixed 0)
     ∷ later BATCH_FORGET (codes "BATCH_FORGET") (counted BATCH_FORGET_IN 0 FORGET_ONE)

@@ -75,10 +75,7 @@ pub fn is_in_profile(opcode: u32) -> bool
 pub fn is_built(opcode: u32) -> bool
     ensures { result ≡ opcodes.is_built opcode }
 {
-    matches!(
-        opcode,
-        LOOKUP | GETATTR | MKNOD | MKDIR | UNLINK | RMDIR | RENAME | INIT | DESTROY | RENAME2
-    )
+    is_in_profile(opcode) && !is_silent(opcode)
 }
 
 /// Whether messages of this opcode are never answered.

@@ -11,6 +11,7 @@ use std::test::*;
 mod clocks;
 mod groups;
 mod hostile;
+mod init;
 mod messages;
 mod moments;
 mod pieces;
@@ -87,6 +88,18 @@ fn serve_once(
         counts: served.counts,
         port,
     })
+}
+
+// A new store in which row init-agreed was answered: what the other rows begin with.
+fn begun(alloc: Global) -> Result<PlainKeeper, Fail> {
+    let mut keeper = PlainKeeper::new(alloc, START)?;
+    serve_once(
+        alloc,
+        &mut keeper,
+        hex(alloc, INIT_AGREED)?,
+        plain_peer(alloc),
+    )?;
+    Ok(keeper)
 }
 
 // How many nodes and records a keeper has.

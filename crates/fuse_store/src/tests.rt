@@ -4,9 +4,13 @@ ghost use Rattle.fuse_wire.specs.Ids.{id_of};
 ghost use Rattle.fuse_request.specs.Act.{act, IsBuilt};
 ghost use Rattle.fuse_store.specs.declared.keeper.TheConstants.{MAX_SETTLED as MOST_SETTLED};
 
+mod handles;
+mod removing;
+
 use crate::{Done, Keeper, MAX_SETTLED, PlainKeeper, Restart, StoreCounts, StoreFault};
-use fuse_request::{InHeader, Op, Request};
-use fuse_wire::{Errno, Id, Memory, Moment, UNIQUE_RESEND};
+use fuse_init::Settings;
+use fuse_request::{InHeader, InitIn, Op, Request};
+use fuse_wire::{Errno, Id, InitFlags, Memory, Moment, UNIQUE_RESEND};
 
 const NOW: Moment = Moment {
     secs: 1000,
@@ -52,6 +56,26 @@ fn attr_of_a() -> &'static [u8] {
         .as_slice()
 }
 
+// Row `init-agreed`: what INIT is answered.
+fn init_out() -> &'static [u8] {
+    b"\x07\0\0\0\x28\0\0\0\
+      \0\0\x02\0\x21\0\0\x40\
+      \x0c\0\x09\0\0\0\x02\0\
+      \x01\0\0\0\0\0\0\0\
+      \x80\0\0\0\0\0\0\0\
+      \0\0\0\0\0\0\0\0\
+      \0\0\0\0\0\0\0\0\
+      \0\0\0\0\0\0\0\0"
+        .as_slice()
+}
+
+// And what is agreed on: flags 0, 5, 30 and 39.
+const AGREED: Settings = Settings {
+    minor: 40,
+    max_readahead: 131_072,
+    flags: InitFlags(0x80_4000_0021),
+};
+
 fn request<'a>(unique: u64, nodeid: u64, op: Op<'a>) -> Request<'a> {
     let header = InHeader {
         unique,
@@ -65,6 +89,18 @@ fn request<'a>(unique: u64, nodeid: u64, op: Op<'a>) -> Request<'a> {
         op,
         ext: b"".as_slice(),
     }
+}
+
+// INIT as row `init-agreed` offers it.
+fn init(unique: u64) -> Request<'static> {
+    let offer = InitIn {
+        major: 7,
+        minor: 40,
+        max_readahead: 131_072,
+        flags: 0x4000_2021,
+        flags2: Some(0x80),
+    };
+    request(unique, 0, Op::Init(offer))
 }
 
 fn mkdir<'a>(unique: u64, name: &'a [u8]) -> Request<'a> {
@@ -96,6 +132,7 @@ fn is_kept(request: &Request<'_>) -> bool
         Op::Lookup { .. } => true,
         Op::Getattr { .. } => true,
         Op::Mkdir { .. } => true,
+        Op::Init(_) => true,
         Op::Destroy => true,
         _ => false,
     }
@@ -160,7 +197,7 @@ fn has_record<K: Keeper>(keeper: &mut K, id: u64) -> Result<bool, StoreFault> {
     Ok(keeper.answer_of(Id(id))?.is_some())
 }
 
-// Whether the keeper holds so many nodes and records, and no handle, lot or settings.
+// Whether the keeper holds so many nodes and records, and no handle and no lot.
 fn holds<K: Keeper>(keeper: &mut K, nodes: u64, records: u64) -> Result<bool, StoreFault> {
     let counts = StoreCounts {
         nodes,
@@ -168,7 +205,15 @@ fn holds<K: Keeper>(keeper: &mut K, nodes: u64, records: u64) -> Result<bool, St
         records,
         lots: 0,
     };
-    Ok(keeper.counts()? == counts && keeper.settings()?.is_none())
+    Ok(keeper.counts()? == counts)
+}
+
+fn has_agreed<K: Keeper>(keeper: &mut K) -> Result<bool, StoreFault> {
+    Ok(keeper.settings()? == Some(AGREED))
+}
+
+fn has_no_settings<K: Keeper>(keeper: &mut K) -> Result<bool, StoreFault> {
+    Ok(keeper.settings()?.is_none())
 }
 
 fn begin_mount<K: Keeper>(keeper: &mut K) -> Result<(), StoreFault> {
@@ -182,6 +227,14 @@ fn has_failed<K: Keeper>(keeper: &K) -> bool {
 // Whether a request was answered so.
 fn is_said(done: &Done, errno: Errno, body: &[u8], repeated: bool) -> bool {
     done.answer.errno == errno && done.answer.body.as_slice() == body && done.repeated == repeated
+}
+
+// Whether INIT was answered as in row `init-agreed`.
+fn agreed(done: &Option<Done>) -> bool {
+    match done {
+        Some(done) => is_said(done, Errno::NONE, init_out(), false),
+        None => false,
+    }
 }
 
 // Whether MKDIR `a` was answered as in row `first-run`.
@@ -218,6 +271,19 @@ fn is_node(done: &Option<Done>, node: u8) -> bool {
 fn new_keeper(rt: &HostRuntime) -> Result<PlainKeeper, Memory> {
     let start = Moment { secs: 0, nanos: 0 };
     PlainKeeper::new(rt.alloc(), start)
+}
+
+// Row `init-agreed`, under id 2.
+fn agrees<K: Keeper>(keeper: &mut K) -> Result<bool, StoreFault> {
+    let done = perform_one(keeper, init(2), &[])?;
+    Ok(agreed(&done))
+}
+
+// A new keeper in which row `init-agreed` was answered: the other rows begin with it.
+fn begun(rt: &HostRuntime) -> Result<PlainKeeper, StoreFault> {
+    let mut keeper = new_keeper(rt)?;
+    agrees(&mut keeper)?;
+    Ok(keeper)
 }
 
 fn makes_a<K: Keeper>(
@@ -258,6 +324,10 @@ fn gives_node<K: Keeper>(
 fn repeats_are_answered_alike(rt: HostRuntime) -> Result<(), StoreFault> {
     let mut keeper = new_keeper(&rt)?;
     assert!(rt; holds(&mut keeper, 1, 0)?, "new");
+    assert!(rt; has_no_settings(&mut keeper)?, "new");
+    assert!(rt; agrees(&mut keeper)?, "init-agreed");
+    assert!(rt; holds(&mut keeper, 1, 1)?, "begun");
+    assert!(rt; has_agreed(&mut keeper)?, "begun");
     assert!(rt; makes_a(&mut keeper, mkdir(6, b"a"), false)?, "made");
     assert!(rt;
         makes_a(&mut keeper, mkdir(UNIQUE_RESEND + 6, b"a"), true)?,
@@ -265,7 +335,7 @@ fn repeats_are_answered_alike(rt: HostRuntime) -> Result<(), StoreFault> {
     );
     assert!(rt; tells_a(&mut keeper, getattr(8, 2))?, "told");
     assert!(rt; makes_a(&mut keeper, lookup(6, b"b"), true)?, "reused");
-    assert!(rt; holds(&mut keeper, 2, 2)?, "at the end");
+    assert!(rt; holds(&mut keeper, 2, 3)?, "at the end");
     Ok(())
 }
 
@@ -282,17 +352,17 @@ fn makes_a_once<K: Keeper>(
 // Row `repeat-in-group`.
 #[test]
 fn repeats_in_a_group_act_once(rt: HostRuntime) -> Result<(), StoreFault> {
-    let mut keeper = new_keeper(&rt)?;
+    let mut keeper = begun(&rt)?;
     let resent = mkdir(UNIQUE_RESEND + 4, b"a");
     assert!(rt; makes_a_once(&mut keeper, mkdir(4, b"a"), resent)?, "both");
-    assert!(rt; holds(&mut keeper, 2, 1)?, "at the end");
+    assert!(rt; holds(&mut keeper, 2, 2)?, "at the end");
     Ok(())
 }
 
 // Rows `missing-lookup` and `resent-lookup`, with MKDIR for MKNOD.
 #[test]
 fn refusals_and_reads_are_recorded(rt: HostRuntime) -> Result<(), StoreFault> {
-    let mut keeper = new_keeper(&rt)?;
+    let mut keeper = begun(&rt)?;
     let missing = lookup(4, b"hello");
     assert!(rt;
         refuses(&mut keeper, missing, Errno::ENOENT, false)?,
@@ -318,18 +388,20 @@ fn settles_one<K: Keeper>(keeper: &mut K) -> Result<bool, StoreFault> {
 
 #[test]
 fn settled_records_go(rt: HostRuntime) -> Result<(), StoreFault> {
-    let mut keeper = new_keeper(&rt)?;
+    let mut keeper = begun(&rt)?;
     assert!(rt; settles_one(&mut keeper)?, "settled");
-    assert!(rt; holds(&mut keeper, 2, 2)?, "at the end");
+    assert!(rt; holds(&mut keeper, 2, 3)?, "at the end");
     Ok(())
 }
 
 #[test]
 fn a_mount_keeps_names_and_counters(rt: HostRuntime) -> Result<(), StoreFault> {
-    let mut keeper = new_keeper(&rt)?;
+    let mut keeper = begun(&rt)?;
     assert!(rt; makes_a(&mut keeper, mkdir(4, b"a"), false)?, "before");
     begin_mount(&mut keeper)?;
     assert!(rt; holds(&mut keeper, 2, 0)?, "begun");
+    assert!(rt; has_no_settings(&mut keeper)?, "begun");
+    assert!(rt; agrees(&mut keeper)?, "agreed again");
     assert!(rt; gives_node(&mut keeper, mkdir(4, b"b"), 3)?, "made");
     assert!(rt; gives_node(&mut keeper, lookup(6, b"a"), 2)?, "found");
     Ok(())
@@ -341,11 +413,12 @@ fn reopened<K: Restart>(keeper: K) -> Result<K, StoreFault> {
 
 #[test]
 fn a_restart_keeps_all(rt: HostRuntime) -> Result<(), StoreFault> {
-    let mut keeper = new_keeper(&rt)?;
+    let mut keeper = begun(&rt)?;
     assert!(rt; makes_a(&mut keeper, mkdir(4, b"a"), false)?, "before");
     let mut opened = reopened(keeper)?;
     assert!(rt; !has_failed(&opened), "opened");
-    assert!(rt; holds(&mut opened, 2, 1)?, "held");
+    assert!(rt; holds(&mut opened, 2, 2)?, "held");
+    assert!(rt; has_agreed(&mut opened)?, "settings");
     let resent = mkdir(UNIQUE_RESEND + 4, b"a");
     assert!(rt; makes_a(&mut opened, resent, true)?, "resent");
     Ok(())
@@ -361,16 +434,22 @@ fn has_made_a<K: Keeper>(keeper: &mut K, id: u64) -> Result<bool, StoreFault> {
     }
 }
 
-// Whether a keeper that failed is a new one in all else. LOOKUP 10 is recorded then.
+// Whether a keeper that failed is a new one in all else.
 fn is_new<K: Keeper>(keeper: &mut K) -> Result<bool, StoreFault> {
-    let held = has_failed(keeper) && holds(keeper, 1, 0)? && !has_record(keeper, 4)?;
+    let held = has_failed(keeper) && holds(keeper, 1, 0)? && !has_record(keeper, 2)?;
+    Ok(held && has_no_settings(keeper)?)
+}
+
+// Whether a keeper that failed holds the settings and nothing else. LOOKUP 10 is recorded then.
+fn is_begun<K: Keeper>(keeper: &mut K) -> Result<bool, StoreFault> {
+    let held = has_failed(keeper) && holds(keeper, 1, 1)? && !has_record(keeper, 4)?;
     Ok(held && refuses(keeper, lookup(10, b"a"), Errno::ENOENT, false)?)
 }
 
-// Whether a keeper that failed holds `a`, made under id 4, and nothing else. Requests 10, 12 and 14
-// are recorded then.
+// Whether a keeper that failed holds the settings and `a`, made under id 4, and nothing else.
+// Requests 10, 12 and 14 are recorded then.
 fn holds_only_a<K: Keeper>(keeper: &mut K) -> Result<bool, StoreFault> {
-    let held = has_failed(keeper) && holds(keeper, 2, 1)?;
+    let held = has_failed(keeper) && holds(keeper, 2, 2)?;
     let recorded = has_made_a(keeper, 4)? && !has_record(keeper, 6)? && !has_record(keeper, 8)?;
     let answered = makes_a(keeper, lookup(10, b"a"), false)?
         && refuses(keeper, lookup(12, b"b"), Errno::ENOENT, false)?
@@ -378,13 +457,21 @@ fn holds_only_a<K: Keeper>(keeper: &mut K) -> Result<bool, StoreFault> {
     Ok(held && recorded && answered)
 }
 
-// The first group: `a` is made. A fault is want of memory and leaves a new store, which takes the
-// group afterwards.
+// INIT. A fault is want of memory and leaves a new store, which takes it afterwards.
+fn begins<K: Keeper>(keeper: &mut K) -> Result<bool, StoreFault> {
+    match agrees(keeper) {
+        Ok(is_agreed) => Ok(is_agreed),
+        Err(StoreFault::Memory) => Ok(is_new(keeper)? && agrees(keeper)?),
+        Err(fault) => Err(fault),
+    }
+}
+
+// The first group: `a` is made. A fault leaves what INIT left.
 fn first_group<K: Keeper>(keeper: &mut K) -> Result<bool, StoreFault> {
     match perform_one(keeper, mkdir(4, b"a"), &[]) {
         Ok(made) => Ok(made_a(&made, false)),
         Err(StoreFault::Memory) => {
-            let unchanged = is_new(keeper)?;
+            let unchanged = is_begun(keeper)?;
             let made = perform_one(keeper, mkdir(4, b"a"), &[Id(10)])?;
             Ok(unchanged && made_a(&made, false))
         }
@@ -422,9 +509,11 @@ fn refused_memory_changes_nothing(rt: HostRuntime) -> Result<(), StoreFault> {
     let Ok(mut keeper) = new_keeper(&rt) else {
         return Ok(());
     };
+    assert!(rt; begins(&mut keeper)?, "INIT");
     assert!(rt; first_group(&mut keeper)?, "first group");
     assert!(rt; second_group(&mut keeper)?, "second group");
     assert!(rt; record_stays(&mut keeper, 6)?, "a record");
-    assert!(rt; holds(&mut keeper, 3, 2)?, "at the end");
+    assert!(rt; holds(&mut keeper, 3, 3)?, "at the end");
+    assert!(rt; has_agreed(&mut keeper)?, "at the end");
     Ok(())
 }

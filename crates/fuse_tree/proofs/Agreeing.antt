@@ -19,14 +19,18 @@ use Rattle.fuse_tree.specs.declared.rows.NodeRow.{NodeRow}
 use Rattle.fuse_tree.specs.declared.rows.Planned.{Planned}
 use Rattle.fuse_tree.specs.State.{State, Node, Tree, is_dir, node_at, is_named, name_fault}
 use Rattle.fuse_tree.specs.Rows.{row_of, rowed, rows_of_state, row_at, entry_at}
+use Rattle.fuse_tree.specs.Do.{lookup_child, lookup_entry, lookup, done, do_at, do_act, names_node, do_agreed, do_offered, offer_of}
+use Rattle.fuse_tree.specs.Plan.{Meets, TreeKept, look_fault, AnswersAreRead}
 use Rattle.fuse_tree.specs.Renaming.{asking}
-use Rattle.fuse_tree.specs.Do.{lookup_child, lookup_entry, lookup, done, do_at, do_act, do_agreed, do_offered, offer_of, names_node}
-use Rattle.fuse_tree.specs.Plan.{Meets, TreeKept, AnswersAreRead, look_fault}
 use Rattle.fuse_tree.specs.Reading.{Tells, child_of}
 use Rattle.fuse_tree.specs.Planning.{plan_lookup, plan_of, plan_offered, plan_agreed, plan_at, plan_act, plan_child}
 use Rattle.fuse_tree.proofs.Agreement.{Agrees, refused_agrees, both, both_for}
-use Rattle.fuse_tree.proofs.InitAgrees.{init_agrees}
 use Rattle.fuse_tree.proofs.MakingAgrees.{mkdir_agrees, mknod_agrees}
+use Rattle.fuse_tree.proofs.SettingAgrees.{setattr_agrees}
+use Rattle.fuse_tree.proofs.WritingAgrees.{write_agrees, read_agrees}
+use Rattle.fuse_tree.proofs.InitAgrees.{init_agrees}
+use Rattle.fuse_tree.proofs.ListingAgrees.{read_dir_agrees}
+use Rattle.fuse_tree.proofs.OpeningAgrees.{open_agrees, open_dir_agrees, release_agrees, release_dir_agrees}
 use Rattle.fuse_tree.proofs.RemovingAgrees.{unlink_agrees, rmdir_agrees}
 use Rattle.fuse_tree.proofs.RenameAgrees.{renaming_agrees}
 use Rattle.fuse_tree.proofs.Puts.{row_found, node_found}
@@ -49,10 +53,18 @@ lookup_agrees s name d tree =
 act_agrees : (s : State) (header : InHeader) (a : Act) (now : Moment) (d : Node) → Tree s → node_at s d.number ≡ Some d → Agrees s (plan_act header a now (row_of s d) (rows_of_state s)) (do_act s header a now d)
 act_agrees s header (acts.Lookup name) now d tree e = lookup_agrees s name d tree
 act_agrees s header (acts.Getattr flags fh) now d tree e = record { answer = refl; rows = refl; tree = tree }
+act_agrees s header (acts.Setattr set) now d tree e = setattr_agrees s set now d tree e
 act_agrees s header (acts.Mkdir mode umask name) now d tree e = mkdir_agrees s header mode name now d tree e
 act_agrees s header (acts.Mknod mode rdev umask name) now d tree e = mknod_agrees s header mode rdev name now d tree e
 act_agrees s header (acts.Unlink name) now d tree e = unlink_agrees s name now d tree e
 act_agrees s header (acts.Rmdir name) now d tree e = rmdir_agrees s name now d tree e
+act_agrees s header (acts.OpenFile flags open_flags) now d tree e = open_agrees s flags d tree e
+act_agrees s header (acts.Read asked) now d tree e = read_agrees s asked d tree e
+act_agrees s header (acts.Write fh offset write_flags lock_owner flags payload) now d tree e = write_agrees s offset payload now d tree e fh
+act_agrees s header (acts.OpenDir flags open_flags) now d tree e = open_dir_agrees s d tree e
+act_agrees s header (acts.ReadDir x) now d tree e = read_dir_agrees s x d tree
+act_agrees s header (acts.Release x) now d tree e = release_agrees s x.fh d tree
+act_agrees s header (acts.ReleaseDir x) now d tree e = release_dir_agrees s x.fh d tree
 act_agrees s header (acts.Rename new_dir old_name new_name) now d tree e = renaming_agrees s (asking new_dir 0 old_name new_name now) d tree e
 act_agrees s header (acts.Rename2 new_dir flags old_name new_name) now d tree e = renaming_agrees s (asking new_dir flags old_name new_name now) d tree e
 act_agrees s header acts.Destroy now d tree e = record { answer = refl; rows = refl; tree = tree }

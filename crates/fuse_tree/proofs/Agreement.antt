@@ -32,3 +32,9 @@ not_false false e = absurd cc
 pub none_some : {A : Type 0} (o : Option A) → is_some o ≡ false → o ≡ None
 none_some None e = refl
 none_some (Some x) e = absurd cc
+
+-- neither test found a fault
+pub no_fault : (b c : Bool) (e f : Errno) → cond b (Some e) (cond c (Some f) None) ≡ None → (b ≡ false) × (c ≡ false)
+no_fault true c e f none = absurd cc
+no_fault false true e f none = absurd cc
+no_fault false false e f none = (refl, refl)

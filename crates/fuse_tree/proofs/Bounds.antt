@@ -2,12 +2,14 @@
 use Rattle.std.proofs.Common.{◌≡◌, ◌==◌, ◌≤◌, ◌&&◌, ◌||◌, ℕ, true, false, cond, not, eqb, List, [], ◌∷◌, length, take, Option, Some, None, refl, sym, subst, ◌∙◌, arith}
 use Rattle.std.specs.Prelude.{filter, nat_lt}
 use Rattle.std.proofs.lemmas.Bool.{lt-ltb}
-use Rattle.std.specs.List.{AllByRecursion}
+use Rattle.std.specs.List.{AllByRecursion, list_any}
 use Rattle.std.specs.Option.{option_map}
 use Rattle.fuse_tree.specs.declared.rows.EntryRow.{EntryRow}
+use Rattle.fuse_tree.specs.declared.rows.HandleRow.{HandleRow}
 use Rattle.fuse_tree.specs.declared.rows.NodeRow.{NodeRow}
 use Rattle.fuse_tree.specs.State.{State, Node, Tree, IsNode, IsEntry, is_below, has_number, node_at, is_entry}
 use Rattle.fuse_tree.specs.Rows.{Rows, IsRowed, row_of, rowed, rows_of_state, row_at, entry_at, is_after, entries_after}
+use Rattle.fuse_tree.specs.Handles.{is_open}
 use Rattle.fuse_tree.specs.Reading.{IsWithin}
 use Rattle.fuse_tree.specs.Removing.{has_entries}
 use Rattle.fuse_tree.proofs.Lists.{all_more, found, any_gives, none_found, length_filtered}
@@ -38,11 +40,16 @@ pub map_none : {A B : Type 0} (f : A → B) (o : Option A) → option_map f o �
 map_none f None e = refl
 map_none f (Some x) e = absurd cc
 
+-- a node that is there has a row
+pub child_there : (s : State) (child : ℕ) → list_any (has_number child) s.nodes ≡ true → row_at (rows_of_state s) child ≡ None → ⊥
+child_there s child there none =
+    let missing : node_at s child ≡ None = map_none (row_of s) (node_at s child) (sym (row_found s child) ∙ none) in
+    any_gives (λ n. (n.number == child) ≡ false) (has_number child) ⊥ s.nodes (none_found (λ n. n.number == child) s.nodes missing) there (λ n fails passes. absurd cc)
+
 child_in_state : (s : State) (dir : ℕ) (name : List ℕ) (x : EntryRow) → Tree s → entry_at s.entries dir name ≡ Some x → row_at (rows_of_state s) x.child ≡ None → ⊥
 child_in_state s dir name x tree e none =
     let p = (found (IsEntry s.nodes s.entries s.next_cookie) (is_entry dir name) s.entries x tree.entries e).0 in
-    let missing : node_at s x.child ≡ None = map_none (row_of s) (node_at s x.child) (sym (row_found s x.child) ∙ none) in
-    any_gives (λ n. (n.number == x.child) ≡ false) (has_number x.child) ⊥ s.nodes (none_found (λ n. n.number == x.child) s.nodes missing) p.child (λ n fails passes. absurd cc)
+    child_there s x.child p.child none
 
 -- an entry that is found among those of a tree leads to a row
 pub child_row : (rows : Rows) (dir : ℕ) (name : List ℕ) (x : EntryRow) → IsRowed rows → entry_at rows.entries dir name ≡ Some x → row_at rows x.child ≡ None → ⊥
@@ -51,6 +58,18 @@ child_row rows dir name x is e none =
     let s = is.0 in
     let same : rows ≡ rows_of_state s = is.2 ∙ rowed_is s in
     child_in_state s dir name x is.1 (subst (λ (r : Rows). entry_at r.entries dir name ≡ Some x) same e) (subst (λ (r : Rows). row_at r x.child ≡ None) same none)
+
+open_counted : (handles : List HandleRow) (fh node : ℕ) → is_open handles fh node ≡ true → length handles ≡ 0 → ⊥
+open_counted [] fh node there none = absurd cc
+open_counted (h ∷ handles) fh node there none = absurd cc
+
+-- where a handle is open in a tree, handles are counted
+pub handle_counted : (rows : Rows) (fh node : ℕ) → IsRowed rows → is_open rows.handles fh node ≡ true → rows.counters.handles ≡ 0 → ⊥
+unfolding IsRowed
+handle_counted rows fh node is there none =
+    let s = is.0 in
+    let same : rows ≡ rows_of_state s = is.2 ∙ rowed_is s in
+    open_counted s.handles fh node (subst (λ (r : Rows). is_open r.handles fh node ≡ true) same there) (subst (λ (r : Rows). r.counters.handles ≡ 0) same none)
 
 -- the rows of a tree are those of one
 pub is_rowed : (s : State) → Tree s → IsRowed (rowed s)

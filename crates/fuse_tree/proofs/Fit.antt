@@ -25,6 +25,11 @@ pub chosen : (b : Bool) (d e : Done) → Fits d → Fits e → Fits (if b then d
 chosen true d e one two = one
 chosen false d e one two = two
 
+-- the other is answered only where the test fails
+pub chosen_then : (b : Bool) (d e : Done) → Fits d → (b ≡ false → Fits e) → Fits (if b then d else e)
+chosen_then true d e one two = one
+chosen_then false d e one two = two refl
+
 pub refused_for : (s : State) (fault : Option Errno) (d : Done) → Fits d → Fits (refuse_for s fault d)
 refused_for s (Some errno) d so = refused s errno
 refused_for s None d so = so

@@ -12,14 +12,18 @@ use Rattle.fuse_init.specs.Agree.{agree}
 use Rattle.fuse_tree.specs.declared.rows.EntryRow.{EntryRow}
 use Rattle.fuse_tree.specs.State.{State, Node, Tree, is_dir, is_named, node_at, name_fault}
 use Rattle.fuse_tree.specs.Rows.{entry_at}
-use Rattle.fuse_tree.specs.Done.{Done, answer, attr_of, entry_of, attr_out_of}
+use Rattle.fuse_tree.specs.Done.{attr_of, entry_of, attr_out_of, Done, answer}
+use Rattle.fuse_tree.specs.Do.{lookup_child, lookup_entry, lookup_named, lookup, getattr, do_act, do_at, names_node, done, do_agreed, do_offered, offer_of}
 use Rattle.fuse_tree.specs.Renaming.{asking}
-use Rattle.fuse_tree.specs.Do.{lookup_child, lookup_entry, lookup_named, lookup, getattr, do_act, do_at, do_agreed, do_offered, offer_of, names_node, done}
 use Rattle.fuse_tree.proofs.Fit.{Fits, refused, answered, chosen, refused_for, Reads, refused_reads, answered_reads, chosen_reads, refused_name_reads, no_body}
-use Rattle.fuse_tree.proofs.InitFits.{init_fits, init_reads}
 use Rattle.fuse_tree.proofs.MakingFits.{mkdir_fits, mknod_fits, mkdir_reads, mknod_reads}
+use Rattle.fuse_tree.proofs.SettingFits.{setattr_fits, setattr_reads}
+use Rattle.fuse_tree.proofs.WritingFits.{write_fits, read_fits, write_reads, read_reads}
+use Rattle.fuse_tree.proofs.OpeningFits.{open_fits, open_dir_fits, release_fits, release_dir_fits, open_reads, open_dir_reads, release_reads, release_dir_reads}
+use Rattle.fuse_tree.proofs.InitFits.{init_fits, init_reads}
 use Rattle.fuse_tree.specs.Plan.{AnswersAreRead}
 use Rattle.fuse_tree.proofs.RemovingFits.{unlink_fits, rmdir_fits, unlink_reads, rmdir_reads}
+use Rattle.fuse_tree.proofs.ListingFits.{read_dir_fits, read_dir_reads}
 use Rattle.fuse_tree.proofs.RenameFits.{rename_fits, rename_reads}
 
 -- ---- LOOKUP
@@ -65,10 +69,18 @@ getattr_reads back s n = answered_reads s _ (back.attributes (attr_out_of (attr_
 act_fits : RecordSizes → (s : State) (header : InHeader) (act : Act) (now : Moment) (n : Node) → Fits (do_act s header act now n)
 act_fits sizes s header (acts.Lookup name) now n = lookup_fits sizes s name n
 act_fits sizes s header (acts.Getattr flags fh) now n = getattr_fits sizes s n
+act_fits sizes s header (acts.Setattr set) now n = setattr_fits sizes s set now n
 act_fits sizes s header (acts.Mkdir mode umask name) now n = mkdir_fits sizes s header mode name now n
 act_fits sizes s header (acts.Mknod mode rdev umask name) now n = mknod_fits sizes s header mode rdev name now n
 act_fits sizes s header (acts.Unlink name) now n = unlink_fits s name now n
 act_fits sizes s header (acts.Rmdir name) now n = rmdir_fits s name now n
+act_fits sizes s header (acts.OpenFile flags open_flags) now n = open_fits sizes s flags n
+act_fits sizes s header (acts.Read asked) now n = read_fits s asked n
+act_fits sizes s header (acts.Write fh offset write_flags lock_owner flags payload) now n = write_fits sizes s fh offset payload now n
+act_fits sizes s header (acts.OpenDir flags open_flags) now n = open_dir_fits sizes s n
+act_fits sizes s header (acts.ReadDir x) now n = read_dir_fits sizes s x n
+act_fits sizes s header (acts.Release x) now n = release_fits s x.fh n
+act_fits sizes s header (acts.ReleaseDir x) now n = release_dir_fits s x.fh n
 act_fits sizes s header (acts.Rename new_dir old_name new_name) now n = rename_fits s (asking new_dir 0 old_name new_name now) n
 act_fits sizes s header (acts.Rename2 new_dir flags old_name new_name) now n = rename_fits s (asking new_dir flags old_name new_name now) n
 act_fits sizes s header acts.Destroy now n = answered s [] (omega arith)
@@ -94,10 +106,18 @@ fits sizes s request now = offered_fits sizes s request now (offer_of request.ac
 act_reads : ReadBack → (s : State) (header : InHeader) (act : Act) (now : Moment) (n : Node) → Tree s → Reads (kind_of (opcode_of act)) (do_act s header act now n)
 act_reads back s header (acts.Lookup name) now n tree = lookup_reads back s name n
 act_reads back s header (acts.Getattr flags fh) now n tree = getattr_reads back s n
+act_reads back s header (acts.Setattr set) now n tree = setattr_reads back s set now n
 act_reads back s header (acts.Mkdir mode umask name) now n tree = mkdir_reads back s header mode name now n
 act_reads back s header (acts.Mknod mode rdev umask name) now n tree = mknod_reads back s header mode rdev name now n
 act_reads back s header (acts.Unlink name) now n tree = unlink_reads s name now n
 act_reads back s header (acts.Rmdir name) now n tree = rmdir_reads s name now n
+act_reads back s header (acts.Read asked) now n tree = read_reads s asked n
+act_reads back s header (acts.Write fh offset write_flags lock_owner flags payload) now n tree = write_reads back s fh offset payload now n
+act_reads back s header (acts.OpenFile flags open_flags) now n tree = open_reads back s flags n
+act_reads back s header (acts.OpenDir flags open_flags) now n tree = open_dir_reads back s n
+act_reads back s header (acts.ReadDir x) now n tree = read_dir_reads back s x n tree
+act_reads back s header (acts.Release x) now n tree = release_reads s x.fh n
+act_reads back s header (acts.ReleaseDir x) now n tree = release_dir_reads s x.fh n
 act_reads back s header (acts.Rename new_dir old_name new_name) now n tree = rename_reads s (asking new_dir 0 old_name new_name now) n
 act_reads back s header (acts.Rename2 new_dir flags old_name new_name) now n tree = rename_reads s (asking new_dir flags old_name new_name now) n
 act_reads back s header acts.Destroy now n tree = answered_reads s [] no_body

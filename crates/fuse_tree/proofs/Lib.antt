@@ -1,15 +1,21 @@
 pub mod Agreeing
 mod Agreement
 pub mod Bounds
+pub mod Changing
 pub mod Counts
 pub mod EntryGone
 pub mod Exchanges
 mod Fit
 pub mod Fitting
+mod Fronts
 pub mod GoneRows
 pub mod Heights
 mod InitAgrees
 mod InitFits
+mod Lengths
+mod Listing
+mod ListingAgrees
+mod ListingFits
 pub mod Lists
 pub mod Making
 mod MakingAgrees
@@ -20,8 +26,12 @@ pub mod MovedRows
 pub mod MovedTrees
 pub mod Moving
 pub mod NewStore
+mod Opening
+mod OpeningAgrees
+mod OpeningFits
 mod Placed
 pub mod Puts
+pub mod Ranges
 mod RemovingAgrees
 mod RemovingFits
 mod RenameAgrees
@@ -29,7 +39,12 @@ mod RenameFits
 pub mod RenameFree
 pub mod RenameOver
 pub mod RenameRows
+mod SettingAgrees
+mod SettingFits
+mod Shown
 pub mod Telling
 pub mod Trees
 pub mod Ups
 pub mod Walking
+mod WritingAgrees
+mod WritingFits

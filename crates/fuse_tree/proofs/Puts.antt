@@ -11,7 +11,7 @@ use Rattle.fuse_tree.specs.Rows.{full_of, rows_of_state, row_at, with_row, put_n
 use Rattle.fuse_tree.proofs.Lists.{cond_found, any_found, found}
 use Rattle.fuse_tree.proofs.Trees.{nodes_below}
 
-find_full : (s : State) (k : ℕ) (ns : List Node) → find (λ f. f.row.node == k) (map (full_of s) ns) ≡ option_map (full_of s) (find (λ n. n.number == k) ns)
+pub find_full : (s : State) (k : ℕ) (ns : List Node) → find (λ f. f.row.node == k) (map (full_of s) ns) ≡ option_map (full_of s) (find (λ n. n.number == k) ns)
 find_full s k [] = refl
 find_full s k (n ∷ ns) =
     elim (eqb n.number k) as (λ b. cond b (Some (full_of s n)) (find (λ f. f.row.node == k) (map (full_of s) ns)) ≡ option_map (full_of s) (cond b (Some n) (find (λ m. m.number == k) ns))) [

@@ -13,8 +13,12 @@ use Rattle.fuse_tree.specs.declared.rows.EntryRow.{EntryRow}
 use Rattle.fuse_tree.specs.State.{State, Node, is_dir, node_at, is_named, name_fault}
 use Rattle.fuse_tree.specs.Rows.{entry_at}
 use Rattle.fuse_tree.specs.Done.{Done, refuse, refuse_for, answer, attr_of, entry_of, attr_out_of}
-use Rattle.fuse_tree.specs.Init.{init}
 use Rattle.fuse_tree.specs.Making.{mkdir, mknod}
+use Rattle.fuse_tree.specs.Setting.{setattr}
+use Rattle.fuse_tree.specs.Writing.{write, read}
+use Rattle.fuse_tree.specs.Init.{init}
+use Rattle.fuse_tree.specs.Listing.{read_dir}
+use Rattle.fuse_tree.specs.Opening.{open_file, open_dir, release, release_dir}
 use Rattle.fuse_tree.specs.Removing.{unlink, rmdir}
 use Rattle.fuse_tree.specs.Renaming.{asking, rename}
 
@@ -48,10 +52,18 @@ getattr s n = answer s (attr_out_bytes (attr_out_of (attr_of s n)))
 abbrev pub do_act : State → InHeader → Act → Moment → Node → Done
 do_act s header (acts.Lookup name) now n = lookup s name n
 do_act s header (acts.Getattr flags fh) now n = getattr s n
+do_act s header (acts.Setattr set) now n = setattr s set now n
 do_act s header (acts.Mkdir mode umask name) now n = mkdir s header mode name now n
 do_act s header (acts.Mknod mode rdev umask name) now n = mknod s header mode rdev name now n
 do_act s header (acts.Unlink name) now n = unlink s name now n
 do_act s header (acts.Rmdir name) now n = rmdir s name now n
+do_act s header (acts.OpenFile flags open_flags) now n = open_file s flags n
+do_act s header (acts.Read asked) now n = read s asked n
+do_act s header (acts.Write fh offset write_flags lock_owner flags payload) now n = write s fh offset payload now n
+do_act s header (acts.OpenDir flags open_flags) now n = open_dir s n
+do_act s header (acts.ReadDir x) now n = read_dir s x n
+do_act s header (acts.Release x) now n = release s x.fh n
+do_act s header (acts.ReleaseDir x) now n = release_dir s x.fh n
 do_act s header (acts.Rename new_dir old_name new_name) now n = rename s (asking new_dir 0 old_name new_name now) n
 do_act s header (acts.Rename2 new_dir flags old_name new_name) now n = rename s (asking new_dir flags old_name new_name now) n
 do_act s header acts.Destroy now n = answer s []

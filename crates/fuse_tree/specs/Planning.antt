@@ -13,8 +13,12 @@ use Rattle.fuse_tree.specs.State.{is_dir, name_fault}
 use Rattle.fuse_tree.specs.Rows.{Rows, row_at}
 use Rattle.fuse_tree.specs.Do.{names_node, offer_of}
 use Rattle.fuse_tree.specs.Reading.{refused, refused_for, told, row_is_named, entry_body, attr_body, child_at}
-use Rattle.fuse_tree.specs.PlanInit.{plan_init}
 use Rattle.fuse_tree.specs.PlanMaking.{plan_mkdir, plan_mknod}
+use Rattle.fuse_tree.specs.PlanSetting.{plan_setattr}
+use Rattle.fuse_tree.specs.PlanWriting.{plan_write, plan_read}
+use Rattle.fuse_tree.specs.PlanInit.{plan_init}
+use Rattle.fuse_tree.specs.PlanListing.{plan_read_dir}
+use Rattle.fuse_tree.specs.PlanOpening.{plan_open, plan_open_dir, plan_release, plan_release_dir}
 use Rattle.fuse_tree.specs.Renaming.{asking}
 use Rattle.fuse_tree.specs.PlanRemoving.{plan_unlink, plan_rmdir}
 use Rattle.fuse_tree.specs.PlanRenaming.{plan_rename}
@@ -38,10 +42,18 @@ plan_lookup name row rows =
 abbrev pub plan_act : InHeader → Act → Moment → NodeRow → Rows → Planned
 plan_act header (acts.Lookup name) now row rows = plan_lookup name row rows
 plan_act header (acts.Getattr flags fh) now row rows = told (attr_body row)
+plan_act header (acts.Setattr set) now row rows = plan_setattr set now row
 plan_act header (acts.Mkdir mode umask name) now row rows = plan_mkdir header mode name now row rows
 plan_act header (acts.Mknod mode rdev umask name) now row rows = plan_mknod header mode rdev name now row rows
 plan_act header (acts.Unlink name) now row rows = plan_unlink name now row rows
 plan_act header (acts.Rmdir name) now row rows = plan_rmdir name now row rows
+plan_act header (acts.OpenFile flags open_flags) now row rows = plan_open flags row rows
+plan_act header (acts.Read asked) now row rows = plan_read asked row rows
+plan_act header (acts.Write fh offset write_flags lock_owner flags payload) now row rows = plan_write fh offset payload now row rows
+plan_act header (acts.OpenDir flags open_flags) now row rows = plan_open_dir row rows
+plan_act header (acts.ReadDir x) now row rows = plan_read_dir x row rows
+plan_act header (acts.Release x) now row rows = plan_release x.fh row rows
+plan_act header (acts.ReleaseDir x) now row rows = plan_release_dir x.fh row rows
 plan_act header (acts.Rename new_dir old_name new_name) now row rows = plan_rename (asking new_dir 0 old_name new_name now) row rows
 plan_act header (acts.Rename2 new_dir flags old_name new_name) now row rows = plan_rename (asking new_dir flags old_name new_name now) row rows
 plan_act header acts.Destroy now row rows = told []

@@ -1,3 +1,4 @@
+ghost use Rattle.fuse_tree.specs.Listing.{ListingIsLongest};
 ghost use Rattle.fuse_tree.specs.Plan.{TreeKept, NewStoreIsTree, RowsTellState, AnswersFit, AnswersAreRead};
 
 use fuse_answer::{read_back, record_sizes};
@@ -31,3 +32,8 @@ pub fn answers_are_read()
     read_back();
     record_sizes();
 }
+
+/// The entries of a directory rise, and as many are told as fit.
+pub fn listing_is_longest()
+    ensures { ListingIsLongest }
+{}

@@ -6,18 +6,23 @@ mod limits;
 mod look;
 mod mode;
 mod mount;
+mod pieces;
 mod plain;
 mod planning;
 mod rows;
 
-pub use laws::{answers_are_read, answers_fit, new_store_is_tree, rows_tell_state, tree_kept};
+pub use laws::{
+    answers_are_read, answers_fit, listing_is_longest, new_store_is_tree, rows_tell_state,
+    tree_kept,
+};
 pub use limits::{
-    BLOCK_SIZE, COUNTER_END, MAX_FILE, MAX_HANDLES, MAX_NAME, MAX_NODES, ROOT_ID, SECTOR_SIZE,
-    VALID_SECS,
+    BLOCK_SIZE, COUNTER_END, MAX_FILE, MAX_HANDLES, MAX_NAME, MAX_NODES, MAX_READ, ROOT_ID,
+    SECTOR_SIZE, VALID_SECS,
 };
 pub use look::{Look, LookFault};
 pub use mode::{S_IFBLK, S_IFCHR, S_IFDIR, S_IFIFO, S_IFREG, S_IFSOCK, TYPE_UNIT, TYPES};
 pub use mount::clearing;
+pub use pieces::{Piece, Pieces};
 pub use plain::PlainRows;
 pub use planning::{PlanFault, plan};
 pub use rows::{Change, ChangeList, Counters, EntryRow, Full, HandleRow, NodeRow, Planned};

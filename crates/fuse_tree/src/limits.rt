@@ -10,6 +10,9 @@ pub const COUNTER_END: u64 = 0x4000_0000_0000_0000;
 /// The most bytes of a file.
 pub const MAX_FILE: u64 = 16_777_216;
 
+/// The most bytes that READ and READDIR may ask for.
+pub const MAX_READ: u32 = 1_048_576;
+
 /// The most bytes of a name.
 pub const MAX_NAME: usize = 255;
 

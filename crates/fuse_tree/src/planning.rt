@@ -21,11 +21,17 @@ mod mkdir;
 mod mknod;
 mod moving;
 mod names;
+mod open;
+mod read;
+mod read_dir;
+mod release;
 mod remove;
 mod rename;
 mod rmdir;
+mod setattr;
 mod unlink;
 mod walking;
+mod write;
 
 use crate::laws::answers_are_read;
 use crate::look::Look;
@@ -40,10 +46,16 @@ use init::plan_init;
 use lookup::plan_lookup;
 use mkdir::plan_mkdir;
 use mknod::plan_mknod;
+use open::{plan_open, plan_open_dir};
+use read::plan_read;
+use read_dir::plan_read_dir;
+use release::{plan_release, plan_release_dir};
 use rename::{asking, plan_rename};
 use rmdir::plan_rmdir;
+use setattr::plan_setattr;
 use std::alloc::Global;
 use unlink::plan_unlink;
+use write::plan_write;
 
 /// What the request answers in the tree whose rows lie behind `look`, and which rows it changes.
 /// Nothing is changed. An operation that is not built, or not of the profile, is answered ENOSYS.
@@ -132,6 +144,7 @@ fn plan_op<L: Look>(
     match &request.op {
         Op::Lookup { name } => plan_lookup(look, alloc, name, row),
         Op::Getattr { .. } => Ok(plan_getattr(alloc, row)?),
+        Op::Setattr(set) => Ok(plan_setattr(alloc, set, now, row)?),
         Op::Mkdir { mode, name, .. } => {
             plan_mkdir(look, alloc, &request.header, *mode, name, now, row)
         }
@@ -143,6 +156,18 @@ fn plan_op<L: Look>(
         } => plan_mknod(look, alloc, &request.header, *mode, *rdev, name, now, row),
         Op::Unlink { name } => plan_unlink(look, alloc, name, now, row),
         Op::Rmdir { name } => plan_rmdir(look, alloc, name, now, row),
+        Op::OpenFile { flags, .. } => plan_open(look, alloc, *flags, row),
+        Op::Read(asked) => plan_read(look, alloc, asked, row),
+        Op::Write {
+            fh,
+            offset,
+            payload,
+            ..
+        } => plan_write(look, alloc, *fh, *offset, payload, now, row),
+        Op::OpenDir { .. } => plan_open_dir(look, alloc, row),
+        Op::ReadDir(asked) => plan_read_dir(look, alloc, asked, row),
+        Op::Release(release) => plan_release(look, alloc, release.fh, row),
+        Op::ReleaseDir(release) => plan_release_dir(look, alloc, release.fh, row),
         Op::Rename {
             new_dir,
             old_name,
@@ -162,15 +187,7 @@ fn plan_op<L: Look>(
         }
         Op::Destroy => Ok(done_nothing(alloc)),
         Op::Forget { .. }
-        | Op::Setattr(_)
-        | Op::OpenFile { .. }
-        | Op::Read(_)
-        | Op::Write { .. }
-        | Op::Release(_)
         | Op::Init(_)
-        | Op::OpenDir { .. }
-        | Op::ReadDir(_)
-        | Op::ReleaseDir(_)
         | Op::Interrupt { .. }
         | Op::BatchForget { .. }
         | Op::Unsupported { .. } => Ok(refused(alloc, Errno::ENOSYS)),

@@ -2,10 +2,16 @@ ghost use Rattle.std.specs.Prelude.{◌≡◌, None, IfOk, OnOk};
 ghost use Rattle.fuse_tree.specs.PlainRows.{fault_of};
 ghost use Rattle.fuse_tree.specs.Vectors.{Inits, FirstRun, Refusals};
 
+mod contents;
+mod file;
 mod init;
+mod listing;
 mod mknod;
+mod opening;
+mod pieces;
 mod removing;
 mod renaming;
+mod setattr;
 
 use super::*;
 use fuse_request::{InHeader, InitIn, Op, Request};
@@ -87,10 +93,11 @@ fn at(secs: u64) -> Moment {
     Moment { secs, nanos: 0 }
 }
 
-// What is planned at 1000 s, with the ids of the worked rows.
-fn planned(
+// What is planned at this moment, with the ids of the worked rows.
+fn planned_at(
     look: &mut PlainRows,
     alloc: Global,
+    now: Moment,
     nodeid: u64,
     op: Op<'_>,
 ) -> Result<Planned, PlanFault>
@@ -109,17 +116,42 @@ fn planned(
         op,
         ext: b"",
     };
-    plan(look, alloc, &request, at(1000))
+    plan(look, alloc, &request, now)
+}
+
+fn planned(
+    look: &mut PlainRows,
+    alloc: Global,
+    nodeid: u64,
+    op: Op<'_>,
+) -> Result<Planned, PlanFault>
+    requires { fault_of look.old ≡ None }
+    ensures { OnOk result (fault_of look.new ≡ None) }
+{
+    planned_at(look, alloc, at(1000), nodeid, op)
+}
+
+fn answered_at(
+    look: &mut PlainRows,
+    alloc: Global,
+    now: Moment,
+    nodeid: u64,
+    op: Op<'_>,
+) -> Result<Planned, Fail>
+    requires { fault_of look.old ≡ None }
+    ensures { OnOk result (fault_of look.new ≡ None) }
+{
+    match planned_at(look, alloc, now, nodeid, op) {
+        Ok(planned) => Ok(planned),
+        Err(_) => Err("a plan".into()),
+    }
 }
 
 fn answered(look: &mut PlainRows, alloc: Global, nodeid: u64, op: Op<'_>) -> Result<Planned, Fail>
     requires { fault_of look.old ≡ None }
     ensures { OnOk result (fault_of look.new ≡ None) }
 {
-    match planned(look, alloc, nodeid, op) {
-        Ok(planned) => Ok(planned),
-        Err(_) => Err("a plan".into()),
-    }
+    answered_at(look, alloc, at(1000), nodeid, op)
 }
 
 // The error number of what is planned, which has no body and no changes where it is not 0.

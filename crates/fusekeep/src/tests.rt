@@ -3,7 +3,7 @@ use crate::ending::Ending;
 use crate::replay::run_replay;
 use clap::error::ErrorKind;
 use fuse_session::Ended;
-use fuse_store::{PlainKeeper, StoreFault};
+use fuse_store::{Keeper, PlainKeeper, StoreFault};
 use fuse_wire::Moment;
 use std::alloc::Global;
 use std::io;
@@ -12,7 +12,9 @@ use std::process::Abort;
 use std::test::Fail;
 
 mod fakes;
+mod inits;
 mod looks;
+mod names;
 mod rows;
 mod tables;
 
@@ -38,10 +40,45 @@ fn bytes_of(alloc: Global, parts: &[&str]) -> Result<Vec<u8>, Fail> {
     Ok(hex::decode(alloc, unspaced(alloc, parts)?)?)
 }
 
-// What `replay --at 1000` prints of a stream, and how it ends.
-fn replayed<R: Read>(alloc: Global, reader: &mut R) -> Result<(Ending, Vec<u8>), Fail> {
+// What `replay --at 1000` prints of a stream over a new store, and how it ends.
+fn replayed_first<R: Read>(alloc: Global, reader: &mut R) -> Result<(Ending, Vec<u8>), Fail> {
     let mut keeper = PlainKeeper::new(alloc, START)?;
     let mut printed = Vec::new(alloc);
     let ending = run_replay(alloc, &mut keeper, reader, &mut printed, AT_1000);
+    Ok((ending, printed))
+}
+
+// A new store in which row init-agreed was answered: what the other rows begin with.
+fn begun(alloc: Global) -> Result<PlainKeeper, Fail> {
+    let mut keeper = PlainKeeper::new(alloc, START)?;
+    let init = bytes_of(alloc, &[inits::AGREED])?;
+    let mut printed = Vec::new(alloc);
+    run_replay(
+        alloc,
+        &mut keeper,
+        &mut init.as_slice(),
+        &mut printed,
+        AT_1000,
+    );
+    Ok(keeper)
+}
+
+// How a run ends behind row init-agreed, which prints here.
+fn printed_to<R: Read, W: Write>(
+    alloc: Global,
+    reader: &mut R,
+    writer: &mut W,
+) -> Result<Ending, Fail> {
+    let mut keeper = begun(alloc)?;
+    if keeper.failed() {
+        return Err("the keeper failed".into());
+    }
+    Ok(run_replay(alloc, &mut keeper, reader, writer, AT_1000))
+}
+
+// What is printed there.
+fn replayed<R: Read>(alloc: Global, reader: &mut R) -> Result<(Ending, Vec<u8>), Fail> {
+    let mut printed = Vec::new(alloc);
+    let ending = printed_to(alloc, reader, &mut printed)?;
     Ok((ending, printed))
 }

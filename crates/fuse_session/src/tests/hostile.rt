@@ -202,9 +202,9 @@ fn end_with_length(size: usize, message: usize, byte: usize) -> (usize, Told) {
     (message, told)
 }
 
-// Serves a stream from a new store: how it ends, and what was sent.
+// Serves a stream behind row init-agreed: how it ends, and what was sent.
 fn serve_new(alloc: Global, stream: &[u8]) -> Result<Run, Fail> {
-    let mut keeper = PlainKeeper::new(alloc, START)?;
+    let mut keeper = begun(alloc)?;
     let input = stream.to_vec(alloc)?;
     Ok(serve_once(alloc, &mut keeper, input, plain_peer(alloc))?)
 }

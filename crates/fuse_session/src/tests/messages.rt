@@ -12,7 +12,27 @@ pub const EINVAL: u32 = 22;
 
 pub const ENOSYS: u32 = 38;
 
+pub const EPROTO: u32 = 71;
+
 pub const ESTALE: u32 = 116;
+
+/// Rows init-agreed and init-short, and their answers.
+pub const INIT_AGREED: &str =
+    "68000000 1a000000 0200000000000000 0000000000000000 00000000000000000000000000000000
+    07000000 28000000 00000200 21200040 80000000
+    00000000000000000000000000000000000000000000000000000000000000000000000000000000 00000000";
+
+pub const INIT_SHORT: &str =
+    "38000000 1a000000 0200000000000000 0000000000000000 00000000000000000000000000000000
+    07000000 1f000000 00000200 21000000";
+
+pub const AGREED: &str = "50000000 00000000 0200000000000000
+    07000000 28000000 00000200 21000040 0c000900 00000200 01000000 00000000 80000000 00000000
+    000000000000000000000000000000000000000000000000";
+
+pub const AGREED_SHORT: &str = "50000000 00000000 0200000000000000
+    07000000 28000000 00000200 21000000 0c000900 00000200 01000000 00000000 00000000 00000000
+    000000000000000000000000000000000000000000000000";
 
 /// Row missing-lookup: LOOKUP `hello`, unique 4, and its answer.
 pub const LOOKUP_HELLO: &str =
@@ -182,12 +202,10 @@ pub const ASKED: [usize; 3] = [50, 50, 56];
 
 pub const ANSWERED: [usize; 3] = [144, 144, 120];
 
-/// A message in each piece, or all in one.
-pub fn put_pieces(arrivals: &mut Vec<Arrival>, each: bool, count: usize) -> Result<(), AllocError> {
-    if each {
-        for len in ASKED.iter().take(count) {
-            arrivals.push(Arrival::Piece(*len))?;
-        }
+/// A message in each piece.
+pub fn put_pieces(arrivals: &mut Vec<Arrival>, lengths: &[usize]) -> Result<(), AllocError> {
+    for len in lengths {
+        arrivals.push(Arrival::Piece(*len))?;
     }
     Ok(())
 }

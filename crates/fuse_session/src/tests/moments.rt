@@ -1,5 +1,6 @@
 // How often the clock is asked.
 
+use super::begun;
 use super::messages::put_mkdir;
 use crate::{Clock, MemoryPort, serve};
 use fuse_store::{Keeper, PlainKeeper};
@@ -54,8 +55,7 @@ fn serve_ticking(
 #[test]
 fn one_moment_for_each_kept_message(rt: HostRuntime) -> Result<(), Fail> {
     let alloc = rt.alloc();
-    let start = Moment { secs: 0, nanos: 0 };
-    let mut keeper = PlainKeeper::new(alloc, start)?;
+    let mut keeper = begun(alloc)?;
     let input = three_messages(alloc)?;
     let (sent, asked) = serve_ticking(alloc, input, &mut keeper).ok_or("it runs")?;
     assert_eq!(rt; asked, 2);

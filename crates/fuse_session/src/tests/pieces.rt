@@ -24,9 +24,9 @@ fn small_pieces(alloc: Global, size: usize, count: usize) -> Result<Peer, AllocE
     Ok(peer)
 }
 
-// Serves row first-run from a new store, and says whether all is as the row has it.
+// Serves row first-run, and says whether all is as the row has it.
 fn first_run(alloc: Global, peer: Peer) -> Result<bool, Fail> {
-    let mut keeper = PlainKeeper::new(alloc, START)?;
+    let mut keeper = begun(alloc)?;
     let input = hex(alloc, FIRST_RUN)?;
     let wanted = hex(alloc, FIRST_ANSWERS)?;
     let run = serve_once(alloc, &mut keeper, input, peer)?;
@@ -34,7 +34,7 @@ fn first_run(alloc: Global, peer: Peer) -> Result<bool, Fail> {
         run.ended_well()
             && run.sent() == wanted.as_slice()
             && run.counts == FIRST_COUNTS
-            && held(&mut keeper)? == (2, 2),
+            && held(&mut keeper)? == (2, 3),
     )
 }
 
@@ -66,19 +66,19 @@ fn first_run_in_small_pieces(rt: HostRuntime) -> Result<(), Fail> {
 #[test]
 fn missing_lookup_byte_by_byte(rt: HostRuntime) -> Result<(), Fail> {
     let alloc = rt.alloc();
-    let mut keeper = PlainKeeper::new(alloc, START)?;
+    let mut keeper = begun(alloc)?;
     let input = hex(alloc, LOOKUP_HELLO)?;
     let run = serve_once(alloc, &mut keeper, input, small_pieces(alloc, 1, 46)?)?;
     assert!(rt; run.ended_well());
     assert_eq!(rt; run.sent(), hex(alloc, NOT_THERE)?.as_slice());
-    assert_eq!(rt; held(&mut keeper)?, (1, 1), "the refusal is recorded");
+    assert_eq!(rt; held(&mut keeper)?, (1, 2), "the refusal is recorded");
     Ok(())
 }
 
 #[test]
 fn empty_stream(rt: HostRuntime) -> Result<(), Fail> {
     let alloc = rt.alloc();
-    let mut keeper = PlainKeeper::new(alloc, START)?;
+    let mut keeper = begun(alloc)?;
     let run = serve_once(alloc, &mut keeper, Vec::new(alloc), plain_peer(alloc))?;
     assert!(rt; run.ended_well());
     assert_eq!(rt; run.counts, SessionCounts::NONE);
@@ -89,7 +89,7 @@ fn empty_stream(rt: HostRuntime) -> Result<(), Fail> {
 #[test]
 fn cut_stream(rt: HostRuntime) -> Result<(), Fail> {
     let alloc = rt.alloc();
-    let mut keeper = PlainKeeper::new(alloc, START)?;
+    let mut keeper = begun(alloc)?;
     let mut input = hex(alloc, LOOKUP_HELLO)?;
     input.extend_from_slice(&[1, 2, 3])?;
     let run = serve_once(alloc, &mut keeper, input, plain_peer(alloc))?;
@@ -112,7 +112,7 @@ fn length_bounds(rt: HostRuntime) -> Result<(), Fail> {
         len: 135_169,
     };
     for (text, fault) in [("27000000", short), ("01100200", long)] {
-        let mut keeper = PlainKeeper::new(alloc, START)?;
+        let mut keeper = begun(alloc)?;
         let mut input = hex(alloc, LOOKUP_HELLO)?;
         put_hex(&mut input, text)?;
         let run = serve_once(alloc, &mut keeper, input, plain_peer(alloc))?;

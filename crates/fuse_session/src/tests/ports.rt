@@ -20,12 +20,12 @@ fn send_stops(rt: HostRuntime) -> Result<(), Fail> {
         (&[Outcome::Take(0)], 0),
     ];
     for (outcomes, taken) in ways {
-        let mut keeper = PlainKeeper::new(alloc, START)?;
+        let mut keeper = begun(alloc)?;
         let peer = peer_of(alloc, &[], outcomes)?;
         let run = serve_once(alloc, &mut keeper, input.clone()?, peer)?;
         assert!(rt; run.port_failed());
         assert_eq!(rt; run.sent(), front(wanted.as_slice(), taken));
-        assert_eq!(rt; held(&mut keeper)?, (1, 1), "the record is there");
+        assert_eq!(rt; held(&mut keeper)?, (1, 2), "the record is there");
     }
     Ok(())
 }
@@ -35,7 +35,7 @@ fn answer_taken_in_parts(rt: HostRuntime) -> Result<(), Fail> {
     let alloc = rt.alloc();
     let wanted = hex(alloc, NOT_THERE)?;
     let input = hex(alloc, LOOKUP_HELLO)?;
-    let mut keeper = PlainKeeper::new(alloc, START)?;
+    let mut keeper = begun(alloc)?;
     let peer = peer_of(
         alloc,
         &[],
@@ -52,12 +52,12 @@ fn gone_then_failed(rt: HostRuntime) -> Result<(), Fail> {
     let alloc = rt.alloc();
     let wanted = hex(alloc, FIRST_ANSWERS)?;
     let input = hex(alloc, FIRST_RUN)?;
-    let mut keeper = PlainKeeper::new(alloc, START)?;
+    let mut keeper = begun(alloc)?;
     let peer = peer_of(alloc, &[], &[Outcome::Gone, Outcome::Failed])?;
     let failed = serve_once(alloc, &mut keeper, input.clone()?, peer)?;
     assert!(rt; failed.port_failed());
     assert_eq!(rt; failed.sent(), front(wanted.as_slice(), 144));
-    let mut keeper = PlainKeeper::new(alloc, START)?;
+    let mut keeper = begun(alloc)?;
     let peer = peer_of(alloc, &[], &[Outcome::Gone])?;
     let passed = serve_once(alloc, &mut keeper, input.clone()?, peer)?;
     assert!(rt; passed.ended_well());
@@ -71,7 +71,7 @@ fn receive_fails(rt: HostRuntime) -> Result<(), Fail> {
     let alloc = rt.alloc();
     let wanted = hex(alloc, NOT_THERE)?;
     let input = hex(alloc, LOOKUP_HELLO)?;
-    let mut keeper = PlainKeeper::new(alloc, START)?;
+    let mut keeper = begun(alloc)?;
     let peer = peer_of(alloc, &[Arrival::Piece(46), Arrival::Failed], &[])?;
     let run = serve_once(alloc, &mut keeper, input.clone()?, peer)?;
     assert!(rt; run.port_failed());
@@ -93,7 +93,7 @@ fn resend_rest(alloc: Global, keeper: &mut PlainKeeper, first: usize) -> Result<
     Ok(
         run.ended_well()
             && run.sent() == behind(wanted.as_slice(), answered)
-            && held(keeper)? == (2, 2),
+            && held(keeper)? == (2, 3),
     )
 }
 
@@ -104,9 +104,9 @@ fn each_receive(rt: HostRuntime) -> Result<(), Fail> {
     let wanted = hex(alloc, FIRST_ANSWERS)?;
     let input = hex(alloc, FIRST_RUN)?;
     for before in 0..4 {
-        let mut keeper = PlainKeeper::new(alloc, START)?;
+        let mut keeper = begun(alloc)?;
         let mut peer = plain_peer(alloc);
-        put_pieces(&mut peer.arrivals, true, before)?;
+        put_pieces(&mut peer.arrivals, &ASKED[..before])?;
         peer.arrivals.push(Arrival::Failed)?;
         let run = serve_once(alloc, &mut keeper, input.clone()?, peer)?;
         assert!(rt; run.port_failed(), "{before} messages before");
@@ -132,9 +132,11 @@ fn each_send(rt: HostRuntime) -> Result<(), Fail> {
     let input = hex(alloc, FIRST_RUN)?;
     for before in 0..3 {
         for each in [false, true] {
-            let mut keeper = PlainKeeper::new(alloc, START)?;
+            let mut keeper = begun(alloc)?;
             let mut peer = plain_peer(alloc);
-            put_pieces(&mut peer.arrivals, each, 3)?;
+            if each {
+                put_pieces(&mut peer.arrivals, &ASKED)?;
+            }
             for _ in 0..before {
                 peer.outcomes.push(Outcome::Take(1000))?;
             }

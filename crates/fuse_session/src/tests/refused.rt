@@ -1,7 +1,12 @@
 //! Want of memory, where the test is run with each allocation refused in turn.
 use super::*;
 
-// Row first-run, the same resent, and what is to be sent for both.
+// INIT and row first-run: the lengths of the messages and of their answers.
+const ALL_ASKED: [usize; 4] = [104, 50, 50, 56];
+
+const ALL_ANSWERED: [usize; 4] = [80, 144, 144, 120];
+
+// INIT and row first-run, the same resent, and what is to be sent for both.
 #[derive(Drop)]
 struct Rows {
     asked: Vec<u8>,
@@ -11,12 +16,14 @@ struct Rows {
 }
 
 fn make_rows(alloc: Global) -> Result<Rows, AllocError> {
-    let asked = hex(alloc, FIRST_RUN)?;
-    let answers = hex(alloc, FIRST_ANSWERS)?;
+    let mut asked = hex(alloc, INIT_AGREED)?;
+    put_hex(&mut asked, FIRST_RUN)?;
+    let mut answers = hex(alloc, AGREED)?;
+    put_hex(&mut answers, FIRST_ANSWERS)?;
     let mut resent = asked.clone()?;
     let mut resent_answers = answers.clone()?;
-    mark_resent(&mut resent, &ASKED);
-    mark_resent(&mut resent_answers, &ANSWERED);
+    mark_resent(&mut resent, &ALL_ASKED);
+    mark_resent(&mut resent_answers, &ALL_ANSWERED);
     Ok(Rows {
         asked,
         resent,
@@ -27,8 +34,8 @@ fn make_rows(alloc: Global) -> Result<Rows, AllocError> {
 
 // How many answers were sent, each of them whole.
 fn answers_sent(sent: &[u8], answers: &[u8]) -> Option<usize> {
-    for count in 0..4 {
-        let size = size_of_first(&ANSWERED, count);
+    for count in 0..5 {
+        let size = size_of_first(&ALL_ANSWERED, count);
         if sent.len() == size && sent == front(answers, size) {
             return Some(count);
         }
@@ -43,8 +50,8 @@ fn passes_again(
     rows: &Rows,
     first: usize,
 ) -> Result<bool, AllocError> {
-    let begin = size_of_first(&ASKED, first);
-    let answered = size_of_first(&ANSWERED, first);
+    let begin = size_of_first(&ALL_ASKED, first);
+    let answered = size_of_first(&ALL_ANSWERED, first);
     let rest = behind(rows.resent.as_slice(), begin).to_vec(alloc)?;
     let Ok(run) = serve_once(alloc, keeper, rest, plain_peer(alloc)) else {
         return Ok(false);
@@ -52,11 +59,11 @@ fn passes_again(
     Ok(
         run.ended_well()
             && run.sent() == behind(rows.resent_answers.as_slice(), answered)
-            && matches!(held(keeper), Ok((2, 2))),
+            && matches!(held(keeper), Ok((2, 3))),
     )
 }
 
-// Serves row first-run, in three groups or in one. A fault is the named want of memory, or the port's. It leaves whole
+// Serves these, in four groups or in one. A fault is the named want of memory, or the port's. It leaves whole
 // answers sent, and in the keeper what they tell, or where the keeper failed what the groups before did.
 fn is_right(alloc: Global, each: bool) -> Result<bool, AllocError> {
     let rows = make_rows(alloc)?;
@@ -64,7 +71,9 @@ fn is_right(alloc: Global, each: bool) -> Result<bool, AllocError> {
         return Err(AllocError);
     };
     let mut peer = plain_peer(alloc);
-    put_pieces(&mut peer.arrivals, each, 3)?;
+    if each {
+        put_pieces(&mut peer.arrivals, &ALL_ASKED)?;
+    }
     let Ok(run) = serve_once(alloc, &mut keeper, rows.asked.clone()?, peer) else {
         return Ok(false);
     };
@@ -72,12 +81,13 @@ fn is_right(alloc: Global, each: bool) -> Result<bool, AllocError> {
         return Ok(false);
     };
     match run.ended {
-        Ended::End => Ok(count == 3 && matches!(held(&mut keeper), Ok((2, 2)))),
+        Ended::End => Ok(count == 4 && matches!(held(&mut keeper), Ok((2, 3)))),
         Ended::Memory | Ended::PortFailed => passes_again(alloc, &mut keeper, &rows, count),
         Ended::Store(StoreFault::Memory) => {
             let left = match (each, count) {
                 (_, 0) => (1, 0),
-                (true, 1 | 2) => (2, 1),
+                (true, 1) => (1, 1),
+                (true, 2 | 3) => (2, 2),
                 _ => (0, 0),
             };
             Ok(keeper.failed() && matches!(held(&mut keeper), Ok(found) if found == left))

@@ -1,38 +1,23 @@
 // Rows of the notice that asks for a resend.
 ghost use Rattle.std.specs.Prelude.{◌≡◌, true};
 
-use crate::{MemoryPort, Outcome, ResumeFault, resume};
+use super::*;
+use crate::{ResumeFault, resume};
 use fuse_answer::Answer;
 use fuse_init::Settings;
 use fuse_request::Request;
-use fuse_store::{Done, Keeper, PlainKeeper, StoreCounts, StoreFault};
-use fuse_wire::{Id, InitFlags, Moment};
-use std::alloc::Global;
-use std::test::*;
+use fuse_store::{Done, StoreCounts};
+use fuse_wire::Id;
 
 const NOTICE: &[u8; 16] = b"\x10\0\0\0\x07\0\0\0\0\0\0\0\0\0\0\0";
 
-// Of rows `init-agreed` and `init-short`.
-const AGREED: Settings = Settings {
-    minor: 40,
-    max_readahead: 131_072,
-    flags: InitFlags(0x80_4000_0021),
-};
-
-const SHORT: Settings = Settings {
-    minor: 31,
-    max_readahead: 131_072,
-    flags: InitFlags(0x21),
-};
-
-// A keeper that answers these settings, or a fault where it has none, and that stands for nothing.
+// A keeper that answers faults, and that stands for nothing.
 #[derive(Drop)]
-struct Agrees {
-    settings: Option<Settings>,
+struct Faulty {
     failed: bool,
 }
 
-impl Agrees {
+impl Faulty {
     fn fault(&mut self) -> StoreFault
         ensures { self.new.failed ≡ true }
     {
@@ -41,7 +26,7 @@ impl Agrees {
     }
 }
 
-impl Keeper for Agrees {
+impl Keeper for Faulty {
     ghost use Rattle.std.specs.Prelude.{◌≡◌, ℕ, true};
 
     ghost holds = { λ _ _ _. ⊥ };
@@ -77,10 +62,7 @@ impl Keeper for Agrees {
     }
 
     fn settings(&mut self) -> Result<Option<Settings>, StoreFault> {
-        match self.settings {
-            Some(agreed) => Ok(Some(agreed)),
-            None => Err(self.fault()),
-        }
+        Err(self.fault())
     }
 
     fn counts(&mut self) -> Result<StoreCounts, StoreFault> {
@@ -113,20 +95,22 @@ fn ask<K: Keeper>(alloc: Global, keeper: &mut K, outcomes: Vec<Outcome>) -> Opti
     Some(Asked { result, sent })
 }
 
-fn that_agrees(settings: Option<Settings>) -> Agrees {
-    Agrees {
-        settings,
-        failed: false,
-    }
+// A store in which this INIT was answered.
+fn after_init(alloc: Global, init: &str) -> Result<PlainKeeper, Fail> {
+    let mut keeper = PlainKeeper::new(alloc, START)?;
+    serve_once(alloc, &mut keeper, hex(alloc, init)?, plain_peer(alloc))?;
+    Ok(keeper)
 }
 
 #[test]
 fn resume_notice(rt: HostRuntime) -> Result<(), Fail> {
     let alloc = rt.alloc();
-    let agreed = ask(alloc, &mut that_agrees(Some(AGREED)), Vec::new(alloc)).ok_or("it runs")?;
+    let mut keeper = after_init(alloc, INIT_AGREED)?;
+    let agreed = ask(alloc, &mut keeper, Vec::new(alloc)).ok_or("it runs")?;
     assert!(rt; agreed.result.is_ok());
     assert_eq!(rt; agreed.sent.as_slice(), NOTICE.as_slice());
-    let short = ask(alloc, &mut that_agrees(Some(SHORT)), Vec::new(alloc)).ok_or("it runs")?;
+    let mut keeper = after_init(alloc, INIT_SHORT)?;
+    let short = ask(alloc, &mut keeper, Vec::new(alloc)).ok_or("it runs")?;
     assert!(rt; matches!(short.result, Err(ResumeFault::NotOffered)));
     assert_eq!(rt; short.sent.len(), 0);
     Ok(())
@@ -135,11 +119,7 @@ fn resume_notice(rt: HostRuntime) -> Result<(), Fail> {
 #[test]
 fn before_an_init(rt: HostRuntime) -> Result<(), Fail> {
     let alloc = rt.alloc();
-    let now = Moment {
-        secs: 1000,
-        nanos: 0,
-    };
-    let mut keeper = PlainKeeper::new(alloc, now)?;
+    let mut keeper = PlainKeeper::new(alloc, START)?;
     let asked = ask(alloc, &mut keeper, Vec::new(alloc)).ok_or("it runs")?;
     assert!(rt; asked.result.is_ok());
     assert_eq!(rt; asked.sent.as_slice(), NOTICE.as_slice());
@@ -149,7 +129,7 @@ fn before_an_init(rt: HostRuntime) -> Result<(), Fail> {
 #[test]
 fn notice_stops(rt: HostRuntime) -> Result<(), Fail> {
     let alloc = rt.alloc();
-    let mut keeper = that_agrees(Some(AGREED));
+    let mut keeper = after_init(alloc, INIT_AGREED)?;
     let outcomes = vec![in alloc; Outcome::Take(10), Outcome::Failed]?;
     let part = ask(alloc, &mut keeper, outcomes).ok_or("it runs")?;
     assert!(rt; matches!(part.result, Err(ResumeFault::PortFailed)));
@@ -168,7 +148,7 @@ fn notice_stops(rt: HostRuntime) -> Result<(), Fail> {
 #[test]
 fn store_fault(rt: HostRuntime) -> Result<(), Fail> {
     let alloc = rt.alloc();
-    let mut keeper = that_agrees(None);
+    let mut keeper = Faulty { failed: false };
     let asked = ask(alloc, &mut keeper, Vec::new(alloc)).ok_or("it runs")?;
     assert!(rt; matches!(asked.result, Err(ResumeFault::Store(StoreFault::Damaged))));
     assert_eq!(rt; asked.sent.len(), 0);

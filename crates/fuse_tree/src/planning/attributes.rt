@@ -1,9 +1,9 @@
 ghost use Rattle.std.specs.Prelude.{◌≡◌};
-ghost use Rattle.fuse_tree.specs.State.{is_dir};
+ghost use Rattle.fuse_tree.specs.State.{is_dir, is_file};
 ghost use Rattle.fuse_tree.specs.Reading.{IsWithin, row_is_named, row_links, row_attr};
 
 use crate::limits::{BLOCK_SIZE, ROOT_ID, SECTOR_SIZE};
-use crate::mode::{S_IFDIR, TYPE_UNIT, TYPES};
+use crate::mode::{S_IFDIR, S_IFREG, TYPE_UNIT, TYPES};
 use crate::rows::NodeRow;
 use fuse_answer::Attr;
 
@@ -11,6 +11,12 @@ pub(crate) fn is_directory(mode: u32) -> bool
     ensures { result ≡ is_dir mode }
 {
     mode / TYPE_UNIT % TYPES == S_IFDIR / TYPE_UNIT
+}
+
+pub(crate) fn is_regular_file(mode: u32) -> bool
+    ensures { result ≡ is_file mode }
+{
+    mode / TYPE_UNIT % TYPES == S_IFREG / TYPE_UNIT
 }
 
 // Whether the node is the root, or an entry leads to it.

@@ -1,5 +1,6 @@
 use crate::look::LookFault;
 use fuse_wire::Memory;
+use std::alloc::AllocFailed;
 
 /// Why there is no plan.
 #[derive(Debug, Drop)]
@@ -19,5 +20,16 @@ impl From<Memory> for PlanFault {
 
     fn from(_e: Memory) -> PlanFault {
         PlanFault::Memory
+    }
+}
+
+impl<T: Drop> From<AllocFailed<T>> for PlanFault {
+    ghost use Rattle.std.specs.Prelude.{◌≡◌};
+    ghost use Rattle.fuse_tree.specs.declared.planning.fault.PlanFault.TheVariants.{Memory as NoMemory};
+
+    ghost from_gives = { λ _ e. e ≡ NoMemory };
+
+    fn from(_e: AllocFailed<T>) -> PlanFault {
+        PlanFault::from(Memory)
     }
 }

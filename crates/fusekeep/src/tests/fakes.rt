@@ -75,19 +75,12 @@ fn failing_reader(rt: HostRuntime) -> Result<(), Fail> {
     Ok(())
 }
 
-// How a run over a new store ends that prints here.
-fn printed_to<W: Write>(alloc: Global, stream: &[u8], writer: &mut W) -> Result<Ending, Fail> {
-    let mut keeper = PlainKeeper::new(alloc, START)?;
-    let mut reader = stream;
-    Ok(run_replay(alloc, &mut keeper, &mut reader, writer, AT_1000))
-}
-
 #[test]
 fn failing_writers(rt: HostRuntime) -> Result<(), Fail> {
     let stream = bytes_of(rt.alloc(), &[rows::LOOKUP_HELLO])?;
-    let ending = printed_to(rt.alloc(), &stream, &mut Full)?;
+    let ending = printed_to(rt.alloc(), &mut stream.as_slice(), &mut Full)?;
     assert_eq!(rt; ending, Ending::PortFailed);
-    let ending = printed_to(rt.alloc(), &stream, &mut Unflushed)?;
+    let ending = printed_to(rt.alloc(), &mut stream.as_slice(), &mut Unflushed)?;
     assert_eq!(rt; ending, Ending::PortFailed);
     Ok(())
 }

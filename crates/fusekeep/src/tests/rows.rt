@@ -2,7 +2,7 @@
 use super::*;
 
 /// The end of each header: uid and gid 1000, pid 77, no extensions.
-const TAIL: &str = "e8030000 e8030000 4d000000 00000000";
+pub const TAIL: &str = "e8030000 e8030000 4d000000 00000000";
 
 pub const LOOKUP_HELLO: &str =
     "2e000000 01000000 0400000000000000 0100000000000000 e8030000 e8030000 4d000000 00000000 68656c6c6f00";
@@ -24,21 +24,38 @@ const ENTRY: &str =
     "0200000000000000 0000000000000000 0100000000000000 0100000000000000 0000000000000000";
 
 // The body of a GETATTR.
-const PLAIN: &str = "0000000000000000 0000000000000000";
+pub const PLAIN: &str = "0000000000000000 0000000000000000";
 
 #[derive(Drop)]
-struct Row<'a> {
-    name: &'a str,
-    stream: &'a [&'a str],
-    lines: &'a [&'a [&'a str]],
-    counts: &'a str,
-    ending: Ending,
+pub struct Row<'a> {
+    pub name: &'a str,
+    pub stream: &'a [&'a str],
+    pub lines: &'a [&'a [&'a str]],
+    pub counts: &'a str,
+    pub ending: Ending,
 }
 
+// A row behind row init-agreed.
 fn check(rt: &(impl Abort + AllocGlobal), row: &Row<'_>) -> Result<(), Fail> {
+    let stream = bytes_of(rt.alloc(), row.stream)?;
+    let run = replayed(rt.alloc(), &mut stream.as_slice())?;
+    compare(rt, row, run)
+}
+
+/// A row over a new store.
+pub fn check_first(rt: &(impl Abort + AllocGlobal), row: &Row<'_>) -> Result<(), Fail> {
+    let stream = bytes_of(rt.alloc(), row.stream)?;
+    let run = replayed_first(rt.alloc(), &mut stream.as_slice())?;
+    compare(rt, row, run)
+}
+
+fn compare(
+    rt: &(impl Abort + AllocGlobal),
+    row: &Row<'_>,
+    run: (Ending, Vec<u8>),
+) -> Result<(), Fail> {
     let alloc = rt.alloc();
-    let stream = bytes_of(alloc, row.stream)?;
-    let (ending, printed) = replayed(alloc, &mut stream.as_slice())?;
+    let (ending, printed) = run;
     let mut wanted = String::new(alloc);
     for line in row.lines {
         wanted.push_str(unspaced(alloc, line)?.as_str())?;
@@ -95,6 +112,24 @@ fn answers(rt: HostRuntime) -> Result<(), Fail> {
                 "2e000000 01000000 0600000000000000 0100000000000000",
                 TAIL,
                 "68656c6c6f00",
+            ],
+            lines: &[
+                &["90000000 00000000 0600000000000000", ENTRY, ATTRIBUTES],
+                &["90000000 00000000 0600000000000000", ENTRY, ATTRIBUTES],
+            ],
+            counts: "served messages=2 kept=2 repeated=1 bare=0 silent=0 interrupts=0",
+            ending: Ending::Done,
+        },
+    )?;
+    check(
+        &rt,
+        &Row {
+            name: "reuse-of-an-id, by another opcode",
+            stream: &[
+                MKDIR_A,
+                "38000000 03000000 0600000000000000 0200000000000000",
+                TAIL,
+                PLAIN,
             ],
             lines: &[
                 &["90000000 00000000 0600000000000000", ENTRY, ATTRIBUTES],

@@ -1,5 +1,6 @@
 use Rattle.fuse_answer.proofs.Forms.{length_entry, length_attr_out, length_open, length_write, length_init}
+use Rattle.fuse_answer.proofs.Packings.{length_entries}
 use Rattle.fuse_answer.proofs.laws.record_sizes.Goals as goal
 
 pub returns : goal.returns
-returns c = (length_entry, length_attr_out, length_open, length_write, length_init)
+returns c = (length_entry, length_attr_out, length_open, length_write, length_init, length_entries)

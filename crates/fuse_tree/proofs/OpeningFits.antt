@@ -1,0 +1,83 @@
+-- What is answered to OPEN, OPENDIR, RELEASE and RELEASEDIR fits, and is read.
+use Rattle.std.proofs.Common.{ℕ, Bool, true, false, if◌then◌else◌, not, [], length, Option, Some, None, refl, arith}
+use Rattle.std.specs.Prelude.{nat_le}
+use Rattle.fuse_wire.specs.declared.access_mode.AccessMode.{AccessMode}
+use Rattle.fuse_wire.specs.declared.access_mode.AccessMode.TheVariants.{ReadOnly}
+use Rattle.fuse_wire.specs.declared.errno.Errno.{Errno}
+use Rattle.fuse_wire.specs.declared.errno.TheConstants.Errno.{ENOTDIR, EISDIR, ENFILE, ENOSPC}
+use Rattle.fuse_wire.specs.Flags.{access_of}
+use Rattle.fuse_answer.specs.Laws.{ReadBack, RecordSizes}
+use Rattle.fuse_answer.specs.Replies.{AnOpen, Nothing}
+use Rattle.fuse_tree.specs.declared.limits.TheConstants.{MAX_HANDLES, COUNTER_END}
+use Rattle.fuse_tree.specs.State.{State, Node, is_dir, is_file}
+use Rattle.fuse_tree.specs.Handles.{is_open}
+use Rattle.fuse_tree.specs.Done.{Done, refuse_for, answer}
+use Rattle.fuse_tree.specs.Opening.{open_fault, opened, open_of, open_node, open_for, open_file, open_dir, closed, close, release, release_dir, not_for_dirs, for_dirs_alone}
+use Rattle.fuse_tree.proofs.Fit.{Fits, Reads, refused, answered, chosen, refused_for, refused_reads, answered_reads, chosen_reads, no_body}
+
+open_node_fits : RecordSizes → (s : State) (access : AccessMode) (n : Node) → Fits (open_node s access n)
+open_node_fits sizes s access n =
+    refused_for s (open_fault (length s.handles) s.next_fh) _ (answered (opened s n.number access) _ (omega (arith, sizes.2 (open_of s.next_fh))))
+
+open_for_fits : RecordSizes → (s : State) (access : Option AccessMode) (n : Node) → Fits (open_for s access n)
+open_for_fits sizes s None n = refused s _
+open_for_fits sizes s (Some access) n = open_node_fits sizes s access n
+
+pub open_fits : RecordSizes → (s : State) (flags : ℕ) (n : Node) → Fits (open_file s flags n)
+open_fits sizes s flags n =
+    chosen (is_dir n.mode) _ _ (refused s _)
+    (chosen (not (is_file n.mode)) _ _ (refused s _) (open_for_fits sizes s (access_of flags) n))
+
+pub open_dir_fits : RecordSizes → (s : State) (n : Node) → Fits (open_dir s n)
+open_dir_fits sizes s n = chosen (not (is_dir n.mode)) _ _ (refused s _) (open_node_fits sizes s ReadOnly n)
+
+close_fits : (s : State) (fh : ℕ) (kind_fault : Option Errno) (n : Node) → Fits (close s fh kind_fault n)
+close_fits s fh kind_fault n =
+    chosen (not (is_open s.handles fh n.number)) _ _ (refused s _)
+    (refused_for s kind_fault _ (answered (closed s fh) [] (omega arith)))
+
+pub release_fits : (s : State) (fh : ℕ) (n : Node) → Fits (release s fh n)
+release_fits s fh n = close_fits s fh (not_for_dirs n.mode) n
+
+pub release_dir_fits : (s : State) (fh : ℕ) (n : Node) → Fits (release_dir s fh n)
+release_dir_fits s fh n = close_fits s fh (for_dirs_alone n.mode) n
+
+-- ---- it is read
+
+open_fault_reads : (s : State) (many ended : Bool) (d : Done) → Reads AnOpen d → Reads AnOpen (refuse_for s (if many then Some ENFILE else if ended then Some ENOSPC else None) d)
+open_fault_reads s true ended d so = refused_reads s ENFILE refl
+open_fault_reads s false true d so = refused_reads s ENOSPC refl
+open_fault_reads s false false d so = so
+
+open_node_reads : ReadBack → (s : State) (access : AccessMode) (n : Node) → Reads AnOpen (open_node s access n)
+open_node_reads back s access n =
+    open_fault_reads s (nat_le MAX_HANDLES (length s.handles)) (nat_le COUNTER_END s.next_fh) _ (answered_reads (opened s n.number access) _ (back.opened (open_of s.next_fh)))
+
+open_for_reads : ReadBack → (s : State) (access : Option AccessMode) (n : Node) → Reads AnOpen (open_for s access n)
+open_for_reads back s None n = refused_reads s _ refl
+open_for_reads back s (Some access) n = open_node_reads back s access n
+
+pub open_reads : ReadBack → (s : State) (flags : ℕ) (n : Node) → Reads AnOpen (open_file s flags n)
+open_reads back s flags n =
+    chosen_reads (is_dir n.mode) _ _ (refused_reads s _ refl)
+    (chosen_reads (not (is_file n.mode)) _ _ (refused_reads s _ refl) (open_for_reads back s (access_of flags) n))
+
+pub open_dir_reads : ReadBack → (s : State) (n : Node) → Reads AnOpen (open_dir s n)
+open_dir_reads back s n = chosen_reads (not (is_dir n.mode)) _ _ (refused_reads s _ refl) (open_node_reads back s ReadOnly n)
+
+close_reads : (s : State) (fh : ℕ) (n : Node) (kind_fault : Option Errno) → Reads Nothing (refuse_for s kind_fault (answer (closed s fh) [])) → Reads Nothing (close s fh kind_fault n)
+close_reads s fh n kind_fault so = chosen_reads (not (is_open s.handles fh n.number)) _ _ (refused_reads s _ refl) so
+
+not_for_dirs_reads : (s : State) (dir : Bool) (d : Done) → Reads Nothing d → Reads Nothing (refuse_for s (if dir then Some EISDIR else None) d)
+not_for_dirs_reads s true d so = refused_reads s EISDIR refl
+not_for_dirs_reads s false d so = so
+
+pub release_reads : (s : State) (fh : ℕ) (n : Node) → Reads Nothing (release s fh n)
+release_reads s fh n = close_reads s fh n _ (not_for_dirs_reads s (is_dir n.mode) _ (answered_reads (closed s fh) [] no_body))
+
+for_dirs_reads : (s : State) (dir : Bool) (d : Done) → Reads Nothing d → Reads Nothing (refuse_for s (if dir then None else Some ENOTDIR) d)
+for_dirs_reads s true d so = so
+for_dirs_reads s false d so = refused_reads s ENOTDIR refl
+
+pub release_dir_reads : (s : State) (fh : ℕ) (n : Node) → Reads Nothing (release_dir s fh n)
+release_dir_reads s fh n = close_reads s fh n _ (for_dirs_reads s (is_dir n.mode) _ (answered_reads (closed s fh) [] no_body))

@@ -1,0 +1,65 @@
+-- Entries of the rows of a tree: each has a name and leads to a node.
+use Rattle.std.proofs.Common.{◌≡◌, ◌<◌, ◌≤◌, ◌+◌, ℕ, zero, suc, Bool, true, false, cond, get_or, List, [], ◌∷◌, ◌++◌, length, map, take, Some, None, refl, sym, ap, subst, ◌∙◌, append_assoc, arith}
+use Rattle.std.specs.List.{AllByRecursion}
+use Rattle.std.proofs.lemmas.Bool.{eqb-false, ltb-false}
+use Rattle.std.proofs.lemmas.List.{map-append, take_more}
+use Rattle.fuse_wire.specs.declared.errno.TheConstants.Errno.{EINVAL, ENAMETOOLONG}
+use Rattle.fuse_answer.specs.declared.dirent.Dirent.{Dirent}
+use Rattle.fuse_answer.specs.Entries.{Entry, entry_of}
+use Rattle.fuse_tree.specs.declared.rows.EntryRow.{EntryRow}
+use Rattle.fuse_tree.specs.State.{State, Tree, IsEntry, name_fault, is_odd_name}
+use Rattle.fuse_tree.specs.Rows.{Rows, IsRowed, rows_of_state, is_after, entries_after}
+use Rattle.fuse_tree.specs.PlanListing.{row_entry, IsShown}
+use Rattle.fuse_tree.proofs.Agreement.{no_fault}
+use Rattle.fuse_tree.proofs.Lists.{all_more, all_kept, or_false}
+use Rattle.fuse_tree.proofs.Bounds.{rowed_is, child_there}
+
+-- ---- names
+
+pub record NameFits (name : List ℕ) : Type 0 where
+  pub some : 1 ≤ length name
+  pub short : length name ≤ 255
+
+pub name_fits : (name : List ℕ) → name_fault name ≡ None → NameFits name
+name_fits name none =
+    let h = no_fault _ (is_odd_name name) ENAMETOOLONG EINVAL none in
+    let given = eqb-false (length name) 0 (or_false _ _ (or_false _ _ (or_false _ _ h.1).0).0).0 in
+    record { some = omega (arith, given); short = ltb-false 255 (length name) h.0 }
+
+-- ---- entries
+
+shown_of : (s : State) (e : EntryRow) → IsEntry s.nodes s.entries s.next_cookie e → IsShown (rows_of_state s) e
+shown_of s e p = let n = name_fits e.name p.name in record { some = n.some; short = n.short; there = child_there s e.child p.child }
+
+pub all_taken : {A : Type 0} (P : A → Type 0) (n : ℕ) (xs : List A) → AllByRecursion P xs → AllByRecursion P (take n xs)
+all_taken P zero xs all = tt
+all_taken P (suc n) [] all = tt
+all_taken P (suc n) (x ∷ xs) all = (all.0, all_taken P n xs all.1)
+
+shown_in : (s : State) (dir cookie limit : ℕ) → Tree s → AllByRecursion (IsShown (rows_of_state s)) (entries_after (rows_of_state s) dir cookie limit)
+shown_in s dir cookie limit tree =
+    all_taken _ limit _ (all_kept _ (is_after dir cookie) s.entries (all_more (IsEntry s.nodes s.entries s.next_cookie) (IsShown (rows_of_state s)) s.entries (λ e p. shown_of s e p) tree.entries))
+
+pub all_shown : (rows : Rows) (dir cookie limit : ℕ) (es : List EntryRow) → IsRowed rows → es ≡ entries_after rows dir cookie limit → AllByRecursion (IsShown rows) es
+unfolding IsRowed
+all_shown rows dir cookie limit es is e =
+    let s = is.0 in
+    subst (AllByRecursion (IsShown rows)) (sym e)
+    (subst (λ (r : Rows). AllByRecursion (IsShown r) (entries_after r dir cookie limit)) (sym (is.2 ∙ rowed_is s)) (shown_in s dir cookie limit is.1))
+
+-- ---- entries that are told one after the other
+
+pub all_at : {A : Type 0} (P : A → Type 0) (xs : List A) (i : ℕ) (x : A) → AllByRecursion P xs → i < length xs → get_or xs i x ≡ x → P x
+all_at P [] i x all within is = absurd (omega arith)
+all_at P (y ∷ ys) zero x all within is = subst P is all.0
+all_at P (y ∷ ys) (suc i) x all within is = all_at P ys i x all.1 (omega arith) is
+
+pub one_more : (rows : Rows) (es : List EntryRow) (i : ℕ) (e : EntryRow) (old : List Entry) (ds new : List Dirent) (d : Dirent) → i < length es → get_or es i e ≡ e → new ≡ ds ++ d ∷ []
+    → map entry_of ds ≡ old ++ map (row_entry rows) (take i es) → entry_of d ≡ row_entry rows e → map entry_of new ≡ old ++ map (row_entry rows) (take (i + 1) es)
+one_more rows es i e old ds new d within is put before told =
+    let more : take (i + 1) es ≡ take i es ++ e ∷ [] = take_more es i e within ∙ ap (λ (x : EntryRow). take i es ++ x ∷ []) is in
+    ap (map entry_of) put ∙ map-append entry_of ds (d ∷ []) ∙ ap (λ (x : List Entry). x ++ entry_of d ∷ []) before
+    ∙ ap (λ (x : Entry). (old ++ map (row_entry rows) (take i es)) ++ x ∷ []) told
+    ∙ append_assoc old (map (row_entry rows) (take i es)) (row_entry rows e ∷ [])
+    ∙ ap (λ (x : List Entry). old ++ x) (sym (map-append (row_entry rows) (take i es) (e ∷ [])))
+    ∙ ap (λ (x : List EntryRow). old ++ map (row_entry rows) x) (sym more)

@@ -1,0 +1,106 @@
+-- The plans of WRITE and READ agree with what is done.
+use Rattle.std.proofs.Common.{◌≡◌, ◌≤◌, ◌+◌, ◌==◌, ◌&&◌, ◌||◌, ℕ, Bool, true, false, cond, not, List, length, take, drop, Option, Some, None, refl, ap, subst, ◌∙◌, arith}
+use Rattle.std.specs.Prelude.{nat_lt}
+use Rattle.std.specs.Option.{option_map}
+use Rattle.std.proofs.lemmas.Bool.{eqb-true, ltb-false}
+use Rattle.fuse_wire.specs.declared.access_mode.AccessMode.{AccessMode}
+use Rattle.fuse_wire.specs.declared.access_mode.AccessMode.TheVariants.{ReadOnly, WriteOnly, ReadWrite}
+use Rattle.fuse_wire.specs.declared.errno.TheConstants.Errno.{EBADF, EISDIR, EINVAL, EFBIG}
+use Rattle.fuse_wire.specs.declared.moment.Moment.{Moment}
+use Rattle.fuse_request.specs.declared.request.ReadIn.{ReadIn}
+use Rattle.fuse_tree.specs.declared.rows.Full.{Full}
+use Rattle.fuse_tree.specs.declared.rows.HandleRow.{HandleRow}
+use Rattle.fuse_tree.specs.State.{State, Node, Tree, IsNode, IsHandle, is_dir, is_file, is_read_only, is_open_at, node_at}
+use Rattle.fuse_tree.specs.Rows.{full_of, row_of, rows_of_state, handle_at, content_of, bytes_at, written, apply}
+use Rattle.fuse_tree.specs.Handles.{access_in, access_at}
+use Rattle.fuse_tree.specs.Writing.{may_write, wrote, with_bytes, write, may_read, read}
+use Rattle.fuse_tree.specs.PlanWriting.{written_row, write_changes, plan_write, plan_read}
+use Rattle.fuse_tree.specs.Reading.{told}
+use Rattle.fuse_tree.proofs.Lists.{found, any_gives, and_true, and_false}
+use Rattle.fuse_tree.proofs.Agreement.{Agrees, refused_agrees, both, not_false}
+use Rattle.fuse_tree.proofs.Lengths.{length_written}
+use Rattle.fuse_tree.proofs.Trees.{SamePlace}
+use Rattle.fuse_tree.proofs.Puts.{only_one, find_full}
+use Rattle.fuse_tree.proofs.Changing.{changed_rows, changed_tree}
+
+-- ---- what may be written to is a file
+
+record Writes (b : Bool) (access : AccessMode) : Type 0 where
+  here : b ≡ true
+  not_only_read : is_read_only access ≡ false
+
+writes : (b : Bool) (access : AccessMode) → may_write (cond b (Some access) None) ≡ true → Writes b access
+writes false access may = absurd cc
+writes true ReadOnly may = absurd cc
+writes true WriteOnly may = record { here = refl; not_only_read = refl }
+writes true ReadWrite may = record { here = refl; not_only_read = refl }
+
+or_left : (b c : Bool) → c ≡ false → (b || c) ≡ true → b ≡ true
+or_left true c none e = refl
+or_left false c none e = absurd cc
+
+writable_file : (s : State) (d : Node) (fh : ℕ) (o : Option HandleRow) → Tree s → node_at s d.number ≡ Some d → handle_at s.handles fh ≡ o → may_write (access_in d.number o) ≡ true → is_file d.mode ≡ true
+writable_file s d fh None tree e at may = absurd cc
+writable_file s d fh (Some h) tree e at may =
+    let p = (found (IsHandle s.nodes s.next_fh) (λ i. i.fh == fh) s.handles h tree.handles at).0 in
+    let w = writes (h.node == d.number) h.access may in
+    any_gives (λ n. n.number ≡ d.number → n ≡ d) (is_open_at h) (is_file d.mode ≡ true) s.nodes (only_one d.number d s.nodes tree.nodes_rise e) p.node
+    (λ n one test.
+    let parts = and_true _ _ test in
+    let n_is : n ≡ d = one (eqb-true n.number h.node parts.0 ∙ eqb-true h.node d.number w.here) in
+    let no_dir : (is_dir n.mode && is_read_only h.access) ≡ false = ap (λ (b : Bool). is_dir n.mode && b) w.not_only_read ∙ and_false (is_dir n.mode) in
+    let kind : is_file n.mode ≡ true = or_left (is_file n.mode) _ no_dir parts.1 in
+    subst (λ (m : Node). is_file m.mode ≡ true) n_is kind)
+
+-- ---- WRITE
+
+wrote_same : (offset : ℕ) (payload : List ℕ) (now : Moment) (n : Node) → SamePlace n (wrote offset payload now n)
+wrote_same offset payload now n = record { number = refl; kind = refl }
+
+wrote_is_node : (next offset : ℕ) (payload : List ℕ) (now : Moment) (d : Node) → is_file d.mode ≡ true → offset + length payload ≤ 16777216 → IsNode next d → IsNode next (wrote offset payload now d)
+wrote_is_node next offset payload now d file low p =
+    let size : length d.content ≤ 16777216 = p.size in
+    record { from_one = p.from_one; below = p.below; content = λ isnt. absurd cc; size = omega (arith, length_written offset payload d.content) }
+
+-- in the node d
+module _ (s : State) (offset : ℕ) (payload : List ℕ) (now : Moment) (d : Node) (tree : Tree s) (e : node_at s d.number ≡ Some d) where
+  write_full : full_of s (wrote offset payload now d) ≡ record { row = written_row (offset + length payload) now (row_of s d); content = written offset payload d.content }
+  write_full = rw (length_written offset payload d.content) refl
+
+  write_rows : apply (rows_of_state s) (write_changes offset payload now (row_of s d)) ≡ rows_of_state (with_bytes s offset payload now d.number)
+  write_rows = changed_rows s (wrote offset payload now) (wrote_same offset payload now) d tree e (written_row (offset + length payload) now (row_of s d)) (written offset payload) write_full
+
+  write_tree : is_file d.mode ≡ true → offset + length payload ≤ 16777216 → Tree (with_bytes s offset payload now d.number)
+  write_tree file low =
+      changed_tree s (wrote offset payload now) (wrote_same offset payload now) d tree e
+      (wrote_is_node s.next_node offset payload now d file low (found (IsNode s.next_node) (λ n. n.number == d.number) s.nodes d tree.nodes e).0)
+
+  pub write_agrees : (fh : ℕ) → Agrees s (plan_write fh offset payload now (row_of s d) (rows_of_state s)) (write s fh offset payload now d)
+  write_agrees fh =
+      both s (not (may_write (access_at s.handles fh d.number))) _ _ _ _ (λ _. refused_agrees s tree EBADF) (λ may.
+      both s (length payload == 0) _ _ _ _ (λ _. record { answer = refl; rows = refl; tree = tree }) (λ _.
+      both s (nat_lt 16777216 (offset + length payload)) _ _ _ _ (λ _. refused_agrees s tree EFBIG) (λ low. record {
+        answer = refl;
+        rows = write_rows;
+        tree = write_tree (writable_file s d fh (handle_at s.handles fh) tree e refl (not_false _ may)) (ltb-false 16777216 (offset + length payload) low);
+      })))
+
+-- ---- READ
+
+content_found : (s : State) (d : Node) → node_at s d.number ≡ Some d → content_of (option_map (full_of s) (node_at s d.number)) ≡ d.content
+content_found s d e = ap (λ (o : Option Node). content_of (option_map (full_of s) o)) e
+
+pub bytes_found : (s : State) (d : Node) (offset size : ℕ) → node_at s d.number ≡ Some d → bytes_at (rows_of_state s) d.number offset size ≡ take size (drop offset d.content)
+bytes_found s d offset size e =
+    ap (λ (o : Option Full). take size (drop offset (content_of o))) (find_full s d.number s.nodes)
+    ∙ ap (λ (content : List ℕ). take size (drop offset content)) (content_found s d e)
+
+pub read_agrees : (s : State) (asked : ReadIn) (d : Node) → Tree s → node_at s d.number ≡ Some d → Agrees s (plan_read asked (row_of s d) (rows_of_state s)) (read s asked d)
+read_agrees s asked d tree e =
+    both s (not (may_read (access_at s.handles asked.fh d.number))) _ _ _ _ (λ _. refused_agrees s tree EBADF) (λ _.
+    both s (is_dir d.mode) _ _ _ _ (λ _. refused_agrees s tree EISDIR) (λ _.
+    both s (nat_lt 1048576 asked.size) _ _ _ _ (λ _. refused_agrees s tree EINVAL) (λ _. record {
+      answer = ap (λ (bytes : List ℕ). (told bytes).answer) (bytes_found s d asked.offset asked.size e);
+      rows = refl;
+      tree = tree;
+    })))

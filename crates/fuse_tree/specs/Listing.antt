@@ -1,0 +1,81 @@
+-- What READDIR does (own profile): the entries of a directory behind an offset, as many as fit.
+use Rattle.std.specs.Prelude.{◌<◌, ◌==◌, ℕ, zero, suc, Bool, true, not, nat_le, nat_lt, if◌then◌else◌, List, [], ◌∷◌, ◌++◌, length, map, take, filter, Option, Some, None, codes}
+use Rattle.std.specs.List.{sum_by}
+use Rattle.fuse_wire.specs.declared.errno.TheConstants.Errno.{ENOENT, EBADF, ENOTDIR, EINVAL}
+use Rattle.fuse_request.specs.declared.request.ReadIn.{ReadIn}
+use Rattle.fuse_answer.specs.Entries.{Entry, packed_len, entries_bytes, IsLongest}
+use Rattle.fuse_tree.specs.declared.limits.TheConstants.{MAX_READ, ROOT_ID}
+use Rattle.fuse_tree.specs.declared.mode.TheConstants.{S_IFDIR}
+use Rattle.fuse_tree.specs.declared.rows.EntryRow.{EntryRow}
+use Rattle.fuse_tree.specs.State.{State, Node, Tree, Apart, type_of, is_dir, node_at, is_named, up_of}
+use Rattle.fuse_tree.specs.Handles.{is_open}
+use Rattle.fuse_tree.specs.Done.{Done, refuse, answer}
+
+-- ---- the entries of a directory
+
+-- the directory itself and the one above it, at the first two offsets
+abbrev pub dots : ℕ → ℕ → List Entry
+dots dir above =
+    record { ino = dir; off = 1; kind = type_of S_IFDIR; name = codes "." }
+    ∷ record { ino = above; off = 2; kind = type_of S_IFDIR; name = codes ".." }
+    ∷ []
+
+-- the directory above, and above the root the root
+abbrev pub above_or_root : State → ℕ → ℕ
+above_or_root s dir = if dir == ROOT_ID then ROOT_ID else up_of s.entries dir
+
+abbrev pub kind_of : Option Node → ℕ
+kind_of None = 0
+kind_of (Some n) = type_of n.mode
+
+-- the offset of an entry is its cookie
+abbrev pub told_entry : State → EntryRow → Entry
+told_entry s e = record { ino = e.child; off = e.cookie; kind = kind_of (node_at s e.child); name = e.name }
+
+abbrev pub entries_in : State → ℕ → List Entry
+entries_in s dir = dots dir (above_or_root s dir) ++ map (told_entry s) (filter (λ e. e.dir == dir) s.entries)
+
+abbrev pub is_behind : ℕ → Entry → Bool
+is_behind offset e = nat_lt offset e.off
+
+abbrev pub entries_behind : State → ℕ → ℕ → List Entry
+entries_behind s dir offset = filter (is_behind offset) (entries_in s dir)
+
+-- ---- as many as fit
+
+-- the most entries, n or fewer, that fit into size from the first one on
+abbrev pub most : List Entry → ℕ → ℕ → ℕ
+most es size zero = 0
+most es size (suc n) = if nat_le (sum_by packed_len (take (suc n) es)) size then suc n else most es size n
+
+abbrev pub longest_front : List Entry → ℕ → List Entry
+longest_front es size = take (most es size (length es)) es
+
+-- there is no first entry, or it fits
+abbrev pub first_fits : List Entry → ℕ → Bool
+first_fits [] size = true
+first_fits (e ∷ es) size = nat_le (packed_len e) size
+
+-- ---- READDIR
+
+abbrev pub list_front : State → List Entry → ℕ → Done
+list_front s es size = if not (first_fits es size) then refuse s EINVAL else answer s (entries_bytes (longest_front es size))
+
+abbrev pub read_dir : State → ReadIn → Node → Done
+read_dir s asked n =
+    if not (is_open s.handles asked.fh n.number) then refuse s EBADF
+    else if not (is_dir n.mode) then refuse s ENOTDIR
+    else if nat_lt MAX_READ asked.size then refuse s EINVAL
+    else if not (is_named s n.number) then refuse s ENOENT
+    else list_front s (entries_behind s n.number asked.offset) asked.size
+
+-- ---- laws
+
+-- the entries of a directory of a tree stand in rising order of their offsets, and the front that is told is the
+-- longest one that fits
+pub record Listed (s : State) (dir offset size : ℕ) : Type 0 where
+  pub rise : Apart (λ e later. e.off < later.off) (entries_in s dir)
+  pub longest : IsLongest (entries_behind s dir offset) size (most (entries_behind s dir offset) size (length (entries_behind s dir offset)))
+
+abbrev pub ListingIsLongest : Type 0
+ListingIsLongest = (s : State) (dir offset size : ℕ) → Tree s → Listed s dir offset size

@@ -1,0 +1,69 @@
+-- What the plan of READDIR reads off the rows (own profile), in the order of its checks.
+use Rattle.std.specs.Prelude.{◌≡◌, ◌≢◌, ◌≤◌, ◌+◌, ◌/◌, ◌==◌, ℕ, not, nat_lt, if◌then◌else◌, List, ◌++◌, length, map, filter, Option, Some, None, Result, IfOk, IfErr}
+use Rattle.fuse_wire.specs.declared.errno.TheConstants.Errno.{ENOENT, EBADF, ENOTDIR, EINVAL}
+use Rattle.fuse_request.specs.declared.request.ReadIn.{ReadIn}
+use Rattle.fuse_answer.specs.Entries.{Entry, entries_bytes}
+use Rattle.fuse_tree.specs.declared.limits.TheConstants.{MAX_READ, MAX_NAME, ROOT_ID}
+use Rattle.fuse_tree.specs.declared.planning.fault.PlanFault.{PlanFault}
+use Rattle.fuse_tree.specs.declared.planning.fault.PlanFault.TheVariants as faults
+use Rattle.fuse_tree.specs.declared.planning.read_dir.TheConstants.{LEAST_ENTRY}
+use Rattle.fuse_tree.specs.declared.rows.NodeRow.{NodeRow}
+use Rattle.fuse_tree.specs.declared.rows.EntryRow.{EntryRow}
+use Rattle.fuse_tree.specs.declared.rows.Planned.{Planned}
+use Rattle.fuse_tree.specs.State.{is_dir, type_of}
+use Rattle.fuse_tree.specs.Rows.{Rows, IsRowed, row_at, entries_after}
+use Rattle.fuse_tree.specs.Handles.{is_open}
+use Rattle.fuse_tree.specs.Plan.{look_fault}
+use Rattle.fuse_tree.specs.Listing.{dots, is_behind, longest_front, first_fits}
+use Rattle.fuse_tree.specs.Reading.{refused, told, row_is_named}
+
+-- ---- the entries of a directory
+
+abbrev pub row_above : NodeRow → ℕ
+row_above row = if row.node == ROOT_ID then ROOT_ID else row.up
+
+abbrev pub row_kind : Option NodeRow → ℕ
+row_kind None = 0
+row_kind (Some row) = type_of row.mode
+
+abbrev pub row_entry : Rows → EntryRow → Entry
+row_entry rows e = record { ino = e.child; off = e.cookie; kind = row_kind (row_at rows e.child); name = e.name }
+
+-- more entries than can fit
+abbrev pub enough : ℕ → ℕ
+enough size = size / LEAST_ENTRY + 1
+
+abbrev pub dots_behind : ℕ → NodeRow → List Entry
+dots_behind offset row = filter (is_behind offset) (dots row.node (row_above row))
+
+abbrev pub rows_behind : ℕ → ℕ → NodeRow → Rows → List Entry
+rows_behind offset size row rows = dots_behind offset row ++ map (row_entry rows) (entries_after rows row.node offset (enough size))
+
+-- ---- READDIR
+
+abbrev pub plan_front : List Entry → ℕ → Planned
+plan_front es size = if not (first_fits es size) then refused EINVAL else told (entries_bytes (longest_front es size))
+
+abbrev pub plan_list : ℕ → ℕ → NodeRow → Rows → Planned
+plan_list offset size row rows = plan_front (rows_behind offset size row rows) size
+
+abbrev pub plan_read_dir : ReadIn → NodeRow → Rows → Planned
+plan_read_dir asked row rows =
+    if not (is_open rows.handles asked.fh row.node) then refused EBADF
+    else if not (is_dir row.mode) then refused ENOTDIR
+    else if nat_lt MAX_READ asked.size then refused EINVAL
+    else if not (row_is_named row) then refused ENOENT
+    else plan_list asked.offset asked.size row rows
+
+-- ---- what the parts answer
+
+-- `Reads`, of what is seen of the answer
+abbrev pub ReadsBy : {X Y : Type 0} → (X → Y) → Type 0 → (Rows → Type 0) → Result X PlanFault → (Rows → Y) → Type 0
+ReadsBy view clean sees result told =
+    look_fault result ≡ None → clean → (rows : Rows) → IsRowed rows → sees rows → IfOk result (λ x. view x ≡ told rows) × IfErr result (λ fault. fault ≢ faults.NotATree)
+
+-- an entry has a name of 1 to 255 bytes, and leads to a row
+pub record IsShown (rows : Rows) (e : EntryRow) : Type 0 where
+  pub some : 1 ≤ length e.name
+  pub short : length e.name ≤ MAX_NAME
+  pub there : row_at rows e.child ≢ None

@@ -1,0 +1,44 @@
+-- What the plans of WRITE and READ read off the rows (own profile), in the order of their checks.
+use Rattle.std.specs.Prelude.{◌+◌, ◌==◌, ℕ, max, not, nat_lt, if◌then◌else◌, List, [], ◌∷◌, length}
+use Rattle.fuse_wire.specs.declared.errno.TheConstants.Errno.{EBADF, EISDIR, EINVAL, EFBIG}
+use Rattle.fuse_wire.specs.declared.moment.Moment.{Moment}
+use Rattle.fuse_request.specs.declared.request.ReadIn.{ReadIn}
+use Rattle.fuse_tree.specs.declared.limits.TheConstants.{MAX_FILE, MAX_READ}
+use Rattle.fuse_tree.specs.declared.rows.NodeRow.{NodeRow}
+use Rattle.fuse_tree.specs.declared.rows.Change.{Change}
+use Rattle.fuse_tree.specs.declared.rows.Change.TheVariants as changes
+use Rattle.fuse_tree.specs.declared.rows.Planned.{Planned}
+use Rattle.fuse_tree.specs.State.{is_dir}
+use Rattle.fuse_tree.specs.Rows.{Rows, bytes_at}
+use Rattle.fuse_tree.specs.Handles.{access_at}
+use Rattle.fuse_tree.specs.Writing.{may_write, may_read, count_body}
+use Rattle.fuse_tree.specs.Reading.{refused, told}
+
+-- ---- WRITE
+
+-- a file's row when bytes that end here are written
+abbrev pub written_row : ℕ → Moment → NodeRow → NodeRow
+written_row end now row = record row { size = max row.size end; mtime = now; ctime = now }
+
+abbrev pub write_changes : ℕ → List ℕ → Moment → NodeRow → List Change
+write_changes offset payload now row =
+    changes.Node (written_row (offset + length payload) now row) ∷ changes.Written row.node offset payload ∷ []
+
+abbrev pub plan_written : ℕ → List ℕ → Moment → NodeRow → Planned
+plan_written offset payload now row = record { answer = record { errno = 0; body = count_body (length payload) }; changes = write_changes offset payload now row }
+
+abbrev pub plan_write : ℕ → ℕ → List ℕ → Moment → NodeRow → Rows → Planned
+plan_write fh offset payload now row rows =
+    if not (may_write (access_at rows.handles fh row.node)) then refused EBADF
+    else if length payload == 0 then told (count_body 0)
+    else if nat_lt MAX_FILE (offset + length payload) then refused EFBIG
+    else plan_written offset payload now row
+
+-- ---- READ
+
+abbrev pub plan_read : ReadIn → NodeRow → Rows → Planned
+plan_read asked row rows =
+    if not (may_read (access_at rows.handles asked.fh row.node)) then refused EBADF
+    else if is_dir row.mode then refused EISDIR
+    else if nat_lt MAX_READ asked.size then refused EINVAL
+    else told (bytes_at rows row.node asked.offset asked.size)

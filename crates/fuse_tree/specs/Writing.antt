@@ -1,0 +1,59 @@
+-- What WRITE and READ do (own profile).
+use Rattle.std.specs.Prelude.{◌+◌, ◌==◌, ℕ, Bool, true, false, not, nat_lt, if◌then◌else◌, List, length, take, drop, Option, Some, None}
+use Rattle.fuse_wire.specs.declared.access_mode.AccessMode.{AccessMode}
+use Rattle.fuse_wire.specs.declared.access_mode.AccessMode.TheVariants.{ReadOnly, WriteOnly, ReadWrite}
+use Rattle.fuse_wire.specs.declared.errno.TheConstants.Errno.{EBADF, EISDIR, EINVAL, EFBIG}
+use Rattle.fuse_wire.specs.declared.moment.Moment.{Moment}
+use Rattle.fuse_request.specs.declared.request.ReadIn.{ReadIn}
+use Rattle.fuse_answer.specs.Bodies.{write_bytes}
+use Rattle.fuse_tree.specs.declared.limits.TheConstants.{MAX_FILE, MAX_READ}
+use Rattle.fuse_tree.specs.State.{State, Node, is_dir}
+use Rattle.fuse_tree.specs.Rows.{written}
+use Rattle.fuse_tree.specs.Handles.{access_at}
+use Rattle.fuse_tree.specs.Done.{Done, refuse, answer}
+use Rattle.fuse_tree.specs.Changing.{with_changed}
+
+-- ---- WRITE
+
+-- it is open, and not only for reading
+abbrev pub may_write : Option AccessMode → Bool
+may_write None = false
+may_write (Some ReadOnly) = false
+may_write (Some WriteOnly) = true
+may_write (Some ReadWrite) = true
+
+abbrev pub wrote : ℕ → List ℕ → Moment → Node → Node
+wrote offset payload now n = record n { content = written offset payload n.content; mtime = now; ctime = now }
+
+-- the state in which the payload stands in this node
+abbrev pub with_bytes : State → ℕ → List ℕ → Moment → ℕ → State
+with_bytes s offset payload now number = with_changed number (wrote offset payload now) s
+
+-- how many bytes were written
+abbrev pub count_body : ℕ → List ℕ
+count_body size = write_bytes (record { size = size })
+
+-- a WRITE of no byte changes nothing
+abbrev pub write : State → ℕ → ℕ → List ℕ → Moment → Node → Done
+write s fh offset payload now n =
+    if not (may_write (access_at s.handles fh n.number)) then refuse s EBADF
+    else if length payload == 0 then answer s (count_body 0)
+    else if nat_lt MAX_FILE (offset + length payload) then refuse s EFBIG
+    else answer (with_bytes s offset payload now n.number) (count_body (length payload))
+
+-- ---- READ
+
+-- it is open, and not only for writing
+abbrev pub may_read : Option AccessMode → Bool
+may_read None = false
+may_read (Some ReadOnly) = true
+may_read (Some WriteOnly) = false
+may_read (Some ReadWrite) = true
+
+-- the content from the offset on, at most so many bytes: none from the end on
+abbrev pub read : State → ReadIn → Node → Done
+read s asked n =
+    if not (may_read (access_at s.handles asked.fh n.number)) then refuse s EBADF
+    else if is_dir n.mode then refuse s EISDIR
+    else if nat_lt MAX_READ asked.size then refuse s EINVAL
+    else answer s (take asked.size (drop asked.offset n.content))

@@ -1,0 +1,136 @@
+ghost use Rattle.std.specs.Prelude.{◌≡◌, None, IfOk, OnErr};
+ghost use Rattle.fuse_tree.specs.Opening.{open_fault};
+ghost use Rattle.fuse_tree.specs.Plan.{look_fault};
+ghost use Rattle.fuse_tree.specs.PlanOpening as planning;
+ghost use Rattle.fuse_tree.specs.PlanOpening.{opened_changes, plan_opened, plan_open_node};
+ghost use Rattle.fuse_tree.specs.Reading.{Reads};
+
+use super::answers::refused;
+use super::attributes::{is_directory, is_regular_file};
+use super::fault::PlanFault;
+use super::finding::find_counters;
+use crate::limits::{COUNTER_END, MAX_HANDLES};
+use crate::look::Look;
+use crate::rows::{Change, ChangeList, Counters, HandleRow, NodeRow, Planned};
+use fuse_answer::{Answer, OpenOut};
+use fuse_wire::{AccessMode, ByteList, Errno, Memory};
+use std::alloc::Global;
+
+// OPEN of the node of this row, for what the flags ask for.
+pub(crate) fn plan_open<L: Look>(
+    look: &mut L,
+    alloc: Global,
+    flags: u32,
+    row: &NodeRow,
+) -> Result<Planned, PlanFault>
+    requires { L.fault look.old ≡ None }
+    ensures plan { Reads (L.is_clean look.new) (L.sees look.old) result (planning.plan_open flags row.now) }
+    ensures fault { L.fault look.new ≡ look_fault result }
+    ensures looks { look_fault result ≡ None → L.looks look.old look.new }
+    ensures fails { OnErr result (L.fails look.old look.new) }
+{
+    if is_directory(row.mode) {
+        return Ok(refused(alloc, Errno::EISDIR));
+    }
+    if !is_regular_file(row.mode) {
+        return Ok(refused(alloc, Errno::EINVAL));
+    }
+    let Some(access) = AccessMode::of(flags) else {
+        return Ok(refused(alloc, Errno::EINVAL));
+    };
+    open_node(look, alloc, access, row.node)
+}
+
+// OPENDIR of the node of this row.
+pub(crate) fn plan_open_dir<L: Look>(
+    look: &mut L,
+    alloc: Global,
+    row: &NodeRow,
+) -> Result<Planned, PlanFault>
+    requires { L.fault look.old ≡ None }
+    ensures plan { Reads (L.is_clean look.new) (L.sees look.old) result (planning.plan_open_dir row.now) }
+    ensures fault { L.fault look.new ≡ look_fault result }
+    ensures looks { look_fault result ≡ None → L.looks look.old look.new }
+    ensures fails { OnErr result (L.fails look.old look.new) }
+{
+    if !is_directory(row.mode) {
+        return Ok(refused(alloc, Errno::ENOTDIR));
+    }
+    open_node(look, alloc, AccessMode::ReadOnly, row.node)
+}
+
+// One more handle of the node, where there is one left.
+fn open_node<L: Look>(
+    look: &mut L,
+    alloc: Global,
+    access: AccessMode,
+    node: u64,
+) -> Result<Planned, PlanFault>
+    requires { L.fault look.old ≡ None }
+    ensures plan { Reads (L.is_clean look.new) (L.sees look.old) result (plan_open_node access node) }
+    ensures fault { L.fault look.new ≡ look_fault result }
+    ensures looks { look_fault result ≡ None → L.looks look.old look.new }
+    ensures fails { OnErr result (L.fails look.old look.new) }
+{
+    let counters = find_counters(look)?;
+    if let Some(errno) = fault_of_opening(&counters) {
+        return Ok(refused(alloc, errno));
+    }
+    Ok(open(alloc, &counters, access, node)?)
+}
+
+// Why no handle is given out.
+fn fault_of_opening(counters: &Counters) -> Option<Errno>
+    ensures { result ≡ open_fault counters.now.handles counters.now.next_fh }
+{
+    if counters.handles >= MAX_HANDLES {
+        Some(Errno::ENFILE)
+    } else if counters.next_fh >= COUNTER_END {
+        Some(Errno::ENOSPC)
+    } else {
+        None
+    }
+}
+
+fn open(
+    alloc: Global,
+    counters: &Counters,
+    access: AccessMode,
+    node: u64,
+) -> Result<Planned, Memory>
+    requires { open_fault counters.now.handles counters.now.next_fh ≡ None }
+    ensures { IfOk result (λ p. p ≡ plan_opened counters.now access node) }
+{
+    let opened = OpenOut {
+        fh: counters.next_fh,
+        open_flags: 0,
+        backing_id: 0,
+    };
+    let answer = Answer::success(ByteList::from_vec(opened.body_of(alloc)?));
+    let changes = changes_of_opening(alloc, counters, access, node)?;
+    Ok(Planned { answer, changes })
+}
+
+// A new handle's rows, in the order in which they are written.
+fn changes_of_opening(
+    alloc: Global,
+    counters: &Counters,
+    access: AccessMode,
+    node: u64,
+) -> Result<ChangeList, Memory>
+    requires { open_fault counters.now.handles counters.now.next_fh ≡ None }
+    ensures { IfOk result (λ changes. changes ≡ opened_changes counters.now access node) }
+{
+    let mut changes = Vec::new(alloc);
+    changes.push(Change::Handle(HandleRow {
+        fh: counters.next_fh,
+        node,
+        access,
+    }))?;
+    changes.push(Change::Counters(Counters {
+        next_fh: counters.next_fh + 1,
+        handles: counters.handles + 1,
+        ..*counters
+    }))?;
+    Ok(ChangeList::from_vec(changes))
+}

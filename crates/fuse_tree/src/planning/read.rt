@@ -1,0 +1,78 @@
+ghost use Rattle.std.specs.Prelude.{◌≡◌, ◌≤◌, None, length, IfOk, OnErr};
+ghost use Rattle.fuse_answer.specs.declared.answer.TheConstants.{MAX_BODY as max_body};
+ghost use Rattle.fuse_tree.specs.Rows.{bytes_at};
+ghost use Rattle.fuse_tree.specs.Writing as writing;
+ghost use Rattle.fuse_tree.specs.Plan.{look_fault};
+ghost use Rattle.fuse_tree.specs.PlanWriting as planning;
+ghost use Rattle.fuse_tree.specs.Reading.{Reads};
+
+use super::answers::{refused, unchanged};
+use super::attributes::is_directory;
+use super::fault::PlanFault;
+use super::finding::find_access;
+use crate::limits::MAX_READ;
+use crate::look::Look;
+use crate::rows::{NodeRow, Planned};
+use fuse_answer::{Answer, MAX_BODY};
+use fuse_request::ReadIn;
+use fuse_wire::{AccessMode, ByteList, Errno};
+use std::alloc::Global;
+
+// READ by a handle of the node of this row.
+pub(crate) fn plan_read<L: Look>(
+    look: &mut L,
+    alloc: Global,
+    asked: &ReadIn,
+    row: &NodeRow,
+) -> Result<Planned, PlanFault>
+    requires { L.fault look.old ≡ None }
+    ensures plan { Reads (L.is_clean look.new) (L.sees look.old) result (planning.plan_read asked.now row.now) }
+    ensures fault { L.fault look.new ≡ look_fault result }
+    ensures looks { look_fault result ≡ None → L.looks look.old look.new }
+    ensures fails { OnErr result (L.fails look.old look.new) }
+{
+    if !may_read(find_access(look, asked.fh, row.node)?) {
+        return Ok(refused(alloc, Errno::EBADF));
+    }
+    if is_directory(row.mode) {
+        return Ok(refused(alloc, Errno::EISDIR));
+    }
+    if asked.size > MAX_READ {
+        return Ok(refused(alloc, Errno::EINVAL));
+    }
+    let bytes = find_bytes(look, row.node, asked.offset, asked.size)?;
+    Ok(unchanged(alloc, Answer::success(bytes)))
+}
+
+// Whether what is open so may be read.
+fn may_read(access: Option<AccessMode>) -> bool
+    ensures { result ≡ writing.may_read access }
+{
+    matches!(access, Some(AccessMode::ReadOnly | AccessMode::ReadWrite))
+}
+
+// The content of a node from the offset on, no longer than an answer may be.
+fn find_bytes<L: Look>(
+    look: &mut L,
+    number: u64,
+    offset: u64,
+    size: u32,
+) -> Result<ByteList, PlanFault>
+    requires fault { L.fault look.old ≡ None }
+    requires size { size ≤ max_body }
+    ensures bytes { Reads (L.is_clean look.new) (L.sees look.old) result (λ rows. bytes_at rows number offset size) }
+    ensures short { IfOk result (λ bytes. length bytes ≤ max_body) }
+    ensures fault { L.fault look.new ≡ look_fault result }
+    ensures looks { look_fault result ≡ None → L.looks look.old look.new }
+    ensures fails { OnErr result (L.fails look.old look.new) }
+{
+    match look.bytes(number, offset, size) {
+        Ok(bytes) => {
+            if bytes.as_slice().len() > MAX_BODY {
+                return Err(PlanFault::NotATree);
+            }
+            Ok(bytes)
+        }
+        Err(fault) => Err(PlanFault::Look(fault)),
+    }
+}

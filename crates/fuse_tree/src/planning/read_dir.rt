@@ -1,0 +1,195 @@
+ghost use Rattle.std.specs.Prelude.{◌≡◌, ◌≤◌, ◌++◌, None, All, map, IfOk, IfErr, OnOk, OnErr, ◌≢◌};
+ghost use Rattle.std.specs.List.{AllByRecursion};
+ghost use Rattle.fuse_answer.specs.Entries.{entry_of, IsNamed};
+ghost use Rattle.fuse_tree.specs.State.{type_of};
+ghost use Rattle.fuse_tree.specs.Rows.{Rows, IsRowed, entries_after};
+ghost use Rattle.fuse_tree.specs.Plan.{look_fault};
+ghost use Rattle.fuse_tree.specs.PlanListing as planning;
+ghost use Rattle.fuse_tree.specs.PlanListing.{dots_behind, row_above, row_entry, plan_front, plan_list, ReadsBy, IsShown};
+ghost use Rattle.fuse_tree.specs.Reading.{Reads};
+ghost use Rattle.fuse_tree.specs.declared.limits.TheConstants.{MAX_READ as max_read};
+ghost use Rattle.fuse_tree.specs.declared.mode.TheConstants.{S_IFDIR as s_ifdir};
+
+use super::answers::{refused, unchanged};
+use super::attributes::{is_directory, is_named};
+use super::fault::PlanFault;
+use super::finding::{find_node, is_open_at};
+use crate::limits::{MAX_NAME, MAX_READ, ROOT_ID};
+use crate::look::Look;
+use crate::mode::{S_IFDIR, TYPE_UNIT, TYPES};
+use crate::rows::{EntryRow, NodeRow, Planned};
+use fuse_answer::{Answer, Dirent, PackFault, pack};
+use fuse_request::ReadIn;
+use fuse_wire::{Errno, Memory};
+use std::alloc::Global;
+
+/// The fewest bytes that an entry takes in a listing: those before its name, and a name of up to 8.
+pub const LEAST_ENTRY: u32 = 32;
+
+// READDIR of the directory of this row.
+pub(crate) fn plan_read_dir<L: Look>(
+    look: &mut L,
+    alloc: Global,
+    asked: &ReadIn,
+    row: &NodeRow,
+) -> Result<Planned, PlanFault>
+    requires { L.fault look.old ≡ None }
+    ensures plan { Reads (L.is_clean look.new) (L.sees look.old) result (planning.plan_read_dir asked.now row.now) }
+    ensures fault { L.fault look.new ≡ look_fault result }
+    ensures looks { look_fault result ≡ None → L.looks look.old look.new }
+    ensures fails { OnErr result (L.fails look.old look.new) }
+{
+    if !is_open_at(look, asked.fh, row.node)? {
+        return Ok(refused(alloc, Errno::EBADF));
+    }
+    if !is_directory(row.mode) {
+        return Ok(refused(alloc, Errno::ENOTDIR));
+    }
+    if asked.size > MAX_READ {
+        return Ok(refused(alloc, Errno::EINVAL));
+    }
+    if !is_named(row) {
+        return Ok(refused(alloc, Errno::ENOENT));
+    }
+    list(look, alloc, asked.offset, asked.size, row)
+}
+
+// The entries of a directory behind the offset, as many as fit.
+fn list<L: Look>(
+    look: &mut L,
+    alloc: Global,
+    offset: u64,
+    size: u32,
+    row: &NodeRow,
+) -> Result<Planned, PlanFault>
+    requires fault { L.fault look.old ≡ None }
+    requires size { size ≤ max_read }
+    ensures plan { Reads (L.is_clean look.new) (L.sees look.old) result (plan_list offset size row.now) }
+    ensures fault { L.fault look.new ≡ look_fault result }
+    ensures looks { look_fault result ≡ None → L.looks look.old look.new }
+    ensures fails { OnErr result (L.fails look.old look.new) }
+{
+    let enough = size / LEAST_ENTRY + 1;
+    let entries = find_entries(look, row.node, offset, enough as usize)?;
+    let mut dirents = dots_of(alloc, offset, row)?;
+    push_entries(look, &mut dirents, entries.as_slice())?;
+    Ok(list_front(alloc, dirents.as_slice(), size)?)
+}
+
+fn find_entries<L: Look>(
+    look: &mut L,
+    dir: u64,
+    cookie: u64,
+    limit: usize,
+) -> Result<Vec<EntryRow>, PlanFault>
+    requires { L.fault look.old ≡ None }
+    ensures rows { ReadsBy (λ v. v.items) (L.is_clean look.new) (L.sees look.old) result (λ rows. entries_after rows dir cookie limit) }
+    ensures fault { L.fault look.new ≡ look_fault result }
+    ensures looks { look_fault result ≡ None → L.looks look.old look.new }
+    ensures fails { OnErr result (L.fails look.old look.new) }
+{
+    match look.entries_after(dir, cookie, limit) {
+        Ok(rows) => Ok(rows),
+        Err(fault) => Err(PlanFault::Look(fault)),
+    }
+}
+
+// The directory itself and the one above it, where they stand behind the offset.
+fn dots_of<'a>(alloc: Global, offset: u64, row: &NodeRow) -> Result<Vec<Dirent<'a>>, Memory>
+    ensures entries { IfOk result (λ dirents. map entry_of dirents.items ≡ dots_behind offset row.now) }
+    ensures named { IfOk result (λ dirents. All (λ d. IsNamed (entry_of d)) dirents.items) }
+{
+    let mut dirents = Vec::new(alloc);
+    if offset < 1 {
+        dirents.push(dot_of(row.node, 1, b"."))?;
+    }
+    if offset < 2 {
+        dirents.push(dot_of(above_of(row), 2, b".."))?;
+    }
+    Ok(dirents)
+}
+
+// The directory above, and above the root the root.
+fn above_of(row: &NodeRow) -> u64
+    ensures { result ≡ row_above row.now }
+{
+    if row.node == ROOT_ID { ROOT_ID } else { row.up }
+}
+
+fn dot_of(ino: u64, off: u64, name: &[u8]) -> Dirent<'_>
+    ensures { entry_of result ≡ record { ino = ino; off = off; kind = type_of s_ifdir; name = name.now } }
+{
+    Dirent {
+        ino,
+        off,
+        kind: type_in(S_IFDIR),
+        name,
+    }
+}
+
+// The type of a node, from its mode.
+fn type_in(mode: u32) -> u32
+    ensures { result ≡ type_of mode }
+{
+    mode / TYPE_UNIT % TYPES
+}
+
+// Appends entries, each with the type of the node that it leads to.
+fn push_entries<'a, L: Look>(
+    look: &mut L,
+    dirents: &mut Vec<Dirent<'a>>,
+    entries: &'a [EntryRow],
+) -> Result<(), PlanFault>
+    requires fault { L.fault look.old ≡ None }
+    requires named { All (λ d. IsNamed (entry_of d)) dirents.old.items }
+    ensures entries { look_fault result ≡ None → L.is_clean look.new → (rows : Rows) → IsRowed rows → L.sees look.old rows → AllByRecursion (IsShown rows) entries.now
+        → OnOk result (map entry_of dirents.new.items ≡ map entry_of dirents.old.items ++ map (row_entry rows) entries.now) × IfErr result (λ f. f ≢ PlanFault.NotATree) }
+    ensures named { OnOk result (All (λ d. IsNamed (entry_of d)) dirents.new.items) }
+    ensures fault { L.fault look.new ≡ look_fault result }
+    ensures looks { look_fault result ≡ None → L.looks look.old look.new }
+    ensures fails { OnErr result (L.fails look.old look.new) }
+{
+    for entry in entries {
+        let dirent = dirent_of(look, entry)?;
+        dirents.push(dirent)?;
+    }
+    Ok(())
+}
+
+fn dirent_of<'a, L: Look>(look: &mut L, entry: &'a EntryRow) -> Result<Dirent<'a>, PlanFault>
+    requires { L.fault look.old ≡ None }
+    ensures entry { look_fault result ≡ None → L.is_clean look.new → (rows : Rows) → IsRowed rows → L.sees look.old rows → IsShown rows entry.now
+        → IfOk result (λ d. entry_of d ≡ row_entry rows entry.now) × IfErr result (λ f. f ≢ PlanFault.NotATree) }
+    ensures named { IfOk result (λ d. IsNamed (entry_of d)) }
+    ensures fault { L.fault look.new ≡ look_fault result }
+    ensures looks { look_fault result ≡ None → L.looks look.old look.new }
+    ensures fails { OnErr result (L.fails look.old look.new) }
+{
+    let name = entry.name.as_slice();
+    if name.is_empty() || name.len() > MAX_NAME {
+        return Err(PlanFault::NotATree);
+    }
+    let Some(child) = find_node(look, entry.child)? else {
+        return Err(PlanFault::NotATree);
+    };
+    Ok(Dirent {
+        ino: entry.child,
+        off: entry.cookie,
+        kind: type_in(child.mode),
+        name,
+    })
+}
+
+// As many entries as fit.
+#[tactic(auto, using(crate::proofs::Fronts::front_planned))]
+fn list_front(alloc: Global, entries: &[Dirent<'_>], size: u32) -> Result<Planned, Memory>
+    requires named { All (λ d. IsNamed (entry_of d)) entries.now }
+    requires size { size ≤ max_read }
+    ensures { IfOk result (λ p. p ≡ plan_front (map entry_of entries.now) size) }
+{
+    match pack(alloc, entries, size) {
+        Ok(packed) => Ok(unchanged(alloc, Answer::success(packed.body))),
+        Err(PackFault::FirstTooBig) => Ok(refused(alloc, Errno::EINVAL)),
+        Err(PackFault::Memory) => Err(Memory),
+    }
+}
