@@ -6,6 +6,7 @@ ghost use Rattle.fuse_store.specs.declared.keeper.TheConstants.{MAX_SETTLED as M
 
 mod handles;
 mod removing;
+mod renaming;
 
 use crate::{Done, Keeper, MAX_SETTLED, PlainKeeper, Restart, StoreCounts, StoreFault};
 use fuse_init::Settings;

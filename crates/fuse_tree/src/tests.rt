@@ -10,6 +10,7 @@ mod mknod;
 mod opening;
 mod pieces;
 mod removing;
+mod renaming;
 mod setattr;
 
 use super::*;

@@ -11,7 +11,7 @@ fn open(unique: u64, nodeid: u64) -> Request<'static> {
     request(unique, nodeid, op)
 }
 
-fn open_root(unique: u64) -> Request<'static> {
+pub(super) fn open_root(unique: u64) -> Request<'static> {
     let op = Op::OpenDir {
         flags: 0,
         open_flags: 0,
@@ -19,7 +19,7 @@ fn open_root(unique: u64) -> Request<'static> {
     request(unique, 1, op)
 }
 
-fn read_root(unique: u64, fh: u64, offset: u64, size: u32) -> Request<'static> {
+pub(super) fn read_root(unique: u64, fh: u64, offset: u64, size: u32) -> Request<'static> {
     let op = Op::ReadDir(ReadIn {
         fh,
         offset,
@@ -42,7 +42,11 @@ fn release(unique: u64, nodeid: u64, fh: u64) -> Request<'static> {
 }
 
 // Whether the request is answered with this body.
-fn tells<K: Keeper>(keeper: &mut K, request: Request<'_>, body: &[u8]) -> Result<bool, StoreFault> {
+pub(super) fn tells<K: Keeper>(
+    keeper: &mut K,
+    request: Request<'_>,
+    body: &[u8],
+) -> Result<bool, StoreFault> {
     let done = perform(keeper, request)?;
     Ok(has_body(&done, body))
 }
@@ -58,7 +62,7 @@ fn has_handles<K: Keeper>(keeper: &mut K, handles: u64) -> Result<bool, StoreFau
     Ok(keeper.counts()?.handles == handles)
 }
 
-const FIRST: &[u8] = b"\x01\0\0\0\0\0\0\0\0\0\0\0\0\0\0\0";
+pub(super) const FIRST: &[u8] = b"\x01\0\0\0\0\0\0\0\0\0\0\0\0\0\0\0";
 
 const SECOND: &[u8] = b"\x02\0\0\0\0\0\0\0\0\0\0\0\0\0\0\0";
 

@@ -39,6 +39,8 @@ fn is_asked(request: &Request<'_>) -> bool
         Op::Mknod { .. } => true,
         Op::Unlink { .. } => true,
         Op::Rmdir { .. } => true,
+        Op::Rename { .. } => true,
+        Op::Rename2 { .. } => true,
         Op::OpenFile { .. } => true,
         Op::OpenDir { .. } => true,
         Op::ReadDir(_) => true,
