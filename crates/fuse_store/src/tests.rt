@@ -4,6 +4,7 @@ ghost use Rattle.fuse_wire.specs.Ids.{id_of};
 ghost use Rattle.fuse_request.specs.Act.{act, IsBuilt};
 ghost use Rattle.fuse_store.specs.declared.keeper.TheConstants.{MAX_SETTLED as MOST_SETTLED};
 
+mod handles;
 mod removing;
 
 use crate::{Done, Keeper, MAX_SETTLED, PlainKeeper, Restart, StoreCounts, StoreFault};
