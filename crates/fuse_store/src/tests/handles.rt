@@ -42,11 +42,7 @@ fn release(unique: u64, nodeid: u64, fh: u64) -> Request<'static> {
 }
 
 // Whether the request is answered with this body.
-<<<<<<< HEAD
 pub(super) fn tells<K: Keeper>(
-=======
-pub fn tells<K: Keeper>(
->>>>>>> contents
     keeper: &mut K,
     request: Request<'_>,
     body: &[u8],
