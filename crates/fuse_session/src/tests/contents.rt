@@ -41,20 +41,26 @@ const ONE: &str = "6f6e65";
 
 const TWO: &str = "74776f";
 
+// A keeper in which the INIT of the rows, MKNOD `f` and its OPEN were answered.
+fn opened(alloc: Global) -> Result<PlainKeeper, Fail> {
+    let mut keeper = begun(alloc, INIT_AGREED)?;
+    let input = hex(alloc, MADE_AND_OPENED)?;
+    serve_once(alloc, &mut keeper, input, plain_peer(alloc))?;
+    Ok(keeper)
+}
+
 #[test]
 fn write_then_read(rt: HostRuntime) -> Result<(), Fail> {
     let alloc = rt.alloc();
-    let mut keeper = begun(alloc)?;
     let mut input = Vec::new(alloc);
-    put_hex(&mut input, MADE_AND_OPENED)?;
     put_hex(&mut input, WRITE_ONE)?;
     put_read(&mut input, 10)?;
-    let run = serve_once(alloc, &mut keeper, input, plain_peer(alloc))?;
     let mut wanted = Vec::new(alloc);
     put_hex(&mut wanted, WROTE_ONE)?;
     put_data(&mut wanted, 10, ONE)?;
-    assert!(rt; run.ended_well());
-    assert!(rt; run.sent().ends_with(wanted.as_slice()));
+    let mut keeper = opened(alloc)?;
+    let seen = serve_on(alloc, &mut keeper, plain(alloc, input, wanted))?;
+    assert!(rt; seen.is(Told::End, (2, 5)));
     Ok(())
 }
 
@@ -62,22 +68,21 @@ fn write_then_read(rt: HostRuntime) -> Result<(), Fail> {
 #[test]
 fn resent_read(rt: HostRuntime) -> Result<(), Fail> {
     let alloc = rt.alloc();
-    let mut keeper = begun(alloc)?;
     let mut input = Vec::new(alloc);
-    put_hex(&mut input, MADE_AND_OPENED)?;
     put_hex(&mut input, WRITE_ONE)?;
     put_read(&mut input, 10)?;
     put_hex(&mut input, WRITE_TWO)?;
     put_read(&mut input, RESENT | 10)?;
     put_read(&mut input, 14)?;
-    let run = serve_once(alloc, &mut keeper, input, plain_peer(alloc))?;
     let mut wanted = Vec::new(alloc);
+    put_hex(&mut wanted, WROTE_ONE)?;
     put_data(&mut wanted, 10, ONE)?;
     put_hex(&mut wanted, WROTE_TWO)?;
     put_data(&mut wanted, RESENT | 10, ONE)?;
     put_data(&mut wanted, 14, TWO)?;
-    assert!(rt; run.ended_well());
-    assert!(rt; run.sent().ends_with(wanted.as_slice()));
-    assert_eq!(rt; run.counts.repeated, 1);
+    let mut keeper = opened(alloc)?;
+    let seen = serve_on(alloc, &mut keeper, plain(alloc, input, wanted))?;
+    assert!(rt; seen.is(Told::End, (2, 7)));
+    assert_eq!(rt; seen.counts.repeated, 1);
     Ok(())
 }
