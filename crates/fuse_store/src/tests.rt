@@ -4,6 +4,7 @@ ghost use Rattle.fuse_wire.specs.Ids.{id_of};
 ghost use Rattle.fuse_request.specs.Act.{act, IsBuilt};
 ghost use Rattle.fuse_store.specs.declared.keeper.TheConstants.{MAX_SETTLED as MOST_SETTLED};
 
+mod contents;
 mod handles;
 mod removing;
 mod renaming;

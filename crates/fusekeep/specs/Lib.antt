@@ -1,3 +1,4 @@
+pub mod Scripts
 pub mod Checking
 pub mod Dumping
 pub mod Messages

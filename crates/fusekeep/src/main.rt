@@ -9,6 +9,7 @@ mod ending;
 mod messages;
 mod printing;
 mod replay;
+mod script;
 #[cfg(test)]
 mod tests;
 

@@ -3,7 +3,7 @@ use super::removing::{mknod, perform, says};
 use super::*;
 use fuse_request::{ReadIn, ReleaseIn};
 
-fn open(unique: u64, nodeid: u64) -> Request<'static> {
+pub fn open(unique: u64, nodeid: u64) -> Request<'static> {
     let op = Op::OpenFile {
         flags: 2,
         open_flags: 0,
@@ -42,7 +42,11 @@ fn release(unique: u64, nodeid: u64, fh: u64) -> Request<'static> {
 }
 
 // Whether the request is answered with this body.
+<<<<<<< HEAD
 pub(super) fn tells<K: Keeper>(
+=======
+pub fn tells<K: Keeper>(
+>>>>>>> contents
     keeper: &mut K,
     request: Request<'_>,
     body: &[u8],

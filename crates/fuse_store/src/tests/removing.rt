@@ -39,8 +39,14 @@ fn is_asked(request: &Request<'_>) -> bool
         Op::Mknod { .. } => true,
         Op::Unlink { .. } => true,
         Op::Rmdir { .. } => true,
+<<<<<<< HEAD
         Op::Rename { .. } => true,
         Op::Rename2 { .. } => true,
+=======
+        Op::Setattr(_) => true,
+        Op::Read(_) => true,
+        Op::Write { .. } => true,
+>>>>>>> contents
         Op::OpenFile { .. } => true,
         Op::OpenDir { .. } => true,
         Op::ReadDir(_) => true,
