@@ -64,11 +64,15 @@ kept_or_gone false o now is isnt = is
 pub moved_records : (holds holds' : Rows → Records → Type 0) (honest' : Type 0) (es others : List Event) (p : List ℕ) (new : List (Option Outcome)) → Moved holds holds' honest' fresh es others p [] new
     → honest' → NoneAgain [] es → (rows : Rows) (records : Records) → holds rows records → (rows' : Rows) × (records' : Records) × holds' rows' records' × RecordsLeft es records records'
 moved_records holds holds' honest' es others p new moved is none rows records held =
-    let done = moved.ran.records is rows records held in
-    (done.0, done.1, done.2, record {
-      gone = λ i there. done.3.gone [] (includes_none []) none i there;
-      others = λ i isnt. kept_or_gone (is_in (handed_on fresh es) i) (records i) (done.1 i) (done.3.others i isnt) (λ there. absurd (let came = handed_came es i there in cc (came, isnt)));
-    })
+    let done = moved.ran.records is rows records held in (
+      done.0,
+      done.1,
+      done.2,
+      record {
+        gone = λ i there. done.3.gone [] (includes_none []) none i there;
+        others = λ i isnt. kept_or_gone (is_in (handed_on fresh es) i) (records i) (done.1 i) (done.3.others i isnt) (λ there. absurd (let came = handed_came es i there in cc (came, isnt)));
+      },
+    )
 
 -- ---- a fault
 

@@ -66,7 +66,7 @@ pub ends_here : (events : List Event) (n i : ℕ) (e : Event) (taken taken' : Li
 ends_here events n i e taken taken' same lt at is ends = elim ends [
   | inl full ↦ inl (ap length is ∙ full)
   | inr apart ↦ inr (subst (λ k. StartsNone (drop k events)) (sym same)
-    (subst StartsNone (sym (drop-cons events i e lt)) (subst (λ (x : Event). (dies_before x.fate ≡ true) ⊎ (¬ IsFit x)) at apart)))
+      (subst StartsNone (sym (drop-cons events i e lt)) (subst (λ (x : Event). (dies_before x.fate ≡ true) ⊎ (¬ IsFit x)) at apart)))
 ]
 
 pub starts_none_at_end : (events : List Event) (n : ℕ) → drop n events ≡ [] → StartsNone (drop n events)

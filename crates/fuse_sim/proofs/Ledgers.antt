@@ -125,11 +125,11 @@ run_room died (e ∷ es) room p so few = elim so [
     | inr one ↦ room_one died e es room p one.0 more.0 one.1 few (λ r q enough. run_room died es r q more.1 enough)
   ]
   | inr last ↦
-    let l : Ledger = record { room = room; pending = p } in
-    run_crash died l e es [] (p ++ settles_in (e ∷ es)) room last.0 last.1 last.2 (elim (commits_one e) [
-      | inl none ↦ ap (λ cs. handed_at cs l) none.0
-      | inr one ↦ ap (λ cs. handed_at cs l) one.1 ∙ has_room e es room p one.0 one.1 few
-    ])
+      let l : Ledger = record { room = room; pending = p } in
+      run_crash died l e es [] (p ++ settles_in (e ∷ es)) room last.0 last.1 last.2 (elim (commits_one e) [
+        | inl none ↦ ap (λ cs. handed_at cs l) none.0
+        | inr one ↦ ap (λ cs. handed_at cs l) one.1 ∙ has_room e es room p one.0 one.1 few
+      ])
 ]
 
 -- ---- a group begins with these
@@ -167,7 +167,7 @@ run_begins died (e ∷ es) p so few = elim so [
     | inr one ↦ begin_one died e es p one.0 more.0 one.1 (run_room died es 15 (settles e) more.1 (fewer e es one.0 15 one.1 few))
   ]
   | inr last ↦ run_crash died (record { room = 0; pending = p }) e es (handed_to (commits_in (e ∷ es)) p) (left_pending (commits_in (e ∷ es)) p ++ settles_in (e ∷ es)) 16 last.0 last.1 last.2
-    (begin_hands e p ∙ ap (λ x. handed_to (commits_in (e ∷ x)) p) (sym last.2))
+      (begin_hands e p ∙ ap (λ x. handed_to (commits_in (e ∷ x)) p) (sym last.2))
 ]
 
 -- ---- what is handed on was settled

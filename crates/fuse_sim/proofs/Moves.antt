@@ -73,8 +73,8 @@ records_more l es es' r r' r'' one two =
           let u' = settled_by u es in
           elim (in_either (handed_on l es) (handed_on l' es') i (sym (ap (λ x. is_in x i) (handed-append l es es')) ∙ there)) [
             | inl before ↦
-              two.others i (not_among u' (commits_in es') i (none_again u' es' parts.1) (handed_settled u l es within i before))
-              ∙ none_if (is_in (handed_on l' es') i) (r' i) (one.gone u within parts.0 i before)
+                two.others i (not_among u' (commits_in es') i (none_again u' es' parts.1) (handed_settled u l es within i before))
+                ∙ none_if (is_in (handed_on l' es') i) (r' i) (one.gone u within parts.0 i before)
             | inr later ↦ two.gone u' (pending_settled u l es within) parts.1 i later
           ];
     }
@@ -154,13 +154,17 @@ group_ran holds mid holds' honest honest' died run p p' old new ledger worked ke
           (stands_kept mid holds' s (committed h run) (t ++ handed_to cs p) (keeps is) (worked.stands (was is) s h t so (fresh_ids t u within pending none)));
       outcomes = λ is s h t u so within pending none. worked.outcomes (was is) s h t so (fresh_ids t u within pending none);
       records = λ is rows records held.
-          let done = worked.records (was is) rows records held in
-          (done.0, done.1, keeps is done.0 done.1 done.2, record {
-            others = λ i isnt. done.3 i isnt ∙ ap (λ x. if is_in x i then None else records i) (sym ledger.handed_is);
-            gone = λ u within none i there.
-                let handed = sym (ap (λ x. is_in x i) ledger.handed_is) ∙ there in
-                done.3 i (not_among u cs i (none_again u run none) (handed_within u p cs within i handed)) ∙ ap (λ b. if b then None else records i) handed;
-          });
+          let done = worked.records (was is) rows records held in (
+            done.0,
+            done.1,
+            keeps is done.0 done.1 done.2,
+            record {
+              others = λ i isnt. done.3 i isnt ∙ ap (λ x. if is_in x i then None else records i) (sym ledger.handed_is);
+              gone = λ u within none i there.
+                  let handed = sym (ap (λ x. is_in x i) ledger.handed_is) ∙ there in
+                  done.3 i (not_among u cs i (none_again u run none) (handed_within u p cs within i handed)) ∙ ap (λ b. if b then None else records i) handed;
+            },
+          );
     }
 
 -- ---- an event that is lost
@@ -181,10 +185,15 @@ lost_ran holds holds' honest' l e old new lost pushed keeps =
           (subst (StandsFor holds' s (committed h (e ∷ []))) (sym (append-nil t))
           (subst (λ g. StandsFor holds' s g t) (ap (grown h) (sym none)) (stands_kept holds holds' s h t (keeps is) so)));
       outcomes = λ is s h t u so within pending again. ap (λ f. where_taken (is_taken f) (answer_in s (committed h (e ∷ [])) (class_of e.bytes) (unique_of e.bytes)) ∷ []) (sym lost);
-      records = λ is rows records held. (rows, records, keeps is rows records held, record {
-        others = λ i _. ap (λ x. if is_in x i then None else records i) (sym unhanded);
-        gone = λ u _ _ i there. absurd (let no_way = sym (ap (λ x. is_in x i) unhanded) ∙ there in cc no_way);
-      });
+      records = λ is rows records held. (
+        rows,
+        records,
+        keeps is rows records held,
+        record {
+          others = λ i _. ap (λ x. if is_in x i then None else records i) (sym unhanded);
+          gone = λ u _ _ i there. absurd (let no_way = sym (ap (λ x. is_in x i) unhanded) ∙ there in cc no_way);
+        },
+      );
     }
 
 -- ---- what is said of it

@@ -92,5 +92,15 @@ fewer_by false Kept id (a ∷ answers) has = omega arith
 pub places_left : (e : Event) (pending pending' : List Id) (answers answers' : List Done) (n : ℕ) → (class_of e.bytes ≡ Kept → 0 < length (answers_in answers)) → answers_in answers' ≡ left_by (class_of e.bytes) (answers_in answers)
     → ids_of pending' ≡ ids_of pending ++ settles e → length pending + length answers ≤ n → length pending' + length answers' ≤ n
 places_left e pending pending' answers answers' n has left is few =
-    omega (arith, fewer_by (is_taken e.fate) (class_of e.bytes) (message_id e.bytes) (answers_in answers) has, ap length left, ap length is, length-append (ids_of pending) (settles e),
-    length-map pending (λ (id : Id). id.0), length-map pending' (λ (id : Id). id.0), length-map answers (λ (d : Done). d.answer), length-map answers' (λ (d : Done). d.answer), few)
+    omega (
+      arith,
+      fewer_by (is_taken e.fate) (class_of e.bytes) (message_id e.bytes) (answers_in answers) has,
+      ap length left,
+      ap length is,
+      length-append (ids_of pending) (settles e),
+      length-map pending (λ (id : Id). id.0),
+      length-map pending' (λ (id : Id). id.0),
+      length-map answers (λ (d : Done). d.answer),
+      length-map answers' (λ (d : Done). d.answer),
+      few,
+    )

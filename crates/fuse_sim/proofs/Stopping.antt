@@ -140,7 +140,7 @@ dies_at events at count died within so fit is =
     let run = take count (drop at events) in
     let last = last_dies died run is so in
     let parts : events ≡ take at events ++ ((last.earlier ++ last.one ∷ []) ++ drop count (drop at events)) =
-        sym (take-append-drop at events) ∙ ap (λ (x : List Event). take at events ++ x) (sym (take-append-drop count (drop at events))) ∙ ap (λ (x : List Event). take at events ++ (x ++ drop count (drop at events))) last.parts in
+    sym (take-append-drop at events) ∙ ap (λ (x : List Event). take at events ++ x) (sym (take-append-drop count (drop at events))) ∙ ap (λ (x : List Event). take at events ++ (x ++ drop count (drop at events))) last.parts in
     let before_it : length (take at events) ≡ at = length-take-le at events (omega (arith, within)) in
     let in_it : length run ≡ count = length-take-le count (drop at events) (omega (arith, within, length-drop at events)) in
     dies_in events (take at events) last.earlier (drop count (drop at events)) last.one at (at + count - 1) parts refl

@@ -48,11 +48,7 @@ fn outcome_with(unique: u64, answer: Answer) -> Outcome
 }
 
 // What the kernel takes as the answer to an event. A kept message uses the next answer.
-fn outcome_of_event(
-    alloc: Global,
-    event: &Event,
-    answers: &mut IntoIter<Done>,
-) -> Option<Outcome>
+fn outcome_of_event(alloc: Global, event: &Event, answers: &mut IntoIter<Done>) -> Option<Outcome>
     requires message { IsMessage event.now.bytes }
     requires enough { class_of event.now.bytes ≡ Kept → 0 < length (into_iter_items answers.old) }
     ensures outcome { given result ≡ head_outcome event.now (answers_in (into_iter_items answers.old)) }

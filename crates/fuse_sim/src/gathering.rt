@@ -102,10 +102,7 @@ fn read_one<'a>(event: &'a Event) -> Option<(Request<'a>, Moment)>
 
 // Takes an event into a group, with its request where it is a kept one. False where the event stands apart, or is kept
 // and the group is full.
-fn take_in<'a>(
-    taken: &mut Vec<(Request<'a>, Moment)>,
-    event: &'a Event,
-) -> Result<bool, AllocError>
+fn take_in<'a>(taken: &mut Vec<(Request<'a>, Moment)>, event: &'a Event) -> Result<bool, AllocError>
     ensures fit { IfOk result (λ joins. joins ≡ true → IsFit event.now × (dies_before event.now.fate ≡ false)) }
     ensures joins { IfOk result (λ joins. joins ≡ true → entries_of taken.new.items ≡ entries_of taken.old.items ++ entry_if (class_of event.now.bytes) (message_entry event.now.bytes event.now.moment)) }
     ensures ends { IfOk result (λ joins. joins ≡ false → (taken.new.items ≡ taken.old.items) × EndsWith taken.old.items event.now) }

@@ -6,32 +6,27 @@ use fuse_wire::opcode::GETATTR;
 #[test]
 fn seventeen(rt: HostRuntime) -> Result<(), Fail> {
     let alloc = rt.alloc();
-    let mut keeper = begun(alloc)?;
     let input = mkdirs(alloc, 0, 17, 0)?;
-    let run = serve_once(alloc, &mut keeper, input, plain_peer(alloc))?;
-    assert!(rt; run.ended_well());
-    assert_eq!(rt; run.sent(), entries(alloc, 0, 17, 0)?.as_slice());
-    assert_eq!(rt; run.counts.kept, 17);
-    assert_eq!(rt; held(&mut keeper)?, (18, 18));
+    let wanted = entries(alloc, 0, 17, 0)?;
+    let seen = serve_begun(alloc, plain(alloc, input, wanted))?;
+    assert!(rt; seen.is(Told::End, (18, 18)));
+    assert_eq!(rt; seen.counts.kept, 17);
     Ok(())
 }
 
 #[test]
 fn repeat_in_group(rt: HostRuntime) -> Result<(), Fail> {
     let alloc = rt.alloc();
-    let mut keeper = begun(alloc)?;
     let mut input = Vec::new(alloc);
     put_mkdir(&mut input, 4, b'a')?;
     put_mkdir(&mut input, RESENT | 4, b'a')?;
-    let run = serve_once(alloc, &mut keeper, input, plain_peer(alloc))?;
     let mut wanted = Vec::new(alloc);
     put_entry(&mut wanted, 4, 2)?;
     put_entry(&mut wanted, RESENT | 4, 2)?;
-    assert!(rt; run.ended_well());
-    assert_eq!(rt; run.sent(), wanted.as_slice());
-    assert_eq!(rt; run.counts.kept, 2);
-    assert_eq!(rt; run.counts.repeated, 1);
-    assert_eq!(rt; held(&mut keeper)?, (2, 2));
+    let seen = serve_begun(alloc, plain(alloc, input, wanted))?;
+    assert!(rt; seen.is(Told::End, (2, 2)));
+    assert_eq!(rt; seen.counts.kept, 2);
+    assert_eq!(rt; seen.counts.repeated, 1);
     Ok(())
 }
 
@@ -40,22 +35,26 @@ fn repeat_in_group(rt: HostRuntime) -> Result<(), Fail> {
 fn zero_unique(rt: HostRuntime) -> Result<(), Fail> {
     let alloc = rt.alloc();
     for unique in [0, RESENT] {
-        let mut keeper = begun(alloc)?;
         let mut input = Vec::new(alloc);
         put_getattr(&mut input, unique, 1)?;
-        let first = serve_once(alloc, &mut keeper, input, plain_peer(alloc))?;
-        assert!(rt; matches!(first.ended, Ended::ZeroUnique { at: 0 }));
-        assert_eq!(rt; first.sent().len(), 0);
+        let seen = serve_begun(alloc, plain(alloc, input, Vec::new(alloc)))?;
+        assert!(rt; seen.is(Told::ZeroUnique { at: 0 }, (1, 1)));
+    }
+    Ok(())
+}
+
+#[test]
+fn zero_unique_between(rt: HostRuntime) -> Result<(), Fail> {
+    let alloc = rt.alloc();
+    for unique in [0, RESENT] {
         let mut input = Vec::new(alloc);
         put_mkdir(&mut input, 4, b'a')?;
         put_getattr(&mut input, unique, 1)?;
         put_mkdir(&mut input, 6, b'b')?;
-        let second = serve_once(alloc, &mut keeper, input, plain_peer(alloc))?;
-        assert!(rt; matches!(second.ended, Ended::ZeroUnique { at: 50 }));
-        assert_eq!(rt; second.sent(), entries(alloc, 0, 1, 0)?.as_slice());
-        assert_eq!(rt;
-            held(&mut keeper)?,
-            (2, 2),
+        let wanted = entries(alloc, 0, 1, 0)?;
+        let seen = serve_begun(alloc, plain(alloc, input, wanted))?;
+        assert!(rt;
+            seen.is(Told::ZeroUnique { at: 50 }, (2, 2)),
             "nothing after it is worked off"
         );
     }
@@ -65,41 +64,34 @@ fn zero_unique(rt: HostRuntime) -> Result<(), Fail> {
 #[test]
 fn silent_and_unsupported(rt: HostRuntime) -> Result<(), Fail> {
     let alloc = rt.alloc();
-    let mut keeper = begun(alloc)?;
     let mut input = Vec::new(alloc);
     put_forget(&mut input, 0)?;
     put_create(&mut input, 4)?;
-    let run = serve_once(alloc, &mut keeper, input, plain_peer(alloc))?;
-    assert!(rt; run.ended_well());
-    assert_eq!(rt;
-        run.sent(),
-        hex(alloc, "10000000 daffffff 0400000000000000")?.as_slice()
-    );
-    let wanted = SessionCounts {
+    let wanted = hex(alloc, "10000000 daffffff 0400000000000000")?;
+    let seen = serve_begun(alloc, plain(alloc, input, wanted))?;
+    let counts = SessionCounts {
         messages: 2,
         bare: 1,
         silent: 1,
         ..SessionCounts::NONE
     };
-    assert_eq!(rt; run.counts, wanted);
-    assert_eq!(rt; held(&mut keeper)?, (1, 1));
+    assert!(rt; seen.is(Told::End, (1, 1)));
+    assert_eq!(rt; seen.counts, counts);
     Ok(())
 }
 
 #[test]
 fn destroy_first(rt: HostRuntime) -> Result<(), Fail> {
     let alloc = rt.alloc();
-    let mut keeper = begun(alloc)?;
     let mut input = Vec::new(alloc);
     put_destroy(&mut input, 4)?;
     put_mkdir(&mut input, 6, b'a')?;
-    let run = serve_once(alloc, &mut keeper, input, plain_peer(alloc))?;
-    assert!(rt; matches!(run.ended, Ended::Destroyed));
-    assert_eq!(rt;
-        run.sent(),
-        hex(alloc, "10000000 00000000 0400000000000000")?.as_slice()
+    let wanted = hex(alloc, "10000000 00000000 0400000000000000")?;
+    let seen = serve_begun(alloc, plain(alloc, input, wanted))?;
+    assert!(rt;
+        seen.is(Told::Destroyed, (1, 2)),
+        "the directory isn't there"
     );
-    assert_eq!(rt; held(&mut keeper)?, (1, 2), "the directory isn't there");
     Ok(())
 }
 
@@ -107,22 +99,19 @@ fn destroy_first(rt: HostRuntime) -> Result<(), Fail> {
 #[test]
 fn destroy_under_a_recorded_id(rt: HostRuntime) -> Result<(), Fail> {
     let alloc = rt.alloc();
-    let mut keeper = begun(alloc)?;
     let mut input = Vec::new(alloc);
     put_lookup(&mut input, 8)?;
     put_destroy(&mut input, 8)?;
     put_mkdir(&mut input, 4, b'a')?;
     put_destroy(&mut input, RESENT | 4)?;
     put_mkdir(&mut input, 6, b'b')?;
-    let run = serve_once(alloc, &mut keeper, input, plain_peer(alloc))?;
     let mut wanted = Vec::new(alloc);
     put_error(&mut wanted, 8, ENOENT)?;
     put_error(&mut wanted, 8, ENOENT)?;
     put_entry(&mut wanted, 4, 2)?;
     put_entry(&mut wanted, RESENT | 4, 2)?;
-    assert!(rt; matches!(run.ended, Ended::Destroyed));
-    assert_eq!(rt; run.sent(), wanted.as_slice());
-    assert_eq!(rt; held(&mut keeper)?, (2, 3));
+    let seen = serve_begun(alloc, plain(alloc, input, wanted))?;
+    assert!(rt; seen.is(Told::Destroyed, (2, 3)));
     Ok(())
 }
 
@@ -130,23 +119,21 @@ fn destroy_under_a_recorded_id(rt: HostRuntime) -> Result<(), Fail> {
 #[test]
 fn other_messages_under_a_recorded_id(rt: HostRuntime) -> Result<(), Fail> {
     let alloc = rt.alloc();
-    let mut keeper = begun(alloc)?;
     let mut input = Vec::new(alloc);
     put_mkdir(&mut input, 4, b'a')?;
     put_create(&mut input, 4)?;
     put_hex(&mut input, MALFORMED_4)?;
     put_getattr(&mut input, 4, 1)?;
-    let run = serve_once(alloc, &mut keeper, input, plain_peer(alloc))?;
     let mut wanted = Vec::new(alloc);
     put_entry(&mut wanted, 4, 2)?;
     put_error(&mut wanted, 4, ENOSYS)?;
     put_error(&mut wanted, 4, EINVAL)?;
     put_entry(&mut wanted, 4, 2)?;
-    assert!(rt; run.ended_well());
-    assert_eq!(rt; run.sent(), wanted.as_slice());
-    assert_eq!(rt; run.counts.bare, 2);
-    assert_eq!(rt; run.counts.repeated, 1);
-    assert!(rt; is_no_attributes(behind(run.sent(), 176)));
+    assert!(rt; is_no_attributes(behind(wanted.as_slice(), 176)));
+    let seen = serve_begun(alloc, plain(alloc, input, wanted))?;
+    assert!(rt; seen.is(Told::End, (2, 2)));
+    assert_eq!(rt; seen.counts.bare, 2);
+    assert_eq!(rt; seen.counts.repeated, 1);
     Ok(())
 }
 

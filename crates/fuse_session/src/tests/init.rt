@@ -6,11 +6,10 @@ use super::*;
 fn agrees(rt: HostRuntime) -> Result<(), Fail> {
     let alloc = rt.alloc();
     for (init, answer) in [(INIT_AGREED, AGREED), (INIT_SHORT, AGREED_SHORT)] {
-        let mut keeper = PlainKeeper::new(alloc, START)?;
-        let run = serve_once(alloc, &mut keeper, hex(alloc, init)?, plain_peer(alloc))?;
-        assert!(rt; run.ended_well());
-        assert_eq!(rt; run.sent(), hex(alloc, answer)?.as_slice());
-        assert_eq!(rt; held(&mut keeper)?, (1, 1));
+        let input = hex(alloc, init)?;
+        let wanted = hex(alloc, answer)?;
+        let seen = serve_new(alloc, plain(alloc, input, wanted))?;
+        assert!(rt; seen.is(Told::End, (1, 1)));
     }
     Ok(())
 }
@@ -19,7 +18,6 @@ fn agrees(rt: HostRuntime) -> Result<(), Fail> {
 #[test]
 fn before_init(rt: HostRuntime) -> Result<(), Fail> {
     let alloc = rt.alloc();
-    let mut keeper = PlainKeeper::new(alloc, START)?;
     let mut input = Vec::new(alloc);
     put_getattr(&mut input, 4, 1)?;
     put_destroy(&mut input, 8)?;
@@ -29,7 +27,6 @@ fn before_init(rt: HostRuntime) -> Result<(), Fail> {
     put_mkdir(&mut input, 6, b'a')?;
     put_destroy(&mut input, 10)?;
     put_mkdir(&mut input, 12, b'b')?;
-    let run = serve_once(alloc, &mut keeper, input, plain_peer(alloc))?;
     let mut wanted = Vec::new(alloc);
     put_error(&mut wanted, 4, EPROTO)?;
     put_error(&mut wanted, 8, EPROTO)?;
@@ -38,8 +35,7 @@ fn before_init(rt: HostRuntime) -> Result<(), Fail> {
     put_error(&mut wanted, RESENT | 8, EPROTO)?;
     put_entry(&mut wanted, 6, 2)?;
     put_hex(&mut wanted, "10000000 00000000 0a00000000000000")?;
-    assert!(rt; matches!(run.ended, Ended::Destroyed));
-    assert_eq!(rt; run.sent(), wanted.as_slice());
-    assert_eq!(rt; held(&mut keeper)?, (2, 5));
+    let seen = serve_new(alloc, plain(alloc, input, wanted))?;
+    assert!(rt; seen.is(Told::Destroyed, (2, 5)));
     Ok(())
 }

@@ -57,8 +57,8 @@ fn passes_again(
         return Ok(false);
     };
     Ok(
-        run.ended_well()
-            && run.sent() == behind(rows.resent_answers.as_slice(), answered)
+        matches!(run.ended, Ended::End)
+            && run.port.sent() == behind(rows.resent_answers.as_slice(), answered)
             && matches!(held(keeper), Ok((2, 3))),
     )
 }
@@ -77,7 +77,7 @@ fn is_right(alloc: Global, each: bool) -> Result<bool, AllocError> {
     let Ok(run) = serve_once(alloc, &mut keeper, rows.asked.clone()?, peer) else {
         return Ok(false);
     };
-    let Some(count) = answers_sent(run.sent(), rows.answers.as_slice()) else {
+    let Some(count) = answers_sent(run.port.sent(), rows.answers.as_slice()) else {
         return Ok(false);
     };
     match run.ended {

@@ -63,7 +63,7 @@ returns-clause-ok g c =
     let gathers = subst (λ x. Gathers (take count x) group.taken.items group.died) rest c.in-Ok.ensures.gathers in
     let stops = subst (λ x. group.died ≡ false → (length group.taken.items ≡ 16) ⊎ StartsNone (drop count x)) rest c.in-Ok.ensures.stops in
     let worked = subst (λ p. Worked (HoldsIn k.holds c.args.keeper.now) (HoldsIn k.holds c.work_group.new.keeper) (IsSomeAnd c.work_group.new.keeper k.is_honest) (take (at + count - at) (drop at events)) (ids_of p) (ids_of c.work_group.new.pending.items) c.args.outcomes.now.items c.work_group.new.outcomes.items) c.make_room.ensures.pending
-        (subst (λ o. Worked (HoldsIn k.holds c.args.keeper.now) (HoldsIn k.holds c.work_group.new.keeper) (IsSomeAnd c.work_group.new.keeper k.is_honest) (take (at + count - at) (drop at events)) (ids_of c.make_room.new.pending.items) (ids_of c.work_group.new.pending.items) o c.work_group.new.outcomes.items) c.make_room.ensures.outcomes c.in_default-work_group.ensures.ok) in
+    (subst (λ o. Worked (HoldsIn k.holds c.args.keeper.now) (HoldsIn k.holds c.work_group.new.keeper) (IsSomeAnd c.work_group.new.keeper k.is_honest) (take (at + count - at) (drop at events)) (ids_of c.make_room.new.pending.items) (ids_of c.work_group.new.pending.items) o c.work_group.new.outcomes.items) c.make_room.ensures.outcomes c.in_default-work_group.ensures.ok) in
     group_moved (HoldsIn k.holds c.args.keeper.now) (HoldsIn k.holds c.work_group.new.keeper) (HoldsIn k.holds c.end_group.new.keeper) (IsSomeAnd c.work_group.new.keeper k.is_honest) (IsSomeAnd c.end_group.new.keeper k.is_honest)
     group.died (take count (drop at events)) (take (at + count - at) (drop at events)) (drop (at + count) events) group.taken.items (ids_of c.args.pending.now.items) (ids_of c.work_group.new.pending.items) (ids_of c.end_group.new.pending.items)
     c.args.outcomes.now.items c.work_group.new.outcomes.items
