@@ -1,10 +1,9 @@
 -- Lives, one after another, and how a run of a server is one.
-use Rattle.std.proofs.Common.{◌≡◌, ◌⊎◌, inl, inr, ℕ, Bool, true, false, ◌==◌, ◌||◌, if◌then◌else◌, List, [], ◌∷◌, ◌++◌, map, refl, sym, ap, subst, ◌∙◌, append_assoc, arith}
+use Rattle.std.proofs.Common.{◌≡◌, ◌⊎◌, inl, inr, ℕ, Bool, true, false, ◌==◌, ◌||◌, if◌then◌else◌, List, [], ◌∷◌, ◌++◌, refl, sym, ap, subst, ◌∙◌, append_assoc, arith}
 use Rattle.std.proofs.lemmas.List.{map-append}
 use Rattle.std.proofs.lemmas.List.Concat.{flat_map-append}
-use Rattle.std.specs.Io.KnownBytes.{Appends, Consumes}
+use Rattle.std.specs.Io.KnownBytes.{Consumes}
 use Rattle.fuse_wire.specs.declared.moment.Moment.{Moment}
-use Rattle.fuse_answer.specs.Said.{Said}
 use Rattle.fuse_request.specs.declared.class.Class.{Class}
 use Rattle.fuse_request.specs.declared.class.Class.TheVariants.{Silent, Bare, Kept}
 use Rattle.fuse_request.specs.Classes.{class_of}
@@ -15,7 +14,7 @@ use Rattle.fuse_session.specs.Port.{PortState}
 use Rattle.fuse_session.specs.Serving.{Lived}
 use Rattle.fuse_session.specs.Settling.{Mark, replies, settled_in, Replied}
 use Rattle.fuse_session.specs.Worked.{Timed, bytes_of, kept_in, entries_at, entry_if, timed_entry, message_id, unique_of, answered, answers, answer_by, out, Moments}
-use Rattle.fuse_sim.specs.Lives.{Lifetime, IsLife, AreLives, after_lives, all_worked, AllSend, Ran}
+use Rattle.fuse_sim.specs.Lives.{Lifetime, AreLives, after_lives, all_worked, AllSend, Ran}
 
 tested : (b : Bool) → (b ≡ true) ⊎ (b ≡ false)
 tested true = inl refl
@@ -149,7 +148,11 @@ run_lived stood may s h t old new received timed others marks part came front mo
       life = record { received = received; sent = sent; worked = l.worked; settled = settled_in old.confirms (bytes_of l.worked) marks };
       lived = record { others = bytes_of l.unworked ++ others; front = front ∙ parts; works = l.works; unsent = l.unsent; sends = split ∙ begun };
       came = came;
-      went = replied.sent;
+      marks = marks;
+      part = part;
+      replied = replied;
+      sent = refl;
+      settles = refl;
       moments = Moments-front may l.worked l.unworked (subst (Moments may) l.parts moments);
       stands = l.stands;
     }

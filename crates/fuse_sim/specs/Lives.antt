@@ -1,11 +1,12 @@
 -- Lives of a server within one mount, one after another, each over what the one before left (own profile).
 use Rattle.std.specs.Prelude.{◌≡◌, List, [], ◌∷◌, ◌++◌, ℕ}
-use Rattle.std.specs.Io.KnownBytes.{Appends, Consumes}
+use Rattle.std.specs.Io.KnownBytes.{Consumes}
 use Rattle.fuse_wire.specs.declared.moment.Moment.{Moment}
-use Rattle.fuse_request.specs.Stream.{cut}
+use Rattle.fuse_request.specs.Stream.{cut, joined}
 use Rattle.fuse_tree.specs.State.{State}
 use Rattle.fuse_store.specs.History.{History, grown}
 use Rattle.fuse_session.specs.Port.{PortState}
+use Rattle.fuse_session.specs.Settling.{Mark, replies, settled_in, Replied}
 use Rattle.fuse_session.specs.Worked.{Timed, bytes_of, kept_in, out, Works, Moments}
 
 -- the bytes that came, those that were sent, the messages that were worked off, and the ids that their answers settled
@@ -44,11 +45,16 @@ abbrev pub AllSend : State → History → List Lifetime → Type 0
 AllSend s last [] = Unit {0}
 AllSend s last (life ∷ lives) = ((unsent : List ℕ) × (out s last life.worked ≡ life.sent ++ unsent)) × AllSend s last lives
 
--- a run of a server was a life: what its port tells of it, what moments its clock gave, and what is left
+-- a run of a server was a life: the bytes that came to its port, the answers that it sent whole and the part of another
+-- one, the ids that these settle, the moments that its clock gave, and what is left
 pub record Ran (stood : History → List ℕ → Type 0) (may : Moment → Type 0) (s : State) (h : History) (t : List ℕ) (old new : PortState) : Type 0 where
   pub life : Lifetime
   pub lived : IsLife s h life
   pub came : Consumes old.coming new.coming life.received
-  pub went : Appends old.sent new.sent life.sent
+  pub marks : List Mark
+  pub part : List ℕ
+  pub replied : Replied old new marks part
+  pub sent : life.sent ≡ joined (replies marks) ++ part
+  pub settles : life.settled ≡ settled_in old.confirms (bytes_of life.worked) marks
   pub moments : Moments may life.worked
   pub stands : stood (grown h (kept_in life.worked)) (t ++ life.settled)

@@ -1,6 +1,6 @@
 -- What is pending on the kernel's side: the requests that were sent and whose answers weren't taken, in order (own
 -- profile).
-use Rattle.std.specs.Prelude.{◌≡◌, ◌≢◌, ◌<◌, ◌≤◌, ◌+◌, ◌==◌, ℕ, suc, Bool, true, false, not, if◌then◌else◌, List, [], ◌∷◌, ◌++◌, length, map, drop, All, Vec, take, Option, Some, None, Result, Ok, Err}
+use Rattle.std.specs.Prelude.{◌≡◌, ◌≢◌, ◌+◌, ◌==◌, ℕ, suc, Bool, true, false, not, if◌then◌else◌, List, [], ◌∷◌, ◌++◌, length, map, drop, All, Vec, take, Option, Some, None, Result, Ok, Err}
 use Rattle.std.specs.Global.{Global}
 use Rattle.std.specs.List.{filter}
 use Rattle.fuse_wire.specs.Bytes.{le, number_of}
@@ -11,9 +11,6 @@ use Rattle.fuse_request.specs.Act.{Asked, opcode_of}
 use Rattle.fuse_request.specs.Canon.{canon}
 use Rattle.fuse_request.specs.Places.{asked_at}
 use Rattle.fuse_request.specs.Spelling.{Spells}
-use Rattle.fuse_answer.specs.declared.records.TheConstants.OutHeader.{SIZE as HEADER_SIZE}
-use Rattle.fuse_answer.specs.declared.reply.BadAnswer.{BadAnswer}
-use Rattle.fuse_answer.specs.declared.reply.BadAnswer.TheVariants.{Short}
 use Rattle.fuse_answer.specs.Replies.{Told, Answers, FirstFault}
 use Rattle.fuse_store.specs.History.{is_in}
 use Rattle.fuse_sim.specs.declared.kernel.TakeFault.{TakeFault}

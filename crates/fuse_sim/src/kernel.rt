@@ -186,8 +186,8 @@ impl Kernel {
         self.pending.as_slice()
     }
 
-    /// The messages that send the requests at these places of the pending ones again, in this order. An `Err` leaves the
-    /// kernel as it was.
+    /// The messages that send the requests at these places of the pending ones again, in this order. They bear the bit of a
+    /// resend from then on, and an answer has to bear it too. An `Err` leaves the kernel as it was.
     pub fn resend(&mut self, order: &[usize]) -> Result<Vec<Vec<u8>>, Memory>
         requires { All (λ place. place < length self.old) order.now }
         ensures messages { IfOk result (λ messages. map (λ m. Some m) (messages_in messages.items)

@@ -1,5 +1,5 @@
 -- The lines of scripts.
-use Rattle.std.proofs.Common.{◌≡◌, ◌≢◌, ◌⊎◌, inl, inr, ℕ, zero, suc, ◌+◌, ◌*◌, ◌^◌, ◌<◌, ◌≤◌, List, [], ◌∷◌, ◌++◌, length, take, drop, All, get_or, Option, Some, None, refl, sym, ap, subst, ◌∙◌, append_assoc, arith, lit≤, ◌==◌, ◌||◌, true, false}
+use Rattle.std.proofs.Common.{◌≡◌, ◌≢◌, inl, inr, ℕ, zero, suc, ◌+◌, ◌*◌, ◌^◌, ◌<◌, ◌≤◌, List, [], ◌∷◌, ◌++◌, length, take, drop, All, get_or, refl, sym, ap, subst, ◌∙◌, append_assoc, arith, lit≤, ◌==◌, ◌||◌, true, false}
 use Rattle.std.proofs.Math.Seq.{drop-cons}
 use Rattle.std.proofs.lemmas.List.{get_or-map, length-map, take_more, take_all, take-append-drop, length-take-le}
 use Rattle.std.specs.Borrow.{Bor}
@@ -14,7 +14,7 @@ use Rattle.std.proofs.lemmas.Str.Parse.{digits_value-take-le}
 use Rattle.fuse_sim.specs.declared.event.Event.{Event}
 use Rattle.fuse_sim.specs.declared.event.Fate.{Fate}
 use Rattle.fuse_sim.specs.declared.event.Fate.TheVariants.{Answered, AnswerLost, DiedBeforeCommit, DiedAfterCommit}
-use Rattle.fusekeep.specs.Scripts.{lines_of, parts_in, word_of, Lacks, IsSeconds, HasParts, IsHexOf, Writes, TellsNothing, Tells, TookLine, IsBad, FirstBad}
+use Rattle.fusekeep.specs.Scripts.{lines_of, parts_in, word_of, Lacks, IsSeconds, HasParts, IsHexOf, Writes, Tells, TookLine, IsBad, FirstBad}
 
 -- ---- seconds
 

@@ -1,10 +1,10 @@
 -- How scripts are run, and what is printed of them.
-use Rattle.std.proofs.Common.{◌≡◌, ◌⊎◌, inl, inr, ℕ, ◌+◌, ◌<◌, ◌≤◌, List, [], ◌∷◌, ◌++◌, length, take, map, get_or, All, Option, Some, None, refl, sym, ap, subst, ◌∙◌, append_assoc, arith, Result, Ok, Err}
-use Rattle.std.specs.Prelude.{IfSome, IfOk, IfErr, IsSomeAnd}
-use Rattle.std.specs.List.{AllByRecursion, flat_map}
+use Rattle.std.proofs.Common.{◌≡◌, inl, inr, ℕ, ◌+◌, ◌<◌, List, [], ◌∷◌, ◌++◌, length, take, map, get_or, All, Option, Some, None, sym, ap, subst, ◌∙◌, Result, Ok, Err}
+use Rattle.std.specs.Prelude.{IfSome, IfOk, IsSomeAnd}
+use Rattle.std.specs.List.{AllByRecursion}
 use Rattle.std.specs.Io.KnownBytes.{Appends, Consumes, IsAtEnd}
 use Rattle.std.proofs.KnownBytes.{Appends-trans}
-use Rattle.std.proofs.lemmas.List.{append-nil, map-append, take_more, take_all}
+use Rattle.std.proofs.lemmas.List.{append-nil, map-append, take_more}
 use Rattle.std.proofs.lemmas.List.Concat.{flat_map-append}
 use Rattle.std.proofs.lemmas.List.Elements.{All-from_recursion}
 use Rattle.fuse_tree.specs.State.{State}
@@ -16,13 +16,10 @@ use Rattle.fuse_sim.specs.declared.event.Event.{Event}
 use Rattle.fuse_sim.specs.declared.event.Outcome.{Outcome}
 use Rattle.fuse_sim.specs.Driving.{IsFit, StandsIn, committed, outcome_of, settled_by, given, NoneAgain}
 use Rattle.fusekeep.specs.declared.ending.Ending.{Ending}
-use Rattle.fusekeep.specs.declared.ending.Ending.TheVariants as endings
 use Rattle.fusekeep.specs.declared.simulate.Simulation.{Simulation}
-use Rattle.fusekeep.specs.Endings.{status_of, IsNotOfStream}
-use Rattle.fusekeep.specs.Printing.{line, store_line}
 use Rattle.fusekeep.specs.Reading.{ReadMore}
-use Rattle.fusekeep.specs.Scripts.{lines_of, Writes, Tells, FirstBad}
-use Rattle.fusekeep.specs.Simulating.{start, outcome_line, outcome_lines, state_after, outcomes_of, simulation_text, Went, RanScript, NotRun, Simulated}
+use Rattle.fusekeep.specs.Scripts.{lines_of, Tells}
+use Rattle.fusekeep.specs.Simulating.{start, outcome_line, outcome_lines, state_after, outcomes_of, Went, RanScript}
 use Rattle.fusekeep.proofs.Known.{consumes_then}
 
 -- ---- reading

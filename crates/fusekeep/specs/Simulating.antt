@@ -1,11 +1,10 @@
 -- What a script's events are answered, and what is printed of them (own profile).
-use Rattle.std.specs.Prelude.{◌≡◌, ◌≤◌, ℕ, codes, List, [], ◌++◌, length, map, All, Option, Some, None}
+use Rattle.std.specs.Prelude.{◌≡◌, ℕ, codes, List, [], ◌++◌, length, map, Option, Some, None}
 use Rattle.std.specs.List.{flat_map}
-use Rattle.std.specs.Io.KnownBytes.{Appends, Keeps}
+use Rattle.std.specs.Io.KnownBytes.{Appends}
 use Rattle.hex.specs.Hex.{encode_lower}
 use Rattle.fuse_tree.specs.State.{State, new_store}
 use Rattle.fuse_store.specs.History.{after}
-use Rattle.fuse_store.specs.declared.keeper.StoreCounts.{StoreCounts}
 use Rattle.fuse_sim.specs.declared.event.Event.{Event}
 use Rattle.fuse_sim.specs.Driving.{committed, outcome_of, given, NoneAgain}
 use Rattle.fusekeep.specs.declared.ending.Ending.{Ending}

@@ -1,4 +1,4 @@
-use Rattle.std.proofs.Common.{◌≡◌, ◌==◌, ℕ, List, length, drop, refl, sym, ap, ◌∙◌, arith}
+use Rattle.std.proofs.Common.{◌==◌, ℕ, List, length, drop, sym, ap, ◌∙◌, arith}
 use Rattle.fuse_wire.specs.Bytes.{number_of}
 use Rattle.fuse_wire.specs.Ids.{id_of}
 use Rattle.fuse_sim.proofs.Pendings.{owed_at, id_passed, id_here}

@@ -1,6 +1,6 @@
-use Rattle.std.proofs.Common.{◌≡◌, ◌++◌, ◌∷◌, [], ℕ, List, ◌+◌, ◌<◌, take, length, get_or, sym, ap, subst, ◌∙◌, arith}
+use Rattle.std.proofs.Common.{◌≡◌, ◌++◌, ◌∷◌, [], ℕ, List, ◌+◌, ◌<◌, take, length, get_or, sym, ap, ◌∙◌, arith}
 use Rattle.std.proofs.lemmas.List.{take_more}
-use Rattle.fuse_sim.specs.Pending.{all_again, requests_in, IsOwed}
+use Rattle.fuse_sim.specs.Pending.{all_again, requests_in}
 use Rattle.fuse_sim.proofs.Pendings.{owed_at, marked_more, marked_none, owed_set}
 use Rattle.fuse_sim.proofs.kernel.mark_all.Goals as goal
 

@@ -1,4 +1,4 @@
-use Rattle.std.proofs.Common.{◌≡◌, ℕ, List, length, drop, sym, ap, ◌∙◌, arith}
+use Rattle.std.proofs.Common.{ℕ, List, length, drop, ap, ◌∙◌, arith}
 use Rattle.fuse_wire.specs.Bytes.{number_of}
 use Rattle.fuse_sim.proofs.Pendings.{owed_at, passed, stands_there}
 use Rattle.fuse_sim.proofs.kernel.place_of.Goals as goal

@@ -1,4 +1,4 @@
-use Rattle.std.proofs.Common.{◌≡◌, ℕ, true, List, []}
+use Rattle.std.proofs.Common.{ℕ, List, []}
 use Rattle.fuse_store.specs.History.{Includes}
 use Rattle.fuse_sim.proofs.Lifetimes.{run_lived}
 use Rattle.fuse_sim.proofs.life.runs_are_lives.Goals as goal

@@ -1,5 +1,3 @@
-use Rattle.std.proofs.Common.{◌≡◌, List, ℕ, ap, subst, sym, ◌∙◌}
-use Rattle.std.specs.Io.KnownBytes.{Consumes}
 use Rattle.fusekeep.proofs.Simulations.{read_none, read_more, all_read}
 use Rattle.fusekeep.proofs.reading.read_all.Goals as goal
 

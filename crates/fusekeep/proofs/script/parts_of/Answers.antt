@@ -1,5 +1,5 @@
-use Rattle.std.proofs.Common.{◌≡◌, Some, sym, ap, subst, ◌∙◌}
-use Rattle.fusekeep.specs.Scripts.{word_of, IsSeconds}
+use Rattle.std.proofs.Common.{◌≡◌, Some, sym, subst, ◌∙◌}
+use Rattle.fusekeep.specs.Scripts.{IsSeconds}
 use Rattle.fusekeep.proofs.Scripted.{first_space, second_space, no_space}
 use Rattle.fusekeep.proofs.script.parts_of.Goals as goal
 

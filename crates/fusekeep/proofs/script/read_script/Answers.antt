@@ -1,4 +1,4 @@
-use Rattle.std.proofs.Common.{◌≡◌, ◌+◌, inr, refl, ap, subst, ◌∙◌}
+use Rattle.std.proofs.Common.{◌+◌, inr, refl, ap, subst, ◌∙◌}
 use Rattle.fusekeep.specs.Scripts.{FirstBad, parts_in}
 use Rattle.fusekeep.proofs.Scripted.{part_taken, part_bad}
 use Rattle.fusekeep.proofs.script.read_script.Goals as goal

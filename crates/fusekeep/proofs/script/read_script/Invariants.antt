@@ -1,4 +1,4 @@
-use Rattle.std.proofs.Common.{◌≡◌, take}
+use Rattle.std.proofs.Common.{take}
 use Rattle.fusekeep.specs.Scripts.{Tells, parts_in}
 use Rattle.fusekeep.proofs.script.read_script.Given as goal
 

@@ -1,4 +1,4 @@
-use Rattle.std.proofs.Common.{◌≡◌, ◌++◌, ap, ◌∙◌}
+use Rattle.std.proofs.Common.{◌++◌, ap, ◌∙◌}
 use Rattle.std.proofs.lemmas.List.{map-append}
 use Rattle.fusekeep.specs.Scripts.{lines_of, parts_in}
 use Rattle.fusekeep.proofs.Scripted.{line_cut, last_line}

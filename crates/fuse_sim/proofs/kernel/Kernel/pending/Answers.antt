@@ -1,4 +1,4 @@
-use Rattle.std.proofs.Common.{◌≡◌, map, ap, ◌∙◌}
+use Rattle.std.proofs.Common.{map, ap, ◌∙◌}
 use Rattle.fuse_request.specs.Canon.{canon}
 use Rattle.fuse_sim.specs.Pending.{messages_in}
 use Rattle.fuse_sim.proofs.Pendings.{pending_canon}

@@ -1,13 +1,11 @@
-use Rattle.std.proofs.Common.{◌≡◌, ◌≤◌, ℕ, List, Vec, Option, Some, Result, Ok, Err, get_or, drop, length, refl, sym, ap, subst, ◌∙◌, arith}
+use Rattle.std.proofs.Common.{◌≡◌, ℕ, List, Vec, Some, Ok, Err, get_or, drop, length, sym, ap, subst, ◌∙◌, arith}
 use Rattle.std.specs.Global.{Global}
-use Rattle.std.specs.List.{remove}
 use Rattle.fuse_wire.specs.Bytes.{number_of}
 use Rattle.fuse_wire.specs.Opcodes.{silent}
 use Rattle.fuse_request.specs.Act.{Asked, opcode_of}
 use Rattle.fuse_request.specs.Places.{SpelledAt}
 use Rattle.fuse_answer.specs.Replies.{Told, Answers, FirstFault}
 use Rattle.fuse_answer.specs.declared.reply.BadAnswer.{BadAnswer}
-use Rattle.fuse_sim.specs.declared.kernel.TakeFault.{TakeFault}
 use Rattle.fuse_sim.specs.declared.kernel.TakeFault.TheVariants.{BadAnswer as Bad}
 use Rattle.fuse_sim.specs.Pending.{ArePending, StandsFirst, requests_in, borne, owner, others, TakenOf}
 use Rattle.fuse_sim.proofs.Pendings.{Found, found}
