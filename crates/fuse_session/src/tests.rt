@@ -69,7 +69,7 @@ struct Run {
     port: MemoryPort,
 }
 
-// How a session ended, but for what a store's fault holds.
+// How a session ended, with a store's fault told by whether it is want of memory.
 #[derive(Clone, Copy, Debug, PartialEq, Eq)]
 enum Told {
     End,
@@ -78,6 +78,7 @@ enum Told {
     Frame(FrameFault),
     ZeroUnique { at: u64 },
     PortFailed,
+    StoreMemory,
     Store,
     Memory,
 }
@@ -90,6 +91,7 @@ fn told_of(ended: &Ended) -> Told {
         Ended::Frame(fault) => Told::Frame(*fault),
         Ended::ZeroUnique { at } => Told::ZeroUnique { at: *at },
         Ended::PortFailed => Told::PortFailed,
+        Ended::Store(StoreFault::Memory) => Told::StoreMemory,
         Ended::Store(_) => Told::Store,
         Ended::Memory => Told::Memory,
     }
@@ -163,6 +165,13 @@ fn serve_new(alloc: Global, session: Session) -> Result<Seen, Fail> {
 fn serve_begun(alloc: Global, session: Session) -> Result<Seen, Fail> {
     let mut keeper = begun(alloc, INIT_AGREED)?;
     serve_on(alloc, &mut keeper, session)
+}
+
+// So these messages, to which these answers are wanted.
+fn serve_these(alloc: Global, asked: &[Ask], answered: &[Reply]) -> Result<Seen, Fail> {
+    let input = asks(alloc, asked)?;
+    let wanted = replies(alloc, answered)?;
+    serve_begun(alloc, plain(alloc, input, wanted))
 }
 
 // Two sessions behind row init-agreed.

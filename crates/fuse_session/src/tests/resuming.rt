@@ -118,9 +118,10 @@ fn ask<K: Keeper>(
 fn ask_after(
     alloc: Global,
     init: &str,
-    outcomes: Vec<Outcome>,
+    outcomes: &[Outcome],
     wanted: &[u8],
 ) -> Result<(Asked, bool), Fail> {
+    let outcomes = outcomes.to_vec(alloc)?;
     let mut keeper = begun(alloc, init)?;
     Ok(ask(alloc, &mut keeper, outcomes, wanted))
 }
@@ -128,9 +129,9 @@ fn ask_after(
 #[test]
 fn resume_notice(rt: HostRuntime) -> Result<(), Fail> {
     let alloc = rt.alloc();
-    let agreed = ask_after(alloc, INIT_AGREED, Vec::new(alloc), NOTICE)?;
+    let agreed = ask_after(alloc, INIT_AGREED, &[], NOTICE)?;
     assert_eq!(rt; agreed, (Asked::Sent, true));
-    let short = ask_after(alloc, INIT_SHORT, Vec::new(alloc), b"")?;
+    let short = ask_after(alloc, INIT_SHORT, &[], b"")?;
     assert_eq!(rt; short, (Asked::NotOffered, true));
     Ok(())
 }
@@ -147,14 +148,12 @@ fn before_an_init(rt: HostRuntime) -> Result<(), Fail> {
 #[test]
 fn notice_stops(rt: HostRuntime) -> Result<(), Fail> {
     let alloc = rt.alloc();
-    let outcomes = vec![in alloc; Outcome::Take(10), Outcome::Failed]?;
-    let part = ask_after(alloc, INIT_AGREED, outcomes, &NOTICE[..10])?;
+    let stops = [Outcome::Take(10), Outcome::Failed];
+    let part = ask_after(alloc, INIT_AGREED, &stops, &NOTICE[..10])?;
     assert_eq!(rt; part, (Asked::PortFailed, true));
-    let outcomes = vec![in alloc; Outcome::Take(0)]?;
-    let none = ask_after(alloc, INIT_AGREED, outcomes, b"")?;
+    let none = ask_after(alloc, INIT_AGREED, &[Outcome::Take(0)], b"")?;
     assert_eq!(rt; none, (Asked::PortFailed, true));
-    let outcomes = vec![in alloc; Outcome::Take(10)]?;
-    let whole = ask_after(alloc, INIT_AGREED, outcomes, NOTICE)?;
+    let whole = ask_after(alloc, INIT_AGREED, &[Outcome::Take(10)], NOTICE)?;
     assert_eq!(rt; whole, (Asked::Sent, true));
     Ok(())
 }
