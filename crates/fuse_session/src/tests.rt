@@ -61,6 +61,13 @@ fn plain(alloc: Global, input: Vec<u8>, wanted: Vec<u8>) -> Session {
     }
 }
 
+// A plain session of these messages, to which these answers are wanted.
+fn plain_of(alloc: Global, asked: &[Ask], answered: &[Reply]) -> Result<Session, AllocError> {
+    let input = asks(alloc, asked)?;
+    let wanted = replies(alloc, answered)?;
+    Ok(plain(alloc, input, wanted))
+}
+
 // A session over a port in memory: how it ended, and its counts.
 #[derive(Drop)]
 struct Run {
@@ -167,11 +174,8 @@ fn serve_begun(alloc: Global, session: Session) -> Result<Seen, Fail> {
     serve_on(alloc, &mut keeper, session)
 }
 
-// So these messages, to which these answers are wanted.
 fn serve_these(alloc: Global, asked: &[Ask], answered: &[Reply]) -> Result<Seen, Fail> {
-    let input = asks(alloc, asked)?;
-    let wanted = replies(alloc, answered)?;
-    serve_begun(alloc, plain(alloc, input, wanted))
+    serve_begun(alloc, plain_of(alloc, asked, answered)?)
 }
 
 // Two sessions behind row init-agreed.

@@ -27,29 +27,23 @@ fn repeat_in_group(rt: HostRuntime) -> Result<(), Fail> {
     Ok(())
 }
 
-// Row zero-unique.
+// Row zero-unique, and then the message between others.
+fn serve_zero(alloc: Global, unique: u64) -> Result<(Seen, Seen), Fail> {
+    let zero = Ask::Getattr(unique, 1);
+    let between = [Ask::Mkdir(4, b'a'), zero, Ask::Mkdir(6, b'b')];
+    let first = plain_of(alloc, &[zero], &[])?;
+    let second = plain_of(alloc, &between, &[Reply::Entry(4, 2)])?;
+    serve_both(alloc, first, second)
+}
+
 #[test]
 fn zero_unique(rt: HostRuntime) -> Result<(), Fail> {
     let alloc = rt.alloc();
     for unique in [0, RESENT] {
-        let seen = serve_these(alloc, &[Ask::Getattr(unique, 1)], &[])?;
-        assert!(rt; seen.is(Told::ZeroUnique { at: 0 }, (1, 1)));
-    }
-    Ok(())
-}
-
-#[test]
-fn zero_unique_between(rt: HostRuntime) -> Result<(), Fail> {
-    let alloc = rt.alloc();
-    for unique in [0, RESENT] {
-        let asked = [
-            Ask::Mkdir(4, b'a'),
-            Ask::Getattr(unique, 1),
-            Ask::Mkdir(6, b'b'),
-        ];
-        let seen = serve_these(alloc, &asked, &[Reply::Entry(4, 2)])?;
+        let (first, second) = serve_zero(alloc, unique)?;
+        assert!(rt; first.is(Told::ZeroUnique { at: 0 }, (1, 1)));
         assert!(rt;
-            seen.is(Told::ZeroUnique { at: 50 }, (2, 2)),
+            second.is(Told::ZeroUnique { at: 50 }, (2, 2)),
             "nothing after it is worked off"
         );
     }
