@@ -9,6 +9,7 @@ use std::alloc::{AllocError, Global};
 use std::test::*;
 
 mod clocks;
+mod contents;
 mod groups;
 mod hostile;
 mod init;

@@ -1,1 +1,194 @@
--- Lemmas on events.
+-- Events, one after another.
+use Rattle.std.proofs.Common.{◌≡◌, ◌⊎◌, inl, inr, ℕ, zero, suc, ◌+◌, ◌≤◌, ◌<◌, Bool, true, false, ◌==◌, if◌then◌else◌, List, [], ◌∷◌, ◌++◌, length, map, All, Option, Some, None, option_map, refl, sym, ap, subst, ◌∙◌, append_assoc, arith}
+use Rattle.std.proofs.lemmas.List.{append-nil, map-append}
+use Rattle.std.proofs.lemmas.List.Elements.{All-append, All-nil}
+use Rattle.fuse_answer.specs.Said.{Said}
+use Rattle.fuse_answer.specs.Wire.{wire}
+use Rattle.fuse_request.specs.declared.class.Class.{Class}
+use Rattle.fuse_request.specs.declared.class.Class.TheVariants.{Silent, Bare, Kept}
+use Rattle.fuse_request.specs.Classes.{class_of}
+use Rattle.fuse_tree.specs.State.{State}
+use Rattle.fuse_tree.specs.Rows.{Rows}
+use Rattle.fuse_wire.specs.declared.moment.Moment.{Moment}
+use Rattle.fuse_store.specs.History.{Entry, entry_id, History, HistoriesGrow, add, grown, said, is_in, ids_in, Includes, IsUnsettled}
+use Rattle.fuse_store.specs.Stands.{Records, StandsFor, KeepsHeld, OthersStay}
+use Rattle.fuse_session.specs.Worked.{entry_if, message_entry, message_id, unique_of}
+use Rattle.fuse_session.specs.Settling.{settles_if, comes_again, MayCome}
+use Rattle.fuse_sim.specs.declared.event.Fate.{Fate}
+use Rattle.fuse_sim.specs.declared.event.Fate.TheVariants.{Answered, AnswerLost, DiedBeforeCommit, DiedAfterCommit}
+use Rattle.fuse_sim.specs.declared.event.Event.{Event}
+use Rattle.fuse_sim.specs.declared.event.Outcome.{Outcome}
+use Rattle.fuse_sim.specs.Driving.{commits, commits_by, commits_in, committed, answer_in, outcome_of, given, is_taken, where_taken, settles, settled_by, NoneAgain, dies}
+use Rattle.fuse_sim.specs.HandedOn.{Ledger, fresh, joined, handed_by, after_commit, handed_at, crashed_if, after_event, ledger_after, handed_on}
+use Rattle.fuse_sim.specs.Running.{settles_in, RecordsRan, Ran}
+use Rattle.fuse_sim.proofs.Gathered.{commits-append, only_one}
+use Rattle.fuse_sim.proofs.Settled.{includes_left, includes_right, in_either, includes_both, unsettled_too, stands_later}
+use Rattle.fuse_sim.proofs.Ledgers.{commits_one}
+
+-- ---- histories
+
+pub grown-append : (h : History) (xs ys : List Entry) → grown h (xs ++ ys) ≡ grown (grown h xs) ys
+grown-append h [] ys = refl
+grown-append h (x ∷ xs) ys = grown-append (add h x) xs ys
+
+pub committed-append : (h : History) (xs ys : List Event) → committed h (xs ++ ys) ≡ committed (committed h xs) ys
+committed-append h xs ys = ap (grown h) (commits-append xs ys) ∙ grown-append h (commits_in xs) (commits_in ys)
+
+-- ---- outcomes
+
+-- each in the history right after its event
+abbrev gives : State → History → List Event → List (Option (List ℕ))
+gives s h [] = []
+gives s h (e ∷ es) = outcome_of s (grown h (commits e)) e ∷ gives s (grown h (commits e)) es
+
+stays_by : HistoriesGrow → (s : State) (h : History) (fate : Fate) (class : Class) (bytes : List ℕ) (moment : Moment) (es : List Entry)
+    → where_taken (is_taken fate) (answer_in s (grown (grown h (commits_by fate (entry_if class (message_entry bytes moment)))) es) class (unique_of bytes))
+    ≡ where_taken (is_taken fate) (answer_in s (grown h (commits_by fate (entry_if class (message_entry bytes moment)))) class (unique_of bytes))
+stays_by grows s h Answered Silent bytes moment es = refl
+stays_by grows s h Answered (Bare errno) bytes moment es = refl
+stays_by grows s h Answered Kept bytes moment es =
+    let e = message_entry bytes moment in
+    ap (option_map (λ (a : Said). wire a.errno a.body (unique_of bytes))) (grows.stays s (add h e) es (entry_id e) (grows.added h e))
+stays_by grows s h AnswerLost class bytes moment es = refl
+stays_by grows s h DiedBeforeCommit class bytes moment es = refl
+stays_by grows s h DiedAfterCommit class bytes moment es = refl
+
+-- what comes later changes no outcome
+outcome_stays : HistoriesGrow → (s : State) (h : History) (e : Event) (es : List Entry) → outcome_of s (grown (grown h (commits e)) es) e ≡ outcome_of s (grown h (commits e)) e
+outcome_stays grows s h e es = stays_by grows s h e.fate (class_of e.bytes) e.bytes e.moment es
+
+outcomes_stay : HistoriesGrow → (s : State) (h : History) (events : List Event) (es : List Entry) → map (outcome_of s (grown (committed h events) es)) events ≡ gives s h events
+outcomes_stay grows s h [] es = refl
+outcomes_stay grows s h (e ∷ events) es =
+    let g = grown h (commits e) in
+    let split : grown (committed h (e ∷ events)) es ≡ grown (grown g (commits_in events)) es = ap (λ x. grown x es) (grown-append h (commits e) (commits_in events)) in
+    let first : grown (grown g (commits_in events)) es ≡ grown g (commits_in events ++ es) = sym (grown-append g (commits_in events) es) in
+    ap (λ x. outcome_of s x e ∷ map (outcome_of s x) events) split
+    ∙ ap (λ x. outcome_of s x e ∷ map (outcome_of s (grown (grown g (commits_in events)) es)) events) first
+    ∙ ap (λ o. o ∷ map (outcome_of s (grown (grown g (commits_in events)) es)) events) (outcome_stays grows s h e (commits_in events ++ es))
+    ∙ ap (λ r. outcome_of s g e ∷ r) (outcomes_stay grows s g events es)
+
+outcomes_are : HistoriesGrow → (s : State) (h : History) (events : List Event) → map (outcome_of s (committed h events)) events ≡ gives s h events
+outcomes_are grows s h events = outcomes_stay grows s h events []
+
+gives-append : (s : State) (h : History) (xs ys : List Event) → gives s h (xs ++ ys) ≡ gives s h xs ++ gives s (committed h xs) ys
+gives-append s h [] ys = refl
+gives-append s h (x ∷ xs) ys =
+    ap (λ r. outcome_of s (grown h (commits x)) x ∷ r) (gives-append s (grown h (commits x)) xs ys)
+    ∙ ap (λ g. outcome_of s (grown h (commits x)) x ∷ (gives s (grown h (commits x)) xs ++ gives s g ys)) (sym (grown-append h (commits x) (commits_in xs)))
+
+pub outcomes-append : HistoriesGrow → (s : State) (h : History) (xs ys : List Event)
+    → map (outcome_of s (committed h (xs ++ ys))) (xs ++ ys) ≡ map (outcome_of s (committed h xs)) xs ++ map (outcome_of s (committed (committed h xs) ys)) ys
+outcomes-append grows s h xs ys = outcomes_are grows s h (xs ++ ys) ∙ gives-append s h xs ys ∙ ap (λ r. r ++ gives s (committed h xs) ys) (sym (outcomes_are grows s h xs))
+    ∙ ap (λ r. map (outcome_of s (committed h xs)) xs ++ r) (sym (outcomes_are grows s (committed h xs) ys))
+
+-- ---- settled ids
+
+unsettled_kept : (u : List ℕ) (class : Class) (bytes : List ℕ) (moment : Moment) → comes_again u class (message_id bytes) ≡ false → All (IsUnsettled u) (entry_if class (message_entry bytes moment))
+unsettled_kept u Silent bytes moment may = All-nil (IsUnsettled u)
+unsettled_kept u (Bare errno) bytes moment may = All-nil (IsUnsettled u)
+unsettled_kept u Kept bytes moment may = only_one (IsUnsettled u) (message_entry bytes moment) may
+
+unsettled_by : (u : List ℕ) (fate : Fate) (es : List Entry) → All (IsUnsettled u) es → All (IsUnsettled u) (commits_by fate es)
+unsettled_by u Answered es each = each
+unsettled_by u AnswerLost es each = each
+unsettled_by u DiedBeforeCommit es each = All-nil (IsUnsettled u)
+unsettled_by u DiedAfterCommit es each = each
+
+unsettled_one : (u : List ℕ) (e : Event) → MayCome u e.bytes → All (IsUnsettled u) (commits e)
+unsettled_one u e may = unsettled_by u e.fate (entry_if (class_of e.bytes) (message_entry e.bytes e.moment)) (unsettled_kept u (class_of e.bytes) e.bytes e.moment may)
+
+pub all_unsettled_too : (u t : List ℕ) (es : List Entry) → Includes u t → All (IsUnsettled u) es → All (IsUnsettled t) es
+all_unsettled_too u t es within each k d lt = unsettled_too u t _ within (each k d lt)
+
+-- no message that is committed has an id that was settled before
+pub none_again : (u : List ℕ) (es : List Event) → NoneAgain u es → All (IsUnsettled u) (commits_in es)
+none_again u [] none = All-nil (IsUnsettled u)
+none_again u (e ∷ es) none = All-append (IsUnsettled u) (commits e) (commits_in es) (unsettled_one u e none.0)
+    (all_unsettled_too (u ++ settles e) u (commits_in es) (includes_left u (settles e)) (none_again (u ++ settles e) es none.1))
+
+pub settled-append : (u : List ℕ) (xs ys : List Event) → settled_by u (xs ++ ys) ≡ settled_by (settled_by u xs) ys
+settled-append u [] ys = refl
+settled-append u (x ∷ xs) ys = settled-append (u ++ settles x) xs ys
+
+-- events, and then others
+pub again-parts : (u : List ℕ) (xs ys : List Event) → NoneAgain u (xs ++ ys) → NoneAgain u xs × NoneAgain (settled_by u xs) ys
+again-parts u [] ys none = (tt, none)
+again-parts u (x ∷ xs) ys none =
+    let more = again-parts (u ++ settles x) xs ys none.1 in
+    ((none.0, more.0), more.1)
+
+settled_still : (u : List ℕ) (es : List Event) → Includes (settled_by u es) u
+settled_still u [] i there = there
+settled_still u (e ∷ es) i there = settled_still (u ++ settles e) es i (includes_left u (settles e) i there)
+
+-- what is pending, and what is handed on, was settled
+pub includes_none : (u : List ℕ) → Includes u []
+includes_none u i there = absurd (cc there)
+
+pending_joined : (u p settled : List ℕ) (room : ℕ) → Includes u p → Includes (u ++ settled) (joined room p settled).pending
+pending_joined u p settled zero within = includes_right u settled
+pending_joined u p settled (suc room) within = includes_both (u ++ settled) p settled (λ i there. includes_left u settled i (within i there)) (includes_right u settled)
+
+pending_commit : (u settled : List ℕ) (l : Ledger) (cs : List Entry) → Includes u l.pending → Includes (u ++ settled) (after_commit cs l settled).pending
+pending_commit u settled l [] within = λ i there. includes_left u settled i (within i there)
+pending_commit u settled l (x ∷ cs) within = pending_joined u l.pending settled l.room within
+
+pending_crash : (u : List ℕ) (l : Ledger) (b : Bool) → Includes u l.pending → Includes u (crashed_if b l).pending
+pending_crash u l true within = includes_none u
+pending_crash u l false within = within
+
+pending_one : (u : List ℕ) (l : Ledger) (e : Event) → Includes u l.pending → Includes (u ++ settles e) (after_event l e).pending
+pending_one u l e within = pending_crash (u ++ settles e) (after_commit (commits e) l (settles e)) (dies e.fate) (pending_commit u (settles e) l (commits e) within)
+
+handed_room : (u p : List ℕ) (room : ℕ) → Includes u p → Includes u (handed_by room p)
+handed_room u p zero within = within
+handed_room u p (suc room) within = includes_none u
+
+handed_one : (u : List ℕ) (l : Ledger) (cs : List Entry) → Includes u l.pending → Includes u (handed_at cs l)
+handed_one u l [] within = includes_none u
+handed_one u l (x ∷ cs) within = handed_room u l.pending l.room within
+
+pub pending_settled : (u : List ℕ) (l : Ledger) (es : List Event) → Includes u l.pending → Includes (settled_by u es) (ledger_after l es).pending
+pending_settled u l [] within = within
+pending_settled u l (e ∷ es) within = pending_settled (u ++ settles e) (after_event l e) es (pending_one u l e within)
+
+pub handed_settled : (u : List ℕ) (l : Ledger) (es : List Event) → Includes u l.pending → Includes (settled_by u es) (handed_on l es)
+handed_settled u l [] within = includes_none u
+handed_settled u l (e ∷ es) within = includes_both (settled_by u (e ∷ es)) (handed_at (commits e) l) (handed_on (after_event l e) es)
+    (λ i there. settled_still u (e ∷ es) i (handed_one u l (commits e) within i there))
+    (handed_settled (u ++ settles e) (after_event l e) es (pending_one u l e within))
+
+pub settled_all : (u t : List ℕ) (l : Ledger) (es : List Event) → Includes u t → Includes u l.pending → Includes (settled_by u es) (t ++ handed_on l es)
+settled_all u t l es within pending = includes_both (settled_by u es) t (handed_on l es) (λ i there. settled_still u es i (within i there)) (handed_settled u l es pending)
+
+pub ledger-append : (l : Ledger) (xs ys : List Event) → ledger_after l (xs ++ ys) ≡ ledger_after (ledger_after l xs) ys
+ledger-append l [] ys = refl
+ledger-append l (x ∷ xs) ys = ledger-append (after_event l x) xs ys
+
+pub handed-append : (l : Ledger) (xs ys : List Event) → handed_on l (xs ++ ys) ≡ handed_on l xs ++ handed_on (ledger_after l xs) ys
+handed-append l [] ys = refl
+handed-append l (x ∷ xs) ys = ap (λ (r : List ℕ). handed_at (commits x) l ++ r) (handed-append (after_event l x) xs ys)
+    ∙ sym (append_assoc (handed_at (commits x) l) (handed_on (after_event l x) xs) (handed_on (ledger_after (after_event l x) xs) ys))
+
+-- what is settled came
+settles_came_by : (fate : Fate) (class : Class) (bytes : List ℕ) (moment : Moment) → Includes (ids_in (commits_by fate (entry_if class (message_entry bytes moment)))) (settles_if (is_taken fate) class (message_id bytes))
+settles_came_by Answered Silent bytes moment = includes_none []
+settles_came_by Answered (Bare errno) bytes moment = includes_none []
+settles_came_by Answered Kept bytes moment = λ i there. there
+settles_came_by AnswerLost class bytes moment = includes_none _
+settles_came_by DiedBeforeCommit class bytes moment = includes_none []
+settles_came_by DiedAfterCommit class bytes moment = includes_none _
+
+settled_came : (u : List ℕ) (es : List Event) → Includes (u ++ ids_in (commits_in es)) (settled_by u es)
+settled_came u [] = includes_left u []
+settled_came u (e ∷ es) =
+    let ids : ids_in (commits_in (e ∷ es)) ≡ ids_in (commits e) ++ ids_in (commits_in es) = map-append entry_id (commits e) (commits_in es) in
+    let whole = u ++ ids_in (commits_in (e ∷ es)) in
+    let here : Includes whole (ids_in (commits e)) = λ i there. includes_right u (ids_in (commits_in (e ∷ es))) i (ap (λ x. is_in x i) ids ∙ includes_left (ids_in (commits e)) (ids_in (commits_in es)) i there) in
+    let later : Includes whole (ids_in (commits_in es)) = λ i there. includes_right u (ids_in (commits_in (e ∷ es))) i (ap (λ x. is_in x i) ids ∙ includes_right (ids_in (commits e)) (ids_in (commits_in es)) i there) in
+    let first : Includes whole (u ++ settles e) = includes_both whole u (settles e) (includes_left u (ids_in (commits_in (e ∷ es)))) (λ i there. here i (settles_came_by e.fate (class_of e.bytes) e.bytes e.moment i there)) in
+    λ i there. includes_both whole (u ++ settles e) (ids_in (commits_in es)) first later i (settled_came (u ++ settles e) es i there)
+
+pub handed_came : (es : List Event) → Includes (ids_in (commits_in es)) (handed_on fresh es)
+handed_came es i there = settled_came [] es i (handed_settled [] fresh es (includes_none []) i there)

@@ -1,4 +1,13 @@
+pub mod Alone
+pub mod Gathered
+pub mod Outcomes
+pub mod Settled
+pub mod Groups
+pub mod Ledgers
 pub mod Driven
+pub mod Moves
+pub mod Stopping
+pub mod Endings
 pub mod Marks
 pub mod Pendings
 pub mod Lifetimes

@@ -1,1 +1,149 @@
--- What events do to a keeper, and what they are answered.
+-- What events do to a keeper, and what they are answered (own profile).
+use Rattle.std.specs.Prelude.{◌≡◌, ℕ, Bool, true, false, List, [], ◌∷◌, ◌++◌, map, take, Option, Some, None, Result, Ok, Err, IsSomeAnd, slice_get, All}
+use Rattle.std.specs.List.{flat_map}
+use Rattle.std.specs.Option.{option_map}
+use Rattle.fuse_wire.specs.Ids.{id_of}
+use Rattle.fuse_answer.specs.Wire.{wire}
+use Rattle.fuse_request.specs.declared.class.Class.{Class}
+use Rattle.fuse_request.specs.declared.class.Class.TheVariants.{Silent, Bare, Kept}
+use Rattle.fuse_request.specs.Classes.{class_of, is_zero}
+use Rattle.fuse_request.specs.Stream.{cut}
+use Rattle.fuse_tree.specs.State.{State}
+use Rattle.fuse_tree.specs.Rows.{Rows}
+use Rattle.fuse_store.specs.History.{Entry, History, grown, said}
+use Rattle.fuse_store.specs.Stands.{Records, StandsFor}
+use Rattle.fuse_session.specs.Worked.{unique_of, message_id, message_entry, entry_if}
+use Rattle.fuse_session.specs.Settling.{settles_if, MayCome}
+use Rattle.fuse_sim.specs.declared.event.Fate.{Fate}
+use Rattle.fuse_sim.specs.declared.event.Fate.TheVariants.{Answered, AnswerLost, DiedBeforeCommit, DiedAfterCommit}
+use Rattle.fuse_sim.specs.declared.event.Event.{Event}
+use Rattle.fuse_sim.specs.declared.event.Outcome.{Outcome}
+use Rattle.fuse_sim.specs.declared.event.DriveFault.{DriveFault}
+use Rattle.fuse_sim.specs.declared.event.DriveFault.TheVariants.{NotAMessage, ZeroUnique, Store, Memory}
+
+-- ---- what is committed
+
+-- the kept message of an event, unless the server dies before it commits
+abbrev pub commits_by : Fate → List Entry → List Entry
+commits_by Answered es = es
+commits_by AnswerLost es = es
+commits_by DiedBeforeCommit es = []
+commits_by DiedAfterCommit es = es
+
+abbrev pub commits : Event → List Entry
+commits e = commits_by e.fate (entry_if (class_of e.bytes) (message_entry e.bytes e.moment))
+
+abbrev pub commits_in : List Event → List Entry
+commits_in events = flat_map commits events
+
+-- the history with each of them added, unless its id is there
+abbrev pub committed : History → List Event → History
+committed h events = grown h (commits_in events)
+
+-- ---- what is answered
+
+-- the answer to a message of this class and unique: none, the header with an error, or what was said of the id
+abbrev pub answer_in : State → History → Class → ℕ → Option (List ℕ)
+answer_in s h Silent unique = None
+answer_in s h (Bare errno) unique = Some (wire errno.0 [] unique)
+answer_in s h Kept unique = option_map (λ a. wire a.errno a.body unique) (said s h (id_of unique))
+
+-- whether the kernel takes the answer
+abbrev pub is_taken : Fate → Bool
+is_taken Answered = true
+is_taken AnswerLost = false
+is_taken DiedBeforeCommit = false
+is_taken DiedAfterCommit = false
+
+abbrev pub where_taken : Bool → Option (List ℕ) → Option (List ℕ)
+where_taken true answer = answer
+where_taken false answer = None
+
+abbrev pub outcome_of : State → History → Event → Option (List ℕ)
+outcome_of s h e = where_taken (is_taken e.fate) (answer_in s h (class_of e.bytes) (unique_of e.bytes))
+
+-- the bytes of an outcome: the head, then the body
+abbrev pub given : Option Outcome → Option (List ℕ)
+given o = option_map (λ x. x.head ++ x.body) o
+
+-- ---- what is settled
+
+-- the id of a kept message whose answer is taken
+abbrev pub settles : Event → List ℕ
+settles e = settles_if (is_taken e.fate) (class_of e.bytes) (message_id e.bytes)
+
+-- the ids that were settled before, and those that events settle
+abbrev pub settled_by : List ℕ → List Event → List ℕ
+settled_by t [] = t
+settled_by t (e ∷ es) = settled_by (t ++ settles e) es
+
+-- no kept message has an id that was settled before, or by an earlier event
+abbrev pub NoneAgain : List ℕ → List Event → Type 0
+NoneAgain t [] = Unit {0}
+NoneAgain t (e ∷ es) = MayCome t e.bytes × NoneAgain (t ++ settles e) es
+
+-- ---- the keeper that is driven
+
+-- what the keeper holds, if there is one
+abbrev pub HoldsIn : {K : Type 0} → (K → Rows → Records → Type 0) → Option K → Rows → Records → Type 0
+HoldsIn holds None = λ rows records. ⊥
+HoldsIn holds (Some k) = holds k
+
+abbrev pub StandsIn : {K : Type 0} → (K → Rows → Records → Type 0) → Option K → State → History → List ℕ → Type 0
+StandsIn holds keeper = StandsFor (HoldsIn holds keeper)
+
+-- ---- faults
+
+-- an event that can be run: its bytes are just one message, which can be answered
+pub record IsFit (e : Event) : Type 0 where
+  pub message : cut e.bytes ≡ (e.bytes ∷ [], [])
+  pub named : is_zero e.bytes ≡ false
+
+-- the event that a fault names, and those before it
+abbrev pub event_of : DriveFault → ℕ
+event_of (NotAMessage n) = n
+event_of (ZeroUnique n) = n
+event_of (Store n fault) = n
+event_of (Memory n) = n
+
+abbrev pub before : DriveFault → List Event → List Event
+before fault events = take (event_of fault) events
+
+-- what a fault says of the event that it names
+abbrev pub CausedBy : DriveFault → Event → Type 0
+CausedBy (NotAMessage n) e = ¬ (cut e.bytes ≡ (e.bytes ∷ [], []))
+CausedBy (ZeroUnique n) e = (cut e.bytes ≡ (e.bytes ∷ [], [])) × (is_zero e.bytes ≡ true)
+CausedBy (Store n fault) e = IsFit e
+CausedBy (Memory n) e = IsFit e
+
+-- it is the first that can't be run, where it can't
+pub record Names (fault : DriveFault) (events : List Event) : Type 0 where
+  pub named : IsSomeAnd (slice_get events (event_of fault)) (CausedBy fault)
+  pub earlier : All IsFit (before fault events)
+
+-- the server dies, and starts again
+abbrev pub dies : Fate → Bool
+dies Answered = false
+dies AnswerLost = false
+dies DiedBeforeCommit = true
+dies DiedAfterCommit = true
+
+-- a fault by which a restart left no keeper: that of an event where the server died
+abbrev pub OfRestart : List Event → DriveFault → Type 0
+OfRestart events (NotAMessage n) = ⊥
+OfRestart events (ZeroUnique n) = ⊥
+OfRestart events (Store n fault) = IsSomeAnd (slice_get events n) (λ e. dies e.fate ≡ true)
+OfRestart events (Memory n) = ⊥
+
+-- whether the store answered a fault
+abbrev pub is_store : DriveFault → Bool
+is_store (NotAMessage n) = false
+is_store (ZeroUnique n) = false
+is_store (Store n fault) = true
+is_store (Memory n) = false
+
+-- a keeper that is left stands for the events before the fault: where the store answered it, if the store is clean,
+-- and else if it gave back what was written
+abbrev pub LeftBy : {K : Type 0} → (K → Type 0) → (K → Type 0) → Bool → Option K → Type 0 → Type 0
+LeftBy honest clean true keeper P = IsSomeAnd keeper clean → P
+LeftBy honest clean false keeper P = IsSomeAnd keeper honest → P

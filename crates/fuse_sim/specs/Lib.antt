@@ -1,3 +1,5 @@
 pub mod Driving
+pub mod HandedOn
+pub mod Running
 pub mod Pending
 pub mod Lives

@@ -1,1 +1,61 @@
-// Events run over a keeper, in groups.
+// Running events to their end.
+ghost use Rattle.std.specs.Prelude.{◌≡◌, ◌++◌, ℕ, List, [], false, length, map, IsSomeAnd, IfSome, None, All, IfOk, IfErr, OnOk};
+ghost use Rattle.fuse_tree.specs.State.{State};
+ghost use Rattle.fuse_tree.specs.Rows.{Rows};
+ghost use Rattle.fuse_store.specs.History.{History};
+ghost use Rattle.fuse_store.specs.Stands.{Records};
+ghost use Rattle.fuse_sim.specs.Driving.{HoldsIn, StandsIn, committed, outcome_of, given, settled_by, NoneAgain, IsFit, Names, before, is_store, LeftBy, OfRestart};
+ghost use Rattle.fuse_sim.specs.HandedOn.{fresh, handed_on, RecordsLeft};
+
+use crate::event::{DriveFault, Event, Outcome};
+use crate::running::run_next;
+use fuse_store::{Restart, histories_grow};
+use std::alloc::Global;
+
+/// Runs events over a keeper, in groups, and answers what the kernel takes for each of them.
+///
+/// A group is a run of events with up to 16 kept messages, of which the last may be one after which the server dies.
+/// Room for its outcomes is made before it is performed. The keeper is opened again wherever the server dies. A fault
+/// leaves the keeper as the events before the one that it names left it; the fault of an opening leaves none.
+pub fn drive<K: Restart>(
+    alloc: Global,
+    keeper: &mut Option<K>,
+    events: &[Event],
+) -> Result<Vec<Option<Outcome>>, DriveFault>
+    requires going { IsSomeAnd keeper.old (λ k. K.has_failed k ≡ false) }
+
+    // What stood stands with the requests that were committed, each once, in the order of their first commit.
+    ensures tree_stands { OnOk result (IsSomeAnd keeper.new K.is_honest → (s : State) (h : History) (t : List ℕ) → StandsIn K.holds keeper.old s h t → NoneAgain t events.now
+        → StandsIn K.holds keeper.new s (committed h events.now) (settled_by t events.now)) }
+
+    // Each answer, that to a resend too, is what was said there of its id.
+    ensures outcomes { IfOk result (λ outcomes. IsSomeAnd keeper.new K.is_honest → (s : State) (h : History) (t : List ℕ) → StandsIn K.holds keeper.old s h t → NoneAgain t events.now
+        → map given outcomes.items ≡ map (outcome_of s (committed h events.now)) events.now) }
+
+    // Why it faults, and that it doesn't where each event can be run: `fault_causes`.
+    ensures fit { OnOk result (All IsFit events.now) }
+    ensures names { IfErr result (λ fault. Names fault events.now) }
+
+    ensures after_fault { IfErr result (λ fault. (s : State) (h : History) (t : List ℕ) → StandsIn K.holds keeper.old s h t → NoneAgain t (before fault events.now)
+        → LeftBy K.is_honest K.is_clean (is_store fault) keeper.new (StandsIn K.holds keeper.new s (committed h (before fault events.now)) (settled_by t (before fault events.now)))) }
+    ensures emptied { IfErr result (λ fault. keeper.new ≡ None → OfRestart events.now fault) }
+
+    // A keeper that is left has failed exactly where the store answered the fault.
+    ensures going { OnOk result (IsSomeAnd keeper.new (λ k. K.has_failed k ≡ false)) }
+    ensures failed { IfErr result (λ fault. IfSome keeper.new (λ k. K.has_failed k ≡ is_store fault)) }
+
+    // Which records are gone, and which stay, whatever they are.
+    ensures records { OnOk result (IsSomeAnd keeper.new K.is_honest → NoneAgain [] events.now → (rows : Rows) (records : Records) → HoldsIn K.holds keeper.old rows records
+        → (rows' : Rows) × (records' : Records) × HoldsIn K.holds keeper.new rows' records' × RecordsLeft events.now records records') }
+    ensures kept { OnOk result (IsSomeAnd keeper.new K.is_honest → (s : State) (h : History) (t : List ℕ) → StandsIn K.holds keeper.old s h t → NoneAgain t events.now
+        → StandsIn K.holds keeper.new s (committed h events.now) (t ++ handed_on fresh events.now)) }
+{
+    histories_grow();
+    let mut outcomes = Vec::new(alloc);
+    let mut pending = Vec::new(alloc);
+    let mut at = 0;
+    while at < events.len() {
+        at += run_next(alloc, keeper, events, at, &mut pending, &mut outcomes)?;
+    }
+    Ok(outcomes)
+}

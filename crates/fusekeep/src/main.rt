@@ -8,7 +8,10 @@ mod dump;
 mod ending;
 mod messages;
 mod printing;
+mod reading;
 mod replay;
+mod script;
+mod simulate;
 #[cfg(test)]
 mod tests;
 

@@ -92,7 +92,8 @@ pub fn hex(alloc: Global, text: &str) -> Result<Vec<u8>, AllocError> {
     Ok(out)
 }
 
-fn put_header(
+/// The header of a message of this length.
+pub fn put_header(
     out: &mut Vec<u8>,
     len: u32,
     opcode: u32,

@@ -1,0 +1,287 @@
+-- Events that were run, group after group.
+use Rattle.std.proofs.Common.{◌≡◌, ◌⊎◌, inl, inr, ⊎_elim, ℕ, zero, suc, ◌+◌, ◌-◌, ◌≤◌, ◌<◌, Bool, true, false, ◌||◌, ◌==◌, if◌then◌else◌, List, [], ◌∷◌, ◌++◌, length, map, take, drop, get_or, All, Option, Some, None, refl, sym, ap, subst, ◌∙◌, append_assoc, drop-cons, arith}
+use Rattle.std.proofs.lemmas.List.{append-nil, map-append, length-map}
+use Rattle.std.proofs.lemmas.List.Elements.{All-nil, All-cons}
+use Rattle.fuse_wire.specs.declared.moment.Moment.{Moment}
+use Rattle.fuse_wire.specs.declared.id.Id.{Id}
+use Rattle.fuse_answer.specs.Said.{Said}
+use Rattle.fuse_request.specs.declared.request.Request.{Request}
+use Rattle.fuse_request.specs.Classes.{class_of}
+use Rattle.fuse_tree.specs.State.{State}
+use Rattle.fuse_tree.specs.Rows.{Rows}
+use Rattle.fuse_store.specs.History.{Entry, entry_id, History, HistoriesGrow, grown, is_in, ids_in, Includes, IsUnsettled}
+use Rattle.fuse_store.specs.Stands.{Records, StandsFor, KeepsHeld, OthersStay}
+use Rattle.fuse_store.specs.Group.{entry_of, entries_of, ids_of}
+use Rattle.fuse_session.specs.Worked.{entry_if, message_entry, unique_of}
+use Rattle.fuse_sim.specs.declared.event.Fate.{Fate}
+use Rattle.fuse_sim.specs.declared.event.Fate.TheVariants.{Answered, AnswerLost, DiedBeforeCommit, DiedAfterCommit}
+use Rattle.fuse_sim.specs.declared.event.Event.{Event}
+use Rattle.fuse_sim.specs.declared.event.Outcome.{Outcome}
+use Rattle.fuse_sim.specs.Driving.{commits, commits_by, commits_in, committed, outcome_of, given, is_taken, where_taken, answer_in, settles, settled_by, NoneAgain, IsFit, dies}
+use Rattle.fuse_sim.specs.HandedOn.{Ledger, fresh, after_commit, crashed_if, handed_at, handed_on, ledger_after}
+use Rattle.fuse_sim.specs.Running.{dies_before, IsRun, StartsNone, Begins, Gathers, NoneLost, handed_to, left_pending, settles_in, RecordsRan, Ran, MayBegin, Moved, Worked}
+use Rattle.fuse_sim.proofs.Gathered.{commits-append, only_one}
+use Rattle.fuse_sim.proofs.Settled.{is_in-append, tested, includes_both, in_either, unsettled_too, stands_kept}
+use Rattle.fuse_sim.proofs.Ledgers.{RunLedger, run_begins, few_pending}
+use Rattle.fuse_sim.proofs.Driven.{committed-append, outcomes-append, all_unsettled_too, none_again, again-parts, pending_settled, handed_settled, settled_all, ledger-append, handed-append}
+
+-- ---- records
+
+or_none : {A : Type 0} (a b : Bool) (o : Option A) → (if b then None else (if a then None else o)) ≡ (if a || b then None else o)
+or_none true true o = refl
+or_none true false o = refl
+or_none false true o = refl
+or_none false false o = refl
+
+or_false : (a b : Bool) → (a || b) ≡ false → (a ≡ false) × (b ≡ false)
+or_false true b is = absurd (cc is)
+or_false false b is = (refl, is)
+
+none_if : {A : Type 0} (b : Bool) (o : Option A) → o ≡ None → (if b then None else o) ≡ None
+none_if true o is = refl
+none_if false o is = is
+
+ids-append : (xs ys : List Entry) → ids_in (xs ++ ys) ≡ ids_in xs ++ ids_in ys
+ids-append xs ys = map-append entry_id xs ys
+
+-- an id that is settled isn't among those that come
+not_same : (t : List ℕ) (x i : ℕ) → is_in t x ≡ false → is_in t i ≡ true → (x == i) ≡ true → ⊥
+not_same t x i isnt there same =
+    let e : x ≡ i = grind (arith, same) in
+    let both = sym isnt ∙ ap (is_in t) e ∙ there in
+    absurd (cc both)
+
+not_among : (t : List ℕ) (es : List Entry) (i : ℕ) → All (IsUnsettled t) es → is_in t i ≡ true → is_in (ids_in es) i ≡ false
+not_among t [] i each there = refl
+not_among t (e ∷ es) i each there = elim (tested (entry_id e == i)) [
+  | inl same ↦ absurd (not_same t (entry_id e) i (each 0 e (omega arith)) there same)
+  | inr other ↦ ap (λ b. if b then true else is_in (ids_in es) i) other ∙ not_among t es i (λ k d lt. each (suc k) d (omega (arith, lt))) there
+]
+
+records_more : (l : Ledger) (es es' : List Event) (r r' r'' : Records) → RecordsRan l es r r' → RecordsRan (ledger_after l es) es' r' r'' → RecordsRan l (es ++ es') r r''
+records_more l es es' r r' r'' one two =
+    let l' = ledger_after l es in
+    let ids : ids_in (commits_in (es ++ es')) ≡ ids_in (commits_in es) ++ ids_in (commits_in es') = ap ids_in (commits-append es es') ∙ ids-append (commits_in es) (commits_in es') in
+    record {
+      others = λ i isnt.
+          let both = or_false (is_in (ids_in (commits_in es)) i) (is_in (ids_in (commits_in es')) i) (sym (ap (λ x. is_in x i) ids ∙ is_in-append (ids_in (commits_in es)) (ids_in (commits_in es')) i) ∙ isnt) in
+          two.others i both.1 ∙ ap (λ (o : Option Said). if is_in (handed_on l' es') i then None else o) (one.others i both.0)
+          ∙ or_none (is_in (handed_on l es) i) (is_in (handed_on l' es') i) (r i)
+          ∙ ap (λ b. if b then None else r i) (sym (ap (λ x. is_in x i) (handed-append l es es') ∙ is_in-append (handed_on l es) (handed_on l' es') i));
+      gone = λ u within none i there.
+          let parts = again-parts u es es' none in
+          let u' = settled_by u es in
+          elim (in_either (handed_on l es) (handed_on l' es') i (sym (ap (λ x. is_in x i) (handed-append l es es')) ∙ there)) [
+            | inl before ↦
+                two.others i (not_among u' (commits_in es') i (none_again u' es' parts.1) (handed_settled u l es within i before))
+                ∙ none_if (is_in (handed_on l' es') i) (r' i) (one.gone u within parts.0 i before)
+            | inr later ↦ two.gone u' (pending_settled u l es within) parts.1 i later
+          ];
+    }
+
+-- ---- events, and then others
+
+pub ran_more : HistoriesGrow → (holds mid holds' : Rows → Records → Type 0) (honest honest' : Type 0) (l : Ledger) (es es' : List Event) (old new new' : List (Option Outcome)) → (honest' → honest)
+    → Ran holds mid honest l es old new → Ran mid holds' honest' (ledger_after l es) es' new new' → Ran holds holds' honest' l (es ++ es') old new'
+ran_more grows holds mid holds' honest honest' l es es' old new new' was one two = record {
+  added = one.added ++ two.added;
+  items = two.items ∙ ap (λ x. x ++ two.added) one.items ∙ append_assoc old one.added two.added;
+  stands = λ is s h t u so within pending none.
+      let parts = again-parts u es es' none in
+      let first = one.stands (was is) s h t u so within pending parts.0 in
+      let second = two.stands is s (committed h es) (t ++ handed_on l es) (settled_by u es) first (settled_all u t l es within pending) (pending_settled u l es pending) parts.1 in
+      subst (λ g. StandsFor holds' s g (t ++ handed_on l (es ++ es'))) (sym (committed-append h es es'))
+      (subst (StandsFor holds' s (committed (committed h es) es')) (append_assoc t (handed_on l es) (handed_on (ledger_after l es) es') ∙ ap (λ (x : List ℕ). t ++ x) (sym (handed-append l es es'))) second);
+  outcomes = λ is s h t u so within pending none.
+      let parts = again-parts u es es' none in
+      let first = one.stands (was is) s h t u so within pending parts.0 in
+      map-append given one.added two.added
+      ∙ ap (λ x. x ++ map given two.added) (one.outcomes (was is) s h t u so within pending parts.0)
+      ∙ ap (λ x. map (outcome_of s (committed h es)) es ++ x) (two.outcomes is s (committed h es) (t ++ handed_on l es) (settled_by u es) first (settled_all u t l es within pending) (pending_settled u l es pending) parts.1)
+      ∙ sym (outcomes-append grows s h es es');
+  records = λ is rows records held.
+      let first = one.records (was is) rows records held in
+      let second = two.records is first.0 first.1 first.2 in
+      (second.0, second.1, second.2, records_more l es es' records first.1 second.1 first.3 second.3);
+}
+
+pub ran_none : (holds : Rows → Records → Type 0) (honest : Type 0) (l : Ledger) (old new : List (Option Outcome)) → new ≡ old → Ran holds holds honest l [] old new
+ran_none holds honest l old new is = record {
+  added = [];
+  items = is ∙ sym (append-nil old);
+  stands = λ _ s h t u so _ _ _. subst (StandsFor holds s h) (sym (append-nil t)) so;
+  outcomes = λ _ s h t u so _ _ _. refl;
+  records = λ _ rows records held. (rows, records, held, record { others = λ i _. refl; gone = λ u _ _ i there. absurd (cc there) });
+}
+
+-- ---- a group
+
+handed_within : (u p : List ℕ) (es : List Entry) → Includes u p → Includes u (handed_to es p)
+handed_within u p [] within = λ i there. absurd (cc there)
+handed_within u p (e ∷ es) within = within
+
+calm_goes : (fate : Fate) → dies fate ≡ false → dies_before fate ≡ false
+calm_goes Answered is = refl
+calm_goes AnswerLost is = refl
+calm_goes DiedBeforeCommit is = absurd (cc is)
+calm_goes DiedAfterCommit is = refl
+
+goes : Event → Type 0
+goes e = dies_before e.fate ≡ false
+
+pub none_lost : (died : Bool) (run : List Event) → IsRun died run → NoneLost run
+unfolding goes
+none_lost died [] so = All-nil goes
+none_lost died (e ∷ run) so = elim so [
+  | inl more ↦ All-cons goes e run (calm_goes e.fate more.0) (none_lost died run more.1)
+  | inr last ↦ All-cons goes e run (ap dies_before last.1) (subst NoneLost (sym last.2) (All-nil goes))
+]
+
+pub group_ran : (holds mid holds' : Rows → Records → Type 0) (honest honest' : Type 0) (died : Bool) (run : List Event) (p p' : List ℕ) (old new : List (Option Outcome))
+    → RunLedger died (record { room = 0; pending = p }) run (handed_to (commits_in run) p) (left_pending (commits_in run) p ++ settles_in run) 16
+    → Worked holds mid honest run p p' old new → (honest' → KeepsHeld mid holds') → (honest' → honest)
+    → Ran holds holds' honest' (record { room = 0; pending = p }) run old new
+group_ran holds mid holds' honest honest' died run p p' old new ledger worked keeps was =
+    let l : Ledger = record { room = 0; pending = p } in
+    let cs = commits_in run in
+    let fresh_ids = λ (t u : List ℕ) (within : Includes u t) (pending : Includes u p) (none : NoneAgain u run).
+    all_unsettled_too u (t ++ handed_to cs p) cs (includes_both u t (handed_to cs p) within (handed_within u p cs pending)) (none_again u run none) in
+    record {
+      added = worked.added;
+      items = worked.items;
+      stands = λ is s h t u so within pending none.
+          subst (λ (x : List ℕ). StandsFor holds' s (committed h run) (t ++ x)) (sym ledger.handed_is)
+          (stands_kept mid holds' s (committed h run) (t ++ handed_to cs p) (keeps is) (worked.stands (was is) s h t so (fresh_ids t u within pending none)));
+      outcomes = λ is s h t u so within pending none. worked.outcomes (was is) s h t so (fresh_ids t u within pending none);
+      records = λ is rows records held.
+          let done = worked.records (was is) rows records held in (
+            done.0,
+            done.1,
+            keeps is done.0 done.1 done.2,
+            record {
+              others = λ i isnt. done.3 i isnt ∙ ap (λ x. if is_in x i then None else records i) (sym ledger.handed_is);
+              gone = λ u within none i there.
+                  let handed = sym (ap (λ x. is_in x i) ledger.handed_is) ∙ there in
+                  done.3 i (not_among u cs i (none_again u run none) (handed_within u p cs within i handed)) ∙ ap (λ b. if b then None else records i) handed;
+            },
+          );
+    }
+
+-- ---- an event that is lost
+
+commits_lost : (e : Event) → e.fate ≡ DiedBeforeCommit → commits e ≡ []
+commits_lost e is = ap (λ f. commits_by f (entry_if (class_of e.bytes) (message_entry e.bytes e.moment))) is
+
+pub lost_ran : (holds holds' : Rows → Records → Type 0) (honest' : Type 0) (l : Ledger) (e : Event) (old new : List (Option Outcome)) → e.fate ≡ DiedBeforeCommit → new ≡ old ++ None ∷ [] → (honest' → KeepsHeld holds holds')
+    → Ran holds holds' honest' l (e ∷ []) old new
+lost_ran holds holds' honest' l e old new lost pushed keeps =
+    let none : commits_in (e ∷ []) ≡ [] = ap (λ (cs : List Entry). cs ++ []) (commits_lost e lost) in
+    let unhanded : handed_on l (e ∷ []) ≡ [] = ap (λ cs. handed_at cs l ++ []) (commits_lost e lost) in
+    record {
+      added = None ∷ [];
+      items = pushed;
+      stands = λ is s h t u so within pending again.
+          subst (λ (x : List ℕ). StandsFor holds' s (committed h (e ∷ [])) (t ++ x)) (sym unhanded)
+          (subst (StandsFor holds' s (committed h (e ∷ []))) (sym (append-nil t))
+          (subst (λ g. StandsFor holds' s g t) (ap (grown h) (sym none)) (stands_kept holds holds' s h t (keeps is) so)));
+      outcomes = λ is s h t u so within pending again. ap (λ f. where_taken (is_taken f) (answer_in s (committed h (e ∷ [])) (class_of e.bytes) (unique_of e.bytes)) ∷ []) (sym lost);
+      records = λ is rows records held. (
+        rows,
+        records,
+        keeps is rows records held,
+        record {
+          others = λ i _. ap (λ x. if is_in x i then None else records i) (sym unhanded);
+          gone = λ u _ _ i there. absurd (let no_way = sym (ap (λ x. is_in x i) unhanded) ∙ there in cc no_way);
+        },
+      );
+    }
+
+-- ---- what is said of it
+
+may_begin : (died : Bool) (l : Ledger) (run others : List Event) (handed pending : List ℕ) → RunLedger died l run handed pending 16
+    → (died ≡ false → (length (commits_in run) ≡ 16) ⊎ StartsNone others) → MayBegin (ledger_after l run) others
+may_begin true l run others handed pending ledger stops = inl (ledger.crashed refl)
+may_begin false l run others handed pending ledger stops = elim (stops refl) [
+  | inl all ↦ inl (ledger.full refl all)
+  | inr ends ↦ inr ends
+]
+
+stops_at : (run others : List Event) (taken : List (Request × Moment)) (died : Bool) → entries_of taken ≡ commits_in run → (died ≡ false → (length taken ≡ 16) ⊎ StartsNone others)
+    → died ≡ false → (length (commits_in run) ≡ 16) ⊎ StartsNone others
+stops_at run others taken died entries stops alive = elim (stops alive) [
+  | inl all ↦ inl (sym (ap length entries) ∙ length-map taken entry_of ∙ all)
+  | inr ends ↦ inr ends
+]
+
+pub few_taken : (run : List Event) (taken : List (Request × Moment)) (n : ℕ) → entries_of taken ≡ commits_in run → length taken ≤ n → length (commits_in run) ≤ n
+few_taken run taken n entries few = omega (arith, few, ap length entries, length-map taken entry_of)
+
+pub group_moved : (holds mid holds' : Rows → Records → Type 0) (honest honest' : Type 0) (died : Bool) (run slice others : List Event) (taken : List (Request × Moment)) (p p_mid p' : List ℕ) (old new : List (Option Outcome))
+    → Gathers run taken died → slice ≡ run → length taken ≤ 16 → (died ≡ false → (length taken ≡ 16) ⊎ StartsNone others)
+    → Worked holds mid honest slice p p_mid old new → (honest' → KeepsHeld mid holds') → (honest' → honest) → p' ≡ (if died then [] else p_mid)
+    → Moved holds holds' honest' (record { room = 0; pending = p }) run others p' old new
+group_moved holds mid holds' honest honest' died run slice others taken p p_mid p' old new gathers same few stops all keeps was left =
+    let worked = subst (λ x. Worked holds mid honest x p p_mid old new) same all in
+    let ledger = run_begins died run p gathers.goes (few_taken run taken 16 gathers.entries few) in
+    record {
+      fit = gathers.fit;
+      ran = group_ran holds mid holds' honest honest' died run p p_mid old new ledger worked keeps was;
+      pending = left ∙ ap (λ (x : List ℕ). if died then [] else x) worked.handed ∙ sym ledger.pending_is;
+      begin = may_begin died (record { room = 0; pending = p }) run others _ _ ledger (stops_at run others taken died gathers.entries stops);
+    }
+
+pub ids_left : (died : Bool) (pending' pending : List Id) → pending' ≡ (if died then [] else pending) → ids_of pending' ≡ (if died then [] else ids_of pending)
+ids_left true pending' pending is = ap ids_of is
+ids_left false pending' pending is = ap ids_of is
+
+few_if : (died : Bool) (pending' pending : List Id) (n : ℕ) → pending' ≡ (if died then [] else pending) → length pending ≤ n → length pending' ≤ n
+few_if true pending' pending n is few = omega (arith, ap length is)
+few_if false pending' pending n is few = omega (arith, ap length is, few)
+
+-- no more than 16 are pending
+pub few_left : (died : Bool) (run : List Event) (old pending pending' : List Id) (n : ℕ) → pending' ≡ (if died then [] else pending) → ids_of pending ≡ left_pending (commits_in run) (ids_of old) ++ settles_in run
+    → length old ≤ n → length (commits_in run) ≤ n → length pending' ≤ n
+few_left died run old pending pending' n left handed few many = few_if died pending' pending n left
+    (omega (arith, ap length handed, length-map pending (λ (id : Id). id.0), few_pending run (ids_of old) n (omega (arith, few, length-map old (λ (id : Id). id.0))) many))
+
+-- ---- what comes next
+
+begins_not : (es : List Event) → Begins es → StartsNone es → ⊥
+begins_not [] begins none = absurd begins
+begins_not (e ∷ es) begins none = elim none [
+  | inl lost ↦ absurd (let goes_on = begins.1 in cc (lost, goes_on))
+  | inr unfit ↦ unfit begins.0
+]
+
+begins_with : (l : Ledger) (p : List ℕ) (others : List Event) → l.pending ≡ p → MayBegin l others → Begins others → record { room = 0; pending = p } ≡ l
+begins_with l p others same may begins =
+    let room : l.room ≡ 0 = elim may [ inl none ↦ none | inr ends ↦ absurd (begins_not others begins ends) ] in
+    ap (λ (q : List ℕ). record { room = 0; pending = q }) (sym same) ∙ ap (λ (n : ℕ). record { room = n; pending = l.pending }) (sym room)
+
+pub begins_at : (events : List Event) (at : ℕ) (e : Event) → at < length events → e ≡ get_or events at e → IsFit e → dies_before e.fate ≡ false → Begins (drop at events)
+begins_at events at e lt is fit goes_on = subst Begins (sym (drop-cons events at e lt)) (subst (λ (x : Event). IsFit x × (dies_before x.fate ≡ false)) is (fit, goes_on))
+
+pub next_moved : (holds holds' : Rows → Records → Type 0) (honest' : Type 0) (p p' : List ℕ) (run others rest : List Event) (old new : List (Option Outcome)) → Begins others
+    → Moved holds holds' honest' (record { room = 0; pending = p }) run rest p' old new → (l : Ledger) → l.pending ≡ p → MayBegin l others → Moved holds holds' honest' l run rest p' old new
+next_moved holds holds' honest' p p' run others rest old new begins moved l same may =
+    subst (λ x. Moved holds holds' honest' x run rest p' old new) (begins_with l p others same may begins) moved
+
+is_lost : (fate : Fate) → dies_before fate ≡ true → fate ≡ DiedBeforeCommit
+is_lost Answered is = absurd (cc is)
+is_lost AnswerLost is = absurd (cc is)
+is_lost DiedBeforeCommit is = refl
+is_lost DiedAfterCommit is = absurd (cc is)
+
+pub lost_moved : (holds holds' : Rows → Records → Type 0) (honest' : Type 0) (l : Ledger) (events rest : List Event) (at : ℕ) (e : Event) (p' : List ℕ) (old new : List (Option Outcome))
+    → at < length events → e ≡ get_or events at e → IsFit e → dies_before e.fate ≡ true → new ≡ old ++ None ∷ [] → p' ≡ [] → (honest' → KeepsHeld holds holds')
+    → Moved holds holds' honest' l (take 1 (drop at events)) rest p' old new
+lost_moved holds holds' honest' l events rest at e p' old new lt is fit before pushed none keeps =
+    let lost = is_lost e.fate before in
+    let one : e ∷ [] ≡ take 1 (drop at events) = ap (λ (x : Event). x ∷ []) is ∙ ap (take 1) (sym (drop-cons events at e lt)) in
+    let crashed : ledger_after l (e ∷ []) ≡ fresh = ap (λ f. crashed_if (dies f) (after_commit (commits e) l (settles e))) lost in
+    subst (λ run. Moved holds holds' honest' l run rest p' old new) one (record {
+      fit = only_one IsFit e fit;
+      ran = lost_ran holds holds' honest' l e old new lost pushed keeps;
+      pending = none ∙ ap (λ (x : Ledger). x.pending) (sym crashed);
+      begin = inl (ap (λ (x : Ledger). x.room) crashed);
+    })

@@ -1,0 +1,75 @@
+-- Which ids are settled, handed on, and left.
+use Rattle.std.proofs.Common.{◌≡◌, ◌⊎◌, inl, inr, ℕ, zero, suc, ◌+◌, ◌-◌, ◌≤◌, ◌<◌, Bool, true, false, ◌||◌, ◌==◌, if◌then◌else◌, List, [], ◌∷◌, ◌++◌, length, All, None, refl, sym, ap, subst, ◌∙◌, append_assoc, arith}
+use Rattle.std.proofs.lemmas.List.{append-nil}
+use Rattle.fuse_wire.specs.declared.moment.Moment.{Moment}
+use Rattle.fuse_request.specs.declared.request.Request.{Request}
+use Rattle.fuse_tree.specs.State.{State}
+use Rattle.fuse_tree.specs.Rows.{Rows}
+use Rattle.fuse_store.specs.History.{History, is_in, Includes}
+use Rattle.fuse_store.specs.Stands.{Records, Stands, StandsFor, KeepsHeld}
+use Rattle.fuse_store.specs.Group.{entries_of}
+use Rattle.fuse_sim.specs.Running.{handed_to, left_pending}
+
+-- ---- ids
+
+pub tested : (b : Bool) → (b ≡ true) ⊎ (b ≡ false)
+tested true = inl refl
+tested false = inr refl
+
+or_true : (a b : Bool) → b ≡ true → (a || b) ≡ true
+or_true true b is = refl
+or_true false b is = is
+
+or_left : (a b : Bool) → a ≡ true → (a || b) ≡ true
+or_left true b is = refl
+or_left false b is = absurd (cc is)
+
+either : (a b : Bool) → (a || b) ≡ true → (a ≡ true) ⊎ (b ≡ true)
+either true b is = inl refl
+either false b is = inr is
+
+pub is_in-append : (xs ys : List ℕ) (i : ℕ) → is_in (xs ++ ys) i ≡ (is_in xs i || is_in ys i)
+is_in-append [] ys i = refl
+is_in-append (x ∷ xs) ys i = elim (x == i) as (λ b. (if b then true else is_in (xs ++ ys) i) ≡ ((if b then true else is_in xs i) || is_in ys i)) [ true ↦ refl | false ↦ is_in-append xs ys i ]
+
+pub includes_left : (t more : List ℕ) → Includes (t ++ more) t
+includes_left t more i there = is_in-append t more i ∙ or_left (is_in t i) (is_in more i) there
+
+pub includes_right : (t more : List ℕ) → Includes (t ++ more) more
+includes_right t more i there = is_in-append t more i ∙ or_true (is_in t i) (is_in more i) there
+
+pub in_either : (xs ys : List ℕ) (i : ℕ) → is_in (xs ++ ys) i ≡ true → (is_in xs i ≡ true) ⊎ (is_in ys i ≡ true)
+in_either xs ys i there = either (is_in xs i) (is_in ys i) (sym (is_in-append xs ys i) ∙ there)
+
+pub includes_both : (all xs ys : List ℕ) → Includes all xs → Includes all ys → Includes all (xs ++ ys)
+includes_both all xs ys one two i there = elim (in_either xs ys i there) [ inl left ↦ one i left | inr right ↦ two i right ]
+
+pub unsettled_too : (all some : List ℕ) (i : ℕ) → Includes all some → is_in all i ≡ false → is_in some i ≡ false
+unsettled_too all some i within isnt = elim (tested (is_in some i)) [
+  | inl there ↦ absurd (let e = within i there in cc)
+  | inr absent ↦ absent
+]
+
+-- ---- what stands
+
+Stands-settled : (rows : Rows) (records : Records) (s : State) (h : History) (t more : List ℕ) → Includes more t → Stands rows records s h t → Stands rows records s h more
+Stands-settled rows records s h t more within so = record {
+  tree = so.tree;
+  distinct = so.distinct;
+  rows_are = so.rows_are;
+  right = so.right;
+  kept = λ i fresh. so.kept i (unsettled_too more t i within fresh);
+}
+
+-- more may be settled
+pub stands_later : (holds : Rows → Records → Type 0) (s : State) (h : History) (t u : List ℕ) → Includes u t → StandsFor holds s h t → StandsFor holds s h u
+stands_later holds s h t u more so = record { rows = so.rows; records = so.records; held = so.held; stands = Stands-settled so.rows so.records s h t u more so.stands }
+
+-- what stands is still held
+pub stands_kept : (holds holds' : Rows → Records → Type 0) (s : State) (h : History) (t : List ℕ) → KeepsHeld holds holds' → StandsFor holds s h t → StandsFor holds' s h t
+stands_kept holds holds' s h t keeps so = record { rows = so.rows; records = so.records; held = keeps so.rows so.records so.held; stands = so.stands }
+
+-- what is pending is handed on to a group that isn't empty
+pub handed_all : (group : List (Request × Moment)) (pending : List ℕ) → (length group ≡ 0 → ⊥) → handed_to (entries_of group) pending ≡ pending
+handed_all [] pending some = absurd (some refl)
+handed_all (one ∷ group) pending some = refl

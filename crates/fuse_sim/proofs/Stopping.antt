@@ -1,0 +1,169 @@
+-- Faults at the events that are run, and the keepers that they leave.
+use Rattle.std.proofs.Common.{◌≡◌, ◌⊎◌, inl, inr, ℕ, zero, suc, ◌+◌, ◌-◌, ◌≤◌, ◌<◌, Bool, true, false, List, [], ◌∷◌, ◌++◌, length, take, drop, All, Option, Some, None, IsSomeAnd, IfSome, slice_get, refl, sym, ap, subst, ◌∙◌, append_assoc, length-append, arith}
+use Rattle.std.proofs.Math.Seq.{take-append_seam}
+use Rattle.std.proofs.lemmas.List.{take-append-drop, take_all, length-take-le, length-drop}
+use Rattle.std.proofs.lemmas.List.Elements.{All-append, All-pop}
+use Rattle.fuse_tree.specs.Rows.{Rows}
+use Rattle.fuse_store.specs.declared.fault.StoreFault.{StoreFault}
+use Rattle.fuse_store.specs.Stands.{Records, KeepsHeld}
+use Rattle.fuse_sim.specs.declared.event.Fate.{Fate}
+use Rattle.fuse_sim.specs.declared.event.Fate.TheVariants.{Answered, AnswerLost, DiedBeforeCommit, DiedAfterCommit}
+use Rattle.fuse_sim.specs.declared.event.Event.{Event}
+use Rattle.fuse_sim.specs.declared.event.DriveFault.{DriveFault}
+use Rattle.fuse_sim.specs.declared.event.DriveFault.TheVariants.{NotAMessage, ZeroUnique, Store, Memory}
+use Rattle.fuse_sim.specs.Driving.{HoldsIn, IsFit, event_of, before, CausedBy, OfRestart, is_store, LeftBy, dies}
+use Rattle.fuse_sim.specs.Running.{dies_before, IsRun, StartsNone, Begins, Stops}
+
+-- ---- places
+
+pub get_middle : (front rest : List Event) (e : Event) → slice_get (front ++ e ∷ rest) (length front) ≡ Some e
+get_middle [] rest e = refl
+get_middle (x ∷ front) rest e = get_middle front rest e
+
+pub get_dropped : (events : List Event) (at : ℕ) (e : Event) (rest : List Event) → drop at events ≡ e ∷ rest → slice_get events at ≡ Some e
+get_dropped events zero e rest is = ap (λ l. slice_get l 0) is
+get_dropped [] (suc at) e rest is = absurd (cc is)
+get_dropped (x ∷ events) (suc at) e rest is = get_dropped events at e rest is
+
+first_of : (events rest : List Event) (at : ℕ) → drop at events ≡ rest → Begins rest → IsSomeAnd (slice_get events at) IsFit
+first_of events [] at is begins = absurd begins
+first_of events (e ∷ rest) at is begins = subst (λ o. IsSomeAnd o IsFit) (sym (get_dropped events at e rest is)) begins.0
+
+pub begins_fit : (events : List Event) (at : ℕ) → Begins (drop at events) → IsSomeAnd (slice_get events at) IsFit
+begins_fit events at begins = first_of events (drop at events) at refl begins
+
+-- ---- the keeper
+
+some_failed : {K : Type 0} (failed : K → Bool) (k : Option K) (b : Bool) → IsSomeAnd k (λ x. failed x ≡ b) → IfSome k (λ x. failed x ≡ b)
+some_failed failed None b is = absurd is
+some_failed failed (Some k) b is = is
+
+not_none : {K : Type 0} (P : K → Type 0) (k : Option K) → IsSomeAnd k P → k ≡ None → ⊥
+not_none P None is none = is
+not_none P (Some k) is none = absurd (cc none)
+
+-- ---- faults
+
+-- no keeper was touched
+pub stops_here : {K : Type 0} (holds : K → Rows → Records → Type 0) (honest clean : K → Type 0) (failed : K → Bool) (k : Option K) (events : List Event) (at : ℕ) (fault : DriveFault)
+    → event_of fault ≡ at → is_store fault ≡ false → IsSomeAnd (slice_get events at) (CausedBy fault) → IsSomeAnd k (λ x. failed x ≡ false) → Stops holds honest clean failed k k events at fault
+stops_here holds honest clean failed k events at fault place kind caused going = record {
+  named = subst (λ n. IsSomeAnd (slice_get events n) (CausedBy fault)) (sym place) caused;
+  earlier = λ each. subst (λ n. All IsFit (take n events)) (sym place) each;
+  left = subst (λ b. LeftBy honest clean b k ((event_of fault ≡ at) × KeepsHeld (HoldsIn holds k) (HoldsIn holds k))) (sym kind) (λ _. (place, λ rows records held. held));
+  emptied = λ none. absurd (not_none (λ x. failed x ≡ false) k going none);
+  has_failed = some_failed failed k (is_store fault) (subst (λ b. IsSomeAnd k (λ x. failed x ≡ b)) (sym kind) going);
+  was_honest = λ is. is;
+}
+
+-- the store answered a fault to a group
+pub stops_store : {K : Type 0} (holds : K → Rows → Records → Type 0) (honest clean : K → Type 0) (failed : K → Bool) (k k' : Option K) (events : List Event) (at : ℕ) (fault : StoreFault)
+    → IsSomeAnd (slice_get events at) IsFit → IsSomeAnd k' (λ x. failed x ≡ true) → (IsSomeAnd k' clean → KeepsHeld (HoldsIn holds k) (HoldsIn holds k')) → (IsSomeAnd k' honest → IsSomeAnd k honest)
+    → Stops holds honest clean failed k k' events at (Store at fault)
+stops_store holds honest clean failed k k' events at fault fit has keeps was = record {
+  named = fit;
+  earlier = λ each. each;
+  left = λ is. (refl, keeps is);
+  emptied = λ none. absurd (not_none (λ x. failed x ≡ true) k' has none);
+  has_failed = some_failed failed k' true has;
+  was_honest = was;
+}
+
+caused_by_store : (fault : DriveFault) (e : Event) → is_store fault ≡ true → IsFit e → CausedBy fault e
+caused_by_store (NotAMessage n) e is fit = absurd (cc is)
+caused_by_store (ZeroUnique n) e is fit = absurd (cc is)
+caused_by_store (Store n fault) e is fit = fit
+caused_by_store (Memory n) e is fit = absurd (cc is)
+
+of_restart : (fault : DriveFault) (events : List Event) (n : ℕ) (e : Event) → is_store fault ≡ true → event_of fault ≡ n → slice_get events n ≡ Some e → dies e.fate ≡ true → OfRestart events fault
+of_restart (NotAMessage m) events n e is place there died = absurd (cc is)
+of_restart (ZeroUnique m) events n e is place there died = absurd (cc is)
+of_restart (Store m fault) events n e is place there died = subst (λ o. IsSomeAnd o (λ (x : Event). dies x.fate ≡ true)) (sym (ap (slice_get events) place ∙ there)) died
+of_restart (Memory m) events n e is place there died = absurd (cc is)
+
+-- a restart left no keeper: it was after the last of some events
+pub stops_restart : {K : Type 0} (holds : K → Rows → Records → Type 0) (honest clean : K → Type 0) (failed : K → Bool) (k k' : Option K) (events : List Event) (at n : ℕ) (fault : DriveFault) (e : Event)
+    → k' ≡ None → is_store fault ≡ true → event_of fault ≡ n → slice_get events n ≡ Some e → IsFit e → dies e.fate ≡ true → (All IsFit (take at events) → All IsFit (take n events))
+    → Stops holds honest clean failed k k' events at fault
+stops_restart holds honest clean failed k k' events at n fault e none kind place there fit died earlier = record {
+  named = subst (λ m. IsSomeAnd (slice_get events m) (CausedBy fault)) (sym place) (subst (λ o. IsSomeAnd o (CausedBy fault)) (sym there) (caused_by_store fault e kind fit));
+  earlier = λ each. subst (λ m. All IsFit (take m events)) (sym place) (earlier each);
+  left = subst (λ b. LeftBy honest clean b k' ((event_of fault ≡ at) × KeepsHeld (HoldsIn holds k) (HoldsIn holds k'))) (sym kind) (λ is. absurd (subst (λ o. IsSomeAnd o clean) none is));
+  emptied = λ _. of_restart fault events n e kind place there died;
+  has_failed = subst (λ o. IfSome o (λ x. failed x ≡ is_store fault)) (sym none) tt;
+  was_honest = λ is. absurd (subst (λ o. IsSomeAnd o honest) none is);
+}
+
+-- ---- the last event of a group
+
+pub record LastDies (run : List Event) : Type 0 where
+  pub earlier : List Event
+  pub one : Event
+  pub parts : run ≡ earlier ++ one ∷ []
+  pub died : dies one.fate ≡ true
+
+last_more : (e : Event) (run : List Event) → LastDies run → LastDies (e ∷ run)
+last_more e run last = record { earlier = e ∷ last.earlier; one = last.one; parts = ap (λ (x : List Event). e ∷ x) last.parts; died = last.died }
+
+last_dies : (died : Bool) (run : List Event) → died ≡ true → IsRun died run → LastDies run
+last_dies died [] is so = absurd (cc (is, so))
+last_dies died (e ∷ run) is so = elim so [
+  | inl more ↦ last_more e run (last_dies died run is more.1)
+  | inr last ↦ record { earlier = []; one = e; parts = ap (λ (x : List Event). e ∷ x) last.2; died = ap dies last.1 }
+]
+
+pub record DiesAt (events : List Event) (at n : ℕ) : Type 0 where
+  pub one : Event
+  pub there : slice_get events n ≡ Some one
+  pub fit : IsFit one
+  pub died : dies one.fate ≡ true
+  pub earlier : All IsFit (take at events) → All IsFit (take n events)
+
+dies_in : (events front earlier others : List Event) (e : Event) (at n : ℕ) → events ≡ front ++ ((earlier ++ e ∷ []) ++ others) → take at events ≡ front → n ≡ length front + length earlier → All IsFit (earlier ++ e ∷ []) → dies e.fate ≡ true → DiesAt events at n
+dies_in events front earlier others e at n parts first place fit died =
+    let pre = front ++ earlier in
+    let whole : events ≡ pre ++ e ∷ others = parts ∙ ap (λ (x : List Event). front ++ x) (append_assoc earlier (e ∷ []) others) ∙ sym (append_assoc front earlier (e ∷ others)) in
+    let len : n ≡ length pre = place ∙ sym (length-append front earlier) in
+    let popped = All-pop IsFit (earlier ++ e ∷ []) earlier (Some e) refl fit in
+    record {
+      one = e;
+      there = ap (λ x. slice_get x n) whole ∙ ap (slice_get (pre ++ e ∷ others)) len ∙ get_middle pre others e;
+      fit = popped.1;
+      died = died;
+      earlier = λ each. subst (All IsFit) (sym (ap (λ x. take n x) whole ∙ ap (λ m. take m (pre ++ e ∷ others)) len ∙ take-append_seam pre (e ∷ others)))
+          (All-append IsFit front earlier (subst (All IsFit) first each) popped.0);
+    }
+
+-- the group that begins at a place ends with an event at which the server dies
+pub dies_at : (events : List Event) (at count : ℕ) (died : Bool) → at + count ≤ length events → IsRun died (take count (drop at events)) → All IsFit (take count (drop at events)) → died ≡ true → DiesAt events at (at + count - 1)
+dies_at events at count died within so fit is =
+    let run = take count (drop at events) in
+    let last = last_dies died run is so in
+    let parts : events ≡ take at events ++ ((last.earlier ++ last.one ∷ []) ++ drop count (drop at events)) =
+    sym (take-append-drop at events) ∙ ap (λ (x : List Event). take at events ++ x) (sym (take-append-drop count (drop at events))) ∙ ap (λ (x : List Event). take at events ++ (x ++ drop count (drop at events))) last.parts in
+    let before_it : length (take at events) ≡ at = length-take-le at events (omega (arith, within)) in
+    let in_it : length run ≡ count = length-take-le count (drop at events) (omega (arith, within, length-drop at events)) in
+    dies_in events (take at events) last.earlier (drop count (drop at events)) last.one at (at + count - 1) parts refl
+    (omega (arith, before_it, in_it, ap length last.parts, length-append last.earlier (last.one ∷ []))) (subst (All IsFit) last.parts fit) last.died
+
+-- ---- slices
+
+pub whole_rest : (events : List Event) (at : ℕ) → take (length events - at) (drop at events) ≡ drop at events
+whole_rest events at = take_all (length events - at) (drop at events) (omega (arith, length-drop at events))
+
+pub run_slice : (events : List Event) (at count : ℕ) → take (at + count - at) (drop at events) ≡ take count (drop at events)
+run_slice events at count = let same : at + count - at ≡ count = omega arith in ap (λ n. take n (drop at events)) same
+
+begins_some : (events : List Event) → Begins events → 0 < length events
+begins_some [] begins = absurd begins
+begins_some (e ∷ events) begins = omega arith
+
+-- the group lies within the events
+pub within_rest : (events : List Event) (at count : ℕ) → Begins (drop at events) → count ≤ length (take (length events - at) (drop at events)) → at + count ≤ length events
+within_rest events at count begins within = omega (arith, within, ap length (whole_rest events at), length-drop at events, begins_some (drop at events) begins)
+
+pub lost_dies : (fate : Fate) → dies_before fate ≡ true → dies fate ≡ true
+lost_dies Answered is = absurd (cc is)
+lost_dies AnswerLost is = absurd (cc is)
+lost_dies DiedBeforeCommit is = refl
+lost_dies DiedAfterCommit is = refl

@@ -1,0 +1,154 @@
+-- Events as they are run, group after group.
+use Rattle.std.specs.Prelude.{◌≡◌, ◌<◌, ◌⊎◌, ℕ, Bool, true, false, if◌then◌else◌, List, [], ◌∷◌, ◌++◌, length, map, take, drop, All, Option, Some, None, slice_get, IfSome, IsSomeAnd}
+use Rattle.std.specs.List.{flat_map}
+use Rattle.fuse_wire.specs.declared.moment.Moment.{Moment}
+use Rattle.fuse_answer.specs.Said.{Said}
+use Rattle.fuse_answer.specs.Wire.{wire}
+use Rattle.fuse_request.specs.declared.request.Request.{Request}
+use Rattle.fuse_request.specs.declared.class.Class.{Class}
+use Rattle.fuse_request.specs.declared.class.Class.TheVariants.{Silent, Bare, Kept}
+use Rattle.fuse_request.specs.Classes.{class_of}
+use Rattle.fuse_tree.specs.State.{State}
+use Rattle.fuse_tree.specs.Rows.{Rows}
+use Rattle.fuse_store.specs.History.{Entry, History, is_in, ids_in, Includes, IsUnsettled}
+use Rattle.fuse_store.specs.declared.keeper.Done.{Done}
+use Rattle.fuse_store.specs.Stands.{Records, StandsFor, OthersStay, KeepsHeld}
+use Rattle.fuse_store.specs.declared.keeper.TheConstants.{MAX_GROUP}
+use Rattle.fuse_store.specs.Group.{entries_of}
+use Rattle.fuse_session.specs.Worked.{unique_of}
+use Rattle.fuse_session.specs.Group.{left_by}
+use Rattle.fuse_sim.specs.declared.event.Fate.{Fate}
+use Rattle.fuse_sim.specs.declared.event.Fate.TheVariants.{Answered, AnswerLost, DiedBeforeCommit, DiedAfterCommit}
+use Rattle.fuse_sim.specs.declared.event.Event.{Event}
+use Rattle.fuse_sim.specs.declared.event.Outcome.{Outcome}
+use Rattle.fuse_sim.specs.declared.event.DriveFault.{DriveFault}
+use Rattle.fuse_sim.specs.Driving.{commits_in, committed, settles, outcome_of, given, is_taken, where_taken, dies, NoneAgain, IsFit, HoldsIn, event_of, before, CausedBy, OfRestart, is_store, LeftBy}
+use Rattle.fuse_sim.specs.HandedOn.{Ledger, ledger_after, handed_on}
+
+abbrev pub dies_before : Fate → Bool
+dies_before Answered = false
+dies_before AnswerLost = false
+dies_before DiedBeforeCommit = true
+dies_before DiedAfterCommit = false
+
+abbrev pub Calm : Event → Type 0
+Calm e = dies e.fate ≡ false
+
+-- the events of a group: no server dies but after the last of them, where one does
+abbrev pub IsRun : Bool → List Event → Type 0
+IsRun died [] = died ≡ false
+IsRun died (e ∷ es) = (Calm e × IsRun died es) ⊎ ((died ≡ true) × (e.fate ≡ DiedAfterCommit) × (es ≡ []))
+
+-- no group begins here
+abbrev pub StartsNone : List Event → Type 0
+StartsNone [] = Unit {0}
+StartsNone (e ∷ es) = (dies_before e.fate ≡ true) ⊎ ¬ IsFit e
+
+-- a group begins here
+abbrev pub Begins : List Event → Type 0
+Begins [] = ⊥
+Begins (e ∷ es) = IsFit e × (dies_before e.fate ≡ false)
+
+-- a group with these requests ends before an event
+abbrev pub EndsWith : List (Request × Moment) → Event → Type 0
+EndsWith taken e = (length taken ≡ MAX_GROUP) ⊎ ((dies_before e.fate ≡ true) ⊎ ¬ IsFit e)
+
+-- requests were read off the events of a group
+pub record Gathers (run : List Event) (taken : List (Request × Moment)) (died : Bool) : Type 0 where
+  pub fit : All IsFit run
+  pub goes : IsRun died run
+  pub entries : entries_of taken ≡ commits_in run
+
+-- a group without a kept message isn't performed: nothing is handed on, and all stays pending
+abbrev pub handed_to : List Entry → List ℕ → List ℕ
+handed_to [] pending = []
+handed_to (e ∷ es) pending = pending
+
+abbrev pub left_pending : List Entry → List ℕ → List ℕ
+left_pending [] pending = pending
+left_pending (e ∷ es) pending = []
+
+abbrev pub answers_in : List Done → List Said
+answers_in dones = map (λ d. d.answer) dones
+
+-- the answer to a message, where these answers to kept ones are left
+abbrev pub head_answer : Class → ℕ → List Said → Option (List ℕ)
+head_answer Silent unique answers = None
+head_answer (Bare errno) unique answers = Some (wire errno.0 [] unique)
+head_answer Kept unique [] = None
+head_answer Kept unique (a ∷ answers) = Some (wire a.errno a.body unique)
+
+-- what the kernel takes of it
+abbrev pub head_outcome : Event → List Said → Option (List ℕ)
+head_outcome e answers = where_taken (is_taken e.fate) (head_answer (class_of e.bytes) (unique_of e.bytes) answers)
+
+-- the outcomes of a group's events, by the answers to its kept messages
+abbrev pub outcomes_by : List Event → List Said → List (Option (List ℕ))
+outcomes_by [] answers = []
+outcomes_by (e ∷ es) answers = head_outcome e answers ∷ outcomes_by es (left_by (class_of e.bytes) answers)
+
+-- there is an answer for each kept message
+abbrev pub HasAnswers : List Event → List Said → Type 0
+HasAnswers [] answers = Unit {0}
+HasAnswers (e ∷ es) answers = (class_of e.bytes ≡ Kept → 0 < length answers) × HasAnswers es (left_by (class_of e.bytes) answers)
+
+abbrev pub settles_in : List Event → List ℕ
+settles_in events = flat_map settles events
+
+-- outcomes were added
+pub record Adds (old new : List (Option Outcome)) (outcomes : List (Option (List ℕ))) : Type 0 where
+  pub added : List (Option Outcome)
+  pub items : new ≡ old ++ added
+  pub are : map given added ≡ outcomes
+
+-- no event of a group is lost
+abbrev pub NoneLost : List Event → Type 0
+NoneLost run = All (λ e. dies_before e.fate ≡ false) run
+
+-- a group was performed, and its outcomes were added, by any keeper
+pub record Worked (holds holds' : Rows → Records → Type 0) (honest' : Type 0) (run : List Event) (pending pending' : List ℕ) (old new : List (Option Outcome)) : Type 0 where
+  pub added : List (Option Outcome)
+  pub items : new ≡ old ++ added
+  pub stands : honest' → (s : State) (h : History) (t : List ℕ) → StandsFor holds s h t → All (IsUnsettled (t ++ handed_to (commits_in run) pending)) (commits_in run)
+      → StandsFor holds' s (committed h run) (t ++ handed_to (commits_in run) pending)
+  pub outcomes : honest' → (s : State) (h : History) (t : List ℕ) → StandsFor holds s h t → All (IsUnsettled (t ++ handed_to (commits_in run) pending)) (commits_in run)
+      → map given added ≡ map (outcome_of s (committed h run)) run
+  pub records : honest' → (rows : Rows) (records : Records) → holds rows records
+      → (rows' : Rows) × (records' : Records) × holds' rows' records' × OthersStay records (handed_to (commits_in run) pending) (commits_in run) records'
+  pub handed : pending' ≡ left_pending (commits_in run) pending ++ settles_in run
+
+-- what becomes of records: those that are handed on go, and of the other ids those that don't come stay
+pub record RecordsRan (l : Ledger) (es : List Event) (records records' : Records) : Type 0 where
+  pub others : (i : ℕ) → is_in (ids_in (commits_in es)) i ≡ false → records' i ≡ (if is_in (handed_on l es) i then None else records i)
+  pub gone : (u : List ℕ) → Includes u l.pending → NoneAgain u es → (i : ℕ) → is_in (handed_on l es) i ≡ true → records' i ≡ None
+
+-- events were run, from a ledger on
+pub record Ran (holds holds' : Rows → Records → Type 0) (honest' : Type 0) (l : Ledger) (es : List Event) (old new : List (Option Outcome)) : Type 0 where
+  pub added : List (Option Outcome)
+  pub items : new ≡ old ++ added
+  pub stands : honest' → (s : State) (h : History) (t u : List ℕ) → StandsFor holds s h t → Includes u t → Includes u l.pending → NoneAgain u es
+      → StandsFor holds' s (committed h es) (t ++ handed_on l es)
+  pub outcomes : honest' → (s : State) (h : History) (t u : List ℕ) → StandsFor holds s h t → Includes u t → Includes u l.pending → NoneAgain u es
+      → map given added ≡ map (outcome_of s (committed h es)) es
+  pub records : honest' → (rows : Rows) (records : Records) → holds rows records
+      → (rows' : Rows) × (records' : Records) × holds' rows' records' × RecordsRan l es records records'
+
+-- no more kept messages are in the group that was begun, or none begins here
+abbrev pub MayBegin : Ledger → List Event → Type 0
+MayBegin l others = (l.room ≡ 0) ⊎ StartsNone others
+
+-- the first events were run, and these are pending
+pub record Moved (holds holds' : Rows → Records → Type 0) (honest' : Type 0) (l : Ledger) (es others : List Event) (pending' : List ℕ) (old new : List (Option Outcome)) : Type 0 where
+  pub fit : All IsFit es
+  pub ran : Ran holds holds' honest' l es old new
+  pub pending : pending' ≡ (ledger_after l es).pending
+  pub begin : MayBegin (ledger_after l es) others
+
+-- a fault came at the events that begin at a place: what it names, and the keeper that it leaves
+pub record Stops {K : Type 0} (holds : K → Rows → Records → Type 0) (honest clean : K → Type 0) (failed : K → Bool) (old new : Option K) (events : List Event) (at : ℕ) (fault : DriveFault) : Type 0 where
+  pub named : IsSomeAnd (slice_get events (event_of fault)) (CausedBy fault)
+  pub earlier : All IsFit (take at events) → All IsFit (before fault events)
+  pub left : LeftBy honest clean (is_store fault) new ((event_of fault ≡ at) × KeepsHeld (HoldsIn holds old) (HoldsIn holds new))
+  pub emptied : new ≡ None → OfRestart events fault
+  pub has_failed : IfSome new (λ k. failed k ≡ is_store fault)
+  pub was_honest : IsSomeAnd new honest → IsSomeAnd old honest
