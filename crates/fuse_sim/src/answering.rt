@@ -75,9 +75,10 @@ fn settle(pending: &mut Vec<Id>, event: &Event)
     ensures capacity { vec_capacity pending.new ≡ vec_capacity pending.old }
 {
     let bytes = event.bytes.as_slice();
+    let taken = is_answered(event.fate);
     match classify(bytes) {
         Class::Kept => {
-            if is_answered(event.fate) {
+            if taken {
                 pending.push_reserved(Id::of(unique_in(bytes)));
             }
         }

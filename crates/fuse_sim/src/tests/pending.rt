@@ -1,45 +1,10 @@
 //! The kernel's side: requests that are sent, pending, sent again, and taken.
-use crate::{Kernel, TakeFault};
+use super::*;
+use crate::{Kernel, TakeFault, lives, runs_are_lives};
 use fuse_answer::BadAnswer;
 use fuse_request::{InHeader, Op, ReadIn, Request, encode};
+use fuse_session::Fixed;
 use fuse_wire::Id;
-use std::alloc::{AllocError, Global};
-use std::test::*;
-
-/// Row first-run: MKDIR `a` with unique 6, and its answer.
-const MKDIR_A: &str =
-    "32000000 09000000 0600000000000000 0100000000000000 e8030000 e8030000 4d000000 00000000 ed010000 12000000 6100";
-
-const MADE_A: &str = "90000000 00000000 0600000000000000
-    0200000000000000 0000000000000000 0100000000000000 0100000000000000 0000000000000000
-    0200000000000000 0000000000000000 0000000000000000 e803000000000000 e803000000000000 e803000000000000
-    000000000000000000000000 ed410000 02000000 e8030000 e8030000 00000000 00100000 00000000";
-
-fn digit(c: u8) -> Option<u8> {
-    match c {
-        b'0'..=b'9' => Some(c - b'0'),
-        b'a'..=b'f' => Some(c - b'a' + 10),
-        _ => None,
-    }
-}
-
-// The bytes of hexadecimal as the rows have it, with spaces.
-fn hex(alloc: Global, text: &str) -> Result<Vec<u8>, AllocError> {
-    let mut out = Vec::new(alloc);
-    let mut first: Option<u8> = None;
-    for c in text.as_bytes() {
-        if let Some(low) = digit(*c) {
-            match first {
-                Some(high) => {
-                    out.push((high << 4) | low)?;
-                    first = None;
-                }
-                None => first = Some(low),
-            }
-        }
-    }
-    Ok(out)
-}
 
 fn request(unique: u64, op: Op<'_>) -> Request<'_> {
     Request {
@@ -55,7 +20,7 @@ fn request(unique: u64, op: Op<'_>) -> Request<'_> {
     }
 }
 
-fn mkdir(unique: u64, name: &[u8]) -> Request<'_> {
+fn making(unique: u64, name: &[u8]) -> Request<'_> {
     request(
         unique,
         Op::Mkdir {
@@ -113,10 +78,10 @@ fn pending_at(kernel: &Kernel, place: usize) -> (usize, &[u8]) {
 #[test]
 fn sent_and_taken(rt: HostRuntime) -> Result<(), Fail> {
     let alloc = rt.alloc();
-    let wanted = hex(alloc, MKDIR_A)?;
+    let wanted = mkdir(alloc, 6, b'a')?;
     let answer = hex(alloc, MADE_A)?;
     let mut kernel = Kernel::new(alloc);
-    let message = send(alloc, &mut kernel, &mkdir(6, b"a"))?;
+    let message = send(alloc, &mut kernel, &making(6, b"a"))?;
     assert_eq!(rt; message.as_slice(), wanted.as_slice());
     assert_eq!(rt; pending_at(&kernel, 0), (1, wanted.as_slice()));
     send(alloc, &mut kernel, &request(8, Op::Forget { nlookup: 1 }))?;
@@ -126,7 +91,7 @@ fn sent_and_taken(rt: HostRuntime) -> Result<(), Fail> {
         "a FORGET is silent"
     );
     assert_eq!(rt;
-        send(alloc, &mut kernel, &mkdir(6, b"b")).err(),
+        send(alloc, &mut kernel, &making(6, b"b")).err(),
         Some(Unsent::MayNotBe)
     );
     assert_eq!(rt; kernel.take(&answer), Ok(()));
@@ -140,7 +105,7 @@ fn sent_again(rt: HostRuntime) -> Result<(), Fail> {
     let alloc = rt.alloc();
     let mut kernel = Kernel::new(alloc);
     for (unique, name) in [(4, b"a"), (6, b"b"), (8, b"c")] {
-        send(alloc, &mut kernel, &mkdir(unique, name))?;
+        send(alloc, &mut kernel, &making(unique, name))?;
     }
     assert_eq!(rt; resend(&mut kernel, &[3]).err(), Some(Unsent::MayNotBe));
     let messages = resend(&mut kernel, &[2, 0])?;
@@ -216,7 +181,7 @@ fn readdir(unique: u64) -> Request<'static> {
 fn refused_answers(rt: HostRuntime) -> Result<(), Fail> {
     let alloc = rt.alloc();
     let mut kernel = Kernel::new(alloc);
-    let first = send(alloc, &mut kernel, &mkdir(6, b"a"))?;
+    let first = send(alloc, &mut kernel, &making(6, b"a"))?;
     let second = send(alloc, &mut kernel, &readdir(8))?;
     for (answer, fault) in REFUSED {
         let answer_bytes = hex(alloc, answer)?;
@@ -248,10 +213,10 @@ fn resend_twice(kernel: &mut Kernel, order: &[usize], asked: &[u8]) -> Option<Ve
 // Whether two requests are sent and sent again, though an allocation may be refused.
 fn passes_in_the_end(alloc: Global) -> bool {
     let mut kernel = Kernel::new(alloc);
-    let Some(first) = send_twice(alloc, &mut kernel, &mkdir(6, b"a")) else {
+    let Some(first) = send_twice(alloc, &mut kernel, &making(6, b"a")) else {
         return false;
     };
-    let Some(_second) = send_twice(alloc, &mut kernel, &mkdir(8, b"b")) else {
+    let Some(_second) = send_twice(alloc, &mut kernel, &making(8, b"b")) else {
         return false;
     };
     let Some(messages) = resend_twice(&mut kernel, &[1, 0], first.as_slice()) else {
@@ -266,4 +231,67 @@ fn passes_in_the_end(alloc: Global) -> bool {
 #[test]
 fn refused_memory(rt: HostRuntime) {
     assert!(rt; passes_in_the_end(rt.alloc()));
+}
+
+// The whole answer that the kernel takes for an event.
+fn answer_of(alloc: Global, outcome: &Option<Outcome>) -> Result<Vec<u8>, AllocError> {
+    let mut answer = Vec::new(alloc);
+    if let Some(given) = outcome {
+        answer.extend_from_slice(&given.head)?;
+        answer.extend_from_slice(given.body.as_slice())?;
+    }
+    Ok(answer)
+}
+
+// MKDIR `a` (id 4) and `b` (id 6) die before they are committed, and are sent again in the order second, first.
+fn run_resent(alloc: Global, kernel: &mut Kernel) -> Result<Vec<Option<Outcome>>, Fail> {
+    let first = send(alloc, kernel, &making(4, b"a"))?;
+    let second = send(alloc, kernel, &making(6, b"b"))?;
+    let mut events = Vec::new(alloc);
+    events.push(init(alloc)?)?;
+    events.push(event(first, Fate::DiedBeforeCommit))?;
+    events.push(event(second, Fate::DiedBeforeCommit))?;
+    for message in resend(kernel, &[1, 0])? {
+        events.push(event(message, Fate::Answered))?;
+    }
+    let mut keeper = Some(PlainKeeper::new(alloc, START)?);
+    match drive_on(alloc, &mut keeper, events.as_slice()) {
+        Some(Ok(outcomes)) => Ok(outcomes),
+        _ => Ok(Vec::new(alloc)),
+    }
+}
+
+#[test]
+fn resent_in_another_order(rt: HostRuntime) -> Result<(), Fail> {
+    let alloc = rt.alloc();
+    let mut kernel = Kernel::new(alloc);
+    let outcomes = run_resent(alloc, &mut kernel)?;
+    assert_eq!(rt; outcomes.len(), 5);
+    let beginnings = [
+        (3, "90000000 00000000 0600000000000080 0200000000000000"),
+        (4, "90000000 00000000 0400000000000080 0300000000000000"),
+    ];
+    for (place, beginning) in beginnings {
+        let wanted = hex(alloc, beginning)?;
+        assert!(rt;
+            is_answer(&outcomes[place], wanted.as_slice()),
+            "{beginning}"
+        );
+        let answer = answer_of(alloc, &outcomes[place])?;
+        assert_eq!(rt; kernel.take(&answer), Ok(()), "{beginning}");
+        assert_eq!(rt;
+            kernel.take(&answer),
+            Err(TakeFault::Unknown),
+            "{beginning}"
+        );
+    }
+    assert_eq!(rt; pending_at(&kernel, 0).0, 0);
+    Ok(())
+}
+
+// Laws do nothing.
+#[test]
+fn laws_are_called(_rt: HostRuntime) {
+    lives();
+    runs_are_lives::<PlainKeeper, Fixed>();
 }
