@@ -16,6 +16,7 @@ mod inits;
 mod looks;
 mod names;
 mod rows;
+mod scripts;
 mod tables;
 
 const START: Moment = Moment { secs: 0, nanos: 0 };

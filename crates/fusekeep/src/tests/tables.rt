@@ -29,6 +29,7 @@ fn endings(rt: HostRuntime) -> Result<(), Fail> {
         ),
         (Ending::ZeroUnique { at: 7 }, 1, "stream: ZeroUnique at 7"),
         (Ending::Malformed, 1, ""),
+        (Ending::ScriptLine { line: 3 }, 1, "script: line 3"),
         (Ending::Usage, 2, ""),
         (Ending::Sql, 3, "store: Sql"),
         (Ending::of(StoreFault::NotAStore), 3, "store: NotAStore"),
@@ -87,6 +88,15 @@ fn words_of_looks(rt: HostRuntime) -> Result<(), Fail> {
         }
     );
     assert_eq!(rt; run.input(), "first.stream");
+    let words = ["fusekeep", "simulate", "first.script"];
+    let run = parse(rt.alloc(), words.as_slice())?;
+    assert_eq!(rt;
+        run,
+        Run::Simulate {
+            script: "first.script"
+        }
+    );
+    assert_eq!(rt; run.input(), "first.script");
     Ok(())
 }
 
@@ -106,6 +116,7 @@ fn wrong_words(rt: HostRuntime) {
         kind_of(alloc, &["fusekeep", "replay", "--at", "1000"]),
         missing
     );
+    assert_eq!(rt; kind_of(alloc, &["fusekeep", "simulate"]), missing);
     assert_eq!(rt;
         kind_of(alloc, &["fusekeep"]),
         Some(ErrorKind::MissingSubcommand)
