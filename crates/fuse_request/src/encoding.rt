@@ -168,13 +168,7 @@ fn put_init(out: &mut Vec<u8>, x: &InitIn) -> Result<(), Memory>
     }
 }
 
-fn put_mknod(
-    out: &mut Vec<u8>,
-    mode: u32,
-    rdev: u32,
-    umask: u32,
-    name: &[u8],
-) -> Result<(), Memory>
+fn put_mknod(out: &mut Vec<u8>, mode: u32, rdev: u32, umask: u32, name: &[u8]) -> Result<(), Memory>
     ensures ok { OnOk result (out.new.items ≡ out.old.items ++ form (parts (acts.Mknod mode rdev umask name.now))) }
     ensures fits { OnOk result (AllFit (parts (acts.Mknod mode rdev umask name.now))) }
     ensures grows { Extends out.old.items out.new.items }

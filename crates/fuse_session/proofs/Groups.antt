@@ -226,9 +226,11 @@ broken_sent grows holds holds' clean' honest' whole whole' left left' may p q pe
           (λ x r stands. lived_all (Stands x r s) s h p.confirms t ts some.marks some.part some.unsent some.later (works s h) stands
           (sym (sent_are grows holds' s h t (entries_of group) ts front dones d es bytes) ∙ some.whole) some.begun some.next)
           (firm_leaves holds' whole' left' s (grown h (kept_in ts)) _ (firm_still honest firm) (now_stands holds' s h t (settled_in p.confirms (bytes_of ts) some.marks) (entries_of group) ts dones d es));
-      few = λ honest clean t again h.
-          (mid ++ ids_in (entries_of group), few_unsent holds' p.confirms t mid (entries_of group) ts some.marks es size
-          (few honest t (subst (All (IsUnsettled t)) (sym es) (group_unsettled p.confirms t ts some.marks again)) h));
+      few = λ honest clean t again h. (
+        mid ++ ids_in (entries_of group),
+        few_unsent holds' p.confirms t mid (entries_of group) ts some.marks es size
+            (few honest t (subst (All (IsUnsettled t)) (sym es) (group_unsettled p.confirms t ts some.marks again)) h),
+      );
     }
 
 -- ---- a group that was answered

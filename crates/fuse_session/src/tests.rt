@@ -9,6 +9,7 @@ use std::alloc::{AllocError, Global};
 use std::test::*;
 
 mod clocks;
+mod contents;
 mod groups;
 mod hostile;
 mod init;
@@ -44,6 +45,30 @@ fn plain_peer(alloc: Global) -> Peer {
     }
 }
 
+// What one session gets: bytes from this peer. And what is to be sent for them.
+#[derive(Drop)]
+struct Session {
+    input: Vec<u8>,
+    peer: Peer,
+    wanted: Vec<u8>,
+}
+
+// A plain session.
+fn plain(alloc: Global, input: Vec<u8>, wanted: Vec<u8>) -> Session {
+    Session {
+        input,
+        peer: plain_peer(alloc),
+        wanted,
+    }
+}
+
+// A plain session of these messages, to which these answers are wanted.
+fn plain_of(alloc: Global, asked: &[Ask], answered: &[Reply]) -> Result<Session, AllocError> {
+    let input = asks(alloc, asked)?;
+    let wanted = replies(alloc, answered)?;
+    Ok(plain(alloc, input, wanted))
+}
+
 // A session over a port in memory: how it ended, and its counts.
 #[derive(Drop)]
 struct Run {
@@ -52,17 +77,48 @@ struct Run {
     port: MemoryPort,
 }
 
-impl Run {
-    fn sent(&self) -> &[u8] {
-        self.port.sent()
-    }
+// How a session ended, with a store's fault told by whether it is want of memory.
+#[derive(Clone, Copy, Debug, PartialEq, Eq)]
+enum Told {
+    End,
+    Destroyed,
+    Turns,
+    Frame(FrameFault),
+    ZeroUnique { at: u64 },
+    PortFailed,
+    StoreMemory,
+    Store,
+    Memory,
+}
 
-    fn ended_well(&self) -> bool {
-        matches!(self.ended, Ended::End)
+fn told_of(ended: &Ended) -> Told {
+    match ended {
+        Ended::End => Told::End,
+        Ended::Destroyed => Told::Destroyed,
+        Ended::Turns => Told::Turns,
+        Ended::Frame(fault) => Told::Frame(*fault),
+        Ended::ZeroUnique { at } => Told::ZeroUnique { at: *at },
+        Ended::PortFailed => Told::PortFailed,
+        Ended::Store(StoreFault::Memory) => Told::StoreMemory,
+        Ended::Store(_) => Told::Store,
+        Ended::Memory => Told::Memory,
     }
+}
 
-    fn port_failed(&self) -> bool {
-        matches!(self.ended, Ended::PortFailed)
+// What a session did: how it ended, its counts, whether just what was wanted was sent, and how many nodes and records
+// the keeper has then. Of numbers alone, so that a test has nothing to drop.
+#[derive(Clone, Copy, Debug, PartialEq, Eq)]
+struct Seen {
+    ended: Told,
+    counts: SessionCounts,
+    is_sent: bool,
+    held: (u64, u64),
+}
+
+impl Seen {
+    // It ended so, just what was wanted was sent, and this is held.
+    fn is(&self, ended: Told, held: (u64, u64)) -> bool {
+        self.ended == ended && self.is_sent && self.held == held
     }
 }
 
@@ -90,20 +146,50 @@ fn serve_once(
     })
 }
 
-// A new store in which row init-agreed was answered: what the other rows begin with.
-fn begun(alloc: Global) -> Result<PlainKeeper, Fail> {
-    let mut keeper = PlainKeeper::new(alloc, START)?;
-    serve_once(
-        alloc,
-        &mut keeper,
-        hex(alloc, INIT_AGREED)?,
-        plain_peer(alloc),
-    )?;
-    Ok(keeper)
-}
-
 // How many nodes and records a keeper has.
 fn held(keeper: &mut PlainKeeper) -> Result<(u64, u64), StoreFault> {
     let counts = keeper.counts()?;
     Ok((counts.nodes, counts.records))
+}
+
+// A session over a keeper.
+fn serve_on(alloc: Global, keeper: &mut PlainKeeper, session: Session) -> Result<Seen, Fail> {
+    let run = serve_once(alloc, keeper, session.input, session.peer)?;
+    Ok(Seen {
+        ended: told_of(&run.ended),
+        counts: run.counts,
+        is_sent: run.port.sent() == session.wanted.as_slice(),
+        held: held(keeper)?,
+    })
+}
+
+// A session over a new store.
+fn serve_new(alloc: Global, session: Session) -> Result<Seen, Fail> {
+    let mut keeper = PlainKeeper::new(alloc, START)?;
+    serve_on(alloc, &mut keeper, session)
+}
+
+// A session behind row init-agreed: what the other rows begin with.
+fn serve_begun(alloc: Global, session: Session) -> Result<Seen, Fail> {
+    let mut keeper = begun(alloc, INIT_AGREED)?;
+    serve_on(alloc, &mut keeper, session)
+}
+
+fn serve_these(alloc: Global, asked: &[Ask], answered: &[Reply]) -> Result<Seen, Fail> {
+    serve_begun(alloc, plain_of(alloc, asked, answered)?)
+}
+
+// Two sessions behind row init-agreed.
+fn serve_both(alloc: Global, first: Session, second: Session) -> Result<(Seen, Seen), Fail> {
+    let mut keeper = begun(alloc, INIT_AGREED)?;
+    let one = serve_on(alloc, &mut keeper, first)?;
+    let two = serve_on(alloc, &mut keeper, second)?;
+    Ok((one, two))
+}
+
+// A new store in which this INIT was answered.
+fn begun(alloc: Global, init: &str) -> Result<PlainKeeper, Fail> {
+    let mut keeper = PlainKeeper::new(alloc, START)?;
+    serve_once(alloc, &mut keeper, hex(alloc, init)?, plain_peer(alloc))?;
+    Ok(keeper)
 }

@@ -331,7 +331,31 @@ found spelled pending unique place m p f here =
       left = left ∙ sym kept;
       others_pending = record {
         each = subst (All IsOwed) (sym (map-remove (λ (x : Vec ℕ Global). x.items) pending place))
-        (All-append IsOwed (take place (messages_in pending)) (drop (suc place) (messages_in pending)) (All-take IsOwed place (messages_in pending) p.each) (All-drop IsOwed (suc place) (messages_in pending) p.each));
+            (All-append IsOwed (take place (messages_in pending)) (drop (suc place) (messages_in pending)) (All-take IsOwed place (messages_in pending) p.each) (All-drop IsOwed (suc place) (messages_in pending) p.each));
         once = subst NoneTwice (sym (ap request_ids left ∙ map-append request_id before after)) less.0;
       };
     }
+
+-- ---- whether an id is pending
+
+is_in-among : (xs : List ℕ) (y : ℕ) (ys : List ℕ) (i : ℕ) → (y == i) ≡ true → is_in (xs ++ y ∷ ys) i ≡ true
+is_in-among [] y ys i is = rw is
+is_in-among (x ∷ xs) y ys i is = elim (x == i) as (λ b. (if b then true else is_in (xs ++ y ∷ ys) i) ≡ true) [ true ↦ refl | false ↦ is_in-among xs y ys i is ]
+
+pub id_passed : (pending : List (Vec ℕ Global)) (place id : ℕ) (m : Vec ℕ Global) → place < length pending → m ≡ get_or pending place m → is_in (request_ids (take place (requests_in pending))) id ≡ false
+    → (id_of (number_of 8 (drop 8 m.items)) == id) ≡ false → is_in (request_ids (take (place + 1) (requests_in pending))) id ≡ false
+id_passed pending place id m there here before isnt =
+    let rs : List Asked = requests_in pending in
+    let within : place < length rs = omega (arith, length-requests pending) in
+    let one : get_or rs place (asked_at []) ≡ asked_at m.items = request_at pending place m there ∙ ap (λ (x : Vec ℕ Global). asked_at x.items) (sym here) in
+    ap (λ (x : List ℕ). is_in x id)
+    (ap request_ids (take_more rs place (asked_at []) within ∙ ap (λ (r : Asked). take place rs ++ r ∷ []) one) ∙ map-append request_id (take place rs) (asked_at m.items ∷ []))
+    ∙ is_in-append (request_ids (take place rs)) (request_id (asked_at m.items)) id before isnt
+
+pub id_here : (pending : List (Vec ℕ Global)) (place id : ℕ) (m : Vec ℕ Global) → place < length pending → m ≡ get_or pending place m → (id_of (number_of 8 (drop 8 m.items)) == id) ≡ true
+    → is_in (request_ids (requests_in pending)) id ≡ true
+id_here pending place id m there here is =
+    let rs : List Asked = requests_in pending in
+    let split : rs ≡ take place rs ++ asked_at m.items ∷ drop (suc place) rs = parted pending place m there ∙ ap (λ (x : Vec ℕ Global). take place rs ++ asked_at x.items ∷ drop (suc place) rs) (sym here) in
+    ap (λ (x : List Asked). is_in (request_ids x) id) split ∙ ap (λ (x : List ℕ). is_in x id) (map-append request_id (take place rs) (asked_at m.items ∷ drop (suc place) rs))
+    ∙ is_in-among (request_ids (take place rs)) (request_id (asked_at m.items)) (request_ids (drop (suc place) rs)) id is

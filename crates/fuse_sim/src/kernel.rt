@@ -7,7 +7,8 @@ ghost use Rattle.fuse_request.specs.Canon.{canon, len_of, sayable};
 ghost use Rattle.fuse_request.specs.declared.header.TheConstants.{MAX_MESSAGE as max_message};
 ghost use Rattle.fuse_answer.specs.declared.records.TheConstants.OutHeader.{SIZE as header_size};
 ghost use Rattle.fuse_request.specs.Places.{asked_at};
-ghost use Rattle.fuse_sim.specs.Pending.{MayBeSent, owed, again, all_again, borne, owner, TakenOf, IsOwed, StandsFirst, marked, messages_in, requests_in};
+ghost use Rattle.fuse_store.specs.History.{is_in};
+ghost use Rattle.fuse_sim.specs.Pending.{MayBeSent, owed, again, all_again, borne, owner, TakenOf, request_ids, IsOwed, StandsFirst, marked, messages_in, requests_in};
 
 use byteorder::{ByteOrder, LittleEndian};
 use fuse_answer::{BadAnswer, OutHeader, read_answer};
@@ -113,6 +114,20 @@ fn mark_all(pending: &mut [Vec<u8>], places: &[usize])
     }
 }
 
+// Whether a pending message has this id.
+fn has_id(pending: &[Vec<u8>], id: Id) -> bool
+    requires { All IsOwed (messages_in pending.now) }
+    ensures { result ≡ is_in (request_ids (requests_in pending.now)) id.0 }
+{
+    spelled_at();
+    for message in pending {
+        if Id::of(u64_at(message.as_slice(), 8)) == id {
+            return true;
+        }
+    }
+    false
+}
+
 // The place of the pending message with this unique.
 fn place_of(pending: &[Vec<u8>], unique: u64) -> Option<usize>
     requires { All IsOwed (messages_in pending.now) }
@@ -155,6 +170,13 @@ impl Kernel {
         }
         keep(self.alloc, &mut self.pending, message.as_slice())?;
         Ok(message)
+    }
+
+    /// Whether a pending request has this id. Takes no memory.
+    pub fn awaits(&self, id: Id) -> bool
+        ensures { result ≡ is_in (request_ids self.now) id.0 }
+    {
+        has_id(self.pending.as_slice(), id)
     }
 
     /// The messages that are pending, as they were sent last. Takes no memory.

@@ -4,7 +4,10 @@ ghost use Rattle.fuse_wire.specs.Ids.{id_of};
 ghost use Rattle.fuse_request.specs.Act.{act, IsBuilt};
 ghost use Rattle.fuse_store.specs.declared.keeper.TheConstants.{MAX_SETTLED as MOST_SETTLED};
 
+mod contents;
+mod handles;
 mod removing;
+mod renaming;
 
 use crate::{Done, Keeper, MAX_SETTLED, PlainKeeper, Restart, StoreCounts, StoreFault};
 use fuse_init::Settings;
@@ -412,11 +415,12 @@ fn reopened<K: Restart>(keeper: K) -> Result<K, StoreFault> {
 
 #[test]
 fn a_restart_keeps_all(rt: HostRuntime) -> Result<(), StoreFault> {
-    let mut keeper = new_keeper(&rt)?;
+    let mut keeper = begun(&rt)?;
     assert!(rt; makes_a(&mut keeper, mkdir(4, b"a"), false)?, "before");
     let mut opened = reopened(keeper)?;
     assert!(rt; !has_failed(&opened), "opened");
-    assert!(rt; holds(&mut opened, 2, 1)?, "held");
+    assert!(rt; holds(&mut opened, 2, 2)?, "held");
+    assert!(rt; has_agreed(&mut opened)?, "settings");
     let resent = mkdir(UNIQUE_RESEND + 4, b"a");
     assert!(rt; makes_a(&mut opened, resent, true)?, "resent");
     Ok(())

@@ -16,15 +16,15 @@ use Rattle.fuse_tree.specs.Done.{touched, touch}
 use Rattle.fuse_tree.specs.Removing.{marked, mark, without}
 use Rattle.fuse_tree.specs.Renaming.{Renaming, placed, exchanged}
 use Rattle.fuse_tree.specs.PlanRenaming.{dir_row, moved_row, exchange_changes}
-use Rattle.fuse_tree.proofs.Lists.{all_more, found, or_false}
+use Rattle.fuse_tree.proofs.Lists.{all_more, or_false}
 use Rattle.fuse_tree.proofs.Puts.{node_found}
 use Rattle.fuse_tree.proofs.Making.{tree_touched}
 use Rattle.fuse_tree.proofs.GoneRows.{tree_marked}
 use Rattle.fuse_tree.proofs.Moving.{Differs, keeps, up_found}
 use Rattle.fuse_tree.proofs.MovedTrees.{f_differs, up_others, up_e, up_f, tree_exchanged}
 use Rattle.fuse_tree.proofs.MovedCounts.{Recounted, Sums, counts_swapped}
-use Rattle.fuse_tree.proofs.MovedRows.{IsRowOf, timed, shifted, then_full, two_shifted}
-use Rattle.fuse_tree.proofs.RenameRows.{at_own, lost_is, rows_shifted, apart_rows, one_rows, apart_are, one_are, apart_rest, one_rest}
+use Rattle.fuse_tree.proofs.MovedRows.{puts, timed, shifted, then_full, two_shifted}
+use Rattle.fuse_tree.proofs.RenameRows.{Shift, rows_shifted, dirs_rows, dirs_are, dirs_rest, lost_is}
 
 -- the times of the directories and of both children, one after the other and at once
 times : (n : Node) (now : Moment) (a b c g : Bool)
@@ -75,9 +75,6 @@ module _ (s : State) (r : Renaming) (d t c o : Node) (e f : EntryRow) (tree : Tr
       ap (λ (ns : List Node). record s { nodes = ns; entries = fs; next_cookie = s.next_cookie + 1 + 1 }) (each_timed d.number r.new_dir e.child f.child r.now s.nodes)
       ∙ ap (λ (k : ℕ). shifted dirs children r.now fs k s) (let same : s.next_cookie + 1 + 1 ≡ s.next_cookie + 2 = omega arith in same)
 
-  one_of : (k : ℕ) (n : Node) → node_at s k ≡ Some n → 1 ≤ k
-  one_of k n at = let one : 1 ≤ n.number = (found (IsNode s.next_node) (λ m. m.number == k) s.nodes n tree.nodes at).0.from_one in let is : n.number ≡ k = (node_found s k n tree at).0 in omega arith
-
   differ : Differs e f
   differ = f_differs s one two e f d.number r.new_dir r.old_name r.new_name tree at_e at_f apart
 
@@ -122,47 +119,37 @@ module _ (s : State) (r : Renaming) (d t c o : Node) (e f : EntryRow) (tree : Tr
   o_is : o.number ≡ f.child
   o_is = (node_found s f.child o tree at_o).0
 
-  abbrev one_list : List NodeRow
-  one_list = one_rows s r.now fs next d.number r.new_dir e.child Y d t c tree at_d at_t at_c x_dir x_to (y_not d.number y_dir) (y_not r.new_dir y_to) ups up_x (is_dir c.mode) (is_dir o.mode) (is_dir o.mode) recounted (one_of e.child c at_c)
+  shift : Shift s fs d.number r.new_dir e.child Y d t c
+  shift = record { tree = tree; at_d = at_d; at_t = at_t; at_c = at_c; x_dir = x_dir; x_to = x_to; y_dir = y_not d.number y_dir; y_to = y_not r.new_dir y_to; ups = ups; up_x = up_x }
 
-  abbrev two_list : List NodeRow
-  two_list = apart_rows s r.now fs next d.number r.new_dir e.child Y d t c tree at_d at_t at_c x_dir x_to (y_not d.number y_dir) (y_not r.new_dir y_to) ups up_x (is_dir c.mode) (is_dir o.mode) (is_dir o.mode) recounted (one_of e.child c at_c)
+  abbrev listed : Bool → List NodeRow
+  listed = dirs_rows r.now next shift recounted
 
-  other_there : IsRowOf s (then_full s dirs children r.now fs next) other_row
-  other_there = (
-    o,
-    at_own s f.child o tree at_o,
-    lost_is s r.now fs next d.number r.new_dir e.child Y d t c tree at_d at_t at_c x_dir x_to (y_not d.number y_dir) (y_not r.new_dir y_to) ups up_x f.child o d.number at_o (eq-eqb f.child f.child refl) y_dir y_to up_y (recounted.other f.child (one_of f.child o at_o) y_dir y_to),
-  )
-
-  others_by : (rows : List NodeRow) → ((n : Node) → 1 ≤ n.number → Y n.number ≡ false → list_any (λ row. n.number == row.node) rows ≡ false → full_of s n ≡ then_full s dirs children r.now fs next n)
+  others : (rows : List NodeRow) → ((n : Node) → 1 ≤ n.number → Y n.number ≡ false → list_any (λ row. n.number == row.node) rows ≡ false → full_of s n ≡ then_full s dirs children r.now fs next n)
       → AllByRecursion (λ n. list_any (λ row. n.number == row.node) (other_row ∷ rows) ≡ false → full_of s n ≡ then_full s dirs children r.now fs next n) s.nodes
-  others_by rows so =
+  others rows so =
       all_more (IsNode s.next_node) (λ n. list_any (λ row. n.number == row.node) (other_row ∷ rows) ≡ false → full_of s n ≡ then_full s dirs children r.now fs next n) s.nodes
       (λ n p none. (
       let h = or_false (eqb n.number o.number) (list_any (λ row. n.number == row.node) rows) none in
       so n p.from_one (ap (eqb n.number) (sym o_is) ∙ h.0) h.1)) tree.nodes
 
-  in_one : d.number ≡ r.new_dir → apply (rows_of_state s) (planned true e.child f.child) ≡ rows_of_state (exchanged r d.number e f s)
-  in_one same =
-      rows_shifted s dirs children r.now fs next (other_row ∷ one_list) tree
-      (other_there, one_are s r.now fs next d.number r.new_dir e.child Y d t c tree at_d at_t at_c x_dir x_to (y_not d.number y_dir) (y_not r.new_dir y_to) ups up_x (is_dir c.mode) (is_dir o.mode) (is_dir o.mode) recounted (one_of e.child c at_c) same)
-      (others_by one_list (one_rest s r.now fs next d.number r.new_dir e.child Y d t c tree at_d at_t at_c x_dir x_to (y_not d.number y_dir) (y_not r.new_dir y_to) ups up_x (is_dir c.mode) (is_dir o.mode) (is_dir o.mode) recounted (one_of e.child c at_c) same))
+  rows_then : (both : Bool) → eqb d.number r.new_dir ≡ both
+      → record (rows_of_state s) { nodes = puts (other_row ∷ listed both) (map (full_of s) s.nodes); entries = fs; counters = record (counters_of s) { next_cookie = next } } ≡ rows_of_state (exchanged r d.number e f s)
+  rows_then both is =
+      rows_shifted s dirs children r.now fs next (other_row ∷ listed both) tree
+      (lost_is r.now next shift recounted f.child d.number o at_o (eq-eqb f.child f.child refl) y_dir y_to up_y, dirs_are r.now next shift recounted both is)
+      (others (listed both) (dirs_rest r.now next shift recounted both is))
       ∙ ap rows_of_state (sym is_shifted)
 
-  in_two : d.number ≢ r.new_dir → apply (rows_of_state s) (planned false e.child f.child) ≡ rows_of_state (exchanged r d.number e f s)
-  in_two ne =
-      rows_shifted s dirs children r.now fs next (other_row ∷ two_list) tree
-      (other_there, apart_are s r.now fs next d.number r.new_dir e.child Y d t c tree at_d at_t at_c x_dir x_to (y_not d.number y_dir) (y_not r.new_dir y_to) ups up_x (is_dir c.mode) (is_dir o.mode) (is_dir o.mode) recounted (one_of e.child c at_c) ne)
-      (others_by two_list (apart_rest s r.now fs next d.number r.new_dir e.child Y d t c tree at_d at_t at_c x_dir x_to (y_not d.number y_dir) (y_not r.new_dir y_to) ups up_x (is_dir c.mode) (is_dir o.mode) (is_dir o.mode) recounted (one_of e.child c at_c)))
-      ∙ ap rows_of_state (sym is_shifted)
+  each_way : (both : Bool) → eqb d.number r.new_dir ≡ both → apply (rows_of_state s) (planned both e.child f.child) ≡ rows_of_state (exchanged r d.number e f s)
+  each_way true is = rows_then true is
+  each_way false is = rows_then false is
 
   pub exchange_rows : apply (rows_of_state s) (exchange_changes r (counters_of s) (row_of s d) (row_of s t) (record { cookie = e.cookie; child = row_of s c }) (record { cookie = f.cookie; child = row_of s o })) ≡ rows_of_state (exchanged r d.number e f s)
   exchange_rows =
-      elim (eqb_tells d.number r.new_dir) [
-        | inl h ↦ ap (λ (b : Bool). apply (rows_of_state s) (planned b c.number o.number)) h.0 ∙ ap (λ (k : ℕ). apply (rows_of_state s) (planned true k o.number)) c_is ∙ ap (λ (k : ℕ). apply (rows_of_state s) (planned true e.child k)) o_is ∙ in_one h.1
-        | inr h ↦ ap (λ (b : Bool). apply (rows_of_state s) (planned b c.number o.number)) h.0 ∙ ap (λ (k : ℕ). apply (rows_of_state s) (planned false k o.number)) c_is ∙ ap (λ (k : ℕ). apply (rows_of_state s) (planned false e.child k)) o_is ∙ in_two h.1
-      ]
+      ap (λ (k : ℕ). apply (rows_of_state s) (planned (eqb d.number r.new_dir) k o.number)) c_is
+      ∙ ap (λ (k : ℕ). apply (rows_of_state s) (planned (eqb d.number r.new_dir) e.child k)) o_is
+      ∙ each_way (eqb d.number r.new_dir) refl
 
   -- ---- the tree
 

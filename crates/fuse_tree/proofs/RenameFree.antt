@@ -1,19 +1,19 @@
 -- RENAME onto a free name: its rows, and the tree that goes on.
-use Rattle.std.proofs.Common.{◌≡◌, ◌≢◌, ◌<◌, ◌≤◌, ◌+◌, ◌||◌, ◌==◌, ℕ, Bool, true, false, cond, eqb, List, [], ◌∷◌, ◌++◌, map, Some, None, refl, sym, ap, ◌∙◌, inl, inr, arith}
+use Rattle.std.proofs.Common.{◌≡◌, ◌≢◌, ◌<◌, ◌+◌, ◌||◌, ◌==◌, ℕ, Bool, true, false, cond, eqb, List, [], ◌∷◌, ◌++◌, map, Some, None, refl, sym, ap, ◌∙◌}
 use Rattle.std.specs.Prelude.{filter}
-use Rattle.std.proofs.lemmas.Bool.Decides.{eqb_tells}
 use Rattle.fuse_wire.specs.declared.moment.Moment.{Moment}
 use Rattle.fuse_tree.specs.declared.limits.TheConstants.{COUNTER_END}
 use Rattle.fuse_tree.specs.declared.rows.Change.{Change}
 use Rattle.fuse_tree.specs.declared.rows.Change.TheVariants as changes
 use Rattle.fuse_tree.specs.declared.rows.EntryRow.{EntryRow}
+use Rattle.fuse_tree.specs.declared.rows.NodeRow.{NodeRow}
 use Rattle.fuse_tree.specs.State.{State, Node, Tree, IsNode, above, is_dir, is_entry, is_named, name_fault, node_at, up_of, subdirs_of}
-use Rattle.fuse_tree.specs.Rows.{row_of, rows_of_state, counters_of, entry_at, apply}
+use Rattle.fuse_tree.specs.Rows.{full_of, row_of, rows_of_state, counters_of, entry_at, apply}
 use Rattle.fuse_tree.specs.Done.{touched, touch}
 use Rattle.fuse_tree.specs.Removing.{marked, mark, without}
 use Rattle.fuse_tree.specs.Renaming.{Renaming, placed, renamed}
 use Rattle.fuse_tree.specs.PlanRenaming.{dir_row, moved_row, rename_changes}
-use Rattle.fuse_tree.proofs.Lists.{all_more, all_kept, found, none_found}
+use Rattle.fuse_tree.proofs.Lists.{all_more, all_kept, none_found}
 use Rattle.fuse_tree.proofs.Trees.{named_climbs}
 use Rattle.fuse_tree.proofs.Puts.{node_found, dir_there}
 use Rattle.fuse_tree.proofs.Making.{tree_touched}
@@ -21,8 +21,8 @@ use Rattle.fuse_tree.proofs.GoneRows.{tree_marked}
 use Rattle.fuse_tree.proofs.Moving.{keeps, up_found}
 use Rattle.fuse_tree.proofs.MovedTrees.{tree_moved, up_moved, up_here}
 use Rattle.fuse_tree.proofs.MovedCounts.{Recounted, Sums, counts_gone}
-use Rattle.fuse_tree.proofs.MovedRows.{timed, shifted, one_shifted}
-use Rattle.fuse_tree.proofs.RenameRows.{rows_shifted, apart_rows, one_rows, apart_are, one_are, apart_rest, one_rest}
+use Rattle.fuse_tree.proofs.MovedRows.{puts, timed, shifted, one_shifted}
+use Rattle.fuse_tree.proofs.RenameRows.{Shift, given_at, rows_shifted, dirs_rows, dirs_are, dirs_rest}
 
 abbrev pub nobody : ℕ → Bool
 nobody k = false
@@ -57,9 +57,6 @@ module _ (s : State) (r : Renaming) (d t c : Node) (e : EntryRow) (tree : Tree s
   is_shifted : renamed r d.number e None s ≡ shifted dirs children r.now fs next s
   is_shifted = ap (λ (ns : List Node). record s { nodes = ns; entries = fs; next_cookie = next }) (each_timed d.number r.new_dir e.child r.now s.nodes)
 
-  one_of : (k : ℕ) (n : Node) → node_at s k ≡ Some n → 1 ≤ k
-  one_of k n at = let one : 1 ≤ n.number = (found (IsNode s.next_node) (λ m. m.number == k) s.nodes n tree.nodes at).0.from_one in let is : n.number ≡ k = (node_found s k n tree at).0 in omega arith
-
   ups : (j : ℕ) → j ≢ e.child → nobody j ≡ false → up_of fs j ≡ up_of s.entries j
   ups j other _ = up_moved s (is_entry d.number r.old_name) e r.new_dir r.new_name tree at_e j other
 
@@ -73,7 +70,7 @@ module _ (s : State) (r : Renaming) (d t c : Node) (e : EntryRow) (tree : Tree s
   sums k = ap (λ (m : ℕ). m + 0) (one_shifted s dirs children r.now fs next e.child c d.number r.new_dir k tree at_c up_was up_x (λ j ne. ups j ne refl))
 
   recounted : Recounted (subdirs_of s) (subdirs_of (shifted dirs children r.now fs next s)) d.number r.new_dir (is_dir c.mode) false false
-  recounted = counts_gone (subdirs_of s) (subdirs_of (shifted dirs children r.now fs next s)) d.number r.new_dir (is_dir c.mode) false (one_of d.number d at_d) (one_of r.new_dir t at_t) sums
+  recounted = counts_gone (subdirs_of s) (subdirs_of (shifted dirs children r.now fs next s)) d.number r.new_dir (is_dir c.mode) false (given_at s d.number d tree at_d) (given_at s r.new_dir t tree at_t) sums
 
   abbrev child : ℕ → EntryRow
   child k = record { dir = r.new_dir; name = r.new_name; child = k; cookie = s.next_cookie }
@@ -84,29 +81,25 @@ module _ (s : State) (r : Renaming) (d t c : Node) (e : EntryRow) (tree : Tree s
       (changes.Node (dir_row r.now (is_dir c.mode) false (row_of s d)) ∷ changes.Node (dir_row r.now false (is_dir c.mode) (row_of s t)) ∷ [])
       ++ changes.Node (moved_row r.now r.new_dir (row_of s c)) ∷ changes.Entry (child k) ∷ changes.Counters (record (counters_of s) { next_cookie = next }) ∷ []
 
-  c_is : c.number ≡ e.child
-  c_is = (node_found s e.child c tree at_c).0
+  shift : Shift s fs d.number r.new_dir e.child nobody d t c
+  shift = record { tree = tree; at_d = at_d; at_t = at_t; at_c = at_c; x_dir = x_dir; x_to = x_to; y_dir = refl; y_to = refl; ups = ups; up_x = up_x }
 
-  in_one : d.number ≡ r.new_dir → apply (rows_of_state s) (planned true e.child) ≡ rows_of_state (renamed r d.number e None s)
-  in_one same =
-      rows_shifted s dirs children r.now fs next (one_rows s r.now fs next d.number r.new_dir e.child nobody d t c tree at_d at_t at_c x_dir x_to refl refl ups up_x (is_dir c.mode) false false recounted (one_of e.child c at_c)) tree
-      (one_are s r.now fs next d.number r.new_dir e.child nobody d t c tree at_d at_t at_c x_dir x_to refl refl ups up_x (is_dir c.mode) false false recounted (one_of e.child c at_c) same)
-      (all_more (IsNode s.next_node) _ s.nodes (λ n p none. one_rest s r.now fs next d.number r.new_dir e.child nobody d t c tree at_d at_t at_c x_dir x_to refl refl ups up_x (is_dir c.mode) false false recounted (one_of e.child c at_c) same n p.from_one refl none) tree.nodes)
+  abbrev listed : Bool → List NodeRow
+  listed = dirs_rows r.now next shift recounted
+
+  rows_then : (both : Bool) → eqb d.number r.new_dir ≡ both
+      → record (rows_of_state s) { nodes = puts (listed both) (map (full_of s) s.nodes); entries = fs; counters = record (counters_of s) { next_cookie = next } } ≡ rows_of_state (renamed r d.number e None s)
+  rows_then both is =
+      rows_shifted s dirs children r.now fs next (listed both) tree (dirs_are r.now next shift recounted both is)
+      (all_more (IsNode s.next_node) _ s.nodes (λ n p none. dirs_rest r.now next shift recounted both is n p.from_one refl none) tree.nodes)
       ∙ ap rows_of_state (sym is_shifted)
 
-  in_two : d.number ≢ r.new_dir → apply (rows_of_state s) (planned false e.child) ≡ rows_of_state (renamed r d.number e None s)
-  in_two ne =
-      rows_shifted s dirs children r.now fs next (apart_rows s r.now fs next d.number r.new_dir e.child nobody d t c tree at_d at_t at_c x_dir x_to refl refl ups up_x (is_dir c.mode) false false recounted (one_of e.child c at_c)) tree
-      (apart_are s r.now fs next d.number r.new_dir e.child nobody d t c tree at_d at_t at_c x_dir x_to refl refl ups up_x (is_dir c.mode) false false recounted (one_of e.child c at_c) ne)
-      (all_more (IsNode s.next_node) _ s.nodes (λ n p none. apart_rest s r.now fs next d.number r.new_dir e.child nobody d t c tree at_d at_t at_c x_dir x_to refl refl ups up_x (is_dir c.mode) false false recounted (one_of e.child c at_c) n p.from_one refl none) tree.nodes)
-      ∙ ap rows_of_state (sym is_shifted)
+  each_way : (both : Bool) → eqb d.number r.new_dir ≡ both → apply (rows_of_state s) (planned both e.child) ≡ rows_of_state (renamed r d.number e None s)
+  each_way true is = rows_then true is
+  each_way false is = rows_then false is
 
   pub free_rows : apply (rows_of_state s) (rename_changes r (counters_of s) (row_of s d) (row_of s t) (record { cookie = e.cookie; child = row_of s c }) None) ≡ rows_of_state (renamed r d.number e None s)
-  free_rows =
-      elim (eqb_tells d.number r.new_dir) [
-        | inl h ↦ ap (λ (b : Bool). apply (rows_of_state s) (planned b c.number)) h.0 ∙ ap (λ (k : ℕ). apply (rows_of_state s) (planned true k)) c_is ∙ in_one h.1
-        | inr h ↦ ap (λ (b : Bool). apply (rows_of_state s) (planned b c.number)) h.0 ∙ ap (λ (k : ℕ). apply (rows_of_state s) (planned false k)) c_is ∙ in_two h.1
-      ]
+  free_rows = ap (λ (k : ℕ). apply (rows_of_state s) (planned (eqb d.number r.new_dir) k)) (node_found s e.child c tree at_c).0 ∙ each_way (eqb d.number r.new_dir) refl
 
   -- the tree goes on
   pub free_tree : is_dir t.mode ≡ true → is_named s r.new_dir ≡ true → name_fault r.new_name ≡ None → entry_at s.entries r.new_dir r.new_name ≡ None → ((n : ℕ) → above s.entries n r.new_dir ≢ e.child) → s.next_cookie < COUNTER_END → Tree (renamed r d.number e None s)

@@ -1,16 +1,16 @@
 -- The rows of RENAME and RENAME2 are those of the state that they leave.
-use Rattle.std.proofs.Common.{◌≡◌, ◌≢◌, ◌≤◌, ◌||◌, ◌==◌, ℕ, Bool, true, false, eqb, List, [], ◌∷◌, length, map, Some, refl, sym, ap, subst, ◌∙◌}
+use Rattle.std.proofs.Common.{◌≡◌, ◌≢◌, ◌≤◌, ◌||◌, ◌==◌, ℕ, Bool, true, false, eqb, List, [], ◌∷◌, length, map, Some, refl, sym, ap, subst, ◌∙◌, arith}
 use Rattle.std.specs.List.{AllByRecursion, list_any}
-use Rattle.std.proofs.lemmas.Bool.{ne_eqb, eq-eqb, eqb-false}
+use Rattle.std.proofs.lemmas.Bool.{ne_eqb, eq-eqb, eqb-true, eqb-false}
 use Rattle.std.proofs.lemmas.List.{length-map}
 use Rattle.fuse_wire.specs.declared.moment.Moment.{Moment}
 use Rattle.fuse_tree.specs.declared.rows.EntryRow.{EntryRow}
 use Rattle.fuse_tree.specs.declared.rows.Full.{Full}
 use Rattle.fuse_tree.specs.declared.rows.NodeRow.{NodeRow}
-use Rattle.fuse_tree.specs.State.{State, Node, Tree, node_at, up_of, subdirs_of}
+use Rattle.fuse_tree.specs.State.{State, Node, Tree, IsNode, node_at, up_of, subdirs_of}
 use Rattle.fuse_tree.specs.Rows.{full_of, row_of, rows_of_state, counters_of}
 use Rattle.fuse_tree.specs.PlanRenaming.{more, fewer, dir_row, moved_row}
-use Rattle.fuse_tree.proofs.Lists.{or_false}
+use Rattle.fuse_tree.proofs.Lists.{found, or_false}
 use Rattle.fuse_tree.proofs.Puts.{node_found}
 use Rattle.fuse_tree.proofs.Making.{twice}
 use Rattle.fuse_tree.proofs.MovedCounts.{Recounted}
@@ -35,94 +35,115 @@ rows_shifted s D C now fs next rows tree each others =
 pub at_own : (s : State) (k : ℕ) (n : Node) → Tree s → node_at s k ≡ Some n → node_at s n.number ≡ Some n
 at_own s k n tree at = subst (λ (i : ℕ). node_at s i ≡ Some n) (sym (node_found s k n tree at).0) at
 
--- node x comes to stand in directory `to`, and the nodes that Y tells come to stand elsewhere
-module _ (s : State) (now : Moment) (fs : List EntryRow) (next dir to x : ℕ) (Y : ℕ → Bool) (d t c : Node) (tree : Tree s)
-    (at_d : node_at s dir ≡ Some d) (at_t : node_at s to ≡ Some t) (at_c : node_at s x ≡ Some c) (x_dir : x ≢ dir) (x_to : x ≢ to) (y_dir : Y dir ≡ false) (y_to : Y to ≡ false)
-    (ups : (j : ℕ) → j ≢ x → Y j ≡ false → up_of fs j ≡ up_of s.entries j) (up_x : up_of fs x ≡ to) where
-  abbrev pub D : ℕ → Bool
+pub given_at : (s : State) (k : ℕ) (n : Node) → Tree s → node_at s k ≡ Some n → 1 ≤ k
+given_at s k n tree at =
+    let one : 1 ≤ n.number = (found (IsNode s.next_node) (λ m. m.number == k) s.nodes n tree.nodes at).0.from_one in
+    let is : n.number ≡ k = (node_found s k n tree at).0 in
+    omega arith
+
+-- node x comes to stand in directory `to`, it and `dir` change, and the nodes that Y tells come to stand elsewhere
+pub record Shift (s : State) (fs : List EntryRow) (dir to x : ℕ) (Y : ℕ → Bool) (d t c : Node) : Type 0 where
+  pub tree : Tree s
+  pub at_d : node_at s dir ≡ Some d
+  pub at_t : node_at s to ≡ Some t
+  pub at_c : node_at s x ≡ Some c
+  pub x_dir : x ≢ dir
+  pub x_to : x ≢ to
+  pub y_dir : Y dir ≡ false
+  pub y_to : Y to ≡ false
+  pub ups : (j : ℕ) → j ≢ x → Y j ≡ false → up_of fs j ≡ up_of s.entries j
+  pub up_x : up_of fs x ≡ to
+
+module _ {s : State} {fs : List EntryRow} {dir to x : ℕ} {Y : ℕ → Bool} {d t c : Node} (now : Moment) (next : ℕ) (m : Shift s fs dir to x Y d t c) where
+  abbrev D : ℕ → Bool
   D k = (k == to) || (k == dir)
 
-  abbrev pub C : ℕ → Bool
+  abbrev C : ℕ → Bool
   C k = (k == x) || Y k
 
-  abbrev pub after : State
+  abbrev after : State
   after = shifted D C now fs next s
 
-  abbrev pub G : Node → Full
+  abbrev G : Node → Full
   G = then_full s D C now fs next
 
   d_is : d.number ≡ dir
-  d_is = (node_found s dir d tree at_d).0
+  d_is = (node_found s dir d m.tree m.at_d).0
 
   t_is : t.number ≡ to
-  t_is = (node_found s to t tree at_t).0
+  t_is = (node_found s to t m.tree m.at_t).0
 
   c_is : c.number ≡ x
-  c_is = (node_found s x c tree at_c).0
-
-  d_there : D d.number ≡ true
-  d_there = rw (eq-eqb d.number dir d_is) (or_true (eqb d.number to))
-
-  t_there : D t.number ≡ true
-  t_there = rw (eq-eqb t.number to t_is) refl
+  c_is = (node_found s x c m.tree m.at_c).0
 
   d_up : up_of fs d.number ≡ up_of s.entries d.number
-  d_up = ups d.number (λ same. x_dir (sym same ∙ d_is)) (ap Y d_is ∙ y_dir)
+  d_up = m.ups d.number (λ same. m.x_dir (sym same ∙ d_is)) (ap Y d_is ∙ m.y_dir)
 
   t_up : up_of fs t.number ≡ up_of s.entries t.number
-  t_up = ups t.number (λ same. x_to (sym same ∙ t_is)) (ap Y t_is ∙ y_to)
+  t_up = m.ups t.number (λ same. m.x_to (sym same ∙ t_is)) (ap Y t_is ∙ m.y_to)
 
-  pub dir_is : (leaves enters : Bool) → subdirs_of after dir ≡ fewer leaves (more enters (subdirs_of s dir)) → G d ≡ record { row = dir_row now leaves enters (row_of s d); content = d.content }
-  dir_is leaves enters count = dir_then s D C now fs next d _ d_there d_up (subst (λ (k : ℕ). subdirs_of after k ≡ fewer leaves (more enters (subdirs_of s k))) (sym d_is) count)
+  dir_is : (leaves enters : Bool) → subdirs_of after dir ≡ fewer leaves (more enters (subdirs_of s dir)) → G d ≡ record { row = dir_row now leaves enters (row_of s d); content = d.content }
+  dir_is leaves enters count =
+      dir_then s D C now fs next d _ (rw (eq-eqb d.number dir d_is) (or_true (eqb d.number to))) d_up
+      (subst (λ (k : ℕ). subdirs_of after k ≡ fewer leaves (more enters (subdirs_of s k))) (sym d_is) count)
 
-  pub to_is : (leaves enters : Bool) → subdirs_of after to ≡ fewer leaves (more enters (subdirs_of s to)) → G t ≡ record { row = dir_row now leaves enters (row_of s t); content = t.content }
-  to_is leaves enters count = dir_then s D C now fs next t _ t_there t_up (subst (λ (k : ℕ). subdirs_of after k ≡ fewer leaves (more enters (subdirs_of s k))) (sym t_is) count)
+  to_is : (leaves enters : Bool) → subdirs_of after to ≡ fewer leaves (more enters (subdirs_of s to)) → G t ≡ record { row = dir_row now leaves enters (row_of s t); content = t.content }
+  to_is leaves enters count =
+      dir_then s D C now fs next t _ (rw (eq-eqb t.number to t_is) refl) t_up
+      (subst (λ (k : ℕ). subdirs_of after k ≡ fewer leaves (more enters (subdirs_of s k))) (sym t_is) count)
 
-  pub child_is : subdirs_of after x ≡ subdirs_of s x → G c ≡ record { row = moved_row now to (row_of s c); content = c.content }
+  child_is : subdirs_of after x ≡ subdirs_of s x → G c ≡ record { row = moved_row now to (row_of s c); content = c.content }
   child_is count =
-      child_then s D C now fs next c to (rw (c_is, ne_eqb x to x_to, ne_eqb x dir x_dir) refl) (rw (eq-eqb c.number x c_is) refl) (ap (up_of fs) c_is ∙ up_x)
+      child_then s D C now fs next c to (rw (c_is, ne_eqb x to m.x_to, ne_eqb x dir m.x_dir) refl) (rw (eq-eqb c.number x c_is) refl) (ap (up_of fs) c_is ∙ m.up_x)
       (subst (λ (k : ℕ). subdirs_of after k ≡ subdirs_of s k) (sym c_is) count)
 
-  -- a node that Y tells
-  pub lost_is : (y : ℕ) (o : Node) (k : ℕ) → node_at s y ≡ Some o → Y y ≡ true → y ≢ dir → y ≢ to → up_of fs y ≡ k → subdirs_of after y ≡ subdirs_of s y → G o ≡ record { row = moved_row now k (row_of s o); content = o.content }
-  lost_is y o k at is apart_dir apart_to up count =
-      let o_is : o.number ≡ y = (node_found s y o tree at).0 in
-      child_then s D C now fs next o k (rw (o_is, ne_eqb y to apart_to, ne_eqb y dir apart_dir) refl) (rw (o_is, is) (or_true (eqb y x))) (ap (up_of fs) o_is ∙ up)
-      (subst (λ (i : ℕ). subdirs_of after i ≡ subdirs_of s i) (sym o_is) count)
+  rest_is : (n : Node) → n.number ≢ dir → n.number ≢ to → n.number ≢ x → Y n.number ≡ false → subdirs_of after n.number ≡ subdirs_of s n.number → full_of s n ≡ G n
+  rest_is n from_dir from_to from_x isnt count =
+      sym (other_then s D C now fs next n (rw (ne_eqb n.number to from_to, ne_eqb n.number dir from_dir) refl) (rw (ne_eqb n.number x from_x, isnt) refl) (m.ups n.number from_x isnt) count)
 
-  pub rest_is : (n : Node) → n.number ≢ dir → n.number ≢ to → n.number ≢ x → Y n.number ≡ false → subdirs_of after n.number ≡ subdirs_of s n.number → full_of s n ≡ G n
-  rest_is n from_dir from_to from_x isnt count = sym (other_then s D C now fs next n (rw (ne_eqb n.number to from_to, ne_eqb n.number dir from_dir) refl) (rw (ne_eqb n.number x from_x, isnt) refl) (ups n.number from_x isnt) count)
+  module _ {moves comes lost : Bool} (recounted : Recounted (subdirs_of s) (subdirs_of after) dir to moves comes lost) where
+    -- the rows of both directories, or of the one that both are, and that of x
+    abbrev pub dirs_rows : Bool → List NodeRow
+    dirs_rows true = dir_row now lost comes (row_of s d) ∷ moved_row now to (row_of s c) ∷ []
+    dirs_rows false = dir_row now moves comes (row_of s d) ∷ dir_row now lost moves (row_of s t) ∷ moved_row now to (row_of s c) ∷ []
 
-  -- ---- the rows that change
+    one_dir : eqb d.number to ≡ true → dir ≡ to
+    one_dir is = sym d_is ∙ eqb-true d.number to is
 
-  module _ (moves comes lost : Bool) (recounted : Recounted (subdirs_of s) (subdirs_of after) dir to moves comes lost) (one_x : 1 ≤ x) where
-    abbrev pub apart_rows : List NodeRow
-    apart_rows = dir_row now moves comes (row_of s d) ∷ dir_row now lost moves (row_of s t) ∷ moved_row now to (row_of s c) ∷ []
-
-    abbrev pub one_rows : List NodeRow
-    one_rows = dir_row now lost comes (row_of s d) ∷ moved_row now to (row_of s c) ∷ []
+    two_dirs : eqb d.number to ≡ false → dir ≢ to
+    two_dirs is same = eqb-false d.number to is (d_is ∙ same)
 
     child_row : IsRowOf s G (moved_row now to (row_of s c))
-    child_row = (c, at_own s x c tree at_c, child_is (recounted.other x one_x x_dir x_to))
+    child_row = (c, at_own s x c m.tree m.at_c, child_is (recounted.other x (given_at s x c m.tree m.at_c) m.x_dir m.x_to))
 
-    pub apart_are : dir ≢ to → AllByRecursion (IsRowOf s G) apart_rows
-    apart_are ne = ((d, at_own s dir d tree at_d, dir_is moves comes (recounted.from ne)), ((t, at_own s to t tree at_t, to_is lost moves (recounted.into ne)), (child_row, tt)))
+    pub dirs_are : (both : Bool) → eqb d.number to ≡ both → AllByRecursion (IsRowOf s G) (dirs_rows both)
+    dirs_are true is = ((d, at_own s dir d m.tree m.at_d, dir_is lost comes (recounted.one (one_dir is))), (child_row, tt))
+    dirs_are false is = (
+      (d, at_own s dir d m.tree m.at_d, dir_is moves comes (recounted.from (two_dirs is))),
+      ((t, at_own s to t m.tree m.at_t, to_is lost moves (recounted.into (two_dirs is))), (child_row, tt)),
+    )
 
-    pub one_are : dir ≡ to → AllByRecursion (IsRowOf s G) one_rows
-    one_are same = ((d, at_own s dir d tree at_d, dir_is lost comes (recounted.one same)), (child_row, tt))
+    -- a node that Y tells
+    pub lost_is : (y k : ℕ) (o : Node) → node_at s y ≡ Some o → Y y ≡ true → y ≢ dir → y ≢ to → up_of fs y ≡ k → IsRowOf s G (moved_row now k (row_of s o))
+    lost_is y k o at is apart_dir apart_to up =
+        let o_is : o.number ≡ y = (node_found s y o m.tree at).0 in
+        let count : subdirs_of after y ≡ subdirs_of s y = recounted.other y (given_at s y o m.tree at) apart_dir apart_to in (
+          o,
+          at_own s y o m.tree at,
+          child_then s D C now fs next o k (rw (o_is, ne_eqb y to apart_to, ne_eqb y dir apart_dir) refl) (rw (o_is, is) (or_true (eqb y x))) (ap (up_of fs) o_is ∙ up)
+              (subst (λ (i : ℕ). subdirs_of after i ≡ subdirs_of s i) (sym o_is) count),
+        )
 
-    rest_same : (n : Node) → 1 ≤ n.number → n.number ≢ dir → n.number ≢ to → n.number ≢ x → Y n.number ≡ false → full_of s n ≡ G n
-    rest_same n one from_dir from_to from_x isnt = rest_is n from_dir from_to from_x isnt (recounted.other n.number one from_dir from_to)
+    rest_same : (n : Node) → 1 ≤ n.number → eqb n.number d.number ≡ false → n.number ≢ to → eqb n.number c.number ≡ false → Y n.number ≡ false → full_of s n ≡ G n
+    rest_same n one not_d from_to not_c isnt =
+        let from_dir : n.number ≢ dir = λ same. eqb-false n.number d.number not_d (same ∙ sym d_is) in
+        rest_is n from_dir from_to (λ same. eqb-false n.number c.number not_c (same ∙ sym c_is)) isnt (recounted.other n.number one from_dir from_to)
 
-    pub apart_rest : (n : Node) → 1 ≤ n.number → Y n.number ≡ false → list_any (λ row. n.number == row.node) apart_rows ≡ false → full_of s n ≡ G n
-    apart_rest n one isnt none =
-        let first = or_false _ _ none in
-        let second = or_false _ _ first.1 in
-        let third = or_false _ _ second.1 in
-        rest_same n one (λ same. eqb-false n.number d.number first.0 (same ∙ sym d_is)) (λ same. eqb-false n.number t.number second.0 (same ∙ sym t_is)) (λ same. eqb-false n.number c.number third.0 (same ∙ sym c_is)) isnt
-
-    pub one_rest : dir ≡ to → (n : Node) → 1 ≤ n.number → Y n.number ≡ false → list_any (λ row. n.number == row.node) one_rows ≡ false → full_of s n ≡ G n
-    one_rest both n one isnt none =
-        let first = or_false _ _ none in
-        let second = or_false _ _ first.1 in
-        rest_same n one (λ same. eqb-false n.number d.number first.0 (same ∙ sym d_is)) (λ same. eqb-false n.number d.number first.0 (same ∙ sym both ∙ sym d_is)) (λ same. eqb-false n.number c.number second.0 (same ∙ sym c_is)) isnt
+    pub dirs_rest : (both : Bool) → eqb d.number to ≡ both → (n : Node) → 1 ≤ n.number → Y n.number ≡ false → list_any (λ row. n.number == row.node) (dirs_rows both) ≡ false → full_of s n ≡ G n
+    dirs_rest true is n one isnt none =
+        let first = or_false (eqb n.number d.number) _ none in
+        rest_same n one first.0 (λ same. eqb-false n.number d.number first.0 (same ∙ sym (eqb-true d.number to is))) (or_false (eqb n.number c.number) _ first.1).0 isnt
+    dirs_rest false is n one isnt none =
+        let first = or_false (eqb n.number d.number) _ none in
+        let second = or_false (eqb n.number t.number) _ first.1 in
+        rest_same n one first.0 (λ same. eqb-false n.number t.number second.0 (same ∙ sym t_is)) (or_false (eqb n.number c.number) _ second.1).0 isnt

@@ -10,6 +10,7 @@ mod mknod;
 mod opening;
 mod pieces;
 mod removing;
+mod renaming;
 mod setattr;
 
 use super::*;
@@ -116,6 +117,18 @@ fn planned_at(
         ext: b"",
     };
     plan(look, alloc, &request, now)
+}
+
+fn planned(
+    look: &mut PlainRows,
+    alloc: Global,
+    nodeid: u64,
+    op: Op<'_>,
+) -> Result<Planned, PlanFault>
+    requires { fault_of look.old ≡ None }
+    ensures { OnOk result (fault_of look.new ≡ None) }
+{
+    planned_at(look, alloc, at(1000), nodeid, op)
 }
 
 fn answered_at(
@@ -377,7 +390,7 @@ fn limits(rt: HostRuntime) -> Result<(), Fail> {
 fn is_no_tree(alloc: Global, change: Change, nodeid: u64, op: Op<'_>) -> Result<bool, Fail> {
     let mut look = begun(alloc)?;
     look.apply(change)?;
-    let told = planned_at(&mut look, alloc, at(1000), nodeid, op);
+    let told = planned(&mut look, alloc, nodeid, op);
     Ok(matches!(told, Err(PlanFault::NotATree)))
 }
 

@@ -7,7 +7,7 @@ use Rattle.fuse_store.specs.declared.fault.StoreFault.TheVariants as store
 use Rattle.fuse_session.specs.declared.ended.Ended.{Ended}
 use Rattle.fuse_session.specs.declared.ended.Ended.TheVariants as session
 use Rattle.fusekeep.specs.declared.ending.Ending.{Ending}
-use Rattle.fusekeep.specs.declared.ending.Ending.TheVariants.{Done, Short, TooLong, Cut, ZeroUnique, Malformed, Usage, Sql, NotAStore, Version, Damaged, PortFailed, PortTurns, Memory}
+use Rattle.fusekeep.specs.declared.ending.Ending.TheVariants.{Done, Short, TooLong, Cut, ZeroUnique, Malformed, ScriptLine, Usage, Sql, NotAStore, Version, Damaged, PortFailed, PortTurns, Memory}
 
 abbrev pub status_of : Ending → ℕ
 status_of Done = 0
@@ -16,6 +16,7 @@ status_of (TooLong _ _) = 1
 status_of (Cut _ _ _) = 1
 status_of (ZeroUnique _) = 1
 status_of Malformed = 1
+status_of (ScriptLine _) = 1
 status_of Usage = 2
 status_of Sql = 3
 status_of NotAStore = 3
@@ -42,6 +43,7 @@ line_of (Cut at have need) =
     Some (codes "stream: Cut at " ++ (decimal at ++ (codes ": have " ++ (decimal have ++ (codes ", need " ++ decimal need)))))
 line_of (ZeroUnique at) = Some (codes "stream: ZeroUnique at " ++ decimal at)
 line_of Malformed = None
+line_of (ScriptLine line) = Some (codes "script: line " ++ decimal line)
 line_of Usage = None
 line_of Sql = Some (codes "store: Sql")
 line_of NotAStore = Some (codes "store: NotAStore")

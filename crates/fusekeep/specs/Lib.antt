@@ -1,3 +1,6 @@
+pub mod Reading
+pub mod Scripts
+pub mod Simulating
 pub mod Checking
 pub mod Dumping
 pub mod Messages

@@ -31,3 +31,7 @@ count_line c =
     ++ (codes " bare=" ++ (decimal c.bare
     ++ (codes " silent=" ++ (decimal c.silent
     ++ (codes " interrupts=" ++ decimal c.interrupts))))))))))
+
+-- how much a store holds, without the line feed
+abbrev pub store_line : ℕ → ℕ → List ℕ
+store_line nodes handles = codes "nodes=" ++ (decimal nodes ++ (codes " handles=" ++ decimal handles))

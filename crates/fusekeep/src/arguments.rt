@@ -12,11 +12,15 @@ const CHECK: &str = "check";
 
 const REPLAY: &str = "replay";
 
+const SIMULATE: &str = "simulate";
+
 const AT: &str = "at";
 
 const FILE: &str = "file";
 
 const STREAM: &str = "stream";
+
+const SCRIPT: &str = "script";
 
 /// What the words of a command line ask for.
 #[derive(Clone, Copy, Debug, PartialEq, Eq)]
@@ -27,14 +31,17 @@ pub enum Run<'a> {
     Check { file: &'a str },
     /// To serve a recorded stream, each request at the same second.
     Replay { at: u64, stream: &'a str },
+    /// To run the events of a script.
+    Simulate { script: &'a str },
 }
 
 impl<'a> Run<'a> {
-    /// The file of the stream, or `STANDARD_INPUT`.
+    /// The file of the input, or `STANDARD_INPUT`.
     pub fn input(&self) -> &'a str {
         match *self {
             Run::Dump { file } | Run::Check { file } => file,
             Run::Replay { stream, .. } => stream,
+            Run::Simulate { script } => script,
         }
     }
 }
@@ -75,13 +82,27 @@ fn replay_command<'a>(alloc: Global) -> Result<Command<'a>, AllocError> {
         .arg(stream_argument(alloc))
 }
 
+fn script_argument<'a>(alloc: Global) -> Arg<'a> {
+    Arg::new(alloc, SCRIPT)
+        .value_name("SCRIPT")
+        .required(true)
+        .help("The file of the script, or - for standard input")
+}
+
+fn simulate_command<'a>(alloc: Global) -> Result<Command<'a>, AllocError> {
+    Command::new(alloc, SIMULATE)
+        .about("Runs the events of a script over a new store in memory")
+        .arg(script_argument(alloc))
+}
+
 fn program_command<'a>(alloc: Global) -> Result<Command<'a>, AllocError> {
     Command::new(alloc, "fusekeep")
         .about("Serves FUSE requests, with recovery by resends")
         .subcommand_required(true)
         .subcommand(file_command(alloc, DUMP, "Prints a line for each message of a stream")?)?
         .subcommand(file_command(alloc, CHECK, "Counts the messages of a stream")?)?
-        .subcommand(replay_command(alloc)?)
+        .subcommand(replay_command(alloc)?)?
+        .subcommand(simulate_command(alloc)?)
 }
 
 fn replay_run<'a>(found: &ArgMatches<'a>) -> Option<Run<'a>> {
@@ -99,6 +120,9 @@ fn run_of<'a>(matches: &ArgMatches<'a>) -> Option<Run<'a>> {
             file: found.get_str(FILE)?,
         }),
         (REPLAY, found) => replay_run(found),
+        (SIMULATE, found) => Some(Run::Simulate {
+            script: found.get_str(SCRIPT)?,
+        }),
         _ => None,
     }
 }

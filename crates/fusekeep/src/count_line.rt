@@ -1,4 +1,5 @@
 use fuse_session::SessionCounts;
+use fuse_store::StoreCounts;
 use std::fmt;
 
 /// The line that tells how many messages a session worked off, by their class.
@@ -23,5 +24,20 @@ impl fmt::Display for CountLine {
             counts.silent,
             counts.interrupts
         )
+    }
+}
+
+/// The line that tells how many nodes and open handles a store holds.
+#[derive(Clone, Copy, Debug, PartialEq, Eq)]
+pub struct StoreLine(pub StoreCounts);
+
+impl fmt::Display for StoreLine {
+    ghost use Rattle.std.specs.Prelude.{Some};
+    ghost use Rattle.fusekeep.specs.Printing.{store_line};
+
+    ghost output = { λ line. Some (store_line line.0.nodes line.0.handles) };
+
+    fn fmt<W: fmt::Write>(&self, f: &mut fmt::Formatter<W>) -> fmt::Result {
+        write!(f, "nodes={} handles={}", self.0.nodes, self.0.handles)
     }
 }

@@ -21,6 +21,8 @@ pub enum Ending {
     ZeroUnique { at: u64 },
     /// Some messages of the stream spell no request.
     Malformed,
+    /// A line of a script has no right form. Lines are counted from 1.
+    ScriptLine { line: u64 },
     /// The words of the command line are no command, or ask for help.
     Usage,
     /// The database refused a statement.
@@ -80,7 +82,7 @@ impl Ending {
         }
     }
 
-    /// Whether the stream was served as far as it goes.
+    /// Whether the input was gone through as far as it goes.
     pub fn is_of_stream(self) -> bool
         ensures { result ≡ nat_le (status_of self) 1 }
     {
@@ -97,7 +99,8 @@ impl Ending {
             | Ending::TooLong { .. }
             | Ending::Cut { .. }
             | Ending::ZeroUnique { .. }
-            | Ending::Malformed => 1,
+            | Ending::Malformed
+            | Ending::ScriptLine { .. } => 1,
             Ending::Usage => 2,
             Ending::Sql | Ending::NotAStore | Ending::Version(_) | Ending::Damaged => 3,
             Ending::PortFailed | Ending::PortTurns => 4,
@@ -136,6 +139,7 @@ impl fmt::Display for FaultLine {
                 write!(f, "stream: Cut at {at}: have {have}, need {need}")
             }
             Ending::ZeroUnique { at } => write!(f, "stream: ZeroUnique at {at}"),
+            Ending::ScriptLine { line } => write!(f, "script: line {line}"),
             Ending::Sql => f.write_str("store: Sql"),
             Ending::NotAStore => f.write_str("store: NotAStore"),
             Ending::Version(version) => write!(f, "store: Version({version})"),

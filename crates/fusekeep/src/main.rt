@@ -1,4 +1,4 @@
-//! The program `fusekeep`: serves recorded streams of FUSE requests.
+//! The program `fusekeep`: serves recorded streams of FUSE requests, and runs scripts of them.
 #![tactic(auto)]
 
 mod arguments;
@@ -8,7 +8,10 @@ mod dump;
 mod ending;
 mod messages;
 mod printing;
+mod reading;
 mod replay;
+mod script;
+mod simulate;
 #[cfg(test)]
 mod tests;
 
@@ -21,6 +24,7 @@ use ending::Ending;
 use fuse_store::PlainKeeper;
 use fuse_wire::Moment;
 use replay::run_replay;
+use simulate::run_simulate;
 use std::alloc::Global;
 use std::io::{BufWriter, Read, Write};
 use std::process::ExitCode;
@@ -82,6 +86,7 @@ fn run_on<R: Print + AllocGlobal, S: Read + Drop>(rt: &R, mut reader: S, run: Ru
         Run::Dump { .. } => run_dump(alloc, reader, &mut writer),
         Run::Check { .. } => run_check(alloc, reader, &mut writer),
         Run::Replay { at, .. } => replay_from(alloc, &mut reader, &mut writer, at),
+        Run::Simulate { .. } => run_simulate(alloc, reader, &mut writer),
     }
 }
 

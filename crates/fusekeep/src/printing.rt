@@ -4,11 +4,12 @@ ghost use Rattle.std.specs.Io.KnownBytes.{Appends};
 ghost use Rattle.hex.specs.Hex.{encode_lower};
 ghost use Rattle.fuse_request.specs.Stream.{joined};
 ghost use Rattle.fuse_answer.specs.Laws.{BeginsWithLen};
-ghost use Rattle.fusekeep.specs.Printing.{line, answer_lines, IsAnswer, count_line};
+ghost use Rattle.fusekeep.specs.Printing.{line, answer_lines, IsAnswer, count_line, store_line};
 
-use crate::count_line::CountLine;
+use crate::count_line::{CountLine, StoreLine};
 use crate::ending::Ending;
 use fuse_session::SessionCounts;
+use fuse_store::StoreCounts;
 use fuse_wire::{Fields, one_number};
 use std::alloc::Global;
 use std::io::Write;
@@ -27,8 +28,8 @@ fn front_len(sent: &[u8]) -> usize
     }
 }
 
-// Writes one answer in hexadecimal, on a line of its own.
-fn write_hex_line<W: Write>(alloc: Global, writer: &mut W, answer: &[u8]) -> Result<(), Ending>
+/// Writes one answer in hexadecimal, on a line of its own.
+pub fn write_hex_line<W: Write>(alloc: Global, writer: &mut W, answer: &[u8]) -> Result<(), Ending>
     ensures ok { OnOk result (Appends (W.contents writer.old) (W.contents writer.new) (line (encode_lower answer.now))) }
     ensures err { IfErr result (λ ending. (ending ≡ Ending.PortFailed) ⊎ (ending ≡ Ending.Memory)) }
 {
@@ -62,6 +63,18 @@ pub fn write_counts<W: Write>(writer: &mut W, counts: SessionCounts) -> Result<(
     ensures err { IfErr result (λ ending. ending ≡ Ending.PortFailed) }
 {
     let counts = CountLine(counts);
+    if writeln!(writer, "{counts}").is_err() {
+        return Err(Ending::PortFailed);
+    }
+    Ok(())
+}
+
+/// Writes the line of what a store holds.
+pub fn write_store<W: Write>(writer: &mut W, counts: StoreCounts) -> Result<(), Ending>
+    ensures ok { OnOk result (Appends (W.contents writer.old) (W.contents writer.new) (line (store_line counts.nodes counts.handles))) }
+    ensures err { IfErr result (λ ending. ending ≡ Ending.PortFailed) }
+{
+    let counts = StoreLine(counts);
     if writeln!(writer, "{counts}").is_err() {
         return Err(Ending::PortFailed);
     }

@@ -9,13 +9,14 @@ const WHOLE: usize = 250;
 const HEADER: usize = 40;
 
 fn five_messages(alloc: Global) -> Result<Vec<u8>, AllocError> {
-    let mut out = Vec::new(alloc);
-    put_mkdir(&mut out, 4, b'a')?;
-    put_lookup(&mut out, 6)?;
-    put_getattr(&mut out, 8, 2)?;
-    put_forget(&mut out, 10)?;
-    put_mkdir(&mut out, RESENT | 4, b'a')?;
-    Ok(out)
+    let asked = [
+        Ask::Mkdir(4, b'a'),
+        Ask::Lookup(6),
+        Ask::Getattr(8, 2),
+        Ask::Forget(10),
+        Ask::Mkdir(RESENT | 4, b'a'),
+    ];
+    asks(alloc, &asked)
 }
 
 // What one message is answered.
@@ -122,44 +123,26 @@ fn answers(
     for ((place, _), one) in PLACES.iter().zip(said).take(count) {
         let unique = unique_at(stream, *place);
         match one {
-            Said::Entry => put_entry(&mut out, unique, 2)?,
-            Said::Attr => put_attr(&mut out, unique, 2)?,
-            Said::Error(errno) => put_error(&mut out, unique, *errno)?,
+            Said::Entry => put_reply(&mut out, Reply::Entry(unique, 2))?,
+            Said::Attr => put_reply(&mut out, Reply::Attr(unique, 2))?,
+            Said::Error(errno) => put_reply(&mut out, Reply::Error(unique, *errno))?,
             Said::Nothing => {}
         }
     }
     Ok(out)
 }
 
-// How a session ends, by numbers alone.
-#[derive(Clone, Copy, Debug, PartialEq, Eq)]
-enum Told {
-    End,
-    TooLong { at: u64, len: u32 },
-    Cut { at: u64, have: u64, need: u64 },
-    Other,
-}
-
-fn told_of(ended: &Ended) -> Told {
-    match ended {
-        Ended::End => Told::End,
-        Ended::Frame(FrameFault::TooLong { at, len }) => Told::TooLong { at: *at, len: *len },
-        Ended::Frame(FrameFault::Cut { at, have, need }) => Told::Cut {
-            at: *at,
-            have: u64::from(*have),
-            need: u64::from(*need),
-        },
-        _ => Told::Other,
-    }
-}
-
 // The end on a rest of a message that begins here and has this length.
 fn cut_at(at: usize, have: usize, len: u32) -> Told {
-    Told::Cut {
+    Told::Frame(FrameFault::Cut {
         at: at as u64,
         have: have as u64,
         need: if have < 4 { 4 } else { u64::from(len) },
-    }
+    })
+}
+
+fn too_long(at: usize, len: u32) -> Told {
+    Told::Frame(FrameFault::TooLong { at: at as u64, len })
 }
 
 // How many messages are whole in this many bytes, and how serving them ends.
@@ -190,23 +173,10 @@ fn end_with_length(size: usize, message: usize, byte: usize) -> (usize, Told) {
         0 => cut_at(at, have, 0xff),
         1 => cut_at(at, have, len | 0xff00),
         _ if have < 4 => cut_at(at, have, 0),
-        2 => Told::TooLong {
-            at: at as u64,
-            len: 0xff_0000 | len,
-        },
-        _ => Told::TooLong {
-            at: at as u64,
-            len: 0xff00_0000 | len,
-        },
+        2 => too_long(at, 0xff_0000 | len),
+        _ => too_long(at, 0xff00_0000 | len),
     };
     (message, told)
-}
-
-// Serves a stream behind row init-agreed: how it ends, and what was sent.
-fn serve_new(alloc: Global, stream: &[u8]) -> Result<Run, Fail> {
-    let mut keeper = begun(alloc)?;
-    let input = stream.to_vec(alloc)?;
-    Ok(serve_once(alloc, &mut keeper, input, plain_peer(alloc))?)
 }
 
 // A stream of which this byte of the message that begins here is another.
@@ -227,8 +197,14 @@ fn ends_so(
 ) -> Result<bool, Fail> {
     let (count, told) = end;
     let wanted = answers(alloc, stream, said, count)?;
-    let run = serve_new(alloc, stream)?;
-    Ok(told_of(&run.ended) == told && run.sent() == wanted.as_slice())
+    let input = stream.to_vec(alloc)?;
+    let seen = serve_begun(alloc, plain(alloc, input, wanted))?;
+    Ok(seen.ended == told && seen.is_sent)
+}
+
+fn ends_well(alloc: Global, stream: Vec<u8>) -> Result<bool, Fail> {
+    let seen = serve_begun(alloc, plain(alloc, stream, Vec::new(alloc)))?;
+    Ok(seen.ended == Told::End)
 }
 
 #[test]
@@ -282,8 +258,7 @@ fn each_other_byte_of_a_header(rt: HostRuntime) -> Result<(), Fail> {
             let field = field_at(byte);
             let changed = with_ff(alloc, stream.as_slice(), *at, byte)?;
             if (message, field) == (0, Field::Owner) {
-                let run = serve_new(alloc, changed.as_slice())?;
-                assert!(rt; run.ended_well(), "{byte} of {message}");
+                assert!(rt; ends_well(alloc, changed)?, "{byte} of {message}");
             } else {
                 let said = said_with(message, field);
                 assert!(rt;

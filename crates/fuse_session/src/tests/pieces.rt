@@ -26,16 +26,13 @@ fn small_pieces(alloc: Global, size: usize, count: usize) -> Result<Peer, AllocE
 
 // Serves row first-run, and says whether all is as the row has it.
 fn first_run(alloc: Global, peer: Peer) -> Result<bool, Fail> {
-    let mut keeper = begun(alloc)?;
-    let input = hex(alloc, FIRST_RUN)?;
-    let wanted = hex(alloc, FIRST_ANSWERS)?;
-    let run = serve_once(alloc, &mut keeper, input, peer)?;
-    Ok(
-        run.ended_well()
-            && run.sent() == wanted.as_slice()
-            && run.counts == FIRST_COUNTS
-            && held(&mut keeper)? == (2, 3),
-    )
+    let session = Session {
+        input: hex(alloc, FIRST_RUN)?,
+        peer,
+        wanted: hex(alloc, FIRST_ANSWERS)?,
+    };
+    let seen = serve_begun(alloc, session)?;
+    Ok(seen.is(Told::End, (2, 3)) && seen.counts == FIRST_COUNTS)
 }
 
 #[test]
@@ -63,68 +60,62 @@ fn first_run_in_small_pieces(rt: HostRuntime) -> Result<(), Fail> {
     Ok(())
 }
 
+// Serves row missing-lookup and what follows it.
+fn missing_lookup(alloc: Global, rest: &str, peer: Peer) -> Result<Seen, Fail> {
+    let mut input = hex(alloc, LOOKUP_HELLO)?;
+    put_hex(&mut input, rest)?;
+    let wanted = hex(alloc, NOT_THERE)?;
+    serve_begun(
+        alloc,
+        Session {
+            input,
+            peer,
+            wanted,
+        },
+    )
+}
+
 #[test]
 fn missing_lookup_byte_by_byte(rt: HostRuntime) -> Result<(), Fail> {
     let alloc = rt.alloc();
-    let mut keeper = begun(alloc)?;
-    let input = hex(alloc, LOOKUP_HELLO)?;
-    let run = serve_once(alloc, &mut keeper, input, small_pieces(alloc, 1, 46)?)?;
-    assert!(rt; run.ended_well());
-    assert_eq!(rt; run.sent(), hex(alloc, NOT_THERE)?.as_slice());
-    assert_eq!(rt; held(&mut keeper)?, (1, 2), "the refusal is recorded");
+    let seen = missing_lookup(alloc, "", small_pieces(alloc, 1, 46)?)?;
+    assert!(rt; seen.is(Told::End, (1, 2)), "the refusal is recorded");
     Ok(())
 }
 
 #[test]
 fn empty_stream(rt: HostRuntime) -> Result<(), Fail> {
     let alloc = rt.alloc();
-    let mut keeper = begun(alloc)?;
-    let run = serve_once(alloc, &mut keeper, Vec::new(alloc), plain_peer(alloc))?;
-    assert!(rt; run.ended_well());
-    assert_eq!(rt; run.counts, SessionCounts::NONE);
-    assert_eq!(rt; run.sent().len(), 0);
+    let seen = serve_begun(alloc, plain(alloc, Vec::new(alloc), Vec::new(alloc)))?;
+    assert!(rt; seen.is(Told::End, (1, 1)));
+    assert_eq!(rt; seen.counts, SessionCounts::NONE);
     Ok(())
 }
 
 #[test]
 fn cut_stream(rt: HostRuntime) -> Result<(), Fail> {
     let alloc = rt.alloc();
-    let mut keeper = begun(alloc)?;
-    let mut input = hex(alloc, LOOKUP_HELLO)?;
-    input.extend_from_slice(&[1, 2, 3])?;
-    let run = serve_once(alloc, &mut keeper, input, plain_peer(alloc))?;
+    let seen = missing_lookup(alloc, "010203", plain_peer(alloc))?;
     let fault = FrameFault::Cut {
         at: 46,
         have: 3,
         need: 4,
     };
-    assert!(rt; has_fault(&run, fault));
-    assert_eq!(rt; run.sent(), hex(alloc, NOT_THERE)?.as_slice());
+    assert!(rt; seen.is(Told::Frame(fault), (1, 2)));
     Ok(())
 }
 
 #[test]
 fn length_bounds(rt: HostRuntime) -> Result<(), Fail> {
     let alloc = rt.alloc();
-    let short = FrameFault::Short { at: 46, len: 39 };
-    let long = FrameFault::TooLong {
+    let short = missing_lookup(alloc, "27000000", plain_peer(alloc))?;
+    let fault = FrameFault::Short { at: 46, len: 39 };
+    assert!(rt; short.is(Told::Frame(fault), (1, 2)));
+    let long = missing_lookup(alloc, "01100200", plain_peer(alloc))?;
+    let fault = FrameFault::TooLong {
         at: 46,
         len: 135_169,
     };
-    for (text, fault) in [("27000000", short), ("01100200", long)] {
-        let mut keeper = begun(alloc)?;
-        let mut input = hex(alloc, LOOKUP_HELLO)?;
-        put_hex(&mut input, text)?;
-        let run = serve_once(alloc, &mut keeper, input, plain_peer(alloc))?;
-        assert!(rt; has_fault(&run, fault), "{text}");
-        assert_eq!(rt; run.sent(), hex(alloc, NOT_THERE)?.as_slice());
-    }
+    assert!(rt; long.is(Told::Frame(fault), (1, 2)));
     Ok(())
-}
-
-fn has_fault(run: &Run, fault: FrameFault) -> bool {
-    match &run.ended {
-        Ended::Frame(found) => *found == fault,
-        _ => false,
-    }
 }

@@ -9,59 +9,67 @@ fn peer_of(alloc: Global, arrivals: &[Arrival], outcomes: &[Outcome]) -> Result<
     })
 }
 
+// Serves these messages. Of these answers so many bytes are to be sent.
+fn serve_over(
+    alloc: Global,
+    asked: &str,
+    peer: Peer,
+    answers: &str,
+    taken: usize,
+) -> Result<Seen, Fail> {
+    let answers = hex(alloc, answers)?;
+    let session = Session {
+        input: hex(alloc, asked)?,
+        peer,
+        wanted: front(answers.as_slice(), taken).to_vec(alloc)?,
+    };
+    serve_begun(alloc, session)
+}
+
+// Row missing-lookup over a port that answers so to each send.
+fn lookup_over(alloc: Global, outcomes: &[Outcome], taken: usize) -> Result<Seen, Fail> {
+    let peer = peer_of(alloc, &[], outcomes)?;
+    serve_over(alloc, LOOKUP_HELLO, peer, NOT_THERE, taken)
+}
+
 #[test]
-fn send_stops(rt: HostRuntime) -> Result<(), Fail> {
+fn send_fails(rt: HostRuntime) -> Result<(), Fail> {
+    let seen = lookup_over(rt.alloc(), &[Outcome::Take(10), Outcome::Failed], 10)?;
+    assert!(rt; seen.is(Told::PortFailed, (1, 2)), "the record is there");
+    Ok(())
+}
+
+#[test]
+fn send_takes_nothing(rt: HostRuntime) -> Result<(), Fail> {
     let alloc = rt.alloc();
-    let wanted = hex(alloc, NOT_THERE)?;
-    let input = hex(alloc, LOOKUP_HELLO)?;
-    let ways: [(&[Outcome], usize); 3] = [
-        (&[Outcome::Take(10), Outcome::Failed], 10),
-        (&[Outcome::Take(10), Outcome::Take(0)], 10),
-        (&[Outcome::Take(0)], 0),
-    ];
-    for (outcomes, taken) in ways {
-        let mut keeper = begun(alloc)?;
-        let peer = peer_of(alloc, &[], outcomes)?;
-        let run = serve_once(alloc, &mut keeper, input.clone()?, peer)?;
-        assert!(rt; run.port_failed());
-        assert_eq!(rt; run.sent(), front(wanted.as_slice(), taken));
-        assert_eq!(rt; held(&mut keeper)?, (1, 2), "the record is there");
-    }
+    let first = lookup_over(alloc, &[Outcome::Take(0)], 0)?;
+    assert!(rt; first.is(Told::PortFailed, (1, 2)), "the record is there");
+    let second = lookup_over(alloc, &[Outcome::Take(10), Outcome::Take(0)], 10)?;
+    assert!(rt; second.is(Told::PortFailed, (1, 2)), "the record is there");
     Ok(())
 }
 
 #[test]
 fn answer_taken_in_parts(rt: HostRuntime) -> Result<(), Fail> {
-    let alloc = rt.alloc();
-    let wanted = hex(alloc, NOT_THERE)?;
-    let input = hex(alloc, LOOKUP_HELLO)?;
-    let mut keeper = begun(alloc)?;
-    let peer = peer_of(
-        alloc,
-        &[],
-        &[Outcome::Take(10), Outcome::Take(5), Outcome::Take(1)],
-    )?;
-    let run = serve_once(alloc, &mut keeper, input.clone()?, peer)?;
-    assert!(rt; run.ended_well());
-    assert_eq!(rt; run.sent(), wanted.as_slice());
+    let parts = [Outcome::Take(10), Outcome::Take(5), Outcome::Take(1)];
+    let seen = lookup_over(rt.alloc(), &parts, 16)?;
+    assert!(rt; seen.is(Told::End, (1, 2)));
     Ok(())
+}
+
+// Row first-run over a port that answers so to each send.
+fn first_run_over(alloc: Global, outcomes: &[Outcome], taken: usize) -> Result<Seen, Fail> {
+    let peer = peer_of(alloc, &[], outcomes)?;
+    serve_over(alloc, FIRST_RUN, peer, FIRST_ANSWERS, taken)
 }
 
 #[test]
 fn gone_then_failed(rt: HostRuntime) -> Result<(), Fail> {
     let alloc = rt.alloc();
-    let wanted = hex(alloc, FIRST_ANSWERS)?;
-    let input = hex(alloc, FIRST_RUN)?;
-    let mut keeper = begun(alloc)?;
-    let peer = peer_of(alloc, &[], &[Outcome::Gone, Outcome::Failed])?;
-    let failed = serve_once(alloc, &mut keeper, input.clone()?, peer)?;
-    assert!(rt; failed.port_failed());
-    assert_eq!(rt; failed.sent(), front(wanted.as_slice(), 144));
-    let mut keeper = begun(alloc)?;
-    let peer = peer_of(alloc, &[], &[Outcome::Gone])?;
-    let passed = serve_once(alloc, &mut keeper, input.clone()?, peer)?;
-    assert!(rt; passed.ended_well());
-    assert_eq!(rt; passed.sent(), wanted.as_slice());
+    let failed = first_run_over(alloc, &[Outcome::Gone, Outcome::Failed], 144)?;
+    assert!(rt; failed.is(Told::PortFailed, (2, 3)));
+    let passed = first_run_over(alloc, &[Outcome::Gone], 408)?;
+    assert!(rt; passed.is(Told::End, (2, 3)));
     assert_eq!(rt; passed.counts.messages, 3);
     Ok(())
 }
@@ -69,90 +77,86 @@ fn gone_then_failed(rt: HostRuntime) -> Result<(), Fail> {
 #[test]
 fn receive_fails(rt: HostRuntime) -> Result<(), Fail> {
     let alloc = rt.alloc();
-    let wanted = hex(alloc, NOT_THERE)?;
-    let input = hex(alloc, LOOKUP_HELLO)?;
-    let mut keeper = begun(alloc)?;
     let peer = peer_of(alloc, &[Arrival::Piece(46), Arrival::Failed], &[])?;
-    let run = serve_once(alloc, &mut keeper, input.clone()?, peer)?;
-    assert!(rt; run.port_failed());
-    assert_eq!(rt; run.sent(), wanted.as_slice());
+    let seen = serve_over(alloc, LOOKUP_HELLO, peer, NOT_THERE, 16)?;
+    assert!(rt; seen.is(Told::PortFailed, (1, 2)));
     Ok(())
 }
 
-// After a fault the kernel resends what it got no answer to: the answers are those of row first-run, resent, and the
-// tree is the row's.
-fn resend_rest(alloc: Global, keeper: &mut PlainKeeper, first: usize) -> Result<bool, Fail> {
-    let mut input = hex(alloc, FIRST_RUN)?;
-    let mut wanted = hex(alloc, FIRST_ANSWERS)?;
-    mark_resent(&mut input, &ASKED);
-    mark_resent(&mut wanted, &ANSWERED);
-    let begin = size_of_first(&ASKED, first);
-    let answered = size_of_first(&ANSWERED, first);
-    let rest = behind(input.as_slice(), begin).to_vec(alloc)?;
-    let run = serve_once(alloc, keeper, rest, plain_peer(alloc))?;
-    Ok(
-        run.ended_well()
-            && run.sent() == behind(wanted.as_slice(), answered)
-            && held(keeper)? == (2, 3),
-    )
+// Row first-run over a port that fails after so many answers.
+fn failing(alloc: Global, peer: Peer, answered: usize) -> Result<Session, AllocError> {
+    let answers = hex(alloc, FIRST_ANSWERS)?;
+    let taken = size_of_first(&ANSWERED, answered);
+    Ok(Session {
+        input: hex(alloc, FIRST_RUN)?,
+        peer,
+        wanted: front(answers.as_slice(), taken).to_vec(alloc)?,
+    })
 }
 
-// Each receive in turn fails: what came before is answered, and nothing else.
+// What the kernel resends after that: what it got no answer to.
+fn resent_rest(alloc: Global, answered: usize) -> Result<Session, AllocError> {
+    let mut asked = hex(alloc, FIRST_RUN)?;
+    let mut answers = hex(alloc, FIRST_ANSWERS)?;
+    mark_resent(&mut asked, &ASKED);
+    mark_resent(&mut answers, &ANSWERED);
+    let begin = size_of_first(&ASKED, answered);
+    let taken = size_of_first(&ANSWERED, answered);
+    Ok(Session {
+        input: behind(asked.as_slice(), begin).to_vec(alloc)?,
+        peer: plain_peer(alloc),
+        wanted: behind(answers.as_slice(), taken).to_vec(alloc)?,
+    })
+}
+
+// The answers before the fault are sent and nothing else, and then, resent, those of the row. The tree is the row's.
+fn is_served(alloc: Global, peer: Peer, answered: usize) -> Result<bool, Fail> {
+    let first = failing(alloc, peer, answered)?;
+    let second = resent_rest(alloc, answered)?;
+    let (failed, passed) = serve_both(alloc, first, second)?;
+    Ok(failed.ended == Told::PortFailed && failed.is_sent && passed.is(Told::End, (2, 3)))
+}
+
+// A message in each piece, and then a failure.
+fn receives(alloc: Global, before: usize) -> Result<Peer, AllocError> {
+    let mut peer = plain_peer(alloc);
+    put_pieces(&mut peer.arrivals, ASKED.get(..before).unwrap_or(&ASKED))?;
+    peer.arrivals.push(Arrival::Failed)?;
+    Ok(peer)
+}
+
+// Each receive in turn fails.
 #[test]
 fn each_receive(rt: HostRuntime) -> Result<(), Fail> {
     let alloc = rt.alloc();
-    let wanted = hex(alloc, FIRST_ANSWERS)?;
-    let input = hex(alloc, FIRST_RUN)?;
     for before in 0..4 {
-        let mut keeper = begun(alloc)?;
-        let mut peer = plain_peer(alloc);
-        put_pieces(&mut peer.arrivals, &ASKED[..before])?;
-        peer.arrivals.push(Arrival::Failed)?;
-        let run = serve_once(alloc, &mut keeper, input.clone()?, peer)?;
-        assert!(rt; run.port_failed(), "{before} messages before");
-        let answered = size_of_first(&ANSWERED, before);
-        assert_eq!(rt;
-            run.sent(),
-            front(wanted.as_slice(), answered),
-            "{before} messages before"
-        );
-        assert!(rt;
-            resend_rest(alloc, &mut keeper, before)?,
-            "{before} messages before"
-        );
+        let served = is_served(alloc, receives(alloc, before)?, before)?;
+        assert!(rt; served, "{before} messages before");
     }
     Ok(())
 }
 
-// Each send in turn fails: the answers before it are sent, and nothing else.
+// So many answers are taken, and then the port fails.
+fn sends(alloc: Global, each: bool, before: usize) -> Result<Peer, AllocError> {
+    let mut peer = plain_peer(alloc);
+    if each {
+        put_pieces(&mut peer.arrivals, &ASKED)?;
+    }
+    for _ in 0..before {
+        peer.outcomes.push(Outcome::Take(1000))?;
+    }
+    peer.outcomes.push(Outcome::Failed)?;
+    Ok(peer)
+}
+
+// Each send in turn fails, with all messages in one piece and with one in each.
 #[test]
 fn each_send(rt: HostRuntime) -> Result<(), Fail> {
     let alloc = rt.alloc();
-    let wanted = hex(alloc, FIRST_ANSWERS)?;
-    let input = hex(alloc, FIRST_RUN)?;
     for before in 0..3 {
         for each in [false, true] {
-            let mut keeper = begun(alloc)?;
-            let mut peer = plain_peer(alloc);
-            if each {
-                put_pieces(&mut peer.arrivals, &ASKED)?;
-            }
-            for _ in 0..before {
-                peer.outcomes.push(Outcome::Take(1000))?;
-            }
-            peer.outcomes.push(Outcome::Failed)?;
-            let run = serve_once(alloc, &mut keeper, input.clone()?, peer)?;
-            assert!(rt; run.port_failed(), "{before} answers before");
-            let answered = size_of_first(&ANSWERED, before);
-            assert_eq!(rt;
-                run.sent(),
-                front(wanted.as_slice(), answered),
-                "{before} answers before"
-            );
-            assert!(rt;
-                resend_rest(alloc, &mut keeper, before)?,
-                "{before} answers before"
-            );
+            let served = is_served(alloc, sends(alloc, each, before)?, before)?;
+            assert!(rt; served, "{before} answers before");
         }
     }
     Ok(())

@@ -78,41 +78,55 @@ impl Keeper for Faulty {
     ghost clean_is_honest = { λ k clean. clean };
 }
 
-// How asking ended, and what was sent.
-#[derive(Drop)]
-struct Asked {
-    result: Result<(), ResumeFault>,
-    sent: Vec<u8>,
+// How asking ended.
+#[derive(Clone, Copy, Debug, PartialEq, Eq)]
+enum Asked {
+    Sent,
+    NotOffered,
+    PortFailed,
+    Damaged,
+    // The keeper had failed, or its fault is another one.
+    Other,
 }
 
-fn ask<K: Keeper>(alloc: Global, keeper: &mut K, outcomes: Vec<Outcome>) -> Option<Asked> {
+fn asked_of(answer: &Result<(), ResumeFault>) -> Asked {
+    match answer {
+        Ok(()) => Asked::Sent,
+        Err(ResumeFault::NotOffered) => Asked::NotOffered,
+        Err(ResumeFault::PortFailed) => Asked::PortFailed,
+        Err(ResumeFault::Store(StoreFault::Damaged)) => Asked::Damaged,
+        Err(ResumeFault::Store(_)) => Asked::Other,
+    }
+}
+
+// Asks over a port that answers so to each send: how it ended, and whether this was sent.
+fn ask<K: Keeper>(
+    alloc: Global,
+    keeper: &mut K,
+    outcomes: Vec<Outcome>,
+    wanted: &[u8],
+) -> (Asked, bool) {
     if keeper.failed() {
-        return None;
+        return (Asked::Other, false);
     }
     let mut port = MemoryPort::new(alloc, Vec::new(alloc), Vec::new(alloc), outcomes, false);
-    let result = resume(keeper, &mut port);
-    let sent = port.sent().to_vec(alloc).ok()?;
-    Some(Asked { result, sent })
+    let asked = asked_of(&resume(keeper, &mut port));
+    (asked, port.sent() == wanted)
 }
 
-// A store in which this INIT was answered.
-fn after_init(alloc: Global, init: &str) -> Result<PlainKeeper, Fail> {
-    let mut keeper = PlainKeeper::new(alloc, START)?;
-    serve_once(alloc, &mut keeper, hex(alloc, init)?, plain_peer(alloc))?;
-    Ok(keeper)
+// Asks a store in which this INIT was answered.
+fn ask_after(alloc: Global, init: &str, wanted: &[u8]) -> Result<(Asked, bool), Fail> {
+    let mut keeper = begun(alloc, init)?;
+    Ok(ask(alloc, &mut keeper, Vec::new(alloc), wanted))
 }
 
 #[test]
 fn resume_notice(rt: HostRuntime) -> Result<(), Fail> {
     let alloc = rt.alloc();
-    let mut keeper = after_init(alloc, INIT_AGREED)?;
-    let agreed = ask(alloc, &mut keeper, Vec::new(alloc)).ok_or("it runs")?;
-    assert!(rt; agreed.result.is_ok());
-    assert_eq!(rt; agreed.sent.as_slice(), NOTICE.as_slice());
-    let mut keeper = after_init(alloc, INIT_SHORT)?;
-    let short = ask(alloc, &mut keeper, Vec::new(alloc)).ok_or("it runs")?;
-    assert!(rt; matches!(short.result, Err(ResumeFault::NotOffered)));
-    assert_eq!(rt; short.sent.len(), 0);
+    let agreed = ask_after(alloc, INIT_AGREED, NOTICE)?;
+    assert_eq!(rt; agreed, (Asked::Sent, true));
+    let short = ask_after(alloc, INIT_SHORT, b"")?;
+    assert_eq!(rt; short, (Asked::NotOffered, true));
     Ok(())
 }
 
@@ -120,38 +134,38 @@ fn resume_notice(rt: HostRuntime) -> Result<(), Fail> {
 fn before_an_init(rt: HostRuntime) -> Result<(), Fail> {
     let alloc = rt.alloc();
     let mut keeper = PlainKeeper::new(alloc, START)?;
-    let asked = ask(alloc, &mut keeper, Vec::new(alloc)).ok_or("it runs")?;
-    assert!(rt; asked.result.is_ok());
-    assert_eq!(rt; asked.sent.as_slice(), NOTICE.as_slice());
+    let asked = ask(alloc, &mut keeper, Vec::new(alloc), NOTICE);
+    assert_eq!(rt; asked, (Asked::Sent, true));
     Ok(())
+}
+
+// Asks the same store over a port that fails, over one that takes nothing, and over one that takes parts.
+fn ask_thrice(alloc: Global) -> Result<[(Asked, bool); 3], Fail> {
+    let failing = vec![in alloc; Outcome::Take(10), Outcome::Failed]?;
+    let full = vec![in alloc; Outcome::Take(0)]?;
+    let slow = vec![in alloc; Outcome::Take(10)]?;
+    let mut keeper = begun(alloc, INIT_AGREED)?;
+    Ok([
+        ask(alloc, &mut keeper, failing, &NOTICE[..10]),
+        ask(alloc, &mut keeper, full, b""),
+        ask(alloc, &mut keeper, slow, NOTICE),
+    ])
 }
 
 #[test]
 fn notice_stops(rt: HostRuntime) -> Result<(), Fail> {
-    let alloc = rt.alloc();
-    let mut keeper = after_init(alloc, INIT_AGREED)?;
-    let outcomes = vec![in alloc; Outcome::Take(10), Outcome::Failed]?;
-    let part = ask(alloc, &mut keeper, outcomes).ok_or("it runs")?;
-    assert!(rt; matches!(part.result, Err(ResumeFault::PortFailed)));
-    assert_eq!(rt; part.sent.as_slice(), &NOTICE[..10]);
-    let outcomes = vec![in alloc; Outcome::Take(0)]?;
-    let none = ask(alloc, &mut keeper, outcomes).ok_or("it runs")?;
-    assert!(rt; matches!(none.result, Err(ResumeFault::PortFailed)));
-    assert_eq!(rt; none.sent.len(), 0);
-    let outcomes = vec![in alloc; Outcome::Take(10)]?;
-    let whole = ask(alloc, &mut keeper, outcomes).ok_or("it runs")?;
-    assert!(rt; whole.result.is_ok());
-    assert_eq!(rt; whole.sent.as_slice(), NOTICE.as_slice());
+    let [part, none, whole] = ask_thrice(rt.alloc())?;
+    assert_eq!(rt; part, (Asked::PortFailed, true));
+    assert_eq!(rt; none, (Asked::PortFailed, true));
+    assert_eq!(rt; whole, (Asked::Sent, true));
     Ok(())
 }
 
 #[test]
-fn store_fault(rt: HostRuntime) -> Result<(), Fail> {
+fn store_fault(rt: HostRuntime) {
     let alloc = rt.alloc();
     let mut keeper = Faulty { failed: false };
-    let asked = ask(alloc, &mut keeper, Vec::new(alloc)).ok_or("it runs")?;
-    assert!(rt; matches!(asked.result, Err(ResumeFault::Store(StoreFault::Damaged))));
-    assert_eq!(rt; asked.sent.len(), 0);
+    let asked = ask(alloc, &mut keeper, Vec::new(alloc), b"");
+    assert_eq!(rt; asked, (Asked::Damaged, true));
     assert!(rt; keeper.failed());
-    Ok(())
 }

@@ -27,79 +27,90 @@ fn first_answers(alloc: Global, count: u8) -> Result<Vec<u8>, AllocError> {
 fn settled_counts(rt: HostRuntime) -> Result<(), Fail> {
     let alloc = rt.alloc();
     for (confirms, left) in [(true, 9), (false, 41)] {
-        let mut keeper = PlainKeeper::new(alloc, START)?;
-        let input = all_asked(alloc)?;
-        let peer = Peer {
-            confirms,
-            ..plain_peer(alloc)
+        let session = Session {
+            input: all_asked(alloc)?,
+            peer: Peer {
+                confirms,
+                ..plain_peer(alloc)
+            },
+            wanted: first_answers(alloc, 40)?,
         };
-        let run = serve_once(alloc, &mut keeper, input, peer)?;
-        assert!(rt; run.ended_well());
-        assert_eq!(rt; run.sent(), first_answers(alloc, 40)?.as_slice());
-        assert_eq!(rt; held(&mut keeper)?, (41, left));
+        let seen = serve_new(alloc, session)?;
+        assert!(rt; seen.is(Told::End, (41, left)));
     }
     Ok(())
 }
 
-// A keeper of these, of which the second group's first answer wasn't taken.
-fn stopped_in_second_group(alloc: Global) -> Result<(PlainKeeper, Run), Fail> {
-    let mut keeper = PlainKeeper::new(alloc, START)?;
+// A session of these, in which the second group's first answer isn't taken.
+fn stopped_in_second_group(alloc: Global) -> Result<Session, AllocError> {
     let mut peer = confirming_peer(alloc);
     for _ in 0..16 {
         peer.outcomes.push(Outcome::Take(1000))?;
     }
     peer.outcomes.push(Outcome::Failed)?;
-    let run = serve_once(alloc, &mut keeper, all_asked(alloc)?, peer)?;
-    Ok((keeper, run))
+    Ok(Session {
+        input: all_asked(alloc)?,
+        peer,
+        wanted: first_answers(alloc, 15)?,
+    })
+}
+
+// That session, and then another one over a port that confirms.
+fn serve_behind_it(alloc: Global, input: Vec<u8>, wanted: Vec<u8>) -> Result<(Seen, Seen), Fail> {
+    let mut keeper = PlainKeeper::new(alloc, START)?;
+    let first = serve_on(alloc, &mut keeper, stopped_in_second_group(alloc)?)?;
+    let second = Session {
+        input,
+        peer: confirming_peer(alloc),
+        wanted,
+    };
+    Ok((first, serve_on(alloc, &mut keeper, second)?))
 }
 
 #[test]
 fn settled_after_fault(rt: HostRuntime) -> Result<(), Fail> {
     let alloc = rt.alloc();
-    let (mut keeper, first) = stopped_in_second_group(alloc)?;
-    assert!(rt; first.port_failed());
-    assert_eq!(rt; first.sent(), first_answers(alloc, 15)?.as_slice());
-    assert_eq!(rt; held(&mut keeper)?, (32, 16));
     let input = mkdirs(alloc, 15, 31, RESENT)?;
-    let again = serve_once(alloc, &mut keeper, input, confirming_peer(alloc))?;
-    assert!(rt; again.ended_well());
-    assert_eq!(rt; again.sent(), entries(alloc, 15, 31, RESENT)?.as_slice());
+    let wanted = entries(alloc, 15, 31, RESENT)?;
+    let (first, again) = serve_behind_it(alloc, input, wanted)?;
+    assert!(rt; first.is(Told::PortFailed, (32, 16)));
+    assert!(rt; again.is(Told::End, (32, 16)));
     assert_eq!(rt; again.counts.repeated, 16);
-    assert_eq!(rt; held(&mut keeper)?, (32, 16));
     Ok(())
 }
 
 #[test]
 fn settled_after_fault_with_one_more(rt: HostRuntime) -> Result<(), Fail> {
     let alloc = rt.alloc();
-    let (mut keeper, _) = stopped_in_second_group(alloc)?;
     let mut input = mkdirs(alloc, 15, 31, RESENT)?;
-    put_lookup(&mut input, 400)?;
-    let run = serve_once(alloc, &mut keeper, input, confirming_peer(alloc))?;
+    put_ask(&mut input, Ask::Lookup(400))?;
     let mut wanted = entries(alloc, 15, 31, RESENT)?;
-    put_error(&mut wanted, 400, ENOENT)?;
-    assert!(rt; run.ended_well());
-    assert_eq!(rt; run.sent(), wanted.as_slice());
-    assert_eq!(rt; held(&mut keeper)?, (32, 1));
+    put_reply(&mut wanted, Reply::Error(400, ENOENT))?;
+    let (_, again) = serve_behind_it(alloc, input, wanted)?;
+    assert!(rt; again.is(Told::End, (32, 1)));
     Ok(())
+}
+
+// 17 MKDIRs of which the first one's answer is told to be `Gone`.
+fn first_is_gone(alloc: Global) -> Result<Session, AllocError> {
+    let mut peer = plain_peer(alloc);
+    peer.outcomes.push(Outcome::Gone)?;
+    Ok(Session {
+        input: mkdirs(alloc, 0, 17, 0)?,
+        peer,
+        wanted: entries(alloc, 0, 17, 0)?,
+    })
 }
 
 // What was answered `Gone` is settled on a port that doesn't confirm; what was sent in part is settled on none.
 #[test]
 fn settled_by_gone_alone(rt: HostRuntime) -> Result<(), Fail> {
     let alloc = rt.alloc();
-    let mut keeper = begun(alloc)?;
-    let mut peer = plain_peer(alloc);
-    peer.outcomes.push(Outcome::Gone)?;
-    let input = mkdirs(alloc, 0, 17, 0)?;
-    let run = serve_once(alloc, &mut keeper, input, peer)?;
-    assert!(rt; run.ended_well());
-    assert_eq!(rt; run.sent(), entries(alloc, 0, 17, 0)?.as_slice());
-    assert_eq!(rt; held(&mut keeper)?, (18, 17));
-    let again = mkdirs(alloc, 0, 17, RESENT)?;
-    let served = serve_once(alloc, &mut keeper, again, plain_peer(alloc))?;
+    let again = plain(alloc, mkdirs(alloc, 0, 17, RESENT)?, Vec::new(alloc));
+    let (first, second) = serve_both(alloc, first_is_gone(alloc)?, again)?;
+    assert!(rt; first.is(Told::End, (18, 17)));
     assert_eq!(rt;
-        served.counts.repeated,
+        second.counts.repeated,
         16,
         "all but the one whose record is gone"
     );

@@ -5,7 +5,7 @@ ghost use Rattle.fuse_request.specs.Act.{act, IsBuilt};
 
 use super::*;
 
-fn mknod<'a>(unique: u64, name: &'a [u8]) -> Request<'a> {
+pub(super) fn mknod<'a>(unique: u64, name: &'a [u8]) -> Request<'a> {
     let op = Op::Mknod {
         mode: 0o644,
         rdev: 0,
@@ -39,11 +39,24 @@ fn is_asked(request: &Request<'_>) -> bool
         Op::Mknod { .. } => true,
         Op::Unlink { .. } => true,
         Op::Rmdir { .. } => true,
+        Op::Rename { .. } => true,
+        Op::Rename2 { .. } => true,
+        Op::Setattr(_) => true,
+        Op::Read(_) => true,
+        Op::Write { .. } => true,
+        Op::OpenFile { .. } => true,
+        Op::OpenDir { .. } => true,
+        Op::ReadDir(_) => true,
+        Op::Release(_) => true,
+        Op::ReleaseDir(_) => true,
         _ => false,
     }
 }
 
-fn perform<K: Keeper>(keeper: &mut K, request: Request<'_>) -> Result<Option<Done>, StoreFault> {
+pub(super) fn perform<K: Keeper>(
+    keeper: &mut K,
+    request: Request<'_>,
+) -> Result<Option<Done>, StoreFault> {
     if !is_asked(&request) {
         return Ok(None);
     }
@@ -51,7 +64,7 @@ fn perform<K: Keeper>(keeper: &mut K, request: Request<'_>) -> Result<Option<Don
 }
 
 // Whether the request is answered so, without a body.
-fn says<K: Keeper>(
+pub(super) fn says<K: Keeper>(
     keeper: &mut K,
     request: Request<'_>,
     errno: Errno,

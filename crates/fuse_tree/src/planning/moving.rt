@@ -151,22 +151,24 @@ pub(crate) fn exchange_changes_of(
     let comes = is_directory(other.child.mode);
     put_dirs(&mut changes, asked, from, to, moves, comes, comes)?;
     changes.push(Change::Node(moved_row_of(asked.at, asked.new_dir, &source.child)))?;
+    let first = counters.next_cookie;
+    let second = first + 1;
     let old_name = ByteList::from_vec(Vec::from_slice(alloc, asked.old_name)?);
     changes.push(Change::Entry(EntryRow {
         dir: from.node,
         name: old_name,
         child: other.child.node,
-        cookie: counters.next_cookie,
+        cookie: first,
     }))?;
     let new_name = ByteList::from_vec(Vec::from_slice(alloc, asked.new_name)?);
     changes.push(Change::Entry(EntryRow {
         dir: asked.new_dir,
         name: new_name,
         child: source.child.node,
-        cookie: counters.next_cookie + 1,
+        cookie: second,
     }))?;
     changes.push(Change::Counters(Counters {
-        next_cookie: counters.next_cookie + 2,
+        next_cookie: first + 2,
         ..*counters
     }))?;
     Ok(ChangeList::from_vec(changes))

@@ -6,7 +6,13 @@ use super::mknod::{mknod, number_at};
 use super::*;
 
 // What is asked at this second is planned and done: its error number.
-fn act(look: &mut PlainRows, alloc: Global, secs: u64, nodeid: u64, op: Op<'_>) -> Result<u32, Fail>
+pub(super) fn act(
+    look: &mut PlainRows,
+    alloc: Global,
+    secs: u64,
+    nodeid: u64,
+    op: Op<'_>,
+) -> Result<u32, Fail>
     requires { fault_of look.old ≡ None }
     ensures { OnOk result (fault_of look.new ≡ None) }
 {
@@ -32,7 +38,7 @@ fn act(look: &mut PlainRows, alloc: Global, secs: u64, nodeid: u64, op: Op<'_>) 
     }
 }
 
-const fn mkdir(name: &[u8]) -> Op<'_> {
+pub(super) const fn mkdir(name: &[u8]) -> Op<'_> {
     Op::Mkdir {
         mode: 0o755,
         umask: 0o022,
@@ -44,7 +50,7 @@ const fn unlink(name: &[u8]) -> Op<'_> {
     Op::Unlink { name }
 }
 
-const fn rmdir(name: &[u8]) -> Op<'_> {
+pub(super) const fn rmdir(name: &[u8]) -> Op<'_> {
     Op::Rmdir { name }
 }
 
@@ -69,7 +75,7 @@ fn errno(alloc: Global, nodeid: u64, op: Op<'_>) -> Result<u32, Fail> {
     act(&mut look, alloc, 2000, nodeid, op)
 }
 
-const LONG: &[u8] = &[b'a'; 256];
+pub(super) const LONG: &[u8] = &[b'a'; 256];
 
 // The first check that applies decides: node, directory, name, a directory without a name, no entry.
 const SHARED: [(u64, &[u8], u32); 9] = [
@@ -114,7 +120,7 @@ fn row_after(alloc: Global, nodeid: u64, op: Op<'_>, number: u64) -> Result<Node
     row_of(&mut look, number)
 }
 
-fn row_of(look: &mut PlainRows, number: u64) -> Result<NodeRow, Fail>
+pub(super) fn row_of(look: &mut PlainRows, number: u64) -> Result<NodeRow, Fail>
     requires { fault_of look.old ≡ None }
     ensures { OnOk result (fault_of look.new ≡ None) }
 {
@@ -125,7 +131,7 @@ fn row_of(look: &mut PlainRows, number: u64) -> Result<NodeRow, Fail>
 }
 
 // A node's row as it was made at 1000 s, in this directory.
-fn row(node: u64, mode: u32, up: u64, subdirs: u32) -> NodeRow {
+pub(super) fn row(node: u64, mode: u32, up: u64, subdirs: u32) -> NodeRow {
     NodeRow {
         node,
         mode,
@@ -142,7 +148,7 @@ fn row(node: u64, mode: u32, up: u64, subdirs: u32) -> NodeRow {
 }
 
 // The root's row, where it has `a` and was changed at this second.
-fn root_row(secs: u64) -> NodeRow {
+pub(super) fn root_row(secs: u64) -> NodeRow {
     NodeRow {
         uid: 0,
         gid: 0,

@@ -40,7 +40,7 @@ returns-in-Ok-send_answers-clause-ok g c =
     turned c.histories_grow.ensures (g.K.Keeper.holds k) (g.K.Keeper.holds k') _ (g.C.Clock.may_answer c.args.clock.now) (g.P.Port.told c.args.port.now) _ (ids_of c.args.pending.now.items) (ids_of c.perform_group.new.pending.items) _ c.args.messages.now
     c.in-Ok.gathered.count c.in-Ok.gathered.taken.items c.in-Ok.gathered.ends c.as_slice-group.result.now (take c.in-Ok.gathered.count c.args.messages.now) c.in-Ok-perform_group.dones.items c.as_slice-answered.result.now c.is_stuck-stuck.result c.rest_of-rest.result c.count_all-counts.result
     c.in-Ok.ensures.gathers c.as_slice-group.ensures.value refl c.in-Ok-perform_group.ensures.ok c.in-Ok-perform_group.ensures.pending c.in-Ok-perform_group.ensures.gone (omega (arith, length-map c.send_answers.new.pending.items (λ (x : Id). x.0), c.in-Ok-send_answers.ensures.few, c.in-Ok-perform_group.ensures.few, ap length c.as_slice-answered.ensures.value))
-     c.in-Ok-send_answers.ensures.ok c.as_slice-answered.ensures.value c.rest_of-rest.ensures c.count_all-counts.ensures.tallied
+    c.in-Ok-send_answers.ensures.ok c.as_slice-answered.ensures.value c.rest_of-rest.ensures c.count_all-counts.ensures.tallied
 
 pub returns-in-Ok-send_answers-clause-more : goal.returns-in-Ok-send_answers-clause-more
 returns-in-Ok-send_answers-clause-more g c = λ confirms honest (before : Records) h.
@@ -54,9 +54,9 @@ returns-clause-err g c =
     let k' = c.perform_group.new.keeper in
     broken_sent c.histories_grow.ensures (g.K.Keeper.holds k) (g.K.Keeper.holds k') _ _ (g.K.Keeper.leaves_whole k) (g.K.Keeper.leaves_whole k') (g.K.Keeper.may_leave k) (g.K.Keeper.may_leave k') (g.C.Clock.may_answer c.args.clock.now) (g.P.Port.told c.args.port.now) _
     (ids_of c.args.pending.now.items) (ids_of c.perform_group.new.pending.items) c.args.messages.now c.in-Ok.gathered.count c.in-Ok.gathered.taken.items c.in-Ok.gathered.ends c.as_slice-group.result.now (take c.in-Ok.gathered.count c.args.messages.now) c.in-Ok-perform_group.dones.items c.as_slice-answered.result.now _ _ _ _
-    c.in-Ok.ensures.gathers c.as_slice-group.ensures.value refl (g.met.K.Keeper.clean_is_honest k') c.in-Ok-perform_group.ensures.ok c.in-Ok-perform_group.ensures.firm c.in-Ok-perform_group.ensures.gone 
+    c.in-Ok.ensures.gathers c.as_slice-group.ensures.value refl (g.met.K.Keeper.clean_is_honest k') c.in-Ok-perform_group.ensures.ok c.in-Ok-perform_group.ensures.firm c.in-Ok-perform_group.ensures.gone
     (omega (arith, length-map c.perform_group.new.pending.items (λ (x : Id). x.0), length-map c.as_slice-group.result.now entry_of, c.in-Ok-perform_group.ensures.count, c.in-Ok-perform_group.ensures.few))
-     c.as_slice-answered.ensures.value c.in-Err-send_answers.ensures.err c.stop_of.ensures.store c.stop_of.ensures.memory
+    c.as_slice-answered.ensures.value c.in-Err-send_answers.ensures.err c.stop_of.ensures.store c.stop_of.ensures.memory
 
 pub returns-clause-at_most : goal.returns-clause-at_most
 returns-clause-at_most g c = λ clean (before : Records) h.

@@ -22,5 +22,5 @@ loop-place-preserved c =
     let more : take (c.loop-place.place-index + 1) c.args.places.now ≡ take c.loop-place.place-index c.args.places.now ++ place ∷ [] = take_more c.args.places.now c.loop-place.place-index 0 c.loop-place-test.true in (
       owed_set c.loop-place.pending place c.mark.new.message c.mark.ensures.owed c.loop-place.invariant.0,
       marked_more c.args.pending.now c.loop-place.pending _ place c.index-pending-place.result c.mark.new.message within c.loop-place.invariant.1 c.mark.ensures.says
-      ∙ ap (λ (x : List ℕ). all_again x (requests_in c.args.pending.now)) (sym more),
+          ∙ ap (λ (x : List ℕ). all_again x (requests_in c.args.pending.now)) (sym more),
     )

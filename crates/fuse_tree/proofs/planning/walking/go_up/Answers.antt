@@ -1,4 +1,4 @@
-use Rattle.std.proofs.Common.{rules, refl, sym}
+use Rattle.std.proofs.Common.{None, rules, refl, sym}
 use Rattle.fuse_tree.proofs.Walking.{leads_at, leads_no_more, above_next, leads_next}
 use Rattle.fuse_tree.proofs.planning.walking.go_up.Goals as goal
 
@@ -23,6 +23,6 @@ loop-step-preserved g c = record {
       let clean_before = g.met.L.Look.was_clean _ _ (c.in_ok-place.ensures.looks refl) clean in
       let sees_before = g.met.L.Look.kept _ _ c.loop-step.invariant.looks clean_before rows sees in
       let way = c.loop-step.invariant.way clean_before rows is sees in
-      let up = (c.in_ok-place.ensures.up refl clean rows is sees_before).0 in
+      let up = (c.in_ok-place.ensures.up (refl {a = None}) clean rows is sees_before).0 in
       (above_next rows c.loop-step._step c.args.dir c.loop-step.place c.in_ok-place.place way.0 (sym up), leads_next rows c.loop-step._step c.args.node c.args.dir c.loop-step.place way.0 c.if-place-node.false way.1);
 }

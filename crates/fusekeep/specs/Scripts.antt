@@ -1,0 +1,78 @@
+-- Scripts: a line for each event (own profile).
+use Rattle.std.specs.Prelude.{◌≡◌, ◌≢◌, ◌⊎◌, ◌<◌, ◌^◌, ◌==◌, ℕ, suc, false, codes, List, [], ◌∷◌, ◌++◌, length, map, All, Ok}
+use Rattle.std.specs.Borrow.{Bor}
+use Rattle.std.specs.List.{slice_split}
+use Rattle.std.specs.Str.Parse.{AllDigits, digits_value}
+use Rattle.hex.specs.Hex.{decode_of}
+use Rattle.fuse_request.specs.Classes.{is_zero}
+use Rattle.fuse_request.specs.Stream.{cut}
+use Rattle.fuse_sim.specs.declared.event.Event.{Event}
+use Rattle.fuse_sim.specs.declared.event.Fate.{Fate}
+use Rattle.fuse_sim.specs.declared.event.Fate.TheVariants.{Answered, AnswerLost, DiedBeforeCommit, DiedAfterCommit}
+
+-- each line ends with a line feed; where the last one does, an empty one stands behind it, which tells nothing
+abbrev pub lines_of : List ℕ → List (List ℕ)
+lines_of script = slice_split (λ b. b == 10) script
+
+abbrev pub word_of : Fate → List ℕ
+word_of Answered = codes "answered"
+word_of AnswerLost = codes "lost"
+word_of DiedBeforeCommit = codes "before"
+word_of DiedAfterCommit = codes "after"
+
+-- the byte isn't among these
+abbrev pub Lacks : ℕ → List ℕ → Type 0
+Lacks b bytes = All (λ x. x ≢ b) bytes
+
+-- decimal digits alone, and the number that they write
+pub record IsSeconds (text : List ℕ) (secs : ℕ) : Type 0 where
+  pub some : 0 < length text
+  pub digits : AllDigits 10 text
+  pub value : secs ≡ digits_value 10 text
+  pub fits : secs < 2 ^ 64
+
+-- the word of a fate, a space, seconds, a space, and a text
+pub record HasParts (line : List ℕ) (fate : Fate) (secs : ℕ) (text : List ℕ) : Type 0 where
+  pub digits : List ℕ
+  pub parts : line ≡ word_of fate ++ 32 ∷ (digits ++ 32 ∷ text)
+  pub seconds : IsSeconds digits secs
+
+-- in hexadecimal, of either case, just one message, which can be answered
+pub record IsHexOf (text m : List ℕ) : Type 0 where
+  pub decoded : decode_of text ≡ Ok m
+  pub whole : cut m ≡ (m ∷ [], [])
+  pub named : is_zero m ≡ false
+
+-- a line writes an event
+pub record Writes (line : List ℕ) (e : Event) : Type 0 where
+  pub text : List ℕ
+  pub parts : HasParts line e.fate e.moment.secs text
+  pub nanos : e.moment.nanos ≡ 0
+  pub message : IsHexOf text e.bytes
+
+-- an empty line, and a comment, which begins with #
+abbrev pub TellsNothing : List ℕ → Type 0
+TellsNothing [] = Unit {0}
+TellsNothing (b ∷ bs) = b ≡ 35
+
+-- the events of lines, in order
+abbrev pub Tells : List (List ℕ) → List Event → Type 0
+Tells [] events = events ≡ []
+Tells (line ∷ lines) events =
+    (TellsNothing line × Tells lines events) ⊎ ((e : Event) × (rest : List Event) × (events ≡ e ∷ rest) × Writes line e × Tells lines rest)
+
+-- a line of no right form
+abbrev pub IsBad : List ℕ → Type 0
+IsBad line = (¬ TellsNothing line) × ((e : Event) → ¬ Writes line e)
+
+-- the first bad one of lines that are counted from n
+abbrev pub FirstBad : ℕ → List (List ℕ) → ℕ → Type 0
+FirstBad n [] bad = ⊥
+FirstBad n (line ∷ lines) bad = (IsBad line × (bad ≡ n)) ⊎ ((¬ IsBad line) × FirstBad (suc n) lines bad)
+
+-- a line more was read, behind these events
+abbrev pub TookLine : List ℕ → List Event → List Event → Type 0
+TookLine line old new = (TellsNothing line × (new ≡ old)) ⊎ ((e : Event) × Writes line e × (new ≡ old ++ e ∷ []))
+
+abbrev pub parts_in : List (Bor (List ℕ)) → List (List ℕ)
+parts_in parts = map (λ part. part.now) parts

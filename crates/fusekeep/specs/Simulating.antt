@@ -1,0 +1,62 @@
+-- What a script's events are answered, and what is printed of them (own profile).
+use Rattle.std.specs.Prelude.{◌≡◌, ◌≤◌, ℕ, codes, List, [], ◌++◌, length, map, All, Option, Some, None}
+use Rattle.std.specs.List.{flat_map}
+use Rattle.std.specs.Io.KnownBytes.{Appends, Keeps}
+use Rattle.hex.specs.Hex.{encode_lower}
+use Rattle.fuse_tree.specs.State.{State, new_store}
+use Rattle.fuse_store.specs.History.{after}
+use Rattle.fuse_store.specs.declared.keeper.StoreCounts.{StoreCounts}
+use Rattle.fuse_sim.specs.declared.event.Event.{Event}
+use Rattle.fuse_sim.specs.Driving.{committed, outcome_of, given, NoneAgain}
+use Rattle.fusekeep.specs.declared.ending.Ending.{Ending}
+use Rattle.fusekeep.specs.declared.ending.Ending.TheVariants.{Done, ScriptLine}
+use Rattle.fusekeep.specs.declared.simulate.Simulation.{Simulation}
+use Rattle.fusekeep.specs.Printing.{line, store_line}
+use Rattle.fusekeep.specs.Scripts.{lines_of, Tells, FirstBad}
+
+-- an answer in hexadecimal, or - where the kernel takes none
+abbrev pub outcome_line : Option (List ℕ) → List ℕ
+outcome_line None = line (codes "-")
+outcome_line (Some answer) = line (encode_lower answer)
+
+abbrev pub outcome_lines : List (Option (List ℕ)) → List ℕ
+outcome_lines outcomes = flat_map outcome_line outcomes
+
+-- the state that events lead to from a start, and what each is answered
+abbrev pub state_after : State → List Event → State
+state_after s events = after s (committed [] events)
+
+abbrev pub outcomes_of : State → List Event → List (Option (List ℕ))
+outcomes_of s events = map (outcome_of s (committed [] events)) events
+
+-- so it was with events that began at a start
+pub record Went (s : State) (events : List Event) (simulation : Simulation) : Type 0 where
+  pub outcomes : map given simulation.outcomes.items ≡ outcomes_of s events
+  pub nodes : simulation.counts.nodes ≡ length (state_after s events).nodes
+  pub handles : simulation.counts.handles ≡ length (state_after s events).handles
+
+-- a line for each event, and one for what the store holds in the end
+abbrev pub simulation_text : State → List Event → List ℕ
+simulation_text s events =
+    outcome_lines (outcomes_of s events) ++ line (store_line (length (state_after s events).nodes) (length (state_after s events).handles))
+
+-- the new store that events begin at
+abbrev pub start : State
+start = new_store (record { secs = 0; nanos = 0 })
+
+-- the events that a script tells were run to their end, where no message comes again whose answer was taken
+pub record RanScript (script : List ℕ) (simulation : Simulation) : Type 0 where
+  pub events : List Event
+  pub tells : Tells (lines_of script) events
+  pub went : NoneAgain [] events → Went start events simulation
+
+-- why a script wasn't run: its first bad line
+abbrev pub NotRun : List ℕ → Ending → Type 0
+NotRun script (ScriptLine n) = FirstBad 1 (lines_of script) n
+NotRun script _ = ⊥
+
+-- the events of a script were run to their end, where no message comes again whose answer was taken, and this is
+-- printed of them; or its first bad line is told, and nothing is printed
+abbrev pub Simulated : Option (List ℕ) → Option (List ℕ) → List ℕ → Ending → Type 0
+Simulated old new script Done = (events : List Event) × Tells (lines_of script) events × (NoneAgain [] events → Appends old new (simulation_text start events))
+Simulated old new script ending = NotRun script ending × (new ≡ old)

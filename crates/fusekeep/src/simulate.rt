@@ -1,0 +1,143 @@
+//! Running the events of a script.
+ghost use Rattle.std.specs.Prelude.{◌≡◌, ◌≤◌, ◌++◌, ℕ, List, [], false, map, All, Some, IsSome, IsSomeAnd, IfSome, IfOk, IfErr, OnOk};
+ghost use Rattle.std.specs.Io.KnownBytes.{Appends};
+ghost use Rattle.fuse_tree.specs.State.{State};
+ghost use Rattle.fuse_store.specs.PlainKeeper.{plain_holds, plain_failed};
+ghost use Rattle.fuse_store.specs.Stands.{StandsFor};
+ghost use Rattle.fuse_sim.specs.Driving.{StandsIn, NoneAgain, IsFit, given};
+ghost use Rattle.fusekeep.specs.Endings.{status_of, IsNotOfStream};
+ghost use Rattle.fusekeep.specs.Printing.{line, store_line};
+ghost use Rattle.fusekeep.specs.Simulating.{Went, RanScript, NotRun, Simulated, outcome_line, outcome_lines};
+
+use crate::ending::Ending;
+use crate::printing::{write_hex_line, write_store};
+use crate::reading::read_all;
+use crate::script::read_script;
+use fuse_sim::{DriveFault, Event, Outcome, drive};
+use fuse_store::{PlainKeeper, Restart, StoreCounts};
+use fuse_wire::Moment;
+use std::alloc::Global;
+use std::io::{Read, Write};
+
+// The moment at which the store is made.
+const START: Moment = Moment { secs: 0, nanos: 0 };
+
+// What events were answered, and how much the store holds then.
+#[derive(Drop)]
+struct Simulation {
+    outcomes: Vec<Option<Outcome>>,
+    counts: StoreCounts,
+}
+
+// Runs events over a keeper.
+fn run_events<K: Restart>(
+    alloc: Global,
+    keeper: &mut Option<K>,
+    events: &[Event],
+) -> Result<Simulation, Ending>
+    requires going { IsSomeAnd keeper.old (λ k. K.has_failed k ≡ false) }
+    requires fit { All IsFit events.now }
+    ensures ok { IfOk result (λ simulation. IsSomeAnd keeper.new K.is_honest → (s : State) → StandsIn K.holds keeper.old s [] [] → NoneAgain [] events.now → Went s events.now simulation) }
+    ensures left { OnOk result (IsSome keeper.new) }
+    ensures err { IfErr result IsNotOfStream }
+{
+    let outcomes = match drive(alloc, keeper, events) {
+        Ok(outcomes) => outcomes,
+        Err(DriveFault::Store { fault, .. }) => return Err(Ending::of(fault)),
+        Err(DriveFault::Memory { .. }) => return Err(Ending::Memory),
+        Err(DriveFault::NotAMessage { .. } | DriveFault::ZeroUnique { .. }) => unreachable!(),
+    };
+    let Some(keeper) = keeper else {
+        unreachable!();
+    };
+    match keeper.counts() {
+        Ok(counts) => Ok(Simulation { outcomes, counts }),
+        Err(fault) => Err(Ending::of(fault)),
+    }
+}
+
+// Prints what the kernel takes for an event.
+fn write_outcome<W: Write>(
+    alloc: Global,
+    writer: &mut W,
+    outcome: &Option<Outcome>,
+) -> Result<(), Ending>
+    ensures ok { OnOk result (Appends (W.contents writer.old) (W.contents writer.new) (outcome_line (given outcome.now))) }
+    ensures err { IfErr result IsNotOfStream }
+{
+    let Some(outcome) = outcome else {
+        return match writeln!(writer, "-") {
+            Ok(()) => Ok(()),
+            Err(_) => Err(Ending::PortFailed),
+        };
+    };
+    let mut answer = Vec::new(alloc);
+    let body = outcome.body.as_slice();
+    if answer.extend_from_slice(&outcome.head).is_err() || answer.extend_from_slice(body).is_err() {
+        return Err(Ending::Memory);
+    }
+    write_hex_line(alloc, writer, answer.as_slice())
+}
+
+// Prints a line for each event, and then one for what the store holds.
+fn print_simulation<W: Write>(
+    alloc: Global,
+    writer: &mut W,
+    simulation: &Simulation,
+) -> Result<(), Ending>
+    ensures ok { OnOk result (Appends (W.contents writer.old) (W.contents writer.new)
+        (outcome_lines (map given simulation.now.outcomes.items) ++ line (store_line simulation.now.counts.nodes simulation.now.counts.handles))) }
+    ensures err { IfErr result IsNotOfStream }
+{
+    for outcome in simulation.outcomes.as_slice() {
+        write_outcome(alloc, writer, outcome)?;
+    }
+    write_store(writer, simulation.counts)?;
+    match writer.flush() {
+        Ok(()) => Ok(()),
+        Err(_) => Err(Ending::PortFailed),
+    }
+}
+
+// Runs events over a store in memory.
+fn run_in_memory(alloc: Global, keeper: PlainKeeper, events: &[Event]) -> Result<Simulation, Ending>
+    requires going { plain_failed keeper ≡ false }
+    requires fit { All IsFit events.now }
+    ensures ok { IfOk result (λ simulation. (s : State) → StandsFor (plain_holds keeper) s [] [] → NoneAgain [] events.now → Went s events.now simulation) }
+    ensures err { IfErr result IsNotOfStream }
+{
+    let mut keeper = Some(keeper);
+    run_events(alloc, &mut keeper, events)
+}
+
+// Runs the events that a reader's script tells over a new store.
+fn simulate<R: Read>(alloc: Global, reader: &mut R) -> Result<Simulation, Ending>
+    ensures ok { IfOk result (λ simulation. IfSome (R.remaining reader.old) (λ script. RanScript script simulation)) }
+    ensures err { IfErr result (λ ending. IfSome (R.remaining reader.old) (λ script. status_of ending ≤ 1 → NotRun script ending)) }
+{
+    let Ok(keeper) = PlainKeeper::new(alloc, START) else {
+        return Err(Ending::Memory);
+    };
+    let script = read_all(alloc, reader)?;
+    let events = read_script(alloc, script.as_slice())?;
+    run_in_memory(alloc, keeper, events.as_slice())
+}
+
+/// Runs the events of a script over a new store in memory, and then prints a line for each event and one for what the
+/// store holds. A script of which a line has no right form isn't run.
+pub fn run_simulate<R: Read + Drop, W: Write>(
+    alloc: Global,
+    mut reader: R,
+    writer: &mut W,
+) -> Ending
+    ensures { IfSome (R.remaining reader) (λ script. status_of result ≤ 1 → Simulated (W.contents writer.old) (W.contents writer.new) script result) }
+{
+    let simulation = match simulate(alloc, &mut reader) {
+        Ok(simulation) => simulation,
+        Err(ending) => return ending,
+    };
+    match print_simulation(alloc, writer, &simulation) {
+        Ok(()) => Ending::Done,
+        Err(ending) => ending,
+    }
+}
