@@ -1,5 +1,5 @@
 // The outcomes of a group's events.
-ghost use Rattle.std.specs.Prelude.{◌≡◌, ◌≤◌, ◌<◌, ◌+◌, ◌++◌, length, All, vec_len, vec_capacity, Some};
+ghost use Rattle.std.specs.Prelude.{◌≡◌, ◌≤◌, ◌<◌, ◌+◌, ◌++◌, length, All, vec_capacity, Some};
 ghost use Rattle.std.specs.Vec.Iter.{into_iter_items};
 ghost use Rattle.fuse_answer.specs.Wire.{wire};
 ghost use Rattle.fuse_request.specs.declared.class.Class.TheVariants.{Kept};
