@@ -27,7 +27,8 @@ pub record Answered (stood : History → List ℕ → Type 0) (s : State) (h : H
   pub sent : replies marks ≡ answers s (grown h (kept_in timed)) timed
   pub counts_are : counts ≡ counted h timed
 
--- so it was, whatever the keeper stood for and whatever was settled, where no message comes again
+-- so it was, whatever the keeper stood for and whatever was settled, where no message comes again; and of what is settled
+-- few ids have a record, all of them to be handed on, if so it was before
 pub record Turned (holds holds' : Rows → Records → Type 0) (honest' : Type 0) (may : Moment → Type 0) (old new : PortState) (pending pending' : List ℕ) (front : List (List ℕ)) (going : Bool) (counts : SessionCounts) : Type 0 where
   pub timed : List Timed
   pub marks : List Mark
@@ -65,7 +66,7 @@ pub record Exact (stood : History → List ℕ → Type 0) (s : State) (h : Hist
 
 -- a fault ended the work on messages. What the keeper holds where its store is clean, and where it was firm whatever a
 -- crash leaves, stands for messages worked off. Where the store or want of memory ended it, exactly their answers were
--- sent
+-- sent. Of the ids that are settled few have a record, if so it was before
 pub record Broken (holds holds' : Rows → Records → Type 0) (clean' honest' firm whole' : Type 0) (left' : Rows → Records → Type 0) (may : Moment → Type 0) (old new : PortState) (pending : List ℕ) (messages : List (List ℕ)) (store memory : Bool) (faulted : Type 0) : Type 0 where
   pub timed : List Timed
   pub others : List (List ℕ)

@@ -62,6 +62,13 @@ fn plain(alloc: Global, input: Vec<u8>, wanted: Vec<u8>) -> Session {
     }
 }
 
+// A plain session of these messages, to which these answers are wanted.
+fn plain_of(alloc: Global, asked: &[Ask], answered: &[Reply]) -> Result<Session, AllocError> {
+    let input = asks(alloc, asked)?;
+    let wanted = replies(alloc, answered)?;
+    Ok(plain(alloc, input, wanted))
+}
+
 // A session over a port in memory: how it ended, and its counts.
 #[derive(Drop)]
 struct Run {
@@ -70,7 +77,7 @@ struct Run {
     port: MemoryPort,
 }
 
-// How a session ended, but for what a store's fault holds.
+// How a session ended, with a store's fault told by whether it is want of memory.
 #[derive(Clone, Copy, Debug, PartialEq, Eq)]
 enum Told {
     End,
@@ -79,6 +86,7 @@ enum Told {
     Frame(FrameFault),
     ZeroUnique { at: u64 },
     PortFailed,
+    StoreMemory,
     Store,
     Memory,
 }
@@ -91,6 +99,7 @@ fn told_of(ended: &Ended) -> Told {
         Ended::Frame(fault) => Told::Frame(*fault),
         Ended::ZeroUnique { at } => Told::ZeroUnique { at: *at },
         Ended::PortFailed => Told::PortFailed,
+        Ended::Store(StoreFault::Memory) => Told::StoreMemory,
         Ended::Store(_) => Told::Store,
         Ended::Memory => Told::Memory,
     }
@@ -164,6 +173,10 @@ fn serve_new(alloc: Global, session: Session) -> Result<Seen, Fail> {
 fn serve_begun(alloc: Global, session: Session) -> Result<Seen, Fail> {
     let mut keeper = begun(alloc, INIT_AGREED)?;
     serve_on(alloc, &mut keeper, session)
+}
+
+fn serve_these(alloc: Global, asked: &[Ask], answered: &[Reply]) -> Result<Seen, Fail> {
+    serve_begun(alloc, plain_of(alloc, asked, answered)?)
 }
 
 // Two sessions behind row init-agreed.

@@ -1,8 +1,8 @@
 -- Bytes that are just one message.
-use Rattle.std.proofs.Common.{◌≡◌, ℕ, List, [], ◌∷◌, ◌++◌, refl, sym, ap, subst, ◌∙◌}
+use Rattle.std.proofs.Common.{◌≡◌, ℕ, List, [], ◌∷◌, ◌++◌, refl, sym, subst, ◌∙◌}
 use Rattle.std.proofs.lemmas.List.{append-nil}
 use Rattle.std.specs.List.{AllByRecursion}
-use Rattle.fuse_request.specs.Stream.{cut, joined, Cuts, IsOneCut, IsMessage, is_whole}
+use Rattle.fuse_request.specs.Stream.{cut, IsOneCut, IsMessage}
 
 pub message_is_alone : IsOneCut → (m : List ℕ) → IsMessage m → cut m ≡ (m ∷ [], [])
 message_is_alone one m is = (one m).1 (m ∷ []) [] (record {

@@ -1,6 +1,6 @@
 -- Events, one after another.
-use Rattle.std.proofs.Common.{◌≡◌, ◌⊎◌, inl, inr, ℕ, zero, suc, ◌+◌, ◌≤◌, ◌<◌, Bool, true, false, ◌==◌, if◌then◌else◌, List, [], ◌∷◌, ◌++◌, length, map, All, Option, Some, None, option_map, refl, sym, ap, subst, ◌∙◌, append_assoc, arith}
-use Rattle.std.proofs.lemmas.List.{append-nil, map-append}
+use Rattle.std.proofs.Common.{◌≡◌, ℕ, zero, suc, Bool, true, false, List, [], ◌∷◌, ◌++◌, map, All, Option, option_map, refl, sym, ap, ◌∙◌, append_assoc}
+use Rattle.std.proofs.lemmas.List.{map-append}
 use Rattle.std.proofs.lemmas.List.Elements.{All-append, All-nil}
 use Rattle.fuse_answer.specs.Said.{Said}
 use Rattle.fuse_answer.specs.Wire.{wire}
@@ -8,22 +8,17 @@ use Rattle.fuse_request.specs.declared.class.Class.{Class}
 use Rattle.fuse_request.specs.declared.class.Class.TheVariants.{Silent, Bare, Kept}
 use Rattle.fuse_request.specs.Classes.{class_of}
 use Rattle.fuse_tree.specs.State.{State}
-use Rattle.fuse_tree.specs.Rows.{Rows}
 use Rattle.fuse_wire.specs.declared.moment.Moment.{Moment}
-use Rattle.fuse_store.specs.History.{Entry, entry_id, History, HistoriesGrow, add, grown, said, is_in, ids_in, Includes, IsUnsettled}
-use Rattle.fuse_store.specs.Stands.{Records, StandsFor, KeepsHeld, OthersStay}
+use Rattle.fuse_store.specs.History.{Entry, entry_id, History, HistoriesGrow, add, grown, is_in, ids_in, Includes, IsUnsettled}
 use Rattle.fuse_session.specs.Worked.{entry_if, message_entry, message_id, unique_of}
 use Rattle.fuse_session.specs.Settling.{settles_if, comes_again, MayCome}
 use Rattle.fuse_sim.specs.declared.event.Fate.{Fate}
 use Rattle.fuse_sim.specs.declared.event.Fate.TheVariants.{Answered, AnswerLost, DiedBeforeCommit, DiedAfterCommit}
 use Rattle.fuse_sim.specs.declared.event.Event.{Event}
-use Rattle.fuse_sim.specs.declared.event.Outcome.{Outcome}
-use Rattle.fuse_sim.specs.Driving.{commits, commits_by, commits_in, committed, answer_in, outcome_of, given, is_taken, where_taken, settles, settled_by, NoneAgain, dies}
+use Rattle.fuse_sim.specs.Driving.{commits, commits_by, commits_in, committed, answer_in, outcome_of, is_taken, where_taken, settles, settled_by, NoneAgain, dies}
 use Rattle.fuse_sim.specs.HandedOn.{Ledger, fresh, joined, handed_by, after_commit, handed_at, crashed_if, after_event, ledger_after, handed_on}
-use Rattle.fuse_sim.specs.Running.{settles_in, RecordsRan, Ran}
 use Rattle.fuse_sim.proofs.Gathered.{commits-append, only_one}
-use Rattle.fuse_sim.proofs.Settled.{includes_left, includes_right, in_either, includes_both, unsettled_too, stands_later}
-use Rattle.fuse_sim.proofs.Ledgers.{commits_one}
+use Rattle.fuse_sim.proofs.Settled.{includes_left, includes_right, includes_both, unsettled_too}
 
 -- ---- histories
 

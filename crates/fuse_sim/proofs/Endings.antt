@@ -1,16 +1,16 @@
 -- What holds when events have been run, to their end or to a fault.
-use Rattle.std.proofs.Common.{◌≡◌, ℕ, zero, suc, ◌+◌, ◌≤◌, Bool, true, false, List, [], ◌∷◌, ◌++◌, map, take, drop, All, Option, Some, None, IsSomeAnd, if◌then◌else◌, length, refl, sym, ap, subst, ◌∙◌}
+use Rattle.std.proofs.Common.{◌≡◌, ℕ, ◌+◌, ◌≤◌, Bool, true, false, List, [], ◌++◌, map, take, drop, Option, Some, None, IsSomeAnd, if◌then◌else◌, length, refl, sym, ap, subst, ◌∙◌}
 use Rattle.std.proofs.Math.Seq.{take-add}
 use Rattle.std.proofs.lemmas.List.{take_all}
 use Rattle.std.proofs.lemmas.List.Elements.{All-append}
 use Rattle.fuse_tree.specs.State.{State}
 use Rattle.fuse_tree.specs.Rows.{Rows}
-use Rattle.fuse_store.specs.History.{History, HistoriesGrow, is_in, ids_in, Includes}
+use Rattle.fuse_store.specs.History.{History, HistoriesGrow, is_in}
 use Rattle.fuse_store.specs.Stands.{Records, StandsFor, KeepsHeld}
 use Rattle.fuse_sim.specs.declared.event.Event.{Event}
 use Rattle.fuse_sim.specs.declared.event.Outcome.{Outcome}
 use Rattle.fuse_sim.specs.declared.event.DriveFault.{DriveFault}
-use Rattle.fuse_sim.specs.Driving.{commits_in, committed, outcome_of, given, settled_by, NoneAgain, HoldsIn, StandsIn, IsFit, event_of, before, is_store, LeftBy}
+use Rattle.fuse_sim.specs.Driving.{committed, outcome_of, given, settled_by, NoneAgain, HoldsIn, StandsIn, IsFit, event_of, before, is_store, LeftBy}
 use Rattle.fuse_sim.specs.HandedOn.{Ledger, fresh, ledger_after, handed_on, RecordsLeft}
 use Rattle.fuse_sim.specs.Running.{Moved, MayBegin, Stops}
 use Rattle.fuse_sim.proofs.Settled.{stands_later, stands_kept}

@@ -1,6 +1,6 @@
 -- A group that was performed.
-use Rattle.std.proofs.Common.{◌≡◌, inl, inr, ℕ, zero, suc, ◌+◌, ◌≤◌, ◌<◌, Bool, true, false, List, [], ◌∷◌, ◌++◌, length, map, get_or, All, Option, Some, None, option_map, refl, sym, ap, subst, ◌∙◌, length-append, arith}
-use Rattle.std.proofs.lemmas.List.{append-nil, map-append, length-map}
+use Rattle.std.proofs.Common.{◌≡◌, ℕ, suc, ◌<◌, false, List, [], ◌∷◌, ◌++◌, length, map, All, Option, Some, option_map, refl, sym, ap, subst, ◌∙◌, arith}
+use Rattle.std.proofs.lemmas.List.{length-map}
 use Rattle.fuse_wire.specs.declared.moment.Moment.{Moment}
 use Rattle.fuse_answer.specs.Said.{Said}
 use Rattle.fuse_answer.specs.Wire.{wire}
@@ -10,7 +10,7 @@ use Rattle.fuse_request.specs.declared.class.Class.TheVariants.{Silent, Bare, Ke
 use Rattle.fuse_request.specs.Classes.{class_of}
 use Rattle.fuse_tree.specs.State.{State}
 use Rattle.fuse_tree.specs.Rows.{Rows}
-use Rattle.fuse_store.specs.History.{Entry, entry_id, History, grown, said, IsUnsettled}
+use Rattle.fuse_store.specs.History.{Entry, entry_id, History, said, IsUnsettled}
 use Rattle.fuse_store.specs.Stands.{Records, StandsFor, Performed, OthersStay}
 use Rattle.fuse_store.specs.Group.{entry_of, entries_of}
 use Rattle.fuse_store.specs.declared.keeper.Done.{Done}
@@ -18,8 +18,8 @@ use Rattle.fuse_session.specs.Worked.{entry_if, message_entry, unique_of}
 use Rattle.fuse_session.specs.Group.{left_by}
 use Rattle.fuse_sim.specs.declared.event.Event.{Event}
 use Rattle.fuse_sim.specs.declared.event.Outcome.{Outcome}
-use Rattle.fuse_sim.specs.Driving.{commits, commits_by, commits_in, committed, answer_in, outcome_of, given, is_taken, where_taken}
-use Rattle.fuse_sim.specs.Running.{dies_before, NoneLost, handed_to, left_pending, answers_in, head_answer, head_outcome, outcomes_by, HasAnswers, settles_in, Adds, Worked}
+use Rattle.fuse_sim.specs.Driving.{commits_in, committed, answer_in, outcome_of, is_taken, where_taken}
+use Rattle.fuse_sim.specs.Running.{dies_before, NoneLost, handed_to, left_pending, answers_in, head_answer, outcomes_by, HasAnswers, settles_in, Adds, Worked}
 use Rattle.fuse_sim.proofs.Gathered.{commits_kept}
 
 entry_at : Event → Entry

@@ -1,10 +1,10 @@
 -- Which ids are handed on and pending, event after event.
-use Rattle.std.proofs.Common.{◌≡◌, ◌⊎◌, inl, inr, ℕ, zero, suc, ◌+◌, ◌≤◌, ◌<◌, Bool, true, false, ◌==◌, if◌then◌else◌, List, [], ◌∷◌, ◌++◌, length, All, refl, sym, ap, subst, ◌∙◌, append_assoc, length-append, arith}
+use Rattle.std.proofs.Common.{◌≡◌, ◌⊎◌, inl, inr, ℕ, zero, suc, ◌+◌, ◌≤◌, Bool, true, false, if◌then◌else◌, List, [], ◌∷◌, ◌++◌, length, refl, sym, ap, subst, ◌∙◌, append_assoc, length-append, arith}
 use Rattle.std.proofs.lemmas.List.{append-nil}
 use Rattle.fuse_request.specs.declared.class.Class.{Class}
 use Rattle.fuse_request.specs.declared.class.Class.TheVariants.{Silent, Bare, Kept}
 use Rattle.fuse_request.specs.Classes.{class_of}
-use Rattle.fuse_store.specs.History.{Entry, entry_id, is_in, ids_in, Includes}
+use Rattle.fuse_store.specs.History.{Entry}
 use Rattle.fuse_session.specs.Worked.{entry_if, message_entry, message_id}
 use Rattle.fuse_session.specs.Settling.{settles_if}
 use Rattle.fuse_sim.specs.declared.event.Fate.{Fate}

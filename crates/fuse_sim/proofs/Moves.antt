@@ -1,5 +1,5 @@
 -- Events that were run, group after group.
-use Rattle.std.proofs.Common.{◌≡◌, ◌⊎◌, inl, inr, ⊎_elim, ℕ, zero, suc, ◌+◌, ◌-◌, ◌≤◌, ◌<◌, Bool, true, false, ◌||◌, ◌==◌, if◌then◌else◌, List, [], ◌∷◌, ◌++◌, length, map, take, drop, get_or, All, Option, Some, None, refl, sym, ap, subst, ◌∙◌, append_assoc, drop-cons, arith}
+use Rattle.std.proofs.Common.{◌≡◌, ◌⊎◌, inl, inr, ℕ, suc, ◌≤◌, ◌<◌, Bool, true, false, ◌||◌, ◌==◌, if◌then◌else◌, List, [], ◌∷◌, ◌++◌, length, map, take, drop, get_or, All, Option, None, refl, sym, ap, subst, ◌∙◌, append_assoc, drop-cons, arith}
 use Rattle.std.proofs.lemmas.List.{append-nil, map-append, length-map}
 use Rattle.std.proofs.lemmas.List.Elements.{All-nil, All-cons}
 use Rattle.fuse_wire.specs.declared.moment.Moment.{Moment}
@@ -7,10 +7,9 @@ use Rattle.fuse_wire.specs.declared.id.Id.{Id}
 use Rattle.fuse_answer.specs.Said.{Said}
 use Rattle.fuse_request.specs.declared.request.Request.{Request}
 use Rattle.fuse_request.specs.Classes.{class_of}
-use Rattle.fuse_tree.specs.State.{State}
 use Rattle.fuse_tree.specs.Rows.{Rows}
-use Rattle.fuse_store.specs.History.{Entry, entry_id, History, HistoriesGrow, grown, is_in, ids_in, Includes, IsUnsettled}
-use Rattle.fuse_store.specs.Stands.{Records, StandsFor, KeepsHeld, OthersStay}
+use Rattle.fuse_store.specs.History.{Entry, entry_id, HistoriesGrow, grown, is_in, ids_in, Includes, IsUnsettled}
+use Rattle.fuse_store.specs.Stands.{Records, StandsFor, KeepsHeld}
 use Rattle.fuse_store.specs.Group.{entry_of, entries_of, ids_of}
 use Rattle.fuse_session.specs.Worked.{entry_if, message_entry, unique_of}
 use Rattle.fuse_sim.specs.declared.event.Fate.{Fate}
@@ -21,9 +20,9 @@ use Rattle.fuse_sim.specs.Driving.{commits, commits_by, commits_in, committed, o
 use Rattle.fuse_sim.specs.HandedOn.{Ledger, fresh, after_commit, crashed_if, handed_at, handed_on, ledger_after}
 use Rattle.fuse_sim.specs.Running.{dies_before, IsRun, StartsNone, Begins, Gathers, NoneLost, handed_to, left_pending, settles_in, RecordsRan, Ran, MayBegin, Moved, Worked}
 use Rattle.fuse_sim.proofs.Gathered.{commits-append, only_one}
-use Rattle.fuse_sim.proofs.Settled.{is_in-append, tested, includes_both, in_either, unsettled_too, stands_kept}
+use Rattle.fuse_sim.proofs.Settled.{is_in-append, tested, includes_both, in_either, stands_kept}
 use Rattle.fuse_sim.proofs.Ledgers.{RunLedger, run_begins, few_pending}
-use Rattle.fuse_sim.proofs.Driven.{committed-append, outcomes-append, all_unsettled_too, none_again, again-parts, pending_settled, handed_settled, settled_all, ledger-append, handed-append}
+use Rattle.fuse_sim.proofs.Driven.{committed-append, outcomes-append, all_unsettled_too, none_again, again-parts, pending_settled, handed_settled, settled_all, handed-append}
 
 -- ---- records
 

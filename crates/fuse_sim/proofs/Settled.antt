@@ -1,6 +1,5 @@
 -- Which ids are settled, handed on, and left.
-use Rattle.std.proofs.Common.{◌≡◌, ◌⊎◌, inl, inr, ℕ, zero, suc, ◌+◌, ◌-◌, ◌≤◌, ◌<◌, Bool, true, false, ◌||◌, ◌==◌, if◌then◌else◌, List, [], ◌∷◌, ◌++◌, length, All, None, refl, sym, ap, subst, ◌∙◌, append_assoc, arith}
-use Rattle.std.proofs.lemmas.List.{append-nil}
+use Rattle.std.proofs.Common.{◌≡◌, ◌⊎◌, inl, inr, ℕ, Bool, true, false, ◌||◌, ◌==◌, if◌then◌else◌, List, [], ◌∷◌, ◌++◌, length, refl, sym, ◌∙◌}
 use Rattle.fuse_wire.specs.declared.moment.Moment.{Moment}
 use Rattle.fuse_request.specs.declared.request.Request.{Request}
 use Rattle.fuse_tree.specs.State.{State}
@@ -8,7 +7,7 @@ use Rattle.fuse_tree.specs.Rows.{Rows}
 use Rattle.fuse_store.specs.History.{History, is_in, Includes}
 use Rattle.fuse_store.specs.Stands.{Records, Stands, StandsFor, KeepsHeld}
 use Rattle.fuse_store.specs.Group.{entries_of}
-use Rattle.fuse_sim.specs.Running.{handed_to, left_pending}
+use Rattle.fuse_sim.specs.Running.{handed_to}
 
 -- ---- ids
 

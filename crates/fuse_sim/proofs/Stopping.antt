@@ -1,5 +1,5 @@
 -- Faults at the events that are run, and the keepers that they leave.
-use Rattle.std.proofs.Common.{◌≡◌, ◌⊎◌, inl, inr, ℕ, zero, suc, ◌+◌, ◌-◌, ◌≤◌, ◌<◌, Bool, true, false, List, [], ◌∷◌, ◌++◌, length, take, drop, All, Option, Some, None, IsSomeAnd, IfSome, slice_get, refl, sym, ap, subst, ◌∙◌, append_assoc, length-append, arith}
+use Rattle.std.proofs.Common.{◌≡◌, inl, inr, ℕ, zero, suc, ◌+◌, ◌-◌, ◌≤◌, ◌<◌, Bool, true, false, List, [], ◌∷◌, ◌++◌, length, take, drop, All, Option, Some, None, IsSomeAnd, IfSome, slice_get, refl, sym, ap, subst, ◌∙◌, append_assoc, length-append, arith}
 use Rattle.std.proofs.Math.Seq.{take-append_seam}
 use Rattle.std.proofs.lemmas.List.{take-append-drop, take_all, length-take-le, length-drop}
 use Rattle.std.proofs.lemmas.List.Elements.{All-append, All-pop}
@@ -11,8 +11,8 @@ use Rattle.fuse_sim.specs.declared.event.Fate.TheVariants.{Answered, AnswerLost,
 use Rattle.fuse_sim.specs.declared.event.Event.{Event}
 use Rattle.fuse_sim.specs.declared.event.DriveFault.{DriveFault}
 use Rattle.fuse_sim.specs.declared.event.DriveFault.TheVariants.{NotAMessage, ZeroUnique, Store, Memory}
-use Rattle.fuse_sim.specs.Driving.{HoldsIn, IsFit, event_of, before, CausedBy, OfRestart, is_store, LeftBy, dies}
-use Rattle.fuse_sim.specs.Running.{dies_before, IsRun, StartsNone, Begins, Stops}
+use Rattle.fuse_sim.specs.Driving.{HoldsIn, IsFit, event_of, CausedBy, OfRestart, is_store, LeftBy, dies}
+use Rattle.fuse_sim.specs.Running.{dies_before, IsRun, Begins, Stops}
 
 -- ---- places
 

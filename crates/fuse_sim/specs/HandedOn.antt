@@ -1,5 +1,6 @@
 -- Which ids are handed on, so that their records are removed (own profile).
-use Rattle.std.specs.Prelude.{◌≡◌, ℕ, zero, suc, Bool, true, false, List, [], ◌∷◌, ◌++◌, None}
+use Rattle.std.specs.Prelude.{◌≡◌, ◌-◌, ℕ, zero, suc, Bool, true, false, List, [], ◌∷◌, ◌++◌, None}
+use Rattle.fuse_store.specs.declared.keeper.TheConstants.{MAX_GROUP}
 use Rattle.fuse_store.specs.History.{Entry, is_in, ids_in}
 use Rattle.fuse_store.specs.Stands.{Records}
 use Rattle.fuse_sim.specs.declared.event.Event.{Event}
@@ -14,9 +15,9 @@ pub record Ledger : Type 0 where
 abbrev pub fresh : Ledger
 fresh = record { room = 0; pending = [] }
 
--- a kept message joins a group that has room; else it begins the next one, of 16, to which all that is pending is handed on
+-- a kept message joins a group that has room; else it begins the next one, to which all that is pending is handed on
 abbrev pub joined : ℕ → List ℕ → List ℕ → Ledger
-joined zero pending settled = record { room = 15; pending = settled }
+joined zero pending settled = record { room = MAX_GROUP - 1; pending = settled }
 joined (suc room) pending settled = record { room = room; pending = pending ++ settled }
 
 abbrev pub handed_by : ℕ → List ℕ → List ℕ

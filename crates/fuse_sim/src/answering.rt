@@ -1,5 +1,5 @@
 // The outcomes of a group's events.
-ghost use Rattle.std.specs.Prelude.{◌≡◌, ◌≤◌, ◌<◌, ◌+◌, ◌++◌, length, All, vec_len, vec_capacity, Some};
+ghost use Rattle.std.specs.Prelude.{◌≡◌, ◌≤◌, ◌<◌, ◌+◌, ◌++◌, length, All, vec_capacity, Some};
 ghost use Rattle.std.specs.Vec.Iter.{into_iter_items};
 ghost use Rattle.fuse_answer.specs.Wire.{wire};
 ghost use Rattle.fuse_request.specs.declared.class.Class.TheVariants.{Kept};
@@ -75,9 +75,10 @@ fn settle(pending: &mut Vec<Id>, event: &Event)
     ensures capacity { vec_capacity pending.new ≡ vec_capacity pending.old }
 {
     let bytes = event.bytes.as_slice();
+    let taken = is_answered(event.fate);
     match classify(bytes) {
         Class::Kept => {
-            if is_answered(event.fate) {
+            if taken {
                 pending.push_reserved(Id::of(unique_in(bytes)));
             }
         }

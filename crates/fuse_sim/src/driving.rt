@@ -1,5 +1,5 @@
 // Running events to their end.
-ghost use Rattle.std.specs.Prelude.{◌≡◌, ◌++◌, ℕ, List, [], false, length, map, IsSomeAnd, IfSome, None, All, IfOk, IfErr, OnOk};
+ghost use Rattle.std.specs.Prelude.{◌≡◌, ◌++◌, ℕ, List, [], false, map, IsSomeAnd, IfSome, None, All, IfOk, IfErr, OnOk};
 ghost use Rattle.fuse_tree.specs.State.{State};
 ghost use Rattle.fuse_tree.specs.Rows.{Rows};
 ghost use Rattle.fuse_store.specs.History.{History};

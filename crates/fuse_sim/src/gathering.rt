@@ -1,7 +1,7 @@
 // Reading a group off the events that come.
-ghost use Rattle.std.specs.Prelude.{◌≡◌, ◌≢◌, ◌≤◌, ◌<◌, ◌⊎◌, ◌↔◌, ◌++◌, true, false, length, take, drop, All, IfOk, IfErr, OnOk, IsTrue};
+ghost use Rattle.std.specs.Prelude.{◌≡◌, ◌≤◌, ◌<◌, ◌⊎◌, ◌↔◌, ◌++◌, true, false, length, take, drop, All, IfOk, IfErr, OnOk, IsTrue};
 ghost use Rattle.fuse_request.specs.Stream.{IsMessage};
-ghost use Rattle.fuse_request.specs.Classes.{class_of, is_zero};
+ghost use Rattle.fuse_request.specs.Classes.{class_of};
 ghost use Rattle.fuse_store.specs.Group.{entries_of, HasId, IsKept};
 ghost use Rattle.fuse_store.specs.declared.keeper.TheConstants.{MAX_GROUP as max_group};
 ghost use Rattle.fuse_session.specs.Worked.{entry_if, message_entry};

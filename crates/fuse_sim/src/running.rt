@@ -1,5 +1,5 @@
 // Running the events that come next: a group of them, or one that is lost.
-ghost use Rattle.std.specs.Prelude.{◌≡◌, ◌≤◌, ◌<◌, ◌+◌, ◌-◌, false, true, if◌then◌else◌, [], length, take, drop, IsSome, IsSomeAnd, IfSome, None, IfOk, IfErr, OnOk, OnErr, All, is_err, vec_capacity};
+ghost use Rattle.std.specs.Prelude.{◌≡◌, ◌≤◌, ◌<◌, ◌+◌, ◌-◌, false, true, if◌then◌else◌, [], length, take, drop, IsSome, IsSomeAnd, None, IfOk, IfErr, OnOk, OnErr, All, is_err, vec_capacity};
 ghost use Rattle.fuse_store.specs.Stands.{KeepsHeld};
 ghost use Rattle.fuse_store.specs.Group.{entries_of, HasId, IsKept, ids_of};
 ghost use Rattle.fuse_store.specs.declared.keeper.TheConstants.{MAX_GROUP as max_group, MAX_SETTLED as max_settled};

@@ -11,6 +11,7 @@ mod driven;
 mod faults;
 mod messages;
 mod pending;
+mod refused;
 mod settled;
 
 const START: Moment = Moment { secs: 0, nanos: 0 };

@@ -1,7 +1,6 @@
 // Opening a keeper again.
 ghost use Rattle.std.specs.Prelude.{◌≡◌, false, IfOk};
 ghost use Rattle.fuse_tree.specs.Rows.{Rows};
-ghost use Rattle.fuse_store.specs.declared.fault.StoreFault.{StoreFault};
 ghost use Rattle.fuse_store.specs.Stands.{Records, KeepsHeld, IsFirm};
 
 use crate::fault::StoreFault;
@@ -15,7 +14,6 @@ pub trait Restart: Keeper {
         // What it opens is what a crash could have left.
         ensures left { IfOk result (λ k. Self.is_honest k → Self.leaves_whole self → (rows : Rows) (records : Records) → Self.holds k rows records → Self.may_leave self rows records) }
         ensures firm { IfOk result (λ k. Self.is_honest k → IsFirm (Self.holds self) (Self.leaves_whole self) (Self.may_leave self) → IsFirm (Self.holds k) (Self.leaves_whole k) (Self.may_leave k)) }
-        ensures may { IfOk result (λ k. (f : StoreFault) → Self.may_answer k f → Self.may_answer self f) }
         ensures honest { IfOk result (λ k. Self.is_honest k → Self.is_honest self) }
         ensures going { IfOk result (λ k. Self.has_failed k ≡ false) };
 }

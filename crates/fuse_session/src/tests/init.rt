@@ -18,23 +18,27 @@ fn agrees(rt: HostRuntime) -> Result<(), Fail> {
 #[test]
 fn before_init(rt: HostRuntime) -> Result<(), Fail> {
     let alloc = rt.alloc();
-    let mut input = Vec::new(alloc);
-    put_getattr(&mut input, 4, 1)?;
-    put_destroy(&mut input, 8)?;
-    put_hex(&mut input, INIT_AGREED)?;
-    put_getattr(&mut input, RESENT | 4, 1)?;
-    put_destroy(&mut input, RESENT | 8)?;
-    put_mkdir(&mut input, 6, b'a')?;
-    put_destroy(&mut input, 10)?;
-    put_mkdir(&mut input, 12, b'b')?;
-    let mut wanted = Vec::new(alloc);
-    put_error(&mut wanted, 4, EPROTO)?;
-    put_error(&mut wanted, 8, EPROTO)?;
-    put_hex(&mut wanted, AGREED)?;
-    put_error(&mut wanted, RESENT | 4, EPROTO)?;
-    put_error(&mut wanted, RESENT | 8, EPROTO)?;
-    put_entry(&mut wanted, 6, 2)?;
-    put_hex(&mut wanted, "10000000 00000000 0a00000000000000")?;
+    let asked = [
+        Ask::Getattr(4, 1),
+        Ask::Destroy(8),
+        Ask::Text(INIT_AGREED),
+        Ask::Getattr(RESENT | 4, 1),
+        Ask::Destroy(RESENT | 8),
+        Ask::Mkdir(6, b'a'),
+        Ask::Destroy(10),
+        Ask::Mkdir(12, b'b'),
+    ];
+    let answered = [
+        Reply::Error(4, EPROTO),
+        Reply::Error(8, EPROTO),
+        Reply::Text(AGREED),
+        Reply::Error(RESENT | 4, EPROTO),
+        Reply::Error(RESENT | 8, EPROTO),
+        Reply::Entry(6, 2),
+        Reply::Text("10000000 00000000 0a00000000000000"),
+    ];
+    let input = asks(alloc, &asked)?;
+    let wanted = replies(alloc, &answered)?;
     let seen = serve_new(alloc, plain(alloc, input, wanted))?;
     assert!(rt; seen.is(Told::Destroyed, (2, 5)));
     Ok(())

@@ -107,39 +107,72 @@ pub fn put_header(
     put_hex(out, TAIL)
 }
 
-/// MKDIR of a name of one letter in the root: 50 bytes.
-pub fn put_mkdir(out: &mut Vec<u8>, unique: u64, name: u8) -> Result<(), AllocError> {
+// MKDIR of a name of one letter in the root: 50 bytes.
+fn put_mkdir(out: &mut Vec<u8>, unique: u64, name: u8) -> Result<(), AllocError> {
     put_header(out, 50, 9, unique, 1)?;
     put_hex(out, "ed010000 12000000")?;
     out.extend_from_slice(&[name, 0])
 }
 
-/// LOOKUP of `hello` in the root: 46 bytes.
-pub fn put_lookup(out: &mut Vec<u8>, unique: u64) -> Result<(), AllocError> {
+// LOOKUP of `hello` in the root: 46 bytes.
+fn put_lookup(out: &mut Vec<u8>, unique: u64) -> Result<(), AllocError> {
     put_header(out, 46, 1, unique, 1)?;
     put_hex(out, "68656c6c6f00")
 }
 
-/// GETATTR: 56 bytes.
-pub fn put_getattr(out: &mut Vec<u8>, unique: u64, node: u64) -> Result<(), AllocError> {
+// GETATTR: 56 bytes.
+fn put_getattr(out: &mut Vec<u8>, unique: u64, node: u64) -> Result<(), AllocError> {
     put_header(out, 56, 3, unique, node)?;
     out.extend_from_slice(&[0; 16])
 }
 
-/// FORGET of one lookup of the root: 48 bytes.
-pub fn put_forget(out: &mut Vec<u8>, unique: u64) -> Result<(), AllocError> {
+// FORGET of one lookup of the root: 48 bytes.
+fn put_forget(out: &mut Vec<u8>, unique: u64) -> Result<(), AllocError> {
     put_header(out, 48, 2, unique, 1)?;
     put_hex(out, "0100000000000000")
 }
 
-/// CREATE, of which the server knows nothing: 40 bytes.
-pub fn put_create(out: &mut Vec<u8>, unique: u64) -> Result<(), AllocError> {
+// CREATE, of which the server knows nothing: 40 bytes.
+fn put_create(out: &mut Vec<u8>, unique: u64) -> Result<(), AllocError> {
     put_header(out, 40, 35, unique, 1)
 }
 
-/// DESTROY: 40 bytes.
-pub fn put_destroy(out: &mut Vec<u8>, unique: u64) -> Result<(), AllocError> {
+// DESTROY: 40 bytes.
+fn put_destroy(out: &mut Vec<u8>, unique: u64) -> Result<(), AllocError> {
     put_header(out, 40, 38, unique, 0)
+}
+
+/// A message by its unique: MKDIR of a name, LOOKUP, GETATTR of a node, FORGET, CREATE, DESTROY, or its text.
+#[derive(Clone, Copy)]
+pub enum Ask {
+    Mkdir(u64, u8),
+    Lookup(u64),
+    Getattr(u64, u64),
+    Forget(u64),
+    Create(u64),
+    Destroy(u64),
+    Text(&'static str),
+}
+
+pub fn put_ask(out: &mut Vec<u8>, ask: Ask) -> Result<(), AllocError> {
+    match ask {
+        Ask::Mkdir(unique, name) => put_mkdir(out, unique, name),
+        Ask::Lookup(unique) => put_lookup(out, unique),
+        Ask::Getattr(unique, node) => put_getattr(out, unique, node),
+        Ask::Forget(unique) => put_forget(out, unique),
+        Ask::Create(unique) => put_create(out, unique),
+        Ask::Destroy(unique) => put_destroy(out, unique),
+        Ask::Text(text) => put_hex(out, text),
+    }
+}
+
+/// These messages, one after another.
+pub fn asks(alloc: Global, list: &[Ask]) -> Result<Vec<u8>, AllocError> {
+    let mut out = Vec::new(alloc);
+    for ask in list {
+        put_ask(&mut out, *ask)?;
+    }
+    Ok(out)
 }
 
 /// MKDIRs of distinct names, the first `from` of them left out, under the uniques 4, 6 and so on with this bit.
@@ -161,8 +194,8 @@ fn put_attributes(out: &mut Vec<u8>, node: u64) -> Result<(), AllocError> {
     )
 }
 
-/// The answer to a MKDIR that made this node: 144 bytes.
-pub fn put_entry(out: &mut Vec<u8>, unique: u64, node: u64) -> Result<(), AllocError> {
+// The answer to a MKDIR that made this node: 144 bytes.
+fn put_entry(out: &mut Vec<u8>, unique: u64, node: u64) -> Result<(), AllocError> {
     put_hex(out, "90000000 00000000")?;
     out.extend_from_slice(&unique.to_le_bytes())?;
     out.extend_from_slice(&node.to_le_bytes())?;
@@ -173,19 +206,46 @@ pub fn put_entry(out: &mut Vec<u8>, unique: u64, node: u64) -> Result<(), AllocE
     put_attributes(out, node)
 }
 
-/// The answer to a GETATTR of such a node: 120 bytes.
-pub fn put_attr(out: &mut Vec<u8>, unique: u64, node: u64) -> Result<(), AllocError> {
+// The answer to a GETATTR of such a node: 120 bytes.
+fn put_attr(out: &mut Vec<u8>, unique: u64, node: u64) -> Result<(), AllocError> {
     put_hex(out, "78000000 00000000")?;
     out.extend_from_slice(&unique.to_le_bytes())?;
     put_hex(out, "0100000000000000 0000000000000000")?;
     put_attributes(out, node)
 }
 
-/// A refusal: 16 bytes.
-pub fn put_error(out: &mut Vec<u8>, unique: u64, errno: u32) -> Result<(), AllocError> {
+// A refusal: 16 bytes.
+fn put_error(out: &mut Vec<u8>, unique: u64, errno: u32) -> Result<(), AllocError> {
     put_hex(out, "10000000")?;
     out.extend_from_slice(&errno.wrapping_neg().to_le_bytes())?;
     out.extend_from_slice(&unique.to_le_bytes())
+}
+
+/// An answer by its unique: the entry or the attributes of a node, an error, or its text.
+#[derive(Clone, Copy)]
+pub enum Reply {
+    Entry(u64, u64),
+    Attr(u64, u64),
+    Error(u64, u32),
+    Text(&'static str),
+}
+
+pub fn put_reply(out: &mut Vec<u8>, reply: Reply) -> Result<(), AllocError> {
+    match reply {
+        Reply::Entry(unique, node) => put_entry(out, unique, node),
+        Reply::Attr(unique, node) => put_attr(out, unique, node),
+        Reply::Error(unique, errno) => put_error(out, unique, errno),
+        Reply::Text(text) => put_hex(out, text),
+    }
+}
+
+/// These answers, one after another.
+pub fn replies(alloc: Global, list: &[Reply]) -> Result<Vec<u8>, AllocError> {
+    let mut out = Vec::new(alloc);
+    for reply in list {
+        put_reply(&mut out, *reply)?;
+    }
+    Ok(out)
 }
 
 /// The answers to MKDIRs of distinct names that make the nodes from 2 on, the first `from` of them left out.

@@ -1,11 +1,11 @@
 // How often the clock is asked.
 
 use super::begun;
-use super::messages::{INIT_AGREED, put_mkdir};
+use super::messages::{Ask, INIT_AGREED, asks};
 use crate::{Clock, MemoryPort, serve};
 use fuse_store::{Keeper, PlainKeeper};
 use fuse_wire::Moment;
-use std::alloc::{AllocError, Global};
+use std::alloc::Global;
 use std::test::*;
 
 // A clock that answers how often it was asked.
@@ -26,15 +26,9 @@ impl Clock for Ticks {
     }
 }
 
-// MKDIR, a message of an opcode that there isn't, and MKDIR.
-fn three_messages(alloc: Global) -> Result<Vec<u8>, AllocError> {
-    let mut out = Vec::new(alloc);
-    put_mkdir(&mut out, 4, b'a')?;
-    out.extend_from_slice(b"\x28\0\0\0\xc8\0\0\0\x06\0\0\0\0\0\0\0")?;
-    out.extend_from_slice(b"\x01\0\0\0\0\0\0\0\xe8\x03\0\0\xe8\x03\0\0\x4d\0\0\0\0\0\0\0")?;
-    put_mkdir(&mut out, 8, b'b')?;
-    Ok(out)
-}
+// A message of an opcode that there isn't.
+const UNKNOWN: &str =
+    "28000000 c8000000 0600000000000000 0100000000000000 e8030000 e8030000 4d000000 00000000";
 
 // How often the clock was asked, how much was sent, and the last bytes of `atime` of both answers to MKDIR.
 #[derive(Clone, Copy, Debug, PartialEq, Eq)]
@@ -62,7 +56,8 @@ fn serve_ticking(alloc: Global, keeper: &mut PlainKeeper, input: Vec<u8>) -> Opt
 }
 
 fn ask_often(alloc: Global) -> Result<Option<Asked>, Fail> {
-    let input = three_messages(alloc)?;
+    let asked = [Ask::Mkdir(4, b'a'), Ask::Text(UNKNOWN), Ask::Mkdir(8, b'b')];
+    let input = asks(alloc, &asked)?;
     let mut keeper = begun(alloc, INIT_AGREED)?;
     Ok(serve_ticking(alloc, &mut keeper, input))
 }

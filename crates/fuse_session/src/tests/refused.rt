@@ -63,27 +63,39 @@ fn passes_again(
     )
 }
 
-// Serves these, in four groups or in one. A fault is the named want of memory, or the port's. It leaves whole
-// answers sent, and in the keeper what they tell, or where the keeper failed what the groups before did.
+// Serves these, in four groups or in one: how it ended, and how many answers were sent. None where what was sent isn't
+// whole answers.
+fn serve_rows(
+    alloc: Global,
+    keeper: &mut PlainKeeper,
+    rows: &Rows,
+    each: bool,
+) -> Result<Option<(Told, usize)>, AllocError> {
+    let mut peer = plain_peer(alloc);
+    if each {
+        put_pieces(&mut peer.arrivals, &ALL_ASKED)?;
+    }
+    let Ok(run) = serve_once(alloc, keeper, rows.asked.clone()?, peer) else {
+        return Ok(None);
+    };
+    let told = told_of(&run.ended);
+    Ok(answers_sent(run.port.sent(), rows.answers.as_slice()).map(|count| (told, count)))
+}
+
+// A fault is the named want of memory, or the port's. It leaves in the keeper what the answers tell, or where the keeper
+// failed what the groups before did.
 fn is_right(alloc: Global, each: bool) -> Result<bool, AllocError> {
     let rows = make_rows(alloc)?;
     let Ok(mut keeper) = PlainKeeper::new(alloc, START) else {
         return Err(AllocError);
     };
-    let mut peer = plain_peer(alloc);
-    if each {
-        put_pieces(&mut peer.arrivals, &ALL_ASKED)?;
-    }
-    let Ok(run) = serve_once(alloc, &mut keeper, rows.asked.clone()?, peer) else {
+    let Some((told, count)) = serve_rows(alloc, &mut keeper, &rows, each)? else {
         return Ok(false);
     };
-    let Some(count) = answers_sent(run.port.sent(), rows.answers.as_slice()) else {
-        return Ok(false);
-    };
-    match run.ended {
-        Ended::End => Ok(count == 4 && matches!(held(&mut keeper), Ok((2, 3)))),
-        Ended::Memory | Ended::PortFailed => passes_again(alloc, &mut keeper, &rows, count),
-        Ended::Store(StoreFault::Memory) => {
+    match told {
+        Told::End => Ok(count == 4 && matches!(held(&mut keeper), Ok((2, 3)))),
+        Told::Memory | Told::PortFailed => passes_again(alloc, &mut keeper, &rows, count),
+        Told::StoreMemory => {
             let left = match (each, count) {
                 (_, 0) => (1, 0),
                 (true, 1) => (1, 1),

@@ -115,22 +115,17 @@ fn ask<K: Keeper>(
 }
 
 // Asks a store in which this INIT was answered.
-fn ask_after(
-    alloc: Global,
-    init: &str,
-    outcomes: Vec<Outcome>,
-    wanted: &[u8],
-) -> Result<(Asked, bool), Fail> {
+fn ask_after(alloc: Global, init: &str, wanted: &[u8]) -> Result<(Asked, bool), Fail> {
     let mut keeper = begun(alloc, init)?;
-    Ok(ask(alloc, &mut keeper, outcomes, wanted))
+    Ok(ask(alloc, &mut keeper, Vec::new(alloc), wanted))
 }
 
 #[test]
 fn resume_notice(rt: HostRuntime) -> Result<(), Fail> {
     let alloc = rt.alloc();
-    let agreed = ask_after(alloc, INIT_AGREED, Vec::new(alloc), NOTICE)?;
+    let agreed = ask_after(alloc, INIT_AGREED, NOTICE)?;
     assert_eq!(rt; agreed, (Asked::Sent, true));
-    let short = ask_after(alloc, INIT_SHORT, Vec::new(alloc), b"")?;
+    let short = ask_after(alloc, INIT_SHORT, b"")?;
     assert_eq!(rt; short, (Asked::NotOffered, true));
     Ok(())
 }
@@ -144,17 +139,24 @@ fn before_an_init(rt: HostRuntime) -> Result<(), Fail> {
     Ok(())
 }
 
+// Asks the same store over a port that fails, over one that takes nothing, and over one that takes parts.
+fn ask_thrice(alloc: Global) -> Result<[(Asked, bool); 3], Fail> {
+    let failing = vec![in alloc; Outcome::Take(10), Outcome::Failed]?;
+    let full = vec![in alloc; Outcome::Take(0)]?;
+    let slow = vec![in alloc; Outcome::Take(10)]?;
+    let mut keeper = begun(alloc, INIT_AGREED)?;
+    Ok([
+        ask(alloc, &mut keeper, failing, &NOTICE[..10]),
+        ask(alloc, &mut keeper, full, b""),
+        ask(alloc, &mut keeper, slow, NOTICE),
+    ])
+}
+
 #[test]
 fn notice_stops(rt: HostRuntime) -> Result<(), Fail> {
-    let alloc = rt.alloc();
-    let outcomes = vec![in alloc; Outcome::Take(10), Outcome::Failed]?;
-    let part = ask_after(alloc, INIT_AGREED, outcomes, &NOTICE[..10])?;
+    let [part, none, whole] = ask_thrice(rt.alloc())?;
     assert_eq!(rt; part, (Asked::PortFailed, true));
-    let outcomes = vec![in alloc; Outcome::Take(0)]?;
-    let none = ask_after(alloc, INIT_AGREED, outcomes, b"")?;
     assert_eq!(rt; none, (Asked::PortFailed, true));
-    let outcomes = vec![in alloc; Outcome::Take(10)]?;
-    let whole = ask_after(alloc, INIT_AGREED, outcomes, NOTICE)?;
     assert_eq!(rt; whole, (Asked::Sent, true));
     Ok(())
 }

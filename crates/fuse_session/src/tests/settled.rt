@@ -83,9 +83,9 @@ fn settled_after_fault(rt: HostRuntime) -> Result<(), Fail> {
 fn settled_after_fault_with_one_more(rt: HostRuntime) -> Result<(), Fail> {
     let alloc = rt.alloc();
     let mut input = mkdirs(alloc, 15, 31, RESENT)?;
-    put_lookup(&mut input, 400)?;
+    put_ask(&mut input, Ask::Lookup(400))?;
     let mut wanted = entries(alloc, 15, 31, RESENT)?;
-    put_error(&mut wanted, 400, ENOENT)?;
+    put_reply(&mut wanted, Reply::Error(400, ENOENT))?;
     let (_, again) = serve_behind_it(alloc, input, wanted)?;
     assert!(rt; again.is(Told::End, (32, 1)));
     Ok(())

@@ -3,12 +3,6 @@ use super::*;
 
 const NONE: &str = "";
 
-/// MKNOD `f` of a regular file.
-pub const F_BODY: &str = "a4810000 00000000 12000000 00000000 6600";
-
-/// OPEN for reading and writing.
-pub const OPEN_BODY: &str = "02000000 00000000";
-
 const HELLO: &str = "68656c6c6f00";
 
 // A message, its fate, and the answer that the kernel takes, or its beginning; none where it is empty.

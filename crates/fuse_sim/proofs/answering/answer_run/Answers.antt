@@ -1,4 +1,4 @@
-use Rattle.std.proofs.Common.{◌≡◌, ◌≤◌, ◌+◌, ◌++◌, ◌∷◌, [], sym, ap, subst, ◌∙◌, length, length-append, vec_capacity, drop, arith}
+use Rattle.std.proofs.Common.{◌+◌, ◌++◌, ◌∷◌, [], sym, ap, subst, ◌∙◌, length, length-append, vec_capacity, drop, arith}
 use Rattle.std.specs.Vec.Iter.{into_iter_items}
 use Rattle.fuse_store.specs.Group.{ids_of}
 use Rattle.fuse_sim.specs.Running.{answers_in, outcomes_by, HasAnswers, settles_in}

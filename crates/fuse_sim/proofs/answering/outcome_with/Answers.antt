@@ -1,4 +1,4 @@
-use Rattle.std.proofs.Common.{◌∙◌, ap}
+use Rattle.std.proofs.Common.{ap}
 use Rattle.fuse_answer.specs.Said.{Said}
 use Rattle.fuse_sim.proofs.Outcomes.{whole_answer}
 use Rattle.fuse_sim.proofs.answering.outcome_with.Goals as goal

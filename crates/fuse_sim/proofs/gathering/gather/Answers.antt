@@ -1,5 +1,4 @@
-use Rattle.std.proofs.Common.{◌≡◌, ◌+◌, false, true, sym, ap, subst, ◌∙◌, take, arith}
-use Rattle.fuse_sim.specs.Driving.{dies}
+use Rattle.std.proofs.Common.{◌+◌, false, true, sym, subst, ◌∙◌, take, arith}
 use Rattle.fuse_sim.specs.Running.{Gathers}
 use Rattle.fuse_sim.proofs.Gathered.{gathers_more}
 use Rattle.fuse_sim.proofs.gathering.gather.Goals as goal

@@ -1,4 +1,4 @@
-use Rattle.std.proofs.Common.{◌≡◌, true, false, sym, ap, subst, ◌∙◌}
+use Rattle.std.proofs.Common.{sym, ap, subst, ◌∙◌}
 use Rattle.fuse_request.specs.Classes.{is_zero}
 use Rattle.fuse_request.specs.Stream.{IsMessage}
 use Rattle.fuse_sim.proofs.Alone.{message_is_alone}

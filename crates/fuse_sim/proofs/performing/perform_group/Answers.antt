@@ -1,6 +1,6 @@
-use Rattle.std.proofs.Common.{◌≡◌, ◌++◌, ◌==◌, List, ℕ, false, sym, ap, subst, ◌∙◌, length, All, arith, eq-eqb}
+use Rattle.std.proofs.Common.{◌≡◌, ◌++◌, sym, ap, subst, ◌∙◌, length, arith}
 use Rattle.fuse_tree.specs.Rows.{Rows}
-use Rattle.fuse_store.specs.History.{IsUnsettled, Includes}
+use Rattle.fuse_store.specs.History.{Includes}
 use Rattle.fuse_store.specs.Stands.{Records, OthersStay}
 use Rattle.fuse_store.specs.Group.{entries_of, ids_of}
 use Rattle.fuse_sim.specs.Running.{handed_to}

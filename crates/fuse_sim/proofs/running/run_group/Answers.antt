@@ -1,4 +1,4 @@
-use Rattle.std.proofs.Common.{◌≡◌, ◌⊎◌, ◌+◌, ◌-◌, false, refl, sym, ap, subst, ◌∙◌, length, take, drop, All, IsSomeAnd, ◌≤◌, if◌then◌else◌, [], arith}
+use Rattle.std.proofs.Common.{◌≡◌, ◌⊎◌, ◌+◌, ◌-◌, false, refl, sym, ap, subst, ◌∙◌, length, take, drop, All, IsSomeAnd, arith}
 use Rattle.fuse_store.specs.Group.{ids_of}
 use Rattle.std.proofs.lemmas.List.{drop-drop}
 use Rattle.std.proofs.lemmas.Result.{err_from_is_err_and}
