@@ -48,6 +48,7 @@ fn vectors() {
     cut_joins();
     cut_steps();
     canon_spells();
+    spelled_at();
 }
 
 // LOOKUP `hello`, unique 4.
