@@ -7,10 +7,10 @@ use Rattle.fuse_request.specs.declared.class.Class.{Class}
 use Rattle.fuse_request.specs.declared.class.Class.TheVariants.{Silent, Bare, Kept}
 use Rattle.fuse_request.specs.declared.decoding.Malformed.{Malformed}
 use Rattle.fuse_request.specs.declared.request.Request.{Request}
-use Rattle.fuse_request.specs.Act.{Asked, asked, act, IsBuilt, opcode_of}
+use Rattle.fuse_request.specs.Act.{Asked, asked, act, IsKept, opcode_of}
 use Rattle.fuse_request.specs.Header.{raw_of}
 use Rattle.fuse_wire.specs.Opcodes.{silent}
-use Rattle.fuse_request.specs.Opcodes.{is_built}
+use Rattle.fuse_request.specs.Opcodes.{in_profile, is_kept}
 use Rattle.fuse_request.specs.Spelling.{Spells}
 use Rattle.fuse_request.specs.Faults.{first_fault}
 use Rattle.fuse_request.specs.Classes.{class_by, class_of, IsOfClass}
@@ -38,40 +38,42 @@ classed_fault m f loud e = (
   (loud, inl (refl, λ v s. (let none : first_fault m ≡ None = no_fault v m s in absurd cc))),
 )
 
-pub classed_unsupported : (m : List ℕ) (v : Asked) → silent (number_of 4 (drop 4 m)) ≡ false → Spells v m → is_built (number_of 4 (drop 4 m)) ≡ false → Classed (Bare ENOSYS) m
-classed_unsupported m v loud s later =
+pub classed_unsupported : (m : List ℕ) (v : Asked) → silent (number_of 4 (drop 4 m)) ≡ false → Spells v m → in_profile (number_of 4 (drop 4 m)) ≡ false → Classed (Bare ENOSYS) m
+classed_unsupported m v loud s outside =
     let opcode : number_of 4 (drop 4 m) ≡ opcode_of v.act = (has_parts v m s).opcode in
-    let later : is_built (opcode_of v.act) ≡ false = sym (ap is_built opcode) ∙ later in (
-      sym (spelled_class v m loud s ∙ rw later refl),
+    let outside : in_profile (opcode_of v.act) ≡ false = sym (ap in_profile opcode) ∙ outside in (
+      sym (spelled_class v m loud s ∙ rw outside refl),
       (loud, inr (refl, (v, s, λ h. absurd cc))),
     )
 
-pub classed_kept : (m : List ℕ) (v : Asked) → silent (number_of 4 (drop 4 m)) ≡ false → Spells v m → is_built (number_of 4 (drop 4 m)) ≡ true → Classed Kept m
-classed_kept m v loud s now =
+pub classed_kept : (m : List ℕ) (v : Asked) → silent (number_of 4 (drop 4 m)) ≡ false → Spells v m → in_profile (number_of 4 (drop 4 m)) ≡ true → Classed Kept m
+classed_kept m v loud s inside =
     let opcode : number_of 4 (drop 4 m) ≡ opcode_of v.act = (has_parts v m s).opcode in
-    let now : is_built (opcode_of v.act) ≡ true = sym (ap is_built opcode) ∙ now in
-    (sym (spelled_class v m loud s ∙ rw now refl), (loud, (v, s, now)))
+    let inside : in_profile (opcode_of v.act) ≡ true = sym (ap in_profile opcode) ∙ inside in
+    (sym (spelled_class v m loud s ∙ rw inside refl), (loud, (v, s, inside)))
 
--- what is kept has no fault, and an opcode whose operation is built
-kept_by : (loud : Bool) (f : Option Malformed) (opcode : ℕ) → cond {A = Class} loud Silent (class_by f opcode) ≡ Kept → (f ≡ None) × (is_built opcode ≡ true)
+-- what is kept isn't silent and has no fault, and its opcode is of the profile
+kept_by : (quiet : Bool) (f : Option Malformed) (opcode : ℕ) → cond {A = Class} quiet Silent (class_by f opcode) ≡ Kept → (f ≡ None) × (quiet ≡ false) × (in_profile opcode ≡ true)
 kept_by true f opcode e = absurd cc
 kept_by false (Some f) opcode e = absurd cc
 kept_by false None opcode e =
-    elim (is_built opcode) as (λ p. cond {A = Class} p Kept (Bare ENOSYS) ≡ Kept → (◌≡◌ {A = Option Malformed} None None) × (p ≡ true)) [
-      | true ↦ (λ q. (refl, refl))
+    elim (in_profile opcode) as (λ p. cond {A = Class} p Kept (Bare ENOSYS) ≡ Kept → (◌≡◌ {A = Option Malformed} None None) × (◌≡◌ {A = Bool} false false) × (p ≡ true)) [
+      | true ↦ (λ q. (refl, refl, refl))
       | false ↦ (λ q. absurd cc)
     ] e
 
-kept_parts : (m : List ℕ) → class_of m ≡ Kept → (first_fault m ≡ None) × (is_built (raw_of m).opcode ≡ true)
+kept_parts : (m : List ℕ) → class_of m ≡ Kept → (first_fault m ≡ None) × (silent (raw_of m).opcode ≡ false) × (in_profile (raw_of m).opcode ≡ true)
 unfolding class_of
 kept_parts m e = kept_by (silent (raw_of m).opcode) (first_fault m) (raw_of m).opcode e
 
--- what is kept is read, and built
+-- what is kept is read as a request that is kept
 pub kept_read : (m : List ℕ) (r : Result Request Malformed) → IfOk r (λ q. Spells (asked q) m) → IfErr r (λ f. first_fault m ≡ Some f)
-    → class_of m ≡ Kept → IsOkAnd r (λ q. IsBuilt (act q.op))
+    → class_of m ≡ Kept → IsOkAnd r (λ q. IsKept (act q.op))
 kept_read m (Ok q) found fault e =
     let opcode : (raw_of m).opcode ≡ opcode_of (act q.op) = (has_parts (asked q) m found).opcode in
-    sym (ap is_built opcode) ∙ (kept_parts m e).1
+    let loud : silent (opcode_of (act q.op)) ≡ false = sym (ap silent opcode) ∙ (kept_parts m e).1 in
+    let inside : in_profile (opcode_of (act q.op)) ≡ true = sym (ap in_profile opcode) ∙ (kept_parts m e).2 in
+    rw (loud, inside) refl
 kept_read m (Err f) found fault e =
     let none : first_fault m ≡ None = (kept_parts m e).0 in
     absurd cc

@@ -9,7 +9,7 @@ use Rattle.fuse_request.specs.declared.request.ReadIn.{ReadIn}
 use Rattle.fuse_request.specs.declared.request.ReleaseIn.{ReleaseIn}
 use Rattle.fuse_request.specs.declared.request.Request.{Request}
 use Rattle.fuse_request.specs.declared.request.SetattrIn.{SetattrIn}
-use Rattle.fuse_request.specs.Opcodes.{is_built}
+use Rattle.fuse_request.specs.Opcodes.{in_profile, is_kept}
 
 -- what a request asks for, its names and bodies as lists
 pub data Act : Type 0 where
@@ -92,6 +92,10 @@ pub record Asked : Type 0 where
 abbrev pub asked : Request → Asked
 asked r = record { header = r.header; act = act r.op; ext = r.ext.now }
 
--- what it asks for is built
-abbrev pub IsBuilt : Act → Type 0
-IsBuilt a = is_built (opcode_of a) ≡ true
+-- its opcode is of the profile
+abbrev pub IsInProfile : Act → Type 0
+IsInProfile a = in_profile (opcode_of a) ≡ true
+
+-- its message is kept
+abbrev pub IsKept : Act → Type 0
+IsKept a = is_kept (opcode_of a) ≡ true

@@ -5,17 +5,17 @@ use Rattle.fuse_wire.specs.Ids.{id_of}
 use Rattle.fuse_request.specs.declared.class.Class.{Class}
 use Rattle.fuse_request.specs.declared.class.Class.TheVariants.{Silent, Bare, Kept}
 use Rattle.fuse_request.specs.declared.decoding.Malformed.{Malformed}
-use Rattle.fuse_request.specs.Act.{Asked, IsBuilt}
+use Rattle.fuse_request.specs.Act.{Asked, IsInProfile}
 use Rattle.fuse_request.specs.Header.{raw_of}
 use Rattle.fuse_wire.specs.Opcodes.{silent}
-use Rattle.fuse_request.specs.Opcodes.{is_built}
+use Rattle.fuse_request.specs.Opcodes.{in_profile}
 use Rattle.fuse_request.specs.Faults.{first_fault}
 use Rattle.fuse_request.specs.Spelling.{Spells}
 
--- by its fault, and else by its opcode
+-- by its fault, and else by whether its opcode is of the profile
 abbrev pub class_by : Option Malformed → ℕ → Class
 class_by (Some m) opcode = Bare EINVAL
-class_by None opcode = if is_built opcode then Kept else Bare ENOSYS
+class_by None opcode = if in_profile opcode then Kept else Bare ENOSYS
 
 unfoldable pub class_of : List ℕ → Class
 class_of b = if silent (raw_of b).opcode then Silent else class_by (first_fault b) (raw_of b).opcode
@@ -25,8 +25,8 @@ abbrev pub IsOfClass : Class → List ℕ → Type 0
 IsOfClass Silent b = silent (raw_of b).opcode ≡ true
 IsOfClass (Bare errno) b =
     (silent (raw_of b).opcode ≡ false)
-    × (((errno ≡ EINVAL) × ((r : Asked) → ¬ (Spells r b))) ⊎ ((errno ≡ ENOSYS) × ((r : Asked) × Spells r b × ¬ (IsBuilt r.act))))
-IsOfClass Kept b = (silent (raw_of b).opcode ≡ false) × ((r : Asked) × Spells r b × IsBuilt r.act)
+    × (((errno ≡ EINVAL) × ((r : Asked) → ¬ (Spells r b))) ⊎ ((errno ≡ ENOSYS) × ((r : Asked) × Spells r b × ¬ (IsInProfile r.act))))
+IsOfClass Kept b = (silent (raw_of b).opcode ≡ false) × ((r : Asked) × Spells r b × IsInProfile r.act)
 
 -- it would have to be answered, and its id is 0
 abbrev pub is_zero : List ℕ → Bool

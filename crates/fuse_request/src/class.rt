@@ -4,7 +4,7 @@ ghost use Rattle.fuse_request.specs.Classes.{class_of, IsOfClass, is_zero};
 
 use crate::decoding::decode;
 use crate::header::MIN_MESSAGE;
-use crate::opcode::{is_built, is_silent};
+use crate::opcode::{is_in_profile, is_silent};
 use fuse_wire::{Errno, Id, u32_at, u64_at};
 
 /// How a message is answered.
@@ -33,7 +33,7 @@ pub fn classify(message: &[u8]) -> Class
     let Ok(_request) = decode(message) else {
         return Class::Bare(Errno::EINVAL);
     };
-    if !is_built(opcode) {
+    if !is_in_profile(opcode) {
         return Class::Bare(Errno::ENOSYS);
     }
     Class::Kept

@@ -1,6 +1,6 @@
 ghost use Rattle.std.specs.Result.{result_err};
 ghost use Rattle.std.specs.Prelude.{◌≡◌, Some, IsOkAnd, IfOk, IfErr};
-ghost use Rattle.fuse_request.specs.Act.{Asked, asked, act, IsBuilt};
+ghost use Rattle.fuse_request.specs.Act.{Asked, asked, act, IsKept};
 ghost use Rattle.fuse_request.specs.Spelling.{Spells};
 ghost use Rattle.fuse_request.specs.Faults.{first_fault};
 ghost use Rattle.fuse_request.specs.Places.{asked_at};
@@ -70,8 +70,8 @@ pub fn decode(message: &[u8]) -> Result<Request<'_>, Malformed>
     // Which fault it is. There is none exactly where a request is spelled.
     ensures fault { result_err result ≡ first_fault message.now }
 
-    // What is kept is read, and what it asks for is built.
-    ensures kept { class_of message.now ≡ Class.Kept → IsOkAnd result (λ r. IsBuilt (act r.op)) }
+    // What is kept is read as a request that is kept.
+    ensures kept { class_of message.now ≡ Class.Kept → IsOkAnd result (λ r. IsKept (act r.op)) }
 {
     read(message)
 }

@@ -348,8 +348,9 @@ fn names_of_opcodes(rt: HostRuntime) {
     for number in [0, 5, 35, 41, 46, 4096] {
         assert_eq!(rt; opcode::name_of(number), None);
         assert!(rt; !opcode::is_in_profile(number));
-        assert!(rt; !opcode::is_built(number));
     }
-    assert!(rt; opcode::is_built(opcode::DESTROY));
-    assert!(rt; !opcode::is_built(opcode::FORGET));
+    for number in 0..60 {
+        let silent = matches!(number, 2 | 36 | 41 | 42);
+        assert_eq!(rt; opcode::is_silent(number), silent);
+    }
 }

@@ -1,4 +1,4 @@
-//! The opcodes of the profile: their names, and what is built of them.
+//! The opcodes of the profile, their names, and which are silent.
 ghost use Rattle.std.specs.Prelude.{◌≡◌};
 ghost use Rattle.std.specs.Option.{option_map};
 ghost use Rattle.fuse_request.specs.Opcodes as opcodes;
@@ -69,13 +69,6 @@ pub fn is_in_profile(opcode: u32) -> bool
             | BATCH_FORGET
             | RENAME2
     )
-}
-
-/// Whether what requests of this opcode do is built. Until it is, they are answered as unsupported ones are.
-pub fn is_built(opcode: u32) -> bool
-    ensures { result ≡ opcodes.is_built opcode }
-{
-    is_in_profile(opcode) && !is_silent(opcode)
 }
 
 /// Whether messages of this opcode are never answered.

@@ -3,7 +3,8 @@ use Rattle.std.specs.Prelude.{◌≢◌, ℕ, List, map}
 use Rattle.fuse_wire.specs.declared.id.Id.{Id}
 use Rattle.fuse_wire.specs.declared.moment.Moment.{Moment}
 use Rattle.fuse_request.specs.declared.request.Request.{Request}
-use Rattle.fuse_request.specs.Act.{asked, IsBuilt}
+use Rattle.fuse_request.specs.Act.{asked}
+use Rattle.fuse_request.specs.Act as act
 use Rattle.fuse_store.specs.History.{Entry, entry_id}
 
 -- a request and its moment, wherever the request lies
@@ -17,9 +18,9 @@ entries_of group = map entry_of group
 abbrev pub HasId : Entry → Type 0
 HasId e = entry_id e ≢ 0
 
--- the request is answered by the tree: its opcode is served
+-- its message is kept
 abbrev pub IsKept : Entry → Type 0
-IsKept e = IsBuilt e.asked.act
+IsKept e = act.IsKept e.asked.act
 
 -- the numbers of ids
 abbrev pub ids_of : List Id → List ℕ

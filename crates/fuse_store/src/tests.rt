@@ -1,7 +1,7 @@
 // The rows of the specification that a keeper alone can run, and want of memory.
 ghost use Rattle.std.specs.Prelude.{◌≡◌, ◌≢◌, ◌≤◌, true, length};
 ghost use Rattle.fuse_wire.specs.Ids.{id_of};
-ghost use Rattle.fuse_request.specs.Act.{act, IsBuilt};
+ghost use Rattle.fuse_request.specs.Act.{act, IsKept};
 ghost use Rattle.fuse_store.specs.declared.keeper.TheConstants.{MAX_SETTLED as MOST_SETTLED};
 
 mod contents;
@@ -125,7 +125,7 @@ fn getattr(unique: u64, nodeid: u64) -> Request<'static> {
 // Whether a keeper can perform the request.
 fn is_kept(request: &Request<'_>) -> bool
     ensures id { result ≡ true → id_of request.now.header.unique ≢ 0 }
-    ensures built { result ≡ true → IsBuilt (act request.now.op) }
+    ensures kept { result ≡ true → IsKept (act request.now.op) }
 {
     if Id::of(request.header.unique).0 == 0 {
         return false;
@@ -146,7 +146,7 @@ fn ask_one<K: Keeper>(
     settled: &[Id],
 ) -> Result<Option<Done>, StoreFault>
     requires id { id_of request.header.unique ≢ 0 }
-    requires built { IsBuilt (act request.op) }
+    requires kept { IsKept (act request.op) }
     requires few { length settled.now ≤ MOST_SETTLED }
 {
     let mut dones = keeper.perform(&[(request, NOW)], settled)?;
@@ -160,9 +160,9 @@ fn ask_two<K: Keeper>(
     settled: &[Id],
 ) -> Result<Vec<Done>, StoreFault>
     requires first_id { id_of first.header.unique ≢ 0 }
-    requires first_built { IsBuilt (act first.op) }
+    requires first_kept { IsKept (act first.op) }
     requires second_id { id_of second.header.unique ≢ 0 }
-    requires second_built { IsBuilt (act second.op) }
+    requires second_kept { IsKept (act second.op) }
     requires few { length settled.now ≤ MOST_SETTLED }
 {
     keeper.perform(&[(first, NOW), (second, NOW)], settled)

@@ -48,7 +48,7 @@ getattr s n = answer s (attr_out_bytes (attr_out_of (attr_of s n)))
 
 -- ---- all requests
 
--- what is asked, at the node that the header names; what isn't built yet is refused as what isn't of the profile
+-- what is asked, at the node that the header names; the last line is of requests that aren't kept
 abbrev pub do_act : State → InHeader → Act → Moment → Node → Done
 do_act s header (acts.Lookup name) now n = lookup s name n
 do_act s header (acts.Getattr flags fh) now n = getattr s n

@@ -58,7 +58,7 @@ use unlink::plan_unlink;
 use write::plan_write;
 
 /// What the request answers in the tree whose rows lie behind `look`, and which rows it changes.
-/// Nothing is changed. An operation that is not built, or not of the profile, is answered ENOSYS.
+/// Nothing is changed. What isn't kept is answered ENOSYS: it is silent, or not of the profile.
 pub fn plan<L: Look>(
     look: &mut L,
     alloc: Global,

@@ -1,7 +1,7 @@
 //! Rows `resent-lookup`, `name-lengths` and `unlinked-open-file`, the latter without its handle.
 ghost use Rattle.std.specs.Prelude.{◌≡◌, ◌≢◌, true};
 ghost use Rattle.fuse_wire.specs.Ids.{id_of};
-ghost use Rattle.fuse_request.specs.Act.{act, IsBuilt};
+ghost use Rattle.fuse_request.specs.Act.{act, IsKept};
 
 use super::*;
 
@@ -26,7 +26,7 @@ fn rmdir<'a>(unique: u64, name: &'a [u8]) -> Request<'a> {
 // Whether a keeper can perform the request.
 fn is_asked(request: &Request<'_>) -> bool
     ensures id { result ≡ true → id_of request.now.header.unique ≢ 0 }
-    ensures built { result ≡ true → IsBuilt (act request.now.op) }
+    ensures kept { result ≡ true → IsKept (act request.now.op) }
 {
     if Id::of(request.header.unique).0 == 0 {
         return false;

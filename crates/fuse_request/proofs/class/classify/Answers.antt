@@ -1,7 +1,7 @@
 use Rattle.std.proofs.Common.{sym, ap, ◌∙◌}
 use Rattle.fuse_request.specs.Act.{asked}
 use Rattle.fuse_wire.specs.Opcodes.{silent}
-use Rattle.fuse_request.specs.Opcodes.{is_built}
+use Rattle.fuse_request.specs.Opcodes.{in_profile}
 use Rattle.fuse_request.proofs.Classes.{classed_silent, classed_fault, classed_unsupported, classed_kept}
 use Rattle.fuse_request.proofs.class.classify.Goals as goal
 
@@ -15,16 +15,16 @@ returns-in_default c =
     let h = classed_fault c.args.message.now c.in_default.field-0 (sym (c.is_silent.ensures ∙ ap silent c.u32_at-opcode.ensures) ∙ c.if-is_silent.false) (sym c.in_default.ensures.fault) in
     record { class = h.0; spells = h.1 }
 
-pub returns-then-not-is_built : goal.returns-then-not-is_built
-returns-then-not-is_built c =
+pub returns-then-not-is_in_profile : goal.returns-then-not-is_in_profile
+returns-then-not-is_in_profile c =
     let loud = sym (c.is_silent.ensures ∙ ap silent c.u32_at-opcode.ensures) ∙ c.if-is_silent.false in
-    let later = sym (c.is_built.ensures ∙ ap is_built c.u32_at-opcode.ensures) ∙ c.if-not-is_built.true in
-    let h = classed_unsupported c.args.message.now (asked c.in-Ok._request) loud c.in-Ok.ensures.found later in
+    let outside = sym (c.is_in_profile.ensures ∙ ap in_profile c.u32_at-opcode.ensures) ∙ c.if-not-is_in_profile.true in
+    let h = classed_unsupported c.args.message.now (asked c.in-Ok._request) loud c.in-Ok.ensures.found outside in
     record { class = h.0; spells = h.1 }
 
 pub returns : goal.returns
 returns c =
     let loud = sym (c.is_silent.ensures ∙ ap silent c.u32_at-opcode.ensures) ∙ c.if-is_silent.false in
-    let built = sym (c.is_built.ensures ∙ ap is_built c.u32_at-opcode.ensures) ∙ c.if-not-is_built.false in
-    let h = classed_kept c.args.message.now (asked c.in-Ok._request) loud c.in-Ok.ensures.found built in
+    let inside = sym (c.is_in_profile.ensures ∙ ap in_profile c.u32_at-opcode.ensures) ∙ c.if-not-is_in_profile.false in
+    let h = classed_kept c.args.message.now (asked c.in-Ok._request) loud c.in-Ok.ensures.found inside in
     record { class = h.0; spells = h.1 }

@@ -6,4 +6,4 @@ pub perform-requires-clause-named : goal.perform-requires-clause-named
 perform-requires-clause-named g c = all_one HasId _ c.requires.id
 
 pub perform-requires-clause-kept : goal.perform-requires-clause-kept
-perform-requires-clause-kept g c = all_one IsKept _ c.requires.built
+perform-requires-clause-kept g c = all_one IsKept _ c.requires.kept

@@ -6,4 +6,4 @@ pub perform-requires-clause-named : goal.perform-requires-clause-named
 perform-requires-clause-named g c = all_two HasId _ _ c.requires.first_id c.requires.second_id
 
 pub perform-requires-clause-kept : goal.perform-requires-clause-kept
-perform-requires-clause-kept g c = all_two IsKept _ _ c.requires.first_built c.requires.second_built
+perform-requires-clause-kept g c = all_two IsKept _ _ c.requires.first_kept c.requires.second_kept
