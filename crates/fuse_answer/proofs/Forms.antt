@@ -6,9 +6,10 @@ use Rattle.fuse_wire.specs.Bytes.{le}
 use Rattle.fuse_wire.specs.Layout.{Part, number, unused, text, bytes, Lays, HasForm, widths, form}
 use Rattle.fuse_wire.proofs.Numbers.{length-le}
 use Rattle.fuse_wire.proofs.Layouts.{Lays-form}
-use Rattle.fuse_answer.specs.Bodies.{numbers, attr_parts, entry_parts, attr_out_parts, open_parts, write_parts, init_parts, attr_bytes, entry_bytes, attr_out_bytes, open_bytes, write_bytes, init_bytes}
+use Rattle.fuse_answer.specs.Bodies.{numbers, header_parts, attr_parts, entry_parts, attr_out_parts, open_parts, write_parts, init_parts, header_bytes, attr_bytes, entry_bytes, attr_out_bytes, open_bytes, write_bytes, init_bytes}
 use Rattle.fuse_answer.specs.Laws.{BeginsWithLen}
 use Rattle.fuse_answer.specs.Wire.{negated, wire, wire_head}
+use Rattle.fuse_answer.specs.declared.records.OutHeader.{OutHeader}
 use Rattle.fuse_answer.specs.declared.records.Attr.{Attr}
 use Rattle.fuse_answer.specs.declared.records.EntryOut.{EntryOut}
 use Rattle.fuse_answer.specs.declared.records.AttrOut.{AttrOut}
@@ -84,6 +85,10 @@ unfolding init_bytes
 length_init i = length-form (init_parts i)
 
 -- the bytes of a record are laid out as it is
+pub laid_header : (h : OutHeader) (body : List ℕ) → body ≡ header_bytes h → HasForm (header_parts h) → Lays (header_parts h) body
+unfolding header_bytes
+laid_header h body e f = subst (Lays (header_parts h)) (sym e) (Lays-form (header_parts h) f)
+
 pub laid_attr : (a : Attr) (body : List ℕ) → body ≡ attr_bytes a → HasForm (attr_parts a) → Lays (attr_parts a) body
 unfolding attr_bytes
 laid_attr a body e h = subst (Lays (attr_parts a)) (sym e) (Lays-form (attr_parts a) h)

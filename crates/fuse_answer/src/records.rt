@@ -1,6 +1,6 @@
 ghost use Rattle.std.specs.Prelude.{◌≡◌, ◌++◌, length, OnOk, IfOk};
 ghost use Rattle.fuse_wire.specs.Layout.{HasForm, Lays};
-ghost use Rattle.fuse_answer.specs.Bodies.{attr_parts, entry_parts, attr_out_parts, open_parts, write_parts, header_bytes, attr_bytes, entry_bytes, attr_out_bytes, open_bytes, write_bytes};
+ghost use Rattle.fuse_answer.specs.Bodies.{header_parts, attr_parts, entry_parts, attr_out_parts, open_parts, write_parts, header_bytes, attr_bytes, entry_bytes, attr_out_bytes, open_bytes, write_bytes};
 ghost use Rattle.fuse_answer.specs.declared.records.TheConstants.OutHeader.{SIZE as HEADER_SIZE};
 ghost use Rattle.fuse_answer.specs.declared.records.TheConstants.Attr.{SIZE as ATTR_SIZE};
 ghost use Rattle.fuse_answer.specs.declared.records.TheConstants.EntryOut.{SIZE as ENTRY_SIZE};
@@ -81,7 +81,8 @@ impl OutHeader {
 
     #[tactic(auto, unfolding(crate::specs::Bodies::header_bytes, fuse_wire::specs::Bytes::le))]
     pub(crate) fn bytes(&self) -> [u8; 16]
-        ensures { result ≡ header_bytes self.now }
+        ensures bytes { result ≡ header_bytes self.now }
+        ensures fits { HasForm (header_parts self.now) }
     {
         let len = self.len.to_le_bytes();
         let error = self.error.cast_unsigned().to_le_bytes();
@@ -92,9 +93,11 @@ impl OutHeader {
         ]
     }
 
+    /// The bytes of a header alone, as a notice is.
     pub fn body_of(&self, alloc: Global) -> Result<Vec<u8>, Memory>
         ensures bytes { IfOk result (λ body. body.items ≡ header_bytes self.now) }
         ensures size { IfOk result (λ body. length body.items ≡ HEADER_SIZE) }
+        ensures laid { IfOk result (λ body. Lays (header_parts self.now) body.items) }
     {
         Ok(Vec::from_slice(alloc, &self.bytes())?)
     }

@@ -13,4 +13,4 @@ returns c =
     let bits = of_z-to_z w32 (of_z w32 error) (omega (arith, c.negation.ensures)) in
     let errno = ap (λ (x : Said). negated x.errno) c.answer.view_is in
     let body = ap (λ (x : Said). x.body) c.answer.view_is in
-    c.bytes.ensures ∙ same-head _ _ _ _ c.args.unique (c.as_slice.ensures ∙ body) (bits ∙ c.negation.ensures ∙ errno)
+    c.bytes.ensures.bytes ∙ same-head _ _ _ _ c.args.unique (c.as_slice.ensures ∙ body) (bits ∙ c.negation.ensures ∙ errno)
