@@ -1,4 +1,4 @@
--- The entry at the front of bytes, by its places.
+-- The entry at the front of bytes, by its places (fuse.h: fuse_dirent).
 use Rattle.std.specs.Prelude.{◌==◌, ℕ, zero, suc, nat_lt, if◌then◌else◌, List, [], ◌∷◌, length, take, drop, Option, Some, None}
 use Rattle.std.specs.Option.{option_map_or}
 use Rattle.fuse_wire.specs.Bytes.{number_of}

@@ -46,6 +46,7 @@ impl InitOut {
         put_bytes(out, &[0; 24])
     }
 
+    /// The body of an answer to INIT.
     #[tactic(auto, using(crate::proofs::Forms::length_init, crate::proofs::Forms::laid_init))]
     pub fn body_of(&self, alloc: Global) -> Result<Vec<u8>, Memory>
         ensures bytes { IfOk result (λ body. body.items ≡ init_bytes self.now) }

@@ -20,6 +20,7 @@ pub struct Packed {
 pub enum PackFault {
     /// There is a first entry, and it doesn't fit.
     FirstTooBig,
+    /// A growth was refused.
     Memory,
 }
 

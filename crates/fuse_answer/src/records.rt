@@ -140,6 +140,7 @@ impl Attr {
         )
     }
 
+    /// Its bytes, as they end an entry and an answer to GETATTR.
     #[tactic(auto, using(crate::proofs::Forms::length_attr, crate::proofs::Forms::laid_attr))]
     pub fn body_of(&self, alloc: Global) -> Result<Vec<u8>, Memory>
         ensures bytes { IfOk result (λ body. body.items ≡ attr_bytes self.now) }
@@ -174,6 +175,7 @@ impl EntryOut {
         self.attr.put(out)
     }
 
+    /// The body of an answer to LOOKUP, MKNOD or MKDIR.
     #[tactic(auto, using(crate::proofs::Forms::length_entry, crate::proofs::Forms::laid_entry))]
     pub fn body_of(&self, alloc: Global) -> Result<Vec<u8>, Memory>
         ensures bytes { IfOk result (λ body. body.items ≡ entry_bytes self.now) }
@@ -201,6 +203,7 @@ impl AttrOut {
         self.attr.put(out)
     }
 
+    /// The body of an answer to GETATTR or SETATTR.
     #[tactic(auto, using(crate::proofs::Forms::length_attr_out, crate::proofs::Forms::laid_attr_out))]
     pub fn body_of(&self, alloc: Global) -> Result<Vec<u8>, Memory>
         ensures bytes { IfOk result (λ body. body.items ≡ attr_out_bytes self.now) }
@@ -227,6 +230,7 @@ impl OpenOut {
         put_i32(out, self.backing_id)
     }
 
+    /// The body of an answer to OPEN or OPENDIR.
     #[tactic(auto, using(crate::proofs::Forms::length_open, crate::proofs::Forms::laid_open))]
     pub fn body_of(&self, alloc: Global) -> Result<Vec<u8>, Memory>
         ensures bytes { IfOk result (λ body. body.items ≡ open_bytes self.now) }
@@ -252,6 +256,7 @@ impl WriteOut {
         put_bytes(out, &[0; 4])
     }
 
+    /// The body of an answer to WRITE.
     #[tactic(auto, using(crate::proofs::Forms::length_write, crate::proofs::Forms::laid_write))]
     pub fn body_of(&self, alloc: Global) -> Result<Vec<u8>, Memory>
         ensures bytes { IfOk result (λ body. body.items ≡ write_bytes self.now) }
