@@ -4,10 +4,13 @@ ghost use Rattle.fuse_wire.specs.Flags.{access_of};
 /// The bits of the flags of OPEN that say what the file is opened for: O_ACCMODE of Linux.
 pub const O_ACCMODE: u32 = 3;
 
+/// For reading alone.
 pub const O_RDONLY: u32 = 0;
 
+/// For writing alone.
 pub const O_WRONLY: u32 = 1;
 
+/// For both.
 pub const O_RDWR: u32 = 2;
 
 /// What an open file may be used for.

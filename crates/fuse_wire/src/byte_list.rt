@@ -19,18 +19,21 @@ impl Model for ByteList {
 }
 
 impl ByteList {
+    /// Keeps the `Vec` as it is, with all its room. Takes no memory.
     pub fn from_vec(bytes: Vec<u8>) -> ByteList
         ensures { result ≡ bytes.items }
     {
         ByteList { bytes }
     }
 
+    /// Gives the `Vec` back. Takes no memory.
     pub fn into_vec(self) -> Vec<u8>
         ensures { result.items ≡ self }
     {
         self.bytes
     }
 
+    /// The bytes where they lie.
     pub fn as_slice(&self) -> &[u8]
         ensures { result.now ≡ self.now }
     {

@@ -45,6 +45,7 @@ fn u64_of(bytes: &[u8]) -> u64
 }
 
 impl<'a> Fields<'a> {
+    /// Begins at the first of these bytes.
     pub fn new(bytes: &'a [u8]) -> Fields<'a>
         ensures { result ≡ bytes.now }
     {

@@ -9,9 +9,11 @@ pub const UNIQUE_RESEND: u64 = 0x8000_0000_0000_0000;
 pub struct Id(pub u64);
 
 impl Id {
+    /// The same for a request and each of its resends.
     pub fn of(unique: u64) -> Id
         ensures { result.0 ≡ id_of unique }
     {
+        // The bit is the highest, so the remainder is the number without it.
         Id(unique % UNIQUE_RESEND)
     }
 }

@@ -6,6 +6,7 @@ use bitflags::{Flag, Flags, bitflag_items};
 #[derive(Clone, Copy, Debug, PartialEq, Eq)]
 pub struct InitFlags(pub u64);
 
+// Each has the number of `fuse.h`; HAS_RESEND is bit 7 of `flags2`.
 bitflag_items! {
     impl InitFlags: u64 {
         const ASYNC_READ = 0x1;

@@ -16,6 +16,7 @@ pub fn put_bytes(out: &mut Vec<u8>, bytes: &[u8]) -> Result<(), Memory>
     }
 }
 
+/// Appends the two bytes of a number, the lowest first. An `Err` leaves `out` unchanged.
 #[tactic(auto, unfolding(crate::specs::Bytes::le))]
 pub fn put_u16(out: &mut Vec<u8>, n: u16) -> Result<(), Memory>
     ensures ok { OnOk result (out.new.items ≡ out.old.items ++ le 2 n) }
@@ -26,6 +27,7 @@ pub fn put_u16(out: &mut Vec<u8>, n: u16) -> Result<(), Memory>
     put_bytes(out, &bytes)
 }
 
+/// Appends the four bytes of a number, the lowest first. An `Err` leaves `out` unchanged.
 #[tactic(auto, unfolding(crate::specs::Bytes::le))]
 pub fn put_u32(out: &mut Vec<u8>, n: u32) -> Result<(), Memory>
     ensures ok { OnOk result (out.new.items ≡ out.old.items ++ le 4 n) }
@@ -36,7 +38,7 @@ pub fn put_u32(out: &mut Vec<u8>, n: u32) -> Result<(), Memory>
     put_bytes(out, &bytes)
 }
 
-/// In two's complement.
+/// Appends the four bytes of a number in two's complement, the lowest first. An `Err` leaves `out` unchanged.
 pub fn put_i32(out: &mut Vec<u8>, n: i32) -> Result<(), Memory>
     ensures ok { OnOk result (out.new.items ≡ out.old.items ++ le 4 (cast_unsigned w32 n)) }
     ensures err { OnErr result (out.new.items ≡ out.old.items) }
@@ -44,6 +46,7 @@ pub fn put_i32(out: &mut Vec<u8>, n: i32) -> Result<(), Memory>
     put_u32(out, n.cast_unsigned())
 }
 
+/// Appends the eight bytes of a number, the lowest first. An `Err` leaves `out` unchanged.
 #[tactic(auto, unfolding(crate::specs::Bytes::le))]
 pub fn put_u64(out: &mut Vec<u8>, n: u64) -> Result<(), Memory>
     ensures ok { OnOk result (out.new.items ≡ out.old.items ++ le 8 n) }

@@ -8,6 +8,7 @@ use bitflags::{Flag, Flags, bitflag_items};
 #[derive(Clone, Copy, Debug, PartialEq, Eq)]
 pub struct SetattrValid(pub u32);
 
+// Each has the number of `fuse.h`, where its name begins with FATTR.
 bitflag_items! {
     impl SetattrValid: u32 {
         const MODE = 0x1;
