@@ -12,7 +12,7 @@ use Rattle.fuse_request.specs.declared.request.SetattrIn.{SetattrIn}
 use Rattle.fuse_request.specs.Bodies.{name_fault, names_fault}
 use Rattle.fuse_request.specs.Opcodes.{Opcode, profile, find, fault_by}
 use Rattle.fuse_request.specs.Act.{Act, Lookup, Forget, Getattr, Setattr, Mknod, Mkdir, Unlink, Rmdir, Rename, OpenFile, Read, Write, Release, Init, OpenDir, ReadDir, ReleaseDir, Interrupt, Destroy, BatchForget, Rename2, Unsupported, opcode_of}
-use Rattle.fuse_request.specs.Spelling.{parts, IsNamed, setattr_parts, open_parts, read_parts, release_parts}
+use Rattle.fuse_request.specs.Spelling.{parts, IsSpellable, setattr_parts, open_parts, read_parts, release_parts}
 use Rattle.fuse_request.specs.Faults.{body_fault}
 use Rattle.fuse_request.specs.Places.{places, at_row, act_at, setattr_at, read_at, release_at}
 use Rattle.fuse_request.proofs.BodyFaults.{fixed_none, at_least_after, counted_none, one_name, both_names}
@@ -145,7 +145,7 @@ one_write fh offset write_flags lock_owner flags payload b h =
     let count : 1 * number_of 4 (drop 16 b) ≡ length b - 40 = omega (arith, size, q.0, ap length all, length-drop 40 b) in
     (rw (p.0, p.1.0, p.1.1.1.0, p.1.1.1.1.0, p.1.1.1.1.1.0, all) refl, counted_none 40 16 1 b q.0 count)
 
-one_batch_forget : (items b : List ℕ) → Lays (parts (BatchForget items)) b → IsNamed (BatchForget items) → IsOne (BatchForget items) b
+one_batch_forget : (items b : List ℕ) → Lays (parts (BatchForget items)) b → IsSpellable (BatchForget items) → IsOne (BatchForget items) b
 one_batch_forget items b h whole =
     let p = stands 0 (parts (BatchForget items)) b (omega arith) h in
     let q = p.1 in
@@ -176,13 +176,13 @@ not_found : {A : Type 0} (o : Option A) → is_some o ≡ false → o ≡ None
 not_found None e = refl
 not_found (Some x) e = absurd cc
 
-one_unsupported : (opcode : ℕ) (body b : List ℕ) → Lays (parts (Unsupported opcode body)) b → IsNamed (Unsupported opcode body) → IsOne (Unsupported opcode body) b
+one_unsupported : (opcode : ℕ) (body b : List ℕ) → Lays (parts (Unsupported opcode body)) b → IsSpellable (Unsupported opcode body) → IsOne (Unsupported opcode body) b
 one_unsupported opcode body b h named =
     let none = not_found (find opcode profile) named in
     let other = no_row (Unsupported opcode) opcode places profile refl none in
     (ap (λ (f : List ℕ → Act). f b) other ∙ ap (Unsupported opcode) (all_bytes body b h), ap (λ (o : Option Opcode). fault_by o b) none)
 
-pub one_act : (a : Act) (b : List ℕ) → Lays (parts a) b → IsNamed a → IsOne a b
+pub one_act : (a : Act) (b : List ℕ) → Lays (parts a) b → IsSpellable a → IsOne a b
 one_act (Lookup name) b h named = one_lookup name b h
 one_act (Forget nlookup) b h named = one_forget nlookup b h
 one_act (Getattr flags fh) b h named = one_getattr flags fh b h

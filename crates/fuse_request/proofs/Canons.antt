@@ -9,7 +9,7 @@ use Rattle.fuse_wire.specs.Bytes.{HasNoNul}
 use Rattle.fuse_wire.specs.Layout.{form, HasForm, Lays}
 use Rattle.fuse_wire.proofs.Layouts.{Lays-length, Lays-form}
 use Rattle.fuse_request.specs.Act.{Act, Lookup, Mknod, Mkdir, Unlink, Rmdir, Rename, Init, BatchForget, Rename2, Unsupported, Asked}
-use Rattle.fuse_request.specs.Spelling.{parts, flags2_parts, header_parts, IsNamed, Spells}
+use Rattle.fuse_request.specs.Spelling.{parts, flags2_parts, header_parts, IsSpellable, Spells}
 use Rattle.fuse_request.specs.Canon.{len_of, canon, no_nul, sayable_act, sayable, CanonSpells}
 use Rattle.fuse_request.specs.Encoding.{AllFit, HasNumbers}
 
@@ -78,7 +78,7 @@ whole_items n e = let none : n % 16 ≡ 0 = eqb-true (n % 16) 0 e in omega (arit
 whole_units : (n : ℕ) → (n % 8 == 0) ≡ true → n ≡ 8 * (n / 8)
 whole_units n e = let none : n % 8 ≡ 0 = eqb-true (n % 8) 0 e in omega (arith, none)
 
-named_by : (a : Act) → sayable_act a ≡ true → IsNamed a
+named_by : (a : Act) → sayable_act a ≡ true → IsSpellable a
 named_by (BatchForget items) e = whole_items (length items) e
 named_by (Unsupported opcode body) e = not_true _ e
 named_by _ e = tt

@@ -15,7 +15,7 @@ use Rattle.fuse_request.specs.declared.request.Request.{Request}
 use Rattle.fuse_request.specs.declared.header.RawHeader.{RawHeader}
 use Rattle.fuse_request.specs.declared.decoding.Malformed.{Malformed}
 use Rattle.fuse_request.specs.Act.{Asked, Act, asked, opcode_of}
-use Rattle.fuse_request.specs.Spelling.{IsNamed, parts, header_parts, Spells}
+use Rattle.fuse_request.specs.Spelling.{IsSpellable, parts, header_parts, Spells}
 use Rattle.fuse_request.specs.Faults.{body_fault, first_fault}
 use Rattle.fuse_request.specs.Places.{act_at, header_at, act_in, ext_in, asked_at, SpelledAt}
 use Rattle.fuse_request.proofs.Acts.{one_act}
@@ -130,7 +130,7 @@ place k w j m fits long sum =
 
 -- what the places of a message say is spelled there
 pub spelled : (m : List ℕ) (a : Act) (ext : List ℕ) → IsBytes m → 40 ≤ length m → number_of 4 m ≡ length m → number_of 4 (drop 4 m) ≡ opcode_of a
-    → drop 40 m ≡ body_of m ++ ext → length ext ≡ 8 * number_of 2 (drop 36 m) → Lays (parts a) (body_of m) → IsNamed a
+    → drop 40 m ≡ body_of m ++ ext → length ext ≡ 8 * number_of 2 (drop 36 m) → Lays (parts a) (body_of m) → IsSpellable a
     → Spells (record { header = header_at m; act = a; ext = ext }) m
 spelled m a ext fits long len opcode whole ext_len laid named =
     let q0 = place 0 4 36 m fits long refl in
@@ -220,7 +220,7 @@ pub read_spelled : (m : List ℕ) (raw : RawHeader) (a : Act) (body ext : List �
     → ◌≡◌ {A = Option RawHeader} (Some raw) (if nat_lt (length m) 40 then None else Some (raw_of m))
     → raw.len ≡ length m → 8 * raw.total_extlen ≤ length (drop 40 m)
     → body ≡ take (length (drop 40 m) - 8 * raw.total_extlen) (drop 40 m) → ext ≡ drop (length (drop 40 m) - 8 * raw.total_extlen) (drop 40 m)
-    → opcode_of a ≡ raw.opcode → Lays (parts a) body → IsNamed a → Spells (asked_by raw a ext) m
+    → opcode_of a ≡ raw.opcode → Lays (parts a) body → IsSpellable a → Spells (asked_by raw a ext) m
 read_spelled m raw a body ext fits e len room body_is ext_is opcode laid named =
     let p = is_raw m raw e in
     let same : raw ≡ raw_of m = p.1 in

@@ -1,4 +1,4 @@
--- Requests without where they lie in memory.
+-- Requests without where they lie in memory (fuse.h: fuse_opcode and the request bodies).
 use Rattle.std.specs.Prelude.{◌≡◌, ℕ, true, List}
 use Rattle.fuse_wire.specs.declared.opcode.TheConstants.{LOOKUP, FORGET, GETATTR, SETATTR, MKNOD, MKDIR, UNLINK, RMDIR, RENAME, OPEN, READ, WRITE, RELEASE, INIT, OPENDIR, READDIR, RELEASEDIR, INTERRUPT, DESTROY, BATCH_FORGET, RENAME2}
 use Rattle.fuse_request.specs.declared.request.InHeader.{InHeader}

@@ -6,7 +6,7 @@ use Rattle.fuse_request.specs.declared.header.TheConstants.{MIN_MESSAGE}
 use Rattle.fuse_request.specs.declared.lengths.TheConstants.{FORGET_ONE}
 use Rattle.fuse_request.specs.Opcodes.{in_profile}
 use Rattle.fuse_request.specs.Act.{Act, Lookup, Mknod, Mkdir, Unlink, Rmdir, Rename, BatchForget, Rename2, Unsupported, Asked}
-use Rattle.fuse_request.specs.Spelling.{parts, header_parts, IsNamed, Spells}
+use Rattle.fuse_request.specs.Spelling.{parts, header_parts, IsSpellable, Spells}
 
 abbrev pub len_of : Asked → ℕ
 len_of v = MIN_MESSAGE + (length (form (parts v.act)) + length v.ext)
@@ -19,7 +19,7 @@ pub record HasCanon (v : Asked) : Type 0 where
   pub header : HasForm (header_parts (len_of v) (length v.ext / 8) v)
   pub body : HasForm (parts v.act)
   pub ext : length v.ext ≡ 8 * (length v.ext / 8)
-  pub named : IsNamed v.act
+  pub named : IsSpellable v.act
 
 abbrev pub CanonSpells : Type 0
 CanonSpells = (v : Asked) → HasCanon v → Spells v (canon v)

@@ -1,4 +1,4 @@
--- What the writers of messages append.
+-- What the writers of messages append: parts as fuse.h lays them out, what is unused as zeros (own profile).
 use Rattle.std.specs.Prelude.{◌≡◌, ◌<◌, ◌^◌, ◌/◌, ℕ, None, List, [], ◌∷◌, ◌++◌, length}
 use Rattle.fuse_wire.specs.Layout.{Part, number, unused, text, bytes}
 use Rattle.fuse_request.specs.declared.encoding.Field.{Field}

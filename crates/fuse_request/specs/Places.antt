@@ -1,4 +1,4 @@
--- What a message says at the places of its opcode, where it spells anything.
+-- What a message says at the places of its opcode, where it spells anything (fuse.h: fuse_in_header and the request bodies).
 use Rattle.std.specs.Prelude.{◌≡◌, ◌≤◌, ◌-◌, ◌==◌, ℕ, zero, suc, if◌then◌else◌, List, [], ◌∷◌, length, drop, Option, Some, None}
 use Rattle.std.specs.Option.{unwrap_or}
 use Rattle.fuse_wire.specs.Bytes.{number_of, after_nul}

@@ -1,4 +1,4 @@
--- What the readers of bodies answer.
+-- What the readers of bodies answer: what a body spells (fuse.h), or its fault (own profile).
 use Rattle.std.specs.Prelude.{◌≡◌, ℕ, List, [], ◌∷◌, Some, Result, Ok, Err}
 use Rattle.std.specs.Borrow.{Bor}
 use Rattle.fuse_wire.specs.Layout.{Lays, text}
@@ -6,12 +6,12 @@ use Rattle.fuse_request.specs.declared.decoding.Malformed.{Malformed}
 use Rattle.fuse_request.specs.declared.request.Op.{Op}
 use Rattle.fuse_request.specs.Act.{act, opcode_of}
 use Rattle.fuse_request.specs.Bodies.{name_fault, names_fault}
-use Rattle.fuse_request.specs.Spelling.{parts, IsNamed}
+use Rattle.fuse_request.specs.Spelling.{parts, IsSpellable}
 use Rattle.fuse_request.specs.Faults.{body_fault}
 
 -- the body of an opcode is read, or its fault
 abbrev pub Reads : ℕ → List ℕ → Result Op Malformed → Type 0
-Reads opcode b (Ok op) = (opcode_of (act op) ≡ opcode) × IsNamed (act op) × Lays (parts (act op)) b
+Reads opcode b (Ok op) = (opcode_of (act op) ≡ opcode) × IsSpellable (act op) × Lays (parts (act op)) b
 Reads opcode b (Err m) = body_fault opcode b ≡ Some m
 
 -- a name that ends the body is read, or its fault

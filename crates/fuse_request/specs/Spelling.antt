@@ -61,10 +61,10 @@ parts (Rename2 new_dir flags old_name new_name) = number 8 new_dir ∷ number 4 
 parts (Unsupported opcode body) = bytes body ∷ []
 
 -- only what is outside the profile is unsupported, and the items of BATCH_FORGET are whole
-abbrev pub IsNamed : Act → Type 0
-IsNamed (Unsupported opcode body) = in_profile opcode ≡ false
-IsNamed (BatchForget items) = length items ≡ FORGET_ONE * (length items / FORGET_ONE)
-IsNamed _ = Unit {0}
+abbrev pub IsSpellable : Act → Type 0
+IsSpellable (Unsupported opcode body) = in_profile opcode ≡ false
+IsSpellable (BatchForget items) = length items ≡ FORGET_ONE * (length items / FORGET_ONE)
+IsSpellable _ = Unit {0}
 
 -- the layout of the header of a message of len bytes, with units of 8 bytes of extensions
 abbrev pub header_parts : ℕ → ℕ → Asked → List Part
@@ -81,4 +81,4 @@ pub record Spells (r : Asked) (message : List ℕ) : Type 0 where
   pub ext : length r.ext ≡ 8 * units
   pub header : Lays (header_parts (length message) units r) head
   pub parted : Lays (parts r.act) body
-  pub named : IsNamed r.act
+  pub named : IsSpellable r.act

@@ -75,25 +75,26 @@ fn write(payload: &[u8]) -> Request<'_> {
     }
 }
 
-// What the encoder answers to a WRITE of this payload, and how many bytes it leaves behind 1 that was there.
-fn written(alloc: Global, payload: &[u8]) -> Result<(Option<EncodeFault>, usize), Fail> {
+// What the encoder answers to a WRITE of this payload, and what it leaves where one byte was before.
+fn written(alloc: Global, payload: &[u8]) -> Result<(Option<EncodeFault>, Vec<u8>), Fail> {
     let mut out = Vec::from_slice(alloc, b"a")?;
     let request = write(payload);
     if !request.is_sayable() {
         return Err("the WRITE may be encoded".into());
     }
     let fault = encode(&request, &mut out).err();
-    Ok((fault, out.len()))
+    Ok((fault, out))
 }
 
 #[test]
 fn longest_write(rt: HostRuntime) -> Result<(), Fail> {
     let payload = vec![in rt.alloc(); 7u8; 135_089]?;
-    assert_eq!(rt; written(rt.alloc(), &payload[1..])?, (None, 135_169));
-    assert_eq!(rt;
-        written(rt.alloc(), &payload)?,
-        (Some(EncodeFault::TooLong), 1)
-    );
+    let (fault, out) = written(rt.alloc(), &payload[1..])?;
+    assert_eq!(rt; fault, None);
+    assert_eq!(rt; out.len(), 135_169);
+    let (fault, out) = written(rt.alloc(), &payload)?;
+    assert_eq!(rt; fault, Some(EncodeFault::TooLong));
+    assert_eq!(rt; out.as_slice(), b"a".as_slice());
     Ok(())
 }
 
@@ -120,105 +121,108 @@ fn ignored_padding(rt: HostRuntime) -> Result<(), Fail> {
     Ok(())
 }
 
-// A message of each opcode, its fields with numbers of their own: it is read, and written again as it was.
+// A message of each opcode, its fields with numbers of their own.
+const EACH_OPCODE: &[(&str, &[u8])] = &[
+    (
+        "LOOKUP",
+        b"\x2e\0\0\0\x01\0\0\0\x06\0\0\0\0\0\0\0\x01\0\0\0\0\0\0\0\xe8\x03\0\0\xe8\x03\0\0\x4d\0\0\0\0\0\0\0hello\0",
+    ),
+    (
+        "FORGET",
+        b"\x30\0\0\0\x02\0\0\0\x06\0\0\0\0\0\0\0\x01\0\0\0\0\0\0\0\xe8\x03\0\0\xe8\x03\0\0\x4d\0\0\0\0\0\0\0\x07\0\0\0\0\0\0\0",
+    ),
+    (
+        "GETATTR",
+        b"\x38\0\0\0\x03\0\0\0\x06\0\0\0\0\0\0\0\x01\0\0\0\0\0\0\0\xe8\x03\0\0\xe8\x03\0\0\x4d\0\0\0\0\0\0\0\x01\0\0\0\0\0\0\0\x09\0\0\0\0\0\0\0",
+    ),
+    (
+        "SETATTR",
+        b"\x80\0\0\0\x04\0\0\0\x06\0\0\0\0\0\0\0\x01\0\0\0\0\0\0\0\xe8\x03\0\0\xe8\x03\0\0\x4d\0\0\0\0\0\0\0\xff\x0f\0\0\0\0\0\0\x08\x07\x06\x05\x04\x03\x02\x01\x05\0\0\0\0\0\0\0\x06\0\0\0\0\0\0\0\x07\0\0\0\0\0\0\0\x08\0\0\0\0\0\0\0\x09\0\0\0\0\0\0\0\x0a\0\0\0\x0b\0\0\0\x0c\0\0\0\x0d\0\0\0\0\0\0\0\x0e\0\0\0\x0f\0\0\0\0\0\0\0",
+    ),
+    (
+        "MKNOD",
+        b"\x3a\0\0\0\x08\0\0\0\x06\0\0\0\0\0\0\0\x01\0\0\0\0\0\0\0\xe8\x03\0\0\xe8\x03\0\0\x4d\0\0\0\0\0\0\0\xa4\x81\0\0\x05\0\0\0\x12\0\0\0\0\0\0\0f\0",
+    ),
+    (
+        "MKDIR",
+        b"\x32\0\0\0\x09\0\0\0\x06\0\0\0\0\0\0\0\x01\0\0\0\0\0\0\0\xe8\x03\0\0\xe8\x03\0\0\x4d\0\0\0\0\0\0\0\xed\x01\0\0\x12\0\0\0a\0",
+    ),
+    (
+        "UNLINK",
+        b"\x2a\0\0\0\x0a\0\0\0\x06\0\0\0\0\0\0\0\x01\0\0\0\0\0\0\0\xe8\x03\0\0\xe8\x03\0\0\x4d\0\0\0\0\0\0\0f\0",
+    ),
+    (
+        "RMDIR",
+        b"\x2a\0\0\0\x0b\0\0\0\x06\0\0\0\0\0\0\0\x01\0\0\0\0\0\0\0\xe8\x03\0\0\xe8\x03\0\0\x4d\0\0\0\0\0\0\0a\0",
+    ),
+    (
+        "RENAME",
+        b"\x34\0\0\0\x0c\0\0\0\x06\0\0\0\0\0\0\0\x01\0\0\0\0\0\0\0\xe8\x03\0\0\xe8\x03\0\0\x4d\0\0\0\0\0\0\0\x01\0\0\0\0\0\0\0a\0b\0",
+    ),
+    (
+        "OPEN",
+        b"\x30\0\0\0\x0e\0\0\0\x06\0\0\0\0\0\0\0\x01\0\0\0\0\0\0\0\xe8\x03\0\0\xe8\x03\0\0\x4d\0\0\0\0\0\0\0\x02\0\0\0\x03\0\0\0",
+    ),
+    (
+        "READ",
+        b"\x50\0\0\0\x0f\0\0\0\x06\0\0\0\0\0\0\0\x01\0\0\0\0\0\0\0\xe8\x03\0\0\xe8\x03\0\0\x4d\0\0\0\0\0\0\0\x18\x17\x16\x15\x14\x13\x12\x11\x02\0\0\0\0\0\0\0\x03\0\0\0\x04\0\0\0\x05\0\0\0\0\0\0\0\x06\0\0\0\0\0\0\0",
+    ),
+    (
+        "WRITE",
+        b"\x53\0\0\0\x10\0\0\0\x06\0\0\0\0\0\0\0\x01\0\0\0\0\0\0\0\xe8\x03\0\0\xe8\x03\0\0\x4d\0\0\0\0\0\0\0\x01\0\0\0\0\0\0\0\x02\0\0\0\0\0\0\0\x03\0\0\0\x04\0\0\0\x05\0\0\0\0\0\0\0\x06\0\0\0\0\0\0\0one",
+    ),
+    (
+        "RELEASE",
+        b"\x40\0\0\0\x12\0\0\0\x06\0\0\0\0\0\0\0\x01\0\0\0\0\0\0\0\xe8\x03\0\0\xe8\x03\0\0\x4d\0\0\0\0\0\0\0\x01\0\0\0\0\0\0\0\x02\0\0\0\x03\0\0\0\x04\0\0\0\0\0\0\0",
+    ),
+    (
+        "INIT",
+        b"h\0\0\0\x1a\0\0\0\x06\0\0\0\0\0\0\0\x01\0\0\0\0\0\0\0\xe8\x03\0\0\xe8\x03\0\0\x4d\0\0\0\0\0\0\0\x07\0\0\0\x28\0\0\0\0\0\x02\0\x21\x20\0\x40\x80\0\0\0\0\0\0\0\0\0\0\0\0\0\0\0\0\0\0\0\0\0\0\0\0\0\0\0\0\0\0\0\0\0\0\0\0\0\0\0\0\0\0\0\0\0\0\0",
+    ),
+    (
+        "INIT of 16 bytes",
+        b"\x38\0\0\0\x1a\0\0\0\x06\0\0\0\0\0\0\0\x01\0\0\0\0\0\0\0\xe8\x03\0\0\xe8\x03\0\0\x4d\0\0\0\0\0\0\0\x07\0\0\0\x1f\0\0\0\0\0\x02\0\x21\0\0\0",
+    ),
+    (
+        "OPENDIR",
+        b"\x30\0\0\0\x1b\0\0\0\x06\0\0\0\0\0\0\0\x01\0\0\0\0\0\0\0\xe8\x03\0\0\xe8\x03\0\0\x4d\0\0\0\0\0\0\0\x02\0\0\0\x03\0\0\0",
+    ),
+    (
+        "READDIR",
+        b"\x50\0\0\0\x1c\0\0\0\x06\0\0\0\0\0\0\0\x01\0\0\0\0\0\0\0\xe8\x03\0\0\xe8\x03\0\0\x4d\0\0\0\0\0\0\0\x18\x17\x16\x15\x14\x13\x12\x11\x02\0\0\0\0\0\0\0\x03\0\0\0\x04\0\0\0\x05\0\0\0\0\0\0\0\x06\0\0\0\0\0\0\0",
+    ),
+    (
+        "RELEASEDIR",
+        b"\x40\0\0\0\x1d\0\0\0\x06\0\0\0\0\0\0\0\x01\0\0\0\0\0\0\0\xe8\x03\0\0\xe8\x03\0\0\x4d\0\0\0\0\0\0\0\x01\0\0\0\0\0\0\0\x02\0\0\0\x03\0\0\0\x04\0\0\0\0\0\0\0",
+    ),
+    (
+        "INTERRUPT",
+        b"\x30\0\0\0\x24\0\0\0\x06\0\0\0\0\0\0\0\x01\0\0\0\0\0\0\0\xe8\x03\0\0\xe8\x03\0\0\x4d\0\0\0\0\0\0\0\x06\0\0\0\0\0\0\0",
+    ),
+    (
+        "DESTROY",
+        b"\x28\0\0\0\x26\0\0\0\x06\0\0\0\0\0\0\0\x01\0\0\0\0\0\0\0\xe8\x03\0\0\xe8\x03\0\0\x4d\0\0\0\0\0\0\0",
+    ),
+    (
+        "BATCH_FORGET",
+        b"\x50\0\0\0\x2a\0\0\0\x06\0\0\0\0\0\0\0\x01\0\0\0\0\0\0\0\xe8\x03\0\0\xe8\x03\0\0\x4d\0\0\0\0\0\0\0\x02\0\0\0\0\0\0\0\x02\0\0\0\0\0\0\0\x01\0\0\0\0\0\0\0\x03\0\0\0\0\0\0\0\x04\0\0\0\0\0\0\0",
+    ),
+    (
+        "RENAME2",
+        b"\x3c\0\0\0\x2d\0\0\0\x06\0\0\0\0\0\0\0\x01\0\0\0\0\0\0\0\xe8\x03\0\0\xe8\x03\0\0\x4d\0\0\0\0\0\0\0\x01\0\0\0\0\0\0\0\x02\0\0\0\0\0\0\0a\0b\0",
+    ),
+    (
+        "CREATE",
+        b"\x2b\0\0\0\x23\0\0\0\x06\0\0\0\0\0\0\0\x01\0\0\0\0\0\0\0\xe8\x03\0\0\xe8\x03\0\0\x4d\0\0\0\0\0\0\0abc",
+    ),
+];
+
+// It is read, and written again as it was.
 #[test]
 fn every_opcode(rt: HostRuntime) -> Result<(), Fail> {
-    for (row, message) in [
-        (
-            "LOOKUP",
-            b"\x2e\0\0\0\x01\0\0\0\x06\0\0\0\0\0\0\0\x01\0\0\0\0\0\0\0\xe8\x03\0\0\xe8\x03\0\0\x4d\0\0\0\0\0\0\0hello\0".as_slice(),
-        ),
-        (
-            "FORGET",
-            b"\x30\0\0\0\x02\0\0\0\x06\0\0\0\0\0\0\0\x01\0\0\0\0\0\0\0\xe8\x03\0\0\xe8\x03\0\0\x4d\0\0\0\0\0\0\0\x07\0\0\0\0\0\0\0".as_slice(),
-        ),
-        (
-            "GETATTR",
-            b"\x38\0\0\0\x03\0\0\0\x06\0\0\0\0\0\0\0\x01\0\0\0\0\0\0\0\xe8\x03\0\0\xe8\x03\0\0\x4d\0\0\0\0\0\0\0\x01\0\0\0\0\0\0\0\x09\0\0\0\0\0\0\0".as_slice(),
-        ),
-        (
-            "SETATTR",
-            b"\x80\0\0\0\x04\0\0\0\x06\0\0\0\0\0\0\0\x01\0\0\0\0\0\0\0\xe8\x03\0\0\xe8\x03\0\0\x4d\0\0\0\0\0\0\0\xff\x0f\0\0\0\0\0\0\x08\x07\x06\x05\x04\x03\x02\x01\x05\0\0\0\0\0\0\0\x06\0\0\0\0\0\0\0\x07\0\0\0\0\0\0\0\x08\0\0\0\0\0\0\0\x09\0\0\0\0\0\0\0\x0a\0\0\0\x0b\0\0\0\x0c\0\0\0\x0d\0\0\0\0\0\0\0\x0e\0\0\0\x0f\0\0\0\0\0\0\0".as_slice(),
-        ),
-        (
-            "MKNOD",
-            b"\x3a\0\0\0\x08\0\0\0\x06\0\0\0\0\0\0\0\x01\0\0\0\0\0\0\0\xe8\x03\0\0\xe8\x03\0\0\x4d\0\0\0\0\0\0\0\xa4\x81\0\0\x05\0\0\0\x12\0\0\0\0\0\0\0f\0".as_slice(),
-        ),
-        (
-            "MKDIR",
-            b"\x32\0\0\0\x09\0\0\0\x06\0\0\0\0\0\0\0\x01\0\0\0\0\0\0\0\xe8\x03\0\0\xe8\x03\0\0\x4d\0\0\0\0\0\0\0\xed\x01\0\0\x12\0\0\0a\0".as_slice(),
-        ),
-        (
-            "UNLINK",
-            b"\x2a\0\0\0\x0a\0\0\0\x06\0\0\0\0\0\0\0\x01\0\0\0\0\0\0\0\xe8\x03\0\0\xe8\x03\0\0\x4d\0\0\0\0\0\0\0f\0".as_slice(),
-        ),
-        (
-            "RMDIR",
-            b"\x2a\0\0\0\x0b\0\0\0\x06\0\0\0\0\0\0\0\x01\0\0\0\0\0\0\0\xe8\x03\0\0\xe8\x03\0\0\x4d\0\0\0\0\0\0\0a\0".as_slice(),
-        ),
-        (
-            "RENAME",
-            b"\x34\0\0\0\x0c\0\0\0\x06\0\0\0\0\0\0\0\x01\0\0\0\0\0\0\0\xe8\x03\0\0\xe8\x03\0\0\x4d\0\0\0\0\0\0\0\x01\0\0\0\0\0\0\0a\0b\0".as_slice(),
-        ),
-        (
-            "OPEN",
-            b"\x30\0\0\0\x0e\0\0\0\x06\0\0\0\0\0\0\0\x01\0\0\0\0\0\0\0\xe8\x03\0\0\xe8\x03\0\0\x4d\0\0\0\0\0\0\0\x02\0\0\0\x03\0\0\0".as_slice(),
-        ),
-        (
-            "READ",
-            b"\x50\0\0\0\x0f\0\0\0\x06\0\0\0\0\0\0\0\x01\0\0\0\0\0\0\0\xe8\x03\0\0\xe8\x03\0\0\x4d\0\0\0\0\0\0\0\x18\x17\x16\x15\x14\x13\x12\x11\x02\0\0\0\0\0\0\0\x03\0\0\0\x04\0\0\0\x05\0\0\0\0\0\0\0\x06\0\0\0\0\0\0\0".as_slice(),
-        ),
-        (
-            "WRITE",
-            b"\x53\0\0\0\x10\0\0\0\x06\0\0\0\0\0\0\0\x01\0\0\0\0\0\0\0\xe8\x03\0\0\xe8\x03\0\0\x4d\0\0\0\0\0\0\0\x01\0\0\0\0\0\0\0\x02\0\0\0\0\0\0\0\x03\0\0\0\x04\0\0\0\x05\0\0\0\0\0\0\0\x06\0\0\0\0\0\0\0one".as_slice(),
-        ),
-        (
-            "RELEASE",
-            b"\x40\0\0\0\x12\0\0\0\x06\0\0\0\0\0\0\0\x01\0\0\0\0\0\0\0\xe8\x03\0\0\xe8\x03\0\0\x4d\0\0\0\0\0\0\0\x01\0\0\0\0\0\0\0\x02\0\0\0\x03\0\0\0\x04\0\0\0\0\0\0\0".as_slice(),
-        ),
-        (
-            "INIT",
-            b"h\0\0\0\x1a\0\0\0\x06\0\0\0\0\0\0\0\x01\0\0\0\0\0\0\0\xe8\x03\0\0\xe8\x03\0\0\x4d\0\0\0\0\0\0\0\x07\0\0\0\x28\0\0\0\0\0\x02\0\x21\x20\0\x40\x80\0\0\0\0\0\0\0\0\0\0\0\0\0\0\0\0\0\0\0\0\0\0\0\0\0\0\0\0\0\0\0\0\0\0\0\0\0\0\0\0\0\0\0\0\0\0\0".as_slice(),
-        ),
-        (
-            "INIT of 16 bytes",
-            b"\x38\0\0\0\x1a\0\0\0\x06\0\0\0\0\0\0\0\x01\0\0\0\0\0\0\0\xe8\x03\0\0\xe8\x03\0\0\x4d\0\0\0\0\0\0\0\x07\0\0\0\x1f\0\0\0\0\0\x02\0\x21\0\0\0".as_slice(),
-        ),
-        (
-            "OPENDIR",
-            b"\x30\0\0\0\x1b\0\0\0\x06\0\0\0\0\0\0\0\x01\0\0\0\0\0\0\0\xe8\x03\0\0\xe8\x03\0\0\x4d\0\0\0\0\0\0\0\x02\0\0\0\x03\0\0\0".as_slice(),
-        ),
-        (
-            "READDIR",
-            b"\x50\0\0\0\x1c\0\0\0\x06\0\0\0\0\0\0\0\x01\0\0\0\0\0\0\0\xe8\x03\0\0\xe8\x03\0\0\x4d\0\0\0\0\0\0\0\x18\x17\x16\x15\x14\x13\x12\x11\x02\0\0\0\0\0\0\0\x03\0\0\0\x04\0\0\0\x05\0\0\0\0\0\0\0\x06\0\0\0\0\0\0\0".as_slice(),
-        ),
-        (
-            "RELEASEDIR",
-            b"\x40\0\0\0\x1d\0\0\0\x06\0\0\0\0\0\0\0\x01\0\0\0\0\0\0\0\xe8\x03\0\0\xe8\x03\0\0\x4d\0\0\0\0\0\0\0\x01\0\0\0\0\0\0\0\x02\0\0\0\x03\0\0\0\x04\0\0\0\0\0\0\0".as_slice(),
-        ),
-        (
-            "INTERRUPT",
-            b"\x30\0\0\0\x24\0\0\0\x06\0\0\0\0\0\0\0\x01\0\0\0\0\0\0\0\xe8\x03\0\0\xe8\x03\0\0\x4d\0\0\0\0\0\0\0\x06\0\0\0\0\0\0\0".as_slice(),
-        ),
-        (
-            "DESTROY",
-            b"\x28\0\0\0\x26\0\0\0\x06\0\0\0\0\0\0\0\x01\0\0\0\0\0\0\0\xe8\x03\0\0\xe8\x03\0\0\x4d\0\0\0\0\0\0\0".as_slice(),
-        ),
-        (
-            "BATCH_FORGET",
-            b"\x50\0\0\0\x2a\0\0\0\x06\0\0\0\0\0\0\0\x01\0\0\0\0\0\0\0\xe8\x03\0\0\xe8\x03\0\0\x4d\0\0\0\0\0\0\0\x02\0\0\0\0\0\0\0\x02\0\0\0\0\0\0\0\x01\0\0\0\0\0\0\0\x03\0\0\0\0\0\0\0\x04\0\0\0\0\0\0\0".as_slice(),
-        ),
-        (
-            "RENAME2",
-            b"\x3c\0\0\0\x2d\0\0\0\x06\0\0\0\0\0\0\0\x01\0\0\0\0\0\0\0\xe8\x03\0\0\xe8\x03\0\0\x4d\0\0\0\0\0\0\0\x01\0\0\0\0\0\0\0\x02\0\0\0\0\0\0\0a\0b\0".as_slice(),
-        ),
-        (
-            "CREATE",
-            b"\x2b\0\0\0\x23\0\0\0\x06\0\0\0\0\0\0\0\x01\0\0\0\0\0\0\0\xe8\x03\0\0\xe8\x03\0\0\x4d\0\0\0\0\0\0\0abc".as_slice(),
-        ),
-    ] {
+    for (row, message) in EACH_OPCODE {
         let again = read_again(rt.alloc(), message)?;
-        assert_eq!(rt; again.as_slice(), message, "{row}");
+        assert_eq!(rt; again.as_slice(), *message, "{row}");
     }
     Ok(())
 }
@@ -264,57 +268,43 @@ fn fields_of_bodies(rt: HostRuntime) -> Result<(), Fail> {
     Ok(())
 }
 
+fn is_sayable(op: Op<'_>, ext: &[u8]) -> bool {
+    let request = Request {
+        header: HEADER,
+        op,
+        ext,
+    };
+    request.is_sayable()
+}
+
 #[test]
 fn what_may_be_encoded(rt: HostRuntime) {
-    let says = |op, ext| {
-        Request {
-            header: HEADER,
-            op,
-            ext,
-        }
-        .is_sayable()
-    };
-    assert!(rt; says(Op::Lookup { name: b"" }, b""));
-    assert!(rt; !says(Op::Lookup { name: b"a\0b" }, b""));
-    assert!(rt; says(Op::Destroy, b"12345678"));
-    assert!(rt; !says(Op::Destroy, b"1234567"));
-    assert!(rt; says(Op::BatchForget { items: &[0; 32] }, b""));
-    assert!(rt; !says(Op::BatchForget { items: &[0; 24] }, b""));
-    assert!(rt;
-        says(
-            Op::Unsupported {
-                opcode: 35,
-                body: b""
-            },
-            b""
-        )
-    );
-    assert!(rt;
-        says(
-            Op::Unsupported {
-                opcode: 41,
-                body: b""
-            },
-            b""
-        )
-    );
-    assert!(rt;
-        !says(
-            Op::Unsupported {
-                opcode: opcode::RENAME2,
-                body: b""
-            },
-            b""
-        )
-    );
+    assert!(rt; is_sayable(Op::Lookup { name: b"" }, b""));
+    assert!(rt; !is_sayable(Op::Lookup { name: b"a\0b" }, b""));
+    assert!(rt; is_sayable(Op::Destroy, b"12345678"));
+    assert!(rt; !is_sayable(Op::Destroy, b"1234567"));
+    assert!(rt; is_sayable(Op::BatchForget { items: &[0; 32] }, b""));
+    assert!(rt; !is_sayable(Op::BatchForget { items: &[0; 24] }, b""));
+}
+
+#[test]
+fn which_opcodes_are_unsupported(rt: HostRuntime) {
+    for (opcode, sayable) in [(35, true), (41, true), (opcode::RENAME2, false)] {
+        let op = Op::Unsupported { opcode, body: b"" };
+        assert_eq!(rt; is_sayable(op, b""), sayable);
+    }
+}
+
+#[test]
+fn names_of_a_rename(rt: HostRuntime) {
     let rename = |old_name, new_name| Op::Rename {
         new_dir: 1,
         old_name,
         new_name,
     };
-    assert!(rt; says(rename(b"a", b"b"), b""));
-    assert!(rt; !says(rename(b"\0", b"b"), b""));
-    assert!(rt; !says(rename(b"a", b"\0"), b""));
+    assert!(rt; is_sayable(rename(b"a", b"b"), b""));
+    assert!(rt; !is_sayable(rename(b"\0", b"b"), b""));
+    assert!(rt; !is_sayable(rename(b"a", b"\0"), b""));
 }
 
 #[test]

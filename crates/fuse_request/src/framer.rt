@@ -97,6 +97,7 @@ fn end_of(at: u64, rest: &[u8]) -> Result<(), FrameFault>
 }
 
 impl Framer {
+    /// No bytes are fed yet. Takes no memory.
     pub fn new(alloc: Global) -> Framer
         ensures { result ≡ record { bytes = []; at = 0; fault = None } }
     {

@@ -43,3 +43,11 @@ pub fn header_of(message: &[u8]) -> Option<RawHeader>
         padding: u16_at(message, 38),
     })
 }
+
+/// The `unique` of a whole message, as it was received: a resend has its bit set. Takes no memory.
+pub fn unique_of(message: &[u8]) -> u64
+    requires { MIN_MESSAGE ≤ length message.now }
+    ensures { result ≡ (raw_of message.now).unique }
+{
+    u64_at(message, 8)
+}
