@@ -8,9 +8,10 @@ use fuse_answer::InitOut;
 use fuse_request::InitIn;
 use fuse_wire::{Errno, InitFlags};
 
-/// The version of the protocol.
+/// The first number of the protocol's version, 7.40.
 pub const MAJOR: u32 = 7;
 
+/// The second number of the protocol's version.
 pub const MINOR: u32 = 40;
 
 /// The oldest version that is served has this minor.
@@ -45,6 +46,7 @@ fn offer(flags: u32, flags2: Option<u32>) -> InitFlags
 {
     let low = InitFlags::from_bits_retain(u64::from(flags));
     match flags2 {
+        // As a product, so that it reads as the definition does: these are bits 32 to 63.
         Some(high) if low.contains(InitFlags::INIT_EXT) => {
             low.union(InitFlags::from_bits_retain(u64::from(high) * (1 << 32)))
         }

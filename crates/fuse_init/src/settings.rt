@@ -7,5 +7,6 @@ pub struct Settings {
     pub minor: u32,
     /// In bytes, as the kernel offered it.
     pub max_readahead: u32,
+    /// Those that the kernel offered and the server takes.
     pub flags: InitFlags,
 }

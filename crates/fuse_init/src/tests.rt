@@ -48,8 +48,6 @@ fn agreed(rt: HostRuntime) {
     );
     let init_short = negotiate(&offer(7, 31, 0x21, None));
     assert_eq!(rt; init_short, agreement(31, 0x21, 0, 0x21));
-    let newer_minor = negotiate(&offer(7, 41, 0x21, Some(0x80)));
-    assert_eq!(rt; newer_minor, agreement(40, 0x21, 0, 0x21));
     let ext_in_16 = negotiate(&offer(7, 31, 0x4000_0000, None));
     assert_eq!(rt; ext_in_16, agreement(31, 0x4000_0000, 0, 0x4000_0000));
     let linux_6_18 = negotiate(&offer(7, 45, 0x73ff_fffb, Some(0x5fd)));
@@ -59,17 +57,28 @@ fn agreed(rt: HostRuntime) {
     );
 }
 
+// The body of what is answered where the kernel's minor is newer.
+const NEWER_MINOR: &[u8; 64] =
+    b"\x07\0\0\0\x28\0\0\0\0\x10\0\0\x21\0\0\0\x0c\0\x09\0\0\0\x02\0\x01\0\0\0\0\0\0\0\0\0\0\0\0\0\0\0\0\0\0\0\0\0\0\0\0\0\0\0\0\0\0\0\0\0\0\0\0\0\0\0";
+
 #[test]
-fn max_readahead_as_offered(rt: HostRuntime) {
+fn newer_minor(rt: HostRuntime) -> Result<(), Fail> {
     let init = InitIn {
         max_readahead: 4096,
         ..offer(7, 41, 0x21, Some(0x80))
     };
-    let read = match negotiate(&init) {
-        Negotiated::Agreed { out, settings } => (out.max_readahead, settings.max_readahead),
-        _ => (0, 0),
+    let Negotiated::Agreed { out, settings } = negotiate(&init) else {
+        return Err("the INIT is agreed on".into());
     };
-    assert_eq!(rt; read, (4096, 4096));
+    let body = out.body_of(rt.alloc()).ok().ok_or("there is memory")?;
+    assert_eq!(rt; body.as_slice(), NEWER_MINOR.as_slice());
+    let wanted = Settings {
+        minor: 40,
+        max_readahead: 4096,
+        flags: InitFlags(0x21),
+    };
+    assert_eq!(rt; settings, wanted);
+    Ok(())
 }
 
 #[test]
