@@ -10,7 +10,7 @@ use Rattle.fuse_request.specs.declared.request.Request.{Request}
 use Rattle.fuse_request.specs.Act.{Asked, asked, act, IsKept, opcode_of}
 use Rattle.fuse_request.specs.Header.{raw_of}
 use Rattle.fuse_wire.specs.Opcodes.{silent}
-use Rattle.fuse_request.specs.Opcodes.{in_profile, is_kept}
+use Rattle.fuse_request.specs.Opcodes.{in_profile}
 use Rattle.fuse_request.specs.Spelling.{Spells}
 use Rattle.fuse_request.specs.Faults.{first_fault}
 use Rattle.fuse_request.specs.Classes.{class_by, class_of, IsOfClass}

@@ -3,7 +3,7 @@ use Rattle.std.specs.Prelude.{◌≡◌, ◌<◌, ◌^◌, ◌/◌, ℕ, None, L
 use Rattle.fuse_wire.specs.Layout.{Part, number, unused, text, bytes}
 use Rattle.fuse_request.specs.declared.encoding.Field.{Field}
 use Rattle.fuse_request.specs.declared.encoding.Field.TheVariants as fields
-use Rattle.fuse_request.specs.Act.{Asked}
+use Rattle.fuse_request.specs.Act.{Act, Lookup, Mknod, Mkdir, Unlink, Rmdir, Rename, Rename2, Asked}
 use Rattle.fuse_request.specs.Canon.{len_of}
 use Rattle.fuse_request.specs.Spelling.{parts, header_parts}
 use Rattle.fuse_request.specs.Faults.{first_fault}
@@ -23,6 +23,17 @@ part_of (fields.Bytes payload) = bytes payload.now
 abbrev pub laid : List Field → List Part
 laid [] = []
 laid (f ∷ fs) = part_of f ∷ laid fs
+
+-- its body ends with a name
+abbrev pub EndsWithName : Act → Type 0
+EndsWithName (Lookup name) = Unit {0}
+EndsWithName (Mknod mode rdev umask name) = Unit {0}
+EndsWithName (Mkdir mode umask name) = Unit {0}
+EndsWithName (Unlink name) = Unit {0}
+EndsWithName (Rmdir name) = Unit {0}
+EndsWithName (Rename new_dir old_name new_name) = Unit {0}
+EndsWithName (Rename2 new_dir flags old_name new_name) = Unit {0}
+EndsWithName _ = ⊥
 
 -- each number fits its width
 abbrev pub AllFit : List Part → Type 0

@@ -4,7 +4,7 @@ ghost use Rattle.fuse_wire.specs.Layout.{form, widths};
 ghost use Rattle.fuse_request.specs.Act.{act, asked};
 ghost use Rattle.fuse_request.specs.Act as acts;
 ghost use Rattle.fuse_request.specs.Canon.{canon, len_of, sayable};
-ghost use Rattle.fuse_request.specs.Encoding.{AllFit, Extends, HasNumbers, ReadsAs, laid, part_of};
+ghost use Rattle.fuse_request.specs.Encoding.{AllFit, EndsWithName, Extends, HasNumbers, ReadsAs, laid, part_of};
 ghost use Rattle.fuse_request.specs.Spelling.{Spells, header_parts, parts};
 
 use crate::header::{MAX_MESSAGE, MIN_MESSAGE};
@@ -249,21 +249,18 @@ fn put_batch_forget(out: &mut Vec<u8>, items: &[u8]) -> Result<(), Memory>
     )
 }
 
-// Appends the body of a request.
-fn put_op(out: &mut Vec<u8>, op: &Op<'_>) -> Result<(), Memory>
-    requires short { widths (parts (act op.now)) ≤ MAX_MESSAGE }
+// Appends the body of a request that ends with a name.
+fn put_named(out: &mut Vec<u8>, op: &Op<'_>) -> Result<(), Memory>
+    requires { EndsWithName (act op.now) }
     ensures ok { OnOk result (out.new.items ≡ out.old.items ++ form (parts (act op.now))) }
     ensures fits { OnOk result (AllFit (parts (act op.now))) }
     ensures grows { Extends out.old.items out.new.items }
 {
-    use Field::{Bytes, Name, U32, U64, Unused4};
+    use Field::{Name, U32, U64};
     match *op {
         Op::Lookup { name } | Op::Unlink { name } | Op::Rmdir { name } => {
             put_fields(out, &[Name(name)])
         }
-        Op::Forget { nlookup } => put_fields(out, &[U64(nlookup)]),
-        Op::Getattr { flags, fh } => put_fields(out, &[U32(flags), Unused4, U64(fh)]),
-        Op::Setattr(x) => put_setattr(out, &x),
         Op::Mknod {
             mode,
             rdev,
@@ -276,6 +273,35 @@ fn put_op(out: &mut Vec<u8>, op: &Op<'_>) -> Result<(), Memory>
             old_name,
             new_name,
         } => put_fields(out, &[U64(new_dir), Name(old_name), Name(new_name)]),
+        Op::Rename2 {
+            new_dir,
+            flags,
+            old_name,
+            new_name,
+        } => put_rename2(out, new_dir, flags, old_name, new_name),
+        _ => unreachable!(),
+    }
+}
+
+// Appends the body of a request.
+fn put_op(out: &mut Vec<u8>, op: &Op<'_>) -> Result<(), Memory>
+    requires short { widths (parts (act op.now)) ≤ MAX_MESSAGE }
+    ensures ok { OnOk result (out.new.items ≡ out.old.items ++ form (parts (act op.now))) }
+    ensures fits { OnOk result (AllFit (parts (act op.now))) }
+    ensures grows { Extends out.old.items out.new.items }
+{
+    use Field::{Bytes, U32, U64, Unused4};
+    match *op {
+        Op::Lookup { .. }
+        | Op::Mknod { .. }
+        | Op::Mkdir { .. }
+        | Op::Unlink { .. }
+        | Op::Rmdir { .. }
+        | Op::Rename { .. }
+        | Op::Rename2 { .. } => put_named(out, op),
+        Op::Forget { nlookup } => put_fields(out, &[U64(nlookup)]),
+        Op::Getattr { flags, fh } => put_fields(out, &[U32(flags), Unused4, U64(fh)]),
+        Op::Setattr(x) => put_setattr(out, &x),
         Op::OpenFile { flags, open_flags } | Op::OpenDir { flags, open_flags } => {
             put_fields(out, &[U32(flags), U32(open_flags)])
         }
@@ -293,12 +319,6 @@ fn put_op(out: &mut Vec<u8>, op: &Op<'_>) -> Result<(), Memory>
         Op::Interrupt { unique } => put_fields(out, &[U64(unique)]),
         Op::Destroy => Ok(()),
         Op::BatchForget { items } => put_batch_forget(out, items),
-        Op::Rename2 {
-            new_dir,
-            flags,
-            old_name,
-            new_name,
-        } => put_rename2(out, new_dir, flags, old_name, new_name),
         Op::Unsupported { body, .. } => put_fields(out, &[Bytes(body)]),
     }
 }

@@ -1,5 +1,4 @@
-ghost use Rattle.std.specs.Prelude.{◌≡◌, ◌≤◌, ◌+◌, drop, Some, None, nat_lt, if◌then◌else◌, length};
-ghost use Rattle.fuse_wire.specs.Bytes.{number_of};
+ghost use Rattle.std.specs.Prelude.{◌≡◌, ◌≤◌, Some, None, nat_lt, if◌then◌else◌, length};
 ghost use Rattle.fuse_request.specs.Header.{raw_of};
 
 use fuse_wire::{u16_at, u32_at, u64_at};
