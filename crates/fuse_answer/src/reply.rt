@@ -1,4 +1,4 @@
-ghost use Rattle.std.specs.Prelude.{◌≡◌, ◌≤◌, ◌+◌, false, drop, length, IfOk, IfErr, IsOkAnd};
+ghost use Rattle.std.specs.Prelude.{◌≡◌, ◌≤◌, false, length, IfOk, IfErr, IsOkAnd};
 ghost use Rattle.fuse_wire.specs.Opcodes.{silent};
 ghost use Rattle.fuse_answer.specs.declared.records.TheConstants.OutHeader.{SIZE as HEADER_SIZE};
 ghost use Rattle.fuse_answer.specs.Replies.{Told, told, content, Answers, IsProper, FirstFault, errno_in};

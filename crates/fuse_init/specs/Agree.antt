@@ -1,12 +1,10 @@
 -- What is agreed on by INIT (fuse.h's rule for versions; the numbers that are chosen are own).
-use Rattle.std.specs.Prelude.{◌+◌, ◌*◌, ◌/◌, ◌%◌, ◌^◌, ◌==◌, ◌&&◌, ◌||◌, ℕ, min, Bool, nat_lt, if◌then◌else◌, Option, Some, None}
+use Rattle.std.specs.Prelude.{◌*◌, ◌/◌, ◌%◌, ◌^◌, ◌==◌, ◌&&◌, ◌||◌, ℕ, min, Bool, nat_lt, if◌then◌else◌, Option, Some, None}
 use Rattle.std.specs.Int.RustNames.{bit_and, bit_or}
 use Rattle.fuse_wire.specs.declared.errno.TheConstants.Errno.{EPROTO}
-use Rattle.fuse_wire.specs.declared.init_flags.InitFlags.{InitFlags}
 use Rattle.fuse_wire.specs.declared.init_flags.TheConstants.InitFlags.{ASYNC_READ, BIG_WRITES, INIT_EXT, HAS_RESEND}
 use Rattle.fuse_request.specs.declared.request.InitIn.{InitIn}
 use Rattle.fuse_answer.specs.declared.init_out.InitOut.{InitOut}
-use Rattle.fuse_init.specs.declared.settings.Settings.{Settings}
 use Rattle.fuse_init.specs.declared.negotiation.Negotiated.{Negotiated}
 use Rattle.fuse_init.specs.declared.negotiation.Negotiated.TheVariants.{Agreed, Again, Refused}
 use Rattle.fuse_init.specs.declared.negotiation.TheConstants.{MAJOR, MINOR, MIN_MINOR, MAX_BACKGROUND, CONGESTION_THRESHOLD, MAX_WRITE, TIME_GRAN}
