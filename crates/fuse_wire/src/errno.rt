@@ -7,7 +7,7 @@ impl Errno {
     /// No error.
     pub const NONE: Errno = Errno(0);
 
-    // The numbers of Linux, as most processors have them (`errno-base.h` and `errno.h` of `asm-generic`).
+    // Linux's generic error numbers.
     pub const ENOENT: Errno = Errno(2);
 
     pub const EBADF: Errno = Errno(9);
