@@ -349,9 +349,11 @@ fn repeats_are_answered_alike(rt: HostRuntime) -> Result<(), StoreFault> {
     assert!(rt; holds(&mut keeper, 1, 1)?, "begun");
     assert!(rt; has_agreed(&mut keeper)?, "begun");
     assert!(rt; makes_a(&mut keeper, mkdir(6, b"a"), false)?, "made");
+    assert!(rt; makes_a(&mut keeper, mkdir(6, b"a"), true)?, "twice");
+    assert!(rt; holds(&mut keeper, 2, 2)?, "twice");
     assert!(rt;
         makes_a(&mut keeper, mkdir(UNIQUE_RESEND + 6, b"a"), true)?,
-        "again"
+        "resent"
     );
     assert!(rt; tells_a(&mut keeper, getattr(8, 2))?, "told");
     assert!(rt; makes_a(&mut keeper, lookup(6, b"b"), true)?, "reused");
@@ -376,25 +378,6 @@ fn repeats_in_a_group_act_once(rt: HostRuntime) -> Result<(), StoreFault> {
     let resent = mkdir(UNIQUE_RESEND + 4, b"a");
     assert!(rt; makes_a_once(&mut keeper, mkdir(4, b"a"), resent)?, "both");
     assert!(rt; holds(&mut keeper, 2, 2)?, "at the end");
-    Ok(())
-}
-
-// Rows `missing-lookup` and `resent-lookup`, with MKDIR for MKNOD.
-#[test]
-fn refusals_and_reads_are_recorded(rt: HostRuntime) -> Result<(), StoreFault> {
-    let mut keeper = begun(&rt)?;
-    let missing = lookup(4, b"hello");
-    assert!(rt;
-        refuses(&mut keeper, missing, Errno::ENOENT, false)?,
-        "missing"
-    );
-    assert!(rt; gives_node(&mut keeper, mkdir(6, b"hello"), 2)?, "made");
-    let resent = lookup(UNIQUE_RESEND + 4, b"hello");
-    assert!(rt;
-        refuses(&mut keeper, resent, Errno::ENOENT, true)?,
-        "resent"
-    );
-    assert!(rt; gives_node(&mut keeper, lookup(8, b"hello"), 2)?, "found");
     Ok(())
 }
 

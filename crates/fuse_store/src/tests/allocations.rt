@@ -143,8 +143,9 @@ fn are_answered(first: usize, dones: &[Done], repeated: bool) -> bool {
         && is_answered(place, &done.answer))
 }
 
-// Performs the run, or repeats it, in groups of this size.
-fn passes<K: Restart>(slot: &mut Option<K>, size: usize, repeated: bool) -> bool {
+// Performs the run, or repeats it, each request in a group of its own or all in one.
+fn passes<K: Restart>(slot: &mut Option<K>, each: bool, repeated: bool) -> bool {
+    let size = if each { 1 } else { 8 };
     let bit = if repeated { UNIQUE_RESEND } else { 0 };
     let mut first: usize = 0;
     for group in run(bit).chunks(size) {
@@ -204,14 +205,22 @@ fn made(rt: &HostRuntime) -> Option<PlainKeeper> {
     }
 }
 
-// Each request in a group of its own, and all in one group.
 #[test]
 fn each_allocation(rt: HostRuntime) {
-    for size in [1, 8] {
+    for each in [true, false] {
         let mut slot = made(&rt);
-        assert!(rt; passes(&mut slot, size, false), "groups of {size}");
-        assert!(rt; passes(&mut slot, size, true), "resent, groups of {size}");
-        assert!(rt; are_recorded(&mut slot), "groups of {size}");
-        assert!(rt; held_at_the_end(&mut slot), "groups of {size}");
+        assert!(rt;
+            passes(&mut slot, each, false),
+            "in groups of their own: {each}"
+        );
+        assert!(rt;
+            passes(&mut slot, each, true),
+            "resent, in groups of their own: {each}"
+        );
+        assert!(rt; are_recorded(&mut slot), "in groups of their own: {each}");
+        assert!(rt;
+            held_at_the_end(&mut slot),
+            "in groups of their own: {each}"
+        );
     }
 }
