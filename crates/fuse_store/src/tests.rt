@@ -1,9 +1,10 @@
-// The rows of the specification that a keeper alone can run, and want of memory.
+// The rows of the specification that a keeper alone can run.
 ghost use Rattle.std.specs.Prelude.{◌≡◌, ◌≢◌, ◌≤◌, true, length};
 ghost use Rattle.fuse_wire.specs.Ids.{id_of};
 ghost use Rattle.fuse_request.specs.Act.{act, IsKept};
 ghost use Rattle.fuse_store.specs.declared.keeper.TheConstants.{MAX_SETTLED as MOST_SETTLED};
 
+mod allocations;
 mod contents;
 mod handles;
 mod removing;
@@ -131,11 +132,24 @@ fn is_kept(request: &Request<'_>) -> bool
         return false;
     }
     match request.op {
-        Op::Lookup { .. } => true,
-        Op::Getattr { .. } => true,
-        Op::Mkdir { .. } => true,
         Op::Init(_) => true,
         Op::Destroy => true,
+        Op::Lookup { .. } => true,
+        Op::Getattr { .. } => true,
+        Op::Setattr(_) => true,
+        Op::Mknod { .. } => true,
+        Op::Mkdir { .. } => true,
+        Op::Unlink { .. } => true,
+        Op::Rmdir { .. } => true,
+        Op::Rename { .. } => true,
+        Op::Rename2 { .. } => true,
+        Op::OpenFile { .. } => true,
+        Op::Read(_) => true,
+        Op::Write { .. } => true,
+        Op::Release(_) => true,
+        Op::OpenDir { .. } => true,
+        Op::ReadDir(_) => true,
+        Op::ReleaseDir(_) => true,
         _ => false,
     }
 }
@@ -178,6 +192,10 @@ fn perform_one<K: Keeper>(
         return Ok(None);
     }
     ask_one(keeper, request, settled)
+}
+
+fn perform<K: Keeper>(keeper: &mut K, request: Request<'_>) -> Result<Option<Done>, StoreFault> {
+    perform_one(keeper, request, &[])
 }
 
 // Performs a group of two requests.
@@ -331,9 +349,11 @@ fn repeats_are_answered_alike(rt: HostRuntime) -> Result<(), StoreFault> {
     assert!(rt; holds(&mut keeper, 1, 1)?, "begun");
     assert!(rt; has_agreed(&mut keeper)?, "begun");
     assert!(rt; makes_a(&mut keeper, mkdir(6, b"a"), false)?, "made");
+    assert!(rt; makes_a(&mut keeper, mkdir(6, b"a"), true)?, "twice");
+    assert!(rt; holds(&mut keeper, 2, 2)?, "twice");
     assert!(rt;
         makes_a(&mut keeper, mkdir(UNIQUE_RESEND + 6, b"a"), true)?,
-        "again"
+        "resent"
     );
     assert!(rt; tells_a(&mut keeper, getattr(8, 2))?, "told");
     assert!(rt; makes_a(&mut keeper, lookup(6, b"b"), true)?, "reused");
@@ -358,25 +378,6 @@ fn repeats_in_a_group_act_once(rt: HostRuntime) -> Result<(), StoreFault> {
     let resent = mkdir(UNIQUE_RESEND + 4, b"a");
     assert!(rt; makes_a_once(&mut keeper, mkdir(4, b"a"), resent)?, "both");
     assert!(rt; holds(&mut keeper, 2, 2)?, "at the end");
-    Ok(())
-}
-
-// Rows `missing-lookup` and `resent-lookup`, with MKDIR for MKNOD.
-#[test]
-fn refusals_and_reads_are_recorded(rt: HostRuntime) -> Result<(), StoreFault> {
-    let mut keeper = begun(&rt)?;
-    let missing = lookup(4, b"hello");
-    assert!(rt;
-        refuses(&mut keeper, missing, Errno::ENOENT, false)?,
-        "missing"
-    );
-    assert!(rt; gives_node(&mut keeper, mkdir(6, b"hello"), 2)?, "made");
-    let resent = lookup(UNIQUE_RESEND + 4, b"hello");
-    assert!(rt;
-        refuses(&mut keeper, resent, Errno::ENOENT, true)?,
-        "resent"
-    );
-    assert!(rt; gives_node(&mut keeper, lookup(8, b"hello"), 2)?, "found");
     Ok(())
 }
 
@@ -423,99 +424,5 @@ fn a_restart_keeps_all(rt: HostRuntime) -> Result<(), StoreFault> {
     assert!(rt; has_agreed(&mut opened)?, "settings");
     let resent = mkdir(UNIQUE_RESEND + 4, b"a");
     assert!(rt; makes_a(&mut opened, resent, true)?, "resent");
-    Ok(())
-}
-
-// Whether MKDIR `a` is recorded under the id, and its answer is that of row `first-run`.
-fn has_made_a<K: Keeper>(keeper: &mut K, id: u64) -> Result<bool, StoreFault> {
-    match keeper.answer_of(Id(id))? {
-        Some(answer) => {
-            Ok(answer.errno == Errno::NONE && answer.body.as_slice() == entry_of_a())
-        }
-        None => Ok(false),
-    }
-}
-
-// Whether a keeper that failed is a new one in all else.
-fn is_new<K: Keeper>(keeper: &mut K) -> Result<bool, StoreFault> {
-    let held = has_failed(keeper) && holds(keeper, 1, 0)? && !has_record(keeper, 2)?;
-    Ok(held && has_no_settings(keeper)?)
-}
-
-// Whether a keeper that failed holds the settings and nothing else. LOOKUP 10 is recorded then.
-fn is_begun<K: Keeper>(keeper: &mut K) -> Result<bool, StoreFault> {
-    let held = has_failed(keeper) && holds(keeper, 1, 1)? && !has_record(keeper, 4)?;
-    Ok(held && refuses(keeper, lookup(10, b"a"), Errno::ENOENT, false)?)
-}
-
-// Whether a keeper that failed holds the settings and `a`, made under id 4, and nothing else.
-// Requests 10, 12 and 14 are recorded then.
-fn holds_only_a<K: Keeper>(keeper: &mut K) -> Result<bool, StoreFault> {
-    let held = has_failed(keeper) && holds(keeper, 2, 2)?;
-    let recorded = has_made_a(keeper, 4)? && !has_record(keeper, 6)? && !has_record(keeper, 8)?;
-    let answered = makes_a(keeper, lookup(10, b"a"), false)?
-        && refuses(keeper, lookup(12, b"b"), Errno::ENOENT, false)?
-        && tells_a(keeper, getattr(14, 2))?;
-    Ok(held && recorded && answered)
-}
-
-// INIT. A fault is want of memory and leaves a new store, which takes it afterwards.
-fn begins<K: Keeper>(keeper: &mut K) -> Result<bool, StoreFault> {
-    match agrees(keeper) {
-        Ok(is_agreed) => Ok(is_agreed),
-        Err(StoreFault::Memory) => Ok(is_new(keeper)? && agrees(keeper)?),
-        Err(fault) => Err(fault),
-    }
-}
-
-// The first group: `a` is made. A fault leaves what INIT left.
-fn first_group<K: Keeper>(keeper: &mut K) -> Result<bool, StoreFault> {
-    match perform_one(keeper, mkdir(4, b"a"), &[]) {
-        Ok(made) => Ok(made_a(&made, false)),
-        Err(StoreFault::Memory) => {
-            let unchanged = is_begun(keeper)?;
-            let made = perform_one(keeper, mkdir(4, b"a"), &[Id(10)])?;
-            Ok(unchanged && made_a(&made, false))
-        }
-        Err(fault) => Err(fault),
-    }
-}
-
-// The second group: `b` is made and found, and the first record goes. A fault leaves what the first
-// group left.
-fn second_group<K: Keeper>(keeper: &mut K) -> Result<bool, StoreFault> {
-    match perform_two(keeper, mkdir(6, b"b"), lookup(8, b"b"), &[Id(4)]) {
-        Ok((made, found)) => Ok(is_node(&made, 3) && is_node(&found, 3)),
-        Err(StoreFault::Memory) => {
-            let unchanged = holds_only_a(keeper)?;
-            let settled = [Id(4), Id(10), Id(12), Id(14)];
-            let (made, found) = perform_two(keeper, mkdir(6, b"b"), lookup(8, b"b"), &settled)?;
-            Ok(unchanged && is_node(&made, 3) && is_node(&found, 3))
-        }
-        Err(fault) => Err(fault),
-    }
-}
-
-// A recorded answer. A fault leaves the record.
-fn record_stays<K: Keeper>(keeper: &mut K, id: u64) -> Result<bool, StoreFault> {
-    match has_record(keeper, id) {
-        Ok(found) => Ok(found),
-        Err(StoreFault::Memory) => Ok(has_failed(keeper) && has_record(keeper, id)?),
-        Err(fault) => Err(fault),
-    }
-}
-
-// Run with each allocation refused in turn.
-#[test]
-fn refused_memory_changes_nothing(rt: HostRuntime) -> Result<(), StoreFault> {
-    let Ok(mut keeper) = new_keeper(&rt) else {
-        return Ok(());
-    };
-    assert!(rt; begins(&mut keeper)?, "INIT");
-    assert!(rt; first_group(&mut keeper)?, "first group");
-    assert!(rt; second_group(&mut keeper)?, "second group");
-    assert!(rt; record_stays(&mut keeper, 6)?, "a record");
-    assert!(rt; holds(&mut keeper, 3, 3)?, "at the end");
-    assert!(rt; has_agreed(&mut keeper)?, "at the end");
     Ok(())
 }

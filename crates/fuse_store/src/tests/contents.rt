@@ -1,10 +1,10 @@
 //! Rows `cut-and-grow` and `last-byte`, of a file that is open under fh 1.
 use super::handles::{open, tells};
-use super::removing::{mknod, perform};
+use super::removing::mknod;
 use super::*;
 use fuse_request::{ReadIn, SetattrIn};
 
-fn write<'a>(unique: u64, offset: u64, payload: &'a [u8]) -> Request<'a> {
+pub(super) fn write<'a>(unique: u64, offset: u64, payload: &'a [u8]) -> Request<'a> {
     let op = Op::Write {
         fh: 1,
         offset,
@@ -16,7 +16,7 @@ fn write<'a>(unique: u64, offset: u64, payload: &'a [u8]) -> Request<'a> {
     request(unique, 2, op)
 }
 
-fn read(unique: u64, offset: u64) -> Request<'static> {
+pub(super) fn read(unique: u64, offset: u64) -> Request<'static> {
     let op = Op::Read(ReadIn {
         fh: 1,
         offset,

@@ -1,9 +1,9 @@
 //! Row `readdir`, and of row `died-after-commit` what a keeper alone can run: handles are given out once.
-use super::removing::{mknod, perform, says};
+use super::removing::{mknod, says};
 use super::*;
 use fuse_request::{ReadIn, ReleaseIn};
 
-pub fn open(unique: u64, nodeid: u64) -> Request<'static> {
+pub(super) fn open(unique: u64, nodeid: u64) -> Request<'static> {
     let op = Op::OpenFile {
         flags: 2,
         open_flags: 0,
@@ -31,7 +31,7 @@ pub(super) fn read_root(unique: u64, fh: u64, offset: u64, size: u32) -> Request
     request(unique, 1, op)
 }
 
-fn release(unique: u64, nodeid: u64, fh: u64) -> Request<'static> {
+pub(super) fn release(unique: u64, nodeid: u64, fh: u64) -> Request<'static> {
     let op = Op::Release(ReleaseIn {
         fh,
         flags: 0,

@@ -1,8 +1,6 @@
-//! Rows `resent-lookup`, `name-lengths` and `unlinked-open-file`, the latter without its handle.
-ghost use Rattle.std.specs.Prelude.{◌≡◌, ◌≢◌, true};
-ghost use Rattle.fuse_wire.specs.Ids.{id_of};
-ghost use Rattle.fuse_request.specs.Act.{act, IsKept};
-
+//! Rows `resent-lookup`, `name-lengths` and `unlinked-open-file`.
+use super::contents::{read, write};
+use super::handles::{FIRST, open, tells};
 use super::*;
 
 pub(super) fn mknod<'a>(unique: u64, name: &'a [u8]) -> Request<'a> {
@@ -21,46 +19,6 @@ fn unlink<'a>(unique: u64, name: &'a [u8]) -> Request<'a> {
 
 fn rmdir<'a>(unique: u64, name: &'a [u8]) -> Request<'a> {
     request(unique, 1, Op::Rmdir { name })
-}
-
-// Whether a keeper can perform the request.
-fn is_asked(request: &Request<'_>) -> bool
-    ensures id { result ≡ true → id_of request.now.header.unique ≢ 0 }
-    ensures kept { result ≡ true → IsKept (act request.now.op) }
-{
-    if Id::of(request.header.unique).0 == 0 {
-        return false;
-    }
-    match request.op {
-        Op::Init(_) => true,
-        Op::Lookup { .. } => true,
-        Op::Getattr { .. } => true,
-        Op::Mkdir { .. } => true,
-        Op::Mknod { .. } => true,
-        Op::Unlink { .. } => true,
-        Op::Rmdir { .. } => true,
-        Op::Rename { .. } => true,
-        Op::Rename2 { .. } => true,
-        Op::Setattr(_) => true,
-        Op::Read(_) => true,
-        Op::Write { .. } => true,
-        Op::OpenFile { .. } => true,
-        Op::OpenDir { .. } => true,
-        Op::ReadDir(_) => true,
-        Op::Release(_) => true,
-        Op::ReleaseDir(_) => true,
-        _ => false,
-    }
-}
-
-pub(super) fn perform<K: Keeper>(
-    keeper: &mut K,
-    request: Request<'_>,
-) -> Result<Option<Done>, StoreFault> {
-    if !is_asked(&request) {
-        return Ok(None);
-    }
-    ask_one(keeper, request, &[])
 }
 
 // Whether the request is answered so, without a body.
@@ -109,7 +67,31 @@ fn takes_names<K: Keeper>(keeper: &mut K) -> Result<bool, StoreFault> {
     Ok(made && gone && nameless)
 }
 
-// Row `unlinked-open-file`: nodes without a name stay until a mount begins. Their numbers aren't given out again.
+// A file 2 is made, opened, written and loses its name; it can be read then, and tells that no name leads to it.
+fn reads_what_is_unlinked<K: Keeper>(keeper: &mut K) -> Result<bool, StoreFault> {
+    let made = tells_node(keeper, mknod(4, b"f"), 2)?;
+    let opened = tells(keeper, open(6, 2), FIRST)?;
+    let written = tells(keeper, write(8, 0, b"one"), b"\x03\0\0\0\0\0\0\0")?;
+    let gone = says(keeper, unlink(10, b"f"), Errno::NONE, false)?;
+    let is_read = tells(keeper, read(12, 0), b"one")?;
+    Ok(made && opened && written && gone && is_read && is_nameless(keeper, 14, 2)?)
+}
+
+// Row `unlinked-open-file`.
+#[test]
+fn an_unlinked_file_is_read_until_a_mount_begins(rt: HostRuntime) -> Result<(), StoreFault> {
+    let mut keeper = begun(&rt)?;
+    assert!(rt; reads_what_is_unlinked(&mut keeper)?, "unlinked");
+    begin_mount(&mut keeper)?;
+    perform(&mut keeper, init(16))?;
+    assert!(rt;
+        says(&mut keeper, getattr(18, 2), Errno::ESTALE, false)?,
+        "begun"
+    );
+    Ok(())
+}
+
+// Nodes without a name stay until a mount begins. Their numbers aren't given out again.
 #[test]
 fn a_mount_takes_unnamed_nodes(rt: HostRuntime) -> Result<(), StoreFault> {
     let mut keeper = begun(&rt)?;

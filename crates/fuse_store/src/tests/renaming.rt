@@ -1,6 +1,6 @@
 //! Rows `rename-new-cookie` and `exchange`.
 use super::handles::{FIRST, open_root, read_root, tells};
-use super::removing::{mknod, perform, says};
+use super::removing::{mknod, says};
 use super::*;
 
 const A_TO_C: Op<'static> = Op::Rename {
