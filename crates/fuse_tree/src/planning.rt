@@ -60,8 +60,8 @@ use write::plan_write;
 /// What the request answers in the tree whose rows lie behind `look`, and which rows it changes.
 /// Nothing is changed. What isn't kept is answered ENOSYS: it is silent, or not of the profile.
 pub fn plan<L: Look>(
-    look: &mut L,
     alloc: Global,
+    look: &mut L,
     request: &Request<'_>,
     now: Moment,
 ) -> Result<Planned, PlanFault>
@@ -78,14 +78,14 @@ pub fn plan<L: Look>(
     ensures fails { OnErr result (L.fails look.old look.new) }
 {
     answers_are_read();
-    plan_request(look, alloc, request, now)
+    plan_request(alloc, look, request, now)
 }
 
 // INIT is answered always, and all else where an INIT is agreed on.
 #[tactic(auto, using(crate::proofs::Agreeing::offers_nothing))]
 fn plan_request<L: Look>(
-    look: &mut L,
     alloc: Global,
+    look: &mut L,
     request: &Request<'_>,
     now: Moment,
 ) -> Result<Planned, PlanFault>
@@ -101,13 +101,13 @@ fn plan_request<L: Look>(
     if !has_settings(look)? {
         return Ok(refused(alloc, Errno::EPROTO));
     }
-    plan_agreed(look, alloc, request, now)
+    plan_agreed(alloc, look, request, now)
 }
 
 #[tactic(auto, using(crate::proofs::Agreeing::looks_at_node))]
 fn plan_agreed<L: Look>(
-    look: &mut L,
     alloc: Global,
+    look: &mut L,
     request: &Request<'_>,
     now: Moment,
 ) -> Result<Planned, PlanFault>
@@ -123,13 +123,13 @@ fn plan_agreed<L: Look>(
     let Some(row) = find_node(look, request.header.nodeid)? else {
         return Ok(refused(alloc, Errno::ESTALE));
     };
-    plan_op(look, alloc, request, now, &row)
+    plan_op(alloc, look, request, now, &row)
 }
 
 // What is asked, at the node that the header names.
 fn plan_op<L: Look>(
-    look: &mut L,
     alloc: Global,
+    look: &mut L,
     request: &Request<'_>,
     now: Moment,
     row: &NodeRow,
@@ -142,39 +142,39 @@ fn plan_op<L: Look>(
     ensures fails { OnErr result (L.fails look.old look.new) }
 {
     match &request.op {
-        Op::Lookup { name } => plan_lookup(look, alloc, name, row),
+        Op::Lookup { name } => plan_lookup(alloc, look, name, row),
         Op::Getattr { .. } => Ok(plan_getattr(alloc, row)?),
         Op::Setattr(set) => Ok(plan_setattr(alloc, set, now, row)?),
         Op::Mkdir { mode, name, .. } => {
-            plan_mkdir(look, alloc, &request.header, *mode, name, now, row)
+            plan_mkdir(alloc, look, &request.header, *mode, name, now, row)
         }
         Op::Mknod {
             mode,
             rdev,
             name,
             ..
-        } => plan_mknod(look, alloc, &request.header, *mode, *rdev, name, now, row),
-        Op::Unlink { name } => plan_unlink(look, alloc, name, now, row),
-        Op::Rmdir { name } => plan_rmdir(look, alloc, name, now, row),
-        Op::OpenFile { flags, .. } => plan_open(look, alloc, *flags, row),
-        Op::Read(asked) => plan_read(look, alloc, asked, row),
+        } => plan_mknod(alloc, look, &request.header, *mode, *rdev, name, now, row),
+        Op::Unlink { name } => plan_unlink(alloc, look, name, now, row),
+        Op::Rmdir { name } => plan_rmdir(alloc, look, name, now, row),
+        Op::OpenFile { flags, .. } => plan_open(alloc, look, *flags, row),
+        Op::Read(asked) => plan_read(alloc, look, asked, row),
         Op::Write {
             fh,
             offset,
             payload,
             ..
-        } => plan_write(look, alloc, *fh, *offset, payload, now, row),
-        Op::OpenDir { .. } => plan_open_dir(look, alloc, row),
-        Op::ReadDir(asked) => plan_read_dir(look, alloc, asked, row),
-        Op::Release(release) => plan_release(look, alloc, release.fh, row),
-        Op::ReleaseDir(release) => plan_release_dir(look, alloc, release.fh, row),
+        } => plan_write(alloc, look, *fh, *offset, payload, now, row),
+        Op::OpenDir { .. } => plan_open_dir(alloc, look, row),
+        Op::ReadDir(asked) => plan_read_dir(alloc, look, asked, row),
+        Op::Release(release) => plan_release(alloc, look, release.fh, row),
+        Op::ReleaseDir(release) => plan_release_dir(alloc, look, release.fh, row),
         Op::Rename {
             new_dir,
             old_name,
             new_name,
         } => {
             let asked = asking(*new_dir, 0, old_name, new_name, now);
-            plan_rename(look, alloc, &asked, row)
+            plan_rename(alloc, look, &asked, row)
         }
         Op::Rename2 {
             new_dir,
@@ -183,7 +183,7 @@ fn plan_op<L: Look>(
             new_name,
         } => {
             let asked = asking(*new_dir, *flags, old_name, new_name, now);
-            plan_rename(look, alloc, &asked, row)
+            plan_rename(alloc, look, &asked, row)
         }
         Op::Destroy => Ok(done_nothing(alloc)),
         Op::Forget { .. }

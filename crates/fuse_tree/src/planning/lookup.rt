@@ -16,8 +16,8 @@ use std::alloc::Global;
 
 // LOOKUP of a name in the node of this row.
 pub(crate) fn plan_lookup<L: Look>(
-    look: &mut L,
     alloc: Global,
+    look: &mut L,
     name: &[u8],
     row: &NodeRow,
 ) -> Result<Planned, PlanFault>
@@ -33,13 +33,13 @@ pub(crate) fn plan_lookup<L: Look>(
     if let Some(errno) = fault_of_name(name) {
         return Ok(refused(alloc, errno));
     }
-    lookup_named(look, alloc, name, row)
+    lookup_named(alloc, look, name, row)
 }
 
 // LOOKUP where the name may stand in a directory.
 fn lookup_named<L: Look>(
-    look: &mut L,
     alloc: Global,
+    look: &mut L,
     name: &[u8],
     row: &NodeRow,
 ) -> Result<Planned, PlanFault>

@@ -27,8 +27,8 @@ pub struct NewNode {
 
 // A new node in the directory of this row, where the name is free.
 pub(crate) fn plan_make<L: Look>(
-    look: &mut L,
     alloc: Global,
+    look: &mut L,
     fresh: &NewNode,
     name: &[u8],
     row: &NodeRow,
@@ -46,13 +46,13 @@ pub(crate) fn plan_make<L: Look>(
     if is_taken(look, row.node, name)? {
         return Ok(refused(alloc, Errno::EEXIST));
     }
-    make_with_room(look, alloc, fresh, name, row)
+    make_with_room(alloc, look, fresh, name, row)
 }
 
 // A new node in the directory of this row, where there is room for it.
 fn make_with_room<L: Look>(
-    look: &mut L,
     alloc: Global,
+    look: &mut L,
     fresh: &NewNode,
     name: &[u8],
     row: &NodeRow,

@@ -19,8 +19,8 @@ use std::alloc::Global;
 
 // MKNOD of a name in the node of this row.
 pub(crate) fn plan_mknod<L: Look>(
-    look: &mut L,
     alloc: Global,
+    look: &mut L,
     header: &InHeader,
     mode: u32,
     rdev: u32,
@@ -51,7 +51,7 @@ pub(crate) fn plan_mknod<L: Look>(
         rdev: rdev_of_node(mode, rdev),
         made: now,
     };
-    plan_make(look, alloc, &fresh, name, row)
+    plan_make(alloc, look, &fresh, name, row)
 }
 
 // The bits that tell the type.

@@ -20,8 +20,8 @@ use std::alloc::Global;
 
 // READ by a handle of the node of this row.
 pub(crate) fn plan_read<L: Look>(
-    look: &mut L,
     alloc: Global,
+    look: &mut L,
     asked: &ReadIn,
     row: &NodeRow,
 ) -> Result<Planned, PlanFault>

@@ -28,8 +28,8 @@ pub const LEAST_ENTRY: u32 = 32;
 
 // READDIR of the directory of this row.
 pub(crate) fn plan_read_dir<L: Look>(
-    look: &mut L,
     alloc: Global,
+    look: &mut L,
     asked: &ReadIn,
     row: &NodeRow,
 ) -> Result<Planned, PlanFault>
@@ -51,13 +51,13 @@ pub(crate) fn plan_read_dir<L: Look>(
     if !is_named(row) {
         return Ok(refused(alloc, Errno::ENOENT));
     }
-    list(look, alloc, asked.offset, asked.size, row)
+    list(alloc, look, asked.offset, asked.size, row)
 }
 
 // The entries of a directory behind the offset, as many as fit.
 fn list<L: Look>(
-    look: &mut L,
     alloc: Global,
+    look: &mut L,
     offset: u64,
     size: u32,
     row: &NodeRow,

@@ -59,8 +59,8 @@ pub(crate) fn asking<'a>(
 
 // RENAME and RENAME2 of a name in the node of this row.
 pub(crate) fn plan_rename<L: Look>(
-    look: &mut L,
     alloc: Global,
+    look: &mut L,
     asked: &RenameIn<'_>,
     from: &NodeRow,
 ) -> Result<Planned, PlanFault>
@@ -77,7 +77,7 @@ pub(crate) fn plan_rename<L: Look>(
     if let Some(errno) = fault_of_asked(asked, from, &to) {
         return Ok(refused(alloc, errno));
     }
-    rename_from(look, alloc, asked, from, &to)
+    rename_from(alloc, look, asked, from, &to)
 }
 
 // What is wrong before any entry is looked at.
@@ -105,8 +105,8 @@ fn fault_of_asked(asked: &RenameIn<'_>, from: &NodeRow, to: &NodeRow) -> Option<
 
 // Where both are directories with names of their own.
 fn rename_from<L: Look>(
-    look: &mut L,
     alloc: Global,
+    look: &mut L,
     asked: &RenameIn<'_>,
     from: &NodeRow,
     to: &NodeRow,
@@ -122,13 +122,13 @@ fn rename_from<L: Look>(
     let Some(source) = find_link(look, from.node, asked.old_name)? else {
         return Ok(refused(alloc, Errno::ENOENT));
     };
-    rename_to(look, alloc, asked, from, to, &source)
+    rename_to(alloc, look, asked, from, to, &source)
 }
 
 // Where this link stands under the old name.
 fn rename_to<L: Look>(
-    look: &mut L,
     alloc: Global,
+    look: &mut L,
     asked: &RenameIn<'_>,
     from: &NodeRow,
     to: &NodeRow,
@@ -143,13 +143,13 @@ fn rename_to<L: Look>(
     ensures fails { OnErr result (L.fails look.old look.new) }
 {
     let other = find_link(look, asked.new_dir, asked.new_name)?;
-    rename_by(look, alloc, asked, from, to, source, other)
+    rename_by(alloc, look, asked, from, to, source, other)
 }
 
 // By the flags, where the other link stands under the new name.
 fn rename_by<L: Look>(
-    look: &mut L,
     alloc: Global,
+    look: &mut L,
     asked: &RenameIn<'_>,
     from: &NodeRow,
     to: &NodeRow,
@@ -165,18 +165,18 @@ fn rename_by<L: Look>(
     ensures fails { OnErr result (L.fails look.old look.new) }
 {
     if asked.flags == RENAME_EXCHANGE {
-        return exchange_links(look, alloc, asked, from, to, source, other);
+        return exchange_links(alloc, look, asked, from, to, source, other);
     }
     if asked.flags == RENAME_NOREPLACE && other.is_some() {
         return Ok(refused(alloc, Errno::EEXIST));
     }
-    rename_link(look, alloc, asked, from, to, source, other)
+    rename_link(alloc, look, asked, from, to, source, other)
 }
 
 // RENAME of the source to where the other link stands.
 fn rename_link<L: Look>(
-    look: &mut L,
     alloc: Global,
+    look: &mut L,
     asked: &RenameIn<'_>,
     from: &NodeRow,
     to: &NodeRow,
@@ -197,7 +197,7 @@ fn rename_link<L: Look>(
     if is_held(look, &source.child, asked.new_dir)? {
         return Ok(refused(alloc, Errno::EINVAL));
     }
-    rename_fitting(look, alloc, asked, from, to, source, other)
+    rename_fitting(alloc, look, asked, from, to, source, other)
 }
 
 // Whether both places are the same entry.
@@ -227,8 +227,8 @@ pub(crate) fn is_held<L: Look>(look: &mut L, child: &NodeRow, dir: u64) -> Resul
 
 // Where the source may stand in the new directory.
 fn rename_fitting<L: Look>(
-    look: &mut L,
     alloc: Global,
+    look: &mut L,
     asked: &RenameIn<'_>,
     from: &NodeRow,
     to: &NodeRow,
@@ -246,7 +246,7 @@ fn rename_fitting<L: Look>(
     if let Some(errno) = fault_of_place(look, source, other)? {
         return Ok(refused(alloc, errno));
     }
-    rename_with_room(look, alloc, asked, from, to, source, other)
+    rename_with_room(alloc, look, asked, from, to, source, other)
 }
 
 // Why the source can't come to stand where the other link is.
@@ -292,8 +292,8 @@ fn fault_of_entries<L: Look>(look: &mut L, dir: u64) -> Result<Option<Errno>, Pl
 
 // Where there is a cookie left.
 fn rename_with_room<L: Look>(
-    look: &mut L,
     alloc: Global,
+    look: &mut L,
     asked: &RenameIn<'_>,
     from: &NodeRow,
     to: &NodeRow,

@@ -17,8 +17,8 @@ use std::alloc::Global;
 
 // UNLINK of a name in the node of this row.
 pub(crate) fn plan_unlink<L: Look>(
-    look: &mut L,
     alloc: Global,
+    look: &mut L,
     name: &[u8],
     now: Moment,
     row: &NodeRow,
@@ -35,13 +35,13 @@ pub(crate) fn plan_unlink<L: Look>(
     if let Some(errno) = fault_of_name(name) {
         return Ok(refused(alloc, errno));
     }
-    unlink_named(look, alloc, name, now, row)
+    unlink_named(alloc, look, name, now, row)
 }
 
 // UNLINK where the name may stand in a directory.
 fn unlink_named<L: Look>(
-    look: &mut L,
     alloc: Global,
+    look: &mut L,
     name: &[u8],
     now: Moment,
     row: &NodeRow,

@@ -19,8 +19,8 @@ use std::alloc::Global;
 
 // WRITE of the payload by a handle of the node of this row.
 pub(crate) fn plan_write<L: Look>(
-    look: &mut L,
     alloc: Global,
+    look: &mut L,
     fh: u64,
     offset: u64,
     payload: &[u8],
