@@ -8,6 +8,7 @@ pub mod Exchanges
 mod Fit
 pub mod Fitting
 mod Fronts
+mod GoneFirst
 pub mod GoneRows
 pub mod Heights
 mod InitAgrees

@@ -1,4 +1,4 @@
-ghost use Rattle.std.specs.Prelude.{◌≡◌, None, IfOk, IfErr, OnOk, OnErr};
+ghost use Rattle.std.specs.Prelude.{◌≡◌, None, IfOk, IfErr, OnErr};
 ghost use Rattle.fuse_request.specs.Act.{asked, act, opcode_of};
 ghost use Rattle.fuse_answer.specs.Replies.{IsRead};
 ghost use Rattle.fuse_tree.specs.State.{State, Tree};
@@ -74,7 +74,7 @@ pub fn plan<L: Look>(
     ensures not_a_tree { IfErr result (λ f. f ≡ PlanFault.NotATree → L.is_clean look.new → (s : State) → Tree s → L.sees look.old (rowed s) → ⊥) }
     // The look's fault is then the one that is answered, and none where none is.
     ensures fault { L.fault look.new ≡ look_fault result }
-    ensures looks { OnOk result (L.looks look.old look.new) }
+    ensures looks { look_fault result ≡ None → L.looks look.old look.new }
     ensures fails { OnErr result (L.fails look.old look.new) }
 {
     answers_are_read();
