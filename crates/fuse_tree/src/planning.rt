@@ -1,4 +1,4 @@
-ghost use Rattle.std.specs.Prelude.{◌≡◌, None, IfOk, IfErr, OnErr};
+ghost use Rattle.std.specs.Prelude.{◌≡◌, true, None, IfOk, IfErr, OnErr};
 ghost use Rattle.fuse_request.specs.Act.{asked, act, opcode_of};
 ghost use Rattle.fuse_answer.specs.Replies.{IsRead};
 ghost use Rattle.fuse_tree.specs.State.{State, Tree};
@@ -6,7 +6,7 @@ ghost use Rattle.fuse_tree.specs.Rows.{rowed};
 ghost use Rattle.fuse_tree.specs.Do.{done};
 ghost use Rattle.fuse_tree.specs.Plan.{Meets, look_fault};
 ghost use Rattle.fuse_tree.specs.Reading.{IsWithin, Reads};
-ghost use Rattle.fuse_tree.specs.Planning.{plan_act, plan_agreed as planned_agreed, plan_of};
+ghost use Rattle.fuse_tree.specs.Planning.{tells_name, plan_act, plan_agreed as planned_agreed, plan_of};
 
 mod answers;
 mod attributes;
@@ -58,7 +58,8 @@ use unlink::plan_unlink;
 use write::plan_write;
 
 /// What the request answers in the tree whose rows lie behind `look`, and which rows it changes.
-/// Nothing is changed. What isn't kept is answered ENOSYS: it is silent, or not of the profile.
+/// Nothing is changed. It is for a kept request: others are answered ENOSYS, where settings and
+/// node are there.
 pub fn plan<L: Look>(
     alloc: Global,
     look: &mut L,
@@ -126,7 +127,7 @@ fn plan_agreed<L: Look>(
     plan_op(alloc, look, request, now, &row)
 }
 
-// What is asked, at the node that the header names.
+// What is asked, at the node that the header names. The last line is of what isn't performed here.
 fn plan_op<L: Look>(
     alloc: Global,
     look: &mut L,
@@ -142,20 +143,8 @@ fn plan_op<L: Look>(
     ensures fails { OnErr result (L.fails look.old look.new) }
 {
     match &request.op {
-        Op::Lookup { name } => plan_lookup(alloc, look, name, row),
         Op::Getattr { .. } => Ok(plan_getattr(alloc, row)?),
         Op::Setattr(set) => Ok(plan_setattr(alloc, set, now, row)?),
-        Op::Mkdir { mode, name, .. } => {
-            plan_mkdir(alloc, look, &request.header, *mode, name, now, row)
-        }
-        Op::Mknod {
-            mode,
-            rdev,
-            name,
-            ..
-        } => plan_mknod(alloc, look, &request.header, *mode, *rdev, name, now, row),
-        Op::Unlink { name } => plan_unlink(alloc, look, name, now, row),
-        Op::Rmdir { name } => plan_rmdir(alloc, look, name, now, row),
         Op::OpenFile { flags, .. } => plan_open(alloc, look, *flags, row),
         Op::Read(asked) => plan_read(alloc, look, asked, row),
         Op::Write {
@@ -168,6 +157,51 @@ fn plan_op<L: Look>(
         Op::ReadDir(asked) => plan_read_dir(alloc, look, asked, row),
         Op::Release(release) => plan_release(alloc, look, release.fh, row),
         Op::ReleaseDir(release) => plan_release_dir(alloc, look, release.fh, row),
+        Op::Lookup { .. }
+        | Op::Mkdir { .. }
+        | Op::Mknod { .. }
+        | Op::Unlink { .. }
+        | Op::Rmdir { .. }
+        | Op::Rename { .. }
+        | Op::Rename2 { .. } => plan_named(alloc, look, request, now, row),
+        Op::Destroy
+        | Op::Forget { .. }
+        | Op::Init(_)
+        | Op::Interrupt { .. }
+        | Op::BatchForget { .. }
+        | Op::Unsupported { .. } => Ok(refused(alloc, Errno::ENOSYS)),
+    }
+}
+
+// What is asked of names in the node that the header names.
+fn plan_named<L: Look>(
+    alloc: Global,
+    look: &mut L,
+    request: &Request<'_>,
+    now: Moment,
+    row: &NodeRow,
+) -> Result<Planned, PlanFault>
+    requires fault { L.fault look.old ≡ None }
+    requires within { IsWithin row.now }
+    requires named { tells_name (act request.now.op) ≡ true }
+    ensures plan { Reads (L.is_clean look.new) (L.sees look.old) result (plan_act request.now.header (act request.now.op) now row.now) }
+    ensures fault { L.fault look.new ≡ look_fault result }
+    ensures looks { look_fault result ≡ None → L.looks look.old look.new }
+    ensures fails { OnErr result (L.fails look.old look.new) }
+{
+    match &request.op {
+        Op::Lookup { name } => plan_lookup(alloc, look, name, row),
+        Op::Mkdir { mode, name, .. } => {
+            plan_mkdir(alloc, look, &request.header, *mode, name, now, row)
+        }
+        Op::Mknod {
+            mode,
+            rdev,
+            name,
+            ..
+        } => plan_mknod(alloc, look, &request.header, *mode, *rdev, name, now, row),
+        Op::Unlink { name } => plan_unlink(alloc, look, name, now, row),
+        Op::Rmdir { name } => plan_rmdir(alloc, look, name, now, row),
         Op::Rename {
             new_dir,
             old_name,
@@ -185,11 +219,6 @@ fn plan_op<L: Look>(
             let asked = asking(*new_dir, *flags, old_name, new_name, now);
             plan_rename(alloc, look, &asked, row)
         }
-        Op::Destroy => Ok(done_nothing(alloc)),
-        Op::Forget { .. }
-        | Op::Init(_)
-        | Op::Interrupt { .. }
-        | Op::BatchForget { .. }
-        | Op::Unsupported { .. } => Ok(refused(alloc, Errno::ENOSYS)),
+        _ => unreachable!(),
     }
 }
