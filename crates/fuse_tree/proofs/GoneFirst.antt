@@ -20,7 +20,6 @@ use Rattle.fuse_init.specs.Agree.{agree}
 use Rattle.fuse_tree.specs.declared.limits.TheConstants.{COUNTER_END, MAX_FILE, MAX_READ}
 use Rattle.fuse_tree.specs.declared.planning.finding.Link.{Link}
 use Rattle.fuse_tree.specs.declared.planning.make.NewNode.{NewNode}
-use Rattle.fuse_tree.specs.declared.planning.rename.TheConstants.{RENAME_NOREPLACE, RENAME_EXCHANGE}
 use Rattle.fuse_tree.specs.declared.rows.Change.{Change}
 use Rattle.fuse_tree.specs.declared.rows.Change.TheVariants as changes
 use Rattle.fuse_tree.specs.declared.rows.Counters.{Counters as CountersRow}
@@ -46,7 +45,7 @@ use Rattle.fuse_tree.specs.PlanListing.{rows_behind, plan_read_dir}
 use Rattle.fuse_tree.specs.PlanOpening.{plan_open_node, plan_open_for, plan_open, plan_open_dir, plan_close}
 use Rattle.fuse_tree.specs.PlanRemoving.{link_at, plan_unlink_link, plan_unlink, plan_rmdir_link, plan_rmdir}
 use Rattle.fuse_tree.specs.PlanRenaming.{is_same_link, row_holds, link_fault, rename_changes, exchange_changes, plan_rename_link, plan_exchange_link, plan_rename_by, plan_rename_from, plan_rename_between, plan_rename}
-use Rattle.fuse_tree.specs.Renaming.{Renaming, asking, asked_fault}
+use Rattle.fuse_tree.specs.Renaming.{Renaming, is_exchange, is_no_replace, asking, asked_fault}
 use Rattle.fuse_tree.specs.Reading.{refused_for, row_is_named, child_at}
 use Rattle.fuse_tree.proofs.Lists.{and_true}
 
@@ -202,7 +201,7 @@ exchange_orders r from to source (Some other) rows =
 
 by_orders : (r : Renaming) (from to : NodeRow) (source : Link) (other : Option Link) (rows : Rows) → Orders (plan_rename_by r from to source other rows)
 by_orders r from to source other rows =
-    chosen (r.flags == RENAME_EXCHANGE) _ _ (exchange_orders r from to source other rows) (chosen ((r.flags == RENAME_NOREPLACE) && is_some other) _ _ (by_test _ refl) (link_orders r from to source other rows))
+    chosen (is_exchange r.mode) _ _ (exchange_orders r from to source other rows) (chosen (is_no_replace r.mode && is_some other) _ _ (by_test _ refl) (link_orders r from to source other rows))
 
 from_orders : (r : Renaming) (from to : NodeRow) (o : Option Link) (rows : Rows) → Orders (plan_rename_from r from to o rows)
 from_orders r from to None rows = by_test _ refl

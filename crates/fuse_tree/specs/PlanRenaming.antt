@@ -6,7 +6,6 @@ use Rattle.fuse_wire.specs.declared.moment.Moment.{Moment}
 use Rattle.fuse_tree.specs.declared.limits.TheConstants.{COUNTER_END}
 use Rattle.fuse_tree.specs.declared.planning.finding.Link.{Link}
 use Rattle.fuse_tree.specs.declared.planning.rename.RenameIn.{RenameIn}
-use Rattle.fuse_tree.specs.declared.planning.rename.TheConstants.{RENAME_NOREPLACE, RENAME_EXCHANGE}
 use Rattle.fuse_tree.specs.declared.rows.NodeRow.{NodeRow}
 use Rattle.fuse_tree.specs.declared.rows.Counters.{Counters as CountersRow}
 use Rattle.fuse_tree.specs.declared.rows.Change.{Change}
@@ -17,11 +16,11 @@ use Rattle.fuse_tree.specs.Rows.{Rows, row_at}
 use Rattle.fuse_tree.specs.Reading.{refused, refused_for, told, row_is_named}
 use Rattle.fuse_tree.specs.Removing.{has_entries}
 use Rattle.fuse_tree.specs.PlanRemoving.{link_at, unnamed_row}
-use Rattle.fuse_tree.specs.Renaming.{Renaming, leads_to, asked_fault, kinds_fault}
+use Rattle.fuse_tree.specs.Renaming.{Renaming, is_exchange, is_no_replace, leads_to, asked_fault, kinds_fault}
 
 -- what is asked, its names as lists
 abbrev pub renaming_of : RenameIn → Renaming
-renaming_of asked = record { new_dir = asked.new_dir; flags = asked.flags; old_name = asked.old_name.now; new_name = asked.new_name.now; now = asked.at }
+renaming_of asked = record { new_dir = asked.new_dir; mode = asked.mode; old_name = asked.old_name.now; new_name = asked.new_name.now; now = asked.at }
 
 -- ---- rows
 
@@ -128,12 +127,12 @@ plan_exchange_link r from to source (Some other) rows =
     if source.cookie == other.cookie then told []
     else plan_exchange_apart r from to source other rows
 
--- ---- by the flags
+-- ---- by the mode
 
 abbrev pub plan_rename_by : Renaming → NodeRow → NodeRow → Link → Option Link → Rows → Planned
 plan_rename_by r from to source other rows =
-    if r.flags == RENAME_EXCHANGE then plan_exchange_link r from to source other rows
-    else if (r.flags == RENAME_NOREPLACE) && is_some other then refused EEXIST
+    if is_exchange r.mode then plan_exchange_link r from to source other rows
+    else if is_no_replace r.mode && is_some other then refused EEXIST
     else plan_rename_link r from to source other rows
 
 abbrev pub plan_rename_from : Renaming → NodeRow → NodeRow → Option Link → Rows → Planned

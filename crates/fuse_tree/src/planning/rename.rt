@@ -4,7 +4,7 @@ ghost use Rattle.fuse_tree.specs.State.{is_dir};
 ghost use Rattle.fuse_tree.specs.Reading.{IsWithin, Reads, row_is_named};
 ghost use Rattle.fuse_tree.specs.PlanRemoving.{link_at};
 ghost use Rattle.fuse_tree.specs.Renaming as renaming;
-ghost use Rattle.fuse_tree.specs.Renaming.{asked_fault};
+ghost use Rattle.fuse_tree.specs.Renaming.{mode_of, asked_fault};
 ghost use Rattle.fuse_tree.specs.PlanRenaming as planning;
 ghost use Rattle.fuse_tree.specs.PlanRenaming.{renaming_of, is_same_link, row_holds, link_fault, plan_rename_from, plan_rename_by, plan_rename_link, plan_rename_fitting, plan_rename_with_room};
 
@@ -28,11 +28,36 @@ pub const RENAME_NOREPLACE: u32 = 1;
 /// The flag of RENAME2 that makes two children change places.
 pub const RENAME_EXCHANGE: u32 = 2;
 
-/// What RENAME and RENAME2 ask for, and when. RENAME has no flags.
+/// What is done about a node that stands at the new place.
+#[derive(Clone, Copy, Debug, PartialEq, Eq)]
+pub enum RenameMode {
+    /// It loses its name there. RENAME does so too.
+    Replace,
+    /// Nothing may stand there.
+    NoReplace,
+    /// It gets the old place.
+    Exchange,
+}
+
+impl RenameMode {
+    // What the flags of RENAME2 ask for. `None` where they have no meaning.
+    fn of(flags: u32) -> Option<RenameMode>
+        ensures { result ≡ mode_of flags }
+    {
+        match flags {
+            0 => Some(RenameMode::Replace),
+            RENAME_NOREPLACE => Some(RenameMode::NoReplace),
+            RENAME_EXCHANGE => Some(RenameMode::Exchange),
+            _ => None,
+        }
+    }
+}
+
+/// What RENAME and RENAME2 ask for, and when. Without a mode the flags have no meaning.
 #[derive(Clone, Copy)]
 pub struct RenameIn<'a> {
     pub new_dir: u64,
-    pub flags: u32,
+    pub mode: Option<RenameMode>,
     pub old_name: &'a [u8],
     pub new_name: &'a [u8],
     pub at: Moment,
@@ -50,7 +75,7 @@ pub(crate) fn asking<'a>(
 {
     RenameIn {
         new_dir,
-        flags,
+        mode: RenameMode::of(flags),
         old_name,
         new_name,
         at,
@@ -93,7 +118,7 @@ fn fault_of_asked(asked: &RenameIn<'_>, from: &NodeRow, to: &NodeRow) -> Option<
     if let Some(errno) = fault_of_name(asked.new_name) {
         return Some(errno);
     }
-    if asked.flags > RENAME_EXCHANGE {
+    if asked.mode.is_none() {
         return Some(Errno::EINVAL);
     }
     if is_named(from) && is_named(to) {
@@ -146,7 +171,7 @@ fn rename_to<L: Look>(
     rename_by(alloc, look, asked, from, to, source, other)
 }
 
-// By the flags, where the other link stands under the new name.
+// By the mode, where the other link stands under the new name.
 fn rename_by<L: Look>(
     alloc: Global,
     look: &mut L,
@@ -164,13 +189,11 @@ fn rename_by<L: Look>(
     ensures looks { look_fault result ≡ None → L.looks look.old look.new }
     ensures fails { OnErr result (L.fails look.old look.new) }
 {
-    if asked.flags == RENAME_EXCHANGE {
-        return exchange_links(alloc, look, asked, from, to, source, other);
+    match asked.mode {
+        Some(RenameMode::Exchange) => exchange_links(alloc, look, asked, from, to, source, other),
+        Some(RenameMode::NoReplace) if other.is_some() => Ok(refused(alloc, Errno::EEXIST)),
+        _ => rename_link(alloc, look, asked, from, to, source, other),
     }
-    if asked.flags == RENAME_NOREPLACE && other.is_some() {
-        return Ok(refused(alloc, Errno::EEXIST));
-    }
-    rename_link(alloc, look, asked, from, to, source, other)
 }
 
 // RENAME of the source to where the other link stands.
