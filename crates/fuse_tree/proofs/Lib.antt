@@ -45,6 +45,7 @@ mod SettingFits
 mod Shown
 pub mod Telling
 pub mod Trees
+mod Under
 pub mod Ups
 pub mod Walking
 mod WritingAgrees

@@ -1,5 +1,5 @@
 -- What RENAME and RENAME2 do (own profile): an entry moves, or two children change places.
-use Rattle.std.specs.Prelude.{◌+◌, ◌-◌, ◌==◌, ◌&&◌, ◌||◌, ℕ, zero, suc, Bool, true, false, not, nat_le, nat_lt, if◌then◌else◌, List, [], ◌∷◌, ◌++◌, length, is_some, Option, Some, None}
+use Rattle.std.specs.Prelude.{◌≡◌, ◌≢◌, ◌+◌, ◌-◌, ◌==◌, ◌&&◌, ◌||◌, ℕ, zero, suc, Bool, true, false, not, nat_le, nat_lt, if◌then◌else◌, List, [], ◌∷◌, ◌++◌, length, is_some, Option, Some, None}
 use Rattle.std.specs.List.{list_any}
 use Rattle.fuse_wire.specs.declared.errno.Errno.{Errno}
 use Rattle.fuse_wire.specs.declared.errno.TheConstants.Errno.{ENOENT, EEXIST, ENOTDIR, EISDIR, EINVAL, ENOSPC, ENOTEMPTY, ESTALE}
@@ -9,7 +9,7 @@ use Rattle.fuse_tree.specs.declared.planning.rename.RenameMode.{RenameMode}
 use Rattle.fuse_tree.specs.declared.planning.rename.RenameMode.TheVariants.{Replace, NoReplace, Exchange}
 use Rattle.fuse_tree.specs.declared.planning.rename.TheConstants.{RENAME_NOREPLACE, RENAME_EXCHANGE}
 use Rattle.fuse_tree.specs.declared.rows.EntryRow.{EntryRow}
-use Rattle.fuse_tree.specs.State.{State, Node, is_dir, is_dir_of, is_named, name_fault, node_at, above}
+use Rattle.fuse_tree.specs.State.{State, Node, Tree, is_dir, is_dir_of, is_named, name_fault, node_at, above}
 use Rattle.fuse_tree.specs.Rows.{entry_at}
 use Rattle.fuse_tree.specs.Done.{Done, refuse, refuse_for, answer, touch}
 use Rattle.fuse_tree.specs.Removing.{mark, without, entry_gone, has_entries}
@@ -166,3 +166,23 @@ rename_between s r n (Some to) =
 -- RENAME2, and with flags 0 RENAME
 abbrev pub rename : State → Renaming → Node → Done
 rename s r n = rename_between s r n (node_at s r.new_dir)
+
+-- ---- laws
+
+-- an entry of this directory leads to the node
+abbrev pub is_child : List EntryRow → ℕ → ℕ → Bool
+is_child entries dir node = list_any (λ e. (e.dir == dir) && (e.child == node)) entries
+
+-- so many steps up from a node lead to another, each from a child to its directory
+abbrev pub StepsUp : List EntryRow → ℕ → ℕ → ℕ → Type 0
+StepsUp entries zero node up = node ≡ up
+StepsUp entries (suc steps) node up = (dir : ℕ) × (is_child entries dir node ≡ true) × StepsUp entries steps dir up
+
+-- a directory is this node or lies under it exactly where some steps up from it lead there
+pub record Under (s : State) (node dir : ℕ) : Type 0 where
+  pub found : lies_in s node dir ≡ true → (steps : ℕ) × StepsUp s.entries steps dir node
+  pub all : (steps : ℕ) → StepsUp s.entries steps dir node → lies_in s node dir ≡ true
+
+-- 0 is no node's number
+abbrev pub LiesInIsUnder : Type 0
+LiesInIsUnder = (s : State) (node dir : ℕ) → Tree s → node ≢ 0 → Under s node dir
