@@ -41,6 +41,10 @@ dirs_changes r from to moves comes lost =
     if from.node == r.new_dir then changes.Node (dir_row r.now lost comes from) ∷ []
     else changes.Node (dir_row r.now moves comes from) ∷ changes.Node (dir_row r.now lost moves to) ∷ []
 
+-- the entry by which a child comes to stand under a name
+abbrev pub entry_change : ℕ → List ℕ → NodeRow → ℕ → Change
+entry_change dir name child cookie = changes.Entry (record { dir = dir; name = name; child = child.node; cookie = cookie })
+
 -- a child's row when it comes to stand in another directory
 abbrev pub moved_row : Moment → ℕ → NodeRow → NodeRow
 moved_row now up child = record child { ctime = now; up = up }
@@ -83,7 +87,7 @@ abbrev pub rename_changes : Renaming → CountersRow → NodeRow → NodeRow →
 rename_changes r counters from to source other =
     lost_changes r.now other ++ changes.EntryGone source.cookie ∷ dirs_changes r from to (is_dir_link source) false (is_dir_other other)
     ++ changes.Node (moved_row r.now r.new_dir source.child)
-    ∷ changes.Entry (record { dir = r.new_dir; name = r.new_name; child = source.child.node; cookie = counters.next_cookie })
+    ∷ entry_change r.new_dir r.new_name source.child counters.next_cookie
     ∷ changes.Counters (record counters { next_cookie = counters.next_cookie + 1 }) ∷ []
 
 abbrev pub plan_rename_with_room : Renaming → NodeRow → NodeRow → Link → Option Link → Rows → Planned
@@ -107,8 +111,8 @@ exchange_changes r counters from to source other =
     changes.EntryGone source.cookie ∷ changes.EntryGone other.cookie ∷ changes.Node (moved_row r.now from.node other.child)
     ∷ dirs_changes r from to (is_dir_link source) (is_dir_link other) (is_dir_link other)
     ++ changes.Node (moved_row r.now r.new_dir source.child)
-    ∷ changes.Entry (record { dir = from.node; name = r.old_name; child = other.child.node; cookie = counters.next_cookie })
-    ∷ changes.Entry (record { dir = r.new_dir; name = r.new_name; child = source.child.node; cookie = counters.next_cookie + 1 })
+    ∷ entry_change from.node r.old_name other.child counters.next_cookie
+    ∷ entry_change r.new_dir r.new_name source.child (counters.next_cookie + 1)
     ∷ changes.Counters (record counters { next_cookie = counters.next_cookie + 2 }) ∷ []
 
 abbrev pub plan_exchange_with_room : Renaming → NodeRow → NodeRow → Link → Link → Rows → Planned
