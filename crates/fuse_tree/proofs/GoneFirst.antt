@@ -26,7 +26,7 @@ use Rattle.fuse_tree.specs.declared.rows.Counters.{Counters as CountersRow}
 use Rattle.fuse_tree.specs.declared.rows.NodeRow.{NodeRow}
 use Rattle.fuse_tree.specs.declared.rows.Planned.{Planned}
 use Rattle.fuse_tree.specs.State.{is_dir, is_file, name_fault}
-use Rattle.fuse_tree.specs.Rows.{Rows, row_at, entry_at}
+use Rattle.fuse_tree.specs.Rows.{Rows, row_at, entry_at, row_is_named}
 use Rattle.fuse_tree.specs.Handles.{access_at, is_open}
 use Rattle.fuse_tree.specs.Do.{names_node, offer_of}
 use Rattle.fuse_tree.specs.Making.{is_full, begun, dir_mode, type_bits, may_make, node_mode, node_rdev}
@@ -46,7 +46,7 @@ use Rattle.fuse_tree.specs.PlanOpening.{plan_open_node, plan_open_for, plan_open
 use Rattle.fuse_tree.specs.PlanRemoving.{link_at, plan_unlink_link, plan_unlink, plan_rmdir_link, plan_rmdir}
 use Rattle.fuse_tree.specs.PlanRenaming.{is_same_link, row_holds, link_fault, rename_changes, exchange_changes, plan_rename_link, plan_exchange_link, plan_rename_by, plan_rename_from, plan_rename_between, plan_rename}
 use Rattle.fuse_tree.specs.Renaming.{Renaming, is_exchange, is_no_replace, asking, asked_fault}
-use Rattle.fuse_tree.specs.Reading.{refused_for, row_is_named, child_at}
+use Rattle.fuse_tree.specs.Reading.{refused_for, child_at}
 use Rattle.fuse_tree.proofs.Lists.{and_true}
 
 record Orders (p : Planned) : Type 0 where

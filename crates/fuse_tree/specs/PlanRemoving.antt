@@ -10,8 +10,8 @@ use Rattle.fuse_tree.specs.declared.rows.Change.{Change}
 use Rattle.fuse_tree.specs.declared.rows.Change.TheVariants as changes
 use Rattle.fuse_tree.specs.declared.rows.Planned.{Planned}
 use Rattle.fuse_tree.specs.State.{is_dir, name_fault}
-use Rattle.fuse_tree.specs.Rows.{Rows, row_at, entry_at}
-use Rattle.fuse_tree.specs.Reading.{refused, refused_for, row_is_named}
+use Rattle.fuse_tree.specs.Rows.{Rows, row_at, entry_at, row_is_named}
+use Rattle.fuse_tree.specs.Reading.{refused, refused_for}
 use Rattle.fuse_tree.specs.Removing.{has_entries}
 
 -- ---- an entry gone

@@ -12,8 +12,8 @@ use Rattle.fuse_tree.specs.declared.rows.Change.{Change}
 use Rattle.fuse_tree.specs.declared.rows.Change.TheVariants as changes
 use Rattle.fuse_tree.specs.declared.rows.Planned.{Planned}
 use Rattle.fuse_tree.specs.State.{is_dir}
-use Rattle.fuse_tree.specs.Rows.{Rows, row_at}
-use Rattle.fuse_tree.specs.Reading.{refused, refused_for, told, row_is_named}
+use Rattle.fuse_tree.specs.Rows.{Rows, row_at, row_is_named}
+use Rattle.fuse_tree.specs.Reading.{refused, refused_for, told}
 use Rattle.fuse_tree.specs.Removing.{has_entries}
 use Rattle.fuse_tree.specs.PlanRemoving.{link_at, unnamed_row}
 use Rattle.fuse_tree.specs.Renaming.{Renaming, is_exchange, is_no_replace, leads_to, asked_fault, kinds_fault}

@@ -10,9 +10,9 @@ use Rattle.fuse_init.specs.Agree.{agree}
 use Rattle.fuse_tree.specs.declared.rows.NodeRow.{NodeRow}
 use Rattle.fuse_tree.specs.declared.rows.Planned.{Planned}
 use Rattle.fuse_tree.specs.State.{is_dir, name_fault}
-use Rattle.fuse_tree.specs.Rows.{Rows, row_at}
+use Rattle.fuse_tree.specs.Rows.{Rows, row_at, row_is_named}
 use Rattle.fuse_tree.specs.Do.{names_node, offer_of}
-use Rattle.fuse_tree.specs.Reading.{refused, refused_for, told, row_is_named, entry_body, attr_body, child_at}
+use Rattle.fuse_tree.specs.Reading.{refused, refused_for, told, entry_body, attr_body, child_at}
 use Rattle.fuse_tree.specs.PlanMaking.{plan_mkdir, plan_mknod}
 use Rattle.fuse_tree.specs.PlanSetting.{plan_setattr}
 use Rattle.fuse_tree.specs.PlanWriting.{plan_write, plan_read}

@@ -10,7 +10,7 @@ use Rattle.fuse_tree.specs.declared.rows.NodeRow.{NodeRow}
 use Rattle.fuse_tree.specs.declared.rows.EntryRow.{EntryRow}
 use Rattle.fuse_tree.specs.declared.rows.Planned.{Planned}
 use Rattle.fuse_tree.specs.State.{is_dir}
-use Rattle.fuse_tree.specs.Rows.{Rows, IsRowed, row_at, entry_at}
+use Rattle.fuse_tree.specs.Rows.{Rows, IsRowed, row_is_named, row_at, entry_at}
 use Rattle.fuse_tree.specs.Plan.{look_fault}
 use Rattle.fuse_tree.specs.Done.{entry_of, attr_out_of}
 
@@ -43,9 +43,6 @@ abbrev pub told : List ℕ → Planned
 told body = record { answer = record { errno = 0; body = body }; changes = [] }
 
 -- ---- what a row tells
-
-abbrev pub row_is_named : NodeRow → Bool
-row_is_named row = (row.node == ROOT_ID) || not (row.up == 0)
 
 abbrev pub row_links : NodeRow → ℕ
 row_links row =

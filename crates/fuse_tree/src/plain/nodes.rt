@@ -108,7 +108,7 @@ impl NodeList {
     pub fn keep_named(&mut self)
         ensures { self.new ≡ filter is_named_row self.old }
     {
-        self.nodes.retain(|full| is_named(full));
+        self.nodes.retain(|full| full.row.is_named());
     }
 
     pub fn len(&self) -> usize
@@ -122,7 +122,6 @@ ghost use Rattle.std.specs.Prelude.{◌≡◌, ◌==◌, IfOk, find, take, drop,
 ghost use Rattle.std.specs.Option.{option_map};
 ghost use Rattle.fuse_tree.specs.State.{root_node, new_store};
 ghost use Rattle.fuse_tree.specs.Rows.{row_of, content_of};
-ghost use Rattle.fuse_tree.specs.Clearing.{is_named_row};
 
 /// The root of a new store.
 pub fn root_row(now: Moment) -> NodeRow
@@ -141,12 +140,6 @@ pub fn root_row(now: Moment) -> NodeRow
         up: 0,
         subdirs: 0,
     }
-}
-
-fn is_named(full: &Full) -> bool
-    ensures { result ≡ is_named_row full.now }
-{
-    full.row.node == ROOT_ID || full.row.up != 0
 }
 
 fn place_in(nodes: &[Full], number: u64) -> Option<usize>

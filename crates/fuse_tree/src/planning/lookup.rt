@@ -5,7 +5,7 @@ ghost use Rattle.fuse_tree.specs.Reading.{IsWithin, Reads};
 ghost use Rattle.fuse_tree.specs.Planning.{plan_lookup_named};
 
 use super::answers::{entry_answer, refused, unchanged};
-use super::attributes::{is_directory, is_named};
+use super::attributes::is_directory;
 use super::fault::PlanFault;
 use super::finding::find_child;
 use super::names::fault_of_name;
@@ -49,7 +49,7 @@ fn lookup_named<L: Look>(
     ensures looks { look_fault result ≡ None → L.looks look.old look.new }
     ensures fails { OnErr result (L.fails look.old look.new) }
 {
-    if !is_named(row) {
+    if !row.is_named() {
         return Ok(refused(alloc, Errno::ENOENT));
     }
     let Some(child) = find_child(look, row.node, name)? else {

@@ -6,7 +6,7 @@ ghost use Rattle.fuse_tree.specs.Reading.{IsWithin, Reads};
 ghost use Rattle.fuse_tree.specs.PlanMaking.{dir_row, new_row, entry_row, counters_after, changes_of, plan_new, plan_make_with_room};
 
 use super::answers::{entry_answer, refused};
-use super::attributes::{is_directory, is_named};
+use super::attributes::is_directory;
 use super::fault::PlanFault;
 use super::finding::{find_counters, is_taken};
 use crate::limits::{COUNTER_END, MAX_NODES};
@@ -40,7 +40,7 @@ pub(crate) fn plan_make<L: Look>(
     ensures looks { look_fault result ≡ None → L.looks look.old look.new }
     ensures fails { OnErr result (L.fails look.old look.new) }
 {
-    if !is_named(row) {
+    if !row.is_named() {
         return Ok(refused(alloc, Errno::ENOENT));
     }
     if is_taken(look, row.node, name)? {

@@ -1,7 +1,8 @@
 ghost use Rattle.std.specs.Prelude.{◌≡◌, ◌&&◌, None, IfOk, OnErr};
 ghost use Rattle.fuse_tree.specs.Plan.{look_fault};
 ghost use Rattle.fuse_tree.specs.State.{is_dir};
-ghost use Rattle.fuse_tree.specs.Reading.{IsWithin, Reads, row_is_named};
+ghost use Rattle.fuse_tree.specs.Rows.{row_is_named};
+ghost use Rattle.fuse_tree.specs.Reading.{IsWithin, Reads};
 ghost use Rattle.fuse_tree.specs.PlanRemoving.{link_at};
 ghost use Rattle.fuse_tree.specs.Renaming as renaming;
 ghost use Rattle.fuse_tree.specs.Renaming.{mode_of, asked_fault};
@@ -9,7 +10,7 @@ ghost use Rattle.fuse_tree.specs.PlanRenaming as planning;
 ghost use Rattle.fuse_tree.specs.PlanRenaming.{renaming_of, is_same_link, row_holds, link_fault, plan_rename_from, plan_rename_by, plan_rename_link, plan_rename_fitting, plan_rename_with_room};
 
 use super::answers::{done_nothing, refused};
-use super::attributes::{is_directory, is_named};
+use super::attributes::is_directory;
 use super::exchange::exchange_links;
 use super::fault::PlanFault;
 use super::finding::{Link, find_counters, find_link, find_node, has_entries};
@@ -121,7 +122,7 @@ fn fault_of_asked(asked: &RenameIn<'_>, from: &NodeRow, to: &NodeRow) -> Option<
     if asked.mode.is_none() {
         return Some(Errno::EINVAL);
     }
-    if is_named(from) && is_named(to) {
+    if from.is_named() && to.is_named() {
         None
     } else {
         Some(Errno::ENOENT)

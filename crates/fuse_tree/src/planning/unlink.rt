@@ -5,7 +5,7 @@ ghost use Rattle.fuse_tree.specs.PlanRemoving.{plan_unlink_named};
 ghost use Rattle.fuse_tree.specs.Reading.{Reads};
 
 use super::answers::refused;
-use super::attributes::{is_directory, is_named};
+use super::attributes::is_directory;
 use super::fault::PlanFault;
 use super::finding::find_link;
 use super::names::fault_of_name;
@@ -52,7 +52,7 @@ fn unlink_named<L: Look>(
     ensures looks { look_fault result ≡ None → L.looks look.old look.new }
     ensures fails { OnErr result (L.fails look.old look.new) }
 {
-    if !is_named(row) {
+    if !row.is_named() {
         return Ok(refused(alloc, Errno::ENOENT));
     }
     let Some(link) = find_link(look, row.node, name)? else {
