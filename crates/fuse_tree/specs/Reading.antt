@@ -1,9 +1,9 @@
 -- What the parts of `plan` read off the rows (own profile): what the plans of the operations share.
-use Rattle.std.specs.Prelude.{◌≡◌, ◌≤◌, ◌+◌, ◌-◌, ◌/◌, ◌==◌, ◌||◌, ℕ, Bool, not, if◌then◌else◌, List, [], Option, Some, None, Result, IfOk, IfErr, ◌≢◌}
+use Rattle.std.specs.Prelude.{◌≡◌, ◌≤◌, ◌+◌, ◌-◌, ◌/◌, ℕ, not, if◌then◌else◌, List, [], Option, Some, None, Result, IfOk, IfErr, ◌≢◌}
 use Rattle.fuse_wire.specs.declared.errno.Errno.{Errno}
 use Rattle.fuse_answer.specs.Bodies.{entry_bytes, attr_out_bytes}
 use Rattle.fuse_answer.specs.declared.records.Attr.{Attr}
-use Rattle.fuse_tree.specs.declared.limits.TheConstants.{MAX_NODES, MAX_FILE, ROOT_ID, BLOCK_SIZE, SECTOR_SIZE}
+use Rattle.fuse_tree.specs.declared.limits.TheConstants.{MAX_NODES, MAX_FILE, BLOCK_SIZE, SECTOR_SIZE}
 use Rattle.fuse_tree.specs.declared.planning.fault.PlanFault.{PlanFault}
 use Rattle.fuse_tree.specs.declared.planning.fault.PlanFault.TheVariants as faults
 use Rattle.fuse_tree.specs.declared.rows.NodeRow.{NodeRow}

@@ -45,7 +45,7 @@ use getattr::plan_getattr;
 use init::plan_init;
 use lookup::plan_lookup;
 use mkdir::plan_mkdir;
-use mknod::plan_mknod;
+use mknod::{MknodIn, plan_mknod};
 use open::{plan_open, plan_open_dir};
 use read::plan_read;
 use read_dir::plan_read_dir;
@@ -199,7 +199,14 @@ fn plan_named<L: Look>(
             rdev,
             name,
             ..
-        } => plan_mknod(alloc, look, &request.header, *mode, *rdev, name, now, row),
+        } => {
+            let asked = MknodIn {
+                mode: *mode,
+                rdev: *rdev,
+                name,
+            };
+            plan_mknod(alloc, look, &request.header, &asked, now, row)
+        }
         Op::Unlink { name } => plan_unlink(alloc, look, name, now, row),
         Op::Rmdir { name } => plan_rmdir(alloc, look, name, now, row),
         Op::Rename {

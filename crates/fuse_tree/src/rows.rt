@@ -119,18 +119,21 @@ impl Model for ChangeList {
 impl ChangeList {
     ghost use Rattle.std.specs.Prelude.{◌≡◌};
 
+    /// No memory is taken.
     pub fn from_vec(changes: Vec<Change>) -> ChangeList
         ensures { result ≡ changes.items }
     {
         ChangeList { changes }
     }
 
+    /// No memory is taken.
     pub fn into_vec(self) -> Vec<Change>
         ensures { result.items ≡ self }
     {
         self.changes
     }
 
+    /// The first change is the one that is made first.
     pub fn as_slice(&self) -> &[Change]
         ensures { result.now ≡ self.now }
     {

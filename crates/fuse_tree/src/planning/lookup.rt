@@ -1,7 +1,7 @@
 ghost use Rattle.std.specs.Prelude.{◌≡◌, None, OnErr};
 ghost use Rattle.fuse_tree.specs.Plan.{look_fault};
 ghost use Rattle.fuse_tree.specs.Planning as planning;
-ghost use Rattle.fuse_tree.specs.Reading.{IsWithin, Reads};
+ghost use Rattle.fuse_tree.specs.Reading.{Reads};
 ghost use Rattle.fuse_tree.specs.Planning.{plan_lookup_named};
 
 use super::answers::{entry_answer, refused, unchanged};

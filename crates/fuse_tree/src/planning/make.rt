@@ -3,7 +3,7 @@ ghost use Rattle.fuse_tree.specs.Making.{is_full};
 ghost use Rattle.fuse_tree.specs.Plan.{look_fault};
 ghost use Rattle.fuse_tree.specs.PlanMaking as planning;
 ghost use Rattle.fuse_tree.specs.Reading.{IsWithin, Reads};
-ghost use Rattle.fuse_tree.specs.PlanMaking.{dir_row, new_row, entry_row, counters_after, changes_of, plan_new, plan_make_with_room};
+ghost use Rattle.fuse_tree.specs.PlanMaking.{dir_row, new_row, changes_of, plan_new, plan_make_with_room};
 
 use super::answers::{entry_answer, refused};
 use super::attributes::is_directory;

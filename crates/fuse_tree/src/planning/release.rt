@@ -1,5 +1,4 @@
 ghost use Rattle.std.specs.Prelude.{◌≡◌, ◌≢◌, None, IfOk, OnErr};
-ghost use Rattle.fuse_tree.specs.Opening.{not_for_dirs, for_dirs_alone};
 ghost use Rattle.fuse_tree.specs.Plan.{look_fault};
 ghost use Rattle.fuse_tree.specs.PlanOpening as planning;
 ghost use Rattle.fuse_tree.specs.PlanOpening.{plan_closed, plan_close};
