@@ -1,4 +1,5 @@
 -- What the plan of READDIR reads off the rows (own profile), in the order of its checks.
+-- Not part of what is trusted: neither `done` nor the public clauses of `plan` speak of it.
 use Rattle.std.specs.Prelude.{◌≡◌, ◌≢◌, ◌≤◌, ◌+◌, ◌/◌, ◌==◌, ℕ, not, nat_lt, if◌then◌else◌, List, ◌++◌, length, map, filter, Option, Some, None, Result, IfOk, IfErr}
 use Rattle.fuse_wire.specs.declared.errno.TheConstants.Errno.{ENOENT, EBADF, ENOTDIR, EINVAL}
 use Rattle.fuse_request.specs.declared.request.ReadIn.{ReadIn}

@@ -1,4 +1,5 @@
 -- What `plan` reads off the rows (own profile), in the order of its checks.
+-- Not part of what is trusted: neither `done` nor the public clauses of `plan` speak of it.
 use Rattle.std.specs.Prelude.{ℕ, Bool, true, false, not, if◌then◌else◌, List, [], Option, Some, None, is_some}
 use Rattle.fuse_wire.specs.declared.errno.TheConstants.Errno.{ENOENT, ENOTDIR, ENOSYS, EPROTO, ESTALE}
 use Rattle.fuse_wire.specs.declared.moment.Moment.{Moment}

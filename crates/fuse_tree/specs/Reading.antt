@@ -1,4 +1,5 @@
 -- What the parts of `plan` read off the rows (own profile): what the plans of the operations share.
+-- Not part of what is trusted: neither `done` nor the public clauses of `plan` speak of it.
 use Rattle.std.specs.Prelude.{◌≡◌, ◌≤◌, ◌+◌, ◌-◌, ◌/◌, ℕ, not, if◌then◌else◌, List, [], Option, Some, None, Result, IfOk, IfErr, ◌≢◌}
 use Rattle.fuse_wire.specs.declared.errno.Errno.{Errno}
 use Rattle.fuse_answer.specs.Bodies.{entry_bytes, attr_out_bytes}
