@@ -95,7 +95,7 @@ fn act(
     ensures clean { OnOk result (fault_of rows.new ≡ None) }
     ensures fault { IfErr result (λ f. IsRowed (rows_of rows.old) → f ≡ StoreFault.Memory) }
 {
-    let planned = match plan(rows, alloc, request, now) {
+    let planned = match plan(alloc, rows, request, now) {
         Ok(planned) => planned,
         Err(fault) => return Err(fault_of_plan(fault)),
     };

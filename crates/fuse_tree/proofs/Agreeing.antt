@@ -34,6 +34,7 @@ use Rattle.fuse_tree.proofs.OpeningAgrees.{open_agrees, open_dir_agrees, release
 use Rattle.fuse_tree.proofs.RemovingAgrees.{unlink_agrees, rmdir_agrees}
 use Rattle.fuse_tree.proofs.RenameAgrees.{renaming_agrees}
 use Rattle.fuse_tree.proofs.Puts.{row_found, node_found}
+use Rattle.fuse_tree.proofs.GoneFirst.{plan_orders}
 
 child_agrees : (s : State) → Tree s → (o : Option Node) → Agrees s (plan_child (option_map (row_of s) o)) (lookup_child s o)
 child_agrees s tree None = refused_agrees s tree ENOENT
@@ -67,7 +68,6 @@ act_agrees s header (acts.Release x) now d tree e = release_agrees s x.fh d tree
 act_agrees s header (acts.ReleaseDir x) now d tree e = release_dir_agrees s x.fh d tree
 act_agrees s header (acts.Rename new_dir old_name new_name) now d tree e = renaming_agrees s (asking new_dir 0 old_name new_name now) d tree e
 act_agrees s header (acts.Rename2 new_dir flags old_name new_name) now d tree e = renaming_agrees s (asking new_dir flags old_name new_name now) d tree e
-act_agrees s header acts.Destroy now d tree e = record { answer = refl; rows = refl; tree = tree }
 act_agrees s header _ now d tree e = refused_agrees s tree ENOSYS
 
 at_agrees : (s : State) (request : Asked) (now : Moment) (o : Option Node) → Tree s → node_at s request.header.nodeid ≡ o
@@ -90,7 +90,7 @@ plan_agrees s request now None tree = both s (is_some s.settings) _ _ _ _ (λ _.
 -- what a plan over the rows of a tree is
 pub plan_meets : (s : State) (request : Asked) (now : Moment) → Tree s → Meets s (plan_of request now (rowed s)) (done s request now)
 unfolding rowed done
-plan_meets s request now tree = let a = plan_agrees s request now (offer_of request.act) tree in record { answer = a.answer; rows = a.rows; tree = a.tree }
+plan_meets s request now tree = let a = plan_agrees s request now (offer_of request.act) tree in record { answer = a.answer; rows = a.rows; order = plan_orders request now (rowed s); tree = a.tree }
 
 pub tree_kept : TreeKept
 tree_kept s request now tree = (plan_meets s request now tree).tree

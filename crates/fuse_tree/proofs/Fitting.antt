@@ -83,7 +83,6 @@ act_fits sizes s header (acts.Release x) now n = release_fits s x.fh n
 act_fits sizes s header (acts.ReleaseDir x) now n = release_dir_fits s x.fh n
 act_fits sizes s header (acts.Rename new_dir old_name new_name) now n = rename_fits s (asking new_dir 0 old_name new_name now) n
 act_fits sizes s header (acts.Rename2 new_dir flags old_name new_name) now n = rename_fits s (asking new_dir flags old_name new_name now) n
-act_fits sizes s header acts.Destroy now n = answered s [] (omega arith)
 act_fits sizes s header _ now n = refused s _
 
 at_fits : RecordSizes → (s : State) (request : Asked) (now : Moment) (n : Option Node) → Fits (do_at s request now n)
@@ -120,7 +119,6 @@ act_reads back s header (acts.Release x) now n tree = release_reads s x.fh n
 act_reads back s header (acts.ReleaseDir x) now n tree = release_dir_reads s x.fh n
 act_reads back s header (acts.Rename new_dir old_name new_name) now n tree = rename_reads s (asking new_dir 0 old_name new_name now) n
 act_reads back s header (acts.Rename2 new_dir flags old_name new_name) now n tree = rename_reads s (asking new_dir flags old_name new_name now) n
-act_reads back s header acts.Destroy now n tree = answered_reads s [] no_body
 act_reads back s header _ now n tree = refused_reads s _ refl
 
 at_reads : ReadBack → (s : State) (request : Asked) (now : Moment) (n : Option Node) → Tree s → Reads (kind_of (opcode_of request.act)) (do_at s request now n)

@@ -8,6 +8,7 @@ pub mod Exchanges
 mod Fit
 pub mod Fitting
 mod Fronts
+mod GoneFirst
 pub mod GoneRows
 pub mod Heights
 mod InitAgrees
@@ -44,6 +45,7 @@ mod SettingFits
 mod Shown
 pub mod Telling
 pub mod Trees
+mod Under
 pub mod Ups
 pub mod Walking
 mod WritingAgrees

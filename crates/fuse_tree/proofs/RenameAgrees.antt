@@ -1,5 +1,5 @@
 -- The plan of RENAME and RENAME2 agrees with what is done.
-use Rattle.std.proofs.Common.{◌≡◌, ◌≢◌, ◌≤◌, ◌-◌, ◌&&◌, ◌||◌, ◌==◌, ℕ, Bool, true, false, cond, not, eqb, List, [], ◌∷◌, Option, Some, None, refl, sym, ap, subst, ◌∙◌, arith}
+use Rattle.std.proofs.Common.{◌≡◌, ◌≢◌, ◌≤◌, ◌-◌, ◌&&◌, ◌||◌, ℕ, Bool, true, false, cond, not, eqb, List, [], ◌∷◌, Option, Some, None, refl, sym, ap, subst, ◌∙◌, arith}
 use Rattle.std.specs.Prelude.{find, nat_le, nat_lt, is_some}
 use Rattle.std.specs.Option.{option_map}
 use Rattle.std.specs.List.{list_any}
@@ -9,7 +9,6 @@ use Rattle.fuse_wire.specs.declared.errno.Errno.{Errno}
 use Rattle.fuse_wire.specs.declared.errno.TheConstants.Errno.{ENOENT, EEXIST, EINVAL, ENOSPC, ESTALE}
 use Rattle.fuse_tree.specs.declared.limits.TheConstants.{COUNTER_END}
 use Rattle.fuse_tree.specs.declared.planning.finding.Link.{Link}
-use Rattle.fuse_tree.specs.declared.planning.rename.TheConstants.{RENAME_NOREPLACE, RENAME_EXCHANGE}
 use Rattle.fuse_tree.specs.declared.rows.EntryRow.{EntryRow}
 use Rattle.fuse_tree.specs.declared.rows.NodeRow.{NodeRow}
 use Rattle.fuse_tree.specs.declared.rows.Planned.{Planned}
@@ -18,7 +17,7 @@ use Rattle.fuse_tree.specs.Rows.{row_of, rows_of_state, entry_at}
 use Rattle.fuse_tree.specs.Done.{Done, refuse_for}
 use Rattle.fuse_tree.specs.Reading.{refused_for}
 use Rattle.fuse_tree.specs.Removing.{has_entries}
-use Rattle.fuse_tree.specs.Renaming.{Renaming, lies_in, is_dir_at, holds, asked_fault, earlier, kinds_fault, place_fault, rename_entry, exchange_entry, rename_by, rename_from, rename_between, rename}
+use Rattle.fuse_tree.specs.Renaming.{Renaming, is_exchange, is_no_replace, lies_in, is_dir_at, holds, asked_fault, earlier, kinds_fault, place_fault, rename_entry, exchange_entry, rename_by, rename_from, rename_between, rename}
 use Rattle.fuse_tree.specs.PlanRemoving.{link_of}
 use Rattle.fuse_tree.specs.PlanRenaming.{row_holds, link_fault, plan_rename_link, plan_exchange_link, plan_rename_by, plan_rename_from, plan_rename_between, plan_rename}
 use Rattle.fuse_tree.proofs.Agreement.{Agrees, refused_agrees, both, both_for}
@@ -63,7 +62,7 @@ asked_none r are_dirs are_named is =
     let first = cond_none (not are_dirs) _ _ is in
     let second = earlier_none (name_fault r.old_name) _ first.1 in
     let third = earlier_none (name_fault r.new_name) _ second.1 in
-    let fourth = cond_none (nat_lt RENAME_EXCHANGE r.flags) _ _ third.1 in
+    let fourth = cond_none (not (is_some r.mode)) _ _ third.1 in
     record { dirs = not_false are_dirs first.0; new_name = third.0; named = not_false are_named (cond_none (not are_named) _ _ fourth.1).0 }
 
 kinds_none : (a b h : Bool) → kinds_fault a b h ≡ None → h ≡ false
@@ -212,7 +211,7 @@ module _ (s : State) (r : Renaming) (d t : Node) (tree : Tree s) (at_d : node_at
       subst (λ (l : Option Link). Agrees s (plan_exchange_link r (row_of s d) (row_of s t) (link e c) l (rows_of_state s)) (exchange_entry s r d.number e (Some f))) (sym o.1.link)
       (swap_agrees e c f o.0 p at_e o.1 at)
 
-  -- ---- by the flags
+  -- ---- by the mode
 
   same_some : (other : Option EntryRow) → entry_at s.entries r.new_dir r.new_name ≡ other → is_some (link_of (rows_of_state s) other) ≡ is_some other
   same_some None at = refl
@@ -221,8 +220,8 @@ module _ (s : State) (r : Renaming) (d t : Node) (tree : Tree s) (at_d : node_at
   by_agrees : (e : EntryRow) (c : Node) → Found s d.number r.old_name e c → entry_at s.entries d.number r.old_name ≡ Some e → (other : Option EntryRow) → entry_at s.entries r.new_dir r.new_name ≡ other
       → Agrees s (plan_rename_by r (row_of s d) (row_of s t) (link e c) (link_of (rows_of_state s) other) (rows_of_state s)) (rename_by s r d.number e other)
   by_agrees e c p at_e other at =
-      both s (r.flags == RENAME_EXCHANGE) _ _ _ _ (λ _. exchange_agrees e c p at_e other at) (λ _.
-      both_as s ((r.flags == RENAME_NOREPLACE) && is_some other) _ _ _ _ _ (ap (λ (b : Bool). (r.flags == RENAME_NOREPLACE) && b) (same_some other at))
+      both s (is_exchange r.mode) _ _ _ _ (λ _. exchange_agrees e c p at_e other at) (λ _.
+      both_as s (is_no_replace r.mode && is_some other) _ _ _ _ _ (ap (λ (b : Bool). is_no_replace r.mode && b) (same_some other at))
       (λ _. refused_agrees s tree EEXIST) (λ _. rename_agrees e c p at_e other at))
 
   pub from_agrees : (o : Option EntryRow) → entry_at s.entries d.number r.old_name ≡ o → Agrees s (plan_rename_from r (row_of s d) (row_of s t) (link_of (rows_of_state s) o) (rows_of_state s)) (rename_from s r d.number o)

@@ -4,13 +4,12 @@ use Rattle.std.specs.Prelude.{nat_le, nat_lt}
 use Rattle.fuse_wire.specs.declared.errno.Errno.{Errno}
 use Rattle.fuse_answer.specs.Replies.{Kind, Nothing}
 use Rattle.fuse_tree.specs.declared.limits.TheConstants.{COUNTER_END}
-use Rattle.fuse_tree.specs.declared.planning.rename.TheConstants.{RENAME_NOREPLACE, RENAME_EXCHANGE}
 use Rattle.fuse_tree.specs.declared.rows.EntryRow.{EntryRow}
 use Rattle.fuse_tree.specs.State.{State, Node, is_dir, is_named, is_odd_name, name_fault, node_at}
 use Rattle.fuse_tree.specs.Rows.{entry_at}
 use Rattle.fuse_tree.specs.Done.{Done, refuse_for}
 use Rattle.fuse_tree.specs.Removing.{has_entries}
-use Rattle.fuse_tree.specs.Renaming.{Renaming, is_dir_at, holds, is_same, earlier, asked_fault, place_fault, renamed, exchanged, rename_with_room, rename_entry, exchange_entry, rename_by, rename_from, rename_between, rename}
+use Rattle.fuse_tree.specs.Renaming.{Renaming, is_exchange, is_no_replace, is_dir_at, holds, is_same, earlier, asked_fault, place_fault, renamed, exchanged, rename_with_room, rename_entry, exchange_entry, rename_by, rename_from, rename_between, rename}
 use Rattle.fuse_tree.proofs.Fit.{Fits, Reads, refused, answered, chosen, refused_for, is_error, refused_reads, answered_reads, chosen_reads, no_body}
 
 -- ---- fits
@@ -33,8 +32,8 @@ exchange_fits s r dir e (Some other) =
 
 by_fits : (s : State) (r : Renaming) (dir : ℕ) (e : EntryRow) (other : Option EntryRow) → Fits (rename_by s r dir e other)
 by_fits s r dir e other =
-    chosen (r.flags == RENAME_EXCHANGE) _ _ (exchange_fits s r dir e other)
-    (chosen ((r.flags == RENAME_NOREPLACE) && is_some other) _ _ (refused s _) (entry_fits s r dir e other))
+    chosen (is_exchange r.mode) _ _ (exchange_fits s r dir e other)
+    (chosen (is_no_replace r.mode && is_some other) _ _ (refused s _) (entry_fits s r dir e other))
 
 from_fits : (s : State) (r : Renaming) (dir : ℕ) (o : Option EntryRow) → Fits (rename_from s r dir o)
 from_fits s r dir None = refused s _
@@ -75,7 +74,7 @@ asked_error : (r : Renaming) (are_dirs are_named : Bool) → IsError (asked_faul
 asked_error r are_dirs are_named =
     unless (not are_dirs) _ _ refl
     (earlier_error _ _ (name_error r.old_name) (earlier_error _ _ (name_error r.new_name)
-    (unless (nat_lt RENAME_EXCHANGE r.flags) _ _ refl (unless (not are_named) _ _ refl never))))
+    (unless (not (is_some r.mode)) _ _ refl (unless (not are_named) _ _ refl never))))
 
 place_error : (s : State) (child : ℕ) (other : Option EntryRow) → IsError (place_fault s child other)
 place_error s child None = never
@@ -108,8 +107,8 @@ from_reads s r dir (Some e) = step (entry_at s.entries r.new_dir r.new_name)
   where
     step : (other : Option EntryRow) → Reads Nothing (rename_by s r dir e other)
     step other =
-        chosen_reads (r.flags == RENAME_EXCHANGE) _ _ (exchange_reads s r dir e other)
-        (chosen_reads ((r.flags == RENAME_NOREPLACE) && is_some other) _ _ (refused_reads s _ refl) (entry_reads s r dir e other))
+        chosen_reads (is_exchange r.mode) _ _ (exchange_reads s r dir e other)
+        (chosen_reads (is_no_replace r.mode && is_some other) _ _ (refused_reads s _ refl) (entry_reads s r dir e other))
 
 between_reads : (s : State) (r : Renaming) (n : Node) (o : Option Node) → Reads Nothing (rename_between s r n o)
 between_reads s r n None = refused_reads s _ refl

@@ -2,6 +2,7 @@
 use Rattle.std.proofs.Common.{◌≡◌, ◌==◌, ◌≤◌, ◌<◌, ◌≢◌, ◌+◌, ◌-◌, ◌&&◌, ◌||◌, ℕ, zero, suc, Bool, true, false, eqb, List, length, Option, Some, None, refl, sym, ap, subst, ◌∙◌, inl, inr, arith}
 use Rattle.std.specs.Option.{option_map}
 use Rattle.std.proofs.lemmas.Bool.{eqb-true, eqb-false, ne_eqb, eq-eqb, cases_lt}
+use Rattle.fuse_tree.specs.declared.limits.TheConstants.{MAX_NODES}
 use Rattle.fuse_tree.specs.declared.rows.EntryRow.{EntryRow}
 use Rattle.fuse_tree.specs.declared.rows.NodeRow.{NodeRow}
 use Rattle.fuse_tree.specs.State.{State, Node, Tree, IsEntry, has_number, node_at, up_of, above}
@@ -55,6 +56,11 @@ rows_end rows k is =
     let s = is.0 in
     ap (λ (r : Rows). above r.entries r.counters.nodes k) (is.2 ∙ rowed_is s) ∙ ends_within s is.1 k
 
+-- there are no more nodes than a tree has
+pub rows_few : (rows : Rows) → IsRowed rows → rows.counters.nodes ≤ MAX_NODES
+unfolding IsRowed
+rows_few rows is = let s = is.0 in subst (λ (r : Rows). r.counters.nodes ≤ MAX_NODES) (sym (is.2 ∙ rowed_is s)) is.1.limits.nodes
+
 rows_none : (rows : Rows) → IsRowed rows → up_of rows.entries 0 ≡ 0
 unfolding IsRowed
 rows_none rows is = let s = is.0 in ap (λ (r : Rows). up_of r.entries 0) (is.2 ∙ rowed_is s) ∙ (rooted s is.1).none
@@ -103,7 +109,7 @@ earlier_not : (es : List EntryRow) (n i node dir : ℕ) → leads_to es n node d
 earlier_not es n i node dir none lt at = absurd (let e = leads_later es n i node dir lt at in cc)
 
 -- no way up leads to a node that the first places aren't
-never_leads : (s : State) (node dir : ℕ) → Tree s → node ≢ 0 → lies_in s node dir ≡ false → (n : ℕ) → above s.entries n dir ≢ node
+pub never_leads : (s : State) (node dir : ℕ) → Tree s → node ≢ 0 → lies_in s node dir ≡ false → (n : ℕ) → above s.entries n dir ≢ node
 never_leads s node dir tree given none n =
     elim (cases_lt n (length s.nodes)) [
       | inl lt ↦ earlier_not s.entries (length s.nodes) n node dir none lt

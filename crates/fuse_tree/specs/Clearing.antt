@@ -1,17 +1,15 @@
 -- What a new mount leaves of a state (own profile).
-use Rattle.std.specs.Prelude.{◌≡◌, ◌==◌, ◌||◌, Bool, not, [], length, filter, None}
-use Rattle.fuse_tree.specs.declared.limits.TheConstants.{ROOT_ID}
+use Rattle.std.specs.Prelude.{◌≡◌, Bool, [], length, filter, None}
 use Rattle.fuse_tree.specs.declared.rows.Full.{Full}
 use Rattle.fuse_tree.specs.State.{State, Tree, is_named}
-use Rattle.fuse_tree.specs.Rows.{Rows, rowed}
+use Rattle.fuse_tree.specs.Rows.{Rows, rowed, row_is_named}
 
 -- handles, settings and the nodes without a name go: named nodes, entries and counters stay
 abbrev pub cleared : State → State
 cleared s = record s { nodes = filter (λ n. is_named s n.number) s.nodes; handles = []; settings = None }
 
--- the row is that of a named node
 abbrev pub is_named_row : Full → Bool
-is_named_row f = (f.row.node == ROOT_ID) || not (f.row.up == 0)
+is_named_row f = row_is_named f.row
 
 -- the same of rows
 abbrev pub cleared_rows : Rows → Rows

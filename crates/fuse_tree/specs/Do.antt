@@ -48,7 +48,8 @@ getattr s n = answer s (attr_out_bytes (attr_out_of (attr_of s n)))
 
 -- ---- all requests
 
--- what is asked, at the node that the header names; the last line is of requests that aren't kept
+-- what is asked, at the node that the header names; the last line is of requests that aren't kept, and of INIT and
+-- DESTROY, which are answered before
 abbrev pub do_act : State → InHeader → Act → Moment → Node → Done
 do_act s header (acts.Lookup name) now n = lookup s name n
 do_act s header (acts.Getattr flags fh) now n = getattr s n
@@ -66,7 +67,6 @@ do_act s header (acts.Release x) now n = release s x.fh n
 do_act s header (acts.ReleaseDir x) now n = release_dir s x.fh n
 do_act s header (acts.Rename new_dir old_name new_name) now n = rename s (asking new_dir 0 old_name new_name now) n
 do_act s header (acts.Rename2 new_dir flags old_name new_name) now n = rename s (asking new_dir flags old_name new_name now) n
-do_act s header acts.Destroy now n = answer s []
 do_act s header _ now n = refuse s ENOSYS
 
 abbrev pub do_at : State → Asked → Moment → Option Node → Done

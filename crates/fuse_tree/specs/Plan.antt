@@ -1,5 +1,5 @@
 -- What `plan` answers, and the laws on what requests do (own profile).
-use Rattle.std.specs.Prelude.{◌≡◌, Option, Some, None, Result, Ok, Err}
+use Rattle.std.specs.Prelude.{◌≡◌, Bool, true, false, List, Option, Some, None, Result, Ok, Err}
 use Rattle.fuse_wire.specs.declared.moment.Moment.{Moment}
 use Rattle.fuse_request.specs.Act.{Asked, opcode_of}
 use Rattle.fuse_answer.specs.Replies.{IsRead}
@@ -7,16 +7,31 @@ use Rattle.fuse_answer.specs.Said.{FitsAnswer}
 use Rattle.fuse_tree.specs.declared.look.LookFault.{LookFault}
 use Rattle.fuse_tree.specs.declared.planning.fault.PlanFault.{PlanFault}
 use Rattle.fuse_tree.specs.declared.planning.fault.PlanFault.TheVariants as faults
+use Rattle.fuse_tree.specs.declared.rows.Change.{Change}
+use Rattle.fuse_tree.specs.declared.rows.Change.TheVariants as changes
 use Rattle.fuse_tree.specs.declared.rows.Planned.{Planned}
-use Rattle.fuse_tree.specs.State.{State, Tree, new_store}
+use Rattle.fuse_tree.specs.State.{State, Tree, Apart, new_store}
 use Rattle.fuse_tree.specs.Rows.{rowed, apply}
 use Rattle.fuse_tree.specs.Done.{Done}
 use Rattle.fuse_tree.specs.Do.{done}
+
+abbrev pub makes_entry : Change → Bool
+makes_entry (changes.Entry entry) = true
+makes_entry _ = false
+
+abbrev pub takes_entry : Change → Bool
+takes_entry (changes.EntryGone cookie) = true
+takes_entry _ = false
+
+-- behind a change that makes an entry none takes one away
+abbrev pub GoneFirst : List Change → Type 0
+GoneFirst = Apart (λ change later. makes_entry change ≡ true → takes_entry later ≡ false)
 
 -- the plan is what is done: its answer is the one said, and its changes make the rows of the state after it, a tree
 pub record Meets (s : State) (p : Planned) (d : Done) : Type 0 where
   pub answer : p.answer ≡ d.said
   pub rows : apply (rowed s) p.changes ≡ rowed d.state
+  pub order : GoneFirst p.changes
   pub tree : Tree d.state
 
 -- the fault of a look that is answered

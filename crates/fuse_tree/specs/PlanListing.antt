@@ -1,4 +1,5 @@
 -- What the plan of READDIR reads off the rows (own profile), in the order of its checks.
+-- Not part of what is trusted: neither `done` nor the public clauses of `plan` speak of it.
 use Rattle.std.specs.Prelude.{◌≡◌, ◌≢◌, ◌≤◌, ◌+◌, ◌/◌, ◌==◌, ℕ, not, nat_lt, if◌then◌else◌, List, ◌++◌, length, map, filter, Option, Some, None, Result, IfOk, IfErr}
 use Rattle.fuse_wire.specs.declared.errno.TheConstants.Errno.{ENOENT, EBADF, ENOTDIR, EINVAL}
 use Rattle.fuse_request.specs.declared.request.ReadIn.{ReadIn}
@@ -11,11 +12,11 @@ use Rattle.fuse_tree.specs.declared.rows.NodeRow.{NodeRow}
 use Rattle.fuse_tree.specs.declared.rows.EntryRow.{EntryRow}
 use Rattle.fuse_tree.specs.declared.rows.Planned.{Planned}
 use Rattle.fuse_tree.specs.State.{is_dir, type_of}
-use Rattle.fuse_tree.specs.Rows.{Rows, IsRowed, row_at, entries_after}
+use Rattle.fuse_tree.specs.Rows.{Rows, IsRowed, row_at, entries_after, row_is_named}
 use Rattle.fuse_tree.specs.Handles.{is_open}
 use Rattle.fuse_tree.specs.Plan.{look_fault}
 use Rattle.fuse_tree.specs.Listing.{dots, is_behind, longest_front, first_fits}
-use Rattle.fuse_tree.specs.Reading.{refused, told, row_is_named}
+use Rattle.fuse_tree.specs.Reading.{refused, told}
 
 -- ---- the entries of a directory
 

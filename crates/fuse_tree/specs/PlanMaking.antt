@@ -1,4 +1,5 @@
 -- What the plans of MKNOD and MKDIR read off the rows (own profile), in the order of their checks.
+-- Not part of what is trusted: neither `done` nor the public clauses of `plan` speak of it.
 use Rattle.std.specs.Prelude.{◌+◌, ℕ, not, if◌then◌else◌, List, [], ◌∷◌, is_some}
 use Rattle.fuse_wire.specs.declared.errno.TheConstants.Errno.{ENOENT, EEXIST, ENOTDIR, EINVAL, ENOSPC}
 use Rattle.fuse_wire.specs.declared.moment.Moment.{Moment}
@@ -11,9 +12,9 @@ use Rattle.fuse_tree.specs.declared.rows.Change.{Change}
 use Rattle.fuse_tree.specs.declared.rows.Change.TheVariants as changes
 use Rattle.fuse_tree.specs.declared.rows.Planned.{Planned}
 use Rattle.fuse_tree.specs.State.{is_dir, name_fault}
-use Rattle.fuse_tree.specs.Rows.{Rows, entry_at}
+use Rattle.fuse_tree.specs.Rows.{Rows, entry_at, row_is_named}
 use Rattle.fuse_tree.specs.Making.{is_full, begun, dir_mode, type_bits, may_make, node_mode, node_rdev}
-use Rattle.fuse_tree.specs.Reading.{refused, refused_for, row_is_named, entry_body}
+use Rattle.fuse_tree.specs.Reading.{refused, refused_for, entry_body}
 
 -- ---- a new node
 

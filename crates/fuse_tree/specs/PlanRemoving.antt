@@ -1,4 +1,5 @@
 -- What the plans of UNLINK and RMDIR read off the rows (own profile), in the order of their checks.
+-- Not part of what is trusted: neither `done` nor the public clauses of `plan` speak of it.
 use Rattle.std.specs.Prelude.{◌-◌, ℕ, not, if◌then◌else◌, List, [], ◌∷◌, Option, Some, None}
 use Rattle.std.specs.Option.{option_map}
 use Rattle.fuse_wire.specs.declared.errno.TheConstants.Errno.{ENOENT, ENOTDIR, EISDIR, ENOTEMPTY}
@@ -10,8 +11,8 @@ use Rattle.fuse_tree.specs.declared.rows.Change.{Change}
 use Rattle.fuse_tree.specs.declared.rows.Change.TheVariants as changes
 use Rattle.fuse_tree.specs.declared.rows.Planned.{Planned}
 use Rattle.fuse_tree.specs.State.{is_dir, name_fault}
-use Rattle.fuse_tree.specs.Rows.{Rows, row_at, entry_at}
-use Rattle.fuse_tree.specs.Reading.{refused, refused_for, row_is_named}
+use Rattle.fuse_tree.specs.Rows.{Rows, row_at, entry_at, row_is_named}
+use Rattle.fuse_tree.specs.Reading.{refused, refused_for}
 use Rattle.fuse_tree.specs.Removing.{has_entries}
 
 -- ---- an entry gone

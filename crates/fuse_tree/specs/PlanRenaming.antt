@@ -1,4 +1,5 @@
 -- What the plans of RENAME and RENAME2 read off the rows (own profile), in the order of their checks.
+-- Not part of what is trusted: neither `done` nor the public clauses of `plan` speak of it.
 use Rattle.std.specs.Prelude.{◌+◌, ◌-◌, ◌==◌, ◌&&◌, ◌||◌, ℕ, Bool, false, nat_le, nat_lt, if◌then◌else◌, List, [], ◌∷◌, ◌++◌, is_some, Option, Some, None}
 use Rattle.fuse_wire.specs.declared.errno.Errno.{Errno}
 use Rattle.fuse_wire.specs.declared.errno.TheConstants.Errno.{ENOENT, EEXIST, EINVAL, ENOSPC, ENOTEMPTY, ESTALE}
@@ -6,22 +7,21 @@ use Rattle.fuse_wire.specs.declared.moment.Moment.{Moment}
 use Rattle.fuse_tree.specs.declared.limits.TheConstants.{COUNTER_END}
 use Rattle.fuse_tree.specs.declared.planning.finding.Link.{Link}
 use Rattle.fuse_tree.specs.declared.planning.rename.RenameIn.{RenameIn}
-use Rattle.fuse_tree.specs.declared.planning.rename.TheConstants.{RENAME_NOREPLACE, RENAME_EXCHANGE}
 use Rattle.fuse_tree.specs.declared.rows.NodeRow.{NodeRow}
 use Rattle.fuse_tree.specs.declared.rows.Counters.{Counters as CountersRow}
 use Rattle.fuse_tree.specs.declared.rows.Change.{Change}
 use Rattle.fuse_tree.specs.declared.rows.Change.TheVariants as changes
 use Rattle.fuse_tree.specs.declared.rows.Planned.{Planned}
 use Rattle.fuse_tree.specs.State.{is_dir}
-use Rattle.fuse_tree.specs.Rows.{Rows, row_at}
-use Rattle.fuse_tree.specs.Reading.{refused, refused_for, told, row_is_named}
+use Rattle.fuse_tree.specs.Rows.{Rows, row_at, row_is_named}
+use Rattle.fuse_tree.specs.Reading.{refused, refused_for, told}
 use Rattle.fuse_tree.specs.Removing.{has_entries}
 use Rattle.fuse_tree.specs.PlanRemoving.{link_at, unnamed_row}
-use Rattle.fuse_tree.specs.Renaming.{Renaming, leads_to, asked_fault, kinds_fault}
+use Rattle.fuse_tree.specs.Renaming.{Renaming, is_exchange, is_no_replace, leads_to, asked_fault, kinds_fault}
 
 -- what is asked, its names as lists
 abbrev pub renaming_of : RenameIn → Renaming
-renaming_of asked = record { new_dir = asked.new_dir; flags = asked.flags; old_name = asked.old_name.now; new_name = asked.new_name.now; now = asked.at }
+renaming_of asked = record { new_dir = asked.new_dir; mode = asked.mode; old_name = asked.old_name.now; new_name = asked.new_name.now; now = asked.at }
 
 -- ---- rows
 
@@ -41,6 +41,10 @@ abbrev pub dirs_changes : Renaming → NodeRow → NodeRow → Bool → Bool →
 dirs_changes r from to moves comes lost =
     if from.node == r.new_dir then changes.Node (dir_row r.now lost comes from) ∷ []
     else changes.Node (dir_row r.now moves comes from) ∷ changes.Node (dir_row r.now lost moves to) ∷ []
+
+-- the entry by which a child comes to stand under a name
+abbrev pub entry_change : ℕ → List ℕ → NodeRow → ℕ → Change
+entry_change dir name child cookie = changes.Entry (record { dir = dir; name = name; child = child.node; cookie = cookie })
 
 -- a child's row when it comes to stand in another directory
 abbrev pub moved_row : Moment → ℕ → NodeRow → NodeRow
@@ -84,7 +88,7 @@ abbrev pub rename_changes : Renaming → CountersRow → NodeRow → NodeRow →
 rename_changes r counters from to source other =
     lost_changes r.now other ++ changes.EntryGone source.cookie ∷ dirs_changes r from to (is_dir_link source) false (is_dir_other other)
     ++ changes.Node (moved_row r.now r.new_dir source.child)
-    ∷ changes.Entry (record { dir = r.new_dir; name = r.new_name; child = source.child.node; cookie = counters.next_cookie })
+    ∷ entry_change r.new_dir r.new_name source.child counters.next_cookie
     ∷ changes.Counters (record counters { next_cookie = counters.next_cookie + 1 }) ∷ []
 
 abbrev pub plan_rename_with_room : Renaming → NodeRow → NodeRow → Link → Option Link → Rows → Planned
@@ -108,8 +112,8 @@ exchange_changes r counters from to source other =
     changes.EntryGone source.cookie ∷ changes.EntryGone other.cookie ∷ changes.Node (moved_row r.now from.node other.child)
     ∷ dirs_changes r from to (is_dir_link source) (is_dir_link other) (is_dir_link other)
     ++ changes.Node (moved_row r.now r.new_dir source.child)
-    ∷ changes.Entry (record { dir = from.node; name = r.old_name; child = other.child.node; cookie = counters.next_cookie })
-    ∷ changes.Entry (record { dir = r.new_dir; name = r.new_name; child = source.child.node; cookie = counters.next_cookie + 1 })
+    ∷ entry_change from.node r.old_name other.child counters.next_cookie
+    ∷ entry_change r.new_dir r.new_name source.child (counters.next_cookie + 1)
     ∷ changes.Counters (record counters { next_cookie = counters.next_cookie + 2 }) ∷ []
 
 abbrev pub plan_exchange_with_room : Renaming → NodeRow → NodeRow → Link → Link → Rows → Planned
@@ -128,12 +132,12 @@ plan_exchange_link r from to source (Some other) rows =
     if source.cookie == other.cookie then told []
     else plan_exchange_apart r from to source other rows
 
--- ---- by the flags
+-- ---- by the mode
 
 abbrev pub plan_rename_by : Renaming → NodeRow → NodeRow → Link → Option Link → Rows → Planned
 plan_rename_by r from to source other rows =
-    if r.flags == RENAME_EXCHANGE then plan_exchange_link r from to source other rows
-    else if (r.flags == RENAME_NOREPLACE) && is_some other then refused EEXIST
+    if is_exchange r.mode then plan_exchange_link r from to source other rows
+    else if is_no_replace r.mode && is_some other then refused EEXIST
     else plan_rename_link r from to source other rows
 
 abbrev pub plan_rename_from : Renaming → NodeRow → NodeRow → Option Link → Rows → Planned

@@ -1,4 +1,5 @@
 -- What the plans of WRITE and READ read off the rows (own profile), in the order of their checks.
+-- Not part of what is trusted: neither `done` nor the public clauses of `plan` speak of it.
 use Rattle.std.specs.Prelude.{◌+◌, ◌==◌, ℕ, max, not, nat_lt, if◌then◌else◌, List, [], ◌∷◌, length}
 use Rattle.fuse_wire.specs.declared.errno.TheConstants.Errno.{EBADF, EISDIR, EINVAL, EFBIG}
 use Rattle.fuse_wire.specs.declared.moment.Moment.{Moment}

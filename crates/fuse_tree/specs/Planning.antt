@@ -1,5 +1,6 @@
 -- What `plan` reads off the rows (own profile), in the order of its checks.
-use Rattle.std.specs.Prelude.{ℕ, not, if◌then◌else◌, List, [], Option, Some, None, is_some}
+-- Not part of what is trusted: neither `done` nor the public clauses of `plan` speak of it.
+use Rattle.std.specs.Prelude.{ℕ, Bool, true, false, not, if◌then◌else◌, List, [], Option, Some, None, is_some}
 use Rattle.fuse_wire.specs.declared.errno.TheConstants.Errno.{ENOENT, ENOTDIR, ENOSYS, EPROTO, ESTALE}
 use Rattle.fuse_wire.specs.declared.moment.Moment.{Moment}
 use Rattle.fuse_request.specs.declared.request.InHeader.{InHeader}
@@ -10,9 +11,9 @@ use Rattle.fuse_init.specs.Agree.{agree}
 use Rattle.fuse_tree.specs.declared.rows.NodeRow.{NodeRow}
 use Rattle.fuse_tree.specs.declared.rows.Planned.{Planned}
 use Rattle.fuse_tree.specs.State.{is_dir, name_fault}
-use Rattle.fuse_tree.specs.Rows.{Rows, row_at}
+use Rattle.fuse_tree.specs.Rows.{Rows, row_at, row_is_named}
 use Rattle.fuse_tree.specs.Do.{names_node, offer_of}
-use Rattle.fuse_tree.specs.Reading.{refused, refused_for, told, row_is_named, entry_body, attr_body, child_at}
+use Rattle.fuse_tree.specs.Reading.{refused, refused_for, told, entry_body, attr_body, child_at}
 use Rattle.fuse_tree.specs.PlanMaking.{plan_mkdir, plan_mknod}
 use Rattle.fuse_tree.specs.PlanSetting.{plan_setattr}
 use Rattle.fuse_tree.specs.PlanWriting.{plan_write, plan_read}
@@ -39,6 +40,18 @@ plan_lookup name row rows =
 
 -- ---- all requests
 
+-- the request is of names in the node that its header names
+abbrev pub tells_name : Act → Bool
+tells_name (acts.Lookup name) = true
+tells_name (acts.Mkdir mode umask name) = true
+tells_name (acts.Mknod mode rdev umask name) = true
+tells_name (acts.Unlink name) = true
+tells_name (acts.Rmdir name) = true
+tells_name (acts.Rename new_dir old_name new_name) = true
+tells_name (acts.Rename2 new_dir flags old_name new_name) = true
+tells_name _ = false
+
+-- what is asked, at the node that the header names; the last line is of what isn't performed here
 abbrev pub plan_act : InHeader → Act → Moment → NodeRow → Rows → Planned
 plan_act header (acts.Lookup name) now row rows = plan_lookup name row rows
 plan_act header (acts.Getattr flags fh) now row rows = told (attr_body row)
@@ -56,7 +69,6 @@ plan_act header (acts.Release x) now row rows = plan_release x.fh row rows
 plan_act header (acts.ReleaseDir x) now row rows = plan_release_dir x.fh row rows
 plan_act header (acts.Rename new_dir old_name new_name) now row rows = plan_rename (asking new_dir 0 old_name new_name now) row rows
 plan_act header (acts.Rename2 new_dir flags old_name new_name) now row rows = plan_rename (asking new_dir flags old_name new_name now) row rows
-plan_act header acts.Destroy now row rows = told []
 plan_act header _ now row rows = refused ENOSYS
 
 abbrev pub plan_at : Asked → Moment → Option NodeRow → Rows → Planned

@@ -1,16 +1,17 @@
 -- What the parts of `plan` read off the rows (own profile): what the plans of the operations share.
-use Rattle.std.specs.Prelude.{◌≡◌, ◌≤◌, ◌+◌, ◌-◌, ◌/◌, ◌==◌, ◌||◌, ℕ, Bool, not, if◌then◌else◌, List, [], Option, Some, None, Result, IfOk, IfErr, ◌≢◌}
+-- Not part of what is trusted: neither `done` nor the public clauses of `plan` speak of it.
+use Rattle.std.specs.Prelude.{◌≡◌, ◌≤◌, ◌+◌, ◌-◌, ◌/◌, ℕ, not, if◌then◌else◌, List, [], Option, Some, None, Result, IfOk, IfErr, ◌≢◌}
 use Rattle.fuse_wire.specs.declared.errno.Errno.{Errno}
 use Rattle.fuse_answer.specs.Bodies.{entry_bytes, attr_out_bytes}
 use Rattle.fuse_answer.specs.declared.records.Attr.{Attr}
-use Rattle.fuse_tree.specs.declared.limits.TheConstants.{MAX_NODES, MAX_FILE, ROOT_ID, BLOCK_SIZE, SECTOR_SIZE}
+use Rattle.fuse_tree.specs.declared.limits.TheConstants.{MAX_NODES, MAX_FILE, BLOCK_SIZE, SECTOR_SIZE}
 use Rattle.fuse_tree.specs.declared.planning.fault.PlanFault.{PlanFault}
 use Rattle.fuse_tree.specs.declared.planning.fault.PlanFault.TheVariants as faults
 use Rattle.fuse_tree.specs.declared.rows.NodeRow.{NodeRow}
 use Rattle.fuse_tree.specs.declared.rows.EntryRow.{EntryRow}
 use Rattle.fuse_tree.specs.declared.rows.Planned.{Planned}
 use Rattle.fuse_tree.specs.State.{is_dir}
-use Rattle.fuse_tree.specs.Rows.{Rows, IsRowed, row_at, entry_at}
+use Rattle.fuse_tree.specs.Rows.{Rows, IsRowed, row_is_named, row_at, entry_at}
 use Rattle.fuse_tree.specs.Plan.{look_fault}
 use Rattle.fuse_tree.specs.Done.{entry_of, attr_out_of}
 
@@ -43,9 +44,6 @@ abbrev pub told : List ℕ → Planned
 told body = record { answer = record { errno = 0; body = body }; changes = [] }
 
 -- ---- what a row tells
-
-abbrev pub row_is_named : NodeRow → Bool
-row_is_named row = (row.node == ROOT_ID) || not (row.up == 0)
 
 abbrev pub row_links : NodeRow → ℕ
 row_links row =

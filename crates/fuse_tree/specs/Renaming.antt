@@ -1,27 +1,45 @@
 -- What RENAME and RENAME2 do (own profile): an entry moves, or two children change places.
-use Rattle.std.specs.Prelude.{◌+◌, ◌-◌, ◌==◌, ◌&&◌, ◌||◌, ℕ, zero, suc, Bool, false, not, nat_le, nat_lt, if◌then◌else◌, List, [], ◌∷◌, ◌++◌, length, is_some, Option, Some, None}
+use Rattle.std.specs.Prelude.{◌≡◌, ◌≢◌, ◌+◌, ◌-◌, ◌==◌, ◌&&◌, ◌||◌, ℕ, zero, suc, Bool, true, false, not, nat_le, nat_lt, if◌then◌else◌, List, [], ◌∷◌, ◌++◌, length, is_some, Option, Some, None}
 use Rattle.std.specs.List.{list_any}
 use Rattle.fuse_wire.specs.declared.errno.Errno.{Errno}
 use Rattle.fuse_wire.specs.declared.errno.TheConstants.Errno.{ENOENT, EEXIST, ENOTDIR, EISDIR, EINVAL, ENOSPC, ENOTEMPTY, ESTALE}
 use Rattle.fuse_wire.specs.declared.moment.Moment.{Moment}
 use Rattle.fuse_tree.specs.declared.limits.TheConstants.{COUNTER_END}
+use Rattle.fuse_tree.specs.declared.planning.rename.RenameMode.{RenameMode}
+use Rattle.fuse_tree.specs.declared.planning.rename.RenameMode.TheVariants.{Replace, NoReplace, Exchange}
 use Rattle.fuse_tree.specs.declared.planning.rename.TheConstants.{RENAME_NOREPLACE, RENAME_EXCHANGE}
 use Rattle.fuse_tree.specs.declared.rows.EntryRow.{EntryRow}
-use Rattle.fuse_tree.specs.State.{State, Node, is_dir, is_dir_of, is_named, name_fault, node_at, above}
+use Rattle.fuse_tree.specs.State.{State, Node, Tree, is_dir, is_dir_of, is_named, name_fault, node_at, above}
 use Rattle.fuse_tree.specs.Rows.{entry_at}
 use Rattle.fuse_tree.specs.Done.{Done, refuse, refuse_for, answer, touch}
 use Rattle.fuse_tree.specs.Removing.{mark, without, entry_gone, has_entries}
 
+-- what the flags of RENAME2 ask for
+abbrev pub mode_of : ℕ → Option RenameMode
+mode_of flags =
+    if flags == 0 then Some Replace
+    else if flags == RENAME_NOREPLACE then Some NoReplace
+    else if flags == RENAME_EXCHANGE then Some Exchange
+    else None
+
+abbrev pub is_no_replace : Option RenameMode → Bool
+is_no_replace (Some NoReplace) = true
+is_no_replace _ = false
+
+abbrev pub is_exchange : Option RenameMode → Bool
+is_exchange (Some Exchange) = true
+is_exchange _ = false
+
 -- what is asked: from a name in the node of the header to a name in another directory, and at which moment
 pub record Renaming : Type 0 where
   pub new_dir : ℕ
-  pub flags : ℕ
+  pub mode : Option RenameMode
   pub old_name : List ℕ
   pub new_name : List ℕ
   pub now : Moment
 
 abbrev pub asking : ℕ → ℕ → List ℕ → List ℕ → Moment → Renaming
-asking new_dir flags old_name new_name now = record { new_dir = new_dir; flags = flags; old_name = old_name; new_name = new_name; now = now }
+asking new_dir flags old_name new_name now = record { new_dir = new_dir; mode = mode_of flags; old_name = old_name; new_name = new_name; now = now }
 
 -- ---- what lies under a node
 
@@ -82,7 +100,7 @@ abbrev pub asked_fault : Renaming → Bool → Bool → Option Errno
 asked_fault r are_dirs are_named =
     if not are_dirs then Some ENOTDIR
     else earlier (name_fault r.old_name) (earlier (name_fault r.new_name)
-    (if nat_lt RENAME_EXCHANGE r.flags then Some EINVAL else if not are_named then Some ENOENT else None))
+    (if not (is_some r.mode) then Some EINVAL else if not are_named then Some ENOENT else None))
 
 -- both places are the same entry
 abbrev pub is_same : EntryRow → Option EntryRow → Bool
@@ -125,13 +143,13 @@ exchange_entry s r dir e (Some other) =
     else if holds s e.child r.new_dir || holds s other.child dir then refuse s EINVAL
     else exchange_with_room s r dir e other
 
--- ---- by the flags
+-- ---- by the mode
 
 -- where there is an entry e under the old name
 abbrev pub rename_by : State → Renaming → ℕ → EntryRow → Option EntryRow → Done
 rename_by s r dir e other =
-    if r.flags == RENAME_EXCHANGE then exchange_entry s r dir e other
-    else if (r.flags == RENAME_NOREPLACE) && is_some other then refuse s EEXIST
+    if is_exchange r.mode then exchange_entry s r dir e other
+    else if is_no_replace r.mode && is_some other then refuse s EEXIST
     else rename_entry s r dir e other
 
 abbrev pub rename_from : State → Renaming → ℕ → Option EntryRow → Done
@@ -148,3 +166,23 @@ rename_between s r n (Some to) =
 -- RENAME2, and with flags 0 RENAME
 abbrev pub rename : State → Renaming → Node → Done
 rename s r n = rename_between s r n (node_at s r.new_dir)
+
+-- ---- laws
+
+-- an entry of this directory leads to the node
+abbrev pub is_child : List EntryRow → ℕ → ℕ → Bool
+is_child entries dir node = list_any (λ e. (e.dir == dir) && (e.child == node)) entries
+
+-- so many steps up from a node lead to another, each from a child to its directory
+abbrev pub StepsUp : List EntryRow → ℕ → ℕ → ℕ → Type 0
+StepsUp entries zero node up = node ≡ up
+StepsUp entries (suc steps) node up = (dir : ℕ) × (is_child entries dir node ≡ true) × StepsUp entries steps dir up
+
+-- a directory is this node or lies under it exactly where some steps up from it lead there
+pub record Under (s : State) (node dir : ℕ) : Type 0 where
+  pub found : lies_in s node dir ≡ true → (steps : ℕ) × StepsUp s.entries steps dir node
+  pub all : (steps : ℕ) → StepsUp s.entries steps dir node → lies_in s node dir ≡ true
+
+-- 0 is no node's number
+abbrev pub LiesInIsUnder : Type 0
+LiesInIsUnder = (s : State) (node dir : ℕ) → Tree s → node ≢ 0 → Under s node dir

@@ -1,8 +1,9 @@
 -- The rows that stand for a state, what a look tells of them, and what a change makes of them (own profile).
-use Rattle.std.specs.Prelude.{◌≡◌, ◌+◌, ◌-◌, ◌==◌, ◌&&◌, ℕ, Bool, not, nat_lt, if◌then◌else◌, List, [], ◌∷◌, ◌++◌, length, map, find, filter, take, drop, replicate, Option, Some, None}
+use Rattle.std.specs.Prelude.{◌≡◌, ◌+◌, ◌-◌, ◌==◌, ◌&&◌, ◌||◌, ℕ, Bool, not, nat_lt, if◌then◌else◌, List, [], ◌∷◌, ◌++◌, length, map, find, filter, take, drop, replicate, Option, Some, None}
 use Rattle.std.specs.Option.{option_map}
 use Rattle.std.specs.List.{list_any}
 use Rattle.fuse_init.specs.declared.settings.Settings.{Settings}
+use Rattle.fuse_tree.specs.declared.limits.TheConstants.{ROOT_ID}
 use Rattle.fuse_tree.specs.declared.rows.NodeRow.{NodeRow}
 use Rattle.fuse_tree.specs.declared.rows.Full.{Full}
 use Rattle.fuse_tree.specs.declared.rows.EntryRow.{EntryRow}
@@ -37,6 +38,10 @@ row_of s n = record {
   up = up_of s.entries n.number;
   subdirs = subdirs_of s n.number;
 }
+
+-- the row is that of a named node
+abbrev pub row_is_named : NodeRow → Bool
+row_is_named row = (row.node == ROOT_ID) || not (row.up == 0)
 
 abbrev pub full_of : State → Node → Full
 full_of s n = record { row = row_of s n; content = n.content }

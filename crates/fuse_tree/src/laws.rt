@@ -1,4 +1,5 @@
 ghost use Rattle.fuse_tree.specs.Listing.{ListingIsLongest};
+ghost use Rattle.fuse_tree.specs.Renaming.{LiesInIsUnder};
 ghost use Rattle.fuse_tree.specs.Plan.{TreeKept, NewStoreIsTree, RowsTellState, AnswersFit, AnswersAreRead};
 
 use fuse_answer::{read_back, record_sizes};
@@ -36,4 +37,9 @@ pub fn answers_are_read()
 /// The entries of a directory rise, and as many are told as fit.
 pub fn listing_is_longest()
     ensures { ListingIsLongest }
+{}
+
+/// What lies under a directory is told by as many steps up as there are nodes.
+pub fn lies_in_is_under()
+    ensures { LiesInIsUnder }
 {}

@@ -12,8 +12,8 @@ mod planning;
 mod rows;
 
 pub use laws::{
-    answers_are_read, answers_fit, listing_is_longest, new_store_is_tree, rows_tell_state,
-    tree_kept,
+    answers_are_read, answers_fit, lies_in_is_under, listing_is_longest, new_store_is_tree,
+    rows_tell_state, tree_kept,
 };
 pub use limits::{
     BLOCK_SIZE, COUNTER_END, MAX_FILE, MAX_HANDLES, MAX_NAME, MAX_NODES, MAX_READ, ROOT_ID,

@@ -1,4 +1,4 @@
-ghost use Rattle.std.specs.Prelude.{◌≡◌, ℕ, List, None, Some, IfOk, OnOk, OnErr, Option};
+ghost use Rattle.std.specs.Prelude.{◌≡◌, None, IfOk, OnOk, OnErr, Option};
 ghost use Rattle.std.specs.Result.{result_err};
 ghost use Rattle.fuse_tree.specs.Rows.{Rows, IsRowed, row_at, entry_at, entries_after, handle_at, bytes_at};
 ghost use Rattle.fuse_tree.specs.declared.look.LookFault.{LookFault};

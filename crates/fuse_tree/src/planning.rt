@@ -1,4 +1,4 @@
-ghost use Rattle.std.specs.Prelude.{◌≡◌, None, IfOk, IfErr, OnOk, OnErr};
+ghost use Rattle.std.specs.Prelude.{◌≡◌, true, None, IfOk, IfErr, OnErr};
 ghost use Rattle.fuse_request.specs.Act.{asked, act, opcode_of};
 ghost use Rattle.fuse_answer.specs.Replies.{IsRead};
 ghost use Rattle.fuse_tree.specs.State.{State, Tree};
@@ -6,7 +6,7 @@ ghost use Rattle.fuse_tree.specs.Rows.{rowed};
 ghost use Rattle.fuse_tree.specs.Do.{done};
 ghost use Rattle.fuse_tree.specs.Plan.{Meets, look_fault};
 ghost use Rattle.fuse_tree.specs.Reading.{IsWithin, Reads};
-ghost use Rattle.fuse_tree.specs.Planning.{plan_act, plan_agreed as planned_agreed, plan_of};
+ghost use Rattle.fuse_tree.specs.Planning.{tells_name, plan_act, plan_agreed as planned_agreed, plan_of};
 
 mod answers;
 mod attributes;
@@ -45,7 +45,7 @@ use getattr::plan_getattr;
 use init::plan_init;
 use lookup::plan_lookup;
 use mkdir::plan_mkdir;
-use mknod::plan_mknod;
+use mknod::{MknodIn, plan_mknod};
 use open::{plan_open, plan_open_dir};
 use read::plan_read;
 use read_dir::plan_read_dir;
@@ -58,10 +58,11 @@ use unlink::plan_unlink;
 use write::plan_write;
 
 /// What the request answers in the tree whose rows lie behind `look`, and which rows it changes.
-/// Nothing is changed. What isn't kept is answered ENOSYS: it is silent, or not of the profile.
+/// Nothing is changed. It is for a kept request: others are answered ENOSYS, where settings and
+/// node are there.
 pub fn plan<L: Look>(
-    look: &mut L,
     alloc: Global,
+    look: &mut L,
     request: &Request<'_>,
     now: Moment,
 ) -> Result<Planned, PlanFault>
@@ -74,18 +75,18 @@ pub fn plan<L: Look>(
     ensures not_a_tree { IfErr result (λ f. f ≡ PlanFault.NotATree → L.is_clean look.new → (s : State) → Tree s → L.sees look.old (rowed s) → ⊥) }
     // The look's fault is then the one that is answered, and none where none is.
     ensures fault { L.fault look.new ≡ look_fault result }
-    ensures looks { OnOk result (L.looks look.old look.new) }
+    ensures looks { look_fault result ≡ None → L.looks look.old look.new }
     ensures fails { OnErr result (L.fails look.old look.new) }
 {
     answers_are_read();
-    plan_request(look, alloc, request, now)
+    plan_request(alloc, look, request, now)
 }
 
 // INIT is answered always, and all else where an INIT is agreed on.
 #[tactic(auto, using(crate::proofs::Agreeing::offers_nothing))]
 fn plan_request<L: Look>(
-    look: &mut L,
     alloc: Global,
+    look: &mut L,
     request: &Request<'_>,
     now: Moment,
 ) -> Result<Planned, PlanFault>
@@ -101,13 +102,13 @@ fn plan_request<L: Look>(
     if !has_settings(look)? {
         return Ok(refused(alloc, Errno::EPROTO));
     }
-    plan_agreed(look, alloc, request, now)
+    plan_agreed(alloc, look, request, now)
 }
 
 #[tactic(auto, using(crate::proofs::Agreeing::looks_at_node))]
 fn plan_agreed<L: Look>(
-    look: &mut L,
     alloc: Global,
+    look: &mut L,
     request: &Request<'_>,
     now: Moment,
 ) -> Result<Planned, PlanFault>
@@ -123,13 +124,13 @@ fn plan_agreed<L: Look>(
     let Some(row) = find_node(look, request.header.nodeid)? else {
         return Ok(refused(alloc, Errno::ESTALE));
     };
-    plan_op(look, alloc, request, now, &row)
+    plan_op(alloc, look, request, now, &row)
 }
 
-// What is asked, at the node that the header names.
+// What is asked, at the node that the header names. The last line is of what isn't performed here.
 fn plan_op<L: Look>(
-    look: &mut L,
     alloc: Global,
+    look: &mut L,
     request: &Request<'_>,
     now: Moment,
     row: &NodeRow,
@@ -142,39 +143,79 @@ fn plan_op<L: Look>(
     ensures fails { OnErr result (L.fails look.old look.new) }
 {
     match &request.op {
-        Op::Lookup { name } => plan_lookup(look, alloc, name, row),
         Op::Getattr { .. } => Ok(plan_getattr(alloc, row)?),
         Op::Setattr(set) => Ok(plan_setattr(alloc, set, now, row)?),
+        Op::OpenFile { flags, .. } => plan_open(alloc, look, *flags, row),
+        Op::Read(asked) => plan_read(alloc, look, asked, row),
+        Op::Write {
+            fh,
+            offset,
+            payload,
+            ..
+        } => plan_write(alloc, look, *fh, *offset, payload, now, row),
+        Op::OpenDir { .. } => plan_open_dir(alloc, look, row),
+        Op::ReadDir(asked) => plan_read_dir(alloc, look, asked, row),
+        Op::Release(release) => plan_release(alloc, look, release.fh, row),
+        Op::ReleaseDir(release) => plan_release_dir(alloc, look, release.fh, row),
+        Op::Lookup { .. }
+        | Op::Mkdir { .. }
+        | Op::Mknod { .. }
+        | Op::Unlink { .. }
+        | Op::Rmdir { .. }
+        | Op::Rename { .. }
+        | Op::Rename2 { .. } => plan_named(alloc, look, request, now, row),
+        Op::Destroy
+        | Op::Forget { .. }
+        | Op::Init(_)
+        | Op::Interrupt { .. }
+        | Op::BatchForget { .. }
+        | Op::Unsupported { .. } => Ok(refused(alloc, Errno::ENOSYS)),
+    }
+}
+
+// What is asked of names in the node that the header names.
+fn plan_named<L: Look>(
+    alloc: Global,
+    look: &mut L,
+    request: &Request<'_>,
+    now: Moment,
+    row: &NodeRow,
+) -> Result<Planned, PlanFault>
+    requires fault { L.fault look.old ≡ None }
+    requires within { IsWithin row.now }
+    requires named { tells_name (act request.now.op) ≡ true }
+    ensures plan { Reads (L.is_clean look.new) (L.sees look.old) result (plan_act request.now.header (act request.now.op) now row.now) }
+    ensures fault { L.fault look.new ≡ look_fault result }
+    ensures looks { look_fault result ≡ None → L.looks look.old look.new }
+    ensures fails { OnErr result (L.fails look.old look.new) }
+{
+    match &request.op {
+        Op::Lookup { name } => plan_lookup(alloc, look, name, row),
         Op::Mkdir { mode, name, .. } => {
-            plan_mkdir(look, alloc, &request.header, *mode, name, now, row)
+            plan_mkdir(alloc, look, &request.header, *mode, name, now, row)
         }
         Op::Mknod {
             mode,
             rdev,
             name,
             ..
-        } => plan_mknod(look, alloc, &request.header, *mode, *rdev, name, now, row),
-        Op::Unlink { name } => plan_unlink(look, alloc, name, now, row),
-        Op::Rmdir { name } => plan_rmdir(look, alloc, name, now, row),
-        Op::OpenFile { flags, .. } => plan_open(look, alloc, *flags, row),
-        Op::Read(asked) => plan_read(look, alloc, asked, row),
-        Op::Write {
-            fh,
-            offset,
-            payload,
-            ..
-        } => plan_write(look, alloc, *fh, *offset, payload, now, row),
-        Op::OpenDir { .. } => plan_open_dir(look, alloc, row),
-        Op::ReadDir(asked) => plan_read_dir(look, alloc, asked, row),
-        Op::Release(release) => plan_release(look, alloc, release.fh, row),
-        Op::ReleaseDir(release) => plan_release_dir(look, alloc, release.fh, row),
+        } => {
+            let asked = MknodIn {
+                mode: *mode,
+                rdev: *rdev,
+                name,
+            };
+            plan_mknod(alloc, look, &request.header, &asked, now, row)
+        }
+        Op::Unlink { name } => plan_unlink(alloc, look, name, now, row),
+        Op::Rmdir { name } => plan_rmdir(alloc, look, name, now, row),
         Op::Rename {
             new_dir,
             old_name,
             new_name,
         } => {
             let asked = asking(*new_dir, 0, old_name, new_name, now);
-            plan_rename(look, alloc, &asked, row)
+            plan_rename(alloc, look, &asked, row)
         }
         Op::Rename2 {
             new_dir,
@@ -183,13 +224,8 @@ fn plan_op<L: Look>(
             new_name,
         } => {
             let asked = asking(*new_dir, *flags, old_name, new_name, now);
-            plan_rename(look, alloc, &asked, row)
+            plan_rename(alloc, look, &asked, row)
         }
-        Op::Destroy => Ok(done_nothing(alloc)),
-        Op::Forget { .. }
-        | Op::Init(_)
-        | Op::Interrupt { .. }
-        | Op::BatchForget { .. }
-        | Op::Unsupported { .. } => Ok(refused(alloc, Errno::ENOSYS)),
+        _ => unreachable!(),
     }
 }

@@ -1,3 +1,4 @@
+use crate::limits::ROOT_ID;
 use fuse_answer::Answer;
 use fuse_init::Settings;
 use fuse_wire::{AccessMode, ByteList, Moment};
@@ -21,6 +22,18 @@ pub struct NodeRow {
     pub up: u64,
     /// The number of directories that have an entry in it.
     pub subdirs: u32,
+}
+
+impl NodeRow {
+    ghost use Rattle.std.specs.Prelude.{◌≡◌};
+    ghost use Rattle.fuse_tree.specs.Rows.{row_is_named};
+
+    // Whether it is that of the root, or an entry leads to its node.
+    pub(crate) fn is_named(&self) -> bool
+        ensures { result ≡ row_is_named self.now }
+    {
+        self.node == ROOT_ID || self.up != 0
+    }
 }
 
 /// A node's row, with its bytes.
@@ -106,18 +119,21 @@ impl Model for ChangeList {
 impl ChangeList {
     ghost use Rattle.std.specs.Prelude.{◌≡◌};
 
+    /// No memory is taken.
     pub fn from_vec(changes: Vec<Change>) -> ChangeList
         ensures { result ≡ changes.items }
     {
         ChangeList { changes }
     }
 
+    /// No memory is taken.
     pub fn into_vec(self) -> Vec<Change>
         ensures { result.items ≡ self }
     {
         self.changes
     }
 
+    /// The first change is the one that is made first.
     pub fn as_slice(&self) -> &[Change]
         ensures { result.now ≡ self.now }
     {

@@ -116,7 +116,7 @@ fn planned_at(
         op,
         ext: b"",
     };
-    plan(look, alloc, &request, now)
+    plan(alloc, look, &request, now)
 }
 
 fn planned(

@@ -15,13 +15,13 @@ fn sized_copy(alloc: Global, content: &[u8], size: u64) -> Result<Vec<u8>, Memor
     Ok(made)
 }
 
-pub fn with_size(alloc: Global, content: &[u8], size: u64) -> Result<ByteList, Memory>
+pub(super) fn with_size(alloc: Global, content: &[u8], size: u64) -> Result<ByteList, Memory>
     ensures { IfOk result (λ made. made ≡ sized size content.now) }
 {
     Ok(ByteList::from_vec(sized_copy(alloc, content, size)?))
 }
 
-pub fn with_bytes(
+pub(super) fn with_bytes(
     alloc: Global,
     content: &[u8],
     offset: u64,
@@ -37,7 +37,12 @@ pub fn with_bytes(
 }
 
 // At most `len` bytes of the content, from `offset` on.
-pub fn part_of(alloc: Global, content: &[u8], offset: u64, len: u32) -> Result<ByteList, Memory>
+pub(super) fn part_of(
+    alloc: Global,
+    content: &[u8],
+    offset: u64,
+    len: u32,
+) -> Result<ByteList, Memory>
     ensures { IfOk result (λ part. part ≡ take len (drop offset content.now)) }
 {
     let start = content.len().min(offset as usize);

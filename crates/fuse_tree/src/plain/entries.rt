@@ -7,7 +7,7 @@ use crate::rows::EntryRow;
 use fuse_wire::Memory;
 use std::alloc::Global;
 
-pub fn remove(entries: &mut Vec<EntryRow>, cookie: u64)
+pub(super) fn remove(entries: &mut Vec<EntryRow>, cookie: u64)
     ensures { entries.new.items ≡ filter (λ e. not (e.cookie == cookie)) entries.old.items }
 {
     entries.retain(|entry| entry.cookie != cookie);
@@ -24,7 +24,7 @@ fn copy_of(alloc: Global, entry: &EntryRow) -> Result<EntryRow, Memory>
     })
 }
 
-pub fn copies_of(alloc: Global, entries: &[EntryRow]) -> Result<Vec<EntryRow>, Memory>
+pub(super) fn copies_of(alloc: Global, entries: &[EntryRow]) -> Result<Vec<EntryRow>, Memory>
     ensures { IfOk result (λ copies. copies.items ≡ entries.now) }
 {
     let mut copies = Vec::with_capacity(alloc, entries.len())?;
@@ -46,7 +46,7 @@ fn found_copy(alloc: Global, entry: &EntryRow) -> Result<Option<EntryRow>, Memor
     Ok(Some(copy_of(alloc, entry)?))
 }
 
-pub fn found(
+pub(super) fn found(
     alloc: Global,
     entries: &[EntryRow],
     dir: u64,
@@ -83,7 +83,7 @@ fn push_copy(
     Ok(())
 }
 
-pub fn after(
+pub(super) fn after(
     alloc: Global,
     entries: &[EntryRow],
     dir: u64,

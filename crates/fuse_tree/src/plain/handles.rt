@@ -3,7 +3,7 @@ ghost use Rattle.fuse_tree.specs.Rows.{handle_at};
 
 use crate::rows::HandleRow;
 
-pub fn found(handles: &[HandleRow], fh: u64) -> Option<HandleRow>
+pub(super) fn found(handles: &[HandleRow], fh: u64) -> Option<HandleRow>
     ensures { result ≡ handle_at handles.now fh }
 {
     for handle in handles {
@@ -14,7 +14,7 @@ pub fn found(handles: &[HandleRow], fh: u64) -> Option<HandleRow>
     None
 }
 
-pub fn remove(handles: &mut Vec<HandleRow>, fh: u64)
+pub(super) fn remove(handles: &mut Vec<HandleRow>, fh: u64)
     ensures { handles.new.items ≡ filter (λ h. not (h.fh == fh)) handles.old.items }
 {
     handles.retain(|handle| handle.fh != fh);

@@ -30,7 +30,7 @@ impl NodeList {
     ghost use Rattle.fuse_tree.specs.Rows.{put_node, at_node, written, sized, content_of};
     ghost use Rattle.fuse_tree.specs.Clearing.{is_named_row};
 
-    pub fn new(alloc: Global) -> NodeList
+    pub(super) fn new(alloc: Global) -> NodeList
         ensures { result ≡ [] }
     {
         NodeList {
@@ -38,20 +38,20 @@ impl NodeList {
         }
     }
 
-    pub fn to_copy(&self, alloc: Global) -> Result<NodeList, Memory>
+    pub(super) fn to_copy(&self, alloc: Global) -> Result<NodeList, Memory>
         ensures { IfOk result (λ copy. copy ≡ self.now) }
     {
         let nodes = copies_of(alloc, self.nodes.as_slice())?;
         Ok(NodeList { nodes })
     }
 
-    pub fn row(&self, number: u64) -> Option<NodeRow>
+    pub(super) fn row(&self, number: u64) -> Option<NodeRow>
         ensures { result ≡ option_map (λ f. f.row) (find (λ f. f.row.node == number) self.now) }
     {
         row_in(self.nodes.as_slice(), number)
     }
 
-    pub fn bytes(
+    pub(super) fn bytes(
         &self,
         alloc: Global,
         number: u64,
@@ -63,7 +63,7 @@ impl NodeList {
         bytes_in(alloc, self.nodes.as_slice(), number, offset, len)
     }
 
-    pub fn put(&mut self, alloc: Global, row: NodeRow) -> Result<(), Memory>
+    pub(super) fn put(&mut self, alloc: Global, row: NodeRow) -> Result<(), Memory>
         ensures ok { OnOk result (self.new ≡ put_node row self.old) }
         ensures err { OnErr result (self.new ≡ self.old) }
     {
@@ -77,7 +77,7 @@ impl NodeList {
         Ok(())
     }
 
-    pub fn write(
+    pub(super) fn write(
         &mut self,
         alloc: Global,
         number: u64,
@@ -94,7 +94,7 @@ impl NodeList {
         Ok(())
     }
 
-    pub fn set_size(&mut self, alloc: Global, number: u64, size: u64) -> Result<(), Memory>
+    pub(super) fn set_size(&mut self, alloc: Global, number: u64, size: u64) -> Result<(), Memory>
         ensures ok { OnOk result (self.new ≡ map (at_node number (sized size)) self.old) }
         ensures err { OnErr result (self.new ≡ self.old) }
     {
@@ -105,13 +105,13 @@ impl NodeList {
         Ok(())
     }
 
-    pub fn keep_named(&mut self)
+    pub(super) fn keep_named(&mut self)
         ensures { self.new ≡ filter is_named_row self.old }
     {
-        self.nodes.retain(|full| is_named(full));
+        self.nodes.retain(|full| full.row.is_named());
     }
 
-    pub fn len(&self) -> usize
+    pub(super) fn len(&self) -> usize
         ensures { result ≡ length self.now }
     {
         self.nodes.len()
@@ -122,10 +122,9 @@ ghost use Rattle.std.specs.Prelude.{◌≡◌, ◌==◌, IfOk, find, take, drop,
 ghost use Rattle.std.specs.Option.{option_map};
 ghost use Rattle.fuse_tree.specs.State.{root_node, new_store};
 ghost use Rattle.fuse_tree.specs.Rows.{row_of, content_of};
-ghost use Rattle.fuse_tree.specs.Clearing.{is_named_row};
 
 /// The root of a new store.
-pub fn root_row(now: Moment) -> NodeRow
+pub(super) fn root_row(now: Moment) -> NodeRow
     ensures { result ≡ row_of (new_store now) (root_node now) }
 {
     NodeRow {
@@ -141,12 +140,6 @@ pub fn root_row(now: Moment) -> NodeRow
         up: 0,
         subdirs: 0,
     }
-}
-
-fn is_named(full: &Full) -> bool
-    ensures { result ≡ is_named_row full.now }
-{
-    full.row.node == ROOT_ID || full.row.up != 0
 }
 
 fn place_in(nodes: &[Full], number: u64) -> Option<usize>

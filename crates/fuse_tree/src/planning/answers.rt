@@ -1,5 +1,4 @@
 ghost use Rattle.std.specs.Prelude.{◌≡◌, [], IfOk};
-ghost use Rattle.fuse_answer.specs.Said.{Said};
 ghost use Rattle.fuse_tree.specs.Reading as planning;
 ghost use Rattle.fuse_tree.specs.Reading.{IsWithin, entry_body, attr_body, told};
 

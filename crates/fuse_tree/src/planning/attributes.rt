@@ -1,8 +1,8 @@
 ghost use Rattle.std.specs.Prelude.{◌≡◌};
 ghost use Rattle.fuse_tree.specs.State.{is_dir, is_file};
-ghost use Rattle.fuse_tree.specs.Reading.{IsWithin, row_is_named, row_links, row_attr};
+ghost use Rattle.fuse_tree.specs.Reading.{IsWithin, row_links, row_attr};
 
-use crate::limits::{BLOCK_SIZE, ROOT_ID, SECTOR_SIZE};
+use crate::limits::{BLOCK_SIZE, SECTOR_SIZE};
 use crate::mode::{S_IFDIR, S_IFREG, TYPE_UNIT, TYPES};
 use crate::rows::NodeRow;
 use fuse_answer::Attr;
@@ -19,18 +19,11 @@ pub(crate) fn is_regular_file(mode: u32) -> bool
     mode / TYPE_UNIT % TYPES == S_IFREG / TYPE_UNIT
 }
 
-// Whether the node is the root, or an entry leads to it.
-pub(crate) fn is_named(row: &NodeRow) -> bool
-    ensures { result ≡ row_is_named row.now }
-{
-    row.node == ROOT_ID || row.up != 0
-}
-
 fn links_of(row: &NodeRow) -> u32
     requires { IsWithin row.now }
     ensures { result ≡ row_links row.now }
 {
-    if !is_named(row) {
+    if !row.is_named() {
         0
     } else if is_directory(row.mode) {
         2 + row.subdirs

@@ -16,8 +16,8 @@ use std::alloc::Global;
 
 // RENAME2 that makes the children of two links change places.
 pub(crate) fn exchange_links<L: Look>(
-    look: &mut L,
     alloc: Global,
+    look: &mut L,
     asked: &RenameIn<'_>,
     from: &NodeRow,
     to: &NodeRow,
@@ -38,13 +38,13 @@ pub(crate) fn exchange_links<L: Look>(
     if source.cookie == other.cookie {
         return Ok(done_nothing(alloc));
     }
-    exchange_apart(look, alloc, asked, from, to, source, &other)
+    exchange_apart(alloc, look, asked, from, to, source, &other)
 }
 
 // Where both links aren't the same.
 fn exchange_apart<L: Look>(
-    look: &mut L,
     alloc: Global,
+    look: &mut L,
     asked: &RenameIn<'_>,
     from: &NodeRow,
     to: &NodeRow,
@@ -62,7 +62,7 @@ fn exchange_apart<L: Look>(
     if is_either_held(look, &source.child, asked.new_dir, &other.child, from.node)? {
         return Ok(refused(alloc, Errno::EINVAL));
     }
-    exchange_with_room(look, alloc, asked, from, to, source, other)
+    exchange_with_room(alloc, look, asked, from, to, source, other)
 }
 
 // Whether one of two children is a directory that can't come to stand in its new one.
@@ -87,8 +87,8 @@ fn is_either_held<L: Look>(
 
 // Where there are two cookies left.
 fn exchange_with_room<L: Look>(
-    look: &mut L,
     alloc: Global,
+    look: &mut L,
     asked: &RenameIn<'_>,
     from: &NodeRow,
     to: &NodeRow,

@@ -12,6 +12,17 @@ pub enum PlanFault {
     NotATree,
 }
 
+impl From<LookFault> for PlanFault {
+    ghost use Rattle.std.specs.Prelude.{◌≡◌};
+    ghost use Rattle.fuse_tree.specs.declared.planning.fault.PlanFault.TheVariants.{Look as OfLook};
+
+    ghost from_gives = { λ fault e. e ≡ OfLook fault };
+
+    fn from(fault: LookFault) -> PlanFault {
+        PlanFault::Look(fault)
+    }
+}
+
 impl From<Memory> for PlanFault {
     ghost use Rattle.std.specs.Prelude.{◌≡◌};
     ghost use Rattle.fuse_tree.specs.declared.planning.fault.PlanFault.TheVariants.{Memory as NoMemory};

@@ -29,16 +29,13 @@ pub(crate) fn find_node<L: Look>(look: &mut L, number: u64) -> Result<Option<Nod
     ensures looks { look_fault result ≡ None → L.looks look.old look.new }
     ensures fails { OnErr result (L.fails look.old look.new) }
 {
-    match look.node(number) {
-        Ok(Some(row)) => {
-            if row.size > MAX_FILE || u64::from(row.subdirs) > MAX_NODES {
-                return Err(PlanFault::NotATree);
-            }
-            Ok(Some(row))
-        }
-        Ok(None) => Ok(None),
-        Err(fault) => Err(PlanFault::Look(fault)),
+    let Some(row) = look.node(number)? else {
+        return Ok(None);
+    };
+    if row.size > MAX_FILE || u64::from(row.subdirs) > MAX_NODES {
+        return Err(PlanFault::NotATree);
     }
+    Ok(Some(row))
 }
 
 fn find_entry<L: Look>(look: &mut L, dir: u64, name: &[u8]) -> Result<Option<EntryRow>, PlanFault>
@@ -48,10 +45,7 @@ fn find_entry<L: Look>(look: &mut L, dir: u64, name: &[u8]) -> Result<Option<Ent
     ensures looks { look_fault result ≡ None → L.looks look.old look.new }
     ensures fails { OnErr result (L.fails look.old look.new) }
 {
-    match look.entry(dir, name) {
-        Ok(row) => Ok(row),
-        Err(fault) => Err(PlanFault::Look(fault)),
-    }
+    Ok(look.entry(dir, name)?)
 }
 
 // Whether the name stands in the directory.
@@ -62,10 +56,7 @@ pub(crate) fn is_taken<L: Look>(look: &mut L, dir: u64, name: &[u8]) -> Result<b
     ensures looks { look_fault result ≡ None → L.looks look.old look.new }
     ensures fails { OnErr result (L.fails look.old look.new) }
 {
-    match find_entry(look, dir, name) {
-        Ok(found) => Ok(found.is_some()),
-        Err(fault) => Err(fault),
-    }
+    Ok(find_entry(look, dir, name)?.is_some())
 }
 
 // The entry of this name in the directory, with the row of its child.
@@ -121,10 +112,7 @@ pub(crate) fn has_entries<L: Look>(look: &mut L, dir: u64) -> Result<bool, PlanF
     ensures looks { look_fault result ≡ None → L.looks look.old look.new }
     ensures fails { OnErr result (L.fails look.old look.new) }
 {
-    match look.entries_after(dir, 0, 1) {
-        Ok(entries) => Ok(!entries.is_empty()),
-        Err(fault) => Err(PlanFault::Look(fault)),
-    }
+    Ok(!look.entries_after(dir, 0, 1)?.is_empty())
 }
 
 pub(crate) fn find_counters<L: Look>(look: &mut L) -> Result<Counters, PlanFault>
@@ -134,10 +122,7 @@ pub(crate) fn find_counters<L: Look>(look: &mut L) -> Result<Counters, PlanFault
     ensures looks { look_fault result ≡ None → L.looks look.old look.new }
     ensures fails { OnErr result (L.fails look.old look.new) }
 {
-    match look.counters() {
-        Ok(row) => Ok(row),
-        Err(fault) => Err(PlanFault::Look(fault)),
-    }
+    Ok(look.counters()?)
 }
 
 pub(crate) fn find_handle<L: Look>(look: &mut L, fh: u64) -> Result<Option<HandleRow>, PlanFault>
@@ -147,10 +132,7 @@ pub(crate) fn find_handle<L: Look>(look: &mut L, fh: u64) -> Result<Option<Handl
     ensures looks { look_fault result ≡ None → L.looks look.old look.new }
     ensures fails { OnErr result (L.fails look.old look.new) }
 {
-    match look.handle(fh) {
-        Ok(row) => Ok(row),
-        Err(fault) => Err(PlanFault::Look(fault)),
-    }
+    Ok(look.handle(fh)?)
 }
 
 // What the handle is open for at this node. `None` where it is not open, or is of another node.
@@ -190,8 +172,5 @@ pub(crate) fn has_settings<L: Look>(look: &mut L) -> Result<bool, PlanFault>
     ensures looks { look_fault result ≡ None → L.looks look.old look.new }
     ensures fails { OnErr result (L.fails look.old look.new) }
 {
-    match look.settings() {
-        Ok(settings) => Ok(settings.is_some()),
-        Err(fault) => Err(PlanFault::Look(fault)),
-    }
+    Ok(look.settings()?.is_some())
 }

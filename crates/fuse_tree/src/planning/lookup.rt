@@ -1,11 +1,11 @@
 ghost use Rattle.std.specs.Prelude.{◌≡◌, None, OnErr};
 ghost use Rattle.fuse_tree.specs.Plan.{look_fault};
 ghost use Rattle.fuse_tree.specs.Planning as planning;
-ghost use Rattle.fuse_tree.specs.Reading.{IsWithin, Reads};
+ghost use Rattle.fuse_tree.specs.Reading.{Reads};
 ghost use Rattle.fuse_tree.specs.Planning.{plan_lookup_named};
 
 use super::answers::{entry_answer, refused, unchanged};
-use super::attributes::{is_directory, is_named};
+use super::attributes::is_directory;
 use super::fault::PlanFault;
 use super::finding::find_child;
 use super::names::fault_of_name;
@@ -16,8 +16,8 @@ use std::alloc::Global;
 
 // LOOKUP of a name in the node of this row.
 pub(crate) fn plan_lookup<L: Look>(
-    look: &mut L,
     alloc: Global,
+    look: &mut L,
     name: &[u8],
     row: &NodeRow,
 ) -> Result<Planned, PlanFault>
@@ -33,13 +33,13 @@ pub(crate) fn plan_lookup<L: Look>(
     if let Some(errno) = fault_of_name(name) {
         return Ok(refused(alloc, errno));
     }
-    lookup_named(look, alloc, name, row)
+    lookup_named(alloc, look, name, row)
 }
 
 // LOOKUP where the name may stand in a directory.
 fn lookup_named<L: Look>(
-    look: &mut L,
     alloc: Global,
+    look: &mut L,
     name: &[u8],
     row: &NodeRow,
 ) -> Result<Planned, PlanFault>
@@ -49,7 +49,7 @@ fn lookup_named<L: Look>(
     ensures looks { look_fault result ≡ None → L.looks look.old look.new }
     ensures fails { OnErr result (L.fails look.old look.new) }
 {
-    if !is_named(row) {
+    if !row.is_named() {
         return Ok(refused(alloc, Errno::ENOENT));
     }
     let Some(child) = find_child(look, row.node, name)? else {

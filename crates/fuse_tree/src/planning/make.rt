@@ -3,10 +3,10 @@ ghost use Rattle.fuse_tree.specs.Making.{is_full};
 ghost use Rattle.fuse_tree.specs.Plan.{look_fault};
 ghost use Rattle.fuse_tree.specs.PlanMaking as planning;
 ghost use Rattle.fuse_tree.specs.Reading.{IsWithin, Reads};
-ghost use Rattle.fuse_tree.specs.PlanMaking.{dir_row, new_row, entry_row, counters_after, changes_of, plan_new, plan_make_with_room};
+ghost use Rattle.fuse_tree.specs.PlanMaking.{dir_row, new_row, changes_of, plan_new, plan_make_with_room};
 
 use super::answers::{entry_answer, refused};
-use super::attributes::{is_directory, is_named};
+use super::attributes::is_directory;
 use super::fault::PlanFault;
 use super::finding::{find_counters, is_taken};
 use crate::limits::{COUNTER_END, MAX_NODES};
@@ -27,8 +27,8 @@ pub struct NewNode {
 
 // A new node in the directory of this row, where the name is free.
 pub(crate) fn plan_make<L: Look>(
-    look: &mut L,
     alloc: Global,
+    look: &mut L,
     fresh: &NewNode,
     name: &[u8],
     row: &NodeRow,
@@ -40,19 +40,19 @@ pub(crate) fn plan_make<L: Look>(
     ensures looks { look_fault result ≡ None → L.looks look.old look.new }
     ensures fails { OnErr result (L.fails look.old look.new) }
 {
-    if !is_named(row) {
+    if !row.is_named() {
         return Ok(refused(alloc, Errno::ENOENT));
     }
     if is_taken(look, row.node, name)? {
         return Ok(refused(alloc, Errno::EEXIST));
     }
-    make_with_room(look, alloc, fresh, name, row)
+    make_with_room(alloc, look, fresh, name, row)
 }
 
 // A new node in the directory of this row, where there is room for it.
 fn make_with_room<L: Look>(
-    look: &mut L,
     alloc: Global,
+    look: &mut L,
     fresh: &NewNode,
     name: &[u8],
     row: &NodeRow,

@@ -17,8 +17,8 @@ use std::alloc::Global;
 
 // MKDIR of a name in the node of this row.
 pub(crate) fn plan_mkdir<L: Look>(
-    look: &mut L,
     alloc: Global,
+    look: &mut L,
     header: &InHeader,
     mode: u32,
     name: &[u8],
@@ -45,5 +45,5 @@ pub(crate) fn plan_mkdir<L: Look>(
         rdev: 0,
         made: now,
     };
-    plan_make(look, alloc, &fresh, name, row)
+    plan_make(alloc, look, &fresh, name, row)
 }

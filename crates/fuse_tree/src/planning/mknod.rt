@@ -17,20 +17,26 @@ use fuse_request::InHeader;
 use fuse_wire::{Errno, Moment};
 use std::alloc::Global;
 
+/// What MKNOD asks for.
+#[derive(Clone, Copy)]
+pub(crate) struct MknodIn<'a> {
+    pub(crate) mode: u32,
+    pub(crate) rdev: u32,
+    pub(crate) name: &'a [u8],
+}
+
 // MKNOD of a name in the node of this row.
 pub(crate) fn plan_mknod<L: Look>(
-    look: &mut L,
     alloc: Global,
+    look: &mut L,
     header: &InHeader,
-    mode: u32,
-    rdev: u32,
-    name: &[u8],
+    asked: &MknodIn<'_>,
     now: Moment,
     row: &NodeRow,
 ) -> Result<Planned, PlanFault>
     requires fault { L.fault look.old ≡ None }
     requires within { IsWithin row.now }
-    ensures plan { Reads (L.is_clean look.new) (L.sees look.old) result (planning.plan_mknod header.now mode rdev name.now now row.now) }
+    ensures plan { Reads (L.is_clean look.new) (L.sees look.old) result (planning.plan_mknod header.now asked.now.mode asked.now.rdev asked.now.name.now now row.now) }
     ensures fault { L.fault look.new ≡ look_fault result }
     ensures looks { look_fault result ≡ None → L.looks look.old look.new }
     ensures fails { OnErr result (L.fails look.old look.new) }
@@ -38,20 +44,20 @@ pub(crate) fn plan_mknod<L: Look>(
     if !is_directory(row.mode) {
         return Ok(refused(alloc, Errno::ENOTDIR));
     }
-    if !is_makable(type_bits(mode)) {
+    if !is_makable(type_bits(asked.mode)) {
         return Ok(refused(alloc, Errno::EINVAL));
     }
-    if let Some(errno) = fault_of_name(name) {
+    if let Some(errno) = fault_of_name(asked.name) {
         return Ok(refused(alloc, errno));
     }
     let fresh = NewNode {
-        mode: mode_of_node(mode),
+        mode: mode_of_node(asked.mode),
         uid: header.uid,
         gid: header.gid,
-        rdev: rdev_of_node(mode, rdev),
+        rdev: rdev_of_node(asked.mode, asked.rdev),
         made: now,
     };
-    plan_make(look, alloc, &fresh, name, row)
+    plan_make(alloc, look, &fresh, asked.name, row)
 }
 
 // The bits that tell the type.

@@ -2,7 +2,7 @@ ghost use Rattle.std.specs.Prelude.{◌≡◌, ◌<◌, ◌+◌, ◌≤◌, ◌+
 ghost use Rattle.fuse_tree.specs.declared.limits.TheConstants.{COUNTER_END as counter_end};
 ghost use Rattle.fuse_tree.specs.Reading.{IsWithin};
 ghost use Rattle.fuse_tree.specs.PlanRenaming as planning;
-ghost use Rattle.fuse_tree.specs.PlanRenaming.{renaming_of, is_dir_other, dirs_changes, lost_changes, rename_changes, exchange_changes};
+ghost use Rattle.fuse_tree.specs.PlanRenaming.{renaming_of, is_dir_other, dirs_changes, entry_change, lost_changes, rename_changes, exchange_changes};
 
 use super::attributes::is_directory;
 use super::finding::Link;
@@ -12,18 +12,25 @@ use crate::rows::{Change, ChangeList, Counters, EntryRow, NodeRow};
 use fuse_wire::{ByteList, Memory, Moment};
 use std::alloc::Global;
 
-// A directory's row when a directory leaves it, or enters it.
-fn dir_row_of(now: Moment, leaves: bool, enters: bool, row: &NodeRow) -> NodeRow
+// Whether a directory leaves a directory, and whether one enters it.
+#[derive(Clone, Copy)]
+struct Passing {
+    leaves: bool,
+    enters: bool,
+}
+
+// A directory's row when directories pass.
+fn dir_row_of(now: Moment, passing: Passing, row: &NodeRow) -> NodeRow
     requires { IsWithin row.now }
-    ensures { result ≡ planning.dir_row now leaves enters row.now }
+    ensures { result ≡ planning.dir_row now passing.leaves passing.enters row.now }
 {
     let mut dir = *row;
     dir.mtime = now;
     dir.ctime = now;
-    if enters {
+    if passing.enters {
         dir.subdirs += 1;
     }
-    if leaves {
+    if passing.leaves {
         dir.subdirs = dir.subdirs.saturating_sub(1);
     }
     dir
@@ -49,28 +56,66 @@ fn is_directory_there(other: Option<Link>) -> bool
     }
 }
 
-// The rows of both directories, or of the one that both are, when a directory moves from the first to the
-// second, one comes into the first, and one is lost to the second.
+// Which of the children are directories.
+#[derive(Clone, Copy)]
+struct Movers {
+    // The one that moves to the new directory.
+    moves: bool,
+    // The one that comes from there, if any.
+    comes: bool,
+    // The one that the new directory loses, if any.
+    lost: bool,
+}
+
+// The rows of both directories, or of the one that both are.
 fn put_dirs(
     changes: &mut Vec<Change>,
     asked: &RenameIn<'_>,
     from: &NodeRow,
     to: &NodeRow,
-    moves: bool,
-    comes: bool,
-    lost: bool,
+    dirs: Movers,
 ) -> Result<(), Memory>
     requires from_within { IsWithin from.now }
     requires to_within { IsWithin to.now }
-    ensures { OnOk result (changes.new.items ≡ changes.old.items ++ dirs_changes (renaming_of asked.now) from.now to.now moves comes lost) }
+    ensures { OnOk result (changes.new.items ≡ changes.old.items ++ dirs_changes (renaming_of asked.now) from.now to.now dirs.moves dirs.comes dirs.lost) }
 {
     if from.node == asked.new_dir {
-        changes.push(Change::Node(dir_row_of(asked.at, lost, comes, from)))?;
+        let both = Passing {
+            leaves: dirs.lost,
+            enters: dirs.comes,
+        };
+        changes.push(Change::Node(dir_row_of(asked.at, both, from)))?;
     } else {
-        changes.push(Change::Node(dir_row_of(asked.at, moves, comes, from)))?;
-        changes.push(Change::Node(dir_row_of(asked.at, lost, moves, to)))?;
+        let first = Passing {
+            leaves: dirs.moves,
+            enters: dirs.comes,
+        };
+        let second = Passing {
+            leaves: dirs.lost,
+            enters: dirs.moves,
+        };
+        changes.push(Change::Node(dir_row_of(asked.at, first, from)))?;
+        changes.push(Change::Node(dir_row_of(asked.at, second, to)))?;
     }
     Ok(())
+}
+
+// The entry by which a child comes to stand under a name.
+fn entry_of(
+    alloc: Global,
+    dir: u64,
+    name: &[u8],
+    child: &NodeRow,
+    cookie: u64,
+) -> Result<Change, Memory>
+    ensures { IfOk result (λ change. change ≡ entry_change dir name.now child.now cookie) }
+{
+    Ok(Change::Entry(EntryRow {
+        dir,
+        name: ByteList::from_vec(Vec::from_slice(alloc, name)?),
+        child: child.node,
+        cookie,
+    }))
 }
 
 // What stood at the new place goes.
@@ -101,22 +146,21 @@ pub(crate) fn rename_changes_of(
     requires room { counters.now.next_cookie < counter_end }
     ensures { IfOk result (λ changes. changes ≡ rename_changes (renaming_of asked.now) counters.now from.now to.now source.now other) }
 {
+    let cookie = counters.next_cookie;
+    let entry = entry_of(alloc, asked.new_dir, asked.new_name, &source.child, cookie)?;
+    let dirs = Movers {
+        moves: is_directory(source.child.mode),
+        comes: false,
+        lost: is_directory_there(other),
+    };
     let mut changes = Vec::new(alloc);
     put_lost(&mut changes, asked.at, other)?;
     changes.push(Change::EntryGone {
         cookie: source.cookie,
     })?;
-    let moves = is_directory(source.child.mode);
-    let lost = is_directory_there(other);
-    put_dirs(&mut changes, asked, from, to, moves, false, lost)?;
+    put_dirs(&mut changes, asked, from, to, dirs)?;
     changes.push(Change::Node(moved_row_of(asked.at, asked.new_dir, &source.child)))?;
-    let name = ByteList::from_vec(Vec::from_slice(alloc, asked.new_name)?);
-    changes.push(Change::Entry(EntryRow {
-        dir: asked.new_dir,
-        name,
-        child: source.child.node,
-        cookie: counters.next_cookie,
-    }))?;
+    changes.push(entry)?;
     changes.push(Change::Counters(Counters {
         next_cookie: counters.next_cookie + 1,
         ..*counters
@@ -139,6 +183,16 @@ pub(crate) fn exchange_changes_of(
     requires room { counters.now.next_cookie + 2 ≤ counter_end }
     ensures { IfOk result (λ changes. changes ≡ exchange_changes (renaming_of asked.now) counters.now from.now to.now source.now other.now) }
 {
+    let first = counters.next_cookie;
+    let second = first + 1;
+    let old_entry = entry_of(alloc, from.node, asked.old_name, &other.child, first)?;
+    let new_entry = entry_of(alloc, asked.new_dir, asked.new_name, &source.child, second)?;
+    let comes = is_directory(other.child.mode);
+    let dirs = Movers {
+        moves: is_directory(source.child.mode),
+        comes,
+        lost: comes,
+    };
     let mut changes = Vec::new(alloc);
     changes.push(Change::EntryGone {
         cookie: source.cookie,
@@ -147,26 +201,10 @@ pub(crate) fn exchange_changes_of(
         cookie: other.cookie,
     })?;
     changes.push(Change::Node(moved_row_of(asked.at, from.node, &other.child)))?;
-    let moves = is_directory(source.child.mode);
-    let comes = is_directory(other.child.mode);
-    put_dirs(&mut changes, asked, from, to, moves, comes, comes)?;
+    put_dirs(&mut changes, asked, from, to, dirs)?;
     changes.push(Change::Node(moved_row_of(asked.at, asked.new_dir, &source.child)))?;
-    let first = counters.next_cookie;
-    let second = first + 1;
-    let old_name = ByteList::from_vec(Vec::from_slice(alloc, asked.old_name)?);
-    changes.push(Change::Entry(EntryRow {
-        dir: from.node,
-        name: old_name,
-        child: other.child.node,
-        cookie: first,
-    }))?;
-    let new_name = ByteList::from_vec(Vec::from_slice(alloc, asked.new_name)?);
-    changes.push(Change::Entry(EntryRow {
-        dir: asked.new_dir,
-        name: new_name,
-        child: source.child.node,
-        cookie: second,
-    }))?;
+    changes.push(old_entry)?;
+    changes.push(new_entry)?;
     changes.push(Change::Counters(Counters {
         next_cookie: first + 2,
         ..*counters

@@ -18,8 +18,8 @@ use std::alloc::Global;
 
 // OPEN of the node of this row, for what the flags ask for.
 pub(crate) fn plan_open<L: Look>(
-    look: &mut L,
     alloc: Global,
+    look: &mut L,
     flags: u32,
     row: &NodeRow,
 ) -> Result<Planned, PlanFault>
@@ -38,13 +38,13 @@ pub(crate) fn plan_open<L: Look>(
     let Some(access) = AccessMode::of(flags) else {
         return Ok(refused(alloc, Errno::EINVAL));
     };
-    open_node(look, alloc, access, row.node)
+    open_node(alloc, look, access, row.node)
 }
 
 // OPENDIR of the node of this row.
 pub(crate) fn plan_open_dir<L: Look>(
-    look: &mut L,
     alloc: Global,
+    look: &mut L,
     row: &NodeRow,
 ) -> Result<Planned, PlanFault>
     requires { L.fault look.old ≡ None }
@@ -56,13 +56,13 @@ pub(crate) fn plan_open_dir<L: Look>(
     if !is_directory(row.mode) {
         return Ok(refused(alloc, Errno::ENOTDIR));
     }
-    open_node(look, alloc, AccessMode::ReadOnly, row.node)
+    open_node(alloc, look, AccessMode::ReadOnly, row.node)
 }
 
 // One more handle of the node, where there is one left.
 fn open_node<L: Look>(
-    look: &mut L,
     alloc: Global,
+    look: &mut L,
     access: AccessMode,
     node: u64,
 ) -> Result<Planned, PlanFault>

@@ -20,8 +20,8 @@ use std::alloc::Global;
 
 // READ by a handle of the node of this row.
 pub(crate) fn plan_read<L: Look>(
-    look: &mut L,
     alloc: Global,
+    look: &mut L,
     asked: &ReadIn,
     row: &NodeRow,
 ) -> Result<Planned, PlanFault>
@@ -66,13 +66,9 @@ fn find_bytes<L: Look>(
     ensures looks { look_fault result ≡ None → L.looks look.old look.new }
     ensures fails { OnErr result (L.fails look.old look.new) }
 {
-    match look.bytes(number, offset, size) {
-        Ok(bytes) => {
-            if bytes.as_slice().len() > MAX_BODY {
-                return Err(PlanFault::NotATree);
-            }
-            Ok(bytes)
-        }
-        Err(fault) => Err(PlanFault::Look(fault)),
+    let bytes = look.bytes(number, offset, size)?;
+    if bytes.as_slice().len() > MAX_BODY {
+        return Err(PlanFault::NotATree);
     }
+    Ok(bytes)
 }

@@ -11,7 +11,7 @@ ghost use Rattle.fuse_tree.specs.declared.limits.TheConstants.{MAX_READ as max_r
 ghost use Rattle.fuse_tree.specs.declared.mode.TheConstants.{S_IFDIR as s_ifdir};
 
 use super::answers::{refused, unchanged};
-use super::attributes::{is_directory, is_named};
+use super::attributes::is_directory;
 use super::fault::PlanFault;
 use super::finding::{find_node, is_open_at};
 use crate::limits::{MAX_NAME, MAX_READ, ROOT_ID};
@@ -28,8 +28,8 @@ pub const LEAST_ENTRY: u32 = 32;
 
 // READDIR of the directory of this row.
 pub(crate) fn plan_read_dir<L: Look>(
-    look: &mut L,
     alloc: Global,
+    look: &mut L,
     asked: &ReadIn,
     row: &NodeRow,
 ) -> Result<Planned, PlanFault>
@@ -48,16 +48,16 @@ pub(crate) fn plan_read_dir<L: Look>(
     if asked.size > MAX_READ {
         return Ok(refused(alloc, Errno::EINVAL));
     }
-    if !is_named(row) {
+    if !row.is_named() {
         return Ok(refused(alloc, Errno::ENOENT));
     }
-    list(look, alloc, asked.offset, asked.size, row)
+    list(alloc, look, asked.offset, asked.size, row)
 }
 
 // The entries of a directory behind the offset, as many as fit.
 fn list<L: Look>(
-    look: &mut L,
     alloc: Global,
+    look: &mut L,
     offset: u64,
     size: u32,
     row: &NodeRow,
@@ -88,10 +88,7 @@ fn find_entries<L: Look>(
     ensures looks { look_fault result ≡ None → L.looks look.old look.new }
     ensures fails { OnErr result (L.fails look.old look.new) }
 {
-    match look.entries_after(dir, cookie, limit) {
-        Ok(rows) => Ok(rows),
-        Err(fault) => Err(PlanFault::Look(fault)),
-    }
+    Ok(look.entries_after(dir, cookie, limit)?)
 }
 
 // The directory itself and the one above it, where they stand behind the offset.

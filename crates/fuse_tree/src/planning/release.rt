@@ -1,5 +1,4 @@
 ghost use Rattle.std.specs.Prelude.{◌≡◌, ◌≢◌, None, IfOk, OnErr};
-ghost use Rattle.fuse_tree.specs.Opening.{not_for_dirs, for_dirs_alone};
 ghost use Rattle.fuse_tree.specs.Plan.{look_fault};
 ghost use Rattle.fuse_tree.specs.PlanOpening as planning;
 ghost use Rattle.fuse_tree.specs.PlanOpening.{plan_closed, plan_close};
@@ -17,8 +16,8 @@ use std::alloc::Global;
 
 // RELEASE of a handle of the node of this row.
 pub(crate) fn plan_release<L: Look>(
-    look: &mut L,
     alloc: Global,
+    look: &mut L,
     fh: u64,
     row: &NodeRow,
 ) -> Result<Planned, PlanFault>
@@ -33,13 +32,13 @@ pub(crate) fn plan_release<L: Look>(
     } else {
         None
     };
-    close(look, alloc, fh, kind_fault, row.node)
+    close(alloc, look, fh, kind_fault, row.node)
 }
 
 // RELEASEDIR of a handle of the node of this row.
 pub(crate) fn plan_release_dir<L: Look>(
-    look: &mut L,
     alloc: Global,
+    look: &mut L,
     fh: u64,
     row: &NodeRow,
 ) -> Result<Planned, PlanFault>
@@ -54,14 +53,14 @@ pub(crate) fn plan_release_dir<L: Look>(
     } else {
         Some(Errno::ENOTDIR)
     };
-    close(look, alloc, fh, kind_fault, row.node)
+    close(alloc, look, fh, kind_fault, row.node)
 }
 
 // Closes a handle that is open at this node, unless the node is of another kind.
 #[tactic(auto, using(crate::proofs::Bounds::handle_counted))]
 fn close<L: Look>(
-    look: &mut L,
     alloc: Global,
+    look: &mut L,
     fh: u64,
     kind_fault: Option<Errno>,
     node: u64,

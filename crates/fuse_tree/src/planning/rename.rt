@@ -1,15 +1,16 @@
-ghost use Rattle.std.specs.Prelude.{◌≡◌, ◌&&◌, None, IfOk, OnErr};
+ghost use Rattle.std.specs.Prelude.{◌≡◌, ◌&&◌, None, OnErr};
 ghost use Rattle.fuse_tree.specs.Plan.{look_fault};
 ghost use Rattle.fuse_tree.specs.State.{is_dir};
-ghost use Rattle.fuse_tree.specs.Reading.{IsWithin, Reads, row_is_named};
+ghost use Rattle.fuse_tree.specs.Rows.{row_is_named};
+ghost use Rattle.fuse_tree.specs.Reading.{IsWithin, Reads};
 ghost use Rattle.fuse_tree.specs.PlanRemoving.{link_at};
 ghost use Rattle.fuse_tree.specs.Renaming as renaming;
-ghost use Rattle.fuse_tree.specs.Renaming.{asked_fault};
+ghost use Rattle.fuse_tree.specs.Renaming.{mode_of, asked_fault};
 ghost use Rattle.fuse_tree.specs.PlanRenaming as planning;
 ghost use Rattle.fuse_tree.specs.PlanRenaming.{renaming_of, is_same_link, row_holds, link_fault, plan_rename_from, plan_rename_by, plan_rename_link, plan_rename_fitting, plan_rename_with_room};
 
 use super::answers::{done_nothing, refused};
-use super::attributes::{is_directory, is_named};
+use super::attributes::is_directory;
 use super::exchange::exchange_links;
 use super::fault::PlanFault;
 use super::finding::{Link, find_counters, find_link, find_node, has_entries};
@@ -28,11 +29,36 @@ pub const RENAME_NOREPLACE: u32 = 1;
 /// The flag of RENAME2 that makes two children change places.
 pub const RENAME_EXCHANGE: u32 = 2;
 
-/// What RENAME and RENAME2 ask for, and when. RENAME has no flags.
+/// What is done about a node that stands at the new place.
+#[derive(Clone, Copy, Debug, PartialEq, Eq)]
+pub enum RenameMode {
+    /// It loses its name there. RENAME does so too.
+    Replace,
+    /// Nothing may stand there.
+    NoReplace,
+    /// It gets the old place.
+    Exchange,
+}
+
+impl RenameMode {
+    // What the flags of RENAME2 ask for. `None` where they have no meaning.
+    fn of(flags: u32) -> Option<RenameMode>
+        ensures { result ≡ mode_of flags }
+    {
+        match flags {
+            0 => Some(RenameMode::Replace),
+            RENAME_NOREPLACE => Some(RenameMode::NoReplace),
+            RENAME_EXCHANGE => Some(RenameMode::Exchange),
+            _ => None,
+        }
+    }
+}
+
+/// What RENAME and RENAME2 ask for, and when. Without a mode the flags have no meaning.
 #[derive(Clone, Copy)]
 pub struct RenameIn<'a> {
     pub new_dir: u64,
-    pub flags: u32,
+    pub mode: Option<RenameMode>,
     pub old_name: &'a [u8],
     pub new_name: &'a [u8],
     pub at: Moment,
@@ -50,7 +76,7 @@ pub(crate) fn asking<'a>(
 {
     RenameIn {
         new_dir,
-        flags,
+        mode: RenameMode::of(flags),
         old_name,
         new_name,
         at,
@@ -59,8 +85,8 @@ pub(crate) fn asking<'a>(
 
 // RENAME and RENAME2 of a name in the node of this row.
 pub(crate) fn plan_rename<L: Look>(
-    look: &mut L,
     alloc: Global,
+    look: &mut L,
     asked: &RenameIn<'_>,
     from: &NodeRow,
 ) -> Result<Planned, PlanFault>
@@ -77,7 +103,7 @@ pub(crate) fn plan_rename<L: Look>(
     if let Some(errno) = fault_of_asked(asked, from, &to) {
         return Ok(refused(alloc, errno));
     }
-    rename_from(look, alloc, asked, from, &to)
+    rename_from(alloc, look, asked, from, &to)
 }
 
 // What is wrong before any entry is looked at.
@@ -93,10 +119,10 @@ fn fault_of_asked(asked: &RenameIn<'_>, from: &NodeRow, to: &NodeRow) -> Option<
     if let Some(errno) = fault_of_name(asked.new_name) {
         return Some(errno);
     }
-    if asked.flags > RENAME_EXCHANGE {
+    if asked.mode.is_none() {
         return Some(Errno::EINVAL);
     }
-    if is_named(from) && is_named(to) {
+    if from.is_named() && to.is_named() {
         None
     } else {
         Some(Errno::ENOENT)
@@ -105,8 +131,8 @@ fn fault_of_asked(asked: &RenameIn<'_>, from: &NodeRow, to: &NodeRow) -> Option<
 
 // Where both are directories with names of their own.
 fn rename_from<L: Look>(
-    look: &mut L,
     alloc: Global,
+    look: &mut L,
     asked: &RenameIn<'_>,
     from: &NodeRow,
     to: &NodeRow,
@@ -122,13 +148,13 @@ fn rename_from<L: Look>(
     let Some(source) = find_link(look, from.node, asked.old_name)? else {
         return Ok(refused(alloc, Errno::ENOENT));
     };
-    rename_to(look, alloc, asked, from, to, &source)
+    rename_to(alloc, look, asked, from, to, &source)
 }
 
 // Where this link stands under the old name.
 fn rename_to<L: Look>(
-    look: &mut L,
     alloc: Global,
+    look: &mut L,
     asked: &RenameIn<'_>,
     from: &NodeRow,
     to: &NodeRow,
@@ -143,13 +169,13 @@ fn rename_to<L: Look>(
     ensures fails { OnErr result (L.fails look.old look.new) }
 {
     let other = find_link(look, asked.new_dir, asked.new_name)?;
-    rename_by(look, alloc, asked, from, to, source, other)
+    rename_by(alloc, look, asked, from, to, source, other)
 }
 
-// By the flags, where the other link stands under the new name.
+// By the mode, where the other link stands under the new name.
 fn rename_by<L: Look>(
-    look: &mut L,
     alloc: Global,
+    look: &mut L,
     asked: &RenameIn<'_>,
     from: &NodeRow,
     to: &NodeRow,
@@ -164,19 +190,17 @@ fn rename_by<L: Look>(
     ensures looks { look_fault result ≡ None → L.looks look.old look.new }
     ensures fails { OnErr result (L.fails look.old look.new) }
 {
-    if asked.flags == RENAME_EXCHANGE {
-        return exchange_links(look, alloc, asked, from, to, source, other);
+    match asked.mode {
+        Some(RenameMode::Exchange) => exchange_links(alloc, look, asked, from, to, source, other),
+        Some(RenameMode::NoReplace) if other.is_some() => Ok(refused(alloc, Errno::EEXIST)),
+        _ => rename_link(alloc, look, asked, from, to, source, other),
     }
-    if asked.flags == RENAME_NOREPLACE && other.is_some() {
-        return Ok(refused(alloc, Errno::EEXIST));
-    }
-    rename_link(look, alloc, asked, from, to, source, other)
 }
 
 // RENAME of the source to where the other link stands.
 fn rename_link<L: Look>(
-    look: &mut L,
     alloc: Global,
+    look: &mut L,
     asked: &RenameIn<'_>,
     from: &NodeRow,
     to: &NodeRow,
@@ -197,7 +221,7 @@ fn rename_link<L: Look>(
     if is_held(look, &source.child, asked.new_dir)? {
         return Ok(refused(alloc, Errno::EINVAL));
     }
-    rename_fitting(look, alloc, asked, from, to, source, other)
+    rename_fitting(alloc, look, asked, from, to, source, other)
 }
 
 // Whether both places are the same entry.
@@ -227,8 +251,8 @@ pub(crate) fn is_held<L: Look>(look: &mut L, child: &NodeRow, dir: u64) -> Resul
 
 // Where the source may stand in the new directory.
 fn rename_fitting<L: Look>(
-    look: &mut L,
     alloc: Global,
+    look: &mut L,
     asked: &RenameIn<'_>,
     from: &NodeRow,
     to: &NodeRow,
@@ -246,7 +270,7 @@ fn rename_fitting<L: Look>(
     if let Some(errno) = fault_of_place(look, source, other)? {
         return Ok(refused(alloc, errno));
     }
-    rename_with_room(look, alloc, asked, from, to, source, other)
+    rename_with_room(alloc, look, asked, from, to, source, other)
 }
 
 // Why the source can't come to stand where the other link is.
@@ -292,8 +316,8 @@ fn fault_of_entries<L: Look>(look: &mut L, dir: u64) -> Result<Option<Errno>, Pl
 
 // Where there is a cookie left.
 fn rename_with_room<L: Look>(
-    look: &mut L,
     alloc: Global,
+    look: &mut L,
     asked: &RenameIn<'_>,
     from: &NodeRow,
     to: &NodeRow,

@@ -5,7 +5,7 @@ ghost use Rattle.fuse_tree.specs.PlanRemoving.{plan_rmdir_named, plan_rmdir_empt
 ghost use Rattle.fuse_tree.specs.Reading.{Reads};
 
 use super::answers::refused;
-use super::attributes::{is_directory, is_named};
+use super::attributes::is_directory;
 use super::fault::PlanFault;
 use super::finding::{Link, find_link, has_entries};
 use super::names::fault_of_name;
@@ -17,8 +17,8 @@ use std::alloc::Global;
 
 // RMDIR of a name in the node of this row.
 pub(crate) fn plan_rmdir<L: Look>(
-    look: &mut L,
     alloc: Global,
+    look: &mut L,
     name: &[u8],
     now: Moment,
     row: &NodeRow,
@@ -35,13 +35,13 @@ pub(crate) fn plan_rmdir<L: Look>(
     if let Some(errno) = fault_of_name(name) {
         return Ok(refused(alloc, errno));
     }
-    rmdir_named(look, alloc, name, now, row)
+    rmdir_named(alloc, look, name, now, row)
 }
 
 // RMDIR where the name may stand in a directory.
 fn rmdir_named<L: Look>(
-    look: &mut L,
     alloc: Global,
+    look: &mut L,
     name: &[u8],
     now: Moment,
     row: &NodeRow,
@@ -52,7 +52,7 @@ fn rmdir_named<L: Look>(
     ensures looks { look_fault result ≡ None → L.looks look.old look.new }
     ensures fails { OnErr result (L.fails look.old look.new) }
 {
-    if !is_named(row) {
+    if !row.is_named() {
         return Ok(refused(alloc, Errno::ENOENT));
     }
     let Some(link) = find_link(look, row.node, name)? else {
@@ -61,13 +61,13 @@ fn rmdir_named<L: Look>(
     if !is_directory(link.child.mode) {
         return Ok(refused(alloc, Errno::ENOTDIR));
     }
-    rmdir_empty(look, alloc, now, &link, row)
+    rmdir_empty(alloc, look, now, &link, row)
 }
 
 // RMDIR of a directory, where no entry stands in it.
 fn rmdir_empty<L: Look>(
-    look: &mut L,
     alloc: Global,
+    look: &mut L,
     now: Moment,
     link: &Link,
     row: &NodeRow,

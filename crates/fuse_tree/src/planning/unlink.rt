@@ -5,7 +5,7 @@ ghost use Rattle.fuse_tree.specs.PlanRemoving.{plan_unlink_named};
 ghost use Rattle.fuse_tree.specs.Reading.{Reads};
 
 use super::answers::refused;
-use super::attributes::{is_directory, is_named};
+use super::attributes::is_directory;
 use super::fault::PlanFault;
 use super::finding::find_link;
 use super::names::fault_of_name;
@@ -17,8 +17,8 @@ use std::alloc::Global;
 
 // UNLINK of a name in the node of this row.
 pub(crate) fn plan_unlink<L: Look>(
-    look: &mut L,
     alloc: Global,
+    look: &mut L,
     name: &[u8],
     now: Moment,
     row: &NodeRow,
@@ -35,13 +35,13 @@ pub(crate) fn plan_unlink<L: Look>(
     if let Some(errno) = fault_of_name(name) {
         return Ok(refused(alloc, errno));
     }
-    unlink_named(look, alloc, name, now, row)
+    unlink_named(alloc, look, name, now, row)
 }
 
 // UNLINK where the name may stand in a directory.
 fn unlink_named<L: Look>(
-    look: &mut L,
     alloc: Global,
+    look: &mut L,
     name: &[u8],
     now: Moment,
     row: &NodeRow,
@@ -52,7 +52,7 @@ fn unlink_named<L: Look>(
     ensures looks { look_fault result ≡ None → L.looks look.old look.new }
     ensures fails { OnErr result (L.fails look.old look.new) }
 {
-    if !is_named(row) {
+    if !row.is_named() {
         return Ok(refused(alloc, Errno::ENOENT));
     }
     let Some(link) = find_link(look, row.node, name)? else {

@@ -7,6 +7,7 @@ ghost use Rattle.fuse_tree.specs.Reading.{Reads, Tells};
 
 use super::fault::PlanFault;
 use super::finding::{find_counters, find_node};
+use crate::limits::MAX_NODES;
 use crate::look::Look;
 
 // The directory above a node, 0 where no entry leads to it.
@@ -24,8 +25,9 @@ fn find_up<L: Look>(look: &mut L, number: u64) -> Result<u64, PlanFault>
     }
 }
 
-// Whether a directory is this node, or lies under it. No way up is longer than the number of nodes.
-#[tactic(auto, using(crate::proofs::Walking::rows_end))]
+// Whether a directory is this node, or lies under it. No way up is longer than the number of
+// nodes, of which no tree has more than MAX_NODES.
+#[tactic(auto, using(crate::proofs::Walking::rows_end, crate::proofs::Walking::rows_few))]
 pub(crate) fn lies_in<L: Look>(look: &mut L, node: u64, dir: u64) -> Result<bool, PlanFault>
     requires { L.fault look.old ≡ None }
     ensures under { Reads (L.is_clean look.new) (L.sees look.old) result (λ rows. leads_to rows.entries rows.counters.nodes node dir) }
@@ -34,6 +36,9 @@ pub(crate) fn lies_in<L: Look>(look: &mut L, node: u64, dir: u64) -> Result<bool
     ensures fails { OnErr result (L.fails look.old look.new) }
 {
     let counters = find_counters(look)?;
+    if counters.nodes > MAX_NODES {
+        return Err(PlanFault::NotATree);
+    }
     go_up(look, node, dir, counters.nodes)
 }
 

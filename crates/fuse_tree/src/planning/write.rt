@@ -1,4 +1,4 @@
-ghost use Rattle.std.specs.Prelude.{◌≡◌, ◌+◌, ℕ, None, length, nat_lt, false, IfOk, OnErr};
+ghost use Rattle.std.specs.Prelude.{◌≡◌, ◌+◌, None, length, nat_lt, false, IfOk, OnErr};
 ghost use Rattle.fuse_tree.specs.declared.limits.TheConstants.{MAX_FILE as max_file};
 ghost use Rattle.fuse_tree.specs.Writing as writing;
 ghost use Rattle.fuse_tree.specs.Writing.{count_body};
@@ -19,8 +19,8 @@ use std::alloc::Global;
 
 // WRITE of the payload by a handle of the node of this row.
 pub(crate) fn plan_write<L: Look>(
-    look: &mut L,
     alloc: Global,
+    look: &mut L,
     fh: u64,
     offset: u64,
     payload: &[u8],

@@ -28,7 +28,7 @@ pub(super) fn act(
         op,
         ext: b"",
     };
-    match plan(look, alloc, &request, at(secs)) {
+    match plan(alloc, look, &request, at(secs)) {
         Ok(planned) => {
             let errno = errno_of(&planned)?;
             look.apply_all(planned.changes)?;

@@ -376,8 +376,23 @@ fn sees_a_round(alloc: Global) -> Result<bool, Fail> {
     Ok(matches!(told, Err(PlanFault::NotATree)))
 }
 
+// The same where more nodes are counted than a walk could pass.
+fn sees_many_nodes(alloc: Global) -> Result<bool, Fail> {
+    let mut look = family(alloc)?;
+    let counters = Counters {
+        nodes: u64::MAX,
+        ..look.counted()
+    };
+    look.apply(Change::Counters(counters))?;
+    look.apply(Change::Node(row(2, 0o040755, 3, 1)))?;
+    let told = planned(&mut look, alloc, 1, rename(b"e", 3, b"x"));
+    Ok(matches!(told, Err(PlanFault::NotATree)))
+}
+
 #[test]
 fn a_way_up_ends(rt: HostRuntime) -> Result<(), Fail> {
+    lies_in_is_under();
     assert!(rt; sees_a_round(rt.alloc())?);
+    assert!(rt; sees_many_nodes(rt.alloc())?);
     Ok(())
 }
