@@ -83,52 +83,55 @@ fn errno(alloc: Global, nodeid: u64, op: Op<'_>) -> Result<u32, Fail> {
     errno_of(&planned_over(alloc, nodeid, op)?)
 }
 
-// Row handles, of READ.
+// Node, handle and size. The handle is looked at before the kind, and the kind before the size.
+const READS: [(u64, u64, u32, u32); 10] = [
+    (FILE, 9, 1, 9),
+    (FILE, OF_OTHER, 1, 9),
+    (FILE, OF_DIR, 1, 9),
+    (FILE, FOR_WRITING, 1, 9),
+    (DIR, FOR_BOTH, 1, 9),
+    (DIR, OF_DIR, 1, 21),
+    (DIR, OF_DIR, 1_048_577, 21),
+    (FILE, 9, 1_048_577, 9),
+    (FILE, FOR_BOTH, 1_048_577, 22),
+    (6, FOR_BOTH, 1, 116),
+];
+
 #[test]
-fn refuses_reads(rt: HostRuntime) -> Result<(), Fail> {
-    for (nodeid, fh, size, expected) in [
-        (FILE, 9, 1, 9),
-        (FILE, OF_OTHER, 1, 9),
-        (FILE, OF_DIR, 1, 9),
-        (FILE, FOR_WRITING, 1, 9),
-        // The handle is looked at before the kind, and the kind before the size.
-        (DIR, FOR_BOTH, 1, 9),
-        (DIR, OF_DIR, 1, 21),
-        (DIR, OF_DIR, 1_048_577, 21),
-        (FILE, 9, 1_048_577, 9),
-        (FILE, FOR_BOTH, 1_048_577, 22),
-        (6, FOR_BOTH, 1, 116),
-    ] {
+fn handles_of_reads(rt: HostRuntime) -> Result<(), Fail> {
+    for (nodeid, fh, size, expected) in READS {
         assert_eq!(rt; errno(rt.alloc(), nodeid, reading(fh, 0, size))?, expected);
     }
     Ok(())
 }
 
-// Row handles, of WRITE, and row write-limits.
+// Node, handle, offset and payload.
+const REFUSED: [(u64, u64, u64, &[u8], u32); 9] = [
+    (FILE, 9, 0, b"a", 9),
+    (FILE, OF_OTHER, 0, b"a", 9),
+    (FILE, FOR_READING, 0, b"a", 9),
+    (DIR, OF_DIR, 0, b"a", 9),
+    (FILE, FOR_READING, 16_777_215, b"ab", 9),
+    (FILE, FOR_BOTH, 16_777_215, b"ab", 27),
+    (FILE, FOR_BOTH, 16_777_216, b"a", 27),
+    (FILE, FOR_WRITING, 0xffff_ffff_ffff_ffff, b"a", 27),
+    (6, FOR_BOTH, 0, b"a", 116),
+];
+
 #[test]
-fn refuses_writes(rt: HostRuntime) -> Result<(), Fail> {
-    for (nodeid, fh, offset, expected) in [
-        (FILE, 9, 0, 9),
-        (FILE, OF_OTHER, 0, 9),
-        (FILE, FOR_READING, 0, 9),
-        (DIR, OF_DIR, 0, 9),
-        (FILE, FOR_READING, 16_777_215, 9),
-        (FILE, FOR_BOTH, 16_777_215, 27),
-        (FILE, FOR_BOTH, 16_777_216, 27),
-        (FILE, FOR_WRITING, 0xffff_ffff_ffff_ffff, 27),
-        (6, FOR_BOTH, 0, 116),
-    ] {
+fn handles_of_writes(rt: HostRuntime) -> Result<(), Fail> {
+    for (nodeid, fh, offset, payload, expected) in REFUSED {
         assert_eq!(rt;
-            errno(rt.alloc(), nodeid, writing(fh, offset, b"ab"))?,
+            errno(rt.alloc(), nodeid, writing(fh, offset, payload))?,
             expected
         );
     }
     Ok(())
 }
 
-// Of no byte: size 0 is answered, and there are no changes.
+// The third case of row `write-limits`: size 0 is answered, and there are no changes.
 #[test]
-fn writes_no_byte(rt: HostRuntime) -> Result<(), Fail> {
+fn write_limits_of_no_byte(rt: HostRuntime) -> Result<(), Fail> {
     let none = planned_over(rt.alloc(), FILE, writing(FOR_BOTH, 16_777_217, b""))?;
     assert_eq!(rt; none.answer.body.as_slice(), b"\0\0\0\0\0\0\0\0".as_slice());
     assert!(rt; none.changes.as_slice().is_empty());
@@ -181,7 +184,7 @@ fn size(size: u64) -> Op<'static> {
     })
 }
 
-// Row cut-and-grow.
+// What READ gives in row `cut-and-grow`.
 fn cut_and_grown(alloc: Global) -> Result<ByteList, Fail> {
     let mut look = with_file(alloc)?;
     write(&mut look, alloc, 0, b"abcdef")?;
@@ -190,7 +193,7 @@ fn cut_and_grown(alloc: Global) -> Result<ByteList, Fail> {
     read(&mut look, alloc, 0, 4096)
 }
 
-// What READ gives in row setattr-size-and-mode.
+// What READ gives in row `setattr-size-and-mode`.
 fn grown(alloc: Global) -> Result<ByteList, Fail> {
     let mut look = with_file(alloc)?;
     done_at(&mut look, alloc, at(2000), FILE, size(5))?;
@@ -198,17 +201,19 @@ fn grown(alloc: Global) -> Result<ByteList, Fail> {
 }
 
 #[test]
-fn cuts_and_grows(rt: HostRuntime) -> Result<(), Fail> {
+fn cut_and_grow(rt: HostRuntime) -> Result<(), Fail> {
     let cut = cut_and_grown(rt.alloc())?;
     assert_eq!(rt; cut.as_slice(), b"abc\0\0\0".as_slice());
     assert_eq!(rt; grown(rt.alloc())?.as_slice(), b"one\0\0".as_slice());
     Ok(())
 }
 
-// The answers of row last-byte: to the WRITE, to GETATTR and to READ.
+// The answers of rows `write-limits` and `last-byte`: to the WRITE of one byte, to GETATTR and to READ, and between them the
+// error number of a WRITE of two bytes at that place.
 #[derive(Drop)]
 struct LastByte {
     count: ByteList,
+    refusal: u32,
     attributes: ByteList,
     end: ByteList,
 }
@@ -216,19 +221,24 @@ struct LastByte {
 fn last_byte(alloc: Global) -> Result<LastByte, Fail> {
     let mut look = with_empty_file(alloc)?;
     let count = write(&mut look, alloc, 16_777_215, b"z")?;
-    let attributes = done_at(&mut look, alloc, at(2000), FILE, GETATTR)?;
+    let two = writing(FOR_WRITING, 16_777_215, b"ab");
+    let refused = answered_at(&mut look, alloc, at(3000), FILE, two)?;
+    let attributes = done_at(&mut look, alloc, at(3000), FILE, GETATTR)?;
     let end = read(&mut look, alloc, 16_777_214, 4096)?;
     Ok(LastByte {
         count,
+        refusal: errno_of(&refused)?,
         attributes,
         end,
     })
 }
 
 #[test]
-fn writes_the_last_byte(rt: HostRuntime) -> Result<(), Fail> {
+fn write_limits(rt: HostRuntime) -> Result<(), Fail> {
     let last = last_byte(rt.alloc())?;
     assert_eq!(rt; last.count.as_slice(), b"\x01\0\0\0\0\0\0\0".as_slice());
+    // EFBIG, and no change.
+    assert_eq!(rt; last.refusal, 27);
     // Size 16,777,216, and 32,768 blocks.
     let sizes = last.attributes.as_slice().get(24..40);
     assert_eq!(rt;

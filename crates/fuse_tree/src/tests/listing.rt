@@ -6,7 +6,7 @@ use super::opening::{DIR, FILE, OPENDIR, done, with_open};
 use super::*;
 use fuse_request::ReadIn;
 
-fn read_dir(fh: u64, offset: u64, size: u32) -> Op<'static> {
+pub(super) fn read_dir(fh: u64, offset: u64, size: u32) -> Op<'static> {
     Op::ReadDir(ReadIn {
         fh,
         offset,
@@ -46,7 +46,7 @@ const OF_ROOT: [(u64, u32, &[u8]); 7] = [
 ];
 
 #[test]
-fn lists_the_root(rt: HostRuntime) -> Result<(), Fail> {
+fn readdir(rt: HostRuntime) -> Result<(), Fail> {
     for (offset, size, body) in OF_ROOT {
         let told = told_of_root(rt.alloc(), offset, size)?;
         assert_eq!(rt; told.answer.body.as_slice(), body);

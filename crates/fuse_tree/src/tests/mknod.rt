@@ -73,22 +73,18 @@ const MADE: [(u32, u32, u32, u32); 8] = [
     (0o140644, 259, 0o140644, 0),
 ];
 
+// A directory, a symbolic link, and numbers that are no type.
+const NOT_MADE: [u32; 4] = [0o040644, 0o120644, 0o030644, 0o170644];
+
+// The first case of each table is row `mknod-modes`.
 #[test]
-fn makes_nodes(rt: HostRuntime) -> Result<(), Fail> {
+fn mknod_modes(rt: HostRuntime) -> Result<(), Fail> {
     for (mode, rdev, new_mode, new_rdev) in MADE {
         assert_eq!(rt;
             made(rt.alloc(), mode, rdev)?,
             (0, Some(new_mode), Some(new_rdev))
         );
     }
-    Ok(())
-}
-
-// A directory, a symbolic link, and numbers that are no type.
-const NOT_MADE: [u32; 4] = [0o040644, 0o120644, 0o030644, 0o170644];
-
-#[test]
-fn makes_no_other_nodes(rt: HostRuntime) -> Result<(), Fail> {
     for mode in NOT_MADE {
         assert_eq!(rt; made(rt.alloc(), mode, 0)?, (22, None, None));
     }
@@ -122,27 +118,13 @@ fn makes_no_name_twice(rt: HostRuntime) -> Result<(), Fail> {
     Ok(())
 }
 
-// Row `name-lengths`: names of 255 and of 256 bytes.
 #[test]
-fn long_names(rt: HostRuntime) -> Result<(), Fail> {
+fn name_lengths(rt: HostRuntime) -> Result<(), Fail> {
     let name = [b'a'; 256];
     assert_eq!(rt; refusal(rt.alloc(), 1, mknod(0o644, 0, &name[1..]))?, 0);
     assert_eq!(rt; refusal(rt.alloc(), 1, mknod(0o644, 0, &name))?, 36);
-    Ok(())
-}
-
-// Row `limits`: what MKNOD of `f` in the root is answered where this cookie comes next.
-fn with_cookie(alloc: Global, next_cookie: u64) -> Result<u32, Fail> {
-    let mut look = begun(alloc)?;
-    look.apply(Change::Counters(Counters { next_cookie, ..NEW }))?;
-    let planned = answered(&mut look, alloc, 1, mknod(0o644, 0, b"f"))?;
-    errno_of(&planned)
-}
-
-#[test]
-fn takes_the_last_cookie(rt: HostRuntime) -> Result<(), Fail> {
-    let end = 1 << 62;
-    assert_eq!(rt; with_cookie(rt.alloc(), end - 1)?, 0);
-    assert_eq!(rt; with_cookie(rt.alloc(), end)?, 28);
+    for name in [b"".as_slice(), b".", b"..", b"a/b"] {
+        assert_eq!(rt; refusal(rt.alloc(), 1, Op::Lookup { name })?, 22);
+    }
     Ok(())
 }

@@ -1,4 +1,4 @@
-//! OPEN, OPENDIR, RELEASE and RELEASEDIR: what they answer, their limits and refusals.
+//! OPEN, OPENDIR, RELEASE and RELEASEDIR: what they answer, and their refusals.
 ghost use Rattle.std.specs.Prelude.{◌≡◌, None, IfOk, OnOk};
 ghost use Rattle.fuse_tree.specs.PlainRows.{fault_of};
 
@@ -11,7 +11,7 @@ pub(super) const FILE: u64 = 3;
 
 const FIFO: u64 = 4;
 
-fn open(flags: u32) -> Op<'static> {
+pub(super) fn open(flags: u32) -> Op<'static> {
     Op::OpenFile {
         flags,
         open_flags: 0,
@@ -177,35 +177,6 @@ fn errno_of_closing_again(alloc: Global) -> Result<u32, Fail> {
 #[test]
 fn closes_once(rt: HostRuntime) -> Result<(), Fail> {
     assert_eq!(rt; errno_of_closing_again(rt.alloc())?, 9);
-    Ok(())
-}
-
-// The error number where there are so many handles, and this number comes next.
-fn with_handles(alloc: Global, handles: u64, next_fh: u64, op: Op<'_>) -> Result<u32, Fail> {
-    let mut look = with_open(alloc)?;
-    look.apply(Change::Counters(Counters {
-        handles,
-        next_fh,
-        ..NEW
-    }))?;
-    let planned = answered(&mut look, alloc, FILE, op)?;
-    Ok(planned.answer.errno.0)
-}
-
-#[test]
-fn limits_of_handles(rt: HostRuntime) -> Result<(), Fail> {
-    let end = 1 << 62;
-    for (handles, next_fh, number) in [
-        (65_535, end - 1, 0),
-        (65_536, 5, 23),
-        (65_536, end, 23),
-        (4, end, 28),
-    ] {
-        assert_eq!(rt;
-            with_handles(rt.alloc(), handles, next_fh, open(0))?,
-            number
-        );
-    }
     Ok(())
 }
 

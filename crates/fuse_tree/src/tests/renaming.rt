@@ -3,7 +3,10 @@
 ghost use Rattle.std.specs.Prelude.{◌≡◌, None, IfOk, OnOk};
 ghost use Rattle.fuse_tree.specs.PlainRows.{fault_of};
 
+use super::file::done_at;
+use super::listing::read_dir;
 use super::mknod::mknod;
+use super::opening::OPENDIR;
 use super::removing::{LONG, act, mkdir, rmdir, root_row, row, row_of};
 use super::*;
 
@@ -52,22 +55,23 @@ fn errno(alloc: Global, nodeid: u64, op: Op<'_>) -> Result<u32, Fail> {
     act(&mut look, alloc, 2000, nodeid, op)
 }
 
-// Row `rename-refusals`, but for its first and last case.
-const REFUSALS: [(&[u8], u64, &[u8], u32); 4] = [
+const REFUSALS: [(&[u8], u64, &[u8], u32); 7] = [
+    (b"f", 1, b"f", 0),
     (b"a", 3, b"x", 22),
+    // A directory isn't moved into itself either.
+    (b"a", 2, b"x", 22),
     (b"f", 1, b"a", 21),
     (b"a", 1, b"f", 20),
     (b"e", 1, b"a", 39),
+    (b"e", 2, b"b", 0),
 ];
 
 #[test]
-fn refuses_renames(rt: HostRuntime) -> Result<(), Fail> {
+fn rename_refusals(rt: HostRuntime) -> Result<(), Fail> {
     for (old_name, new_dir, new_name, wanted) in REFUSALS {
         let op = rename(old_name, new_dir, new_name);
         assert_eq!(rt; errno(rt.alloc(), 1, op)?, wanted);
     }
-    // A directory isn't moved into itself either.
-    assert_eq!(rt; errno(rt.alloc(), 1, rename(b"a", 2, b"x"))?, 22);
     Ok(())
 }
 
@@ -178,7 +182,7 @@ const E_TO_AB: Op<'static> = Op::Rename {
     new_name: b"b",
 };
 
-// The last case of row `rename-refusals`: `e` to `a/b`.
+// What the last case of row `rename-refusals` leaves.
 #[test]
 fn replaces(rt: HostRuntime) -> Result<(), Fail> {
     let alloc = rt.alloc();
@@ -214,35 +218,33 @@ fn moves_a_directory(rt: HostRuntime) -> Result<(), Fail> {
     Ok(())
 }
 
-// Row `rename-new-cookie`: directories `a` and `b`, and `a` becomes `c`. The children behind cookie 3, in their order.
-fn listed_after_rename(alloc: Global) -> Result<(u64, u64, u64, u64), Fail> {
+// What READDIR of the root is answered behind this cookie, with 64 bytes.
+fn listed(look: &mut PlainRows, alloc: Global, offset: u64) -> Result<ByteList, Fail>
+    requires { fault_of look.old ≡ None }
+{
+    done_at(look, alloc, at(1000), 1, OPENDIR)?;
+    done_at(look, alloc, at(1000), 1, read_dir(1, offset, 64))
+}
+
+// Directories `a` and `b`, and `a` becomes `c`.
+fn listed_after_rename(alloc: Global) -> Result<ByteList, Fail> {
     let mut look = begun(alloc)?;
     act(&mut look, alloc, 1000, 1, mkdir(b"a"))?;
     act(&mut look, alloc, 1000, 1, mkdir(b"b"))?;
     act(&mut look, alloc, 1000, 1, rename(b"a", 1, b"c"))?;
-    listed(&mut look, 3)
-}
-
-// The child and the cookie of each of the two entries of the root behind this cookie.
-fn listed(look: &mut PlainRows, cookie: u64) -> Result<(u64, u64, u64, u64), Fail>
-    requires { fault_of look.old ≡ None }
-{
-    match look.entries_after(1, cookie, 9) {
-        Ok(entries) => match entries.as_slice() {
-            [one, two] => Ok((one.child, one.cookie, two.child, two.cookie)),
-            _ => Err("two entries".into()),
-        },
-        Err(_) => Err("a look".into()),
-    }
+    listed(&mut look, alloc, 3)
 }
 
 #[test]
-fn gives_a_new_cookie(rt: HostRuntime) -> Result<(), Fail> {
-    assert_eq!(rt; listed_after_rename(rt.alloc())?, (3, 4, 2, 5));
+fn rename_new_cookie(rt: HostRuntime) -> Result<(), Fail> {
+    let b_and_c = b"\x03\0\0\0\0\0\0\0\x04\0\0\0\0\0\0\0\x01\0\0\0\x04\0\0\0b\0\0\0\0\0\0\0\
+      \x02\0\0\0\0\0\0\0\x05\0\0\0\0\0\0\0\x01\0\0\0\x04\0\0\0c\0\0\0\0\0\0\0";
+    let listed = listed_after_rename(rt.alloc())?;
+    assert_eq!(rt; listed.as_slice(), b_and_c.as_slice());
     Ok(())
 }
 
-// Row `exchange`: directory `a` (node 2, cookie 3) and file `b` (3, 4).
+// The tree of row `exchange` before it: directory `a` (node 2, cookie 3) and file `b` (3, 4).
 fn pair(alloc: Global) -> Result<PlainRows, Fail>
     ensures { IfOk result (λ look. fault_of look ≡ None) }
 {
@@ -252,25 +254,21 @@ fn pair(alloc: Global) -> Result<PlainRows, Fail>
     Ok(look)
 }
 
-fn listed_after_exchange(alloc: Global) -> Result<(u64, u64, u64, u64), Fail> {
+// What the exchange is answered, and READDIR after it.
+fn listed_after_exchange(alloc: Global) -> Result<(ByteList, ByteList), Fail> {
     let mut look = pair(alloc)?;
-    act(&mut look, alloc, 1000, 1, rename2(2, b"a", 1, b"b"))?;
-    listed(&mut look, 2)
-}
-
-// The child and the cookie under this name after it.
-fn exchanged(alloc: Global, name: &[u8]) -> Result<(u64, u64), Fail> {
-    let mut look = pair(alloc)?;
-    act(&mut look, alloc, 1000, 1, rename2(2, b"a", 1, b"b"))?;
-    entry_of(&mut look, 1, name)
+    let exchange = rename2(2, b"a", 1, b"b");
+    let body = done_at(&mut look, alloc, at(1000), 1, exchange)?;
+    Ok((body, listed(&mut look, alloc, 2)?))
 }
 
 #[test]
-fn exchanges(rt: HostRuntime) -> Result<(), Fail> {
-    let alloc = rt.alloc();
-    assert_eq!(rt; listed_after_exchange(alloc)?, (3, 5, 2, 6));
-    assert_eq!(rt; exchanged(alloc, b"a")?, (3, 5));
-    assert_eq!(rt; exchanged(alloc, b"b")?, (2, 6));
+fn exchange(rt: HostRuntime) -> Result<(), Fail> {
+    let a_and_b = b"\x03\0\0\0\0\0\0\0\x05\0\0\0\0\0\0\0\x01\0\0\0\x08\0\0\0a\0\0\0\0\0\0\0\
+      \x02\0\0\0\0\0\0\0\x06\0\0\0\0\0\0\0\x01\0\0\0\x04\0\0\0b\0\0\0\0\0\0\0";
+    let told = listed_after_exchange(rt.alloc())?;
+    assert!(rt; told.0.as_slice().is_empty());
+    assert_eq!(rt; told.1.as_slice(), a_and_b.as_slice());
     Ok(())
 }
 
@@ -281,7 +279,7 @@ fn errno_of_pair(alloc: Global, nodeid: u64, op: Op<'_>) -> Result<u32, Fail> {
     act(&mut look, alloc, 1000, nodeid, op)
 }
 
-// Row `rename2-refusals`: node, flags, names and new directory.
+// Node, flags, names and new directory.
 const REFUSALS2: [(u64, u32, &[u8], u64, &[u8], u32); 13] = [
     (1, 3, b"a", 1, b"b", 22),
     (1, 1, b"a", 1, b"b", 17),
@@ -299,7 +297,7 @@ const REFUSALS2: [(u64, u32, &[u8], u64, &[u8], u32); 13] = [
 ];
 
 #[test]
-fn refuses_by_flags(rt: HostRuntime) -> Result<(), Fail> {
+fn rename2_refusals(rt: HostRuntime) -> Result<(), Fail> {
     for (nodeid, flags, old_name, new_dir, new_name, wanted) in REFUSALS2 {
         let op = rename2(flags, old_name, new_dir, new_name);
         assert_eq!(rt; errno_of_pair(rt.alloc(), nodeid, op)?, wanted);

@@ -70,9 +70,8 @@ fn content_after(alloc: Global, size: u64) -> Result<ByteList, Fail> {
     }
 }
 
-// Row setattr-size-and-mode.
 #[test]
-fn sets_size_and_mode(rt: HostRuntime) -> Result<(), Fail> {
+fn setattr_size_and_mode(rt: HostRuntime) -> Result<(), Fail> {
     let alloc = rt.alloc();
     let longer = set_first(alloc, FILE, setting(8))?;
     assert!(rt; is_longer(longer.answer.body.as_slice()));
@@ -84,12 +83,14 @@ fn sets_size_and_mode(rt: HostRuntime) -> Result<(), Fail> {
     ] {
         assert_eq!(rt; content_after(alloc, size)?.as_slice(), content);
     }
-    // The type stays: the mode is 0o100600.
-    let mode = set_first(alloc, FILE, setting(1))?;
-    assert_eq!(rt;
-        mode.answer.body.as_slice().get(76..80),
-        Some(b"\x80\x81\0\0".as_slice())
-    );
+    // The type stays, also where another is asked for.
+    for mode in [0o600, 0o170600] {
+        let told = set_first(alloc, FILE, SetattrIn { mode, ..setting(1) })?;
+        assert_eq!(rt;
+            told.answer.body.as_slice().get(76..80),
+            Some(b"\x80\x81\0\0".as_slice())
+        );
+    }
     Ok(())
 }
 
@@ -161,9 +162,9 @@ fn sets_what_is_named(rt: HostRuntime) -> Result<(), Fail> {
     Ok(())
 }
 
-// Row setattr-size-kinds, and the largest size.
+// And the largest size.
 #[test]
-fn refuses_sizes(rt: HostRuntime) -> Result<(), Fail> {
+fn setattr_size_kinds(rt: HostRuntime) -> Result<(), Fail> {
     let alloc = rt.alloc();
     for (nodeid, size, errno) in [
         (FIFO, 5, 22),
