@@ -12,13 +12,13 @@ pub record Ledger : Type 0 where
   pub pending : List ℕ
 
 -- at first, and after a crash, which forgets what is pending
-abbrev pub fresh : Ledger
-fresh = record { room = 0; pending = [] }
+abbrev pub empty_ledger : Ledger
+empty_ledger = record { room = 0; pending = [] }
 
 -- a kept message joins a group that has room; else it begins the next one, to which all that is pending is handed on
-abbrev pub joined : ℕ → List ℕ → List ℕ → Ledger
-joined zero pending settled = record { room = MAX_GROUP - 1; pending = settled }
-joined (suc room) pending settled = record { room = room; pending = pending ++ settled }
+abbrev pub after_one : ℕ → List ℕ → List ℕ → Ledger
+after_one zero pending settled = record { room = MAX_GROUP - 1; pending = settled }
+after_one (suc room) pending settled = record { room = room; pending = pending ++ settled }
 
 abbrev pub handed_by : ℕ → List ℕ → List ℕ
 handed_by zero pending = pending
@@ -27,14 +27,14 @@ handed_by (suc room) pending = []
 -- by what an event commits
 abbrev pub after_commit : List Entry → Ledger → List ℕ → Ledger
 after_commit [] l settled = l
-after_commit (x ∷ xs) l settled = joined l.room l.pending settled
+after_commit (x ∷ xs) l settled = after_one l.room l.pending settled
 
 abbrev pub handed_at : List Entry → Ledger → List ℕ
 handed_at [] l = []
 handed_at (x ∷ xs) l = handed_by l.room l.pending
 
 abbrev pub crashed_if : Bool → Ledger → Ledger
-crashed_if true l = fresh
+crashed_if true l = empty_ledger
 crashed_if false l = l
 
 abbrev pub after_event : Ledger → Event → Ledger
@@ -51,5 +51,5 @@ handed_on l (e ∷ es) = handed_at (commits e) l ++ handed_on (after_event l e) 
 
 -- the records of those are gone, and those of ids that didn't come are the ones of before
 pub record RecordsLeft (events : List Event) (records records' : Records) : Type 0 where
-  pub gone : (i : ℕ) → is_in (handed_on fresh events) i ≡ true → records' i ≡ None
+  pub gone : (i : ℕ) → is_in (handed_on empty_ledger events) i ≡ true → records' i ≡ None
   pub others : (i : ℕ) → is_in (ids_in (commits_in events)) i ≡ false → records' i ≡ records i

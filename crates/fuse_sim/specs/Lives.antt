@@ -47,7 +47,7 @@ AllSend s last (life ∷ lives) = ((unsent : List ℕ) × (out s last life.worke
 
 -- a run of a server was a life: the bytes that came to its port, the answers that it sent whole and the part of another
 -- one, the ids that these settle, the moments that its clock gave, and what is left
-pub record Ran (stood : History → List ℕ → Type 0) (may : Moment → Type 0) (s : State) (h : History) (t : List ℕ) (old new : PortState) : Type 0 where
+pub record RanAsLife (stood : History → List ℕ → Type 0) (may : Moment → Type 0) (s : State) (h : History) (t : List ℕ) (old new : PortState) : Type 0 where
   pub life : Lifetime
   pub lived : IsLife s h life
   pub came : Consumes old.coming new.coming life.received
@@ -55,6 +55,6 @@ pub record Ran (stood : History → List ℕ → Type 0) (may : Moment → Type 
   pub part : List ℕ
   pub replied : Replied old new marks part
   pub sent : life.sent ≡ joined (replies marks) ++ part
-  pub settles : life.settled ≡ settled_in old.confirms (bytes_of life.worked) marks
+  pub settled_are : life.settled ≡ settled_in old.confirms (bytes_of life.worked) marks
   pub moments : Moments may life.worked
   pub stands : stood (grown h (kept_in life.worked)) (t ++ life.settled)

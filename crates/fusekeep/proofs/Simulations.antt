@@ -14,7 +14,7 @@ use Rattle.fuse_store.specs.declared.keeper.StoreCounts.{StoreCounts}
 use Rattle.fuse_store.specs.Stands.{Records, StandsFor}
 use Rattle.fuse_sim.specs.declared.event.Event.{Event}
 use Rattle.fuse_sim.specs.declared.event.Outcome.{Outcome}
-use Rattle.fuse_sim.specs.Driving.{IsFit, StandsIn, committed, outcome_of, settled_by, given, NoneAgain}
+use Rattle.fuse_sim.specs.Driving.{IsFit, StandsIn, committed, outcome_of, settled_by, bytes_given, NoneReused}
 use Rattle.fusekeep.specs.declared.ending.Ending.{Ending}
 use Rattle.fusekeep.specs.declared.simulate.Simulation.{Simulation}
 use Rattle.fusekeep.specs.Reading.{ReadMore}
@@ -60,18 +60,18 @@ handles_counted holds s h t n so counts = counts so.rows so.records so.held (aft
 
 pub went : {K : Type 0} → (holds : K → Rows → Records → Type 0) (honest : K → Type 0) (left : Option K) (k k' : K) (s : State) (events : List Event) (outcomes : List (Option Outcome)) (counts : StoreCounts)
     → left ≡ Some k → (honest k' → honest k) → honest k'
-    → (IsSomeAnd left honest → map given outcomes ≡ map (outcome_of s (committed [] events)) events)
+    → (IsSomeAnd left honest → map bytes_given outcomes ≡ map (outcome_of s (committed [] events)) events)
     → (IsSomeAnd left honest → StandsIn holds left s (committed [] events) (settled_by [] events))
     → ((rows : Rows) (records : Records) → holds k rows records → IsRowed rows → counts.nodes ≡ rows.counters.nodes)
     → ((rows : Rows) (records : Records) → holds k rows records → IsRowed rows → counts.handles ≡ rows.counters.handles)
-    → (map given outcomes ≡ outcomes_of s events) × (counts.nodes ≡ length (state_after s events).nodes) × (counts.handles ≡ length (state_after s events).handles)
+    → (map bytes_given outcomes ≡ outcomes_of s events) × (counts.nodes ≡ length (state_after s events).nodes) × (counts.handles ≡ length (state_after s events).handles)
 went holds honest left k k' s events outcomes counts is keeps last answers stands nodes handles =
     let good : IsSomeAnd left honest = subst (λ o. IsSomeAnd o honest) (sym is) (keeps last) in
     let so = subst (λ o. StandsIn holds o s (committed [] events) (settled_by [] events)) is (stands good) in
     (answers good, nodes_counted (holds k) s (committed [] events) (settled_by [] events) counts.nodes so nodes, handles_counted (holds k) s (committed [] events) (settled_by [] events) counts.handles so handles)
 
 pub ran : (holds : Rows → Records → Type 0) (r : Result Simulation Ending) (known : Option (List ℕ)) (script slice : List ℕ) (items events : List Event)
-    → IfOk r (λ simulation. (s : State) → StandsFor holds s [] [] → NoneAgain [] events → Went s events simulation) → StandsFor holds start [] []
+    → IfOk r (λ simulation. (s : State) → StandsFor holds s [] [] → NoneReused [] events → Went s events simulation) → StandsFor holds start [] []
     → IfSome known (λ xs. script ≡ xs) → slice ≡ script → Tells (lines_of slice) items → events ≡ items → IfOk r (λ simulation. IfSome known (λ xs. RanScript xs simulation))
 ran holds (Err ending) known script slice items events went stands all same tells is = tt
 ran holds (Ok simulation) None script slice items events went stands all same tells is = tt
@@ -80,10 +80,10 @@ ran holds (Ok simulation) (Some xs) script slice items events went stands all sa
 
 -- ---- printing
 
-pub printed_more : (old mid new : Option (List ℕ)) (outcomes : List (Option Outcome)) (i : ℕ) (d : Option Outcome) → i < length outcomes → Appends old mid (outcome_lines (map given (take i outcomes)))
-    → Appends mid new (outcome_line (given (get_or outcomes i d))) → Appends old new (outcome_lines (map given (take (i + 1) outcomes)))
+pub printed_more : (old mid new : Option (List ℕ)) (outcomes : List (Option Outcome)) (i : ℕ) (d : Option Outcome) → i < length outcomes → Appends old mid (outcome_lines (map bytes_given (take i outcomes)))
+    → Appends mid new (outcome_line (bytes_given (get_or outcomes i d))) → Appends old new (outcome_lines (map bytes_given (take (i + 1) outcomes)))
 printed_more old mid new outcomes i d there so one =
-    let text : outcome_lines (map given (take (i + 1) outcomes)) ≡ outcome_lines (map given (take i outcomes)) ++ outcome_line (given (get_or outcomes i d)) =
-    ap (λ x. outcome_lines (map given x)) (take_more outcomes i d there) ∙ ap outcome_lines (map-append given (take i outcomes) (get_or outcomes i d ∷ []))
-    ∙ flat_map-append outcome_line (map given (take i outcomes)) (given (get_or outcomes i d) ∷ []) ∙ ap (λ (x : List ℕ). outcome_lines (map given (take i outcomes)) ++ x) (append-nil (outcome_line (given (get_or outcomes i d)))) in
+    let text : outcome_lines (map bytes_given (take (i + 1) outcomes)) ≡ outcome_lines (map bytes_given (take i outcomes)) ++ outcome_line (bytes_given (get_or outcomes i d)) =
+    ap (λ x. outcome_lines (map bytes_given x)) (take_more outcomes i d there) ∙ ap outcome_lines (map-append bytes_given (take i outcomes) (get_or outcomes i d ∷ []))
+    ∙ flat_map-append outcome_line (map bytes_given (take i outcomes)) (bytes_given (get_or outcomes i d) ∷ []) ∙ ap (λ (x : List ℕ). outcome_lines (map bytes_given (take i outcomes)) ++ x) (append-nil (outcome_line (bytes_given (get_or outcomes i d)))) in
     subst (Appends old new) (sym text) (Appends-trans old mid new _ _ so one)

@@ -6,7 +6,7 @@ use Rattle.hex.specs.Hex.{encode_lower}
 use Rattle.fuse_tree.specs.State.{State, new_store}
 use Rattle.fuse_store.specs.History.{after}
 use Rattle.fuse_sim.specs.declared.event.Event.{Event}
-use Rattle.fuse_sim.specs.Driving.{committed, outcome_of, given, NoneAgain}
+use Rattle.fuse_sim.specs.Driving.{committed, outcome_of, bytes_given, NoneReused}
 use Rattle.fusekeep.specs.declared.ending.Ending.{Ending}
 use Rattle.fusekeep.specs.declared.ending.Ending.TheVariants.{Done, ScriptLine}
 use Rattle.fusekeep.specs.declared.simulate.Simulation.{Simulation}
@@ -30,7 +30,7 @@ outcomes_of s events = map (outcome_of s (committed [] events)) events
 
 -- so it was with events that began at a start
 pub record Went (s : State) (events : List Event) (simulation : Simulation) : Type 0 where
-  pub outcomes : map given simulation.outcomes.items ≡ outcomes_of s events
+  pub outcomes : map bytes_given simulation.outcomes.items ≡ outcomes_of s events
   pub nodes : simulation.counts.nodes ≡ length (state_after s events).nodes
   pub handles : simulation.counts.handles ≡ length (state_after s events).handles
 
@@ -47,7 +47,7 @@ start = new_store (record { secs = 0; nanos = 0 })
 pub record RanScript (script : List ℕ) (simulation : Simulation) : Type 0 where
   pub events : List Event
   pub tells : Tells (lines_of script) events
-  pub went : NoneAgain [] events → Went start events simulation
+  pub went : NoneReused [] events → Went start events simulation
 
 -- why a script wasn't run: its first bad line
 abbrev pub NotRun : List ℕ → Ending → Type 0
@@ -57,5 +57,5 @@ NotRun script _ = ⊥
 -- the events of a script were run to their end, where no message comes again whose answer was taken, and this is
 -- printed of them; or its first bad line is told, and nothing is printed
 abbrev pub Simulated : Option (List ℕ) → Option (List ℕ) → List ℕ → Ending → Type 0
-Simulated old new script Done = (events : List Event) × Tells (lines_of script) events × (NoneAgain [] events → Appends old new (simulation_text start events))
+Simulated old new script Done = (events : List Event) × Tells (lines_of script) events × (NoneReused [] events → Appends old new (simulation_text start events))
 Simulated old new script ending = NotRun script ending × (new ≡ old)

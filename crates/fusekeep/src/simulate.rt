@@ -4,7 +4,7 @@ ghost use Rattle.std.specs.Io.KnownBytes.{Appends};
 ghost use Rattle.fuse_tree.specs.State.{State};
 ghost use Rattle.fuse_store.specs.PlainKeeper.{plain_holds, plain_failed};
 ghost use Rattle.fuse_store.specs.Stands.{StandsFor};
-ghost use Rattle.fuse_sim.specs.Driving.{StandsIn, NoneAgain, IsFit, given};
+ghost use Rattle.fuse_sim.specs.Driving.{StandsIn, NoneReused, IsFit, bytes_given};
 ghost use Rattle.fusekeep.specs.Endings.{status_of, IsNotOfStream};
 ghost use Rattle.fusekeep.specs.Printing.{line, store_line};
 ghost use Rattle.fusekeep.specs.Simulating.{Went, RanScript, NotRun, Simulated, outcome_line, outcome_lines};
@@ -37,7 +37,7 @@ fn run_events<K: Restart>(
 ) -> Result<Simulation, Ending>
     requires going { IsSomeAnd keeper.old (λ k. K.has_failed k ≡ false) }
     requires fit { All IsFit events.now }
-    ensures ok { IfOk result (λ simulation. IsSomeAnd keeper.new K.is_honest → (s : State) → StandsIn K.holds keeper.old s [] [] → NoneAgain [] events.now → Went s events.now simulation) }
+    ensures ok { IfOk result (λ simulation. IsSomeAnd keeper.new K.is_honest → (s : State) → StandsIn K.holds keeper.old s [] [] → NoneReused [] events.now → Went s events.now simulation) }
     ensures left { OnOk result (IsSome keeper.new) }
     ensures err { IfErr result IsNotOfStream }
 {
@@ -62,7 +62,7 @@ fn write_outcome<W: Write>(
     writer: &mut W,
     outcome: &Option<Outcome>,
 ) -> Result<(), Ending>
-    ensures ok { OnOk result (Appends (W.contents writer.old) (W.contents writer.new) (outcome_line (given outcome.now))) }
+    ensures ok { OnOk result (Appends (W.contents writer.old) (W.contents writer.new) (outcome_line (bytes_given outcome.now))) }
     ensures err { IfErr result IsNotOfStream }
 {
     let Some(outcome) = outcome else {
@@ -86,7 +86,7 @@ fn print_simulation<W: Write>(
     simulation: &Simulation,
 ) -> Result<(), Ending>
     ensures ok { OnOk result (Appends (W.contents writer.old) (W.contents writer.new)
-        (outcome_lines (map given simulation.now.outcomes.items) ++ line (store_line simulation.now.counts.nodes simulation.now.counts.handles))) }
+        (outcome_lines (map bytes_given simulation.now.outcomes.items) ++ line (store_line simulation.now.counts.nodes simulation.now.counts.handles))) }
     ensures err { IfErr result IsNotOfStream }
 {
     for outcome in simulation.outcomes.as_slice() {
@@ -103,7 +103,7 @@ fn print_simulation<W: Write>(
 fn run_in_memory(alloc: Global, keeper: PlainKeeper, events: &[Event]) -> Result<Simulation, Ending>
     requires going { plain_failed keeper ≡ false }
     requires fit { All IsFit events.now }
-    ensures ok { IfOk result (λ simulation. (s : State) → StandsFor (plain_holds keeper) s [] [] → NoneAgain [] events.now → Went s events.now simulation) }
+    ensures ok { IfOk result (λ simulation. (s : State) → StandsFor (plain_holds keeper) s [] [] → NoneReused [] events.now → Went s events.now simulation) }
     ensures err { IfErr result IsNotOfStream }
 {
     let mut keeper = Some(keeper);
