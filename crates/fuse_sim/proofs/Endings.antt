@@ -1,22 +1,24 @@
 -- What holds when events have been run, to their end or to a fault.
-use Rattle.std.proofs.Common.{◌≡◌, ℕ, ◌+◌, ◌≤◌, Bool, true, false, List, [], ◌++◌, map, take, drop, Option, Some, None, IsSomeAnd, if◌then◌else◌, length, refl, sym, ap, subst, ◌∙◌}
+use Rattle.std.proofs.Common.{◌≡◌, ℕ, ◌+◌, ◌≤◌, Bool, true, false, ◌||◌, inl, inr, List, [], ◌++◌, map, take, drop, Option, Some, None, IsSomeAnd, if◌then◌else◌, length, refl, sym, ap, subst, ◌∙◌}
 use Rattle.std.proofs.Math.Seq.{take-add}
 use Rattle.std.proofs.lemmas.List.{take_all}
 use Rattle.std.proofs.lemmas.List.Elements.{All-append}
 use Rattle.fuse_tree.specs.State.{State}
 use Rattle.fuse_tree.specs.Rows.{Rows}
 use Rattle.fuse_store.specs.declared.fault.StoreFault.{StoreFault}
-use Rattle.fuse_store.specs.History.{History, HistoriesGrow, is_in}
+use Rattle.fuse_store.specs.History.{History, HistoriesGrow, is_in, said}
 use Rattle.fuse_store.specs.Stands.{Records, StandsFor, KeepsHeld}
 use Rattle.fuse_sim.specs.declared.event.Event.{Event}
 use Rattle.fuse_sim.specs.declared.event.Outcome.{Outcome}
 use Rattle.fuse_sim.specs.declared.event.DriveFault.{DriveFault}
 use Rattle.fuse_sim.specs.declared.event.DriveFault.TheVariants.{NotAMessage, ZeroUnique, Store, Memory}
 use Rattle.fuse_sim.specs.Driving.{committed, outcome_of, bytes_given, settled_by, NoneReused, HoldsIn, StandsIn, IsFit, event_of, before, is_store, IsStoreFault, LeftBy}
-use Rattle.fuse_sim.specs.HandedOn.{Ledger, empty_ledger, ledger_after, handed_on, RecordsLeft}
+use Rattle.fuse_sim.specs.HandedOn.{Ledger, empty_ledger, ledger_after, handed_on}
+use Rattle.fuse_sim.specs.LeftRecords.{Behind, RecordsLeft}
 use Rattle.fuse_sim.specs.Running.{Moved, MayBegin, Stops, AnswersNoMore}
-use Rattle.fuse_sim.proofs.Settled.{stands_later, stands_kept}
+use Rattle.fuse_sim.proofs.Settled.{tested, is_in-append, stands_later, stands_kept}
 use Rattle.fuse_sim.proofs.Driven.{ledger-append, settled_all, includes_none, handed_came}
+use Rattle.fuse_sim.proofs.Removed.{behind_handed, handed_behind}
 use Rattle.fuse_sim.proofs.Moves.{ran_more}
 
 -- events, and then others
@@ -44,7 +46,7 @@ pub moved_all : (holds holds' : Rows → Records → Type 0) (honest' : Type 0) 
 moved_all holds holds' honest' events others at p new past moved = subst (λ es. Moved holds holds' honest' empty_ledger es others p [] new) (take_all at events past) moved
 
 -- what stands in the end
-pub moved_kept : (holds holds' : Rows → Records → Type 0) (honest' : Type 0) (es others : List Event) (p : List ℕ) (new : List (Option Outcome)) → Moved holds holds' honest' empty_ledger es others p [] new
+moved_kept : (holds holds' : Rows → Records → Type 0) (honest' : Type 0) (es others : List Event) (p : List ℕ) (new : List (Option Outcome)) → Moved holds holds' honest' empty_ledger es others p [] new
     → honest' → (s : State) (h : History) (t : List ℕ) → StandsFor holds s h t → NoneReused t es → StandsFor holds' s (committed h es) (t ++ handed_on empty_ledger es)
 moved_kept holds holds' honest' es others p new moved is s h t so none = moved.ran.stands is s h t t so (λ i there. there) (includes_none t) none
 
@@ -74,10 +76,33 @@ moved_records holds holds' honest' es others p new moved is none rows records he
       done.1,
       done.2,
       record {
-        gone = λ i there. done.3.gone [] (includes_none []) none i there;
+        gone = λ i behind. done.3.gone [] (includes_none []) none i (behind_handed es i behind);
         others = λ i isnt. kept_or_gone (is_in (handed_on empty_ledger es) i) (records i) (done.1 i) (done.3.others i isnt) (λ there. absurd (let came = handed_came es i there in cc (came, isnt)));
       },
     )
+
+not_handed : (es : List Event) (i : ℕ) → ¬ Behind 1 es i → is_in (handed_on empty_ledger es) i ≡ false
+not_handed es i isnt = elim (tested (is_in (handed_on empty_ledger es) i)) [
+  | inl there ↦ absurd (isnt (handed_behind es i there))
+  | inr absent ↦ absent
+]
+
+not_in_both : (xs ys : List ℕ) (i : ℕ) → is_in xs i ≡ false → is_in ys i ≡ false → is_in (xs ++ ys) i ≡ false
+not_in_both xs ys i one two = is_in-append xs ys i ∙ ap (λ b. b || is_in ys i) one ∙ two
+
+same_records : {K : Type 0} (holds : K → Rows → Records → Type 0) (k : Option K) (x y : Rows) (p q : Records) → ((k : K) (x y : Rows) (p q : Records) → holds k x p → holds k y q → (x ≡ y) × ((i : ℕ) → p i ≡ q i))
+    → HoldsIn holds k x p → HoldsIn holds k y q → (i : ℕ) → p i ≡ q i
+same_records holds None x y p q one first second i = absurd first
+same_records holds (Some k) x y p q one first second i = (one k x y p q first second).1 i
+
+pub moved_left : {K : Type 0} (holds : K → Rows → Records → Type 0) (honest' : Type 0) (old new : Option K) (es others : List Event) (p : List ℕ) (outcomes : List (Option Outcome))
+    → ((k : K) (x y : Rows) (p q : Records) → holds k x p → holds k y q → (x ≡ y) × ((i : ℕ) → p i ≡ q i)) → Moved (HoldsIn holds old) (HoldsIn holds new) honest' empty_ledger es others p [] outcomes
+    → honest' → (s : State) (h : History) (t : List ℕ) → StandsIn holds old s h t → NoneReused t es → (rows : Rows) (records : Records) → HoldsIn holds new rows records
+    → (i : ℕ) → is_in t i ≡ false → ¬ Behind 1 es i → records i ≡ said s (committed h es) i
+moved_left holds honest' old new es others p outcomes one moved is s h t so none rows records held i unsettled isnt =
+    let left = moved_kept (HoldsIn holds old) (HoldsIn holds new) honest' es others p outcomes moved is s h t so none in
+    same_records holds new rows left.rows records left.records one held left.held i
+    ∙ left.stands.kept i (not_in_both t (handed_on empty_ledger es) i unsettled (not_handed es i isnt))
 
 -- ---- a fault
 

@@ -10,9 +10,9 @@ use Rattle.fuse_session.specs.Settling.{settles_if}
 use Rattle.fuse_sim.specs.declared.event.Fate.{Fate}
 use Rattle.fuse_sim.specs.declared.event.Fate.TheVariants.{Answered, AnswerLost, DiedBeforeCommit, DiedAfterCommit}
 use Rattle.fuse_sim.specs.declared.event.Event.{Event}
-use Rattle.fuse_sim.specs.Driving.{commits, commits_by, commits_in, settles, is_taken, dies}
+use Rattle.fuse_sim.specs.Driving.{commits, commits_by, commits_in, settles, is_taken, dies, Calm}
 use Rattle.fuse_sim.specs.HandedOn.{Ledger, empty_ledger, after_one, handed_by, after_commit, handed_at, crashed_if, after_event, ledger_after, handed_on}
-use Rattle.fuse_sim.specs.Running.{Calm, IsRun, handed_to, left_pending, settles_in}
+use Rattle.fuse_sim.specs.Running.{IsRun, handed_to, left_pending, settles_in}
 
 -- an event commits nothing and settles nothing, or it commits one message
 one_by : (fate : Fate) (class : Class) (e : Entry) (i : ℕ) → ((commits_by fate (entry_if class e) ≡ []) × (settles_if (is_taken fate) class i ≡ [])) ⊎ ((x : Entry) × (commits_by fate (entry_if class e) ≡ x ∷ []))
@@ -51,10 +51,10 @@ stepped died l l' e es here handed pending n m step hands count run = record {
 calm_step : (l : Ledger) (e : Event) → Calm e → after_event l e ≡ after_commit (commits e) l (settles e)
 calm_step l e calm = ap (λ b. crashed_if b (after_commit (commits e) l (settles e))) calm
 
-none_step : (l : Ledger) (e : Event) → Calm e → commits e ≡ [] → after_event l e ≡ l
+pub none_step : (l : Ledger) (e : Event) → Calm e → commits e ≡ [] → after_event l e ≡ l
 none_step l e calm none = calm_step l e calm ∙ ap (λ cs. after_commit cs l (settles e)) none
 
-one_step : (l : Ledger) (e : Event) (x : Entry) → Calm e → commits e ≡ x ∷ [] → after_event l e ≡ after_one l.room l.pending (settles e)
+pub one_step : (l : Ledger) (e : Event) (x : Entry) → Calm e → commits e ≡ x ∷ [] → after_event l e ≡ after_one l.room l.pending (settles e)
 one_step l e x calm one = calm_step l e calm ∙ ap (λ cs. after_commit cs l (settles e)) one
 
 -- nothing is settled where the server dies

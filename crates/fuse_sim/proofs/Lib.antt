@@ -5,6 +5,7 @@ pub mod Settled
 pub mod Groups
 pub mod Ledgers
 pub mod Driven
+pub mod Removed
 pub mod Moves
 pub mod Stopping
 pub mod Endings

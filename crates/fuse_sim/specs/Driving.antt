@@ -48,6 +48,9 @@ dies AnswerLost = false
 dies DiedBeforeCommit = true
 dies DiedAfterCommit = true
 
+abbrev pub Calm : Event → Type 0
+Calm e = dies e.fate ≡ false
+
 -- ---- what is answered
 
 -- the answer to a message of this class and unique: none, the header with an error, or what was said of the id

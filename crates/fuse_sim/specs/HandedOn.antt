@@ -1,10 +1,9 @@
 -- Which ids are handed on, so that their records are removed (own profile).
-use Rattle.std.specs.Prelude.{◌≡◌, ◌-◌, ℕ, zero, suc, Bool, true, false, List, [], ◌∷◌, ◌++◌, None}
+use Rattle.std.specs.Prelude.{◌-◌, ℕ, zero, suc, Bool, true, false, List, [], ◌∷◌, ◌++◌}
 use Rattle.fuse_store.specs.declared.keeper.TheConstants.{MAX_GROUP}
-use Rattle.fuse_store.specs.History.{Entry, is_in, ids_in}
-use Rattle.fuse_store.specs.Stands.{Records}
+use Rattle.fuse_store.specs.History.{Entry}
 use Rattle.fuse_sim.specs.declared.event.Event.{Event}
-use Rattle.fuse_sim.specs.Driving.{commits, commits_in, settles, dies}
+use Rattle.fuse_sim.specs.Driving.{commits, settles, dies}
 
 -- how many kept messages the group still takes, and which ids are to be handed on with the next one
 pub record Ledger : Type 0 where
@@ -48,8 +47,3 @@ ledger_after l (e ∷ es) = ledger_after (after_event l e) es
 abbrev pub handed_on : Ledger → List Event → List ℕ
 handed_on l [] = []
 handed_on l (e ∷ es) = handed_at (commits e) l ++ handed_on (after_event l e) es
-
--- the records of those are gone, and those of ids that didn't come are the ones of before
-pub record RecordsLeft (events : List Event) (records records' : Records) : Type 0 where
-  pub gone : (i : ℕ) → is_in (handed_on empty_ledger events) i ≡ true → records' i ≡ None
-  pub others : (i : ℕ) → is_in (ids_in (commits_in events)) i ≡ false → records' i ≡ records i

@@ -1,4 +1,5 @@
 pub mod Driving
+pub mod LeftRecords
 pub mod HandedOn
 pub mod Running
 pub mod Pending

@@ -23,7 +23,7 @@ use Rattle.fuse_sim.specs.declared.event.Fate.TheVariants.{Answered, AnswerLost,
 use Rattle.fuse_sim.specs.declared.event.Event.{Event}
 use Rattle.fuse_sim.specs.declared.event.Outcome.{Outcome}
 use Rattle.fuse_sim.specs.declared.event.DriveFault.{DriveFault}
-use Rattle.fuse_sim.specs.Driving.{commits_in, committed, settles, outcome_of, bytes_given, is_taken, where_taken, dies, NoneReused, IsFit, HoldsIn, StandsIn, event_of, before, CausedBy, IsStoreFault, OfRestart, is_store, LeftBy}
+use Rattle.fuse_sim.specs.Driving.{commits_in, committed, settles, outcome_of, bytes_given, is_taken, where_taken, Calm, NoneReused, IsFit, HoldsIn, StandsIn, event_of, before, CausedBy, IsStoreFault, OfRestart, is_store, LeftBy}
 use Rattle.fuse_sim.specs.HandedOn.{Ledger, ledger_after, handed_on}
 
 abbrev pub dies_before : Fate → Bool
@@ -31,9 +31,6 @@ dies_before Answered = false
 dies_before AnswerLost = false
 dies_before DiedBeforeCommit = true
 dies_before DiedAfterCommit = false
-
-abbrev pub Calm : Event → Type 0
-Calm e = dies e.fate ≡ false
 
 -- the events of a group: no server dies but after the last of them, where one does
 abbrev pub IsRun : Bool → List Event → Type 0

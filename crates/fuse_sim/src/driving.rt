@@ -1,11 +1,11 @@
 // Running events to their end.
-ghost use Rattle.std.specs.Prelude.{◌≡◌, ◌++◌, ℕ, List, [], false, true, length, map, IsSomeAnd, IfSome, None, All, IfOk, IfErr, OnOk, MatchResult};
+ghost use Rattle.std.specs.Prelude.{◌≡◌, ℕ, List, [], false, true, length, map, IsSomeAnd, IfSome, None, All, IfOk, IfErr, OnOk, MatchResult};
 ghost use Rattle.fuse_tree.specs.State.{State};
 ghost use Rattle.fuse_tree.specs.Rows.{Rows};
-ghost use Rattle.fuse_store.specs.History.{History};
+ghost use Rattle.fuse_store.specs.History.{History, said, is_in};
 ghost use Rattle.fuse_store.specs.Stands.{Records};
 ghost use Rattle.fuse_sim.specs.Driving.{HoldsIn, StandsIn, committed, outcome_of, bytes_given, settled_by, NoneReused, IsFit, Names, before, is_store, IsStoreFault, LeftBy, OfRestart};
-ghost use Rattle.fuse_sim.specs.HandedOn.{empty_ledger, handed_on, RecordsLeft};
+ghost use Rattle.fuse_sim.specs.LeftRecords.{Behind, RecordsLeft};
 
 use crate::event::{DriveFault, Event, Outcome};
 use crate::running::run_next;
@@ -49,11 +49,12 @@ pub fn drive<K: Restart>(
     ensures going { OnOk result (IsSomeAnd keeper.new (λ k. K.has_failed k ≡ false)) }
     ensures failed { IfErr result (λ fault. IfSome keeper.new (λ k. K.has_failed k ≡ is_store fault)) }
 
-    // Which records are gone, and which stay, whatever they are. The headline doesn't speak of this.
+    // Not of the headline: which records are left. That of an answered id goes with the 16th request committed behind it
+    // at the latest, and with the first at the earliest, unless the server dies before.
     ensures records { OnOk result (IsSomeAnd keeper.new K.is_honest → NoneReused [] events.now → (rows : Rows) (records : Records) → HoldsIn K.holds keeper.old rows records
         → (rows' : Rows) × (records' : Records) × HoldsIn K.holds keeper.new rows' records' × RecordsLeft events.now records records') }
     ensures kept { OnOk result (IsSomeAnd keeper.new K.is_honest → (start : State) (h : History) (settled : List ℕ) → StandsIn K.holds keeper.old start h settled → NoneReused settled events.now
-        → StandsIn K.holds keeper.new start (committed h events.now) (settled ++ handed_on empty_ledger events.now)) }
+        → (rows : Rows) (records : Records) → HoldsIn K.holds keeper.new rows records → (i : ℕ) → is_in settled i ≡ false → ¬ Behind 1 events.now i → records i ≡ said start (committed h events.now) i) }
 {
     histories_grow();
     let mut outcomes = Vec::new(alloc);

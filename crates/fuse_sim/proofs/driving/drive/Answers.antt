@@ -2,7 +2,7 @@ use Rattle.std.proofs.Common.{IsSomeAnd}
 use Rattle.std.proofs.lemmas.Result.{err_from_is_err_and}
 use Rattle.fuse_store.specs.Group.{ids_of}
 use Rattle.fuse_sim.specs.Driving.{HoldsIn}
-use Rattle.fuse_sim.proofs.Endings.{moved_more, moved_all, moved_stands, moved_kept, moved_outcomes, moved_count, moved_records, stopped, stopped_store}
+use Rattle.fuse_sim.proofs.Endings.{moved_more, moved_all, moved_stands, moved_left, moved_outcomes, moved_count, moved_records, stopped, stopped_store}
 use Rattle.fuse_sim.proofs.driving.drive.Goals as goal
 
 pub loop-at-preserved : goal.loop-at-preserved
@@ -38,7 +38,7 @@ returns-clause-tree_stands g c =
 
 pub returns-clause-kept : goal.returns-clause-kept
 returns-clause-kept g c =
-    moved_kept _ _ _ c.args.events.now _ _ _
+    moved_left g.K.Keeper.holds _ c.args.keeper.now c.loop-at.keeper c.args.events.now _ _ _ g.met.K.Keeper.one_holding
     (moved_all (HoldsIn g.K.Keeper.holds c.args.keeper.now) (HoldsIn g.K.Keeper.holds c.loop-at.keeper) (IsSomeAnd c.loop-at.keeper g.K.Keeper.is_honest) c.args.events.now _ c.loop-at.at _ _ c.loop-at-test.false c.loop-at.invariant.moved)
 
 pub returns-clause-outcomes : goal.returns-clause-outcomes
