@@ -12,10 +12,10 @@ use Rattle.fuse_sim.specs.declared.event.Event.{Event}
 use Rattle.fuse_sim.specs.declared.event.Outcome.{Outcome}
 use Rattle.fuse_sim.specs.declared.event.DriveFault.{DriveFault}
 use Rattle.fuse_sim.specs.declared.event.DriveFault.TheVariants.{NotAMessage, ZeroUnique, Store, Memory}
-use Rattle.fuse_sim.specs.Driving.{committed, outcome_of, bytes_given, settled_by, NoneReused, HoldsIn, StandsIn, IsFit, event_of, before, is_store, IsStoreFault, LeftBy}
+use Rattle.fuse_sim.specs.Driving.{AnswersNoMore, committed, outcome_of, bytes_given, settled_by, NoneReused, HoldsIn, StandsIn, IsFit, event_of, before, is_store, IsStoreFault, LeftBy}
 use Rattle.fuse_sim.specs.HandedOn.{Ledger, empty_ledger, ledger_after, handed_on}
 use Rattle.fuse_sim.specs.LeftRecords.{Behind, RecordsLeft}
-use Rattle.fuse_sim.specs.Running.{Moved, MayBegin, Stops, AnswersNoMore}
+use Rattle.fuse_sim.specs.Running.{Moved, MayBegin, Stops}
 use Rattle.fuse_sim.proofs.Settled.{tested, is_in-append, stands_later, stands_kept}
 use Rattle.fuse_sim.proofs.Driven.{ledger-append, settled_all, includes_none, handed_came}
 use Rattle.fuse_sim.proofs.Removed.{behind_handed, handed_behind}

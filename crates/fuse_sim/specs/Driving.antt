@@ -103,6 +103,10 @@ HoldsIn holds (Some k) = holds k
 abbrev pub StandsIn : {K : Type 0} → (K → Rows → Records → Type 0) → Option K → State → History → List ℕ → Type 0
 StandsIn holds keeper = StandsFor (HoldsIn holds keeper)
 
+-- the second keeper may answer no fault that the first one couldn't
+abbrev pub AnswersNoMore : {K : Type 0} → (K → StoreFault → Type 0) → Option K → Option K → Type 0
+AnswersNoMore may_answer old new = (f : StoreFault) → IsSomeAnd new (λ k. may_answer k f) → IsSomeAnd old (λ k. may_answer k f)
+
 -- ---- faults
 
 -- an event that can be run: its bytes are just one message, which can be answered

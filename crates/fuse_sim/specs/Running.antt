@@ -153,7 +153,3 @@ pub record Stops {K : Type 0} (holds : K → Rows → Records → Type 0) (hones
   pub emptied : new ≡ None → OfRestart refuses events fault
   pub has_failed : IfSome new (λ k. failed k ≡ is_store fault)
   pub was_honest : IsSomeAnd new honest → IsSomeAnd old honest
-
--- the second keeper may answer no fault that the first one couldn't
-abbrev pub AnswersNoMore : {K : Type 0} → (K → StoreFault → Type 0) → Option K → Option K → Type 0
-AnswersNoMore answers old new = (f : StoreFault) → IsSomeAnd new (λ k. answers k f) → IsSomeAnd old (λ k. answers k f)

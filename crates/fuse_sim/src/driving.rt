@@ -4,7 +4,7 @@ ghost use Rattle.fuse_tree.specs.State.{State};
 ghost use Rattle.fuse_tree.specs.Rows.{Rows};
 ghost use Rattle.fuse_store.specs.History.{History, said, is_in};
 ghost use Rattle.fuse_store.specs.Stands.{Records};
-ghost use Rattle.fuse_sim.specs.Driving.{HoldsIn, StandsIn, committed, outcome_of, bytes_given, settled_by, NoneReused, IsFit, Names, before, is_store, IsStoreFault, LeftBy, OfRestart};
+ghost use Rattle.fuse_sim.specs.Driving.{HoldsIn, StandsIn, AnswersNoMore, committed, outcome_of, bytes_given, settled_by, NoneReused, IsFit, Names, before, is_store, IsStoreFault, LeftBy, OfRestart};
 ghost use Rattle.fuse_sim.specs.LeftRecords.{Behind, RecordsLeft};
 
 use crate::event::{DriveFault, Event, Outcome};
@@ -48,6 +48,9 @@ pub fn drive<K: Restart>(
     // A keeper that is left has failed exactly where the store answered the fault.
     ensures going { OnOk result (IsSomeAnd keeper.new (λ k. K.has_failed k ≡ false)) }
     ensures failed { IfErr result (λ fault. IfSome keeper.new (λ k. K.has_failed k ≡ is_store fault)) }
+
+    // It may answer no fault afterwards that it couldn't before.
+    ensures may { AnswersNoMore K.may_answer keeper.old keeper.new }
 
     // Not of the headline: which records are left. That of an answered id goes with the 16th request committed behind it
     // at the latest, and with the first at the earliest, unless the server dies before.

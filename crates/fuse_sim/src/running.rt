@@ -5,9 +5,9 @@ ghost use Rattle.fuse_store.specs.History.{History};
 ghost use Rattle.fuse_store.specs.Stands.{KeepsHeld};
 ghost use Rattle.fuse_store.specs.Group.{entries_of, HasId, IsKept, ids_of};
 ghost use Rattle.fuse_store.specs.declared.keeper.TheConstants.{MAX_GROUP as max_group, MAX_SETTLED as max_settled};
-ghost use Rattle.fuse_sim.specs.Driving.{HoldsIn, StandsIn, IsFit, commits_in, event_of, is_store, IsStoreFault};
+ghost use Rattle.fuse_sim.specs.Driving.{HoldsIn, StandsIn, AnswersNoMore, IsFit, commits_in, event_of, is_store, IsStoreFault};
 ghost use Rattle.fuse_sim.specs.HandedOn.{Ledger};
-ghost use Rattle.fuse_sim.specs.Running.{NoneDiesBefore, Worked, Moved, Stops, AnswersNoMore, Begins, MayBegin};
+ghost use Rattle.fuse_sim.specs.Running.{NoneDiesBefore, Worked, Moved, Stops, Begins, MayBegin};
 
 use crate::event::{DriveFault, Event, Outcome};
 use crate::gathering::{gather, is_before_commit, test_event};
@@ -23,7 +23,7 @@ fn reopen<K: Restart>(keeper: &mut Option<K>) -> Result<(), StoreFault>
     ensures same { OnOk result (IsSomeAnd keeper.new K.is_honest → KeepsHeld (HoldsIn K.holds keeper.old) (HoldsIn K.holds keeper.new)) }
     ensures honest { OnOk result (IsSomeAnd keeper.new K.is_honest → IsSomeAnd keeper.old K.is_honest) }
     ensures going { OnOk result (IsSomeAnd keeper.new (λ k. K.has_failed k ≡ false)) }
-    ensures may { OnOk result (AnswersNoMore K.may_answer keeper.old keeper.new) }
+    ensures may { AnswersNoMore K.may_answer keeper.old keeper.new }
     ensures err { OnErr result (keeper.new ≡ None) }
     ensures refused { IfErr result (λ f. IsSomeAnd keeper.old (λ k. K.may_refuse k f)) }
 {
@@ -43,7 +43,7 @@ fn end_group<K: Restart>(
     ensures same { OnOk result (IsSomeAnd keeper.new K.is_honest → KeepsHeld (HoldsIn K.holds keeper.old) (HoldsIn K.holds keeper.new)) }
     ensures honest { OnOk result (IsSomeAnd keeper.new K.is_honest → IsSomeAnd keeper.old K.is_honest) }
     ensures going { OnOk result (IsSomeAnd keeper.new (λ k. K.has_failed k ≡ false)) }
-    ensures may { OnOk result (AnswersNoMore K.may_answer keeper.old keeper.new) }
+    ensures may { AnswersNoMore K.may_answer keeper.old keeper.new }
     ensures pending { OnOk result (pending.new.items ≡ (if dies then [] else pending.old.items)) }
     ensures err { OnErr result ((keeper.new ≡ None) × (dies ≡ true)) }
     ensures fault { IfErr result (λ f. (is_store f ≡ true) × (event_of f ≡ event)) }
@@ -124,7 +124,7 @@ fn run_group<K: Restart>(
     ensures few { OnOk result (length pending.new.items ≤ max_settled) }
     ensures going { OnOk result (IsSomeAnd keeper.new (λ k. K.has_failed k ≡ false)) }
     ensures honest { OnOk result (IsSomeAnd keeper.new K.is_honest → IsSomeAnd keeper.old K.is_honest) }
-    ensures may { OnOk result (AnswersNoMore K.may_answer keeper.old keeper.new) }
+    ensures may { AnswersNoMore K.may_answer keeper.old keeper.new }
     ensures err { IfErr result (λ fault. Stops K.holds K.is_honest K.is_clean K.has_failed K.may_answer K.may_refuse keeper.old keeper.new events.now at fault) }
 {
     let Ok(group) = gather(alloc, &events[at..]) else {
@@ -162,7 +162,7 @@ pub(crate) fn run_next<K: Restart>(
     ensures few { OnOk result (length pending.new.items ≤ max_settled) }
     ensures going { OnOk result (IsSomeAnd keeper.new (λ k. K.has_failed k ≡ false)) }
     ensures honest { OnOk result (IsSomeAnd keeper.new K.is_honest → IsSomeAnd keeper.old K.is_honest) }
-    ensures may { OnOk result (AnswersNoMore K.may_answer keeper.old keeper.new) }
+    ensures may { AnswersNoMore K.may_answer keeper.old keeper.new }
     ensures err { IfErr result (λ fault. Stops K.holds K.is_honest K.is_clean K.has_failed K.may_answer K.may_refuse keeper.old keeper.new events.now at fault) }
 {
     let event = &events[at];

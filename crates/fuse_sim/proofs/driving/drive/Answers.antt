@@ -14,7 +14,7 @@ loop-at-preserved g c =
           c.args.events.now c.loop-at.at c.in_ok-at.field-0 (ids_of c.loop-at.pending.items) (ids_of c.run_next.new.pending.items) c.loop-at.outcomes.items c.run_next.new.outcomes.items c.in_ok-at.ensures.honest c.loop-at.invariant.moved c.in_ok-at.ensures.ok;
       few = c.in_ok-at.ensures.few;
       going = c.in_ok-at.ensures.going;
-      may = λ f is. c.loop-at.invariant.may f (c.in_ok-at.ensures.may f is);
+      may = λ f is. c.loop-at.invariant.may f (c.run_next.ensures.may f is);
     }
 
 pub returns-in_err-at-clause-after_fault : goal.returns-in_err-at-clause-after_fault
@@ -30,6 +30,9 @@ returns-in_err-at-clause-store g c =
     let p = err_from_is_err_and c.from_residual.result c.from_residual.ensures.1 in
     rw (p.1, p.2) (stopped_store k.holds k.is_honest k.is_clean k.has_failed k.may_answer g.K.Restart.may_refuse c.args.keeper.now c.loop-at.keeper c.run_next.new.keeper c.args.events.now c.loop-at.at c.in_err-at.field-0.0 (ids_of c.loop-at.pending.items) c.loop-at.outcomes.items
     g.met.K.Keeper.clean_is_honest c.loop-at.invariant.moved c.loop-at.invariant.may c.in_err-at.ensures.err)
+
+pub returns-in_err-at-clause-may : goal.returns-in_err-at-clause-may
+returns-in_err-at-clause-may g c = λ f is. c.loop-at.invariant.may f (c.run_next.ensures.may f is)
 
 pub returns-clause-tree_stands : goal.returns-clause-tree_stands
 returns-clause-tree_stands g c =

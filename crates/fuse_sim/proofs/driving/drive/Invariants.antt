@@ -1,8 +1,8 @@
 use Rattle.std.proofs.Common.{◌≡◌, ◌≤◌, ◌-◌, length, take, drop, [], IsSomeAnd, false}
 use Rattle.fuse_store.specs.Group.{ids_of}
-use Rattle.fuse_sim.specs.Driving.{HoldsIn}
+use Rattle.fuse_sim.specs.Driving.{HoldsIn, AnswersNoMore}
 use Rattle.fuse_sim.specs.HandedOn.{empty_ledger}
-use Rattle.fuse_sim.specs.Running.{Moved, AnswersNoMore}
+use Rattle.fuse_sim.specs.Running.{Moved}
 use Rattle.fuse_sim.proofs.driving.drive.Given as goal
 
 abbrev pub invariant-loop-at : goal.invariant-loop-at
