@@ -12,3 +12,4 @@ pub mod Endings
 pub mod Marks
 pub mod Pendings
 pub mod Lifetimes
+pub mod Vectors

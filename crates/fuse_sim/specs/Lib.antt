@@ -4,3 +4,4 @@ pub mod HandedOn
 pub mod Running
 pub mod Pending
 pub mod Lives
+pub mod Vectors
