@@ -15,8 +15,8 @@ use Rattle.fuse_session.specs.Settling.{settles_if, comes_again, MayCome}
 use Rattle.fuse_sim.specs.declared.event.Fate.{Fate}
 use Rattle.fuse_sim.specs.declared.event.Fate.TheVariants.{Answered, AnswerLost, DiedBeforeCommit, DiedAfterCommit}
 use Rattle.fuse_sim.specs.declared.event.Event.{Event}
-use Rattle.fuse_sim.specs.Driving.{commits, commits_by, commits_in, committed, answer_in, outcome_of, is_taken, where_taken, settles, settled_by, NoneAgain, dies}
-use Rattle.fuse_sim.specs.HandedOn.{Ledger, fresh, joined, handed_by, after_commit, handed_at, crashed_if, after_event, ledger_after, handed_on}
+use Rattle.fuse_sim.specs.Driving.{commits, commits_by, commits_in, committed, answer_in, outcome_of, is_taken, where_taken, settles, settled_by, NoneReused, dies}
+use Rattle.fuse_sim.specs.HandedOn.{Ledger, empty_ledger, after_one, handed_by, after_commit, handed_at, crashed_if, after_event, ledger_after, handed_on}
 use Rattle.fuse_sim.proofs.Gathered.{commits-append, only_one}
 use Rattle.fuse_sim.proofs.Settled.{includes_left, includes_right, includes_both, unsettled_too}
 
@@ -97,20 +97,20 @@ pub all_unsettled_too : (u t : List ℕ) (es : List Entry) → Includes u t → 
 all_unsettled_too u t es within each k d lt = unsettled_too u t _ within (each k d lt)
 
 -- no message that is committed has an id that was settled before
-pub none_again : (u : List ℕ) (es : List Event) → NoneAgain u es → All (IsUnsettled u) (commits_in es)
-none_again u [] none = All-nil (IsUnsettled u)
-none_again u (e ∷ es) none = All-append (IsUnsettled u) (commits e) (commits_in es) (unsettled_one u e none.0)
-    (all_unsettled_too (u ++ settles e) u (commits_in es) (includes_left u (settles e)) (none_again (u ++ settles e) es none.1))
+pub none_reused : (u : List ℕ) (es : List Event) → NoneReused u es → All (IsUnsettled u) (commits_in es)
+none_reused u [] none = All-nil (IsUnsettled u)
+none_reused u (e ∷ es) none = All-append (IsUnsettled u) (commits e) (commits_in es) (unsettled_one u e none.0)
+    (all_unsettled_too (u ++ settles e) u (commits_in es) (includes_left u (settles e)) (none_reused (u ++ settles e) es none.1))
 
 pub settled-append : (u : List ℕ) (xs ys : List Event) → settled_by u (xs ++ ys) ≡ settled_by (settled_by u xs) ys
 settled-append u [] ys = refl
 settled-append u (x ∷ xs) ys = settled-append (u ++ settles x) xs ys
 
 -- events, and then others
-pub again-parts : (u : List ℕ) (xs ys : List Event) → NoneAgain u (xs ++ ys) → NoneAgain u xs × NoneAgain (settled_by u xs) ys
-again-parts u [] ys none = (tt, none)
-again-parts u (x ∷ xs) ys none =
-    let more = again-parts (u ++ settles x) xs ys none.1 in
+pub reused-parts : (u : List ℕ) (xs ys : List Event) → NoneReused u (xs ++ ys) → NoneReused u xs × NoneReused (settled_by u xs) ys
+reused-parts u [] ys none = (tt, none)
+reused-parts u (x ∷ xs) ys none =
+    let more = reused-parts (u ++ settles x) xs ys none.1 in
     ((none.0, more.0), more.1)
 
 settled_still : (u : List ℕ) (es : List Event) → Includes (settled_by u es) u
@@ -121,7 +121,7 @@ settled_still u (e ∷ es) i there = settled_still (u ++ settles e) es i (includ
 pub includes_none : (u : List ℕ) → Includes u []
 includes_none u i there = absurd (cc there)
 
-pending_joined : (u p settled : List ℕ) (room : ℕ) → Includes u p → Includes (u ++ settled) (joined room p settled).pending
+pending_joined : (u p settled : List ℕ) (room : ℕ) → Includes u p → Includes (u ++ settled) (after_one room p settled).pending
 pending_joined u p settled zero within = includes_right u settled
 pending_joined u p settled (suc room) within = includes_both (u ++ settled) p settled (λ i there. includes_left u settled i (within i there)) (includes_right u settled)
 
@@ -185,5 +185,5 @@ settled_came u (e ∷ es) =
     let first : Includes whole (u ++ settles e) = includes_both whole u (settles e) (includes_left u (ids_in (commits_in (e ∷ es)))) (λ i there. here i (settles_came_by e.fate (class_of e.bytes) e.bytes e.moment i there)) in
     λ i there. includes_both whole (u ++ settles e) (ids_in (commits_in es)) first later i (settled_came (u ++ settles e) es i there)
 
-pub handed_came : (es : List Event) → Includes (ids_in (commits_in es)) (handed_on fresh es)
-handed_came es i there = settled_came [] es i (handed_settled [] fresh es (includes_none []) i there)
+pub handed_came : (es : List Event) → Includes (ids_in (commits_in es)) (handed_on empty_ledger es)
+handed_came es i there = settled_came [] es i (handed_settled [] empty_ledger es (includes_none []) i there)

@@ -18,21 +18,21 @@ use Rattle.fuse_session.specs.Worked.{entry_if, message_entry, unique_of}
 use Rattle.fuse_session.specs.Group.{left_by}
 use Rattle.fuse_sim.specs.declared.event.Event.{Event}
 use Rattle.fuse_sim.specs.declared.event.Outcome.{Outcome}
-use Rattle.fuse_sim.specs.Driving.{commits_in, committed, answer_in, outcome_of, is_taken, where_taken}
-use Rattle.fuse_sim.specs.Running.{dies_before, NoneLost, handed_to, left_pending, answers_in, head_answer, outcomes_by, HasAnswers, settles_in, Adds, Worked}
+use Rattle.fuse_sim.specs.Driving.{commits_in, committed, answer_in, outcome_of, bytes_given, is_taken, where_taken}
+use Rattle.fuse_sim.specs.Running.{dies_before, NoneDiesBefore, handed_to, left_pending, answers_in, head_answer, outcomes_by, HasAnswers, settles_in, Adds, Worked}
 use Rattle.fuse_sim.proofs.Gathered.{commits_kept}
 
 entry_at : Event → Entry
 entry_at e = message_entry e.bytes e.moment
 
-first_goes : (e : Event) (run : List Event) → NoneLost (e ∷ run) → dies_before e.fate ≡ false
+first_goes : (e : Event) (run : List Event) → NoneDiesBefore (e ∷ run) → dies_before e.fate ≡ false
 first_goes e run goes = goes 0 e (omega arith)
 
-others_go : (e : Event) (run : List Event) → NoneLost (e ∷ run) → NoneLost run
+others_go : (e : Event) (run : List Event) → NoneDiesBefore (e ∷ run) → NoneDiesBefore run
 others_go e run goes k d lt = goes (suc k) d (omega (arith, lt))
 
 -- what is committed first, and then the others
-commits_first : (e : Event) (run : List Event) → NoneLost (e ∷ run) → commits_in (e ∷ run) ≡ entry_if (class_of e.bytes) (message_entry e.bytes e.moment) ++ commits_in run
+commits_first : (e : Event) (run : List Event) → NoneDiesBefore (e ∷ run) → commits_in (e ∷ run) ≡ entry_if (class_of e.bytes) (message_entry e.bytes e.moment) ++ commits_in run
 commits_first e run goes = ap (λ r. r ++ commits_in run) (commits_kept e.fate (entry_if (class_of e.bytes) (message_entry e.bytes e.moment)) (first_goes e run goes))
 
 -- ---- each kept message has an answer
@@ -43,13 +43,13 @@ enough_by (Bare errno) e es answers is = (λ isnt. absurd (cc isnt), is)
 enough_by Kept e es [] is = absurd (omega arith)
 enough_by Kept e es (a ∷ answers) is = (λ _. omega arith, omega arith)
 
-pub has_answers : (run : List Event) (answers : List Said) → NoneLost run → length answers ≡ length (commits_in run) → HasAnswers run answers
+pub has_answers : (run : List Event) (answers : List Said) → NoneDiesBefore run → length answers ≡ length (commits_in run) → HasAnswers run answers
 has_answers [] answers goes is = tt
 has_answers (e ∷ run) answers goes is =
     let p = enough_by (class_of e.bytes) (message_entry e.bytes e.moment) (commits_in run) answers (is ∙ ap length (commits_first e run goes)) in
     (p.0, has_answers run (left_by (class_of e.bytes) answers) (others_go e run goes) p.1)
 
-pub answers_for : (run : List Event) (taken : List (Request × Moment)) (dones : List Done) → NoneLost run → entries_of taken ≡ commits_in run → length dones ≡ length taken → HasAnswers run (answers_in dones)
+pub answers_for : (run : List Event) (taken : List (Request × Moment)) (dones : List Done) → NoneDiesBefore run → entries_of taken ≡ commits_in run → length dones ≡ length taken → HasAnswers run (answers_in dones)
 answers_for run taken dones goes entries count =
     has_answers run (answers_in dones) goes (length-map dones (λ (d : Done). d.answer) ∙ count ∙ sym (length-map taken entry_of) ∙ ap length entries)
 
@@ -71,7 +71,7 @@ head_says s g e Kept es (a ∷ answers) are =
     let here : Some a ≡ said s g (entry_id (message_entry e.bytes e.moment)) = cc are in
     ap (option_map (λ (x : Said). wire x.errno x.body (unique_of e.bytes))) here
 
-pub outcomes_say : (s : State) (g : History) (run : List Event) (answers : List Said) → NoneLost run → map (λ a. Some a) answers ≡ map (λ x. said s g (entry_id x)) (commits_in run)
+pub outcomes_say : (s : State) (g : History) (run : List Event) (answers : List Said) → NoneDiesBefore run → map (λ a. Some a) answers ≡ map (λ x. said s g (entry_id x)) (commits_in run)
     → outcomes_by run answers ≡ map (outcome_of s g) run
 outcomes_say s g [] answers goes are = refl
 outcomes_say s g (e ∷ run) answers goes are =
@@ -84,10 +84,14 @@ some_answers : (dones : List Done) → map (λ a. Some a) (answers_in dones) ≡
 some_answers [] = refl
 some_answers (d ∷ dones) = ap (λ r. Some d.answer ∷ r) (some_answers dones)
 
+outcomes_count : (run : List Event) (answers : List Said) → length (outcomes_by run answers) ≡ length run
+outcomes_count [] answers = refl
+outcomes_count (e ∷ run) answers = ap suc (outcomes_count run (left_by (class_of e.bytes) answers))
+
 -- ---- all of it
 
 pub worked : (holds holds' : Rows → Records → Type 0) (honest' : Type 0) (run : List Event) (taken : List (Request × Moment)) (pending mid pending' : List ℕ) (dones : List Done) (old new : List (Option Outcome))
-    → NoneLost run → entries_of taken ≡ commits_in run
+    → NoneDiesBefore run → entries_of taken ≡ commits_in run
     → (honest' → (s : State) (h : History) (t : List ℕ) → StandsFor holds s h t → All (IsUnsettled (t ++ handed_to (entries_of taken) pending)) (entries_of taken)
     → Performed holds' s h (t ++ handed_to (entries_of taken) pending) (entries_of taken) dones)
     → (honest' → (rows : Rows) (records : Records) → holds rows records
@@ -101,6 +105,7 @@ worked holds holds' honest' run taken pending mid pending' dones old new goes en
     record {
       added = adds.added;
       items = adds.items;
+      count = sym (length-map adds.added bytes_given) ∙ ap length adds.are ∙ outcomes_count run (answers_in dones);
       stands = λ honest s h t so un. (done honest s h t so un).stands;
       outcomes = λ honest s h t so un. adds.are ∙ outcomes_say s (committed h run) run (answers_in dones) goes (some_answers dones ∙ (done honest s h t so un).answers);
       records = subst Q entries others;

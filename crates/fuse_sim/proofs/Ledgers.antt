@@ -10,9 +10,9 @@ use Rattle.fuse_session.specs.Settling.{settles_if}
 use Rattle.fuse_sim.specs.declared.event.Fate.{Fate}
 use Rattle.fuse_sim.specs.declared.event.Fate.TheVariants.{Answered, AnswerLost, DiedBeforeCommit, DiedAfterCommit}
 use Rattle.fuse_sim.specs.declared.event.Event.{Event}
-use Rattle.fuse_sim.specs.Driving.{commits, commits_by, commits_in, settles, is_taken, dies}
-use Rattle.fuse_sim.specs.HandedOn.{Ledger, fresh, joined, handed_by, after_commit, handed_at, crashed_if, after_event, ledger_after, handed_on}
-use Rattle.fuse_sim.specs.Running.{Calm, IsRun, handed_to, left_pending, settles_in}
+use Rattle.fuse_sim.specs.Driving.{commits, commits_by, commits_in, settles, is_taken, dies, Calm}
+use Rattle.fuse_sim.specs.HandedOn.{Ledger, empty_ledger, after_one, handed_by, after_commit, handed_at, crashed_if, after_event, ledger_after, handed_on}
+use Rattle.fuse_sim.specs.Running.{IsRun, handed_to, left_pending, settles_in}
 
 -- an event commits nothing and settles nothing, or it commits one message
 one_by : (fate : Fate) (class : Class) (e : Entry) (i : ℕ) → ((commits_by fate (entry_if class e) ≡ []) × (settles_if (is_taken fate) class i ≡ [])) ⊎ ((x : Entry) × (commits_by fate (entry_if class e) ≡ x ∷ []))
@@ -51,14 +51,14 @@ stepped died l l' e es here handed pending n m step hands count run = record {
 calm_step : (l : Ledger) (e : Event) → Calm e → after_event l e ≡ after_commit (commits e) l (settles e)
 calm_step l e calm = ap (λ b. crashed_if b (after_commit (commits e) l (settles e))) calm
 
-none_step : (l : Ledger) (e : Event) → Calm e → commits e ≡ [] → after_event l e ≡ l
+pub none_step : (l : Ledger) (e : Event) → Calm e → commits e ≡ [] → after_event l e ≡ l
 none_step l e calm none = calm_step l e calm ∙ ap (λ cs. after_commit cs l (settles e)) none
 
-one_step : (l : Ledger) (e : Event) (x : Entry) → Calm e → commits e ≡ x ∷ [] → after_event l e ≡ joined l.room l.pending (settles e)
+pub one_step : (l : Ledger) (e : Event) (x : Entry) → Calm e → commits e ≡ x ∷ [] → after_event l e ≡ after_one l.room l.pending (settles e)
 one_step l e x calm one = calm_step l e calm ∙ ap (λ cs. after_commit cs l (settles e)) one
 
 -- nothing is settled where the server dies
-crash_step : (l : Ledger) (e : Event) → e.fate ≡ DiedAfterCommit → after_event l e ≡ fresh
+crash_step : (l : Ledger) (e : Event) → e.fate ≡ DiedAfterCommit → after_event l e ≡ empty_ledger
 crash_step l e is = ap (λ f. crashed_if (dies f) (after_commit (commits e) l (settles e))) is
 
 count_none : (e : Event) (n : ℕ) → commits e ≡ [] → length (commits e) + n ≡ n
@@ -77,7 +77,7 @@ run_end died l handed pending n is none same room = record {
 
 run_crash : (died : Bool) (l : Ledger) (e : Event) (es : List Event) (handed pending : List ℕ) (n : ℕ) → died ≡ true → e.fate ≡ DiedAfterCommit → es ≡ [] → handed_at (commits e) l ≡ handed → RunLedger died l (e ∷ es) handed pending n
 run_crash died l e es handed pending n is fate end hands =
-    let step : ledger_after l (e ∷ es) ≡ fresh = ap (ledger_after (after_event l e)) end ∙ crash_step l e fate in
+    let step : ledger_after l (e ∷ es) ≡ empty_ledger = ap (ledger_after (after_event l e)) end ∙ crash_step l e fate in
     record {
       handed_is = ap (λ (x : List ℕ). x ++ handed_on (after_event l e) es) hands ∙ ap (λ x. handed ++ handed_on (after_event l e) x) end ∙ append-nil handed;
       pending_is = ap (λ (x : Ledger). x.pending) step ∙ ap (λ b. if b then [] else pending) (sym is);

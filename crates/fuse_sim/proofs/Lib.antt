@@ -5,9 +5,11 @@ pub mod Settled
 pub mod Groups
 pub mod Ledgers
 pub mod Driven
+pub mod Removed
 pub mod Moves
 pub mod Stopping
 pub mod Endings
 pub mod Marks
 pub mod Pendings
 pub mod Lifetimes
+pub mod Vectors

@@ -14,7 +14,7 @@ use Rattle.fuse_session.specs.Port.{PortState}
 use Rattle.fuse_session.specs.Serving.{Lived}
 use Rattle.fuse_session.specs.Settling.{Mark, replies, settled_in, Replied}
 use Rattle.fuse_session.specs.Worked.{Timed, bytes_of, kept_in, entries_at, entry_if, timed_entry, message_id, unique_of, answered, answers, answer_by, out, Moments}
-use Rattle.fuse_sim.specs.Lives.{Lifetime, AreLives, after_lives, all_worked, AllSend, Ran}
+use Rattle.fuse_sim.specs.Lives.{Lifetime, AreLives, after_lives, all_worked, AllSend, RanAsLife}
 
 tested : (b : Bool) → (b ≡ true) ⊎ (b ≡ false)
 tested true = inl refl
@@ -135,7 +135,7 @@ Moments-front may (x ∷ xs) ys all = (all.0, Moments-front may xs ys all.1)
 
 pub run_lived : (stood : History → List ℕ → Type 0) (may : Moment → Type 0) (s : State) (h : History) (t : List ℕ) (old new : PortState) (received : List ℕ) (timed : List Timed) (others : List (List ℕ)) (marks : List Mark) (part : List ℕ)
     → Consumes old.coming new.coming received → (cut received).0 ≡ bytes_of timed ++ others → Moments may timed → Replied old new marks part
-    → Lived stood s h old.confirms t timed marks part → Ran stood may s h t old new
+    → Lived stood s h old.confirms t timed marks part → RanAsLife stood may s h t old new
 run_lived stood may s h t old new received timed others marks part came front moments replied l =
     let sent = joined (replies marks) ++ part in
     let parts : bytes_of timed ++ others ≡ bytes_of l.worked ++ (bytes_of l.unworked ++ others) =
@@ -152,7 +152,7 @@ run_lived stood may s h t old new received timed others marks part came front mo
       part = part;
       replied = replied;
       sent = refl;
-      settles = refl;
+      settled_are = refl;
       moments = Moments-front may l.worked l.unworked (subst (Moments may) l.parts moments);
       stands = l.stands;
     }

@@ -1,5 +1,5 @@
 -- Events that were run, group after group.
-use Rattle.std.proofs.Common.{◌≡◌, ◌⊎◌, inl, inr, ℕ, suc, ◌≤◌, ◌<◌, Bool, true, false, ◌||◌, ◌==◌, if◌then◌else◌, List, [], ◌∷◌, ◌++◌, length, map, take, drop, get_or, All, Option, None, refl, sym, ap, subst, ◌∙◌, append_assoc, drop-cons, arith}
+use Rattle.std.proofs.Common.{◌≡◌, ◌⊎◌, inl, inr, ℕ, suc, ◌≤◌, ◌<◌, Bool, true, false, ◌||◌, ◌==◌, if◌then◌else◌, List, [], ◌∷◌, ◌++◌, length, map, take, drop, get_or, All, Option, None, refl, sym, ap, subst, ◌∙◌, append_assoc, length-append, drop-cons, arith}
 use Rattle.std.proofs.lemmas.List.{append-nil, map-append, length-map}
 use Rattle.std.proofs.lemmas.List.Elements.{All-nil, All-cons}
 use Rattle.fuse_wire.specs.declared.moment.Moment.{Moment}
@@ -16,13 +16,13 @@ use Rattle.fuse_sim.specs.declared.event.Fate.{Fate}
 use Rattle.fuse_sim.specs.declared.event.Fate.TheVariants.{Answered, AnswerLost, DiedBeforeCommit, DiedAfterCommit}
 use Rattle.fuse_sim.specs.declared.event.Event.{Event}
 use Rattle.fuse_sim.specs.declared.event.Outcome.{Outcome}
-use Rattle.fuse_sim.specs.Driving.{commits, commits_by, commits_in, committed, outcome_of, given, is_taken, where_taken, answer_in, settles, settled_by, NoneAgain, IsFit, dies}
-use Rattle.fuse_sim.specs.HandedOn.{Ledger, fresh, after_commit, crashed_if, handed_at, handed_on, ledger_after}
-use Rattle.fuse_sim.specs.Running.{dies_before, IsRun, StartsNone, Begins, Gathers, NoneLost, handed_to, left_pending, settles_in, RecordsRan, Ran, MayBegin, Moved, Worked}
+use Rattle.fuse_sim.specs.Driving.{commits, commits_by, commits_in, committed, outcome_of, bytes_given, is_taken, where_taken, answer_in, settles, settled_by, NoneReused, IsFit, dies}
+use Rattle.fuse_sim.specs.HandedOn.{Ledger, empty_ledger, after_commit, crashed_if, handed_at, handed_on, ledger_after}
+use Rattle.fuse_sim.specs.Running.{dies_before, IsRun, StartsNone, Begins, Gathers, NoneDiesBefore, handed_to, left_pending, settles_in, RecordsRan, Ran, MayBegin, Moved, Worked}
 use Rattle.fuse_sim.proofs.Gathered.{commits-append, only_one}
 use Rattle.fuse_sim.proofs.Settled.{is_in-append, tested, includes_both, in_either, stands_kept}
 use Rattle.fuse_sim.proofs.Ledgers.{RunLedger, run_begins, few_pending}
-use Rattle.fuse_sim.proofs.Driven.{committed-append, outcomes-append, all_unsettled_too, none_again, again-parts, pending_settled, handed_settled, settled_all, handed-append}
+use Rattle.fuse_sim.proofs.Driven.{committed-append, outcomes-append, all_unsettled_too, none_reused, reused-parts, pending_settled, handed_settled, settled_all, handed-append}
 
 -- ---- records
 
@@ -68,11 +68,11 @@ records_more l es es' r r' r'' one two =
           ∙ or_none (is_in (handed_on l es) i) (is_in (handed_on l' es') i) (r i)
           ∙ ap (λ b. if b then None else r i) (sym (ap (λ x. is_in x i) (handed-append l es es') ∙ is_in-append (handed_on l es) (handed_on l' es') i));
       gone = λ u within none i there.
-          let parts = again-parts u es es' none in
+          let parts = reused-parts u es es' none in
           let u' = settled_by u es in
           elim (in_either (handed_on l es) (handed_on l' es') i (sym (ap (λ x. is_in x i) (handed-append l es es')) ∙ there)) [
             | inl before ↦
-                two.others i (not_among u' (commits_in es') i (none_again u' es' parts.1) (handed_settled u l es within i before))
+                two.others i (not_among u' (commits_in es') i (none_reused u' es' parts.1) (handed_settled u l es within i before))
                 ∙ none_if (is_in (handed_on l' es') i) (r' i) (one.gone u within parts.0 i before)
             | inr later ↦ two.gone u' (pending_settled u l es within) parts.1 i later
           ];
@@ -85,17 +85,18 @@ pub ran_more : HistoriesGrow → (holds mid holds' : Rows → Records → Type 0
 ran_more grows holds mid holds' honest honest' l es es' old new new' was one two = record {
   added = one.added ++ two.added;
   items = two.items ∙ ap (λ x. x ++ two.added) one.items ∙ append_assoc old one.added two.added;
+  count = omega (arith, one.count, two.count, length-append one.added two.added, length-append es es');
   stands = λ is s h t u so within pending none.
-      let parts = again-parts u es es' none in
+      let parts = reused-parts u es es' none in
       let first = one.stands (was is) s h t u so within pending parts.0 in
       let second = two.stands is s (committed h es) (t ++ handed_on l es) (settled_by u es) first (settled_all u t l es within pending) (pending_settled u l es pending) parts.1 in
       subst (λ g. StandsFor holds' s g (t ++ handed_on l (es ++ es'))) (sym (committed-append h es es'))
       (subst (StandsFor holds' s (committed (committed h es) es')) (append_assoc t (handed_on l es) (handed_on (ledger_after l es) es') ∙ ap (λ (x : List ℕ). t ++ x) (sym (handed-append l es es'))) second);
   outcomes = λ is s h t u so within pending none.
-      let parts = again-parts u es es' none in
+      let parts = reused-parts u es es' none in
       let first = one.stands (was is) s h t u so within pending parts.0 in
-      map-append given one.added two.added
-      ∙ ap (λ x. x ++ map given two.added) (one.outcomes (was is) s h t u so within pending parts.0)
+      map-append bytes_given one.added two.added
+      ∙ ap (λ x. x ++ map bytes_given two.added) (one.outcomes (was is) s h t u so within pending parts.0)
       ∙ ap (λ x. map (outcome_of s (committed h es)) es ++ x) (two.outcomes is s (committed h es) (t ++ handed_on l es) (settled_by u es) first (settled_all u t l es within pending) (pending_settled u l es pending) parts.1)
       ∙ sym (outcomes-append grows s h es es');
   records = λ is rows records held.
@@ -108,6 +109,7 @@ pub ran_none : (holds : Rows → Records → Type 0) (honest : Type 0) (l : Ledg
 ran_none holds honest l old new is = record {
   added = [];
   items = is ∙ sym (append-nil old);
+  count = refl;
   stands = λ _ s h t u so _ _ _. subst (StandsFor holds s h) (sym (append-nil t)) so;
   outcomes = λ _ s h t u so _ _ _. refl;
   records = λ _ rows records held. (rows, records, held, record { others = λ i _. refl; gone = λ u _ _ i there. absurd (cc there) });
@@ -128,12 +130,12 @@ calm_goes DiedAfterCommit is = refl
 goes : Event → Type 0
 goes e = dies_before e.fate ≡ false
 
-pub none_lost : (died : Bool) (run : List Event) → IsRun died run → NoneLost run
+pub none_dies : (died : Bool) (run : List Event) → IsRun died run → NoneDiesBefore run
 unfolding goes
-none_lost died [] so = All-nil goes
-none_lost died (e ∷ run) so = elim so [
-  | inl more ↦ All-cons goes e run (calm_goes e.fate more.0) (none_lost died run more.1)
-  | inr last ↦ All-cons goes e run (ap dies_before last.1) (subst NoneLost (sym last.2) (All-nil goes))
+none_dies died [] so = All-nil goes
+none_dies died (e ∷ run) so = elim so [
+  | inl more ↦ All-cons goes e run (calm_goes e.fate more.0) (none_dies died run more.1)
+  | inr last ↦ All-cons goes e run (ap dies_before last.1) (subst NoneDiesBefore (sym last.2) (All-nil goes))
 ]
 
 pub group_ran : (holds mid holds' : Rows → Records → Type 0) (honest honest' : Type 0) (died : Bool) (run : List Event) (p p' : List ℕ) (old new : List (Option Outcome))
@@ -143,11 +145,12 @@ pub group_ran : (holds mid holds' : Rows → Records → Type 0) (honest honest'
 group_ran holds mid holds' honest honest' died run p p' old new ledger worked keeps was =
     let l : Ledger = record { room = 0; pending = p } in
     let cs = commits_in run in
-    let fresh_ids = λ (t u : List ℕ) (within : Includes u t) (pending : Includes u p) (none : NoneAgain u run).
-    all_unsettled_too u (t ++ handed_to cs p) cs (includes_both u t (handed_to cs p) within (handed_within u p cs pending)) (none_again u run none) in
+    let fresh_ids = λ (t u : List ℕ) (within : Includes u t) (pending : Includes u p) (none : NoneReused u run).
+    all_unsettled_too u (t ++ handed_to cs p) cs (includes_both u t (handed_to cs p) within (handed_within u p cs pending)) (none_reused u run none) in
     record {
       added = worked.added;
       items = worked.items;
+      count = worked.count;
       stands = λ is s h t u so within pending none.
           subst (λ (x : List ℕ). StandsFor holds' s (committed h run) (t ++ x)) (sym ledger.handed_is)
           (stands_kept mid holds' s (committed h run) (t ++ handed_to cs p) (keeps is) (worked.stands (was is) s h t so (fresh_ids t u within pending none)));
@@ -161,7 +164,7 @@ group_ran holds mid holds' honest honest' died run p p' old new ledger worked ke
               others = λ i isnt. done.3 i isnt ∙ ap (λ x. if is_in x i then None else records i) (sym ledger.handed_is);
               gone = λ u within none i there.
                   let handed = sym (ap (λ x. is_in x i) ledger.handed_is) ∙ there in
-                  done.3 i (not_among u cs i (none_again u run none) (handed_within u p cs within i handed)) ∙ ap (λ b. if b then None else records i) handed;
+                  done.3 i (not_among u cs i (none_reused u run none) (handed_within u p cs within i handed)) ∙ ap (λ b. if b then None else records i) handed;
             },
           );
     }
@@ -179,6 +182,7 @@ lost_ran holds holds' honest' l e old new lost pushed keeps =
     record {
       added = None ∷ [];
       items = pushed;
+      count = refl;
       stands = λ is s h t u so within pending again.
           subst (λ (x : List ℕ). StandsFor holds' s (committed h (e ∷ [])) (t ++ x)) (sym unhanded)
           (subst (StandsFor holds' s (committed h (e ∷ []))) (sym (append-nil t))
@@ -277,7 +281,7 @@ pub lost_moved : (holds holds' : Rows → Records → Type 0) (honest' : Type 0)
 lost_moved holds holds' honest' l events rest at e p' old new lt is fit before pushed none keeps =
     let lost = is_lost e.fate before in
     let one : e ∷ [] ≡ take 1 (drop at events) = ap (λ (x : Event). x ∷ []) is ∙ ap (take 1) (sym (drop-cons events at e lt)) in
-    let crashed : ledger_after l (e ∷ []) ≡ fresh = ap (λ f. crashed_if (dies f) (after_commit (commits e) l (settles e))) lost in
+    let crashed : ledger_after l (e ∷ []) ≡ empty_ledger = ap (λ f. crashed_if (dies f) (after_commit (commits e) l (settles e))) lost in
     subst (λ run. Moved holds holds' honest' l run rest p' old new) one (record {
       fit = only_one IsFit e fit;
       ran = lost_ran holds holds' honest' l e old new lost pushed keeps;

@@ -14,7 +14,7 @@ use Rattle.fuse_session.specs.Settling.{settles_if}
 use Rattle.fuse_session.specs.Worked.{message_id}
 use Rattle.fuse_sim.specs.declared.event.Event.{Event}
 use Rattle.fuse_sim.specs.declared.event.Outcome.{Outcome}
-use Rattle.fuse_sim.specs.Driving.{given, settles, is_taken}
+use Rattle.fuse_sim.specs.Driving.{bytes_given, settles, is_taken}
 use Rattle.fuse_sim.specs.Running.{answers_in, head_outcome, outcomes_by, HasAnswers, settles_in, Adds}
 
 -- a head and the body that it announces
@@ -31,13 +31,13 @@ next_place run i = let same : i + 1 ≡ suc i = omega arith in ap (λ n. drop n 
 pub record AddsFirst (old new : List (Option Outcome)) (others whole : List (Option (List ℕ))) : Type 0 where
   pub added : List (Option Outcome)
   pub items : new ≡ old ++ added
-  pub are : map given added ++ others ≡ whole
+  pub are : map bytes_given added ++ others ≡ whole
 
 pub adds_none : (old new : List (Option Outcome)) (whole : List (Option (List ℕ))) → new ≡ old → AddsFirst old new whole whole
 adds_none old new whole is = record { added = []; items = is ∙ sym (append-nil old); are = refl }
 
 pub adds_one : (old new new' : List (Option Outcome)) (one : Option Outcome) (run : List Event) (i : ℕ) (e : Event) (answers answers' : List Said) (whole : List (Option (List ℕ))) → i < length run → e ≡ get_or run i e
-    → AddsFirst old new (outcomes_by (drop i run) answers) whole → given one ≡ head_outcome e answers → answers' ≡ left_by (class_of e.bytes) answers → new' ≡ new ++ one ∷ []
+    → AddsFirst old new (outcomes_by (drop i run) answers) whole → bytes_given one ≡ head_outcome e answers → answers' ≡ left_by (class_of e.bytes) answers → new' ≡ new ++ one ∷ []
     → AddsFirst old new' (outcomes_by (drop (i + 1) run) answers') whole
 adds_one old new new' one run i e answers answers' whole lt at so_far is left pushed =
     let parts : drop i run ≡ e ∷ drop (suc i) run = drop-cons run i e lt ∙ ap (λ x. x ∷ drop (suc i) run) (sym at) in
@@ -45,12 +45,12 @@ adds_one old new new' one run i e answers answers' whole lt at so_far is left pu
     record {
       added = so_far.added ++ one ∷ [];
       items = pushed ∙ ap (λ r. r ++ one ∷ []) so_far.items ∙ append_assoc old so_far.added (one ∷ []);
-      are = ap (λ r. r ++ outcomes_by (drop (i + 1) run) answers') (map-append given so_far.added (one ∷ []))
-          ∙ append_assoc (map given so_far.added) (given one ∷ []) (outcomes_by (drop (i + 1) run) answers')
-          ∙ ap (λ o. map given so_far.added ++ o ∷ outcomes_by (drop (i + 1) run) answers') is
-          ∙ ap (λ a. map given so_far.added ++ head_outcome e answers ∷ outcomes_by (drop (i + 1) run) a) left
-          ∙ ap (λ r. map given so_far.added ++ head_outcome e answers ∷ outcomes_by r (left_by (class_of e.bytes) answers)) next
-          ∙ ap (λ r. map given so_far.added ++ outcomes_by r answers) (sym parts)
+      are = ap (λ r. r ++ outcomes_by (drop (i + 1) run) answers') (map-append bytes_given so_far.added (one ∷ []))
+          ∙ append_assoc (map bytes_given so_far.added) (bytes_given one ∷ []) (outcomes_by (drop (i + 1) run) answers')
+          ∙ ap (λ o. map bytes_given so_far.added ++ o ∷ outcomes_by (drop (i + 1) run) answers') is
+          ∙ ap (λ a. map bytes_given so_far.added ++ head_outcome e answers ∷ outcomes_by (drop (i + 1) run) a) left
+          ∙ ap (λ r. map bytes_given so_far.added ++ head_outcome e answers ∷ outcomes_by r (left_by (class_of e.bytes) answers)) next
+          ∙ ap (λ r. map bytes_given so_far.added ++ outcomes_by r answers) (sym parts)
           ∙ so_far.are;
     }
 
@@ -58,7 +58,7 @@ pub adds_all : (old new : List (Option Outcome)) (run : List Event) (i : ℕ) (a
 adds_all old new run i answers whole end so_far = record {
   added = so_far.added;
   items = so_far.items;
-  are = sym (append-nil (map given so_far.added)) ∙ ap (λ r. map given so_far.added ++ outcomes_by r answers) (sym end) ∙ so_far.are;
+  are = sym (append-nil (map bytes_given so_far.added)) ∙ ap (λ r. map bytes_given so_far.added ++ outcomes_by r answers) (sym end) ∙ so_far.are;
 }
 
 -- the ids that the events settle

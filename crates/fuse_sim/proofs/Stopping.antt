@@ -3,15 +3,17 @@ use Rattle.std.proofs.Common.{◌≡◌, inl, inr, ℕ, zero, suc, ◌+◌, ◌-
 use Rattle.std.proofs.Math.Seq.{take-append_seam}
 use Rattle.std.proofs.lemmas.List.{take-append-drop, take_all, length-take-le, length-drop}
 use Rattle.std.proofs.lemmas.List.Elements.{All-append, All-pop}
+use Rattle.fuse_tree.specs.State.{State}
 use Rattle.fuse_tree.specs.Rows.{Rows}
 use Rattle.fuse_store.specs.declared.fault.StoreFault.{StoreFault}
+use Rattle.fuse_store.specs.History.{History}
 use Rattle.fuse_store.specs.Stands.{Records, KeepsHeld}
 use Rattle.fuse_sim.specs.declared.event.Fate.{Fate}
 use Rattle.fuse_sim.specs.declared.event.Fate.TheVariants.{Answered, AnswerLost, DiedBeforeCommit, DiedAfterCommit}
 use Rattle.fuse_sim.specs.declared.event.Event.{Event}
 use Rattle.fuse_sim.specs.declared.event.DriveFault.{DriveFault}
 use Rattle.fuse_sim.specs.declared.event.DriveFault.TheVariants.{NotAMessage, ZeroUnique, Store, Memory}
-use Rattle.fuse_sim.specs.Driving.{HoldsIn, IsFit, event_of, CausedBy, OfRestart, is_store, LeftBy, dies}
+use Rattle.fuse_sim.specs.Driving.{HoldsIn, IsFit, event_of, StandsIn, CausedBy, OfRestart, is_store, IsStoreFault, LeftBy, dies}
 use Rattle.fuse_sim.specs.Running.{dies_before, IsRun, Begins, Stops}
 
 -- ---- places
@@ -45,25 +47,28 @@ not_none P (Some k) is none = absurd (cc none)
 -- ---- faults
 
 -- no keeper was touched
-pub stops_here : {K : Type 0} (holds : K → Rows → Records → Type 0) (honest clean : K → Type 0) (failed : K → Bool) (k : Option K) (events : List Event) (at : ℕ) (fault : DriveFault)
-    → event_of fault ≡ at → is_store fault ≡ false → IsSomeAnd (slice_get events at) (CausedBy fault) → IsSomeAnd k (λ x. failed x ≡ false) → Stops holds honest clean failed k k events at fault
-stops_here holds honest clean failed k events at fault place kind caused going = record {
+pub stops_here : {K : Type 0} (holds : K → Rows → Records → Type 0) (honest clean : K → Type 0) (failed : K → Bool) (answers refuses : K → StoreFault → Type 0) (k : Option K) (events : List Event) (at : ℕ) (fault : DriveFault)
+    → event_of fault ≡ at → is_store fault ≡ false → IsSomeAnd (slice_get events at) (CausedBy fault) → IsSomeAnd k (λ x. failed x ≡ false) → Stops holds honest clean failed answers refuses k k events at fault
+stops_here holds honest clean failed answers refuses k events at fault place kind caused going = record {
   named = subst (λ n. IsSomeAnd (slice_get events n) (CausedBy fault)) (sym place) caused;
   earlier = λ each. subst (λ n. All IsFit (take n events)) (sym place) each;
   left = subst (λ b. LeftBy honest clean b k ((event_of fault ≡ at) × KeepsHeld (HoldsIn holds k) (HoldsIn holds k))) (sym kind) (λ _. (place, λ rows records held. held));
+  answered = λ store. absurd (cc (kind, store));
   emptied = λ none. absurd (not_none (λ x. failed x ≡ false) k going none);
   has_failed = some_failed failed k (is_store fault) (subst (λ b. IsSomeAnd k (λ x. failed x ≡ b)) (sym kind) going);
   was_honest = λ is. is;
 }
 
 -- the store answered a fault to a group
-pub stops_store : {K : Type 0} (holds : K → Rows → Records → Type 0) (honest clean : K → Type 0) (failed : K → Bool) (k k' : Option K) (events : List Event) (at : ℕ) (fault : StoreFault)
+pub stops_store : {K : Type 0} (holds : K → Rows → Records → Type 0) (honest clean : K → Type 0) (failed : K → Bool) (answers refuses : K → StoreFault → Type 0) (k k' : Option K) (events : List Event) (at : ℕ) (fault : StoreFault)
     → IsSomeAnd (slice_get events at) IsFit → IsSomeAnd k' (λ x. failed x ≡ true) → (IsSomeAnd k' clean → KeepsHeld (HoldsIn holds k) (HoldsIn holds k')) → (IsSomeAnd k' honest → IsSomeAnd k honest)
-    → Stops holds honest clean failed k k' events at (Store at fault)
-stops_store holds honest clean failed k k' events at fault fit has keeps was = record {
+    → (IsSomeAnd k' clean → (s : State) (h : History) (t : List ℕ) → StandsIn holds k s h t → IsSomeAnd k (λ x. answers x fault))
+    → Stops holds honest clean failed answers refuses k k' events at (Store at fault)
+stops_store holds honest clean failed answers refuses k k' events at fault fit has keeps was answered = record {
   named = fit;
   earlier = λ each. each;
   left = λ is. (refl, keeps is);
+  answered = λ _. answered;
   emptied = λ none. absurd (not_none (λ x. failed x ≡ true) k' has none);
   has_failed = some_failed failed k' true has;
   was_honest = was;
@@ -75,21 +80,25 @@ caused_by_store (ZeroUnique n) e is fit = absurd (cc is)
 caused_by_store (Store n fault) e is fit = fit
 caused_by_store (Memory n) e is fit = absurd (cc is)
 
-of_restart : (fault : DriveFault) (events : List Event) (n : ℕ) (e : Event) → is_store fault ≡ true → event_of fault ≡ n → slice_get events n ≡ Some e → dies e.fate ≡ true → OfRestart events fault
-of_restart (NotAMessage m) events n e is place there died = absurd (cc is)
-of_restart (ZeroUnique m) events n e is place there died = absurd (cc is)
-of_restart (Store m fault) events n e is place there died = subst (λ o. IsSomeAnd o (λ (x : Event). dies x.fate ≡ true)) (sym (ap (slice_get events) place ∙ there)) died
-of_restart (Memory m) events n e is place there died = absurd (cc is)
+of_restart : {K : Type 0} (refuses : K → StoreFault → Type 0) (k : Option K) (fault : DriveFault) (events : List Event) (n : ℕ) (e : Event) → event_of fault ≡ n → slice_get events n ≡ Some e → dies e.fate ≡ true
+    → IsSomeAnd k (λ x. IsStoreFault (refuses x) fault) → OfRestart refuses events fault
+of_restart refuses None fault events n e place there died refused = absurd refused
+of_restart refuses (Some k) fault events n e place there died refused = record {
+  died = subst (λ o. IsSomeAnd o (λ (x : Event). dies x.fate ≡ true)) (sym (ap (slice_get events) place ∙ there)) died;
+  keeper = k;
+  refused = refused;
+}
 
 -- a restart left no keeper: it was after the last of some events
-pub stops_restart : {K : Type 0} (holds : K → Rows → Records → Type 0) (honest clean : K → Type 0) (failed : K → Bool) (k k' : Option K) (events : List Event) (at n : ℕ) (fault : DriveFault) (e : Event)
-    → k' ≡ None → is_store fault ≡ true → event_of fault ≡ n → slice_get events n ≡ Some e → IsFit e → dies e.fate ≡ true → (All IsFit (take at events) → All IsFit (take n events))
-    → Stops holds honest clean failed k k' events at fault
-stops_restart holds honest clean failed k k' events at n fault e none kind place there fit died earlier = record {
+pub stops_restart : {K : Type 0} (holds : K → Rows → Records → Type 0) (honest clean : K → Type 0) (failed : K → Bool) (answers refuses : K → StoreFault → Type 0) (k q k' : Option K) (events : List Event) (at n : ℕ) (fault : DriveFault) (e : Event)
+    → k' ≡ None → IsSomeAnd q (λ x. IsStoreFault (refuses x) fault) → is_store fault ≡ true → event_of fault ≡ n → slice_get events n ≡ Some e → IsFit e → dies e.fate ≡ true → (All IsFit (take at events) → All IsFit (take n events))
+    → Stops holds honest clean failed answers refuses k k' events at fault
+stops_restart holds honest clean failed answers refuses k q k' events at n fault e none refused kind place there fit died earlier = record {
   named = subst (λ m. IsSomeAnd (slice_get events m) (CausedBy fault)) (sym place) (subst (λ o. IsSomeAnd o (CausedBy fault)) (sym there) (caused_by_store fault e kind fit));
   earlier = λ each. subst (λ m. All IsFit (take m events)) (sym place) (earlier each);
   left = subst (λ b. LeftBy honest clean b k' ((event_of fault ≡ at) × KeepsHeld (HoldsIn holds k) (HoldsIn holds k'))) (sym kind) (λ is. absurd (subst (λ o. IsSomeAnd o clean) none is));
-  emptied = λ _. of_restart fault events n e kind place there died;
+  answered = λ _ is. absurd (subst (λ o. IsSomeAnd o clean) none is);
+  emptied = λ _. of_restart refuses q fault events n e place there died refused;
   has_failed = subst (λ o. IfSome o (λ x. failed x ≡ is_store fault)) (sym none) tt;
   was_honest = λ is. absurd (subst (λ o. IsSomeAnd o honest) none is);
 }

@@ -10,6 +10,7 @@ use Rattle.fuse_request.specs.Classes.{class_of, is_zero}
 use Rattle.fuse_request.specs.Stream.{cut}
 use Rattle.fuse_tree.specs.State.{State}
 use Rattle.fuse_tree.specs.Rows.{Rows}
+use Rattle.fuse_store.specs.declared.fault.StoreFault.{StoreFault}
 use Rattle.fuse_store.specs.History.{Entry, History, grown, said}
 use Rattle.fuse_store.specs.Stands.{Records, StandsFor}
 use Rattle.fuse_session.specs.Worked.{unique_of, message_id, message_entry, entry_if}
@@ -40,6 +41,16 @@ commits_in events = flat_map commits events
 abbrev pub committed : History → List Event → History
 committed h events = grown h (commits_in events)
 
+-- the server dies at the event, and starts again
+abbrev pub dies : Fate → Bool
+dies Answered = false
+dies AnswerLost = false
+dies DiedBeforeCommit = true
+dies DiedAfterCommit = true
+
+abbrev pub Calm : Event → Type 0
+Calm e = dies e.fate ≡ false
+
 -- ---- what is answered
 
 -- the answer to a message of this class and unique: none, the header with an error, or what was said of the id
@@ -63,8 +74,8 @@ abbrev pub outcome_of : State → History → Event → Option (List ℕ)
 outcome_of s h e = where_taken (is_taken e.fate) (answer_in s h (class_of e.bytes) (unique_of e.bytes))
 
 -- the bytes of an outcome: the head, then the body
-abbrev pub given : Option Outcome → Option (List ℕ)
-given o = option_map (λ x. x.head ++ x.body) o
+abbrev pub bytes_given : Option Outcome → Option (List ℕ)
+bytes_given o = option_map (λ x. x.head ++ x.body) o
 
 -- ---- what is settled
 
@@ -78,9 +89,9 @@ settled_by t [] = t
 settled_by t (e ∷ es) = settled_by (t ++ settles e) es
 
 -- no kept message has an id that was settled before, or by an earlier event
-abbrev pub NoneAgain : List ℕ → List Event → Type 0
-NoneAgain t [] = Unit {0}
-NoneAgain t (e ∷ es) = MayCome t e.bytes × NoneAgain (t ++ settles e) es
+abbrev pub NoneReused : List ℕ → List Event → Type 0
+NoneReused t [] = Unit {0}
+NoneReused t (e ∷ es) = MayCome t e.bytes × NoneReused (t ++ settles e) es
 
 -- ---- the keeper that is driven
 
@@ -91,6 +102,10 @@ HoldsIn holds (Some k) = holds k
 
 abbrev pub StandsIn : {K : Type 0} → (K → Rows → Records → Type 0) → Option K → State → History → List ℕ → Type 0
 StandsIn holds keeper = StandsFor (HoldsIn holds keeper)
+
+-- the second keeper may answer no fault that the first one couldn't
+abbrev pub AnswersNoMore : {K : Type 0} → (K → StoreFault → Type 0) → Option K → Option K → Type 0
+AnswersNoMore may_answer old new = (f : StoreFault) → IsSomeAnd new (λ k. may_answer k f) → IsSomeAnd old (λ k. may_answer k f)
 
 -- ---- faults
 
@@ -121,26 +136,25 @@ pub record Names (fault : DriveFault) (events : List Event) : Type 0 where
   pub named : IsSomeAnd (slice_get events (event_of fault)) (CausedBy fault)
   pub earlier : All IsFit (before fault events)
 
--- the server dies, and starts again
-abbrev pub dies : Fate → Bool
-dies Answered = false
-dies AnswerLost = false
-dies DiedBeforeCommit = true
-dies DiedAfterCommit = true
-
--- a fault by which a restart left no keeper: that of an event where the server died
-abbrev pub OfRestart : List Event → DriveFault → Type 0
-OfRestart events (NotAMessage n) = ⊥
-OfRestart events (ZeroUnique n) = ⊥
-OfRestart events (Store n fault) = IsSomeAnd (slice_get events n) (λ e. dies e.fate ≡ true)
-OfRestart events (Memory n) = ⊥
-
 -- whether the store answered a fault
 abbrev pub is_store : DriveFault → Bool
 is_store (NotAMessage n) = false
 is_store (ZeroUnique n) = false
 is_store (Store n fault) = true
 is_store (Memory n) = false
+
+-- the store answered it, and it is one of these
+abbrev pub IsStoreFault : (StoreFault → Type 0) → DriveFault → Type 0
+IsStoreFault may (NotAMessage n) = ⊥
+IsStoreFault may (ZeroUnique n) = ⊥
+IsStoreFault may (Store n fault) = may fault
+IsStoreFault may (Memory n) = ⊥
+
+-- the server died at the event that is named, and a keeper refused with this fault to be opened again
+pub record OfRestart {K : Type 0} (may_refuse : K → StoreFault → Type 0) (events : List Event) (fault : DriveFault) : Type 0 where
+  pub died : IsSomeAnd (slice_get events (event_of fault)) (λ e. dies e.fate ≡ true)
+  pub keeper : K
+  pub refused : IsStoreFault (may_refuse keeper) fault
 
 -- a keeper that is left stands for the events before the fault: where the store answered it, if the store is clean,
 -- and else if it gave back what was written

@@ -1,10 +1,9 @@
 -- Which ids are handed on, so that their records are removed (own profile).
-use Rattle.std.specs.Prelude.{◌≡◌, ◌-◌, ℕ, zero, suc, Bool, true, false, List, [], ◌∷◌, ◌++◌, None}
+use Rattle.std.specs.Prelude.{◌-◌, ℕ, zero, suc, Bool, true, false, List, [], ◌∷◌, ◌++◌}
 use Rattle.fuse_store.specs.declared.keeper.TheConstants.{MAX_GROUP}
-use Rattle.fuse_store.specs.History.{Entry, is_in, ids_in}
-use Rattle.fuse_store.specs.Stands.{Records}
+use Rattle.fuse_store.specs.History.{Entry}
 use Rattle.fuse_sim.specs.declared.event.Event.{Event}
-use Rattle.fuse_sim.specs.Driving.{commits, commits_in, settles, dies}
+use Rattle.fuse_sim.specs.Driving.{commits, settles, dies}
 
 -- how many kept messages the group still takes, and which ids are to be handed on with the next one
 pub record Ledger : Type 0 where
@@ -12,13 +11,13 @@ pub record Ledger : Type 0 where
   pub pending : List ℕ
 
 -- at first, and after a crash, which forgets what is pending
-abbrev pub fresh : Ledger
-fresh = record { room = 0; pending = [] }
+abbrev pub empty_ledger : Ledger
+empty_ledger = record { room = 0; pending = [] }
 
 -- a kept message joins a group that has room; else it begins the next one, to which all that is pending is handed on
-abbrev pub joined : ℕ → List ℕ → List ℕ → Ledger
-joined zero pending settled = record { room = MAX_GROUP - 1; pending = settled }
-joined (suc room) pending settled = record { room = room; pending = pending ++ settled }
+abbrev pub after_one : ℕ → List ℕ → List ℕ → Ledger
+after_one zero pending settled = record { room = MAX_GROUP - 1; pending = settled }
+after_one (suc room) pending settled = record { room = room; pending = pending ++ settled }
 
 abbrev pub handed_by : ℕ → List ℕ → List ℕ
 handed_by zero pending = pending
@@ -27,14 +26,14 @@ handed_by (suc room) pending = []
 -- by what an event commits
 abbrev pub after_commit : List Entry → Ledger → List ℕ → Ledger
 after_commit [] l settled = l
-after_commit (x ∷ xs) l settled = joined l.room l.pending settled
+after_commit (x ∷ xs) l settled = after_one l.room l.pending settled
 
 abbrev pub handed_at : List Entry → Ledger → List ℕ
 handed_at [] l = []
 handed_at (x ∷ xs) l = handed_by l.room l.pending
 
 abbrev pub crashed_if : Bool → Ledger → Ledger
-crashed_if true l = fresh
+crashed_if true l = empty_ledger
 crashed_if false l = l
 
 abbrev pub after_event : Ledger → Event → Ledger
@@ -48,8 +47,3 @@ ledger_after l (e ∷ es) = ledger_after (after_event l e) es
 abbrev pub handed_on : Ledger → List Event → List ℕ
 handed_on l [] = []
 handed_on l (e ∷ es) = handed_at (commits e) l ++ handed_on (after_event l e) es
-
--- the records of those are gone, and those of ids that didn't come are the ones of before
-pub record RecordsLeft (events : List Event) (records records' : Records) : Type 0 where
-  pub gone : (i : ℕ) → is_in (handed_on fresh events) i ≡ true → records' i ≡ None
-  pub others : (i : ℕ) → is_in (ids_in (commits_in events)) i ≡ false → records' i ≡ records i

@@ -1,5 +1,7 @@
 pub mod Driving
+pub mod LeftRecords
 pub mod HandedOn
 pub mod Running
 pub mod Pending
 pub mod Lives
+pub mod Vectors

@@ -4,8 +4,14 @@ use Rattle.std.specs.Io.KnownBytes.{Consumes}
 use Rattle.fuse_wire.specs.declared.moment.Moment.{Moment}
 use Rattle.fuse_request.specs.Stream.{cut, joined}
 use Rattle.fuse_tree.specs.State.{State}
+use Rattle.fuse_tree.specs.Rows.{Rows}
+use Rattle.fuse_store.specs.declared.fault.StoreFault.{StoreFault}
 use Rattle.fuse_store.specs.History.{History, grown}
+use Rattle.fuse_store.specs.Stands.{Records, IsFirm}
+use Rattle.fuse_session.specs.declared.ended.Ended.{Ended}
+use Rattle.fuse_session.specs.Ends.{MayEnd, ended_store, ended_memory}
 use Rattle.fuse_session.specs.Port.{PortState}
+use Rattle.fuse_session.specs.Serving.{Life}
 use Rattle.fuse_session.specs.Settling.{Mark, replies, settled_in, Replied}
 use Rattle.fuse_session.specs.Worked.{Timed, bytes_of, kept_in, out, Works, Moments}
 
@@ -45,9 +51,15 @@ abbrev pub AllSend : State → History → List Lifetime → Type 0
 AllSend s last [] = Unit {0}
 AllSend s last (life ∷ lives) = ((unsent : List ℕ) × (out s last life.worked ≡ life.sent ++ unsent)) × AllSend s last lives
 
+-- what the clause `life` of `serve` says of a run, at whatever end, of a keeper that was k and is k'
+abbrev pub RunOfServe : {K : Type 0} → (K → Rows → Records → Type 0) → (K → Type 0) → (K → Type 0) → (K → Type 0) → (K → Rows → Records → Type 0) → (K → StoreFault → Type 0) → (Moment → Type 0) → K → K → PortState → PortState → Ended → Type 0
+RunOfServe holds clean honest whole may_leave may_answer may_tell k k' old new ended =
+    Life (holds k) (holds k') (clean k') (honest k') (IsFirm (holds k) (whole k) (may_leave k)) (whole k') (may_leave k') may_tell old new [] []
+    (ended_store ended) (ended_memory ended) (MayEnd (may_answer k) ended)
+
 -- a run of a server was a life: the bytes that came to its port, the answers that it sent whole and the part of another
 -- one, the ids that these settle, the moments that its clock gave, and what is left
-pub record Ran (stood : History → List ℕ → Type 0) (may : Moment → Type 0) (s : State) (h : History) (t : List ℕ) (old new : PortState) : Type 0 where
+pub record RanAsLife (stood : History → List ℕ → Type 0) (may : Moment → Type 0) (s : State) (h : History) (t : List ℕ) (old new : PortState) : Type 0 where
   pub life : Lifetime
   pub lived : IsLife s h life
   pub came : Consumes old.coming new.coming life.received
@@ -55,6 +67,6 @@ pub record Ran (stood : History → List ℕ → Type 0) (may : Moment → Type 
   pub part : List ℕ
   pub replied : Replied old new marks part
   pub sent : life.sent ≡ joined (replies marks) ++ part
-  pub settles : life.settled ≡ settled_in old.confirms (bytes_of life.worked) marks
+  pub settled_are : life.settled ≡ settled_in old.confirms (bytes_of life.worked) marks
   pub moments : Moments may life.worked
   pub stands : stood (grown h (kept_in life.worked)) (t ++ life.settled)

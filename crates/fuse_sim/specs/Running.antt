@@ -11,6 +11,7 @@ use Rattle.fuse_request.specs.Classes.{class_of}
 use Rattle.fuse_tree.specs.State.{State}
 use Rattle.fuse_tree.specs.Rows.{Rows}
 use Rattle.fuse_store.specs.History.{Entry, History, is_in, ids_in, Includes, IsUnsettled}
+use Rattle.fuse_store.specs.declared.fault.StoreFault.{StoreFault}
 use Rattle.fuse_store.specs.declared.keeper.Done.{Done}
 use Rattle.fuse_store.specs.Stands.{Records, StandsFor, OthersStay, KeepsHeld}
 use Rattle.fuse_store.specs.declared.keeper.TheConstants.{MAX_GROUP}
@@ -22,7 +23,7 @@ use Rattle.fuse_sim.specs.declared.event.Fate.TheVariants.{Answered, AnswerLost,
 use Rattle.fuse_sim.specs.declared.event.Event.{Event}
 use Rattle.fuse_sim.specs.declared.event.Outcome.{Outcome}
 use Rattle.fuse_sim.specs.declared.event.DriveFault.{DriveFault}
-use Rattle.fuse_sim.specs.Driving.{commits_in, committed, settles, outcome_of, given, is_taken, where_taken, dies, NoneAgain, IsFit, HoldsIn, event_of, before, CausedBy, OfRestart, is_store, LeftBy}
+use Rattle.fuse_sim.specs.Driving.{commits_in, committed, settles, outcome_of, bytes_given, is_taken, where_taken, Calm, NoneReused, IsFit, HoldsIn, StandsIn, event_of, before, CausedBy, IsStoreFault, OfRestart, is_store, LeftBy}
 use Rattle.fuse_sim.specs.HandedOn.{Ledger, ledger_after, handed_on}
 
 abbrev pub dies_before : Fate → Bool
@@ -30,9 +31,6 @@ dies_before Answered = false
 dies_before AnswerLost = false
 dies_before DiedBeforeCommit = true
 dies_before DiedAfterCommit = false
-
-abbrev pub Calm : Event → Type 0
-Calm e = dies e.fate ≡ false
 
 -- the events of a group: no server dies but after the last of them, where one does
 abbrev pub IsRun : Bool → List Event → Type 0
@@ -99,20 +97,21 @@ settles_in events = flat_map settles events
 pub record Adds (old new : List (Option Outcome)) (outcomes : List (Option (List ℕ))) : Type 0 where
   pub added : List (Option Outcome)
   pub items : new ≡ old ++ added
-  pub are : map given added ≡ outcomes
+  pub are : map bytes_given added ≡ outcomes
 
 -- no event of a group is lost
-abbrev pub NoneLost : List Event → Type 0
-NoneLost run = All (λ e. dies_before e.fate ≡ false) run
+abbrev pub NoneDiesBefore : List Event → Type 0
+NoneDiesBefore run = All (λ e. dies_before e.fate ≡ false) run
 
 -- a group was performed, and its outcomes were added, by any keeper
 pub record Worked (holds holds' : Rows → Records → Type 0) (honest' : Type 0) (run : List Event) (pending pending' : List ℕ) (old new : List (Option Outcome)) : Type 0 where
   pub added : List (Option Outcome)
   pub items : new ≡ old ++ added
+  pub count : length added ≡ length run
   pub stands : honest' → (s : State) (h : History) (t : List ℕ) → StandsFor holds s h t → All (IsUnsettled (t ++ handed_to (commits_in run) pending)) (commits_in run)
       → StandsFor holds' s (committed h run) (t ++ handed_to (commits_in run) pending)
   pub outcomes : honest' → (s : State) (h : History) (t : List ℕ) → StandsFor holds s h t → All (IsUnsettled (t ++ handed_to (commits_in run) pending)) (commits_in run)
-      → map given added ≡ map (outcome_of s (committed h run)) run
+      → map bytes_given added ≡ map (outcome_of s (committed h run)) run
   pub records : honest' → (rows : Rows) (records : Records) → holds rows records
       → (rows' : Rows) × (records' : Records) × holds' rows' records' × OthersStay records (handed_to (commits_in run) pending) (commits_in run) records'
   pub handed : pending' ≡ left_pending (commits_in run) pending ++ settles_in run
@@ -120,16 +119,17 @@ pub record Worked (holds holds' : Rows → Records → Type 0) (honest' : Type 0
 -- what becomes of records: those that are handed on go, and of the other ids those that don't come stay
 pub record RecordsRan (l : Ledger) (es : List Event) (records records' : Records) : Type 0 where
   pub others : (i : ℕ) → is_in (ids_in (commits_in es)) i ≡ false → records' i ≡ (if is_in (handed_on l es) i then None else records i)
-  pub gone : (u : List ℕ) → Includes u l.pending → NoneAgain u es → (i : ℕ) → is_in (handed_on l es) i ≡ true → records' i ≡ None
+  pub gone : (u : List ℕ) → Includes u l.pending → NoneReused u es → (i : ℕ) → is_in (handed_on l es) i ≡ true → records' i ≡ None
 
 -- events were run, from a ledger on
 pub record Ran (holds holds' : Rows → Records → Type 0) (honest' : Type 0) (l : Ledger) (es : List Event) (old new : List (Option Outcome)) : Type 0 where
   pub added : List (Option Outcome)
   pub items : new ≡ old ++ added
-  pub stands : honest' → (s : State) (h : History) (t u : List ℕ) → StandsFor holds s h t → Includes u t → Includes u l.pending → NoneAgain u es
+  pub count : length added ≡ length es
+  pub stands : honest' → (s : State) (h : History) (t u : List ℕ) → StandsFor holds s h t → Includes u t → Includes u l.pending → NoneReused u es
       → StandsFor holds' s (committed h es) (t ++ handed_on l es)
-  pub outcomes : honest' → (s : State) (h : History) (t u : List ℕ) → StandsFor holds s h t → Includes u t → Includes u l.pending → NoneAgain u es
-      → map given added ≡ map (outcome_of s (committed h es)) es
+  pub outcomes : honest' → (s : State) (h : History) (t u : List ℕ) → StandsFor holds s h t → Includes u t → Includes u l.pending → NoneReused u es
+      → map bytes_given added ≡ map (outcome_of s (committed h es)) es
   pub records : honest' → (rows : Rows) (records : Records) → holds rows records
       → (rows' : Rows) × (records' : Records) × holds' rows' records' × RecordsRan l es records records'
 
@@ -145,10 +145,11 @@ pub record Moved (holds holds' : Rows → Records → Type 0) (honest' : Type 0)
   pub begin : MayBegin (ledger_after l es) others
 
 -- a fault came at the events that begin at a place: what it names, and the keeper that it leaves
-pub record Stops {K : Type 0} (holds : K → Rows → Records → Type 0) (honest clean : K → Type 0) (failed : K → Bool) (old new : Option K) (events : List Event) (at : ℕ) (fault : DriveFault) : Type 0 where
+pub record Stops {K : Type 0} (holds : K → Rows → Records → Type 0) (honest clean : K → Type 0) (failed : K → Bool) (answers refuses : K → StoreFault → Type 0) (old new : Option K) (events : List Event) (at : ℕ) (fault : DriveFault) : Type 0 where
   pub named : IsSomeAnd (slice_get events (event_of fault)) (CausedBy fault)
   pub earlier : All IsFit (take at events) → All IsFit (before fault events)
   pub left : LeftBy honest clean (is_store fault) new ((event_of fault ≡ at) × KeepsHeld (HoldsIn holds old) (HoldsIn holds new))
-  pub emptied : new ≡ None → OfRestart events fault
+  pub answered : is_store fault ≡ true → IsSomeAnd new clean → (s : State) (h : History) (t : List ℕ) → StandsIn holds old s h t → IsSomeAnd old (λ k. IsStoreFault (answers k) fault)
+  pub emptied : new ≡ None → OfRestart refuses events fault
   pub has_failed : IfSome new (λ k. failed k ≡ is_store fault)
   pub was_honest : IsSomeAnd new honest → IsSomeAnd old honest

@@ -8,7 +8,7 @@ ghost use Rattle.fuse_request.specs.Classes.{class_of};
 ghost use Rattle.fuse_store.specs.Group.{ids_of};
 ghost use Rattle.fuse_session.specs.Worked.{unique_of};
 ghost use Rattle.fuse_session.specs.Group.{left_by};
-ghost use Rattle.fuse_sim.specs.Driving.{IsFit, given, settles, is_taken};
+ghost use Rattle.fuse_sim.specs.Driving.{IsFit, bytes_given, settles, is_taken};
 ghost use Rattle.fuse_sim.specs.Running.{answers_in, head_outcome, outcomes_by, HasAnswers, settles_in, Adds};
 
 use crate::event::{Event, Fate, Outcome};
@@ -39,7 +39,7 @@ fn is_answered(fate: Fate) -> bool
 
 // An answer under this unique. Its body is moved.
 fn outcome_with(unique: u64, answer: Answer) -> Outcome
-    ensures { given (Some result) ≡ Some (wire answer.errno answer.body unique) }
+    ensures { bytes_given (Some result) ≡ Some (wire answer.errno answer.body unique) }
 {
     Outcome {
         head: head_of(unique, &answer),
@@ -51,7 +51,7 @@ fn outcome_with(unique: u64, answer: Answer) -> Outcome
 fn outcome_of_event(alloc: Global, event: &Event, answers: &mut IntoIter<Done>) -> Option<Outcome>
     requires message { IsMessage event.now.bytes }
     requires enough { class_of event.now.bytes ≡ Kept → 0 < length (into_iter_items answers.old) }
-    ensures outcome { given result ≡ head_outcome event.now (answers_in (into_iter_items answers.old)) }
+    ensures outcome { bytes_given result ≡ head_outcome event.now (answers_in (into_iter_items answers.old)) }
     ensures left { answers_in (into_iter_items answers.new) ≡ left_by (class_of event.now.bytes) (answers_in (into_iter_items answers.old)) }
 {
     let bytes = event.bytes.as_slice();

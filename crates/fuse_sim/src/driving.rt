@@ -1,11 +1,11 @@
 // Running events to their end.
-ghost use Rattle.std.specs.Prelude.{◌≡◌, ◌++◌, ℕ, List, [], false, map, IsSomeAnd, IfSome, None, All, IfOk, IfErr, OnOk};
+ghost use Rattle.std.specs.Prelude.{◌≡◌, ℕ, List, [], false, true, length, map, IsSomeAnd, IfSome, None, All, IfOk, IfErr, OnOk, MatchResult};
 ghost use Rattle.fuse_tree.specs.State.{State};
 ghost use Rattle.fuse_tree.specs.Rows.{Rows};
-ghost use Rattle.fuse_store.specs.History.{History};
+ghost use Rattle.fuse_store.specs.History.{History, said, is_in};
 ghost use Rattle.fuse_store.specs.Stands.{Records};
-ghost use Rattle.fuse_sim.specs.Driving.{HoldsIn, StandsIn, committed, outcome_of, given, settled_by, NoneAgain, IsFit, Names, before, is_store, LeftBy, OfRestart};
-ghost use Rattle.fuse_sim.specs.HandedOn.{fresh, handed_on, RecordsLeft};
+ghost use Rattle.fuse_sim.specs.Driving.{HoldsIn, StandsIn, AnswersNoMore, committed, outcome_of, bytes_given, settled_by, NoneReused, IsFit, Names, before, is_store, IsStoreFault, LeftBy, OfRestart};
+ghost use Rattle.fuse_sim.specs.LeftRecords.{Behind, RecordsLeft};
 
 use crate::event::{DriveFault, Event, Outcome};
 use crate::running::run_next;
@@ -22,33 +22,42 @@ pub fn drive<K: Restart>(
     keeper: &mut Option<K>,
     events: &[Event],
 ) -> Result<Vec<Option<Outcome>>, DriveFault>
-    requires going { IsSomeAnd keeper.old (λ k. K.has_failed k ≡ false) }
+    requires present { IsSomeAnd keeper.old (λ k. K.has_failed k ≡ false) }
 
     // What stood stands with the requests that were committed, each once, in the order of their first commit.
-    ensures tree_stands { OnOk result (IsSomeAnd keeper.new K.is_honest → (s : State) (h : History) (t : List ℕ) → StandsIn K.holds keeper.old s h t → NoneAgain t events.now
-        → StandsIn K.holds keeper.new s (committed h events.now) (settled_by t events.now)) }
+    ensures tree_stands { OnOk result (IsSomeAnd keeper.new K.is_honest → (start : State) (h : History) (settled : List ℕ) → StandsIn K.holds keeper.old start h settled
+        → NoneReused settled events.now → StandsIn K.holds keeper.new start (committed h events.now) (settled_by settled events.now)) }
 
     // Each answer, that to a resend too, is what was said there of its id.
-    ensures outcomes { IfOk result (λ outcomes. IsSomeAnd keeper.new K.is_honest → (s : State) (h : History) (t : List ℕ) → StandsIn K.holds keeper.old s h t → NoneAgain t events.now
-        → map given outcomes.items ≡ map (outcome_of s (committed h events.now)) events.now) }
+    ensures outcomes { IfOk result (λ outcomes. IsSomeAnd keeper.new K.is_honest → (start : State) (h : History) (settled : List ℕ) → StandsIn K.holds keeper.old start h settled
+        → NoneReused settled events.now → map bytes_given outcomes.items ≡ map (outcome_of start (committed h events.now)) events.now) }
+    ensures count { IfOk result (λ outcomes. length outcomes.items ≡ length events.now) }
 
-    // Why it faults, and that it doesn't where each event can be run: `fault_causes`.
-    ensures fit { OnOk result (All IsFit events.now) }
-    ensures names { IfErr result (λ fault. Names fault events.now) }
+    // Why it faults; and where it doesn't, each event can be run.
+    ensures fault_causes { MatchResult result (λ _. All IsFit events.now) (λ fault. Names fault events.now) }
 
-    ensures after_fault { IfErr result (λ fault. (s : State) (h : History) (t : List ℕ) → StandsIn K.holds keeper.old s h t → NoneAgain t (before fault events.now)
-        → LeftBy K.is_honest K.is_clean (is_store fault) keeper.new (StandsIn K.holds keeper.new s (committed h (before fault events.now)) (settled_by t (before fault events.now)))) }
-    ensures emptied { IfErr result (λ fault. keeper.new ≡ None → OfRestart events.now fault) }
+    // The keeper that a fault leaves stands for the events before the one that is named,
+    ensures after_fault { IfErr result (λ fault. (start : State) (h : History) (settled : List ℕ) → StandsIn K.holds keeper.old start h settled → NoneReused settled (before fault events.now)
+        → LeftBy K.is_honest K.is_clean (is_store fault) keeper.new (StandsIn K.holds keeper.new start (committed h (before fault events.now)) (settled_by settled (before fault events.now)))) }
+    // and then a fault of the store is one that the keeper may answer.
+    ensures store { IfErr result (λ fault. is_store fault ≡ true → IsSomeAnd keeper.new K.is_clean → (start : State) (h : History) (settled : List ℕ) → StandsIn K.holds keeper.old start h settled
+        → NoneReused settled (before fault events.now) → IsSomeAnd keeper.old (λ k. IsStoreFault (K.may_answer k) fault)) }
+    // No keeper is left only where one refused to be opened again, with this fault.
+    ensures emptied { IfErr result (λ fault. keeper.new ≡ None → OfRestart K.may_refuse events.now fault) }
 
     // A keeper that is left has failed exactly where the store answered the fault.
     ensures going { OnOk result (IsSomeAnd keeper.new (λ k. K.has_failed k ≡ false)) }
     ensures failed { IfErr result (λ fault. IfSome keeper.new (λ k. K.has_failed k ≡ is_store fault)) }
 
-    // Which records are gone, and which stay, whatever they are.
-    ensures records { OnOk result (IsSomeAnd keeper.new K.is_honest → NoneAgain [] events.now → (rows : Rows) (records : Records) → HoldsIn K.holds keeper.old rows records
+    // It may answer no fault afterwards that it couldn't before.
+    ensures may { AnswersNoMore K.may_answer keeper.old keeper.new }
+
+    // Not of the headline: which records are left. That of an answered id goes with the 16th request committed behind it
+    // at the latest, and with the first at the earliest, unless the server dies before.
+    ensures records { OnOk result (IsSomeAnd keeper.new K.is_honest → NoneReused [] events.now → (rows : Rows) (records : Records) → HoldsIn K.holds keeper.old rows records
         → (rows' : Rows) × (records' : Records) × HoldsIn K.holds keeper.new rows' records' × RecordsLeft events.now records records') }
-    ensures kept { OnOk result (IsSomeAnd keeper.new K.is_honest → (s : State) (h : History) (t : List ℕ) → StandsIn K.holds keeper.old s h t → NoneAgain t events.now
-        → StandsIn K.holds keeper.new s (committed h events.now) (t ++ handed_on fresh events.now)) }
+    ensures kept { OnOk result (IsSomeAnd keeper.new K.is_honest → (start : State) (h : History) (settled : List ℕ) → StandsIn K.holds keeper.old start h settled → NoneReused settled events.now
+        → (rows : Rows) (records : Records) → HoldsIn K.holds keeper.new rows records → (i : ℕ) → is_in settled i ≡ false → ¬ Behind 1 events.now i → records i ≡ said start (committed h events.now) i) }
 {
     histories_grow();
     let mut outcomes = Vec::new(alloc);

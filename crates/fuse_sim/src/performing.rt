@@ -1,13 +1,14 @@
 // Performing a group, and giving its events their outcomes.
-ghost use Rattle.std.specs.Prelude.{◌≡◌, ◌≤◌, ◌+◌, ◌++◌, false, ℕ, List, length, All, IfOk, OnOk, OnErr, is_err, vec_capacity};
+ghost use Rattle.std.specs.Prelude.{◌≡◌, ◌≤◌, ◌+◌, ◌++◌, false, ℕ, List, length, All, IfOk, IfErr, OnOk, OnErr, is_err, vec_capacity};
 ghost use Rattle.fuse_tree.specs.State.{State};
 ghost use Rattle.fuse_tree.specs.Rows.{Rows};
+ghost use Rattle.fuse_store.specs.declared.fault.StoreFault.{StoreFault as StoreFaultValue};
 ghost use Rattle.fuse_store.specs.History.{History, IsUnsettled};
 ghost use Rattle.fuse_store.specs.Stands.{Records, StandsFor, Performed, KeepsHeld, OthersStay};
 ghost use Rattle.fuse_store.specs.Group.{entries_of, HasId, IsKept, ids_of};
 ghost use Rattle.fuse_store.specs.declared.keeper.TheConstants.{MAX_GROUP as max_group, MAX_SETTLED as max_settled};
 ghost use Rattle.fuse_sim.specs.Driving.{IsFit, commits_in};
-ghost use Rattle.fuse_sim.specs.Running.{handed_to, left_pending, NoneLost, Worked};
+ghost use Rattle.fuse_sim.specs.Running.{handed_to, left_pending, NoneDiesBefore, Worked};
 
 use crate::answering::answer_run;
 use crate::event::{Event, Outcome};
@@ -37,6 +38,8 @@ fn perform_group<K: Keeper>(
     ensures pending { OnOk result (ids_of pending.new.items ≡ left_pending (entries_of group.now) (ids_of pending.old.items)) }
     ensures room { length pending.old.items + length group.now ≤ vec_capacity pending.old → OnOk result (length pending.new.items + length group.now ≤ vec_capacity pending.new) }
     ensures err { OnErr result (K.is_clean keeper.new → KeepsHeld (K.holds keeper.old) (K.holds keeper.new)) }
+    ensures fault { IfErr result (λ f. K.is_clean keeper.new → (s : State) (h : History) (t : List ℕ) → StandsFor (K.holds keeper.old) s h t → K.may_answer keeper.old f) }
+    ensures may { (f : StoreFaultValue) → K.may_answer keeper.new f → K.may_answer keeper.old f }
     ensures honest { K.is_honest keeper.new → K.is_honest keeper.old }
     ensures failed { K.has_failed keeper.new ≡ is_err result }
 {
@@ -63,7 +66,7 @@ pub(crate) fn work_run<K: Keeper>(
     outcomes: &mut Vec<Option<Outcome>>,
 ) -> Result<(), StoreFault>
     requires fit { All IsFit run.now }
-    requires goes { NoneLost run.now }
+    requires goes { NoneDiesBefore run.now }
     requires entries { entries_of taken.now ≡ commits_in run.now }
     requires short { length taken.now ≤ max_group }
     requires few { length pending.old.items ≤ max_settled }
@@ -74,6 +77,8 @@ pub(crate) fn work_run<K: Keeper>(
     requires places { length pending.old.items + length taken.now ≤ vec_capacity pending.old }
     ensures ok { OnOk result (Worked (K.holds keeper.old) (K.holds keeper.new) (K.is_honest keeper.new) run.now (ids_of pending.old.items) (ids_of pending.new.items) outcomes.old.items outcomes.new.items) }
     ensures err { OnErr result (K.is_clean keeper.new → KeepsHeld (K.holds keeper.old) (K.holds keeper.new)) }
+    ensures fault { IfErr result (λ f. K.is_clean keeper.new → (s : State) (h : History) (t : List ℕ) → StandsFor (K.holds keeper.old) s h t → K.may_answer keeper.old f) }
+    ensures may { (f : StoreFaultValue) → K.may_answer keeper.new f → K.may_answer keeper.old f }
     ensures honest { K.is_honest keeper.new → K.is_honest keeper.old }
     ensures failed { K.has_failed keeper.new ≡ is_err result }
 {

@@ -1,11 +1,13 @@
 // Running the events that come next: a group of them, or one that is lost.
-ghost use Rattle.std.specs.Prelude.{◌≡◌, ◌≤◌, ◌<◌, ◌+◌, ◌-◌, false, true, if◌then◌else◌, [], length, take, drop, IsSome, IsSomeAnd, None, IfOk, IfErr, OnOk, OnErr, All, is_err, vec_capacity};
+ghost use Rattle.std.specs.Prelude.{◌≡◌, ◌≤◌, ◌<◌, ◌+◌, ◌-◌, ℕ, List, false, true, if◌then◌else◌, [], length, take, drop, IsSome, IsSomeAnd, None, IfOk, IfErr, OnOk, OnErr, All, is_err, vec_capacity};
+ghost use Rattle.fuse_tree.specs.State.{State};
+ghost use Rattle.fuse_store.specs.History.{History};
 ghost use Rattle.fuse_store.specs.Stands.{KeepsHeld};
 ghost use Rattle.fuse_store.specs.Group.{entries_of, HasId, IsKept, ids_of};
 ghost use Rattle.fuse_store.specs.declared.keeper.TheConstants.{MAX_GROUP as max_group, MAX_SETTLED as max_settled};
-ghost use Rattle.fuse_sim.specs.Driving.{HoldsIn, IsFit, commits_in, event_of, is_store};
+ghost use Rattle.fuse_sim.specs.Driving.{HoldsIn, StandsIn, AnswersNoMore, IsFit, commits_in, event_of, is_store, IsStoreFault};
 ghost use Rattle.fuse_sim.specs.HandedOn.{Ledger};
-ghost use Rattle.fuse_sim.specs.Running.{NoneLost, Worked, Moved, Stops, Begins, MayBegin};
+ghost use Rattle.fuse_sim.specs.Running.{NoneDiesBefore, Worked, Moved, Stops, Begins, MayBegin};
 
 use crate::event::{DriveFault, Event, Outcome};
 use crate::gathering::{gather, is_before_commit, test_event};
@@ -21,7 +23,9 @@ fn reopen<K: Restart>(keeper: &mut Option<K>) -> Result<(), StoreFault>
     ensures same { OnOk result (IsSomeAnd keeper.new K.is_honest → KeepsHeld (HoldsIn K.holds keeper.old) (HoldsIn K.holds keeper.new)) }
     ensures honest { OnOk result (IsSomeAnd keeper.new K.is_honest → IsSomeAnd keeper.old K.is_honest) }
     ensures going { OnOk result (IsSomeAnd keeper.new (λ k. K.has_failed k ≡ false)) }
+    ensures may { AnswersNoMore K.may_answer keeper.old keeper.new }
     ensures err { OnErr result (keeper.new ≡ None) }
+    ensures refused { IfErr result (λ f. IsSomeAnd keeper.old (λ k. K.may_refuse k f)) }
 {
     let old = keeper.take().unwrap();
     *keeper = Some(old.restart()?);
@@ -39,9 +43,11 @@ fn end_group<K: Restart>(
     ensures same { OnOk result (IsSomeAnd keeper.new K.is_honest → KeepsHeld (HoldsIn K.holds keeper.old) (HoldsIn K.holds keeper.new)) }
     ensures honest { OnOk result (IsSomeAnd keeper.new K.is_honest → IsSomeAnd keeper.old K.is_honest) }
     ensures going { OnOk result (IsSomeAnd keeper.new (λ k. K.has_failed k ≡ false)) }
+    ensures may { AnswersNoMore K.may_answer keeper.old keeper.new }
     ensures pending { OnOk result (pending.new.items ≡ (if dies then [] else pending.old.items)) }
     ensures err { OnErr result ((keeper.new ≡ None) × (dies ≡ true)) }
     ensures fault { IfErr result (λ f. (is_store f ≡ true) × (event_of f ≡ event)) }
+    ensures refused { IfErr result (λ f. IsSomeAnd keeper.old (λ k. IsStoreFault (K.may_refuse k) f)) }
 {
     if !dies {
         return Ok(());
@@ -79,7 +85,7 @@ fn work_group<K: Restart>(
     outcomes: &mut Vec<Option<Outcome>>,
 ) -> Result<(), StoreFault>
     requires fit { All IsFit run.now }
-    requires goes { NoneLost run.now }
+    requires goes { NoneDiesBefore run.now }
     requires entries { entries_of taken.now ≡ commits_in run.now }
     requires short { length taken.now ≤ max_group }
     requires few { length pending.old.items ≤ max_settled }
@@ -90,6 +96,8 @@ fn work_group<K: Restart>(
     requires places { length pending.old.items + length taken.now ≤ vec_capacity pending.old }
     ensures ok { OnOk result (Worked (HoldsIn K.holds keeper.old) (HoldsIn K.holds keeper.new) (IsSomeAnd keeper.new K.is_honest) run.now (ids_of pending.old.items) (ids_of pending.new.items) outcomes.old.items outcomes.new.items) }
     ensures err { OnErr result (IsSomeAnd keeper.new K.is_clean → KeepsHeld (HoldsIn K.holds keeper.old) (HoldsIn K.holds keeper.new)) }
+    ensures fault { IfErr result (λ f. IsSomeAnd keeper.new K.is_clean → (s : State) (h : History) (t : List ℕ) → StandsIn K.holds keeper.old s h t → IsSomeAnd keeper.old (λ k. K.may_answer k f)) }
+    ensures may { AnswersNoMore K.may_answer keeper.old keeper.new }
     ensures honest { IsSomeAnd keeper.new K.is_honest → IsSomeAnd keeper.old K.is_honest }
     ensures failed { IsSomeAnd keeper.new (λ k. K.has_failed k ≡ is_err result) }
 {
@@ -116,7 +124,8 @@ fn run_group<K: Restart>(
     ensures few { OnOk result (length pending.new.items ≤ max_settled) }
     ensures going { OnOk result (IsSomeAnd keeper.new (λ k. K.has_failed k ≡ false)) }
     ensures honest { OnOk result (IsSomeAnd keeper.new K.is_honest → IsSomeAnd keeper.old K.is_honest) }
-    ensures err { IfErr result (λ fault. Stops K.holds K.is_honest K.is_clean K.has_failed keeper.old keeper.new events.now at fault) }
+    ensures may { AnswersNoMore K.may_answer keeper.old keeper.new }
+    ensures err { IfErr result (λ fault. Stops K.holds K.is_honest K.is_clean K.has_failed K.may_answer K.may_refuse keeper.old keeper.new events.now at fault) }
 {
     let Ok(group) = gather(alloc, &events[at..]) else {
         return Err(DriveFault::Memory { event: at });
@@ -153,7 +162,8 @@ pub(crate) fn run_next<K: Restart>(
     ensures few { OnOk result (length pending.new.items ≤ max_settled) }
     ensures going { OnOk result (IsSomeAnd keeper.new (λ k. K.has_failed k ≡ false)) }
     ensures honest { OnOk result (IsSomeAnd keeper.new K.is_honest → IsSomeAnd keeper.old K.is_honest) }
-    ensures err { IfErr result (λ fault. Stops K.holds K.is_honest K.is_clean K.has_failed keeper.old keeper.new events.now at fault) }
+    ensures may { AnswersNoMore K.may_answer keeper.old keeper.new }
+    ensures err { IfErr result (λ fault. Stops K.holds K.is_honest K.is_clean K.has_failed K.may_answer K.may_refuse keeper.old keeper.new events.now at fault) }
 {
     let event = &events[at];
     test_event(event, at)?;

@@ -151,6 +151,8 @@ impl Keeper for PlainKeeper {
 impl Restart for PlainKeeper {
     ghost use Rattle.fuse_store.specs.PlainKeeper.{unfailed};
 
+    ghost may_refuse = { λ _ _. ⊥ };
+
     /// The same keeper, as if no call of it had failed. Takes no memory.
     fn restart(mut self) -> Result<PlainKeeper, StoreFault>
         ensures { result ≡ Ok (unfailed self) }

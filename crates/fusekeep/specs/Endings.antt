@@ -34,6 +34,10 @@ IsOfStream ending = status_of ending ≤ 1
 abbrev pub IsNotOfStream : Ending → Type 0
 IsNotOfStream ending = 1 < status_of ending
 
+-- an input, an output or memory gave out
+abbrev pub IsOfMachine : Ending → Type 0
+IsOfMachine ending = 3 < status_of ending
+
 -- the line, without its line feed; of words that are no command clap has said all, and of malformed messages the counts
 abbrev pub line_of : Ending → Option (List ℕ)
 line_of Done = None

@@ -4,10 +4,10 @@ ghost use Rattle.std.specs.Io.KnownBytes.{Appends};
 ghost use Rattle.fuse_tree.specs.State.{State};
 ghost use Rattle.fuse_store.specs.PlainKeeper.{plain_holds, plain_failed};
 ghost use Rattle.fuse_store.specs.Stands.{StandsFor};
-ghost use Rattle.fuse_sim.specs.Driving.{StandsIn, NoneAgain, IsFit, given};
-ghost use Rattle.fusekeep.specs.Endings.{status_of, IsNotOfStream};
+ghost use Rattle.fuse_sim.specs.Driving.{StandsIn, NoneReused, IsFit, bytes_given};
+ghost use Rattle.fusekeep.specs.Endings.{status_of, IsNotOfStream, IsOfMachine};
 ghost use Rattle.fusekeep.specs.Printing.{line, store_line};
-ghost use Rattle.fusekeep.specs.Simulating.{Went, RanScript, NotRun, Simulated, outcome_line, outcome_lines};
+ghost use Rattle.fusekeep.specs.Simulating.{Went, StoreEnded, Reuses, RanScript, NotRun, Simulated, outcome_line, outcome_lines};
 
 use crate::ending::Ending;
 use crate::printing::{write_hex_line, write_store};
@@ -37,9 +37,10 @@ fn run_events<K: Restart>(
 ) -> Result<Simulation, Ending>
     requires going { IsSomeAnd keeper.old (λ k. K.has_failed k ≡ false) }
     requires fit { All IsFit events.now }
-    ensures ok { IfOk result (λ simulation. IsSomeAnd keeper.new K.is_honest → (s : State) → StandsIn K.holds keeper.old s [] [] → NoneAgain [] events.now → Went s events.now simulation) }
+    ensures ok { IfOk result (λ simulation. IsSomeAnd keeper.new K.is_honest → (s : State) → StandsIn K.holds keeper.old s [] [] → NoneReused [] events.now → Went s events.now simulation) }
     ensures left { OnOk result (IsSome keeper.new) }
     ensures err { IfErr result IsNotOfStream }
+    ensures store { IfErr result (λ ending. status_of ending ≡ 3 → (s : State) → StandsIn K.holds keeper.old s [] [] → NoneReused [] events.now → StoreEnded K.is_clean K.may_answer K.may_refuse keeper.old keeper.new ending) }
 {
     let outcomes = match drive(alloc, keeper, events) {
         Ok(outcomes) => outcomes,
@@ -62,8 +63,8 @@ fn write_outcome<W: Write>(
     writer: &mut W,
     outcome: &Option<Outcome>,
 ) -> Result<(), Ending>
-    ensures ok { OnOk result (Appends (W.contents writer.old) (W.contents writer.new) (outcome_line (given outcome.now))) }
-    ensures err { IfErr result IsNotOfStream }
+    ensures ok { OnOk result (Appends (W.contents writer.old) (W.contents writer.new) (outcome_line (bytes_given outcome.now))) }
+    ensures err { IfErr result IsOfMachine }
 {
     let Some(outcome) = outcome else {
         return match writeln!(writer, "-") {
@@ -86,8 +87,8 @@ fn print_simulation<W: Write>(
     simulation: &Simulation,
 ) -> Result<(), Ending>
     ensures ok { OnOk result (Appends (W.contents writer.old) (W.contents writer.new)
-        (outcome_lines (map given simulation.now.outcomes.items) ++ line (store_line simulation.now.counts.nodes simulation.now.counts.handles))) }
-    ensures err { IfErr result IsNotOfStream }
+        (outcome_lines (map bytes_given simulation.now.outcomes.items) ++ line (store_line simulation.now.counts.nodes simulation.now.counts.handles))) }
+    ensures err { IfErr result IsOfMachine }
 {
     for outcome in simulation.outcomes.as_slice() {
         write_outcome(alloc, writer, outcome)?;
@@ -103,8 +104,9 @@ fn print_simulation<W: Write>(
 fn run_in_memory(alloc: Global, keeper: PlainKeeper, events: &[Event]) -> Result<Simulation, Ending>
     requires going { plain_failed keeper ≡ false }
     requires fit { All IsFit events.now }
-    ensures ok { IfOk result (λ simulation. (s : State) → StandsFor (plain_holds keeper) s [] [] → NoneAgain [] events.now → Went s events.now simulation) }
+    ensures ok { IfOk result (λ simulation. (s : State) → StandsFor (plain_holds keeper) s [] [] → NoneReused [] events.now → Went s events.now simulation) }
     ensures err { IfErr result IsNotOfStream }
+    ensures store { IfErr result (λ ending. status_of ending ≡ 3 → (s : State) → StandsFor (plain_holds keeper) s [] [] → ¬ NoneReused [] events.now) }
 {
     let mut keeper = Some(keeper);
     run_events(alloc, &mut keeper, events)
@@ -114,6 +116,7 @@ fn run_in_memory(alloc: Global, keeper: PlainKeeper, events: &[Event]) -> Result
 fn simulate<R: Read>(alloc: Global, reader: &mut R) -> Result<Simulation, Ending>
     ensures ok { IfOk result (λ simulation. IfSome (R.remaining reader.old) (λ script. RanScript script simulation)) }
     ensures err { IfErr result (λ ending. IfSome (R.remaining reader.old) (λ script. status_of ending ≤ 1 → NotRun script ending)) }
+    ensures store { IfErr result (λ ending. IfSome (R.remaining reader.old) (λ script. status_of ending ≡ 3 → Reuses script)) }
 {
     let Ok(keeper) = PlainKeeper::new(alloc, START) else {
         return Err(Ending::Memory);
@@ -130,7 +133,9 @@ pub fn run_simulate<R: Read + Drop, W: Write>(
     mut reader: R,
     writer: &mut W,
 ) -> Ending
-    ensures { IfSome (R.remaining reader) (λ script. status_of result ≤ 1 → Simulated (W.contents writer.old) (W.contents writer.new) script result) }
+    ensures printed { IfSome (R.remaining reader) (λ script. status_of result ≤ 1 → Simulated (W.contents writer.old) (W.contents writer.new) script result) }
+    // A store in memory has no fault, where no message comes again whose answer was taken.
+    ensures store { IfSome (R.remaining reader) (λ script. status_of result ≡ 3 → Reuses script) }
 {
     let simulation = match simulate(alloc, &mut reader) {
         Ok(simulation) => simulation,

@@ -66,6 +66,8 @@ impl Keeper for Closed {
 }
 
 impl Restart for Closed {
+    ghost may_refuse = { λ _ _. Unit {0} };
+
     fn restart(self) -> Result<Closed, StoreFault> {
         Err(StoreFault::NotAStore)
     }

@@ -2,7 +2,7 @@ use Rattle.std.proofs.Common.{IsSomeAnd}
 use Rattle.std.proofs.lemmas.Result.{err_from_is_err_and}
 use Rattle.fuse_store.specs.Group.{ids_of}
 use Rattle.fuse_sim.specs.Driving.{HoldsIn}
-use Rattle.fuse_sim.proofs.Endings.{moved_more, moved_all, moved_stands, moved_kept, moved_outcomes, moved_records, stopped}
+use Rattle.fuse_sim.proofs.Endings.{moved_more, moved_all, moved_stands, moved_left, moved_outcomes, moved_count, moved_records, stopped, stopped_store}
 use Rattle.fuse_sim.proofs.driving.drive.Goals as goal
 
 pub loop-at-preserved : goal.loop-at-preserved
@@ -14,14 +14,25 @@ loop-at-preserved g c =
           c.args.events.now c.loop-at.at c.in_ok-at.field-0 (ids_of c.loop-at.pending.items) (ids_of c.run_next.new.pending.items) c.loop-at.outcomes.items c.run_next.new.outcomes.items c.in_ok-at.ensures.honest c.loop-at.invariant.moved c.in_ok-at.ensures.ok;
       few = c.in_ok-at.ensures.few;
       going = c.in_ok-at.ensures.going;
+      may = λ f is. c.loop-at.invariant.may f (c.run_next.ensures.may f is);
     }
 
 pub returns-in_err-at-clause-after_fault : goal.returns-in_err-at-clause-after_fault
 returns-in_err-at-clause-after_fault g c =
     let k = g.K.Keeper in
     let p = err_from_is_err_and c.from_residual.result c.from_residual.ensures.1 in
-    rw (p.1, p.2) (stopped k.holds k.is_honest k.is_clean k.has_failed c.args.keeper.now c.loop-at.keeper c.run_next.new.keeper c.args.events.now c.loop-at.at c.in_err-at.field-0.0 (ids_of c.loop-at.pending.items) c.loop-at.outcomes.items
+    rw (p.1, p.2) (stopped k.holds k.is_honest k.is_clean k.has_failed k.may_answer g.K.Restart.may_refuse c.args.keeper.now c.loop-at.keeper c.run_next.new.keeper c.args.events.now c.loop-at.at c.in_err-at.field-0.0 (ids_of c.loop-at.pending.items) c.loop-at.outcomes.items
     g.met.K.Keeper.clean_is_honest c.loop-at.invariant.moved c.in_err-at.ensures.err)
+
+pub returns-in_err-at-clause-store : goal.returns-in_err-at-clause-store
+returns-in_err-at-clause-store g c =
+    let k = g.K.Keeper in
+    let p = err_from_is_err_and c.from_residual.result c.from_residual.ensures.1 in
+    rw (p.1, p.2) (stopped_store k.holds k.is_honest k.is_clean k.has_failed k.may_answer g.K.Restart.may_refuse c.args.keeper.now c.loop-at.keeper c.run_next.new.keeper c.args.events.now c.loop-at.at c.in_err-at.field-0.0 (ids_of c.loop-at.pending.items) c.loop-at.outcomes.items
+    g.met.K.Keeper.clean_is_honest c.loop-at.invariant.moved c.loop-at.invariant.may c.in_err-at.ensures.err)
+
+pub returns-in_err-at-clause-may : goal.returns-in_err-at-clause-may
+returns-in_err-at-clause-may g c = λ f is. c.loop-at.invariant.may f (c.run_next.ensures.may f is)
 
 pub returns-clause-tree_stands : goal.returns-clause-tree_stands
 returns-clause-tree_stands g c =
@@ -30,12 +41,17 @@ returns-clause-tree_stands g c =
 
 pub returns-clause-kept : goal.returns-clause-kept
 returns-clause-kept g c =
-    moved_kept _ _ _ c.args.events.now _ _ _
+    moved_left g.K.Keeper.holds _ c.args.keeper.now c.loop-at.keeper c.args.events.now _ _ _ g.met.K.Keeper.one_holding
     (moved_all (HoldsIn g.K.Keeper.holds c.args.keeper.now) (HoldsIn g.K.Keeper.holds c.loop-at.keeper) (IsSomeAnd c.loop-at.keeper g.K.Keeper.is_honest) c.args.events.now _ c.loop-at.at _ _ c.loop-at-test.false c.loop-at.invariant.moved)
 
 pub returns-clause-outcomes : goal.returns-clause-outcomes
 returns-clause-outcomes g c =
     moved_outcomes _ _ _ c.args.events.now _ _ _
+    (moved_all (HoldsIn g.K.Keeper.holds c.args.keeper.now) (HoldsIn g.K.Keeper.holds c.loop-at.keeper) (IsSomeAnd c.loop-at.keeper g.K.Keeper.is_honest) c.args.events.now _ c.loop-at.at _ _ c.loop-at-test.false c.loop-at.invariant.moved)
+
+pub returns-clause-count : goal.returns-clause-count
+returns-clause-count g c =
+    moved_count _ _ _ c.args.events.now _ _ _
     (moved_all (HoldsIn g.K.Keeper.holds c.args.keeper.now) (HoldsIn g.K.Keeper.holds c.loop-at.keeper) (IsSomeAnd c.loop-at.keeper g.K.Keeper.is_honest) c.args.events.now _ c.loop-at.at _ _ c.loop-at-test.false c.loop-at.invariant.moved)
 
 pub returns-clause-records : goal.returns-clause-records

@@ -3,20 +3,20 @@ use Rattle.fuse_store.specs.Group.{ids_of}
 use Rattle.std.proofs.lemmas.List.{drop-drop}
 use Rattle.std.proofs.lemmas.Result.{err_from_is_err_and}
 use Rattle.fuse_sim.specs.Driving.{IsFit, HoldsIn, commits_in}
-use Rattle.fuse_sim.specs.Running.{Gathers, StartsNone, NoneLost, Worked}
-use Rattle.fuse_sim.proofs.Moves.{group_moved, ids_left, none_lost, few_taken, few_left}
+use Rattle.fuse_sim.specs.Running.{Gathers, StartsNone, NoneDiesBefore, Worked}
+use Rattle.fuse_sim.proofs.Moves.{group_moved, ids_left, none_dies, few_taken, few_left}
 use Rattle.fuse_sim.proofs.Stopping.{stops_here, stops_store, stops_restart, dies_at, begins_fit, within_rest, whole_rest, run_slice}
 use Rattle.fuse_sim.proofs.running.run_group.Goals as goal
 
 pub returns-in_default-clause-err : goal.returns-in_default-clause-err
 returns-in_default-clause-err g c =
     let k = g.K.Keeper in
-    stops_here k.holds k.is_honest k.is_clean k.has_failed c.args.keeper.now c.args.events.now c.args.at _ refl refl (begins_fit c.args.events.now c.args.at c.requires.begins) c.requires.going
+    stops_here k.holds k.is_honest k.is_clean k.has_failed k.may_answer g.K.Restart.may_refuse c.args.keeper.now c.args.events.now c.args.at _ refl refl (begins_fit c.args.events.now c.args.at c.requires.begins) c.requires.going
 
 pub returns-then-is_err-clause-err : goal.returns-then-is_err-clause-err
 returns-then-is_err-clause-err g c =
     let k = g.K.Keeper in
-    stops_here k.holds k.is_honest k.is_clean k.has_failed c.args.keeper.now c.args.events.now c.args.at _ refl refl (begins_fit c.args.events.now c.args.at c.requires.begins) c.requires.going
+    stops_here k.holds k.is_honest k.is_clean k.has_failed k.may_answer g.K.Restart.may_refuse c.args.keeper.now c.args.events.now c.args.at _ refl refl (begins_fit c.args.events.now c.args.at c.requires.begins) c.requires.going
 
 pub work_group-requires-clause-fit : goal.work_group-requires-clause-fit
 work_group-requires-clause-fit g c =
@@ -30,13 +30,13 @@ work_group-requires-clause-goes g c =
     let run = run_slice c.args.events.now c.args.at c.in-Ok.group.count in
     let rest = whole_rest c.args.events.now c.args.at in
     let gathers = subst (λ x. Gathers (take c.in-Ok.group.count x) c.in-Ok.group.taken.items c.in-Ok.group.died) rest c.in-Ok.ensures.gathers in
-    subst NoneLost (sym run) (none_lost c.in-Ok.group.died _ gathers.goes)
+    subst NoneDiesBefore (sym run) (none_dies c.in-Ok.group.died _ gathers.goes)
 
 pub returns-in-Err-clause-err : goal.returns-in-Err-clause-err
 returns-in-Err-clause-err g c =
     let k = g.K.Keeper in
-    stops_store k.holds k.is_honest k.is_clean k.has_failed c.args.keeper.now c.work_group.new.keeper c.args.events.now c.args.at c.in-Err.fault
-    (begins_fit c.args.events.now c.args.at c.requires.begins) c.in-Err.ensures.failed c.in-Err.ensures.err c.in-Err.ensures.honest
+    stops_store k.holds k.is_honest k.is_clean k.has_failed k.may_answer g.K.Restart.may_refuse c.args.keeper.now c.work_group.new.keeper c.args.events.now c.args.at c.in-Err.fault
+    (begins_fit c.args.events.now c.args.at c.requires.begins) c.in-Err.ensures.failed c.in-Err.ensures.err c.in-Err.ensures.honest c.in-Err.ensures.fault
 
 pub returns-in_err-end_group-clause-err : goal.returns-in_err-end_group-clause-err
 returns-in_err-end_group-clause-err g c =
@@ -49,8 +49,8 @@ returns-in_err-end_group-clause-err g c =
     let fault = c.in_err-end_group.ensures.fault in
     let last = dies_at events at count c.in-Ok.group.died (within_rest events at count c.requires.begins c.in-Ok.ensures.within) gathers.goes gathers.fit none.1 in
     let p = err_from_is_err_and c.from_residual.result c.from_residual.ensures.1 in
-    rw (p.1, p.2) (stops_restart k.holds k.is_honest k.is_clean k.has_failed c.args.keeper.now c.end_group.new.keeper events at (at + count - 1) c.in_err-end_group.field-0.0 last.one
-    none.0 fault.0 fault.1 last.there last.fit last.died last.earlier)
+    rw (p.1, p.2) (stops_restart k.holds k.is_honest k.is_clean k.has_failed k.may_answer g.K.Restart.may_refuse c.args.keeper.now c.work_group.new.keeper c.end_group.new.keeper events at (at + count - 1) c.in_err-end_group.field-0.0 last.one
+    none.0 c.in_err-end_group.ensures.refused fault.0 fault.1 last.there last.fit last.died last.earlier)
 
 pub returns-clause-ok : goal.returns-clause-ok
 returns-clause-ok g c =

@@ -22,7 +22,7 @@ returns-then-is_err-clause-err g c =
     let k = g.K.Keeper in
     let events = c.args.events.now in
     let fit = subst (λ o. IsSomeAnd o IsFit) (sym (slice_get_read events _ c.args.at c.index-events-at.result refl c.requires.at c.index-events-at.is)) c.in_ok-test_event.ensures.fit in
-    stops_here k.holds k.is_honest k.is_clean k.has_failed c.args.keeper.now events c.args.at _ refl refl fit c.requires.going
+    stops_here k.holds k.is_honest k.is_clean k.has_failed k.may_answer g.K.Restart.may_refuse c.args.keeper.now events c.args.at _ refl refl fit c.requires.going
 
 pub returns-in_err-end_group-clause-err : goal.returns-in_err-end_group-clause-err
 returns-in_err-end_group-clause-err g c =
@@ -32,8 +32,8 @@ returns-in_err-end_group-clause-err g c =
     let e = c.index-events-at.result in
     let fault = c.in_err-end_group.ensures.fault in
     let p = err_from_is_err_and c.from_residual-in_err-end_group.result c.from_residual-in_err-end_group.ensures.1 in
-    rw (p.1, p.2) (stops_restart k.holds k.is_honest k.is_clean k.has_failed c.args.keeper.now c.end_group.new.keeper events at at c.in_err-end_group.field-0.0 e
-    c.in_err-end_group.ensures.err.0 fault.0 fault.1 (slice_get_read events _ at e refl c.requires.at c.index-events-at.is) c.in_ok-test_event.ensures.fit
+    rw (p.1, p.2) (stops_restart k.holds k.is_honest k.is_clean k.has_failed k.may_answer g.K.Restart.may_refuse c.args.keeper.now c.args.keeper.now c.end_group.new.keeper events at at c.in_err-end_group.field-0.0 e
+    c.in_err-end_group.ensures.err.0 c.in_err-end_group.ensures.refused fault.0 fault.1 (slice_get_read events _ at e refl c.requires.at c.index-events-at.is) c.in_ok-test_event.ensures.fit
     (lost_dies e.fate (sym c.is_before_commit.ensures ∙ c.if-not-is_before_commit.false)) (λ each. each))
 
 pub returns-clause-ok : goal.returns-clause-ok

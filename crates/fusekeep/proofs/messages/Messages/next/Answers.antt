@@ -1,7 +1,6 @@
-use Rattle.std.proofs.Common.{length, ◌≡◌, ℕ, List, [], Option, Some, None, Result, Ok, Err, inr, refl, sym, ap, subst, ◌∙◌, arith}
-use Rattle.std.specs.Option.{IfSome}
+use Rattle.std.proofs.Common.{length, ◌≡◌, ℕ, List, Option, Some, None, Result, Ok, Err, inr, refl, sym, ap, subst, ◌∙◌, arith}
 use Rattle.std.specs.Io.KnownBytes.{Keeps, IsAtEnd, prepend_known}
-use Rattle.fuse_request.specs.Framing.{Held, HasNone, end_fault}
+use Rattle.fuse_request.specs.Framing.{Held, HasNone}
 use Rattle.fusekeep.specs.declared.ending.Ending.{Ending}
 use Rattle.fusekeep.specs.declared.messages.Placed.{Placed}
 use Rattle.fusekeep.specs.Messages.{left_in, EndsSo, GivesPlaced}

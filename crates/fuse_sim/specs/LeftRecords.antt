@@ -1,0 +1,30 @@
+-- Which records are gone after events (own profile).
+use Rattle.std.specs.Prelude.{◌≡◌, ◌≤◌, ℕ, false, List, [], ◌∷◌, ◌++◌, length, All, None}
+use Rattle.fuse_store.specs.declared.keeper.TheConstants.{MAX_GROUP}
+use Rattle.fuse_store.specs.History.{is_in, ids_in}
+use Rattle.fuse_store.specs.Stands.{Records}
+use Rattle.fuse_sim.specs.declared.event.Event.{Event}
+use Rattle.fuse_sim.specs.Driving.{commits_in, settles, Calm}
+
+-- at least so many requests are committed by these events up to one of them, before which the server doesn't die
+pub record Follow (n : ℕ) (events : List Event) : Type 0 where
+  pub between : List Event
+  pub last : Event
+  pub later : List Event
+  pub parts : events ≡ between ++ last ∷ later
+  pub calm : All Calm between
+  pub many : n ≤ length (commits_in (between ++ last ∷ []))
+
+-- the answer to this id was taken, and so many requests were committed after it before the server died
+pub record Behind (n : ℕ) (events : List Event) (i : ℕ) : Type 0 where
+  pub earlier : List Event
+  pub one : Event
+  pub later : List Event
+  pub parts : events ≡ earlier ++ one ∷ later
+  pub settled : settles one ≡ i ∷ []
+  pub follow : Follow n later
+
+-- a record goes with the 16th request committed behind its answer at the latest; those of ids that didn't come stay
+pub record RecordsLeft (events : List Event) (records records' : Records) : Type 0 where
+  pub gone : (i : ℕ) → Behind MAX_GROUP events i → records' i ≡ None
+  pub others : (i : ℕ) → is_in (ids_in (commits_in events)) i ≡ false → records' i ≡ records i

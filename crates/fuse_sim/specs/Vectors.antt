@@ -1,0 +1,44 @@
+-- Worked rows (own profile): what `committed`, `outcome_of` and `settled_by` say of a short list of events, over the store
+-- of row first-run.
+use Rattle.std.specs.Prelude.{◌≡◌, ◌+◌, ◌^◌, ℕ, List, [], ◌∷◌, map, codes, Option, Some, None}
+use Rattle.fuse_wire.specs.Hex.{hex}
+use Rattle.fuse_wire.specs.declared.errno.TheConstants.Errno.{EEXIST, ENOSYS}
+use Rattle.fuse_answer.specs.Wire.{wire}
+use Rattle.fuse_request.specs.Act.{Act}
+use Rattle.fuse_request.specs.Act as acts
+use Rattle.fuse_request.specs.Canon.{canon}
+use Rattle.fuse_store.specs.History.{Entry}
+use Rattle.fuse_tree.specs.Vectors.{at, asks, first, mkdir_a, entry_a}
+use Rattle.fuse_sim.specs.declared.event.Fate.{Fate}
+use Rattle.fuse_sim.specs.declared.event.Fate.TheVariants.{Answered, AnswerLost, DiedBeforeCommit, DiedAfterCommit}
+use Rattle.fuse_sim.specs.declared.event.Event.{Event}
+use Rattle.fuse_sim.specs.Driving.{committed, outcome_of, settled_by}
+
+abbrev pub mkdir : ℕ → Fate → Event
+mkdir unique fate = record { bytes = canon (asks unique 1 mkdir_a); moment = at 1000; fate = fate }
+
+abbrev pub entry : ℕ → Entry
+entry unique = record { asked = asks unique 1 mkdir_a; moment = at 1000 }
+
+-- MKDIR of `a`, after which the server dies; the same sent again; one that is lost; and one under another id
+abbrev pub events : List Event
+events = mkdir 6 DiedAfterCommit ∷ mkdir (2 ^ 63 + 6) Answered ∷ mkdir 8 DiedBeforeCommit ∷ mkdir 10 Answered ∷ []
+
+abbrev pub Resent : Type 0
+Resent =
+    (committed [] events ≡ entry 6 ∷ entry 10 ∷ [])
+    × (map (outcome_of first (committed [] events)) events ≡ None ∷ Some (wire 0 entry_a (2 ^ 63 + 6)) ∷ None ∷ Some (wire EEXIST.0 [] 10) ∷ [])
+    × (settled_by [] events ≡ 6 ∷ 10 ∷ [])
+
+-- a message of an opcode outside the profile, and FORGET
+abbrev pub others : List Event
+others =
+    record { bytes = hex (codes "28000000 23000000 0400000000000000 0100000000000000 e8030000 e8030000 4d000000 00000000"); moment = at 1000; fate = Answered }
+    ∷ record { bytes = hex (codes "30000000 02000000 0600000000000000 0100000000000000 e8030000 e8030000 4d000000 00000000 0100000000000000"); moment = at 1000; fate = Answered }
+    ∷ []
+
+abbrev pub NotKept : Type 0
+NotKept =
+    (committed [] others ≡ [])
+    × (map (outcome_of first []) others ≡ Some (wire ENOSYS.0 [] 4) ∷ None ∷ [])
+    × (settled_by [] others ≡ [])
