@@ -172,7 +172,7 @@ impl Kernel {
         Ok(message)
     }
 
-    /// Whether a pending request has this id. Takes no memory.
+    /// Whether a pending request has this id, by which a caller tests the condition of `send`. Takes no memory.
     pub fn awaits(&self, id: Id) -> bool
         ensures { result ≡ is_in (request_ids self.now) id.0 }
     {

@@ -7,11 +7,12 @@ use messages::*;
 use std::alloc::{AllocError, Global};
 use std::test::*;
 
-mod driven;
+mod allocations;
 mod faults;
 mod messages;
 mod pending;
-mod refused;
+mod rows;
+mod sending;
 mod settled;
 
 const START: Moment = Moment { secs: 0, nanos: 0 };
@@ -31,7 +32,7 @@ fn event(bytes: Vec<u8>, fate: Fate) -> Event {
 
 // The INIT of row init-agreed, answered.
 fn init(alloc: Global) -> Result<Event, AllocError> {
-    let bytes = message(alloc, INIT, 2, 0, INIT_BODY)?;
+    let bytes = hex(alloc, INIT_AGREED)?;
     Ok(event(bytes, Fate::Answered))
 }
 

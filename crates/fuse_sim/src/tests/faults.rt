@@ -4,7 +4,7 @@ use fuse_answer::Answer;
 use fuse_init::Settings;
 use fuse_request::Request;
 use fuse_store::{Done, StoreCounts};
-use fuse_wire::Id;
+use fuse_wire::{Id, UNIQUE_RESEND};
 
 // A keeper of lists that can't be opened again.
 #[derive(Drop)]
@@ -163,14 +163,8 @@ fn not_a_message(rt: HostRuntime) -> Result<(), Fail> {
 fn zero_unique(rt: HostRuntime) -> Result<(), Fail> {
     let alloc = rt.alloc();
     for fate in &FATES {
-        for unique in &[0, RESENT] {
-            let zero = message(
-                alloc,
-                GETATTR,
-                *unique,
-                1,
-                "00000000 00000000 0000000000000000",
-            )?;
+        for unique in &[0, UNIQUE_RESEND] {
+            let zero = message(alloc, GETATTR, *unique, 1, "0*16")?;
             assert!(rt;
                 is_named(alloc, zero, *fate, Why::ZeroUnique)?,
                 "{unique}, {fate:?}"

@@ -1,59 +1,19 @@
 //! Requests and answers as the rows have them.
 use super::*;
+pub use fuse_request::opcode::{GETATTR, MKDIR};
 
-pub const LOOKUP: u32 = 1;
-
-pub const FORGET: u32 = 2;
-
-pub const GETATTR: u32 = 3;
-
-pub const MKNOD: u32 = 8;
-
-pub const MKDIR: u32 = 9;
-
-pub const RENAME: u32 = 12;
-
-pub const OPEN: u32 = 14;
-
-pub const READ: u32 = 15;
-
-pub const WRITE: u32 = 16;
-
-pub const RELEASE: u32 = 18;
-
-pub const INIT: u32 = 26;
-
-pub const OPENDIR: u32 = 27;
-
-pub const READDIR: u32 = 28;
-
-pub const CREATE: u32 = 35;
-
-pub const RENAME2: u32 = 45;
-
-/// The bit of `unique` that marks a resend.
-pub const RESENT: u64 = 0x8000_0000_0000_0000;
-
-/// The body of row init-agreed, and its answer.
-pub const INIT_BODY: &str = "07000000 28000000 00000200 21200040 80000000
-    00000000000000000000000000000000000000000000000000000000000000000000000000000000 00000000";
+/// Row init-agreed, and its answer.
+pub const INIT_AGREED: &str = "68000000 1a000000 0200000000000000 0*8 0*16
+    07000000 28000000 00000200 21200040 80000000 0*44";
 
 pub const AGREED: &str = "50000000 00000000 0200000000000000
-    07000000 28000000 00000200 21000040 0c000900 00000200 01000000 00000000 80000000 00000000
-    000000000000000000000000000000000000000000000000";
+    07000000 28000000 00000200 21000040 0c000900 00000200 01000000 00000000 80000000 00000000 0*24";
 
-/// The body of row first-run's MKDIR `a`, and what it is answered under unique 6.
-pub const A_BODY: &str = "ed010000 12000000 6100";
-
+/// What row first-run's MKDIR `a` is answered.
 pub const MADE_A: &str = "90000000 00000000 0600000000000000
-    0200000000000000 0000000000000000 0100000000000000 0100000000000000 0000000000000000
-    0200000000000000 0000000000000000 0000000000000000 e803000000000000 e803000000000000 e803000000000000
-    000000000000000000000000 ed410000 02000000 e8030000 e8030000 00000000 00100000 00000000";
-
-/// The body of MKNOD `f`, a regular file, and of OPEN for reading and writing.
-pub const F_BODY: &str = "a4810000 00000000 12000000 00000000 6600";
-
-pub const OPEN_BODY: &str = "02000000 00000000";
+    0200000000000000 0*8 0100000000000000 0100000000000000 0*8
+    0200000000000000 0*8 0*8 e803000000000000 e803000000000000 e803000000000000 0*12
+    ed410000 02000000 e8030000 e8030000 00000000 00100000 00000000";
 
 /// The end of each header: uid and gid 1000, pid 77, no extensions.
 const TAIL: &str = "e8030000 e8030000 4d000000 00000000";
@@ -66,10 +26,10 @@ fn digit(c: u8) -> Option<u8> {
     }
 }
 
-/// Appends hexadecimal as the rows have it, with spaces.
-pub fn put_hex(out: &mut Vec<u8>, text: &str) -> Result<(), AllocError> {
+// Appends the bytes of hexadecimal digits.
+fn put_digits(out: &mut Vec<u8>, digits: &[u8]) -> Result<(), AllocError> {
     let mut first: Option<u8> = None;
-    for c in text.as_bytes() {
+    for c in digits {
         if let Some(low) = digit(*c) {
             match first {
                 Some(high) => {
@@ -78,6 +38,26 @@ pub fn put_hex(out: &mut Vec<u8>, text: &str) -> Result<(), AllocError> {
                 }
                 None => first = Some(low),
             }
+        }
+    }
+    Ok(())
+}
+
+// Appends a byte so many times.
+fn put_times(out: &mut Vec<u8>, byte: &str, times: &str) -> Result<(), AllocError> {
+    let value = u8::from_str_radix(byte, 16).unwrap_or(0);
+    for _ in 0..times.parse::<usize>().unwrap_or(0) {
+        out.push(value)?;
+    }
+    Ok(())
+}
+
+/// Appends hexadecimal as the rows have it: with spaces, and with `0*n` for n zero bytes.
+pub fn put_hex(out: &mut Vec<u8>, text: &str) -> Result<(), AllocError> {
+    for word in text.split_whitespace() {
+        match word.split_once('*') {
+            Some((byte, times)) => put_times(out, byte, times)?,
+            None => put_digits(out, word.as_bytes())?,
         }
     }
     Ok(())
@@ -125,21 +105,13 @@ pub fn mkdir(alloc: Global, unique: u64, name: u8) -> Result<Vec<u8>, AllocError
     message_of(alloc, MKDIR, unique, 1, body.as_slice())
 }
 
-/// Whether an outcome's bytes are those, or begin with them and are as many as their header says. No bytes stand for
-/// no answer.
+/// Whether an outcome's bytes are those. No bytes stand for no answer.
 pub fn is_answer(outcome: &Option<Outcome>, wanted: &[u8]) -> bool {
-    match outcome {
-        Some(given) => begins_with(given, wanted),
-        None => wanted.is_empty(),
+    match (outcome, wanted.split_at_checked(16)) {
+        (Some(given), Some((head, body))) => {
+            given.head.as_slice() == head && given.body.as_slice() == body
+        }
+        (Some(_), None) => false,
+        (None, _) => wanted.is_empty(),
     }
-}
-
-fn begins_with(given: &Outcome, wanted: &[u8]) -> bool {
-    if wanted.len() < 16 {
-        return false;
-    }
-    let (head, body) = wanted.split_at(16);
-    let len = u32::from_le_bytes([given.head[0], given.head[1], given.head[2], given.head[3]]);
-    let bytes = given.body.as_slice();
-    given.head.as_slice() == head && bytes.starts_with(body) && bytes.len() + 16 == len as usize
 }

@@ -2,69 +2,9 @@
 use super::*;
 use crate::{Kernel, TakeFault, lives, runs_are_lives};
 use fuse_answer::BadAnswer;
-use fuse_request::{InHeader, Op, ReadIn, Request, encode};
+use fuse_request::{Op, ReadIn, Request};
 use fuse_session::Fixed;
-use fuse_wire::Id;
-
-fn request(unique: u64, op: Op<'_>) -> Request<'_> {
-    Request {
-        header: InHeader {
-            unique,
-            nodeid: 1,
-            uid: 1000,
-            gid: 1000,
-            pid: 77,
-        },
-        op,
-        ext: &[],
-    }
-}
-
-fn making(unique: u64, name: &[u8]) -> Request<'_> {
-    request(
-        unique,
-        Op::Mkdir {
-            mode: 0o755,
-            umask: 0o022,
-            name,
-        },
-    )
-}
-
-// Why a request wasn't sent.
-#[derive(Clone, Copy, Debug, PartialEq, Eq)]
-enum Unsent {
-    MayNotBe,
-    Memory,
-}
-
-// Sends a request, where it may be sent.
-fn send(alloc: Global, kernel: &mut Kernel, request: &Request<'_>) -> Result<Vec<u8>, Unsent> {
-    let id = Id::of(request.header.unique);
-    if !request.is_sayable() || id.0 == 0 || kernel.awaits(id) {
-        return Err(Unsent::MayNotBe);
-    }
-    let mut scratch = Vec::new(alloc);
-    if encode(request, &mut scratch).is_err() {
-        return Err(Unsent::Memory);
-    }
-    match kernel.send(request) {
-        Ok(message) => Ok(message),
-        Err(_) => Err(Unsent::Memory),
-    }
-}
-
-// Sends the requests at these places again, where they are places.
-fn resend(kernel: &mut Kernel, order: &[usize]) -> Result<Vec<Vec<u8>>, Unsent> {
-    let count = kernel.pending().len();
-    if !order.iter().all(|place| *place < count) {
-        return Err(Unsent::MayNotBe);
-    }
-    match kernel.resend(order) {
-        Ok(messages) => Ok(messages),
-        Err(_) => Err(Unsent::Memory),
-    }
-}
+use sending::{Unsent, making, request, resend, send};
 
 // How many requests are pending, and the bytes of one of them.
 fn pending_at(kernel: &Kernel, place: usize) -> (usize, &[u8]) {
@@ -84,7 +24,11 @@ fn sent_and_taken(rt: HostRuntime) -> Result<(), Fail> {
     let message = send(alloc, &mut kernel, &making(6, b"a"))?;
     assert_eq!(rt; message.as_slice(), wanted.as_slice());
     assert_eq!(rt; pending_at(&kernel, 0), (1, wanted.as_slice()));
-    send(alloc, &mut kernel, &request(8, Op::Forget { nlookup: 1 }))?;
+    send(
+        alloc,
+        &mut kernel,
+        &request(8, 1, Op::Forget { nlookup: 1 }),
+    )?;
     assert_eq!(rt;
         pending_at(&kernel, 1),
         (1, [].as_slice()),
@@ -166,6 +110,7 @@ const REFUSED: [(&str, TakeFault); 9] = [
 fn readdir(unique: u64) -> Request<'static> {
     request(
         unique,
+        1,
         Op::ReadDir(ReadIn {
             fh: 1,
             offset: 0,
@@ -192,56 +137,16 @@ fn refused_answers(rt: HostRuntime) -> Result<(), Fail> {
     Ok(())
 }
 
-// Tries once more what wanted memory. It changed nothing at first.
-fn send_twice(alloc: Global, kernel: &mut Kernel, request: &Request<'_>) -> Option<Vec<u8>> {
-    let before = kernel.pending().len();
-    match send(alloc, kernel, request) {
-        Ok(message) => Some(message),
-        Err(_) if kernel.pending().len() != before => None,
-        Err(_) => send(alloc, kernel, request).ok(),
-    }
-}
+// MKDIR `b` made node 2, and MKDIR `a` node 3.
+const B_MADE: &str = "90000000 00000000 0600000000000080
+    0200000000000000 0*8 0100000000000000 0100000000000000 0*8
+    0200000000000000 0*8 0*8 e803000000000000 e803000000000000 e803000000000000 0*12
+    ed410000 02000000 e8030000 e8030000 00000000 00100000 00000000";
 
-fn resend_twice(kernel: &mut Kernel, order: &[usize], asked: &[u8]) -> Option<Vec<Vec<u8>>> {
-    match resend(kernel, order) {
-        Ok(messages) => Some(messages),
-        Err(_) if pending_at(kernel, 0) != (2, asked) => None,
-        Err(_) => resend(kernel, order).ok(),
-    }
-}
-
-// Whether two requests are sent and sent again, though an allocation may be refused.
-fn passes_in_the_end(alloc: Global) -> bool {
-    let mut kernel = Kernel::new(alloc);
-    let Some(first) = send_twice(alloc, &mut kernel, &making(6, b"a")) else {
-        return false;
-    };
-    let Some(_second) = send_twice(alloc, &mut kernel, &making(8, b"b")) else {
-        return false;
-    };
-    let Some(messages) = resend_twice(&mut kernel, &[1, 0], first.as_slice()) else {
-        return false;
-    };
-    messages.len() == 2
-        && messages.iter().zip([1, 0]).all(|(message, place)| pending_at(&kernel, place)
-            == (2, message.as_slice()))
-}
-
-// Run with each allocation refused in turn.
-#[test]
-fn refused_memory(rt: HostRuntime) {
-    assert!(rt; passes_in_the_end(rt.alloc()));
-}
-
-// The whole answer that the kernel takes for an event.
-fn answer_of(alloc: Global, outcome: &Option<Outcome>) -> Result<Vec<u8>, AllocError> {
-    let mut answer = Vec::new(alloc);
-    if let Some(given) = outcome {
-        answer.extend_from_slice(&given.head)?;
-        answer.extend_from_slice(given.body.as_slice())?;
-    }
-    Ok(answer)
-}
+const A_MADE: &str = "90000000 00000000 0400000000000080
+    0300000000000000 0*8 0100000000000000 0100000000000000 0*8
+    0300000000000000 0*8 0*8 e803000000000000 e803000000000000 e803000000000000 0*12
+    ed410000 02000000 e8030000 e8030000 00000000 00100000 00000000";
 
 // MKDIR `a` (id 4) and `b` (id 6) die before they are committed, and are sent again in the order second, first.
 fn run_resent(alloc: Global, kernel: &mut Kernel) -> Result<Vec<Option<Outcome>>, Fail> {
@@ -267,23 +172,11 @@ fn resent_in_another_order(rt: HostRuntime) -> Result<(), Fail> {
     let mut kernel = Kernel::new(alloc);
     let outcomes = run_resent(alloc, &mut kernel)?;
     assert_eq!(rt; outcomes.len(), 5);
-    let beginnings = [
-        (3, "90000000 00000000 0600000000000080 0200000000000000"),
-        (4, "90000000 00000000 0400000000000080 0300000000000000"),
-    ];
-    for (place, beginning) in beginnings {
-        let wanted = hex(alloc, beginning)?;
-        assert!(rt;
-            is_answer(&outcomes[place], wanted.as_slice()),
-            "{beginning}"
-        );
-        let answer = answer_of(alloc, &outcomes[place])?;
-        assert_eq!(rt; kernel.take(&answer), Ok(()), "{beginning}");
-        assert_eq!(rt;
-            kernel.take(&answer),
-            Err(TakeFault::Unknown),
-            "{beginning}"
-        );
+    for (place, text) in [(3, B_MADE), (4, A_MADE)] {
+        let answer = hex(alloc, text)?;
+        assert!(rt; is_answer(&outcomes[place], answer.as_slice()), "{text}");
+        assert_eq!(rt; kernel.take(&answer), Ok(()), "{text}");
+        assert_eq!(rt; kernel.take(&answer), Err(TakeFault::Unknown), "{text}");
     }
     assert_eq!(rt; pending_at(&kernel, 0).0, 0);
     Ok(())

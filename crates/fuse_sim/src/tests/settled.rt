@@ -45,3 +45,56 @@ fn settled_records(rt: HostRuntime) -> Result<(), Fail> {
     }
     Ok(())
 }
+
+// What the first of these MKDIRs is answered, and what it is answered where it acts anew.
+const MADE: &str = "90000000 00000000 0400000000000000
+    0200000000000000 0*8 0100000000000000 0100000000000000 0*8
+    0200000000000000 0*8 0*8 e803000000000000 e803000000000000 e803000000000000 0*12
+    ed410000 02000000 e8030000 e8030000 00000000 00100000 00000000";
+
+const IS_THERE: &str = "10000000 efffffff 0400000000000000";
+
+// Runs the first of these events, perhaps a crash, and the first MKDIR again: whether that is answered so, and what is left.
+fn asks_again(
+    alloc: Global,
+    count: usize,
+    crashes: bool,
+    wanted: &str,
+) -> Result<(bool, Option<Held>), Fail> {
+    let mut events = mkdirs(alloc, Fate::Answered, 20, Fate::Answered)?;
+    events.truncate(count);
+    if crashes {
+        events.push(event(mkdir(alloc, 100, b'z')?, Fate::DiedBeforeCommit))?;
+    }
+    events.push(event(mkdir(alloc, 4, b'a')?, Fate::Answered))?;
+    let answer = hex(alloc, wanted)?;
+    let mut keeper = Some(PlainKeeper::new(alloc, START)?);
+    match drive_on(alloc, &mut keeper, events.as_slice()) {
+        Some(Ok(outcomes)) => {
+            let right = matches!(outcomes.last(), Some(last) if is_answer(last, answer.as_slice()));
+            Ok((right, held_in(&mut keeper)))
+        }
+        _ => Ok((false, None)),
+    }
+}
+
+// An id whose answer the kernel took doesn't come again, by the headline's premise. Where it does, the groups decide: the
+// 16th kept message still gets the record, which goes with the next group, so that there the request acts anew. A restart
+// forgets which ids to hand on.
+#[test]
+fn answered_id_again(rt: HostRuntime) -> Result<(), Fail> {
+    let alloc = rt.alloc();
+    let cases = [
+        (15, false, MADE, 15, 15),
+        (16, false, IS_THERE, 16, 1),
+        (16, true, MADE, 16, 16),
+    ];
+    for (count, crashes, answer, nodes, records) in &cases {
+        let seen = asks_again(alloc, *count, *crashes, answer)?;
+        assert!(rt;
+            seen == (true, Some(holding(*nodes, 0, *records))),
+            "{count}, a crash: {crashes}"
+        );
+    }
+    Ok(())
+}
