@@ -2,7 +2,7 @@
 
 use crate::{Arrival, Ended, Fixed, MemoryPort, Outcome, SessionCounts, serve};
 use fuse_request::FrameFault;
-use fuse_store::{Keeper, PlainKeeper, StoreFault};
+use fuse_store::{Keeper, PlainKeeper, Restart, StoreFault};
 use fuse_wire::Moment;
 use messages::*;
 use std::alloc::{AllocError, Global};

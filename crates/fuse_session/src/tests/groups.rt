@@ -6,8 +6,8 @@ use fuse_wire::opcode::GETATTR;
 #[test]
 fn seventeen(rt: HostRuntime) -> Result<(), Fail> {
     let alloc = rt.alloc();
-    let input = mkdirs(alloc, 0, 17, 0)?;
-    let wanted = entries(alloc, 0, 17, 0)?;
+    let input = makings(alloc, Made::Directory, 0, 17, 0)?;
+    let wanted = entries(alloc, Made::Directory, 0, 17, 0)?;
     let seen = serve_begun(alloc, plain(alloc, input, wanted))?;
     assert!(rt; seen.is(Told::End, (18, 18)));
     assert_eq!(rt; seen.counts.kept, 17);
@@ -132,7 +132,7 @@ fn other_messages_under_a_recorded_id(rt: HostRuntime) -> Result<(), Fail> {
 // That body is no answer to a GETATTR.
 #[test]
 fn entry_for_attributes(rt: HostRuntime) -> Result<(), Fail> {
-    let answer = entries(rt.alloc(), 0, 1, 0)?;
+    let answer = entries(rt.alloc(), Made::Directory, 0, 1, 0)?;
     assert!(rt; is_no_attributes(answer.as_slice()));
     Ok(())
 }

@@ -114,6 +114,13 @@ fn put_mkdir(out: &mut Vec<u8>, unique: u64, name: u8) -> Result<(), AllocError>
     out.extend_from_slice(&[name, 0])
 }
 
+// MKNOD of a regular file with a name of one letter in the root: 58 bytes.
+fn put_mknod(out: &mut Vec<u8>, unique: u64, name: u8) -> Result<(), AllocError> {
+    put_header(out, 58, 8, unique, 1)?;
+    put_hex(out, "a4810000 00000000 12000000 00000000")?;
+    out.extend_from_slice(&[name, 0])
+}
+
 // LOOKUP of `hello` in the root: 46 bytes.
 fn put_lookup(out: &mut Vec<u8>, unique: u64) -> Result<(), AllocError> {
     put_header(out, 46, 1, unique, 1)?;
@@ -175,27 +182,51 @@ pub fn asks(alloc: Global, list: &[Ask]) -> Result<Vec<u8>, AllocError> {
     Ok(out)
 }
 
-/// MKDIRs of distinct names, the first `from` of them left out, under the uniques 4, 6 and so on with this bit.
-pub fn mkdirs(alloc: Global, from: u8, to: u8, bit: u64) -> Result<Vec<u8>, AllocError> {
+/// Requests that make nodes of distinct names, the first `from` of them left out, under the uniques 4, 6 and so on with
+/// this bit.
+pub fn makings(
+    alloc: Global,
+    made: Made,
+    from: u8,
+    to: u8,
+    bit: u64,
+) -> Result<Vec<u8>, AllocError> {
     let mut out = Vec::new(alloc);
     for i in from..to {
-        put_mkdir(&mut out, bit | (4 + 2 * u64::from(i)), 48 + i % 128)?;
+        let unique = bit | (4 + 2 * u64::from(i));
+        let name = 48 + i % 128;
+        match made {
+            Made::Directory => put_mkdir(&mut out, unique, name)?,
+            Made::File => put_mknod(&mut out, unique, name)?,
+        }
     }
     Ok(out)
 }
 
-// The attributes of a directory without children that was made at 1,000 s.
-fn put_attributes(out: &mut Vec<u8>, node: u64) -> Result<(), AllocError> {
+/// What was made: a directory by MKDIR, or a regular file by MKNOD.
+#[derive(Clone, Copy)]
+pub enum Made {
+    Directory,
+    File,
+}
+
+// The attributes of a directory without children, or of an empty file, made at 1,000 s.
+fn put_attributes(out: &mut Vec<u8>, made: Made, node: u64) -> Result<(), AllocError> {
     out.extend_from_slice(&node.to_le_bytes())?;
     put_hex(
         out,
         "0000000000000000 0000000000000000 e803000000000000 e803000000000000 e803000000000000
-        000000000000000000000000 ed410000 02000000 e8030000 e8030000 00000000 00100000 00000000",
-    )
+        000000000000000000000000",
+    )?;
+    match made {
+        Made::Directory => put_hex(out, "ed410000 02000000")?,
+        Made::File => put_hex(out, "a4810000 01000000")?,
+    }
+    put_hex(out, "e8030000 e8030000 00000000 00100000 00000000")
 }
 
-// The answer to a MKDIR that made this node: 144 bytes.
-fn put_entry(out: &mut Vec<u8>, unique: u64, node: u64) -> Result<(), AllocError> {
+// The answer to the request that made this node: 144 bytes.
+fn put_entry(out: &mut Vec<u8>, unique: u64, made: Made, node: u64) -> Result<(), AllocError> {
     put_hex(out, "90000000 00000000")?;
     out.extend_from_slice(&unique.to_le_bytes())?;
     out.extend_from_slice(&node.to_le_bytes())?;
@@ -203,15 +234,15 @@ fn put_entry(out: &mut Vec<u8>, unique: u64, node: u64) -> Result<(), AllocError
         out,
         "0000000000000000 0100000000000000 0100000000000000 0000000000000000",
     )?;
-    put_attributes(out, node)
+    put_attributes(out, made, node)
 }
 
-// The answer to a GETATTR of such a node: 120 bytes.
+// The answer to a GETATTR of such a directory: 120 bytes.
 fn put_attr(out: &mut Vec<u8>, unique: u64, node: u64) -> Result<(), AllocError> {
     put_hex(out, "78000000 00000000")?;
     out.extend_from_slice(&unique.to_le_bytes())?;
     put_hex(out, "0100000000000000 0000000000000000")?;
-    put_attributes(out, node)
+    put_attributes(out, Made::Directory, node)
 }
 
 // A refusal: 16 bytes.
@@ -221,7 +252,7 @@ fn put_error(out: &mut Vec<u8>, unique: u64, errno: u32) -> Result<(), AllocErro
     out.extend_from_slice(&unique.to_le_bytes())
 }
 
-/// An answer by its unique: the entry or the attributes of a node, an error, or its text.
+/// An answer by its unique: the entry or the attributes of a directory, an error, or its text.
 #[derive(Clone, Copy)]
 pub enum Reply {
     Entry(u64, u64),
@@ -232,7 +263,7 @@ pub enum Reply {
 
 pub fn put_reply(out: &mut Vec<u8>, reply: Reply) -> Result<(), AllocError> {
     match reply {
-        Reply::Entry(unique, node) => put_entry(out, unique, node),
+        Reply::Entry(unique, node) => put_entry(out, unique, Made::Directory, node),
         Reply::Attr(unique, node) => put_attr(out, unique, node),
         Reply::Error(unique, errno) => put_error(out, unique, errno),
         Reply::Text(text) => put_hex(out, text),
@@ -248,12 +279,18 @@ pub fn replies(alloc: Global, list: &[Reply]) -> Result<Vec<u8>, AllocError> {
     Ok(out)
 }
 
-/// The answers to MKDIRs of distinct names that make the nodes from 2 on, the first `from` of them left out.
-pub fn entries(alloc: Global, from: u8, to: u8, bit: u64) -> Result<Vec<u8>, AllocError> {
+/// Their answers, where they make the nodes from 2 on.
+pub fn entries(
+    alloc: Global,
+    made: Made,
+    from: u8,
+    to: u8,
+    bit: u64,
+) -> Result<Vec<u8>, AllocError> {
     let mut out = Vec::new(alloc);
     for i in from..to {
         let number = u64::from(i);
-        put_entry(&mut out, bit | (4 + 2 * number), 2 + number)?;
+        put_entry(&mut out, bit | (4 + 2 * number), made, 2 + number)?;
     }
     Ok(out)
 }

@@ -8,21 +8,21 @@ fn confirming_peer(alloc: Global) -> Peer {
     }
 }
 
-// Row init-agreed and 40 MKDIRs.
+// Row init-agreed and 40 MKNODs.
 fn all_asked(alloc: Global) -> Result<Vec<u8>, AllocError> {
     let mut input = hex(alloc, INIT_AGREED)?;
-    input.extend_from_slice(mkdirs(alloc, 0, 40, 0)?.as_slice())?;
+    input.extend_from_slice(makings(alloc, Made::File, 0, 40, 0)?.as_slice())?;
     Ok(input)
 }
 
-// What INIT and the first of these MKDIRs are answered.
+// What INIT and the first of these MKNODs are answered.
 fn first_answers(alloc: Global, count: u8) -> Result<Vec<u8>, AllocError> {
     let mut wanted = hex(alloc, AGREED)?;
-    wanted.extend_from_slice(entries(alloc, 0, count, 0)?.as_slice())?;
+    wanted.extend_from_slice(entries(alloc, Made::File, 0, count, 0)?.as_slice())?;
     Ok(wanted)
 }
 
-// In one piece they are groups of 16, 16 and 9.
+// Row settled-counts: in one piece they are groups of 16, 16 and 9.
 #[test]
 fn settled_counts(rt: HostRuntime) -> Result<(), Fail> {
     let alloc = rt.alloc();
@@ -55,23 +55,25 @@ fn stopped_in_second_group(alloc: Global) -> Result<Session, AllocError> {
     })
 }
 
-// That session, and then another one over a port that confirms.
+// That session, and then another one over the store opened again, on a port that confirms.
 fn serve_behind_it(alloc: Global, input: Vec<u8>, wanted: Vec<u8>) -> Result<(Seen, Seen), Fail> {
     let mut keeper = PlainKeeper::new(alloc, START)?;
     let first = serve_on(alloc, &mut keeper, stopped_in_second_group(alloc)?)?;
+    let mut opened = keeper.restart()?;
     let second = Session {
         input,
         peer: confirming_peer(alloc),
         wanted,
     };
-    Ok((first, serve_on(alloc, &mut keeper, second)?))
+    Ok((first, serve_on(alloc, &mut opened, second)?))
 }
 
+// Row settled-after-fault.
 #[test]
 fn settled_after_fault(rt: HostRuntime) -> Result<(), Fail> {
     let alloc = rt.alloc();
-    let input = mkdirs(alloc, 15, 31, RESENT)?;
-    let wanted = entries(alloc, 15, 31, RESENT)?;
+    let input = makings(alloc, Made::File, 15, 31, RESENT)?;
+    let wanted = entries(alloc, Made::File, 15, 31, RESENT)?;
     let (first, again) = serve_behind_it(alloc, input, wanted)?;
     assert!(rt; first.is(Told::PortFailed, (32, 16)));
     assert!(rt; again.is(Told::End, (32, 16)));
@@ -79,26 +81,28 @@ fn settled_after_fault(rt: HostRuntime) -> Result<(), Fail> {
     Ok(())
 }
 
+// The same row, with one more request behind the 16.
 #[test]
 fn settled_after_fault_with_one_more(rt: HostRuntime) -> Result<(), Fail> {
     let alloc = rt.alloc();
-    let mut input = mkdirs(alloc, 15, 31, RESENT)?;
+    let mut input = makings(alloc, Made::File, 15, 31, RESENT)?;
     put_ask(&mut input, Ask::Lookup(400))?;
-    let mut wanted = entries(alloc, 15, 31, RESENT)?;
+    let mut wanted = entries(alloc, Made::File, 15, 31, RESENT)?;
     put_reply(&mut wanted, Reply::Error(400, ENOENT))?;
-    let (_, again) = serve_behind_it(alloc, input, wanted)?;
+    let (first, again) = serve_behind_it(alloc, input, wanted)?;
+    assert!(rt; first.is(Told::PortFailed, (32, 16)));
     assert!(rt; again.is(Told::End, (32, 1)));
     Ok(())
 }
 
-// 17 MKDIRs of which the first one's answer is told to be `Gone`.
+// 17 MKNODs of which the first one's answer is told to be `Gone`.
 fn first_is_gone(alloc: Global) -> Result<Session, AllocError> {
     let mut peer = plain_peer(alloc);
     peer.outcomes.push(Outcome::Gone)?;
     Ok(Session {
-        input: mkdirs(alloc, 0, 17, 0)?,
+        input: makings(alloc, Made::File, 0, 17, 0)?,
         peer,
-        wanted: entries(alloc, 0, 17, 0)?,
+        wanted: entries(alloc, Made::File, 0, 17, 0)?,
     })
 }
 
@@ -106,7 +110,11 @@ fn first_is_gone(alloc: Global) -> Result<Session, AllocError> {
 #[test]
 fn settled_by_gone_alone(rt: HostRuntime) -> Result<(), Fail> {
     let alloc = rt.alloc();
-    let again = plain(alloc, mkdirs(alloc, 0, 17, RESENT)?, Vec::new(alloc));
+    let again = plain(
+        alloc,
+        makings(alloc, Made::File, 0, 17, RESENT)?,
+        Vec::new(alloc),
+    );
     let (first, second) = serve_both(alloc, first_is_gone(alloc)?, again)?;
     assert!(rt; first.is(Told::End, (18, 17)));
     assert_eq!(rt;
