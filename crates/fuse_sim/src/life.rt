@@ -6,7 +6,7 @@ ghost use Rattle.fuse_store.specs.Stands.{Stands, StandsFor, Leaves, IsFirm};
 ghost use Rattle.fuse_session.specs.declared.ended.Ended.{Ended as EndedValue};
 ghost use Rattle.fuse_session.specs.Ends.{MayEnd, ended_store, ended_memory};
 ghost use Rattle.fuse_session.specs.Port.{PortState};
-ghost use Rattle.fuse_session.specs.Serving.{Life};
+ghost use Rattle.fuse_session.specs.Serving.{Run};
 ghost use Rattle.fuse_session.specs.Settling.{NoneComesAgain};
 ghost use Rattle.fuse_session.specs.Worked.{bytes_of, kept_in};
 ghost use Rattle.fuse_sim.specs.Lives.{Lifetime, AreLives, after_lives, all_worked, AllSend, Ran};
@@ -32,13 +32,13 @@ pub fn lives()
 pub fn runs_are_lives<K: Keeper, C: Clock>()
     // What the keeper is left with stands for the history that the life leaves, where its store is clean,
     ensures ends { (k k' : K) (c : C) (old new : PortState) (ended : EndedValue)
-        (run : Life (K.holds k) (K.holds k') (K.is_clean k') (K.is_honest k') (IsFirm (K.holds k) (K.leaves_whole k) (K.may_leave k)) (K.leaves_whole k') (K.may_leave k')
+        (run : Run (K.holds k) (K.holds k') (K.is_clean k') (K.is_honest k') (IsFirm (K.holds k) (K.leaves_whole k) (K.may_leave k)) (K.leaves_whole k') (K.may_leave k')
         (C.may_answer c) old new [] [] (ended_store ended) (ended_memory ended) (MayEnd (K.may_answer k) ended))
         (s : State) (h : History) (t : List ℕ) → StandsFor (K.holds k) s h t → NoneComesAgain old.confirms t (bytes_of run.broken.timed) run.broken.marks
         → K.is_clean k' → Ran (StandsFor (K.holds k') s) (C.may_answer c) s h t old new }
     // and so does whatever a crash then leaves, where the keeper was firm.
     ensures crashes { (k k' : K) (c : C) (old new : PortState) (ended : EndedValue)
-        (run : Life (K.holds k) (K.holds k') (K.is_clean k') (K.is_honest k') (IsFirm (K.holds k) (K.leaves_whole k) (K.may_leave k)) (K.leaves_whole k') (K.may_leave k')
+        (run : Run (K.holds k) (K.holds k') (K.is_clean k') (K.is_honest k') (IsFirm (K.holds k) (K.leaves_whole k) (K.may_leave k)) (K.leaves_whole k') (K.may_leave k')
         (C.may_answer c) old new [] [] (ended_store ended) (ended_memory ended) (MayEnd (K.may_answer k) ended))
         (s : State) (h : History) (t : List ℕ) → StandsFor (K.holds k) s h t → NoneComesAgain old.confirms t (bytes_of run.broken.timed) run.broken.marks
         → K.is_honest k' → IsFirm (K.holds k) (K.leaves_whole k) (K.may_leave k)

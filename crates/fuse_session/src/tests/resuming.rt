@@ -24,7 +24,7 @@ impl Faulty {
 }
 
 impl Keeper for Faulty {
-    ghost use Rattle.std.specs.Prelude.{◌≡◌, ℕ, true};
+    ghost use Rattle.std.specs.Prelude.{◌≡◌, true};
 
     ghost holds = { λ _ _ _. ⊥ };
 
