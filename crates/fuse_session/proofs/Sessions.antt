@@ -23,7 +23,7 @@ use Rattle.fuse_session.specs.Worked.{Timed, bytes_of}
 use Rattle.fuse_session.specs.Settling.{Mark, settled_in, Replied, FewRecorded}
 use Rattle.fuse_session.specs.Counting.{plus, none_counted}
 use Rattle.fuse_session.specs.Receiving.{IsOpen, IsHearing, Heard, NotHeard}
-use Rattle.fuse_session.specs.Serving.{Turned, Lived, Broken, WorkedOff, Whole, Stopped, Life, FewSettled, MayStop, lasts, goes_on}
+use Rattle.fuse_session.specs.Serving.{Turned, Lived, Broken, WorkedOff, Whole, Stopped, Run, FewSettled, MayStop, lasts, goes_on}
 use Rattle.fuse_session.specs.Ends.{Rested, Halted, EndsAs, IsGoodRest, FaultOf, FinishedBy, IsFault, ended_store, ended_memory, SentExactly, ExactAt, MayEnd, ended_at}
 use Rattle.fuse_session.proofs.Bytes.{appends_none, consumes_none, consumes_more}
 use Rattle.fuse_session.proofs.Replies.{joined-append, replied_none}
@@ -97,9 +97,9 @@ stopped_more grows joins holds mid new honest honest' may may' p q r ids ids' id
 
 pub life_more : HistoriesGrow → CutJoins → (holds mid new : Rows → Records → Type 0) (honest clean' honest' whole whole_mid whole' : Type 0) (left left_mid left' : Rows → Records → Type 0) (may may' : Moment → Type 0) (p q r : PortState) (ids ids' : List ℕ)
     (held rest : List ℕ) (begin at : ℕ) (counts : SessionCounts) (exact want : Bool) (faulted faulted' : Type 0)
-    → Whole holds mid honest may p q ids ids' held rest begin at counts → Life mid new clean' honest' (IsFirm mid whole_mid left_mid) whole' left' may' q r ids' rest exact want faulted' → (faulted' → faulted)
+    → Whole holds mid honest may p q ids ids' held rest begin at counts → Run mid new clean' honest' (IsFirm mid whole_mid left_mid) whole' left' may' q r ids' rest exact want faulted' → (faulted' → faulted)
     → (clean' → honest') → (honest' → honest) → (honest → IsFirm holds whole left → IsFirm mid whole_mid left_mid) → ((t : Moment) → may' t → may t)
-    → Life holds new clean' honest' (IsFirm holds whole left) whole' left' may p r ids held exact want faulted
+    → Run holds new clean' honest' (IsFirm holds whole left) whole' left' may p r ids held exact want faulted
 life_more grows joins holds mid new honest clean' honest' whole whole_mid whole' left left_mid left' may may' p q r ids ids' held rest begin at counts exact want faulted faulted' one two faulted_too clean_honest honest_too firm_too moments = record {
   received = one.received ++ two.received;
   came = consumes_more p.coming q.coming r.coming one.received two.received one.came two.came;
@@ -110,7 +110,7 @@ life_more grows joins holds mid new honest clean' honest' whole whole_mid whole'
 -- all was worked off: a life too
 pub whole_life : (holds new : Rows → Records → Type 0) (clean honest whole whole' : Type 0) (left left' : Rows → Records → Type 0) (may : Moment → Type 0) (p q : PortState) (ids ids' : List ℕ) (held rest : List ℕ) (begin at : ℕ) (counts : SessionCounts) (exact want : Bool) (faulted : Type 0) → exact ≡ false
     → Whole holds new honest may p q ids ids' held rest begin at counts → (clean → honest) → (honest → IsFirm holds whole left → IsFirm new whole' left')
-    → Life holds new clean honest (IsFirm holds whole left) whole' left' may p q ids held exact want faulted
+    → Run holds new clean honest (IsFirm holds whole left) whole' left' may p q ids held exact want faulted
 whole_life holds new clean honest whole whole' left left' may p q ids ids' held rest begin at counts exact want faulted inexact w clean_honest firm_still = record {
   received = w.received;
   came = w.came;
@@ -178,7 +178,7 @@ stopped_heard grows holds new honest may p q r ids ids' before after messages sl
 
 pub life_heard : HistoriesGrow → (holds new : Rows → Records → Type 0) (clean honest whole whole' : Type 0) (left left' : Rows → Records → Type 0) (may : Moment → Type 0) (p q r : PortState) (ids : List ℕ) (before after : Held) (messages slice : List (List ℕ)) (fault : Option FrameFault) (exact want exact' want' : Bool) (faulted faulted' : Type 0)
     → Heard p q before after messages fault → IsHearing p q → slice ≡ messages → exact' ≡ exact → want' ≡ want → Broken holds new clean honest (IsFirm holds whole left) whole' left' may q r ids slice exact want faulted' → (faulted' → faulted) → IsQuiet q r → (clean → honest)
-    → Life holds new clean honest (IsFirm holds whole left) whole' left' may p r ids before.bytes exact' want' faulted
+    → Run holds new clean honest (IsFirm holds whole left) whole' left' may p r ids before.bytes exact' want' faulted
 life_heard grows holds new clean honest whole whole' left left' may p q r ids before after messages slice fault exact want exact' want' faulted faulted' h hearing same e w b faulted_too quiet clean_honest =
     let msgs : slice ≡ (cut (before.bytes ++ h.received)).0 = same ∙ sym (ap (λ (x : List (List ℕ) × List ℕ). x.0) h.took.cut_is) in
     let broken = turned_broken grows holds holds new honest clean honest whole whole whole' left left left' may may p q r ids ids [] slice none_counted exact want faulted faulted'
@@ -204,7 +204,7 @@ came_by (ZeroUnique at) p q h n = absurd n
 came_by (Store fault) p q h n = absurd n
 
 pub life_unheard : (holds : Rows → Records → Type 0) (clean honest whole : Type 0) (left : Rows → Records → Type 0) (may : Moment → Type 0) (p q : PortState) (ids : List ℕ) (h : Held) (e : Ended) (exact want : Bool) (faulted : Type 0) → exact ≡ false
-    → NotHeard e p q h → IsHearing p q → Life holds holds clean honest (IsFirm holds whole left) whole left may p q ids h.bytes exact want faulted
+    → NotHeard e p q h → IsHearing p q → Run holds holds clean honest (IsFirm holds whole left) whole left may p q ids h.bytes exact want faulted
 life_unheard holds clean honest whole left may p q ids h e exact want faulted inexact n hearing =
     let came = came_by e p q h n in
     record {
@@ -283,7 +283,7 @@ ends_more grows joins holds mid new honest honest' may may' p q r ids ids' held 
 pub life_worked : HistoriesGrow → (holds new : Rows → Records → Type 0) (clean honest whole whole' : Type 0) (left left' : Rows → Records → Type 0) (may : Moment → Type 0) (p q r : PortState) (ids ids' : List ℕ) (before after : Held) (messages slice : List (List ℕ))
     (fault : Option FrameFault) (begin place : ℕ) (rest : Rest) (counts : SessionCounts) (exact want : Bool) (faulted : Type 0) → exact ≡ false
     → Heard p q before after messages fault → IsHearing p q → slice ≡ messages → WorkedOff holds new honest may q r ids ids' slice rest begin place counts → IsQuiet q r → (clean → honest) → (honest → IsFirm holds whole left → IsFirm new whole' left')
-    → Life holds new clean honest (IsFirm holds whole left) whole' left' may p r ids before.bytes exact want faulted
+    → Run holds new clean honest (IsFirm holds whole left) whole' left' may p r ids before.bytes exact want faulted
 life_worked grows holds new clean honest whole whole' left left' may p q r ids ids' before after messages slice fault begin place rest counts exact want faulted inexact h hearing same w quiet clean_honest firm_still =
     life_heard grows holds new clean honest whole whole' left left' may p q r ids before after messages slice fault exact want exact want faulted faulted h hearing same refl refl
     (turned_life holds new clean honest whole whole' left left' may q r ids ids' w.front w.others slice (lasts rest) counts exact want faulted inexact w.turned w.parts clean_honest firm_still) (λ x. x) quiet clean_honest
@@ -364,7 +364,7 @@ whole_start holds honest may p ids h none new =
 
 -- nothing was done
 pub life_none : (holds : Rows → Records → Type 0) (clean honest whole : Type 0) (left : Rows → Records → Type 0) (may : Moment → Type 0) (p : PortState) (ids held : List ℕ) (exact want : Bool) (faulted : Type 0) → exact ≡ false
-    → Life holds holds clean honest (IsFirm holds whole left) whole left may p p ids held exact want faulted
+    → Run holds holds clean honest (IsFirm holds whole left) whole left may p p ids held exact want faulted
 life_none holds clean honest whole left may p ids held exact want faulted inexact = record {
   received = [];
   came = consumes_none p.coming;
@@ -411,7 +411,7 @@ stop_may_end may ByMemory e is m = subst (MayEnd may) (sym is) tt
 
 exact_life : (holds new : Rows → Records → Type 0) (clean honest firm whole' : Type 0) (left' : Rows → Records → Type 0) (may : Moment → Type 0) (p q : PortState) (ids held : List ℕ) (store memory : Bool) (faulted : Type 0) (stood : State → History → List ℕ → Type 0)
     → (store || memory) ≡ true → ((s : State) (g : History) (u : List ℕ) → (store ≡ true → clean → StandsFor new s g u × faulted) → stood s g u)
-    → Life holds new clean honest firm whole' left' may p q ids held store memory faulted → SentExactly holds honest stood may p q ids held
+    → Run holds new clean honest firm whole' left' may p q ids held store memory faulted → SentExactly holds honest stood may p q ids held
 exact_life holds new clean honest firm whole' left' may p q ids held store memory faulted stood how f l =
     let b = l.broken in
     record {
@@ -429,7 +429,7 @@ exact_life holds new clean honest firm whole' left' may p q ids held store memor
     }
 
 pub exact_at : (holds new : Rows → Records → Type 0) (clean honest firm whole' : Type 0) (left' : Rows → Records → Type 0) (may_fault : StoreFault → Type 0) (may : Moment → Type 0) (p q : PortState) (ids held : List ℕ) (e : Ended)
-    → Life holds new clean honest firm whole' left' may p q ids held (ended_store e) (ended_memory e) (MayEnd may_fault e) → ExactAt holds new clean honest may_fault may p q ids held e
+    → Run holds new clean honest firm whole' left' may p q ids held (ended_store e) (ended_memory e) (MayEnd may_fault e) → ExactAt holds new clean honest may_fault may p q ids held e
 exact_at holds new clean honest firm whole' left' may_fault may p q ids held End l = tt
 exact_at holds new clean honest firm whole' left' may_fault may p q ids held Destroyed l = tt
 exact_at holds new clean honest firm whole' left' may_fault may p q ids held Turns l = tt
@@ -459,7 +459,7 @@ lived_map stood stood' s h c t timed marks part f l = record {
 }
 
 pub few_settled : (holds new : Rows → Records → Type 0) (clean honest firm whole' : Type 0) (left' : Rows → Records → Type 0) (may : Moment → Type 0) (p q : PortState) (store memory : Bool) (faulted : Type 0) → (clean → honest) → clean
-    → Life holds new clean honest firm whole' left' may p q [] [] store memory faulted → FewSettled holds new may p q
+    → Run holds new clean honest firm whole' left' may p q [] [] store memory faulted → FewSettled holds new may p q
 few_settled holds new clean honest firm whole' left' may p q store memory faulted clean_honest is l =
     let b = l.broken in
     record {

@@ -1,6 +1,8 @@
 -- What a port gives and takes (own profile).
 use Rattle.std.specs.Prelude.{◌≡◌, ℕ, ◌+◌, ◌<◌, ◌≤◌, ◌^◌, Bool, true, false, ◌==◌, if◌then◌else◌, List, [], ◌∷◌, ◌++◌, length, take, Option, IfSome}
 use Rattle.std.specs.Io.KnownBytes.{Keeps, Appends, Consumes, IsAtEnd}
+use Rattle.fuse_session.specs.declared.port.Passed.{Passed}
+use Rattle.fuse_session.specs.declared.port.Passed.TheVariants.{Taken, Gone as PassedGone}
 use Rattle.fuse_session.specs.declared.port.Received.{Received}
 use Rattle.fuse_session.specs.declared.port.Received.TheVariants.{Got, End, Failed as ReceiveFailed}
 use Rattle.fuse_session.specs.declared.port.Sent.{Sent}
@@ -92,6 +94,11 @@ pub record Sends (old new : PortState) (result : Sent) (bytes : List ℕ) : Type
   pub failures : new.failures ≡ old.failures + send_failures_of result (length bytes)
   pub gone : MoreGone (is_gone result) old.gone new.gone new.sent
   pub quiet : IsQuiet old new
+
+-- whether an answer was sent by being answered Gone
+abbrev pub tells_gone : Passed → Bool
+tells_gone Taken = false
+tells_gone PassedGone = true
 
 -- all of a slice was sent, as one answer, and whether it was answered Gone, which an empty one never is
 pub record SentWhole (old new : PortState) (bytes : List ℕ) (gone_at_end : Bool) : Type 0 where

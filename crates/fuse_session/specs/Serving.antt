@@ -64,9 +64,10 @@ pub record Exact (stood : History → List ℕ → Type 0) (s : State) (h : Hist
   pub stands : stood (grown h (kept_in worked)) (t ++ settled_in confirms (bytes_of worked) marks)
   pub sent : replies marks ≡ answers s (grown h (kept_in worked)) worked
 
--- a fault ended the work on messages. What the keeper holds where its store is clean, and where it was firm whatever a
--- crash leaves, stands for messages worked off. Where the store or want of memory ended it, exactly their answers were
--- sent. Of the ids that are settled few have a record, if so it was before
+-- some of these messages were worked off, and a front of the answers to those was sent: so it is at a fault, and at every
+-- other end of a session too. What the keeper holds where its store is clean, and where it was firm whatever a crash leaves,
+-- stands for the messages worked off. Where the store or want of memory ended it, exactly their answers were sent. Of the
+-- ids that are settled few have a record, if so it was before
 pub record Broken (holds holds' : Rows → Records → Type 0) (clean' honest' firm whole' : Type 0) (left' : Rows → Records → Type 0) (may : Moment → Type 0) (old new : PortState) (pending : List ℕ) (messages : List (List ℕ)) (store memory : Bool) (faulted : Type 0) : Type 0 where
   pub timed : List Timed
   pub others : List (List ℕ)
@@ -120,8 +121,8 @@ pub record Stopped (holds holds' : Rows → Records → Type 0) (honest' : Type 
   pub came : Consumes old.coming new.coming received
   pub worked : WorkedOff holds holds' honest' may old new pending pending' (cut (held ++ received)).0 rest begin place counts
 
--- bytes came, and a fault ended the work on their messages
-pub record Life (holds holds' : Rows → Records → Type 0) (clean' honest' firm whole' : Type 0) (left' : Rows → Records → Type 0) (may : Moment → Type 0) (old new : PortState) (pending : List ℕ) (held : List ℕ) (store memory : Bool) (faulted : Type 0) : Type 0 where
+-- bytes came, and of their messages some were worked off and answered so, however it ended
+pub record Run (holds holds' : Rows → Records → Type 0) (clean' honest' firm whole' : Type 0) (left' : Rows → Records → Type 0) (may : Moment → Type 0) (old new : PortState) (pending : List ℕ) (held : List ℕ) (store memory : Bool) (faulted : Type 0) : Type 0 where
   pub received : List ℕ
   pub came : Consumes old.coming new.coming received
   pub broken : Broken holds holds' clean' honest' firm whole' left' may old new pending (cut (held ++ received)).0 store memory faulted

@@ -1,5 +1,5 @@
 // Where moments come from.
-ghost use Rattle.std.specs.Prelude.{◌≡◌, ℕ};
+ghost use Rattle.std.specs.Prelude.{◌≡◌};
 ghost use Rattle.fuse_wire.specs.declared.moment.Moment.{Moment as MomentValue};
 
 use fuse_wire::Moment;
@@ -38,6 +38,7 @@ pub struct System<T: rt::Clock + Drop> {
 }
 
 impl<T: rt::Clock + Drop> System<T> {
+    /// Asks this runtime. Until it gives a moment, the last one is 0.
     pub fn new(rt: T) -> System<T> {
         System {
             rt,

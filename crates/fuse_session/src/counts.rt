@@ -1,9 +1,9 @@
 // How the messages of a session are counted.
-ghost use Rattle.std.specs.Prelude.{◌≡◌, ◌≤◌, ◌<◌, ◌+◌, ◌-◌, ◌^◌, ◌==◌, is_none, ℕ, length, drop, All};
+ghost use Rattle.std.specs.Prelude.{◌≡◌, ◌≤◌, ◌<◌, ◌-◌, ◌^◌, is_none, length, drop, All};
 ghost use Rattle.fuse_request.specs.Stream.{IsMessage};
 ghost use Rattle.fuse_request.specs.Classes.{class_of};
 ghost use Rattle.fuse_request.specs.Faults.{first_fault};
-ghost use Rattle.fuse_session.specs.Counting.{plus, none_counted, counted_one, is_interrupt, IsBelow};
+ghost use Rattle.fuse_session.specs.Counting.{plus, counted_one, is_interrupt, IsBelow};
 ghost use Rattle.fuse_session.specs.Group.{tallied, repeats_in, head_repeat, left_by};
 
 use crate::gather::has_opcode;
@@ -25,8 +25,6 @@ pub struct SessionCounts {
 }
 
 impl SessionCounts {
-    ghost use Rattle.fuse_session.specs.Counting.{plus, none_counted, IsBelow};
-
     /// Nothing counted.
     pub const NONE: SessionCounts = SessionCounts {
         messages: 0,
@@ -38,7 +36,7 @@ impl SessionCounts {
     };
 }
 
-// Both, counted together.
+/// Both, counted together.
 pub(crate) fn sum_of(a: SessionCounts, b: SessionCounts) -> SessionCounts
     requires a { IsBelow a (2 ^ 63 - 1) }
     requires b { IsBelow b (2 ^ 63 - 1) }

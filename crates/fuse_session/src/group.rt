@@ -1,5 +1,5 @@
 // Working off one group.
-ghost use Rattle.std.specs.Prelude.{◌≡◌, ◌≤◌, ◌<◌, ◌+◌, ◌++◌, ◌&&◌, ◌==◌, [], ℕ, Bool, true, false, List, length, take, drop, ◌^◌, is_err, All, IfOk, IfErr, OnOk, OnErr};
+ghost use Rattle.std.specs.Prelude.{◌≡◌, ◌≤◌, ◌<◌, ◌+◌, ◌++◌, ◌&&◌, ◌==◌, [], ℕ, true, false, List, length, take, drop, ◌^◌, is_err, All, IfOk, IfErr, OnOk, OnErr};
 ghost use Rattle.fuse_wire.specs.declared.moment.Moment.{Moment as MomentValue};
 ghost use Rattle.fuse_request.specs.Stream.{IsMessage};
 ghost use Rattle.fuse_tree.specs.State.{State};
@@ -12,7 +12,7 @@ ghost use Rattle.fuse_session.specs.Port.{IsYoung, IsQuiet};
 ghost use Rattle.fuse_session.specs.Worked.{StartsZero};
 ghost use Rattle.fuse_session.specs.Settling.{HandsOn, AtMostMore, FewHave};
 ghost use Rattle.fuse_session.specs.Counting.{IsBelow};
-ghost use Rattle.fuse_session.specs.Group.{answers_in, last_zero, rest_by, IsStuck};
+ghost use Rattle.fuse_session.specs.Group.{answers_in, last_zero, rest_by};
 ghost use Rattle.fuse_session.specs.Serving.{Turned, Broken, MayStop, lasts, goes_on, is_store, is_memory};
 
 use crate::clock::Clock;

@@ -1,6 +1,6 @@
 // Where messages come from and answers go to.
-ghost use Rattle.std.specs.Prelude.{◌≡◌, ◌<◌, length, IfOk, OnErr};
-ghost use Rattle.fuse_session.specs.Port.{PortState, IsYoung, Receives, Sends, SentWhole, SentPart};
+ghost use Rattle.std.specs.Prelude.{◌≡◌, IfOk, OnErr};
+ghost use Rattle.fuse_session.specs.Port.{PortState, IsYoung, Receives, Sends, SentWhole, SentPart, tells_gone};
 
 /// What a port answers to a call of `receive`.
 #[derive(Clone, Copy, Debug, PartialEq, Eq)]
@@ -30,7 +30,6 @@ pub trait Port: Drop {
     /// Receives bytes into a buffer, once. What stands in the buffer behind them is nothing.
     fn receive(&mut self, buffer: &mut [u8]) -> Received
         requires young { IsYoung (told self.old) }
-        requires room { 0 < length buffer.old }
         ensures received { Receives (told self.old) (told self.new) result buffer.new };
 
     /// Sends the bytes that are left of one answer, once.
@@ -48,11 +47,22 @@ pub trait Port: Drop {
         ensures failures { result.1 ≡ (told self.now).failures };
 }
 
-/// Sends all of one answer, and says whether the port told that nobody waits for it. An `Err` leaves a front of it
-/// sent, and the port failed.
-pub(crate) fn send_whole<P: Port>(port: &mut P, bytes: &[u8]) -> Result<bool, ()>
+/// How all of an answer was sent.
+#[derive(Clone, Copy, Debug, PartialEq, Eq)]
+pub(crate) enum Passed {
+    Taken,
+    /// The port told that nobody waits for it.
+    Gone,
+}
+
+/// The port failed before all of an answer was sent.
+#[derive(Clone, Copy, Debug, PartialEq, Eq)]
+pub(crate) struct PortFailed;
+
+/// Sends all of one answer. An `Err` leaves a front of it sent.
+pub(crate) fn send_whole<P: Port>(port: &mut P, bytes: &[u8]) -> Result<Passed, PortFailed>
     requires young { IsYoung (P.told port.old) }
-    ensures ok { IfOk result (λ gone. SentWhole (P.told port.old) (P.told port.new) bytes.now gone) }
+    ensures ok { IfOk result (λ passed. SentWhole (P.told port.old) (P.told port.new) bytes.now (tells_gone passed)) }
     ensures err { OnErr result (SentPart (P.told port.old) (P.told port.new) bytes.now) }
 {
     let mut rest = bytes;
@@ -60,13 +70,13 @@ pub(crate) fn send_whole<P: Port>(port: &mut P, bytes: &[u8]) -> Result<bool, ()
         match port.send(rest) {
             Sent::Took(n) => {
                 if n == 0 {
-                    return Err(());
+                    return Err(PortFailed);
                 }
                 rest = &rest[n..];
             }
-            Sent::Gone => return Ok(true),
-            Sent::Failed => return Err(()),
+            Sent::Gone => return Ok(Passed::Gone),
+            Sent::Failed => return Err(PortFailed),
         }
     }
-    Ok(false)
+    Ok(Passed::Taken)
 }

@@ -1,5 +1,5 @@
 // Receiving, and the messages that wait then.
-ghost use Rattle.std.specs.Prelude.{◌≡◌, ◌≤◌, ◌<◌, ◌+◌, ◌++◌, ◌^◌, [], None, Some, length, IfOk, IfErr, OnOk, OnErr};
+ghost use Rattle.std.specs.Prelude.{◌≡◌, ◌≤◌, ◌+◌, ◌++◌, ◌^◌, None, Some, length, IfOk, IfErr, OnOk, OnErr};
 ghost use Rattle.fuse_request.specs.Framing.{fed_of};
 ghost use Rattle.fuse_request.specs.declared.framer.TheConstants.{MAX_FED as max_fed};
 ghost use Rattle.fuse_request.specs.declared.header.TheConstants.{MAX_MESSAGE as max_message};
@@ -97,7 +97,7 @@ pub(crate) fn hear<P: Port>(
     buffer: &mut [u8],
 ) -> Result<Waiting, Ended>
     requires young { IsYoung (P.told port.old) }
-    requires room { (0 < length buffer.old) × (length buffer.old ≤ max_message) }
+    requires room { length buffer.old ≤ max_message }
     requires opened { IsOpen framer.old }
     requires fed { fed_of framer.old + length buffer.old ≤ 2 ^ 60 }
     ensures ok { IfOk result (λ w. Heard (P.told port.old) (P.told port.new) framer.old framer.new w.messages.items w.fault) }

@@ -1,5 +1,5 @@
 // Asking the kernel to send its pending requests again.
-ghost use Rattle.std.specs.Prelude.{◌≡◌, ◌<◌, ◌^◌, ℕ, Bool, true, false, List, IfErr, OnOk};
+ghost use Rattle.std.specs.Prelude.{◌≡◌, ◌<◌, ◌^◌, ℕ, false, List, IfErr, OnOk};
 ghost use Rattle.fuse_tree.specs.State.{State};
 ghost use Rattle.fuse_tree.specs.Rows.{Rows};
 ghost use Rattle.fuse_store.specs.declared.fault.StoreFault.{StoreFault as StoreFaultValue};
@@ -7,7 +7,7 @@ ghost use Rattle.fuse_store.specs.History.{History};
 ghost use Rattle.fuse_store.specs.Stands.{Records, StandsFor, IsFirm, KeepsHeld};
 ghost use Rattle.fuse_session.specs.Resuming.{Resumed, NotResumed, may_ask, failed_by, FaultMay};
 
-use crate::port::{Port, send_whole};
+use crate::port::{Port, PortFailed, send_whole};
 use bitflags::Flags;
 use fuse_answer::resend_notice;
 use fuse_init::Settings;
@@ -70,6 +70,6 @@ pub fn resume<K: Keeper, P: Port>(keeper: &mut K, port: &mut P) -> Result<(), Re
     }
     match send_whole(port, &resend_notice()) {
         Ok(_) => Ok(()),
-        Err(()) => Err(ResumeFault::PortFailed),
+        Err(PortFailed) => Err(ResumeFault::PortFailed),
     }
 }

@@ -1,15 +1,14 @@
 // Sending the answers of a group.
-ghost use Rattle.std.specs.Prelude.{◌≡◌, ◌≤◌, ◌<◌, ◌+◌, ◌-◌, ◌^◌, ◌++◌, ◌||◌, ◌∷◌, [], ℕ, List, length, drop, All, IfOk, IfErr, OnOk, OnErr};
+ghost use Rattle.std.specs.Prelude.{◌≡◌, ◌≤◌, ◌<◌, ◌+◌, ◌||◌, [], length, drop, All, IfOk, IfErr, OnOk};
 ghost use Rattle.fuse_answer.specs.Wire.{wire};
 ghost use Rattle.fuse_request.specs.Stream.{IsMessage};
 ghost use Rattle.fuse_request.specs.Classes.{class_of};
 ghost use Rattle.fuse_session.specs.Worked.{unique_of};
-ghost use Rattle.fuse_session.specs.Settling.{Mark, settles};
 ghost use Rattle.fuse_store.specs.Group.{ids_of};
-ghost use Rattle.fuse_session.specs.Port.{PortState, IsYoung, SentWhole};
+ghost use Rattle.fuse_session.specs.Port.{IsYoung, SentWhole, tells_gone};
 ghost use Rattle.fuse_session.specs.Group.{answers_in, wires, AreEnough, head_wire, left_by, SendFails, SentNext, SentAll, SentSome};
 
-use crate::port::{Port, send_whole};
+use crate::port::{Passed, Port, PortFailed, send_whole};
 use bytes::Bytes;
 use fuse_answer::{Answer, write_answer};
 use fuse_request::{Class, classify, header_of};
@@ -24,15 +23,15 @@ pub(crate) enum SendFault {
     PortFailed,
 }
 
-// Sends one answer, and says whether the port told that nobody waits for it.
+// Sends one answer.
 fn send_reply<P: Port>(
     alloc: Global,
     port: &mut P,
     unique: u64,
     answer: &Answer,
-) -> Result<bool, SendFault>
+) -> Result<Passed, SendFault>
     requires young { IsYoung (P.told port.old) }
-    ensures ok { IfOk result (λ gone. SentWhole (P.told port.old) (P.told port.new) (wire answer.now.errno answer.now.body unique) gone) }
+    ensures ok { IfOk result (λ passed. SentWhole (P.told port.old) (P.told port.new) (wire answer.now.errno answer.now.body unique) (tells_gone passed)) }
     ensures err { IfErr result (λ fault. SendFails fault (P.told port.old) (P.told port.new) (wire answer.now.errno answer.now.body unique)) }
 {
     let mut bytes = Vec::new(alloc);
@@ -40,8 +39,8 @@ fn send_reply<P: Port>(
         return Err(SendFault::Memory);
     }
     match send_whole(port, bytes.as_slice()) {
-        Ok(gone) => Ok(gone),
-        Err(()) => Err(SendFault::PortFailed),
+        Ok(passed) => Ok(passed),
+        Err(PortFailed) => Err(SendFault::PortFailed),
     }
 }
 
@@ -56,11 +55,14 @@ fn unique_in(message: &[u8]) -> u64
     }
 }
 
-// Whether an answer that was taken whole settles its id.
-fn is_settled<P: Port>(port: &P, gone: bool) -> bool
-    ensures { result ≡ ((P.told port.now).confirms || gone) }
+// Whether an answer that was sent so settles its id.
+fn is_settled<P: Port>(port: &P, passed: Passed) -> bool
+    ensures { result ≡ ((P.told port.now).confirms || tells_gone passed) }
 {
-    port.confirms() || gone
+    match passed {
+        Passed::Taken => port.confirms(),
+        Passed::Gone => true,
+    }
 }
 
 // Sends a recorded answer. Its id is pending then, where the answer settles it.
@@ -82,11 +84,11 @@ fn send_kept<P: Port>(
         return Err(SendFault::Memory);
     }
     let unique = unique_in(message);
-    let gone = match send_reply(alloc, port, unique, answer) {
-        Ok(gone) => gone,
+    let passed = match send_reply(alloc, port, unique, answer) {
+        Ok(passed) => passed,
         Err(fault) => return Err(fault),
     };
-    if is_settled(port, gone) {
+    if is_settled(port, passed) {
         pending.push_reserved(Id::of(unique));
     }
     Ok(())
@@ -98,10 +100,10 @@ fn send_bare<P: Port>(
     port: &mut P,
     message: &[u8],
     errno: Errno,
-) -> Result<bool, SendFault>
+) -> Result<Passed, SendFault>
     requires message { IsMessage message.now }
     requires young { IsYoung (P.told port.old) }
-    ensures ok { IfOk result (λ gone. SentWhole (P.told port.old) (P.told port.new) (wire errno.0 [] (unique_of message.now)) gone) }
+    ensures ok { IfOk result (λ passed. SentWhole (P.told port.old) (P.told port.new) (wire errno.0 [] (unique_of message.now)) (tells_gone passed)) }
     ensures err { IfErr result (λ fault. SendFails fault (P.told port.old) (P.told port.new) (wire errno.0 [] (unique_of message.now))) }
 {
     let answer = Answer::refusal(alloc, errno);

@@ -1,5 +1,5 @@
 // Serving a port from a keeper.
-ghost use Rattle.std.specs.Prelude.{◌≡◌, ◌≤◌, ◌<◌, ◌+◌, ◌^◌, [], ℕ, Bool, true, false, None, List, length, IfOk, IfErr, OnOk, OnErr};
+ghost use Rattle.std.specs.Prelude.{◌≡◌, ◌≤◌, ◌<◌, ◌+◌, ◌^◌, [], true, false, None, length, IfOk, IfErr, OnOk, OnErr};
 ghost use Rattle.fuse_wire.specs.declared.moment.Moment.{Moment as MomentValue};
 ghost use Rattle.fuse_request.specs.Framing.{fed_of};
 ghost use Rattle.fuse_request.specs.declared.header.TheConstants.{MAX_MESSAGE as max_message};
@@ -10,9 +10,9 @@ ghost use Rattle.fuse_store.specs.Group.{ids_of};
 ghost use Rattle.fuse_store.specs.declared.keeper.TheConstants.{MAX_SETTLED as max_settled};
 ghost use Rattle.fuse_session.specs.Port.{IsYoung};
 ghost use Rattle.fuse_session.specs.Settling.{HandsOn, AtMostMore};
-ghost use Rattle.fuse_session.specs.Counting.{none_counted, IsBelow};
+ghost use Rattle.fuse_session.specs.Counting.{IsBelow};
 ghost use Rattle.fuse_session.specs.Receiving.{IsOpen};
-ghost use Rattle.fuse_session.specs.Serving.{Whole, Life, FewSettled, is_store, is_memory};
+ghost use Rattle.fuse_session.specs.Serving.{Whole, Run, FewSettled, is_store, is_memory};
 ghost use Rattle.fuse_session.specs.Ends.{EndsAs, ExactAt, MayEnd, FinishedBy, IsFault, ended_at, ended_store, ended_memory};
 
 use crate::clock::Clock;
@@ -81,7 +81,7 @@ fn one_turn<K: Keeper, P: Port, C: Clock>(
     requires spare { (P.told port.old).receives + 1 < 2 ^ 63 }
     requires few { length pending.old.items ≤ max_settled }
     requires opened { IsOpen framer.old }
-    requires room { (0 < length buffer.old) × (length buffer.old ≤ max_message) }
+    requires room { length buffer.old ≤ max_message }
     requires fed { fed_of framer.old + length buffer.old ≤ 2 ^ 59 }
     ensures ok { IfOk result (λ counts. Whole (K.holds keeper.old) (K.holds keeper.new) (K.is_honest keeper.new) (C.may_answer clock.old) (P.told port.old) (P.told port.new)
         (ids_of pending.old.items) (ids_of pending.new.items) framer.old.bytes framer.new.bytes framer.old.at framer.new.at counts) }
@@ -99,7 +99,7 @@ fn one_turn<K: Keeper, P: Port, C: Clock>(
     ensures confirms { (P.told port.new).confirms ≡ (P.told port.old).confirms }
     ensures fed { fed_of framer.new ≤ fed_of framer.old + length buffer.old }
     ensures buffer { length buffer.new ≡ length buffer.old }
-    ensures life { IfErr result (λ served. Life (K.holds keeper.old) (K.holds keeper.new) (K.is_clean keeper.new) (K.is_honest keeper.new)
+    ensures life { IfErr result (λ served. Run (K.holds keeper.old) (K.holds keeper.new) (K.is_clean keeper.new) (K.is_honest keeper.new)
         (IsFirm (K.holds keeper.old) (K.leaves_whole keeper.old) (K.may_leave keeper.old)) (K.leaves_whole keeper.new) (K.may_leave keeper.new)
         (C.may_answer clock.old) (P.told port.old) (P.told port.new) (ids_of pending.old.items) framer.old.bytes (ended_store served.ended) (ended_memory served.ended) (MayEnd (K.may_answer keeper.old) served.ended)) }
     ensures may { (f : StoreFaultValue) → K.may_answer keeper.new f → K.may_answer keeper.old f }
@@ -159,7 +159,7 @@ pub fn serve<K: Keeper, P: Port, C: Clock>(
 
     // However it ends, what was sent is a front of what is to be sent for messages that the keeper stands for, and that
     // whatever a crash leaves stands for.
-    ensures life { Life (K.holds keeper.old) (K.holds keeper.new) (K.is_clean keeper.new) (K.is_honest keeper.new)
+    ensures life { Run (K.holds keeper.old) (K.holds keeper.new) (K.is_clean keeper.new) (K.is_honest keeper.new)
         (IsFirm (K.holds keeper.old) (K.leaves_whole keeper.old) (K.may_leave keeper.old)) (K.leaves_whole keeper.new) (K.may_leave keeper.new)
         (C.may_answer clock.old) (P.told port.old) (P.told port.new) [] [] (ended_store result.ended) (ended_memory result.ended) (MayEnd (K.may_answer keeper.old) result.ended) }
 

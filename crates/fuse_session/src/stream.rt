@@ -50,11 +50,11 @@ impl<R: Read + Drop, W: Write + Drop> Port for StreamPort<R, W> {
 
     ghost told = { stream_told R.remaining W.contents };
 
-    // One read.
+    // One read. Of an empty buffer it tells nothing.
     fn receive(&mut self, buffer: &mut [u8]) -> Received {
         self.receives += 1;
         match self.reader.read(buffer) {
-            Ok(0) => {
+            Ok(0) if !buffer.is_empty() => {
                 self.ended = true;
                 Received::End
             }

@@ -1,6 +1,8 @@
 //! The rows of the specification that a session alone can run.
 
-use crate::{Arrival, Ended, Fixed, MemoryPort, Outcome, SessionCounts, serve};
+use crate::{
+    Arrival, Ended, Fixed, MemoryPort, Outcome, ResumeFault, SessionCounts, resume, serve,
+};
 use fuse_request::FrameFault;
 use fuse_store::{Keeper, PlainKeeper, Restart, StoreFault};
 use fuse_wire::Moment;
@@ -8,6 +10,7 @@ use messages::*;
 use std::alloc::{AllocError, Global};
 use std::test::*;
 
+mod allocations;
 mod clocks;
 mod contents;
 mod groups;
@@ -17,8 +20,9 @@ mod messages;
 mod moments;
 mod pieces;
 mod ports;
-mod refused;
+mod records;
 mod resuming;
+mod run;
 mod settled;
 
 const START: Moment = Moment { secs: 0, nanos: 0 };
@@ -71,13 +75,13 @@ fn plain_of(alloc: Global, asked: &[Ask], answered: &[Reply]) -> Result<Session,
 
 // A session over a port in memory: how it ended, and its counts.
 #[derive(Drop)]
-struct Run {
+struct Finished {
     ended: Ended,
     counts: SessionCounts,
     port: MemoryPort,
 }
 
-// How a session ended, with a store's fault told by whether it is want of memory.
+// How a session or the asking before it ended, with a store's fault told by whether it is want of memory.
 #[derive(Clone, Copy, Debug, PartialEq, Eq)]
 enum Told {
     End,
@@ -89,6 +93,7 @@ enum Told {
     StoreMemory,
     Store,
     Memory,
+    NotOffered,
 }
 
 fn told_of(ended: &Ended) -> Told {
@@ -102,6 +107,15 @@ fn told_of(ended: &Ended) -> Told {
         Ended::Store(StoreFault::Memory) => Told::StoreMemory,
         Ended::Store(_) => Told::Store,
         Ended::Memory => Told::Memory,
+    }
+}
+
+fn told_of_resume(fault: &ResumeFault) -> Told {
+    match fault {
+        ResumeFault::NotOffered => Told::NotOffered,
+        ResumeFault::PortFailed => Told::PortFailed,
+        ResumeFault::Store(StoreFault::Memory) => Told::StoreMemory,
+        ResumeFault::Store(_) => Told::Store,
     }
 }
 
@@ -132,14 +146,14 @@ fn serve_once(
     keeper: &mut PlainKeeper,
     input: Vec<u8>,
     peer: Peer,
-) -> Result<Run, HasFailed> {
+) -> Result<Finished, HasFailed> {
     if keeper.failed() {
         return Err(HasFailed);
     }
     let mut port = MemoryPort::new(alloc, input, peer.arrivals, peer.outcomes, peer.confirms);
     let mut clock = Fixed(AT_1000);
     let served = serve(alloc, keeper, &mut port, &mut clock, 1000);
-    Ok(Run {
+    Ok(Finished {
         ended: served.ended,
         counts: served.counts,
         port,
@@ -161,6 +175,49 @@ fn serve_on(alloc: Global, keeper: &mut PlainKeeper, session: Session) -> Result
         is_sent: run.port.sent() == session.wanted.as_slice(),
         held: held(keeper)?,
     })
+}
+
+// Over one port asks for what is pending, and then serves at this moment.
+fn resume_and_serve(
+    alloc: Global,
+    keeper: &mut PlainKeeper,
+    session: Session,
+    now: Moment,
+) -> Result<Seen, HasFailed> {
+    if keeper.failed() {
+        return Err(HasFailed);
+    }
+    let peer = session.peer;
+    let mut port = MemoryPort::new(
+        alloc,
+        session.input,
+        peer.arrivals,
+        peer.outcomes,
+        peer.confirms,
+    );
+    let (ended, counts) = match resume(keeper, &mut port) {
+        Ok(()) => {
+            let served = serve(alloc, keeper, &mut port, &mut Fixed(now), 1000);
+            (told_of(&served.ended), served.counts)
+        }
+        Err(fault) => (told_of_resume(&fault), SessionCounts::NONE),
+    };
+    let Ok(held) = held(keeper) else {
+        return Err(HasFailed);
+    };
+    Ok(Seen {
+        ended,
+        counts,
+        is_sent: port.sent() == session.wanted.as_slice(),
+        held,
+    })
+}
+
+// What follows a restart: the notice is sent, and then these answers.
+fn resumed_of(alloc: Global, asked: &[Ask], answered: &[Reply]) -> Result<Session, AllocError> {
+    let mut wanted = NOTICE.to_vec(alloc)?;
+    wanted.extend_from_slice(replies(alloc, answered)?.as_slice())?;
+    Ok(plain(alloc, asks(alloc, asked)?, wanted))
 }
 
 // A session over a new store.

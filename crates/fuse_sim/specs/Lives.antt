@@ -11,7 +11,7 @@ use Rattle.fuse_store.specs.Stands.{Records, IsFirm}
 use Rattle.fuse_session.specs.declared.ended.Ended.{Ended}
 use Rattle.fuse_session.specs.Ends.{MayEnd, ended_store, ended_memory}
 use Rattle.fuse_session.specs.Port.{PortState}
-use Rattle.fuse_session.specs.Serving.{Life}
+use Rattle.fuse_session.specs.Serving.{Run}
 use Rattle.fuse_session.specs.Settling.{Mark, replies, settled_in, Replied}
 use Rattle.fuse_session.specs.Worked.{Timed, bytes_of, kept_in, out, Works, Moments}
 
@@ -54,7 +54,7 @@ AllSend s last (life ∷ lives) = ((unsent : List ℕ) × (out s last life.worke
 -- what the clause `life` of `serve` says of a run, at whatever end, of a keeper that was k and is k'
 abbrev pub RunOfServe : {K : Type 0} → (K → Rows → Records → Type 0) → (K → Type 0) → (K → Type 0) → (K → Type 0) → (K → Rows → Records → Type 0) → (K → StoreFault → Type 0) → (Moment → Type 0) → K → K → PortState → PortState → Ended → Type 0
 RunOfServe holds clean honest whole may_leave may_answer may_tell k k' old new ended =
-    Life (holds k) (holds k') (clean k') (honest k') (IsFirm (holds k) (whole k) (may_leave k)) (whole k') (may_leave k') may_tell old new [] []
+    Run (holds k) (holds k') (clean k') (honest k') (IsFirm (holds k) (whole k) (may_leave k)) (whole k') (may_leave k') may_tell old new [] []
     (ended_store ended) (ended_memory ended) (MayEnd (may_answer k) ended)
 
 -- a run of a server was a life: the bytes that came to its port, the answers that it sent whole and the part of another

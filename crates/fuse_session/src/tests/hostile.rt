@@ -1,5 +1,6 @@
-//! A stream that is cut anywhere, or of which a byte of a header is another.
+//! Row cut-anywhere: a stream that is cut anywhere, and of which a byte of a header is another.
 use super::*;
+use std::ops::Range;
 
 // MKDIR, LOOKUP, GETATTR of the new directory, FORGET, and the MKDIR resent: where each begins, and its length.
 const PLACES: [(usize, u32); 5] = [(0, 50), (50, 46), (96, 56), (152, 48), (200, 50)];
@@ -112,19 +113,34 @@ fn unique_at(stream: &[u8], place: usize) -> u64 {
     u64::from_le_bytes(unique)
 }
 
-// The answers to the first messages of a stream.
+// Puts the owner that the first header names into the attributes at the end of an answer.
+fn put_owner(answer: &mut [u8], stream: &[u8]) {
+    let begin = answer.len().saturating_sub(20);
+    let owner = stream.get(24..32).unwrap_or(&[]);
+    for (to, byte) in answer.iter_mut().skip(begin).zip(owner) {
+        *to = *byte;
+    }
+}
+
+// The answers to INIT and to the first messages of a stream. The new directory's owner is the one that the first header names.
 fn answers(
     alloc: Global,
     stream: &[u8],
     said: &[Said; 5],
     count: usize,
 ) -> Result<Vec<u8>, AllocError> {
-    let mut out = Vec::new(alloc);
+    let mut out = hex(alloc, AGREED)?;
     for ((place, _), one) in PLACES.iter().zip(said).take(count) {
         let unique = unique_at(stream, *place);
         match one {
-            Said::Entry => put_reply(&mut out, Reply::Entry(unique, 2))?,
-            Said::Attr => put_reply(&mut out, Reply::Attr(unique, 2))?,
+            Said::Entry => {
+                put_reply(&mut out, Reply::Entry(unique, 2))?;
+                put_owner(out.as_mut_slice(), stream);
+            }
+            Said::Attr => {
+                put_reply(&mut out, Reply::Attr(unique, 2))?;
+                put_owner(out.as_mut_slice(), stream);
+            }
             Said::Error(errno) => put_reply(&mut out, Reply::Error(unique, *errno))?,
             Said::Nothing => {}
         }
@@ -132,17 +148,25 @@ fn answers(
     Ok(out)
 }
 
+// Where a message is in the stream, which begins with INIT.
+fn offset_of(at: usize) -> u64 {
+    (at as u64).saturating_add(104)
+}
+
 // The end on a rest of a message that begins here and has this length.
 fn cut_at(at: usize, have: usize, len: u32) -> Told {
     Told::Frame(FrameFault::Cut {
-        at: at as u64,
+        at: offset_of(at),
         have: have as u64,
         need: if have < 4 { 4 } else { u64::from(len) },
     })
 }
 
 fn too_long(at: usize, len: u32) -> Told {
-    Told::Frame(FrameFault::TooLong { at: at as u64, len })
+    Told::Frame(FrameFault::TooLong {
+        at: offset_of(at),
+        len,
+    })
 }
 
 // How many messages are whole in this many bytes, and how serving them ends.
@@ -179,16 +203,16 @@ fn end_with_length(size: usize, message: usize, byte: usize) -> (usize, Told) {
     (message, told)
 }
 
-// A stream of which this byte of the message that begins here is another.
-fn with_ff(alloc: Global, stream: &[u8], at: usize, byte: usize) -> Result<Vec<u8>, AllocError> {
+// A stream of which this byte is another.
+fn with_ff(alloc: Global, stream: &[u8], at: usize) -> Result<Vec<u8>, AllocError> {
     let mut changed = stream.to_vec(alloc)?;
-    if let Some(byte) = changed.as_mut_slice().get_mut(at.saturating_add(byte)) {
+    if let Some(byte) = changed.as_mut_slice().get_mut(at) {
         *byte = 0xff;
     }
     Ok(changed)
 }
 
-// Whether a stream ends so, with the answers to its first messages sent.
+// Whether a stream behind INIT ends so, with the answers to its first messages sent.
 fn ends_so(
     alloc: Global,
     stream: &[u8],
@@ -196,75 +220,62 @@ fn ends_so(
     end: (usize, Told),
 ) -> Result<bool, Fail> {
     let (count, told) = end;
+    let mut input = hex(alloc, INIT_AGREED)?;
+    input.extend_from_slice(stream)?;
     let wanted = answers(alloc, stream, said, count)?;
-    let input = stream.to_vec(alloc)?;
-    let seen = serve_begun(alloc, plain(alloc, input, wanted))?;
+    let seen = serve_new(alloc, plain(alloc, input, wanted))?;
     Ok(seen.ended == told && seen.is_sent)
 }
 
-fn ends_well(alloc: Global, stream: Vec<u8>) -> Result<bool, Fail> {
-    let seen = serve_begun(alloc, plain(alloc, stream, Vec::new(alloc)))?;
-    Ok(seen.ended == Told::End)
+// How the first bytes end where this byte of a message's header is ff, and what its messages are answered.
+fn end_with(size: usize, message: usize, byte: usize) -> ((usize, Told), [Said; 5]) {
+    if byte < 4 {
+        (end_with_length(size, message, byte), PLAIN)
+    } else {
+        (end_of(size), said_with(message, field_at(byte)))
+    }
+}
+
+// Whether the first bytes end so where this byte of a message's header is ff.
+fn is_served(
+    alloc: Global,
+    stream: &[u8],
+    size: usize,
+    message: usize,
+    byte: usize,
+) -> Result<bool, Fail> {
+    let (begin, _) = PLACES.get(message).copied().unwrap_or((0, 0));
+    let at = begin.saturating_add(byte);
+    if size <= at {
+        return Ok(true);
+    }
+    let changed = with_ff(alloc, stream, at)?;
+    let (end, said) = end_with(size, message, byte);
+    ends_so(alloc, front(changed.as_slice(), size), &said, end)
+}
+
+// Which bytes of the headers are changed in a prefix: one after another, and in the whole stream each.
+fn changed_in(size: usize) -> Range<usize> {
+    if size == WHOLE {
+        return 0..HEADER;
+    }
+    let byte = size % HEADER;
+    byte..byte + 1
 }
 
 #[test]
-fn each_prefix(rt: HostRuntime) -> Result<(), Fail> {
+fn cut_anywhere(rt: HostRuntime) -> Result<(), Fail> {
     let alloc = rt.alloc();
     let stream = five_messages(alloc)?;
     assert_eq!(rt; stream.len(), WHOLE);
     for size in 0..WHOLE + 1 {
         let prefix = front(stream.as_slice(), size);
-        assert!(rt;
-            ends_so(alloc, prefix, &PLAIN, end_of(size))?,
-            "{size} bytes"
-        );
-    }
-    Ok(())
-}
-
-// The whole stream, and what ends within the first bytes of the message.
-#[test]
-fn each_other_length(rt: HostRuntime) -> Result<(), Fail> {
-    let alloc = rt.alloc();
-    let stream = five_messages(alloc)?;
-    for (message, (at, _)) in PLACES.iter().enumerate() {
-        for byte in 0..4 {
-            let changed = with_ff(alloc, stream.as_slice(), *at, byte)?;
-            for have in 0..6 {
-                let size = if have == 0 {
-                    WHOLE
-                } else {
-                    at.saturating_add(have)
-                };
-                let end = end_with_length(size, message, byte);
-                let prefix = front(changed.as_slice(), size);
-                assert!(rt;
-                    ends_so(alloc, prefix, &PLAIN, end)?,
-                    "{size} bytes, {byte} of {message}"
-                );
-            }
-        }
-    }
-    Ok(())
-}
-
-// The owner of the new directory is the one that the first header names: of that, the end alone is told.
-#[test]
-fn each_other_byte_of_a_header(rt: HostRuntime) -> Result<(), Fail> {
-    let alloc = rt.alloc();
-    let stream = five_messages(alloc)?;
-    for (message, (at, _)) in PLACES.iter().enumerate() {
-        for byte in 4..HEADER {
-            let field = field_at(byte);
-            let changed = with_ff(alloc, stream.as_slice(), *at, byte)?;
-            if (message, field) == (0, Field::Owner) {
-                assert!(rt; ends_well(alloc, changed)?, "{byte} of {message}");
-            } else {
-                let said = said_with(message, field);
-                assert!(rt;
-                    ends_so(alloc, changed.as_slice(), &said, (5, Told::End))?,
-                    "{byte} of {message}"
-                );
+        let right = ends_so(alloc, prefix, &PLAIN, end_of(size))?;
+        assert!(rt; right, "{size} bytes");
+        for byte in changed_in(size) {
+            for message in 0..PLACES.len() {
+                let right = is_served(alloc, stream.as_slice(), size, message, byte)?;
+                assert!(rt; right, "{size} bytes, {byte} of {message}");
             }
         }
     }

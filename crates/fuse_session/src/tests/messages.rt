@@ -40,6 +40,9 @@ pub const LOOKUP_HELLO: &str =
 
 pub const NOT_THERE: &str = "10000000 feffffff 0400000000000000";
 
+/// Row resume-notice.
+pub const NOTICE: &[u8; 16] = b"\x10\0\0\0\x07\0\0\0\0\0\0\0\0\0\0\0";
+
 /// Row first-run: MKDIR `a` with unique 6, the same resent, and GETATTR of node 2 with unique 8.
 pub const FIRST_RUN: &str =
     "32000000 09000000 0600000000000000 0100000000000000 e8030000 e8030000 4d000000 00000000 ed010000 12000000 6100
@@ -295,45 +298,7 @@ pub fn entries(
     Ok(out)
 }
 
-/// Row first-run: the lengths of its messages and of their answers.
-pub const ASKED: [usize; 3] = [50, 50, 56];
-
-pub const ANSWERED: [usize; 3] = [144, 144, 120];
-
-/// A message in each piece.
-pub fn put_pieces(arrivals: &mut Vec<Arrival>, lengths: &[usize]) -> Result<(), AllocError> {
-    for len in lengths {
-        arrivals.push(Arrival::Piece(*len))?;
-    }
-    Ok(())
-}
-
-/// Sets the bit that marks a resend in each message of row first-run or in each of its answers.
-pub fn mark_resent(bytes: &mut Vec<u8>, lengths: &[usize]) {
-    let mut at: usize = 0;
-    for len in lengths {
-        if let Some(place) = bytes.as_mut_slice().get_mut(at.saturating_add(15)) {
-            *place |= 0x80;
-        }
-        at = at.saturating_add(*len);
-    }
-}
-
-/// How long the first of these are together.
-pub fn size_of_first(lengths: &[usize], count: usize) -> usize {
-    let mut size: usize = 0;
-    for len in lengths.iter().take(count) {
-        size = size.saturating_add(*len);
-    }
-    size
-}
-
 /// The first bytes, so many of them as there are.
 pub fn front(bytes: &[u8], size: usize) -> &[u8] {
     bytes.get(..size).unwrap_or(bytes)
-}
-
-/// What follows the first bytes.
-pub fn behind(bytes: &[u8], size: usize) -> &[u8] {
-    bytes.get(size..).unwrap_or(&[])
 }

@@ -75,6 +75,7 @@ fn missing_lookup(alloc: Global, rest: &str, peer: Peer) -> Result<Seen, Fail> {
     )
 }
 
+// Row byte-by-byte.
 #[test]
 fn missing_lookup_byte_by_byte(rt: HostRuntime) -> Result<(), Fail> {
     let alloc = rt.alloc();
@@ -105,6 +106,7 @@ fn cut_stream(rt: HostRuntime) -> Result<(), Fail> {
     Ok(())
 }
 
+// Row length-bounds: the lengths that are none.
 #[test]
 fn length_bounds(rt: HostRuntime) -> Result<(), Fail> {
     let alloc = rt.alloc();
@@ -117,5 +119,28 @@ fn length_bounds(rt: HostRuntime) -> Result<(), Fail> {
         len: 135_169,
     };
     assert!(rt; long.is(Told::Frame(fault), (1, 2)));
+    Ok(())
+}
+
+// Row length-bounds: the greatest length, of an opcode that there isn't, whole or without the last byte.
+fn longest(alloc: Global, size: usize, answered: &[Reply]) -> Result<Seen, Fail> {
+    let mut input = Vec::new(alloc);
+    put_header(&mut input, 135_168, 35, 4, 1)?;
+    input.resize(size, 0)?;
+    serve_begun(alloc, plain(alloc, input, replies(alloc, answered)?))
+}
+
+#[test]
+fn greatest_length(rt: HostRuntime) -> Result<(), Fail> {
+    let alloc = rt.alloc();
+    let whole = longest(alloc, 135_168, &[Reply::Error(4, ENOSYS)])?;
+    assert!(rt; whole.is(Told::End, (1, 1)));
+    let cut = longest(alloc, 135_167, &[])?;
+    let fault = FrameFault::Cut {
+        at: 0,
+        have: 135_167,
+        need: 135_168,
+    };
+    assert!(rt; cut.is(Told::Frame(fault), (1, 1)));
     Ok(())
 }

@@ -1,4 +1,5 @@
 //! Ports that fail, take a part, or tell that nobody waits.
+use super::run::*;
 use super::*;
 
 fn peer_of(alloc: Global, arrivals: &[Arrival], outcomes: &[Outcome]) -> Result<Peer, AllocError> {
@@ -32,13 +33,36 @@ fn lookup_over(alloc: Global, outcomes: &[Outcome], taken: usize) -> Result<Seen
     serve_over(alloc, LOOKUP_HELLO, peer, NOT_THERE, taken)
 }
 
+// Row send-stops: the session that stops, and the one behind it.
+fn stopped_and_resumed(alloc: Global) -> Result<(Seen, Seen), Fail> {
+    let mut keeper = begun(alloc, INIT_AGREED)?;
+    let stopped = Session {
+        input: hex(alloc, LOOKUP_HELLO)?,
+        peer: peer_of(alloc, &[], &[Outcome::Take(10), Outcome::Failed])?,
+        wanted: front(hex(alloc, NOT_THERE)?.as_slice(), 10).to_vec(alloc)?,
+    };
+    let first = serve_on(alloc, &mut keeper, stopped)?;
+    let mut opened = keeper.restart()?;
+    let resent = resumed_of(
+        alloc,
+        &[Ask::Lookup(RESENT | 4)],
+        &[Reply::Error(RESENT | 4, ENOENT)],
+    )?;
+    Ok((
+        first,
+        resume_and_serve(alloc, &mut opened, resent, AT_1000)?,
+    ))
+}
+
 #[test]
-fn send_fails(rt: HostRuntime) -> Result<(), Fail> {
-    let seen = lookup_over(rt.alloc(), &[Outcome::Take(10), Outcome::Failed], 10)?;
-    assert!(rt; seen.is(Told::PortFailed, (1, 2)), "the record is there");
+fn send_stops(rt: HostRuntime) -> Result<(), Fail> {
+    let (stopped, resumed) = stopped_and_resumed(rt.alloc())?;
+    assert!(rt; stopped.is(Told::PortFailed, (1, 2)), "the record is there");
+    assert!(rt; resumed.is(Told::End, (1, 2)));
     Ok(())
 }
 
+// Row send-stops: `Took(0)` for a rest.
 #[test]
 fn send_takes_nothing(rt: HostRuntime) -> Result<(), Fail> {
     let alloc = rt.alloc();
@@ -63,6 +87,7 @@ fn first_run_over(alloc: Global, outcomes: &[Outcome], taken: usize) -> Result<S
     serve_over(alloc, FIRST_RUN, peer, FIRST_ANSWERS, taken)
 }
 
+// Row gone-then-failed.
 #[test]
 fn gone_then_failed(rt: HostRuntime) -> Result<(), Fail> {
     let alloc = rt.alloc();
@@ -74,6 +99,7 @@ fn gone_then_failed(rt: HostRuntime) -> Result<(), Fail> {
     Ok(())
 }
 
+// Row receive-fails.
 #[test]
 fn receive_fails(rt: HostRuntime) -> Result<(), Fail> {
     let alloc = rt.alloc();
@@ -83,65 +109,46 @@ fn receive_fails(rt: HostRuntime) -> Result<(), Fail> {
     Ok(())
 }
 
-// Row first-run over a port that fails after so many answers.
-fn failing(alloc: Global, peer: Peer, answered: usize) -> Result<Session, AllocError> {
-    let answers = hex(alloc, FIRST_ANSWERS)?;
-    let taken = size_of_first(&ANSWERED, answered);
-    Ok(Session {
-        input: hex(alloc, FIRST_RUN)?,
-        peer,
-        wanted: front(answers.as_slice(), taken).to_vec(alloc)?,
-    })
+// The run over a port that fails: so many answers are sent before, and this is held then. The store is opened again, what
+// has no answer is resent, and the answers and the tree are the same.
+fn is_served(alloc: Global, peer: Peer, answered: usize, left: (u64, u64)) -> Result<bool, Fail> {
+    let mut keeper = PlainKeeper::new(alloc, START)?;
+    let first = serve_on(alloc, &mut keeper, run(alloc, peer, answered)?)?;
+    let mut opened = keeper.restart()?;
+    let rest = resent_run(alloc, answered)?;
+    let again = resume_and_serve(alloc, &mut opened, rest, AT_1000)?;
+    Ok(first.is(Told::PortFailed, left) && again.is(Told::End, ALL_HELD))
 }
 
-// What the kernel resends after that: what it got no answer to.
-fn resent_rest(alloc: Global, answered: usize) -> Result<Session, AllocError> {
-    let mut asked = hex(alloc, FIRST_RUN)?;
-    let mut answers = hex(alloc, FIRST_ANSWERS)?;
-    mark_resent(&mut asked, &ASKED);
-    mark_resent(&mut answers, &ANSWERED);
-    let begin = size_of_first(&ASKED, answered);
-    let taken = size_of_first(&ANSWERED, answered);
-    Ok(Session {
-        input: behind(asked.as_slice(), begin).to_vec(alloc)?,
-        peer: plain_peer(alloc),
-        wanted: behind(answers.as_slice(), taken).to_vec(alloc)?,
-    })
-}
-
-// The answers before the fault are sent and nothing else, and then, resent, those of the row. The tree is the row's.
-fn is_served(alloc: Global, peer: Peer, answered: usize) -> Result<bool, Fail> {
-    let first = failing(alloc, peer, answered)?;
-    let second = resent_rest(alloc, answered)?;
-    let (failed, passed) = serve_both(alloc, first, second)?;
-    Ok(failed.ended == Told::PortFailed && failed.is_sent && passed.is(Told::End, (2, 3)))
-}
-
-// A message in each piece, and then a failure.
-fn receives(alloc: Global, before: usize) -> Result<Peer, AllocError> {
+// So many messages come, and then a failure.
+fn receives(alloc: Global, grouping: Grouping, before: usize) -> Result<Peer, AllocError> {
     let mut peer = plain_peer(alloc);
-    put_pieces(&mut peer.arrivals, ASKED.get(..before).unwrap_or(&ASKED))?;
+    put_pieces(&mut peer.arrivals, grouping, before)?;
     peer.arrivals.push(Arrival::Failed)?;
     Ok(peer)
 }
 
-// Each receive in turn fails.
+// Row each-port-call: each receive in turn fails.
 #[test]
 fn each_receive(rt: HostRuntime) -> Result<(), Fail> {
     let alloc = rt.alloc();
-    for before in 0..4 {
-        let served = is_served(alloc, receives(alloc, before)?, before)?;
+    for before in 0..MESSAGES + 1 {
+        let peer = receives(alloc, Grouping::Each, before)?;
+        let served = is_served(alloc, peer, before, held_after(before))?;
         assert!(rt; served, "{before} messages before");
+    }
+    for before in [0, MESSAGES] {
+        let peer = receives(alloc, Grouping::All, before)?;
+        let served = is_served(alloc, peer, before, held_after(before))?;
+        assert!(rt; served, "{before} messages before, in one piece");
     }
     Ok(())
 }
 
 // So many answers are taken, and then the port fails.
-fn sends(alloc: Global, each: bool, before: usize) -> Result<Peer, AllocError> {
+fn sends(alloc: Global, grouping: Grouping, before: usize) -> Result<Peer, AllocError> {
     let mut peer = plain_peer(alloc);
-    if each {
-        put_pieces(&mut peer.arrivals, &ASKED)?;
-    }
+    put_pieces(&mut peer.arrivals, grouping, MESSAGES)?;
     for _ in 0..before {
         peer.outcomes.push(Outcome::Take(1000))?;
     }
@@ -149,14 +156,15 @@ fn sends(alloc: Global, each: bool, before: usize) -> Result<Peer, AllocError> {
     Ok(peer)
 }
 
-// Each send in turn fails, with all messages in one piece and with one in each.
+// Row each-port-call: each send in turn fails. The group is committed then.
 #[test]
 fn each_send(rt: HostRuntime) -> Result<(), Fail> {
     let alloc = rt.alloc();
-    for before in 0..3 {
-        for each in [false, true] {
-            let served = is_served(alloc, sends(alloc, each, before)?, before)?;
-            assert!(rt; served, "{before} answers before");
+    for before in 0..MESSAGES {
+        for (grouping, done) in [(Grouping::Each, before + 1), (Grouping::All, MESSAGES)] {
+            let peer = sends(alloc, grouping, before)?;
+            let served = is_served(alloc, peer, before, held_after(done))?;
+            assert!(rt; served, "{before} answers before, {grouping:?}");
         }
     }
     Ok(())

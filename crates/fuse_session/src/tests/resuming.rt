@@ -2,14 +2,11 @@
 ghost use Rattle.std.specs.Prelude.{◌≡◌, true};
 
 use super::*;
-use crate::{ResumeFault, resume};
 use fuse_answer::Answer;
 use fuse_init::Settings;
 use fuse_request::Request;
 use fuse_store::{Done, StoreCounts};
 use fuse_wire::Id;
-
-const NOTICE: &[u8; 16] = b"\x10\0\0\0\x07\0\0\0\0\0\0\0\0\0\0\0";
 
 // A keeper that answers faults, and that stands for nothing.
 #[derive(Drop)]
@@ -27,7 +24,7 @@ impl Faulty {
 }
 
 impl Keeper for Faulty {
-    ghost use Rattle.std.specs.Prelude.{◌≡◌, ℕ, true};
+    ghost use Rattle.std.specs.Prelude.{◌≡◌, true};
 
     ghost holds = { λ _ _ _. ⊥ };
 
@@ -168,4 +165,37 @@ fn store_fault(rt: HostRuntime) {
     let asked = ask(alloc, &mut keeper, Vec::new(alloc), b"");
     assert_eq!(rt; asked, (Asked::Damaged, true));
     assert!(rt; keeper.failed());
+}
+
+const AT_2000: Moment = Moment {
+    secs: 2000,
+    nanos: 0,
+};
+
+// Row fresh-then-resume.
+fn fresh_and_resumed(alloc: Global) -> Result<(Seen, Seen), Fail> {
+    let mut keeper = PlainKeeper::new(alloc, START)?;
+    let fresh = plain_of(
+        alloc,
+        &[Ask::Text(INIT_AGREED), Ask::Mkdir(6, b'a')],
+        &[Reply::Text(AGREED), Reply::Entry(6, 2)],
+    )?;
+    let first = serve_on(alloc, &mut keeper, fresh)?;
+    let resent = resumed_of(
+        alloc,
+        &[Ask::Mkdir(RESENT | 6, b'a')],
+        &[Reply::Entry(RESENT | 6, 2)],
+    )?;
+    Ok((
+        first,
+        resume_and_serve(alloc, &mut keeper, resent, AT_2000)?,
+    ))
+}
+
+#[test]
+fn fresh_then_resume(rt: HostRuntime) -> Result<(), Fail> {
+    let (fresh, resumed) = fresh_and_resumed(rt.alloc())?;
+    assert!(rt; fresh.is(Told::End, (2, 2)));
+    assert!(rt; resumed.is(Told::End, (2, 2)));
+    Ok(())
 }

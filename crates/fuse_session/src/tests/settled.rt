@@ -81,6 +81,7 @@ fn settled_after_fault(rt: HostRuntime) -> Result<(), Fail> {
     Ok(())
 }
 
+// The same row, with one more request behind the 16.
 #[test]
 fn settled_after_fault_with_one_more(rt: HostRuntime) -> Result<(), Fail> {
     let alloc = rt.alloc();
@@ -88,7 +89,8 @@ fn settled_after_fault_with_one_more(rt: HostRuntime) -> Result<(), Fail> {
     put_ask(&mut input, Ask::Lookup(400))?;
     let mut wanted = entries(alloc, Made::File, 15, 31, RESENT)?;
     put_reply(&mut wanted, Reply::Error(400, ENOENT))?;
-    let (_, again) = serve_behind_it(alloc, input, wanted)?;
+    let (first, again) = serve_behind_it(alloc, input, wanted)?;
+    assert!(rt; first.is(Told::PortFailed, (32, 16)));
     assert!(rt; again.is(Told::End, (32, 1)));
     Ok(())
 }
@@ -108,7 +110,11 @@ fn first_is_gone(alloc: Global) -> Result<Session, AllocError> {
 #[test]
 fn settled_by_gone_alone(rt: HostRuntime) -> Result<(), Fail> {
     let alloc = rt.alloc();
-    let again = plain(alloc, makings(alloc, Made::File, 0, 17, RESENT)?, Vec::new(alloc));
+    let again = plain(
+        alloc,
+        makings(alloc, Made::File, 0, 17, RESENT)?,
+        Vec::new(alloc),
+    );
     let (first, second) = serve_both(alloc, first_is_gone(alloc)?, again)?;
     assert!(rt; first.is(Told::End, (18, 17)));
     assert_eq!(rt;

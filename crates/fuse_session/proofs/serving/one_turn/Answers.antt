@@ -95,7 +95,7 @@ pub returns-in-Ok-finish-clause-below : goal.returns-in-Ok-finish-clause-below
 returns-in-Ok-finish-clause-below g c =
     let took = c.in-Ok.ensures.ok.took in
     let short = c.requires.opened.short in
-    let room = c.requires.room.1 in
+    let room = c.requires.room in
     subst (λ x. IsBelow x (2 ^ 20)) (sym c.in-Ok-finish.ensures.ok.0) (below_more c.in-Ok-work_off.work.counts (length c.as_slice-slice.result.now) (2 ^ 20)
     (omega (arith, ap length c.as_slice-slice.ensures.value, took.few, took.at, c.in-Ok.ensures.fed, short, room)) c.in-Ok-work_off.ensures.below)
 
@@ -131,7 +131,7 @@ pub returns-clause-counted : goal.returns-clause-counted
 returns-clause-counted g c =
     let took = c.in-Ok.ensures.ok.took in
     let short = c.requires.opened.short in
-    let room = c.requires.room.1 in
+    let room = c.requires.room in
     subst (λ x. IsBelow x (2 ^ 20)) (sym c.in-Err-finish.ensures.err.0) (below_more c.in-Ok-work_off.work.counts (length c.as_slice-slice.result.now) (2 ^ 20)
     (omega (arith, ap length c.as_slice-slice.ensures.value, took.few, took.at, c.in-Ok.ensures.fed, short, room)) c.in-Ok-work_off.ensures.below)
 
