@@ -4,7 +4,7 @@ ghost use Rattle.std.specs.Io.KnownBytes.{Appends};
 ghost use Rattle.fuse_request.specs.Stream.{IsMessage};
 ghost use Rattle.fuse_request.specs.Header.{raw_of};
 ghost use Rattle.fuse_request.specs.Faults.{first_fault};
-ghost use Rattle.fusekeep.specs.Endings.{status_of, IsNotOfStream};
+ghost use Rattle.fusekeep.specs.Endings.{status_of, GaveOut};
 ghost use Rattle.fusekeep.specs.Messages.{left_in, place_in, WentThrough};
 ghost use Rattle.fusekeep.specs.Printing.{line};
 ghost use Rattle.fusekeep.specs.Dumping.{fault_text, dump_line, dump_lines, Dumped};
@@ -127,16 +127,14 @@ fn header_in(message: &[u8]) -> RawHeader
 fn write_line<W: Write>(writer: &mut W, placed: &Placed) -> Result<(), Ending>
     requires { IsMessage placed.now.bytes }
     ensures ok { OnOk result (Appends (W.contents writer.old) (W.contents writer.new) (line (dump_line placed.now.at (raw_of placed.now.bytes) (first_fault placed.now.bytes)))) }
-    ensures err { IfErr result IsNotOfStream }
+    ensures err { IfErr result GaveOut }
 {
     let text = DumpLine {
         at: placed.at,
         header: header_in(&placed.bytes),
         fault: decode(&placed.bytes).err(),
     };
-    if writeln!(writer, "{text}").is_err() {
-        return Err(Ending::PortFailed);
-    }
+    writeln!(writer, "{text}")?;
     Ok(())
 }
 

@@ -4,7 +4,7 @@ ghost use Rattle.std.specs.Io.KnownBytes.{Keeps, IsAtEnd, prepend_known};
 ghost use Rattle.fuse_request.specs.Framing.{fed_of};
 ghost use Rattle.fuse_request.specs.declared.header.TheConstants.{MAX_MESSAGE as max_message};
 ghost use Rattle.fusekeep.specs.declared.messages.TheConstants.{MAX_READS as max_reads};
-ghost use Rattle.fusekeep.specs.Endings.{IsNotOfStream};
+ghost use Rattle.fusekeep.specs.Endings.{GaveOut};
 
 use crate::ending::Ending;
 use bytes::Bytes;
@@ -34,7 +34,7 @@ fn read_piece<R: Read>(
     ensures at { framer.new.at ≡ framer.old.at }
     ensures fed { fed_of framer.new ≤ fed_of framer.old + length buffer.old }
     ensures end { IfOk result (λ some. some ≡ false → (framer.new.bytes ≡ framer.old.bytes) × IsAtEnd (R.remaining reader.new)) }
-    ensures err { IfErr result IsNotOfStream }
+    ensures err { IfErr result GaveOut }
     ensures buffer { length buffer.new ≡ length buffer.old }
 {
     let Ok(len) = reader.read(buffer) else {
@@ -87,7 +87,7 @@ impl<R: Read + Drop> Messages<R> {
         ensures place { OnOk result (place_in self.new ≡ place_in self.old) }
         ensures work { OnOk result (work_in self.new < work_in self.old) }
         ensures end { IfOk result (λ some. some ≡ false → (self.new.framer.bytes ≡ self.old.framer.bytes) × IsAtEnd (R.remaining self.new.reader)) }
-        ensures err { IfErr result IsNotOfStream }
+        ensures err { IfErr result GaveOut }
     {
         if self.reads_left == 0 {
             return Err(Ending::PortTurns);

@@ -1,7 +1,7 @@
 //! Reading an input to its end.
 ghost use Rattle.std.specs.Prelude.{◌≡◌, ◌<◌, false, length, IfSome, OnOk, IfOk, IfErr};
 ghost use Rattle.std.specs.Io.KnownBytes.{IsAtEnd};
-ghost use Rattle.fusekeep.specs.Endings.{IsNotOfStream};
+ghost use Rattle.fusekeep.specs.Endings.{GaveOut};
 ghost use Rattle.fusekeep.specs.Reading.{ReadMore};
 
 use crate::ending::Ending;
@@ -19,7 +19,7 @@ fn read_more<R: Read>(
     requires { 0 < length buffer.old }
     ensures more { OnOk result (ReadMore (R.remaining reader.old) (R.remaining reader.new) input.old.items input.new.items) }
     ensures end { IfOk result (λ some. some ≡ false → (input.new.items ≡ input.old.items) × IsAtEnd (R.remaining reader.new)) }
-    ensures err { IfErr result IsNotOfStream }
+    ensures err { IfErr result GaveOut }
     ensures buffer { length buffer.new ≡ length buffer.old }
 {
     let Ok(len) = reader.read(buffer) else {
@@ -37,7 +37,7 @@ fn read_more<R: Read>(
 /// All that a reader gives. An `Err` is that it fails, that it goes on past the bound on reads, or want of memory.
 pub fn read_all<R: Read>(alloc: Global, reader: &mut R) -> Result<Vec<u8>, Ending>
     ensures ok { IfOk result (λ input. IfSome (R.remaining reader.old) (λ known. input.items ≡ known)) }
-    ensures err { IfErr result IsNotOfStream }
+    ensures err { IfErr result GaveOut }
 {
     let Ok(mut buffer) = vec![in alloc; 0; MAX_MESSAGE] else {
         return Err(Ending::Memory);

@@ -64,10 +64,8 @@ fn print_session<W: Write>(alloc: Global, writer: &mut W, session: &Session) -> 
     if session.ending.is_of_stream() {
         write_counts(writer, session.counts)?;
     }
-    match writer.flush() {
-        Ok(()) => Ok(()),
-        Err(_) => Err(Ending::PortFailed),
-    }
+    writer.flush()?;
+    Ok(())
 }
 
 /// Serves the stream that the reader gives, all at one moment, and then prints the answers and, where it was served as

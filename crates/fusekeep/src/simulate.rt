@@ -5,7 +5,7 @@ ghost use Rattle.fuse_tree.specs.State.{State};
 ghost use Rattle.fuse_store.specs.PlainKeeper.{plain_holds, plain_failed};
 ghost use Rattle.fuse_store.specs.Stands.{StandsFor};
 ghost use Rattle.fuse_sim.specs.Driving.{StandsIn, NoneAgain, IsFit, given};
-ghost use Rattle.fusekeep.specs.Endings.{status_of, IsNotOfStream};
+ghost use Rattle.fusekeep.specs.Endings.{status_of, GaveOut};
 ghost use Rattle.fusekeep.specs.Printing.{line, store_line};
 ghost use Rattle.fusekeep.specs.Simulating.{Went, RanScript, NotRun, Simulated, outcome_line, outcome_lines};
 
@@ -39,7 +39,7 @@ fn run_events<K: Restart>(
     requires fit { All IsFit events.now }
     ensures ok { IfOk result (λ simulation. IsSomeAnd keeper.new K.is_honest → (s : State) → StandsIn K.holds keeper.old s [] [] → NoneAgain [] events.now → Went s events.now simulation) }
     ensures left { OnOk result (IsSome keeper.new) }
-    ensures err { IfErr result IsNotOfStream }
+    ensures err { IfErr result (λ ending. 3 ≤ status_of ending) }
 {
     let outcomes = match drive(alloc, keeper, events) {
         Ok(outcomes) => outcomes,
@@ -63,19 +63,15 @@ fn write_outcome<W: Write>(
     outcome: &Option<Outcome>,
 ) -> Result<(), Ending>
     ensures ok { OnOk result (Appends (W.contents writer.old) (W.contents writer.new) (outcome_line (given outcome.now))) }
-    ensures err { IfErr result IsNotOfStream }
+    ensures err { IfErr result GaveOut }
 {
     let Some(outcome) = outcome else {
-        return match writeln!(writer, "-") {
-            Ok(()) => Ok(()),
-            Err(_) => Err(Ending::PortFailed),
-        };
+        writeln!(writer, "-")?;
+        return Ok(());
     };
     let mut answer = Vec::new(alloc);
-    let body = outcome.body.as_slice();
-    if answer.extend_from_slice(&outcome.head).is_err() || answer.extend_from_slice(body).is_err() {
-        return Err(Ending::Memory);
-    }
+    answer.extend_from_slice(&outcome.head)?;
+    answer.extend_from_slice(outcome.body.as_slice())?;
     write_hex_line(alloc, writer, answer.as_slice())
 }
 
@@ -87,16 +83,14 @@ fn print_simulation<W: Write>(
 ) -> Result<(), Ending>
     ensures ok { OnOk result (Appends (W.contents writer.old) (W.contents writer.new)
         (outcome_lines (map given simulation.now.outcomes.items) ++ line (store_line simulation.now.counts.nodes simulation.now.counts.handles))) }
-    ensures err { IfErr result IsNotOfStream }
+    ensures err { IfErr result GaveOut }
 {
     for outcome in simulation.outcomes.as_slice() {
         write_outcome(alloc, writer, outcome)?;
     }
     write_store(writer, simulation.counts)?;
-    match writer.flush() {
-        Ok(()) => Ok(()),
-        Err(_) => Err(Ending::PortFailed),
-    }
+    writer.flush()?;
+    Ok(())
 }
 
 // Runs events over a store in memory.
@@ -104,7 +98,7 @@ fn run_in_memory(alloc: Global, keeper: PlainKeeper, events: &[Event]) -> Result
     requires going { plain_failed keeper ≡ false }
     requires fit { All IsFit events.now }
     ensures ok { IfOk result (λ simulation. (s : State) → StandsFor (plain_holds keeper) s [] [] → NoneAgain [] events.now → Went s events.now simulation) }
-    ensures err { IfErr result IsNotOfStream }
+    ensures err { IfErr result (λ ending. 3 ≤ status_of ending) }
 {
     let mut keeper = Some(keeper);
     run_events(alloc, &mut keeper, events)
