@@ -1,5 +1,5 @@
 //! How many messages of a stream spell a request.
-ghost use Rattle.std.specs.Prelude.{◌≡◌, ◌<◌, ◌≤◌, ◌+◌, ◌^◌, [], None, if◌then◌else◌, IfSome, IfErr, OnOk};
+ghost use Rattle.std.specs.Prelude.{◌≡◌, ◌≢◌, ◌<◌, ◌≤◌, ◌+◌, ◌^◌, [], None, if◌then◌else◌, IfSome, IfErr, OnOk};
 ghost use Rattle.std.specs.Io.KnownBytes.{Appends};
 ghost use Rattle.fuse_request.specs.Act.{act};
 ghost use Rattle.fusekeep.specs.Endings.{status_of, GaveOut};
@@ -115,7 +115,9 @@ fn write_check<W: Write>(writer: &mut W, counts: MessageCounts) -> Result<(), En
 /// Counts the messages of the stream, and prints the counts. Where the stream has a fault, the messages before it are
 /// counted.
 pub fn run_check<R: Read + Drop, W: Write>(alloc: Global, reader: R, writer: &mut W) -> Ending
-    ensures { IfSome (R.remaining reader) (λ stream. status_of result ≤ 1 → Checked (W.contents writer.old) (W.contents writer.new) stream result) }
+    ensures checked { IfSome (R.remaining reader) (λ stream. status_of result ≤ 1 → Checked (W.contents writer.old) (W.contents writer.new) stream result) }
+    ensures usage { status_of result ≢ 2 }
+    ensures store { status_of result ≢ 3 }
 {
     let mut messages = match Messages::new(alloc, reader) {
         Ok(messages) => messages,

@@ -1,5 +1,5 @@
 //! What each message of a stream is, a line for each.
-ghost use Rattle.std.specs.Prelude.{◌≡◌, ◌≤◌, IfSome, IfErr, OnOk};
+ghost use Rattle.std.specs.Prelude.{◌≡◌, ◌≢◌, ◌≤◌, IfSome, IfErr, OnOk};
 ghost use Rattle.std.specs.Io.KnownBytes.{Appends};
 ghost use Rattle.fuse_request.specs.Stream.{IsMessage};
 ghost use Rattle.fuse_request.specs.Header.{raw_of};
@@ -156,7 +156,9 @@ fn write_lines<R: Read + Drop, W: Write>(
 
 /// Prints a line for each message of the stream. Where the stream has a fault, the messages before it are printed.
 pub fn run_dump<R: Read + Drop, W: Write>(alloc: Global, reader: R, writer: &mut W) -> Ending
-    ensures { IfSome (R.remaining reader) (λ stream. status_of result ≤ 1 → Dumped (W.contents writer.old) (W.contents writer.new) stream result) }
+    ensures dumped { IfSome (R.remaining reader) (λ stream. status_of result ≤ 1 → Dumped (W.contents writer.old) (W.contents writer.new) stream result) }
+    ensures usage { status_of result ≢ 2 }
+    ensures store { status_of result ≢ 3 }
 {
     let mut messages = match Messages::new(alloc, reader) {
         Ok(messages) => messages,

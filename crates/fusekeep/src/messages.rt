@@ -3,17 +3,15 @@ ghost use Rattle.std.specs.Prelude.{◌≡◌, ◌+◌, ◌*◌, ◌<◌, ◌≤
 ghost use Rattle.std.specs.Io.KnownBytes.{Keeps, IsAtEnd, prepend_known};
 ghost use Rattle.fuse_request.specs.Framing.{fed_of};
 ghost use Rattle.fuse_request.specs.declared.header.TheConstants.{MAX_MESSAGE as max_message};
-ghost use Rattle.fusekeep.specs.declared.messages.TheConstants.{MAX_READS as max_reads};
+ghost use Rattle.fusekeep.specs.declared.reading.TheConstants.{MAX_READS as max_reads};
 ghost use Rattle.fusekeep.specs.Endings.{GaveOut};
 
 use crate::ending::Ending;
+use crate::reading::MAX_READS;
 use bytes::Bytes;
 use fuse_request::{Framer, MAX_MESSAGE, cut_steps};
 use std::alloc::Global;
 use std::io::Read;
-
-/// The most reads of a stream.
-pub const MAX_READS: u32 = 4_294_967_295;
 
 /// A message, and the offset in the stream at which it begins.
 #[derive(Drop)]

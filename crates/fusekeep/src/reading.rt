@@ -5,10 +5,12 @@ ghost use Rattle.fusekeep.specs.Endings.{GaveOut};
 ghost use Rattle.fusekeep.specs.Reading.{ReadMore};
 
 use crate::ending::Ending;
-use crate::messages::MAX_READS;
 use fuse_request::MAX_MESSAGE;
 use std::alloc::Global;
 use std::io::Read;
+
+/// The most reads of an input.
+pub const MAX_READS: u32 = 4_294_967_295;
 
 // Reads a piece behind what was read before it. Whether there was one.
 fn read_more<R: Read>(

@@ -1,5 +1,5 @@
 //! Running the events of a script.
-ghost use Rattle.std.specs.Prelude.{◌≡◌, ◌≤◌, ◌++◌, ℕ, List, [], false, map, All, Some, IsSome, IsSomeAnd, IfSome, IfOk, IfErr, OnOk};
+ghost use Rattle.std.specs.Prelude.{◌≡◌, ◌≢◌, ◌≤◌, ◌++◌, ℕ, List, [], false, map, All, Some, IsSome, IsSomeAnd, IfSome, IfOk, IfErr, OnOk};
 ghost use Rattle.std.specs.Io.KnownBytes.{Appends};
 ghost use Rattle.fuse_tree.specs.State.{State};
 ghost use Rattle.fuse_store.specs.PlainKeeper.{plain_holds, plain_failed};
@@ -19,8 +19,8 @@ use fuse_wire::Moment;
 use std::alloc::Global;
 use std::io::{Read, Write};
 
-// The moment at which the store is made.
-const START: Moment = Moment { secs: 0, nanos: 0 };
+/// The moment at which a store in memory is made.
+pub const START: Moment = Moment { secs: 0, nanos: 0 };
 
 // What events were answered, and how much the store holds then.
 #[derive(Drop)]
@@ -108,6 +108,7 @@ fn run_in_memory(alloc: Global, keeper: PlainKeeper, events: &[Event]) -> Result
 fn simulate<R: Read>(alloc: Global, reader: &mut R) -> Result<Simulation, Ending>
     ensures ok { IfOk result (λ simulation. IfSome (R.remaining reader.old) (λ script. RanScript script simulation)) }
     ensures err { IfErr result (λ ending. IfSome (R.remaining reader.old) (λ script. status_of ending ≤ 1 → NotRun script ending)) }
+    ensures usage { IfErr result (λ ending. status_of ending ≢ 2) }
 {
     let Ok(keeper) = PlainKeeper::new(alloc, START) else {
         return Err(Ending::Memory);
@@ -124,7 +125,8 @@ pub fn run_simulate<R: Read + Drop, W: Write>(
     mut reader: R,
     writer: &mut W,
 ) -> Ending
-    ensures { IfSome (R.remaining reader) (λ script. status_of result ≤ 1 → Simulated (W.contents writer.old) (W.contents writer.new) script result) }
+    ensures simulated { IfSome (R.remaining reader) (λ script. status_of result ≤ 1 → Simulated (W.contents writer.old) (W.contents writer.new) script result) }
+    ensures usage { status_of result ≢ 2 }
 {
     let simulation = match simulate(alloc, &mut reader) {
         Ok(simulation) => simulation,

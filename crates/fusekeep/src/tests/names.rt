@@ -49,8 +49,7 @@ fn printed(alloc: Global, stream: &[&str]) -> Result<Vec<u8>, Fail> {
     let mut printed = Vec::new(alloc);
     let mut bytes = bytes_of(alloc, &[INIT])?;
     bytes.extend_from_slice(bytes_of(alloc, stream)?.as_slice())?;
-    let mut reader = bytes.as_slice();
-    match run_replay(alloc, &mut keeper, &mut reader, &mut printed, AT_1000) {
+    match run_replay(alloc, &mut keeper, bytes.as_slice(), &mut printed, AT_1000) {
         Ending::Done => Ok(printed),
         _ => Err("another ending".into()),
     }

@@ -38,14 +38,14 @@ pub struct Row<'a> {
 // A row behind row init-agreed.
 fn check(rt: &(impl Abort + AllocGlobal), row: &Row<'_>) -> Result<(), Fail> {
     let stream = bytes_of(rt.alloc(), row.stream)?;
-    let run = replayed(rt.alloc(), &mut stream.as_slice())?;
+    let run = replayed(rt.alloc(), stream.as_slice())?;
     compare(rt, row, run)
 }
 
 /// A row over a new store.
 pub fn check_first(rt: &(impl Abort + AllocGlobal), row: &Row<'_>) -> Result<(), Fail> {
     let stream = bytes_of(rt.alloc(), row.stream)?;
-    let run = replayed_first(rt.alloc(), &mut stream.as_slice())?;
+    let run = replayed_first(rt.alloc(), stream.as_slice())?;
     compare(rt, row, run)
 }
 
@@ -385,7 +385,7 @@ fn made_line(alloc: Global, place: u8) -> Result<String, Fail> {
 fn seventeen(rt: HostRuntime) -> Result<(), Fail> {
     let alloc = rt.alloc();
     let stream = mkdirs(alloc, 17)?;
-    let (ending, printed) = replayed(alloc, &mut stream.as_slice())?;
+    let (ending, printed) = replayed(alloc, stream.as_slice())?;
     assert_eq!(rt; ending, Ending::Done);
     let text = String::from_utf8(printed)?;
     for (place, line) in (0..17u8).zip(text.lines()) {
