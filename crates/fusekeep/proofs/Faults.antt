@@ -1,14 +1,13 @@
 -- A stream that has a fault.
-use Rattle.std.proofs.Common.{◌≡◌, ◌⊎◌, ◌≤◌, ◌<◌, ℕ, Bool, true, false, ◌&&◌, ltb, leb, List, [], ◌∷◌, ◌++◌, length, Option, Some, None, Ok, Err, inl, inr, refl, sym, ap, ◌∙◌, arith}
-use Rattle.std.proofs.lemmas.List.{append-nil}
+use Rattle.std.proofs.Common.{◌≡◌, ◌⊎◌, ℕ, Bool, true, false, ◌&&◌, ltb, List, [], ◌∷◌, ◌++◌, length, Option, Some, None, Err, inl, inr, refl, sym, ap, arith}
 use Rattle.std.proofs.lemmas.Bool.{leb-true, le-ltb}
 use Rattle.std.specs.Option.{IfSome, option_or}
-use Rattle.std.specs.Io.KnownBytes.{Keeps, IsAtEnd, prepend_known}
+use Rattle.std.specs.Io.KnownBytes.{Keeps, prepend_known}
 use Rattle.fuse_wire.specs.Bytes.{number_of}
 use Rattle.fuse_request.specs.declared.framer.FrameFault.{FrameFault}
 use Rattle.fuse_request.specs.declared.framer.FrameFault.TheVariants.{Short, TooLong, Cut, Memory}
-use Rattle.fuse_request.specs.Stream.{is_whole, cut, CutSteps}
-use Rattle.fuse_request.specs.Framing.{Held, HasNone, GivesNext, bad_length, end_fault, ends, needed}
+use Rattle.fuse_request.specs.Stream.{is_whole, CutSteps}
+use Rattle.fuse_request.specs.Framing.{Held, HasNone, GivesNext, bad_length, end_fault, needed}
 use Rattle.fusekeep.specs.declared.ending.Ending.{Ending}
 use Rattle.fusekeep.specs.Endings.{stream_ending, GaveOut}
 use Rattle.fusekeep.specs.Messages.{HasFault}

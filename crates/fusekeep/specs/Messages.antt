@@ -1,5 +1,5 @@
 -- The messages of a stream, given out one after the other (own profile).
-use Rattle.std.specs.Prelude.{◌≡◌, ◌⊎◌, ◌+◌, ◌*◌, ℕ, List, [], ◌++◌, length, All, Option, Some, None, IfSome, Result, Ok, Err}
+use Rattle.std.specs.Prelude.{◌≡◌, ◌⊎◌, ◌+◌, ◌*◌, ℕ, List, [], length, All, Option, Some, None, IfSome, Result, Ok, Err}
 use Rattle.std.specs.Io.KnownBytes.{Consumes, prepend_known, IsAtEnd}
 use Rattle.fuse_request.specs.declared.framer.FrameFault.{FrameFault}
 use Rattle.fuse_request.specs.declared.header.TheConstants.{MAX_MESSAGE}
@@ -10,10 +10,11 @@ use Rattle.fusekeep.specs.declared.ending.Ending.TheVariants.{Done}
 use Rattle.fusekeep.specs.declared.messages.Messages.{Messages}
 use Rattle.fusekeep.specs.declared.messages.Placed.{Placed}
 use Rattle.fusekeep.specs.Endings.{stream_ending, GaveOut}
+use Rattle.fusekeep.specs.Reading.{left_to}
 
 -- the bytes of the stream that weren't given out, where they are known
 abbrev pub left_in : {R : Type 0} → (R → Option (List ℕ)) → Messages R → Option (List ℕ)
-left_in remaining m = prepend_known m.framer.bytes (remaining m.reader)
+left_in remaining m = prepend_known m.framer.bytes (left_to remaining m.pieces)
 
 -- how many bytes were given out
 abbrev pub place_in : {R : Type 0} → Messages R → ℕ
@@ -21,7 +22,7 @@ place_in m = m.framer.at
 
 -- how much can still come and be given out: a piece for each read that is left, and what is held
 abbrev pub work_in : {R : Type 0} → Messages R → ℕ
-work_in m = (MAX_MESSAGE + 1) * m.reads_left + length m.framer.bytes
+work_in m = (MAX_MESSAGE + 1) * m.pieces.reads_left + length m.framer.bytes
 
 -- a message was given out, at the place where those before it end
 pub record GaveMessage (old new : Option (List ℕ)) (at at' : ℕ) (placed : Placed) : Type 0 where

@@ -1,5 +1,5 @@
 //! Scripts: the events that the lines of a text tell.
-ghost use Rattle.std.specs.Prelude.{◌≡◌, ◌⊎◌, ◌≤◌, ◌<◌, ◌+◌, ◌*◌, ◌^◌, ◌++◌, ◌∷◌, [], ℕ, List, None, Ok, length, map, true, Err, IsTrue, ◌↔◌, IfSome, IsSomeAnd, OnOk, IfOk, IfErr, MatchOption};
+ghost use Rattle.std.specs.Prelude.{◌≡◌, ◌⊎◌, ◌≤◌, ◌<◌, ◌+◌, ◌*◌, ◌^◌, ◌++◌, ◌∷◌, [], ℕ, List, None, length, true, IsTrue, ◌↔◌, IfSome, IsSomeAnd, OnOk, IfOk, IfErr, MatchOption};
 ghost use Rattle.std.specs.Char.{digit_value};
 ghost use Rattle.fuse_request.specs.declared.header.TheConstants.{MIN_MESSAGE as min_message};
 ghost use Rattle.fuse_request.specs.Stream.{cut};

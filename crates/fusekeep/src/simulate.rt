@@ -1,5 +1,5 @@
 //! Running the events of a script.
-ghost use Rattle.std.specs.Prelude.{◌≡◌, ◌≢◌, ◌≤◌, ◌++◌, ℕ, List, [], false, map, All, Some, IsSome, IsSomeAnd, IfSome, IfOk, IfErr, OnOk};
+ghost use Rattle.std.specs.Prelude.{◌≡◌, ◌≢◌, ◌≤◌, ◌++◌, [], false, map, All, IsSome, IsSomeAnd, IfSome, IfOk, IfErr, OnOk};
 ghost use Rattle.std.specs.Io.KnownBytes.{Appends};
 ghost use Rattle.fuse_tree.specs.State.{State};
 ghost use Rattle.fuse_store.specs.PlainKeeper.{plain_holds, plain_failed};
@@ -105,9 +105,9 @@ fn run_in_memory(alloc: Global, keeper: PlainKeeper, events: &[Event]) -> Result
 }
 
 // Runs the events that a reader's script tells over a new store.
-fn simulate<R: Read>(alloc: Global, reader: &mut R) -> Result<Simulation, Ending>
-    ensures ok { IfOk result (λ simulation. IfSome (R.remaining reader.old) (λ script. RanScript script simulation)) }
-    ensures err { IfErr result (λ ending. IfSome (R.remaining reader.old) (λ script. status_of ending ≤ 1 → NotRun script ending)) }
+fn simulate<R: Read + Drop>(alloc: Global, reader: R) -> Result<Simulation, Ending>
+    ensures ok { IfOk result (λ simulation. IfSome (R.remaining reader) (λ script. RanScript script simulation)) }
+    ensures err { IfErr result (λ ending. IfSome (R.remaining reader) (λ script. status_of ending ≤ 1 → NotRun script ending)) }
     ensures usage { IfErr result (λ ending. status_of ending ≢ 2) }
 {
     let Ok(keeper) = PlainKeeper::new(alloc, START) else {
@@ -120,15 +120,11 @@ fn simulate<R: Read>(alloc: Global, reader: &mut R) -> Result<Simulation, Ending
 
 /// Runs the events of a script over a new store in memory, and then prints a line for each event and one for what the
 /// store holds. A script of which a line has no right form isn't run.
-pub fn run_simulate<R: Read + Drop, W: Write>(
-    alloc: Global,
-    mut reader: R,
-    writer: &mut W,
-) -> Ending
+pub fn run_simulate<R: Read + Drop, W: Write>(alloc: Global, reader: R, writer: &mut W) -> Ending
     ensures simulated { IfSome (R.remaining reader) (λ script. status_of result ≤ 1 → Simulated (W.contents writer.old) (W.contents writer.new) script result) }
     ensures usage { status_of result ≢ 2 }
 {
-    let simulation = match simulate(alloc, &mut reader) {
+    let simulation = match simulate(alloc, reader) {
         Ok(simulation) => simulation,
         Err(ending) => return ending,
     };

@@ -185,7 +185,7 @@ fn answered_again(alloc: Global, lookups: u8) -> Result<String, Fail> {
     for place in 0..lookups {
         let line = format!(in alloc;
             "\nlost 1000 2e00000001000000{:02x}00000000000000",
-            8 + place
+            8 + u32::from(place)
         )?;
         script.push_str(line.as_str())?;
         script.push_str(unspaced(alloc, &["0100000000000000", TAIL, "68656c6c6f00"])?.as_str())?;

@@ -1,4 +1,3 @@
-use Rattle.std.proofs.Common.{[]}
 use Rattle.fusekeep.specs.Messages.{left_in, place_in, work_in, WentSoFar}
 use Rattle.std.specs.Io.KnownBytes.{Appends}
 use Rattle.fusekeep.specs.Dumping.{dump_lines}
