@@ -9,7 +9,7 @@ use Rattle.fuse_request.specs.declared.framer.FrameFault.TheVariants.{Short, Too
 use Rattle.fuse_request.specs.Stream.{is_whole, CutSteps}
 use Rattle.fuse_request.specs.Framing.{Held, HasNone, GivesNext, bad_length, end_fault, needed}
 use Rattle.fusekeep.specs.declared.ending.Ending.{Ending}
-use Rattle.fusekeep.specs.Endings.{stream_ending, IsNotOfStream}
+use Rattle.fusekeep.specs.Endings.{stream_ending, GaveOut}
 use Rattle.fusekeep.specs.Messages.{HasFault}
 
 -- a bad length stays one, whatever follows
@@ -62,7 +62,7 @@ kept_known (Some xs) (Some ys) at f h g = rw (sym h) g
 
 -- what the framer's fault says of the stream
 pub faulty : (a : Option (List ℕ)) (old new : Held) (rest : Option (List ℕ)) (at : ℕ) (f : FrameFault) (ending : Ending) → CutSteps → Keeps a (prepend_known old.bytes rest) → old.at ≡ at
-    → GivesNext old new (Err f) → ending ≡ stream_ending f → IsNotOfStream ending ⊎ HasFault a at ending
+    → GivesNext old new (Err f) → ending ≡ stream_ending f → GaveOut ending ⊎ HasFault a at ending
 faulty a old new rest at Memory ending steps kept here g is = inl (rw is (omega arith))
 faulty a old new rest at (Short p n) ending steps kept here g is =
     inr (record { fault = Short p n; same = is; here = kept_known a (prepend_known old.bytes rest) at (Short p n) kept (bad_known old.bytes rest at (Short p n) steps (rw (sym here) g.1)) })

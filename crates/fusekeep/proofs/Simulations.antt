@@ -24,7 +24,6 @@ use Rattle.fuse_sim.specs.Driving.{IsFit, StandsIn, AnswersNoMore, OfRestart, Is
 use Rattle.fusekeep.specs.declared.ending.Ending.{Ending}
 use Rattle.fusekeep.specs.declared.simulate.Simulation.{Simulation}
 use Rattle.fusekeep.specs.Endings.{status_of, store_ending}
-use Rattle.fusekeep.specs.Reading.{ReadMore}
 use Rattle.fusekeep.specs.Scripts.{lines_of, Tells}
 use Rattle.fusekeep.specs.Simulating.{start, outcome_line, outcome_lines, state_after, outcomes_of, Went, StoreEnded, RanScript}
 use Rattle.fusekeep.proofs.Known.{consumes_then}
@@ -35,8 +34,8 @@ pub read_none : (o : Option (List ℕ)) (input : List ℕ) → input ≡ [] → 
 read_none None input none = tt
 read_none (Some xs) input none = ap (λ (x : List ℕ). x ++ xs) (sym none)
 
-pub read_more : (known mid left : Option (List ℕ)) (input input' : List ℕ) → Consumes known mid input → ReadMore mid left input input' → Consumes known left input'
-read_more known mid left input input' so more = subst (Consumes known left) (sym more.behind) (consumes_then known mid left input more.piece so more.came)
+pub read_more : (known mid left : Option (List ℕ)) (input input' piece : List ℕ) → Consumes known mid input → Consumes mid left piece → input' ≡ input ++ piece → Consumes known left input'
+read_more known mid left input input' piece so came behind = subst (Consumes known left) (sym behind) (consumes_then known mid left input piece so came)
 
 -- at the end of the input all of it was read
 pub all_read : (known left : Option (List ℕ)) (input : List ℕ) → Consumes known left input → IsAtEnd left → IfSome known (λ xs. input ≡ xs)

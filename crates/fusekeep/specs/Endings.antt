@@ -30,13 +30,9 @@ status_of Memory = 5
 abbrev pub IsOfStream : Ending → Type 0
 IsOfStream ending = status_of ending ≤ 1
 
--- and here it wasn't
-abbrev pub IsNotOfStream : Ending → Type 0
-IsNotOfStream ending = 1 < status_of ending
-
--- an input, an output or memory gave out
-abbrev pub IsOfMachine : Ending → Type 0
-IsOfMachine ending = 3 < status_of ending
+-- the input, the output or memory gave out
+abbrev pub GaveOut : Ending → Type 0
+GaveOut ending = 3 < status_of ending
 
 -- the line, without its line feed; of words that are no command clap has said all, and of malformed messages the counts
 abbrev pub line_of : Ending → Option (List ℕ)

@@ -9,11 +9,12 @@ use Rattle.fusekeep.specs.declared.ending.Ending.{Ending}
 use Rattle.fusekeep.specs.declared.ending.Ending.TheVariants.{Done}
 use Rattle.fusekeep.specs.declared.messages.Messages.{Messages}
 use Rattle.fusekeep.specs.declared.messages.Placed.{Placed}
-use Rattle.fusekeep.specs.Endings.{stream_ending, IsNotOfStream}
+use Rattle.fusekeep.specs.Endings.{stream_ending, GaveOut}
+use Rattle.fusekeep.specs.Reading.{left_to}
 
 -- the bytes of the stream that weren't given out, where they are known
 abbrev pub left_in : {R : Type 0} → (R → Option (List ℕ)) → Messages R → Option (List ℕ)
-left_in remaining m = prepend_known m.framer.bytes (remaining m.reader)
+left_in remaining m = prepend_known m.framer.bytes (left_to remaining m.pieces)
 
 -- how many bytes were given out
 abbrev pub place_in : {R : Type 0} → Messages R → ℕ
@@ -21,7 +22,7 @@ place_in m = m.framer.at
 
 -- how much can still come and be given out: a piece for each read that is left, and what is held
 abbrev pub work_in : {R : Type 0} → Messages R → ℕ
-work_in m = (MAX_MESSAGE + 1) * m.reads_left + length m.framer.bytes
+work_in m = (MAX_MESSAGE + 1) * m.pieces.reads_left + length m.framer.bytes
 
 -- a message was given out, at the place where those before it end
 pub record GaveMessage (old new : Option (List ℕ)) (at at' : ℕ) (placed : Placed) : Type 0 where
@@ -45,7 +46,7 @@ EndsSo at rest (Err ending) = (fault : FrameFault) × (ending ≡ stream_ending 
 abbrev pub GivesPlaced : Option (List ℕ) → Option (List ℕ) → ℕ → ℕ → Result (Option Placed) Ending → Type 0
 GivesPlaced old new at at' (Ok (Some placed)) = GaveMessage old new at at' placed
 GivesPlaced old new at at' (Ok None) = IsAtEnd old
-GivesPlaced old new at at' (Err ending) = IsNotOfStream ending ⊎ HasFault old at ending
+GivesPlaced old new at at' (Err ending) = GaveOut ending ⊎ HasFault old at ending
 
 -- these messages were given out so far
 pub record GaveSome (stream left : Option (List ℕ)) (at : ℕ) (messages : List (List ℕ)) : Type 0 where
@@ -67,7 +68,7 @@ fault_of stream = end_fault (length (joined (cut stream).0)) (cut stream).1
 abbrev pub WentThrough : Option (List ℕ) → (List (List ℕ) → Type 0) → Result (Unit {0}) Ending → Type 0
 WentThrough known P (Ok _) = IfSome known (λ stream. (fault_of stream ≡ None) × P (cut stream).0)
 WentThrough known P (Err ending) =
-    IsNotOfStream ending ⊎ ((fault : FrameFault) × (ending ≡ stream_ending fault) × IfSome known (λ stream. (fault_of stream ≡ Some fault) × P (cut stream).0))
+    GaveOut ending ⊎ ((fault : FrameFault) × (ending ≡ stream_ending fault) × IfSome known (λ stream. (fault_of stream ≡ Some fault) × P (cut stream).0))
 
 -- how looking through a stream ends that has this fault, or none
 abbrev pub look_ending : Option FrameFault → Ending

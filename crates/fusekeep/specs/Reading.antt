@@ -1,9 +1,11 @@
--- Reading an input to its end.
-use Rattle.std.specs.Prelude.{◌≡◌, ℕ, List, ◌++◌, Option}
-use Rattle.std.specs.Io.KnownBytes.{Consumes}
+-- An input that is read piece by piece (own profile).
+use Rattle.std.specs.Prelude.{ℕ, List, take, Option}
+use Rattle.fusekeep.specs.declared.reading.PieceReader.{PieceReader}
 
--- a piece came, perhaps none, and stands behind what was read before it
-pub record ReadMore (old new : Option (List ℕ)) (input input' : List ℕ) : Type 0 where
-  pub piece : List ℕ
-  pub came : Consumes old new piece
-  pub behind : input' ≡ input ++ piece
+-- the bytes that weren't read, where they are known
+abbrev pub left_to : {R : Type 0} → (R → Option (List ℕ)) → PieceReader R → Option (List ℕ)
+left_to remaining p = remaining p.reader
+
+-- the piece that was read last
+abbrev pub piece_in : {R : Type 0} → PieceReader R → List ℕ
+piece_in p = take p.len p.buffer.items

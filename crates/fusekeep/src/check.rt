@@ -1,8 +1,8 @@
 //! How many messages of a stream spell a request.
-ghost use Rattle.std.specs.Prelude.{◌≡◌, ◌<◌, ◌≤◌, ◌+◌, ◌^◌, [], None, if◌then◌else◌, IfSome, IfErr, OnOk};
+ghost use Rattle.std.specs.Prelude.{◌≡◌, ◌≢◌, ◌<◌, ◌≤◌, ◌+◌, ◌^◌, [], None, if◌then◌else◌, IfSome, IfErr, OnOk};
 ghost use Rattle.std.specs.Io.KnownBytes.{Appends};
 ghost use Rattle.fuse_request.specs.Act.{act};
-ghost use Rattle.fusekeep.specs.Endings.{status_of, IsNotOfStream};
+ghost use Rattle.fusekeep.specs.Endings.{status_of, GaveOut};
 ghost use Rattle.fusekeep.specs.Messages.{left_in, place_in, WentThrough};
 ghost use Rattle.fusekeep.specs.Printing.{line};
 ghost use Rattle.fusekeep.specs.Checking.{is_malformed, is_unsupported, asks_unsupported, checked, check_line, check_ending, Checked};
@@ -105,18 +105,19 @@ fn count_all<R: Read + Drop>(
 // Prints the counts.
 fn write_check<W: Write>(writer: &mut W, counts: MessageCounts) -> Result<(), Ending>
     ensures ok { OnOk result (Appends (W.contents writer.old) (W.contents writer.new) (line (check_line counts))) }
-    ensures err { IfErr result IsNotOfStream }
+    ensures err { IfErr result GaveOut }
 {
-    if writeln!(writer, "{counts}").is_err() || writer.flush().is_err() {
-        return Err(Ending::PortFailed);
-    }
+    writeln!(writer, "{counts}")?;
+    writer.flush()?;
     Ok(())
 }
 
 /// Counts the messages of the stream, and prints the counts. Where the stream has a fault, the messages before it are
 /// counted.
 pub fn run_check<R: Read + Drop, W: Write>(alloc: Global, reader: R, writer: &mut W) -> Ending
-    ensures { IfSome (R.remaining reader) (λ stream. status_of result ≤ 1 → Checked (W.contents writer.old) (W.contents writer.new) stream result) }
+    ensures checked { IfSome (R.remaining reader) (λ stream. status_of result ≤ 1 → Checked (W.contents writer.old) (W.contents writer.new) stream result) }
+    ensures usage { status_of result ≢ 2 }
+    ensures store { status_of result ≢ 3 }
 {
     let mut messages = match Messages::new(alloc, reader) {
         Ok(messages) => messages,

@@ -1,10 +1,10 @@
 //! What each message of a stream is, a line for each.
-ghost use Rattle.std.specs.Prelude.{◌≡◌, ◌≤◌, IfSome, IfErr, OnOk};
+ghost use Rattle.std.specs.Prelude.{◌≡◌, ◌≢◌, ◌≤◌, IfSome, IfErr, OnOk};
 ghost use Rattle.std.specs.Io.KnownBytes.{Appends};
 ghost use Rattle.fuse_request.specs.Stream.{IsMessage};
 ghost use Rattle.fuse_request.specs.Header.{raw_of};
 ghost use Rattle.fuse_request.specs.Faults.{first_fault};
-ghost use Rattle.fusekeep.specs.Endings.{status_of, IsNotOfStream};
+ghost use Rattle.fusekeep.specs.Endings.{status_of, GaveOut};
 ghost use Rattle.fusekeep.specs.Messages.{left_in, place_in, WentThrough};
 ghost use Rattle.fusekeep.specs.Printing.{line};
 ghost use Rattle.fusekeep.specs.Dumping.{fault_text, dump_line, dump_lines, Dumped};
@@ -127,16 +127,14 @@ fn header_in(message: &[u8]) -> RawHeader
 fn write_line<W: Write>(writer: &mut W, placed: &Placed) -> Result<(), Ending>
     requires { IsMessage placed.now.bytes }
     ensures ok { OnOk result (Appends (W.contents writer.old) (W.contents writer.new) (line (dump_line placed.now.at (raw_of placed.now.bytes) (first_fault placed.now.bytes)))) }
-    ensures err { IfErr result IsNotOfStream }
+    ensures err { IfErr result GaveOut }
 {
     let text = DumpLine {
         at: placed.at,
         header: header_in(&placed.bytes),
         fault: decode(&placed.bytes).err(),
     };
-    if writeln!(writer, "{text}").is_err() {
-        return Err(Ending::PortFailed);
-    }
+    writeln!(writer, "{text}")?;
     Ok(())
 }
 
@@ -158,7 +156,9 @@ fn write_lines<R: Read + Drop, W: Write>(
 
 /// Prints a line for each message of the stream. Where the stream has a fault, the messages before it are printed.
 pub fn run_dump<R: Read + Drop, W: Write>(alloc: Global, reader: R, writer: &mut W) -> Ending
-    ensures { IfSome (R.remaining reader) (λ stream. status_of result ≤ 1 → Dumped (W.contents writer.old) (W.contents writer.new) stream result) }
+    ensures dumped { IfSome (R.remaining reader) (λ stream. status_of result ≤ 1 → Dumped (W.contents writer.old) (W.contents writer.new) stream result) }
+    ensures usage { status_of result ≢ 2 }
+    ensures store { status_of result ≢ 3 }
 {
     let mut messages = match Messages::new(alloc, reader) {
         Ok(messages) => messages,

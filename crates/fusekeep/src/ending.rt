@@ -4,7 +4,8 @@ ghost use Rattle.fusekeep.specs.Endings.{line_of, session_ending, status_of, sto
 use fuse_request::FrameFault;
 use fuse_session::Ended;
 use fuse_store::StoreFault;
-use std::fmt;
+use std::alloc::AllocError;
+use std::{fmt, io};
 
 /// How a run ended.
 #[derive(Clone, Copy, Debug, PartialEq, Eq)]
@@ -116,6 +117,28 @@ impl Ending {
             Ending::Done | Ending::Malformed | Ending::Usage => None,
             _ => Some(FaultLine { ending: self }),
         }
+    }
+}
+
+impl From<AllocError> for Ending {
+    ghost use Rattle.std.specs.Prelude.{◌≡◌};
+    ghost use Rattle.fusekeep.specs.declared.ending.Ending.TheVariants.{Memory as NoMemory};
+
+    ghost from_gives = { λ _ ending. ending ≡ NoMemory };
+
+    fn from(_e: AllocError) -> Ending {
+        Ending::Memory
+    }
+}
+
+impl From<io::Error> for Ending {
+    ghost use Rattle.std.specs.Prelude.{◌≡◌};
+    ghost use Rattle.fusekeep.specs.declared.ending.Ending.TheVariants.{PortFailed as Failed};
+
+    ghost from_gives = { λ _ ending. ending ≡ Failed };
+
+    fn from(_e: io::Error) -> Ending {
+        Ending::PortFailed
     }
 }
 

@@ -24,15 +24,12 @@ use ending::Ending;
 use fuse_store::PlainKeeper;
 use fuse_wire::Moment;
 use replay::run_replay;
-use simulate::run_simulate;
+use simulate::{START, run_simulate};
 use std::alloc::Global;
 use std::io::{BufWriter, Read, Write};
 use std::process::ExitCode;
 use std::rt::{Env, Files};
 use std::{env, fs, io};
-
-// The moment at which a store in memory is made.
-const START: Moment = Moment { secs: 0, nanos: 0 };
 
 fn main(rt: HostRuntime) -> ExitCode {
     let ending = run(&rt);
@@ -77,7 +74,7 @@ fn run_on_input<R: Files + Input + Print + AllocGlobal>(rt: &R, run: Run<'_>) ->
 }
 
 // Runs on what a reader gives, and prints through a buffer.
-fn run_on<R: Print + AllocGlobal, S: Read + Drop>(rt: &R, mut reader: S, run: Run<'_>) -> Ending {
+fn run_on<R: Print + AllocGlobal, S: Read + Drop>(rt: &R, reader: S, run: Run<'_>) -> Ending {
     let alloc = rt.alloc();
     let Ok(mut writer) = BufWriter::new(alloc, io::writer(rt)) else {
         return Ending::Memory;
@@ -85,15 +82,15 @@ fn run_on<R: Print + AllocGlobal, S: Read + Drop>(rt: &R, mut reader: S, run: Ru
     match run {
         Run::Dump { .. } => run_dump(alloc, reader, &mut writer),
         Run::Check { .. } => run_check(alloc, reader, &mut writer),
-        Run::Replay { at, .. } => replay_from(alloc, &mut reader, &mut writer, at),
+        Run::Replay { at, .. } => replay_from(alloc, reader, &mut writer, at),
         Run::Simulate { .. } => run_simulate(alloc, reader, &mut writer),
     }
 }
 
 // Makes the store, and replays over it.
-fn replay_from<S: Read, W: Write>(
+fn replay_from<S: Read + Drop, W: Write>(
     alloc: Global,
-    reader: &mut S,
+    reader: S,
     writer: &mut W,
     at: u64,
 ) -> Ending {

@@ -1,4 +1,4 @@
-ghost use Rattle.std.specs.Prelude.{◌≡◌, ◌⊎◌, ◌<◌, ◌≤◌, ◌++◌, [], ℕ, List, length, IfErr, OnOk};
+ghost use Rattle.std.specs.Prelude.{◌≡◌, ◌⊎◌, ◌<◌, ◌≤◌, ◌++◌, ℕ, List, length, IfErr, OnOk};
 ghost use Rattle.std.specs.List.{AllByRecursion};
 ghost use Rattle.std.specs.Io.KnownBytes.{Appends};
 ghost use Rattle.hex.specs.Hex.{encode_lower};
@@ -33,12 +33,8 @@ pub fn write_hex_line<W: Write>(alloc: Global, writer: &mut W, answer: &[u8]) ->
     ensures ok { OnOk result (Appends (W.contents writer.old) (W.contents writer.new) (line (encode_lower answer.now))) }
     ensures err { IfErr result (λ ending. (ending ≡ Ending.PortFailed) ⊎ (ending ≡ Ending.Memory)) }
 {
-    let Ok(text) = hex::encode(alloc, answer) else {
-        return Err(Ending::Memory);
-    };
-    if writeln!(writer, "{text}").is_err() {
-        return Err(Ending::PortFailed);
-    }
+    let text = hex::encode(alloc, answer)?;
+    writeln!(writer, "{text}")?;
     Ok(())
 }
 
@@ -62,10 +58,7 @@ pub fn write_counts<W: Write>(writer: &mut W, counts: SessionCounts) -> Result<(
     ensures ok { OnOk result (Appends (W.contents writer.old) (W.contents writer.new) (line (count_line counts))) }
     ensures err { IfErr result (λ ending. ending ≡ Ending.PortFailed) }
 {
-    let counts = CountLine(counts);
-    if writeln!(writer, "{counts}").is_err() {
-        return Err(Ending::PortFailed);
-    }
+    writeln!(writer, "{}", CountLine(counts))?;
     Ok(())
 }
 
@@ -74,9 +67,6 @@ pub fn write_store<W: Write>(writer: &mut W, counts: StoreCounts) -> Result<(), 
     ensures ok { OnOk result (Appends (W.contents writer.old) (W.contents writer.new) (line (store_line counts.nodes counts.handles))) }
     ensures err { IfErr result (λ ending. ending ≡ Ending.PortFailed) }
 {
-    let counts = StoreLine(counts);
-    if writeln!(writer, "{counts}").is_err() {
-        return Err(Ending::PortFailed);
-    }
+    writeln!(writer, "{}", StoreLine(counts))?;
     Ok(())
 }

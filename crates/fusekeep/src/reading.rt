@@ -1,53 +1,91 @@
-//! Reading an input to its end.
-ghost use Rattle.std.specs.Prelude.{◌≡◌, ◌<◌, false, length, IfSome, OnOk, IfOk, IfErr};
-ghost use Rattle.std.specs.Io.KnownBytes.{IsAtEnd};
-ghost use Rattle.fusekeep.specs.Endings.{IsOfMachine};
-ghost use Rattle.fusekeep.specs.Reading.{ReadMore};
+//! Reading an input piece by piece.
+ghost use Rattle.std.specs.Prelude.{◌≡◌, ◌<◌, ◌≤◌, [], false, length, take, IfSome, OnOk, IfOk, IfErr};
+ghost use Rattle.std.specs.Io.KnownBytes.{Consumes, IsAtEnd};
+ghost use Rattle.fuse_request.specs.declared.header.TheConstants.{MAX_MESSAGE as max_message};
+ghost use Rattle.fusekeep.specs.Endings.{GaveOut};
 
 use crate::ending::Ending;
-use crate::messages::MAX_READS;
 use fuse_request::MAX_MESSAGE;
 use std::alloc::Global;
 use std::io::Read;
 
-// Reads a piece behind what was read before it. Whether there was one.
-fn read_more<R: Read>(
-    reader: &mut R,
-    buffer: &mut [u8],
-    input: &mut Vec<u8>,
-) -> Result<bool, Ending>
-    requires { 0 < length buffer.old }
-    ensures more { OnOk result (ReadMore (R.remaining reader.old) (R.remaining reader.new) input.old.items input.new.items) }
-    ensures end { IfOk result (λ some. some ≡ false → (input.new.items ≡ input.old.items) × IsAtEnd (R.remaining reader.new)) }
-    ensures err { IfErr result IsOfMachine }
-    ensures buffer { length buffer.new ≡ length buffer.old }
+/// The most reads of an input.
+pub const MAX_READS: u32 = 4_294_967_295;
+
+/// A reader, and the piece that it gave last.
+#[derive(Drop)]
+pub struct PieceReader<R> {
+    reader: R,
+    buffer: Vec<u8>,
+    len: usize,
+    reads_left: u32,
+
+    ghost room: { length buffer.items ≡ max_message },
+    ghost within: { len ≤ max_message },
+}
+
+// Reads into a buffer. How many bytes there were.
+fn read_into<R: Read>(reader: &mut R, buffer: &mut Vec<u8>) -> Result<usize, Ending>
+    requires { 0 < length buffer.old.items }
+    ensures room { length buffer.new.items ≡ length buffer.old.items }
+    ensures within { IfOk result (λ n. n ≤ length buffer.new.items) }
+    ensures came { IfOk result (λ n. Consumes (R.remaining reader.old) (R.remaining reader.new) (take n buffer.new.items)) }
+    ensures end { IfOk result (λ n. n ≡ 0 → IsAtEnd (R.remaining reader.new)) }
+    ensures err { IfErr result GaveOut }
 {
-    let Ok(len) = reader.read(buffer) else {
-        return Err(Ending::PortFailed);
-    };
-    if len == 0 {
-        return Ok(false);
+    Ok(reader.read(buffer.as_mut_slice())?)
+}
+
+impl<R: Read + Drop> PieceReader<R> {
+    ghost use Rattle.fusekeep.specs.Reading.{left_to, piece_in};
+
+    /// An `Err` is want of memory.
+    pub fn new(alloc: Global, reader: R) -> Result<PieceReader<R>, Ending>
+        ensures ok { IfOk result (λ pieces. left_to R.remaining pieces ≡ R.remaining reader) }
+        ensures err { IfErr result (λ ending. ending ≡ Ending.Memory) }
+    {
+        Ok(PieceReader {
+            reader,
+            buffer: vec![in alloc; 0; MAX_MESSAGE]?,
+            len: 0,
+            reads_left: MAX_READS,
+        })
     }
-    match input.extend_from_slice(&buffer[..len]) {
-        Ok(()) => Ok(true),
-        Err(_) => Err(Ending::Memory),
+
+    /// Reads the next piece. Whether there is one.
+    pub fn read(&mut self) -> Result<bool, Ending>
+        ensures came { OnOk result (Consumes (left_to R.remaining self.old) (left_to R.remaining self.new) (piece_in self.new)) }
+        ensures end { IfOk result (λ some. some ≡ false → (piece_in self.new ≡ []) × IsAtEnd (left_to R.remaining self.new)) }
+        ensures less { OnOk result (self.new.reads_left < self.old.reads_left) }
+        ensures bound { self.new.reads_left ≤ self.old.reads_left }
+        ensures err { IfErr result GaveOut }
+    {
+        if self.reads_left == 0 {
+            return Err(Ending::PortTurns);
+        }
+        self.reads_left -= 1;
+        self.len = read_into(&mut self.reader, &mut self.buffer)?;
+        Ok(self.len > 0)
+    }
+
+    /// The piece that was read last, of at most 135,168 bytes.
+    pub fn piece(&self) -> &[u8]
+        ensures piece { result.now ≡ piece_in self.now }
+        ensures short { length result.now ≤ max_message }
+    {
+        &self.buffer[..self.len]
     }
 }
 
 /// All that a reader gives. An `Err` is that it fails, that it goes on past the bound on reads, or want of memory.
-pub fn read_all<R: Read>(alloc: Global, reader: &mut R) -> Result<Vec<u8>, Ending>
-    ensures ok { IfOk result (λ input. IfSome (R.remaining reader.old) (λ known. input.items ≡ known)) }
-    ensures err { IfErr result IsOfMachine }
+pub fn read_all<R: Read + Drop>(alloc: Global, reader: R) -> Result<Vec<u8>, Ending>
+    ensures ok { IfOk result (λ input. IfSome (R.remaining reader) (λ known. input.items ≡ known)) }
+    ensures err { IfErr result GaveOut }
 {
-    let Ok(mut buffer) = vec![in alloc; 0; MAX_MESSAGE] else {
-        return Err(Ending::Memory);
-    };
-    let piece = buffer.as_mut_slice();
+    let mut pieces = PieceReader::new(alloc, reader)?;
     let mut input = Vec::new(alloc);
-    for _ in 0..MAX_READS {
-        if !read_more(reader, piece, &mut input)? {
-            return Ok(input);
-        }
+    while pieces.read()? {
+        input.extend_from_slice(pieces.piece())?;
     }
-    Err(Ending::PortTurns)
+    Ok(input)
 }

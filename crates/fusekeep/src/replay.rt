@@ -1,4 +1,4 @@
-ghost use Rattle.std.specs.Prelude.{◌≡◌, ◌⊎◌, ◌≤◌, ℕ, true, false, List, Some, IfErr, OnOk};
+ghost use Rattle.std.specs.Prelude.{◌≡◌, ◌≢◌, ◌⊎◌, ◌≤◌, ℕ, true, false, List, Some, IfErr, OnOk};
 ghost use Rattle.std.specs.List.{AllByRecursion};
 ghost use Rattle.fuse_request.specs.Stream.{joined};
 ghost use Rattle.fusekeep.specs.Endings.{status_of, IsOfStream};
@@ -7,6 +7,7 @@ ghost use Rattle.fusekeep.specs.Replaying.{Replayed, Faulted, Sends, Prints, Pri
 
 use crate::ending::Ending;
 use crate::printing::{write_answers, write_counts};
+use crate::reading::MAX_READS;
 use fuse_answer::len_stands_first;
 use fuse_request::{cut_joins, cut_steps};
 use fuse_session::{Fixed, SessionCounts, StreamPort, serve};
@@ -14,9 +15,6 @@ use fuse_store::{Keeper, said_fits};
 use fuse_wire::Moment;
 use std::alloc::Global;
 use std::io::{Read, Write};
-
-/// The most reads of a stream.
-pub const MAX_TURNS: u32 = 4_294_967_295;
 
 // What was sent, how it was counted, and how it ended.
 #[derive(Drop)]
@@ -40,11 +38,12 @@ fn serve_stream<K: Keeper, R: Read>(
         → Faulted (K.holds keeper.old) (K.holds keeper.new) (K.is_clean keeper.new) moment input (λ answers. result.sent.items ≡ joined answers) }
     ensures store { status_of result.ending ≡ 3 → K.has_failed keeper.new ≡ true }
     ensures failed { K.has_failed keeper.new ≡ true → 3 ≤ status_of result.ending }
+    ensures usage { status_of result.ending ≢ 2 }
 {
     cut_joins();
     cut_steps();
     let mut port = StreamPort::new(reader, Vec::new(alloc), false);
-    let served = serve(alloc, keeper, &mut port, &mut Fixed(moment), MAX_TURNS);
+    let served = serve(alloc, keeper, &mut port, &mut Fixed(moment), MAX_READS);
     Session {
         sent: port.into_writer(),
         counts: served.counts,
@@ -64,35 +63,34 @@ fn print_session<W: Write>(alloc: Global, writer: &mut W, session: &Session) -> 
     if session.ending.is_of_stream() {
         write_counts(writer, session.counts)?;
     }
-    match writer.flush() {
-        Ok(()) => Ok(()),
-        Err(_) => Err(Ending::PortFailed),
-    }
+    writer.flush()?;
+    Ok(())
 }
 
 /// Serves the stream that the reader gives, all at one moment, and then prints the answers and, where it was served as
 /// far as it goes, the counts.
-pub fn run_replay<K: Keeper, R: Read, W: Write>(
+pub fn run_replay<K: Keeper, R: Read + Drop, W: Write>(
     alloc: Global,
     keeper: &mut K,
-    reader: &mut R,
+    mut reader: R,
     writer: &mut W,
     moment: Moment,
 ) -> Ending
     requires going { K.has_failed keeper.old ≡ false }
     // At status 0 or 1: what was worked off of the input, what is printed of it, and what the keeper then stands for.
-    ensures replayed { IsOfStream result → (input : List ℕ) → R.remaining reader.old ≡ Some input
+    ensures replayed { IsOfStream result → (input : List ℕ) → R.remaining reader ≡ Some input
         → Replayed (K.holds keeper.old) (K.holds keeper.new) (K.is_honest keeper.new) moment input result (Prints (W.contents writer.old) (W.contents writer.new)) }
 
     // At a fault of the store the answers before it are printed, and no counts.
-    ensures faulted { status_of result ≡ 3 → (input : List ℕ) → R.remaining reader.old ≡ Some input
+    ensures faulted { status_of result ≡ 3 → (input : List ℕ) → R.remaining reader ≡ Some input
         → Faulted (K.holds keeper.old) (K.holds keeper.new) (K.is_clean keeper.new) moment input (PrintsAnswers (W.contents writer.old) (W.contents writer.new)) }
     ensures store { status_of result ≡ 3 → K.has_failed keeper.new ≡ true }
     ensures failed { K.has_failed keeper.new ≡ true → 3 ≤ status_of result }
+    ensures usage { status_of result ≢ 2 }
 {
     len_stands_first();
     said_fits();
-    let session = serve_stream(alloc, keeper, reader, moment);
+    let session = serve_stream(alloc, keeper, &mut reader, moment);
     match print_session(alloc, writer, &session) {
         Ok(()) => session.ending,
         Err(ending) => ending,

@@ -1,5 +1,5 @@
 //! Scripts: the events that the lines of a text tell.
-ghost use Rattle.std.specs.Prelude.{◌≡◌, ◌⊎◌, ◌≤◌, ◌<◌, ◌+◌, ◌*◌, ◌^◌, ◌++◌, ◌∷◌, [], ℕ, List, None, Ok, length, map, true, Err, IsTrue, ◌↔◌, IfSome, IsSomeAnd, OnOk, IfOk, IfErr, MatchOption};
+ghost use Rattle.std.specs.Prelude.{◌≡◌, ◌⊎◌, ◌≤◌, ◌<◌, ◌+◌, ◌*◌, ◌^◌, ◌++◌, ◌∷◌, [], ℕ, List, None, length, true, IsTrue, ◌↔◌, IfSome, IsSomeAnd, OnOk, IfOk, IfErr, MatchOption};
 ghost use Rattle.std.specs.Char.{digit_value};
 ghost use Rattle.fuse_request.specs.declared.header.TheConstants.{MIN_MESSAGE as min_message};
 ghost use Rattle.fuse_request.specs.Stream.{cut};
@@ -76,13 +76,7 @@ fn seconds_of(text: &[u8]) -> Option<u64>
     }
     let mut secs: u64 = 0;
     for b in text {
-        let Some(digit) = digit_of(*b) else {
-            return None;
-        };
-        let Some(more) = with_digit(secs, digit) else {
-            return None;
-        };
-        secs = more;
+        secs = with_digit(secs, digit_of(*b)?)?;
     }
     Some(secs)
 }
@@ -92,19 +86,9 @@ fn parts_of(line: &[u8]) -> Option<(Fate, u64, &[u8])>
     ensures found { IfSome result (λ parts. HasParts line.now parts.0 parts.1 parts.2.now) }
     ensures only { (fate : FateValue) (secs : ℕ) (text : List ℕ) → HasParts line.now fate secs text → IsSomeAnd result (λ parts. (parts.0 ≡ fate) × (parts.1 ≡ secs) × (parts.2.now ≡ text)) }
 {
-    let Some((word, rest)) = split_at(line, b' ') else {
-        return None;
-    };
-    let Some((digits, text)) = split_at(rest, b' ') else {
-        return None;
-    };
-    let Some(fate) = fate_of(word) else {
-        return None;
-    };
-    let Some(secs) = seconds_of(digits) else {
-        return None;
-    };
-    Some((fate, secs, text))
+    let (word, rest) = split_at(line, b' ')?;
+    let (digits, text) = split_at(rest, b' ')?;
+    Some((fate_of(word)?, seconds_of(digits)?, text))
 }
 
 // Whether bytes are just one message.
@@ -142,14 +126,11 @@ fn event_of(alloc: Global, line: &[u8]) -> Result<Event, LineFault>
     let Some((fate, secs, text)) = parts_of(line) else {
         return Err(LineFault::Form);
     };
-    match message_of(alloc, text) {
-        Ok(bytes) => Ok(Event {
-            bytes,
-            moment: Moment { secs, nanos: 0 },
-            fate,
-        }),
-        Err(fault) => Err(fault),
-    }
+    Ok(Event {
+        bytes: message_of(alloc, text)?,
+        moment: Moment { secs, nanos: 0 },
+        fate,
+    })
 }
 
 // Whether a line is passed over.
@@ -170,10 +151,7 @@ fn read_line(alloc: Global, line: &[u8]) -> Result<Option<Event>, LineFault>
     if tells_nothing(line) {
         return Ok(None);
     }
-    match event_of(alloc, line) {
-        Ok(event) => Ok(Some(event)),
-        Err(fault) => Err(fault),
-    }
+    Ok(Some(event_of(alloc, line)?))
 }
 
 // Reads a line, and puts its event behind those of the lines before it.
@@ -181,14 +159,10 @@ fn take_line(alloc: Global, line: &[u8], events: &mut Vec<Event>) -> Result<(), 
     ensures took { OnOk result (TookLine line.now events.old.items events.new.items) }
     ensures form { IfErr result (λ fault. fault ≡ LineFault.Form → IsBad line.now) }
 {
-    match read_line(alloc, line) {
-        Ok(None) => Ok(()),
-        Ok(Some(event)) => match events.push(event) {
-            Ok(()) => Ok(()),
-            Err(_) => Err(LineFault::Memory),
-        },
-        Err(fault) => Err(fault),
+    if let Some(event) = read_line(alloc, line)? {
+        events.push(event).map_err(|_| LineFault::Memory)?;
     }
+    Ok(())
 }
 
 // The lines of a script.
@@ -210,9 +184,7 @@ pub fn read_script(alloc: Global, script: &[u8]) -> Result<Vec<Event>, Ending>
     ensures found { IfOk result (λ events. Tells (lines_of script.now) events.items) }
     ensures bad { IfErr result (λ ending. (ending ≡ Ending.Memory) ⊎ ((n : ℕ) × (ending ≡ Ending.ScriptLine n) × FirstBad 1 (lines_of script.now) n)) }
 {
-    let Ok(lines) = split_lines(alloc, script) else {
-        return Err(Ending::Memory);
-    };
+    let lines = split_lines(alloc, script)?;
     let mut events = Vec::new(alloc);
     for (index, line) in lines.iter().enumerate() {
         match take_line(alloc, line, &mut events) {

@@ -1,11 +1,11 @@
 //! Running the events of a script.
-ghost use Rattle.std.specs.Prelude.{◌≡◌, ◌≤◌, ◌++◌, ℕ, List, [], false, map, All, Some, IsSome, IsSomeAnd, IfSome, IfOk, IfErr, OnOk};
+ghost use Rattle.std.specs.Prelude.{◌≡◌, ◌≢◌, ◌≤◌, ◌++◌, [], false, map, All, IsSome, IsSomeAnd, IfSome, IfOk, IfErr, OnOk};
 ghost use Rattle.std.specs.Io.KnownBytes.{Appends};
 ghost use Rattle.fuse_tree.specs.State.{State};
 ghost use Rattle.fuse_store.specs.PlainKeeper.{plain_holds, plain_failed};
 ghost use Rattle.fuse_store.specs.Stands.{StandsFor};
 ghost use Rattle.fuse_sim.specs.Driving.{StandsIn, NoneReused, IsFit, bytes_given};
-ghost use Rattle.fusekeep.specs.Endings.{status_of, IsNotOfStream, IsOfMachine};
+ghost use Rattle.fusekeep.specs.Endings.{status_of, GaveOut};
 ghost use Rattle.fusekeep.specs.Printing.{line, store_line};
 ghost use Rattle.fusekeep.specs.Simulating.{Went, StoreEnded, Reuses, RanScript, NotRun, Simulated, outcome_line, outcome_lines};
 
@@ -19,8 +19,8 @@ use fuse_wire::Moment;
 use std::alloc::Global;
 use std::io::{Read, Write};
 
-// The moment at which the store is made.
-const START: Moment = Moment { secs: 0, nanos: 0 };
+/// The moment at which a store in memory is made.
+pub const START: Moment = Moment { secs: 0, nanos: 0 };
 
 // What events were answered, and how much the store holds then.
 #[derive(Drop)]
@@ -39,7 +39,7 @@ fn run_events<K: Restart>(
     requires fit { All IsFit events.now }
     ensures ok { IfOk result (λ simulation. IsSomeAnd keeper.new K.is_honest → (s : State) → StandsIn K.holds keeper.old s [] [] → NoneReused [] events.now → Went s events.now simulation) }
     ensures left { OnOk result (IsSome keeper.new) }
-    ensures err { IfErr result IsNotOfStream }
+    ensures err { IfErr result (λ ending. 3 ≤ status_of ending) }
     ensures store { IfErr result (λ ending. status_of ending ≡ 3 → (s : State) → StandsIn K.holds keeper.old s [] [] → NoneReused [] events.now → StoreEnded K.is_clean K.may_answer K.may_refuse keeper.old keeper.new ending) }
 {
     let outcomes = match drive(alloc, keeper, events) {
@@ -64,19 +64,15 @@ fn write_outcome<W: Write>(
     outcome: &Option<Outcome>,
 ) -> Result<(), Ending>
     ensures ok { OnOk result (Appends (W.contents writer.old) (W.contents writer.new) (outcome_line (bytes_given outcome.now))) }
-    ensures err { IfErr result IsOfMachine }
+    ensures err { IfErr result GaveOut }
 {
     let Some(outcome) = outcome else {
-        return match writeln!(writer, "-") {
-            Ok(()) => Ok(()),
-            Err(_) => Err(Ending::PortFailed),
-        };
+        writeln!(writer, "-")?;
+        return Ok(());
     };
     let mut answer = Vec::new(alloc);
-    let body = outcome.body.as_slice();
-    if answer.extend_from_slice(&outcome.head).is_err() || answer.extend_from_slice(body).is_err() {
-        return Err(Ending::Memory);
-    }
+    answer.extend_from_slice(&outcome.head)?;
+    answer.extend_from_slice(outcome.body.as_slice())?;
     write_hex_line(alloc, writer, answer.as_slice())
 }
 
@@ -88,16 +84,14 @@ fn print_simulation<W: Write>(
 ) -> Result<(), Ending>
     ensures ok { OnOk result (Appends (W.contents writer.old) (W.contents writer.new)
         (outcome_lines (map bytes_given simulation.now.outcomes.items) ++ line (store_line simulation.now.counts.nodes simulation.now.counts.handles))) }
-    ensures err { IfErr result IsOfMachine }
+    ensures err { IfErr result GaveOut }
 {
     for outcome in simulation.outcomes.as_slice() {
         write_outcome(alloc, writer, outcome)?;
     }
     write_store(writer, simulation.counts)?;
-    match writer.flush() {
-        Ok(()) => Ok(()),
-        Err(_) => Err(Ending::PortFailed),
-    }
+    writer.flush()?;
+    Ok(())
 }
 
 // Runs events over a store in memory.
@@ -105,7 +99,7 @@ fn run_in_memory(alloc: Global, keeper: PlainKeeper, events: &[Event]) -> Result
     requires going { plain_failed keeper ≡ false }
     requires fit { All IsFit events.now }
     ensures ok { IfOk result (λ simulation. (s : State) → StandsFor (plain_holds keeper) s [] [] → NoneReused [] events.now → Went s events.now simulation) }
-    ensures err { IfErr result IsNotOfStream }
+    ensures err { IfErr result (λ ending. 3 ≤ status_of ending) }
     ensures store { IfErr result (λ ending. status_of ending ≡ 3 → (s : State) → StandsFor (plain_holds keeper) s [] [] → ¬ NoneReused [] events.now) }
 {
     let mut keeper = Some(keeper);
@@ -137,7 +131,7 @@ pub fn run_simulate<R: Read + Drop, W: Write>(
     // A store in memory has no fault, where no message comes again whose answer was taken.
     ensures store { IfSome (R.remaining reader) (λ script. status_of result ≡ 3 → Reuses script) }
 {
-    let simulation = match simulate(alloc, &mut reader) {
+    let simulation = match simulate(alloc, reader) {
         Ok(simulation) => simulation,
         Err(ending) => return ending,
     };

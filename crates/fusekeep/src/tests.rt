@@ -1,6 +1,7 @@
 use crate::arguments::{Run, parse, unreadable};
 use crate::ending::Ending;
 use crate::replay::run_replay;
+use crate::simulate::START;
 use clap::error::ErrorKind;
 use fuse_session::Ended;
 use fuse_store::{Keeper, PlainKeeper, StoreFault};
@@ -18,8 +19,6 @@ mod names;
 mod rows;
 mod scripts;
 mod tables;
-
-const START: Moment = Moment { secs: 0, nanos: 0 };
 
 const AT_1000: Moment = Moment {
     secs: 1000,
@@ -42,7 +41,7 @@ fn bytes_of(alloc: Global, parts: &[&str]) -> Result<Vec<u8>, Fail> {
 }
 
 // What `replay --at 1000` prints of a stream over a new store, and how it ends.
-fn replayed_first<R: Read>(alloc: Global, reader: &mut R) -> Result<(Ending, Vec<u8>), Fail> {
+fn replayed_first<R: Read + Drop>(alloc: Global, reader: R) -> Result<(Ending, Vec<u8>), Fail> {
     let mut keeper = PlainKeeper::new(alloc, START)?;
     let mut printed = Vec::new(alloc);
     let ending = run_replay(alloc, &mut keeper, reader, &mut printed, AT_1000);
@@ -54,20 +53,14 @@ fn begun(alloc: Global) -> Result<PlainKeeper, Fail> {
     let mut keeper = PlainKeeper::new(alloc, START)?;
     let init = bytes_of(alloc, &[inits::AGREED])?;
     let mut printed = Vec::new(alloc);
-    run_replay(
-        alloc,
-        &mut keeper,
-        &mut init.as_slice(),
-        &mut printed,
-        AT_1000,
-    );
+    run_replay(alloc, &mut keeper, init.as_slice(), &mut printed, AT_1000);
     Ok(keeper)
 }
 
 // How a run ends behind row init-agreed, which prints here.
-fn printed_to<R: Read, W: Write>(
+fn printed_to<R: Read + Drop, W: Write>(
     alloc: Global,
-    reader: &mut R,
+    reader: R,
     writer: &mut W,
 ) -> Result<Ending, Fail> {
     let mut keeper = begun(alloc)?;
@@ -78,7 +71,7 @@ fn printed_to<R: Read, W: Write>(
 }
 
 // What is printed there.
-fn replayed<R: Read>(alloc: Global, reader: &mut R) -> Result<(Ending, Vec<u8>), Fail> {
+fn replayed<R: Read + Drop>(alloc: Global, reader: R) -> Result<(Ending, Vec<u8>), Fail> {
     let mut printed = Vec::new(alloc);
     let ending = printed_to(alloc, reader, &mut printed)?;
     Ok((ending, printed))

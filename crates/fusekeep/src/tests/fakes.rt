@@ -66,7 +66,7 @@ impl Write for Unflushed {
 #[test]
 fn failing_reader(rt: HostRuntime) -> Result<(), Fail> {
     let stream = bytes_of(rt.alloc(), &[rows::LOOKUP_HELLO])?;
-    let (ending, printed) = replayed(rt.alloc(), &mut Failing { rest: &stream })?;
+    let (ending, printed) = replayed(rt.alloc(), Failing { rest: &stream })?;
     assert_eq!(rt; ending, Ending::PortFailed);
     assert_eq!(rt;
         printed.as_slice(),
@@ -78,9 +78,9 @@ fn failing_reader(rt: HostRuntime) -> Result<(), Fail> {
 #[test]
 fn failing_writers(rt: HostRuntime) -> Result<(), Fail> {
     let stream = bytes_of(rt.alloc(), &[rows::LOOKUP_HELLO])?;
-    let ending = printed_to(rt.alloc(), &mut stream.as_slice(), &mut Full)?;
+    let ending = printed_to(rt.alloc(), stream.as_slice(), &mut Full)?;
     assert_eq!(rt; ending, Ending::PortFailed);
-    let ending = printed_to(rt.alloc(), &mut stream.as_slice(), &mut Unflushed)?;
+    let ending = printed_to(rt.alloc(), stream.as_slice(), &mut Unflushed)?;
     assert_eq!(rt; ending, Ending::PortFailed);
     Ok(())
 }
@@ -88,7 +88,7 @@ fn failing_writers(rt: HostRuntime) -> Result<(), Fail> {
 #[test]
 fn byte_by_byte(rt: HostRuntime) -> Result<(), Fail> {
     let stream = bytes_of(rt.alloc(), &[rows::LOOKUP_HELLO])?;
-    let (ending, printed) = replayed(rt.alloc(), &mut ByteByByte { rest: &stream })?;
+    let (ending, printed) = replayed(rt.alloc(), ByteByByte { rest: &stream })?;
     assert_eq!(rt; ending, Ending::Done);
     assert_eq!(rt;
         printed.as_slice(),

@@ -3,9 +3,6 @@ use super::*;
 use crate::check::run_check;
 use crate::dump::run_dump;
 
-const LOOKUP_AGAIN: &str =
-    "2e000000 01000000 0400000000000080 0100000000000000 e8030000 e8030000 4d000000 00000000 68656c6c6f00";
-
 const NAME_WITHOUT_NUL: &str =
     "2d000000 01000000 0400000000000000 0100000000000000 e8030000 e8030000 4d000000 00000000 68656c6c6f";
 
@@ -50,7 +47,7 @@ fn looks(rt: HostRuntime) -> Result<(), Fail> {
     for row in &[
         Look {
             name: "dump-and-check",
-            stream: &[rows::LOOKUP_HELLO, LOOKUP_AGAIN],
+            stream: &[rows::LOOKUP_HELLO, rows::LOOKUP_HELLO_AGAIN],
             dump: "0 LOOKUP id=4 resend=0 node=1 len=46\n46 LOOKUP id=4 resend=1 node=1 len=46\n",
             dump_ends: Ending::Done,
             check: "messages=2 malformed=0 unsupported=0\n",
@@ -138,7 +135,7 @@ fn looks_at_faulty_streams(rt: HostRuntime) -> Result<(), Fail> {
 #[test]
 fn looks_byte_by_byte(rt: HostRuntime) -> Result<(), Fail> {
     let alloc = rt.alloc();
-    let stream = bytes_of(alloc, &[rows::LOOKUP_HELLO, LOOKUP_AGAIN])?;
+    let stream = bytes_of(alloc, &[rows::LOOKUP_HELLO, rows::LOOKUP_HELLO_AGAIN])?;
     let mut printed = Vec::new(alloc);
     let reader = fakes::ByteByByte { rest: &stream };
     assert_eq!(rt; run_check(alloc, reader, &mut printed), Ending::Done);

@@ -7,7 +7,12 @@ pub const TAIL: &str = "e8030000 e8030000 4d000000 00000000";
 pub const LOOKUP_HELLO: &str =
     "2e000000 01000000 0400000000000000 0100000000000000 e8030000 e8030000 4d000000 00000000 68656c6c6f00";
 
-const NO_ENTRY: &str = "10000000 feffffff 0400000000000000";
+pub const LOOKUP_HELLO_AGAIN: &str =
+    "2e000000 01000000 0400000000000080 0100000000000000 e8030000 e8030000 4d000000 00000000 68656c6c6f00";
+
+pub const NO_ENTRY: &str = "10000000 feffffff 0400000000000000";
+
+pub const NO_ENTRY_AGAIN: &str = "10000000 feffffff 0400000000000080";
 
 const INVALID: &str = "10000000 eaffffff 0400000000000000";
 
@@ -35,17 +40,17 @@ pub struct Row<'a> {
     pub ending: Ending,
 }
 
-// A row behind row init-agreed.
-fn check(rt: &(impl Abort + AllocGlobal), row: &Row<'_>) -> Result<(), Fail> {
+/// A row behind row init-agreed.
+pub fn check(rt: &(impl Abort + AllocGlobal), row: &Row<'_>) -> Result<(), Fail> {
     let stream = bytes_of(rt.alloc(), row.stream)?;
-    let run = replayed(rt.alloc(), &mut stream.as_slice())?;
+    let run = replayed(rt.alloc(), stream.as_slice())?;
     compare(rt, row, run)
 }
 
 /// A row over a new store.
 pub fn check_first(rt: &(impl Abort + AllocGlobal), row: &Row<'_>) -> Result<(), Fail> {
     let stream = bytes_of(rt.alloc(), row.stream)?;
-    let run = replayed_first(rt.alloc(), &mut stream.as_slice())?;
+    let run = replayed_first(rt.alloc(), stream.as_slice())?;
     compare(rt, row, run)
 }
 
@@ -68,298 +73,289 @@ fn compare(
     Ok(())
 }
 
+const ANSWERS: [Row<'static>; 5] = [
+    Row {
+        name: "first-run",
+        stream: &[
+            MKDIR_A,
+            MKDIR_A_AGAIN,
+            "38000000 03000000 0800000000000000 0200000000000000",
+            TAIL,
+            PLAIN,
+        ],
+        lines: &[
+            &["90000000 00000000 0600000000000000", ENTRY, ATTRIBUTES],
+            &["90000000 00000000 0600000000000080", ENTRY, ATTRIBUTES],
+            &[
+                "78000000 00000000 0800000000000000 0100000000000000 0000000000000000",
+                ATTRIBUTES,
+            ],
+        ],
+        counts: "served messages=3 kept=3 repeated=1 bare=0 silent=0 interrupts=0",
+        ending: Ending::Done,
+    },
+    Row {
+        name: "missing-lookup",
+        stream: &[LOOKUP_HELLO],
+        lines: &[&[NO_ENTRY]],
+        counts: "served messages=1 kept=1 repeated=0 bare=0 silent=0 interrupts=0",
+        ending: Ending::Done,
+    },
+    Row {
+        name: "reuse-of-an-id",
+        stream: &[
+            MKDIR_A,
+            "2e000000 01000000 0600000000000000 0100000000000000",
+            TAIL,
+            "68656c6c6f00",
+        ],
+        lines: &[
+            &["90000000 00000000 0600000000000000", ENTRY, ATTRIBUTES],
+            &["90000000 00000000 0600000000000000", ENTRY, ATTRIBUTES],
+        ],
+        counts: "served messages=2 kept=2 repeated=1 bare=0 silent=0 interrupts=0",
+        ending: Ending::Done,
+    },
+    Row {
+        name: "reuse-of-an-id, by another opcode",
+        stream: &[
+            MKDIR_A,
+            "38000000 03000000 0600000000000000 0200000000000000",
+            TAIL,
+            PLAIN,
+        ],
+        lines: &[
+            &["90000000 00000000 0600000000000000", ENTRY, ATTRIBUTES],
+            &["90000000 00000000 0600000000000000", ENTRY, ATTRIBUTES],
+        ],
+        counts: "served messages=2 kept=2 repeated=1 bare=0 silent=0 interrupts=0",
+        ending: Ending::Done,
+    },
+    Row {
+        name: "empty-stream",
+        stream: &[],
+        lines: &[],
+        counts: "served messages=0 kept=0 repeated=0 bare=0 silent=0 interrupts=0",
+        ending: Ending::Done,
+    },
+];
+
 #[test]
 fn answers(rt: HostRuntime) -> Result<(), Fail> {
-    check(
-        &rt,
-        &Row {
-            name: "first-run",
-            stream: &[
-                MKDIR_A,
-                MKDIR_A_AGAIN,
-                "38000000 03000000 0800000000000000 0200000000000000",
-                TAIL,
-                PLAIN,
-            ],
-            lines: &[
-                &["90000000 00000000 0600000000000000", ENTRY, ATTRIBUTES],
-                &["90000000 00000000 0600000000000080", ENTRY, ATTRIBUTES],
-                &[
-                    "78000000 00000000 0800000000000000 0100000000000000 0000000000000000",
-                    ATTRIBUTES,
-                ],
-            ],
-            counts: "served messages=3 kept=3 repeated=1 bare=0 silent=0 interrupts=0",
-            ending: Ending::Done,
-        },
-    )?;
-    check(
-        &rt,
-        &Row {
-            name: "missing-lookup",
-            stream: &[LOOKUP_HELLO],
-            lines: &[&[NO_ENTRY]],
-            counts: "served messages=1 kept=1 repeated=0 bare=0 silent=0 interrupts=0",
-            ending: Ending::Done,
-        },
-    )?;
-    check(
-        &rt,
-        &Row {
-            name: "reuse-of-an-id",
-            stream: &[
-                MKDIR_A,
-                "2e000000 01000000 0600000000000000 0100000000000000",
-                TAIL,
-                "68656c6c6f00",
-            ],
-            lines: &[
-                &["90000000 00000000 0600000000000000", ENTRY, ATTRIBUTES],
-                &["90000000 00000000 0600000000000000", ENTRY, ATTRIBUTES],
-            ],
-            counts: "served messages=2 kept=2 repeated=1 bare=0 silent=0 interrupts=0",
-            ending: Ending::Done,
-        },
-    )?;
-    check(
-        &rt,
-        &Row {
-            name: "reuse-of-an-id, by another opcode",
-            stream: &[
-                MKDIR_A,
-                "38000000 03000000 0600000000000000 0200000000000000",
-                TAIL,
-                PLAIN,
-            ],
-            lines: &[
-                &["90000000 00000000 0600000000000000", ENTRY, ATTRIBUTES],
-                &["90000000 00000000 0600000000000000", ENTRY, ATTRIBUTES],
-            ],
-            counts: "served messages=2 kept=2 repeated=1 bare=0 silent=0 interrupts=0",
-            ending: Ending::Done,
-        },
-    )?;
-    check(
-        &rt,
-        &Row {
-            name: "empty-stream",
-            stream: &[],
-            lines: &[],
-            counts: "served messages=0 kept=0 repeated=0 bare=0 silent=0 interrupts=0",
-            ending: Ending::Done,
-        },
-    )
+    for row in &ANSWERS {
+        check(&rt, row)?;
+    }
+    Ok(())
 }
+
+// What is recorded is answered again, and what isn't leaves its id free.
+const MALFORMED: [Row<'static>; 3] = [
+    Row {
+        name: "name-ends",
+        stream: &[
+            "2d000000 01000000 0400000000000000 0100000000000000",
+            TAIL,
+            "68656c6c6f",
+            "2f000000 01000000 0400000000000000 0100000000000000",
+            TAIL,
+            "68656c6c6f0000",
+            LOOKUP_HELLO,
+            LOOKUP_HELLO_AGAIN,
+        ],
+        lines: &[&[INVALID], &[INVALID], &[NO_ENTRY], &[NO_ENTRY_AGAIN]],
+        counts: "served messages=4 kept=2 repeated=1 bare=2 silent=0 interrupts=0",
+        ending: Ending::Done,
+    },
+    Row {
+        name: "mkdir-bodies",
+        stream: &[
+            "2c000000 09000000 0400000000000000 0100000000000000",
+            TAIL,
+            "ed010000",
+            "30000000 09000000 0400000000000000 0100000000000000",
+            TAIL,
+            "ed010000 12000000",
+            "31000000 09000000 0400000000000000 0100000000000000",
+            TAIL,
+            "ed010000 12000000 00",
+            "31000000 09000000 0400000000000080 0100000000000000",
+            TAIL,
+            "ed010000 12000000 00",
+        ],
+        lines: &[
+            &[INVALID],
+            &[INVALID],
+            &[INVALID],
+            &["10000000 eaffffff 0400000000000080"],
+        ],
+        counts: "served messages=4 kept=2 repeated=1 bare=2 silent=0 interrupts=0",
+        ending: Ending::Done,
+    },
+    Row {
+        name: "extension",
+        stream: &[
+            "36000000 01000000 0400000000000000 0100000000000000 e8030000 e8030000 4d000000 01000000 68656c6c6f00 0000000000000000",
+            "2e000000 01000000 0400000000000000 0100000000000000 e8030000 e8030000 4d000000 01000000 68656c6c6f00",
+            "36000000 01000000 0400000000000080 0100000000000000 e8030000 e8030000 4d000000 01000000 68656c6c6f00 0000000000000000",
+        ],
+        lines: &[&[NO_ENTRY], &[INVALID], &[NO_ENTRY_AGAIN]],
+        counts: "served messages=3 kept=2 repeated=1 bare=1 silent=0 interrupts=0",
+        ending: Ending::Done,
+    },
+];
 
 #[test]
 fn malformed_messages(rt: HostRuntime) -> Result<(), Fail> {
-    check(
-        &rt,
-        &Row {
-            name: "name-ends",
-            stream: &[
-                "2d000000 01000000 0400000000000000 0100000000000000",
-                TAIL,
-                "68656c6c6f",
-                "2f000000 01000000 0400000000000000 0100000000000000",
-                TAIL,
-                "68656c6c6f0000",
-                LOOKUP_HELLO,
-            ],
-            lines: &[&[INVALID], &[INVALID], &[NO_ENTRY]],
-            counts: "served messages=3 kept=1 repeated=0 bare=2 silent=0 interrupts=0",
-            ending: Ending::Done,
-        },
-    )?;
-    check(
-        &rt,
-        &Row {
-            name: "mkdir-bodies",
-            stream: &[
-                "2c000000 09000000 0400000000000000 0100000000000000",
-                TAIL,
-                "ed010000",
-                "30000000 09000000 0400000000000000 0100000000000000",
-                TAIL,
-                "ed010000 12000000",
-                "31000000 09000000 0400000000000000 0100000000000000",
-                TAIL,
-                "ed010000 12000000 00",
-            ],
-            lines: &[&[INVALID], &[INVALID], &[INVALID]],
-            counts: "served messages=3 kept=1 repeated=0 bare=2 silent=0 interrupts=0",
-            ending: Ending::Done,
-        },
-    )?;
-    check(
-        &rt,
-        &Row {
-            name: "extension",
-            stream: &[
-                "36000000 01000000 0400000000000000 0100000000000000 e8030000 e8030000 4d000000 01000000 68656c6c6f00 0000000000000000",
-                "2e000000 01000000 0400000000000000 0100000000000000 e8030000 e8030000 4d000000 01000000 68656c6c6f00",
-            ],
-            lines: &[&[NO_ENTRY], &[INVALID]],
-            counts: "served messages=2 kept=1 repeated=0 bare=1 silent=0 interrupts=0",
-            ending: Ending::Done,
-        },
-    )
+    for row in &MALFORMED {
+        check(&rt, row)?;
+    }
+    Ok(())
 }
+
+const NONE_SERVED: &str = "served messages=0 kept=0 repeated=0 bare=0 silent=0 interrupts=0";
+
+const LENGTHS: [Row<'static>; 4] = [
+    Row {
+        name: "length-bounds, 39",
+        stream: &["27000000"],
+        lines: &[],
+        counts: NONE_SERVED,
+        ending: Ending::Short { at: 0, len: 39 },
+    },
+    Row {
+        name: "length-bounds, 135,169",
+        stream: &["01100200"],
+        lines: &[],
+        counts: NONE_SERVED,
+        ending: Ending::TooLong {
+            at: 0,
+            len: 135_169,
+        },
+    },
+    Row {
+        name: "length-bounds, 135,168",
+        stream: &["00100200"],
+        lines: &[],
+        counts: NONE_SERVED,
+        ending: Ending::Cut {
+            at: 0,
+            have: 4,
+            need: 135_168,
+        },
+    },
+    Row {
+        name: "cut-stream",
+        stream: &[LOOKUP_HELLO, "2e0000"],
+        lines: &[&[NO_ENTRY]],
+        counts: "served messages=1 kept=1 repeated=0 bare=0 silent=0 interrupts=0",
+        ending: Ending::Cut {
+            at: 46,
+            have: 3,
+            need: 4,
+        },
+    },
+];
 
 #[test]
 fn lengths(rt: HostRuntime) -> Result<(), Fail> {
-    let counts = "served messages=0 kept=0 repeated=0 bare=0 silent=0 interrupts=0";
-    check(
-        &rt,
-        &Row {
-            name: "length-bounds, 39",
-            stream: &["27000000"],
-            lines: &[],
-            counts,
-            ending: Ending::Short { at: 0, len: 39 },
-        },
-    )?;
-    check(
-        &rt,
-        &Row {
-            name: "length-bounds, 135,169",
-            stream: &["01100200"],
-            lines: &[],
-            counts,
-            ending: Ending::TooLong {
-                at: 0,
-                len: 135_169,
-            },
-        },
-    )?;
-    check(
-        &rt,
-        &Row {
-            name: "length-bounds, 135,168",
-            stream: &["00100200"],
-            lines: &[],
-            counts,
-            ending: Ending::Cut {
-                at: 0,
-                have: 4,
-                need: 135_168,
-            },
-        },
-    )?;
-    check(
-        &rt,
-        &Row {
-            name: "cut-stream",
-            stream: &[LOOKUP_HELLO, "2e0000"],
-            lines: &[&[NO_ENTRY]],
-            counts: "served messages=1 kept=1 repeated=0 bare=0 silent=0 interrupts=0",
-            ending: Ending::Cut {
-                at: 46,
-                have: 3,
-                need: 4,
-            },
-        },
-    )
+    for row in &LENGTHS {
+        check(&rt, row)?;
+    }
+    Ok(())
 }
+
+const ZERO_UNIQUE: [Row<'static>; 4] = [
+    Row {
+        name: "zero-unique, 0",
+        stream: &[
+            "38000000 03000000 0000000000000000 0100000000000000",
+            TAIL,
+            PLAIN,
+            LOOKUP_HELLO,
+        ],
+        lines: &[],
+        counts: NONE_SERVED,
+        ending: Ending::ZeroUnique { at: 0 },
+    },
+    Row {
+        name: "zero-unique, the bit of a resend alone",
+        stream: &[
+            "38000000 03000000 0000000000000080 0100000000000000",
+            TAIL,
+            PLAIN,
+        ],
+        lines: &[],
+        counts: NONE_SERVED,
+        ending: Ending::ZeroUnique { at: 0 },
+    },
+    Row {
+        name: "zero-unique, behind an answer",
+        stream: &[
+            LOOKUP_HELLO,
+            "38000000 03000000 0000000000000000 0100000000000000",
+            TAIL,
+            PLAIN,
+        ],
+        lines: &[&[NO_ENTRY]],
+        counts: "served messages=1 kept=1 repeated=0 bare=0 silent=0 interrupts=0",
+        ending: Ending::ZeroUnique { at: 46 },
+    },
+    Row {
+        name: "zero-unique, FORGET and CREATE",
+        stream: &[
+            "30000000 02000000 0000000000000000 0100000000000000",
+            TAIL,
+            "0100000000000000",
+            "28000000 23000000 0400000000000000 0100000000000000",
+            TAIL,
+        ],
+        lines: &[&["10000000 daffffff 0400000000000000"]],
+        counts: "served messages=2 kept=0 repeated=0 bare=1 silent=1 interrupts=0",
+        ending: Ending::Done,
+    },
+];
 
 #[test]
 fn zero_unique(rt: HostRuntime) -> Result<(), Fail> {
-    let counts = "served messages=0 kept=0 repeated=0 bare=0 silent=0 interrupts=0";
-    check(
-        &rt,
-        &Row {
-            name: "zero-unique, 0",
-            stream: &[
-                "38000000 03000000 0000000000000000 0100000000000000",
-                TAIL,
-                PLAIN,
-                LOOKUP_HELLO,
-            ],
-            lines: &[],
-            counts,
-            ending: Ending::ZeroUnique { at: 0 },
-        },
-    )?;
-    check(
-        &rt,
-        &Row {
-            name: "zero-unique, the bit of a resend alone",
-            stream: &[
-                "38000000 03000000 0000000000000080 0100000000000000",
-                TAIL,
-                PLAIN,
-            ],
-            lines: &[],
-            counts,
-            ending: Ending::ZeroUnique { at: 0 },
-        },
-    )?;
-    check(
-        &rt,
-        &Row {
-            name: "zero-unique, behind an answer",
-            stream: &[
-                LOOKUP_HELLO,
-                "38000000 03000000 0000000000000000 0100000000000000",
-                TAIL,
-                PLAIN,
-            ],
-            lines: &[&[NO_ENTRY]],
-            counts: "served messages=1 kept=1 repeated=0 bare=0 silent=0 interrupts=0",
-            ending: Ending::ZeroUnique { at: 46 },
-        },
-    )?;
-    check(
-        &rt,
-        &Row {
-            name: "zero-unique, FORGET and CREATE",
-            stream: &[
-                "30000000 02000000 0000000000000000 0100000000000000",
-                TAIL,
-                "0100000000000000",
-                "28000000 23000000 0400000000000000 0100000000000000",
-                TAIL,
-            ],
-            lines: &[&["10000000 daffffff 0400000000000000"]],
-            counts: "served messages=2 kept=0 repeated=0 bare=1 silent=1 interrupts=0",
-            ending: Ending::Done,
-        },
-    )
+    for row in &ZERO_UNIQUE {
+        check(&rt, row)?;
+    }
+    Ok(())
 }
+
+const ITEMS: &str = "0200000000000000 0100000000000000 0300000000000000 0100000000000000";
+
+const SILENT: Row<'static> = Row {
+    name: "an INTERRUPT, one with 7 bytes, a FORGET with 7 bytes, BATCH_FORGET of 2 and with a count of 3, NOTIFY_REPLY",
+    stream: &[
+        "30000000 24000000 0600000000000000 0000000000000000",
+        TAIL,
+        "0400000000000000",
+        "2f000000 24000000 0800000000000000 0000000000000000",
+        TAIL,
+        "04000000000000",
+        "2f000000 02000000 0a00000000000000 0100000000000000",
+        TAIL,
+        "01000000000000",
+        "50000000 2a000000 0c00000000000000 0000000000000000",
+        TAIL,
+        "02000000 00000000",
+        ITEMS,
+        "50000000 2a000000 0e00000000000000 0000000000000000",
+        TAIL,
+        "03000000 00000000",
+        ITEMS,
+        "28000000 29000000 1000000000000000 0000000000000000",
+        TAIL,
+    ],
+    lines: &[],
+    counts: "served messages=6 kept=0 repeated=0 bare=0 silent=6 interrupts=1",
+    ending: Ending::Done,
+};
 
 #[test]
 fn silent_messages(rt: HostRuntime) -> Result<(), Fail> {
-    let items = "0200000000000000 0100000000000000 0300000000000000 0100000000000000";
-    check(
-        &rt,
-        &Row {
-            name: "an INTERRUPT, one with 7 bytes, a FORGET with 7 bytes, BATCH_FORGET of 2 and with a count of 3, NOTIFY_REPLY",
-            stream: &[
-                "30000000 24000000 0600000000000000 0000000000000000",
-                TAIL,
-                "0400000000000000",
-                "2f000000 24000000 0800000000000000 0000000000000000",
-                TAIL,
-                "04000000000000",
-                "2f000000 02000000 0a00000000000000 0100000000000000",
-                TAIL,
-                "01000000000000",
-                "50000000 2a000000 0c00000000000000 0000000000000000",
-                TAIL,
-                "02000000 00000000",
-                items,
-                "50000000 2a000000 0e00000000000000 0000000000000000",
-                TAIL,
-                "03000000 00000000",
-                items,
-                "28000000 29000000 1000000000000000 0000000000000000",
-                TAIL,
-            ],
-            lines: &[],
-            counts: "served messages=6 kept=0 repeated=0 bare=0 silent=6 interrupts=1",
-            ending: Ending::Done,
-        },
-    )
+    check(&rt, &SILENT)
 }
 
 // MKDIRs of distinct names in the root, under the uniques 4, 6 and so on.
@@ -385,7 +381,7 @@ fn made_line(alloc: Global, place: u8) -> Result<String, Fail> {
 fn seventeen(rt: HostRuntime) -> Result<(), Fail> {
     let alloc = rt.alloc();
     let stream = mkdirs(alloc, 17)?;
-    let (ending, printed) = replayed(alloc, &mut stream.as_slice())?;
+    let (ending, printed) = replayed(alloc, stream.as_slice())?;
     assert_eq!(rt; ending, Ending::Done);
     let text = String::from_utf8(printed)?;
     for (place, line) in (0..17u8).zip(text.lines()) {

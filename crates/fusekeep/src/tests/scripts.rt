@@ -1,4 +1,5 @@
 //! What `simulate` prints of scripts.
+use super::rows::TAIL;
 use super::*;
 use crate::simulate::run_simulate;
 
@@ -6,14 +7,15 @@ use crate::simulate::run_simulate;
 const MKDIR_A: &str =
     "320000000900000006000000000000000100000000000000e8030000e80300004d00000000000000ed010000120000006100";
 
-/// The end of each header: uid and gid 1000, pid 77, no extensions.
-const TAIL: &str = "e8030000 e8030000 4d000000 00000000";
+const MKDIR_A_AGAIN: &str =
+    "32000000 09000000 0600000000000080 0100000000000000 e8030000 e8030000 4d000000 00000000 ed010000 12000000 6100";
 
 const AGREED: &str =
     "50000000 00000000 0200000000000000 07000000 28000000 00000200 21000040 0c000900 00000200 01000000 00000000 80000000 00000000 000000000000000000000000000000000000000000000000";
 
+// The body of its answer.
 const MADE_A: &str =
-    "90000000 00000000 0600000000000000 0200000000000000 0000000000000000 0100000000000000 0100000000000000 0000000000000000 0200000000000000 0000000000000000 0000000000000000 e803000000000000 e803000000000000 e803000000000000 000000000000000000000000 ed410000 02000000 e8030000 e8030000 00000000 00100000 00000000";
+    "0200000000000000 0000000000000000 0100000000000000 0100000000000000 0000000000000000 0200000000000000 0000000000000000 0000000000000000 e803000000000000 e803000000000000 e803000000000000 000000000000000000000000 ed410000 02000000 e8030000 e8030000 00000000 00100000 00000000";
 
 // What is printed of a script, and how the run ends.
 fn simulated<R: Read + Drop>(alloc: Global, reader: R) -> (Ending, Vec<u8>) {
@@ -50,114 +52,171 @@ fn check(rt: &(impl Abort + AllocGlobal), row: &Script<'_>) -> Result<(), Fail> 
     Ok(())
 }
 
+const SCRIPTS: [Script<'static>; 3] = [
+    Script {
+        name: "script-died-before",
+        events: &[
+            ("answered 1000 ", &[inits::AGREED]),
+            (
+                "before 1000 ",
+                &[
+                    "32000000 09000000 0400000000000000 0100000000000000",
+                    TAIL,
+                    "ed010000 12000000 6100",
+                ],
+            ),
+            ("answered 1000 ", &[MKDIR_A]),
+            (
+                "answered 1000 ",
+                &[
+                    "32000000 09000000 0400000000000080 0100000000000000",
+                    TAIL,
+                    "ed010000 12000000 6100",
+                ],
+            ),
+        ],
+        lines: &[
+            &[AGREED],
+            &["-"],
+            &["90000000 00000000 0600000000000000", MADE_A],
+            &["10000000 efffffff 0400000000000080"],
+        ],
+        counts: "nodes=2 handles=0\n",
+    },
+    Script {
+        name: "resent-lookup",
+        events: &[
+            ("answered 1000 ", &[inits::AGREED]),
+            ("lost 1000 ", &[rows::LOOKUP_HELLO]),
+            (
+                "answered 1000 ",
+                &[
+                    "3e000000 08000000 0600000000000000 0100000000000000",
+                    TAIL,
+                    names::FILE,
+                    "68656c6c6f00",
+                ],
+            ),
+            ("answered 1000 ", &[rows::LOOKUP_HELLO_AGAIN]),
+            (
+                "answered 1000 ",
+                &[
+                    "2e000000 01000000 0800000000000000 0100000000000000",
+                    TAIL,
+                    "68656c6c6f00",
+                ],
+            ),
+        ],
+        lines: &[
+            &[AGREED],
+            &["-"],
+            &[
+                "90000000 00000000 0600000000000000",
+                names::ENTRY,
+                names::NODE_2,
+                "01000000",
+                names::OWNER,
+            ],
+            &[rows::NO_ENTRY_AGAIN],
+            &[
+                "90000000 00000000 0800000000000000",
+                names::ENTRY,
+                names::NODE_2,
+                "01000000",
+                names::OWNER,
+            ],
+        ],
+        counts: "nodes=2 handles=0\n",
+    },
+    Script {
+        name: "an OPEN that died after its commit",
+        events: &[
+            ("answered 1000 ", &[inits::AGREED]),
+            (
+                "lost 1000 ",
+                &[
+                    "3a000000 08000000 0400000000000000 0100000000000000",
+                    TAIL,
+                    "a4810000 00000000 00000000 00000000 6600",
+                ],
+            ),
+            (
+                "after 1000 ",
+                &[
+                    "30000000 0e000000 0600000000000000 0200000000000000",
+                    TAIL,
+                    "02000000 00000000",
+                ],
+            ),
+            (
+                "answered 1000 ",
+                &[
+                    "30000000 0e000000 0600000000000080 0200000000000000",
+                    TAIL,
+                    "02000000 00000000",
+                ],
+            ),
+        ],
+        lines: &[
+            &[AGREED],
+            &["-"],
+            &["-"],
+            &["20000000 00000000 0600000000000080 0100000000000000 00000000 00000000"],
+        ],
+        counts: "nodes=2 handles=1\n",
+    },
+];
+
 #[test]
 fn scripts(rt: HostRuntime) -> Result<(), Fail> {
-    check(
-        &rt,
-        &Script {
-            name: "script-died-before",
-            events: &[
-                ("answered 1000 ", &[inits::AGREED]),
-                (
-                    "before 1000 ",
-                    &[
-                        "32000000 09000000 0400000000000000 0100000000000000",
-                        TAIL,
-                        "ed010000 12000000 6100",
-                    ],
-                ),
-                ("answered 1000 ", &[MKDIR_A]),
-                (
-                    "answered 1000 ",
-                    &[
-                        "32000000 09000000 0400000000000080 0100000000000000",
-                        TAIL,
-                        "ed010000 12000000 6100",
-                    ],
-                ),
-            ],
-            lines: &[
-                &[AGREED],
-                &["-"],
-                &[MADE_A],
-                &["10000000 efffffff 0400000000000080"],
-            ],
-            counts: "nodes=2 handles=0\n",
-        },
-    )?;
-    check(
-        &rt,
-        &Script {
-            name: "resent-lookup",
-            events: &[
-                ("answered 1000 ", &[inits::AGREED]),
-                ("lost 1000 ", &[rows::LOOKUP_HELLO]),
-                (
-                    "lost 1000 ",
-                    &[
-                        "3e000000 08000000 0600000000000000 0100000000000000",
-                        TAIL,
-                        "a4810000 00000000 00000000 00000000 68656c6c6f00",
-                    ],
-                ),
-                (
-                    "answered 1000 ",
-                    &[
-                        "2e000000 01000000 0400000000000080 0100000000000000",
-                        TAIL,
-                        "68656c6c6f00",
-                    ],
-                ),
-            ],
-            lines: &[
-                &[AGREED],
-                &["-"],
-                &["-"],
-                &["10000000 feffffff 0400000000000080"],
-            ],
-            counts: "nodes=2 handles=0\n",
-        },
-    )?;
-    check(
-        &rt,
-        &Script {
-            name: "an OPEN that died after its commit",
-            events: &[
-                ("answered 1000 ", &[inits::AGREED]),
-                (
-                    "lost 1000 ",
-                    &[
-                        "3a000000 08000000 0400000000000000 0100000000000000",
-                        TAIL,
-                        "a4810000 00000000 00000000 00000000 6600",
-                    ],
-                ),
-                (
-                    "after 1000 ",
-                    &[
-                        "30000000 0e000000 0600000000000000 0200000000000000",
-                        TAIL,
-                        "02000000 00000000",
-                    ],
-                ),
-                (
-                    "answered 1000 ",
-                    &[
-                        "30000000 0e000000 0600000000000080 0200000000000000",
-                        TAIL,
-                        "02000000 00000000",
-                    ],
-                ),
-            ],
-            lines: &[
-                &[AGREED],
-                &["-"],
-                &["-"],
-                &["20000000 00000000 0600000000000080 0100000000000000 00000000 00000000"],
-            ],
-            counts: "nodes=2 handles=1\n",
-        },
-    )
+    for row in &SCRIPTS {
+        check(&rt, row)?;
+    }
+    Ok(())
+}
+
+// Row init-agreed and row first-run's MKDIR, answered, so many LOOKUPs whose answers are lost, and that MKDIR resent.
+fn answered_again(alloc: Global, lookups: u8) -> Result<String, Fail> {
+    let mut script = String::new(alloc);
+    script.push_str("answered 1000 ")?;
+    script.push_str(unspaced(alloc, &[inits::AGREED])?.as_str())?;
+    script.push_str("\nanswered 1000 ")?;
+    script.push_str(MKDIR_A)?;
+    for place in 0..lookups {
+        let line = format!(in alloc;
+            "\nlost 1000 2e00000001000000{:02x}00000000000000",
+            8 + u32::from(place)
+        )?;
+        script.push_str(line.as_str())?;
+        script.push_str(unspaced(alloc, &["0100000000000000", TAIL, "68656c6c6f00"])?.as_str())?;
+    }
+    script.push_str("\nanswered 1000 ")?;
+    script.push_str(unspaced(alloc, &[MKDIR_A_AGAIN])?.as_str())?;
+    Ok(script)
+}
+
+// What is printed of that last event.
+fn answer_again(alloc: Global, lookups: u8) -> Result<String, Fail> {
+    let script = answered_again(alloc, lookups)?;
+    let (_, printed) = simulated(alloc, script.as_bytes());
+    let text = String::from_utf8(printed)?;
+    let mut answer = String::new(alloc);
+    if let Some(line) = text.lines().nth(2 + lookups as usize) {
+        answer.push_str(line)?;
+    }
+    Ok(answer)
+}
+
+// An answered id that comes again. The 16th kept message is of the group of the first, and finds its record; the 17th is of
+// the next group, which removes that.
+#[test]
+fn answered_ids_again(rt: HostRuntime) -> Result<(), Fail> {
+    let alloc = rt.alloc();
+    let same = unspaced(alloc, &["90000000 00000000 0600000000000080", MADE_A])?;
+    assert_eq!(rt; answer_again(alloc, 13)?.as_str(), same.as_str());
+    let refused = unspaced(alloc, &["10000000 efffffff 0600000000000080"])?;
+    assert_eq!(rt; answer_again(alloc, 14)?.as_str(), refused.as_str());
+    Ok(())
 }
 
 // Upper case, zeros before the seconds, the largest ones, comments of any bytes, empty lines, a silent message of id 0,

@@ -15,7 +15,7 @@ pub returns-in-Ok-Some-clause-next : goal.returns-in-Ok-Some-clause-next
 returns-in-Ok-Some-clause-next g c =
     let gives = rw c.in-Ok-Some.field-0-is at c.in-Ok-Some.ensures.next in
     let placed = c.loop-bytes.invariant.place in
-    let rest = g.R.Read.remaining c.loop-bytes.self.reader in
+    let rest = g.R.Read.remaining c.loop-bytes.self.pieces.reader in
     record {
       message = gives.message;
       left = keeps_consumes (left_in g.R.Read.remaining c.args.self.now) (left_in g.R.Read.remaining c.loop-bytes.self) _ _ c.loop-bytes.invariant.left (gives_front c.loop-bytes.self.framer.bytes c.next.new.self.bytes _ rest gives.rest);
@@ -25,7 +25,7 @@ returns-in-Ok-Some-clause-next g c =
 
 pub returns-in-Err-clause-next : goal.returns-in-Err-clause-next
 returns-in-Err-clause-next g c =
-    faulty (left_in g.R.Read.remaining c.args.self.now) c.loop-bytes.self.framer c.next.new.self (g.R.Read.remaining c.loop-bytes.self.reader) _ c.in-Err.fault c.of_stream.result
+    faulty (left_in g.R.Read.remaining c.args.self.now) c.loop-bytes.self.framer c.next.new.self (g.R.Read.remaining c.loop-bytes.self.pieces.reader) _ c.in-Err.fault c.of_stream.result
     c.cut_steps.ensures c.loop-bytes.invariant.left c.loop-bytes.invariant.place c.in-Err.ensures.next c.of_stream.ensures
 
 -- what follows at the end, where nothing more is read
@@ -44,7 +44,7 @@ returns-then-not-branch-clause-next g c =
     let stopped = read.end c.if-not-branch.true in
     let quiet = rw c.in-Ok-None.field-0-is at c.in-Ok-None.ensures.next in
     let kept = keeps_then (left_in g.R.Read.remaining c.args.self.now) (left_in g.R.Read.remaining c.loop-bytes.self) (left_in g.R.Read.remaining c.read.new.self) c.loop-bytes.invariant.left (rw (ap (λ (h : Held). h.bytes) quiet.2) at read.left) in
-    ends_here (left_in g.R.Read.remaining c.args.self.now) _ c.read.new.self.framer.bytes (g.R.Read.remaining c.read.new.self.reader) _ _ c.read.new.self.framer.at c.end.result kept stopped.1 (subst HasNone (sym (stopped.0 ∙ ap (λ (h : Held). h.bytes) quiet.2)) quiet.0) (read.place ∙ ap (λ (h : Held). h.at) quiet.2 ∙ c.loop-bytes.invariant.place) c.end.ensures
+    ends_here (left_in g.R.Read.remaining c.args.self.now) _ c.read.new.self.framer.bytes (g.R.Read.remaining c.read.new.self.pieces.reader) _ _ c.read.new.self.framer.at c.end.result kept stopped.1 (subst HasNone (sym (stopped.0 ∙ ap (λ (h : Held). h.bytes) quiet.2)) quiet.0) (read.place ∙ ap (λ (h : Held). h.at) quiet.2 ∙ c.loop-bytes.invariant.place) c.end.ensures
 
 pub loop-bytes-preserved : goal.loop-bytes-preserved
 loop-bytes-preserved g c =
