@@ -107,10 +107,11 @@ fn run_in_memory(alloc: Global, keeper: PlainKeeper, events: &[Event]) -> Result
 }
 
 // Runs the events that a reader's script tells over a new store.
-fn simulate<R: Read>(alloc: Global, reader: &mut R) -> Result<Simulation, Ending>
-    ensures ok { IfOk result (λ simulation. IfSome (R.remaining reader.old) (λ script. RanScript script simulation)) }
-    ensures err { IfErr result (λ ending. IfSome (R.remaining reader.old) (λ script. status_of ending ≤ 1 → NotRun script ending)) }
-    ensures store { IfErr result (λ ending. IfSome (R.remaining reader.old) (λ script. status_of ending ≡ 3 → Reuses script)) }
+fn simulate<R: Read + Drop>(alloc: Global, reader: R) -> Result<Simulation, Ending>
+    ensures ok { IfOk result (λ simulation. IfSome (R.remaining reader) (λ script. RanScript script simulation)) }
+    ensures err { IfErr result (λ ending. IfSome (R.remaining reader) (λ script. status_of ending ≤ 1 → NotRun script ending)) }
+    ensures usage { IfErr result (λ ending. status_of ending ≢ 2) }
+    ensures store { IfErr result (λ ending. IfSome (R.remaining reader) (λ script. status_of ending ≡ 3 → Reuses script)) }
 {
     let Ok(keeper) = PlainKeeper::new(alloc, START) else {
         return Err(Ending::Memory);
@@ -122,12 +123,9 @@ fn simulate<R: Read>(alloc: Global, reader: &mut R) -> Result<Simulation, Ending
 
 /// Runs the events of a script over a new store in memory, and then prints a line for each event and one for what the
 /// store holds. A script of which a line has no right form isn't run.
-pub fn run_simulate<R: Read + Drop, W: Write>(
-    alloc: Global,
-    mut reader: R,
-    writer: &mut W,
-) -> Ending
-    ensures printed { IfSome (R.remaining reader) (λ script. status_of result ≤ 1 → Simulated (W.contents writer.old) (W.contents writer.new) script result) }
+pub fn run_simulate<R: Read + Drop, W: Write>(alloc: Global, reader: R, writer: &mut W) -> Ending
+    ensures simulated { IfSome (R.remaining reader) (λ script. status_of result ≤ 1 → Simulated (W.contents writer.old) (W.contents writer.new) script result) }
+    ensures usage { status_of result ≢ 2 }
     // A store in memory has no fault, where no message comes again whose answer was taken.
     ensures store { IfSome (R.remaining reader) (λ script. status_of result ≡ 3 → Reuses script) }
 {
