@@ -208,8 +208,8 @@ fn cut_and_grow(rt: HostRuntime) -> Result<(), Fail> {
     Ok(())
 }
 
-// The answers of rows `write-limits` and `last-byte`: to the WRITE of one byte, to GETATTR and to READ, and between them the
-// error number of a WRITE of two bytes at that place.
+// The answers of rows `write-limits` and `last-byte`: to the WRITE of one byte, to GETATTR and to READ, and the error
+// number of a WRITE of two bytes at that place, asked before GETATTR.
 #[derive(Drop)]
 struct LastByte {
     count: ByteList,

@@ -17,8 +17,8 @@ const FEW: Counters = Counters {
     handles: 0,
 };
 
-// So many nodes and handles as the counters say, which are kept nowhere: node 1 is the root, all others are files in it, and
-// the handles are of `FILE`. No name that is asked for is there. Contracts say nothing of it.
+// As many nodes and handles as the counters say, which are kept nowhere: node 1 is the root, the others are files in it,
+// and the handles are of `FILE`. No name that is asked for is there. Contracts say nothing of it.
 #[derive(Drop)]
 struct Many {
     alloc: Global,
