@@ -31,14 +31,14 @@ Resent =
     × (settled_by [] events ≡ 6 ∷ 10 ∷ [])
 
 -- a message of an opcode outside the profile, and FORGET
-abbrev pub others : List Event
-others =
+abbrev pub bare_and_silent : List Event
+bare_and_silent =
     record { bytes = hex (codes "28000000 23000000 0400000000000000 0100000000000000 e8030000 e8030000 4d000000 00000000"); moment = at 1000; fate = Answered }
     ∷ record { bytes = hex (codes "30000000 02000000 0600000000000000 0100000000000000 e8030000 e8030000 4d000000 00000000 0100000000000000"); moment = at 1000; fate = Answered }
     ∷ []
 
 abbrev pub NotKept : Type 0
 NotKept =
-    (committed [] others ≡ [])
-    × (map (outcome_of first []) others ≡ Some (wire ENOSYS.0 [] 4) ∷ None ∷ [])
-    × (settled_by [] others ≡ [])
+    (committed [] bare_and_silent ≡ [])
+    × (map (outcome_of first []) bare_and_silent ≡ Some (wire ENOSYS.0 [] 4) ∷ None ∷ [])
+    × (settled_by [] bare_and_silent ≡ [])
