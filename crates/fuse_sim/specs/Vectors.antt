@@ -14,15 +14,15 @@ use Rattle.fuse_sim.specs.declared.event.Fate.TheVariants.{Answered, AnswerLost,
 use Rattle.fuse_sim.specs.declared.event.Event.{Event}
 use Rattle.fuse_sim.specs.Driving.{committed, outcome_of, settled_by}
 
-abbrev pub mkdir : ℕ → Fate → Event
-mkdir unique fate = record { bytes = canon (asks unique 1 mkdir_a); moment = at 1000; fate = fate }
+abbrev pub mkdir_event : ℕ → Fate → Event
+mkdir_event unique fate = record { bytes = canon (asks unique 1 mkdir_a); moment = at 1000; fate = fate }
 
 abbrev pub entry : ℕ → Entry
 entry unique = record { asked = asks unique 1 mkdir_a; moment = at 1000 }
 
 -- MKDIR of `a`, after which the server dies; the same sent again; one that is lost; and one under another id
 abbrev pub events : List Event
-events = mkdir 6 DiedAfterCommit ∷ mkdir (2 ^ 63 + 6) Answered ∷ mkdir 8 DiedBeforeCommit ∷ mkdir 10 Answered ∷ []
+events = mkdir_event 6 DiedAfterCommit ∷ mkdir_event (2 ^ 63 + 6) Answered ∷ mkdir_event 8 DiedBeforeCommit ∷ mkdir_event 10 Answered ∷ []
 
 abbrev pub Resent : Type 0
 Resent =
