@@ -1,4 +1,4 @@
--- Which ids are handed on, so that their records are removed (own profile).
+-- Which ids are handed on, so that their records are removed, as the groups of events step.
 use Rattle.std.specs.Prelude.{◌-◌, ℕ, zero, suc, Bool, true, false, List, [], ◌∷◌, ◌++◌}
 use Rattle.fuse_store.specs.declared.keeper.TheConstants.{MAX_GROUP}
 use Rattle.fuse_store.specs.History.{Entry}

@@ -14,15 +14,15 @@ use Rattle.fuse_sim.specs.declared.event.Fate.TheVariants.{Answered, AnswerLost,
 use Rattle.fuse_sim.specs.declared.event.Event.{Event}
 use Rattle.fuse_sim.specs.Driving.{committed, outcome_of, settled_by}
 
-abbrev pub mkdir : ℕ → Fate → Event
-mkdir unique fate = record { bytes = canon (asks unique 1 mkdir_a); moment = at 1000; fate = fate }
+abbrev pub mkdir_event : ℕ → Fate → Event
+mkdir_event unique fate = record { bytes = canon (asks unique 1 mkdir_a); moment = at 1000; fate = fate }
 
 abbrev pub entry : ℕ → Entry
 entry unique = record { asked = asks unique 1 mkdir_a; moment = at 1000 }
 
 -- MKDIR of `a`, after which the server dies; the same sent again; one that is lost; and one under another id
 abbrev pub events : List Event
-events = mkdir 6 DiedAfterCommit ∷ mkdir (2 ^ 63 + 6) Answered ∷ mkdir 8 DiedBeforeCommit ∷ mkdir 10 Answered ∷ []
+events = mkdir_event 6 DiedAfterCommit ∷ mkdir_event (2 ^ 63 + 6) Answered ∷ mkdir_event 8 DiedBeforeCommit ∷ mkdir_event 10 Answered ∷ []
 
 abbrev pub Resent : Type 0
 Resent =
@@ -31,14 +31,14 @@ Resent =
     × (settled_by [] events ≡ 6 ∷ 10 ∷ [])
 
 -- a message of an opcode outside the profile, and FORGET
-abbrev pub others : List Event
-others =
+abbrev pub bare_and_silent : List Event
+bare_and_silent =
     record { bytes = hex (codes "28000000 23000000 0400000000000000 0100000000000000 e8030000 e8030000 4d000000 00000000"); moment = at 1000; fate = Answered }
     ∷ record { bytes = hex (codes "30000000 02000000 0600000000000000 0100000000000000 e8030000 e8030000 4d000000 00000000 0100000000000000"); moment = at 1000; fate = Answered }
     ∷ []
 
 abbrev pub NotKept : Type 0
 NotKept =
-    (committed [] others ≡ [])
-    × (map (outcome_of first []) others ≡ Some (wire ENOSYS.0 [] 4) ∷ None ∷ [])
-    × (settled_by [] others ≡ [])
+    (committed [] bare_and_silent ≡ [])
+    × (map (outcome_of first []) bare_and_silent ≡ Some (wire ENOSYS.0 [] 4) ∷ None ∷ [])
+    × (settled_by [] bare_and_silent ≡ [])
