@@ -42,91 +42,95 @@ fn compare(rt: &(impl Abort + AllocGlobal), row: &Look<'_>) -> Result<(), Fail> 
     Ok(())
 }
 
+const LOOKS: [Look<'static>; 5] = [
+    Look {
+        name: "dump-and-check",
+        stream: &[rows::LOOKUP_HELLO, rows::LOOKUP_HELLO_AGAIN],
+        dump: "0 LOOKUP id=4 resend=0 node=1 len=46\n46 LOOKUP id=4 resend=1 node=1 len=46\n",
+        dump_ends: Ending::Done,
+        check: "messages=2 malformed=0 unsupported=0\n",
+        check_ends: Ending::Done,
+    },
+    Look {
+        name: "check-malformed",
+        stream: &[NAME_WITHOUT_NUL],
+        dump: "0 LOOKUP id=4 resend=0 node=1 len=45 malformed=NoNul\n",
+        dump_ends: Ending::Done,
+        check: "messages=1 malformed=1 unsupported=0\n",
+        check_ends: Ending::Malformed,
+    },
+    Look {
+        name: "outside the profile",
+        stream: &[CREATE, NOTIFY_REPLY],
+        dump: "0 OP(35) id=4 resend=0 node=1 len=40\n40 OP(41) id=6 resend=0 node=1 len=40\n",
+        dump_ends: Ending::Done,
+        check: "messages=2 malformed=0 unsupported=2\n",
+        check_ends: Ending::Done,
+    },
+    Look {
+        name: "zero unique",
+        stream: &[GETATTR_OF_ZERO],
+        dump: "0 GETATTR id=0 resend=1 node=2 len=56\n",
+        dump_ends: Ending::Done,
+        check: "messages=1 malformed=0 unsupported=0\n",
+        check_ends: Ending::Done,
+    },
+    Look {
+        name: "a malformed silent message",
+        stream: &[SHORT_FORGET],
+        dump: "0 FORGET id=8 resend=0 node=1 len=47 malformed=BodyLength\n",
+        dump_ends: Ending::Done,
+        check: "messages=1 malformed=1 unsupported=0\n",
+        check_ends: Ending::Malformed,
+    },
+];
+
 #[test]
 fn looks(rt: HostRuntime) -> Result<(), Fail> {
-    for row in &[
-        Look {
-            name: "dump-and-check",
-            stream: &[rows::LOOKUP_HELLO, rows::LOOKUP_HELLO_AGAIN],
-            dump: "0 LOOKUP id=4 resend=0 node=1 len=46\n46 LOOKUP id=4 resend=1 node=1 len=46\n",
-            dump_ends: Ending::Done,
-            check: "messages=2 malformed=0 unsupported=0\n",
-            check_ends: Ending::Done,
-        },
-        Look {
-            name: "check-malformed",
-            stream: &[NAME_WITHOUT_NUL],
-            dump: "0 LOOKUP id=4 resend=0 node=1 len=45 malformed=NoNul\n",
-            dump_ends: Ending::Done,
-            check: "messages=1 malformed=1 unsupported=0\n",
-            check_ends: Ending::Malformed,
-        },
-        Look {
-            name: "outside the profile",
-            stream: &[CREATE, NOTIFY_REPLY],
-            dump: "0 OP(35) id=4 resend=0 node=1 len=40\n40 OP(41) id=6 resend=0 node=1 len=40\n",
-            dump_ends: Ending::Done,
-            check: "messages=2 malformed=0 unsupported=2\n",
-            check_ends: Ending::Done,
-        },
-        Look {
-            name: "zero unique",
-            stream: &[GETATTR_OF_ZERO],
-            dump: "0 GETATTR id=0 resend=1 node=2 len=56\n",
-            dump_ends: Ending::Done,
-            check: "messages=1 malformed=0 unsupported=0\n",
-            check_ends: Ending::Done,
-        },
-        Look {
-            name: "a malformed silent message",
-            stream: &[SHORT_FORGET],
-            dump: "0 FORGET id=8 resend=0 node=1 len=47 malformed=BodyLength\n",
-            dump_ends: Ending::Done,
-            check: "messages=1 malformed=1 unsupported=0\n",
-            check_ends: Ending::Malformed,
-        },
-    ] {
+    for row in &LOOKS {
         compare(&rt, row)?;
     }
     Ok(())
 }
 
+const FAULTY: [Look<'static>; 3] = [
+    Look {
+        name: "cut-stream",
+        stream: &[rows::LOOKUP_HELLO, "010203"],
+        dump: "0 LOOKUP id=4 resend=0 node=1 len=46\n",
+        dump_ends: Ending::Cut {
+            at: 46,
+            have: 3,
+            need: 4,
+        },
+        check: "messages=1 malformed=0 unsupported=0\n",
+        check_ends: Ending::Cut {
+            at: 46,
+            have: 3,
+            need: 4,
+        },
+    },
+    Look {
+        name: "length-bounds",
+        stream: &[NAME_WITHOUT_NUL, "27000000"],
+        dump: "0 LOOKUP id=4 resend=0 node=1 len=45 malformed=NoNul\n",
+        dump_ends: Ending::Short { at: 45, len: 39 },
+        check: "messages=1 malformed=1 unsupported=0\n",
+        check_ends: Ending::Short { at: 45, len: 39 },
+    },
+    Look {
+        name: "empty-stream",
+        stream: &[],
+        dump: "",
+        dump_ends: Ending::Done,
+        check: "messages=0 malformed=0 unsupported=0\n",
+        check_ends: Ending::Done,
+    },
+];
+
 #[test]
 fn looks_at_faulty_streams(rt: HostRuntime) -> Result<(), Fail> {
-    for row in &[
-        Look {
-            name: "cut-stream",
-            stream: &[rows::LOOKUP_HELLO, "010203"],
-            dump: "0 LOOKUP id=4 resend=0 node=1 len=46\n",
-            dump_ends: Ending::Cut {
-                at: 46,
-                have: 3,
-                need: 4,
-            },
-            check: "messages=1 malformed=0 unsupported=0\n",
-            check_ends: Ending::Cut {
-                at: 46,
-                have: 3,
-                need: 4,
-            },
-        },
-        Look {
-            name: "length-bounds",
-            stream: &[NAME_WITHOUT_NUL, "27000000"],
-            dump: "0 LOOKUP id=4 resend=0 node=1 len=45 malformed=NoNul\n",
-            dump_ends: Ending::Short { at: 45, len: 39 },
-            check: "messages=1 malformed=1 unsupported=0\n",
-            check_ends: Ending::Short { at: 45, len: 39 },
-        },
-        Look {
-            name: "empty-stream",
-            stream: &[],
-            dump: "",
-            dump_ends: Ending::Done,
-            check: "messages=0 malformed=0 unsupported=0\n",
-            check_ends: Ending::Done,
-        },
-    ] {
+    for row in &FAULTY {
         compare(&rt, row)?;
     }
     Ok(())
