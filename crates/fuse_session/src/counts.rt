@@ -12,15 +12,20 @@ use fuse_request::opcode::INTERRUPT;
 use fuse_request::{Class, classify, decode};
 use fuse_store::Done;
 
-/// How many messages were worked off, by class. `repeated` of the kept ones had an id that was there before, and
-/// `interrupts` of the silent ones are well-formed INTERRUPTs.
+/// How many messages were worked off, by class.
 #[derive(Clone, Copy, Debug, PartialEq, Eq)]
 pub struct SessionCounts {
+    /// All of them: the kept, the bare and the silent ones.
     pub messages: u64,
+    /// Those whose answer is recorded.
     pub kept: u64,
+    /// The kept ones whose id was there before.
     pub repeated: u64,
+    /// Those whose answer follows from their bytes alone.
     pub bare: u64,
+    /// Those that are never answered.
     pub silent: u64,
+    /// The silent ones that are well-formed INTERRUPTs.
     pub interrupts: u64,
 }
 

@@ -9,6 +9,7 @@ use std::alloc::Global;
 pub enum Arrival {
     /// At most so many bytes.
     Piece(usize),
+    /// Nothing comes.
     Failed,
 }
 
@@ -17,7 +18,9 @@ pub enum Arrival {
 pub enum Outcome {
     /// At most so many bytes are taken.
     Take(usize),
+    /// All is taken, and nobody waits for it.
     Gone,
+    /// Nothing is taken.
     Failed,
 }
 

@@ -9,6 +9,7 @@ pub enum Received {
     Got(usize),
     /// Nothing comes any more.
     End,
+    /// Nothing came. A later call may give more.
     Failed,
 }
 
@@ -19,6 +20,7 @@ pub enum Sent {
     Took(usize),
     /// No request of this answer's unique is pending. The whole slice counts as sent.
     Gone,
+    /// A front of the bytes may have been taken.
     Failed,
 }
 

@@ -1,4 +1,4 @@
-//! Bytes that are written and read: rows write-then-read and resent-read.
+//! What is written, read and listed: rows write-then-read, resent-read and readdir.
 use super::run::{MKNOD, OPEN, Pair, READ, WRITE};
 use super::*;
 

@@ -122,7 +122,8 @@ fn put_owner(answer: &mut [u8], stream: &[u8]) {
     }
 }
 
-// The answers to INIT and to the first messages of a stream. The new directory's owner is the one that the first header names.
+// The answers to INIT and to the first messages of a stream. The new directory's owner is the one that the first header
+// names.
 fn answers(
     alloc: Global,
     stream: &[u8],

@@ -133,14 +133,11 @@ fn receives(alloc: Global, grouping: Grouping, before: usize) -> Result<Peer, Al
 fn each_receive(rt: HostRuntime) -> Result<(), Fail> {
     let alloc = rt.alloc();
     for before in 0..MESSAGES + 1 {
-        let peer = receives(alloc, Grouping::Each, before)?;
-        let served = is_served(alloc, peer, before, held_after(before))?;
-        assert!(rt; served, "{before} messages before");
-    }
-    for before in [0, MESSAGES] {
-        let peer = receives(alloc, Grouping::All, before)?;
-        let served = is_served(alloc, peer, before, held_after(before))?;
-        assert!(rt; served, "{before} messages before, in one piece");
+        for grouping in [Grouping::Each, Grouping::All] {
+            let peer = receives(alloc, grouping, before)?;
+            let served = is_served(alloc, peer, before, held_after(before))?;
+            assert!(rt; served, "{before} messages before, {grouping:?}");
+        }
     }
     Ok(())
 }

@@ -10,7 +10,7 @@ struct Refusal {
     records: u64,
 }
 
-const REFUSALS: [Refusal; 13] = [
+const REFUSALS: [Refusal; 16] = [
     Refusal {
         row: "name-ends",
         asked: "2d000000 01000000 0400000000000000 0100000000000000 e8030000 e8030000 4d000000 00000000 68656c6c6f",
@@ -89,6 +89,24 @@ const REFUSALS: [Refusal; 13] = [
         row: "name-lengths",
         asked: "2c000000 01000000 0400000000000000 0100000000000000 e8030000 e8030000 4d000000 00000000 612f6200",
         answer: "10000000 eaffffff 0400000000000000",
+        records: 1,
+    },
+    Refusal {
+        row: "hostile-bodies",
+        asked: "33000000 0c000000 0400000000000000 0100000000000000 e8030000 e8030000 4d000000 00000000 0100000000000000 6100 62",
+        answer: "10000000 eaffffff 0400000000000000",
+        records: 0,
+    },
+    Refusal {
+        row: "hostile-bodies",
+        asked: "28000000 ffffffff 0400000000000000 0100000000000000 e8030000 e8030000 4d000000 00000000",
+        answer: "10000000 daffffff 0400000000000000",
+        records: 0,
+    },
+    Refusal {
+        row: "hostile-bodies",
+        asked: "38000000 03000000 0400000000000000 0000000000000000 e8030000 e8030000 4d000000 00000000 00000000000000000000000000000000",
+        answer: "10000000 8cffffff 0400000000000000",
         records: 1,
     },
 ];
