@@ -1,6 +1,6 @@
 //! The rows of the specification that are events: what each of them is answered, and what they leave.
 use super::*;
-use texts::{BEHIND_INIT, INIT_AGREED, MOUNTED, ON_A_NEW_STORE, UNLINKED};
+use texts::{BEHIND_INIT, INIT_AGREED, ON_A_NEW_STORE};
 
 mod texts;
 
@@ -47,100 +47,74 @@ fn event_of(alloc: Global, line: &str) -> Result<Event, Fail> {
     })
 }
 
-fn script_of(alloc: Global, text: &str) -> Result<Script, Fail> {
-    let mut script = Script {
-        events: Vec::new(alloc),
-        answers: Vec::new(alloc),
-    };
+// Adds the events of a text to a script.
+fn read_text(alloc: Global, script: &mut Script, text: &str) -> Result<(), Fail> {
     for part in text.split_terminator(';') {
         let (line, answer) = part.split_once("gives").unwrap_or((part, ""));
         script.events.push(event_of(alloc, line)?)?;
         script.answers.push(hex(alloc, answer)?)?;
     }
-    Ok(script)
+    Ok(())
 }
 
-// What isn't as a row has it.
+// How many events there are, how many of them, from the first on, are answered as they should be, and what they leave.
 #[derive(Clone, Copy, Debug, PartialEq, Eq)]
-enum Wrong {
-    Ended,
-    Answer(usize),
-    Left(Option<Held>),
+struct Seen {
+    events: usize,
+    right: usize,
+    left: Option<Held>,
 }
 
-// The number of the first event that isn't answered so.
-fn wrong_answer(outcomes: &[Option<Outcome>], answers: &[Vec<u8>]) -> Option<usize> {
-    outcomes
-        .iter()
-        .zip(answers)
-        .position(|(outcome, answer)| !is_answer(outcome, answer.as_slice()))
-}
-
-// Runs a row.
-fn run(alloc: Global, keeper: &mut Option<PlainKeeper>, row: &Row) -> Result<Option<Wrong>, Fail> {
-    let script = script_of(alloc, row.events)?;
-    let Some(Ok(outcomes)) = drive_on(alloc, keeper, script.events.as_slice()) else {
-        return Ok(Some(Wrong::Ended));
-    };
-    if let Some(number) = wrong_answer(outcomes.as_slice(), script.answers.as_slice()) {
-        return Ok(Some(Wrong::Answer(number)));
+// How many of these answers are right, from the first on.
+fn right_in(outcomes: &[Option<Outcome>], answers: &[Vec<u8>]) -> usize {
+    for (place, answer) in answers.iter().enumerate() {
+        match outcomes.get(place) {
+            Some(outcome) if is_answer(outcome, answer.as_slice()) => {}
+            _ => return place,
+        }
     }
+    answers.len()
+}
+
+// Runs a script on a store that was made at second 0.
+fn run(alloc: Global, script: &Script) -> Seen {
+    let mut keeper = PlainKeeper::new(alloc, START).ok();
+    let right = match drive_on(alloc, &mut keeper, script.events.as_slice()) {
+        Some(Ok(outcomes)) => right_in(outcomes.as_slice(), script.answers.as_slice()),
+        _ => 0,
+    };
+    Seen {
+        events: script.events.len(),
+        right,
+        left: held_in(&mut keeper),
+    }
+}
+
+// Runs the events of this text and then those of a row: what was seen, where it isn't as the row has it.
+fn wrong_in(alloc: Global, first: &str, row: &Row) -> Result<Option<Seen>, Fail> {
+    let mut script = Script {
+        events: Vec::new(alloc),
+        answers: Vec::new(alloc),
+    };
+    read_text(alloc, &mut script, first)?;
+    read_text(alloc, &mut script, row.events)?;
+    let seen = run(alloc, &script);
     let (nodes, handles, records) = row.left;
-    let held = held_in(keeper);
-    if outcomes.len() == script.answers.len() && held == Some(holding(nodes, handles, records)) {
+    if seen.right == seen.events && seen.left == Some(holding(nodes, handles, records)) {
         Ok(None)
     } else {
-        Ok(Some(Wrong::Left(held)))
+        Ok(Some(seen))
     }
-}
-
-// A store that was made at second 0.
-fn new_store(alloc: Global) -> Result<Option<PlainKeeper>, Fail> {
-    Ok(Some(PlainKeeper::new(alloc, START)?))
-}
-
-// The minor version that was agreed on.
-fn minor_in(keeper: &mut Option<PlainKeeper>) -> Option<u32> {
-    let settings = keeper.as_mut()?.settings().ok()?;
-    settings.map(|agreed| agreed.minor)
 }
 
 #[test]
 fn rows(rt: HostRuntime) -> Result<(), Fail> {
     let alloc = rt.alloc();
     for row in &ON_A_NEW_STORE {
-        let mut keeper = new_store(alloc)?;
-        assert_eq!(rt; run(alloc, &mut keeper, row)?, None, "{}", row.name);
+        assert_eq!(rt; wrong_in(alloc, "", row)?, None, "{}", row.name);
     }
     for row in &BEHIND_INIT {
-        let mut keeper = new_store(alloc)?;
-        assert_eq!(rt; run(alloc, &mut keeper, &INIT_AGREED)?, None);
-        assert_eq!(rt; run(alloc, &mut keeper, row)?, None, "{}", row.name);
+        assert_eq!(rt; wrong_in(alloc, INIT_AGREED, row)?, None, "{}", row.name);
     }
-    Ok(())
-}
-
-// What INIT leaves as settings.
-#[test]
-fn settings(rt: HostRuntime) -> Result<(), Fail> {
-    let alloc = rt.alloc();
-    for (row, minor) in ON_A_NEW_STORE.iter().zip([Some(31), None, None]) {
-        let mut keeper = new_store(alloc)?;
-        assert_eq!(rt; run(alloc, &mut keeper, row)?, None, "{}", row.name);
-        assert_eq!(rt; minor_in(&mut keeper), minor, "{}", row.name);
-    }
-    Ok(())
-}
-
-#[test]
-fn unlinked_open_file(rt: HostRuntime) -> Result<(), Fail> {
-    let alloc = rt.alloc();
-    let mut keeper = new_store(alloc)?;
-    assert_eq!(rt; run(alloc, &mut keeper, &INIT_AGREED)?, None);
-    assert_eq!(rt; run(alloc, &mut keeper, &UNLINKED)?, None);
-    if let Some(inner) = keeper.as_mut() {
-        inner.begin_mount()?;
-    }
-    assert_eq!(rt; run(alloc, &mut keeper, &MOUNTED)?, None);
     Ok(())
 }
