@@ -11,7 +11,7 @@ ghost use Rattle.fuse_session.specs.Group.{answers_in, wires, AreEnough, head_wi
 use crate::port::{Passed, Port, PortFailed, send_whole};
 use bytes::Bytes;
 use fuse_answer::{Answer, write_answer};
-use fuse_request::{Class, classify, header_of};
+use fuse_request::{Class, classify};
 use fuse_store::Done;
 use fuse_wire::{Errno, Id};
 use std::alloc::Global;
@@ -44,17 +44,6 @@ fn send_reply<P: Port>(
     }
 }
 
-// The unique of a message.
-fn unique_in(message: &[u8]) -> u64
-    requires { IsMessage message.now }
-    ensures { result ≡ unique_of message.now }
-{
-    match header_of(message) {
-        Some(header) => header.unique,
-        None => 0,
-    }
-}
-
 // Whether an answer that was sent so settles its id.
 fn is_settled<P: Port>(port: &P, passed: Passed) -> bool
     ensures { result ≡ ((P.told port.now).confirms || tells_gone passed) }
@@ -83,7 +72,7 @@ fn send_kept<P: Port>(
     if pending.reserve(1).is_err() {
         return Err(SendFault::Memory);
     }
-    let unique = unique_in(message);
+    let unique = fuse_request::unique_of(message);
     let passed = match send_reply(alloc, port, unique, answer) {
         Ok(passed) => passed,
         Err(fault) => return Err(fault),
@@ -107,7 +96,7 @@ fn send_bare<P: Port>(
     ensures err { IfErr result (λ fault. SendFails fault (P.told port.old) (P.told port.new) (wire errno.0 [] (unique_of message.now))) }
 {
     let answer = Answer::refusal(alloc, errno);
-    send_reply(alloc, port, unique_in(message), &answer)
+    send_reply(alloc, port, fuse_request::unique_of(message), &answer)
 }
 
 // Sends the answer to one message, and says how many answers are used then.

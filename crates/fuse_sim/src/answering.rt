@@ -6,29 +6,17 @@ ghost use Rattle.fuse_request.specs.declared.class.Class.TheVariants.{Kept};
 ghost use Rattle.fuse_request.specs.Stream.{IsMessage};
 ghost use Rattle.fuse_request.specs.Classes.{class_of};
 ghost use Rattle.fuse_store.specs.Group.{ids_of};
-ghost use Rattle.fuse_session.specs.Worked.{unique_of};
 ghost use Rattle.fuse_session.specs.Group.{left_by};
 ghost use Rattle.fuse_sim.specs.Driving.{IsFit, bytes_given, settles, is_taken};
 ghost use Rattle.fuse_sim.specs.Running.{answers_in, head_outcome, outcomes_by, HasAnswers, settles_in, Adds};
 
 use crate::event::{Event, Fate, Outcome};
 use fuse_answer::{Answer, head_of};
-use fuse_request::{Class, classify, header_of, one_cut};
+use fuse_request::{Class, classify, one_cut};
 use fuse_store::Done;
 use fuse_wire::Id;
 use std::alloc::Global;
 use std::vec::IntoIter;
-
-// The unique of a message.
-fn unique_in(message: &[u8]) -> u64
-    requires { IsMessage message.now }
-    ensures { result ≡ unique_of message.now }
-{
-    match header_of(message) {
-        Some(header) => header.unique,
-        None => 0,
-    }
-}
 
 // Whether the kernel takes the answer.
 fn is_answered(fate: Fate) -> bool
@@ -61,7 +49,7 @@ fn outcome_of_event(alloc: Global, event: &Event, answers: &mut IntoIter<Done>) 
         Class::Kept => answers.next().unwrap().answer,
     };
     if is_answered(event.fate) {
-        Some(outcome_with(unique_in(bytes), answer))
+        Some(outcome_with(fuse_request::unique_of(bytes), answer))
     } else {
         None
     }
@@ -79,7 +67,7 @@ fn settle(pending: &mut Vec<Id>, event: &Event)
     match classify(bytes) {
         Class::Kept => {
             if taken {
-                pending.push_reserved(Id::of(unique_in(bytes)));
+                pending.push_reserved(Id::of(fuse_request::unique_of(bytes)));
             }
         }
         Class::Silent | Class::Bare(_) => {}

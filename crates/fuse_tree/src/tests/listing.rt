@@ -1,5 +1,5 @@
 //! READDIR: row `readdir`, entries of a directory, and its refusals.
-ghost use Rattle.std.specs.Prelude.{◌≡◌, None, IfOk, OnOk};
+ghost use Rattle.std.specs.Prelude.{◌≡◌, None, IfOk};
 ghost use Rattle.fuse_tree.specs.PlainRows.{fault_of};
 
 use super::opening::{DIR, FILE, OPENDIR, done, with_open};

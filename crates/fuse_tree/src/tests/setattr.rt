@@ -1,5 +1,5 @@
 // SETATTR, over a file that holds `one`.
-ghost use Rattle.std.specs.Prelude.{◌≡◌, None, IfOk, OnOk};
+ghost use Rattle.std.specs.Prelude.{◌≡◌, None, OnOk};
 ghost use Rattle.fuse_tree.specs.PlainRows.{fault_of};
 
 use super::file::*;
