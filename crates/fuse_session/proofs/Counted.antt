@@ -5,8 +5,8 @@ use Rattle.fuse_request.specs.declared.class.Class.{Class}
 use Rattle.fuse_request.specs.declared.class.Class.TheVariants.{Silent, Bare, Kept}
 use Rattle.fuse_request.specs.Classes.{class_of}
 use Rattle.std.proofs.Common.{zero, suc, get_or}
-use Rattle.fuse_store.specs.declared.keeper.Done.{Done}
-use Rattle.fuse_store.specs.History.{Entry, entry_id, History, has, grown, repeats}
+use Rattle.fuse_keeper.specs.declared.keeper.Done.{Done}
+use Rattle.fuse_keeper.specs.History.{Entry, entry_id, History, has, grown, repeats}
 use Rattle.fuse_session.proofs.Standing.{grown-append}
 use Rattle.fuse_session.specs.declared.counts.SessionCounts.{SessionCounts}
 use Rattle.fuse_session.specs.Worked.{Timed, bytes_of, kept_in, entries_at, entry_if, timed_entry}

@@ -5,8 +5,8 @@ use Rattle.fuse_request.specs.declared.class.Class.{Class}
 use Rattle.fuse_request.specs.declared.class.Class.TheVariants.{Silent, Bare, Kept}
 use Rattle.fuse_request.specs.Classes.{class_of}
 use Rattle.fuse_request.specs.Header.{raw_of}
-use Rattle.fuse_tree.specs.State.{State}
-use Rattle.fuse_store.specs.History.{entry_id, History, add, said, grown}
+use Rattle.fuse_keeper.specs.Model.{Model}
+use Rattle.fuse_keeper.specs.History.{entry_id, History, add, said, grown}
 use Rattle.fuse_session.specs.Worked.{Timed, kept_in, entries_at, entry_if, timed_entry, message_id, destroys, destroys_by, says_zero, GoesOn, Works, EndsLast}
 use Rattle.fuse_session.specs.Group.{NoZero, NoDestroy, DestroyLast, last_zero, LastDestroys, told}
 use Rattle.fuse_session.proofs.Outs.{told-append, kept_in-append}
@@ -16,50 +16,50 @@ two_ways : (b : Bool) → b ≡ true → b ≡ false → ⊥
 two_ways true t f = cc
 two_ways false t f = cc
 
-pub goes_none : (s : State) (h : History) (ts : List Timed) → NoZero ts → NoDestroy ts → GoesOn s h ts
-goes_none s h [] zero none = tt
-goes_none s h (t ∷ ts) named none = (named.0, λ ends. two_ways (destroys t.bytes) ends.0 none.0, goes_none s (grown h (entries_at t)) ts named.1 none.1)
+pub goes_none : (M : Model) → (s : M.State) (h : History) (ts : List Timed) → NoZero ts → NoDestroy ts → GoesOn M s h ts
+goes_none M s h [] zero none = tt
+goes_none M s h (t ∷ ts) named none = (named.0, λ ends. two_ways (destroys t.bytes) ends.0 none.0, goes_none M s (grown h (entries_at t)) ts named.1 none.1)
 
-pub works_group : (s : State) (h : History) (ts : List Timed) → NoZero ts → DestroyLast ts → Works s h ts
-works_group s h [] named only = tt
-works_group s h (t ∷ ts) named only =
-    (named.0, elim only.0 [ inl empty ↦ inl empty | inr none ↦ inr (λ ends. two_ways (destroys t.bytes) ends.0 none) ], works_group s (grown h (entries_at t)) ts named.1 only.1)
+pub works_group : (M : Model) → (s : M.State) (h : History) (ts : List Timed) → NoZero ts → DestroyLast ts → Works M s h ts
+works_group M s h [] named only = tt
+works_group M s h (t ∷ ts) named only =
+    (named.0, elim only.0 [ inl empty ↦ inl empty | inr none ↦ inr (λ ends. two_ways (destroys t.bytes) ends.0 none) ], works_group M s (grown h (entries_at t)) ts named.1 only.1)
 
 last_tail : (a : Said) (list : List Said) → last_zero (a ∷ list) ≡ false → last_zero list ≡ false
 last_tail a [] h = refl
 last_tail a (b ∷ list) h = h
 
 -- the answers to what follows a message
-pub record Following (s : State) (g : History) (ts : List Timed) : Type 0 where
+pub record Following (M : Model) (s : M.State) (g : History) (ts : List Timed) : Type 0 where
   pub list : List Said
-  pub are : map (λ a. Some a) list ≡ told s g (kept_in ts)
+  pub are : map (λ a. Some a) list ≡ told M s g (kept_in ts)
   pub last : last_zero list ≡ false
 
-following : (s : State) (h : History) (t : Timed) (ts : List Timed) (class : Class) (list : List Said) → map (λ a. Some a) list ≡ told s h (entry_if class (timed_entry t) ++ kept_in ts)
-    → last_zero list ≡ false → Following s (grown h (entry_if class (timed_entry t))) ts
-following s h t ts Silent list are last = record { list = list; are = are; last = last }
-following s h t ts (Bare errno) list are last = record { list = list; are = are; last = last }
-following s h t ts Kept [] are last = absurd (cc are)
-following s h t ts Kept (a ∷ list) are last = record { list = list; are = cc are; last = last_tail a list last }
+following : (M : Model) → (s : M.State) (h : History) (t : Timed) (ts : List Timed) (class : Class) (list : List Said) → map (λ a. Some a) list ≡ told M s h (entry_if class (timed_entry t) ++ kept_in ts)
+    → last_zero list ≡ false → Following M s (grown h (entry_if class (timed_entry t))) ts
+following M s h t ts Silent list are last = record { list = list; are = are; last = last }
+following M s h t ts (Bare errno) list are last = record { list = list; are = are; last = last }
+following M s h t ts Kept [] are last = absurd (cc are)
+following M s h t ts Kept (a ∷ list) are last = record { list = list; are = cc are; last = last_tail a list last }
 
-not_ending : (s : State) (h : History) (t : Timed) (class : Class) (list : List Said) → map (λ a. Some a) list ≡ told s h (entry_if class (timed_entry t) ++ [])
-    → last_zero list ≡ false → destroys_by class (raw_of t.bytes).opcode ≡ true → says_zero (said s (grown h (entry_if class (timed_entry t))) (message_id t.bytes)) ≡ true → ⊥
-not_ending s h t Silent list are last d z = cc d
-not_ending s h t (Bare errno) list are last d z = cc d
-not_ending s h t Kept [] are last d z = cc are
-not_ending s h t Kept (a ∷ []) are last d z =
-    let here : said s (add h (timed_entry t)) (entry_id (timed_entry t)) ≡ Some a = cc are in
+not_ending : (M : Model) → (s : M.State) (h : History) (t : Timed) (class : Class) (list : List Said) → map (λ a. Some a) list ≡ told M s h (entry_if class (timed_entry t) ++ [])
+    → last_zero list ≡ false → destroys_by class (raw_of t.bytes).opcode ≡ true → says_zero (said M s (grown h (entry_if class (timed_entry t))) (message_id t.bytes)) ≡ true → ⊥
+not_ending M s h t Silent list are last d z = cc d
+not_ending M s h t (Bare errno) list are last d z = cc d
+not_ending M s h t Kept [] are last d z = cc are
+not_ending M s h t Kept (a ∷ []) are last d z =
+    let here : said M s (add h (timed_entry t)) (entry_id (timed_entry t)) ≡ Some a = cc are in
     two_ways (a.errno == 0) (sym (ap says_zero here) ∙ z) last
-not_ending s h t Kept (a ∷ b ∷ list) are last d z = cc are
+not_ending M s h t Kept (a ∷ b ∷ list) are last d z = cc are
 
-pub goes_last : (s : State) (h : History) (ts : List Timed) (list : List Said) → NoZero ts → DestroyLast ts → map (λ a. Some a) list ≡ told s h (kept_in ts) → last_zero list ≡ false → GoesOn s h ts
-goes_last s h [] list named only are last = tt
-goes_last s h (t ∷ ts) list named only are last =
-    let f = following s h t ts (class_of t.bytes) list are last in
-    let rest = goes_last s (grown h (entries_at t)) ts f.list named.1 only.1 f.are f.last in (
+pub goes_last : (M : Model) → (s : M.State) (h : History) (ts : List Timed) (list : List Said) → NoZero ts → DestroyLast ts → map (λ a. Some a) list ≡ told M s h (kept_in ts) → last_zero list ≡ false → GoesOn M s h ts
+goes_last M s h [] list named only are last = tt
+goes_last M s h (t ∷ ts) list named only are last =
+    let f = following M s h t ts (class_of t.bytes) list are last in
+    let rest = goes_last M s (grown h (entries_at t)) ts f.list named.1 only.1 f.are f.last in (
       named.0,
       elim only.0 [
-        | inl empty ↦ λ ends. not_ending s h t (class_of t.bytes) list (are ∙ ap (λ (r : List Timed). told s h (entries_at t ++ kept_in r)) empty) last ends.0 ends.1
+        | inl empty ↦ λ ends. not_ending M s h t (class_of t.bytes) list (are ∙ ap (λ (r : List Timed). told M s h (entries_at t ++ kept_in r)) empty) last ends.0 ends.1
         | inr none ↦ λ ends. two_ways (destroys t.bytes) ends.0 none
       ],
       rest,
@@ -79,17 +79,17 @@ kept_if Silent opcode is = absurd (cc is)
 kept_if (Bare errno) opcode is = absurd (cc is)
 kept_if Kept opcode is = refl
 
-pub ends_last : (s : State) (h : History) (timed : List Timed) (list : List Said) → LastDestroys timed → map (λ a. Some a) list ≡ told s h (kept_in timed) → last_zero list ≡ true → EndsLast s h timed
-ends_last s h timed list l are zero =
+pub ends_last : (M : Model) → (s : M.State) (h : History) (timed : List Timed) (list : List Said) → LastDestroys timed → map (λ a. Some a) list ≡ told M s h (kept_in timed) → last_zero list ≡ true → EndsLast M s h timed
+ends_last M s h timed list l are zero =
     let e = timed_entry l.one in
     let g = grown h (kept_in l.earlier) in
     let kept = kept_if (class_of l.one.bytes) (raw_of l.one.bytes).opcode l.destroy in
     let entries : kept_in timed ≡ kept_in l.earlier ++ e ∷ [] = ap kept_in l.parts ∙ kept_in-append l.earlier (l.one ∷ []) ∙ ap (λ c. kept_in l.earlier ++ (entry_if c e ++ [])) kept in
-    let says = last_of list (told s h (kept_in l.earlier)) (said s (add g e) (entry_id e)) (are ∙ ap (told s h) entries ∙ told-append s h (kept_in l.earlier) e) in
+    let says = last_of list (told M s h (kept_in l.earlier)) (said M s (add g e) (entry_id e)) (are ∙ ap (told M s h) entries ∙ told-append M s h (kept_in l.earlier) e) in
     let last : grown h (kept_in timed) ≡ add g e = ap (grown h) entries ∙ grown-append h (kept_in l.earlier) (e ∷ []) in
     record {
       earlier = l.earlier;
       one = l.one;
       parts = l.parts;
-      ends = (l.destroy, ap (λ x. says_zero (said s x (message_id l.one.bytes))) last ∙ sym says ∙ zero);
+      ends = (l.destroy, ap (λ x. says_zero (said M s x (message_id l.one.bytes))) last ∙ sym says ∙ zero);
     }

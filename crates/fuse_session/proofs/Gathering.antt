@@ -11,8 +11,8 @@ use Rattle.fuse_request.specs.Classes.{class_of, class_by, is_zero}
 use Rattle.fuse_request.specs.Faults.{first_fault}
 use Rattle.fuse_request.specs.Header.{raw_of}
 use Rattle.fuse_wire.specs.Opcodes.{silent}
-use Rattle.fuse_store.specs.History.{Entry}
-use Rattle.fuse_store.specs.Group.{entry_of, entries_of, HasId, IsKept}
+use Rattle.fuse_keeper.specs.History.{Entry}
+use Rattle.fuse_keeper.specs.Group.{entry_of, entries_of, HasId, IsKept}
 use Rattle.fuse_wire.specs.declared.opcode.TheConstants.{DESTROY}
 use Rattle.fuse_session.specs.Worked.{Timed, kept_in, entry_if, message_entry, destroys, destroys_by, Moments}
 use Rattle.fuse_session.specs.Group.{NoZero, NoDestroy, DestroyLast, Gathers}

@@ -8,12 +8,12 @@ use Rattle.fuse_request.specs.declared.class.Class.{Class}
 use Rattle.fuse_request.specs.declared.class.Class.TheVariants.{Silent, Bare, Kept}
 use Rattle.fuse_request.specs.Classes.{class_of}
 use Rattle.fuse_request.specs.Stream.{joined}
-use Rattle.fuse_tree.specs.State.{State}
-use Rattle.fuse_tree.specs.Rows.{Rows}
-use Rattle.fuse_store.specs.declared.keeper.Done.{Done}
-use Rattle.fuse_store.specs.History.{Entry, History, grown, is_in, ids_in, Includes, IsUnsettled, repeats, HistoriesGrow}
-use Rattle.fuse_store.specs.Stands.{Records, Stands, StandsFor, StandsForEither, Performed, AreThese, Leaves, IsFirm, KeepsHeld}
-use Rattle.fuse_store.specs.Group.{entry_of, entries_of}
+use Rattle.fuse_keeper.specs.declared.keeper.Done.{Done}
+use Rattle.fuse_keeper.specs.History.{Entry, History, grown, is_in, ids_in, Includes, IsUnsettled, repeats, HistoriesGrow}
+use Rattle.fuse_keeper.specs.Model.{Model}
+use Rattle.fuse_keeper.specs.Stands.{Records, Stands, StandsForEither, AreThese}
+use Rattle.fuse_keeper.specs.KeeperState.{KeeperState, StandsFor, Performed, Leaves, IsFirm, KeepsHeld}
+use Rattle.fuse_keeper.specs.Group.{entry_of, entries_of}
 use Rattle.fuse_session.proofs.Standing.{Stands-same, Stands-settled}
 use Rattle.fuse_session.specs.declared.counts.SessionCounts.{SessionCounts}
 use Rattle.fuse_session.specs.declared.group.Rest.{Rest}
@@ -34,25 +34,25 @@ use Rattle.fuse_session.proofs.Counted.{tallied_is}
 
 -- ---- what stands, and what a crash leaves
 
-pub stands_later : (holds : Rows → Records → Type 0) (s : State) (h : History) (t u : List ℕ) → Includes u t → StandsFor holds s h t → StandsFor holds s h u
-stands_later holds s h t u more so = record { rows = so.rows; records = so.records; held = so.held; stands = Stands-settled so.rows so.records s h t u more so.stands }
+pub stands_later : (M : Model) → (holds : KeeperState M) (s : M.State) (h : History) (t u : List ℕ) → Includes u t → StandsFor holds s h t → StandsFor holds s h u
+stands_later M holds s h t u more so = record { rows = so.rows; records = so.records; held = so.held; stands = Stands-settled M so.rows so.records s h t u more so.stands }
 
-pub stands_kept : (holds holds' : Rows → Records → Type 0) (s : State) (h : History) (t : List ℕ) → KeepsHeld holds holds' → StandsFor holds s h t → StandsFor holds' s h t
-stands_kept holds holds' s h t keeps so = record { rows = so.rows; records = so.records; held = keeps so.rows so.records so.held; stands = so.stands }
+pub stands_kept : (M : Model) → (holds holds' : KeeperState M) (s : M.State) (h : History) (t : List ℕ) → KeepsHeld holds holds' → StandsFor holds s h t → StandsFor holds' s h t
+stands_kept M holds holds' s h t keeps so = record { rows = so.rows; records = so.records; held = keeps so.rows so.records so.held; stands = so.stands }
 
-pub leaves_map : (whole : Type 0) (left P Q : Rows → Records → Type 0) → ((x : Rows) (r : Records) → P x r → Q x r) → Leaves whole left P → Leaves whole left Q
-leaves_map whole left P Q f l = (l.0, λ x r is. f x r (l.1 x r is))
+pub leaves_map : (M : Model) →  (left : KeeperState M) (P Q : M.Rows → Records → Type 0) → ((x : M.Rows) (r : Records) → P x r → Q x r) → Leaves left P → Leaves left Q
+leaves_map M left P Q f l = (l.0, λ x r is. f x r (l.1 x r is))
 
-pub firm_leaves : (holds : Rows → Records → Type 0) (whole : Type 0) (left : Rows → Records → Type 0) (s : State) (h : History) (t : List ℕ) → IsFirm holds whole left → StandsFor holds s h t
-    → Leaves whole left (λ x r. Stands x r s h t)
-firm_leaves holds whole left s h t firm so =
-    leaves_map whole left (AreThese so.rows so.records) (λ x r. Stands x r s h t) (λ x r same. Stands-same so.rows so.records x r s h t same so.stands) (firm so.rows so.records so.held)
+pub firm_leaves : (M : Model) → (holds : KeeperState M) (s : M.State) (h : History) (t : List ℕ) → IsFirm holds → StandsFor holds s h t
+    → Leaves holds (λ x r. Stands M x r s h t)
+firm_leaves M holds s h t firm so =
+    leaves_map M holds (AreThese M so.rows so.records) (λ x r. Stands M x r s h t) (λ x r same. Stands-same M so.rows so.records x r s h t same so.stands) (firm so.rows so.records so.held)
 
 -- ---- lives
 
 -- nothing was worked off
-pub lived_none : (stood : History → List ℕ → Type 0) (s : State) (h : History) (c : Bool) (t : List ℕ) (timed : List Timed) → stood h t → Lived stood s h c t timed [] []
-lived_none stood s h c t timed so = record {
+pub lived_none : (M : Model) → (stood : History → List ℕ → Type 0) (s : M.State) (h : History) (c : Bool) (t : List ℕ) (timed : List Timed) → stood h t → Lived M stood s h c t timed [] []
+lived_none M stood s h c t timed so = record {
   worked = [];
   unworked = timed;
   parts = refl;
@@ -66,10 +66,10 @@ lived_none stood s h c t timed so = record {
 }
 
 -- all of it was
-pub lived_all : (stood : History → List ℕ → Type 0) (s : State) (h : History) (c : Bool) (t : List ℕ) (timed : List Timed) (marks : List Mark) (part unsent : List ℕ) (later : List (List ℕ))
-    → Works s h timed → stood (grown h (kept_in timed)) (t ++ settled_in c (bytes_of timed) marks) → answers s (grown h (kept_in timed)) timed ≡ replies marks ++ later → joined later ≡ part ++ unsent → BeginsNext later part
-    → Lived stood s h c t timed marks part
-lived_all stood s h c t timed marks part unsent later works so sent begun next = record {
+pub lived_all : (M : Model) → (stood : History → List ℕ → Type 0) (s : M.State) (h : History) (c : Bool) (t : List ℕ) (timed : List Timed) (marks : List Mark) (part unsent : List ℕ) (later : List (List ℕ))
+    → Works M s h timed → stood (grown h (kept_in timed)) (t ++ settled_in c (bytes_of timed) marks) → answers M s (grown h (kept_in timed)) timed ≡ replies marks ++ later → joined later ≡ part ++ unsent → BeginsNext later part
+    → Lived M stood s h c t timed marks part
+lived_all M stood s h c t timed marks part unsent later works so sent begun next = record {
   worked = timed;
   unworked = [];
   parts = sym (append-nil timed);
@@ -83,8 +83,8 @@ lived_all stood s h c t timed marks part unsent later works so sent begun next =
 }
 
 -- exactly nothing was sent
-pub exact_none : (stood : History → List ℕ → Type 0) (s : State) (h : History) (c : Bool) (t : List ℕ) (timed : List Timed) → stood h t → Exact stood s h c t timed []
-exact_none stood s h c t timed so = record {
+pub exact_none : (M : Model) → (stood : History → List ℕ → Type 0) (s : M.State) (h : History) (c : Bool) (t : List ℕ) (timed : List Timed) → stood h t → Exact M stood s h c t timed []
+exact_none M stood s h c t timed so = record {
   worked = [];
   unworked = timed;
   parts = refl;
@@ -94,9 +94,9 @@ exact_none stood s h c t timed so = record {
 }
 
 -- exactly all of it was
-pub exact_all : (stood : History → List ℕ → Type 0) (s : State) (h : History) (c : Bool) (t : List ℕ) (timed : List Timed) (marks : List Mark)
-    → Works s h timed → stood (grown h (kept_in timed)) (t ++ settled_in c (bytes_of timed) marks) → replies marks ≡ answers s (grown h (kept_in timed)) timed → Exact stood s h c t timed marks
-exact_all stood s h c t timed marks works so sent = record {
+pub exact_all : (M : Model) → (stood : History → List ℕ → Type 0) (s : M.State) (h : History) (c : Bool) (t : List ℕ) (timed : List Timed) (marks : List Mark)
+    → Works M s h timed → stood (grown h (kept_in timed)) (t ++ settled_in c (bytes_of timed) marks) → replies marks ≡ answers M s (grown h (kept_in timed)) timed → Exact M stood s h c t timed marks
+exact_all M stood s h c t timed marks works so sent = record {
   worked = timed;
   unworked = [];
   parts = sym (append-nil timed);
@@ -106,10 +106,10 @@ exact_all stood s h c t timed marks works so sent = record {
 }
 
 -- nothing was done at all
-pub broken_none : (holds holds' : Rows → Records → Type 0) (clean' honest' firm whole' : Type 0) (left' : Rows → Records → Type 0) (may : Moment → Type 0) (p q : PortState) (pending : List ℕ) (messages : List (List ℕ)) (exact whole : Bool) (faulted : Type 0) → exact ≡ false → Replied p q [] []
-    → KeepsHeld holds holds' → (firm → (s : State) (h : History) (t : List ℕ) → StandsFor holds s h t → Leaves whole' left' (λ x r. Stands x r s h t))
-    → Broken holds holds' clean' honest' firm whole' left' may p q pending messages exact whole faulted
-broken_none holds holds' clean' honest' firm whole' left' may p q pending messages exact whole faulted inexact replied keeps leaves = record {
+pub broken_none : (M : Model) → (holds holds' : KeeperState M) (may : Moment → Type 0) (p q : PortState) (pending : List ℕ) (messages : List (List ℕ)) (exact whole : Bool) (faulted : Type 0) → exact ≡ false → Replied p q [] []
+    → KeepsHeld holds holds' → ((IsFirm holds) → (s : M.State) (h : History) (t : List ℕ) → StandsFor holds s h t → Leaves holds' (λ x r. Stands M x r s h t))
+    → Broken holds holds' may p q pending messages exact whole faulted
+broken_none M holds holds' may p q pending messages exact whole faulted inexact replied keeps leaves = record {
   timed = [];
   others = messages;
   marks = [];
@@ -118,29 +118,29 @@ broken_none holds holds' clean' honest' firm whole' left' may p q pending messag
   moments = tt;
   replied = replied;
   no_part = λ _. refl;
-  exactly = λ _ honest s h t so within again. exact_none (λ g u. exact ≡ true → clean' → StandsFor holds' s g u × faulted) s h p.confirms t [] (λ is clean. absurd (cc (is, inexact)));
-  life = λ clean s h t so within again. lived_none (StandsFor holds' s) s h p.confirms t [] (stands_kept holds holds' s h t keeps so);
-  crash = λ honest is_firm s h t so within again. leaves_map whole' left' (λ x r. Stands x r s h t) (λ x r. Lived (Stands x r s) s h p.confirms t [] [] [])
-      (λ x r left. lived_none (Stands x r s) s h p.confirms t [] left) (leaves is_firm s h t so);
-  few = λ honest clean t again h. (pending, few_same holds' p.confirms t pending [] (few_kept holds holds' t pending keeps h));
+  exactly = λ _ honest s h t so within again. exact_none M (λ g u. exact ≡ true → holds'.is_clean → StandsFor holds' s g u × faulted) s h p.confirms t [] (λ is clean. absurd (cc (is, inexact)));
+  life = λ clean s h t so within again. lived_none M (StandsFor holds' s) s h p.confirms t [] (stands_kept M holds holds' s h t keeps so);
+  crash = λ honest is_firm s h t so within again. leaves_map M holds' (λ x r. Stands M x r s h t) (λ x r. Lived M (Stands M x r s) s h p.confirms t [] [] [])
+      (λ x r left. lived_none M (Stands M x r s) s h p.confirms t [] left) (leaves is_firm s h t so);
+  few = λ honest clean t again h. (pending, few_same M holds' p.confirms t pending [] (few_kept M holds holds' t pending keeps h));
 }
 
 -- ---- a group that wasn't performed
 
-stored : (s : State) (h : History) (c : Bool) (t : List ℕ) (ts : List Timed) (es : List Entry) (x : Rows) (r : Records) → es ≡ kept_in ts → Works s h ts → StandsForEither s h t s (grown h es) t x r
-    → Lived (Stands x r s) s h c t ts [] []
-stored s h c t ts es x r is works either = ⊎_elim
-    (λ before. lived_none (Stands x r s) s h c t ts before)
-    (λ after. lived_all (Stands x r s) s h c t ts [] [] (joined (answers s (grown h (kept_in ts)) ts)) (answers s (grown h (kept_in ts)) ts) works
-    (subst (λ u. Stands x r s (grown h (kept_in ts)) u) (sym (ap (λ (q : List ℕ). t ++ q) (settled_none c (bytes_of ts)) ∙ append-nil t)) (subst (λ l. Stands x r s (grown h l) t) is after)) refl refl (begins_none (answers s (grown h (kept_in ts)) ts)))
+stored : (M : Model) → (s : M.State) (h : History) (c : Bool) (t : List ℕ) (ts : List Timed) (es : List Entry) (x : M.Rows) (r : Records) → es ≡ kept_in ts → Works M s h ts → StandsForEither M s h t s (grown h es) t x r
+    → Lived M (Stands M x r s) s h c t ts [] []
+stored M s h c t ts es x r is works either = ⊎_elim
+    (λ before. lived_none M (Stands M x r s) s h c t ts before)
+    (λ after. lived_all M (Stands M x r s) s h c t ts [] [] (joined (answers M s (grown h (kept_in ts)) ts)) (answers M s (grown h (kept_in ts)) ts) works
+    (subst (λ u. Stands M x r s (grown h (kept_in ts)) u) (sym (ap (λ (q : List ℕ). t ++ q) (settled_none c (bytes_of ts)) ∙ append-nil t)) (subst (λ l. Stands M x r s (grown h l) t) is after)) refl refl (begins_none (answers M s (grown h (kept_in ts)) ts)))
     either
 
-pub broken_store : (holds holds' : Rows → Records → Type 0) (clean' honest' whole whole' : Type 0) (left left' : Rows → Records → Type 0) (may : Moment → Type 0) (p : PortState) (pending : List ℕ)
+pub broken_store : (M : Model) → (holds holds' : KeeperState M) (may : Moment → Type 0) (p : PortState) (pending : List ℕ)
     (messages : List (List ℕ)) (count : ℕ) (taken : List (Request × Moment)) (ends : Bool) (group : List (Request × Moment)) (faulted : Type 0)
-    → Gathers may (take count messages) taken ends → group ≡ taken → (clean' → KeepsHeld holds holds') → (clean' → (s : State) (h : History) (t : List ℕ) → StandsFor holds s h t → faulted)
-    → ((s : State) (h : History) (t : List ℕ) → StandsFor holds s h t → Includes t pending → All (IsUnsettled t) (entries_of group) → IsFirm holds whole left → Leaves whole' left' (StandsForEither s h t s (grown h (entries_of group)) t))
-    → Broken holds holds' clean' honest' (IsFirm holds whole left) whole' left' may p p pending messages true false faulted
-broken_store holds holds' clean' honest' whole whole' left left' may p pending messages count taken ends group faulted gathers same keeps fault crash =
+    → Gathers may (take count messages) taken ends → group ≡ taken → (holds'.is_clean → KeepsHeld holds holds') → (holds'.is_clean → (s : M.State) (h : History) (t : List ℕ) → StandsFor holds s h t → faulted)
+    → ((s : M.State) (h : History) (t : List ℕ) → StandsFor holds s h t → Includes t pending → All (IsUnsettled t) (entries_of group) → IsFirm holds → Leaves holds' (StandsForEither M s h t s (grown h (entries_of group)) t))
+    → Broken holds holds' may p p pending messages true false faulted
+broken_store M holds holds' may p pending messages count taken ends group faulted gathers same keeps fault crash =
     let ts = gathers.timed in
     let es : entries_of group ≡ kept_in ts = ap entries_of same ∙ gathers.entries in
     record {
@@ -152,13 +152,13 @@ broken_store holds holds' clean' honest' whole whole' left left' may p pending m
       moments = gathers.moments;
       replied = replied_none p;
       no_part = λ _. refl;
-      exactly = λ _ honest s h t so within again. exact_none (λ g u. true ≡ true → clean' → StandsFor holds' s g u × faulted) s h p.confirms t ts (λ _ clean. (stands_kept holds holds' s h t (keeps clean) so, fault clean s h t so));
-      life = λ clean s h t so within again. lived_none (StandsFor holds' s) s h p.confirms t ts (stands_kept holds holds' s h t (keeps clean) so);
+      exactly = λ _ honest s h t so within again. exact_none M (λ g u. true ≡ true → holds'.is_clean → StandsFor holds' s g u × faulted) s h p.confirms t ts (λ _ clean. (stands_kept M holds holds' s h t (keeps clean) so, fault clean s h t so));
+      life = λ clean s h t so within again. lived_none M (StandsFor holds' s) s h p.confirms t ts (stands_kept M holds holds' s h t (keeps clean) so);
       crash = λ honest firm s h t so within again.
-          leaves_map whole' left' (StandsForEither s h t s (grown h (entries_of group)) t) (λ x r. Lived (Stands x r s) s h p.confirms t ts [] [])
-          (λ x r either. stored s h p.confirms t ts (entries_of group) x r es (works_group s h ts gathers.no_zero gathers.only) either)
+          leaves_map M holds' (StandsForEither M s h t s (grown h (entries_of group)) t) (λ x r. Lived M (Stands M x r s) s h p.confirms t ts [] [])
+          (λ x r either. stored M s h p.confirms t ts (entries_of group) x r es (works_group M s h ts gathers.no_zero gathers.only) either)
           (crash s h t so within (subst (All (IsUnsettled t)) (sym es) (group_unsettled p.confirms t ts [] again)) firm);
-      few = λ honest clean t again h. (pending, few_same holds' p.confirms t pending ts (few_kept holds holds' t pending (keeps (clean refl)) h));
+      few = λ honest clean t again h. (pending, few_same M holds' p.confirms t pending ts (few_kept M holds holds' t pending (keeps (clean refl)) h));
     }
 
 -- ---- a group that was performed
@@ -167,35 +167,35 @@ same_answers : (dones : List Done) → map (λ a. Some a) (answers_in dones) ≡
 same_answers [] = refl
 same_answers (d ∷ dones) = ap (λ r. Some d.answer ∷ r) (same_answers dones)
 
-says_told : HistoriesGrow → (holds : Rows → Records → Type 0) (s : State) (h : History) (t : List ℕ) (es : List Entry) (ts : List Timed) (dones : List Done) → Performed holds s h t es dones → es ≡ kept_in ts
-    → map (λ a. Some a) (answers_in dones) ≡ told s h (kept_in ts)
-says_told grows holds s h t es ts dones done is = same_answers dones ∙ done.answers ∙ told_is grows s h es ∙ ap (told s h) is
+says_told : (M : Model) → HistoriesGrow M → (holds : KeeperState M) (s : M.State) (h : History) (t : List ℕ) (es : List Entry) (ts : List Timed) (dones : List Done) → Performed holds s h t es dones → es ≡ kept_in ts
+    → map (λ a. Some a) (answers_in dones) ≡ told M s h (kept_in ts)
+says_told M grows holds s h t es ts dones done is = same_answers dones ∙ done.answers ∙ told_is M grows s h es ∙ ap (told M s h) is
 
-sent_are : HistoriesGrow → (holds : Rows → Records → Type 0) (s : State) (h : History) (t : List ℕ) (es : List Entry) (ts : List Timed) (front : List (List ℕ)) (dones : List Done) → Performed holds s h t es dones → es ≡ kept_in ts
-    → front ≡ bytes_of ts → wires front (answers_in dones) ≡ answers s (grown h (kept_in ts)) ts
-sent_are grows holds s h t es ts front dones done is bytes = ap (λ f. wires f (answers_in dones)) bytes ∙ wires_are grows s h ts (answers_in dones) (says_told grows holds s h t es ts dones done is)
+sent_are : (M : Model) → HistoriesGrow M → (holds : KeeperState M) (s : M.State) (h : History) (t : List ℕ) (es : List Entry) (ts : List Timed) (front : List (List ℕ)) (dones : List Done) → Performed holds s h t es dones → es ≡ kept_in ts
+    → front ≡ bytes_of ts → wires front (answers_in dones) ≡ answers M s (grown h (kept_in ts)) ts
+sent_are M grows holds s h t es ts front dones done is bytes = ap (λ f. wires f (answers_in dones)) bytes ∙ wires_are M grows s h ts (answers_in dones) (says_told M grows holds s h t es ts dones done is)
 
-now_stands : (holds : Rows → Records → Type 0) (s : State) (h : History) (t more : List ℕ) (es : List Entry) (ts : List Timed) (dones : List Done) → Performed holds s h t es dones → es ≡ kept_in ts
+now_stands : (M : Model) → (holds : KeeperState M) (s : M.State) (h : History) (t more : List ℕ) (es : List Entry) (ts : List Timed) (dones : List Done) → Performed holds s h t es dones → es ≡ kept_in ts
     → StandsFor holds s (grown h (kept_in ts)) (t ++ more)
-now_stands holds s h t more es ts dones done is = stands_later holds s (grown h (kept_in ts)) t (t ++ more) (includes_left t more) (subst (λ l. StandsFor holds s (grown h l) t) is done.stands)
+now_stands M holds s h t more es ts dones done is = stands_later M holds s (grown h (kept_in ts)) t (t ++ more) (includes_left t more) (subst (λ l. StandsFor holds s (grown h l) t) is done.stands)
 
 -- its answers weren't all sent
-pub broken_sent : HistoriesGrow → (holds holds' : Rows → Records → Type 0) (clean' honest' whole whole' : Type 0) (left left' : Rows → Records → Type 0) (may : Moment → Type 0) (p q : PortState) (pending mid : List ℕ)
+pub broken_sent : (M : Model) → HistoriesGrow M → (holds holds' : KeeperState M) (may : Moment → Type 0) (p q : PortState) (pending mid : List ℕ)
     (messages : List (List ℕ)) (count : ℕ) (taken : List (Request × Moment)) (ends : Bool) (group : List (Request × Moment)) (front : List (List ℕ)) (dones list : List Done) (fault : SendFault) (exact want : Bool) (faulted : Type 0)
-    → Gathers may (take count messages) taken ends → group ≡ taken → front ≡ take count messages → (clean' → honest')
-    → (honest' → (s : State) (h : History) (t : List ℕ) → StandsFor holds s h t → Includes t pending → All (IsUnsettled t) (entries_of group) → Performed holds' s h t (entries_of group) dones)
-    → (honest' → IsFirm holds whole left → IsFirm holds' whole' left')
-    → (honest' → (u : List ℕ) → All (IsUnsettled u) (entries_of group) → FewHave holds u pending → FewHave holds' u mid) → length mid + length (entries_of group) ≤ 16
+    → Gathers may (take count messages) taken ends → group ≡ taken → front ≡ take count messages → (holds'.is_clean → holds'.is_honest)
+    → (holds'.is_honest → (s : M.State) (h : History) (t : List ℕ) → StandsFor holds s h t → Includes t pending → All (IsUnsettled t) (entries_of group) → Performed holds' s h t (entries_of group) dones)
+    → (holds'.is_honest → IsFirm holds → IsFirm holds')
+    → (holds'.is_honest → (u : List ℕ) → All (IsUnsettled u) (entries_of group) → FewHave holds u pending → FewHave holds' u mid) → length mid + length (entries_of group) ≤ 16
     → list ≡ dones → SentSome p q (wires front (answers_in list)) fault → exact ≡ false → (want ≡ true → fault ≡ Memory)
-    → Broken holds holds' clean' honest' (IsFirm holds whole left) whole' left' may p q pending messages exact want faulted
-broken_sent grows holds holds' clean' honest' whole whole' left left' may p q pending mid messages count taken ends group front dones list fault exact want faulted gathers same same_front clean_honest performed firm_still few size same_list sent inexact memory =
+    → Broken holds holds' may p q pending messages exact want faulted
+broken_sent M grows holds holds' may p q pending mid messages count taken ends group front dones list fault exact want faulted gathers same same_front clean_honest performed firm_still few size same_list sent inexact memory =
     let some = subst (λ l. SentSome p q (wires front (answers_in l)) fault) same_list sent in
     let ts = gathers.timed in
     let es : entries_of group ≡ kept_in ts = ap entries_of same ∙ gathers.entries in
     let bytes : front ≡ bytes_of ts = same_front ∙ gathers.bytes in
-    let done = λ (honest : honest') (s : State) (h : History) (t : List ℕ) (so : StandsFor holds s h t) (within : Includes t pending) (again : NoneComesAgain p.confirms t (bytes_of ts) some.marks).
+    let done = λ (honest : holds'.is_honest) (s : M.State) (h : History) (t : List ℕ) (so : StandsFor holds s h t) (within : Includes t pending) (again : NoneComesAgain p.confirms t (bytes_of ts) some.marks).
     performed honest s h t so within (subst (All (IsUnsettled t)) (sym es) (group_unsettled p.confirms t ts some.marks again)) in
-    let works = λ (s : State) (h : History). works_group s h ts gathers.no_zero gathers.only in
+    let works = λ (s : M.State) (h : History). works_group M s h ts gathers.no_zero gathers.only in
     record {
       timed = ts;
       others = drop count messages;
@@ -207,28 +207,28 @@ broken_sent grows holds holds' clean' honest' whole whole' left left' may p q pe
       no_part = λ is. some.memory (memory (ap (λ b. b || want) (sym inexact) ∙ is));
       exactly = λ _ honest s h t so within again.
           let d = done honest s h t so within again in
-          let f = outs_front s h ts some.marks some.later (works s h) (sym (answers_are_outs grows s h ts) ∙ sym (sent_are grows holds' s h t (entries_of group) ts front dones d es bytes) ∙ some.whole) in
+          let f = outs_front M s h ts some.marks some.later (works s h) (sym (answers_are_outs M grows s h ts) ∙ sym (sent_are M grows holds' s h t (entries_of group) ts front dones d es bytes) ∙ some.whole) in
           record {
             worked = f.first;
             unworked = f.others;
             parts = f.parts;
             works = f.works;
             stands = λ is clean. absurd (cc (is, inexact));
-            sent = f.sent ∙ sym (answers_are_outs grows s h f.first);
+            sent = f.sent ∙ sym (answers_are_outs M grows s h f.first);
           };
       life = λ clean s h t so within again.
           let d = done (clean_honest clean) s h t so within again in
-          lived_all (StandsFor holds' s) s h p.confirms t ts some.marks some.part some.unsent some.later (works s h) (now_stands holds' s h t _ (entries_of group) ts dones d es)
-          (sym (sent_are grows holds' s h t (entries_of group) ts front dones d es bytes) ∙ some.whole) some.begun some.next;
+          lived_all M (StandsFor holds' s) s h p.confirms t ts some.marks some.part some.unsent some.later (works s h) (now_stands M holds' s h t _ (entries_of group) ts dones d es)
+          (sym (sent_are M grows holds' s h t (entries_of group) ts front dones d es bytes) ∙ some.whole) some.begun some.next;
       crash = λ honest firm s h t so within again.
           let d = done honest s h t so within again in
-          leaves_map whole' left' (λ x r. Stands x r s (grown h (kept_in ts)) (t ++ settled_in p.confirms (bytes_of ts) some.marks)) (λ x r. Lived (Stands x r s) s h p.confirms t ts some.marks some.part)
-          (λ x r stands. lived_all (Stands x r s) s h p.confirms t ts some.marks some.part some.unsent some.later (works s h) stands
-          (sym (sent_are grows holds' s h t (entries_of group) ts front dones d es bytes) ∙ some.whole) some.begun some.next)
-          (firm_leaves holds' whole' left' s (grown h (kept_in ts)) _ (firm_still honest firm) (now_stands holds' s h t (settled_in p.confirms (bytes_of ts) some.marks) (entries_of group) ts dones d es));
+          leaves_map M holds' (λ x r. Stands M x r s (grown h (kept_in ts)) (t ++ settled_in p.confirms (bytes_of ts) some.marks)) (λ x r. Lived M (Stands M x r s) s h p.confirms t ts some.marks some.part)
+          (λ x r stands. lived_all M (Stands M x r s) s h p.confirms t ts some.marks some.part some.unsent some.later (works s h) stands
+          (sym (sent_are M grows holds' s h t (entries_of group) ts front dones d es bytes) ∙ some.whole) some.begun some.next)
+          (firm_leaves M holds' s (grown h (kept_in ts)) _ (firm_still honest firm) (now_stands M holds' s h t (settled_in p.confirms (bytes_of ts) some.marks) (entries_of group) ts dones d es));
       few = λ honest clean t again h. (
         mid ++ ids_in (entries_of group),
-        few_unsent holds' p.confirms t mid (entries_of group) ts some.marks es size
+        few_unsent M holds' p.confirms t mid (entries_of group) ts some.marks es size
             (few honest t (subst (All (IsUnsettled t)) (sym es) (group_unsettled p.confirms t ts some.marks again)) h),
       );
     }
@@ -256,15 +256,15 @@ both_included : (t pending mid more pending' : List ℕ) → Includes t pending 
 both_included t pending mid more pending' within f is i there =
     ⊎_elim (λ old. includes_left t more i (f t within i old)) (λ new. includes_right t more i new) (in_either mid more i (sym (ap (λ x. is_in x i) is) ∙ there))
 
-pub turned : HistoriesGrow → (holds holds' : Rows → Records → Type 0) (honest' : Type 0) (may : Moment → Type 0) (p q : PortState) (pending mid pending' : List ℕ) (messages : List (List ℕ)) (count : ℕ)
+pub turned : (M : Model) → HistoriesGrow M → (holds holds' : KeeperState M) (may : Moment → Type 0) (p q : PortState) (pending mid pending' : List ℕ) (messages : List (List ℕ)) (count : ℕ)
     (taken : List (Request × Moment)) (ends : Bool) (group : List (Request × Moment)) (front : List (List ℕ)) (dones list : List Done) (stuck : Bool) (rest : Rest) (counts : SessionCounts)
     → Gathers may (take count messages) taken ends → group ≡ taken → front ≡ take count messages
-    → (honest' → (s : State) (h : History) (t : List ℕ) → StandsFor holds s h t → Includes t pending → All (IsUnsettled t) (entries_of group) → Performed holds' s h t (entries_of group) dones)
+    → (holds'.is_honest → (s : M.State) (h : History) (t : List ℕ) → StandsFor holds s h t → Includes t pending → All (IsUnsettled t) (entries_of group) → Performed holds' s h t (entries_of group) dones)
     → ((u : List ℕ) → Includes u pending → Includes u mid)
-    → (honest' → (u : List ℕ) → All (IsUnsettled u) (entries_of group) → FewHave holds u pending → FewHave holds' u mid) → length pending' ≤ 16
+    → (holds'.is_honest → (u : List ℕ) → All (IsUnsettled u) (entries_of group) → FewHave holds u pending → FewHave holds' u mid) → length pending' ≤ 16
     → SentAll p q front (wires front (answers_in list)) mid pending' → list ≡ dones → rest ≡ rest_by (ends && last_zero (answers_in list)) stuck → counts ≡ tallied front (repeats_in list)
-    → Turned holds holds' honest' may p q pending pending' (take count messages) (lasts rest) counts
-turned grows holds holds' honest' may p q pending mid pending' messages count taken ends group front dones list stuck rest counts gathers same same_front performed handed few size sent same_list is counts_are =
+    → Turned holds holds' may p q pending pending' (take count messages) (lasts rest) counts
+turned M grows holds holds' may p q pending mid pending' messages count taken ends group front dones list stuck rest counts gathers same same_front performed handed few size sent same_list is counts_are =
     let all = subst (λ l. SentAll p q front (wires front (answers_in l)) mid pending') same_list sent in
     let ts = gathers.timed in
     let es : entries_of group ≡ kept_in ts = ap entries_of same ∙ gathers.entries in
@@ -279,22 +279,22 @@ turned grows holds holds' honest' may p q pending mid pending' messages count ta
       handed = λ t within. both_included t pending mid (settled_in p.confirms (bytes_of ts) all.marks) pending' within handed (all.handed ∙ ap (λ f. mid ++ settled_in p.confirms f all.marks) bytes);
       all = λ honest s h t so within again.
           let d = performed honest s h t so within (subst (All (IsUnsettled t)) (sym es) (group_unsettled p.confirms t ts all.marks again)) in
-          let says = says_told grows holds' s h t (entries_of group) ts dones d es in
+          let says = says_told M grows holds' s h t (entries_of group) ts dones d es in
           record {
-            works = works_group s h ts gathers.no_zero gathers.only;
+            works = works_group M s h ts gathers.no_zero gathers.only;
             goes = λ going. elim (and_false ends (last_zero (answers_in list)) (lasts_not (ends && last_zero (answers_in list)) stuck (sym (ap lasts is) ∙ going))) [
-              | inl no_end ↦ goes_none s h ts gathers.no_zero (gathers.none no_end)
-              | inr both ↦ goes_last s h ts (answers_in dones) gathers.no_zero gathers.only says (sym (ap (λ l. last_zero (answers_in l)) same_list) ∙ both.1)
+              | inl no_end ↦ goes_none M s h ts gathers.no_zero (gathers.none no_end)
+              | inr both ↦ goes_last M s h ts (answers_in dones) gathers.no_zero gathers.only says (sym (ap (λ l. last_zero (answers_in l)) same_list) ∙ both.1)
             ];
             last = λ over.
                 let both = and_true ends (last_zero (answers_in list)) (ended_so (ends && last_zero (answers_in list)) stuck (sym (ap lasts is) ∙ over)) in
-                ends_last s h ts (answers_in dones) (gathers.ended both.0) says (sym (ap (λ l. last_zero (answers_in l)) same_list) ∙ both.1);
-            stands = now_stands holds' s h t _ (entries_of group) ts dones d es;
-            sent = all.whole ∙ sent_are grows holds' s h t (entries_of group) ts front dones d es bytes;
+                ends_last M s h ts (answers_in dones) (gathers.ended both.0) says (sym (ap (λ l. last_zero (answers_in l)) same_list) ∙ both.1);
+            stands = now_stands M holds' s h t _ (entries_of group) ts dones d es;
+            sent = all.whole ∙ sent_are M grows holds' s h t (entries_of group) ts front dones d es bytes;
             counts_are = counts_are ∙ ap (λ l. tallied front (repeats_in l)) same_list ∙ ap (λ f. tallied f (repeats_in dones)) bytes ∙ ap (tallied (bytes_of ts)) (d.repeated ∙ ap (repeats h) es) ∙ tallied_is ts h;
           };
       few = λ honest t again h.
-          few_sent holds' p.confirms t mid pending' front ts all.marks bytes all.handed size (few honest t (subst (All (IsUnsettled t)) (sym es) (group_unsettled p.confirms t ts all.marks again)) h);
+          few_sent M holds' p.confirms t mid pending' front ts all.marks bytes all.handed size (few honest t (subst (All (IsUnsettled t)) (sym es) (group_unsettled p.confirms t ts all.marks again)) h);
     }
 
 pub stuck_zero : (ended stuck : Bool) → rest_by ended stuck ≡ ZeroUnique → stuck ≡ true

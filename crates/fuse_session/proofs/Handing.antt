@@ -4,10 +4,11 @@ use Rattle.std.proofs.lemmas.List.{append-nil, length-map}
 use Rattle.fuse_wire.specs.declared.moment.Moment.{Moment}
 use Rattle.fuse_answer.specs.Said.{Said}
 use Rattle.fuse_request.specs.declared.request.Request.{Request}
-use Rattle.fuse_tree.specs.Rows.{Rows}
-use Rattle.fuse_store.specs.History.{Entry, entry_id, is_in, ids_in, Includes, IsUnsettled}
-use Rattle.fuse_store.specs.Stands.{Records, KeepsHeld, OthersStay}
-use Rattle.fuse_store.specs.Group.{entries_of}
+use Rattle.fuse_keeper.specs.History.{Entry, entry_id, is_in, ids_in, Includes, IsUnsettled}
+use Rattle.fuse_keeper.specs.Model.{Model}
+use Rattle.fuse_keeper.specs.Stands.{Records, OthersStay}
+use Rattle.fuse_keeper.specs.KeeperState.{KeeperState, KeepsHeld}
+use Rattle.fuse_keeper.specs.Group.{entries_of}
 use Rattle.fuse_session.specs.Port.{PortState}
 use Rattle.fuse_session.specs.Worked.{Timed, bytes_of, kept_in}
 use Rattle.fuse_session.specs.Settling.{Mark, settled_in, SomeAndMore, AtMostMore, HandsOn, FewHave}
@@ -25,10 +26,10 @@ pub more_step : (before old new : Records) (last settled : List ℕ) (group : Li
 more_step before old new last settled group some all others i isnt =
     left_of (is_in settled i) (old i) (new i) (before i) (others i isnt) (λ absent. some i (unsettled_too settled last i all absent))
 
-pub hands_more : (before : Records) (holds holds' : Rows → Records → Type 0) (pending mid : List ℕ) (group : List Entry) → length group ≤ 16
-    → ((rows : Rows) (records : Records) → holds rows records → (rows' : Rows) × (records' : Records) × holds' rows' records' × OthersStay records pending group records')
+pub hands_more : (M : Model) → (before : Records) (holds holds' : KeeperState M) (pending mid : List ℕ) (group : List Entry) → length group ≤ 16
+    → ((rows : M.Rows) (records : Records) → holds.holds rows records → (rows' : M.Rows) × (records' : Records) × holds'.holds rows' records' × OthersStay records pending group records')
     → HandsOn before holds pending → HandsOn before holds' (mid ++ ids_in group)
-hands_more before holds holds' pending mid group few others h =
+hands_more M before holds holds' pending mid group few others h =
     let o = others h.rows h.records h.held in
     record {
       rows = o.0;
@@ -40,43 +41,43 @@ hands_more before holds holds' pending mid group few others h =
       all = includes_right mid (ids_in group);
     }
 
-pub hands_same : (before : Records) (holds : Rows → Records → Type 0) (pending more : List ℕ) → HandsOn before holds pending → HandsOn before holds (pending ++ more)
-hands_same before holds pending more h = record { rows = h.rows; records = h.records; held = h.held; more = h.more; few = h.few; some = h.some; all = λ i there. includes_left pending more i (h.all i there) }
+pub hands_same : (M : Model) → (before : Records) (holds : KeeperState M) (pending more : List ℕ) → HandsOn before holds pending → HandsOn before holds (pending ++ more)
+hands_same M before holds pending more h = record { rows = h.rows; records = h.records; held = h.held; more = h.more; few = h.few; some = h.some; all = λ i there. includes_left pending more i (h.all i there) }
 
-pub at_most : (before : Records) (holds : Rows → Records → Type 0) (pending : List ℕ) → HandsOn before holds pending → AtMostMore before holds
-at_most before holds pending h = record { rows = h.rows; records = h.records; held = h.held; more = h.more; few = h.few; some = h.some }
+pub at_most : (M : Model) → (before : Records) (holds : KeeperState M) (pending : List ℕ) → HandsOn before holds pending → AtMostMore before holds
+at_most M before holds pending h = record { rows = h.rows; records = h.records; held = h.held; more = h.more; few = h.few; some = h.some }
 
-pub at_most_kept : (before : Records) (holds holds' : Rows → Records → Type 0) (pending : List ℕ) → KeepsHeld holds holds' → HandsOn before holds pending → AtMostMore before holds'
-at_most_kept before holds holds' pending keeps h = record { rows = h.rows; records = h.records; held = keeps h.rows h.records h.held; more = h.more; few = h.few; some = h.some }
+pub at_most_kept : (M : Model) → (before : Records) (holds holds' : KeeperState M) (pending : List ℕ) → KeepsHeld holds holds' → HandsOn before holds pending → AtMostMore before holds'
+at_most_kept M before holds holds' pending keeps h = record { rows = h.rows; records = h.records; held = keeps h.rows h.records h.held; more = h.more; few = h.few; some = h.some }
 
 -- where the port confirms, the answers to a group settle all its ids
-pub hands_group : (before : Records) (holds : Rows → Records → Type 0) (may : Moment → Type 0) (p q : PortState) (mid pending' : List ℕ) (messages : List (List ℕ)) (taken : List (Request × Moment)) (ends : Bool)
+pub hands_group : (M : Model) → (before : Records) (holds : KeeperState M) (may : Moment → Type 0) (p q : PortState) (mid pending' : List ℕ) (messages : List (List ℕ)) (taken : List (Request × Moment)) (ends : Bool)
     (group : List (Request × Moment)) (front answers' : List (List ℕ)) → Gathers may messages taken ends → group ≡ taken → front ≡ messages → p.confirms ≡ true → SentAll p q front answers' mid pending'
     → HandsOn before holds (mid ++ ids_in (entries_of group)) → HandsOn before holds pending'
-hands_group before holds may p q mid pending' messages taken ends group front answers' gathers same same_front confirms all h =
+hands_group M before holds may p q mid pending' messages taken ends group front answers' gathers same same_front confirms all h =
     let bytes : front ≡ bytes_of gathers.timed = same_front ∙ gathers.bytes in
     let full : length all.marks ≡ length gathers.timed = all.full ∙ ap length bytes ∙ length-map gathers.timed (λ (t : Timed). t.bytes) in
     subst (HandsOn before holds) (sym (all.handed ∙ ap (λ c. mid ++ settled_in c front all.marks) confirms ∙ ap (λ f. mid ++ settled_in true f all.marks) bytes
     ∙ ap (λ (x : List ℕ). mid ++ x) (all_settled gathers.timed all.marks full ∙ ap ids_in (sym gathers.entries ∙ sym (ap entries_of same))))) h
 
 -- at first nothing is to be handed on
-pub hands_start : (holds : Rows → Records → Type 0) (pending : List ℕ) (rows : Rows) (records : Records) → holds rows records → HandsOn records holds pending
-hands_start holds pending rows records held = record { rows = rows; records = records; held = held; more = []; few = omega arith; some = λ i _. inr refl; all = λ i there. absurd (cc there) }
+pub hands_start : (M : Model) → (holds : KeeperState M) (pending : List ℕ) (rows : M.Rows) (records : Records) → holds.holds rows records → HandsOn records holds pending
+hands_start M holds pending rows records held = record { rows = rows; records = records; held = held; more = []; few = omega arith; some = λ i _. inr refl; all = λ i there. absurd (cc there) }
 
 -- ---- of the settled ids few have a record
 
-pub few_kept : (holds holds' : Rows → Records → Type 0) (u pending : List ℕ) → KeepsHeld holds holds' → FewHave holds u pending → FewHave holds' u pending
-few_kept holds holds' u pending keeps h = record { rows = h.rows; records = h.records; held = keeps h.rows h.records h.held; few = h.few; others = h.others }
+pub few_kept : (M : Model) → (holds holds' : KeeperState M) (u pending : List ℕ) → KeepsHeld holds holds' → FewHave holds u pending → FewHave holds' u pending
+few_kept M holds holds' u pending keeps h = record { rows = h.rows; records = h.records; held = keeps h.rows h.records h.held; few = h.few; others = h.others }
 
 none_left : (b : Bool) (o now : Option Said) → now ≡ (if b then None else o) → (b ≡ false → o ≡ None) → now ≡ None
 none_left true o now is none = is
 none_left false o now is none = is ∙ none refl
 
 -- a group was performed whose requests have other ids: what was to be handed on is gone
-pub few_performed : (holds holds' : Rows → Records → Type 0) (u pending mid : List ℕ) (group : List Entry) → length mid ≤ 16
-    → ((rows : Rows) (records : Records) → holds rows records → (rows' : Rows) × (records' : Records) × holds' rows' records' × OthersStay records pending group records')
+pub few_performed : (M : Model) → (holds holds' : KeeperState M) (u pending mid : List ℕ) (group : List Entry) → length mid ≤ 16
+    → ((rows : M.Rows) (records : Records) → holds.holds rows records → (rows' : M.Rows) × (records' : Records) × holds'.holds rows' records' × OthersStay records pending group records')
     → All (IsUnsettled u) group → FewHave holds u pending → FewHave holds' u mid
-few_performed holds holds' u pending mid group few stay other h =
+few_performed M holds holds' u pending mid group few stay other h =
     let o = stay h.rows h.records h.held in
     record {
       rows = o.0;
@@ -87,8 +88,8 @@ few_performed holds holds' u pending mid group few stay other h =
     }
 
 -- ids more are settled, and all of these are to be handed on
-pub few_more : (holds : Rows → Records → Type 0) (u mid new more : List ℕ) → length more ≤ 16 → Includes more mid → Includes more new → FewHave holds u mid → FewHave holds (u ++ new) more
-few_more holds u mid new more few old_too new_too h = record {
+pub few_more : (M : Model) → (holds : KeeperState M) (u mid new more : List ℕ) → length more ≤ 16 → Includes more mid → Includes more new → FewHave holds u mid → FewHave holds (u ++ new) more
+few_more M holds u mid new more few old_too new_too h = record {
   rows = h.rows;
   records = h.records;
   held = h.held;
@@ -100,23 +101,23 @@ few_more holds u mid new more few old_too new_too h = record {
 }
 
 -- no ids more are
-pub few_same : (holds : Rows → Records → Type 0) (c : Bool) (u more : List ℕ) (ts : List Timed) → FewHave holds u more → FewHave holds (u ++ settled_in c (bytes_of ts) []) more
-few_same holds c u more ts h = subst (λ x. FewHave holds x more) (sym (ap (λ (q : List ℕ). u ++ q) (settled_none c (bytes_of ts)) ∙ append-nil u)) h
+pub few_same : (M : Model) → (holds : KeeperState M) (c : Bool) (u more : List ℕ) (ts : List Timed) → FewHave holds u more → FewHave holds (u ++ settled_in c (bytes_of ts) []) more
+few_same M holds c u more ts h = subst (λ x. FewHave holds x more) (sym (ap (λ (q : List ℕ). u ++ q) (settled_none c (bytes_of ts)) ∙ append-nil u)) h
 
 -- the answers to a group were sent, all of them or some
-pub few_sent : (holds : Rows → Records → Type 0) (c : Bool) (u mid pending' : List ℕ) (front : List (List ℕ)) (ts : List Timed) (marks : List Mark) → front ≡ bytes_of ts → pending' ≡ mid ++ settled_in c front marks → length pending' ≤ 16
+pub few_sent : (M : Model) → (holds : KeeperState M) (c : Bool) (u mid pending' : List ℕ) (front : List (List ℕ)) (ts : List Timed) (marks : List Mark) → front ≡ bytes_of ts → pending' ≡ mid ++ settled_in c front marks → length pending' ≤ 16
     → FewHave holds u mid → FewHave holds (u ++ settled_in c (bytes_of ts) marks) pending'
-few_sent holds c u mid pending' front ts marks bytes handed few h =
+few_sent M holds c u mid pending' front ts marks bytes handed few h =
     let new = settled_in c (bytes_of ts) marks in
     let is : pending' ≡ mid ++ new = handed ∙ ap (λ f. mid ++ settled_in c f marks) bytes in
-    subst (FewHave holds (u ++ new)) (sym is) (few_more holds u mid new (mid ++ new) (subst (λ x. length x ≤ 16) is few) (includes_left mid new) (includes_right mid new) h)
+    subst (FewHave holds (u ++ new)) (sym is) (few_more M holds u mid new (mid ++ new) (subst (λ x. length x ≤ 16) is few) (includes_left mid new) (includes_right mid new) h)
 
-pub few_unsent : (holds : Rows → Records → Type 0) (c : Bool) (u mid : List ℕ) (group : List Entry) (ts : List Timed) (marks : List Mark) → group ≡ kept_in ts → length mid + length group ≤ 16
+pub few_unsent : (M : Model) → (holds : KeeperState M) (c : Bool) (u mid : List ℕ) (group : List Entry) (ts : List Timed) (marks : List Mark) → group ≡ kept_in ts → length mid + length group ≤ 16
     → FewHave holds u mid → FewHave holds (u ++ settled_in c (bytes_of ts) marks) (mid ++ ids_in group)
-few_unsent holds c u mid group ts marks is few h =
-    few_more holds u mid (settled_in c (bytes_of ts) marks) (mid ++ ids_in group) (omega (arith, length-append mid (ids_in group), length-map group entry_id, few)) (includes_left mid (ids_in group))
+few_unsent M holds c u mid group ts marks is few h =
+    few_more M holds u mid (settled_in c (bytes_of ts) marks) (mid ++ ids_in group) (omega (arith, length-append mid (ids_in group), length-map group entry_id, few)) (includes_left mid (ids_in group))
     (λ i there. includes_right mid (ids_in group) i (ap (λ g. is_in (ids_in g) i) is ∙ settled_within c ts marks i there)) h
 
 -- at first nothing was settled
-pub few_start : (holds : Rows → Records → Type 0) (rows : Rows) (records : Records) → holds rows records → FewHave holds [] []
-few_start holds rows records held = record { rows = rows; records = records; held = held; few = omega arith; others = λ i there. absurd (cc there) }
+pub few_start : (M : Model) → (holds : KeeperState M) (rows : M.Rows) (records : Records) → holds.holds rows records → FewHave holds [] []
+few_start M holds rows records held = record { rows = rows; records = records; held = held; few = omega arith; others = λ i there. absurd (cc there) }

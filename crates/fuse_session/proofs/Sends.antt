@@ -9,7 +9,7 @@ use Rattle.fuse_answer.specs.Said.{Said}
 use Rattle.fuse_request.specs.declared.class.Class.TheVariants.{Silent, Bare, Kept}
 use Rattle.fuse_request.specs.Classes.{class_of}
 use Rattle.fuse_request.specs.Stream.{joined}
-use Rattle.fuse_store.specs.declared.keeper.Done.{Done}
+use Rattle.fuse_keeper.specs.declared.keeper.Done.{Done}
 use Rattle.fuse_session.specs.declared.sending.SendFault.{SendFault}
 use Rattle.fuse_session.specs.declared.sending.SendFault.TheVariants.{Memory, PortFailed}
 use Rattle.fuse_session.specs.Port.{PortState, IsYoung, IsQuiet, SentWhole}

@@ -1,9 +1,8 @@
 -- What stands stays standing, and how histories grow.
 use Rattle.std.proofs.Common.{◌≡◌, ◌⊎◌, inl, inr, ℕ, Bool, true, false, List, [], ◌∷◌, ◌++◌, refl, sym, ◌∙◌}
-use Rattle.fuse_tree.specs.State.{State}
-use Rattle.fuse_tree.specs.Rows.{Rows}
-use Rattle.fuse_store.specs.History.{Entry, History, add, grown, is_in, Includes}
-use Rattle.fuse_store.specs.Stands.{Records, Stands, AreThese}
+use Rattle.fuse_keeper.specs.History.{Entry, History, add, grown, is_in, Includes}
+use Rattle.fuse_keeper.specs.Model.{Model}
+use Rattle.fuse_keeper.specs.Stands.{Records, Stands, AreThese}
 
 pub grown-append : (h : History) (xs ys : List Entry) → grown h (xs ++ ys) ≡ grown (grown h xs) ys
 grown-append h [] ys = refl
@@ -20,8 +19,8 @@ unsettled_too all some i within isnt = elim (tested (is_in some i)) [
 ]
 
 -- the rows and records once more
-pub Stands-same : (rows : Rows) (records : Records) (x : Rows) (r : Records) (s : State) (h : History) (t : List ℕ) → AreThese rows records x r → Stands rows records s h t → Stands x r s h t
-Stands-same rows records x r s h t same so = record {
+pub Stands-same : (M : Model) → (rows : M.Rows) (records : Records) (x : M.Rows) (r : Records) (s : M.State) (h : History) (t : List ℕ) → AreThese M rows records x r → Stands M rows records s h t → Stands M x r s h t
+Stands-same M rows records x r s h t same so = record {
   tree = so.tree;
   distinct = so.distinct;
   rows_are = same.0 ∙ so.rows_are;
@@ -30,8 +29,8 @@ Stands-same rows records x r s h t same so = record {
 }
 
 -- more may be settled
-pub Stands-settled : (rows : Rows) (records : Records) (s : State) (h : History) (t more : List ℕ) → Includes more t → Stands rows records s h t → Stands rows records s h more
-Stands-settled rows records s h t more within so = record {
+pub Stands-settled : (M : Model) → (rows : M.Rows) (records : Records) (s : M.State) (h : History) (t more : List ℕ) → Includes more t → Stands M rows records s h t → Stands M rows records s h more
+Stands-settled M rows records s h t more within so = record {
   tree = so.tree;
   distinct = so.distinct;
   rows_are = so.rows_are;

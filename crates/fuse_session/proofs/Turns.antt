@@ -4,10 +4,10 @@ use Rattle.std.proofs.lemmas.List.{append-nil, take-append-drop, take_all, take_
 use Rattle.std.proofs.Math.Seq.{take-add}
 use Rattle.fuse_wire.specs.declared.moment.Moment.{Moment}
 use Rattle.fuse_request.specs.Stream.{joined}
-use Rattle.fuse_tree.specs.State.{State}
-use Rattle.fuse_tree.specs.Rows.{Rows}
-use Rattle.fuse_store.specs.History.{History, grown, said, Includes, HistoriesGrow}
-use Rattle.fuse_store.specs.Stands.{Records, Stands, StandsFor, IsFirm}
+use Rattle.fuse_keeper.specs.History.{History, grown, said, Includes, HistoriesGrow}
+use Rattle.fuse_keeper.specs.Model.{Model}
+use Rattle.fuse_keeper.specs.Stands.{Records, Stands}
+use Rattle.fuse_keeper.specs.KeeperState.{KeeperState, StandsFor, IsFirm}
 use Rattle.fuse_session.specs.declared.counts.SessionCounts.{SessionCounts}
 use Rattle.fuse_session.specs.declared.group.Rest.{Rest}
 use Rattle.fuse_session.specs.declared.group.Rest.TheVariants.{GoesOn as GoesOnHere, Destroyed, ZeroUnique}
@@ -27,8 +27,8 @@ bytes-append : (xs ys : List Timed) → bytes_of (xs ++ ys) ≡ bytes_of xs ++ b
 bytes-append xs ys = map-append (λ (t : Timed). t.bytes) xs ys
 
 -- nothing was worked off
-pub turned_quiet : (holds : Rows → Records → Type 0) (honest : Type 0) (may : Moment → Type 0) (p q : PortState) (pending : List ℕ) → Replied p q [] [] → Turned holds holds honest may p q pending pending [] true none_counted
-turned_quiet holds honest may p q pending replied = record {
+pub turned_quiet : (M : Model) → (holds : KeeperState M) (may : Moment → Type 0) (p q : PortState) (pending : List ℕ) → Replied p q [] [] → Turned holds holds may p q pending pending [] true none_counted
+turned_quiet M holds may p q pending replied = record {
   timed = [];
   marks = [];
   bytes = refl;
@@ -47,8 +47,8 @@ turned_quiet holds honest may p q pending replied = record {
   few = λ honest t again h. subst (λ (u : List ℕ). FewHave holds u pending) (sym (append-nil t)) h;
 }
 
-pub turned_none : (holds : Rows → Records → Type 0) (honest : Type 0) (may : Moment → Type 0) (p : PortState) (pending : List ℕ) → Turned holds holds honest may p p pending pending [] true none_counted
-turned_none holds honest may p pending = turned_quiet holds honest may p p pending (replied_none p)
+pub turned_none : (M : Model) → (holds : KeeperState M) (may : Moment → Type 0) (p : PortState) (pending : List ℕ) → Turned holds holds may p p pending pending [] true none_counted
+turned_none M holds may p pending = turned_quiet M holds may p p pending (replied_none p)
 
 -- the settled ids of two rows of messages
 settled_both : (c c' : Bool) (t : List ℕ) (xs ys : List Timed) (ms ns : List Mark) → c' ≡ c → length ms ≡ length xs → (t ++ settled_in c (bytes_of xs) ms) ++ settled_in c' (bytes_of ys) ns ≡ t ++ settled_in c (bytes_of (xs ++ ys)) (ms ++ ns)
@@ -65,10 +65,10 @@ again_both c c' t xs ys ms ns same full each =
     (parts.0, subst (λ b. NoneComesAgain b (t ++ settled_in c (bytes_of xs) ms) (bytes_of ys) ns) (sym same) parts.1)
 
 -- messages, and then others
-pub turned_more : HistoriesGrow → (holds mid new : Rows → Records → Type 0) (honest honest' : Type 0) (may may' : Moment → Type 0) (p q r : PortState) (ids ids' ids'' : List ℕ) (front front' : List (List ℕ)) (going : Bool) (counts counts' : SessionCounts)
-    → Turned holds mid honest may p q ids ids' front true counts → Turned mid new honest' may' q r ids' ids'' front' going counts' → (honest' → honest) → ((t : Moment) → may' t → may t)
-    → Turned holds new honest' may p r ids ids'' (front ++ front') going (plus counts counts')
-turned_more grows holds mid new honest honest' may may' p q r ids ids' ids'' front front' going counts counts' one two honest_too moments = record {
+pub turned_more : (M : Model) → HistoriesGrow M → (holds mid new : KeeperState M) (may may' : Moment → Type 0) (p q r : PortState) (ids ids' ids'' : List ℕ) (front front' : List (List ℕ)) (going : Bool) (counts counts' : SessionCounts)
+    → Turned holds mid may p q ids ids' front true counts → Turned mid new may' q r ids' ids'' front' going counts' → (new.is_honest → mid.is_honest) → ((t : Moment) → may' t → may t)
+    → Turned holds new may p r ids ids'' (front ++ front') going (plus counts counts')
+turned_more M grows holds mid new may may' p q r ids ids' ids'' front front' going counts counts' one two honest_too moments = record {
   timed = one.timed ++ two.timed;
   marks = one.marks ++ two.marks;
   bytes = ap (λ f. f ++ front') one.bytes ∙ ap (λ f. bytes_of one.timed ++ f) two.bytes ∙ sym (bytes-append one.timed two.timed);
@@ -85,19 +85,19 @@ turned_more grows holds mid new honest honest' may may' p q r ids ids' ids'' fro
       let u = t ++ settled_in c (bytes_of one.timed) one.marks in
       let b = two.all is s g u a.stands (one.handed t within) parts.1 in
       record {
-        works = Works-append s h one.timed two.timed (a.goes refl) b.works;
-        goes = λ going_on. GoesOn-append s h one.timed two.timed (a.goes refl) (b.goes going_on);
+        works = Works-append M s h one.timed two.timed (a.goes refl) b.works;
+        goes = λ going_on. GoesOn-append M s h one.timed two.timed (a.goes refl) (b.goes going_on);
         last = λ over.
             let l = b.last over in
             record {
               earlier = one.timed ++ l.earlier;
               one = l.one;
               parts = ap (λ f. one.timed ++ f) l.parts ∙ sym (append_assoc one.timed l.earlier (l.one ∷ []));
-              ends = (l.ends.0, ap (λ x. says_zero (said s x (message_id l.one.bytes))) (grown_kept h one.timed two.timed) ∙ l.ends.1);
+              ends = (l.ends.0, ap (λ x. says_zero (said M s x (message_id l.one.bytes))) (grown_kept h one.timed two.timed) ∙ l.ends.1);
             };
         stands = subst (λ x. StandsFor new s x (t ++ settled_in c (bytes_of (one.timed ++ two.timed)) (one.marks ++ two.marks))) (sym (grown_kept h one.timed two.timed))
             (subst (StandsFor new s (grown g (kept_in two.timed))) (settled_both c q.confirms t one.timed two.timed one.marks two.marks one.replied.confirms one.full) b.stands);
-        sent = replies-append one.marks two.marks ∙ ap (λ x. x ++ replies two.marks) a.sent ∙ ap (λ x. answers s g one.timed ++ x) b.sent ∙ sym (answers-append grows s h one.timed two.timed);
+        sent = replies-append one.marks two.marks ∙ ap (λ x. x ++ replies two.marks) a.sent ∙ ap (λ x. answers M s g one.timed ++ x) b.sent ∙ sym (answers-append M grows s h one.timed two.timed);
         counts_are = ap (λ x. plus x counts') a.counts_are ∙ ap (plus (counted h one.timed)) b.counts_are ∙ sym (counted-append h one.timed two.timed);
       };
   few = λ is t again h.
@@ -108,47 +108,47 @@ turned_more grows holds mid new honest honest' may may' p q r ids ids' ids'' fro
 }
 
 -- a life after messages that were answered
-lived_more : HistoriesGrow → (stood : History → List ℕ → Type 0) (s : State) (h : History) (c c' : Bool) (t : List ℕ) (xs ys : List Timed) (ms ns : List Mark) (part : List ℕ) → c' ≡ c → length ms ≡ length xs
-    → GoesOn s h xs → replies ms ≡ answers s (grown h (kept_in xs)) xs → Lived stood s (grown h (kept_in xs)) c' (t ++ settled_in c (bytes_of xs) ms) ys ns part
-    → Lived stood s h c t (xs ++ ys) (ms ++ ns) part
-lived_more grows stood s h c c' t xs ys ms ns part same full goes sent l =
+lived_more : (M : Model) → HistoriesGrow M → (stood : History → List ℕ → Type 0) (s : M.State) (h : History) (c c' : Bool) (t : List ℕ) (xs ys : List Timed) (ms ns : List Mark) (part : List ℕ) → c' ≡ c → length ms ≡ length xs
+    → GoesOn M s h xs → replies ms ≡ answers M s (grown h (kept_in xs)) xs → Lived M stood s (grown h (kept_in xs)) c' (t ++ settled_in c (bytes_of xs) ms) ys ns part
+    → Lived M stood s h c t (xs ++ ys) (ms ++ ns) part
+lived_more M grows stood s h c c' t xs ys ms ns part same full goes sent l =
     let g = grown h (kept_in xs) in
     record {
       worked = xs ++ l.worked;
       unworked = l.unworked;
       parts = ap (λ f. xs ++ f) l.parts ∙ sym (append_assoc xs l.worked l.unworked);
-      works = Works-append s h xs l.worked goes l.works;
+      works = Works-append M s h xs l.worked goes l.works;
       stands = subst (λ x. stood x (t ++ settled_in c (bytes_of (xs ++ l.worked)) (ms ++ ns))) (sym (grown_kept h xs l.worked))
           (subst (stood (grown g (kept_in l.worked))) (settled_both c c' t xs l.worked ms ns same full) l.stands);
       later = l.later;
-      sent = answers-append grows s h xs l.worked ∙ ap (λ x. x ++ answers s (grown g (kept_in l.worked)) l.worked) (sym sent) ∙ ap (λ x. replies ms ++ x) l.sent
+      sent = answers-append M grows s h xs l.worked ∙ ap (λ x. x ++ answers M s (grown g (kept_in l.worked)) l.worked) (sym sent) ∙ ap (λ x. replies ms ++ x) l.sent
           ∙ sym (append_assoc (replies ms) (replies ns) l.later) ∙ ap (λ x. x ++ l.later) (sym (replies-append ms ns));
       unsent = l.unsent;
       begun = l.begun;
       next = l.next;
     }
 
-exact_more : HistoriesGrow → (stood stood' : History → List ℕ → Type 0) (s : State) (h : History) (c c' : Bool) (t : List ℕ) (xs ys : List Timed) (ms ns : List Mark) → c' ≡ c → length ms ≡ length xs
-    → GoesOn s h xs → replies ms ≡ answers s (grown h (kept_in xs)) xs → ((g : History) (u : List ℕ) → stood g u → stood' g u) → Exact stood s (grown h (kept_in xs)) c' (t ++ settled_in c (bytes_of xs) ms) ys ns
-    → Exact stood' s h c t (xs ++ ys) (ms ++ ns)
-exact_more grows stood stood' s h c c' t xs ys ms ns same full goes sent f e =
+exact_more : (M : Model) → HistoriesGrow M → (stood stood' : History → List ℕ → Type 0) (s : M.State) (h : History) (c c' : Bool) (t : List ℕ) (xs ys : List Timed) (ms ns : List Mark) → c' ≡ c → length ms ≡ length xs
+    → GoesOn M s h xs → replies ms ≡ answers M s (grown h (kept_in xs)) xs → ((g : History) (u : List ℕ) → stood g u → stood' g u) → Exact M stood s (grown h (kept_in xs)) c' (t ++ settled_in c (bytes_of xs) ms) ys ns
+    → Exact M stood' s h c t (xs ++ ys) (ms ++ ns)
+exact_more M grows stood stood' s h c c' t xs ys ms ns same full goes sent f e =
     let g = grown h (kept_in xs) in
     record {
       worked = xs ++ e.worked;
       unworked = e.unworked;
       parts = ap (λ f. xs ++ f) e.parts ∙ sym (append_assoc xs e.worked e.unworked);
-      works = Works-append s h xs e.worked goes e.works;
+      works = Works-append M s h xs e.worked goes e.works;
       stands = subst (λ x. stood' x (t ++ settled_in c (bytes_of (xs ++ e.worked)) (ms ++ ns))) (sym (grown_kept h xs e.worked))
           (subst (stood' (grown g (kept_in e.worked))) (settled_both c c' t xs e.worked ms ns same full) (f _ _ e.stands));
-      sent = replies-append ms ns ∙ ap (λ x. x ++ replies ns) sent ∙ ap (λ x. answers s g xs ++ x) e.sent ∙ sym (answers-append grows s h xs e.worked);
+      sent = replies-append ms ns ∙ ap (λ x. x ++ replies ns) sent ∙ ap (λ x. answers M s g xs ++ x) e.sent ∙ sym (answers-append M grows s h xs e.worked);
     }
 
-pub turned_broken : HistoriesGrow → (holds mid new : Rows → Records → Type 0) (honest clean' honest' whole whole_mid whole' : Type 0) (left left_mid left' : Rows → Records → Type 0) (may may' : Moment → Type 0) (p q r : PortState) (ids ids' : List ℕ)
+pub turned_broken : (M : Model) → HistoriesGrow M → (holds mid new : KeeperState M) (may may' : Moment → Type 0) (p q r : PortState) (ids ids' : List ℕ)
     (front messages : List (List ℕ)) (counts : SessionCounts) (exact want : Bool) (faulted faulted' : Type 0)
-    → Turned holds mid honest may p q ids ids' front true counts → Broken mid new clean' honest' (IsFirm mid whole_mid left_mid) whole' left' may' q r ids' messages exact want faulted' → (faulted' → faulted)
-    → (clean' → honest') → (honest' → honest) → (honest → IsFirm holds whole left → IsFirm mid whole_mid left_mid) → ((t : Moment) → may' t → may t)
-    → Broken holds new clean' honest' (IsFirm holds whole left) whole' left' may p r ids (front ++ messages) exact want faulted
-turned_broken grows holds mid new honest clean' honest' whole whole_mid whole' left left_mid left' may may' p q r ids ids' front messages counts exact want faulted faulted' one two faulted_too clean_honest honest_too firm_too moments =
+    → Turned holds mid may p q ids ids' front true counts → Broken mid new may' q r ids' messages exact want faulted' → (faulted' → faulted)
+    → (new.is_clean → new.is_honest) → (new.is_honest → mid.is_honest) → (mid.is_honest → IsFirm holds → IsFirm mid) → ((t : Moment) → may' t → may t)
+    → Broken holds new may p r ids (front ++ messages) exact want faulted
+turned_broken M grows holds mid new may may' p q r ids ids' front messages counts exact want faulted faulted' one two faulted_too clean_honest honest_too firm_too moments =
     let c = p.confirms in
     let ts = one.timed ++ two.timed in
     let marks = one.marks ++ two.marks in
@@ -165,21 +165,21 @@ turned_broken grows holds mid new honest clean' honest' whole whole_mid whole' l
       exactly = λ how is s h t so within again.
           let parts = again_both c q.confirms t one.timed two.timed one.marks two.marks one.replied.confirms one.full again in
           let a = one.all (honest_too is) s h t so within parts.0 in
-          exact_more grows (λ g u. exact ≡ true → clean' → StandsFor new s g u × faulted') (λ g u. exact ≡ true → clean' → StandsFor new s g u × faulted)
+          exact_more M grows (λ g u. exact ≡ true → new.is_clean → StandsFor new s g u × faulted') (λ g u. exact ≡ true → new.is_clean → StandsFor new s g u × faulted)
           s h c q.confirms t one.timed two.timed one.marks two.marks one.replied.confirms one.full (a.goes refl) a.sent (λ g u stands store clean. ((stands store clean).0, faulted_too (stands store clean).1))
           (two.exactly how is s (grown h (kept_in one.timed)) (t ++ settled_in c (bytes_of one.timed) one.marks) a.stands (one.handed t within) parts.1);
       life = λ clean s h t so within again.
           let parts = again_both c q.confirms t one.timed two.timed one.marks two.marks one.replied.confirms one.full again in
           let a = one.all (honest_too (clean_honest clean)) s h t so within parts.0 in
-          lived_more grows (StandsFor new s) s h c q.confirms t one.timed two.timed one.marks two.marks two.part one.replied.confirms one.full (a.goes refl) a.sent
+          lived_more M grows (StandsFor new s) s h c q.confirms t one.timed two.timed one.marks two.marks two.part one.replied.confirms one.full (a.goes refl) a.sent
           (two.life clean s (grown h (kept_in one.timed)) (t ++ settled_in c (bytes_of one.timed) one.marks) a.stands (one.handed t within) parts.1);
       crash = λ is firm s h t so within again.
           let parts = again_both c q.confirms t one.timed two.timed one.marks two.marks one.replied.confirms one.full again in
           let g = grown h (kept_in one.timed) in
           let u = t ++ settled_in c (bytes_of one.timed) one.marks in
           let a = one.all (honest_too is) s h t so within parts.0 in
-          leaves_map whole' left' (λ x r. Lived (Stands x r s) s g q.confirms u two.timed two.marks two.part) (λ x r. Lived (Stands x r s) s h c t ts marks two.part)
-          (λ x r l. lived_more grows (Stands x r s) s h c q.confirms t one.timed two.timed one.marks two.marks two.part one.replied.confirms one.full (a.goes refl) a.sent l)
+          leaves_map M new (λ x r. Lived M (Stands M x r s) s g q.confirms u two.timed two.marks two.part) (λ x r. Lived M (Stands M x r s) s h c t ts marks two.part)
+          (λ x r l. lived_more M grows (Stands M x r s) s h c q.confirms t one.timed two.timed one.marks two.marks two.part one.replied.confirms one.full (a.goes refl) a.sent l)
           (two.crash is (firm_too (honest_too is) firm) s g u a.stands (one.handed t within) parts.1);
       few = λ is clean t again h.
           let parts = again_both c q.confirms t one.timed two.timed one.marks two.marks one.replied.confirms one.full again in
@@ -188,11 +188,11 @@ turned_broken grows holds mid new honest clean' honest' whole whole_mid whole' l
     }
 
 -- what was answered, as a life, with others behind
-pub turned_life : (holds new : Rows → Records → Type 0) (clean honest whole whole' : Type 0) (left left' : Rows → Records → Type 0) (may : Moment → Type 0) (p q : PortState) (ids ids' : List ℕ)
+pub turned_life : (M : Model) → (holds new : KeeperState M) (may : Moment → Type 0) (p q : PortState) (ids ids' : List ℕ)
     (front others messages : List (List ℕ)) (going : Bool) (counts : SessionCounts) (exact want : Bool) (faulted : Type 0) → exact ≡ false
-    → Turned holds new honest may p q ids ids' front going counts → messages ≡ front ++ others → (clean → honest) → (honest → IsFirm holds whole left → IsFirm new whole' left')
-    → Broken holds new clean honest (IsFirm holds whole left) whole' left' may p q ids messages exact want faulted
-turned_life holds new clean honest whole whole' left left' may p q ids ids' front others messages going counts exact want faulted inexact one parts clean_honest firm_still = record {
+    → Turned holds new may p q ids ids' front going counts → messages ≡ front ++ others → (new.is_clean → new.is_honest) → (new.is_honest → IsFirm holds → IsFirm new)
+    → Broken holds new may p q ids messages exact want faulted
+turned_life M holds new may p q ids ids' front others messages going counts exact want faulted inexact one parts clean_honest firm_still = record {
   timed = one.timed;
   others = others;
   marks = one.marks;
@@ -203,15 +203,15 @@ turned_life holds new clean honest whole whole' left left' may p q ids ids' fron
   no_part = λ _. refl;
   exactly = λ _ is s h t so within again.
       let a = one.all is s h t so within again in
-      exact_all (λ g u. exact ≡ true → clean → StandsFor new s g u × faulted) s h p.confirms t one.timed one.marks a.works (λ store _. absurd (cc (store, inexact))) a.sent;
+      exact_all M (λ g u. exact ≡ true → new.is_clean → StandsFor new s g u × faulted) s h p.confirms t one.timed one.marks a.works (λ store _. absurd (cc (store, inexact))) a.sent;
   life = λ is s h t so within again.
       let a = one.all (clean_honest is) s h t so within again in
-      lived_all (StandsFor new s) s h p.confirms t one.timed one.marks [] [] [] a.works a.stands (sym (append-nil (replies one.marks) ∙ a.sent)) refl refl;
+      lived_all M (StandsFor new s) s h p.confirms t one.timed one.marks [] [] [] a.works a.stands (sym (append-nil (replies one.marks) ∙ a.sent)) refl refl;
   crash = λ is firm s h t so within again.
       let a = one.all is s h t so within again in
-      leaves_map whole' left' (λ x r. Stands x r s (grown h (kept_in one.timed)) (t ++ settled_in p.confirms (bytes_of one.timed) one.marks)) (λ x r. Lived (Stands x r s) s h p.confirms t one.timed one.marks [])
-      (λ x r stands. lived_all (Stands x r s) s h p.confirms t one.timed one.marks [] [] [] a.works stands (sym (append-nil (replies one.marks) ∙ a.sent)) refl refl)
-      (firm_leaves new whole' left' s (grown h (kept_in one.timed)) (t ++ settled_in p.confirms (bytes_of one.timed) one.marks) (firm_still is firm) a.stands);
+      leaves_map M new (λ x r. Stands M x r s (grown h (kept_in one.timed)) (t ++ settled_in p.confirms (bytes_of one.timed) one.marks)) (λ x r. Lived M (Stands M x r s) s h p.confirms t one.timed one.marks [])
+      (λ x r stands. lived_all M (Stands M x r s) s h p.confirms t one.timed one.marks [] [] [] a.works stands (sym (append-nil (replies one.marks) ∙ a.sent)) refl refl)
+      (firm_leaves M new s (grown h (kept_in one.timed)) (t ++ settled_in p.confirms (bytes_of one.timed) one.marks) (firm_still is firm) a.stands);
   few = λ is clean t again h. (ids', one.few is t again h);
 }
 
@@ -242,31 +242,31 @@ lasts_on Destroyed is = absurd (cc is)
 lasts_on ZeroUnique is = absurd (cc is)
 
 -- a group more
-pub group_more : HistoriesGrow → (holds mid new : Rows → Records → Type 0) (honest honest' : Type 0) (may may' : Moment → Type 0) (p q r : PortState) (ids ids' ids'' : List ℕ) (messages slice : List (List ℕ)) (i n : ℕ) (going : Bool) (counts counts' sum : SessionCounts)
+pub group_more : (M : Model) → HistoriesGrow M → (holds mid new : KeeperState M) (may may' : Moment → Type 0) (p q r : PortState) (ids ids' ids'' : List ℕ) (messages slice : List (List ℕ)) (i n : ℕ) (going : Bool) (counts counts' sum : SessionCounts)
     → slice ≡ take (length messages - i) (drop i messages) → sum ≡ plus counts counts'
-    → Turned holds mid honest may p q ids ids' (take i messages) true counts → Turned mid new honest' may' q r ids' ids'' (take n slice) going counts' → (honest' → honest) → ((t : Moment) → may' t → may t)
-    → Turned holds new honest' may p r ids ids'' (take (i + n) messages) going sum
-group_more grows holds mid new honest honest' may may' p q r ids ids' ids'' messages slice i n going counts counts' sum same sum_is one two honest_too moments =
-    subst (λ f. Turned holds new honest' may p r ids ids'' f going sum) (take_parts messages i n)
-    (subst (λ c. Turned holds new honest' may p r ids ids'' (take i messages ++ take n (take (length messages - i) (drop i messages))) going c) (sym sum_is)
-    (turned_more grows holds mid new honest honest' may may' p q r ids ids' ids'' (take i messages) (take n (take (length messages - i) (drop i messages))) going counts counts' one
-    (subst (λ x. Turned mid new honest' may' q r ids' ids'' (take n x) going counts') same two) honest_too moments))
+    → Turned holds mid may p q ids ids' (take i messages) true counts → Turned mid new may' q r ids' ids'' (take n slice) going counts' → (new.is_honest → mid.is_honest) → ((t : Moment) → may' t → may t)
+    → Turned holds new may p r ids ids'' (take (i + n) messages) going sum
+group_more M grows holds mid new may may' p q r ids ids' ids'' messages slice i n going counts counts' sum same sum_is one two honest_too moments =
+    subst (λ f. Turned holds new may p r ids ids'' f going sum) (take_parts messages i n)
+    (subst (λ c. Turned holds new may p r ids ids'' (take i messages ++ take n (take (length messages - i) (drop i messages))) going c) (sym sum_is)
+    (turned_more M grows holds mid new may may' p q r ids ids' ids'' (take i messages) (take n (take (length messages - i) (drop i messages))) going counts counts' one
+    (subst (λ x. Turned mid new may' q r ids' ids'' (take n x) going counts') same two) honest_too moments))
 
 -- a fault in the next group
-pub group_broken : HistoriesGrow → (holds mid new : Rows → Records → Type 0) (honest clean' honest' whole whole_mid whole' : Type 0) (left left_mid left' : Rows → Records → Type 0) (may may' : Moment → Type 0) (p q r : PortState) (ids ids' : List ℕ)
+pub group_broken : (M : Model) → HistoriesGrow M → (holds mid new : KeeperState M) (may may' : Moment → Type 0) (p q r : PortState) (ids ids' : List ℕ)
     (messages slice : List (List ℕ)) (i : ℕ) (counts : SessionCounts) (exact want : Bool) (faulted faulted' : Type 0) → slice ≡ take (length messages - i) (drop i messages)
-    → Turned holds mid honest may p q ids ids' (take i messages) true counts → Broken mid new clean' honest' (IsFirm mid whole_mid left_mid) whole' left' may' q r ids' slice exact want faulted' → (faulted' → faulted)
-    → (clean' → honest') → (honest' → honest) → (honest → IsFirm holds whole left → IsFirm mid whole_mid left_mid) → ((t : Moment) → may' t → may t)
-    → Broken holds new clean' honest' (IsFirm holds whole left) whole' left' may p r ids messages exact want faulted
-group_broken grows holds mid new honest clean' honest' whole whole_mid whole' left left_mid left' may may' p q r ids ids' messages slice i counts exact want faulted faulted' same one two faulted_too clean_honest honest_too firm_too moments =
-    subst (λ m. Broken holds new clean' honest' (IsFirm holds whole left) whole' left' may p r ids m exact want faulted) (ap (λ x. take i messages ++ x) same ∙ parts_at messages i)
-    (turned_broken grows holds mid new honest clean' honest' whole whole_mid whole' left left_mid left' may may' p q r ids ids' (take i messages) slice counts exact want faulted faulted' one two faulted_too clean_honest honest_too firm_too moments)
+    → Turned holds mid may p q ids ids' (take i messages) true counts → Broken mid new may' q r ids' slice exact want faulted' → (faulted' → faulted)
+    → (new.is_clean → new.is_honest) → (new.is_honest → mid.is_honest) → (mid.is_honest → IsFirm holds → IsFirm mid) → ((t : Moment) → may' t → may t)
+    → Broken holds new may p r ids messages exact want faulted
+group_broken M grows holds mid new may may' p q r ids ids' messages slice i counts exact want faulted faulted' same one two faulted_too clean_honest honest_too firm_too moments =
+    subst (λ m. Broken holds new may p r ids m exact want faulted) (ap (λ x. take i messages ++ x) same ∙ parts_at messages i)
+    (turned_broken M grows holds mid new may may' p q r ids ids' (take i messages) slice counts exact want faulted faulted' one two faulted_too clean_honest honest_too firm_too moments)
 
 -- the last group
-pub worked_off : (holds new : Rows → Records → Type 0) (honest : Type 0) (may : Moment → Type 0) (p q : PortState) (ids ids' : List ℕ) (messages slice : List (List ℕ)) (i n : ℕ) (rest : Rest) (begin place : ℕ) (counts : SessionCounts)
+pub worked_off : (M : Model) → (holds new : KeeperState M) (may : Moment → Type 0) (p q : PortState) (ids ids' : List ℕ) (messages slice : List (List ℕ)) (i n : ℕ) (rest : Rest) (begin place : ℕ) (counts : SessionCounts)
     → slice ≡ take (length messages - i) (drop i messages) → (goes_on rest ≡ false) → (rest ≡ ZeroUnique → StartsZero (drop n slice)) → place ≡ begin + length (joined (take (i + n) messages))
-    → Turned holds new honest may p q ids ids' (take (i + n) messages) (lasts rest) counts → WorkedOff holds new honest may p q ids ids' messages rest begin place counts
-worked_off holds new honest may p q ids ids' messages slice i n rest begin place counts same over zero place_is t = record {
+    → Turned holds new may p q ids ids' (take (i + n) messages) (lasts rest) counts → WorkedOff holds new may p q ids ids' messages rest begin place counts
+worked_off M holds new may p q ids ids' messages slice i n rest begin place counts same over zero place_is t = record {
   front = take (i + n) messages;
   others = drop (i + n) messages;
   parts = sym (take-append-drop (i + n) messages);
@@ -276,10 +276,10 @@ worked_off holds new honest may p q ids ids' messages slice i n rest begin place
   turned = t;
 }
 
-pub worked_all : (holds new : Rows → Records → Type 0) (honest : Type 0) (may : Moment → Type 0) (p q : PortState) (ids ids' : List ℕ) (messages : List (List ℕ)) (i : ℕ) (begin place : ℕ) (counts : SessionCounts)
+pub worked_all : (M : Model) → (holds new : KeeperState M) (may : Moment → Type 0) (p q : PortState) (ids ids' : List ℕ) (messages : List (List ℕ)) (i : ℕ) (begin place : ℕ) (counts : SessionCounts)
     → length messages ≤ i → place ≡ begin + length (joined (take i messages))
-    → Turned holds new honest may p q ids ids' (take i messages) true counts → WorkedOff holds new honest may p q ids ids' messages GoesOnHere begin place counts
-worked_all holds new honest may p q ids ids' messages i begin place counts past place_is t = record {
+    → Turned holds new may p q ids ids' (take i messages) true counts → WorkedOff holds new may p q ids ids' messages GoesOnHere begin place counts
+worked_all M holds new may p q ids ids' messages i begin place counts past place_is t = record {
   front = take i messages;
   others = [];
   parts = sym (append-nil (take i messages) ∙ take_all i messages past);

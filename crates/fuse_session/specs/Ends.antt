@@ -5,11 +5,11 @@ use Rattle.fuse_wire.specs.declared.moment.Moment.{Moment}
 use Rattle.fuse_request.specs.Framing.{HasNone, bad_length, end_fault}
 use Rattle.fuse_request.specs.declared.framer.FrameFault.{FrameFault}
 use Rattle.fuse_request.specs.Stream.{cut}
-use Rattle.fuse_tree.specs.State.{State}
-use Rattle.fuse_tree.specs.Rows.{Rows}
-use Rattle.fuse_store.specs.declared.fault.StoreFault.{StoreFault}
-use Rattle.fuse_store.specs.History.{History, Includes}
-use Rattle.fuse_store.specs.Stands.{Records, StandsFor}
+use Rattle.fuse_keeper.specs.declared.fault.StoreFault.{StoreFault}
+use Rattle.fuse_keeper.specs.History.{History, Includes}
+use Rattle.fuse_keeper.specs.Model.{Model}
+use Rattle.fuse_keeper.specs.Stands.{Records}
+use Rattle.fuse_keeper.specs.KeeperState.{KeeperState, StandsFor}
 use Rattle.fuse_session.specs.declared.counts.SessionCounts.{SessionCounts}
 use Rattle.fuse_session.specs.declared.ended.Ended.{Ended}
 use Rattle.fuse_session.specs.declared.ended.Ended.TheVariants.{End, Destroyed, Turns, Frame, ZeroUnique, PortFailed, Store, Memory}
@@ -44,17 +44,17 @@ ended_memory (Store fault) = false
 ended_memory Memory = true
 
 -- all that came was worked off and answered, but for a rest that begins at a place
-pub record Rested (holds holds' : Rows → Records → Type 0) (honest' : Type 0) (may : Moment → Type 0) (old new : PortState) (pending : List ℕ) (held : List ℕ) (begin : ℕ) (counts : SessionCounts) (P : ℕ → List ℕ → Type 0) : Type 0 where
+pub record Rested {M : Model} (k k' : KeeperState M) (may : Moment → Type 0) (old new : PortState) (pending : List ℕ) (held : List ℕ) (begin : ℕ) (counts : SessionCounts) (P : ℕ → List ℕ → Type 0) : Type 0 where
   pub rest : List ℕ
   pub place : ℕ
   pub pending' : List ℕ
-  pub whole : Whole holds holds' honest' may old new pending pending' held rest begin place counts
+  pub whole : Whole k k' may old new pending pending' held rest begin place counts
   pub so : P place rest
 
 -- messages were worked off up to one that stops the session, and this one begins, or ended, at a place
-pub record Halted (holds holds' : Rows → Records → Type 0) (honest' : Type 0) (may : Moment → Type 0) (old new : PortState) (pending : List ℕ) (held : List ℕ) (rest : Rest) (begin place : ℕ) (counts : SessionCounts) : Type 0 where
+pub record Halted {M : Model} (k k' : KeeperState M) (may : Moment → Type 0) (old new : PortState) (pending : List ℕ) (held : List ℕ) (rest : Rest) (begin place : ℕ) (counts : SessionCounts) : Type 0 where
   pub pending' : List ℕ
-  pub stopped : Stopped holds holds' honest' may old new pending pending' held rest begin place counts
+  pub stopped : Stopped k k' may old new pending pending' held rest begin place counts
 
 -- no whole message is left, and no bad length
 abbrev pub IsGoodRest : ℕ → List ℕ → Type 0
@@ -65,21 +65,21 @@ abbrev pub FaultOf : PortState → FrameFault → ℕ → List ℕ → Type 0
 FaultOf port f place rest = (bad_length place rest ≡ Some f) ⊎ (HasEnded port × (bad_length place rest ≡ None) × (end_fault place rest ≡ Some f))
 
 -- at each of the ends; `begin` is the offset of the bytes held at first. What Store and Memory leave stands below
-abbrev pub EndsAs : (Rows → Records → Type 0) → (Rows → Records → Type 0) → Type 0 → (Moment → Type 0) → PortState → PortState → List ℕ → List ℕ → ℕ → ℕ → Ended → SessionCounts → Type 0
-EndsAs holds holds' honest' may old new pending held begin turns End counts =
-    HasEnded new × Rested holds holds' honest' may old new pending held begin counts (λ place rest. rest ≡ [])
-EndsAs holds holds' honest' may old new pending held begin turns Destroyed counts = (place : ℕ) × Halted holds holds' honest' may old new pending held ByDestroy begin place counts
-EndsAs holds holds' honest' may old new pending held begin turns Turns counts =
-    (new.receives ≡ old.receives + turns) × (new.has_ended ≡ old.has_ended) × Rested holds holds' honest' may old new pending held begin counts IsGoodRest
-EndsAs holds holds' honest' may old new pending held begin turns (Frame f) counts = Rested holds holds' honest' may old new pending held begin counts (FaultOf new f)
-EndsAs holds holds' honest' may old new pending held begin turns (ZeroUnique at) counts = Halted holds holds' honest' may old new pending held ByZero begin at counts
-EndsAs holds holds' honest' may old new pending held begin turns PortFailed counts =
-    old.receive_failures < new.receive_failures → (new.has_ended ≡ old.has_ended) × Rested holds holds' honest' may old new pending held begin counts IsGoodRest
-EndsAs holds holds' honest' may old new pending held begin turns (Store fault) counts = Unit {0}
-EndsAs holds holds' honest' may old new pending held begin turns Memory counts = Unit {0}
+abbrev pub EndsAs : {M : Model} → KeeperState M → KeeperState M → (Moment → Type 0) → PortState → PortState → List ℕ → List ℕ → ℕ → ℕ → Ended → SessionCounts → Type 0
+EndsAs k k' may old new pending held begin turns End counts =
+    HasEnded new × Rested k k' may old new pending held begin counts (λ place rest. rest ≡ [])
+EndsAs k k' may old new pending held begin turns Destroyed counts = (place : ℕ) × Halted k k' may old new pending held ByDestroy begin place counts
+EndsAs k k' may old new pending held begin turns Turns counts =
+    (new.receives ≡ old.receives + turns) × (new.has_ended ≡ old.has_ended) × Rested k k' may old new pending held begin counts IsGoodRest
+EndsAs k k' may old new pending held begin turns (Frame f) counts = Rested k k' may old new pending held begin counts (FaultOf new f)
+EndsAs k k' may old new pending held begin turns (ZeroUnique at) counts = Halted k k' may old new pending held ByZero begin at counts
+EndsAs k k' may old new pending held begin turns PortFailed counts =
+    old.receive_failures < new.receive_failures → (new.has_ended ≡ old.has_ended) × Rested k k' may old new pending held begin counts IsGoodRest
+EndsAs k k' may old new pending held begin turns (Store fault) counts = Unit {0}
+EndsAs k k' may old new pending held begin turns Memory counts = Unit {0}
 
 -- bytes came, and exactly the answers to the first of their messages were sent
-pub record SentExactly (holds : Rows → Records → Type 0) (honest' : Type 0) (stood : State → History → List ℕ → Type 0) (may : Moment → Type 0) (old new : PortState) (pending : List ℕ) (held : List ℕ) : Type 0 where
+pub record SentExactly {M : Model} (k k' : KeeperState M) (stood : M.State → History → List ℕ → Type 0) (may : Moment → Type 0) (old new : PortState) (pending : List ℕ) (held : List ℕ) : Type 0 where
   pub received : List ℕ
   pub came : Consumes old.coming new.coming received
   pub timed : List Timed
@@ -88,15 +88,15 @@ pub record SentExactly (holds : Rows → Records → Type 0) (honest' : Type 0) 
   pub front : (cut (held ++ received)).0 ≡ bytes_of timed ++ others
   pub moments : Moments may timed
   pub replied : Replied old new marks []
-  pub exactly : honest' → (s : State) (h : History) (t : List ℕ) → StandsFor holds s h t → Includes t pending → NoneComesAgain old.confirms t (bytes_of timed) marks
-      → Exact (stood s) s h old.confirms t timed marks
+  pub exactly : k'.is_honest → (s : M.State) (h : History) (t : List ℕ) → StandsFor k s h t → Includes t pending → NoneComesAgain old.confirms t (bytes_of timed) marks
+      → Exact M (stood s) s h old.confirms t timed marks
 
 -- by a fault of the store, which is one that the keeper may answer; the keeper stands for those messages, where its
 -- store is clean. For want of memory
-abbrev pub ExactAt : (Rows → Records → Type 0) → (Rows → Records → Type 0) → Type 0 → Type 0 → (StoreFault → Type 0) → (Moment → Type 0) → PortState → PortState → List ℕ → List ℕ → Ended → Type 0
-ExactAt holds holds' clean' honest' may_fault may old new pending held (Store fault) = SentExactly holds honest' (λ s g t. clean' → StandsFor holds' s g t × may_fault fault) may old new pending held
-ExactAt holds holds' clean' honest' may_fault may old new pending held Memory = SentExactly holds honest' (λ s g t. Unit {0}) may old new pending held
-ExactAt holds holds' clean' honest' may_fault may old new pending held _ = Unit {0}
+abbrev pub ExactAt : {M : Model} → KeeperState M → KeeperState M → (Moment → Type 0) → PortState → PortState → List ℕ → List ℕ → Ended → Type 0
+ExactAt k k' may old new pending held (Store fault) = SentExactly k k' (λ s g t. k'.is_clean → StandsFor k' s g t × k.may_answer fault) may old new pending held
+ExactAt k k' may old new pending held Memory = SentExactly k k' (λ s g t. Unit {0}) may old new pending held
+ExactAt k k' may old new pending held _ = Unit {0}
 
 -- a fault of the store is one of these
 abbrev pub MayEnd : (StoreFault → Type 0) → Ended → Type 0

@@ -8,10 +8,10 @@ use Rattle.fuse_request.specs.declared.class.Class.TheVariants.{Silent, Bare, Ke
 use Rattle.fuse_request.specs.declared.request.Request.{Request}
 use Rattle.fuse_request.specs.Classes.{class_of, is_zero}
 use Rattle.fuse_request.specs.Stream.{joined}
-use Rattle.fuse_tree.specs.State.{State}
-use Rattle.fuse_store.specs.declared.keeper.Done.{Done}
-use Rattle.fuse_store.specs.History.{Entry, entry_id, History, add, said}
-use Rattle.fuse_store.specs.Group.{entries_of}
+use Rattle.fuse_keeper.specs.Model.{Model}
+use Rattle.fuse_keeper.specs.declared.keeper.Done.{Done}
+use Rattle.fuse_keeper.specs.History.{Entry, entry_id, History, add, said}
+use Rattle.fuse_keeper.specs.Group.{entries_of}
 use Rattle.fuse_session.specs.declared.counts.SessionCounts.{SessionCounts}
 use Rattle.fuse_session.specs.declared.group.Rest.{Rest}
 use Rattle.fuse_session.specs.declared.group.Rest.TheVariants.{GoesOn as GoesOnHere, Destroyed, ZeroUnique}
@@ -97,9 +97,9 @@ wires [] answers = []
 wires (m ∷ ms) answers = head_wire (class_of m) (unique_of m) answers ∷ wires ms (left_by (class_of m) answers)
 
 -- what each entry is told when it is added
-abbrev pub told : State → History → List Entry → List (Option Said)
-told s h [] = []
-told s h (e ∷ es) = said s (add h e) (entry_id e) ∷ told s (add h e) es
+abbrev pub told : (M : Model) → M.State → History → List Entry → List (Option Said)
+told M s h [] = []
+told M s h (e ∷ es) = said M s (add h e) (entry_id e) ∷ told M s (add h e) es
 
 -- there is an answer for each kept message
 abbrev pub AreEnough : List (List ℕ) → List Said → Type 0

@@ -3,9 +3,10 @@ use Rattle.std.specs.Prelude.{◌≡◌, Bool, true, false, ◌==◌, bit_and, R
 use Rattle.fuse_wire.specs.declared.init_flags.InitFlags.{InitFlags}
 use Rattle.fuse_answer.specs.Notice.{resend_bytes}
 use Rattle.fuse_init.specs.declared.settings.Settings.{Settings}
-use Rattle.fuse_tree.specs.Rows.{Rows, IsRowed}
-use Rattle.fuse_store.specs.declared.fault.StoreFault.{StoreFault}
-use Rattle.fuse_store.specs.Stands.{Records}
+use Rattle.fuse_keeper.specs.declared.fault.StoreFault.{StoreFault}
+use Rattle.fuse_keeper.specs.Model.{Model}
+use Rattle.fuse_keeper.specs.Stands.{Records, IsRowed}
+use Rattle.fuse_keeper.specs.KeeperState.{KeeperState}
 use Rattle.fuse_session.specs.declared.resuming.ResumeFault.{ResumeFault}
 use Rattle.fuse_session.specs.declared.resuming.ResumeFault.TheVariants.{NotOffered, PortFailed, Store}
 use Rattle.fuse_session.specs.Port.{PortState, SentWhole, SentPart}
@@ -20,20 +21,20 @@ may_ask None = true
 may_ask (Some agreed) = has_resend agreed.flags
 
 -- the settings of a tree that is held
-abbrev pub SettingsSay : (Rows → Records → Type 0) → Bool → Type 0
-SettingsSay holds asks = (rows : Rows) (records : Records) → holds rows records → IsRowed rows → may_ask rows.settings ≡ asks
+abbrev pub SettingsSay : {M : Model} → KeeperState M → Bool → Type 0
+SettingsSay {M} k asks = (rows : M.Rows) (records : Records) → k.holds rows records → IsRowed M rows → may_ask (M.settings rows) ≡ asks
 
 -- the notice was sent, all of it
-pub record Resumed (holds : Rows → Records → Type 0) (honest' : Type 0) (old new : PortState) : Type 0 where
+pub record Resumed {M : Model} (k k' : KeeperState M) (old new : PortState) : Type 0 where
   pub gone : Bool
   pub sent : SentWhole old new resend_bytes gone
-  pub asks : honest' → SettingsSay holds true
+  pub asks : k'.is_honest → SettingsSay k true
 
 -- it wasn't: nothing was sent, or the port failed with a front of it sent
-abbrev pub NotResumed : (Rows → Records → Type 0) → Type 0 → PortState → PortState → ResumeFault → Type 0
-NotResumed holds honest' old new NotOffered = (new ≡ old) × (honest' → SettingsSay holds false)
-NotResumed holds honest' old new PortFailed = SentPart old new resend_bytes × (honest' → SettingsSay holds true)
-NotResumed holds honest' old new (Store fault) = new ≡ old
+abbrev pub NotResumed : {M : Model} → KeeperState M → KeeperState M → PortState → PortState → ResumeFault → Type 0
+NotResumed k k' old new NotOffered = (new ≡ old) × (k'.is_honest → SettingsSay k false)
+NotResumed k k' old new PortFailed = SentPart old new resend_bytes × (k'.is_honest → SettingsSay k true)
+NotResumed k k' old new (Store fault) = new ≡ old
 
 -- whether it ended by a fault of the store
 abbrev pub failed_by : Result (Unit {0}) ResumeFault → Bool

@@ -5,9 +5,10 @@ use Rattle.fuse_request.specs.declared.class.Class.{Class}
 use Rattle.fuse_request.specs.declared.class.Class.TheVariants.{Silent, Bare, Kept}
 use Rattle.fuse_request.specs.Classes.{class_of}
 use Rattle.fuse_request.specs.Stream.{joined}
-use Rattle.fuse_tree.specs.Rows.{Rows}
-use Rattle.fuse_store.specs.History.{is_in, Includes}
-use Rattle.fuse_store.specs.Stands.{Records}
+use Rattle.fuse_keeper.specs.History.{is_in, Includes}
+use Rattle.fuse_keeper.specs.Model.{Model}
+use Rattle.fuse_keeper.specs.Stands.{Records}
+use Rattle.fuse_keeper.specs.KeeperState.{KeeperState}
 use Rattle.fuse_session.specs.Port.{PortState}
 use Rattle.fuse_session.specs.Worked.{message_id}
 
@@ -79,35 +80,35 @@ BeginsNext [] part = part ≡ []
 BeginsNext (answer ∷ later) part = (unsent : List ℕ) × (answer ≡ part ++ unsent)
 
 -- of these ids at most 16 have a record, and those are among the second ones
-pub record FewHave (holds : Rows → Records → Type 0) (ids more : List ℕ) : Type 0 where
-  pub rows : Rows
+pub record FewHave {M : Model} (k : KeeperState M) (ids more : List ℕ) : Type 0 where
+  pub rows : M.Rows
   pub records : Records
-  pub held : holds rows records
+  pub held : k.holds rows records
   pub few : length more ≤ 16
   pub others : (i : ℕ) → is_in ids i ≡ true → is_in more i ≡ false → records i ≡ None
 
 -- of these ids at most 16 have a record
-abbrev pub FewRecorded : (Rows → Records → Type 0) → List ℕ → Type 0
-FewRecorded holds ids = (more : List ℕ) × FewHave holds ids more
+abbrev pub FewRecorded : {M : Model} → KeeperState M → List ℕ → Type 0
+FewRecorded k ids = (more : List ℕ) × FewHave k ids more
 
 -- the records are some of those of before, and some of these ids
 abbrev pub SomeAndMore : Records → List ℕ → Records → Type 0
 SomeAndMore before more records = (i : ℕ) → is_in more i ≡ false → (records i ≡ None) ⊎ (records i ≡ before i)
 
 -- the records that are held are some of those of before, and of at most 16 ids more
-pub record AtMostMore (before : Records) (holds : Rows → Records → Type 0) : Type 0 where
-  pub rows : Rows
+pub record AtMostMore {M : Model} (before : Records) (k : KeeperState M) : Type 0 where
+  pub rows : M.Rows
   pub records : Records
-  pub held : holds rows records
+  pub held : k.holds rows records
   pub more : List ℕ
   pub few : length more ≤ 16
   pub some : SomeAndMore before more records
 
 -- so it is, and those ids are to be handed on
-pub record HandsOn (before : Records) (holds : Rows → Records → Type 0) (pending : List ℕ) : Type 0 where
-  pub rows : Rows
+pub record HandsOn {M : Model} (before : Records) (k : KeeperState M) (pending : List ℕ) : Type 0 where
+  pub rows : M.Rows
   pub records : Records
-  pub held : holds rows records
+  pub held : k.holds rows records
   pub more : List ℕ
   pub few : length more ≤ 16
   pub some : SomeAndMore before more records

@@ -11,8 +11,8 @@ use Rattle.fuse_request.specs.Header.{raw_of}
 use Rattle.fuse_request.specs.Places.{asked_at}
 use Rattle.fuse_request.specs.Stream.{joined}
 use Rattle.fuse_wire.specs.declared.opcode.TheConstants.{DESTROY}
-use Rattle.fuse_tree.specs.State.{State}
-use Rattle.fuse_store.specs.History.{Entry, History, grown, said}
+use Rattle.fuse_keeper.specs.Model.{Model}
+use Rattle.fuse_keeper.specs.History.{Entry, History, grown, said}
 
 -- a message, and the moment at which it was worked off (of one that isn't kept, any)
 pub record Timed : Type 0 where
@@ -55,15 +55,15 @@ answer_by Kept None unique = []
 answer_by Kept (Some a) unique = wire a.errno a.body unique
 
 -- the answer to a message, where the history is g
-abbrev pub answered : State → History → Timed → List ℕ
-answered s g t = answer_by (class_of t.bytes) (said s g (message_id t.bytes)) (unique_of t.bytes)
+abbrev pub answered : (M : Model) → M.State → History → Timed → List ℕ
+answered M s g t = answer_by (class_of t.bytes) (said M s g (message_id t.bytes)) (unique_of t.bytes)
 
-abbrev pub answers : State → History → List Timed → List (List ℕ)
-answers s g ts = map (answered s g) ts
+abbrev pub answers : (M : Model) → M.State → History → List Timed → List (List ℕ)
+answers M s g ts = map (answered M s g) ts
 
 -- what is to be sent for messages
-abbrev pub out : State → History → List Timed → List ℕ
-out s h ts = joined (answers s (grown h (kept_in ts)) ts)
+abbrev pub out : (M : Model) → M.State → History → List Timed → List ℕ
+out M s h ts = joined (answers M s (grown h (kept_in ts)) ts)
 
 -- a kept DESTROY, and one that is answered without an error
 abbrev pub destroys_by : Class → ℕ → Bool
@@ -78,25 +78,25 @@ abbrev pub says_zero : Option Said → Bool
 says_zero None = false
 says_zero (Some a) = a.errno == 0
 
-abbrev pub Ends : State → History → Timed → Type 0
-Ends s g t = (destroys t.bytes ≡ true) × (says_zero (said s g (message_id t.bytes)) ≡ true)
+abbrev pub Ends : (M : Model) → M.State → History → Timed → Type 0
+Ends M s g t = (destroys t.bytes ≡ true) × (says_zero (said M s g (message_id t.bytes)) ≡ true)
 
 -- worked off to the end: none is zero, and none ends the session
-abbrev pub GoesOn : State → History → List Timed → Type 0
-GoesOn s h [] = Unit {0}
-GoesOn s h (t ∷ ts) = (is_zero t.bytes ≡ false) × (¬ Ends s (grown h (entries_at t)) t) × GoesOn s (grown h (entries_at t)) ts
+abbrev pub GoesOn : (M : Model) → M.State → History → List Timed → Type 0
+GoesOn M s h [] = Unit {0}
+GoesOn M s h (t ∷ ts) = (is_zero t.bytes ≡ false) × (¬ Ends M s (grown h (entries_at t)) t) × GoesOn M s (grown h (entries_at t)) ts
 
 -- worked off: none is zero, and nothing comes after one that ends the session
-abbrev pub Works : State → History → List Timed → Type 0
-Works s h [] = Unit {0}
-Works s h (t ∷ ts) = (is_zero t.bytes ≡ false) × ((ts ≡ []) ⊎ (¬ Ends s (grown h (entries_at t)) t)) × Works s (grown h (entries_at t)) ts
+abbrev pub Works : (M : Model) → M.State → History → List Timed → Type 0
+Works M s h [] = Unit {0}
+Works M s h (t ∷ ts) = (is_zero t.bytes ≡ false) × ((ts ≡ []) ⊎ (¬ Ends M s (grown h (entries_at t)) t)) × Works M s (grown h (entries_at t)) ts
 
 -- the last message ends the session
-pub record EndsLast (s : State) (h : History) (timed : List Timed) : Type 0 where
+pub record EndsLast (M : Model) (s : M.State) (h : History) (timed : List Timed) : Type 0 where
   pub earlier : List Timed
   pub one : Timed
   pub parts : timed ≡ earlier ++ one ∷ []
-  pub ends : Ends s (grown h (kept_in timed)) one
+  pub ends : Ends M s (grown h (kept_in timed)) one
 
 -- the next message is zero
 abbrev pub StartsZero : List (List ℕ) → Type 0

@@ -10,7 +10,7 @@ use crate::gather::has_opcode;
 use bytes::Bytes;
 use fuse_request::opcode::INTERRUPT;
 use fuse_request::{Class, classify, decode};
-use fuse_store::Done;
+use fuse_keeper::Done;
 
 /// How many messages were worked off, by class.
 #[derive(Clone, Copy, Debug, PartialEq, Eq)]

@@ -1,6 +1,6 @@
 use crate::counts::SessionCounts;
 use fuse_request::FrameFault;
-use fuse_store::StoreFault;
+use fuse_keeper::StoreFault;
 
 /// How serving ended.
 #[derive(Drop)]

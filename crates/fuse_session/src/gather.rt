@@ -4,8 +4,8 @@ ghost use Rattle.fuse_wire.specs.declared.moment.Moment.{Moment as MomentValue};
 ghost use Rattle.fuse_request.specs.Stream.{IsMessage};
 ghost use Rattle.fuse_request.specs.Classes.{class_of};
 ghost use Rattle.fuse_request.specs.Header.{raw_of};
-ghost use Rattle.fuse_store.specs.Group.{entries_of, HasId, IsKept};
-ghost use Rattle.fuse_store.specs.declared.keeper.TheConstants.{MAX_GROUP as max_group};
+ghost use Rattle.fuse_keeper.specs.Group.{entries_of, HasId, IsKept};
+ghost use Rattle.fuse_keeper.specs.declared.keeper.TheConstants.{MAX_GROUP as max_group};
 ghost use Rattle.fuse_session.specs.Worked.{entry_if, message_entry};
 ghost use Rattle.fuse_session.specs.Group.{Gathers, IsStuck, listed};
 
@@ -13,7 +13,7 @@ use crate::clock::Clock;
 use bytes::Bytes;
 use fuse_request::opcode::DESTROY;
 use fuse_request::{Class, Request, classify, decode, has_zero_unique, header_of};
-use fuse_store::MAX_GROUP;
+use fuse_keeper::MAX_GROUP;
 use fuse_wire::Moment;
 use std::alloc::{AllocError, Global};
 

@@ -2,12 +2,12 @@
 ghost use Rattle.std.specs.Prelude.{◌≡◌, ◌≤◌, ◌<◌, ◌+◌, ◌++◌, ◌&&◌, ◌==◌, [], ℕ, true, false, List, length, take, drop, ◌^◌, is_err, All, IfOk, IfErr, OnOk, OnErr};
 ghost use Rattle.fuse_wire.specs.declared.moment.Moment.{Moment as MomentValue};
 ghost use Rattle.fuse_request.specs.Stream.{IsMessage};
-ghost use Rattle.fuse_tree.specs.State.{State};
-ghost use Rattle.fuse_store.specs.declared.fault.StoreFault.{StoreFault as StoreFaultValue};
-ghost use Rattle.fuse_store.specs.History.{History, grown, ids_in, Includes, IsUnsettled};
-ghost use Rattle.fuse_store.specs.Stands.{Records, StandsFor, StandsForEither, Performed, Leaves, IsFirm, KeepsHeld};
-ghost use Rattle.fuse_store.specs.Group.{entries_of, HasId, IsKept, ids_of};
-ghost use Rattle.fuse_store.specs.declared.keeper.TheConstants.{MAX_GROUP as max_group, MAX_SETTLED as max_settled};
+ghost use Rattle.fuse_keeper.specs.declared.fault.StoreFault.{StoreFault as StoreFaultValue};
+ghost use Rattle.fuse_keeper.specs.History.{ids_in, Includes, IsUnsettled};
+ghost use Rattle.fuse_keeper.specs.Stands.{Records};
+ghost use Rattle.fuse_keeper.specs.KeeperState.{Called, Performs, LeavesGroup, KeepsFirm};
+ghost use Rattle.fuse_keeper.specs.Group.{entries_of, HasId, IsKept, ids_of};
+ghost use Rattle.fuse_keeper.specs.declared.keeper.TheConstants.{MAX_GROUP as max_group, MAX_SETTLED as max_settled};
 ghost use Rattle.fuse_session.specs.Port.{IsYoung, IsQuiet};
 ghost use Rattle.fuse_session.specs.Worked.{StartsZero};
 ghost use Rattle.fuse_session.specs.Settling.{HandsOn, AtMostMore, FewHave};
@@ -23,7 +23,7 @@ use crate::sending::{SendFault, send_answers};
 use bytes::Bytes;
 use fuse_answer::Answer;
 use fuse_request::Request;
-use fuse_store::{Done, Keeper, StoreFault, histories_grow};
+use fuse_keeper::{Done, Keeper, StoreFault, histories_grow};
 use fuse_wire::{Id, Moment};
 use std::alloc::Global;
 
@@ -62,28 +62,19 @@ fn perform_group<K: Keeper>(
     requires few { length pending.old.items ≤ max_settled }
     requires named { All HasId (entries_of group.now) }
     requires kept { All IsKept (entries_of group.now) }
-    requires going { K.has_failed keeper.old ≡ false }
+    requires going { (K.told keeper.old).has_failed ≡ false }
     ensures count { IfOk result (λ dones. length dones.items ≡ length group.now) }
-    ensures ok { K.is_honest keeper.new → IfOk result (λ dones. (s : State) (h : History) (t : List ℕ) → StandsFor (K.holds keeper.old) s h t
-        → Includes t (ids_of pending.old.items) → All (IsUnsettled t) (entries_of group.now)
-        → Performed (K.holds keeper.new) s h t (entries_of group.now) dones.items) }
+    ensures called { Called (K.told keeper.old) (K.told keeper.new) result }
+    ensures ok { IfOk result (λ dones. Performs (K.told keeper.old) (K.told keeper.new) (ids_of pending.old.items) (entries_of group.now) dones.items) }
     ensures few { IfOk result (λ dones. length pending.new.items + length dones.items ≤ max_settled) }
     ensures pending { (t : List ℕ) → Includes t (ids_of pending.old.items) → Includes t (ids_of pending.new.items) }
-    ensures more { OnOk result (K.is_honest keeper.new → (before : Records) → HandsOn before (K.holds keeper.old) (ids_of pending.old.items)
-        → HandsOn before (K.holds keeper.new) (ids_of pending.new.items ++ ids_in (entries_of group.now))) }
-    ensures gone { OnOk result (K.is_honest keeper.new → (t : List ℕ) → All (IsUnsettled t) (entries_of group.now) → FewHave (K.holds keeper.old) t (ids_of pending.old.items)
-        → FewHave (K.holds keeper.new) t (ids_of pending.new.items)) }
-    ensures err { OnErr result (K.is_clean keeper.new → KeepsHeld (K.holds keeper.old) (K.holds keeper.new)) }
-    ensures fault { K.is_clean keeper.new → (s : State) (h : History) (t : List ℕ) → StandsFor (K.holds keeper.old) s h t → IfErr result (K.may_answer keeper.old) }
-    ensures may { (f : StoreFaultValue) → K.may_answer keeper.new f → K.may_answer keeper.old f }
-    ensures crash { OnErr result ((s : State) (h : History) (t : List ℕ) → StandsFor (K.holds keeper.old) s h t
-        → Includes t (ids_of pending.old.items) → All (IsUnsettled t) (entries_of group.now)
-        → IsFirm (K.holds keeper.old) (K.leaves_whole keeper.old) (K.may_leave keeper.old)
-        → Leaves (K.leaves_whole keeper.new) (K.may_leave keeper.new) (StandsForEither s h t s (grown h (entries_of group.now)) t)) }
-    ensures firm { OnOk result (K.is_honest keeper.new → IsFirm (K.holds keeper.old) (K.leaves_whole keeper.old) (K.may_leave keeper.old)
-        → IsFirm (K.holds keeper.new) (K.leaves_whole keeper.new) (K.may_leave keeper.new)) }
-    ensures honest { K.is_honest keeper.new → K.is_honest keeper.old }
-    ensures failed { K.has_failed keeper.new ≡ is_err result }
+    ensures more { OnOk result ((K.told keeper.new).is_honest → (before : Records) → HandsOn before (K.told keeper.old) (ids_of pending.old.items)
+        → HandsOn before (K.told keeper.new) (ids_of pending.new.items ++ ids_in (entries_of group.now))) }
+    ensures gone { OnOk result ((K.told keeper.new).is_honest → (t : List ℕ) → All (IsUnsettled t) (entries_of group.now) → FewHave (K.told keeper.old) t (ids_of pending.old.items)
+        → FewHave (K.told keeper.new) t (ids_of pending.new.items)) }
+    ensures crash { OnErr result (LeavesGroup (K.told keeper.old) (K.told keeper.new) (ids_of pending.old.items) (entries_of group.now)) }
+    ensures firm { OnOk result (KeepsFirm (K.told keeper.old) (K.told keeper.new)) }
+    ensures failed { (K.told keeper.new).has_failed ≡ is_err result }
 {
     if group.is_empty() {
         return Ok(Vec::new(alloc));
@@ -156,35 +147,33 @@ pub(crate) fn work_group<K: Keeper, P: Port, C: Clock>(
     pending: &mut Vec<Id>,
 ) -> Result<Turn, Stop>
     requires messages { All IsMessage messages.now }
-    requires going { K.has_failed keeper.old ≡ false }
+    requires going { (K.told keeper.old).has_failed ≡ false }
     requires young { IsYoung (P.told port.old) }
     requires few { length pending.old.items ≤ max_settled }
     requires short { length messages.now < 2 ^ 60 }
     ensures within { IfOk result (λ turn. turn.count ≤ length messages.now) }
     ensures moves { IfOk result (λ turn. goes_on turn.rest ≡ true → turn.count ≡ 0 → messages.now ≡ []) }
     ensures zero { IfOk result (λ turn. turn.rest ≡ Rest.ZeroUnique → StartsZero (drop turn.count messages.now)) }
-    ensures ok { IfOk result (λ turn. Turned (K.holds keeper.old) (K.holds keeper.new) (K.is_honest keeper.new) (C.may_answer clock.old) (P.told port.old) (P.told port.new)
+    ensures ok { IfOk result (λ turn. Turned (K.told keeper.old) (K.told keeper.new) (C.may_answer clock.old) (P.told port.old) (P.told port.new)
         (ids_of pending.old.items) (ids_of pending.new.items) (take turn.count messages.now) (lasts turn.rest) turn.counts) }
     ensures below { IfOk result (λ turn. IsBelow turn.counts turn.count) }
     ensures few { OnOk result (length pending.new.items ≤ max_settled) }
-    ensures going { OnOk result (K.has_failed keeper.new ≡ false) }
-    ensures firm { OnOk result (K.is_honest keeper.new → IsFirm (K.holds keeper.old) (K.leaves_whole keeper.old) (K.may_leave keeper.old)
-        → IsFirm (K.holds keeper.new) (K.leaves_whole keeper.new) (K.may_leave keeper.new)) }
-    ensures more { OnOk result ((P.told port.old).confirms ≡ true → K.is_honest keeper.new → (before : Records) → HandsOn before (K.holds keeper.old) (ids_of pending.old.items)
-        → HandsOn before (K.holds keeper.new) (ids_of pending.new.items)) }
+    ensures going { OnOk result ((K.told keeper.new).has_failed ≡ false) }
+    ensures firm { OnOk result (KeepsFirm (K.told keeper.old) (K.told keeper.new)) }
+    ensures more { OnOk result ((P.told port.old).confirms ≡ true → (K.told keeper.new).is_honest → (before : Records) → HandsOn before (K.told keeper.old) (ids_of pending.old.items)
+        → HandsOn before (K.told keeper.new) (ids_of pending.new.items)) }
     ensures failures { OnOk result ((P.told port.new).failures ≡ (P.told port.old).failures) }
-    ensures err { IfErr result (λ stop. Broken (K.holds keeper.old) (K.holds keeper.new) (K.is_clean keeper.new) (K.is_honest keeper.new)
-        (IsFirm (K.holds keeper.old) (K.leaves_whole keeper.old) (K.may_leave keeper.old)) (K.leaves_whole keeper.new) (K.may_leave keeper.new)
-        (C.may_answer clock.old) (P.told port.old) (P.told port.new) (ids_of pending.old.items) messages.now (is_store stop) (is_memory stop) (MayStop (K.may_answer keeper.old) stop)) }
-    ensures may { (f : StoreFaultValue) → K.may_answer keeper.new f → K.may_answer keeper.old f }
-    ensures at_most { OnErr result (K.is_clean keeper.new → (before : Records) → HandsOn before (K.holds keeper.old) (ids_of pending.old.items) → AtMostMore before (K.holds keeper.new)) }
+    ensures err { IfErr result (λ stop. Broken (K.told keeper.old) (K.told keeper.new)
+        (C.may_answer clock.old) (P.told port.old) (P.told port.new) (ids_of pending.old.items) messages.now (is_store stop) (is_memory stop) (MayStop (K.told keeper.old).may_answer stop)) }
+    ensures may { (f : StoreFaultValue) → (K.told keeper.new).may_answer f → (K.told keeper.old).may_answer f }
+    ensures at_most { OnErr result ((K.told keeper.new).is_clean → (before : Records) → HandsOn before (K.told keeper.old) (ids_of pending.old.items) → AtMostMore before (K.told keeper.new)) }
     ensures failed { IfErr result (λ stop. stop ≡ Stop.PortFailed → (P.told port.old).failures < (P.told port.new).failures) }
-    ensures store { IfErr result (λ stop. K.has_failed keeper.new ≡ is_store stop) }
-    ensures honest { K.is_honest keeper.new → K.is_honest keeper.old }
+    ensures store { IfErr result (λ stop. (K.told keeper.new).has_failed ≡ is_store stop) }
+    ensures honest { (K.told keeper.new).is_honest → (K.told keeper.old).is_honest }
     ensures quiet { IsQuiet (P.told port.old) (P.told port.new) }
     ensures same { (t : MomentValue) → C.may_answer clock.new t → C.may_answer clock.old t }
 {
-    histories_grow();
+    histories_grow::<K>();
     let Ok(gathered) = gather(alloc, clock, messages) else {
         return Err(Stop::Memory);
     };

@@ -4,7 +4,7 @@ ghost use Rattle.fuse_answer.specs.Wire.{wire};
 ghost use Rattle.fuse_request.specs.Stream.{IsMessage};
 ghost use Rattle.fuse_request.specs.Classes.{class_of};
 ghost use Rattle.fuse_session.specs.Worked.{unique_of};
-ghost use Rattle.fuse_store.specs.Group.{ids_of};
+ghost use Rattle.fuse_keeper.specs.Group.{ids_of};
 ghost use Rattle.fuse_session.specs.Port.{IsYoung, SentWhole, tells_gone};
 ghost use Rattle.fuse_session.specs.Group.{answers_in, wires, AreEnough, head_wire, left_by, SendFails, SentNext, SentAll, SentSome};
 
@@ -12,7 +12,7 @@ use crate::port::{Passed, Port, PortFailed, send_whole};
 use bytes::Bytes;
 use fuse_answer::{Answer, write_answer};
 use fuse_request::{Class, classify};
-use fuse_store::Done;
+use fuse_keeper::Done;
 use fuse_wire::{Errno, Id};
 use std::alloc::Global;
 

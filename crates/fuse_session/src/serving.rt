@@ -3,11 +3,11 @@ ghost use Rattle.std.specs.Prelude.{◌≡◌, ◌≤◌, ◌<◌, ◌+◌, ◌^
 ghost use Rattle.fuse_wire.specs.declared.moment.Moment.{Moment as MomentValue};
 ghost use Rattle.fuse_request.specs.Framing.{fed_of};
 ghost use Rattle.fuse_request.specs.declared.header.TheConstants.{MAX_MESSAGE as max_message};
-ghost use Rattle.fuse_tree.specs.Rows.{Rows};
-ghost use Rattle.fuse_store.specs.declared.fault.StoreFault.{StoreFault as StoreFaultValue};
-ghost use Rattle.fuse_store.specs.Stands.{Records, IsFirm};
-ghost use Rattle.fuse_store.specs.Group.{ids_of};
-ghost use Rattle.fuse_store.specs.declared.keeper.TheConstants.{MAX_SETTLED as max_settled};
+ghost use Rattle.fuse_keeper.specs.declared.fault.StoreFault.{StoreFault as StoreFaultValue};
+ghost use Rattle.fuse_keeper.specs.Stands.{Records};
+ghost use Rattle.fuse_keeper.specs.KeeperState.{KeepsFirm};
+ghost use Rattle.fuse_keeper.specs.Group.{ids_of};
+ghost use Rattle.fuse_keeper.specs.declared.keeper.TheConstants.{MAX_SETTLED as max_settled};
 ghost use Rattle.fuse_session.specs.Port.{IsYoung};
 ghost use Rattle.fuse_session.specs.Settling.{HandsOn, AtMostMore};
 ghost use Rattle.fuse_session.specs.Counting.{IsBelow};
@@ -23,7 +23,7 @@ use crate::port::Port;
 use crate::receiving::hear;
 use crate::working::{Work, work_off};
 use fuse_request::{FrameFault, Framer, MAX_MESSAGE, cut_joins};
-use fuse_store::{Keeper, histories_grow};
+use fuse_keeper::{Keeper, histories_grow};
 use fuse_wire::Id;
 use std::alloc::Global;
 
@@ -76,44 +76,42 @@ fn one_turn<K: Keeper, P: Port, C: Clock>(
     buffer: &mut [u8],
     pending: &mut Vec<Id>,
 ) -> Result<SessionCounts, Served>
-    requires going { K.has_failed keeper.old ≡ false }
+    requires going { (K.told keeper.old).has_failed ≡ false }
     requires young { IsYoung (P.told port.old) }
     requires spare { (P.told port.old).receives + 1 < 2 ^ 63 }
     requires few { length pending.old.items ≤ max_settled }
     requires opened { IsOpen framer.old }
     requires room { length buffer.old ≤ max_message }
     requires fed { fed_of framer.old + length buffer.old ≤ 2 ^ 59 }
-    ensures ok { IfOk result (λ counts. Whole (K.holds keeper.old) (K.holds keeper.new) (K.is_honest keeper.new) (C.may_answer clock.old) (P.told port.old) (P.told port.new)
+    ensures ok { IfOk result (λ counts. Whole (K.told keeper.old) (K.told keeper.new) (C.may_answer clock.old) (P.told port.old) (P.told port.new)
         (ids_of pending.old.items) (ids_of pending.new.items) framer.old.bytes framer.new.bytes framer.old.at framer.new.at counts) }
     ensures opened { OnOk result (IsOpen framer.new) }
     ensures below { IfOk result (λ counts. IsBelow counts (2 ^ 20)) }
     ensures few { OnOk result (length pending.new.items ≤ max_settled) }
-    ensures going { OnOk result (K.has_failed keeper.new ≡ false) }
-    ensures firm { OnOk result (K.is_honest keeper.new → IsFirm (K.holds keeper.old) (K.leaves_whole keeper.old) (K.may_leave keeper.old)
-        → IsFirm (K.holds keeper.new) (K.leaves_whole keeper.new) (K.may_leave keeper.new)) }
-    ensures more { OnOk result ((P.told port.old).confirms ≡ true → K.is_honest keeper.new → (before : Records) → HandsOn before (K.holds keeper.old) (ids_of pending.old.items)
-        → HandsOn before (K.holds keeper.new) (ids_of pending.new.items)) }
+    ensures going { OnOk result ((K.told keeper.new).has_failed ≡ false) }
+    ensures firm { OnOk result (KeepsFirm (K.told keeper.old) (K.told keeper.new)) }
+    ensures more { OnOk result ((P.told port.old).confirms ≡ true → (K.told keeper.new).is_honest → (before : Records) → HandsOn before (K.told keeper.old) (ids_of pending.old.items)
+        → HandsOn before (K.told keeper.new) (ids_of pending.new.items)) }
     ensures still { OnOk result (((P.told port.new).failures ≡ (P.told port.old).failures) × ((P.told port.new).receive_failures ≡ (P.told port.old).receive_failures)
         × ((P.told port.new).has_ended ≡ (P.told port.old).has_ended)) }
     ensures receives { (P.told port.new).receives ≡ (P.told port.old).receives + 1 }
     ensures confirms { (P.told port.new).confirms ≡ (P.told port.old).confirms }
     ensures fed { fed_of framer.new ≤ fed_of framer.old + length buffer.old }
     ensures buffer { length buffer.new ≡ length buffer.old }
-    ensures life { IfErr result (λ served. Run (K.holds keeper.old) (K.holds keeper.new) (K.is_clean keeper.new) (K.is_honest keeper.new)
-        (IsFirm (K.holds keeper.old) (K.leaves_whole keeper.old) (K.may_leave keeper.old)) (K.leaves_whole keeper.new) (K.may_leave keeper.new)
-        (C.may_answer clock.old) (P.told port.old) (P.told port.new) (ids_of pending.old.items) framer.old.bytes (ended_store served.ended) (ended_memory served.ended) (MayEnd (K.may_answer keeper.old) served.ended)) }
-    ensures may { (f : StoreFaultValue) → K.may_answer keeper.new f → K.may_answer keeper.old f }
-    ensures ends { IfErr result (λ served. EndsAs (K.holds keeper.old) (K.holds keeper.new) (K.is_honest keeper.new) (C.may_answer clock.old) (P.told port.old) (P.told port.new)
+    ensures life { IfErr result (λ served. Run (K.told keeper.old) (K.told keeper.new)
+        (C.may_answer clock.old) (P.told port.old) (P.told port.new) (ids_of pending.old.items) framer.old.bytes (ended_store served.ended) (ended_memory served.ended) (MayEnd (K.told keeper.old).may_answer served.ended)) }
+    ensures may { (f : StoreFaultValue) → (K.told keeper.new).may_answer f → (K.told keeper.old).may_answer f }
+    ensures ends { IfErr result (λ served. EndsAs (K.told keeper.old) (K.told keeper.new) (C.may_answer clock.old) (P.told port.old) (P.told port.new)
         (ids_of pending.old.items) framer.old.bytes framer.old.at 0 served.ended served.counts) }
     ensures counted { IfErr result (λ served. IsBelow served.counts (2 ^ 20)) }
-    ensures at_most { OnErr result ((P.told port.old).confirms ≡ true → K.is_clean keeper.new → (before : Records) → HandsOn before (K.holds keeper.old) (ids_of pending.old.items) → AtMostMore before (K.holds keeper.new)) }
+    ensures at_most { OnErr result ((P.told port.old).confirms ≡ true → (K.told keeper.new).is_clean → (before : Records) → HandsOn before (K.told keeper.old) (ids_of pending.old.items) → AtMostMore before (K.told keeper.new)) }
     ensures failed { IfErr result (λ served. served.ended ≡ Ended.PortFailed → (P.told port.old).failures < (P.told port.new).failures) }
-    ensures store { IfErr result (λ served. K.has_failed keeper.new ≡ ended_store served.ended) }
+    ensures store { IfErr result (λ served. (K.told keeper.new).has_failed ≡ ended_store served.ended) }
     ensures not_turns { IfErr result (λ served. served.ended ≡ Ended.Turns → ⊥) }
-    ensures honest { K.is_honest keeper.new → K.is_honest keeper.old }
+    ensures honest { (K.told keeper.new).is_honest → (K.told keeper.old).is_honest }
     ensures same { (t : MomentValue) → C.may_answer clock.new t → C.may_answer clock.old t }
 {
-    histories_grow();
+    histories_grow::<K>();
     let begin = framer.fed() - framer.held();
     let waiting = match hear(alloc, port, framer, buffer) {
         Ok(waiting) => waiting,
@@ -150,39 +148,38 @@ pub fn serve<K: Keeper, P: Port, C: Clock>(
     clock: &mut C,
     turns: u32,
 ) -> Served
-    requires going { K.has_failed keeper.old ≡ false }
+    requires going { (K.told keeper.old).has_failed ≡ false }
     requires receives { (P.told port.old).receives < 2 ^ 62 }
     requires failures { (P.told port.old).failures < 2 ^ 62 }
     // What was worked off and answered at each of the ends, and how it is counted.
-    ensures ends { EndsAs (K.holds keeper.old) (K.holds keeper.new) (K.is_honest keeper.new) (C.may_answer clock.old) (P.told port.old) (P.told port.new)
+    ensures ends { EndsAs (K.told keeper.old) (K.told keeper.new) (C.may_answer clock.old) (P.told port.old) (P.told port.new)
         [] [] 0 turns result.ended result.counts }
 
     // However it ends, what was sent is a front of what is to be sent for messages that the keeper stands for, and that
     // whatever a crash leaves stands for.
-    ensures life { Run (K.holds keeper.old) (K.holds keeper.new) (K.is_clean keeper.new) (K.is_honest keeper.new)
-        (IsFirm (K.holds keeper.old) (K.leaves_whole keeper.old) (K.may_leave keeper.old)) (K.leaves_whole keeper.new) (K.may_leave keeper.new)
-        (C.may_answer clock.old) (P.told port.old) (P.told port.new) [] [] (ended_store result.ended) (ended_memory result.ended) (MayEnd (K.may_answer keeper.old) result.ended) }
+    ensures life { Run (K.told keeper.old) (K.told keeper.new)
+        (C.may_answer clock.old) (P.told port.old) (P.told port.new) [] [] (ended_store result.ended) (ended_memory result.ended) (MayEnd (K.told keeper.old).may_answer result.ended) }
 
     // Where the store or want of memory ended it, exactly the answers to some of the messages were sent. The store's
     // fault is one that the keeper may answer, and the keeper stands for those messages, where its store is clean.
-    ensures exactly { ExactAt (K.holds keeper.old) (K.holds keeper.new) (K.is_clean keeper.new) (K.is_honest keeper.new) (K.may_answer keeper.old) (C.may_answer clock.old)
+    ensures exactly { ExactAt (K.told keeper.old) (K.told keeper.new) (C.may_answer clock.old)
         (P.told port.old) (P.told port.new) [] [] result.ended }
 
     // On a port that confirms few records stay.
-    ensures at_most { (P.told port.old).confirms ≡ true → K.is_clean keeper.new → (rows : Rows) (records : Records) → K.holds keeper.old rows records → AtMostMore records (K.holds keeper.new) }
+    ensures at_most { (P.told port.old).confirms ≡ true → (K.told keeper.new).is_clean → (rows : K.model.Rows) (records : Records) → (K.told keeper.old).holds rows records → AtMostMore records (K.told keeper.new) }
 
     // On any port few of the ids that the answers settled have a record, be it that the port confirms or told Gone of them.
-    ensures settled { K.is_clean keeper.new → FewSettled (K.holds keeper.old) (K.holds keeper.new) (C.may_answer clock.old) (P.told port.old) (P.told port.new) }
+    ensures settled { (K.told keeper.new).is_clean → FewSettled (K.told keeper.old) (K.told keeper.new) (C.may_answer clock.old) (P.told port.old) (P.told port.new) }
 
     // It receives no more often than it may.
     ensures turns { (P.told port.new).receives ≤ (P.told port.old).receives + turns }
 
     // It gives up only where the port or the store did.
     ensures failed { result.ended ≡ Ended.PortFailed → (P.told port.old).failures < (P.told port.new).failures }
-    ensures store { K.has_failed keeper.new ≡ ended_store result.ended }
+    ensures store { (K.told keeper.new).has_failed ≡ ended_store result.ended }
 {
     cut_joins();
-    histories_grow();
+    histories_grow::<K>();
     let Ok(mut buffer) = vec![in alloc; 0; MAX_MESSAGE] else {
         return Served {
             ended: Ended::Memory,

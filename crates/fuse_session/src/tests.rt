@@ -4,7 +4,7 @@ use crate::{
     Arrival, Ended, Fixed, MemoryPort, Outcome, ResumeFault, SessionCounts, resume, serve,
 };
 use fuse_request::FrameFault;
-use fuse_store::{Keeper, PlainKeeper, Restart, StoreFault};
+use fuse_keeper::{Keeper, PlainKeeper, Restart, StoreFault};
 use fuse_wire::Moment;
 use messages::*;
 use std::alloc::{AllocError, Global};

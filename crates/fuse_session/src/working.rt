@@ -2,10 +2,11 @@
 ghost use Rattle.std.specs.Prelude.{◌≡◌, ◌≤◌, ◌<◌, ◌+◌, ◌^◌, true, false, not, length, All, IfOk, IfErr, OnOk, OnErr};
 ghost use Rattle.fuse_wire.specs.declared.moment.Moment.{Moment as MomentValue};
 ghost use Rattle.fuse_request.specs.Stream.{IsMessage, joined};
-ghost use Rattle.fuse_store.specs.declared.fault.StoreFault.{StoreFault as StoreFaultValue};
-ghost use Rattle.fuse_store.specs.Stands.{Records, IsFirm};
-ghost use Rattle.fuse_store.specs.Group.{ids_of};
-ghost use Rattle.fuse_store.specs.declared.keeper.TheConstants.{MAX_SETTLED as max_settled};
+ghost use Rattle.fuse_keeper.specs.declared.fault.StoreFault.{StoreFault as StoreFaultValue};
+ghost use Rattle.fuse_keeper.specs.Stands.{Records};
+ghost use Rattle.fuse_keeper.specs.KeeperState.{KeepsFirm};
+ghost use Rattle.fuse_keeper.specs.Group.{ids_of};
+ghost use Rattle.fuse_keeper.specs.declared.keeper.TheConstants.{MAX_SETTLED as max_settled};
 ghost use Rattle.fuse_session.specs.Port.{IsYoung, IsQuiet};
 ghost use Rattle.fuse_session.specs.Settling.{HandsOn, AtMostMore};
 ghost use Rattle.fuse_session.specs.Counting.{IsBelow};
@@ -16,7 +17,7 @@ use crate::counts::{SessionCounts, sum_of};
 use crate::group::{Rest, Stop, work_group};
 use crate::port::Port;
 use bytes::Bytes;
-use fuse_store::{Keeper, histories_grow};
+use fuse_keeper::{Keeper, histories_grow};
 use fuse_wire::Id;
 use std::alloc::Global;
 
@@ -62,33 +63,31 @@ pub(crate) fn work_off<K: Keeper, P: Port, C: Clock>(
     begin: u64,
 ) -> Result<Work, Stop>
     requires messages { All IsMessage messages.now }
-    requires going { K.has_failed keeper.old ≡ false }
+    requires going { (K.told keeper.old).has_failed ≡ false }
     requires young { IsYoung (P.told port.old) }
     requires few { length pending.old.items ≤ max_settled }
     requires short { length messages.now < 2 ^ 60 }
     requires place { begin + length (joined messages.now) < 2 ^ 62 }
-    ensures ok { IfOk result (λ work. WorkedOff (K.holds keeper.old) (K.holds keeper.new) (K.is_honest keeper.new) (C.may_answer clock.old) (P.told port.old) (P.told port.new)
+    ensures ok { IfOk result (λ work. WorkedOff (K.told keeper.old) (K.told keeper.new) (C.may_answer clock.old) (P.told port.old) (P.told port.new)
         (ids_of pending.old.items) (ids_of pending.new.items) messages.now work.rest begin work.place work.counts) }
     ensures below { IfOk result (λ work. IsBelow work.counts (length messages.now)) }
     ensures few { OnOk result (length pending.new.items ≤ max_settled) }
-    ensures going { OnOk result (K.has_failed keeper.new ≡ false) }
-    ensures firm { OnOk result (K.is_honest keeper.new → IsFirm (K.holds keeper.old) (K.leaves_whole keeper.old) (K.may_leave keeper.old)
-        → IsFirm (K.holds keeper.new) (K.leaves_whole keeper.new) (K.may_leave keeper.new)) }
-    ensures more { OnOk result ((P.told port.old).confirms ≡ true → K.is_honest keeper.new → (before : Records) → HandsOn before (K.holds keeper.old) (ids_of pending.old.items)
-        → HandsOn before (K.holds keeper.new) (ids_of pending.new.items)) }
+    ensures going { OnOk result ((K.told keeper.new).has_failed ≡ false) }
+    ensures firm { OnOk result (KeepsFirm (K.told keeper.old) (K.told keeper.new)) }
+    ensures more { OnOk result ((P.told port.old).confirms ≡ true → (K.told keeper.new).is_honest → (before : Records) → HandsOn before (K.told keeper.old) (ids_of pending.old.items)
+        → HandsOn before (K.told keeper.new) (ids_of pending.new.items)) }
     ensures failures { OnOk result ((P.told port.new).failures ≡ (P.told port.old).failures) }
-    ensures err { IfErr result (λ stop. Broken (K.holds keeper.old) (K.holds keeper.new) (K.is_clean keeper.new) (K.is_honest keeper.new)
-        (IsFirm (K.holds keeper.old) (K.leaves_whole keeper.old) (K.may_leave keeper.old)) (K.leaves_whole keeper.new) (K.may_leave keeper.new)
-        (C.may_answer clock.old) (P.told port.old) (P.told port.new) (ids_of pending.old.items) messages.now (is_store stop) (is_memory stop) (MayStop (K.may_answer keeper.old) stop)) }
-    ensures may { (f : StoreFaultValue) → K.may_answer keeper.new f → K.may_answer keeper.old f }
-    ensures at_most { OnErr result ((P.told port.old).confirms ≡ true → K.is_clean keeper.new → (before : Records) → HandsOn before (K.holds keeper.old) (ids_of pending.old.items) → AtMostMore before (K.holds keeper.new)) }
+    ensures err { IfErr result (λ stop. Broken (K.told keeper.old) (K.told keeper.new)
+        (C.may_answer clock.old) (P.told port.old) (P.told port.new) (ids_of pending.old.items) messages.now (is_store stop) (is_memory stop) (MayStop (K.told keeper.old).may_answer stop)) }
+    ensures may { (f : StoreFaultValue) → (K.told keeper.new).may_answer f → (K.told keeper.old).may_answer f }
+    ensures at_most { OnErr result ((P.told port.old).confirms ≡ true → (K.told keeper.new).is_clean → (before : Records) → HandsOn before (K.told keeper.old) (ids_of pending.old.items) → AtMostMore before (K.told keeper.new)) }
     ensures failed { IfErr result (λ stop. stop ≡ Stop.PortFailed → (P.told port.old).failures < (P.told port.new).failures) }
-    ensures store { IfErr result (λ stop. K.has_failed keeper.new ≡ is_store stop) }
-    ensures honest { K.is_honest keeper.new → K.is_honest keeper.old }
+    ensures store { IfErr result (λ stop. (K.told keeper.new).has_failed ≡ is_store stop) }
+    ensures honest { (K.told keeper.new).is_honest → (K.told keeper.old).is_honest }
     ensures quiet { IsQuiet (P.told port.old) (P.told port.new) }
     ensures same { (t : MomentValue) → C.may_answer clock.new t → C.may_answer clock.old t }
 {
-    histories_grow();
+    histories_grow::<K>();
     let mut at = 0;
     let mut place = begin;
     let mut counts = SessionCounts::NONE;

@@ -7,9 +7,9 @@ use Rattle.fuse_answer.specs.Wire.{wire}
 use Rattle.fuse_request.specs.declared.class.Class.{Class}
 use Rattle.fuse_request.specs.declared.class.Class.TheVariants.{Silent, Bare, Kept}
 use Rattle.fuse_request.specs.Classes.{class_of}
-use Rattle.fuse_tree.specs.State.{State}
 use Rattle.fuse_wire.specs.declared.moment.Moment.{Moment}
-use Rattle.fuse_store.specs.History.{Entry, entry_id, History, HistoriesGrow, add, grown, is_in, ids_in, Includes, IsUnsettled}
+use Rattle.fuse_keeper.specs.Model.{Model}
+use Rattle.fuse_keeper.specs.History.{Entry, entry_id, History, HistoriesGrow, add, grown, is_in, ids_in, Includes, IsUnsettled}
 use Rattle.fuse_session.specs.Worked.{entry_if, message_entry, message_id, unique_of}
 use Rattle.fuse_session.specs.Settling.{settles_if, comes_again, MayCome}
 use Rattle.fuse_sim.specs.declared.event.Fate.{Fate}
@@ -32,50 +32,50 @@ committed-append h xs ys = ap (grown h) (commits-append xs ys) ∙ grown-append 
 -- ---- outcomes
 
 -- each in the history right after its event
-abbrev gives : State → History → List Event → List (Option (List ℕ))
-gives s h [] = []
-gives s h (e ∷ es) = outcome_of s (grown h (commits e)) e ∷ gives s (grown h (commits e)) es
+abbrev gives : (M : Model) → M.State → History → List Event → List (Option (List ℕ))
+gives M s h [] = []
+gives M s h (e ∷ es) = outcome_of M s (grown h (commits e)) e ∷ gives M s (grown h (commits e)) es
 
-stays_by : HistoriesGrow → (s : State) (h : History) (fate : Fate) (class : Class) (bytes : List ℕ) (moment : Moment) (es : List Entry)
-    → where_taken (is_taken fate) (answer_in s (grown (grown h (commits_by fate (entry_if class (message_entry bytes moment)))) es) class (unique_of bytes))
-    ≡ where_taken (is_taken fate) (answer_in s (grown h (commits_by fate (entry_if class (message_entry bytes moment)))) class (unique_of bytes))
-stays_by grows s h Answered Silent bytes moment es = refl
-stays_by grows s h Answered (Bare errno) bytes moment es = refl
-stays_by grows s h Answered Kept bytes moment es =
+stays_by : (M : Model) → HistoriesGrow M → (s : M.State) (h : History) (fate : Fate) (class : Class) (bytes : List ℕ) (moment : Moment) (es : List Entry)
+    → where_taken (is_taken fate) (answer_in M s (grown (grown h (commits_by fate (entry_if class (message_entry bytes moment)))) es) class (unique_of bytes))
+    ≡ where_taken (is_taken fate) (answer_in M s (grown h (commits_by fate (entry_if class (message_entry bytes moment)))) class (unique_of bytes))
+stays_by M grows s h Answered Silent bytes moment es = refl
+stays_by M grows s h Answered (Bare errno) bytes moment es = refl
+stays_by M grows s h Answered Kept bytes moment es =
     let e = message_entry bytes moment in
     ap (option_map (λ (a : Said). wire a.errno a.body (unique_of bytes))) (grows.stays s (add h e) es (entry_id e) (grows.added h e))
-stays_by grows s h AnswerLost class bytes moment es = refl
-stays_by grows s h DiedBeforeCommit class bytes moment es = refl
-stays_by grows s h DiedAfterCommit class bytes moment es = refl
+stays_by M grows s h AnswerLost class bytes moment es = refl
+stays_by M grows s h DiedBeforeCommit class bytes moment es = refl
+stays_by M grows s h DiedAfterCommit class bytes moment es = refl
 
 -- what comes later changes no outcome
-outcome_stays : HistoriesGrow → (s : State) (h : History) (e : Event) (es : List Entry) → outcome_of s (grown (grown h (commits e)) es) e ≡ outcome_of s (grown h (commits e)) e
-outcome_stays grows s h e es = stays_by grows s h e.fate (class_of e.bytes) e.bytes e.moment es
+outcome_stays : (M : Model) → HistoriesGrow M → (s : M.State) (h : History) (e : Event) (es : List Entry) → outcome_of M s (grown (grown h (commits e)) es) e ≡ outcome_of M s (grown h (commits e)) e
+outcome_stays M grows s h e es = stays_by M grows s h e.fate (class_of e.bytes) e.bytes e.moment es
 
-outcomes_stay : HistoriesGrow → (s : State) (h : History) (events : List Event) (es : List Entry) → map (outcome_of s (grown (committed h events) es)) events ≡ gives s h events
-outcomes_stay grows s h [] es = refl
-outcomes_stay grows s h (e ∷ events) es =
+outcomes_stay : (M : Model) → HistoriesGrow M → (s : M.State) (h : History) (events : List Event) (es : List Entry) → map (outcome_of M s (grown (committed h events) es)) events ≡ gives M s h events
+outcomes_stay M grows s h [] es = refl
+outcomes_stay M grows s h (e ∷ events) es =
     let g = grown h (commits e) in
     let split : grown (committed h (e ∷ events)) es ≡ grown (grown g (commits_in events)) es = ap (λ x. grown x es) (grown-append h (commits e) (commits_in events)) in
     let first : grown (grown g (commits_in events)) es ≡ grown g (commits_in events ++ es) = sym (grown-append g (commits_in events) es) in
-    ap (λ x. outcome_of s x e ∷ map (outcome_of s x) events) split
-    ∙ ap (λ x. outcome_of s x e ∷ map (outcome_of s (grown (grown g (commits_in events)) es)) events) first
-    ∙ ap (λ o. o ∷ map (outcome_of s (grown (grown g (commits_in events)) es)) events) (outcome_stays grows s h e (commits_in events ++ es))
-    ∙ ap (λ r. outcome_of s g e ∷ r) (outcomes_stay grows s g events es)
+    ap (λ x. outcome_of M s x e ∷ map (outcome_of M s x) events) split
+    ∙ ap (λ x. outcome_of M s x e ∷ map (outcome_of M s (grown (grown g (commits_in events)) es)) events) first
+    ∙ ap (λ o. o ∷ map (outcome_of M s (grown (grown g (commits_in events)) es)) events) (outcome_stays M grows s h e (commits_in events ++ es))
+    ∙ ap (λ r. outcome_of M s g e ∷ r) (outcomes_stay M grows s g events es)
 
-outcomes_are : HistoriesGrow → (s : State) (h : History) (events : List Event) → map (outcome_of s (committed h events)) events ≡ gives s h events
-outcomes_are grows s h events = outcomes_stay grows s h events []
+outcomes_are : (M : Model) → HistoriesGrow M → (s : M.State) (h : History) (events : List Event) → map (outcome_of M s (committed h events)) events ≡ gives M s h events
+outcomes_are M grows s h events = outcomes_stay M grows s h events []
 
-gives-append : (s : State) (h : History) (xs ys : List Event) → gives s h (xs ++ ys) ≡ gives s h xs ++ gives s (committed h xs) ys
-gives-append s h [] ys = refl
-gives-append s h (x ∷ xs) ys =
-    ap (λ r. outcome_of s (grown h (commits x)) x ∷ r) (gives-append s (grown h (commits x)) xs ys)
-    ∙ ap (λ g. outcome_of s (grown h (commits x)) x ∷ (gives s (grown h (commits x)) xs ++ gives s g ys)) (sym (grown-append h (commits x) (commits_in xs)))
+gives-append : (M : Model) → (s : M.State) (h : History) (xs ys : List Event) → gives M s h (xs ++ ys) ≡ gives M s h xs ++ gives M s (committed h xs) ys
+gives-append M s h [] ys = refl
+gives-append M s h (x ∷ xs) ys =
+    ap (λ r. outcome_of M s (grown h (commits x)) x ∷ r) (gives-append M s (grown h (commits x)) xs ys)
+    ∙ ap (λ g. outcome_of M s (grown h (commits x)) x ∷ (gives M s (grown h (commits x)) xs ++ gives M s g ys)) (sym (grown-append h (commits x) (commits_in xs)))
 
-pub outcomes-append : HistoriesGrow → (s : State) (h : History) (xs ys : List Event)
-    → map (outcome_of s (committed h (xs ++ ys))) (xs ++ ys) ≡ map (outcome_of s (committed h xs)) xs ++ map (outcome_of s (committed (committed h xs) ys)) ys
-outcomes-append grows s h xs ys = outcomes_are grows s h (xs ++ ys) ∙ gives-append s h xs ys ∙ ap (λ r. r ++ gives s (committed h xs) ys) (sym (outcomes_are grows s h xs))
-    ∙ ap (λ r. map (outcome_of s (committed h xs)) xs ++ r) (sym (outcomes_are grows s (committed h xs) ys))
+pub outcomes-append : (M : Model) → HistoriesGrow M → (s : M.State) (h : History) (xs ys : List Event)
+    → map (outcome_of M s (committed h (xs ++ ys))) (xs ++ ys) ≡ map (outcome_of M s (committed h xs)) xs ++ map (outcome_of M s (committed (committed h xs) ys)) ys
+outcomes-append M grows s h xs ys = outcomes_are M grows s h (xs ++ ys) ∙ gives-append M s h xs ys ∙ ap (λ r. r ++ gives M s (committed h xs) ys) (sym (outcomes_are M grows s h xs))
+    ∙ ap (λ r. map (outcome_of M s (committed h xs)) xs ++ r) (sym (outcomes_are M grows s (committed h xs) ys))
 
 -- ---- settled ids
 

@@ -8,12 +8,12 @@ use Rattle.fuse_request.specs.declared.request.Request.{Request}
 use Rattle.fuse_request.specs.declared.class.Class.{Class}
 use Rattle.fuse_request.specs.declared.class.Class.TheVariants.{Silent, Bare, Kept}
 use Rattle.fuse_request.specs.Classes.{class_of}
-use Rattle.fuse_tree.specs.State.{State}
-use Rattle.fuse_tree.specs.Rows.{Rows}
-use Rattle.fuse_store.specs.History.{Entry, entry_id, History, said, IsUnsettled}
-use Rattle.fuse_store.specs.Stands.{Records, StandsFor, Performed, OthersStay}
-use Rattle.fuse_store.specs.Group.{entry_of, entries_of}
-use Rattle.fuse_store.specs.declared.keeper.Done.{Done}
+use Rattle.fuse_keeper.specs.History.{Entry, entry_id, History, said, IsUnsettled}
+use Rattle.fuse_keeper.specs.Model.{Model}
+use Rattle.fuse_keeper.specs.Stands.{Records, OthersStay}
+use Rattle.fuse_keeper.specs.KeeperState.{KeeperState, StandsFor, Performed}
+use Rattle.fuse_keeper.specs.Group.{entry_of, entries_of}
+use Rattle.fuse_keeper.specs.declared.keeper.Done.{Done}
 use Rattle.fuse_session.specs.Worked.{entry_if, message_entry, unique_of}
 use Rattle.fuse_session.specs.Group.{left_by}
 use Rattle.fuse_sim.specs.declared.event.Event.{Event}
@@ -55,30 +55,30 @@ answers_for run taken dones goes entries count =
 
 -- ---- each answer is what was said
 
-left_says : (s : State) (g : History) (class : Class) (e : Entry) (es : List Entry) (answers : List Said) → map (λ a. Some a) answers ≡ map (λ x. said s g (entry_id x)) (entry_if class e ++ es)
-    → map (λ a. Some a) (left_by class answers) ≡ map (λ x. said s g (entry_id x)) es
-left_says s g Silent e es answers are = are
-left_says s g (Bare errno) e es answers are = are
-left_says s g Kept e es [] are = absurd (cc are)
-left_says s g Kept e es (a ∷ answers) are = cc are
+left_says : (M : Model) → (s : M.State) (g : History) (class : Class) (e : Entry) (es : List Entry) (answers : List Said) → map (λ a. Some a) answers ≡ map (λ x. said M s g (entry_id x)) (entry_if class e ++ es)
+    → map (λ a. Some a) (left_by class answers) ≡ map (λ x. said M s g (entry_id x)) es
+left_says M s g Silent e es answers are = are
+left_says M s g (Bare errno) e es answers are = are
+left_says M s g Kept e es [] are = absurd (cc are)
+left_says M s g Kept e es (a ∷ answers) are = cc are
 
-head_says : (s : State) (g : History) (e : Event) (class : Class) (es : List Entry) (answers : List Said) → map (λ a. Some a) answers ≡ map (λ x. said s g (entry_id x)) (entry_if class (message_entry e.bytes e.moment) ++ es)
-    → head_answer class (unique_of e.bytes) answers ≡ answer_in s g class (unique_of e.bytes)
-head_says s g e Silent es answers are = refl
-head_says s g e (Bare errno) es answers are = refl
-head_says s g e Kept es [] are = absurd (cc are)
-head_says s g e Kept es (a ∷ answers) are =
-    let here : Some a ≡ said s g (entry_id (message_entry e.bytes e.moment)) = cc are in
+head_says : (M : Model) → (s : M.State) (g : History) (e : Event) (class : Class) (es : List Entry) (answers : List Said) → map (λ a. Some a) answers ≡ map (λ x. said M s g (entry_id x)) (entry_if class (message_entry e.bytes e.moment) ++ es)
+    → head_answer class (unique_of e.bytes) answers ≡ answer_in M s g class (unique_of e.bytes)
+head_says M s g e Silent es answers are = refl
+head_says M s g e (Bare errno) es answers are = refl
+head_says M s g e Kept es [] are = absurd (cc are)
+head_says M s g e Kept es (a ∷ answers) are =
+    let here : Some a ≡ said M s g (entry_id (message_entry e.bytes e.moment)) = cc are in
     ap (option_map (λ (x : Said). wire x.errno x.body (unique_of e.bytes))) here
 
-pub outcomes_say : (s : State) (g : History) (run : List Event) (answers : List Said) → NoneDiesBefore run → map (λ a. Some a) answers ≡ map (λ x. said s g (entry_id x)) (commits_in run)
-    → outcomes_by run answers ≡ map (outcome_of s g) run
-outcomes_say s g [] answers goes are = refl
-outcomes_say s g (e ∷ run) answers goes are =
+pub outcomes_say : (M : Model) → (s : M.State) (g : History) (run : List Event) (answers : List Said) → NoneDiesBefore run → map (λ a. Some a) answers ≡ map (λ x. said M s g (entry_id x)) (commits_in run)
+    → outcomes_by run answers ≡ map (outcome_of M s g) run
+outcomes_say M s g [] answers goes are = refl
+outcomes_say M s g (e ∷ run) answers goes are =
     let class = class_of e.bytes in
-    let here = are ∙ ap (map (λ x. said s g (entry_id x))) (commits_first e run goes) in
-    ap (λ o. where_taken (is_taken e.fate) o ∷ outcomes_by run (left_by class answers)) (head_says s g e class (commits_in run) answers here)
-    ∙ ap (λ os. outcome_of s g e ∷ os) (outcomes_say s g run (left_by class answers) (others_go e run goes) (left_says s g class (message_entry e.bytes e.moment) (commits_in run) answers here))
+    let here = are ∙ ap (map (λ x. said M s g (entry_id x))) (commits_first e run goes) in
+    ap (λ o. where_taken (is_taken e.fate) o ∷ outcomes_by run (left_by class answers)) (head_says M s g e class (commits_in run) answers here)
+    ∙ ap (λ os. outcome_of M s g e ∷ os) (outcomes_say M s g run (left_by class answers) (others_go e run goes) (left_says M s g class (message_entry e.bytes e.moment) (commits_in run) answers here))
 
 some_answers : (dones : List Done) → map (λ a. Some a) (answers_in dones) ≡ map (λ (d : Done). Some d.answer) dones
 some_answers [] = refl
@@ -90,24 +90,24 @@ outcomes_count (e ∷ run) answers = ap suc (outcomes_count run (left_by (class_
 
 -- ---- all of it
 
-pub worked : (holds holds' : Rows → Records → Type 0) (honest' : Type 0) (run : List Event) (taken : List (Request × Moment)) (pending mid pending' : List ℕ) (dones : List Done) (old new : List (Option Outcome))
+pub worked : (M : Model) → (holds holds' : KeeperState M) (run : List Event) (taken : List (Request × Moment)) (pending mid pending' : List ℕ) (dones : List Done) (old new : List (Option Outcome))
     → NoneDiesBefore run → entries_of taken ≡ commits_in run
-    → (honest' → (s : State) (h : History) (t : List ℕ) → StandsFor holds s h t → All (IsUnsettled (t ++ handed_to (entries_of taken) pending)) (entries_of taken)
+    → (holds'.is_honest → (s : M.State) (h : History) (t : List ℕ) → StandsFor holds s h t → All (IsUnsettled (t ++ handed_to (entries_of taken) pending)) (entries_of taken)
     → Performed holds' s h (t ++ handed_to (entries_of taken) pending) (entries_of taken) dones)
-    → (honest' → (rows : Rows) (records : Records) → holds rows records
-    → (rows' : Rows) × (records' : Records) × holds' rows' records' × OthersStay records (handed_to (entries_of taken) pending) (entries_of taken) records')
+    → (holds'.is_honest → (rows : M.Rows) (records : Records) → holds.holds rows records
+    → (rows' : M.Rows) × (records' : Records) × holds'.holds rows' records' × OthersStay records (handed_to (entries_of taken) pending) (entries_of taken) records')
     → mid ≡ left_pending (entries_of taken) pending → Adds old new (outcomes_by run (answers_in dones)) → pending' ≡ mid ++ settles_in run
-    → Worked holds holds' honest' run pending pending' old new
-worked holds holds' honest' run taken pending mid pending' dones old new goes entries performed others left adds settled =
-    let P = λ (es : List Entry). honest' → (s : State) (h : History) (t : List ℕ) → StandsFor holds s h t → All (IsUnsettled (t ++ handed_to es pending)) es → Performed holds' s h (t ++ handed_to es pending) es dones in
-    let Q = λ (es : List Entry). honest' → (rows : Rows) (records : Records) → holds rows records → (rows' : Rows) × (records' : Records) × holds' rows' records' × OthersStay records (handed_to es pending) es records' in
+    → Worked holds holds' run pending pending' old new
+worked M holds holds' run taken pending mid pending' dones old new goes entries performed others left adds settled =
+    let P = λ (es : List Entry). holds'.is_honest → (s : M.State) (h : History) (t : List ℕ) → StandsFor holds s h t → All (IsUnsettled (t ++ handed_to es pending)) es → Performed holds' s h (t ++ handed_to es pending) es dones in
+    let Q = λ (es : List Entry). holds'.is_honest → (rows : M.Rows) (records : Records) → holds.holds rows records → (rows' : M.Rows) × (records' : Records) × holds'.holds rows' records' × OthersStay records (handed_to es pending) es records' in
     let done = subst P entries performed in
     record {
       added = adds.added;
       items = adds.items;
       count = sym (length-map adds.added bytes_given) ∙ ap length adds.are ∙ outcomes_count run (answers_in dones);
       stands = λ honest s h t so un. (done honest s h t so un).stands;
-      outcomes = λ honest s h t so un. adds.are ∙ outcomes_say s (committed h run) run (answers_in dones) goes (some_answers dones ∙ (done honest s h t so un).answers);
+      outcomes = λ honest s h t so un. adds.are ∙ outcomes_say M s (committed h run) run (answers_in dones) goes (some_answers dones ∙ (done honest s h t so un).answers);
       records = subst Q entries others;
       handed = settled ∙ ap (λ (m : List ℕ). m ++ settles_in run) (left ∙ ap (λ es. left_pending es pending) entries);
     }

@@ -4,7 +4,7 @@ use Rattle.std.proofs.lemmas.List.{append-nil}
 use Rattle.fuse_request.specs.declared.class.Class.{Class}
 use Rattle.fuse_request.specs.declared.class.Class.TheVariants.{Silent, Bare, Kept}
 use Rattle.fuse_request.specs.Classes.{class_of}
-use Rattle.fuse_store.specs.History.{Entry}
+use Rattle.fuse_keeper.specs.History.{Entry}
 use Rattle.fuse_session.specs.Worked.{entry_if, message_entry, message_id}
 use Rattle.fuse_session.specs.Settling.{settles_if}
 use Rattle.fuse_sim.specs.declared.event.Fate.{Fate}

@@ -8,8 +8,8 @@ use Rattle.fuse_request.specs.declared.class.Class.{Class}
 use Rattle.fuse_request.specs.declared.class.Class.TheVariants.{Silent, Bare, Kept}
 use Rattle.fuse_request.specs.Classes.{class_of}
 use Rattle.fuse_request.specs.Stream.{cut, joined}
-use Rattle.fuse_tree.specs.State.{State}
-use Rattle.fuse_store.specs.History.{Entry, entry_id, History, has, Distinct, add, said, grown, HistoriesGrow}
+use Rattle.fuse_keeper.specs.Model.{Model}
+use Rattle.fuse_keeper.specs.History.{Entry, entry_id, History, has, Distinct, add, said, grown, HistoriesGrow}
 use Rattle.fuse_session.specs.Port.{PortState}
 use Rattle.fuse_session.specs.Serving.{Lived}
 use Rattle.fuse_session.specs.Settling.{Mark, replies, settled_in, Replied}
@@ -86,46 +86,46 @@ once_each ls = subst Distinct (sym (in_a_row ls)) (Distinct-grown [] (kept_in (a
 
 -- ---- later requests change no answer
 
-kept_there : HistoriesGrow → (h : History) (t : Timed) (class : Class) → class ≡ Kept → has (grown h (entry_if class (timed_entry t))) (message_id t.bytes) ≡ true
-kept_there grows h t Silent kept = absurd (cc kept)
-kept_there grows h t (Bare errno) kept = absurd (cc kept)
-kept_there grows h t Kept kept = grows.added h (timed_entry t)
+kept_there : (M : Model) → HistoriesGrow M → (h : History) (t : Timed) (class : Class) → class ≡ Kept → has (grown h (entry_if class (timed_entry t))) (message_id t.bytes) ≡ true
+kept_there M grows h t Silent kept = absurd (cc kept)
+kept_there M grows h t (Bare errno) kept = absurd (cc kept)
+kept_there M grows h t Kept kept = grows.added h (timed_entry t)
 
-answer_stays : HistoriesGrow → (s : State) (g : History) (es : List Entry) (id unique : ℕ) (class : Class) → (class ≡ Kept → has g id ≡ true)
-    → answer_by class (said s (grown g es) id) unique ≡ answer_by class (said s g id) unique
-answer_stays grows s g es id unique Silent there = refl
-answer_stays grows s g es id unique (Bare errno) there = refl
-answer_stays grows s g es id unique Kept there = ap (λ o. answer_by Kept o unique) (grows.stays s g es id (there refl))
+answer_stays : (M : Model) → HistoriesGrow M → (s : M.State) (g : History) (es : List Entry) (id unique : ℕ) (class : Class) → (class ≡ Kept → has g id ≡ true)
+    → answer_by class (said M s (grown g es) id) unique ≡ answer_by class (said M s g id) unique
+answer_stays M grows s g es id unique Silent there = refl
+answer_stays M grows s g es id unique (Bare errno) there = refl
+answer_stays M grows s g es id unique Kept there = ap (λ o. answer_by Kept o unique) (grows.stays s g es id (there refl))
 
-answered_stays : HistoriesGrow → (s : State) (h : History) (t : Timed) (es : List Entry) → answered s (grown (grown h (entries_at t)) es) t ≡ answered s (grown h (entries_at t)) t
-answered_stays grows s h t es = answer_stays grows s (grown h (entries_at t)) es (message_id t.bytes) (unique_of t.bytes) (class_of t.bytes) (kept_there grows h t (class_of t.bytes))
+answered_stays : (M : Model) → HistoriesGrow M → (s : M.State) (h : History) (t : Timed) (es : List Entry) → answered M s (grown (grown h (entries_at t)) es) t ≡ answered M s (grown h (entries_at t)) t
+answered_stays M grows s h t es = answer_stays M grows s (grown h (entries_at t)) es (message_id t.bytes) (unique_of t.bytes) (class_of t.bytes) (kept_there M grows h t (class_of t.bytes))
 
 -- what is answered where two histories agree on what follows each message
-answers_stay : HistoriesGrow → (s : State) (h : History) (ts : List Timed) (es ds : List Entry) → answers s (grown (grown h (kept_in ts)) es) ts ≡ answers s (grown (grown h (kept_in ts)) ds) ts
-answers_stay grows s h [] es ds = refl
-answers_stay grows s h (t ∷ ts) es ds =
+answers_stay : (M : Model) → HistoriesGrow M → (s : M.State) (h : History) (ts : List Timed) (es ds : List Entry) → answers M s (grown (grown h (kept_in ts)) es) ts ≡ answers M s (grown (grown h (kept_in ts)) ds) ts
+answers_stay M grows s h [] es ds = refl
+answers_stay M grows s h (t ∷ ts) es ds =
     let g = grown h (entries_at t) in
     let place : (xs : List Entry) → grown (grown h (kept_in (t ∷ ts))) xs ≡ grown (grown g (kept_in ts)) xs = λ xs. ap (λ x. grown x xs) (grown-append h (entries_at t) (kept_in ts)) in
-    let first : (xs : List Entry) → answered s (grown (grown g (kept_in ts)) xs) t ≡ answered s g t =
-    λ xs. ap (λ x. answered s x t) (sym (grown-append g (kept_in ts) xs)) ∙ answered_stays grows s h t (kept_in ts ++ xs) in
-    ap (λ x. answered s x t ∷ answers s x ts) (place es)
-    ∙ ap (λ r. r ∷ answers s (grown (grown g (kept_in ts)) es) ts) (first es ∙ sym (first ds))
-    ∙ ap (λ r. answered s (grown (grown g (kept_in ts)) ds) t ∷ r) (answers_stay grows s g ts es ds)
-    ∙ ap (λ x. answered s x t ∷ answers s x ts) (sym (place ds))
+    let first : (xs : List Entry) → answered M s (grown (grown g (kept_in ts)) xs) t ≡ answered M s g t =
+    λ xs. ap (λ x. answered M s x t) (sym (grown-append g (kept_in ts) xs)) ∙ answered_stays M grows s h t (kept_in ts ++ xs) in
+    ap (λ x. answered M s x t ∷ answers M s x ts) (place es)
+    ∙ ap (λ r. r ∷ answers M s (grown (grown g (kept_in ts)) es) ts) (first es ∙ sym (first ds))
+    ∙ ap (λ r. answered M s (grown (grown g (kept_in ts)) ds) t ∷ r) (answers_stay M grows s g ts es ds)
+    ∙ ap (λ x. answered M s x t ∷ answers M s x ts) (sym (place ds))
 
-sends_by : HistoriesGrow → (s : State) (h : History) (ls : List Lifetime) → AreLives s h ls → AllSend s (after_lives h ls) ls
-sends_by grows s h [] lives = tt
-sends_by grows s h (l ∷ ls) lives =
+sends_by : (M : Model) → HistoriesGrow M → (s : M.State) (h : History) (ls : List Lifetime) → AreLives M s h ls → AllSend M s (after_lives h ls) ls
+sends_by M grows s h [] lives = tt
+sends_by M grows s h (l ∷ ls) lives =
     let g = grown h (kept_in l.worked) in
     let more = kept_in (all_worked ls) ++ kept_in l.worked in
     let end : grown (after_lives g ls) (kept_in l.worked) ≡ grown g more =
     ap (λ x. grown x (kept_in l.worked)) (later g ls) ∙ sym (grown-append g (kept_in (all_worked ls)) (kept_in l.worked)) in
-    let same : out s (after_lives g ls) l.worked ≡ out s h l.worked =
-    ap (λ x. joined (answers s x l.worked)) end ∙ ap joined (answers_stay grows s h l.worked more []) in
-    ((lives.0.unsent, same ∙ lives.0.sends), sends_by grows s g ls lives.1)
+    let same : out M s (after_lives g ls) l.worked ≡ out M s h l.worked =
+    ap (λ x. joined (answers M s x l.worked)) end ∙ ap joined (answers_stay M grows s h l.worked more []) in
+    ((lives.0.unsent, same ∙ lives.0.sends), sends_by M grows s g ls lives.1)
 
-pub all_send : HistoriesGrow → (s : State) (ls : List Lifetime) → AreLives s [] ls → AllSend s (after_lives [] ls) ls
-all_send grows s ls lives = sends_by grows s [] ls lives
+pub all_send : (M : Model) → HistoriesGrow M → (s : M.State) (ls : List Lifetime) → AreLives M s [] ls → AllSend M s (after_lives [] ls) ls
+all_send M grows s ls lives = sends_by M grows s [] ls lives
 
 -- ---- a run of a server is a life
 
@@ -133,15 +133,15 @@ Moments-front : (may : Moment → Type 0) (xs ys : List Timed) → Moments may (
 Moments-front may [] ys all = tt
 Moments-front may (x ∷ xs) ys all = (all.0, Moments-front may xs ys all.1)
 
-pub run_lived : (stood : History → List ℕ → Type 0) (may : Moment → Type 0) (s : State) (h : History) (t : List ℕ) (old new : PortState) (received : List ℕ) (timed : List Timed) (others : List (List ℕ)) (marks : List Mark) (part : List ℕ)
+pub run_lived : (M : Model) → (stood : History → List ℕ → Type 0) (may : Moment → Type 0) (s : M.State) (h : History) (t : List ℕ) (old new : PortState) (received : List ℕ) (timed : List Timed) (others : List (List ℕ)) (marks : List Mark) (part : List ℕ)
     → Consumes old.coming new.coming received → (cut received).0 ≡ bytes_of timed ++ others → Moments may timed → Replied old new marks part
-    → Lived stood s h old.confirms t timed marks part → RanAsLife stood may s h t old new
-run_lived stood may s h t old new received timed others marks part came front moments replied l =
+    → Lived M stood s h old.confirms t timed marks part → RanAsLife M stood may s h t old new
+run_lived M stood may s h t old new received timed others marks part came front moments replied l =
     let sent = joined (replies marks) ++ part in
     let parts : bytes_of timed ++ others ≡ bytes_of l.worked ++ (bytes_of l.unworked ++ others) =
     ap (λ (x : List Timed). bytes_of x ++ others) l.parts ∙ ap (λ (x : List (List ℕ)). x ++ others) (map-append (λ (x : Timed). x.bytes) l.worked l.unworked)
     ∙ append_assoc (bytes_of l.worked) (bytes_of l.unworked) others in
-    let split : out s h l.worked ≡ joined (replies marks) ++ joined l.later = ap joined l.sent ∙ flat_map-append (λ (m : List ℕ). m) (replies marks) l.later in
+    let split : out M s h l.worked ≡ joined (replies marks) ++ joined l.later = ap joined l.sent ∙ flat_map-append (λ (m : List ℕ). m) (replies marks) l.later in
     let begun : joined (replies marks) ++ joined l.later ≡ sent ++ l.unsent =
     ap (λ (x : List ℕ). joined (replies marks) ++ x) l.begun ∙ sym (append_assoc (joined (replies marks)) part l.unsent) in
     record {

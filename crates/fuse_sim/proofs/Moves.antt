@@ -7,10 +7,11 @@ use Rattle.fuse_wire.specs.declared.id.Id.{Id}
 use Rattle.fuse_answer.specs.Said.{Said}
 use Rattle.fuse_request.specs.declared.request.Request.{Request}
 use Rattle.fuse_request.specs.Classes.{class_of}
-use Rattle.fuse_tree.specs.Rows.{Rows}
-use Rattle.fuse_store.specs.History.{Entry, entry_id, HistoriesGrow, grown, is_in, ids_in, Includes, IsUnsettled}
-use Rattle.fuse_store.specs.Stands.{Records, StandsFor, KeepsHeld}
-use Rattle.fuse_store.specs.Group.{entry_of, entries_of, ids_of}
+use Rattle.fuse_keeper.specs.History.{Entry, entry_id, HistoriesGrow, grown, is_in, ids_in, Includes, IsUnsettled}
+use Rattle.fuse_keeper.specs.Model.{Model}
+use Rattle.fuse_keeper.specs.Stands.{Records}
+use Rattle.fuse_keeper.specs.KeeperState.{KeeperState, StandsFor, KeepsHeld}
+use Rattle.fuse_keeper.specs.Group.{entry_of, entries_of, ids_of}
 use Rattle.fuse_session.specs.Worked.{entry_if, message_entry, unique_of}
 use Rattle.fuse_sim.specs.declared.event.Fate.{Fate}
 use Rattle.fuse_sim.specs.declared.event.Fate.TheVariants.{Answered, AnswerLost, DiedBeforeCommit, DiedAfterCommit}
@@ -80,9 +81,9 @@ records_more l es es' r r' r'' one two =
 
 -- ---- events, and then others
 
-pub ran_more : HistoriesGrow → (holds mid holds' : Rows → Records → Type 0) (honest honest' : Type 0) (l : Ledger) (es es' : List Event) (old new new' : List (Option Outcome)) → (honest' → honest)
-    → Ran holds mid honest l es old new → Ran mid holds' honest' (ledger_after l es) es' new new' → Ran holds holds' honest' l (es ++ es') old new'
-ran_more grows holds mid holds' honest honest' l es es' old new new' was one two = record {
+pub ran_more : (M : Model) → HistoriesGrow M → (holds mid holds' : KeeperState M) (l : Ledger) (es es' : List Event) (old new new' : List (Option Outcome)) → (holds'.is_honest → mid.is_honest)
+    → Ran holds mid l es old new → Ran mid holds' (ledger_after l es) es' new new' → Ran holds holds' l (es ++ es') old new'
+ran_more M grows holds mid holds' l es es' old new new' was one two = record {
   added = one.added ++ two.added;
   items = two.items ∙ ap (λ x. x ++ two.added) one.items ∙ append_assoc old one.added two.added;
   count = omega (arith, one.count, two.count, length-append one.added two.added, length-append es es');
@@ -97,16 +98,16 @@ ran_more grows holds mid holds' honest honest' l es es' old new new' was one two
       let first = one.stands (was is) s h t u so within pending parts.0 in
       map-append bytes_given one.added two.added
       ∙ ap (λ x. x ++ map bytes_given two.added) (one.outcomes (was is) s h t u so within pending parts.0)
-      ∙ ap (λ x. map (outcome_of s (committed h es)) es ++ x) (two.outcomes is s (committed h es) (t ++ handed_on l es) (settled_by u es) first (settled_all u t l es within pending) (pending_settled u l es pending) parts.1)
-      ∙ sym (outcomes-append grows s h es es');
+      ∙ ap (λ x. map (outcome_of M s (committed h es)) es ++ x) (two.outcomes is s (committed h es) (t ++ handed_on l es) (settled_by u es) first (settled_all u t l es within pending) (pending_settled u l es pending) parts.1)
+      ∙ sym (outcomes-append M grows s h es es');
   records = λ is rows records held.
       let first = one.records (was is) rows records held in
       let second = two.records is first.0 first.1 first.2 in
       (second.0, second.1, second.2, records_more l es es' records first.1 second.1 first.3 second.3);
 }
 
-pub ran_none : (holds : Rows → Records → Type 0) (honest : Type 0) (l : Ledger) (old new : List (Option Outcome)) → new ≡ old → Ran holds holds honest l [] old new
-ran_none holds honest l old new is = record {
+pub ran_none : (M : Model) → (holds : KeeperState M) (l : Ledger) (old new : List (Option Outcome)) → new ≡ old → Ran holds holds l [] old new
+ran_none M holds l old new is = record {
   added = [];
   items = is ∙ sym (append-nil old);
   count = refl;
@@ -138,11 +139,11 @@ none_dies died (e ∷ run) so = elim so [
   | inr last ↦ All-cons goes e run (ap dies_before last.1) (subst NoneDiesBefore (sym last.2) (All-nil goes))
 ]
 
-pub group_ran : (holds mid holds' : Rows → Records → Type 0) (honest honest' : Type 0) (died : Bool) (run : List Event) (p p' : List ℕ) (old new : List (Option Outcome))
+pub group_ran : (M : Model) → (holds mid holds' : KeeperState M) (died : Bool) (run : List Event) (p p' : List ℕ) (old new : List (Option Outcome))
     → RunLedger died (record { room = 0; pending = p }) run (handed_to (commits_in run) p) (left_pending (commits_in run) p ++ settles_in run) 16
-    → Worked holds mid honest run p p' old new → (honest' → KeepsHeld mid holds') → (honest' → honest)
-    → Ran holds holds' honest' (record { room = 0; pending = p }) run old new
-group_ran holds mid holds' honest honest' died run p p' old new ledger worked keeps was =
+    → Worked holds mid run p p' old new → (holds'.is_honest → KeepsHeld mid holds') → (holds'.is_honest → mid.is_honest)
+    → Ran holds holds' (record { room = 0; pending = p }) run old new
+group_ran M holds mid holds' died run p p' old new ledger worked keeps was =
     let l : Ledger = record { room = 0; pending = p } in
     let cs = commits_in run in
     let fresh_ids = λ (t u : List ℕ) (within : Includes u t) (pending : Includes u p) (none : NoneReused u run).
@@ -153,7 +154,7 @@ group_ran holds mid holds' honest honest' died run p p' old new ledger worked ke
       count = worked.count;
       stands = λ is s h t u so within pending none.
           subst (λ (x : List ℕ). StandsFor holds' s (committed h run) (t ++ x)) (sym ledger.handed_is)
-          (stands_kept mid holds' s (committed h run) (t ++ handed_to cs p) (keeps is) (worked.stands (was is) s h t so (fresh_ids t u within pending none)));
+          (stands_kept M mid holds' s (committed h run) (t ++ handed_to cs p) (keeps is) (worked.stands (was is) s h t so (fresh_ids t u within pending none)));
       outcomes = λ is s h t u so within pending none. worked.outcomes (was is) s h t so (fresh_ids t u within pending none);
       records = λ is rows records held.
           let done = worked.records (was is) rows records held in (
@@ -174,9 +175,9 @@ group_ran holds mid holds' honest honest' died run p p' old new ledger worked ke
 commits_lost : (e : Event) → e.fate ≡ DiedBeforeCommit → commits e ≡ []
 commits_lost e is = ap (λ f. commits_by f (entry_if (class_of e.bytes) (message_entry e.bytes e.moment))) is
 
-pub lost_ran : (holds holds' : Rows → Records → Type 0) (honest' : Type 0) (l : Ledger) (e : Event) (old new : List (Option Outcome)) → e.fate ≡ DiedBeforeCommit → new ≡ old ++ None ∷ [] → (honest' → KeepsHeld holds holds')
-    → Ran holds holds' honest' l (e ∷ []) old new
-lost_ran holds holds' honest' l e old new lost pushed keeps =
+pub lost_ran : (M : Model) → (holds holds' : KeeperState M) (l : Ledger) (e : Event) (old new : List (Option Outcome)) → e.fate ≡ DiedBeforeCommit → new ≡ old ++ None ∷ [] → (holds'.is_honest → KeepsHeld holds holds')
+    → Ran holds holds' l (e ∷ []) old new
+lost_ran M holds holds' l e old new lost pushed keeps =
     let none : commits_in (e ∷ []) ≡ [] = ap (λ (cs : List Entry). cs ++ []) (commits_lost e lost) in
     let unhanded : handed_on l (e ∷ []) ≡ [] = ap (λ cs. handed_at cs l ++ []) (commits_lost e lost) in
     record {
@@ -186,8 +187,8 @@ lost_ran holds holds' honest' l e old new lost pushed keeps =
       stands = λ is s h t u so within pending again.
           subst (λ (x : List ℕ). StandsFor holds' s (committed h (e ∷ [])) (t ++ x)) (sym unhanded)
           (subst (StandsFor holds' s (committed h (e ∷ []))) (sym (append-nil t))
-          (subst (λ g. StandsFor holds' s g t) (ap (grown h) (sym none)) (stands_kept holds holds' s h t (keeps is) so)));
-      outcomes = λ is s h t u so within pending again. ap (λ f. where_taken (is_taken f) (answer_in s (committed h (e ∷ [])) (class_of e.bytes) (unique_of e.bytes)) ∷ []) (sym lost);
+          (subst (λ g. StandsFor holds' s g t) (ap (grown h) (sym none)) (stands_kept M holds holds' s h t (keeps is) so)));
+      outcomes = λ is s h t u so within pending again. ap (λ f. where_taken (is_taken f) (answer_in M s (committed h (e ∷ [])) (class_of e.bytes) (unique_of e.bytes)) ∷ []) (sym lost);
       records = λ is rows records held. (
         rows,
         records,
@@ -219,16 +220,16 @@ stops_at run others taken died entries stops alive = elim (stops alive) [
 pub few_taken : (run : List Event) (taken : List (Request × Moment)) (n : ℕ) → entries_of taken ≡ commits_in run → length taken ≤ n → length (commits_in run) ≤ n
 few_taken run taken n entries few = omega (arith, few, ap length entries, length-map taken entry_of)
 
-pub group_moved : (holds mid holds' : Rows → Records → Type 0) (honest honest' : Type 0) (died : Bool) (run slice others : List Event) (taken : List (Request × Moment)) (p p_mid p' : List ℕ) (old new : List (Option Outcome))
+pub group_moved : (M : Model) → (holds mid holds' : KeeperState M) (died : Bool) (run slice others : List Event) (taken : List (Request × Moment)) (p p_mid p' : List ℕ) (old new : List (Option Outcome))
     → Gathers run taken died → slice ≡ run → length taken ≤ 16 → (died ≡ false → (length taken ≡ 16) ⊎ StartsNone others)
-    → Worked holds mid honest slice p p_mid old new → (honest' → KeepsHeld mid holds') → (honest' → honest) → p' ≡ (if died then [] else p_mid)
-    → Moved holds holds' honest' (record { room = 0; pending = p }) run others p' old new
-group_moved holds mid holds' honest honest' died run slice others taken p p_mid p' old new gathers same few stops all keeps was left =
-    let worked = subst (λ x. Worked holds mid honest x p p_mid old new) same all in
+    → Worked holds mid slice p p_mid old new → (holds'.is_honest → KeepsHeld mid holds') → (holds'.is_honest → mid.is_honest) → p' ≡ (if died then [] else p_mid)
+    → Moved holds holds' (record { room = 0; pending = p }) run others p' old new
+group_moved M holds mid holds' died run slice others taken p p_mid p' old new gathers same few stops all keeps was left =
+    let worked = subst (λ x. Worked holds mid x p p_mid old new) same all in
     let ledger = run_begins died run p gathers.goes (few_taken run taken 16 gathers.entries few) in
     record {
       fit = gathers.fit;
-      ran = group_ran holds mid holds' honest honest' died run p p_mid old new ledger worked keeps was;
+      ran = group_ran M holds mid holds' died run p p_mid old new ledger worked keeps was;
       pending = left ∙ ap (λ (x : List ℕ). if died then [] else x) worked.handed ∙ sym ledger.pending_is;
       begin = may_begin died (record { room = 0; pending = p }) run others _ _ ledger (stops_at run others taken died gathers.entries stops);
     }
@@ -264,10 +265,10 @@ begins_with l p others same may begins =
 pub begins_at : (events : List Event) (at : ℕ) (e : Event) → at < length events → e ≡ get_or events at e → IsFit e → dies_before e.fate ≡ false → Begins (drop at events)
 begins_at events at e lt is fit goes_on = subst Begins (sym (drop-cons events at e lt)) (subst (λ (x : Event). IsFit x × (dies_before x.fate ≡ false)) is (fit, goes_on))
 
-pub next_moved : (holds holds' : Rows → Records → Type 0) (honest' : Type 0) (p p' : List ℕ) (run others rest : List Event) (old new : List (Option Outcome)) → Begins others
-    → Moved holds holds' honest' (record { room = 0; pending = p }) run rest p' old new → (l : Ledger) → l.pending ≡ p → MayBegin l others → Moved holds holds' honest' l run rest p' old new
-next_moved holds holds' honest' p p' run others rest old new begins moved l same may =
-    subst (λ x. Moved holds holds' honest' x run rest p' old new) (begins_with l p others same may begins) moved
+pub next_moved : (M : Model) → (holds holds' : KeeperState M) (p p' : List ℕ) (run others rest : List Event) (old new : List (Option Outcome)) → Begins others
+    → Moved holds holds' (record { room = 0; pending = p }) run rest p' old new → (l : Ledger) → l.pending ≡ p → MayBegin l others → Moved holds holds' l run rest p' old new
+next_moved M holds holds' p p' run others rest old new begins moved l same may =
+    subst (λ x. Moved holds holds' x run rest p' old new) (begins_with l p others same may begins) moved
 
 is_lost : (fate : Fate) → dies_before fate ≡ true → fate ≡ DiedBeforeCommit
 is_lost Answered is = absurd (cc is)
@@ -275,16 +276,16 @@ is_lost AnswerLost is = absurd (cc is)
 is_lost DiedBeforeCommit is = refl
 is_lost DiedAfterCommit is = absurd (cc is)
 
-pub lost_moved : (holds holds' : Rows → Records → Type 0) (honest' : Type 0) (l : Ledger) (events rest : List Event) (at : ℕ) (e : Event) (p' : List ℕ) (old new : List (Option Outcome))
-    → at < length events → e ≡ get_or events at e → IsFit e → dies_before e.fate ≡ true → new ≡ old ++ None ∷ [] → p' ≡ [] → (honest' → KeepsHeld holds holds')
-    → Moved holds holds' honest' l (take 1 (drop at events)) rest p' old new
-lost_moved holds holds' honest' l events rest at e p' old new lt is fit before pushed none keeps =
+pub lost_moved : (M : Model) → (holds holds' : KeeperState M) (l : Ledger) (events rest : List Event) (at : ℕ) (e : Event) (p' : List ℕ) (old new : List (Option Outcome))
+    → at < length events → e ≡ get_or events at e → IsFit e → dies_before e.fate ≡ true → new ≡ old ++ None ∷ [] → p' ≡ [] → (holds'.is_honest → KeepsHeld holds holds')
+    → Moved holds holds' l (take 1 (drop at events)) rest p' old new
+lost_moved M holds holds' l events rest at e p' old new lt is fit before pushed none keeps =
     let lost = is_lost e.fate before in
     let one : e ∷ [] ≡ take 1 (drop at events) = ap (λ (x : Event). x ∷ []) is ∙ ap (take 1) (sym (drop-cons events at e lt)) in
     let crashed : ledger_after l (e ∷ []) ≡ empty_ledger = ap (λ f. crashed_if (dies f) (after_commit (commits e) l (settles e))) lost in
-    subst (λ run. Moved holds holds' honest' l run rest p' old new) one (record {
+    subst (λ run. Moved holds holds' l run rest p' old new) one (record {
       fit = only_one IsFit e fit;
-      ran = lost_ran holds holds' honest' l e old new lost pushed keeps;
+      ran = lost_ran M holds holds' l e old new lost pushed keeps;
       pending = none ∙ ap (λ (x : Ledger). x.pending) (sym crashed);
       begin = inl (ap (λ (x : Ledger). x.room) crashed);
     })

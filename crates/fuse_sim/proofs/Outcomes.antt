@@ -7,8 +7,8 @@ use Rattle.fuse_answer.specs.Wire.{wire, wire_head}
 use Rattle.fuse_request.specs.declared.class.Class.{Class}
 use Rattle.fuse_request.specs.declared.class.Class.TheVariants.{Silent, Bare, Kept}
 use Rattle.fuse_request.specs.Classes.{class_of}
-use Rattle.fuse_store.specs.Group.{ids_of}
-use Rattle.fuse_store.specs.declared.keeper.Done.{Done}
+use Rattle.fuse_keeper.specs.Group.{ids_of}
+use Rattle.fuse_keeper.specs.declared.keeper.Done.{Done}
 use Rattle.fuse_session.specs.Group.{left_by}
 use Rattle.fuse_session.specs.Settling.{settles_if}
 use Rattle.fuse_session.specs.Worked.{message_id}

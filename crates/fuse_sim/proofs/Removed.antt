@@ -4,7 +4,7 @@ use Rattle.std.proofs.lemmas.List.Elements.{All-nil, All-cons}
 use Rattle.fuse_request.specs.declared.class.Class.{Class}
 use Rattle.fuse_request.specs.declared.class.Class.TheVariants.{Silent, Bare, Kept}
 use Rattle.fuse_request.specs.Classes.{class_of}
-use Rattle.fuse_store.specs.History.{Entry, is_in}
+use Rattle.fuse_keeper.specs.History.{Entry, is_in}
 use Rattle.fuse_session.specs.Worked.{message_id}
 use Rattle.fuse_session.specs.Settling.{settles_if}
 use Rattle.fuse_sim.specs.declared.event.Fate.{Fate}

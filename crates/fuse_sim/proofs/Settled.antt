@@ -2,11 +2,11 @@
 use Rattle.std.proofs.Common.{◌≡◌, ◌⊎◌, inl, inr, ℕ, Bool, true, false, ◌||◌, ◌==◌, if◌then◌else◌, List, [], ◌∷◌, ◌++◌, length, refl, sym, ◌∙◌}
 use Rattle.fuse_wire.specs.declared.moment.Moment.{Moment}
 use Rattle.fuse_request.specs.declared.request.Request.{Request}
-use Rattle.fuse_tree.specs.State.{State}
-use Rattle.fuse_tree.specs.Rows.{Rows}
-use Rattle.fuse_store.specs.History.{History, is_in, Includes}
-use Rattle.fuse_store.specs.Stands.{Records, Stands, StandsFor, KeepsHeld}
-use Rattle.fuse_store.specs.Group.{entries_of}
+use Rattle.fuse_keeper.specs.History.{History, is_in, Includes}
+use Rattle.fuse_keeper.specs.Model.{Model}
+use Rattle.fuse_keeper.specs.Stands.{Records, Stands}
+use Rattle.fuse_keeper.specs.KeeperState.{KeeperState, StandsFor, KeepsHeld}
+use Rattle.fuse_keeper.specs.Group.{entries_of}
 use Rattle.fuse_sim.specs.Running.{handed_to}
 
 -- ---- ids
@@ -51,8 +51,8 @@ unsettled_too all some i within isnt = elim (tested (is_in some i)) [
 
 -- ---- what stands
 
-Stands-settled : (rows : Rows) (records : Records) (s : State) (h : History) (t more : List ℕ) → Includes more t → Stands rows records s h t → Stands rows records s h more
-Stands-settled rows records s h t more within so = record {
+Stands-settled : (M : Model) → (rows : M.Rows) (records : Records) (s : M.State) (h : History) (t more : List ℕ) → Includes more t → Stands M rows records s h t → Stands M rows records s h more
+Stands-settled M rows records s h t more within so = record {
   tree = so.tree;
   distinct = so.distinct;
   rows_are = so.rows_are;
@@ -61,12 +61,12 @@ Stands-settled rows records s h t more within so = record {
 }
 
 -- more may be settled
-pub stands_later : (holds : Rows → Records → Type 0) (s : State) (h : History) (t u : List ℕ) → Includes u t → StandsFor holds s h t → StandsFor holds s h u
-stands_later holds s h t u more so = record { rows = so.rows; records = so.records; held = so.held; stands = Stands-settled so.rows so.records s h t u more so.stands }
+pub stands_later : (M : Model) → (holds : KeeperState M) (s : M.State) (h : History) (t u : List ℕ) → Includes u t → StandsFor holds s h t → StandsFor holds s h u
+stands_later M holds s h t u more so = record { rows = so.rows; records = so.records; held = so.held; stands = Stands-settled M so.rows so.records s h t u more so.stands }
 
 -- what stands is still held
-pub stands_kept : (holds holds' : Rows → Records → Type 0) (s : State) (h : History) (t : List ℕ) → KeepsHeld holds holds' → StandsFor holds s h t → StandsFor holds' s h t
-stands_kept holds holds' s h t keeps so = record { rows = so.rows; records = so.records; held = keeps so.rows so.records so.held; stands = so.stands }
+pub stands_kept : (M : Model) → (holds holds' : KeeperState M) (s : M.State) (h : History) (t : List ℕ) → KeepsHeld holds holds' → StandsFor holds s h t → StandsFor holds' s h t
+stands_kept M holds holds' s h t keeps so = record { rows = so.rows; records = so.records; held = keeps so.rows so.records so.held; stands = so.stands }
 
 -- what is pending is handed on to a group that isn't empty
 pub handed_all : (group : List (Request × Moment)) (pending : List ℕ) → (length group ≡ 0 → ⊥) → handed_to (entries_of group) pending ≡ pending

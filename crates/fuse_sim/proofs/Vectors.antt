@@ -4,7 +4,7 @@ use Rattle.fuse_wire.specs.Bytes.{le, number_of}
 use Rattle.fuse_request.specs.Classes.{class_of}
 use Rattle.fuse_request.specs.Places.{act_in, ext_in}
 use Rattle.fuse_tree.specs.Do.{done}
-use Rattle.fuse_store.specs.History.{has, said, add}
+use Rattle.fuse_keeper.specs.History.{has, said, add}
 use Rattle.fuse_sim.specs.Vectors.{Resent, NotKept}
 
 pub resent : Resent

@@ -8,11 +8,11 @@ use Rattle.fuse_request.specs.declared.class.Class.{Class}
 use Rattle.fuse_request.specs.declared.class.Class.TheVariants.{Silent, Bare, Kept}
 use Rattle.fuse_request.specs.Classes.{class_of, is_zero}
 use Rattle.fuse_request.specs.Stream.{cut}
-use Rattle.fuse_tree.specs.State.{State}
-use Rattle.fuse_tree.specs.Rows.{Rows}
-use Rattle.fuse_store.specs.declared.fault.StoreFault.{StoreFault}
-use Rattle.fuse_store.specs.History.{Entry, History, grown, said}
-use Rattle.fuse_store.specs.Stands.{Records, StandsFor}
+use Rattle.fuse_keeper.specs.declared.fault.StoreFault.{StoreFault}
+use Rattle.fuse_keeper.specs.History.{Entry, History, grown, said}
+use Rattle.fuse_keeper.specs.Model.{Model}
+use Rattle.fuse_keeper.specs.Stands.{Records}
+use Rattle.fuse_keeper.specs.KeeperState.{KeeperState, StandsFor}
 use Rattle.fuse_session.specs.Worked.{unique_of, message_id, message_entry, entry_if}
 use Rattle.fuse_session.specs.Settling.{settles_if, MayCome}
 use Rattle.fuse_sim.specs.declared.event.Fate.{Fate}
@@ -54,10 +54,10 @@ Calm e = dies e.fate ≡ false
 -- ---- what is answered
 
 -- the answer to a message of this class and unique: none, the header with an error, or what was said of the id
-abbrev pub answer_in : State → History → Class → ℕ → Option (List ℕ)
-answer_in s h Silent unique = None
-answer_in s h (Bare errno) unique = Some (wire errno.0 [] unique)
-answer_in s h Kept unique = option_map (λ a. wire a.errno a.body unique) (said s h (id_of unique))
+abbrev pub answer_in : (M : Model) → M.State → History → Class → ℕ → Option (List ℕ)
+answer_in M s h Silent unique = None
+answer_in M s h (Bare errno) unique = Some (wire errno.0 [] unique)
+answer_in M s h Kept unique = option_map (λ a. wire a.errno a.body unique) (said M s h (id_of unique))
 
 -- whether the kernel takes the answer
 abbrev pub is_taken : Fate → Bool
@@ -70,8 +70,8 @@ abbrev pub where_taken : Bool → Option (List ℕ) → Option (List ℕ)
 where_taken true answer = answer
 where_taken false answer = None
 
-abbrev pub outcome_of : State → History → Event → Option (List ℕ)
-outcome_of s h e = where_taken (is_taken e.fate) (answer_in s h (class_of e.bytes) (unique_of e.bytes))
+abbrev pub outcome_of : (M : Model) → M.State → History → Event → Option (List ℕ)
+outcome_of M s h e = where_taken (is_taken e.fate) (answer_in M s h (class_of e.bytes) (unique_of e.bytes))
 
 -- the bytes of an outcome: the head, then the body
 abbrev pub bytes_given : Option Outcome → Option (List ℕ)
@@ -95,17 +95,26 @@ NoneReused t (e ∷ es) = MayCome t e.bytes × NoneReused (t ++ settles e) es
 
 -- ---- the keeper that is driven
 
--- what the keeper holds, if there is one
-abbrev pub HoldsIn : {K : Type 0} → (K → Rows → Records → Type 0) → Option K → Rows → Records → Type 0
-HoldsIn holds None = λ rows records. ⊥
-HoldsIn holds (Some k) = holds k
+-- what is told of the keeper, if there is one: nothing holds of none
+abbrev pub told_in : {M : Model} {K : Type 0} → (K → KeeperState M) → Option K → KeeperState M
+told_in told None = record {
+  holds = λ rows records. ⊥;
+  is_honest = ⊥;
+  is_clean = ⊥;
+  has_failed = false;
+  leaves_whole = ⊥;
+  may_leave = λ rows records. ⊥;
+  may_answer = λ fault. ⊥;
+  lots = 0;
+}
+told_in told (Some k) = told k
 
-abbrev pub StandsIn : {K : Type 0} → (K → Rows → Records → Type 0) → Option K → State → History → List ℕ → Type 0
-StandsIn holds keeper = StandsFor (HoldsIn holds keeper)
+abbrev pub StandsIn : {M : Model} {K : Type 0} → (K → KeeperState M) → Option K → M.State → History → List ℕ → Type 0
+StandsIn told keeper = StandsFor (told_in told keeper)
 
 -- the second keeper may answer no fault that the first one couldn't
-abbrev pub AnswersNoMore : {K : Type 0} → (K → StoreFault → Type 0) → Option K → Option K → Type 0
-AnswersNoMore may_answer old new = (f : StoreFault) → IsSomeAnd new (λ k. may_answer k f) → IsSomeAnd old (λ k. may_answer k f)
+abbrev pub AnswersNoMore : {M : Model} {K : Type 0} → (K → KeeperState M) → Option K → Option K → Type 0
+AnswersNoMore told old new = (f : StoreFault) → (told_in told new).may_answer f → (told_in told old).may_answer f
 
 -- ---- faults
 
@@ -158,6 +167,6 @@ pub record OfRestart {K : Type 0} (may_refuse : K → StoreFault → Type 0) (ev
 
 -- a keeper that is left stands for the events before the fault: where the store answered it, if the store is clean,
 -- and else if it gave back what was written
-abbrev pub LeftBy : {K : Type 0} → (K → Type 0) → (K → Type 0) → Bool → Option K → Type 0 → Type 0
-LeftBy honest clean true keeper P = IsSomeAnd keeper clean → P
-LeftBy honest clean false keeper P = IsSomeAnd keeper honest → P
+abbrev pub LeftBy : {M : Model} → KeeperState M → Bool → Type 0 → Type 0
+LeftBy k true P = k.is_clean → P
+LeftBy k false P = k.is_honest → P

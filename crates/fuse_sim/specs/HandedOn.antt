@@ -1,7 +1,7 @@
 -- Which ids are handed on, so that their records are removed, as the groups of events step.
 use Rattle.std.specs.Prelude.{◌-◌, ℕ, zero, suc, Bool, true, false, List, [], ◌∷◌, ◌++◌}
-use Rattle.fuse_store.specs.declared.keeper.TheConstants.{MAX_GROUP}
-use Rattle.fuse_store.specs.History.{Entry}
+use Rattle.fuse_keeper.specs.declared.keeper.TheConstants.{MAX_GROUP}
+use Rattle.fuse_keeper.specs.History.{Entry}
 use Rattle.fuse_sim.specs.declared.event.Event.{Event}
 use Rattle.fuse_sim.specs.Driving.{commits, settles, dies}
 

@@ -1,8 +1,8 @@
 -- Which records are gone after events (own profile).
 use Rattle.std.specs.Prelude.{◌≡◌, ◌≤◌, ℕ, false, List, [], ◌∷◌, ◌++◌, length, All, None}
-use Rattle.fuse_store.specs.declared.keeper.TheConstants.{MAX_GROUP}
-use Rattle.fuse_store.specs.History.{is_in, ids_in}
-use Rattle.fuse_store.specs.Stands.{Records}
+use Rattle.fuse_keeper.specs.declared.keeper.TheConstants.{MAX_GROUP}
+use Rattle.fuse_keeper.specs.History.{is_in, ids_in}
+use Rattle.fuse_keeper.specs.Stands.{Records}
 use Rattle.fuse_sim.specs.declared.event.Event.{Event}
 use Rattle.fuse_sim.specs.Driving.{commits_in, settles, Calm}
 

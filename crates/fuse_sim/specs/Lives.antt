@@ -3,11 +3,11 @@ use Rattle.std.specs.Prelude.{◌≡◌, List, [], ◌∷◌, ◌++◌, ℕ}
 use Rattle.std.specs.Io.KnownBytes.{Consumes}
 use Rattle.fuse_wire.specs.declared.moment.Moment.{Moment}
 use Rattle.fuse_request.specs.Stream.{cut, joined}
-use Rattle.fuse_tree.specs.State.{State}
-use Rattle.fuse_tree.specs.Rows.{Rows}
-use Rattle.fuse_store.specs.declared.fault.StoreFault.{StoreFault}
-use Rattle.fuse_store.specs.History.{History, grown}
-use Rattle.fuse_store.specs.Stands.{Records, IsFirm}
+use Rattle.fuse_keeper.specs.declared.fault.StoreFault.{StoreFault}
+use Rattle.fuse_keeper.specs.History.{History, grown}
+use Rattle.fuse_keeper.specs.Model.{Model}
+use Rattle.fuse_keeper.specs.Stands.{Records}
+use Rattle.fuse_keeper.specs.KeeperState.{KeeperState, IsFirm}
 use Rattle.fuse_session.specs.declared.ended.Ended.{Ended}
 use Rattle.fuse_session.specs.Ends.{MayEnd, ended_store, ended_memory}
 use Rattle.fuse_session.specs.Port.{PortState}
@@ -24,17 +24,17 @@ pub record Lifetime : Type 0 where
 
 -- the first messages that came were worked off, up to one that ends the session at most, and a front of what is to be
 -- sent for them was sent
-pub record IsLife (s : State) (h : History) (life : Lifetime) : Type 0 where
+pub record IsLife (M : Model) (s : M.State) (h : History) (life : Lifetime) : Type 0 where
   pub others : List (List ℕ)
   pub front : (cut life.received).0 ≡ bytes_of life.worked ++ others
-  pub works : Works s h life.worked
+  pub works : Works M s h life.worked
   pub unsent : List ℕ
-  pub sends : out s h life.worked ≡ life.sent ++ unsent
+  pub sends : out M s h life.worked ≡ life.sent ++ unsent
 
 -- each life begins with the history that the one before left
-abbrev pub AreLives : State → History → List Lifetime → Type 0
-AreLives s h [] = Unit {0}
-AreLives s h (life ∷ lives) = IsLife s h life × AreLives s (grown h (kept_in life.worked)) lives
+abbrev pub AreLives : (M : Model) → M.State → History → List Lifetime → Type 0
+AreLives M s h [] = Unit {0}
+AreLives M s h (life ∷ lives) = IsLife M s h life × AreLives M s (grown h (kept_in life.worked)) lives
 
 -- the last history
 abbrev pub after_lives : History → List Lifetime → History
@@ -47,21 +47,19 @@ all_worked [] = []
 all_worked (life ∷ lives) = life.worked ++ all_worked lives
 
 -- what each life sent is a front of what is to be sent where this is the history
-abbrev pub AllSend : State → History → List Lifetime → Type 0
-AllSend s last [] = Unit {0}
-AllSend s last (life ∷ lives) = ((unsent : List ℕ) × (out s last life.worked ≡ life.sent ++ unsent)) × AllSend s last lives
+abbrev pub AllSend : (M : Model) → M.State → History → List Lifetime → Type 0
+AllSend M s last [] = Unit {0}
+AllSend M s last (life ∷ lives) = ((unsent : List ℕ) × (out M s last life.worked ≡ life.sent ++ unsent)) × AllSend M s last lives
 
 -- what the clause `life` of `serve` says of a run, at whatever end, of a keeper that was k and is k'
-abbrev pub RunOfServe : {K : Type 0} → (K → Rows → Records → Type 0) → (K → Type 0) → (K → Type 0) → (K → Type 0) → (K → Rows → Records → Type 0) → (K → StoreFault → Type 0) → (Moment → Type 0) → K → K → PortState → PortState → Ended → Type 0
-RunOfServe holds clean honest whole may_leave may_answer may_tell k k' old new ended =
-    Run (holds k) (holds k') (clean k') (honest k') (IsFirm (holds k) (whole k) (may_leave k)) (whole k') (may_leave k') may_tell old new [] []
-    (ended_store ended) (ended_memory ended) (MayEnd (may_answer k) ended)
+abbrev pub RunOfServe : {M : Model} → KeeperState M → KeeperState M → (Moment → Type 0) → PortState → PortState → Ended → Type 0
+RunOfServe k k' may_tell old new ended = Run k k' may_tell old new [] [] (ended_store ended) (ended_memory ended) (MayEnd k.may_answer ended)
 
 -- a run of a server was a life: the bytes that came to its port, the answers that it sent whole and the part of another
 -- one, the ids that these settle, the moments that its clock gave, and what is left
-pub record RanAsLife (stood : History → List ℕ → Type 0) (may : Moment → Type 0) (s : State) (h : History) (t : List ℕ) (old new : PortState) : Type 0 where
+pub record RanAsLife (M : Model) (stood : History → List ℕ → Type 0) (may : Moment → Type 0) (s : M.State) (h : History) (t : List ℕ) (old new : PortState) : Type 0 where
   pub life : Lifetime
-  pub lived : IsLife s h life
+  pub lived : IsLife M s h life
   pub came : Consumes old.coming new.coming life.received
   pub marks : List Mark
   pub part : List ℕ

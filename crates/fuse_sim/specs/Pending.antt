@@ -12,7 +12,7 @@ use Rattle.fuse_request.specs.Canon.{canon}
 use Rattle.fuse_request.specs.Places.{asked_at}
 use Rattle.fuse_request.specs.Spelling.{Spells}
 use Rattle.fuse_answer.specs.Replies.{Told, Answers, FirstFault}
-use Rattle.fuse_store.specs.History.{is_in}
+use Rattle.fuse_keeper.specs.History.{is_in}
 use Rattle.fuse_sim.specs.declared.kernel.TakeFault.{TakeFault}
 use Rattle.fuse_sim.specs.declared.kernel.TakeFault.TheVariants.{Unknown, BadAnswer as Bad}
 

@@ -8,14 +8,14 @@ use Rattle.fuse_request.specs.declared.request.Request.{Request}
 use Rattle.fuse_request.specs.declared.class.Class.{Class}
 use Rattle.fuse_request.specs.declared.class.Class.TheVariants.{Silent, Bare, Kept}
 use Rattle.fuse_request.specs.Classes.{class_of}
-use Rattle.fuse_tree.specs.State.{State}
-use Rattle.fuse_tree.specs.Rows.{Rows}
-use Rattle.fuse_store.specs.History.{Entry, History, is_in, ids_in, Includes, IsUnsettled}
-use Rattle.fuse_store.specs.declared.fault.StoreFault.{StoreFault}
-use Rattle.fuse_store.specs.declared.keeper.Done.{Done}
-use Rattle.fuse_store.specs.Stands.{Records, StandsFor, OthersStay, KeepsHeld}
-use Rattle.fuse_store.specs.declared.keeper.TheConstants.{MAX_GROUP}
-use Rattle.fuse_store.specs.Group.{entries_of}
+use Rattle.fuse_keeper.specs.History.{Entry, History, is_in, ids_in, Includes, IsUnsettled}
+use Rattle.fuse_keeper.specs.declared.fault.StoreFault.{StoreFault}
+use Rattle.fuse_keeper.specs.declared.keeper.Done.{Done}
+use Rattle.fuse_keeper.specs.Model.{Model}
+use Rattle.fuse_keeper.specs.Stands.{Records, OthersStay}
+use Rattle.fuse_keeper.specs.KeeperState.{KeeperState, StandsFor, KeepsHeld}
+use Rattle.fuse_keeper.specs.declared.keeper.TheConstants.{MAX_GROUP}
+use Rattle.fuse_keeper.specs.Group.{entries_of}
 use Rattle.fuse_session.specs.Worked.{unique_of}
 use Rattle.fuse_session.specs.Group.{left_by}
 use Rattle.fuse_sim.specs.declared.event.Fate.{Fate}
@@ -23,7 +23,7 @@ use Rattle.fuse_sim.specs.declared.event.Fate.TheVariants.{Answered, AnswerLost,
 use Rattle.fuse_sim.specs.declared.event.Event.{Event}
 use Rattle.fuse_sim.specs.declared.event.Outcome.{Outcome}
 use Rattle.fuse_sim.specs.declared.event.DriveFault.{DriveFault}
-use Rattle.fuse_sim.specs.Driving.{commits_in, committed, settles, outcome_of, bytes_given, is_taken, where_taken, Calm, NoneReused, IsFit, HoldsIn, StandsIn, event_of, before, CausedBy, IsStoreFault, OfRestart, is_store, LeftBy}
+use Rattle.fuse_sim.specs.Driving.{commits_in, committed, settles, outcome_of, bytes_given, is_taken, where_taken, Calm, NoneReused, IsFit, told_in, StandsIn, event_of, before, CausedBy, IsStoreFault, OfRestart, is_store, LeftBy}
 use Rattle.fuse_sim.specs.HandedOn.{Ledger, ledger_after, handed_on}
 
 abbrev pub dies_before : Fate → Bool
@@ -104,16 +104,16 @@ abbrev pub NoneDiesBefore : List Event → Type 0
 NoneDiesBefore run = All (λ e. dies_before e.fate ≡ false) run
 
 -- a group was performed, and its outcomes were added, by any keeper
-pub record Worked (holds holds' : Rows → Records → Type 0) (honest' : Type 0) (run : List Event) (pending pending' : List ℕ) (old new : List (Option Outcome)) : Type 0 where
+pub record Worked {M : Model} (k k' : KeeperState M) (run : List Event) (pending pending' : List ℕ) (old new : List (Option Outcome)) : Type 0 where
   pub added : List (Option Outcome)
   pub items : new ≡ old ++ added
   pub count : length added ≡ length run
-  pub stands : honest' → (s : State) (h : History) (t : List ℕ) → StandsFor holds s h t → All (IsUnsettled (t ++ handed_to (commits_in run) pending)) (commits_in run)
-      → StandsFor holds' s (committed h run) (t ++ handed_to (commits_in run) pending)
-  pub outcomes : honest' → (s : State) (h : History) (t : List ℕ) → StandsFor holds s h t → All (IsUnsettled (t ++ handed_to (commits_in run) pending)) (commits_in run)
-      → map bytes_given added ≡ map (outcome_of s (committed h run)) run
-  pub records : honest' → (rows : Rows) (records : Records) → holds rows records
-      → (rows' : Rows) × (records' : Records) × holds' rows' records' × OthersStay records (handed_to (commits_in run) pending) (commits_in run) records'
+  pub stands : k'.is_honest → (s : M.State) (h : History) (t : List ℕ) → StandsFor k s h t → All (IsUnsettled (t ++ handed_to (commits_in run) pending)) (commits_in run)
+      → StandsFor k' s (committed h run) (t ++ handed_to (commits_in run) pending)
+  pub outcomes : k'.is_honest → (s : M.State) (h : History) (t : List ℕ) → StandsFor k s h t → All (IsUnsettled (t ++ handed_to (commits_in run) pending)) (commits_in run)
+      → map bytes_given added ≡ map (outcome_of M s (committed h run)) run
+  pub records : k'.is_honest → (rows : M.Rows) (records : Records) → k.holds rows records
+      → (rows' : M.Rows) × (records' : Records) × k'.holds rows' records' × OthersStay records (handed_to (commits_in run) pending) (commits_in run) records'
   pub handed : pending' ≡ left_pending (commits_in run) pending ++ settles_in run
 
 -- what becomes of records: those that are handed on go, and of the other ids those that don't come stay
@@ -122,34 +122,34 @@ pub record RecordsRan (l : Ledger) (es : List Event) (records records' : Records
   pub gone : (u : List ℕ) → Includes u l.pending → NoneReused u es → (i : ℕ) → is_in (handed_on l es) i ≡ true → records' i ≡ None
 
 -- events were run, from a ledger on
-pub record Ran (holds holds' : Rows → Records → Type 0) (honest' : Type 0) (l : Ledger) (es : List Event) (old new : List (Option Outcome)) : Type 0 where
+pub record Ran {M : Model} (k k' : KeeperState M) (l : Ledger) (es : List Event) (old new : List (Option Outcome)) : Type 0 where
   pub added : List (Option Outcome)
   pub items : new ≡ old ++ added
   pub count : length added ≡ length es
-  pub stands : honest' → (s : State) (h : History) (t u : List ℕ) → StandsFor holds s h t → Includes u t → Includes u l.pending → NoneReused u es
-      → StandsFor holds' s (committed h es) (t ++ handed_on l es)
-  pub outcomes : honest' → (s : State) (h : History) (t u : List ℕ) → StandsFor holds s h t → Includes u t → Includes u l.pending → NoneReused u es
-      → map bytes_given added ≡ map (outcome_of s (committed h es)) es
-  pub records : honest' → (rows : Rows) (records : Records) → holds rows records
-      → (rows' : Rows) × (records' : Records) × holds' rows' records' × RecordsRan l es records records'
+  pub stands : k'.is_honest → (s : M.State) (h : History) (t u : List ℕ) → StandsFor k s h t → Includes u t → Includes u l.pending → NoneReused u es
+      → StandsFor k' s (committed h es) (t ++ handed_on l es)
+  pub outcomes : k'.is_honest → (s : M.State) (h : History) (t u : List ℕ) → StandsFor k s h t → Includes u t → Includes u l.pending → NoneReused u es
+      → map bytes_given added ≡ map (outcome_of M s (committed h es)) es
+  pub records : k'.is_honest → (rows : M.Rows) (records : Records) → k.holds rows records
+      → (rows' : M.Rows) × (records' : Records) × k'.holds rows' records' × RecordsRan l es records records'
 
 -- no more kept messages are in the group that was begun, or none begins here
 abbrev pub MayBegin : Ledger → List Event → Type 0
 MayBegin l others = (l.room ≡ 0) ⊎ StartsNone others
 
 -- the first events were run, and these are pending
-pub record Moved (holds holds' : Rows → Records → Type 0) (honest' : Type 0) (l : Ledger) (es others : List Event) (pending' : List ℕ) (old new : List (Option Outcome)) : Type 0 where
+pub record Moved {M : Model} (k k' : KeeperState M) (l : Ledger) (es others : List Event) (pending' : List ℕ) (old new : List (Option Outcome)) : Type 0 where
   pub fit : All IsFit es
-  pub ran : Ran holds holds' honest' l es old new
+  pub ran : Ran k k' l es old new
   pub pending : pending' ≡ (ledger_after l es).pending
   pub begin : MayBegin (ledger_after l es) others
 
 -- a fault came at the events that begin at a place: what it names, and the keeper that it leaves
-pub record Stops {K : Type 0} (holds : K → Rows → Records → Type 0) (honest clean : K → Type 0) (failed : K → Bool) (answers refuses : K → StoreFault → Type 0) (old new : Option K) (events : List Event) (at : ℕ) (fault : DriveFault) : Type 0 where
+pub record Stops {M : Model} {K : Type 0} (told : K → KeeperState M) (refuses : K → StoreFault → Type 0) (old new : Option K) (events : List Event) (at : ℕ) (fault : DriveFault) : Type 0 where
   pub named : IsSomeAnd (slice_get events (event_of fault)) (CausedBy fault)
   pub earlier : All IsFit (take at events) → All IsFit (before fault events)
-  pub left : LeftBy honest clean (is_store fault) new ((event_of fault ≡ at) × KeepsHeld (HoldsIn holds old) (HoldsIn holds new))
-  pub answered : is_store fault ≡ true → IsSomeAnd new clean → (s : State) (h : History) (t : List ℕ) → StandsIn holds old s h t → IsSomeAnd old (λ k. IsStoreFault (answers k) fault)
+  pub left : LeftBy (told_in told new) (is_store fault) ((event_of fault ≡ at) × KeepsHeld (told_in told old) (told_in told new))
+  pub answered : is_store fault ≡ true → (told_in told new).is_clean → (s : M.State) (h : History) (t : List ℕ) → StandsIn told old s h t → IsStoreFault (told_in told old).may_answer fault
   pub emptied : new ≡ None → OfRestart refuses events fault
-  pub has_failed : IfSome new (λ k. failed k ≡ is_store fault)
-  pub was_honest : IsSomeAnd new honest → IsSomeAnd old honest
+  pub has_failed : IfSome new (λ k. (told k).has_failed ≡ is_store fault)
+  pub was_honest : (told_in told new).is_honest → (told_in told old).is_honest

@@ -7,7 +7,8 @@ use Rattle.fuse_answer.specs.Wire.{wire}
 use Rattle.fuse_request.specs.Act.{Act}
 use Rattle.fuse_request.specs.Act as acts
 use Rattle.fuse_request.specs.Canon.{canon}
-use Rattle.fuse_store.specs.History.{Entry}
+use Rattle.fuse_keeper.specs.TheTree.{the_tree}
+use Rattle.fuse_keeper.specs.History.{Entry}
 use Rattle.fuse_tree.specs.Vectors.{at, asks, first, mkdir_a, entry_a}
 use Rattle.fuse_sim.specs.declared.event.Fate.{Fate}
 use Rattle.fuse_sim.specs.declared.event.Fate.TheVariants.{Answered, AnswerLost, DiedBeforeCommit, DiedAfterCommit}
@@ -27,7 +28,7 @@ events = mkdir_event 6 DiedAfterCommit ∷ mkdir_event (2 ^ 63 + 6) Answered ∷
 abbrev pub Resent : Type 0
 Resent =
     (committed [] events ≡ entry 6 ∷ entry 10 ∷ [])
-    × (map (outcome_of first (committed [] events)) events ≡ None ∷ Some (wire 0 entry_a (2 ^ 63 + 6)) ∷ None ∷ Some (wire EEXIST.0 [] 10) ∷ [])
+    × (map (outcome_of the_tree first (committed [] events)) events ≡ None ∷ Some (wire 0 entry_a (2 ^ 63 + 6)) ∷ None ∷ Some (wire EEXIST.0 [] 10) ∷ [])
     × (settled_by [] events ≡ 6 ∷ 10 ∷ [])
 
 -- a message of an opcode outside the profile, and FORGET
@@ -40,5 +41,5 @@ bare_and_silent =
 abbrev pub NotKept : Type 0
 NotKept =
     (committed [] bare_and_silent ≡ [])
-    × (map (outcome_of first []) bare_and_silent ≡ Some (wire ENOSYS.0 [] 4) ∷ None ∷ [])
+    × (map (outcome_of the_tree first []) bare_and_silent ≡ Some (wire ENOSYS.0 [] 4) ∷ None ∷ [])
     × (settled_by [] bare_and_silent ≡ [])

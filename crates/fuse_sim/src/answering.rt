@@ -5,7 +5,7 @@ ghost use Rattle.fuse_answer.specs.Wire.{wire};
 ghost use Rattle.fuse_request.specs.declared.class.Class.TheVariants.{Kept};
 ghost use Rattle.fuse_request.specs.Stream.{IsMessage};
 ghost use Rattle.fuse_request.specs.Classes.{class_of};
-ghost use Rattle.fuse_store.specs.Group.{ids_of};
+ghost use Rattle.fuse_keeper.specs.Group.{ids_of};
 ghost use Rattle.fuse_session.specs.Group.{left_by};
 ghost use Rattle.fuse_sim.specs.Driving.{IsFit, bytes_given, settles, is_taken};
 ghost use Rattle.fuse_sim.specs.Running.{answers_in, head_outcome, outcomes_by, HasAnswers, settles_in, Adds};
@@ -13,7 +13,7 @@ ghost use Rattle.fuse_sim.specs.Running.{answers_in, head_outcome, outcomes_by, 
 use crate::event::{Event, Fate, Outcome};
 use fuse_answer::{Answer, head_of};
 use fuse_request::{Class, classify, one_cut};
-use fuse_store::Done;
+use fuse_keeper::Done;
 use fuse_wire::Id;
 use std::alloc::Global;
 use std::vec::IntoIter;

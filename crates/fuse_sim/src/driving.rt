@@ -1,15 +1,13 @@
 // Running events to their end.
 ghost use Rattle.std.specs.Prelude.{◌≡◌, ℕ, List, [], false, true, length, map, IsSomeAnd, IfSome, None, All, IfOk, IfErr, OnOk, MatchResult};
-ghost use Rattle.fuse_tree.specs.State.{State};
-ghost use Rattle.fuse_tree.specs.Rows.{Rows};
-ghost use Rattle.fuse_store.specs.History.{History, said, is_in};
-ghost use Rattle.fuse_store.specs.Stands.{Records};
-ghost use Rattle.fuse_sim.specs.Driving.{HoldsIn, StandsIn, AnswersNoMore, committed, outcome_of, bytes_given, settled_by, NoneReused, IsFit, Names, before, is_store, IsStoreFault, LeftBy, OfRestart};
+ghost use Rattle.fuse_keeper.specs.History.{History, said, is_in};
+ghost use Rattle.fuse_keeper.specs.Stands.{Records};
+ghost use Rattle.fuse_sim.specs.Driving.{told_in, StandsIn, AnswersNoMore, committed, outcome_of, bytes_given, settled_by, NoneReused, IsFit, Names, before, is_store, IsStoreFault, LeftBy, OfRestart};
 ghost use Rattle.fuse_sim.specs.LeftRecords.{Behind, RecordsLeft};
 
 use crate::event::{DriveFault, Event, Outcome};
 use crate::running::run_next;
-use fuse_store::{Restart, histories_grow};
+use fuse_keeper::{Restart, histories_grow};
 use std::alloc::Global;
 
 /// Runs events over a keeper, in groups, and answers what the kernel takes for each of them.
@@ -22,44 +20,44 @@ pub fn drive<K: Restart>(
     keeper: &mut Option<K>,
     events: &[Event],
 ) -> Result<Vec<Option<Outcome>>, DriveFault>
-    requires present { IsSomeAnd keeper.old (λ k. K.has_failed k ≡ false) }
+    requires present { IsSomeAnd keeper.old (λ k. (K.told k).has_failed ≡ false) }
 
     // What stood stands with the requests that were committed, each once, in the order of their first commit.
-    ensures tree_stands { OnOk result (IsSomeAnd keeper.new K.is_honest → (start : State) (h : History) (settled : List ℕ) → StandsIn K.holds keeper.old start h settled
-        → NoneReused settled events.now → StandsIn K.holds keeper.new start (committed h events.now) (settled_by settled events.now)) }
+    ensures tree_stands { OnOk result ((told_in K.told keeper.new).is_honest → (start : K.model.State) (h : History) (settled : List ℕ) → StandsIn K.told keeper.old start h settled
+        → NoneReused settled events.now → StandsIn K.told keeper.new start (committed h events.now) (settled_by settled events.now)) }
 
     // Each answer, that to a resend too, is what was said there of its id.
-    ensures outcomes { IfOk result (λ outcomes. IsSomeAnd keeper.new K.is_honest → (start : State) (h : History) (settled : List ℕ) → StandsIn K.holds keeper.old start h settled
-        → NoneReused settled events.now → map bytes_given outcomes.items ≡ map (outcome_of start (committed h events.now)) events.now) }
+    ensures outcomes { IfOk result (λ outcomes. (told_in K.told keeper.new).is_honest → (start : K.model.State) (h : History) (settled : List ℕ) → StandsIn K.told keeper.old start h settled
+        → NoneReused settled events.now → map bytes_given outcomes.items ≡ map (outcome_of K.model start (committed h events.now)) events.now) }
     ensures count { IfOk result (λ outcomes. length outcomes.items ≡ length events.now) }
 
     // Why it faults; and where it doesn't, each event can be run.
     ensures fault_causes { MatchResult result (λ _. All IsFit events.now) (λ fault. Names fault events.now) }
 
     // The keeper that a fault leaves stands for the events before the one that is named,
-    ensures after_fault { IfErr result (λ fault. (start : State) (h : History) (settled : List ℕ) → StandsIn K.holds keeper.old start h settled → NoneReused settled (before fault events.now)
-        → LeftBy K.is_honest K.is_clean (is_store fault) keeper.new (StandsIn K.holds keeper.new start (committed h (before fault events.now)) (settled_by settled (before fault events.now)))) }
+    ensures after_fault { IfErr result (λ fault. (start : K.model.State) (h : History) (settled : List ℕ) → StandsIn K.told keeper.old start h settled → NoneReused settled (before fault events.now)
+        → LeftBy (told_in K.told keeper.new) (is_store fault) (StandsIn K.told keeper.new start (committed h (before fault events.now)) (settled_by settled (before fault events.now)))) }
     // and then a fault of the store is one that the keeper may answer.
-    ensures store { IfErr result (λ fault. is_store fault ≡ true → IsSomeAnd keeper.new K.is_clean → (start : State) (h : History) (settled : List ℕ) → StandsIn K.holds keeper.old start h settled
-        → NoneReused settled (before fault events.now) → IsSomeAnd keeper.old (λ k. IsStoreFault (K.may_answer k) fault)) }
+    ensures store { IfErr result (λ fault. is_store fault ≡ true → (told_in K.told keeper.new).is_clean → (start : K.model.State) (h : History) (settled : List ℕ) → StandsIn K.told keeper.old start h settled
+        → NoneReused settled (before fault events.now) → IsStoreFault (told_in K.told keeper.old).may_answer fault) }
     // No keeper is left only where one refused to be opened again, with this fault.
     ensures emptied { IfErr result (λ fault. keeper.new ≡ None → OfRestart K.may_refuse events.now fault) }
 
     // A keeper that is left has failed exactly where the store answered the fault.
-    ensures going { OnOk result (IsSomeAnd keeper.new (λ k. K.has_failed k ≡ false)) }
-    ensures failed { IfErr result (λ fault. IfSome keeper.new (λ k. K.has_failed k ≡ is_store fault)) }
+    ensures going { OnOk result (IsSomeAnd keeper.new (λ k. (K.told k).has_failed ≡ false)) }
+    ensures failed { IfErr result (λ fault. IfSome keeper.new (λ k. (K.told k).has_failed ≡ is_store fault)) }
 
     // It may answer no fault afterwards that it couldn't before.
-    ensures may { AnswersNoMore K.may_answer keeper.old keeper.new }
+    ensures may { AnswersNoMore K.told keeper.old keeper.new }
 
     // Not of the headline: which records are left. That of an answered id goes with the 16th request committed behind it
     // at the latest, and with the first at the earliest, unless the server dies before.
-    ensures records { OnOk result (IsSomeAnd keeper.new K.is_honest → NoneReused [] events.now → (rows : Rows) (records : Records) → HoldsIn K.holds keeper.old rows records
-        → (rows' : Rows) × (records' : Records) × HoldsIn K.holds keeper.new rows' records' × RecordsLeft events.now records records') }
-    ensures kept { OnOk result (IsSomeAnd keeper.new K.is_honest → (start : State) (h : History) (settled : List ℕ) → StandsIn K.holds keeper.old start h settled → NoneReused settled events.now
-        → (rows : Rows) (records : Records) → HoldsIn K.holds keeper.new rows records → (i : ℕ) → is_in settled i ≡ false → ¬ Behind 1 events.now i → records i ≡ said start (committed h events.now) i) }
+    ensures records { OnOk result ((told_in K.told keeper.new).is_honest → NoneReused [] events.now → (rows : K.model.Rows) (records : Records) → (told_in K.told keeper.old).holds rows records
+        → (rows' : K.model.Rows) × (records' : Records) × (told_in K.told keeper.new).holds rows' records' × RecordsLeft events.now records records') }
+    ensures kept { OnOk result ((told_in K.told keeper.new).is_honest → (start : K.model.State) (h : History) (settled : List ℕ) → StandsIn K.told keeper.old start h settled → NoneReused settled events.now
+        → (rows : K.model.Rows) (records : Records) → (told_in K.told keeper.new).holds rows records → (i : ℕ) → is_in settled i ≡ false → ¬ Behind 1 events.now i → records i ≡ said K.model start (committed h events.now) i) }
 {
-    histories_grow();
+    histories_grow::<K>();
     let mut outcomes = Vec::new(alloc);
     let mut pending = Vec::new(alloc);
     let mut at = 0;

@@ -1,5 +1,5 @@
 // Events: a message that comes, and what becomes of its answer.
-use fuse_store::StoreFault;
+use fuse_keeper::StoreFault;
 use fuse_wire::{ByteList, Moment};
 
 /// What becomes of a message and of its answer.

@@ -2,8 +2,8 @@
 ghost use Rattle.std.specs.Prelude.{◌≡◌, ◌≤◌, ◌<◌, ◌⊎◌, ◌↔◌, ◌++◌, true, false, length, take, drop, All, IfOk, IfErr, OnOk, IsTrue};
 ghost use Rattle.fuse_request.specs.Stream.{IsMessage};
 ghost use Rattle.fuse_request.specs.Classes.{class_of};
-ghost use Rattle.fuse_store.specs.Group.{entries_of, HasId, IsKept};
-ghost use Rattle.fuse_store.specs.declared.keeper.TheConstants.{MAX_GROUP as max_group};
+ghost use Rattle.fuse_keeper.specs.Group.{entries_of, HasId, IsKept};
+ghost use Rattle.fuse_keeper.specs.declared.keeper.TheConstants.{MAX_GROUP as max_group};
 ghost use Rattle.fuse_session.specs.Worked.{entry_if, message_entry};
 ghost use Rattle.fuse_session.specs.Group.{listed};
 ghost use Rattle.fuse_sim.specs.Driving.{IsFit, CausedBy, event_of, is_store, dies};
@@ -13,7 +13,7 @@ use crate::event::{DriveFault, Event, Fate};
 use fuse_request::{
     Class, MAX_MESSAGE, Request, classify, decode, has_zero_unique, header_of, one_cut,
 };
-use fuse_store::MAX_GROUP;
+use fuse_keeper::MAX_GROUP;
 use fuse_wire::Moment;
 use std::alloc::{AllocError, Global};
 

@@ -7,7 +7,7 @@ ghost use Rattle.fuse_request.specs.Canon.{canon, len_of, sayable};
 ghost use Rattle.fuse_request.specs.declared.header.TheConstants.{MAX_MESSAGE as max_message};
 ghost use Rattle.fuse_answer.specs.declared.records.TheConstants.OutHeader.{SIZE as header_size};
 ghost use Rattle.fuse_request.specs.Places.{asked_at};
-ghost use Rattle.fuse_store.specs.History.{is_in};
+ghost use Rattle.fuse_keeper.specs.History.{is_in};
 ghost use Rattle.fuse_sim.specs.Pending.{MayBeSent, owed, again, all_again, borne, owner, TakenOf, request_ids, IsOwed, StandsFirst, marked, messages_in, requests_in};
 
 use byteorder::{ByteOrder, LittleEndian};

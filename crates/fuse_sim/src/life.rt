@@ -1,8 +1,8 @@
 // What several lives of a server did in one mount.
 ghost use Rattle.std.specs.Prelude.{◌≡◌, ℕ, List, []};
-ghost use Rattle.fuse_tree.specs.State.{State};
-ghost use Rattle.fuse_store.specs.History.{History, Distinct, grown};
-ghost use Rattle.fuse_store.specs.Stands.{Stands, StandsFor, Leaves, IsFirm};
+ghost use Rattle.fuse_keeper.specs.History.{History, Distinct, grown};
+ghost use Rattle.fuse_keeper.specs.Stands.{Stands};
+ghost use Rattle.fuse_keeper.specs.KeeperState.{StandsFor, Leaves, IsFirm};
 ghost use Rattle.fuse_session.specs.declared.ended.Ended.{Ended as EndedValue};
 ghost use Rattle.fuse_session.specs.Port.{PortState};
 ghost use Rattle.fuse_session.specs.Settling.{NoneComesAgain};
@@ -10,19 +10,19 @@ ghost use Rattle.fuse_session.specs.Worked.{bytes_of, kept_in};
 ghost use Rattle.fuse_sim.specs.Lives.{Lifetime, AreLives, after_lives, all_worked, AllSend, RunOfServe, RanAsLife};
 
 use fuse_session::Clock;
-use fuse_store::{Keeper, histories_grow};
+use fuse_keeper::{Keeper, histories_grow};
 
 /// Over every list of lives of one mount, each beginning with the history that the one before left and the first with
 /// none.
-pub fn lives()
+pub fn lives<K: Keeper>()
     // The last history is that of all messages that they worked off, in a row,
     ensures in_a_row { (ls : List Lifetime) → after_lives [] ls ≡ grown [] (kept_in (all_worked ls)) }
     // in which no request stands twice,
     ensures once { (ls : List Lifetime) → Distinct (after_lives [] ls) }
     // and what each life sent is a front of what is to be sent by that history.
-    ensures send { (s : State) (ls : List Lifetime) → AreLives s [] ls → AllSend s (after_lives [] ls) ls }
+    ensures send { (s : K.model.State) (ls : List Lifetime) → AreLives K.model s [] ls → AllSend K.model s (after_lives [] ls) ls }
 {
-    histories_grow();
+    histories_grow::<K>();
 }
 
 /// Each run of `serve` is such a life: `run` is what its clause `life` says, of a keeper that was `k` and is `k'`, at
@@ -30,13 +30,13 @@ pub fn lives()
 pub fn runs_are_lives<K: Keeper, C: Clock>()
     // What the keeper is left with stands for the history that the life leaves, where its store is clean,
     ensures ends { (k k' : K) (c : C) (old new : PortState) (ended : EndedValue)
-        (run : RunOfServe K.holds K.is_clean K.is_honest K.leaves_whole K.may_leave K.may_answer (C.may_answer c) k k' old new ended)
-        (s : State) (h : History) (t : List ℕ) → StandsFor (K.holds k) s h t → NoneComesAgain old.confirms t (bytes_of run.broken.timed) run.broken.marks
-        → K.is_clean k' → RanAsLife (StandsFor (K.holds k') s) (C.may_answer c) s h t old new }
+        (run : RunOfServe (K.told k) (K.told k') (C.may_answer c) old new ended)
+        (s : K.model.State) (h : History) (t : List ℕ) → StandsFor (K.told k) s h t → NoneComesAgain old.confirms t (bytes_of run.broken.timed) run.broken.marks
+        → (K.told k').is_clean → RanAsLife K.model (StandsFor (K.told k') s) (C.may_answer c) s h t old new }
     // and so does whatever a crash then leaves, where the keeper was firm.
     ensures crashes { (k k' : K) (c : C) (old new : PortState) (ended : EndedValue)
-        (run : RunOfServe K.holds K.is_clean K.is_honest K.leaves_whole K.may_leave K.may_answer (C.may_answer c) k k' old new ended)
-        (s : State) (h : History) (t : List ℕ) → StandsFor (K.holds k) s h t → NoneComesAgain old.confirms t (bytes_of run.broken.timed) run.broken.marks
-        → K.is_honest k' → IsFirm (K.holds k) (K.leaves_whole k) (K.may_leave k)
-        → Leaves (K.leaves_whole k') (K.may_leave k') (λ x r. RanAsLife (Stands x r s) (C.may_answer c) s h t old new) }
+        (run : RunOfServe (K.told k) (K.told k') (C.may_answer c) old new ended)
+        (s : K.model.State) (h : History) (t : List ℕ) → StandsFor (K.told k) s h t → NoneComesAgain old.confirms t (bytes_of run.broken.timed) run.broken.marks
+        → (K.told k').is_honest → IsFirm (K.told k)
+        → Leaves (K.told k') (λ x r. RanAsLife K.model (Stands K.model x r s) (C.may_answer c) s h t old new) }
 {}

@@ -1,19 +1,18 @@
 // Performing a group, and giving its events their outcomes.
 ghost use Rattle.std.specs.Prelude.{◌≡◌, ◌≤◌, ◌+◌, ◌++◌, false, ℕ, List, length, All, IfOk, IfErr, OnOk, OnErr, is_err, vec_capacity};
-ghost use Rattle.fuse_tree.specs.State.{State};
-ghost use Rattle.fuse_tree.specs.Rows.{Rows};
-ghost use Rattle.fuse_store.specs.declared.fault.StoreFault.{StoreFault as StoreFaultValue};
-ghost use Rattle.fuse_store.specs.History.{History, IsUnsettled};
-ghost use Rattle.fuse_store.specs.Stands.{Records, StandsFor, Performed, KeepsHeld, OthersStay};
-ghost use Rattle.fuse_store.specs.Group.{entries_of, HasId, IsKept, ids_of};
-ghost use Rattle.fuse_store.specs.declared.keeper.TheConstants.{MAX_GROUP as max_group, MAX_SETTLED as max_settled};
+ghost use Rattle.fuse_keeper.specs.declared.fault.StoreFault.{StoreFault as StoreFaultValue};
+ghost use Rattle.fuse_keeper.specs.History.{History, IsUnsettled};
+ghost use Rattle.fuse_keeper.specs.Stands.{Records, OthersStay};
+ghost use Rattle.fuse_keeper.specs.KeeperState.{StandsFor, Performed, KeepsHeld};
+ghost use Rattle.fuse_keeper.specs.Group.{entries_of, HasId, IsKept, ids_of};
+ghost use Rattle.fuse_keeper.specs.declared.keeper.TheConstants.{MAX_GROUP as max_group, MAX_SETTLED as max_settled};
 ghost use Rattle.fuse_sim.specs.Driving.{IsFit, commits_in};
 ghost use Rattle.fuse_sim.specs.Running.{handed_to, left_pending, NoneDiesBefore, Worked};
 
 use crate::answering::answer_run;
 use crate::event::{Event, Outcome};
 use fuse_request::Request;
-use fuse_store::{Done, Keeper, StoreFault};
+use fuse_keeper::{Done, Keeper, StoreFault};
 use fuse_wire::{Id, Moment};
 use std::alloc::Global;
 
@@ -28,20 +27,20 @@ fn perform_group<K: Keeper>(
     requires few { length pending.old.items ≤ max_settled }
     requires named { All HasId (entries_of group.now) }
     requires kept { All IsKept (entries_of group.now) }
-    requires going { K.has_failed keeper.old ≡ false }
+    requires going { (K.told keeper.old).has_failed ≡ false }
     ensures count { IfOk result (λ dones. length dones.items ≡ length group.now) }
-    ensures ok { K.is_honest keeper.new → IfOk result (λ dones. (s : State) (h : History) (t : List ℕ) → StandsFor (K.holds keeper.old) s h t
+    ensures ok { (K.told keeper.new).is_honest → IfOk result (λ dones. (s : K.model.State) (h : History) (t : List ℕ) → StandsFor (K.told keeper.old) s h t
         → All (IsUnsettled (t ++ handed_to (entries_of group.now) (ids_of pending.old.items))) (entries_of group.now)
-        → Performed (K.holds keeper.new) s h (t ++ handed_to (entries_of group.now) (ids_of pending.old.items)) (entries_of group.now) dones.items) }
-    ensures others { K.is_honest keeper.new → OnOk result ((rows : Rows) (records : Records) → K.holds keeper.old rows records
-        → (rows' : Rows) × (records' : Records) × K.holds keeper.new rows' records' × OthersStay records (handed_to (entries_of group.now) (ids_of pending.old.items)) (entries_of group.now) records') }
+        → Performed (K.told keeper.new) s h (t ++ handed_to (entries_of group.now) (ids_of pending.old.items)) (entries_of group.now) dones.items) }
+    ensures others { (K.told keeper.new).is_honest → OnOk result ((rows : K.model.Rows) (records : Records) → (K.told keeper.old).holds rows records
+        → (rows' : K.model.Rows) × (records' : Records) × (K.told keeper.new).holds rows' records' × OthersStay records (handed_to (entries_of group.now) (ids_of pending.old.items)) (entries_of group.now) records') }
     ensures pending { OnOk result (ids_of pending.new.items ≡ left_pending (entries_of group.now) (ids_of pending.old.items)) }
     ensures room { length pending.old.items + length group.now ≤ vec_capacity pending.old → OnOk result (length pending.new.items + length group.now ≤ vec_capacity pending.new) }
-    ensures err { OnErr result (K.is_clean keeper.new → KeepsHeld (K.holds keeper.old) (K.holds keeper.new)) }
-    ensures fault { IfErr result (λ f. K.is_clean keeper.new → (s : State) (h : History) (t : List ℕ) → StandsFor (K.holds keeper.old) s h t → K.may_answer keeper.old f) }
-    ensures may { (f : StoreFaultValue) → K.may_answer keeper.new f → K.may_answer keeper.old f }
-    ensures honest { K.is_honest keeper.new → K.is_honest keeper.old }
-    ensures failed { K.has_failed keeper.new ≡ is_err result }
+    ensures err { OnErr result ((K.told keeper.new).is_clean → KeepsHeld (K.told keeper.old) (K.told keeper.new)) }
+    ensures fault { IfErr result (λ f. (K.told keeper.new).is_clean → (s : K.model.State) (h : History) (t : List ℕ) → StandsFor (K.told keeper.old) s h t → (K.told keeper.old).may_answer f) }
+    ensures may { (f : StoreFaultValue) → (K.told keeper.new).may_answer f → (K.told keeper.old).may_answer f }
+    ensures honest { (K.told keeper.new).is_honest → (K.told keeper.old).is_honest }
+    ensures failed { (K.told keeper.new).has_failed ≡ is_err result }
 {
     if group.is_empty() {
         return Ok(Vec::new(alloc));
@@ -72,15 +71,15 @@ pub(crate) fn work_run<K: Keeper>(
     requires few { length pending.old.items ≤ max_settled }
     requires named { All HasId (entries_of taken.now) }
     requires kept { All IsKept (entries_of taken.now) }
-    requires going { K.has_failed keeper.old ≡ false }
+    requires going { (K.told keeper.old).has_failed ≡ false }
     requires room { length outcomes.old.items + length run.now ≤ vec_capacity outcomes.old }
     requires places { length pending.old.items + length taken.now ≤ vec_capacity pending.old }
-    ensures ok { OnOk result (Worked (K.holds keeper.old) (K.holds keeper.new) (K.is_honest keeper.new) run.now (ids_of pending.old.items) (ids_of pending.new.items) outcomes.old.items outcomes.new.items) }
-    ensures err { OnErr result (K.is_clean keeper.new → KeepsHeld (K.holds keeper.old) (K.holds keeper.new)) }
-    ensures fault { IfErr result (λ f. K.is_clean keeper.new → (s : State) (h : History) (t : List ℕ) → StandsFor (K.holds keeper.old) s h t → K.may_answer keeper.old f) }
-    ensures may { (f : StoreFaultValue) → K.may_answer keeper.new f → K.may_answer keeper.old f }
-    ensures honest { K.is_honest keeper.new → K.is_honest keeper.old }
-    ensures failed { K.has_failed keeper.new ≡ is_err result }
+    ensures ok { OnOk result (Worked (K.told keeper.old) (K.told keeper.new) run.now (ids_of pending.old.items) (ids_of pending.new.items) outcomes.old.items outcomes.new.items) }
+    ensures err { OnErr result ((K.told keeper.new).is_clean → KeepsHeld (K.told keeper.old) (K.told keeper.new)) }
+    ensures fault { IfErr result (λ f. (K.told keeper.new).is_clean → (s : K.model.State) (h : History) (t : List ℕ) → StandsFor (K.told keeper.old) s h t → (K.told keeper.old).may_answer f) }
+    ensures may { (f : StoreFaultValue) → (K.told keeper.new).may_answer f → (K.told keeper.old).may_answer f }
+    ensures honest { (K.told keeper.new).is_honest → (K.told keeper.old).is_honest }
+    ensures failed { (K.told keeper.new).has_failed ≡ is_err result }
 {
     let dones = perform_group(alloc, keeper, taken, pending)?;
     answer_run(alloc, run, dones, pending, outcomes);

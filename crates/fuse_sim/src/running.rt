@@ -1,11 +1,10 @@
 // Running the events that come next: a group of them, or one that is lost.
 ghost use Rattle.std.specs.Prelude.{◌≡◌, ◌≤◌, ◌<◌, ◌+◌, ◌-◌, ℕ, List, false, true, if◌then◌else◌, [], length, take, drop, IsSome, IsSomeAnd, None, IfOk, IfErr, OnOk, OnErr, All, is_err, vec_capacity};
-ghost use Rattle.fuse_tree.specs.State.{State};
-ghost use Rattle.fuse_store.specs.History.{History};
-ghost use Rattle.fuse_store.specs.Stands.{KeepsHeld};
-ghost use Rattle.fuse_store.specs.Group.{entries_of, HasId, IsKept, ids_of};
-ghost use Rattle.fuse_store.specs.declared.keeper.TheConstants.{MAX_GROUP as max_group, MAX_SETTLED as max_settled};
-ghost use Rattle.fuse_sim.specs.Driving.{HoldsIn, StandsIn, AnswersNoMore, IsFit, commits_in, event_of, is_store, IsStoreFault};
+ghost use Rattle.fuse_keeper.specs.History.{History};
+ghost use Rattle.fuse_keeper.specs.KeeperState.{KeepsHeld};
+ghost use Rattle.fuse_keeper.specs.Group.{entries_of, HasId, IsKept, ids_of};
+ghost use Rattle.fuse_keeper.specs.declared.keeper.TheConstants.{MAX_GROUP as max_group, MAX_SETTLED as max_settled};
+ghost use Rattle.fuse_sim.specs.Driving.{told_in, StandsIn, AnswersNoMore, IsFit, commits_in, event_of, is_store, IsStoreFault};
 ghost use Rattle.fuse_sim.specs.HandedOn.{Ledger};
 ghost use Rattle.fuse_sim.specs.Running.{NoneDiesBefore, Worked, Moved, Stops, Begins, MayBegin};
 
@@ -13,17 +12,17 @@ use crate::event::{DriveFault, Event, Outcome};
 use crate::gathering::{gather, is_before_commit, test_event};
 use crate::performing::work_run;
 use fuse_request::Request;
-use fuse_store::{Restart, StoreFault};
+use fuse_keeper::{Restart, StoreFault};
 use fuse_wire::{Id, Moment};
 use std::alloc::{AllocError, Global};
 
 // Opens the keeper again. A fault leaves none.
 fn reopen<K: Restart>(keeper: &mut Option<K>) -> Result<(), StoreFault>
     requires { IsSome keeper.old }
-    ensures same { OnOk result (IsSomeAnd keeper.new K.is_honest → KeepsHeld (HoldsIn K.holds keeper.old) (HoldsIn K.holds keeper.new)) }
-    ensures honest { OnOk result (IsSomeAnd keeper.new K.is_honest → IsSomeAnd keeper.old K.is_honest) }
-    ensures going { OnOk result (IsSomeAnd keeper.new (λ k. K.has_failed k ≡ false)) }
-    ensures may { AnswersNoMore K.may_answer keeper.old keeper.new }
+    ensures same { OnOk result ((told_in K.told keeper.new).is_honest → KeepsHeld (told_in K.told keeper.old) (told_in K.told keeper.new)) }
+    ensures honest { OnOk result ((told_in K.told keeper.new).is_honest → (told_in K.told keeper.old).is_honest) }
+    ensures going { OnOk result (IsSomeAnd keeper.new (λ k. (K.told k).has_failed ≡ false)) }
+    ensures may { AnswersNoMore K.told keeper.old keeper.new }
     ensures err { OnErr result (keeper.new ≡ None) }
     ensures refused { IfErr result (λ f. IsSomeAnd keeper.old (λ k. K.may_refuse k f)) }
 {
@@ -39,11 +38,11 @@ fn end_group<K: Restart>(
     event: usize,
     pending: &mut Vec<Id>,
 ) -> Result<(), DriveFault>
-    requires { IsSomeAnd keeper.old (λ k. K.has_failed k ≡ false) }
-    ensures same { OnOk result (IsSomeAnd keeper.new K.is_honest → KeepsHeld (HoldsIn K.holds keeper.old) (HoldsIn K.holds keeper.new)) }
-    ensures honest { OnOk result (IsSomeAnd keeper.new K.is_honest → IsSomeAnd keeper.old K.is_honest) }
-    ensures going { OnOk result (IsSomeAnd keeper.new (λ k. K.has_failed k ≡ false)) }
-    ensures may { AnswersNoMore K.may_answer keeper.old keeper.new }
+    requires { IsSomeAnd keeper.old (λ k. (K.told k).has_failed ≡ false) }
+    ensures same { OnOk result ((told_in K.told keeper.new).is_honest → KeepsHeld (told_in K.told keeper.old) (told_in K.told keeper.new)) }
+    ensures honest { OnOk result ((told_in K.told keeper.new).is_honest → (told_in K.told keeper.old).is_honest) }
+    ensures going { OnOk result (IsSomeAnd keeper.new (λ k. (K.told k).has_failed ≡ false)) }
+    ensures may { AnswersNoMore K.told keeper.old keeper.new }
     ensures pending { OnOk result (pending.new.items ≡ (if dies then [] else pending.old.items)) }
     ensures err { OnErr result ((keeper.new ≡ None) × (dies ≡ true)) }
     ensures fault { IfErr result (λ f. (is_store f ≡ true) × (event_of f ≡ event)) }
@@ -91,15 +90,15 @@ fn work_group<K: Restart>(
     requires few { length pending.old.items ≤ max_settled }
     requires named { All HasId (entries_of taken.now) }
     requires kept { All IsKept (entries_of taken.now) }
-    requires going { IsSomeAnd keeper.old (λ k. K.has_failed k ≡ false) }
+    requires going { IsSomeAnd keeper.old (λ k. (K.told k).has_failed ≡ false) }
     requires room { length outcomes.old.items + length run.now ≤ vec_capacity outcomes.old }
     requires places { length pending.old.items + length taken.now ≤ vec_capacity pending.old }
-    ensures ok { OnOk result (Worked (HoldsIn K.holds keeper.old) (HoldsIn K.holds keeper.new) (IsSomeAnd keeper.new K.is_honest) run.now (ids_of pending.old.items) (ids_of pending.new.items) outcomes.old.items outcomes.new.items) }
-    ensures err { OnErr result (IsSomeAnd keeper.new K.is_clean → KeepsHeld (HoldsIn K.holds keeper.old) (HoldsIn K.holds keeper.new)) }
-    ensures fault { IfErr result (λ f. IsSomeAnd keeper.new K.is_clean → (s : State) (h : History) (t : List ℕ) → StandsIn K.holds keeper.old s h t → IsSomeAnd keeper.old (λ k. K.may_answer k f)) }
-    ensures may { AnswersNoMore K.may_answer keeper.old keeper.new }
-    ensures honest { IsSomeAnd keeper.new K.is_honest → IsSomeAnd keeper.old K.is_honest }
-    ensures failed { IsSomeAnd keeper.new (λ k. K.has_failed k ≡ is_err result) }
+    ensures ok { OnOk result (Worked (told_in K.told keeper.old) (told_in K.told keeper.new) run.now (ids_of pending.old.items) (ids_of pending.new.items) outcomes.old.items outcomes.new.items) }
+    ensures err { OnErr result ((told_in K.told keeper.new).is_clean → KeepsHeld (told_in K.told keeper.old) (told_in K.told keeper.new)) }
+    ensures fault { IfErr result (λ f. (told_in K.told keeper.new).is_clean → (s : K.model.State) (h : History) (t : List ℕ) → StandsIn K.told keeper.old s h t → (told_in K.told keeper.old).may_answer f) }
+    ensures may { AnswersNoMore K.told keeper.old keeper.new }
+    ensures honest { (told_in K.told keeper.new).is_honest → (told_in K.told keeper.old).is_honest }
+    ensures failed { IsSomeAnd keeper.new (λ k. (K.told k).has_failed ≡ is_err result) }
 {
     let inner = keeper.as_mut().unwrap();
     work_run(alloc, inner, run, taken, pending, outcomes)
@@ -116,16 +115,16 @@ fn run_group<K: Restart>(
 ) -> Result<usize, DriveFault>
     requires begins { Begins (drop at events.now) }
     requires few { length pending.old.items ≤ max_settled }
-    requires going { IsSomeAnd keeper.old (λ k. K.has_failed k ≡ false) }
+    requires going { IsSomeAnd keeper.old (λ k. (K.told k).has_failed ≡ false) }
     ensures moves { IfOk result (λ n. 0 < n) }
     ensures within { IfOk result (λ n. at + n ≤ length events.now) }
-    ensures ok { IfOk result (λ n. Moved (HoldsIn K.holds keeper.old) (HoldsIn K.holds keeper.new) (IsSomeAnd keeper.new K.is_honest) (record { room = 0; pending = ids_of pending.old.items })
+    ensures ok { IfOk result (λ n. Moved (told_in K.told keeper.old) (told_in K.told keeper.new) (record { room = 0; pending = ids_of pending.old.items })
         (take n (drop at events.now)) (drop (at + n) events.now) (ids_of pending.new.items) outcomes.old.items outcomes.new.items) }
     ensures few { OnOk result (length pending.new.items ≤ max_settled) }
-    ensures going { OnOk result (IsSomeAnd keeper.new (λ k. K.has_failed k ≡ false)) }
-    ensures honest { OnOk result (IsSomeAnd keeper.new K.is_honest → IsSomeAnd keeper.old K.is_honest) }
-    ensures may { AnswersNoMore K.may_answer keeper.old keeper.new }
-    ensures err { IfErr result (λ fault. Stops K.holds K.is_honest K.is_clean K.has_failed K.may_answer K.may_refuse keeper.old keeper.new events.now at fault) }
+    ensures going { OnOk result (IsSomeAnd keeper.new (λ k. (K.told k).has_failed ≡ false)) }
+    ensures honest { OnOk result ((told_in K.told keeper.new).is_honest → (told_in K.told keeper.old).is_honest) }
+    ensures may { AnswersNoMore K.told keeper.old keeper.new }
+    ensures err { IfErr result (λ fault. Stops K.told K.may_refuse keeper.old keeper.new events.now at fault) }
 {
     let Ok(group) = gather(alloc, &events[at..]) else {
         return Err(DriveFault::Memory { event: at });
@@ -153,17 +152,17 @@ pub(crate) fn run_next<K: Restart>(
 ) -> Result<usize, DriveFault>
     requires at { at < length events.now }
     requires few { length pending.old.items ≤ max_settled }
-    requires going { IsSomeAnd keeper.old (λ k. K.has_failed k ≡ false) }
+    requires going { IsSomeAnd keeper.old (λ k. (K.told k).has_failed ≡ false) }
     ensures moves { IfOk result (λ n. 0 < n) }
     ensures within { IfOk result (λ n. at + n ≤ length events.now) }
     ensures ok { IfOk result (λ n. (l : Ledger) → l.pending ≡ ids_of pending.old.items → MayBegin l (drop at events.now)
-        → Moved (HoldsIn K.holds keeper.old) (HoldsIn K.holds keeper.new) (IsSomeAnd keeper.new K.is_honest) l
+        → Moved (told_in K.told keeper.old) (told_in K.told keeper.new) l
         (take n (drop at events.now)) (drop (at + n) events.now) (ids_of pending.new.items) outcomes.old.items outcomes.new.items) }
     ensures few { OnOk result (length pending.new.items ≤ max_settled) }
-    ensures going { OnOk result (IsSomeAnd keeper.new (λ k. K.has_failed k ≡ false)) }
-    ensures honest { OnOk result (IsSomeAnd keeper.new K.is_honest → IsSomeAnd keeper.old K.is_honest) }
-    ensures may { AnswersNoMore K.may_answer keeper.old keeper.new }
-    ensures err { IfErr result (λ fault. Stops K.holds K.is_honest K.is_clean K.has_failed K.may_answer K.may_refuse keeper.old keeper.new events.now at fault) }
+    ensures going { OnOk result (IsSomeAnd keeper.new (λ k. (K.told k).has_failed ≡ false)) }
+    ensures honest { OnOk result ((told_in K.told keeper.new).is_honest → (told_in K.told keeper.old).is_honest) }
+    ensures may { AnswersNoMore K.told keeper.old keeper.new }
+    ensures err { IfErr result (λ fault. Stops K.told K.may_refuse keeper.old keeper.new events.now at fault) }
 {
     let event = &events[at];
     test_event(event, at)?;

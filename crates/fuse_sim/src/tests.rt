@@ -1,7 +1,7 @@
 //! Events with their fates, the kernel's side, and the vectors of both.
 
 use crate::{DriveFault, Event, Fate, Outcome, drive};
-use fuse_store::{Keeper, PlainKeeper, Restart, StoreFault};
+use fuse_keeper::{Keeper, PlainKeeper, Restart, StoreFault};
 use fuse_wire::{ByteList, Moment};
 use messages::*;
 use std::alloc::{AllocError, Global};

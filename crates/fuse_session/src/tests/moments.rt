@@ -3,7 +3,7 @@
 use super::begun;
 use super::messages::{Ask, INIT_AGREED, asks};
 use crate::{Clock, MemoryPort, serve};
-use fuse_store::{Keeper, PlainKeeper};
+use fuse_keeper::{Keeper, PlainKeeper};
 use fuse_wire::Moment;
 use std::alloc::Global;
 use std::test::*;

@@ -5,7 +5,7 @@ use super::*;
 use fuse_answer::Answer;
 use fuse_init::Settings;
 use fuse_request::Request;
-use fuse_store::{Done, StoreCounts};
+use fuse_keeper::{Done, StoreCounts};
 use fuse_wire::Id;
 
 // A keeper that answers faults, and that stands for nothing.

@@ -3,7 +3,7 @@ use super::*;
 use fuse_answer::Answer;
 use fuse_init::Settings;
 use fuse_request::Request;
-use fuse_store::{Done, StoreCounts};
+use fuse_keeper::{Done, StoreCounts};
 use fuse_wire::{Id, UNIQUE_RESEND};
 
 // A keeper of lists that can't be opened again.
@@ -14,7 +14,7 @@ struct Closed {
 
 impl Keeper for Closed {
     ghost use Rattle.std.proofs.Common.{sym, ◌∙◌};
-    ghost use Rattle.fuse_store.specs.PlainKeeper.{plain_holds, plain_failed, plain_may_answer};
+    ghost use Rattle.fuse_keeper.specs.PlainKeeper.{plain_holds, plain_failed, plain_may_answer};
 
     ghost holds = { λ k. plain_holds k.inner };
 

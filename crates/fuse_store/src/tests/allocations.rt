@@ -1,7 +1,7 @@
 //! Row `each-allocation` over a keeper: run with each allocation refused in turn.
 ghost use Rattle.std.specs.Prelude.{◌≡◌, ◌≤◌, true, length, All};
-ghost use Rattle.fuse_store.specs.Group.{entry_of, HasId, IsKept as IsKeptEntry};
-ghost use Rattle.fuse_store.specs.declared.keeper.TheConstants.{MAX_GROUP as MOST_OF_GROUP};
+ghost use Rattle.fuse_keeper.specs.Group.{entry_of, HasId, IsKept as IsKeptEntry};
+ghost use Rattle.fuse_keeper.specs.declared.keeper.TheConstants.{MAX_GROUP as MOST_OF_GROUP};
 
 use super::contents::{read, write};
 use super::handles::{open, release};

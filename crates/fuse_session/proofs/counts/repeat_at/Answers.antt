@@ -1,5 +1,5 @@
 use Rattle.std.proofs.Common.{◌∙◌, ap, sym}
-use Rattle.fuse_store.specs.declared.keeper.Done.{Done}
+use Rattle.fuse_keeper.specs.declared.keeper.Done.{Done}
 use Rattle.fuse_session.proofs.Counted.{repeat_here, repeat_none}
 use Rattle.fuse_session.proofs.counts.repeat_at.Goals as goal
 

@@ -1,6 +1,6 @@
 use Rattle.std.proofs.Common.{sym, subst, refl, ap, arith, ◌∙◌, ◌+◌, All, length, length-append, take, false, ◌∷◌, []}
 use Rattle.std.proofs.lemmas.List.Elements.{All-nil}
-use Rattle.fuse_store.specs.Group.{HasId, IsKept, entries_of}
+use Rattle.fuse_keeper.specs.Group.{HasId, IsKept, entries_of}
 use Rattle.fuse_session.specs.Group.{Gathers}
 use Rattle.fuse_session.proofs.Gathering.{none_yet_gathered, gathers_none, gathers_some, named_some, kept_some}
 use Rattle.fuse_session.proofs.gather.gather.Goals as goal

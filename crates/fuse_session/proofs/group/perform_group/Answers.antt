@@ -1,9 +1,8 @@
 use Rattle.std.proofs.Common.{sym, ap, subst, arith, length}
 use Rattle.std.proofs.lemmas.List.{length-map}
-use Rattle.fuse_store.specs.History.{Includes}
-use Rattle.fuse_store.specs.Stands.{Records, OthersStay}
-use Rattle.fuse_store.specs.Group.{entry_of, entries_of, ids_of}
-use Rattle.fuse_tree.specs.Rows.{Rows}
+use Rattle.fuse_keeper.specs.History.{Includes}
+use Rattle.fuse_keeper.specs.Stands.{Records, OthersStay}
+use Rattle.fuse_keeper.specs.Group.{entry_of, entries_of, ids_of}
 use Rattle.fuse_session.proofs.Handing.{hands_more, few_performed}
 use Rattle.fuse_session.proofs.group.perform_group.Goals as goal
 
@@ -13,9 +12,9 @@ returns-in-Ok-clause-ok g c = λ honest s h t so within un. c.in-Ok.ensures.ok h
 pub returns-in-Ok-clause-more : goal.returns-in-Ok-clause-more
 returns-in-Ok-clause-more g c = λ honest before h.
     let group = c.args.group.now in
-    hands_more before (g.K.Keeper.holds c.args.keeper.now) (g.K.Keeper.holds c.perform.new.self) (ids_of c.args.pending.now.items) (ids_of c.clear.new.self.items) (entries_of group)
+    hands_more g.K.Keeper.model before (g.K.Keeper.told c.args.keeper.now) (g.K.Keeper.told c.perform.new.self) (ids_of c.args.pending.now.items) (ids_of c.clear.new.self.items) (entries_of group)
     (omega (arith, length-map group entry_of, c.requires.short))
-    (λ (rows : Rows) (records : Records) held.
+    (λ rows (records : Records) held.
     let o = c.in-Ok.ensures.others honest rows records held in
     (o.0, o.1, o.2, subst (λ x. OthersStay records (ids_of x) (entries_of group) o.1) c.as_slice.ensures.value o.3))
     h
@@ -23,9 +22,9 @@ returns-in-Ok-clause-more g c = λ honest before h.
 pub returns-in-Ok-clause-gone : goal.returns-in-Ok-clause-gone
 returns-in-Ok-clause-gone g c = λ honest t other h.
     let group = c.args.group.now in
-    few_performed (g.K.Keeper.holds c.args.keeper.now) (g.K.Keeper.holds c.perform.new.self) t (ids_of c.args.pending.now.items) (ids_of c.clear.new.self.items) (entries_of group)
+    few_performed g.K.Keeper.model (g.K.Keeper.told c.args.keeper.now) (g.K.Keeper.told c.perform.new.self) t (ids_of c.args.pending.now.items) (ids_of c.clear.new.self.items) (entries_of group)
     (omega (arith, ap (λ xs. length (ids_of xs)) c.clear.ensures.items))
-    (λ (rows : Rows) (records : Records) held.
+    (λ rows (records : Records) held.
     let o = c.in-Ok.ensures.others honest rows records held in
     (o.0, o.1, o.2, subst (λ x. OthersStay records (ids_of x) (entries_of group) o.1) c.as_slice.ensures.value o.3))
     other h

@@ -1,5 +1,5 @@
 use Rattle.std.proofs.Common.{◌≤◌, ◌+◌, length, take, drop}
-use Rattle.fuse_store.specs.Group.{ids_of}
+use Rattle.fuse_keeper.specs.Group.{ids_of}
 use Rattle.fuse_session.specs.Group.{wires, answers_in, AreEnough, SentFirst}
 use Rattle.fuse_session.proofs.sending.send_answers.Given as goal
 

@@ -3,7 +3,7 @@ use Rattle.std.proofs.lemmas.List.{map-append}
 use Rattle.fuse_wire.specs.Ids.{id_of}
 use Rattle.fuse_wire.specs.declared.id.Id.{Id}
 use Rattle.fuse_answer.specs.Wire.{wire}
-use Rattle.fuse_store.specs.Group.{ids_of}
+use Rattle.fuse_keeper.specs.Group.{ids_of}
 use Rattle.fuse_session.specs.Port.{SentWhole, tells_gone}
 use Rattle.fuse_session.proofs.Sends.{kept_next}
 use Rattle.fuse_session.proofs.sending.send_kept.Goals as goal

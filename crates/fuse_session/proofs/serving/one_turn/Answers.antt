@@ -1,7 +1,7 @@
 use Rattle.std.proofs.Common.{◌∙◌, ◌^◌, ap, arith, length, sym, subst, All}
 use Rattle.fuse_request.specs.Stream.{IsMessage, joined}
-use Rattle.fuse_store.specs.Stands.{Records}
-use Rattle.fuse_store.specs.Group.{ids_of}
+use Rattle.fuse_keeper.specs.Stands.{Records}
+use Rattle.fuse_keeper.specs.Group.{ids_of}
 use Rattle.fuse_session.specs.Counting.{IsBelow}
 use Rattle.fuse_session.specs.Serving.{Whole}
 use Rattle.fuse_session.proofs.Counted.{below_more}
@@ -14,10 +14,10 @@ use Rattle.fuse_session.proofs.serving.one_turn.Goals as goal
 pub returns-in-Err-clause-life : goal.returns-in-Err-clause-life
 returns-in-Err-clause-life g c =
     let k = c.args.keeper.now in
-    life_unheard (g.K.Keeper.holds k) _ _ (g.K.Keeper.leaves_whole k) (g.K.Keeper.may_leave k) _ _ _ (ids_of c.args.pending.now.items) c.args.framer.now c.in-Err.ended _ _ _ (unheard_store c.in-Err.ended _ _ c.args.framer.now c.in-Err.ensures.err).0 c.in-Err.ensures.err c.in-Err.ensures.hearing
+    life_unheard g.K.Keeper.model (g.K.Keeper.told k) _ _ _ (ids_of c.args.pending.now.items) c.args.framer.now c.in-Err.ended _ _ _ (unheard_store c.in-Err.ended _ _ c.args.framer.now c.in-Err.ensures.err).0 c.in-Err.ensures.err c.in-Err.ensures.hearing
 
 pub returns-in-Err-clause-ends : goal.returns-in-Err-clause-ends
-returns-in-Err-clause-ends g c = ends_unheard (g.K.Keeper.holds c.args.keeper.now) _ _ _ _ (ids_of c.args.pending.now.items) c.args.framer.now c.in-Err.ended 0 c.requires.opened c.in-Err.ensures.err c.in-Err.ensures.hearing
+returns-in-Err-clause-ends g c = ends_unheard g.K.Keeper.model (g.K.Keeper.told c.args.keeper.now) _ _ _ (ids_of c.args.pending.now.items) c.args.framer.now c.in-Err.ended 0 c.requires.opened c.in-Err.ensures.err c.in-Err.ensures.hearing
 
 pub returns-in-Err-clause-failed : goal.returns-in-Err-clause-failed
 returns-in-Err-clause-failed g c = (unheard_store c.in-Err.ended _ _ c.args.framer.now c.in-Err.ensures.err).1
@@ -29,7 +29,7 @@ pub returns-in-Err-clause-not_turns : goal.returns-in-Err-clause-not_turns
 returns-in-Err-clause-not_turns g c = (unheard_store c.in-Err.ended _ _ c.args.framer.now c.in-Err.ensures.err).2
 
 pub returns-in-Err-clause-at_most : goal.returns-in-Err-clause-at_most
-returns-in-Err-clause-at_most g c = λ _ _ (before : Records) h. at_most before (g.K.Keeper.holds c.args.keeper.now) _ h
+returns-in-Err-clause-at_most g c = λ _ _ (before : Records) h. at_most g.K.Keeper.model before (g.K.Keeper.told c.args.keeper.now) _ h
 
 -- ---- what waits is worked off
 
@@ -56,13 +56,13 @@ pub returns-in-Err-work_off-clause-life : goal.returns-in-Err-work_off-clause-li
 returns-in-Err-work_off-clause-life g c =
     let k = c.args.keeper.now in
     let k' = c.work_off.new.keeper in
-    life_heard c.histories_grow.ensures (g.K.Keeper.holds k) (g.K.Keeper.holds k') _ _ (g.K.Keeper.leaves_whole k) (g.K.Keeper.leaves_whole k') (g.K.Keeper.may_leave k) (g.K.Keeper.may_leave k') (g.C.Clock.may_answer c.args.clock.now) _ _ _ (ids_of c.args.pending.now.items)
+    life_heard g.K.Keeper.model c.histories_grow.ensures (g.K.Keeper.told k) (g.K.Keeper.told k') c.in-Err-work_off.ensures.honest (g.C.Clock.may_answer c.args.clock.now) _ _ _ (ids_of c.args.pending.now.items)
     c.args.framer.now c.hear.new.framer c.in-Ok.waiting.messages.items c.as_slice-slice.result.now c.in-Ok.waiting.fault _ _ _ _ _ _
-    c.in-Ok.ensures.ok c.in-Ok.ensures.hearing c.as_slice-slice.ensures.value c.ended_of.ensures.store c.ended_of.ensures.memory c.in-Err-work_off.ensures.err (stop_may_end (g.K.Keeper.may_answer k) c.in-Err-work_off.stop c.ended_of.result c.ended_of.ensures.is) c.in-Err-work_off.ensures.quiet (g.met.K.Keeper.clean_is_honest k')
+    c.in-Ok.ensures.ok c.in-Ok.ensures.hearing c.as_slice-slice.ensures.value c.ended_of.ensures.store c.ended_of.ensures.memory c.in-Err-work_off.ensures.err (stop_may_end (g.K.Keeper.told k).may_answer c.in-Err-work_off.stop c.ended_of.result c.ended_of.ensures.is) c.in-Err-work_off.ensures.quiet (g.met.K.Keeper.sound k').clean_is_honest
 
 pub returns-in-Err-work_off-clause-ends : goal.returns-in-Err-work_off-clause-ends
 returns-in-Err-work_off-clause-ends g c =
-    fault_ends _ _ _ _ (g.P.Port.told c.args.port.now) (g.P.Port.told c.hear.new.port) (g.P.Port.told c.work_off.new.port) _ _ _ _ c.ended_of.result _ c.ended_of.ensures.fault (c.in-Err-work_off.ensures.quiet.receive_failures ∙ c.in-Ok.ensures.ok.receive_failures)
+    fault_ends g.K.Keeper.model _ _ _ (g.P.Port.told c.args.port.now) (g.P.Port.told c.hear.new.port) (g.P.Port.told c.work_off.new.port) _ _ _ _ c.ended_of.result _ c.ended_of.ensures.fault (c.in-Err-work_off.ensures.quiet.receive_failures ∙ c.in-Ok.ensures.ok.receive_failures)
 
 pub returns-in-Err-work_off-clause-failed : goal.returns-in-Err-work_off-clause-failed
 returns-in-Err-work_off-clause-failed g c = λ is. omega (arith, c.in-Err-work_off.ensures.failed (c.ended_of.ensures.port is), c.in-Ok.ensures.ok.failures)
@@ -83,9 +83,9 @@ returns-in-Ok-finish-clause-ok g c =
     let k = c.args.keeper.now in
     let k' = c.work_off.new.keeper in
     let fin = c.in-Ok-finish.ensures.ok in
-    subst (λ x. Whole (g.K.Keeper.holds k) (g.K.Keeper.holds k') (g.K.Keeper.is_honest k') (g.C.Clock.may_answer c.args.clock.now) (g.P.Port.told c.args.port.now) (g.P.Port.told c.work_off.new.port)
+    subst (λ x. Whole (g.K.Keeper.told k) (g.K.Keeper.told k') (g.C.Clock.may_answer c.args.clock.now) (g.P.Port.told c.args.port.now) (g.P.Port.told c.work_off.new.port)
     (ids_of c.args.pending.now.items) (ids_of c.work_off.new.pending.items) c.args.framer.now.bytes c.hear.new.framer.bytes c.args.framer.now.at c.hear.new.framer.at x) (sym fin.0)
-    (whole_heard c.histories_grow.ensures (g.K.Keeper.holds k) (g.K.Keeper.holds k') _ _ _ _ _ (ids_of c.args.pending.now.items) (ids_of c.work_off.new.pending.items) c.args.framer.now c.hear.new.framer c.in-Ok.waiting.messages.items c.as_slice-slice.result.now c.in-Ok.waiting.fault _ _
+    (whole_heard g.K.Keeper.model c.histories_grow.ensures (g.K.Keeper.told k) (g.K.Keeper.told k') c.in-Ok-work_off.ensures.honest _ _ _ _ (ids_of c.args.pending.now.items) (ids_of c.work_off.new.pending.items) c.args.framer.now c.hear.new.framer c.in-Ok.waiting.messages.items c.as_slice-slice.result.now c.in-Ok.waiting.fault _ _
     c.in-Ok-work_off.work.rest c.in-Ok-work_off.work.counts c.in-Ok.ensures.ok c.in-Ok.ensures.hearing c.as_slice-slice.ensures.value fin.1 c.in-Ok-work_off.ensures.ok c.in-Ok-work_off.ensures.quiet)
 
 pub returns-in-Ok-finish-clause-opened : goal.returns-in-Ok-finish-clause-opened
@@ -114,16 +114,16 @@ pub returns-clause-life : goal.returns-clause-life
 returns-clause-life g c =
     let k = c.args.keeper.now in
     let k' = c.work_off.new.keeper in
-    life_worked c.histories_grow.ensures (g.K.Keeper.holds k) (g.K.Keeper.holds k') _ _ (g.K.Keeper.leaves_whole k) (g.K.Keeper.leaves_whole k') (g.K.Keeper.may_leave k) (g.K.Keeper.may_leave k') _ _ _ _ (ids_of c.args.pending.now.items) (ids_of c.work_off.new.pending.items)
+    life_worked g.K.Keeper.model c.histories_grow.ensures (g.K.Keeper.told k) (g.K.Keeper.told k') c.in-Ok-work_off.ensures.honest _ _ _ _ (ids_of c.args.pending.now.items) (ids_of c.work_off.new.pending.items)
     c.args.framer.now c.hear.new.framer c.in-Ok.waiting.messages.items c.as_slice-slice.result.now c.in-Ok.waiting.fault _ _ c.in-Ok-work_off.work.rest c.in-Ok-work_off.work.counts _ _ _ (finished_store c.in-Err-finish.served.ended _ _ _ c.in-Err-finish.ensures.err.1).0
-    c.in-Ok.ensures.ok c.in-Ok.ensures.hearing c.as_slice-slice.ensures.value c.in-Ok-work_off.ensures.ok c.in-Ok-work_off.ensures.quiet (g.met.K.Keeper.clean_is_honest k') c.in-Ok-work_off.ensures.firm
+    c.in-Ok.ensures.ok c.in-Ok.ensures.hearing c.as_slice-slice.ensures.value c.in-Ok-work_off.ensures.ok c.in-Ok-work_off.ensures.quiet (g.met.K.Keeper.sound k').clean_is_honest c.in-Ok-work_off.ensures.firm
 
 pub returns-clause-ends : goal.returns-clause-ends
 returns-clause-ends g c =
     let k = c.args.keeper.now in
     let k' = c.work_off.new.keeper in
     let fin = c.in-Err-finish.ensures.err in
-    ends_finished c.histories_grow.ensures (g.K.Keeper.holds k) (g.K.Keeper.holds k') _ _ _ _ _ (ids_of c.args.pending.now.items) (ids_of c.work_off.new.pending.items)
+    ends_finished g.K.Keeper.model c.histories_grow.ensures (g.K.Keeper.told k) (g.K.Keeper.told k') c.in-Ok-work_off.ensures.honest _ _ _ _ (ids_of c.args.pending.now.items) (ids_of c.work_off.new.pending.items)
     c.args.framer.now c.hear.new.framer c.in-Ok.waiting.messages.items c.as_slice-slice.result.now c.in-Ok.waiting.fault _ c.in-Ok-work_off.work.place c.in-Ok-work_off.work.rest c.in-Ok-work_off.work.counts c.in-Err-finish.served.counts 0 c.in-Err-finish.served.ended
     fin.1 fin.0 c.in-Ok.ensures.ok c.in-Ok.ensures.hearing c.as_slice-slice.ensures.value (omega (arith, c.fed.ensures, c.held.ensures)) c.in-Ok-work_off.ensures.ok c.in-Ok-work_off.ensures.quiet
 
@@ -138,7 +138,7 @@ returns-clause-counted g c =
 pub returns-clause-at_most : goal.returns-clause-at_most
 returns-clause-at_most g c = λ confirms clean (before : Records) h.
     let k' = c.work_off.new.keeper in
-    at_most before (g.K.Keeper.holds k') _ (c.in-Ok-work_off.ensures.more (c.in-Ok.ensures.hearing.confirms ∙ confirms) (g.met.K.Keeper.clean_is_honest k' clean) before h)
+    at_most g.K.Keeper.model before (g.K.Keeper.told k') _ (c.in-Ok-work_off.ensures.more (c.in-Ok.ensures.hearing.confirms ∙ confirms) ((g.met.K.Keeper.sound k').clean_is_honest clean) before h)
 
 pub returns-clause-failed : goal.returns-clause-failed
 returns-clause-failed g c = λ is. absurd ((finished_store c.in-Err-finish.served.ended _ _ _ c.in-Err-finish.ensures.err.1).1 is)

@@ -1,6 +1,6 @@
 use Rattle.std.proofs.Common.{◌∙◌, ◌+◌, ◌*◌, ◌^◌, [], ap, arith, length, refl, sym, subst}
-use Rattle.fuse_store.specs.Stands.{Records}
-use Rattle.fuse_store.specs.Group.{ids_of}
+use Rattle.fuse_keeper.specs.Stands.{Records}
+use Rattle.fuse_keeper.specs.Group.{ids_of}
 use Rattle.fuse_request.specs.Framing.{fed_of}
 use Rattle.fuse_session.specs.declared.ended.Ended.TheVariants.{Memory}
 use Rattle.fuse_session.specs.Settling.{HandsOn}
@@ -14,30 +14,30 @@ use Rattle.fuse_session.proofs.serving.serve.Goals as goal
 pub returns-in_default-clause-life : goal.returns-in_default-clause-life
 returns-in_default-clause-life g c =
     let k = c.args.keeper.now in
-    life_none (g.K.Keeper.holds k) _ _ (g.K.Keeper.leaves_whole k) (g.K.Keeper.may_leave k) _ (g.P.Port.told c.args.port.now) [] [] _ _ _ refl
+    life_none g.K.Keeper.model (g.K.Keeper.told k) _ (g.P.Port.told c.args.port.now) [] [] _ _ _ refl
 
 pub returns-in_default-clause-exactly : goal.returns-in_default-clause-exactly
 returns-in_default-clause-exactly g c =
     let k = c.args.keeper.now in
-    exact_at (g.K.Keeper.holds k) (g.K.Keeper.holds k) _ _ _ _ (g.K.Keeper.may_leave k) (g.K.Keeper.may_answer k) _ _ _ [] [] Memory (returns-in_default-clause-life g c)
+    exact_at g.K.Keeper.model (g.K.Keeper.told k) (g.K.Keeper.told k) _ _ _ [] [] Memory (returns-in_default-clause-life g c)
 
 pub returns-in_default-clause-at_most : goal.returns-in_default-clause-at_most
-returns-in_default-clause-at_most g c = λ _ _ rows (records : Records) held. at_most records (g.K.Keeper.holds c.args.keeper.now) [] (hands_start (g.K.Keeper.holds c.args.keeper.now) [] rows records held)
+returns-in_default-clause-at_most g c = λ _ _ rows (records : Records) held. at_most g.K.Keeper.model records (g.K.Keeper.told c.args.keeper.now) [] (hands_start g.K.Keeper.model (g.K.Keeper.told c.args.keeper.now) [] rows records held)
 
 pub returns-in_default-clause-settled : goal.returns-in_default-clause-settled
 returns-in_default-clause-settled g c = λ clean.
     let k = c.args.keeper.now in
-    few_settled (g.K.Keeper.holds k) (g.K.Keeper.holds k) _ _ _ _ (g.K.Keeper.may_leave k) _ _ _ _ _ _ (g.met.K.Keeper.clean_is_honest k) clean (returns-in_default-clause-life g c)
+    few_settled g.K.Keeper.model (g.K.Keeper.told k) (g.K.Keeper.told k) _ _ _ _ _ _ (g.met.K.Keeper.sound k).clean_is_honest clean (returns-in_default-clause-life g c)
 
 pub loop-turn-init : goal.loop-turn-init
 loop-turn-init g c = record {
-  whole = whole_start (g.K.Keeper.holds c.args.keeper.now) _ _ (g.P.Port.told c.args.port.now) (ids_of c.new-pending.result.items) c.new-framer.result (ap ids_of c.new-pending.ensures.items) c.new-framer.ensures;
+  whole = whole_start g.K.Keeper.model (g.K.Keeper.told c.args.keeper.now) _ (g.P.Port.told c.args.port.now) (ids_of c.new-pending.result.items) c.new-framer.result (ap ids_of c.new-pending.ensures.items) c.new-framer.ensures;
   ready = ready_new c.new-framer.result c.new-framer.ensures;
   below = record { messages = omega arith; kept = omega arith; repeated = omega arith; bare = omega arith; silent = omega arith; interrupts = omega arith };
   few = omega (arith, ap length c.new-pending.ensures.items);
   going = c.requires.going;
   firm = λ _ firm. firm;
-  more = λ _ _ (before : Records) h. subst (λ xs. HandsOn before (g.K.Keeper.holds c.args.keeper.now) (ids_of xs)) (sym c.new-pending.ensures.items) h;
+  more = λ _ _ (before : Records) h. subst (λ xs. HandsOn before (g.K.Keeper.told c.args.keeper.now) (ids_of xs)) (sym c.new-pending.ensures.items) h;
   receives = omega arith;
   failures = refl;
   receive_failures = refl;
@@ -56,7 +56,7 @@ loop-turn-preserved g c =
     let e = c.in-Ok-one_turn.ensures in
     let k' = c.one_turn.new.keeper in
     record {
-      whole = whole_step c.histories_grow.ensures c.cut_joins.ensures (g.K.Keeper.holds c.args.keeper.now) (g.K.Keeper.holds c.loop-turn.keeper) (g.K.Keeper.holds k') _ _ _ _ _ _ _ [] (ids_of c.loop-turn.pending.items) (ids_of c.one_turn.new.pending.items) [] _ _ 0 _ _ c.loop-turn.counts c.in-Ok-one_turn.more c.sum_of-counts.result
+      whole = whole_step g.K.Keeper.model c.histories_grow.ensures c.cut_joins.ensures (g.K.Keeper.told c.args.keeper.now) (g.K.Keeper.told c.loop-turn.keeper) (g.K.Keeper.told k') _ _ _ _ _ [] (ids_of c.loop-turn.pending.items) (ids_of c.one_turn.new.pending.items) [] _ _ 0 _ _ c.loop-turn.counts c.in-Ok-one_turn.more c.sum_of-counts.result
           c.sum_of-counts.ensures inv.whole e.ok e.honest inv.same;
       ready = e.opened;
       below = subst (λ x. IsBelow x ((c.loop-turn.turn + 1) * 2 ^ 20)) (sym c.sum_of-counts.ensures) (below_more _ (c.loop-turn.turn * 2 ^ 20 + 2 ^ 20) _ (omega arith) (plus_below c.loop-turn.counts c.in-Ok-one_turn.more (c.loop-turn.turn * 2 ^ 20) (2 ^ 20) inv.below e.below));
@@ -80,7 +80,7 @@ pub returns-in-Err-clause-ends : goal.returns-in-Err-clause-ends
 returns-in-Err-clause-ends g c =
     let inv = c.loop-turn.invariant in
     let e = c.in-Err.ensures in
-    ends_step c.histories_grow.ensures c.cut_joins.ensures (g.K.Keeper.holds c.args.keeper.now) (g.K.Keeper.holds c.loop-turn.keeper) (g.K.Keeper.holds c.one_turn.new.keeper) _ _ _ _ _ _ _ [] (ids_of c.loop-turn.pending.items) [] _ 0 _ 0 c.args.turns c.in-Err.served.ended c.loop-turn.counts c.in-Err.served.counts c.sum_of-sum.result
+    ends_step g.K.Keeper.model c.histories_grow.ensures c.cut_joins.ensures (g.K.Keeper.told c.args.keeper.now) (g.K.Keeper.told c.loop-turn.keeper) (g.K.Keeper.told c.one_turn.new.keeper) _ _ _ _ _ [] (ids_of c.loop-turn.pending.items) [] _ 0 _ 0 c.args.turns c.in-Err.served.ended c.loop-turn.counts c.in-Err.served.counts c.sum_of-sum.result
     c.sum_of-sum.ensures inv.whole e.ends e.not_turns inv.receive_failures inv.has_ended e.honest inv.same
 
 pub returns-in-Err-clause-life : goal.returns-in-Err-clause-life
@@ -90,26 +90,26 @@ returns-in-Err-clause-life g c =
     let k = c.args.keeper.now in
     let m = c.loop-turn.keeper in
     let k' = c.one_turn.new.keeper in
-    life_more c.histories_grow.ensures c.cut_joins.ensures (g.K.Keeper.holds k) (g.K.Keeper.holds m) (g.K.Keeper.holds k') _ _ _ (g.K.Keeper.leaves_whole k) (g.K.Keeper.leaves_whole m) (g.K.Keeper.leaves_whole k') (g.K.Keeper.may_leave k) (g.K.Keeper.may_leave m) (g.K.Keeper.may_leave k') _ _ _ _ _ []
-    (ids_of c.loop-turn.pending.items) [] _ 0 _ c.loop-turn.counts _ _ _ _ inv.whole e.life (may_end (g.K.Keeper.may_answer k) (g.K.Keeper.may_answer m) c.in-Err.served.ended inv.may) (g.met.K.Keeper.clean_is_honest k') e.honest inv.firm inv.same
+    life_more g.K.Keeper.model c.histories_grow.ensures c.cut_joins.ensures (g.K.Keeper.told k) (g.K.Keeper.told m) (g.K.Keeper.told k') _ _ _ _ _ []
+    (ids_of c.loop-turn.pending.items) [] _ 0 _ c.loop-turn.counts _ _ _ _ inv.whole e.life (may_end (g.K.Keeper.told k).may_answer (g.K.Keeper.told m).may_answer c.in-Err.served.ended inv.may) (g.met.K.Keeper.sound k').clean_is_honest e.honest inv.firm inv.same
 
 pub returns-in-Err-clause-exactly : goal.returns-in-Err-clause-exactly
 returns-in-Err-clause-exactly g c =
     let k = c.args.keeper.now in
     let k' = c.one_turn.new.keeper in
-    exact_at (g.K.Keeper.holds k) (g.K.Keeper.holds k') _ _ _ _ (g.K.Keeper.may_leave k') (g.K.Keeper.may_answer k) _ _ _ [] [] c.in-Err.served.ended (returns-in-Err-clause-life g c)
+    exact_at g.K.Keeper.model (g.K.Keeper.told k) (g.K.Keeper.told k') _ _ _ [] [] c.in-Err.served.ended (returns-in-Err-clause-life g c)
 
 pub returns-in-Err-clause-at_most : goal.returns-in-Err-clause-at_most
 returns-in-Err-clause-at_most g c = λ confirms clean rows (records : Records) held.
     let inv = c.loop-turn.invariant in
     let k' = c.one_turn.new.keeper in
-    c.in-Err.ensures.at_most (inv.confirms ∙ confirms) clean records (inv.more confirms (c.in-Err.ensures.honest (g.met.K.Keeper.clean_is_honest k' clean)) records (hands_start (g.K.Keeper.holds c.args.keeper.now) [] rows records held))
+    c.in-Err.ensures.at_most (inv.confirms ∙ confirms) clean records (inv.more confirms (c.in-Err.ensures.honest ((g.met.K.Keeper.sound k').clean_is_honest clean)) records (hands_start g.K.Keeper.model (g.K.Keeper.told c.args.keeper.now) [] rows records held))
 
 pub returns-in-Err-clause-settled : goal.returns-in-Err-clause-settled
 returns-in-Err-clause-settled g c = λ clean.
     let k = c.args.keeper.now in
     let k' = c.one_turn.new.keeper in
-    few_settled (g.K.Keeper.holds k) (g.K.Keeper.holds k') _ _ _ _ (g.K.Keeper.may_leave k') _ _ _ _ _ _ (g.met.K.Keeper.clean_is_honest k') clean (returns-in-Err-clause-life g c)
+    few_settled g.K.Keeper.model (g.K.Keeper.told k) (g.K.Keeper.told k') _ _ _ _ _ _ (g.met.K.Keeper.sound k').clean_is_honest clean (returns-in-Err-clause-life g c)
 
 pub returns-in-Err-clause-failed : goal.returns-in-Err-clause-failed
 returns-in-Err-clause-failed g c = λ is. omega (arith, c.in-Err.ensures.failed is, c.loop-turn.invariant.failures)
@@ -124,17 +124,17 @@ returns-clause-life g c =
     let inv = c.loop-turn.invariant in
     let k = c.args.keeper.now in
     let k' = c.loop-turn.keeper in
-    whole_life (g.K.Keeper.holds k) (g.K.Keeper.holds k') _ _ (g.K.Keeper.leaves_whole k) (g.K.Keeper.leaves_whole k') (g.K.Keeper.may_leave k) (g.K.Keeper.may_leave k') _ _ _ [] (ids_of c.loop-turn.pending.items) [] _ 0 _ c.loop-turn.counts _ _ _ refl
-    inv.whole (g.met.K.Keeper.clean_is_honest k') inv.firm
+    whole_life g.K.Keeper.model (g.K.Keeper.told k) (g.K.Keeper.told k') _ _ _ [] (ids_of c.loop-turn.pending.items) [] _ 0 _ c.loop-turn.counts _ _ _ refl
+    inv.whole (g.met.K.Keeper.sound k').clean_is_honest inv.firm
 
 pub returns-clause-settled : goal.returns-clause-settled
 returns-clause-settled g c = λ clean.
     let k = c.args.keeper.now in
     let k' = c.loop-turn.keeper in
-    few_settled (g.K.Keeper.holds k) (g.K.Keeper.holds k') _ _ _ _ (g.K.Keeper.may_leave k') _ _ _ _ _ _ (g.met.K.Keeper.clean_is_honest k') clean (returns-clause-life g c)
+    few_settled g.K.Keeper.model (g.K.Keeper.told k) (g.K.Keeper.told k') _ _ _ _ _ _ (g.met.K.Keeper.sound k').clean_is_honest clean (returns-clause-life g c)
 
 pub returns-clause-at_most : goal.returns-clause-at_most
 returns-clause-at_most g c = λ confirms clean rows (records : Records) held.
     let inv = c.loop-turn.invariant in
     let k' = c.loop-turn.keeper in
-    at_most records (g.K.Keeper.holds k') (ids_of c.loop-turn.pending.items) (inv.more confirms (g.met.K.Keeper.clean_is_honest k' clean) records (hands_start (g.K.Keeper.holds c.args.keeper.now) [] rows records held))
+    at_most g.K.Keeper.model records (g.K.Keeper.told k') (ids_of c.loop-turn.pending.items) (inv.more confirms ((g.met.K.Keeper.sound k').clean_is_honest clean) records (hands_start g.K.Keeper.model (g.K.Keeper.told c.args.keeper.now) [] rows records held))

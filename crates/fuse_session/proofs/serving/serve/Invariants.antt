@@ -1,9 +1,10 @@
 use Rattle.std.proofs.Common.{◌≡◌, ◌≤◌, ◌+◌, ◌*◌, ◌^◌, [], length, true, false}
 use Rattle.fuse_wire.specs.declared.moment.Moment.{Moment}
 use Rattle.fuse_request.specs.Framing.{fed_of}
-use Rattle.fuse_store.specs.declared.fault.StoreFault.{StoreFault}
-use Rattle.fuse_store.specs.Stands.{Records, IsFirm}
-use Rattle.fuse_store.specs.Group.{ids_of}
+use Rattle.fuse_keeper.specs.declared.fault.StoreFault.{StoreFault}
+use Rattle.fuse_keeper.specs.Stands.{Records}
+use Rattle.fuse_keeper.specs.KeeperState.{IsFirm}
+use Rattle.fuse_keeper.specs.Group.{ids_of}
 use Rattle.fuse_session.specs.Settling.{HandsOn}
 use Rattle.fuse_session.specs.Counting.{IsBelow}
 use Rattle.fuse_session.specs.Receiving.{IsOpen}
@@ -12,15 +13,15 @@ use Rattle.fuse_session.proofs.serving.serve.Given as goal
 
 abbrev pub invariant-loop-turn : goal.invariant-loop-turn
 invariant-loop-turn g l = record {
-  whole : Whole (g.K.Keeper.holds l.fn.keeper) (g.K.Keeper.holds l.keeper) (g.K.Keeper.is_honest l.keeper) (g.C.Clock.may_answer l.fn.clock) (g.P.Port.told l.fn.port) (g.P.Port.told l.port)
+  whole : Whole (g.K.Keeper.told l.fn.keeper) (g.K.Keeper.told l.keeper) (g.C.Clock.may_answer l.fn.clock) (g.P.Port.told l.fn.port) (g.P.Port.told l.port)
       [] (ids_of l.pending.items) [] l.framer.bytes 0 l.framer.at l.counts;
   ready : IsOpen l.framer;
   below : IsBelow l.counts (l.turn * 2 ^ 20);
   few : length l.pending.items ≤ 16;
-  going : g.K.Keeper.has_failed l.keeper ≡ false;
-  firm : g.K.Keeper.is_honest l.keeper → IsFirm (g.K.Keeper.holds l.fn.keeper) (g.K.Keeper.leaves_whole l.fn.keeper) (g.K.Keeper.may_leave l.fn.keeper)
-      → IsFirm (g.K.Keeper.holds l.keeper) (g.K.Keeper.leaves_whole l.keeper) (g.K.Keeper.may_leave l.keeper);
-  more : (g.P.Port.told l.fn.port).confirms ≡ true → g.K.Keeper.is_honest l.keeper → (before : Records) → HandsOn before (g.K.Keeper.holds l.fn.keeper) [] → HandsOn before (g.K.Keeper.holds l.keeper) (ids_of l.pending.items);
+  going : (g.K.Keeper.told l.keeper).has_failed ≡ false;
+  firm : (g.K.Keeper.told l.keeper).is_honest → IsFirm (g.K.Keeper.told l.fn.keeper)
+      → IsFirm (g.K.Keeper.told l.keeper);
+  more : (g.P.Port.told l.fn.port).confirms ≡ true → (g.K.Keeper.told l.keeper).is_honest → (before : Records) → HandsOn before (g.K.Keeper.told l.fn.keeper) [] → HandsOn before (g.K.Keeper.told l.keeper) (ids_of l.pending.items);
   receives : (g.P.Port.told l.port).receives ≡ (g.P.Port.told l.fn.port).receives + l.turn;
   failures : (g.P.Port.told l.port).failures ≡ (g.P.Port.told l.fn.port).failures;
   receive_failures : (g.P.Port.told l.port).receive_failures ≡ (g.P.Port.told l.fn.port).receive_failures;
@@ -28,7 +29,7 @@ invariant-loop-turn g l = record {
   confirms : (g.P.Port.told l.port).confirms ≡ (g.P.Port.told l.fn.port).confirms;
   fed : fed_of l.framer ≤ l.turn * 135168;
   room : length l.buffer.items ≡ 135168;
-  honest : g.K.Keeper.is_honest l.keeper → g.K.Keeper.is_honest l.fn.keeper;
+  honest : (g.K.Keeper.told l.keeper).is_honest → (g.K.Keeper.told l.fn.keeper).is_honest;
   same : (t : Moment) → g.C.Clock.may_answer l.clock t → g.C.Clock.may_answer l.fn.clock t;
-  may : (f : StoreFault) → g.K.Keeper.may_answer l.keeper f → g.K.Keeper.may_answer l.fn.keeper f;
+  may : (f : StoreFault) → (g.K.Keeper.told l.keeper).may_answer f → (g.K.Keeper.told l.fn.keeper).may_answer f;
 }

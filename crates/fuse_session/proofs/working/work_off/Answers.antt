@@ -1,6 +1,6 @@
 use Rattle.std.proofs.Common.{◌∙◌, ◌+◌, ◌-◌, ◌^◌, take, drop, length, arith, refl, sym, subst}
-use Rattle.fuse_store.specs.Group.{ids_of}
-use Rattle.fuse_store.specs.Stands.{Records}
+use Rattle.fuse_keeper.specs.Group.{ids_of}
+use Rattle.fuse_keeper.specs.Stands.{Records}
 use Rattle.fuse_session.specs.Counting.{IsBelow}
 use Rattle.fuse_session.specs.Serving.{Turned, goes_on, lasts}
 use Rattle.fuse_session.proofs.Bytes.{quiet_none, quiet_more}
@@ -12,7 +12,7 @@ use Rattle.fuse_session.proofs.working.work_off.Goals as goal
 pub loop-at-init : goal.loop-at-init
 loop-at-init g c = record {
   within = omega arith;
-  turned = turned_none _ _ _ (g.P.Port.told c.args.port.now) (ids_of c.args.pending.now.items);
+  turned = turned_none g.K.Keeper.model _ _ (g.P.Port.told c.args.port.now) (ids_of c.args.pending.now.items);
   placed = omega arith;
   below = record { messages = omega arith; kept = omega arith; repeated = omega arith; bare = omega arith; silent = omega arith; interrupts = omega arith };
   few = c.requires.few;
@@ -29,8 +29,8 @@ loop-at-init g c = record {
 pub returns-in-Err-clause-err : goal.returns-in-Err-clause-err
 returns-in-Err-clause-err g c =
     let inv = c.loop-at.invariant in
-    group_broken c.histories_grow.ensures (g.K.Keeper.holds c.args.keeper.now) (g.K.Keeper.holds c.loop-at.keeper) (g.K.Keeper.holds c.work_group.new.keeper) _ _ _ _ _ _ _ _ _ _ _ _ _ _ _ _ c.args.messages.now _ c.loop-at.at _ _ _ _ _
-    refl inv.turned c.in-Err.ensures.err (may_stop (g.K.Keeper.may_answer c.args.keeper.now) (g.K.Keeper.may_answer c.loop-at.keeper) c.in-Err.stop inv.may) (g.met.K.Keeper.clean_is_honest c.work_group.new.keeper) c.in-Err.ensures.honest inv.firm inv.same
+    group_broken g.K.Keeper.model c.histories_grow.ensures (g.K.Keeper.told c.args.keeper.now) (g.K.Keeper.told c.loop-at.keeper) (g.K.Keeper.told c.work_group.new.keeper) _ _ _ _ _ _ _ c.args.messages.now _ c.loop-at.at _ _ _ _ _
+    refl inv.turned c.in-Err.ensures.err (may_stop (g.K.Keeper.told c.args.keeper.now).may_answer (g.K.Keeper.told c.loop-at.keeper).may_answer c.in-Err.stop inv.may) (g.met.K.Keeper.sound c.work_group.new.keeper).clean_is_honest c.in-Err.ensures.honest inv.firm inv.same
 
 pub length_of-size-requires : goal.length_of-size-requires
 length_of-size-requires g c =
@@ -59,10 +59,10 @@ returns-then-over-clause-ok g c =
     let i = c.loop-at.at in
     let n = c.in-Ok.turn.count in
     let inv = c.loop-at.invariant in
-    worked_off (g.K.Keeper.holds c.args.keeper.now) (g.K.Keeper.holds c.work_group.new.keeper) _ _ _ _ (ids_of c.args.pending.now.items) (ids_of c.work_group.new.pending.items) ms (take (length ms - i) (drop i ms)) i n c.in-Ok.turn.rest c.args.begin _ c.sum_of-sum.result
+    worked_off g.K.Keeper.model (g.K.Keeper.told c.args.keeper.now) (g.K.Keeper.told c.work_group.new.keeper) _ _ _ (ids_of c.args.pending.now.items) (ids_of c.work_group.new.pending.items) ms (take (length ms - i) (drop i ms)) i n c.in-Ok.turn.rest c.args.begin _ c.sum_of-sum.result
     refl (is_over (goes_on c.in-Ok.turn.rest) (sym c.is_over-over.ensures ∙ c.if-over.true)) c.in-Ok.ensures.zero
     (omega (arith, inv.placed, c.length_of-size.ensures, joined_more ms (take (i + n - i) (drop i ms)) i n (worked_slice ms i n)))
-    (group_more c.histories_grow.ensures (g.K.Keeper.holds c.args.keeper.now) (g.K.Keeper.holds c.loop-at.keeper) (g.K.Keeper.holds c.work_group.new.keeper) _ _ _ _ _ _ _ _ _ _ ms (take (length ms - i) (drop i ms)) i n (lasts c.in-Ok.turn.rest) c.loop-at.counts c.in-Ok.turn.counts c.sum_of-sum.result
+    (group_more g.K.Keeper.model c.histories_grow.ensures (g.K.Keeper.told c.args.keeper.now) (g.K.Keeper.told c.loop-at.keeper) (g.K.Keeper.told c.work_group.new.keeper) _ _ _ _ _ _ _ _ ms (take (length ms - i) (drop i ms)) i n (lasts c.in-Ok.turn.rest) c.loop-at.counts c.in-Ok.turn.counts c.sum_of-sum.result
     refl c.sum_of-sum.ensures inv.turned c.in-Ok.ensures.ok c.in-Ok.ensures.honest inv.same)
 
 pub loop-at-preserved : goal.loop-at-preserved
@@ -75,9 +75,9 @@ loop-at-preserved g c =
     let k' = c.work_group.new.keeper in
     record {
       within = within_parts ms i n inv.within c.in-Ok.ensures.within;
-      turned = subst (λ b. Turned (g.K.Keeper.holds c.args.keeper.now) (g.K.Keeper.holds k') (g.K.Keeper.is_honest k') (g.C.Clock.may_answer c.args.clock.now) (g.P.Port.told c.args.port.now) (g.P.Port.told c.work_group.new.port)
+      turned = subst (λ b. Turned (g.K.Keeper.told c.args.keeper.now) (g.K.Keeper.told k') (g.C.Clock.may_answer c.args.clock.now) (g.P.Port.told c.args.port.now) (g.P.Port.told c.work_group.new.port)
           (ids_of c.args.pending.now.items) (ids_of c.work_group.new.pending.items) (take (i + n) ms) b c.sum_of-sum.result) (lasts_on c.in-Ok.turn.rest on)
-          (group_more c.histories_grow.ensures (g.K.Keeper.holds c.args.keeper.now) (g.K.Keeper.holds c.loop-at.keeper) (g.K.Keeper.holds k') _ _ _ _ _ _ _ _ _ _ ms (take (length ms - i) (drop i ms)) i n (lasts c.in-Ok.turn.rest) c.loop-at.counts c.in-Ok.turn.counts c.sum_of-sum.result
+          (group_more g.K.Keeper.model c.histories_grow.ensures (g.K.Keeper.told c.args.keeper.now) (g.K.Keeper.told c.loop-at.keeper) (g.K.Keeper.told k') _ _ _ _ _ _ _ _ ms (take (length ms - i) (drop i ms)) i n (lasts c.in-Ok.turn.rest) c.loop-at.counts c.in-Ok.turn.counts c.sum_of-sum.result
           refl c.sum_of-sum.ensures inv.turned c.in-Ok.ensures.ok c.in-Ok.ensures.honest inv.same);
       placed = omega (arith, inv.placed, c.length_of-size.ensures, joined_more ms (take (i + n - i) (drop i ms)) i n (worked_slice ms i n));
       below = subst (λ x. IsBelow x (i + n)) (sym c.sum_of-sum.ensures) (plus_below c.loop-at.counts c.in-Ok.turn.counts i n inv.below c.in-Ok.ensures.below);
@@ -95,5 +95,5 @@ loop-at-preserved g c =
 pub returns-clause-ok : goal.returns-clause-ok
 returns-clause-ok g c =
     let inv = c.loop-at.invariant in
-    worked_all (g.K.Keeper.holds c.args.keeper.now) (g.K.Keeper.holds c.loop-at.keeper) _ _ _ _ (ids_of c.args.pending.now.items) (ids_of c.loop-at.pending.items) c.args.messages.now c.loop-at.at c.args.begin c.loop-at.place c.loop-at.counts
+    worked_all g.K.Keeper.model (g.K.Keeper.told c.args.keeper.now) (g.K.Keeper.told c.loop-at.keeper) _ _ _ (ids_of c.args.pending.now.items) (ids_of c.loop-at.pending.items) c.args.messages.now c.loop-at.at c.args.begin c.loop-at.place c.loop-at.counts
     c.loop-at-test.false inv.placed inv.turned

@@ -1,9 +1,10 @@
 use Rattle.std.proofs.Common.{◌≡◌, ◌≤◌, ◌+◌, ◌-◌, length, take, true, false}
 use Rattle.fuse_wire.specs.declared.moment.Moment.{Moment}
 use Rattle.fuse_request.specs.Stream.{joined}
-use Rattle.fuse_store.specs.declared.fault.StoreFault.{StoreFault}
-use Rattle.fuse_store.specs.Stands.{Records, IsFirm}
-use Rattle.fuse_store.specs.Group.{ids_of}
+use Rattle.fuse_keeper.specs.declared.fault.StoreFault.{StoreFault}
+use Rattle.fuse_keeper.specs.Stands.{Records}
+use Rattle.fuse_keeper.specs.KeeperState.{IsFirm}
+use Rattle.fuse_keeper.specs.Group.{ids_of}
 use Rattle.fuse_session.specs.Port.{IsQuiet}
 use Rattle.fuse_session.specs.Settling.{HandsOn}
 use Rattle.fuse_session.specs.Counting.{IsBelow}
@@ -13,21 +14,21 @@ use Rattle.fuse_session.proofs.working.work_off.Given as goal
 abbrev pub invariant-loop-at : goal.invariant-loop-at
 invariant-loop-at g l = record {
   within : l.at ≤ length l.messages;
-  turned : Turned (g.K.Keeper.holds l.fn.keeper) (g.K.Keeper.holds l.keeper) (g.K.Keeper.is_honest l.keeper) (g.C.Clock.may_answer l.fn.clock) (g.P.Port.told l.fn.port) (g.P.Port.told l.port)
+  turned : Turned (g.K.Keeper.told l.fn.keeper) (g.K.Keeper.told l.keeper) (g.C.Clock.may_answer l.fn.clock) (g.P.Port.told l.fn.port) (g.P.Port.told l.port)
       (ids_of l.fn.pending.items) (ids_of l.pending.items) (take l.at l.messages) true l.counts;
   placed : l.place ≡ l.begin + length (joined (take l.at l.messages));
   below : IsBelow l.counts l.at;
   few : length l.pending.items ≤ 16;
-  going : g.K.Keeper.has_failed l.keeper ≡ false;
-  firm : g.K.Keeper.is_honest l.keeper → IsFirm (g.K.Keeper.holds l.fn.keeper) (g.K.Keeper.leaves_whole l.fn.keeper) (g.K.Keeper.may_leave l.fn.keeper)
-      → IsFirm (g.K.Keeper.holds l.keeper) (g.K.Keeper.leaves_whole l.keeper) (g.K.Keeper.may_leave l.keeper);
-  more : (g.P.Port.told l.fn.port).confirms ≡ true → g.K.Keeper.is_honest l.keeper → (before : Records) → HandsOn before (g.K.Keeper.holds l.fn.keeper) (ids_of l.fn.pending.items)
-      → HandsOn before (g.K.Keeper.holds l.keeper) (ids_of l.pending.items);
+  going : (g.K.Keeper.told l.keeper).has_failed ≡ false;
+  firm : (g.K.Keeper.told l.keeper).is_honest → IsFirm (g.K.Keeper.told l.fn.keeper)
+      → IsFirm (g.K.Keeper.told l.keeper);
+  more : (g.P.Port.told l.fn.port).confirms ≡ true → (g.K.Keeper.told l.keeper).is_honest → (before : Records) → HandsOn before (g.K.Keeper.told l.fn.keeper) (ids_of l.fn.pending.items)
+      → HandsOn before (g.K.Keeper.told l.keeper) (ids_of l.pending.items);
   failures : (g.P.Port.told l.port).failures ≡ (g.P.Port.told l.fn.port).failures;
-  honest : g.K.Keeper.is_honest l.keeper → g.K.Keeper.is_honest l.fn.keeper;
+  honest : (g.K.Keeper.told l.keeper).is_honest → (g.K.Keeper.told l.fn.keeper).is_honest;
   quiet : IsQuiet (g.P.Port.told l.fn.port) (g.P.Port.told l.port);
   same : (t : Moment) → g.C.Clock.may_answer l.clock t → g.C.Clock.may_answer l.fn.clock t;
-  may : (f : StoreFault) → g.K.Keeper.may_answer l.keeper f → g.K.Keeper.may_answer l.fn.keeper f;
+  may : (f : StoreFault) → (g.K.Keeper.told l.keeper).may_answer f → (g.K.Keeper.told l.fn.keeper).may_answer f;
 }
 
 abbrev pub decreases-loop-at : goal.decreases-loop-at

@@ -1,7 +1,7 @@
 use Rattle.std.proofs.Common.{IsSomeAnd}
 use Rattle.std.proofs.lemmas.Result.{err_from_is_err_and}
-use Rattle.fuse_store.specs.Group.{ids_of}
-use Rattle.fuse_sim.specs.Driving.{HoldsIn}
+use Rattle.fuse_keeper.specs.Group.{ids_of}
+use Rattle.fuse_sim.specs.Driving.{told_in}
 use Rattle.fuse_sim.proofs.Endings.{moved_more, moved_all, moved_stands, moved_left, moved_outcomes, moved_count, moved_records, stopped, stopped_store}
 use Rattle.fuse_sim.proofs.driving.drive.Goals as goal
 
@@ -10,7 +10,7 @@ loop-at-preserved g c =
     let k = g.K.Keeper in
     record {
       within = c.in_ok-at.ensures.within;
-      moved = moved_more c.histories_grow.ensures (HoldsIn k.holds c.args.keeper.now) (HoldsIn k.holds c.loop-at.keeper) (HoldsIn k.holds c.run_next.new.keeper) (IsSomeAnd c.loop-at.keeper k.is_honest) (IsSomeAnd c.run_next.new.keeper k.is_honest)
+      moved = moved_more g.K.Keeper.model c.histories_grow.ensures (told_in k.told c.args.keeper.now) (told_in k.told c.loop-at.keeper) (told_in k.told c.run_next.new.keeper)
           c.args.events.now c.loop-at.at c.in_ok-at.field-0 (ids_of c.loop-at.pending.items) (ids_of c.run_next.new.pending.items) c.loop-at.outcomes.items c.run_next.new.outcomes.items c.in_ok-at.ensures.honest c.loop-at.invariant.moved c.in_ok-at.ensures.ok;
       few = c.in_ok-at.ensures.few;
       going = c.in_ok-at.ensures.going;
@@ -21,40 +21,40 @@ pub returns-in_err-at-clause-after_fault : goal.returns-in_err-at-clause-after_f
 returns-in_err-at-clause-after_fault g c =
     let k = g.K.Keeper in
     let p = err_from_is_err_and c.from_residual.result c.from_residual.ensures.1 in
-    rw (p.1, p.2) (stopped k.holds k.is_honest k.is_clean k.has_failed k.may_answer g.K.Restart.may_refuse c.args.keeper.now c.loop-at.keeper c.run_next.new.keeper c.args.events.now c.loop-at.at c.in_err-at.field-0.0 (ids_of c.loop-at.pending.items) c.loop-at.outcomes.items
-    g.met.K.Keeper.clean_is_honest c.loop-at.invariant.moved c.in_err-at.ensures.err)
+    rw (p.1, p.2) (stopped g.K.Keeper.model k.told g.K.Restart.may_refuse c.args.keeper.now c.loop-at.keeper c.run_next.new.keeper c.args.events.now c.loop-at.at c.in_err-at.field-0.0 (ids_of c.loop-at.pending.items) c.loop-at.outcomes.items
+    (λ k. (g.met.K.Keeper.sound k).clean_is_honest) c.loop-at.invariant.moved c.in_err-at.ensures.err)
 
 pub returns-in_err-at-clause-store : goal.returns-in_err-at-clause-store
 returns-in_err-at-clause-store g c =
     let k = g.K.Keeper in
     let p = err_from_is_err_and c.from_residual.result c.from_residual.ensures.1 in
-    rw (p.1, p.2) (stopped_store k.holds k.is_honest k.is_clean k.has_failed k.may_answer g.K.Restart.may_refuse c.args.keeper.now c.loop-at.keeper c.run_next.new.keeper c.args.events.now c.loop-at.at c.in_err-at.field-0.0 (ids_of c.loop-at.pending.items) c.loop-at.outcomes.items
-    g.met.K.Keeper.clean_is_honest c.loop-at.invariant.moved c.loop-at.invariant.may c.in_err-at.ensures.err)
+    rw (p.1, p.2) (stopped_store g.K.Keeper.model k.told g.K.Restart.may_refuse c.args.keeper.now c.loop-at.keeper c.run_next.new.keeper c.args.events.now c.loop-at.at c.in_err-at.field-0.0 (ids_of c.loop-at.pending.items) c.loop-at.outcomes.items
+    (λ k. (g.met.K.Keeper.sound k).clean_is_honest) c.loop-at.invariant.moved c.loop-at.invariant.may c.in_err-at.ensures.err)
 
 pub returns-in_err-at-clause-may : goal.returns-in_err-at-clause-may
 returns-in_err-at-clause-may g c = λ f is. c.loop-at.invariant.may f (c.run_next.ensures.may f is)
 
 pub returns-clause-tree_stands : goal.returns-clause-tree_stands
 returns-clause-tree_stands g c =
-    moved_stands _ _ _ c.args.events.now _ _ _
-    (moved_all (HoldsIn g.K.Keeper.holds c.args.keeper.now) (HoldsIn g.K.Keeper.holds c.loop-at.keeper) (IsSomeAnd c.loop-at.keeper g.K.Keeper.is_honest) c.args.events.now _ c.loop-at.at _ _ c.loop-at-test.false c.loop-at.invariant.moved)
+    moved_stands g.K.Keeper.model _ _ c.args.events.now _ _ _
+    (moved_all g.K.Keeper.model (told_in g.K.Keeper.told c.args.keeper.now) (told_in g.K.Keeper.told c.loop-at.keeper) c.args.events.now _ c.loop-at.at _ _ c.loop-at-test.false c.loop-at.invariant.moved)
 
 pub returns-clause-kept : goal.returns-clause-kept
 returns-clause-kept g c =
-    moved_left g.K.Keeper.holds _ c.args.keeper.now c.loop-at.keeper c.args.events.now _ _ _ g.met.K.Keeper.one_holding
-    (moved_all (HoldsIn g.K.Keeper.holds c.args.keeper.now) (HoldsIn g.K.Keeper.holds c.loop-at.keeper) (IsSomeAnd c.loop-at.keeper g.K.Keeper.is_honest) c.args.events.now _ c.loop-at.at _ _ c.loop-at-test.false c.loop-at.invariant.moved)
+    moved_left g.K.Keeper.model g.K.Keeper.told c.args.keeper.now c.loop-at.keeper c.args.events.now _ _ _ (λ k. (g.met.K.Keeper.sound k).one_holding)
+    (moved_all g.K.Keeper.model (told_in g.K.Keeper.told c.args.keeper.now) (told_in g.K.Keeper.told c.loop-at.keeper) c.args.events.now _ c.loop-at.at _ _ c.loop-at-test.false c.loop-at.invariant.moved)
 
 pub returns-clause-outcomes : goal.returns-clause-outcomes
 returns-clause-outcomes g c =
-    moved_outcomes _ _ _ c.args.events.now _ _ _
-    (moved_all (HoldsIn g.K.Keeper.holds c.args.keeper.now) (HoldsIn g.K.Keeper.holds c.loop-at.keeper) (IsSomeAnd c.loop-at.keeper g.K.Keeper.is_honest) c.args.events.now _ c.loop-at.at _ _ c.loop-at-test.false c.loop-at.invariant.moved)
+    moved_outcomes g.K.Keeper.model _ _ c.args.events.now _ _ _
+    (moved_all g.K.Keeper.model (told_in g.K.Keeper.told c.args.keeper.now) (told_in g.K.Keeper.told c.loop-at.keeper) c.args.events.now _ c.loop-at.at _ _ c.loop-at-test.false c.loop-at.invariant.moved)
 
 pub returns-clause-count : goal.returns-clause-count
 returns-clause-count g c =
-    moved_count _ _ _ c.args.events.now _ _ _
-    (moved_all (HoldsIn g.K.Keeper.holds c.args.keeper.now) (HoldsIn g.K.Keeper.holds c.loop-at.keeper) (IsSomeAnd c.loop-at.keeper g.K.Keeper.is_honest) c.args.events.now _ c.loop-at.at _ _ c.loop-at-test.false c.loop-at.invariant.moved)
+    moved_count g.K.Keeper.model _ _ c.args.events.now _ _ _
+    (moved_all g.K.Keeper.model (told_in g.K.Keeper.told c.args.keeper.now) (told_in g.K.Keeper.told c.loop-at.keeper) c.args.events.now _ c.loop-at.at _ _ c.loop-at-test.false c.loop-at.invariant.moved)
 
 pub returns-clause-records : goal.returns-clause-records
 returns-clause-records g c =
-    moved_records _ _ _ c.args.events.now _ _ _
-    (moved_all (HoldsIn g.K.Keeper.holds c.args.keeper.now) (HoldsIn g.K.Keeper.holds c.loop-at.keeper) (IsSomeAnd c.loop-at.keeper g.K.Keeper.is_honest) c.args.events.now _ c.loop-at.at _ _ c.loop-at-test.false c.loop-at.invariant.moved)
+    moved_records g.K.Keeper.model _ _ c.args.events.now _ _ _
+    (moved_all g.K.Keeper.model (told_in g.K.Keeper.told c.args.keeper.now) (told_in g.K.Keeper.told c.loop-at.keeper) c.args.events.now _ c.loop-at.at _ _ c.loop-at-test.false c.loop-at.invariant.moved)

@@ -1,6 +1,6 @@
 use Rattle.std.proofs.Common.{◌≡◌, ◌≤◌, ◌-◌, length, take, drop, [], IsSomeAnd, false}
-use Rattle.fuse_store.specs.Group.{ids_of}
-use Rattle.fuse_sim.specs.Driving.{HoldsIn, AnswersNoMore}
+use Rattle.fuse_keeper.specs.Group.{ids_of}
+use Rattle.fuse_sim.specs.Driving.{told_in, AnswersNoMore}
 use Rattle.fuse_sim.specs.HandedOn.{empty_ledger}
 use Rattle.fuse_sim.specs.Running.{Moved}
 use Rattle.fuse_sim.proofs.driving.drive.Given as goal
@@ -8,10 +8,10 @@ use Rattle.fuse_sim.proofs.driving.drive.Given as goal
 abbrev pub invariant-loop-at : goal.invariant-loop-at
 invariant-loop-at g l = record {
   within : l.at ≤ length l.events;
-  moved : Moved (HoldsIn g.K.Keeper.holds l.fn.keeper) (HoldsIn g.K.Keeper.holds l.keeper) (IsSomeAnd l.keeper g.K.Keeper.is_honest) empty_ledger (take l.at l.events) (drop l.at l.events) (ids_of l.pending.items) [] l.outcomes.items;
+  moved : Moved (told_in g.K.Keeper.told l.fn.keeper) (told_in g.K.Keeper.told l.keeper) empty_ledger (take l.at l.events) (drop l.at l.events) (ids_of l.pending.items) [] l.outcomes.items;
   few : length l.pending.items ≤ 16;
-  going : IsSomeAnd l.keeper (λ k. g.K.Keeper.has_failed k ≡ false);
-  may : AnswersNoMore g.K.Keeper.may_answer l.fn.keeper l.keeper;
+  going : IsSomeAnd l.keeper (λ k. (g.K.Keeper.told k).has_failed ≡ false);
+  may : AnswersNoMore g.K.Keeper.told l.fn.keeper l.keeper;
 }
 
 abbrev pub decreases-loop-at : goal.decreases-loop-at

@@ -1,5 +1,5 @@
 use Rattle.std.proofs.Common.{◌≡◌, ◌≤◌, length, take, All, false}
-use Rattle.fuse_store.specs.Group.{HasId, IsKept, entries_of}
+use Rattle.fuse_keeper.specs.Group.{HasId, IsKept, entries_of}
 use Rattle.fuse_sim.specs.Running.{Gathers}
 use Rattle.fuse_sim.proofs.gathering.gather.Given as goal
 

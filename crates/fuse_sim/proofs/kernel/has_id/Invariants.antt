@@ -1,5 +1,5 @@
 use Rattle.std.proofs.Common.{◌≡◌, take, false}
-use Rattle.fuse_store.specs.History.{is_in}
+use Rattle.fuse_keeper.specs.History.{is_in}
 use Rattle.fuse_sim.specs.Pending.{request_ids, requests_in}
 use Rattle.fuse_sim.proofs.kernel.has_id.Given as goal
 

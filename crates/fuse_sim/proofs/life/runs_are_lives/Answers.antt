@@ -1,5 +1,5 @@
 use Rattle.std.proofs.Common.{ℕ, List, []}
-use Rattle.fuse_store.specs.History.{Includes}
+use Rattle.fuse_keeper.specs.History.{Includes}
 use Rattle.fuse_sim.proofs.Lifetimes.{run_lived}
 use Rattle.fuse_sim.proofs.life.runs_are_lives.Goals as goal
 
@@ -11,12 +11,12 @@ pub returns : goal.returns
 returns g c = record {
   ends = λ k k' clock old new ended run s h t stands none clean.
       let b = run.broken in
-      run_lived _ _ s h t old new run.received b.timed b.others b.marks b.part run.came b.front b.moments b.replied
+      run_lived g.K.Keeper.model _ _ s h t old new run.received b.timed b.others b.marks b.part run.came b.front b.moments b.replied
       (b.life clean s h t stands (none_pending t) none);
   crashes = λ k k' clock old new ended run s h t stands none honest firm.
       let b = run.broken in
       let left = b.crash honest firm s h t stands (none_pending t) none in (
         left.0,
-        λ x r may. run_lived _ _ s h t old new run.received b.timed b.others b.marks b.part run.came b.front b.moments b.replied (left.1 x r may),
+        λ x r may. run_lived g.K.Keeper.model _ _ s h t old new run.received b.timed b.others b.marks b.part run.came b.front b.moments b.replied (left.1 x r may),
       );
 }

@@ -1,8 +1,7 @@
 use Rattle.std.proofs.Common.{◌≡◌, ◌++◌, sym, ap, subst, ◌∙◌, length, arith}
-use Rattle.fuse_tree.specs.Rows.{Rows}
-use Rattle.fuse_store.specs.History.{Includes}
-use Rattle.fuse_store.specs.Stands.{Records, OthersStay}
-use Rattle.fuse_store.specs.Group.{entries_of, ids_of}
+use Rattle.fuse_keeper.specs.History.{Includes}
+use Rattle.fuse_keeper.specs.Stands.{Records, OthersStay}
+use Rattle.fuse_keeper.specs.Group.{entries_of, ids_of}
 use Rattle.fuse_sim.specs.Running.{handed_to}
 use Rattle.fuse_sim.proofs.Settled.{handed_all, stands_later, includes_left, includes_right}
 use Rattle.fuse_sim.proofs.performing.perform_group.Goals as goal
@@ -12,10 +11,10 @@ returns-in-Ok-clause-ok g c = λ honest s h t so un.
     let some : length c.args.group.now ≡ 0 → ⊥ = λ none. grind (arith, none, c.is_empty.ensures, c.if-is_empty.false) in
     let handed = handed_to (entries_of c.args.group.now) (ids_of c.args.pending.now.items) in
     let all : handed ≡ ids_of c.as_slice.result.now = handed_all c.args.group.now (ids_of c.args.pending.now.items) some ∙ sym (ap ids_of c.as_slice.ensures.value) in
-    c.in-Ok.ensures.ok honest s h (t ++ handed) (stands_later (g.K.Keeper.holds c.args.keeper.now) s h t (t ++ handed) (includes_left t handed) so) (subst (Includes (t ++ handed)) all (includes_right t handed)) un
+    c.in-Ok.ensures.ok honest s h (t ++ handed) (stands_later g.K.Keeper.model (g.K.Keeper.told c.args.keeper.now) s h t (t ++ handed) (includes_left t handed) so) (subst (Includes (t ++ handed)) all (includes_right t handed)) un
 
 pub returns-in-Ok-clause-others : goal.returns-in-Ok-clause-others
-returns-in-Ok-clause-others g c = λ honest (rows : Rows) (records : Records) held.
+returns-in-Ok-clause-others g c = λ honest rows (records : Records) held.
     let some : length c.args.group.now ≡ 0 → ⊥ = λ none. grind (arith, none, c.is_empty.ensures, c.if-is_empty.false) in
     let all : ids_of c.as_slice.result.now ≡ handed_to (entries_of c.args.group.now) (ids_of c.args.pending.now.items) = ap ids_of c.as_slice.ensures.value ∙ sym (handed_all c.args.group.now (ids_of c.args.pending.now.items) some) in
     let o = c.in-Ok.ensures.others honest rows records held in

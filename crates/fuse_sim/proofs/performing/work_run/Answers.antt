@@ -1,5 +1,5 @@
 use Rattle.std.proofs.lemmas.Result.{err_from_is_err_and}
-use Rattle.fuse_store.specs.Group.{ids_of}
+use Rattle.fuse_keeper.specs.Group.{ids_of}
 use Rattle.fuse_sim.proofs.Groups.{answers_for, worked}
 use Rattle.fuse_sim.proofs.performing.work_run.Goals as goal
 
@@ -8,7 +8,7 @@ answer_run-requires-clause-enough g c = answers_for c.args.run.now c.args.taken.
 
 pub returns-clause-ok : goal.returns-clause-ok
 returns-clause-ok g c =
-    worked (g.K.Keeper.holds c.args.keeper.now) (g.K.Keeper.holds c.perform_group.new.keeper) (g.K.Keeper.is_honest c.perform_group.new.keeper) c.args.run.now c.args.taken.now
+    worked g.K.Keeper.model (g.K.Keeper.told c.args.keeper.now) (g.K.Keeper.told c.perform_group.new.keeper) c.args.run.now c.args.taken.now
     (ids_of c.args.pending.now.items) (ids_of c.perform_group.new.pending.items) (ids_of c.answer_run.new.pending.items) c.in_ok-dones.dones.items c.args.outcomes.now.items c.answer_run.new.outcomes.items
     c.requires.goes c.requires.entries c.in_ok-dones.ensures.ok c.in_ok-dones.ensures.others c.in_ok-dones.ensures.pending c.answer_run.ensures.outcomes c.answer_run.ensures.pending
 

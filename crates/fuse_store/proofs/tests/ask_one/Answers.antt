@@ -1,6 +1,6 @@
-use Rattle.fuse_store.specs.Group.{HasId, IsKept}
-use Rattle.fuse_store.proofs.Small.{all_one}
-use Rattle.fuse_store.proofs.tests.ask_one.Goals as goal
+use Rattle.fuse_keeper.specs.Group.{HasId, IsKept}
+use Rattle.fuse_keeper.proofs.Small.{all_one}
+use Rattle.fuse_keeper.proofs.tests.ask_one.Goals as goal
 
 pub perform-requires-clause-named : goal.perform-requires-clause-named
 perform-requires-clause-named g c = all_one HasId _ c.requires.id

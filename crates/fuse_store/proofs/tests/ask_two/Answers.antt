@@ -1,6 +1,6 @@
-use Rattle.fuse_store.specs.Group.{HasId, IsKept}
-use Rattle.fuse_store.proofs.Small.{all_two}
-use Rattle.fuse_store.proofs.tests.ask_two.Goals as goal
+use Rattle.fuse_keeper.specs.Group.{HasId, IsKept}
+use Rattle.fuse_keeper.proofs.Small.{all_two}
+use Rattle.fuse_keeper.proofs.tests.ask_two.Goals as goal
 
 pub perform-requires-clause-named : goal.perform-requires-clause-named
 perform-requires-clause-named g c = all_two HasId _ _ c.requires.first_id c.requires.second_id

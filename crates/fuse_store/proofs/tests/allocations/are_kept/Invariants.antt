@@ -1,6 +1,6 @@
 use Rattle.std.proofs.Common.{All, take}
-use Rattle.fuse_store.specs.Group.{entry_of, HasId, IsKept}
-use Rattle.fuse_store.proofs.tests.allocations.are_kept.Given as goal
+use Rattle.fuse_keeper.specs.Group.{entry_of, HasId, IsKept}
+use Rattle.fuse_keeper.proofs.tests.allocations.are_kept.Given as goal
 
 abbrev pub invariant-loop-one : goal.invariant-loop-one
 invariant-loop-one l = record {

@@ -1,6 +1,6 @@
 use Rattle.std.proofs.lemmas.List.Elements.{All-map}
-use Rattle.fuse_store.specs.Group.{entry_of, HasId, IsKept}
-use Rattle.fuse_store.proofs.tests.allocations.ask_all.Goals as goal
+use Rattle.fuse_keeper.specs.Group.{entry_of, HasId, IsKept}
+use Rattle.fuse_keeper.proofs.tests.allocations.ask_all.Goals as goal
 
 pub perform-requires-clause-named : goal.perform-requires-clause-named
 perform-requires-clause-named g c = All-map HasId entry_of c.args.group.now c.requires.ids

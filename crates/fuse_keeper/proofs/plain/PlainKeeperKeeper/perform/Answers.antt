@@ -1,0 +1,36 @@
+use Rattle.std.proofs.Common.{◌∙◌, refl, sym, subst, inl, inr}
+use Rattle.fuse_keeper.specs.Group.{ids_of, entries_of}
+use Rattle.fuse_keeper.specs.Model.{IsRowed}
+use Rattle.fuse_keeper.specs.Plain.{mapped}
+use Rattle.fuse_keeper.proofs.Overlays.{without-same}
+use Rattle.fuse_keeper.proofs.Keeping.{left_new, left_old, rowed_where, or-true, no_lot, lots_stay}
+use Rattle.fuse_keeper.proofs.plain.PlainKeeperKeeper.perform.Goals as goal
+
+pub returns-in-Ok-clause-others : goal.returns-in-Ok-clause-others
+returns-in-Ok-clause-others g c = λ honest rows records held rowed. record {
+  rows = g.F.FileSystem.held c.perform_group.new.self.rows;
+  records = mapped c.perform_group.new.self.records;
+  held = (refl, λ i. refl);
+  rowed = c.in-Ok.ensures.rowed (subst (IsRowed g.F.FileSystem.model) held.0 rowed);
+  others = λ i isnt. c.in-Ok.ensures.others i isnt ∙ without-same (ids_of c.args.settled.now) (mapped c.args.self.now.records) records i (sym (held.1 i));
+}
+
+pub returns-in-Ok-clause-lots : goal.returns-in-Ok-clause-lots
+returns-in-Ok-clause-lots g c = λ honest rows records held rowed. no_lot records (ids_of c.args.settled.now) (entries_of c.args.group.now)
+
+pub returns-in-Ok-clause-crash : goal.returns-in-Ok-clause-crash
+returns-in-Ok-clause-crash g c = λ s h t so within fresh firm.
+    (tt, λ x r left. inr (left_new g.F.FileSystem.model (g.F.FileSystem.held c.perform_group.new.self.rows) (mapped c.perform_group.new.self.records) x r s _ t (c.in-Ok.ensures.ok s h t so within fresh).stands left))
+
+pub returns-in-Err-clause-crash : goal.returns-in-Err-clause-crash
+returns-in-Err-clause-crash g c = λ s h t so within fresh firm.
+    (tt, λ x r left. inl (left_old g.F.FileSystem.model (g.F.FileSystem.held c.args.self.now.rows) (mapped c.args.self.now.records) (g.F.FileSystem.held c.perform_group.new.self.rows) (mapped c.perform_group.new.self.records) x r s h t so c.in-Err.ensures.err left))
+
+pub returns-in-Err-clause-called : goal.returns-in-Err-clause-called
+returns-in-Err-clause-called g c = record {
+  failed = sym (or-true c.args.self.now.failed);
+  honest = λ honest. honest;
+  err = λ clean. c.in-Err.ensures.err;
+  err_lots = λ clean rows records held. lots_stay;
+  fault = λ clean s h t so. c.in-Err.ensures.fault (rowed_where g.F.FileSystem.model (g.F.FileSystem.held c.args.self.now.rows) (mapped c.args.self.now.records) s h t so);
+}

@@ -1,0 +1,27 @@
+-- The groups that a keeper performs.
+use Rattle.std.specs.Prelude.{◌≢◌, ℕ, List, map}
+use Rattle.fuse_wire.specs.declared.id.Id.{Id}
+use Rattle.fuse_wire.specs.declared.moment.Moment.{Moment}
+use Rattle.fuse_request.specs.declared.request.Request.{Request}
+use Rattle.fuse_request.specs.Act.{asked}
+use Rattle.fuse_request.specs.Act as act
+use Rattle.fuse_keeper.specs.History.{Entry, entry_id}
+
+-- a request and its moment, wherever the request lies
+abbrev pub entry_of : Request × Moment → Entry
+entry_of p = record { asked = asked p.0; moment = p.1 }
+
+abbrev pub entries_of : List (Request × Moment) → List Entry
+entries_of group = map entry_of group
+
+-- the id isn't 0, which a notification has
+abbrev pub HasId : Entry → Type 0
+HasId e = entry_id e ≢ 0
+
+-- its message is kept
+abbrev pub IsKept : Entry → Type 0
+IsKept e = act.IsKept e.asked.act
+
+-- the numbers of ids
+abbrev pub ids_of : List Id → List ℕ
+ids_of ids = map (λ id. id.0) ids

@@ -1,0 +1,138 @@
+-- What is told of a keeper, and how a call changes it (own profile).
+use Rattle.std.specs.Prelude.{◌≡◌, ◌||◌, ℕ, ◌+◌, Bool, false, List, [], length, All, Result, is_err, IfOk, IfErr, OnOk, OnErr}
+use Rattle.fuse_keeper.specs.declared.fault.StoreFault.{StoreFault}
+use Rattle.fuse_keeper.specs.declared.keeper.Done.{Done}
+use Rattle.fuse_keeper.specs.Model.{Model, IsRowed}
+use Rattle.fuse_keeper.specs.History.{Entry, History, after, grown, Includes, IsUnsettled}
+use Rattle.fuse_keeper.specs.Lots.{Lots, SameLots, RecordsUnder, AreGone, AreReopened}
+use Rattle.fuse_keeper.specs.Stands.{Records, StandsBy, PerformedBy, LeavesBy, IsFirmBy, KeepsHeldBy, StandsForEither, OthersStay}
+
+pub record KeeperState (M : Model) : Type 1 where
+  -- these rows and these records are what it holds now
+  pub holds : M.Rows → Records → Type 0
+  -- what it stands on has so far given back what was written
+  pub is_honest : Type 0
+  -- it is honest, and no write is open or half done
+  pub is_clean : Type 0
+  -- a call has answered a fault since it was made or opened
+  pub has_failed : Bool
+  -- whatever a crash now leaves holds some rows and records
+  pub leaves_whole : Type 0
+  -- a crash now may leave these rows and records
+  pub may_leave : M.Rows → Records → Type 0
+  -- the faults that a call may answer where the keeper stands and its store stays clean
+  pub may_answer : StoreFault → Type 0
+  -- the lots that its records are in
+  pub lots : Lots
+
+-- what it holds stands for the history
+abbrev pub StandsFor : {M : Model} → KeeperState M → M.State → History → List ℕ → Type 0
+StandsFor {M} k s h t = StandsBy M k.holds s h t
+
+-- a group was performed: the history grew by it, and each answer is the one said in it
+abbrev pub Performed : {M : Model} → KeeperState M → M.State → History → List ℕ → List Entry → List Done → Type 0
+Performed {M} k s h t group dones = PerformedBy M k.holds s h t group dones
+
+-- whatever a crash leaves is whole, and of this kind
+abbrev pub Leaves : {M : Model} → KeeperState M → (M.Rows → Records → Type 0) → Type 0
+Leaves {M} k P = LeavesBy M k.leaves_whole k.may_leave P
+
+-- a crash now could leave nothing but what is held
+abbrev pub IsFirm : {M : Model} → KeeperState M → Type 0
+IsFirm {M} k = IsFirmBy M k.holds k.leaves_whole k.may_leave
+
+-- all that was held is still held
+abbrev pub KeepsHeld : {M : Model} → KeeperState M → KeeperState M → Type 0
+KeepsHeld {M} old new = KeepsHeldBy M old.holds new.holds
+
+-- what it holds is just one thing, and where it is clean it is honest
+pub record IsSound {M : Model} (k : KeeperState M) : Type 0 where
+  pub one_holding : (x y : M.Rows) (p q : Records) → k.holds x p → k.holds y q → (x ≡ y) × ((i : ℕ) → p i ≡ q i)
+  pub clean_is_honest : k.is_clean → k.is_honest
+
+-- this is so where it holds something
+abbrev pub WhereHeld : {M : Model} → KeeperState M → Type 0 → Type 0
+WhereHeld {M} k P = (rows : M.Rows) (records : Records) → k.holds rows records → P
+
+-- this is so of what it holds, where that is of a good state
+abbrev pub OfHeld : {M : Model} → KeeperState M → (M.Rows → Records → Type 0) → Type 0
+OfHeld {M} k P = (rows : M.Rows) (records : Records) → k.holds rows records → IsRowed M rows → P rows records
+
+-- no fault may come now that couldn't before
+abbrev pub AnswersNoMore : {M : Model} → KeeperState M → KeeperState M → Type 0
+AnswersNoMore old new = (f : StoreFault) → new.may_answer f → old.may_answer f
+
+-- of any call: a fault keeps what is held, and is one that it may answer
+pub record Called {M : Model} {A : Type 0} (old new : KeeperState M) (result : Result A StoreFault) : Type 0 where
+  pub failed : new.has_failed ≡ (old.has_failed || is_err result)
+  pub honest : new.is_honest → old.is_honest
+  pub err : OnErr result (new.is_clean → KeepsHeld old new)
+  pub err_lots : OnErr result (new.is_clean → WhereHeld old (SameLots old.lots new.lots))
+  pub fault : new.is_clean → (s : M.State) (h : History) (t : List ℕ) → StandsFor old s h t → IfErr result old.may_answer
+
+-- a call that only looks
+pub record Looked {M : Model} {A : Type 0} (old new : KeeperState M) (result : Result A StoreFault) : Type 0 where
+  pub called : Called old new result
+  pub may : AnswersNoMore old new
+  pub same : OnOk result (new.is_honest → KeepsHeld old new)
+  pub lots : OnOk result (new.is_honest → WhereHeld old (SameLots old.lots new.lots))
+  pub whole : WhereHeld old (old.leaves_whole → new.leaves_whole)
+  pub crash : (x : M.Rows) (r : Records) → WhereHeld old (new.may_leave x r → old.may_leave x r)
+
+-- what is held, and known to be of a good state, tells this where the store gave back what was written
+abbrev pub Tells : {M : Model} → KeeperState M → KeeperState M → (M.Rows → Records → Type 0) → Type 0
+Tells old new P = new.is_honest → OfHeld old P
+
+-- a group is performed, whatever it stands for, where `t` are ids settled before and in this call
+abbrev pub Performs : {M : Model} → KeeperState M → KeeperState M → List ℕ → List Entry → List Done → Type 0
+Performs {M} old new settled group dones = new.is_honest → (s : M.State) (h : History) (t : List ℕ) → StandsFor old s h t
+    → Includes t settled → All (IsUnsettled t) group → Performed new s h t group dones
+
+-- it holds something of a good state, and the records of other ids are those of before, without the settled ones
+pub record HoldsOthers {M : Model} (k : KeeperState M) (before : Records) (settled : List ℕ) (group : List Entry) : Type 0 where
+  pub rows : M.Rows
+  pub records : Records
+  pub held : k.holds rows records
+  pub rowed : IsRowed M rows
+  pub others : OthersStay before settled group records
+
+abbrev pub KeepsOthers : {M : Model} → KeeperState M → KeeperState M → List ℕ → List Entry → Type 0
+KeepsOthers old new settled group = Tells old new (λ rows records. HoldsOthers new records settled group)
+
+-- which lot the records of a group go under
+abbrev pub KeepsLots : {M : Model} → KeeperState M → KeeperState M → List ℕ → List Entry → Type 0
+KeepsLots old new settled group = Tells old new (λ rows records. RecordsUnder old.lots new.lots records settled group)
+
+-- a crash leaves the group out or in
+abbrev pub LeavesGroup : {M : Model} → KeeperState M → KeeperState M → List ℕ → List Entry → Type 0
+LeavesGroup {M} old new settled group = (s : M.State) (h : History) (t : List ℕ) → StandsFor old s h t
+    → Includes t settled → All (IsUnsettled t) group → IsFirm old → Leaves new (StandsForEither M s h t s (grown h group) t)
+
+-- a mount begins
+abbrev pub BeginsMount : {M : Model} → KeeperState M → KeeperState M → Type 0
+BeginsMount {M} old new = new.is_honest → (s : M.State) (h : History) (t : List ℕ) → StandsFor old s h t → StandsFor new (M.cleared (after M s h)) [] []
+
+-- and no lot is left
+abbrev pub DropsLots : {M : Model} → KeeperState M → KeeperState M → Type 0
+DropsLots old new = new.is_honest → WhereHeld old (AreGone new.lots)
+
+-- a crash leaves the mount of before, or the one that begins
+abbrev pub LeavesMount : {M : Model} → KeeperState M → KeeperState M → Type 0
+LeavesMount {M} old new = (s : M.State) (h : History) (t : List ℕ) → StandsFor old s h t → IsFirm old → Leaves new (StandsForEither M s h t (M.cleared (after M s h)) [] [])
+
+-- a keeper that was opened again over what the old one stood on
+pub record Reopened {M : Model} (old new : KeeperState M) : Type 0 where
+  pub same : new.is_honest → KeepsHeld old new
+  -- it opens something, where a crash could have left nothing but something
+  pub held : new.is_honest → old.leaves_whole → (rows : M.Rows) × (records : Records) × new.holds rows records
+  -- what it opens is what a crash could have left
+  pub left : new.is_honest → old.leaves_whole → (rows : M.Rows) (records : Records) → new.holds rows records → old.may_leave rows records
+  pub firm : new.is_honest → IsFirm new
+  pub lots : new.is_honest → WhereHeld old (AreReopened old.lots new.lots)
+  pub honest : new.is_honest → old.is_honest
+  pub going : new.has_failed ≡ false
+
+-- `became a b n`: b is what became of a, which was opened again n times on the way
+pub record IsCount {K : Type 0} (became : K → K → ℕ → Type 0) : Type 0 where
+  pub none : (k : K) → became k k 0
+  pub then : (a b c : K) (m n : ℕ) → became a b m → became b c n → became a c (m + n)

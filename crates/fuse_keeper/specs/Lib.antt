@@ -1,0 +1,9 @@
+pub mod Model
+pub mod History
+pub mod Lots
+pub mod Stands
+pub mod KeeperState
+pub mod Group
+pub mod Taking
+pub mod Plain
+pub mod PlainKeeper

@@ -1,0 +1,64 @@
+-- How what is held stands for a history, and what a crash may leave of it (own profile).
+use Rattle.std.specs.Prelude.{◌≡◌, ◌⊎◌, ℕ, false, nat_eq, if◌then◌else◌, List, length, map, Option, Some, None, is_some}
+use Rattle.std.specs.List.{IsDistinct}
+use Rattle.fuse_answer.specs.Said.{Said}
+use Rattle.fuse_keeper.specs.Model.{Model}
+use Rattle.fuse_keeper.specs.declared.keeper.Done.{Done}
+use Rattle.fuse_keeper.specs.History.{Entry, entry_id, History, after, said, Distinct, grown, is_in, ids_in, repeats}
+
+-- what is recorded under each id
+abbrev pub Records : Type 0
+Records = ℕ → Option Said
+
+-- the rows are those of the state after the history; each record is what was said of its id, and each
+-- id of the history that isn't settled has one
+pub record Stands (M : Model) (rows : M.Rows) (records : Records) (s : M.State) (h : History) (settled : List ℕ) : Type 0 where
+  pub tree : M.IsGood (after M s h)
+  pub distinct : Distinct h
+  pub rows_are : rows ≡ M.held_for (after M s h)
+  pub right : (i : ℕ) (a : Said) → records i ≡ Some a → said M s h i ≡ Some a
+  pub kept : (i : ℕ) → is_in settled i ≡ false → records i ≡ said M s h i
+
+-- what is held stands for the history
+pub record StandsBy (M : Model) (holds : M.Rows → Records → Type 0) (s : M.State) (h : History) (settled : List ℕ) : Type 0 where
+  pub rows : M.Rows
+  pub records : Records
+  pub held : holds rows records
+  pub stands : Stands M rows records s h settled
+
+-- a group was performed: the history grew by it, and each answer is the one said in it
+pub record PerformedBy (M : Model) (holds : M.Rows → Records → Type 0) (s : M.State) (h : History) (settled : List ℕ) (group : List Entry) (dones : List Done) : Type 0 where
+  pub stands : StandsBy M holds s (grown h group) settled
+  pub answers : map (λ d. Some d.answer) dones ≡ map (λ e. said M s (grown h group) (entry_id e)) group
+  pub repeated : map (λ d. d.repeated) dones ≡ repeats h group
+
+-- these rows, and under each id this record
+abbrev pub AreThese : (M : Model) → M.Rows → Records → M.Rows → Records → Type 0
+AreThese M rows records x r = (x ≡ rows) × ((i : ℕ) → r i ≡ records i)
+
+-- whatever a crash leaves is whole, and of this kind
+abbrev pub LeavesBy : (M : Model) → Type 0 → (M.Rows → Records → Type 0) → (M.Rows → Records → Type 0) → Type 0
+LeavesBy M whole may_leave P = whole × ((x : M.Rows) (r : Records) → may_leave x r → P x r)
+
+-- a crash now could leave nothing but what is held
+abbrev pub IsFirmBy : (M : Model) → (M.Rows → Records → Type 0) → Type 0 → (M.Rows → Records → Type 0) → Type 0
+IsFirmBy M holds whole may_leave = (rows : M.Rows) (records : Records) → holds rows records → LeavesBy M whole may_leave (AreThese M rows records)
+
+-- all that was held is still held
+abbrev pub KeepsHeldBy : (M : Model) → (M.Rows → Records → Type 0) → (M.Rows → Records → Type 0) → Type 0
+KeepsHeldBy M holds holds' = (rows : M.Rows) (records : Records) → holds rows records → holds' rows records
+
+-- it stands for the first history, or for the second one
+abbrev pub StandsForEither : (M : Model) → M.State → History → List ℕ → M.State → History → List ℕ → M.Rows → Records → Type 0
+StandsForEither M s h t s' h' t' x r = Stands M x r s h t ⊎ Stands M x r s' h' t'
+
+-- after a group: the records of other ids are those of before, without the settled ones
+abbrev pub OthersStay : Records → List ℕ → List Entry → Records → Type 0
+OthersStay records settled group records' = (i : ℕ) → is_in (ids_in group) i ≡ false → records' i ≡ (if is_in settled i then None else records i)
+
+-- so many ids have a record
+pub record CountsRecords (records : Records) (n : ℕ) : Type 0 where
+  pub ids : List ℕ
+  pub number : length ids ≡ n
+  pub once : IsDistinct nat_eq ids
+  pub all : (i : ℕ) → is_in ids i ≡ is_some (records i)

@@ -1,0 +1,33 @@
+-- How one request after another is taken.
+use Rattle.std.specs.Prelude.{◌≡◌, ℕ, true, false, ◌==◌, if◌then◌else◌, Option, Some, None}
+use Rattle.fuse_answer.specs.Said.{Said}
+use Rattle.fuse_keeper.specs.Model.{Model}
+use Rattle.fuse_keeper.specs.declared.keeper.Done.{Done}
+use Rattle.fuse_keeper.specs.History.{Entry, entry_id, next_state, answer_to}
+use Rattle.fuse_keeper.specs.Stands.{Records}
+
+-- an entry acted: on the rows of a tree the answer and the new rows are those of the tree
+pub record ActedOn (M : Model) (s : M.State) (e : Entry) (rows' : M.Rows) (answer : Said) : Type 0 where
+  pub answer_is : answer ≡ answer_to M s e
+  pub rows_are : rows' ≡ M.held_for (next_state M s e)
+  pub tree : M.IsGood (next_state M s e)
+
+abbrev pub Acts : (M : Model) → M.Rows → Entry → M.Rows → Said → Type 0
+Acts M rows e rows' answer = (s : M.State) → M.IsGood s → rows ≡ M.held_for s → ActedOn M s e rows' answer
+
+-- what is left of it stands for what a mount leaves of the state
+abbrev pub Clears : (M : Model) → M.Rows → M.Rows → Type 0
+Clears M rows rows' = (s : M.State) → M.IsGood s → rows ≡ M.held_for s → M.IsGood (M.cleared s) × (rows' ≡ M.held_for (M.cleared s))
+
+-- an id with this record is a repeat: it changes nothing and gets the recorded answer; one without acts and
+-- is recorded
+abbrev pub TookBy : (M : Model) → Option Said → M.Rows → Records → Entry → M.Rows → Records → Done → Type 0
+TookBy M (Some known) rows records e rows' records' done =
+    (rows' ≡ rows) × ((i : ℕ) → records' i ≡ records i) × (done.answer ≡ known) × (done.repeated ≡ true)
+TookBy M None rows records e rows' records' done =
+    Acts M rows e rows' done.answer
+    × ((i : ℕ) → records' i ≡ (if entry_id e == i then Some done.answer else records i))
+    × (done.repeated ≡ false)
+
+abbrev pub Took : (M : Model) → M.Rows → Records → Entry → M.Rows → Records → Done → Type 0
+Took M rows records e rows' records' done = TookBy M (records (entry_id e)) rows records e rows' records' done

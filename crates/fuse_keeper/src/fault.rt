@@ -1,0 +1,54 @@
+use fuse_wire::Memory;
+use std::alloc::{AllocError, AllocFailed};
+use thiserror::Error;
+
+/// Why a store answers nothing.
+#[derive(Debug, Drop, Error)]
+pub enum StoreFault {
+    #[error("out of memory")]
+    Memory,
+    #[error("sql: {0}")]
+    Sql(sqlite::Error),
+    /// The database has not the tables of a store.
+    #[error("not a store")]
+    NotAStore,
+    /// The tables are of another version.
+    #[error("a store of version {0}")]
+    Version(u64),
+    /// What is stored contradicts itself.
+    #[error("a damaged store")]
+    Damaged,
+}
+
+impl From<Memory> for StoreFault {
+    ghost use Rattle.std.specs.Prelude.{◌≡◌};
+    ghost use Rattle.fuse_keeper.specs.declared.fault.StoreFault.TheVariants.{Memory as NoMemory};
+
+    ghost from_gives = { λ _ e. e ≡ NoMemory };
+
+    fn from(_e: Memory) -> StoreFault {
+        StoreFault::Memory
+    }
+}
+
+impl From<AllocError> for StoreFault {
+    ghost use Rattle.std.specs.Prelude.{◌≡◌};
+    ghost use Rattle.fuse_keeper.specs.declared.fault.StoreFault.TheVariants.{Memory as NoMemory};
+
+    ghost from_gives = { λ _ e. e ≡ NoMemory };
+
+    fn from(_e: AllocError) -> StoreFault {
+        StoreFault::Memory
+    }
+}
+
+impl<T: Drop> From<AllocFailed<T>> for StoreFault {
+    ghost use Rattle.std.specs.Prelude.{◌≡◌};
+    ghost use Rattle.fuse_keeper.specs.declared.fault.StoreFault.TheVariants.{Memory as NoMemory};
+
+    ghost from_gives = { λ _ e. e ≡ NoMemory };
+
+    fn from(_e: AllocFailed<T>) -> StoreFault {
+        StoreFault::Memory
+    }
+}

@@ -1,0 +1,65 @@
+// What a file system in memory is to do.
+ghost use Rattle.std.specs.Prelude.{◌≡◌, IfOk, IfErr, OnOk};
+ghost use Rattle.fuse_keeper.specs.Model.{Model, IsRowed, IsSoundModel};
+ghost use Rattle.fuse_keeper.specs.Group.{entry_of, IsKept};
+ghost use Rattle.fuse_keeper.specs.Taking.{Acts, Clears};
+
+use crate::fault::StoreFault;
+use fuse_answer::Answer;
+use fuse_init::Settings;
+use fuse_request::Request;
+use fuse_wire::{Memory, Moment};
+use std::alloc::Global;
+
+/// A file system whose states lie in memory: what its model says, done to what is held.
+pub trait FileSystem: Drop {
+    /// The file system that it is.
+    ghost model: { Model };
+
+    /// What it holds.
+    ghost held: { Self → model.Rows };
+
+    /// It may act.
+    ghost is_ready: { Self → Type 0 };
+
+    /// A new one, made at this moment.
+    fn start(alloc: Global, now: Moment) -> Result<Self, Memory>
+        ensures { IfOk result (λ files. held files ≡ model.held_for (model.start now)) };
+
+    /// Does what a request asks for. What a fault leaves isn't used again.
+    fn act(
+        &mut self,
+        alloc: Global,
+        request: &Request<'_>,
+        now: Moment,
+    ) -> Result<Answer, StoreFault>
+        requires ready { is_ready self.old }
+        requires kept { IsKept (entry_of (request.now, now)) }
+        ensures acts { IfOk result (λ answer. Acts model (held self.old)
+            (entry_of (request.now, now)) (held self.new) answer) }
+        ensures ready { OnOk result (is_ready self.new) }
+        // Over a good state it wants nothing but memory.
+        ensures fault { IfErr result (λ f. IsRowed model (held self.old) → f ≡ StoreFault.Memory) };
+
+    /// A copy, which may act.
+    fn to_copy(&self) -> Result<Self, Memory>
+        ensures held { IfOk result (λ copy. held copy ≡ held self.now) }
+        ensures ready { IfOk result is_ready };
+
+    /// Begins a mount.
+    fn begin_mount(&mut self)
+        ensures { Clears model (held self.old) (held self.new) };
+
+    /// What INIT agreed on in this mount.
+    fn agreed(&self) -> Option<Settings>
+        ensures { result ≡ model.settings (held self.now) };
+
+    /// How many nodes and how many handles there are.
+    fn counted(&self) -> (u64, u64)
+        ensures nodes { result.0 ≡ model.nodes (held self.now) }
+        ensures handles { result.1 ≡ model.handles (held self.now) };
+
+    /// A law: what a file system owes.
+    fn model_is_sound()
+        ensures { IsSoundModel model };
+}

@@ -1,0 +1,128 @@
+ghost use Rattle.std.specs.Prelude.{◌≡◌, ◌≤◌, ℕ, length, All, IfOk, OnOk};
+ghost use Rattle.fuse_keeper.specs.Model.{Model, IsSoundModel};
+ghost use Rattle.fuse_keeper.specs.Stands.{Records, CountsRecords};
+ghost use Rattle.fuse_keeper.specs.KeeperState.{KeeperState, IsSound, IsFirm, Tells, AnswersNoMore, IsCount};
+ghost use Rattle.fuse_keeper.specs.KeeperState.{Called, Looked, Performs, KeepsOthers, KeepsLots, LeavesGroup};
+ghost use Rattle.fuse_keeper.specs.KeeperState.{BeginsMount, DropsLots, LeavesMount};
+ghost use Rattle.fuse_keeper.specs.Group.{entries_of, HasId, IsKept, ids_of};
+
+use crate::fault::StoreFault;
+use fuse_answer::Answer;
+use fuse_init::Settings;
+use fuse_request::Request;
+use fuse_wire::{Id, Moment};
+
+/// The most requests of a group.
+pub const MAX_GROUP: usize = 16;
+
+/// The most settled ids of a call.
+pub const MAX_SETTLED: usize = 16;
+
+/// What a request was answered, and whether its id was recorded before.
+#[derive(Drop)]
+pub struct Done {
+    pub answer: Answer,
+    pub repeated: bool,
+}
+
+/// How much a store holds.
+#[derive(Clone, Copy, Debug, PartialEq, Eq)]
+pub struct StoreCounts {
+    pub nodes: u64,
+    pub handles: u64,
+    pub records: u64,
+    pub lots: u64,
+}
+
+/// A store of a file system and of the recorded answers.
+///
+/// A history is the requests that were performed since a start, each id once. Nothing stores it: a
+/// keeper stands for a history where its rows and records are those that the history leads to.
+/// A start is a state whose mount begins, and the settled ids are those whose records may be gone.
+pub trait Keeper: Drop {
+    /// The file system that it keeps.
+    ghost model: { Model };
+
+    /// What is told of it.
+    ghost told: { Self → KeeperState model };
+
+    /// The second is what became of the first, which was opened again so often on the way. One that
+    /// doesn't count lets all be so.
+    ghost became: { Self → Self → ℕ → Type 0 };
+
+    /// Removes the records of settled ids, then performs a group, all in one transaction. A request whose id
+    /// is recorded, in the group too, is a repeat.
+    fn perform(
+        &mut self,
+        group: &[(Request<'_>, Moment)],
+        settled: &[Id],
+    ) -> Result<Vec<Done>, StoreFault>
+        requires short { length group.now ≤ MAX_GROUP }
+        requires few { length settled.now ≤ MAX_SETTLED }
+        requires named { All HasId (entries_of group.now) }
+        requires kept { All IsKept (entries_of group.now) }
+        ensures count { IfOk result (λ dones. length dones.items ≡ length group.now) }
+        ensures called { Called (told self.old) (told self.new) result }
+        ensures may { AnswersNoMore (told self.old) (told self.new) }
+        ensures ok { IfOk result (λ dones. Performs (told self.old) (told self.new)
+            (ids_of settled.now) (entries_of group.now) dones.items) }
+        ensures others { OnOk result (KeepsOthers (told self.old) (told self.new)
+            (ids_of settled.now) (entries_of group.now)) }
+        // At most one lot is taken after a start, and its records go under that one.
+        ensures lots { OnOk result (KeepsLots (told self.old) (told self.new)
+            (ids_of settled.now) (entries_of group.now)) }
+        ensures crash { LeavesGroup (told self.old) (told self.new)
+            (ids_of settled.now) (entries_of group.now) }
+        ensures firm { OnOk result ((told self.new).is_honest → IsFirm (told self.new)) }
+        ensures same { became self.old self.new 0 };
+
+    /// Begins a mount: all that the mount before recorded goes, and of the file system what doesn't
+    /// outlive a mount, in one transaction.
+    fn begin_mount(&mut self) -> Result<(), StoreFault>
+        ensures called { Called (told self.old) (told self.new) result }
+        ensures ok { OnOk result (BeginsMount (told self.old) (told self.new)) }
+        ensures lots { OnOk result (DropsLots (told self.old) (told self.new)) }
+        ensures crash { LeavesMount (told self.old) (told self.new) }
+        ensures firm { OnOk result ((told self.new).is_honest → IsFirm (told self.new)) }
+        ensures same { became self.old self.new 0 };
+
+    /// The recorded answer of an id.
+    fn answer_of(&mut self, id: Id) -> Result<Option<Answer>, StoreFault>
+        ensures looked { Looked (told self.old) (told self.new) result }
+        ensures ok { IfOk result (λ answer. (told self.new).is_honest
+            → (rows : model.Rows) (records : Records) → (told self.old).holds rows records
+            → answer ≡ records id.0) }
+        ensures same { became self.old self.new 0 };
+
+    /// What was agreed on by INIT in this mount.
+    fn settings(&mut self) -> Result<Option<Settings>, StoreFault>
+        ensures looked { Looked (told self.old) (told self.new) result }
+        ensures ok { IfOk result (λ settings. Tells (told self.old) (told self.new)
+            (λ rows records. settings ≡ model.settings rows)) }
+        ensures same { became self.old self.new 0 };
+
+    /// How much it holds.
+    fn counts(&mut self) -> Result<StoreCounts, StoreFault>
+        ensures looked { Looked (told self.old) (told self.new) result }
+        ensures nodes { IfOk result (λ counts. Tells (told self.old) (told self.new)
+            (λ rows records. counts.nodes ≡ model.nodes rows)) }
+        ensures handles { IfOk result (λ counts. Tells (told self.old) (told self.new)
+            (λ rows records. counts.handles ≡ model.handles rows)) }
+        ensures records { IfOk result (λ counts. Tells (told self.old) (told self.new)
+            (λ rows records. CountsRecords records counts.records)) }
+        ensures lots { IfOk result (λ counts. Tells (told self.old) (told self.new)
+            (λ rows records. counts.lots ≡ length (told self.old).lots.numbers)) }
+        ensures same { became self.old self.new 0 };
+
+    /// Whether a call has answered a fault since it was made or opened. No memory is taken.
+    fn failed(&self) -> bool
+        ensures { result ≡ (told self.now).has_failed };
+
+    /// A law: what its file system owes.
+    fn model_is_sound()
+        ensures { IsSoundModel model };
+
+    ghost sound: { (k : Self) → IsSound (told k) };
+
+    ghost counted: { IsCount became };
+}

@@ -1,0 +1,17 @@
+//! Keepers of any file system: what one is, what a store of it and of the recorded answers is to do, and one in memory.
+#![tactic(auto)]
+
+mod fault;
+mod file_system;
+mod group;
+mod keeper;
+mod laws;
+mod plain;
+mod restart;
+
+pub use fault::StoreFault;
+pub use file_system::FileSystem;
+pub use keeper::{Done, Keeper, MAX_GROUP, MAX_SETTLED, StoreCounts};
+pub use laws::{histories_grow, said_fits};
+pub use plain::PlainKeeper;
+pub use restart::Restart;

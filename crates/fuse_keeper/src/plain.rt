@@ -1,0 +1,167 @@
+// A keeper of lists.
+ghost use Rattle.std.specs.Prelude.{◌≡◌, ℕ, Bool, List, false, [], length, All, IfOk, OnOk, OnErr, IfErr, Ok};
+ghost use Rattle.fuse_keeper.specs.History.{History, Includes, IsUnsettled};
+ghost use Rattle.fuse_keeper.specs.Model.{IsRowed};
+ghost use Rattle.fuse_keeper.specs.Stands.{StandsBy, PerformedBy, KeepsHeldBy, OthersStay};
+ghost use Rattle.fuse_keeper.specs.Group.{entries_of, ids_of, IsKept};
+ghost use Rattle.fuse_keeper.specs.Plain.{mapped};
+
+use crate::fault::StoreFault;
+use crate::file_system::FileSystem;
+use crate::group::{settle, take_all};
+use crate::keeper::{Done, Keeper, StoreCounts};
+use crate::restart::Restart;
+use fuse_answer::Answer;
+use fuse_init::Settings;
+use fuse_request::Request;
+use fuse_wire::{Id, Memory, Moment};
+use std::alloc::Global;
+use std::collections::HashMap;
+
+/// A keeper whose rows are lists and whose records are a map, all in memory. A crash leaves what it holds.
+#[derive(Drop)]
+pub struct PlainKeeper<F> {
+    alloc: Global,
+    rows: F,
+    records: HashMap<u64, Answer>,
+    failed: bool,
+}
+
+impl<F: FileSystem> PlainKeeper<F> {
+    ghost use Rattle.fuse_keeper.specs.PlainKeeper.{plain_holds, plain_told};
+    ghost use Rattle.fuse_keeper.specs.KeeperState.{StandsFor};
+
+    /// A new store, made at this moment.
+    pub fn new(alloc: Global, now: Moment) -> Result<PlainKeeper<F>, Memory>
+        ensures stands { IfOk result (λ k. StandsFor (plain_told F.model F.held k) (F.model.start now) [] []) }
+        ensures going { IfOk result (λ k. (plain_told F.model F.held k).has_failed ≡ false) }
+    {
+        F::model_is_sound();
+        let rows = F::start(alloc, now)?;
+        Ok(PlainKeeper::over(alloc, rows))
+    }
+
+    /// A store of this file system, without a record.
+    pub fn over(alloc: Global, rows: F) -> PlainKeeper<F>
+        ensures stands { (s : F.model.State) → F.model.IsGood s → F.held rows ≡ F.model.held_for s → StandsFor (plain_told F.model F.held result) s [] [] }
+        ensures going { (plain_told F.model F.held result).has_failed ≡ false }
+    {
+        PlainKeeper {
+            alloc,
+            rows,
+            records: HashMap::new(alloc),
+            failed: false,
+        }
+    }
+
+    // Performs a group. A fault leaves what it holds.
+    fn perform_group(
+        &mut self,
+        group: &[(Request<'_>, Moment)],
+        settled: &[Id],
+    ) -> Result<Vec<Done>, StoreFault>
+        requires { All IsKept (entries_of group.now) }
+        ensures count { IfOk result (λ dones. length dones.items ≡ length group.now) }
+        ensures ok { IfOk result (λ dones. (s : F.model.State) (h : History) (t : List ℕ) → StandsBy F.model (plain_holds F.model F.held self.old) s h t
+            → Includes t (ids_of settled.now) → All (IsUnsettled t) (entries_of group.now)
+            → PerformedBy F.model (plain_holds F.model F.held self.new) s h t (entries_of group.now) dones.items) }
+        ensures rowed { OnOk result (IsRowed F.model (F.held self.old.rows) → IsRowed F.model (F.held self.new.rows)) }
+        ensures others { OnOk result (OthersStay (mapped self.old.records) (ids_of settled.now) (entries_of group.now) (mapped self.new.records)) }
+        ensures err { OnErr result (KeepsHeldBy F.model (plain_holds F.model F.held self.old) (plain_holds F.model F.held self.new)) }
+        ensures fault { IfErr result (λ f. IsRowed F.model (F.held self.old.rows) → f ≡ StoreFault.Memory) }
+        ensures failed { self.new.failed ≡ self.old.failed }
+    {
+        let taken = take_all(self.alloc, &self.rows, &self.records, settled, group)?;
+        self.records.reserve(taken.draft.added.len())?;
+        settle(&mut self.records, settled, taken.draft.added);
+        self.rows = taken.draft.rows;
+        Ok(taken.dones)
+    }
+}
+
+impl<F: FileSystem> Keeper for PlainKeeper<F> {
+    ghost use Rattle.std.proofs.Common.{sym, ◌∙◌};
+    ghost use Rattle.fuse_keeper.specs.PlainKeeper.{plain_told};
+
+    ghost model = { F.model };
+
+    ghost told = { plain_told F.model F.held };
+
+    ghost became = { λ a b n. Unit {0} };
+
+    fn perform(
+        &mut self,
+        group: &[(Request<'_>, Moment)],
+        settled: &[Id],
+    ) -> Result<Vec<Done>, StoreFault> {
+        match self.perform_group(group, settled) {
+            Ok(dones) => Ok(dones),
+            Err(fault) => {
+                self.failed = true;
+                Err(fault)
+            }
+        }
+    }
+
+    fn begin_mount(&mut self) -> Result<(), StoreFault> {
+        self.rows.begin_mount();
+        self.records.clear();
+        Ok(())
+    }
+
+    fn answer_of(&mut self, id: Id) -> Result<Option<Answer>, StoreFault> {
+        let Some(answer) = self.records.get(&id.0) else {
+            return Ok(None);
+        };
+        match answer.to_copy(self.alloc) {
+            Ok(copy) => Ok(Some(copy)),
+            Err(_) => {
+                self.failed = true;
+                Err(StoreFault::Memory)
+            }
+        }
+    }
+
+    fn settings(&mut self) -> Result<Option<Settings>, StoreFault> {
+        Ok(self.rows.agreed())
+    }
+
+    fn counts(&mut self) -> Result<StoreCounts, StoreFault> {
+        let counters = self.rows.counted();
+        Ok(StoreCounts {
+            nodes: counters.0,
+            handles: counters.1,
+            records: self.records.len() as u64,
+            lots: 0,
+        })
+    }
+
+    fn failed(&self) -> bool {
+        self.failed
+    }
+
+    fn model_is_sound() {
+        F::model_is_sound();
+    }
+
+    ghost sound = { λ k. record {
+        one_holding = λ x y p q one two. (one.0 ∙ sym two.0, λ i. one.1 i ∙ sym (two.1 i));
+        clean_is_honest = λ clean. clean;
+    } };
+
+    ghost counted = { record { none = λ k. tt; then = λ a b c m n before after. tt } };
+}
+
+impl<F: FileSystem> Restart for PlainKeeper<F> {
+    ghost use Rattle.fuse_keeper.specs.PlainKeeper.{unfailed};
+
+    ghost may_refuse = { λ _ _. ⊥ };
+
+    /// The same keeper, as if no call of it had failed. Takes no memory.
+    fn restart(mut self) -> Result<PlainKeeper<F>, StoreFault>
+        ensures { result ≡ Ok (unfailed self) }
+    {
+        self.failed = false;
+        Ok(self)
+    }
+}

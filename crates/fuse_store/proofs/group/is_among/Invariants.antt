@@ -1,8 +1,0 @@
-use Rattle.std.proofs.Common.{◌≡◌, drop}
-use Rattle.fuse_store.specs.History.{is_in}
-use Rattle.fuse_store.specs.Group.{ids_of}
-use Rattle.fuse_store.proofs.group.is_among.Given as goal
-
--- it stands behind what was passed, if at all
-abbrev pub invariant-loop-one : goal.invariant-loop-one
-invariant-loop-one l = is_in (ids_of (drop l.one-index l.ids)) l.id ≡ is_in (ids_of l.ids) l.id

@@ -1,7 +1,0 @@
-use Rattle.std.proofs.Common.{◌≡◌, drop}
-use Rattle.fuse_store.specs.Plain.{listed}
-use Rattle.fuse_store.proofs.group.recorded.Given as goal
-
--- it is found behind what was passed, if at all
-abbrev pub invariant-loop-record : goal.invariant-loop-record
-invariant-loop-record l = listed (drop l.record-index l.records) l.id ≡ listed l.records l.id
