@@ -145,8 +145,8 @@ impl<F: FileSystem> Keeper for PlainKeeper<F> {
     }
 
     ghost sound = { λ k. record {
-        one_holding = λ x y p q one two. (one.0 ∙ sym two.0, λ i. one.1 i ∙ sym (two.1 i));
-        clean_is_honest = λ clean. clean;
+      one_holding = λ x y p q one two. (one.0 ∙ sym two.0, λ i. one.1 i ∙ sym (two.1 i));
+      clean_is_honest = λ clean. clean;
     } };
 
     ghost counted = { record { none = λ k. tt; then = λ a b c m n before after. tt } };

@@ -5,13 +5,14 @@ use Rattle.fuse_wire.specs.declared.moment.Moment.{Moment}
 use Rattle.fuse_answer.specs.Said.{Said}
 use Rattle.fuse_request.specs.declared.request.Request.{Request}
 use Rattle.fuse_keeper.specs.History.{Entry, entry_id, is_in, ids_in, Includes, IsUnsettled}
-use Rattle.fuse_keeper.specs.Model.{Model}
+use Rattle.fuse_keeper.specs.Model.{Model, IsRowed}
 use Rattle.fuse_keeper.specs.Stands.{Records, OthersStay}
-use Rattle.fuse_keeper.specs.KeeperState.{KeeperState, KeepsHeld}
+use Rattle.fuse_keeper.specs.KeeperState.{KeeperState, KeepsHeld, OfHeld, HoldsOthers}
 use Rattle.fuse_keeper.specs.Group.{entries_of}
 use Rattle.fuse_session.specs.Port.{PortState}
 use Rattle.fuse_session.specs.Worked.{Timed, bytes_of, kept_in}
-use Rattle.fuse_session.specs.Settling.{Mark, settled_in, SomeAndMore, AtMostMore, HandsOn, FewHave}
+use Rattle.fuse_session.specs.Settling.{Mark, settled_in, SomeAndMore, AtMostMore, FewHave}
+use Rattle.fuse_session.specs.Moves.{HandsOn}
 use Rattle.fuse_session.specs.Group.{Gathers, SentAll}
 use Rattle.fuse_session.proofs.Standing.{unsettled_too}
 use Rattle.fuse_session.proofs.Settled.{includes_left, includes_right, in_either, all_settled, settled_none, settled_within, none_again}
@@ -27,22 +28,23 @@ more_step before old new last settled group some all others i isnt =
     left_of (is_in settled i) (old i) (new i) (before i) (others i isnt) (λ absent. some i (unsettled_too settled last i all absent))
 
 pub hands_more : (M : Model) → (before : Records) (holds holds' : KeeperState M) (pending mid : List ℕ) (group : List Entry) → length group ≤ 16
-    → ((rows : M.Rows) (records : Records) → holds.holds rows records → (rows' : M.Rows) × (records' : Records) × holds'.holds rows' records' × OthersStay records pending group records')
+    → OfHeld holds (λ rows records. HoldsOthers holds' records pending group)
     → HandsOn before holds pending → HandsOn before holds' (mid ++ ids_in group)
 hands_more M before holds holds' pending mid group few others h =
-    let o = others h.rows h.records h.held in
+    let o = others h.rows h.records h.held h.rowed in
     record {
-      rows = o.0;
-      records = o.1;
-      held = o.2;
+      rows = o.rows;
+      records = o.records;
+      held = o.held;
+      rowed = o.rowed;
       more = ids_in group;
       few = subst (λ n. n ≤ 16) (sym (length-map group entry_id)) few;
-      some = more_step before h.records o.1 h.more pending group h.some h.all o.3;
+      some = more_step before h.records o.records h.more pending group h.some h.all o.others;
       all = includes_right mid (ids_in group);
     }
 
 pub hands_same : (M : Model) → (before : Records) (holds : KeeperState M) (pending more : List ℕ) → HandsOn before holds pending → HandsOn before holds (pending ++ more)
-hands_same M before holds pending more h = record { rows = h.rows; records = h.records; held = h.held; more = h.more; few = h.few; some = h.some; all = λ i there. includes_left pending more i (h.all i there) }
+hands_same M before holds pending more h = record { rows = h.rows; records = h.records; held = h.held; rowed = h.rowed; more = h.more; few = h.few; some = h.some; all = λ i there. includes_left pending more i (h.all i there) }
 
 pub at_most : (M : Model) → (before : Records) (holds : KeeperState M) (pending : List ℕ) → HandsOn before holds pending → AtMostMore before holds
 at_most M before holds pending h = record { rows = h.rows; records = h.records; held = h.held; more = h.more; few = h.few; some = h.some }
@@ -61,13 +63,13 @@ hands_group M before holds may p q mid pending' messages taken ends group front 
     ∙ ap (λ (x : List ℕ). mid ++ x) (all_settled gathers.timed all.marks full ∙ ap ids_in (sym gathers.entries ∙ sym (ap entries_of same))))) h
 
 -- at first nothing is to be handed on
-pub hands_start : (M : Model) → (holds : KeeperState M) (pending : List ℕ) (rows : M.Rows) (records : Records) → holds.holds rows records → HandsOn records holds pending
-hands_start M holds pending rows records held = record { rows = rows; records = records; held = held; more = []; few = omega arith; some = λ i _. inr refl; all = λ i there. absurd (cc there) }
+pub hands_start : (M : Model) → (holds : KeeperState M) (pending : List ℕ) (rows : M.Rows) (records : Records) → holds.holds rows records → IsRowed M rows → HandsOn records holds pending
+hands_start M holds pending rows records held rowed = record { rows = rows; records = records; held = held; rowed = rowed; more = []; few = omega arith; some = λ i _. inr refl; all = λ i there. absurd (cc there) }
 
 -- ---- of the settled ids few have a record
 
 pub few_kept : (M : Model) → (holds holds' : KeeperState M) (u pending : List ℕ) → KeepsHeld holds holds' → FewHave holds u pending → FewHave holds' u pending
-few_kept M holds holds' u pending keeps h = record { rows = h.rows; records = h.records; held = keeps h.rows h.records h.held; few = h.few; others = h.others }
+few_kept M holds holds' u pending keeps h = record { rows = h.rows; records = h.records; held = keeps h.rows h.records h.held; rowed = h.rowed; few = h.few; others = h.others }
 
 none_left : (b : Bool) (o now : Option Said) → now ≡ (if b then None else o) → (b ≡ false → o ≡ None) → now ≡ None
 none_left true o now is none = is
@@ -75,16 +77,17 @@ none_left false o now is none = is ∙ none refl
 
 -- a group was performed whose requests have other ids: what was to be handed on is gone
 pub few_performed : (M : Model) → (holds holds' : KeeperState M) (u pending mid : List ℕ) (group : List Entry) → length mid ≤ 16
-    → ((rows : M.Rows) (records : Records) → holds.holds rows records → (rows' : M.Rows) × (records' : Records) × holds'.holds rows' records' × OthersStay records pending group records')
+    → OfHeld holds (λ rows records. HoldsOthers holds' records pending group)
     → All (IsUnsettled u) group → FewHave holds u pending → FewHave holds' u mid
 few_performed M holds holds' u pending mid group few stay other h =
-    let o = stay h.rows h.records h.held in
+    let o = stay h.rows h.records h.held h.rowed in
     record {
-      rows = o.0;
-      records = o.1;
-      held = o.2;
+      rows = o.rows;
+      records = o.records;
+      held = o.held;
+      rowed = o.rowed;
       few = few;
-      others = λ i there _. none_left (is_in pending i) (h.records i) (o.1 i) (o.3 i (none_again u group i other there)) (λ absent. h.others i there absent);
+      others = λ i there _. none_left (is_in pending i) (h.records i) (o.records i) (o.others i (none_again u group i other there)) (λ absent. h.others i there absent);
     }
 
 -- ids more are settled, and all of these are to be handed on
@@ -93,6 +96,7 @@ few_more M holds u mid new more few old_too new_too h = record {
   rows = h.rows;
   records = h.records;
   held = h.held;
+  rowed = h.rowed;
   few = few;
   others = λ i there isnt. elim (in_either u new i there) [
     | inl old ↦ h.others i old (unsettled_too more mid i old_too isnt)
@@ -119,5 +123,5 @@ few_unsent M holds c u mid group ts marks is few h =
     (λ i there. includes_right mid (ids_in group) i (ap (λ g. is_in (ids_in g) i) is ∙ settled_within c ts marks i there)) h
 
 -- at first nothing was settled
-pub few_start : (M : Model) → (holds : KeeperState M) (rows : M.Rows) (records : Records) → holds.holds rows records → FewHave holds [] []
-few_start M holds rows records held = record { rows = rows; records = records; held = held; few = omega arith; others = λ i there. absurd (cc there) }
+pub few_start : (M : Model) → (holds : KeeperState M) (rows : M.Rows) (records : Records) → holds.holds rows records → IsRowed M rows → FewHave holds [] []
+few_start M holds rows records held rowed = record { rows = rows; records = records; held = held; rowed = rowed; few = omega arith; others = λ i there. absurd (cc there) }

@@ -29,6 +29,7 @@ use Rattle.fuse_session.proofs.Bytes.{appends_none, consumes_none, consumes_more
 use Rattle.fuse_session.proofs.Replies.{joined-append, replied_none}
 use Rattle.fuse_session.proofs.Counted.{none_plus}
 use Rattle.fuse_session.proofs.Settled.{again_fewer}
+use Rattle.fuse_session.proofs.Standing.{rowed_by}
 use Rattle.fuse_session.proofs.Handing.{few_start}
 use Rattle.fuse_session.proofs.Groups.{broken_none, firm_leaves}
 use Rattle.fuse_session.proofs.Turns.{turned_none, turned_quiet, turned_more, turned_broken, turned_life}
@@ -473,7 +474,7 @@ few_settled M holds new may p q store memory faulted clean_honest is l =
       moments = b.moments;
       replied = b.replied;
       few = λ s h t so again.
-          let f = b.few (clean_honest is) (λ _. is) [] (again_fewer p.confirms t [] (bytes_of b.timed) b.marks (λ i there. absurd (cc there)) again) (few_start M holds so.rows so.records so.held) in
+          let f = b.few (clean_honest is) (λ _. is) [] (again_fewer p.confirms t [] (bytes_of b.timed) b.marks (λ i there. absurd (cc there)) again) (few_start M holds so.rows so.records so.held (rowed_by M so.rows so.records s h t so.stands)) in
           lived_map M (StandsFor new s) (λ g u. StandsFor new s g u × FewRecorded new (settled_in p.confirms (bytes_of b.timed) b.marks)) s h p.confirms t b.timed b.marks b.part (λ g u stands. (stands, f))
           (b.life is s h t so (λ i there. absurd (cc there)) again);
     }

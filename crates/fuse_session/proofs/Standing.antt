@@ -1,8 +1,9 @@
 -- What stands stays standing, and how histories grow.
 use Rattle.std.proofs.Common.{◌≡◌, ◌⊎◌, inl, inr, ℕ, Bool, true, false, List, [], ◌∷◌, ◌++◌, refl, sym, ◌∙◌}
-use Rattle.fuse_keeper.specs.History.{Entry, History, add, grown, is_in, Includes}
-use Rattle.fuse_keeper.specs.Model.{Model}
+use Rattle.fuse_keeper.specs.History.{Entry, History, after, add, grown, is_in, Includes}
+use Rattle.fuse_keeper.specs.Model.{Model, IsRowed}
 use Rattle.fuse_keeper.specs.Stands.{Records, Stands, AreThese}
+use Rattle.fuse_keeper.specs.KeeperState.{KeeperState, IsSound, IsFirm, KeepsHeld, WhereHeld}
 
 pub grown-append : (h : History) (xs ys : List Entry) → grown h (xs ++ ys) ≡ grown (grown h xs) ys
 grown-append h [] ys = refl
@@ -28,6 +29,10 @@ Stands-same M rows records x r s h t same so = record {
   kept = λ i fresh. same.1 i ∙ so.kept i fresh;
 }
 
+-- what stands is that of a good state
+pub rowed_by : (M : Model) → (rows : M.Rows) (records : Records) (s : M.State) (h : History) (t : List ℕ) → Stands M rows records s h t → IsRowed M rows
+rowed_by M rows records s h t so = unfold IsRowed in (after M s h, so.tree, so.rows_are)
+
 -- more may be settled
 pub Stands-settled : (M : Model) → (rows : M.Rows) (records : Records) (s : M.State) (h : History) (t more : List ℕ) → Includes more t → Stands M rows records s h t → Stands M rows records s h more
 Stands-settled M rows records s h t more within so = record {
@@ -37,3 +42,11 @@ Stands-settled M rows records s h t more within so = record {
   right = so.right;
   kept = λ i fresh. so.kept i (unsettled_too more t i within fresh);
 }
+
+-- a keeper that only looked is firm if it was
+pub looked_firm : (M : Model) → (old new : KeeperState M) (rows : M.Rows) (records : Records) → IsSound new → KeepsHeld old new → WhereHeld old (old.leaves_whole → new.leaves_whole)
+    → ((x : M.Rows) (r : Records) → WhereHeld old (new.may_leave x r → old.may_leave x r)) → old.holds rows records → IsFirm old → IsFirm new
+looked_firm M old new rows records sound keeps whole crash held firm x r holds =
+    let left = firm rows records held in
+    let same = sound.one_holding rows x records r (keeps rows records held) holds in
+    (whole rows records held left.0, λ y q may. let is = left.1 y q (crash y q rows records held may) in (is.0 ∙ same.0, λ i. is.1 i ∙ same.1 i))

@@ -4,8 +4,8 @@ use Rattle.fuse_wire.specs.declared.init_flags.InitFlags.{InitFlags}
 use Rattle.fuse_answer.specs.Notice.{resend_bytes}
 use Rattle.fuse_init.specs.declared.settings.Settings.{Settings}
 use Rattle.fuse_keeper.specs.declared.fault.StoreFault.{StoreFault}
-use Rattle.fuse_keeper.specs.Model.{Model}
-use Rattle.fuse_keeper.specs.Stands.{Records, IsRowed}
+use Rattle.fuse_keeper.specs.Model.{Model, IsRowed}
+use Rattle.fuse_keeper.specs.Stands.{Records}
 use Rattle.fuse_keeper.specs.KeeperState.{KeeperState}
 use Rattle.fuse_session.specs.declared.resuming.ResumeFault.{ResumeFault}
 use Rattle.fuse_session.specs.declared.resuming.ResumeFault.TheVariants.{NotOffered, PortFailed, Store}
@@ -36,15 +36,9 @@ NotResumed k k' old new NotOffered = (new ≡ old) × (k'.is_honest → Settings
 NotResumed k k' old new PortFailed = SentPart old new resend_bytes × (k'.is_honest → SettingsSay k true)
 NotResumed k k' old new (Store fault) = new ≡ old
 
--- whether it ended by a fault of the store
-abbrev pub failed_by : Result (Unit {0}) ResumeFault → Bool
-failed_by (Ok _) = false
-failed_by (Err NotOffered) = false
-failed_by (Err PortFailed) = false
-failed_by (Err (Store fault)) = true
-
--- a fault of the store is one of these
-abbrev pub FaultMay : (StoreFault → Type 0) → ResumeFault → Type 0
-FaultMay may NotOffered = Unit {0}
-FaultMay may PortFailed = Unit {0}
-FaultMay may (Store fault) = may fault
+-- what the store had to do with it: its fault, or none
+abbrev pub of_store : Result (Unit {0}) ResumeFault → Result (Unit {0}) StoreFault
+of_store (Ok done) = Ok done
+of_store (Err NotOffered) = Ok tt
+of_store (Err PortFailed) = Ok tt
+of_store (Err (Store fault)) = Err fault

@@ -6,7 +6,7 @@ use Rattle.fuse_request.specs.declared.class.Class.TheVariants.{Silent, Bare, Ke
 use Rattle.fuse_request.specs.Classes.{class_of}
 use Rattle.fuse_request.specs.Stream.{joined}
 use Rattle.fuse_keeper.specs.History.{is_in, Includes}
-use Rattle.fuse_keeper.specs.Model.{Model}
+use Rattle.fuse_keeper.specs.Model.{Model, IsRowed}
 use Rattle.fuse_keeper.specs.Stands.{Records}
 use Rattle.fuse_keeper.specs.KeeperState.{KeeperState}
 use Rattle.fuse_session.specs.Port.{PortState}
@@ -84,6 +84,7 @@ pub record FewHave {M : Model} (k : KeeperState M) (ids more : List ℕ) : Type 
   pub rows : M.Rows
   pub records : Records
   pub held : k.holds rows records
+  pub rowed : IsRowed M rows
   pub few : length more ≤ 16
   pub others : (i : ℕ) → is_in ids i ≡ true → is_in more i ≡ false → records i ≡ None
 
@@ -103,13 +104,3 @@ pub record AtMostMore {M : Model} (before : Records) (k : KeeperState M) : Type 
   pub more : List ℕ
   pub few : length more ≤ 16
   pub some : SomeAndMore before more records
-
--- so it is, and those ids are to be handed on
-pub record HandsOn {M : Model} (before : Records) (k : KeeperState M) (pending : List ℕ) : Type 0 where
-  pub rows : M.Rows
-  pub records : Records
-  pub held : k.holds rows records
-  pub more : List ℕ
-  pub few : length more ≤ 16
-  pub some : SomeAndMore before more records
-  pub all : Includes pending more

@@ -5,12 +5,14 @@ ghost use Rattle.fuse_request.specs.Stream.{IsMessage};
 ghost use Rattle.fuse_keeper.specs.declared.fault.StoreFault.{StoreFault as StoreFaultValue};
 ghost use Rattle.fuse_keeper.specs.History.{ids_in, Includes, IsUnsettled};
 ghost use Rattle.fuse_keeper.specs.Stands.{Records};
-ghost use Rattle.fuse_keeper.specs.KeeperState.{Called, Performs, LeavesGroup, KeepsFirm};
+ghost use Rattle.fuse_keeper.specs.KeeperState.{Called, Performs, LeavesGroup, AnswersNoMore};
+ghost use Rattle.fuse_session.specs.Moves.{KeepsFirm};
 ghost use Rattle.fuse_keeper.specs.Group.{entries_of, HasId, IsKept, ids_of};
 ghost use Rattle.fuse_keeper.specs.declared.keeper.TheConstants.{MAX_GROUP as max_group, MAX_SETTLED as max_settled};
 ghost use Rattle.fuse_session.specs.Port.{IsYoung, IsQuiet};
 ghost use Rattle.fuse_session.specs.Worked.{StartsZero};
-ghost use Rattle.fuse_session.specs.Settling.{HandsOn, AtMostMore, FewHave};
+ghost use Rattle.fuse_session.specs.Settling.{AtMostMore, FewHave};
+ghost use Rattle.fuse_session.specs.Moves.{HandsOn};
 ghost use Rattle.fuse_session.specs.Counting.{IsBelow};
 ghost use Rattle.fuse_session.specs.Group.{answers_in, last_zero, rest_by};
 ghost use Rattle.fuse_session.specs.Serving.{Turned, Broken, MayStop, lasts, goes_on, is_store, is_memory};
@@ -65,6 +67,7 @@ fn perform_group<K: Keeper>(
     requires going { (K.told keeper.old).has_failed ≡ false }
     ensures count { IfOk result (λ dones. length dones.items ≡ length group.now) }
     ensures called { Called (K.told keeper.old) (K.told keeper.new) result }
+    ensures may { AnswersNoMore (K.told keeper.old) (K.told keeper.new) }
     ensures ok { IfOk result (λ dones. Performs (K.told keeper.old) (K.told keeper.new) (ids_of pending.old.items) (entries_of group.now) dones.items) }
     ensures few { IfOk result (λ dones. length pending.new.items + length dones.items ≤ max_settled) }
     ensures pending { (t : List ℕ) → Includes t (ids_of pending.old.items) → Includes t (ids_of pending.new.items) }

@@ -5,11 +5,13 @@ ghost use Rattle.fuse_request.specs.Framing.{fed_of};
 ghost use Rattle.fuse_request.specs.declared.header.TheConstants.{MAX_MESSAGE as max_message};
 ghost use Rattle.fuse_keeper.specs.declared.fault.StoreFault.{StoreFault as StoreFaultValue};
 ghost use Rattle.fuse_keeper.specs.Stands.{Records};
-ghost use Rattle.fuse_keeper.specs.KeeperState.{KeepsFirm};
+ghost use Rattle.fuse_keeper.specs.KeeperState.{OfHeld};
+ghost use Rattle.fuse_session.specs.Moves.{KeepsFirm};
 ghost use Rattle.fuse_keeper.specs.Group.{ids_of};
 ghost use Rattle.fuse_keeper.specs.declared.keeper.TheConstants.{MAX_SETTLED as max_settled};
 ghost use Rattle.fuse_session.specs.Port.{IsYoung};
-ghost use Rattle.fuse_session.specs.Settling.{HandsOn, AtMostMore};
+ghost use Rattle.fuse_session.specs.Settling.{AtMostMore};
+ghost use Rattle.fuse_session.specs.Moves.{HandsOn};
 ghost use Rattle.fuse_session.specs.Counting.{IsBelow};
 ghost use Rattle.fuse_session.specs.Receiving.{IsOpen};
 ghost use Rattle.fuse_session.specs.Serving.{Whole, Run, FewSettled, is_store, is_memory};
@@ -166,7 +168,8 @@ pub fn serve<K: Keeper, P: Port, C: Clock>(
         (P.told port.old) (P.told port.new) [] [] result.ended }
 
     // On a port that confirms few records stay.
-    ensures at_most { (P.told port.old).confirms ≡ true → (K.told keeper.new).is_clean → (rows : K.model.Rows) (records : Records) → (K.told keeper.old).holds rows records → AtMostMore records (K.told keeper.new) }
+    ensures at_most { (P.told port.old).confirms ≡ true → (K.told keeper.new).is_clean
+        → OfHeld (K.told keeper.old) (λ rows records. AtMostMore records (K.told keeper.new)) }
 
     // On any port few of the ids that the answers settled have a record, be it that the port confirms or told Gone of them.
     ensures settled { (K.told keeper.new).is_clean → FewSettled (K.told keeper.old) (K.told keeper.new) (C.may_answer clock.old) (P.told port.old) (P.told port.new) }

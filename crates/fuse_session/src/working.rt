@@ -4,11 +4,12 @@ ghost use Rattle.fuse_wire.specs.declared.moment.Moment.{Moment as MomentValue};
 ghost use Rattle.fuse_request.specs.Stream.{IsMessage, joined};
 ghost use Rattle.fuse_keeper.specs.declared.fault.StoreFault.{StoreFault as StoreFaultValue};
 ghost use Rattle.fuse_keeper.specs.Stands.{Records};
-ghost use Rattle.fuse_keeper.specs.KeeperState.{KeepsFirm};
+ghost use Rattle.fuse_session.specs.Moves.{KeepsFirm};
 ghost use Rattle.fuse_keeper.specs.Group.{ids_of};
 ghost use Rattle.fuse_keeper.specs.declared.keeper.TheConstants.{MAX_SETTLED as max_settled};
 ghost use Rattle.fuse_session.specs.Port.{IsYoung, IsQuiet};
-ghost use Rattle.fuse_session.specs.Settling.{HandsOn, AtMostMore};
+ghost use Rattle.fuse_session.specs.Settling.{AtMostMore};
+ghost use Rattle.fuse_session.specs.Moves.{HandsOn};
 ghost use Rattle.fuse_session.specs.Counting.{IsBelow};
 ghost use Rattle.fuse_session.specs.Serving.{WorkedOff, Broken, MayStop, goes_on, is_store, is_memory};
 

@@ -1,7 +1,8 @@
 use Rattle.std.proofs.Common.{sym, ap, subst, arith, length}
 use Rattle.std.proofs.lemmas.List.{length-map}
 use Rattle.fuse_keeper.specs.History.{Includes}
-use Rattle.fuse_keeper.specs.Stands.{Records, OthersStay}
+use Rattle.fuse_keeper.specs.Stands.{Records}
+use Rattle.fuse_keeper.specs.KeeperState.{HoldsOthers}
 use Rattle.fuse_keeper.specs.Group.{entry_of, entries_of, ids_of}
 use Rattle.fuse_session.proofs.Handing.{hands_more, few_performed}
 use Rattle.fuse_session.proofs.group.perform_group.Goals as goal
@@ -14,9 +15,8 @@ returns-in-Ok-clause-more g c = λ honest before h.
     let group = c.args.group.now in
     hands_more g.K.Keeper.model before (g.K.Keeper.told c.args.keeper.now) (g.K.Keeper.told c.perform.new.self) (ids_of c.args.pending.now.items) (ids_of c.clear.new.self.items) (entries_of group)
     (omega (arith, length-map group entry_of, c.requires.short))
-    (λ rows (records : Records) held.
-    let o = c.in-Ok.ensures.others honest rows records held in
-    (o.0, o.1, o.2, subst (λ x. OthersStay records (ids_of x) (entries_of group) o.1) c.as_slice.ensures.value o.3))
+    (λ rows (records : Records) held rowed.
+    subst (λ x. HoldsOthers (g.K.Keeper.told c.perform.new.self) records (ids_of x) (entries_of group)) c.as_slice.ensures.value (c.in-Ok.ensures.others honest rows records held rowed))
     h
 
 pub returns-in-Ok-clause-gone : goal.returns-in-Ok-clause-gone
@@ -24,9 +24,8 @@ returns-in-Ok-clause-gone g c = λ honest t other h.
     let group = c.args.group.now in
     few_performed g.K.Keeper.model (g.K.Keeper.told c.args.keeper.now) (g.K.Keeper.told c.perform.new.self) t (ids_of c.args.pending.now.items) (ids_of c.clear.new.self.items) (entries_of group)
     (omega (arith, ap (λ xs. length (ids_of xs)) c.clear.ensures.items))
-    (λ rows (records : Records) held.
-    let o = c.in-Ok.ensures.others honest rows records held in
-    (o.0, o.1, o.2, subst (λ x. OthersStay records (ids_of x) (entries_of group) o.1) c.as_slice.ensures.value o.3))
+    (λ rows (records : Records) held rowed.
+    subst (λ x. HoldsOthers (g.K.Keeper.told c.perform.new.self) records (ids_of x) (entries_of group)) c.as_slice.ensures.value (c.in-Ok.ensures.others honest rows records held rowed))
     other h
 
 pub returns-in-Err-clause-crash : goal.returns-in-Err-clause-crash

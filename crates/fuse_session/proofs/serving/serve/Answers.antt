@@ -3,7 +3,7 @@ use Rattle.fuse_keeper.specs.Stands.{Records}
 use Rattle.fuse_keeper.specs.Group.{ids_of}
 use Rattle.fuse_request.specs.Framing.{fed_of}
 use Rattle.fuse_session.specs.declared.ended.Ended.TheVariants.{Memory}
-use Rattle.fuse_session.specs.Settling.{HandsOn}
+use Rattle.fuse_session.specs.Moves.{HandsOn}
 use Rattle.fuse_session.specs.Counting.{IsBelow}
 use Rattle.fuse_session.proofs.Counted.{plus_below, below_more}
 use Rattle.fuse_session.proofs.Handing.{at_most, hands_start}
@@ -22,7 +22,7 @@ returns-in_default-clause-exactly g c =
     exact_at g.K.Keeper.model (g.K.Keeper.told k) (g.K.Keeper.told k) _ _ _ [] [] Memory (returns-in_default-clause-life g c)
 
 pub returns-in_default-clause-at_most : goal.returns-in_default-clause-at_most
-returns-in_default-clause-at_most g c = λ _ _ rows (records : Records) held. at_most g.K.Keeper.model records (g.K.Keeper.told c.args.keeper.now) [] (hands_start g.K.Keeper.model (g.K.Keeper.told c.args.keeper.now) [] rows records held)
+returns-in_default-clause-at_most g c = λ _ _ rows (records : Records) held rowed. at_most g.K.Keeper.model records (g.K.Keeper.told c.args.keeper.now) [] (hands_start g.K.Keeper.model (g.K.Keeper.told c.args.keeper.now) [] rows records held rowed)
 
 pub returns-in_default-clause-settled : goal.returns-in_default-clause-settled
 returns-in_default-clause-settled g c = λ clean.
@@ -100,10 +100,10 @@ returns-in-Err-clause-exactly g c =
     exact_at g.K.Keeper.model (g.K.Keeper.told k) (g.K.Keeper.told k') _ _ _ [] [] c.in-Err.served.ended (returns-in-Err-clause-life g c)
 
 pub returns-in-Err-clause-at_most : goal.returns-in-Err-clause-at_most
-returns-in-Err-clause-at_most g c = λ confirms clean rows (records : Records) held.
+returns-in-Err-clause-at_most g c = λ confirms clean rows (records : Records) held rowed.
     let inv = c.loop-turn.invariant in
     let k' = c.one_turn.new.keeper in
-    c.in-Err.ensures.at_most (inv.confirms ∙ confirms) clean records (inv.more confirms (c.in-Err.ensures.honest ((g.met.K.Keeper.sound k').clean_is_honest clean)) records (hands_start g.K.Keeper.model (g.K.Keeper.told c.args.keeper.now) [] rows records held))
+    c.in-Err.ensures.at_most (inv.confirms ∙ confirms) clean records (inv.more confirms (c.in-Err.ensures.honest ((g.met.K.Keeper.sound k').clean_is_honest clean)) records (hands_start g.K.Keeper.model (g.K.Keeper.told c.args.keeper.now) [] rows records held rowed))
 
 pub returns-in-Err-clause-settled : goal.returns-in-Err-clause-settled
 returns-in-Err-clause-settled g c = λ clean.
@@ -134,7 +134,7 @@ returns-clause-settled g c = λ clean.
     few_settled g.K.Keeper.model (g.K.Keeper.told k) (g.K.Keeper.told k') _ _ _ _ _ _ (g.met.K.Keeper.sound k').clean_is_honest clean (returns-clause-life g c)
 
 pub returns-clause-at_most : goal.returns-clause-at_most
-returns-clause-at_most g c = λ confirms clean rows (records : Records) held.
+returns-clause-at_most g c = λ confirms clean rows (records : Records) held rowed.
     let inv = c.loop-turn.invariant in
     let k' = c.loop-turn.keeper in
-    at_most g.K.Keeper.model records (g.K.Keeper.told k') (ids_of c.loop-turn.pending.items) (inv.more confirms ((g.met.K.Keeper.sound k').clean_is_honest clean) records (hands_start g.K.Keeper.model (g.K.Keeper.told c.args.keeper.now) [] rows records held))
+    at_most g.K.Keeper.model records (g.K.Keeper.told k') (ids_of c.loop-turn.pending.items) (inv.more confirms ((g.met.K.Keeper.sound k').clean_is_honest clean) records (hands_start g.K.Keeper.model (g.K.Keeper.told c.args.keeper.now) [] rows records held rowed))

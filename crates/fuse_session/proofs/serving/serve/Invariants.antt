@@ -5,7 +5,7 @@ use Rattle.fuse_keeper.specs.declared.fault.StoreFault.{StoreFault}
 use Rattle.fuse_keeper.specs.Stands.{Records}
 use Rattle.fuse_keeper.specs.KeeperState.{IsFirm}
 use Rattle.fuse_keeper.specs.Group.{ids_of}
-use Rattle.fuse_session.specs.Settling.{HandsOn}
+use Rattle.fuse_session.specs.Moves.{HandsOn}
 use Rattle.fuse_session.specs.Counting.{IsBelow}
 use Rattle.fuse_session.specs.Receiving.{IsOpen}
 use Rattle.fuse_session.specs.Serving.{Whole}

@@ -6,7 +6,7 @@ use Rattle.fuse_keeper.specs.Stands.{Records}
 use Rattle.fuse_keeper.specs.KeeperState.{IsFirm}
 use Rattle.fuse_keeper.specs.Group.{ids_of}
 use Rattle.fuse_session.specs.Port.{IsQuiet}
-use Rattle.fuse_session.specs.Settling.{HandsOn}
+use Rattle.fuse_session.specs.Moves.{HandsOn}
 use Rattle.fuse_session.specs.Counting.{IsBelow}
 use Rattle.fuse_session.specs.Serving.{Turned}
 use Rattle.fuse_session.proofs.working.work_off.Given as goal

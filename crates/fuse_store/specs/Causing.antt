@@ -1,0 +1,11 @@
+-- What a store answers where a plan over lists answers a fault.
+use Rattle.std.specs.Prelude.{◌≡◌}
+use Rattle.fuse_tree.specs.declared.planning.fault.PlanFault.{PlanFault}
+use Rattle.fuse_tree.specs.declared.planning.fault.PlanFault.TheVariants as plans
+use Rattle.fuse_keeper.specs.declared.fault.StoreFault.{StoreFault}
+use Rattle.fuse_keeper.specs.declared.fault.StoreFault.TheVariants.{Memory, Damaged}
+
+abbrev pub CausedBy : PlanFault → StoreFault → Type 0
+CausedBy (plans.Look fault) f = f ≡ Memory
+CausedBy plans.Memory f = f ≡ Memory
+CausedBy plans.NotATree f = f ≡ Damaged

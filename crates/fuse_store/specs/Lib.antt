@@ -1,0 +1,2 @@
+pub mod TheTree
+pub mod Causing
