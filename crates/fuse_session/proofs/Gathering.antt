@@ -1,5 +1,5 @@
 -- Groups, one message after another.
-use Rattle.std.proofs.Common.{◌≡◌, ◌≢◌, inl, inr, ℕ, ◌+◌, ◌<◌, ◌==◌, Bool, true, false, not, ◌&&◌, if◌then◌else◌, List, [], ◌∷◌, ◌++◌, length, take, get_or, All, refl, sym, ap, subst, ◌∙◌, arith}
+use Rattle.std.proofs.Common.{◌≡◌, ◌≢◌, inl, inr, ℕ, ◌+◌, ◌<◌, ◌==◌, Bool, true, false, not, ◌&&◌, if◌then◌else◌, List, [], ◌∷◌, ◌++◌, length, take, get_or, All, refl, sym, ap, subst, ◌∙◌, append_assoc, arith}
 use Rattle.std.proofs.lemmas.List.{take_more, append-nil, map-append}
 use Rattle.std.proofs.lemmas.List.Elements.{All-append}
 use Rattle.fuse_wire.specs.Ids.{id_of}
@@ -14,7 +14,7 @@ use Rattle.fuse_wire.specs.Opcodes.{silent}
 use Rattle.fuse_keeper.specs.History.{Entry}
 use Rattle.fuse_keeper.specs.Group.{entry_of, entries_of, HasId, IsKept}
 use Rattle.fuse_wire.specs.declared.opcode.TheConstants.{DESTROY}
-use Rattle.fuse_session.specs.Worked.{Timed, kept_in, entry_if, message_entry, destroys, destroys_by, Moments}
+use Rattle.fuse_session.specs.Worked.{Timed, kept_in, entry_if, message_entry, destroys, destroys_by, moment_if, moments_in, GaveFirst}
 use Rattle.fuse_session.specs.Group.{NoZero, NoDestroy, DestroyLast, Gathers}
 use Rattle.fuse_session.proofs.Outs.{kept_in-append}
 use Rattle.fuse_session.proofs.Settled.{only_one}
@@ -31,27 +31,40 @@ DestroyLast-append : (xs : List Timed) (t : Timed) → NoDestroy xs → DestroyL
 DestroyLast-append [] t each = (inl refl, tt)
 DestroyLast-append (x ∷ xs) t each = (inr each.0, DestroyLast-append xs t each.1)
 
-pub moments-append : (may : Moment → Type 0) (xs ys : List Timed) → Moments may xs → Moments may ys → Moments may (xs ++ ys)
-moments-append may [] ys each more = more
-moments-append may (x ∷ xs) ys each more = (each.0, moments-append may xs ys each.1 more)
+pub moments-append : (xs ys : List Timed) → moments_in (xs ++ ys) ≡ moments_in xs ++ moments_in ys
+moments-append [] ys = refl
+moments-append (x ∷ xs) ys =
+    ap (λ (r : List Moment). moment_if (class_of x.bytes) x.moment ++ r) (moments-append xs ys) ∙ sym (append_assoc (moment_if (class_of x.bytes) x.moment) (moments_in xs) (moments_in ys))
 
-pub moments_too : (may may' : Moment → Type 0) (xs : List Timed) → ((t : Moment) → may t → may' t) → Moments may xs → Moments may' xs
-moments_too may may' [] f each = tt
-moments_too may may' (x ∷ xs) f each = (λ kept. f x.moment (each.0 kept), moments_too may may' xs f each.1)
+-- what was given for these messages, and joins for those
+pub gave_more : (gave gave' gave'' : List Moment → Type 0) (xs ys : List Timed) → ((one two : List Moment) → gave one → gave' two → gave'' (one ++ two)) → gave (moments_in xs) → gave' (moments_in ys) → gave'' (moments_in (xs ++ ys))
+gave_more gave gave' gave'' xs ys joins one two = subst gave'' (sym (moments-append xs ys)) (joins (moments_in xs) (moments_in ys) one two)
 
-pub none_yet_gathered : (may : Moment → Type 0) (taken : List (Request × Moment)) → taken ≡ [] → Gathers may [] taken false
-none_yet_gathered may taken is = record { timed = []; bytes = refl; entries = ap entries_of is; moments = tt; no_zero = tt; none = λ _. tt; only = tt; ended = λ isnt. absurd (cc isnt) }
+pub gave_first : (gave gave' gave'' : List Moment → Type 0) (xs ys : List Timed) → ((one two : List Moment) → gave one → gave' two → gave'' (one ++ two)) → gave (moments_in xs) → GaveFirst gave' ys → GaveFirst gave'' (xs ++ ys)
+gave_first gave gave' gave'' xs ys joins one two =
+    (two.0, subst gave'' (sym (append_assoc (moments_in xs) (moments_in ys) two.0) ∙ ap (λ (r : List Moment). r ++ two.0) (sym (moments-append xs ys))) (joins (moments_in xs) (moments_in ys ++ two.0) one two.1))
 
-one_more_gathered : (may : Moment → Type 0) (front : List (List ℕ)) (taken taken' : List (Request × Moment)) (m : List ℕ) (t : Moment) (b : Bool) → Gathers may front taken false → is_zero m ≡ false
-    → entries_of taken' ≡ entries_of taken ++ entry_if (class_of m) (message_entry m t) → (b ≡ false → destroys m ≡ false) → (b ≡ true → destroys m ≡ true) → (class_of m ≡ Kept → may t) → Gathers may (front ++ m ∷ []) taken' b
-one_more_gathered may front taken taken' m t b so_far named entries last it moment =
+-- all that was given
+pub gave_all : (gave : List Moment → Type 0) (xs : List Timed) → gave (moments_in xs) → GaveFirst gave xs
+gave_all gave xs given = ([], subst gave (sym (append-nil (moments_in xs))) given)
+
+-- nothing was given before
+pub gave_later : (gave : List Moment → Type 0) (one two : List Moment) → one ≡ [] → gave two → gave (one ++ two)
+gave_later gave one two none given = subst gave (ap (λ (r : List Moment). r ++ two) (sym none)) given
+
+pub none_yet_gathered : (gave : List Moment → Type 0) (taken : List (Request × Moment)) → gave [] → taken ≡ [] → Gathers gave [] taken false
+none_yet_gathered gave taken none is = record { timed = []; bytes = refl; entries = ap entries_of is; moments = none; no_zero = tt; none = λ _. tt; only = tt; ended = λ isnt. absurd (cc isnt) }
+
+one_more_gathered : (gave gave' gave'' : List Moment → Type 0) → ((one two : List Moment) → gave one → gave' two → gave'' (one ++ two)) → (front : List (List ℕ)) (taken taken' : List (Request × Moment)) (m : List ℕ) (t : Moment) (b : Bool) → Gathers gave front taken false → is_zero m ≡ false
+    → entries_of taken' ≡ entries_of taken ++ entry_if (class_of m) (message_entry m t) → (b ≡ false → destroys m ≡ false) → (b ≡ true → destroys m ≡ true) → gave' (moment_if (class_of m) t) → Gathers gave'' (front ++ m ∷ []) taken' b
+one_more_gathered gave gave' gave'' joins front taken taken' m t b so_far named entries last it moment =
     let one : Timed = record { bytes = m; moment = t } in
     record {
       timed = so_far.timed ++ one ∷ [];
       bytes = ap (λ r. r ++ m ∷ []) so_far.bytes ∙ sym (map-append (λ (x : Timed). x.bytes) so_far.timed (one ∷ []));
       entries = entries ∙ ap (λ r. r ++ entry_if (class_of m) (message_entry m t)) so_far.entries
           ∙ ap (λ r. kept_in so_far.timed ++ r) (sym (append-nil (entry_if (class_of m) (message_entry m t)))) ∙ sym (kept_in-append so_far.timed (one ∷ []));
-      moments = moments-append may so_far.timed (one ∷ []) so_far.moments (moment, tt);
+      moments = gave_more gave gave' gave'' so_far.timed (one ∷ []) joins so_far.moments (subst gave' (sym (append-nil (moment_if (class_of m) t))) moment);
       no_zero = NoZero-append so_far.timed one so_far.no_zero named;
       none = λ is. NoDestroy-append so_far.timed one (so_far.none refl) (last is);
       only = DestroyLast-append so_far.timed one (so_far.none refl);
@@ -69,22 +82,22 @@ is_kept (Bare errno) x e is = absurd (cc is)
 is_kept Kept x e is = (refl, cc is)
 
 -- a message that isn't kept
-pub gathers_none : (may : Moment → Type 0) (ms : List (List ℕ)) (i : ℕ) (m bytes : List ℕ) (taken : List (Request × Moment)) (t : Moment) → i < length ms → m ≡ get_or ms i m → bytes ≡ m → Gathers may (take i ms) taken false
-    → is_zero bytes ≡ false → [] ≡ entry_if (class_of bytes) (message_entry bytes t) → (class_of bytes ≡ Kept → may t) → Gathers may (take (i + 1) ms) taken false
-gathers_none may ms i m bytes taken t lt at is so_far named none moment =
-    let grown = one_more_gathered may (take i ms) taken taken bytes t false so_far named (sym (append-nil (entries_of taken)) ∙ ap (λ r. entries_of taken ++ r) none)
+pub gathers_none : (gave gave' gave'' : List Moment → Type 0) → ((one two : List Moment) → gave one → gave' two → gave'' (one ++ two)) → (ms : List (List ℕ)) (i : ℕ) (m bytes : List ℕ) (taken : List (Request × Moment)) (t : Moment) → i < length ms → m ≡ get_or ms i m → bytes ≡ m → Gathers gave (take i ms) taken false
+    → is_zero bytes ≡ false → [] ≡ entry_if (class_of bytes) (message_entry bytes t) → gave' (moment_if (class_of bytes) t) → Gathers gave'' (take (i + 1) ms) taken false
+gathers_none gave gave' gave'' joins ms i m bytes taken t lt at is so_far named none moment =
+    let grown = one_more_gathered gave gave' gave'' joins (take i ms) taken taken bytes t false so_far named (sym (append-nil (entries_of taken)) ∙ ap (λ r. entries_of taken ++ r) none)
     (λ _. not_kept (class_of bytes) (message_entry bytes t) (raw_of bytes).opcode none) (λ isnt. absurd (cc isnt)) moment in
-    subst (λ front. Gathers may front taken false) (ap (λ x. take i ms ++ x ∷ []) (is ∙ at) ∙ sym (take_more ms i m lt)) grown
+    subst (λ front. Gathers gave'' front taken false) (ap (λ x. take i ms ++ x ∷ []) (is ∙ at) ∙ sym (take_more ms i m lt)) grown
 
 -- one that is
-pub gathers_some : (may : Moment → Type 0) (ms : List (List ℕ)) (i : ℕ) (m bytes : List ℕ) (taken taken' : List (Request × Moment)) (one : Request × Moment) (t : Moment) (b : Bool) → i < length ms → m ≡ get_or ms i m → bytes ≡ m → Gathers may (take i ms) taken false
-    → is_zero bytes ≡ false → entry_of one ∷ [] ≡ entry_if (class_of bytes) (message_entry bytes t) → taken' ≡ taken ++ one ∷ [] → b ≡ ((raw_of bytes).opcode == DESTROY) → (class_of bytes ≡ Kept → may t) → Gathers may (take (i + 1) ms) taken' b
-gathers_some may ms i m bytes taken taken' one t b lt at is so_far named some pushed last moment =
+pub gathers_some : (gave gave' gave'' : List Moment → Type 0) → ((one two : List Moment) → gave one → gave' two → gave'' (one ++ two)) → (ms : List (List ℕ)) (i : ℕ) (m bytes : List ℕ) (taken taken' : List (Request × Moment)) (one : Request × Moment) (t : Moment) (b : Bool) → i < length ms → m ≡ get_or ms i m → bytes ≡ m → Gathers gave (take i ms) taken false
+    → is_zero bytes ≡ false → entry_of one ∷ [] ≡ entry_if (class_of bytes) (message_entry bytes t) → taken' ≡ taken ++ one ∷ [] → b ≡ ((raw_of bytes).opcode == DESTROY) → gave' (moment_if (class_of bytes) t) → Gathers gave'' (take (i + 1) ms) taken' b
+gathers_some gave gave' gave'' joins ms i m bytes taken taken' one t b lt at is so_far named some pushed last moment =
     let kept = is_kept (class_of bytes) (entry_of one) (message_entry bytes t) some in
-    let grown = one_more_gathered may (take i ms) taken taken' bytes t b so_far named (ap entries_of pushed ∙ map-append entry_of taken (one ∷ []) ∙ ap (λ r. entries_of taken ++ r) some)
+    let grown = one_more_gathered gave gave' gave'' joins (take i ms) taken taken' bytes t b so_far named (ap entries_of pushed ∙ map-append entry_of taken (one ∷ []) ∙ ap (λ r. entries_of taken ++ r) some)
     (λ isnt. subst (λ c. destroys_by c (raw_of bytes).opcode ≡ false) (sym kept.0) (sym last ∙ isnt))
     (λ is_so. subst (λ c. destroys_by c (raw_of bytes).opcode ≡ true) (sym kept.0) (sym last ∙ is_so)) moment in
-    subst (λ front. Gathers may front taken' b) (ap (λ x. take i ms ++ x ∷ []) (is ∙ at) ∙ sym (take_more ms i m lt)) grown
+    subst (λ front. Gathers gave'' front taken' b) (ap (λ x. take i ms ++ x ∷ []) (is ∙ at) ∙ sym (take_more ms i m lt)) grown
 
 -- a kept message is answered
 kept_speaks : (b : List ℕ) → class_of b ≡ Kept → silent (raw_of b).opcode ≡ false

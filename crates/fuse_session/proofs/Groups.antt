@@ -26,6 +26,7 @@ use Rattle.fuse_session.specs.Settling.{Mark, replies, settled_in, NoneComesAgai
 use Rattle.fuse_session.specs.Group.{Gathers, IsStuck, answers_in, repeats_in, wires, left_by, told, tallied, rest_by, last_zero, AreEnough, SentAll, SentSome}
 use Rattle.fuse_session.specs.Serving.{Turned, Lived, Exact, Broken, lasts}
 use Rattle.fuse_session.proofs.Replies.{begins_none, replied_none}
+use Rattle.fuse_session.proofs.Gathering.{gave_all}
 use Rattle.fuse_session.proofs.Outs.{wires_are, told_is, answers_are_outs, outs_front}
 use Rattle.fuse_session.proofs.Ending.{works_group, goes_none, goes_last, ends_last}
 use Rattle.fuse_session.proofs.Settled.{includes_left, includes_right, in_either, group_unsettled, settled_none}
@@ -106,16 +107,16 @@ exact_all M stood s h c t timed marks works so sent = record {
 }
 
 -- nothing was done at all
-pub broken_none : (M : Model) → (holds holds' : KeeperState M) (may : Moment → Type 0) (p q : PortState) (pending : List ℕ) (messages : List (List ℕ)) (exact whole : Bool) (faulted : Type 0) → exact ≡ false → Replied p q [] []
+pub broken_none : (M : Model) → (holds holds' : KeeperState M) (gave : List Moment → Type 0) (p q : PortState) (pending : List ℕ) (messages : List (List ℕ)) (exact whole : Bool) (faulted : Type 0) → exact ≡ false → (given : List Moment) × gave given → Replied p q [] []
     → KeepsHeld holds holds' → ((IsFirm holds) → (s : M.State) (h : History) (t : List ℕ) → StandsFor holds s h t → Leaves holds' (λ x r. Stands M x r s h t))
-    → Broken holds holds' may p q pending messages exact whole faulted
-broken_none M holds holds' may p q pending messages exact whole faulted inexact replied keeps leaves = record {
+    → Broken holds holds' gave p q pending messages exact whole faulted
+broken_none M holds holds' gave p q pending messages exact whole faulted inexact given replied keeps leaves = record {
   timed = [];
   others = messages;
   marks = [];
   part = [];
   front = refl;
-  moments = tt;
+  moments = given;
   replied = replied;
   no_part = λ _. refl;
   exactly = λ _ honest s h t so within again. exact_none M (λ g u. exact ≡ true → holds'.is_clean → StandsFor holds' s g u × faulted) s h p.confirms t [] (λ is clean. absurd (cc (is, inexact)));
@@ -135,12 +136,12 @@ stored M s h c t ts es x r is works either = ⊎_elim
     (subst (λ u. Stands M x r s (grown h (kept_in ts)) u) (sym (ap (λ (q : List ℕ). t ++ q) (settled_none c (bytes_of ts)) ∙ append-nil t)) (subst (λ l. Stands M x r s (grown h l) t) is after)) refl refl (begins_none (answers M s (grown h (kept_in ts)) ts)))
     either
 
-pub broken_store : (M : Model) → (holds holds' : KeeperState M) (may : Moment → Type 0) (p : PortState) (pending : List ℕ)
+pub broken_store : (M : Model) → (holds holds' : KeeperState M) (gave : List Moment → Type 0) (p : PortState) (pending : List ℕ)
     (messages : List (List ℕ)) (count : ℕ) (taken : List (Request × Moment)) (ends : Bool) (group : List (Request × Moment)) (faulted : Type 0)
-    → Gathers may (take count messages) taken ends → group ≡ taken → (holds'.is_clean → KeepsHeld holds holds') → (holds'.is_clean → (s : M.State) (h : History) (t : List ℕ) → StandsFor holds s h t → faulted)
+    → Gathers gave (take count messages) taken ends → group ≡ taken → (holds'.is_clean → KeepsHeld holds holds') → (holds'.is_clean → (s : M.State) (h : History) (t : List ℕ) → StandsFor holds s h t → faulted)
     → ((s : M.State) (h : History) (t : List ℕ) → StandsFor holds s h t → Includes t pending → All (IsUnsettled t) (entries_of group) → IsFirm holds → Leaves holds' (StandsForEither M s h t s (grown h (entries_of group)) t))
-    → Broken holds holds' may p p pending messages true false faulted
-broken_store M holds holds' may p pending messages count taken ends group faulted gathers same keeps fault crash =
+    → Broken holds holds' gave p p pending messages true false faulted
+broken_store M holds holds' gave p pending messages count taken ends group faulted gathers same keeps fault crash =
     let ts = gathers.timed in
     let es : entries_of group ≡ kept_in ts = ap entries_of same ∙ gathers.entries in
     record {
@@ -149,7 +150,7 @@ broken_store M holds holds' may p pending messages count taken ends group faulte
       marks = [];
       part = [];
       front = sym (take-append-drop count messages) ∙ ap (λ f. f ++ drop count messages) gathers.bytes;
-      moments = gathers.moments;
+      moments = gave_all gave gathers.timed gathers.moments;
       replied = replied_none p;
       no_part = λ _. refl;
       exactly = λ _ honest s h t so within again. exact_none M (λ g u. true ≡ true → holds'.is_clean → StandsFor holds' s g u × faulted) s h p.confirms t ts (λ _ clean. (stands_kept M holds holds' s h t (keeps clean) so, fault clean s h t so));
@@ -180,15 +181,15 @@ now_stands : (M : Model) → (holds : KeeperState M) (s : M.State) (h : History)
 now_stands M holds s h t more es ts dones done is = stands_later M holds s (grown h (kept_in ts)) t (t ++ more) (includes_left t more) (subst (λ l. StandsFor holds s (grown h l) t) is done.stands)
 
 -- its answers weren't all sent
-pub broken_sent : (M : Model) → HistoriesGrow M → (holds holds' : KeeperState M) (may : Moment → Type 0) (p q : PortState) (pending mid : List ℕ)
+pub broken_sent : (M : Model) → HistoriesGrow M → (holds holds' : KeeperState M) (gave : List Moment → Type 0) (p q : PortState) (pending mid : List ℕ)
     (messages : List (List ℕ)) (count : ℕ) (taken : List (Request × Moment)) (ends : Bool) (group : List (Request × Moment)) (front : List (List ℕ)) (dones list : List Done) (fault : SendFault) (exact want : Bool) (faulted : Type 0)
-    → Gathers may (take count messages) taken ends → group ≡ taken → front ≡ take count messages → (holds'.is_clean → holds'.is_honest)
+    → Gathers gave (take count messages) taken ends → group ≡ taken → front ≡ take count messages → (holds'.is_clean → holds'.is_honest)
     → (holds'.is_honest → (s : M.State) (h : History) (t : List ℕ) → StandsFor holds s h t → Includes t pending → All (IsUnsettled t) (entries_of group) → Performed holds' s h t (entries_of group) dones)
     → (holds'.is_honest → IsFirm holds → IsFirm holds')
     → (holds'.is_honest → (u : List ℕ) → All (IsUnsettled u) (entries_of group) → FewHave holds u pending → FewHave holds' u mid) → length mid + length (entries_of group) ≤ 16
     → list ≡ dones → SentSome p q (wires front (answers_in list)) fault → exact ≡ false → (want ≡ true → fault ≡ Memory)
-    → Broken holds holds' may p q pending messages exact want faulted
-broken_sent M grows holds holds' may p q pending mid messages count taken ends group front dones list fault exact want faulted gathers same same_front clean_honest performed firm_still few size same_list sent inexact memory =
+    → Broken holds holds' gave p q pending messages exact want faulted
+broken_sent M grows holds holds' gave p q pending mid messages count taken ends group front dones list fault exact want faulted gathers same same_front clean_honest performed firm_still few size same_list sent inexact memory =
     let some = subst (λ l. SentSome p q (wires front (answers_in l)) fault) same_list sent in
     let ts = gathers.timed in
     let es : entries_of group ≡ kept_in ts = ap entries_of same ∙ gathers.entries in
@@ -202,7 +203,7 @@ broken_sent M grows holds holds' may p q pending mid messages count taken ends g
       marks = some.marks;
       part = some.part;
       front = sym (take-append-drop count messages) ∙ ap (λ f. f ++ drop count messages) gathers.bytes;
-      moments = gathers.moments;
+      moments = gave_all gave gathers.timed gathers.moments;
       replied = some.replied;
       no_part = λ is. some.memory (memory (ap (λ b. b || want) (sym inexact) ∙ is));
       exactly = λ _ honest s h t so within again.
@@ -256,15 +257,15 @@ both_included : (t pending mid more pending' : List ℕ) → Includes t pending 
 both_included t pending mid more pending' within f is i there =
     ⊎_elim (λ old. includes_left t more i (f t within i old)) (λ new. includes_right t more i new) (in_either mid more i (sym (ap (λ x. is_in x i) is) ∙ there))
 
-pub turned : (M : Model) → HistoriesGrow M → (holds holds' : KeeperState M) (may : Moment → Type 0) (p q : PortState) (pending mid pending' : List ℕ) (messages : List (List ℕ)) (count : ℕ)
+pub turned : (M : Model) → HistoriesGrow M → (holds holds' : KeeperState M) (gave : List Moment → Type 0) (p q : PortState) (pending mid pending' : List ℕ) (messages : List (List ℕ)) (count : ℕ)
     (taken : List (Request × Moment)) (ends : Bool) (group : List (Request × Moment)) (front : List (List ℕ)) (dones list : List Done) (stuck : Bool) (rest : Rest) (counts : SessionCounts)
-    → Gathers may (take count messages) taken ends → group ≡ taken → front ≡ take count messages
+    → Gathers gave (take count messages) taken ends → group ≡ taken → front ≡ take count messages
     → (holds'.is_honest → (s : M.State) (h : History) (t : List ℕ) → StandsFor holds s h t → Includes t pending → All (IsUnsettled t) (entries_of group) → Performed holds' s h t (entries_of group) dones)
     → ((u : List ℕ) → Includes u pending → Includes u mid)
     → (holds'.is_honest → (u : List ℕ) → All (IsUnsettled u) (entries_of group) → FewHave holds u pending → FewHave holds' u mid) → length pending' ≤ 16
     → SentAll p q front (wires front (answers_in list)) mid pending' → list ≡ dones → rest ≡ rest_by (ends && last_zero (answers_in list)) stuck → counts ≡ tallied front (repeats_in list)
-    → Turned holds holds' may p q pending pending' (take count messages) (lasts rest) counts
-turned M grows holds holds' may p q pending mid pending' messages count taken ends group front dones list stuck rest counts gathers same same_front performed handed few size sent same_list is counts_are =
+    → Turned holds holds' gave p q pending pending' (take count messages) (lasts rest) counts
+turned M grows holds holds' gave p q pending mid pending' messages count taken ends group front dones list stuck rest counts gathers same same_front performed handed few size sent same_list is counts_are =
     let all = subst (λ l. SentAll p q front (wires front (answers_in l)) mid pending') same_list sent in
     let ts = gathers.timed in
     let es : entries_of group ≡ kept_in ts = ap entries_of same ∙ gathers.entries in
@@ -327,8 +328,8 @@ enough (t ∷ ts) list is =
     let p = enough_by (class_of t.bytes) (timed_entry t) (kept_in ts) list is in
     (p.0, enough ts (left_by (class_of t.bytes) list) p.1)
 
-pub are_enough : (may : Moment → Type 0) (front : List (List ℕ)) (taken : List (Request × Moment)) (ends : Bool) (slice : List (List ℕ)) (group : List (Request × Moment)) (dones list : List Done)
-    → Gathers may front taken ends → slice ≡ front → group ≡ taken → length dones ≡ length group → list ≡ dones → AreEnough slice (answers_in list)
-are_enough may front taken ends slice group dones list gathers same same_group count same_list =
+pub are_enough : (gave : List Moment → Type 0) (front : List (List ℕ)) (taken : List (Request × Moment)) (ends : Bool) (slice : List (List ℕ)) (group : List (Request × Moment)) (dones list : List Done)
+    → Gathers gave front taken ends → slice ≡ front → group ≡ taken → length dones ≡ length group → list ≡ dones → AreEnough slice (answers_in list)
+are_enough gave front taken ends slice group dones list gathers same same_group count same_list =
     subst (λ f. AreEnough f (answers_in list)) (sym (same ∙ gathers.bytes))
     (enough gathers.timed (answers_in list) (length-map list (λ (d : Done). d.answer) ∙ ap length same_list ∙ count ∙ ap length same_group ∙ sym (length-map taken entry_of) ∙ ap length gathers.entries))

@@ -53,10 +53,10 @@ pub at_most_kept : (M : Model) → (before : Records) (holds holds' : KeeperStat
 at_most_kept M before holds holds' pending keeps h = record { rows = h.rows; records = h.records; held = keeps h.rows h.records h.held; more = h.more; few = h.few; some = h.some }
 
 -- where the port confirms, the answers to a group settle all its ids
-pub hands_group : (M : Model) → (before : Records) (holds : KeeperState M) (may : Moment → Type 0) (p q : PortState) (mid pending' : List ℕ) (messages : List (List ℕ)) (taken : List (Request × Moment)) (ends : Bool)
-    (group : List (Request × Moment)) (front answers' : List (List ℕ)) → Gathers may messages taken ends → group ≡ taken → front ≡ messages → p.confirms ≡ true → SentAll p q front answers' mid pending'
+pub hands_group : (M : Model) → (before : Records) (holds : KeeperState M) (gave : List Moment → Type 0) (p q : PortState) (mid pending' : List ℕ) (messages : List (List ℕ)) (taken : List (Request × Moment)) (ends : Bool)
+    (group : List (Request × Moment)) (front answers' : List (List ℕ)) → Gathers gave messages taken ends → group ≡ taken → front ≡ messages → p.confirms ≡ true → SentAll p q front answers' mid pending'
     → HandsOn before holds (mid ++ ids_in (entries_of group)) → HandsOn before holds pending'
-hands_group M before holds may p q mid pending' messages taken ends group front answers' gathers same same_front confirms all h =
+hands_group M before holds gave p q mid pending' messages taken ends group front answers' gathers same same_front confirms all h =
     let bytes : front ≡ bytes_of gathers.timed = same_front ∙ gathers.bytes in
     let full : length all.marks ≡ length gathers.timed = all.full ∙ ap length bytes ∙ length-map gathers.timed (λ (t : Timed). t.bytes) in
     subst (HandsOn before holds) (sym (all.handed ∙ ap (λ c. mid ++ settled_in c front all.marks) confirms ∙ ap (λ f. mid ++ settled_in true f all.marks) bytes

@@ -19,7 +19,7 @@ use Rattle.fuse_session.specs.Serving.{Turned, Lived, Exact, Broken, WorkedOff, 
 use Rattle.fuse_session.proofs.Replies.{replied_none, replied_more, joined-append, replies-append}
 use Rattle.fuse_session.proofs.Outs.{answers-append, grown_kept, Works-append, GoesOn-append}
 use Rattle.fuse_session.proofs.Settled.{settled-append, again-parts}
-use Rattle.fuse_session.proofs.Gathering.{moments-append, moments_too}
+use Rattle.fuse_session.proofs.Gathering.{gave_more, gave_first, gave_all}
 use Rattle.fuse_session.proofs.Counted.{counted-append}
 use Rattle.fuse_session.proofs.Groups.{leaves_map, firm_leaves, lived_all, exact_all}
 
@@ -27,13 +27,13 @@ bytes-append : (xs ys : List Timed) → bytes_of (xs ++ ys) ≡ bytes_of xs ++ b
 bytes-append xs ys = map-append (λ (t : Timed). t.bytes) xs ys
 
 -- nothing was worked off
-pub turned_quiet : (M : Model) → (holds : KeeperState M) (may : Moment → Type 0) (p q : PortState) (pending : List ℕ) → Replied p q [] [] → Turned holds holds may p q pending pending [] true none_counted
-turned_quiet M holds may p q pending replied = record {
+pub turned_quiet : (M : Model) → (holds : KeeperState M) (gave : List Moment → Type 0) (p q : PortState) (pending : List ℕ) → gave [] → Replied p q [] [] → Turned holds holds gave p q pending pending [] true none_counted
+turned_quiet M holds gave p q pending none replied = record {
   timed = [];
   marks = [];
   bytes = refl;
   full = refl;
-  moments = tt;
+  moments = none;
   replied = replied;
   handed = λ t within. subst (λ (u : List ℕ). Includes u pending) (sym (append-nil t)) within;
   all = λ honest s h t so within again. record {
@@ -47,8 +47,8 @@ turned_quiet M holds may p q pending replied = record {
   few = λ honest t again h. subst (λ (u : List ℕ). FewHave holds u pending) (sym (append-nil t)) h;
 }
 
-pub turned_none : (M : Model) → (holds : KeeperState M) (may : Moment → Type 0) (p : PortState) (pending : List ℕ) → Turned holds holds may p p pending pending [] true none_counted
-turned_none M holds may p pending = turned_quiet M holds may p p pending (replied_none p)
+pub turned_none : (M : Model) → (holds : KeeperState M) (gave : List Moment → Type 0) (p : PortState) (pending : List ℕ) → gave [] → Turned holds holds gave p p pending pending [] true none_counted
+turned_none M holds gave p pending none = turned_quiet M holds gave p p pending none (replied_none p)
 
 -- the settled ids of two rows of messages
 settled_both : (c c' : Bool) (t : List ℕ) (xs ys : List Timed) (ms ns : List Mark) → c' ≡ c → length ms ≡ length xs → (t ++ settled_in c (bytes_of xs) ms) ++ settled_in c' (bytes_of ys) ns ≡ t ++ settled_in c (bytes_of (xs ++ ys)) (ms ++ ns)
@@ -65,15 +65,15 @@ again_both c c' t xs ys ms ns same full each =
     (parts.0, subst (λ b. NoneComesAgain b (t ++ settled_in c (bytes_of xs) ms) (bytes_of ys) ns) (sym same) parts.1)
 
 -- messages, and then others
-pub turned_more : (M : Model) → HistoriesGrow M → (holds mid new : KeeperState M) (may may' : Moment → Type 0) (p q r : PortState) (ids ids' ids'' : List ℕ) (front front' : List (List ℕ)) (going : Bool) (counts counts' : SessionCounts)
-    → Turned holds mid may p q ids ids' front true counts → Turned mid new may' q r ids' ids'' front' going counts' → (new.is_honest → mid.is_honest) → ((t : Moment) → may' t → may t)
-    → Turned holds new may p r ids ids'' (front ++ front') going (plus counts counts')
-turned_more M grows holds mid new may may' p q r ids ids' ids'' front front' going counts counts' one two honest_too moments = record {
+pub turned_more : (M : Model) → HistoriesGrow M → (holds mid new : KeeperState M) (gave gave' gave'' : List Moment → Type 0) (p q r : PortState) (ids ids' ids'' : List ℕ) (front front' : List (List ℕ)) (going : Bool) (counts counts' : SessionCounts)
+    → Turned holds mid gave p q ids ids' front true counts → Turned mid new gave' q r ids' ids'' front' going counts' → (new.is_honest → mid.is_honest) → ((xs ys : List Moment) → gave xs → gave' ys → gave'' (xs ++ ys))
+    → Turned holds new gave'' p r ids ids'' (front ++ front') going (plus counts counts')
+turned_more M grows holds mid new gave gave' gave'' p q r ids ids' ids'' front front' going counts counts' one two honest_too moments = record {
   timed = one.timed ++ two.timed;
   marks = one.marks ++ two.marks;
   bytes = ap (λ f. f ++ front') one.bytes ∙ ap (λ f. bytes_of one.timed ++ f) two.bytes ∙ sym (bytes-append one.timed two.timed);
   full = length-append one.marks two.marks ∙ ap (λ n. n + length two.marks) one.full ∙ ap (λ n. length one.timed + n) two.full ∙ sym (length-append one.timed two.timed);
-  moments = moments-append may one.timed two.timed one.moments (moments_too may' may two.timed moments two.moments);
+  moments = gave_more gave gave' gave'' one.timed two.timed moments one.moments two.moments;
   replied = replied_more p q r one.marks two.marks [] one.replied two.replied;
   handed = λ t within. subst (λ (u : List ℕ). Includes u ids'') (settled_both p.confirms q.confirms t one.timed two.timed one.marks two.marks one.replied.confirms one.full)
       (two.handed (t ++ settled_in p.confirms (bytes_of one.timed) one.marks) (one.handed t within));
@@ -143,12 +143,12 @@ exact_more M grows stood stood' s h c c' t xs ys ms ns same full goes sent f e =
       sent = replies-append ms ns ∙ ap (λ x. x ++ replies ns) sent ∙ ap (λ x. answers M s g xs ++ x) e.sent ∙ sym (answers-append M grows s h xs e.worked);
     }
 
-pub turned_broken : (M : Model) → HistoriesGrow M → (holds mid new : KeeperState M) (may may' : Moment → Type 0) (p q r : PortState) (ids ids' : List ℕ)
+pub turned_broken : (M : Model) → HistoriesGrow M → (holds mid new : KeeperState M) (gave gave' gave'' : List Moment → Type 0) (p q r : PortState) (ids ids' : List ℕ)
     (front messages : List (List ℕ)) (counts : SessionCounts) (exact want : Bool) (faulted faulted' : Type 0)
-    → Turned holds mid may p q ids ids' front true counts → Broken mid new may' q r ids' messages exact want faulted' → (faulted' → faulted)
-    → (new.is_clean → new.is_honest) → (new.is_honest → mid.is_honest) → (mid.is_honest → IsFirm holds → IsFirm mid) → ((t : Moment) → may' t → may t)
-    → Broken holds new may p r ids (front ++ messages) exact want faulted
-turned_broken M grows holds mid new may may' p q r ids ids' front messages counts exact want faulted faulted' one two faulted_too clean_honest honest_too firm_too moments =
+    → Turned holds mid gave p q ids ids' front true counts → Broken mid new gave' q r ids' messages exact want faulted' → (faulted' → faulted)
+    → (new.is_clean → new.is_honest) → (new.is_honest → mid.is_honest) → (mid.is_honest → IsFirm holds → IsFirm mid) → ((xs ys : List Moment) → gave xs → gave' ys → gave'' (xs ++ ys))
+    → Broken holds new gave'' p r ids (front ++ messages) exact want faulted
+turned_broken M grows holds mid new gave gave' gave'' p q r ids ids' front messages counts exact want faulted faulted' one two faulted_too clean_honest honest_too firm_too moments =
     let c = p.confirms in
     let ts = one.timed ++ two.timed in
     let marks = one.marks ++ two.marks in
@@ -159,7 +159,7 @@ turned_broken M grows holds mid new may may' p q r ids ids' front messages count
       part = two.part;
       front = ap (λ f. f ++ messages) one.bytes ∙ ap (λ f. bytes_of one.timed ++ f) two.front ∙ sym (append_assoc (bytes_of one.timed) (bytes_of two.timed) two.others)
           ∙ ap (λ f. f ++ two.others) (sym (bytes-append one.timed two.timed));
-      moments = moments-append may one.timed two.timed one.moments (moments_too may' may two.timed moments two.moments);
+      moments = gave_first gave gave' gave'' one.timed two.timed moments one.moments two.moments;
       replied = replied_more p q r one.marks two.marks two.part one.replied two.replied;
       no_part = two.no_part;
       exactly = λ how is s h t so within again.
@@ -188,17 +188,17 @@ turned_broken M grows holds mid new may may' p q r ids ids' front messages count
     }
 
 -- what was answered, as a life, with others behind
-pub turned_life : (M : Model) → (holds new : KeeperState M) (may : Moment → Type 0) (p q : PortState) (ids ids' : List ℕ)
+pub turned_life : (M : Model) → (holds new : KeeperState M) (gave : List Moment → Type 0) (p q : PortState) (ids ids' : List ℕ)
     (front others messages : List (List ℕ)) (going : Bool) (counts : SessionCounts) (exact want : Bool) (faulted : Type 0) → exact ≡ false
-    → Turned holds new may p q ids ids' front going counts → messages ≡ front ++ others → (new.is_clean → new.is_honest) → (new.is_honest → IsFirm holds → IsFirm new)
-    → Broken holds new may p q ids messages exact want faulted
-turned_life M holds new may p q ids ids' front others messages going counts exact want faulted inexact one parts clean_honest firm_still = record {
+    → Turned holds new gave p q ids ids' front going counts → messages ≡ front ++ others → (new.is_clean → new.is_honest) → (new.is_honest → IsFirm holds → IsFirm new)
+    → Broken holds new gave p q ids messages exact want faulted
+turned_life M holds new gave p q ids ids' front others messages going counts exact want faulted inexact one parts clean_honest firm_still = record {
   timed = one.timed;
   others = others;
   marks = one.marks;
   part = [];
   front = parts ∙ ap (λ f. f ++ others) one.bytes;
-  moments = one.moments;
+  moments = gave_all gave one.timed one.moments;
   replied = one.replied;
   no_part = λ _. refl;
   exactly = λ _ is s h t so within again.
@@ -242,31 +242,31 @@ lasts_on Destroyed is = absurd (cc is)
 lasts_on ZeroUnique is = absurd (cc is)
 
 -- a group more
-pub group_more : (M : Model) → HistoriesGrow M → (holds mid new : KeeperState M) (may may' : Moment → Type 0) (p q r : PortState) (ids ids' ids'' : List ℕ) (messages slice : List (List ℕ)) (i n : ℕ) (going : Bool) (counts counts' sum : SessionCounts)
+pub group_more : (M : Model) → HistoriesGrow M → (holds mid new : KeeperState M) (gave gave' gave'' : List Moment → Type 0) (p q r : PortState) (ids ids' ids'' : List ℕ) (messages slice : List (List ℕ)) (i n : ℕ) (going : Bool) (counts counts' sum : SessionCounts)
     → slice ≡ take (length messages - i) (drop i messages) → sum ≡ plus counts counts'
-    → Turned holds mid may p q ids ids' (take i messages) true counts → Turned mid new may' q r ids' ids'' (take n slice) going counts' → (new.is_honest → mid.is_honest) → ((t : Moment) → may' t → may t)
-    → Turned holds new may p r ids ids'' (take (i + n) messages) going sum
-group_more M grows holds mid new may may' p q r ids ids' ids'' messages slice i n going counts counts' sum same sum_is one two honest_too moments =
-    subst (λ f. Turned holds new may p r ids ids'' f going sum) (take_parts messages i n)
-    (subst (λ c. Turned holds new may p r ids ids'' (take i messages ++ take n (take (length messages - i) (drop i messages))) going c) (sym sum_is)
-    (turned_more M grows holds mid new may may' p q r ids ids' ids'' (take i messages) (take n (take (length messages - i) (drop i messages))) going counts counts' one
-    (subst (λ x. Turned mid new may' q r ids' ids'' (take n x) going counts') same two) honest_too moments))
+    → Turned holds mid gave p q ids ids' (take i messages) true counts → Turned mid new gave' q r ids' ids'' (take n slice) going counts' → (new.is_honest → mid.is_honest) → ((xs ys : List Moment) → gave xs → gave' ys → gave'' (xs ++ ys))
+    → Turned holds new gave'' p r ids ids'' (take (i + n) messages) going sum
+group_more M grows holds mid new gave gave' gave'' p q r ids ids' ids'' messages slice i n going counts counts' sum same sum_is one two honest_too moments =
+    subst (λ f. Turned holds new gave'' p r ids ids'' f going sum) (take_parts messages i n)
+    (subst (λ c. Turned holds new gave'' p r ids ids'' (take i messages ++ take n (take (length messages - i) (drop i messages))) going c) (sym sum_is)
+    (turned_more M grows holds mid new gave gave' gave'' p q r ids ids' ids'' (take i messages) (take n (take (length messages - i) (drop i messages))) going counts counts' one
+    (subst (λ x. Turned mid new gave' q r ids' ids'' (take n x) going counts') same two) honest_too moments))
 
 -- a fault in the next group
-pub group_broken : (M : Model) → HistoriesGrow M → (holds mid new : KeeperState M) (may may' : Moment → Type 0) (p q r : PortState) (ids ids' : List ℕ)
+pub group_broken : (M : Model) → HistoriesGrow M → (holds mid new : KeeperState M) (gave gave' gave'' : List Moment → Type 0) (p q r : PortState) (ids ids' : List ℕ)
     (messages slice : List (List ℕ)) (i : ℕ) (counts : SessionCounts) (exact want : Bool) (faulted faulted' : Type 0) → slice ≡ take (length messages - i) (drop i messages)
-    → Turned holds mid may p q ids ids' (take i messages) true counts → Broken mid new may' q r ids' slice exact want faulted' → (faulted' → faulted)
-    → (new.is_clean → new.is_honest) → (new.is_honest → mid.is_honest) → (mid.is_honest → IsFirm holds → IsFirm mid) → ((t : Moment) → may' t → may t)
-    → Broken holds new may p r ids messages exact want faulted
-group_broken M grows holds mid new may may' p q r ids ids' messages slice i counts exact want faulted faulted' same one two faulted_too clean_honest honest_too firm_too moments =
-    subst (λ m. Broken holds new may p r ids m exact want faulted) (ap (λ x. take i messages ++ x) same ∙ parts_at messages i)
-    (turned_broken M grows holds mid new may may' p q r ids ids' (take i messages) slice counts exact want faulted faulted' one two faulted_too clean_honest honest_too firm_too moments)
+    → Turned holds mid gave p q ids ids' (take i messages) true counts → Broken mid new gave' q r ids' slice exact want faulted' → (faulted' → faulted)
+    → (new.is_clean → new.is_honest) → (new.is_honest → mid.is_honest) → (mid.is_honest → IsFirm holds → IsFirm mid) → ((xs ys : List Moment) → gave xs → gave' ys → gave'' (xs ++ ys))
+    → Broken holds new gave'' p r ids messages exact want faulted
+group_broken M grows holds mid new gave gave' gave'' p q r ids ids' messages slice i counts exact want faulted faulted' same one two faulted_too clean_honest honest_too firm_too moments =
+    subst (λ m. Broken holds new gave'' p r ids m exact want faulted) (ap (λ x. take i messages ++ x) same ∙ parts_at messages i)
+    (turned_broken M grows holds mid new gave gave' gave'' p q r ids ids' (take i messages) slice counts exact want faulted faulted' one two faulted_too clean_honest honest_too firm_too moments)
 
 -- the last group
-pub worked_off : (M : Model) → (holds new : KeeperState M) (may : Moment → Type 0) (p q : PortState) (ids ids' : List ℕ) (messages slice : List (List ℕ)) (i n : ℕ) (rest : Rest) (begin place : ℕ) (counts : SessionCounts)
+pub worked_off : (M : Model) → (holds new : KeeperState M) (gave : List Moment → Type 0) (p q : PortState) (ids ids' : List ℕ) (messages slice : List (List ℕ)) (i n : ℕ) (rest : Rest) (begin place : ℕ) (counts : SessionCounts)
     → slice ≡ take (length messages - i) (drop i messages) → (goes_on rest ≡ false) → (rest ≡ ZeroUnique → StartsZero (drop n slice)) → place ≡ begin + length (joined (take (i + n) messages))
-    → Turned holds new may p q ids ids' (take (i + n) messages) (lasts rest) counts → WorkedOff holds new may p q ids ids' messages rest begin place counts
-worked_off M holds new may p q ids ids' messages slice i n rest begin place counts same over zero place_is t = record {
+    → Turned holds new gave p q ids ids' (take (i + n) messages) (lasts rest) counts → WorkedOff holds new gave p q ids ids' messages rest begin place counts
+worked_off M holds new gave p q ids ids' messages slice i n rest begin place counts same over zero place_is t = record {
   front = take (i + n) messages;
   others = drop (i + n) messages;
   parts = sym (take-append-drop (i + n) messages);
@@ -276,10 +276,10 @@ worked_off M holds new may p q ids ids' messages slice i n rest begin place coun
   turned = t;
 }
 
-pub worked_all : (M : Model) → (holds new : KeeperState M) (may : Moment → Type 0) (p q : PortState) (ids ids' : List ℕ) (messages : List (List ℕ)) (i : ℕ) (begin place : ℕ) (counts : SessionCounts)
+pub worked_all : (M : Model) → (holds new : KeeperState M) (gave : List Moment → Type 0) (p q : PortState) (ids ids' : List ℕ) (messages : List (List ℕ)) (i : ℕ) (begin place : ℕ) (counts : SessionCounts)
     → length messages ≤ i → place ≡ begin + length (joined (take i messages))
-    → Turned holds new may p q ids ids' (take i messages) true counts → WorkedOff holds new may p q ids ids' messages GoesOnHere begin place counts
-worked_all M holds new may p q ids ids' messages i begin place counts past place_is t = record {
+    → Turned holds new gave p q ids ids' (take i messages) true counts → WorkedOff holds new gave p q ids ids' messages GoesOnHere begin place counts
+worked_all M holds new gave p q ids ids' messages i begin place counts past place_is t = record {
   front = take i messages;
   others = [];
   parts = sym (append-nil (take i messages) ∙ take_all i messages past);

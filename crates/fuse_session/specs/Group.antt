@@ -18,7 +18,7 @@ use Rattle.fuse_session.specs.declared.group.Rest.TheVariants.{GoesOn as GoesOnH
 use Rattle.fuse_session.specs.declared.sending.SendFault.{SendFault}
 use Rattle.fuse_session.specs.declared.sending.SendFault.TheVariants.{Memory, PortFailed}
 use Rattle.fuse_session.specs.Port.{PortState, IsQuiet, SentWhole, SentPart}
-use Rattle.fuse_session.specs.Worked.{Timed, bytes_of, kept_in, unique_of, destroys, Moments}
+use Rattle.fuse_session.specs.Worked.{Timed, bytes_of, kept_in, unique_of, destroys, moments_in}
 use Rattle.fuse_session.specs.Settling.{Mark, replies, settles, settled_in, Replied, BeginsNext}
 use Rattle.fuse_session.specs.Counting.{counted_one, none_counted, plus, is_interrupt}
 
@@ -43,11 +43,11 @@ pub record LastDestroys (timed : List Timed) : Type 0 where
   pub destroy : destroys one.bytes ≡ true
 
 -- requests were read off messages, under moments; a DESTROY may only be the last
-pub record Gathers (may : Moment → Type 0) (front : List (List ℕ)) (taken : List (Request × Moment)) (ends : Bool) : Type 0 where
+pub record Gathers (gave : List Moment → Type 0) (front : List (List ℕ)) (taken : List (Request × Moment)) (ends : Bool) : Type 0 where
   pub timed : List Timed
   pub bytes : front ≡ bytes_of timed
   pub entries : entries_of taken ≡ kept_in timed
-  pub moments : Moments may timed
+  pub moments : gave (moments_in timed)
   pub no_zero : NoZero timed
   pub none : ends ≡ false → NoDestroy timed
   pub only : DestroyLast timed

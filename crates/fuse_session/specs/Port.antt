@@ -127,6 +127,11 @@ pub record SentFront (old new : PortState) (bytes rest : List ℕ) : Type 0 wher
   pub gone : new.gone ≡ old.gone
   pub quiet : IsQuiet old new
 
+-- `became a b`: b is what became of a
+pub record IsPath {P : Type 0} (became : P → P → Type 0) : Type 0 where
+  pub none : (p : P) → became p p
+  pub onward : (a b c : P) → became a b → became b c → became a c
+
 -- a port that wasn't used yet
 abbrev pub fresh : Option (List ℕ) → Option (List ℕ) → Bool → PortState
 fresh coming sent confirms = record { coming = coming; sent = sent; receives = 0; has_ended = false; failures = 0; receive_failures = 0; confirms = confirms; gone = [] }

@@ -14,7 +14,7 @@ use Rattle.fuse_session.specs.declared.group.Rest.TheVariants.{GoesOn as GoesOnH
 use Rattle.fuse_session.specs.declared.group.Stop.{Stop}
 use Rattle.fuse_session.specs.declared.group.Stop.TheVariants.{PortFailed, Store, Memory}
 use Rattle.fuse_session.specs.Port.{PortState}
-use Rattle.fuse_session.specs.Worked.{Timed, bytes_of, kept_in, answers, GoesOn, Works, EndsLast, StartsZero, Moments}
+use Rattle.fuse_session.specs.Worked.{Timed, bytes_of, kept_in, answers, GoesOn, Works, EndsLast, StartsZero, moments_in, GaveFirst}
 use Rattle.fuse_session.specs.Settling.{Mark, replies, settled_in, NoneComesAgain, Replied, BeginsNext, FewHave, FewRecorded}
 use Rattle.fuse_session.specs.Counting.{counted}
 
@@ -29,12 +29,12 @@ pub record Answered (M : Model) (stood : History → List ℕ → Type 0) (s : M
 
 -- so it was, whatever the keeper stood for and whatever was settled, where no message comes again; and of what is settled
 -- few ids have a record, all of them to be handed on, if so it was before
-pub record Turned {M : Model} (k k' : KeeperState M) (may : Moment → Type 0) (old new : PortState) (pending pending' : List ℕ) (front : List (List ℕ)) (going : Bool) (counts : SessionCounts) : Type 0 where
+pub record Turned {M : Model} (k k' : KeeperState M) (gave : List Moment → Type 0) (old new : PortState) (pending pending' : List ℕ) (front : List (List ℕ)) (going : Bool) (counts : SessionCounts) : Type 0 where
   pub timed : List Timed
   pub marks : List Mark
   pub bytes : front ≡ bytes_of timed
   pub full : length marks ≡ length timed
-  pub moments : Moments may timed
+  pub moments : gave (moments_in timed)
   pub replied : Replied old new marks []
   pub handed : (t : List ℕ) → Includes t pending → Includes (t ++ settled_in old.confirms (bytes_of timed) marks) pending'
   pub all : k'.is_honest → (s : M.State) (h : History) (t : List ℕ) → StandsFor k s h t → Includes t pending → NoneComesAgain old.confirms t (bytes_of timed) marks
@@ -68,13 +68,13 @@ pub record Exact (M : Model) (stood : History → List ℕ → Type 0) (s : M.St
 -- other end of a session too. What the keeper holds where its store is clean, and where it was firm whatever a crash leaves,
 -- stands for the messages worked off. Where the store or want of memory ended it, exactly their answers were sent. Of the
 -- ids that are settled few have a record, if so it was before
-pub record Broken {M : Model} (k k' : KeeperState M) (may : Moment → Type 0) (old new : PortState) (pending : List ℕ) (messages : List (List ℕ)) (store memory : Bool) (faulted : Type 0) : Type 0 where
+pub record Broken {M : Model} (k k' : KeeperState M) (gave : List Moment → Type 0) (old new : PortState) (pending : List ℕ) (messages : List (List ℕ)) (store memory : Bool) (faulted : Type 0) : Type 0 where
   pub timed : List Timed
   pub others : List (List ℕ)
   pub marks : List Mark
   pub part : List ℕ
   pub front : messages ≡ bytes_of timed ++ others
-  pub moments : Moments may timed
+  pub moments : GaveFirst gave timed
   pub replied : Replied old new marks part
   pub no_part : (store || memory) ≡ true → part ≡ []
   pub exactly : (store || memory) ≡ true → k'.is_honest → (s : M.State) (h : History) (t : List ℕ) → StandsFor k s h t → Includes t pending → NoneComesAgain old.confirms t (bytes_of timed) marks
@@ -98,37 +98,37 @@ goes_on Destroyed = false
 goes_on ZeroUnique = false
 
 -- messages were worked off, all of them where it goes on, and else up to one that stops it
-pub record WorkedOff {M : Model} (k k' : KeeperState M) (may : Moment → Type 0) (old new : PortState) (pending pending' : List ℕ) (messages : List (List ℕ)) (rest : Rest) (begin place : ℕ) (counts : SessionCounts) : Type 0 where
+pub record WorkedOff {M : Model} (k k' : KeeperState M) (gave : List Moment → Type 0) (old new : PortState) (pending pending' : List ℕ) (messages : List (List ℕ)) (rest : Rest) (begin place : ℕ) (counts : SessionCounts) : Type 0 where
   pub front : List (List ℕ)
   pub others : List (List ℕ)
   pub parts : messages ≡ front ++ others
   pub all : goes_on rest ≡ true → others ≡ []
   pub zero : rest ≡ ZeroUnique → StartsZero others
   pub at : place ≡ begin + length (joined front)
-  pub turned : Turned k k' may old new pending pending' front (lasts rest) counts
+  pub turned : Turned k k' gave old new pending pending' front (lasts rest) counts
 
 -- bytes came, and all messages that they and those held before them have were worked off and answered; this is the rest
-pub record Whole {M : Model} (k k' : KeeperState M) (may : Moment → Type 0) (old new : PortState) (pending pending' : List ℕ) (held rest : List ℕ) (begin place : ℕ) (counts : SessionCounts) : Type 0 where
+pub record Whole {M : Model} (k k' : KeeperState M) (gave : List Moment → Type 0) (old new : PortState) (pending pending' : List ℕ) (held rest : List ℕ) (begin place : ℕ) (counts : SessionCounts) : Type 0 where
   pub received : List ℕ
   pub came : Consumes old.coming new.coming received
   pub rest_is : rest ≡ (cut (held ++ received)).1
   pub at : place ≡ begin + length (joined (cut (held ++ received)).0)
-  pub turned : Turned k k' may old new pending pending' (cut (held ++ received)).0 true counts
+  pub turned : Turned k k' gave old new pending pending' (cut (held ++ received)).0 true counts
 
 -- bytes came, and their messages were worked off up to one that stops the session
-pub record Stopped {M : Model} (k k' : KeeperState M) (may : Moment → Type 0) (old new : PortState) (pending pending' : List ℕ) (held : List ℕ) (rest : Rest) (begin place : ℕ) (counts : SessionCounts) : Type 0 where
+pub record Stopped {M : Model} (k k' : KeeperState M) (gave : List Moment → Type 0) (old new : PortState) (pending pending' : List ℕ) (held : List ℕ) (rest : Rest) (begin place : ℕ) (counts : SessionCounts) : Type 0 where
   pub received : List ℕ
   pub came : Consumes old.coming new.coming received
-  pub worked : WorkedOff k k' may old new pending pending' (cut (held ++ received)).0 rest begin place counts
+  pub worked : WorkedOff k k' gave old new pending pending' (cut (held ++ received)).0 rest begin place counts
 
 -- bytes came, and of their messages some were worked off and answered so, however it ended
-pub record Run {M : Model} (k k' : KeeperState M) (may : Moment → Type 0) (old new : PortState) (pending : List ℕ) (held : List ℕ) (store memory : Bool) (faulted : Type 0) : Type 0 where
+pub record Run {M : Model} (k k' : KeeperState M) (gave : List Moment → Type 0) (old new : PortState) (pending : List ℕ) (held : List ℕ) (store memory : Bool) (faulted : Type 0) : Type 0 where
   pub received : List ℕ
   pub came : Consumes old.coming new.coming received
-  pub broken : Broken k k' may old new pending (cut (held ++ received)).0 store memory faulted
+  pub broken : Broken k k' gave old new pending (cut (held ++ received)).0 store memory faulted
 
 -- bytes came, the first answers to their messages were sent, and of the ids that these answers settled few have a record
-pub record FewSettled {M : Model} (k k' : KeeperState M) (may : Moment → Type 0) (old new : PortState) : Type 0 where
+pub record FewSettled {M : Model} (k k' : KeeperState M) (gave : List Moment → Type 0) (old new : PortState) : Type 0 where
   pub received : List ℕ
   pub came : Consumes old.coming new.coming received
   pub timed : List Timed
@@ -136,7 +136,7 @@ pub record FewSettled {M : Model} (k k' : KeeperState M) (may : Moment → Type 
   pub marks : List Mark
   pub part : List ℕ
   pub front : (cut received).0 ≡ bytes_of timed ++ others
-  pub moments : Moments may timed
+  pub moments : GaveFirst gave timed
   pub replied : Replied old new marks part
   pub few : (s : M.State) (h : History) (t : List ℕ) → StandsFor k s h t → NoneComesAgain old.confirms t (bytes_of timed) marks
       → Lived M (λ g u. StandsFor k' s g u × FewRecorded k' (settled_in old.confirms (bytes_of timed) marks)) s h old.confirms t timed marks part

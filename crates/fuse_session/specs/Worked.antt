@@ -103,7 +103,16 @@ abbrev pub StartsZero : List (List ℕ) → Type 0
 StartsZero [] = ⊥
 StartsZero (m ∷ ms) = is_zero m ≡ true
 
--- each kept message's moment is one that the clock may answer
-abbrev pub Moments : (Moment → Type 0) → List Timed → Type 0
-Moments may [] = Unit {0}
-Moments may (t ∷ ts) = (class_of t.bytes ≡ Kept → may t.moment) × Moments may ts
+-- the moments of kept messages, in order
+abbrev pub moment_if : Class → Moment → List Moment
+moment_if Silent t = []
+moment_if (Bare errno) t = []
+moment_if Kept t = t ∷ []
+
+abbrev pub moments_in : List Timed → List Moment
+moments_in [] = []
+moments_in (t ∷ ts) = moment_if (class_of t.bytes) t.moment ++ moments_in ts
+
+-- they came first of what was given
+abbrev pub GaveFirst : (List Moment → Type 0) → List Timed → Type 0
+GaveFirst gave timed = (more : List Moment) × gave (moments_in timed ++ more)

@@ -1,6 +1,7 @@
 // Where moments come from.
-ghost use Rattle.std.specs.Prelude.{◌≡◌};
+ghost use Rattle.std.specs.Prelude.{◌≡◌, ◌∷◌, [], List};
 ghost use Rattle.fuse_wire.specs.declared.moment.Moment.{Moment as MomentValue};
+ghost use Rattle.fuse_session.specs.Clock.{IsLog};
 
 use fuse_wire::Moment;
 use std::rt;
@@ -8,14 +9,14 @@ use std::time::SystemTime;
 
 /// A clock, asked once for each message whose answer is recorded.
 pub trait Clock: Drop {
-    /// The moments that it may answer.
-    ghost may_answer: { Self → MomentValue → Type 0 };
+    /// The first gave these moments, in order, and the second is what became of it.
+    ghost gave: { Self → Self → List MomentValue → Type 0 };
 
     /// The moment now.
     fn now(&mut self) -> Moment
-        ensures answered { may_answer self.old result }
-        // It may answer nothing afterwards that it couldn't before.
-        ensures same { (t : MomentValue) → may_answer self.new t → may_answer self.old t };
+        ensures { gave self.old self.new (result ∷ []) };
+
+    ghost logged: { IsLog gave };
 }
 
 /// A clock that stands.
@@ -23,11 +24,16 @@ pub trait Clock: Drop {
 pub struct Fixed(pub Moment);
 
 impl Clock for Fixed {
-    ghost may_answer = { λ c t. t ≡ c.0 };
+    ghost use Rattle.fuse_session.specs.Clock.{GaveFixed};
+    ghost use Rattle.fuse_session.specs.Logged.{fixed_logged};
+
+    ghost gave = { GaveFixed };
 
     fn now(&mut self) -> Moment {
         self.0
     }
+
+    ghost logged = { fixed_logged };
 }
 
 /// The machine's clock: its moment, or the last one that it gave (at first 0) where it gives none.
@@ -48,8 +54,11 @@ impl<T: rt::Clock + Drop> System<T> {
 }
 
 impl<T: rt::Clock + Drop> Clock for System<T> {
-    // Any.
-    ghost may_answer = { λ c t. Unit {0} };
+    ghost use Rattle.fuse_session.specs.Clock.{GaveSystem};
+    ghost use Rattle.fuse_session.specs.Logged.{system_logged};
+
+    // Any moment, of which it keeps the last.
+    ghost gave = { GaveSystem };
 
     fn now(&mut self) -> Moment {
         if let Ok(now) = SystemTime::now(&self.rt)
@@ -62,4 +71,6 @@ impl<T: rt::Clock + Drop> Clock for System<T> {
         }
         self.last
     }
+
+    ghost logged = { system_logged };
 }

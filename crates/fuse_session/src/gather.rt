@@ -1,12 +1,12 @@
 // Reading a group off the messages that wait.
-ghost use Rattle.std.specs.Prelude.{◌≡◌, ◌≤◌, ◌==◌, length, take, All, IfOk};
+ghost use Rattle.std.specs.Prelude.{◌≡◌, ◌≤◌, ◌==◌, List, length, take, All, IfOk};
 ghost use Rattle.fuse_wire.specs.declared.moment.Moment.{Moment as MomentValue};
 ghost use Rattle.fuse_request.specs.Stream.{IsMessage};
 ghost use Rattle.fuse_request.specs.Classes.{class_of};
 ghost use Rattle.fuse_request.specs.Header.{raw_of};
 ghost use Rattle.fuse_keeper.specs.Group.{entries_of, HasId, IsKept};
 ghost use Rattle.fuse_keeper.specs.declared.keeper.TheConstants.{MAX_GROUP as max_group};
-ghost use Rattle.fuse_session.specs.Worked.{entry_if, message_entry};
+ghost use Rattle.fuse_session.specs.Worked.{entry_if, message_entry, moment_if};
 ghost use Rattle.fuse_session.specs.Group.{Gathers, IsStuck, listed};
 
 use crate::clock::Clock;
@@ -40,9 +40,8 @@ pub(crate) fn has_opcode(message: &[u8], opcode: u32) -> bool
 fn read_one<'a, C: Clock>(clock: &mut C, message: &'a [u8]) -> Option<(Request<'a>, Moment)>
     requires { IsMessage message.now }
     ensures entry { (t : MomentValue) × (entries_of (listed result) ≡ entry_if (class_of message.now) (message_entry message.now t))
-        × (class_of message.now ≡ Class.Kept → C.may_answer clock.old t) }
+        × C.gave clock.old clock.new (moment_if (class_of message.now) t) }
     ensures kept { All IsKept (entries_of (listed result)) }
-    ensures same { (t : MomentValue) → C.may_answer clock.new t → C.may_answer clock.old t }
 {
     match classify(message) {
         Class::Kept => match decode(message) {
@@ -62,12 +61,12 @@ pub(crate) fn gather<'a, C: Clock>(
 ) -> Result<Gathered<'a>, AllocError>
     requires { All IsMessage messages.now }
     ensures within { IfOk result (λ r. r.count ≤ length messages.now) }
-    ensures gathers { IfOk result (λ r. Gathers (C.may_answer clock.old) (take r.count messages.now) r.taken.items r.ends) }
+    ensures gathers { IfOk result (λ r. Gathers (C.gave clock.old clock.new) (take r.count messages.now) r.taken.items r.ends) }
     ensures few { IfOk result (λ r. length r.taken.items ≤ max_group) }
     ensures named { IfOk result (λ r. All HasId (entries_of r.taken.items)) }
     ensures kept { IfOk result (λ r. All IsKept (entries_of r.taken.items)) }
     ensures stuck { IfOk result (λ r. r.count ≡ 0 → IsStuck messages.now) }
-    ensures same { (t : MomentValue) → C.may_answer clock.new t → C.may_answer clock.old t }
+    ensures logged { (given : List MomentValue) × C.gave clock.old clock.new given }
 {
     let mut taken = Vec::new(alloc);
     let mut count = 0;

@@ -1,6 +1,5 @@
 // Serving a port from a keeper.
 ghost use Rattle.std.specs.Prelude.{◌≡◌, ◌≤◌, ◌<◌, ◌+◌, ◌^◌, [], true, false, None, length, IfOk, IfErr, OnOk, OnErr};
-ghost use Rattle.fuse_wire.specs.declared.moment.Moment.{Moment as MomentValue};
 ghost use Rattle.fuse_request.specs.Framing.{fed_of};
 ghost use Rattle.fuse_request.specs.declared.header.TheConstants.{MAX_MESSAGE as max_message};
 ghost use Rattle.fuse_keeper.specs.declared.fault.StoreFault.{StoreFault as StoreFaultValue};
@@ -85,7 +84,7 @@ fn one_turn<K: Keeper, P: Port, C: Clock>(
     requires opened { IsOpen framer.old }
     requires room { length buffer.old ≤ max_message }
     requires fed { fed_of framer.old + length buffer.old ≤ 2 ^ 59 }
-    ensures ok { IfOk result (λ counts. Whole (K.told keeper.old) (K.told keeper.new) (C.may_answer clock.old) (P.told port.old) (P.told port.new)
+    ensures ok { IfOk result (λ counts. Whole (K.told keeper.old) (K.told keeper.new) (C.gave clock.old clock.new) (P.told port.old) (P.told port.new)
         (ids_of pending.old.items) (ids_of pending.new.items) framer.old.bytes framer.new.bytes framer.old.at framer.new.at counts) }
     ensures opened { OnOk result (IsOpen framer.new) }
     ensures below { IfOk result (λ counts. IsBelow counts (2 ^ 20)) }
@@ -101,9 +100,9 @@ fn one_turn<K: Keeper, P: Port, C: Clock>(
     ensures fed { fed_of framer.new ≤ fed_of framer.old + length buffer.old }
     ensures buffer { length buffer.new ≡ length buffer.old }
     ensures life { IfErr result (λ served. Run (K.told keeper.old) (K.told keeper.new)
-        (C.may_answer clock.old) (P.told port.old) (P.told port.new) (ids_of pending.old.items) framer.old.bytes (ended_store served.ended) (ended_memory served.ended) (MayEnd (K.told keeper.old).may_answer served.ended)) }
+        (C.gave clock.old clock.new) (P.told port.old) (P.told port.new) (ids_of pending.old.items) framer.old.bytes (ended_store served.ended) (ended_memory served.ended) (MayEnd (K.told keeper.old).may_answer served.ended)) }
     ensures may { (f : StoreFaultValue) → (K.told keeper.new).may_answer f → (K.told keeper.old).may_answer f }
-    ensures ends { IfErr result (λ served. EndsAs (K.told keeper.old) (K.told keeper.new) (C.may_answer clock.old) (P.told port.old) (P.told port.new)
+    ensures ends { IfErr result (λ served. EndsAs (K.told keeper.old) (K.told keeper.new) (C.gave clock.old clock.new) (P.told port.old) (P.told port.new)
         (ids_of pending.old.items) framer.old.bytes framer.old.at 0 served.ended served.counts) }
     ensures counted { IfErr result (λ served. IsBelow served.counts (2 ^ 20)) }
     ensures at_most { OnErr result ((P.told port.old).confirms ≡ true → (K.told keeper.new).is_clean → (before : Records) → HandsOn before (K.told keeper.old) (ids_of pending.old.items) → AtMostMore before (K.told keeper.new)) }
@@ -111,7 +110,6 @@ fn one_turn<K: Keeper, P: Port, C: Clock>(
     ensures store { IfErr result (λ served. (K.told keeper.new).has_failed ≡ ended_store served.ended) }
     ensures not_turns { IfErr result (λ served. served.ended ≡ Ended.Turns → ⊥) }
     ensures honest { (K.told keeper.new).is_honest → (K.told keeper.old).is_honest }
-    ensures same { (t : MomentValue) → C.may_answer clock.new t → C.may_answer clock.old t }
 {
     histories_grow::<K>();
     let begin = framer.fed() - framer.held();
@@ -154,17 +152,17 @@ pub fn serve<K: Keeper, P: Port, C: Clock>(
     requires receives { (P.told port.old).receives < 2 ^ 62 }
     requires failures { (P.told port.old).failures < 2 ^ 62 }
     // What was worked off and answered at each of the ends, and how it is counted.
-    ensures ends { EndsAs (K.told keeper.old) (K.told keeper.new) (C.may_answer clock.old) (P.told port.old) (P.told port.new)
+    ensures ends { EndsAs (K.told keeper.old) (K.told keeper.new) (C.gave clock.old clock.new) (P.told port.old) (P.told port.new)
         [] [] 0 turns result.ended result.counts }
 
     // However it ends, what was sent is a front of what is to be sent for messages that the keeper stands for, and that
     // whatever a crash leaves stands for.
     ensures life { Run (K.told keeper.old) (K.told keeper.new)
-        (C.may_answer clock.old) (P.told port.old) (P.told port.new) [] [] (ended_store result.ended) (ended_memory result.ended) (MayEnd (K.told keeper.old).may_answer result.ended) }
+        (C.gave clock.old clock.new) (P.told port.old) (P.told port.new) [] [] (ended_store result.ended) (ended_memory result.ended) (MayEnd (K.told keeper.old).may_answer result.ended) }
 
     // Where the store or want of memory ended it, exactly the answers to some of the messages were sent. The store's
     // fault is one that the keeper may answer, and the keeper stands for those messages, where its store is clean.
-    ensures exactly { ExactAt (K.told keeper.old) (K.told keeper.new) (C.may_answer clock.old)
+    ensures exactly { ExactAt (K.told keeper.old) (K.told keeper.new) (C.gave clock.old clock.new)
         (P.told port.old) (P.told port.new) [] [] result.ended }
 
     // On a port that confirms few records stay.
@@ -172,7 +170,7 @@ pub fn serve<K: Keeper, P: Port, C: Clock>(
         → OfHeld (K.told keeper.old) (λ rows records. AtMostMore records (K.told keeper.new)) }
 
     // On any port few of the ids that the answers settled have a record, be it that the port confirms or told Gone of them.
-    ensures settled { (K.told keeper.new).is_clean → FewSettled (K.told keeper.old) (K.told keeper.new) (C.may_answer clock.old) (P.told port.old) (P.told port.new) }
+    ensures settled { (K.told keeper.new).is_clean → FewSettled (K.told keeper.old) (K.told keeper.new) (C.gave clock.old clock.new) (P.told port.old) (P.told port.new) }
 
     // It receives no more often than it may.
     ensures turns { (P.told port.new).receives ≤ (P.told port.old).receives + turns }

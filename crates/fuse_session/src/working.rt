@@ -1,6 +1,5 @@
 // Working off the messages that wait, in groups.
 ghost use Rattle.std.specs.Prelude.{◌≡◌, ◌≤◌, ◌<◌, ◌+◌, ◌^◌, true, false, not, length, All, IfOk, IfErr, OnOk, OnErr};
-ghost use Rattle.fuse_wire.specs.declared.moment.Moment.{Moment as MomentValue};
 ghost use Rattle.fuse_request.specs.Stream.{IsMessage, joined};
 ghost use Rattle.fuse_keeper.specs.declared.fault.StoreFault.{StoreFault as StoreFaultValue};
 ghost use Rattle.fuse_keeper.specs.Stands.{Records};
@@ -69,7 +68,7 @@ pub(crate) fn work_off<K: Keeper, P: Port, C: Clock>(
     requires few { length pending.old.items ≤ max_settled }
     requires short { length messages.now < 2 ^ 60 }
     requires place { begin + length (joined messages.now) < 2 ^ 62 }
-    ensures ok { IfOk result (λ work. WorkedOff (K.told keeper.old) (K.told keeper.new) (C.may_answer clock.old) (P.told port.old) (P.told port.new)
+    ensures ok { IfOk result (λ work. WorkedOff (K.told keeper.old) (K.told keeper.new) (C.gave clock.old clock.new) (P.told port.old) (P.told port.new)
         (ids_of pending.old.items) (ids_of pending.new.items) messages.now work.rest begin work.place work.counts) }
     ensures below { IfOk result (λ work. IsBelow work.counts (length messages.now)) }
     ensures few { OnOk result (length pending.new.items ≤ max_settled) }
@@ -79,14 +78,13 @@ pub(crate) fn work_off<K: Keeper, P: Port, C: Clock>(
         → HandsOn before (K.told keeper.new) (ids_of pending.new.items)) }
     ensures failures { OnOk result ((P.told port.new).failures ≡ (P.told port.old).failures) }
     ensures err { IfErr result (λ stop. Broken (K.told keeper.old) (K.told keeper.new)
-        (C.may_answer clock.old) (P.told port.old) (P.told port.new) (ids_of pending.old.items) messages.now (is_store stop) (is_memory stop) (MayStop (K.told keeper.old).may_answer stop)) }
+        (C.gave clock.old clock.new) (P.told port.old) (P.told port.new) (ids_of pending.old.items) messages.now (is_store stop) (is_memory stop) (MayStop (K.told keeper.old).may_answer stop)) }
     ensures may { (f : StoreFaultValue) → (K.told keeper.new).may_answer f → (K.told keeper.old).may_answer f }
     ensures at_most { OnErr result ((P.told port.old).confirms ≡ true → (K.told keeper.new).is_clean → (before : Records) → HandsOn before (K.told keeper.old) (ids_of pending.old.items) → AtMostMore before (K.told keeper.new)) }
     ensures failed { IfErr result (λ stop. stop ≡ Stop.PortFailed → (P.told port.old).failures < (P.told port.new).failures) }
     ensures store { IfErr result (λ stop. (K.told keeper.new).has_failed ≡ is_store stop) }
     ensures honest { (K.told keeper.new).is_honest → (K.told keeper.old).is_honest }
     ensures quiet { IsQuiet (P.told port.old) (P.told port.new) }
-    ensures same { (t : MomentValue) → C.may_answer clock.new t → C.may_answer clock.old t }
 {
     histories_grow::<K>();
     let mut at = 0;

@@ -12,20 +12,20 @@ pub returns-in_default-clause-err : goal.returns-in_default-clause-err
 returns-in_default-clause-err g c =
     let k = c.args.keeper.now in
     let p = g.P.Port.told c.args.port.now in
-    broken_none g.K.Keeper.model (g.K.Keeper.told k) (g.K.Keeper.told k) _ p p (ids_of c.args.pending.now.items) c.args.messages.now false true _ refl (replied_none p)
+    broken_none g.K.Keeper.model (g.K.Keeper.told k) (g.K.Keeper.told k) _ p p (ids_of c.args.pending.now.items) c.args.messages.now false true _ refl c.in_default.ensures.logged (replied_none p)
     (λ rows records held. held) (λ firm s h t so. firm_leaves g.K.Keeper.model (g.K.Keeper.told k) s h t firm so)
 
 pub returns-in-Err-clause-err : goal.returns-in-Err-clause-err
 returns-in-Err-clause-err g c =
     let k = c.args.keeper.now in
     let k' = c.perform_group.new.keeper in
-    broken_store g.K.Keeper.model (g.K.Keeper.told k) (g.K.Keeper.told k') (g.C.Clock.may_answer c.args.clock.now) (g.P.Port.told c.args.port.now)
+    broken_store g.K.Keeper.model (g.K.Keeper.told k) (g.K.Keeper.told k') (g.C.Clock.gave c.args.clock.now c.gather.new.clock) (g.P.Port.told c.args.port.now)
     (ids_of c.args.pending.now.items) c.args.messages.now c.in-Ok.gathered.count c.in-Ok.gathered.taken.items c.in-Ok.gathered.ends c.as_slice-group.result.now _
     c.in-Ok.ensures.gathers c.as_slice-group.ensures.value c.in-Err.ensures.called.err c.in-Err.ensures.called.fault c.in-Err.ensures.crash
 
 pub send_answers-requires-clause-enough : goal.send_answers-requires-clause-enough
 send_answers-requires-clause-enough g c =
-    are_enough (g.C.Clock.may_answer c.args.clock.now) (take c.in-Ok.gathered.count c.args.messages.now) c.in-Ok.gathered.taken.items c.in-Ok.gathered.ends _ c.as_slice-group.result.now c.in-Ok-perform_group.dones.items c.as_slice-answered.result.now
+    are_enough (g.C.Clock.gave c.args.clock.now c.gather.new.clock) (take c.in-Ok.gathered.count c.args.messages.now) c.in-Ok.gathered.taken.items c.in-Ok.gathered.ends _ c.as_slice-group.result.now c.in-Ok-perform_group.dones.items c.as_slice-answered.result.now
     c.in-Ok.ensures.gathers refl c.as_slice-group.ensures.value c.in-Ok-perform_group.ensures.count c.as_slice-answered.ensures.value
 
 pub returns-in-Ok-send_answers-clause-zero : goal.returns-in-Ok-send_answers-clause-zero
@@ -37,14 +37,14 @@ pub returns-in-Ok-send_answers-clause-ok : goal.returns-in-Ok-send_answers-claus
 returns-in-Ok-send_answers-clause-ok g c =
     let k = c.args.keeper.now in
     let k' = c.perform_group.new.keeper in
-    turned g.K.Keeper.model c.histories_grow.ensures (g.K.Keeper.told k) (g.K.Keeper.told k') (g.C.Clock.may_answer c.args.clock.now) (g.P.Port.told c.args.port.now) _ (ids_of c.args.pending.now.items) (ids_of c.perform_group.new.pending.items) _ c.args.messages.now
+    turned g.K.Keeper.model c.histories_grow.ensures (g.K.Keeper.told k) (g.K.Keeper.told k') (g.C.Clock.gave c.args.clock.now c.gather.new.clock) (g.P.Port.told c.args.port.now) _ (ids_of c.args.pending.now.items) (ids_of c.perform_group.new.pending.items) _ c.args.messages.now
     c.in-Ok.gathered.count c.in-Ok.gathered.taken.items c.in-Ok.gathered.ends c.as_slice-group.result.now (take c.in-Ok.gathered.count c.args.messages.now) c.in-Ok-perform_group.dones.items c.as_slice-answered.result.now c.is_stuck-stuck.result c.rest_of-rest.result c.count_all-counts.result
     c.in-Ok.ensures.gathers c.as_slice-group.ensures.value refl c.in-Ok-perform_group.ensures.ok c.in-Ok-perform_group.ensures.pending c.in-Ok-perform_group.ensures.gone (omega (arith, length-map c.send_answers.new.pending.items (λ (x : Id). x.0), c.in-Ok-send_answers.ensures.few, c.in-Ok-perform_group.ensures.few, ap length c.as_slice-answered.ensures.value))
     c.in-Ok-send_answers.ensures.ok c.as_slice-answered.ensures.value c.rest_of-rest.ensures c.count_all-counts.ensures.tallied
 
 pub returns-in-Ok-send_answers-clause-more : goal.returns-in-Ok-send_answers-clause-more
 returns-in-Ok-send_answers-clause-more g c = λ confirms honest (before : Records) h.
-    hands_group g.K.Keeper.model before (g.K.Keeper.told c.perform_group.new.keeper) (g.C.Clock.may_answer c.args.clock.now) (g.P.Port.told c.args.port.now) _ (ids_of c.perform_group.new.pending.items) _ (take c.in-Ok.gathered.count c.args.messages.now)
+    hands_group g.K.Keeper.model before (g.K.Keeper.told c.perform_group.new.keeper) (g.C.Clock.gave c.args.clock.now c.gather.new.clock) (g.P.Port.told c.args.port.now) _ (ids_of c.perform_group.new.pending.items) _ (take c.in-Ok.gathered.count c.args.messages.now)
     c.in-Ok.gathered.taken.items c.in-Ok.gathered.ends c.as_slice-group.result.now (take c.in-Ok.gathered.count c.args.messages.now) _
     c.in-Ok.ensures.gathers c.as_slice-group.ensures.value refl confirms c.in-Ok-send_answers.ensures.ok (c.in-Ok-perform_group.ensures.more honest before h)
 
@@ -52,7 +52,7 @@ pub returns-clause-err : goal.returns-clause-err
 returns-clause-err g c =
     let k = c.args.keeper.now in
     let k' = c.perform_group.new.keeper in
-    broken_sent g.K.Keeper.model c.histories_grow.ensures (g.K.Keeper.told k) (g.K.Keeper.told k') (g.C.Clock.may_answer c.args.clock.now) (g.P.Port.told c.args.port.now) _
+    broken_sent g.K.Keeper.model c.histories_grow.ensures (g.K.Keeper.told k) (g.K.Keeper.told k') (g.C.Clock.gave c.args.clock.now c.gather.new.clock) (g.P.Port.told c.args.port.now) _
     (ids_of c.args.pending.now.items) (ids_of c.perform_group.new.pending.items) c.args.messages.now c.in-Ok.gathered.count c.in-Ok.gathered.taken.items c.in-Ok.gathered.ends c.as_slice-group.result.now (take c.in-Ok.gathered.count c.args.messages.now) c.in-Ok-perform_group.dones.items c.as_slice-answered.result.now _ _ _ _
     c.in-Ok.ensures.gathers c.as_slice-group.ensures.value refl (g.met.K.Keeper.sound k').clean_is_honest c.in-Ok-perform_group.ensures.ok c.in-Ok-perform_group.ensures.firm c.in-Ok-perform_group.ensures.gone
     (omega (arith, length-map c.perform_group.new.pending.items (λ (x : Id). x.0), length-map c.as_slice-group.result.now entry_of, c.in-Ok-perform_group.ensures.count, c.in-Ok-perform_group.ensures.few))

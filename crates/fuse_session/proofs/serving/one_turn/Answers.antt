@@ -14,10 +14,10 @@ use Rattle.fuse_session.proofs.serving.one_turn.Goals as goal
 pub returns-in-Err-clause-life : goal.returns-in-Err-clause-life
 returns-in-Err-clause-life g c =
     let k = c.args.keeper.now in
-    life_unheard g.K.Keeper.model (g.K.Keeper.told k) _ _ _ (ids_of c.args.pending.now.items) c.args.framer.now c.in-Err.ended _ _ _ (unheard_store c.in-Err.ended _ _ c.args.framer.now c.in-Err.ensures.err).0 c.in-Err.ensures.err c.in-Err.ensures.hearing
+    life_unheard g.K.Keeper.model (g.K.Keeper.told k) _ _ _ (ids_of c.args.pending.now.items) c.args.framer.now c.in-Err.ended _ _ _ (unheard_store c.in-Err.ended _ _ c.args.framer.now c.in-Err.ensures.err).0 ((g.met.C.Clock.logged).none c.args.clock.now) c.in-Err.ensures.err c.in-Err.ensures.hearing
 
 pub returns-in-Err-clause-ends : goal.returns-in-Err-clause-ends
-returns-in-Err-clause-ends g c = ends_unheard g.K.Keeper.model (g.K.Keeper.told c.args.keeper.now) _ _ _ (ids_of c.args.pending.now.items) c.args.framer.now c.in-Err.ended 0 c.requires.opened c.in-Err.ensures.err c.in-Err.ensures.hearing
+returns-in-Err-clause-ends g c = ends_unheard g.K.Keeper.model (g.K.Keeper.told c.args.keeper.now) _ _ _ (ids_of c.args.pending.now.items) c.args.framer.now c.in-Err.ended 0 ((g.met.C.Clock.logged).none c.args.clock.now) c.requires.opened c.in-Err.ensures.err c.in-Err.ensures.hearing
 
 pub returns-in-Err-clause-failed : goal.returns-in-Err-clause-failed
 returns-in-Err-clause-failed g c = (unheard_store c.in-Err.ended _ _ c.args.framer.now c.in-Err.ensures.err).1
@@ -56,7 +56,7 @@ pub returns-in-Err-work_off-clause-life : goal.returns-in-Err-work_off-clause-li
 returns-in-Err-work_off-clause-life g c =
     let k = c.args.keeper.now in
     let k' = c.work_off.new.keeper in
-    life_heard g.K.Keeper.model c.histories_grow.ensures (g.K.Keeper.told k) (g.K.Keeper.told k') c.in-Err-work_off.ensures.honest (g.C.Clock.may_answer c.args.clock.now) _ _ _ (ids_of c.args.pending.now.items)
+    life_heard g.K.Keeper.model c.histories_grow.ensures (g.K.Keeper.told k) (g.K.Keeper.told k') c.in-Err-work_off.ensures.honest (g.C.Clock.gave c.args.clock.now c.work_off.new.clock) _ _ _ (ids_of c.args.pending.now.items)
     c.args.framer.now c.hear.new.framer c.in-Ok.waiting.messages.items c.as_slice-slice.result.now c.in-Ok.waiting.fault _ _ _ _ _ _
     c.in-Ok.ensures.ok c.in-Ok.ensures.hearing c.as_slice-slice.ensures.value c.ended_of.ensures.store c.ended_of.ensures.memory c.in-Err-work_off.ensures.err (stop_may_end (g.K.Keeper.told k).may_answer c.in-Err-work_off.stop c.ended_of.result c.ended_of.ensures.is) c.in-Err-work_off.ensures.quiet (g.met.K.Keeper.sound k').clean_is_honest
 
@@ -83,7 +83,7 @@ returns-in-Ok-finish-clause-ok g c =
     let k = c.args.keeper.now in
     let k' = c.work_off.new.keeper in
     let fin = c.in-Ok-finish.ensures.ok in
-    subst (λ x. Whole (g.K.Keeper.told k) (g.K.Keeper.told k') (g.C.Clock.may_answer c.args.clock.now) (g.P.Port.told c.args.port.now) (g.P.Port.told c.work_off.new.port)
+    subst (λ x. Whole (g.K.Keeper.told k) (g.K.Keeper.told k') (g.C.Clock.gave c.args.clock.now c.work_off.new.clock) (g.P.Port.told c.args.port.now) (g.P.Port.told c.work_off.new.port)
     (ids_of c.args.pending.now.items) (ids_of c.work_off.new.pending.items) c.args.framer.now.bytes c.hear.new.framer.bytes c.args.framer.now.at c.hear.new.framer.at x) (sym fin.0)
     (whole_heard g.K.Keeper.model c.histories_grow.ensures (g.K.Keeper.told k) (g.K.Keeper.told k') c.in-Ok-work_off.ensures.honest _ _ _ _ (ids_of c.args.pending.now.items) (ids_of c.work_off.new.pending.items) c.args.framer.now c.hear.new.framer c.in-Ok.waiting.messages.items c.as_slice-slice.result.now c.in-Ok.waiting.fault _ _
     c.in-Ok-work_off.work.rest c.in-Ok-work_off.work.counts c.in-Ok.ensures.ok c.in-Ok.ensures.hearing c.as_slice-slice.ensures.value fin.1 c.in-Ok-work_off.ensures.ok c.in-Ok-work_off.ensures.quiet)

@@ -14,7 +14,7 @@ use Rattle.fuse_session.proofs.serving.serve.Goals as goal
 pub returns-in_default-clause-life : goal.returns-in_default-clause-life
 returns-in_default-clause-life g c =
     let k = c.args.keeper.now in
-    life_none g.K.Keeper.model (g.K.Keeper.told k) _ (g.P.Port.told c.args.port.now) [] [] _ _ _ refl
+    life_none g.K.Keeper.model (g.K.Keeper.told k) _ (g.P.Port.told c.args.port.now) [] [] _ _ _ refl ((g.met.C.Clock.logged).none c.args.clock.now)
 
 pub returns-in_default-clause-exactly : goal.returns-in_default-clause-exactly
 returns-in_default-clause-exactly g c =
@@ -31,7 +31,7 @@ returns-in_default-clause-settled g c = λ clean.
 
 pub loop-turn-init : goal.loop-turn-init
 loop-turn-init g c = record {
-  whole = whole_start g.K.Keeper.model (g.K.Keeper.told c.args.keeper.now) _ (g.P.Port.told c.args.port.now) (ids_of c.new-pending.result.items) c.new-framer.result (ap ids_of c.new-pending.ensures.items) c.new-framer.ensures;
+  whole = whole_start g.K.Keeper.model (g.K.Keeper.told c.args.keeper.now) _ (g.P.Port.told c.args.port.now) (ids_of c.new-pending.result.items) c.new-framer.result ((g.met.C.Clock.logged).none c.args.clock.now) (ap ids_of c.new-pending.ensures.items) c.new-framer.ensures;
   ready = ready_new c.new-framer.result c.new-framer.ensures;
   below = record { messages = omega arith; kept = omega arith; repeated = omega arith; bare = omega arith; silent = omega arith; interrupts = omega arith };
   few = omega (arith, ap length c.new-pending.ensures.items);
@@ -46,7 +46,6 @@ loop-turn-init g c = record {
   fed = omega (arith, ap fed_of c.new-framer.ensures);
   room = omega (arith, c.in-Ok.ensures.len, c.in-Ok.buffer.ok.0);
   honest = λ is. is;
-  same = λ t may. may;
   may = λ f may. may;
 }
 
@@ -56,8 +55,8 @@ loop-turn-preserved g c =
     let e = c.in-Ok-one_turn.ensures in
     let k' = c.one_turn.new.keeper in
     record {
-      whole = whole_step g.K.Keeper.model c.histories_grow.ensures c.cut_joins.ensures (g.K.Keeper.told c.args.keeper.now) (g.K.Keeper.told c.loop-turn.keeper) (g.K.Keeper.told k') _ _ _ _ _ [] (ids_of c.loop-turn.pending.items) (ids_of c.one_turn.new.pending.items) [] _ _ 0 _ _ c.loop-turn.counts c.in-Ok-one_turn.more c.sum_of-counts.result
-          c.sum_of-counts.ensures inv.whole e.ok e.honest inv.same;
+      whole = whole_step g.K.Keeper.model c.histories_grow.ensures c.cut_joins.ensures (g.K.Keeper.told c.args.keeper.now) (g.K.Keeper.told c.loop-turn.keeper) (g.K.Keeper.told k') (g.C.Clock.gave c.args.clock.now c.loop-turn.clock) (g.C.Clock.gave c.loop-turn.clock c.one_turn.new.clock) (g.C.Clock.gave c.args.clock.now c.one_turn.new.clock) _ _ _ [] (ids_of c.loop-turn.pending.items) (ids_of c.one_turn.new.pending.items) [] _ _ 0 _ _ c.loop-turn.counts c.in-Ok-one_turn.more c.sum_of-counts.result
+          c.sum_of-counts.ensures inv.whole e.ok e.honest ((g.met.C.Clock.logged).onward c.args.clock.now c.loop-turn.clock c.one_turn.new.clock);
       ready = e.opened;
       below = subst (λ x. IsBelow x ((c.loop-turn.turn + 1) * 2 ^ 20)) (sym c.sum_of-counts.ensures) (below_more _ (c.loop-turn.turn * 2 ^ 20 + 2 ^ 20) _ (omega arith) (plus_below c.loop-turn.counts c.in-Ok-one_turn.more (c.loop-turn.turn * 2 ^ 20) (2 ^ 20) inv.below e.below));
       few = e.few;
@@ -72,7 +71,6 @@ loop-turn-preserved g c =
       fed = omega (arith, e.fed, inv.fed, inv.room);
       room = room_still c.loop-turn.buffer.len c.one_turn.new.buffer _ (omega (arith, e.buffer, inv.room)) (omega (arith, c.loop-turn.buffer.ok.0, inv.room));
       honest = λ honest. inv.honest (e.honest honest);
-      same = λ t may. inv.same t (e.same t may);
       may = λ f may. inv.may f (e.may f may);
     }
 
@@ -80,8 +78,8 @@ pub returns-in-Err-clause-ends : goal.returns-in-Err-clause-ends
 returns-in-Err-clause-ends g c =
     let inv = c.loop-turn.invariant in
     let e = c.in-Err.ensures in
-    ends_step g.K.Keeper.model c.histories_grow.ensures c.cut_joins.ensures (g.K.Keeper.told c.args.keeper.now) (g.K.Keeper.told c.loop-turn.keeper) (g.K.Keeper.told c.one_turn.new.keeper) _ _ _ _ _ [] (ids_of c.loop-turn.pending.items) [] _ 0 _ 0 c.args.turns c.in-Err.served.ended c.loop-turn.counts c.in-Err.served.counts c.sum_of-sum.result
-    c.sum_of-sum.ensures inv.whole e.ends e.not_turns inv.receive_failures inv.has_ended e.honest inv.same
+    ends_step g.K.Keeper.model c.histories_grow.ensures c.cut_joins.ensures (g.K.Keeper.told c.args.keeper.now) (g.K.Keeper.told c.loop-turn.keeper) (g.K.Keeper.told c.one_turn.new.keeper) (g.C.Clock.gave c.args.clock.now c.loop-turn.clock) (g.C.Clock.gave c.loop-turn.clock c.one_turn.new.clock) (g.C.Clock.gave c.args.clock.now c.one_turn.new.clock) _ _ _ [] (ids_of c.loop-turn.pending.items) [] _ 0 _ 0 c.args.turns c.in-Err.served.ended c.loop-turn.counts c.in-Err.served.counts c.sum_of-sum.result
+    c.sum_of-sum.ensures inv.whole e.ends e.not_turns inv.receive_failures inv.has_ended e.honest ((g.met.C.Clock.logged).onward c.args.clock.now c.loop-turn.clock c.one_turn.new.clock)
 
 pub returns-in-Err-clause-life : goal.returns-in-Err-clause-life
 returns-in-Err-clause-life g c =
@@ -90,8 +88,8 @@ returns-in-Err-clause-life g c =
     let k = c.args.keeper.now in
     let m = c.loop-turn.keeper in
     let k' = c.one_turn.new.keeper in
-    life_more g.K.Keeper.model c.histories_grow.ensures c.cut_joins.ensures (g.K.Keeper.told k) (g.K.Keeper.told m) (g.K.Keeper.told k') _ _ _ _ _ []
-    (ids_of c.loop-turn.pending.items) [] _ 0 _ c.loop-turn.counts _ _ _ _ inv.whole e.life (may_end (g.K.Keeper.told k).may_answer (g.K.Keeper.told m).may_answer c.in-Err.served.ended inv.may) (g.met.K.Keeper.sound k').clean_is_honest e.honest inv.firm inv.same
+    life_more g.K.Keeper.model c.histories_grow.ensures c.cut_joins.ensures (g.K.Keeper.told k) (g.K.Keeper.told m) (g.K.Keeper.told k') (g.C.Clock.gave c.args.clock.now c.loop-turn.clock) (g.C.Clock.gave c.loop-turn.clock c.one_turn.new.clock) (g.C.Clock.gave c.args.clock.now c.one_turn.new.clock) _ _ _ []
+    (ids_of c.loop-turn.pending.items) [] _ 0 _ c.loop-turn.counts _ _ _ _ inv.whole e.life (may_end (g.K.Keeper.told k).may_answer (g.K.Keeper.told m).may_answer c.in-Err.served.ended inv.may) (g.met.K.Keeper.sound k').clean_is_honest e.honest inv.firm ((g.met.C.Clock.logged).onward c.args.clock.now c.loop-turn.clock c.one_turn.new.clock)
 
 pub returns-in-Err-clause-exactly : goal.returns-in-Err-clause-exactly
 returns-in-Err-clause-exactly g c =

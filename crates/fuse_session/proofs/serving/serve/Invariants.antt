@@ -13,7 +13,7 @@ use Rattle.fuse_session.proofs.serving.serve.Given as goal
 
 abbrev pub invariant-loop-turn : goal.invariant-loop-turn
 invariant-loop-turn g l = record {
-  whole : Whole (g.K.Keeper.told l.fn.keeper) (g.K.Keeper.told l.keeper) (g.C.Clock.may_answer l.fn.clock) (g.P.Port.told l.fn.port) (g.P.Port.told l.port)
+  whole : Whole (g.K.Keeper.told l.fn.keeper) (g.K.Keeper.told l.keeper) (g.C.Clock.gave l.fn.clock l.clock) (g.P.Port.told l.fn.port) (g.P.Port.told l.port)
       [] (ids_of l.pending.items) [] l.framer.bytes 0 l.framer.at l.counts;
   ready : IsOpen l.framer;
   below : IsBelow l.counts (l.turn * 2 ^ 20);
@@ -30,6 +30,5 @@ invariant-loop-turn g l = record {
   fed : fed_of l.framer ≤ l.turn * 135168;
   room : length l.buffer.items ≡ 135168;
   honest : (g.K.Keeper.told l.keeper).is_honest → (g.K.Keeper.told l.fn.keeper).is_honest;
-  same : (t : Moment) → g.C.Clock.may_answer l.clock t → g.C.Clock.may_answer l.fn.clock t;
   may : (f : StoreFault) → (g.K.Keeper.told l.keeper).may_answer f → (g.K.Keeper.told l.fn.keeper).may_answer f;
 }

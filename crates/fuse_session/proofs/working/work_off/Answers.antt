@@ -12,7 +12,7 @@ use Rattle.fuse_session.proofs.working.work_off.Goals as goal
 pub loop-at-init : goal.loop-at-init
 loop-at-init g c = record {
   within = omega arith;
-  turned = turned_none g.K.Keeper.model _ _ (g.P.Port.told c.args.port.now) (ids_of c.args.pending.now.items);
+  turned = turned_none g.K.Keeper.model _ _ (g.P.Port.told c.args.port.now) (ids_of c.args.pending.now.items) ((g.met.C.Clock.logged).none c.args.clock.now);
   placed = omega arith;
   below = record { messages = omega arith; kept = omega arith; repeated = omega arith; bare = omega arith; silent = omega arith; interrupts = omega arith };
   few = c.requires.few;
@@ -22,15 +22,14 @@ loop-at-init g c = record {
   failures = refl;
   honest = λ is. is;
   quiet = quiet_none (g.P.Port.told c.args.port.now);
-  same = λ t may. may;
   may = λ f may. may;
 }
 
 pub returns-in-Err-clause-err : goal.returns-in-Err-clause-err
 returns-in-Err-clause-err g c =
     let inv = c.loop-at.invariant in
-    group_broken g.K.Keeper.model c.histories_grow.ensures (g.K.Keeper.told c.args.keeper.now) (g.K.Keeper.told c.loop-at.keeper) (g.K.Keeper.told c.work_group.new.keeper) _ _ _ _ _ _ _ c.args.messages.now _ c.loop-at.at _ _ _ _ _
-    refl inv.turned c.in-Err.ensures.err (may_stop (g.K.Keeper.told c.args.keeper.now).may_answer (g.K.Keeper.told c.loop-at.keeper).may_answer c.in-Err.stop inv.may) (g.met.K.Keeper.sound c.work_group.new.keeper).clean_is_honest c.in-Err.ensures.honest inv.firm inv.same
+    group_broken g.K.Keeper.model c.histories_grow.ensures (g.K.Keeper.told c.args.keeper.now) (g.K.Keeper.told c.loop-at.keeper) (g.K.Keeper.told c.work_group.new.keeper) (g.C.Clock.gave c.args.clock.now c.loop-at.clock) (g.C.Clock.gave c.loop-at.clock c.work_group.new.clock) (g.C.Clock.gave c.args.clock.now c.work_group.new.clock) _ _ _ _ _ c.args.messages.now _ c.loop-at.at _ _ _ _ _
+    refl inv.turned c.in-Err.ensures.err (may_stop (g.K.Keeper.told c.args.keeper.now).may_answer (g.K.Keeper.told c.loop-at.keeper).may_answer c.in-Err.stop inv.may) (g.met.K.Keeper.sound c.work_group.new.keeper).clean_is_honest c.in-Err.ensures.honest inv.firm ((g.met.C.Clock.logged).onward c.args.clock.now c.loop-at.clock c.work_group.new.clock)
 
 pub length_of-size-requires : goal.length_of-size-requires
 length_of-size-requires g c =
@@ -62,8 +61,8 @@ returns-then-over-clause-ok g c =
     worked_off g.K.Keeper.model (g.K.Keeper.told c.args.keeper.now) (g.K.Keeper.told c.work_group.new.keeper) _ _ _ (ids_of c.args.pending.now.items) (ids_of c.work_group.new.pending.items) ms (take (length ms - i) (drop i ms)) i n c.in-Ok.turn.rest c.args.begin _ c.sum_of-sum.result
     refl (is_over (goes_on c.in-Ok.turn.rest) (sym c.is_over-over.ensures ∙ c.if-over.true)) c.in-Ok.ensures.zero
     (omega (arith, inv.placed, c.length_of-size.ensures, joined_more ms (take (i + n - i) (drop i ms)) i n (worked_slice ms i n)))
-    (group_more g.K.Keeper.model c.histories_grow.ensures (g.K.Keeper.told c.args.keeper.now) (g.K.Keeper.told c.loop-at.keeper) (g.K.Keeper.told c.work_group.new.keeper) _ _ _ _ _ _ _ _ ms (take (length ms - i) (drop i ms)) i n (lasts c.in-Ok.turn.rest) c.loop-at.counts c.in-Ok.turn.counts c.sum_of-sum.result
-    refl c.sum_of-sum.ensures inv.turned c.in-Ok.ensures.ok c.in-Ok.ensures.honest inv.same)
+    (group_more g.K.Keeper.model c.histories_grow.ensures (g.K.Keeper.told c.args.keeper.now) (g.K.Keeper.told c.loop-at.keeper) (g.K.Keeper.told c.work_group.new.keeper) (g.C.Clock.gave c.args.clock.now c.loop-at.clock) (g.C.Clock.gave c.loop-at.clock c.work_group.new.clock) (g.C.Clock.gave c.args.clock.now c.work_group.new.clock) _ _ _ _ _ _ ms (take (length ms - i) (drop i ms)) i n (lasts c.in-Ok.turn.rest) c.loop-at.counts c.in-Ok.turn.counts c.sum_of-sum.result
+    refl c.sum_of-sum.ensures inv.turned c.in-Ok.ensures.ok c.in-Ok.ensures.honest ((g.met.C.Clock.logged).onward c.args.clock.now c.loop-at.clock c.work_group.new.clock))
 
 pub loop-at-preserved : goal.loop-at-preserved
 loop-at-preserved g c =
@@ -75,10 +74,10 @@ loop-at-preserved g c =
     let k' = c.work_group.new.keeper in
     record {
       within = within_parts ms i n inv.within c.in-Ok.ensures.within;
-      turned = subst (λ b. Turned (g.K.Keeper.told c.args.keeper.now) (g.K.Keeper.told k') (g.C.Clock.may_answer c.args.clock.now) (g.P.Port.told c.args.port.now) (g.P.Port.told c.work_group.new.port)
+      turned = subst (λ b. Turned (g.K.Keeper.told c.args.keeper.now) (g.K.Keeper.told k') (g.C.Clock.gave c.args.clock.now c.work_group.new.clock) (g.P.Port.told c.args.port.now) (g.P.Port.told c.work_group.new.port)
           (ids_of c.args.pending.now.items) (ids_of c.work_group.new.pending.items) (take (i + n) ms) b c.sum_of-sum.result) (lasts_on c.in-Ok.turn.rest on)
-          (group_more g.K.Keeper.model c.histories_grow.ensures (g.K.Keeper.told c.args.keeper.now) (g.K.Keeper.told c.loop-at.keeper) (g.K.Keeper.told k') _ _ _ _ _ _ _ _ ms (take (length ms - i) (drop i ms)) i n (lasts c.in-Ok.turn.rest) c.loop-at.counts c.in-Ok.turn.counts c.sum_of-sum.result
-          refl c.sum_of-sum.ensures inv.turned c.in-Ok.ensures.ok c.in-Ok.ensures.honest inv.same);
+          (group_more g.K.Keeper.model c.histories_grow.ensures (g.K.Keeper.told c.args.keeper.now) (g.K.Keeper.told c.loop-at.keeper) (g.K.Keeper.told k') (g.C.Clock.gave c.args.clock.now c.loop-at.clock) (g.C.Clock.gave c.loop-at.clock c.work_group.new.clock) (g.C.Clock.gave c.args.clock.now c.work_group.new.clock) _ _ _ _ _ _ ms (take (length ms - i) (drop i ms)) i n (lasts c.in-Ok.turn.rest) c.loop-at.counts c.in-Ok.turn.counts c.sum_of-sum.result
+          refl c.sum_of-sum.ensures inv.turned c.in-Ok.ensures.ok c.in-Ok.ensures.honest ((g.met.C.Clock.logged).onward c.args.clock.now c.loop-at.clock c.work_group.new.clock));
       placed = omega (arith, inv.placed, c.length_of-size.ensures, joined_more ms (take (i + n - i) (drop i ms)) i n (worked_slice ms i n));
       below = subst (λ x. IsBelow x (i + n)) (sym c.sum_of-sum.ensures) (plus_below c.loop-at.counts c.in-Ok.turn.counts i n inv.below c.in-Ok.ensures.below);
       few = c.in-Ok.ensures.few;
@@ -88,7 +87,6 @@ loop-at-preserved g c =
       failures = c.in-Ok.ensures.failures ∙ inv.failures;
       honest = λ honest. inv.honest (c.in-Ok.ensures.honest honest);
       quiet = quiet_more (g.P.Port.told c.args.port.now) (g.P.Port.told c.loop-at.port) (g.P.Port.told c.work_group.new.port) inv.quiet c.in-Ok.ensures.quiet;
-      same = λ t may. inv.same t (c.in-Ok.ensures.same t may);
       may = λ f may. inv.may f (c.in-Ok.ensures.may f may);
     }
 

@@ -14,7 +14,7 @@ use Rattle.fuse_session.proofs.working.work_off.Given as goal
 abbrev pub invariant-loop-at : goal.invariant-loop-at
 invariant-loop-at g l = record {
   within : l.at ≤ length l.messages;
-  turned : Turned (g.K.Keeper.told l.fn.keeper) (g.K.Keeper.told l.keeper) (g.C.Clock.may_answer l.fn.clock) (g.P.Port.told l.fn.port) (g.P.Port.told l.port)
+  turned : Turned (g.K.Keeper.told l.fn.keeper) (g.K.Keeper.told l.keeper) (g.C.Clock.gave l.fn.clock l.clock) (g.P.Port.told l.fn.port) (g.P.Port.told l.port)
       (ids_of l.fn.pending.items) (ids_of l.pending.items) (take l.at l.messages) true l.counts;
   placed : l.place ≡ l.begin + length (joined (take l.at l.messages));
   below : IsBelow l.counts l.at;
@@ -27,7 +27,6 @@ invariant-loop-at g l = record {
   failures : (g.P.Port.told l.port).failures ≡ (g.P.Port.told l.fn.port).failures;
   honest : (g.K.Keeper.told l.keeper).is_honest → (g.K.Keeper.told l.fn.keeper).is_honest;
   quiet : IsQuiet (g.P.Port.told l.fn.port) (g.P.Port.told l.port);
-  same : (t : Moment) → g.C.Clock.may_answer l.clock t → g.C.Clock.may_answer l.fn.clock t;
   may : (f : StoreFault) → (g.K.Keeper.told l.keeper).may_answer f → (g.K.Keeper.told l.fn.keeper).may_answer f;
 }
 
