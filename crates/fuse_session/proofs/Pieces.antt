@@ -1,8 +1,11 @@
 -- Pieces of what is to come.
 use Rattle.std.specs.Io.KnownBytes.{Consumes}
-use Rattle.std.proofs.Common.{Option, Some, subst, ◌≡◌, ℕ, List, ◌++◌, length, take, drop, sym, ap, ◌∙◌, ◌+◌, ◌-◌, ◌≤◌, arith, length-drop, length-append}
+use Rattle.std.proofs.Common.{◌∷◌, [], zero, suc, ◌<◌, get_or, refl, Option, Some, subst, ◌≡◌, ℕ, List, ◌++◌, length, take, drop, sym, ap, ◌∙◌, ◌+◌, ◌-◌, ◌≤◌, arith, length-drop, length-append}
 use Rattle.std.proofs.lemmas.List.{take-append-drop, drop-drop, length-take-le}
 use Rattle.std.proofs.Math.Seq.{take-append_seam}
+use Rattle.fuse_session.specs.declared.memory.Arrival.{Arrival}
+use Rattle.fuse_session.specs.declared.memory.Outcome.{Outcome}
+use Rattle.fuse_session.specs.Memory.{first_arrival, first_outcome}
 
 pub piece_came : (input copied rest : List ℕ) (at n : ℕ) → length copied ≡ n → copied ≡ take n (drop at input) → drop at input ≡ take n (copied ++ rest) ++ drop (at + n) input
 piece_came input copied rest at n len is =
@@ -26,3 +29,15 @@ copied_length input copied at n is le = ap length is ∙ length-take-le n (drop 
 
 pub room : (copied rest : List ℕ) (n : ℕ) → length copied ≡ n → n ≤ length (copied ++ rest)
 room copied rest n is = omega (arith, length-append copied rest)
+
+-- ---- what is to arrive, and how it is to go
+
+pub arrival_at : (xs : List Arrival) (i : ℕ) (d : Arrival) → i < length xs → get_or xs i d ≡ first_arrival (drop i xs)
+arrival_at [] i d lt = absurd (omega arith)
+arrival_at (x ∷ xs) zero d lt = refl
+arrival_at (x ∷ xs) (suc i) d lt = arrival_at xs i d (omega arith)
+
+pub outcome_at : (xs : List Outcome) (i : ℕ) (d : Outcome) → i < length xs → get_or xs i d ≡ first_outcome (drop i xs)
+outcome_at [] i d lt = absurd (omega arith)
+outcome_at (x ∷ xs) zero d lt = refl
+outcome_at (x ∷ xs) (suc i) d lt = outcome_at xs i d (omega arith)

@@ -199,7 +199,7 @@ came_by : (e : Ended) (p q : PortState) (h : Held) → NotHeard e p q h → (rec
 came_by End p q h n = ([], n.2)
 came_by (Frame f) p q h n = ([], n.2)
 came_by PortFailed p q h n = ([], n.3)
-came_by Memory p q h n = n
+came_by Memory p q h n = (n.0, n.1)
 came_by Destroyed p q h n = absurd n
 came_by Turns p q h n = absurd n
 came_by (ZeroUnique at) p q h n = absurd n

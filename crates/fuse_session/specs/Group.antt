@@ -160,4 +160,5 @@ pub record SentSome (old new : PortState) (answers : List (List ℕ)) (fault : S
   pub replied : Replied old new marks part
   pub memory : fault ≡ Memory → part ≡ []
   pub failed : fault ≡ PortFailed → old.failures < new.failures
+  pub still : fault ≡ Memory → new.failures ≡ old.failures
   pub quiet : IsQuiet old new

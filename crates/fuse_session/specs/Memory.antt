@@ -1,6 +1,14 @@
 -- What is told of a port in memory.
-use Rattle.std.specs.Prelude.{drop, Some}
+use Rattle.std.specs.Prelude.{ℕ, ◌-◌, ◌==◌, if◌then◌else◌, min, List, [], ◌∷◌, drop, length, Some}
+use Rattle.fuse_session.specs.declared.memory.Arrival.{Arrival}
+use Rattle.fuse_session.specs.declared.memory.Arrival.TheVariants as arrivals
 use Rattle.fuse_session.specs.declared.memory.MemoryPort.{MemoryPort}
+use Rattle.fuse_session.specs.declared.memory.Outcome.{Outcome}
+use Rattle.fuse_session.specs.declared.memory.Outcome.TheVariants as outcomes
+use Rattle.fuse_session.specs.declared.port.Received.{Received}
+use Rattle.fuse_session.specs.declared.port.Received.TheVariants as received
+use Rattle.fuse_session.specs.declared.port.Sent.{Sent}
+use Rattle.fuse_session.specs.declared.port.Sent.TheVariants as sent
 use Rattle.fuse_session.specs.Port.{PortState}
 
 abbrev pub memory_told : MemoryPort → PortState
@@ -14,3 +22,34 @@ memory_told p = record {
   confirms = p.confirms;
   gone = p.gone.items;
 }
+
+-- what its next calls are to give and to answer
+abbrev pub arrivals_left : MemoryPort → List Arrival
+arrivals_left p = drop p.arrived p.arrivals.items
+
+abbrev pub outcomes_left : MemoryPort → List Outcome
+outcomes_left p = drop p.answered p.outcomes.items
+
+-- how many bytes are to come
+abbrev pub bytes_left : MemoryPort → ℕ
+bytes_left p = length p.input.items - p.at
+
+-- the next of these, or what lets all through
+abbrev pub first_arrival : List Arrival → Arrival
+first_arrival [] = arrivals.Piece 18446744073709551615
+first_arrival (a ∷ more) = a
+
+abbrev pub first_outcome : List Outcome → Outcome
+first_outcome [] = outcomes.Take 18446744073709551615
+first_outcome (o ∷ more) = o
+
+-- what a call gives, of so many bytes that are left, into a buffer with so much room
+abbrev pub received_by : Arrival → ℕ → ℕ → Received
+received_by (arrivals.Piece most) left room = if left == 0 then received.End else received.Got (min (min left most) room)
+received_by arrivals.Failed left room = received.Failed
+
+-- what a call answers to so many bytes, unless memory is wanting
+abbrev pub sent_by : Outcome → ℕ → Sent
+sent_by (outcomes.Take most) len = sent.Took (min len most)
+sent_by outcomes.Gone len = sent.Gone
+sent_by outcomes.Failed len = sent.Failed

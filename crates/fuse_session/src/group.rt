@@ -173,6 +173,7 @@ pub(crate) fn work_group<K: Keeper, P: Port, C: Clock>(
     ensures store { IfErr result (λ stop. (K.told keeper.new).has_failed ≡ is_store stop) }
     ensures honest { (K.told keeper.new).is_honest → (K.told keeper.old).is_honest }
     ensures quiet { IsQuiet (P.told port.old) (P.told port.new) }
+    ensures same { P.became port.old port.new }
 {
     histories_grow::<K>();
     let Ok(gathered) = gather(alloc, clock, messages) else {

@@ -1,5 +1,5 @@
 // A port in memory.
-ghost use Rattle.std.specs.Prelude.{◌≡◌, ◌≤◌, length, Some, []};
+ghost use Rattle.std.specs.Prelude.{◌≡◌, ◌⊎◌, ◌≤◌, drop, length, Some, []};
 
 use crate::port::{Port, Received, Sent};
 use std::alloc::Global;
@@ -47,7 +47,8 @@ pub struct MemoryPort {
 }
 
 impl MemoryPort {
-    ghost use Rattle.fuse_session.specs.Memory.{memory_told};
+    ghost use Rattle.fuse_session.specs.Memory.{memory_told, arrivals_left, outcomes_left};
+    ghost use Rattle.fuse_session.specs.Memory.{first_arrival, first_outcome};
     ghost use Rattle.fuse_session.specs.Port.{fresh};
 
     /// All of the input is to come. `confirms`: whether an answer taken whole counts as taken by the kernel.
@@ -58,7 +59,9 @@ impl MemoryPort {
         outcomes: Vec<Outcome>,
         confirms: bool,
     ) -> MemoryPort
-        ensures { memory_told result ≡ fresh (Some input.items) (Some []) confirms }
+        ensures told { memory_told result ≡ fresh (Some input.items) (Some []) confirms }
+        ensures arrivals { arrivals_left result ≡ arrivals.items }
+        ensures outcomes { outcomes_left result ≡ outcomes.items }
     {
         MemoryPort {
             input,
@@ -85,32 +88,53 @@ impl MemoryPort {
     }
 
     fn next_arrival(&mut self) -> Arrival
-        ensures { memory_told self.new ≡ memory_told self.old }
+        ensures told { memory_told self.new ≡ memory_told self.old }
+        ensures first { result ≡ first_arrival (arrivals_left self.old) }
+        ensures left { arrivals_left self.new ≡ drop 1 (arrivals_left self.old) }
+        ensures others { outcomes_left self.new ≡ outcomes_left self.old }
     {
         if self.arrived < self.arrivals.len() {
+            let arrival = self.arrivals[self.arrived];
             self.arrived += 1;
-            return self.arrivals[self.arrived - 1];
+            return arrival;
         }
         Arrival::Piece(usize::MAX)
     }
 
     fn next_outcome(&mut self) -> Outcome
-        ensures { memory_told self.new ≡ memory_told self.old }
+        ensures told { memory_told self.new ≡ memory_told self.old }
+        ensures first { result ≡ first_outcome (outcomes_left self.old) }
+        ensures left { outcomes_left self.new ≡ drop 1 (outcomes_left self.old) }
+        ensures others { arrivals_left self.new ≡ arrivals_left self.old }
     {
         if self.answered < self.outcomes.len() {
+            let outcome = self.outcomes[self.answered];
             self.answered += 1;
-            return self.outcomes[self.answered - 1];
+            return outcome;
         }
         Outcome::Take(usize::MAX)
     }
 }
 
 impl Port for MemoryPort {
-    ghost use Rattle.fuse_session.specs.Memory.{memory_told};
+    ghost use Rattle.fuse_session.specs.Memory.{memory_told, arrivals_left, outcomes_left, bytes_left};
+    ghost use Rattle.fuse_session.specs.Memory.{first_arrival, first_outcome, received_by, sent_by};
+    ghost use Rattle.fuse_session.specs.Port.{IsYoung, Receives, Sends};
 
     ghost told = { memory_told };
 
-    fn receive(&mut self, buffer: &mut [u8]) -> Received {
+    ghost became = { λ a b. Unit {0} };
+
+    fn receive(&mut self, buffer: &mut [u8]) -> Received
+        requires young { IsYoung (memory_told self.old) }
+        ensures received { Receives (memory_told self.old) (memory_told self.new) result buffer.new }
+        ensures same { Unit {0} }
+        // By its lists: what arrives next, of which one less is left then.
+        ensures arrives { result ≡ received_by (first_arrival (arrivals_left self.old))
+            (bytes_left self.old) (length buffer.old) }
+        ensures left { arrivals_left self.new ≡ drop 1 (arrivals_left self.old) }
+        ensures others { outcomes_left self.new ≡ outcomes_left self.old }
+    {
         self.receives += 1;
         let Arrival::Piece(most) = self.next_arrival() else {
             self.failures += 1;
@@ -129,7 +153,16 @@ impl Port for MemoryPort {
     }
 
     // A growth that is refused is a failure.
-    fn send(&mut self, bytes: &[u8]) -> Sent {
+    fn send(&mut self, bytes: &[u8]) -> Sent
+        requires young { IsYoung (memory_told self.old) }
+        ensures sent { Sends (memory_told self.old) (memory_told self.new) result bytes.now }
+        ensures same { Unit {0} }
+        // By its lists: how it goes next, of which one less is left then.
+        ensures answers { (result ≡ sent_by (first_outcome (outcomes_left self.old)) (length bytes.now))
+            ⊎ (result ≡ Sent.Failed) }
+        ensures left { outcomes_left self.new ≡ drop 1 (outcomes_left self.old) }
+        ensures others { arrivals_left self.new ≡ arrivals_left self.old }
+    {
         let outcome = self.next_outcome();
         let taken = match outcome {
             Outcome::Take(most) => &bytes[..bytes.len().min(most)],
@@ -160,4 +193,6 @@ impl Port for MemoryPort {
     fn tally(&self) -> (u64, u64) {
         (self.receives, self.failures)
     }
+
+    ghost path = { record { none = λ p. tt; onward = λ a b c before after. tt } };
 }

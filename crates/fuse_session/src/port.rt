@@ -1,6 +1,8 @@
 // Where messages come from and answers go to.
-ghost use Rattle.std.specs.Prelude.{◌≡◌, IfOk, OnErr};
-ghost use Rattle.fuse_session.specs.Port.{PortState, IsYoung, Receives, Sends, SentWhole, SentPart, tells_gone};
+ghost use Rattle.std.specs.Prelude.{◌≡◌, ◌≤◌, length, IfOk, OnErr};
+ghost use Rattle.fuse_request.specs.declared.header.TheConstants.{MAX_MESSAGE as max_message};
+ghost use Rattle.fuse_session.specs.Port.{PortState, IsYoung, IsPath, Receives, Sends};
+ghost use Rattle.fuse_session.specs.Port.{SentWhole, SentPart, tells_gone};
 
 /// What a port answers to a call of `receive`.
 #[derive(Clone, Copy, Debug, PartialEq, Eq)]
@@ -29,15 +31,22 @@ pub trait Port: Drop {
     /// What is told of it.
     ghost told: { Self → PortState };
 
-    /// Receives bytes into a buffer, once. What stands in the buffer behind them is nothing.
+    /// The second is what became of the first. One of which that isn't told lets all be so.
+    ghost became: { Self → Self → Type 0 };
+
+    /// Receives bytes into a buffer with room for the longest message, once. What stands in the
+    /// buffer behind them is nothing.
     fn receive(&mut self, buffer: &mut [u8]) -> Received
         requires young { IsYoung (told self.old) }
-        ensures received { Receives (told self.old) (told self.new) result buffer.new };
+        requires room { max_message ≤ length buffer.old }
+        ensures received { Receives (told self.old) (told self.new) result buffer.new }
+        ensures same { became self.old self.new };
 
     /// Sends the bytes that are left of one answer, once.
     fn send(&mut self, bytes: &[u8]) -> Sent
         requires young { IsYoung (told self.old) }
-        ensures sent { Sends (told self.old) (told self.new) result bytes.now };
+        ensures sent { Sends (told self.old) (told self.new) result bytes.now }
+        ensures same { became self.old self.new };
 
     /// Whether an answer taken whole counts as taken by the kernel. Takes no memory.
     fn confirms(&self) -> bool
@@ -47,6 +56,8 @@ pub trait Port: Drop {
     fn tally(&self) -> (u64, u64)
         ensures receives { result.0 ≡ (told self.now).receives }
         ensures failures { result.1 ≡ (told self.now).failures };
+
+    ghost path: { IsPath became };
 }
 
 /// How all of an answer was sent.
@@ -64,8 +75,10 @@ pub(crate) struct PortFailed;
 /// Sends all of one answer. An `Err` leaves a front of it sent.
 pub(crate) fn send_whole<P: Port>(port: &mut P, bytes: &[u8]) -> Result<Passed, PortFailed>
     requires young { IsYoung (P.told port.old) }
-    ensures ok { IfOk result (λ passed. SentWhole (P.told port.old) (P.told port.new) bytes.now (tells_gone passed)) }
+    ensures ok { IfOk result (λ passed. SentWhole (P.told port.old) (P.told port.new)
+        bytes.now (tells_gone passed)) }
     ensures err { OnErr result (SentPart (P.told port.old) (P.told port.new) bytes.now) }
+    ensures same { P.became port.old port.new }
 {
     let mut rest = bytes;
     while !rest.is_empty() {

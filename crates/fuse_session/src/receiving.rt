@@ -97,13 +97,14 @@ pub(crate) fn hear<P: Port>(
     buffer: &mut [u8],
 ) -> Result<Waiting, Ended>
     requires young { IsYoung (P.told port.old) }
-    requires room { length buffer.old ≤ max_message }
+    requires room { length buffer.old ≡ max_message }
     requires opened { IsOpen framer.old }
     requires fed { fed_of framer.old + length buffer.old ≤ 2 ^ 60 }
     ensures ok { IfOk result (λ w. Heard (P.told port.old) (P.told port.new) framer.old framer.new w.messages.items w.fault) }
     ensures err { IfErr result (λ ended. NotHeard ended (P.told port.old) (P.told port.new) framer.old) }
     ensures hearing { IsHearing (P.told port.old) (P.told port.new) }
     ensures fed { fed_of framer.new ≤ fed_of framer.old + length buffer.old }
+    ensures same { P.became port.old port.new }
 {
     match port.receive(buffer) {
         Received::Failed => Err(Ended::PortFailed),

@@ -33,6 +33,7 @@ fn send_reply<P: Port>(
     requires young { IsYoung (P.told port.old) }
     ensures ok { IfOk result (λ passed. SentWhole (P.told port.old) (P.told port.new) (wire answer.now.errno answer.now.body unique) (tells_gone passed)) }
     ensures err { IfErr result (λ fault. SendFails fault (P.told port.old) (P.told port.new) (wire answer.now.errno answer.now.body unique)) }
+    ensures same { P.became port.old port.new }
 {
     let mut bytes = Vec::new(alloc);
     if write_answer(unique, answer, &mut bytes).is_err() {
@@ -68,6 +69,7 @@ fn send_kept<P: Port>(
     ensures ok { OnOk result (SentNext (P.told port.old) (P.told port.new) message.now (wire answer.now.errno answer.now.body (unique_of message.now)) (ids_of pending.old.items) (ids_of pending.new.items)) }
     ensures few { length pending.new.items ≤ length pending.old.items + 1 }
     ensures err { IfErr result (λ fault. SendFails fault (P.told port.old) (P.told port.new) (wire answer.now.errno answer.now.body (unique_of message.now))) }
+    ensures same { P.became port.old port.new }
 {
     if pending.reserve(1).is_err() {
         return Err(SendFault::Memory);
@@ -94,6 +96,7 @@ fn send_bare<P: Port>(
     requires young { IsYoung (P.told port.old) }
     ensures ok { IfOk result (λ passed. SentWhole (P.told port.old) (P.told port.new) (wire errno.0 [] (unique_of message.now)) (tells_gone passed)) }
     ensures err { IfErr result (λ fault. SendFails fault (P.told port.old) (P.told port.new) (wire errno.0 [] (unique_of message.now))) }
+    ensures same { P.became port.old port.new }
 {
     let answer = Answer::refusal(alloc, errno);
     send_reply(alloc, port, fuse_request::unique_of(message), &answer)
@@ -117,6 +120,7 @@ fn send_next<P: Port>(
     ensures ok { OnOk result (SentNext (P.told port.old) (P.told port.new) message.now (head_wire (class_of message.now) (unique_of message.now) (drop next (answers_in dones.now))) (ids_of pending.old.items) (ids_of pending.new.items)) }
     ensures few { IfOk result (λ n. length pending.new.items + next ≤ length pending.old.items + n) }
     ensures err { IfErr result (λ fault. SendFails fault (P.told port.old) (P.told port.new) (head_wire (class_of message.now) (unique_of message.now) (drop next (answers_in dones.now)))) }
+    ensures same { P.became port.old port.new }
 {
     match classify(message) {
         Class::Silent => Ok(next),
@@ -145,6 +149,7 @@ pub(crate) fn send_answers<P: Port>(
     ensures ok { OnOk result (SentAll (P.told port.old) (P.told port.new) messages.now (wires messages.now (answers_in dones.now)) (ids_of pending.old.items) (ids_of pending.new.items)) }
     ensures few { OnOk result (length pending.new.items ≤ length pending.old.items + length dones.now) }
     ensures err { IfErr result (λ fault. SentSome (P.told port.old) (P.told port.new) (wires messages.now (answers_in dones.now)) fault) }
+    ensures same { P.became port.old port.new }
 {
     let mut next = 0;
     for message in messages {

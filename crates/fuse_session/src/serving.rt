@@ -82,7 +82,7 @@ fn one_turn<K: Keeper, P: Port, C: Clock>(
     requires spare { (P.told port.old).receives + 1 < 2 ^ 63 }
     requires few { length pending.old.items ≤ max_settled }
     requires opened { IsOpen framer.old }
-    requires room { length buffer.old ≤ max_message }
+    requires room { length buffer.old ≡ max_message }
     requires fed { fed_of framer.old + length buffer.old ≤ 2 ^ 59 }
     ensures ok { IfOk result (λ counts. Whole (K.told keeper.old) (K.told keeper.new) (C.gave clock.old clock.new) (P.told port.old) (P.told port.new)
         (ids_of pending.old.items) (ids_of pending.new.items) framer.old.bytes framer.new.bytes framer.old.at framer.new.at counts) }
@@ -110,6 +110,7 @@ fn one_turn<K: Keeper, P: Port, C: Clock>(
     ensures store { IfErr result (λ served. (K.told keeper.new).has_failed ≡ ended_store served.ended) }
     ensures not_turns { IfErr result (λ served. served.ended ≡ Ended.Turns → ⊥) }
     ensures honest { (K.told keeper.new).is_honest → (K.told keeper.old).is_honest }
+    ensures same { P.became port.old port.new }
 {
     histories_grow::<K>();
     let begin = framer.fed() - framer.held();

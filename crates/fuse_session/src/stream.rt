@@ -50,11 +50,13 @@ impl<R: Read + Drop, W: Write + Drop> Port for StreamPort<R, W> {
 
     ghost told = { stream_told R.remaining W.contents };
 
-    // One read. Of an empty buffer it tells nothing.
+    ghost became = { λ a b. Unit {0} };
+
+    // One read.
     fn receive(&mut self, buffer: &mut [u8]) -> Received {
         self.receives += 1;
         match self.reader.read(buffer) {
-            Ok(0) if !buffer.is_empty() => {
+            Ok(0) => {
                 self.ended = true;
                 Received::End
             }
@@ -90,4 +92,6 @@ impl<R: Read + Drop, W: Write + Drop> Port for StreamPort<R, W> {
     fn tally(&self) -> (u64, u64) {
         (self.receives, self.failures)
     }
+
+    ghost path = { record { none = λ p. tt; onward = λ a b c before after. tt } };
 }

@@ -3,7 +3,10 @@ use Rattle.fuse_session.specs.Port.{SentFront}
 use Rattle.fuse_session.proofs.port.send_whole.Given as goal
 
 abbrev pub invariant-loop-rest : goal.invariant-loop-rest
-invariant-loop-rest g l = SentFront (g.P.Port.told l.fn.port) (g.P.Port.told l.port) l.bytes l.rest
+invariant-loop-rest g l = record {
+  sent : SentFront (g.P.Port.told l.fn.port) (g.P.Port.told l.port) l.bytes l.rest;
+  same : g.P.Port.became l.fn.port l.port;
+}
 
 abbrev pub decreases-loop-rest : goal.decreases-loop-rest
 decreases-loop-rest g l = length l.rest

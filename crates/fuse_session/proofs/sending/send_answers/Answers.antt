@@ -10,6 +10,7 @@ loop-message-init g c = record {
   next = omega arith;
   enough = c.requires.enough;
   sent = sent_first_none (g.P.Port.told c.args.port.now) c.args.messages.now (wires c.args.messages.now (answers_in c.args.dones.now)) (ids_of c.args.pending.now.items);
+  same = (g.met.P.Port.path).none c.args.port.now;
   few = omega arith;
 }
 
@@ -28,6 +29,7 @@ loop-message-preserved g c =
       next = c.in-Ok.ensures.next;
       enough = enough_more ms i c.message-item.result c.as_slice.result.now list _ c.loop-message-test.true c.message-item.is c.as_slice.ensures c.loop-message.invariant.enough c.in-Ok.ensures.left;
       sent = sent_more _ _ _ ms i c.message-item.result c.as_slice.result.now list _ (wires ms (answers_in c.args.dones.now)) _ _ _ c.loop-message-test.true c.message-item.is c.as_slice.ensures c.in-Ok.ensures.left c.loop-message.invariant.sent c.in-Ok.ensures.ok;
+      same = (g.met.P.Port.path).onward c.args.port.now c.loop-message.port c.send_next.new.port c.loop-message.invariant.same c.in-Ok.ensures.same;
       few = omega (arith, c.in-Ok.ensures.few, c.loop-message.invariant.few);
     }
 

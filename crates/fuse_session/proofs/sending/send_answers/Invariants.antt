@@ -8,5 +8,6 @@ invariant-loop-message g l = record {
   next : l.next ≤ length l.dones;
   enough : AreEnough (drop l.message-index l.messages) (drop l.next (answers_in l.dones));
   sent : SentFirst (g.P.Port.told l.fn.port) (g.P.Port.told l.port) (take l.message-index l.messages) (wires l.messages (answers_in l.dones)) (wires (drop l.message-index l.messages) (drop l.next (answers_in l.dones))) (ids_of l.fn.pending.items) (ids_of l.pending.items);
+  same : g.P.Port.became l.fn.port l.port;
   few : length l.pending.items ≤ length l.fn.pending.items + l.next;
 }

@@ -21,6 +21,7 @@ loop-at-init g c = record {
   more = λ _ _ (before : Records) h. h;
   failures = refl;
   honest = λ is. is;
+  same = (g.met.P.Port.path).none c.args.port.now;
   quiet = quiet_none (g.P.Port.told c.args.port.now);
   may = λ f may. may;
 }
@@ -86,6 +87,7 @@ loop-at-preserved g c =
       more = λ confirms honest (before : Records) h. c.in-Ok.ensures.more (inv.quiet.confirms ∙ confirms) honest before (inv.more confirms (c.in-Ok.ensures.honest honest) before h);
       failures = c.in-Ok.ensures.failures ∙ inv.failures;
       honest = λ honest. inv.honest (c.in-Ok.ensures.honest honest);
+      same = (g.met.P.Port.path).onward c.args.port.now c.loop-at.port c.work_group.new.port inv.same c.in-Ok.ensures.same;
       quiet = quiet_more (g.P.Port.told c.args.port.now) (g.P.Port.told c.loop-at.port) (g.P.Port.told c.work_group.new.port) inv.quiet c.in-Ok.ensures.quiet;
       may = λ f may. inv.may f (c.in-Ok.ensures.may f may);
     }

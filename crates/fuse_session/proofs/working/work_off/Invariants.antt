@@ -26,6 +26,7 @@ invariant-loop-at g l = record {
       → HandsOn before (g.K.Keeper.told l.keeper) (ids_of l.pending.items);
   failures : (g.P.Port.told l.port).failures ≡ (g.P.Port.told l.fn.port).failures;
   honest : (g.K.Keeper.told l.keeper).is_honest → (g.K.Keeper.told l.fn.keeper).is_honest;
+  same : g.P.Port.became l.fn.port l.port;
   quiet : IsQuiet (g.P.Port.told l.fn.port) (g.P.Port.told l.port);
   may : (f : StoreFault) → (g.K.Keeper.told l.keeper).may_answer f → (g.K.Keeper.told l.fn.keeper).may_answer f;
 }
