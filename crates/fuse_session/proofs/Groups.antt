@@ -41,7 +41,7 @@ stands_later M holds s h t u more so = record { rows = so.rows; records = so.rec
 pub stands_kept : (M : Model) → (holds holds' : KeeperState M) (s : M.State) (h : History) (t : List ℕ) → KeepsHeld holds holds' → StandsFor holds s h t → StandsFor holds' s h t
 stands_kept M holds holds' s h t keeps so = record { rows = so.rows; records = so.records; held = keeps so.rows so.records so.held; stands = so.stands }
 
-pub leaves_map : (M : Model) →  (left : KeeperState M) (P Q : M.Rows → Records → Type 0) → ((x : M.Rows) (r : Records) → P x r → Q x r) → Leaves left P → Leaves left Q
+pub leaves_map : (M : Model) → (left : KeeperState M) (P Q : M.Rows → Records → Type 0) → ((x : M.Rows) (r : Records) → P x r → Q x r) → Leaves left P → Leaves left Q
 leaves_map M left P Q f l = (l.0, λ x r is. f x r (l.1 x r is))
 
 pub firm_leaves : (M : Model) → (holds : KeeperState M) (s : M.State) (h : History) (t : List ℕ) → IsFirm holds → StandsFor holds s h t

@@ -13,3 +13,4 @@ pub mod Groups
 pub mod Turns
 pub mod Waiting
 pub mod Sessions
+pub mod Prompting

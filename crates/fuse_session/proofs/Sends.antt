@@ -78,8 +78,7 @@ some_by Memory a b c front answers left left' bytes p q is one same = record {
   next = begins_none left;
   replied = subst (λ x. Replied a x one.marks []) (sym same) one.replied;
   memory = λ _. refl;
-  failed = λ isnt. absurd (cc isnt);
-  still = λ _. ap (λ (x : PortState). x.failures) same ∙ one.failures;
+  failed = ap (λ (x : PortState). x.failures) same ∙ one.failures;
   quiet = subst (IsQuiet a) (sym same) one.quiet;
 }
 some_by PortFailed a b c front answers left left' bytes p q is one two = record {
@@ -92,8 +91,7 @@ some_by PortFailed a b c front answers left left' bytes p q is one two = record 
   next = subst (λ l. BeginsNext l two.part) (sym is) (two.rest, two.parts);
   replied = subst (λ x. Replied a c x two.part) (append-nil one.marks) (replied_more a b c one.marks [] two.part one.replied (replied_part b c bytes two));
   memory = λ isnt. absurd (cc isnt);
-  failed = λ _. omega (arith, two.failures, one.failures);
-  still = λ isnt. absurd (cc isnt);
+  failed = omega (arith, two.failures, one.failures);
   quiet = quiet_more a b c one.quiet two.quiet;
 }
 

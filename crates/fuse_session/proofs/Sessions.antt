@@ -1,5 +1,5 @@
 -- Turns, one after another.
-use Rattle.std.proofs.Common.{◌≡◌, inl, inr, ◌<◌, ◌+◌, ℕ, ◌||◌, Bool, true, false, List, [], ◌++◌, length, Option, None, refl, sym, ap, subst, ◌∙◌, append_assoc, arith, length-append}
+use Rattle.std.proofs.Common.{◌≡◌, ◌↔◌, inl, inr, ◌<◌, ◌+◌, ℕ, ◌||◌, Bool, true, false, List, [], ◌++◌, length, Option, None, refl, sym, ap, subst, ◌∙◌, append_assoc, arith, length-append}
 use Rattle.std.proofs.lemmas.List.{append-nil}
 use Rattle.std.specs.Io.KnownBytes.{Appends, Consumes}
 use Rattle.fuse_wire.specs.declared.moment.Moment.{Moment}
@@ -9,7 +9,6 @@ use Rattle.fuse_request.specs.Framing.{Held}
 use Rattle.fuse_keeper.specs.declared.fault.StoreFault.{StoreFault}
 use Rattle.fuse_keeper.specs.History.{History, HistoriesGrow}
 use Rattle.fuse_keeper.specs.Model.{Model}
-use Rattle.fuse_keeper.specs.Stands.{Records}
 use Rattle.fuse_keeper.specs.KeeperState.{KeeperState, StandsFor, IsFirm}
 use Rattle.fuse_session.specs.declared.counts.SessionCounts.{SessionCounts}
 use Rattle.fuse_session.specs.declared.ended.Ended.{Ended}
@@ -22,9 +21,11 @@ use Rattle.fuse_session.specs.Port.{PortState, IsQuiet}
 use Rattle.fuse_session.specs.Worked.{Timed, bytes_of}
 use Rattle.fuse_session.specs.Settling.{Mark, settled_in, Replied, FewRecorded}
 use Rattle.fuse_session.specs.Counting.{plus, none_counted}
+use Rattle.fuse_session.specs.Moves.{FailedBy}
 use Rattle.fuse_session.specs.Receiving.{IsOpen, IsHearing, Heard, NotHeard}
 use Rattle.fuse_session.specs.Serving.{Turned, Lived, Broken, WorkedOff, Whole, Stopped, Run, FewSettled, MayStop, lasts, goes_on}
-use Rattle.fuse_session.specs.Ends.{Rested, Halted, EndsAs, IsGoodRest, FaultOf, FinishedBy, IsFault, ended_store, ended_memory, SentExactly, ExactAt, MayEnd, ended_at}
+use Rattle.fuse_session.specs.Ends.{Rested, Halted, EndsAs, IsGoodRest, FaultOf, ended_store, ended_memory, ended_port, SentExactly, ExactAt, MayEnd}
+use Rattle.fuse_session.specs.Finishing.{FinishedBy, IsFault, ended_at}
 use Rattle.fuse_session.proofs.Bytes.{appends_none, consumes_none, consumes_more}
 use Rattle.fuse_session.proofs.Replies.{joined-append, replied_none}
 use Rattle.fuse_session.proofs.Counted.{none_plus}
@@ -316,21 +317,21 @@ ends_finished M grows holds new honest gave p q r ids ids' before after messages
 ends_finished M grows holds new honest gave p q r ids ids' before after messages slice fault begin place rest counts counts' turns (Store x) by same_counts h hearing same begin_is w quiet = absurd by
 ends_finished M grows holds new honest gave p q r ids ids' before after messages slice fault begin place rest counts counts' turns Memory by same_counts h hearing same begin_is w quiet = absurd by
 
-pub finished_store : (e : Ended) (rest : Rest) (place : ℕ) (fault : Option FrameFault) → FinishedBy e rest place fault → (ended_store e ≡ false) × (e ≡ PortFailed → ⊥) × (e ≡ Turns → ⊥)
-finished_store Destroyed rest place fault by = (refl, (λ isnt. cc isnt), (λ isnt. cc isnt))
-finished_store (ZeroUnique at) rest place fault by = (refl, (λ isnt. cc isnt), (λ isnt. cc isnt))
-finished_store (Frame f) rest place fault by = (refl, (λ isnt. cc isnt), (λ isnt. cc isnt))
+pub finished_store : (e : Ended) (rest : Rest) (place : ℕ) (fault : Option FrameFault) → FinishedBy e rest place fault → (ended_store e ≡ false) × (ended_port e ≡ false) × (e ≡ Turns → ⊥)
+finished_store Destroyed rest place fault by = (refl, refl, (λ isnt. cc isnt))
+finished_store (ZeroUnique at) rest place fault by = (refl, refl, (λ isnt. cc isnt))
+finished_store (Frame f) rest place fault by = (refl, refl, (λ isnt. cc isnt))
 finished_store End rest place fault by = absurd by
 finished_store Turns rest place fault by = absurd by
 finished_store PortFailed rest place fault by = absurd by
 finished_store (Store x) rest place fault by = absurd by
 finished_store Memory rest place fault by = absurd by
 
-pub unheard_store : (e : Ended) (p q : PortState) (h : Held) → NotHeard e p q h → (ended_store e ≡ false) × (e ≡ PortFailed → p.failures < q.failures) × (e ≡ Turns → ⊥)
-unheard_store End p q h n = (refl, (λ isnt. absurd (cc isnt)), (λ isnt. cc isnt))
-unheard_store (Frame f) p q h n = (refl, (λ isnt. absurd (cc isnt)), (λ isnt. cc isnt))
-unheard_store PortFailed p q h n = (refl, (λ _. n.0), (λ isnt. cc isnt))
-unheard_store Memory p q h n = (refl, (λ isnt. absurd (cc isnt)), (λ isnt. cc isnt))
+pub unheard_store : (e : Ended) (p q : PortState) (h : Held) → NotHeard e p q h → (ended_store e ≡ false) × FailedBy (ended_port e) p.failures q.failures × (e ≡ Turns → ⊥)
+unheard_store End p q h n = (refl, n.3, (λ isnt. cc isnt))
+unheard_store (Frame f) p q h n = (refl, n.3, (λ isnt. cc isnt))
+unheard_store PortFailed p q h n = (refl, n.0, (λ isnt. cc isnt))
+unheard_store Memory p q h n = (refl, n.2, (λ isnt. cc isnt))
 unheard_store Destroyed p q h n = absurd n
 unheard_store Turns p q h n = absurd n
 unheard_store (ZeroUnique at) p q h n = absurd n
@@ -356,6 +357,17 @@ fault_not_turns Destroyed is isnt = is
 fault_not_turns Turns is isnt = is
 fault_not_turns (Frame f) is isnt = is
 fault_not_turns (ZeroUnique at) is isnt = is
+
+-- the port failed exactly where it ended the session
+pub failed_both : (e : Ended) (old new : ℕ) → FailedBy (ended_port e) old new → (e ≡ PortFailed) ↔ (old < new)
+failed_both PortFailed old new by = ((λ _. by), (λ _. refl))
+failed_both End old new by = ((λ isnt. absurd (cc isnt)), (λ more. absurd (omega (arith, by, more))))
+failed_both Destroyed old new by = ((λ isnt. absurd (cc isnt)), (λ more. absurd (omega (arith, by, more))))
+failed_both Turns old new by = ((λ isnt. absurd (cc isnt)), (λ more. absurd (omega (arith, by, more))))
+failed_both (Frame f) old new by = ((λ isnt. absurd (cc isnt)), (λ more. absurd (omega (arith, by, more))))
+failed_both (ZeroUnique at) old new by = ((λ isnt. absurd (cc isnt)), (λ more. absurd (omega (arith, by, more))))
+failed_both (Store x) old new by = ((λ isnt. absurd (cc isnt)), (λ more. absurd (omega (arith, by, more))))
+failed_both Memory old new by = ((λ isnt. absurd (cc isnt)), (λ more. absurd (omega (arith, by, more))))
 
 -- ---- a session
 

@@ -6,7 +6,7 @@ use Rattle.fuse_wire.specs.declared.moment.Moment.{Moment}
 use Rattle.fuse_request.specs.Stream.{joined}
 use Rattle.fuse_keeper.specs.History.{History, grown, said, Includes, HistoriesGrow}
 use Rattle.fuse_keeper.specs.Model.{Model}
-use Rattle.fuse_keeper.specs.Stands.{Records, Stands}
+use Rattle.fuse_keeper.specs.Stands.{Stands}
 use Rattle.fuse_keeper.specs.KeeperState.{KeeperState, StandsFor, IsFirm}
 use Rattle.fuse_session.specs.declared.counts.SessionCounts.{SessionCounts}
 use Rattle.fuse_session.specs.declared.group.Rest.{Rest}

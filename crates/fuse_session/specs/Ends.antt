@@ -8,16 +8,13 @@ use Rattle.fuse_request.specs.Stream.{cut}
 use Rattle.fuse_keeper.specs.declared.fault.StoreFault.{StoreFault}
 use Rattle.fuse_keeper.specs.History.{History, Includes}
 use Rattle.fuse_keeper.specs.Model.{Model}
-use Rattle.fuse_keeper.specs.Stands.{Records}
 use Rattle.fuse_keeper.specs.KeeperState.{KeeperState, StandsFor}
 use Rattle.fuse_session.specs.declared.counts.SessionCounts.{SessionCounts}
 use Rattle.fuse_session.specs.declared.ended.Ended.{Ended}
 use Rattle.fuse_session.specs.declared.ended.Ended.TheVariants.{End, Destroyed, Turns, Frame, ZeroUnique, PortFailed, Store, Memory}
 use Rattle.fuse_session.specs.declared.group.Rest.{Rest}
-use Rattle.fuse_session.specs.declared.group.Rest.TheVariants.{GoesOn as GoesOnHere, Destroyed as ByDestroy, ZeroUnique as ByZero}
+use Rattle.fuse_session.specs.declared.group.Rest.TheVariants.{Destroyed as ByDestroy, ZeroUnique as ByZero}
 use Rattle.fuse_session.specs.Port.{PortState, HasEnded}
-use Rattle.fuse_session.specs.declared.group.Stop.{Stop}
-use Rattle.fuse_session.specs.declared.group.Stop.TheVariants.{PortFailed as ByPort, Store as ByStore, Memory as ByMemory}
 use Rattle.fuse_session.specs.Worked.{Timed, bytes_of, GaveFirst}
 use Rattle.fuse_session.specs.Settling.{Mark, NoneComesAgain, Replied}
 use Rattle.fuse_session.specs.Serving.{Whole, Stopped, Exact}
@@ -42,6 +39,27 @@ ended_memory (ZeroUnique at) = false
 ended_memory PortFailed = false
 ended_memory (Store fault) = false
 ended_memory Memory = true
+
+abbrev pub ended_port : Ended → Bool
+ended_port End = false
+ended_port Destroyed = false
+ended_port Turns = false
+ended_port (Frame f) = false
+ended_port (ZeroUnique at) = false
+ended_port PortFailed = true
+ended_port (Store fault) = false
+ended_port Memory = false
+
+-- the counts, where no fault ended it
+abbrev pub counts_at : Ended → SessionCounts → Option SessionCounts
+counts_at End counts = Some counts
+counts_at Destroyed counts = Some counts
+counts_at Turns counts = Some counts
+counts_at (Frame f) counts = Some counts
+counts_at (ZeroUnique at) counts = Some counts
+counts_at PortFailed counts = None
+counts_at (Store fault) counts = None
+counts_at Memory counts = None
 
 -- all that came was worked off and answered, but for a rest that begins at a place
 pub record Rested {M : Model} (k k' : KeeperState M) (gave : List Moment → Type 0) (old new : PortState) (pending : List ℕ) (held : List ℕ) (begin : ℕ) (counts : SessionCounts) (P : ℕ → List ℕ → Type 0) : Type 0 where
@@ -103,22 +121,8 @@ abbrev pub MayEnd : (StoreFault → Type 0) → Ended → Type 0
 MayEnd may (Store fault) = may fault
 MayEnd may _ = Unit {0}
 
--- how a session ends by a fault
-abbrev pub ended_at : Stop → Ended
-ended_at ByPort = PortFailed
-ended_at (ByStore fault) = Store fault
-ended_at ByMemory = Memory
-
--- a fault ended the work on messages
-abbrev pub IsFault : Ended → Type 0
-IsFault PortFailed = Unit {0}
-IsFault (Store fault) = Unit {0}
-IsFault Memory = Unit {0}
-IsFault _ = ⊥
-
--- what ended the session, where messages were worked off
-abbrev pub FinishedBy : Ended → Rest → ℕ → Option FrameFault → Type 0
-FinishedBy Destroyed rest place fault = rest ≡ ByDestroy
-FinishedBy (ZeroUnique at) rest place fault = (rest ≡ ByZero) × (at ≡ place)
-FinishedBy (Frame f) rest place fault = (rest ≡ GoesOnHere) × (fault ≡ Some f)
-FinishedBy _ rest place fault = ⊥
+-- a whole session: it ended so, and its counts are told where no fault ended it
+pub record SessionEnds {M : Model} (k k' : KeeperState M) (gave : List Moment → Type 0) (old new : PortState) (turns : ℕ) (ended : Ended) (told : Option SessionCounts) : Type 0 where
+  pub counts : SessionCounts
+  pub ends : EndsAs k k' gave old new [] [] 0 turns ended counts
+  pub told_are : told ≡ counts_at ended counts

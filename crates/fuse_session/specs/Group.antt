@@ -19,6 +19,7 @@ use Rattle.fuse_session.specs.declared.sending.SendFault.{SendFault}
 use Rattle.fuse_session.specs.declared.sending.SendFault.TheVariants.{Memory, PortFailed}
 use Rattle.fuse_session.specs.Port.{PortState, IsQuiet, SentWhole, SentPart}
 use Rattle.fuse_session.specs.Worked.{Timed, bytes_of, kept_in, unique_of, destroys, moments_in}
+use Rattle.fuse_session.specs.Moves.{FailedBy, fault_port}
 use Rattle.fuse_session.specs.Settling.{Mark, replies, settles, settled_in, Replied, BeginsNext}
 use Rattle.fuse_session.specs.Counting.{counted_one, none_counted, plus, is_interrupt}
 
@@ -159,6 +160,5 @@ pub record SentSome (old new : PortState) (answers : List (List ℕ)) (fault : S
   pub next : BeginsNext later part
   pub replied : Replied old new marks part
   pub memory : fault ≡ Memory → part ≡ []
-  pub failed : fault ≡ PortFailed → old.failures < new.failures
-  pub still : fault ≡ Memory → new.failures ≡ old.failures
+  pub failed : FailedBy (fault_port fault) old.failures new.failures
   pub quiet : IsQuiet old new

@@ -1,9 +1,13 @@
 -- How the steps of serving move a keeper and what they hand on, in the clauses of private functions alone.
-use Rattle.std.specs.Prelude.{◌≡◌, ◌≤◌, List, ℕ, length}
+use Rattle.std.specs.Prelude.{◌≡◌, ◌<◌, ◌≤◌, Bool, true, false, List, ℕ, length}
 use Rattle.fuse_keeper.specs.History.{Includes}
 use Rattle.fuse_keeper.specs.Model.{Model, IsRowed}
 use Rattle.fuse_keeper.specs.Stands.{Records}
 use Rattle.fuse_keeper.specs.KeeperState.{KeeperState, IsFirm}
+use Rattle.fuse_session.specs.declared.group.Stop.{Stop}
+use Rattle.fuse_session.specs.declared.group.Stop.TheVariants.{PortFailed, Store, Memory}
+use Rattle.fuse_session.specs.declared.sending.SendFault.{SendFault}
+use Rattle.fuse_session.specs.declared.sending.SendFault.TheVariants.{Memory as SendMemory, PortFailed as SendPortFailed}
 use Rattle.fuse_session.specs.Settling.{SomeAndMore}
 
 -- it is firm if it was
@@ -20,3 +24,17 @@ pub record HandsOn {M : Model} (before : Records) (k : KeeperState M) (pending :
   pub few : length more ≤ 16
   pub some : SomeAndMore before more records
   pub all : Includes pending more
+
+-- the port failed exactly where this is so
+abbrev pub FailedBy : Bool → ℕ → ℕ → Type 0
+FailedBy true old new = old < new
+FailedBy false old new = new ≡ old
+
+abbrev pub fault_port : SendFault → Bool
+fault_port SendPortFailed = true
+fault_port SendMemory = false
+
+abbrev pub stop_port : Stop → Bool
+stop_port PortFailed = true
+stop_port (Store fault) = false
+stop_port Memory = false

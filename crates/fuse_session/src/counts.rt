@@ -8,9 +8,9 @@ ghost use Rattle.fuse_session.specs.Group.{tallied, repeats_in, head_repeat, lef
 
 use crate::gather::has_opcode;
 use bytes::Bytes;
+use fuse_keeper::Done;
 use fuse_request::opcode::INTERRUPT;
 use fuse_request::{Class, classify, decode};
-use fuse_keeper::Done;
 
 /// How many messages were worked off, by class.
 #[derive(Clone, Copy, Debug, PartialEq, Eq)]

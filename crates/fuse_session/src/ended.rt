@@ -1,6 +1,6 @@
 use crate::counts::SessionCounts;
-use fuse_request::FrameFault;
 use fuse_keeper::StoreFault;
+use fuse_request::FrameFault;
 
 /// How serving ended.
 #[derive(Drop)]
@@ -23,9 +23,9 @@ pub enum Ended {
     Memory,
 }
 
-/// How serving ended, and what was worked off. At the ends that a fault makes the counts say nothing.
+/// How serving ended, and what was worked off: none is told where the port, the store or want of memory ended it.
 #[derive(Drop)]
 pub struct Served {
     pub ended: Ended,
-    pub counts: SessionCounts,
+    pub counts: Option<SessionCounts>,
 }

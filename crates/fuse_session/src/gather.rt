@@ -11,9 +11,9 @@ ghost use Rattle.fuse_session.specs.Group.{Gathers, IsStuck, listed};
 
 use crate::clock::Clock;
 use bytes::Bytes;
+use fuse_keeper::MAX_GROUP;
 use fuse_request::opcode::DESTROY;
 use fuse_request::{Class, Request, classify, decode, has_zero_unique, header_of};
-use fuse_keeper::MAX_GROUP;
 use fuse_wire::Moment;
 use std::alloc::{AllocError, Global};
 

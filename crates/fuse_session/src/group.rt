@@ -5,7 +5,7 @@ ghost use Rattle.fuse_keeper.specs.declared.fault.StoreFault.{StoreFault as Stor
 ghost use Rattle.fuse_keeper.specs.History.{ids_in, Includes, IsUnsettled};
 ghost use Rattle.fuse_keeper.specs.Stands.{Records};
 ghost use Rattle.fuse_keeper.specs.KeeperState.{Called, Performs, LeavesGroup, AnswersNoMore};
-ghost use Rattle.fuse_session.specs.Moves.{KeepsFirm};
+ghost use Rattle.fuse_session.specs.Moves.{FailedBy, fault_port, stop_port, KeepsFirm};
 ghost use Rattle.fuse_keeper.specs.Group.{entries_of, HasId, IsKept, ids_of};
 ghost use Rattle.fuse_keeper.specs.declared.keeper.TheConstants.{MAX_GROUP as max_group, MAX_SETTLED as max_settled};
 ghost use Rattle.fuse_session.specs.Port.{IsYoung, IsQuiet};
@@ -23,8 +23,8 @@ use crate::port::Port;
 use crate::sending::{SendFault, send_answers};
 use bytes::Bytes;
 use fuse_answer::Answer;
-use fuse_request::Request;
 use fuse_keeper::{Done, Keeper, StoreFault, histories_grow};
+use fuse_request::Request;
 use fuse_wire::{Id, Moment};
 use std::alloc::Global;
 
@@ -77,6 +77,7 @@ fn perform_group<K: Keeper>(
     ensures crash { OnErr result (LeavesGroup (K.told keeper.old) (K.told keeper.new) (ids_of pending.old.items) (entries_of group.now)) }
     ensures firm { OnOk result (KeepsFirm (K.told keeper.old) (K.told keeper.new)) }
     ensures failed { (K.told keeper.new).has_failed ≡ is_err result }
+    ensures unopened { K.became keeper.old keeper.new 0 }
 {
     if group.is_empty() {
         return Ok(Vec::new(alloc));
@@ -129,7 +130,7 @@ fn is_stuck(count: usize, messages: &[Bytes]) -> bool
 }
 
 fn stop_of(fault: SendFault) -> Stop
-    ensures port { result ≡ Stop.PortFailed → fault ≡ SendFault.PortFailed }
+    ensures port { stop_port result ≡ fault_port fault }
     ensures memory { is_memory result ≡ true → fault ≡ SendFault.Memory }
     ensures store { is_store result ≡ false }
 {
@@ -169,11 +170,13 @@ pub(crate) fn work_group<K: Keeper, P: Port, C: Clock>(
         (C.gave clock.old clock.new) (P.told port.old) (P.told port.new) (ids_of pending.old.items) messages.now (is_store stop) (is_memory stop) (MayStop (K.told keeper.old).may_answer stop)) }
     ensures may { (f : StoreFaultValue) → (K.told keeper.new).may_answer f → (K.told keeper.old).may_answer f }
     ensures at_most { OnErr result ((K.told keeper.new).is_clean → (before : Records) → HandsOn before (K.told keeper.old) (ids_of pending.old.items) → AtMostMore before (K.told keeper.new)) }
-    ensures failed { IfErr result (λ stop. stop ≡ Stop.PortFailed → (P.told port.old).failures < (P.told port.new).failures) }
+    ensures failed { IfErr result (λ stop. FailedBy (stop_port stop)
+        (P.told port.old).failures (P.told port.new).failures) }
     ensures store { IfErr result (λ stop. (K.told keeper.new).has_failed ≡ is_store stop) }
     ensures honest { (K.told keeper.new).is_honest → (K.told keeper.old).is_honest }
     ensures quiet { IsQuiet (P.told port.old) (P.told port.new) }
     ensures same { P.became port.old port.new }
+    ensures unopened { K.became keeper.old keeper.new 0 }
 {
     histories_grow::<K>();
     let Ok(gathered) = gather(alloc, clock, messages) else {

@@ -11,8 +11,8 @@ ghost use Rattle.fuse_session.specs.Group.{answers_in, wires, AreEnough, head_wi
 use crate::port::{Passed, Port, PortFailed, send_whole};
 use bytes::Bytes;
 use fuse_answer::{Answer, write_answer};
-use fuse_request::{Class, classify};
 use fuse_keeper::Done;
+use fuse_request::{Class, classify};
 use fuse_wire::{Errno, Id};
 use std::alloc::Global;
 

@@ -3,7 +3,7 @@ ghost use Rattle.std.specs.Prelude.{◌≡◌, ◌≤◌, ◌<◌, ◌+◌, ◌^
 ghost use Rattle.fuse_request.specs.Stream.{IsMessage, joined};
 ghost use Rattle.fuse_keeper.specs.declared.fault.StoreFault.{StoreFault as StoreFaultValue};
 ghost use Rattle.fuse_keeper.specs.Stands.{Records};
-ghost use Rattle.fuse_session.specs.Moves.{KeepsFirm};
+ghost use Rattle.fuse_session.specs.Moves.{FailedBy, stop_port, KeepsFirm};
 ghost use Rattle.fuse_keeper.specs.Group.{ids_of};
 ghost use Rattle.fuse_keeper.specs.declared.keeper.TheConstants.{MAX_SETTLED as max_settled};
 ghost use Rattle.fuse_session.specs.Port.{IsYoung, IsQuiet};
@@ -81,11 +81,13 @@ pub(crate) fn work_off<K: Keeper, P: Port, C: Clock>(
         (C.gave clock.old clock.new) (P.told port.old) (P.told port.new) (ids_of pending.old.items) messages.now (is_store stop) (is_memory stop) (MayStop (K.told keeper.old).may_answer stop)) }
     ensures may { (f : StoreFaultValue) → (K.told keeper.new).may_answer f → (K.told keeper.old).may_answer f }
     ensures at_most { OnErr result ((P.told port.old).confirms ≡ true → (K.told keeper.new).is_clean → (before : Records) → HandsOn before (K.told keeper.old) (ids_of pending.old.items) → AtMostMore before (K.told keeper.new)) }
-    ensures failed { IfErr result (λ stop. stop ≡ Stop.PortFailed → (P.told port.old).failures < (P.told port.new).failures) }
+    ensures failed { IfErr result (λ stop. FailedBy (stop_port stop)
+        (P.told port.old).failures (P.told port.new).failures) }
     ensures store { IfErr result (λ stop. (K.told keeper.new).has_failed ≡ is_store stop) }
     ensures honest { (K.told keeper.new).is_honest → (K.told keeper.old).is_honest }
     ensures quiet { IsQuiet (P.told port.old) (P.told port.new) }
     ensures same { P.became port.old port.new }
+    ensures unopened { K.became keeper.old keeper.new 0 }
 {
     histories_grow::<K>();
     let mut at = 0;

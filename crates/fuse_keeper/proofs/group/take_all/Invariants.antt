@@ -1,4 +1,4 @@
-use Rattle.std.proofs.Common.{◌≡◌, ℕ, List, take, length, All, None}
+use Rattle.std.proofs.Common.{◌≡◌, ℕ, List, take, length, All}
 use Rattle.fuse_keeper.specs.History.{History, Includes, IsUnsettled, ids_in}
 use Rattle.fuse_keeper.specs.Model.{IsRowed}
 use Rattle.fuse_keeper.specs.Stands.{Stands, AreThese, PerformedBy}

@@ -1,5 +1,4 @@
 use Rattle.std.proofs.Common.{◌≡◌, ◌≤◌, length, take, All, false}
-use Rattle.fuse_wire.specs.declared.moment.Moment.{Moment}
 use Rattle.fuse_keeper.specs.Group.{HasId, IsKept, entries_of}
 use Rattle.fuse_session.specs.Group.{Gathers}
 use Rattle.fuse_session.proofs.gather.gather.Given as goal

@@ -1,4 +1,4 @@
-use Rattle.std.proofs.Common.{ap, sym, subst}
+use Rattle.std.proofs.Common.{ap, subst}
 use Rattle.fuse_wire.specs.declared.moment.Moment.{Moment}
 use Rattle.fuse_session.specs.Worked.{entry_if, message_entry, moment_if}
 use Rattle.fuse_session.proofs.gather.read_one.Goals as goal

@@ -3,6 +3,7 @@ use Rattle.fuse_request.specs.Stream.{IsMessage, joined}
 use Rattle.fuse_keeper.specs.Stands.{Records}
 use Rattle.fuse_keeper.specs.Group.{ids_of}
 use Rattle.fuse_session.specs.Counting.{IsBelow}
+use Rattle.fuse_session.specs.Moves.{FailedBy, stop_port}
 use Rattle.fuse_session.specs.Serving.{Whole}
 use Rattle.fuse_session.proofs.Counted.{below_more}
 use Rattle.fuse_session.proofs.Handing.{at_most}
@@ -65,7 +66,9 @@ returns-in-Err-work_off-clause-ends g c =
     fault_ends g.K.Keeper.model _ _ _ (g.P.Port.told c.args.port.now) (g.P.Port.told c.hear.new.port) (g.P.Port.told c.work_off.new.port) _ _ _ _ c.ended_of.result _ c.ended_of.ensures.fault (c.in-Err-work_off.ensures.quiet.receive_failures ∙ c.in-Ok.ensures.ok.receive_failures)
 
 pub returns-in-Err-work_off-clause-failed : goal.returns-in-Err-work_off-clause-failed
-returns-in-Err-work_off-clause-failed g c = λ is. omega (arith, c.in-Err-work_off.ensures.failed (c.ended_of.ensures.port is), c.in-Ok.ensures.ok.failures)
+returns-in-Err-work_off-clause-failed g c =
+    subst (λ b. FailedBy b (g.P.Port.told c.args.port.now).failures (g.P.Port.told c.work_off.new.port).failures) (sym c.ended_of.ensures.port)
+    (subst (λ n. FailedBy (stop_port c.in-Err-work_off.stop) n (g.P.Port.told c.work_off.new.port).failures) c.in-Ok.ensures.ok.failures c.in-Err-work_off.ensures.failed)
 
 pub returns-in-Err-work_off-clause-store : goal.returns-in-Err-work_off-clause-store
 returns-in-Err-work_off-clause-store g c = c.in-Err-work_off.ensures.store ∙ sym c.ended_of.ensures.store
@@ -115,7 +118,7 @@ returns-clause-life g c =
     let k = c.args.keeper.now in
     let k' = c.work_off.new.keeper in
     life_worked g.K.Keeper.model c.histories_grow.ensures (g.K.Keeper.told k) (g.K.Keeper.told k') c.in-Ok-work_off.ensures.honest _ _ _ _ (ids_of c.args.pending.now.items) (ids_of c.work_off.new.pending.items)
-    c.args.framer.now c.hear.new.framer c.in-Ok.waiting.messages.items c.as_slice-slice.result.now c.in-Ok.waiting.fault _ _ c.in-Ok-work_off.work.rest c.in-Ok-work_off.work.counts _ _ _ (finished_store c.in-Err-finish.served.ended _ _ _ c.in-Err-finish.ensures.err.1).0
+    c.args.framer.now c.hear.new.framer c.in-Ok.waiting.messages.items c.as_slice-slice.result.now c.in-Ok.waiting.fault _ _ c.in-Ok-work_off.work.rest c.in-Ok-work_off.work.counts _ _ _ (finished_store c.in-Err-finish.halt.ended _ _ _ c.in-Err-finish.ensures.err.1).0
     c.in-Ok.ensures.ok c.in-Ok.ensures.hearing c.as_slice-slice.ensures.value c.in-Ok-work_off.ensures.ok c.in-Ok-work_off.ensures.quiet (g.met.K.Keeper.sound k').clean_is_honest c.in-Ok-work_off.ensures.firm
 
 pub returns-clause-ends : goal.returns-clause-ends
@@ -124,7 +127,7 @@ returns-clause-ends g c =
     let k' = c.work_off.new.keeper in
     let fin = c.in-Err-finish.ensures.err in
     ends_finished g.K.Keeper.model c.histories_grow.ensures (g.K.Keeper.told k) (g.K.Keeper.told k') c.in-Ok-work_off.ensures.honest _ _ _ _ (ids_of c.args.pending.now.items) (ids_of c.work_off.new.pending.items)
-    c.args.framer.now c.hear.new.framer c.in-Ok.waiting.messages.items c.as_slice-slice.result.now c.in-Ok.waiting.fault _ c.in-Ok-work_off.work.place c.in-Ok-work_off.work.rest c.in-Ok-work_off.work.counts c.in-Err-finish.served.counts 0 c.in-Err-finish.served.ended
+    c.args.framer.now c.hear.new.framer c.in-Ok.waiting.messages.items c.as_slice-slice.result.now c.in-Ok.waiting.fault _ c.in-Ok-work_off.work.place c.in-Ok-work_off.work.rest c.in-Ok-work_off.work.counts c.in-Err-finish.halt.counts 0 c.in-Err-finish.halt.ended
     fin.1 fin.0 c.in-Ok.ensures.ok c.in-Ok.ensures.hearing c.as_slice-slice.ensures.value (omega (arith, c.fed.ensures, c.held.ensures)) c.in-Ok-work_off.ensures.ok c.in-Ok-work_off.ensures.quiet
 
 pub returns-clause-counted : goal.returns-clause-counted
@@ -141,10 +144,12 @@ returns-clause-at_most g c = λ confirms clean (before : Records) h.
     at_most g.K.Keeper.model before (g.K.Keeper.told k') _ (c.in-Ok-work_off.ensures.more (c.in-Ok.ensures.hearing.confirms ∙ confirms) ((g.met.K.Keeper.sound k').clean_is_honest clean) before h)
 
 pub returns-clause-failed : goal.returns-clause-failed
-returns-clause-failed g c = λ is. absurd ((finished_store c.in-Err-finish.served.ended _ _ _ c.in-Err-finish.ensures.err.1).1 is)
+returns-clause-failed g c =
+    subst (λ b. FailedBy b (g.P.Port.told c.args.port.now).failures (g.P.Port.told c.work_off.new.port).failures) (sym (finished_store c.in-Err-finish.halt.ended _ _ _ c.in-Err-finish.ensures.err.1).1)
+    (c.in-Ok-work_off.ensures.failures ∙ c.in-Ok.ensures.ok.failures)
 
 pub returns-clause-store : goal.returns-clause-store
-returns-clause-store g c = c.in-Ok-work_off.ensures.going ∙ sym (finished_store c.in-Err-finish.served.ended _ _ _ c.in-Err-finish.ensures.err.1).0
+returns-clause-store g c = c.in-Ok-work_off.ensures.going ∙ sym (finished_store c.in-Err-finish.halt.ended _ _ _ c.in-Err-finish.ensures.err.1).0
 
 pub returns-clause-not_turns : goal.returns-clause-not_turns
-returns-clause-not_turns g c = (finished_store c.in-Err-finish.served.ended _ _ _ c.in-Err-finish.ensures.err.1).2
+returns-clause-not_turns g c = (finished_store c.in-Err-finish.halt.ended _ _ _ c.in-Err-finish.ensures.err.1).2

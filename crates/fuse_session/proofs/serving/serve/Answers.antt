@@ -2,13 +2,15 @@ use Rattle.std.proofs.Common.{◌∙◌, ◌+◌, ◌*◌, ◌^◌, [], ap, arit
 use Rattle.fuse_keeper.specs.Stands.{Records}
 use Rattle.fuse_keeper.specs.Group.{ids_of}
 use Rattle.fuse_request.specs.Framing.{fed_of}
-use Rattle.fuse_session.specs.declared.ended.Ended.TheVariants.{Memory}
-use Rattle.fuse_session.specs.Moves.{HandsOn}
+use Rattle.fuse_session.specs.declared.ended.Ended.TheVariants.{Memory, Turns}
+use Rattle.fuse_session.specs.Moves.{HandsOn, FailedBy}
+use Rattle.fuse_session.specs.Ends.{ended_port}
 use Rattle.fuse_session.specs.Counting.{IsBelow}
 use Rattle.fuse_session.proofs.Counted.{plus_below, below_more}
 use Rattle.fuse_session.proofs.Handing.{at_most, hands_start}
 use Rattle.fuse_session.proofs.Waiting.{ready_new, room_still}
-use Rattle.fuse_session.proofs.Sessions.{whole_start, whole_step, whole_life, ends_step, life_more, life_none, may_end, exact_at, few_settled}
+use Rattle.fuse_session.proofs.Sessions.{whole_start, whole_step, whole_life, ends_step, life_more, life_none, may_end, exact_at, few_settled, failed_both}
+use Rattle.fuse_session.proofs.Prompting.{whole_caught_up, caught_later, caught_more}
 use Rattle.fuse_session.proofs.serving.serve.Goals as goal
 
 pub returns-in_default-clause-life : goal.returns-in_default-clause-life
@@ -47,6 +49,9 @@ loop-turn-init g c = record {
   room = omega (arith, c.in-Ok.ensures.len, c.in-Ok.buffer.ok.0);
   honest = λ is. is;
   may = λ f may. may;
+  same = (g.met.P.Port.path).none c.args.port.now;
+  unopened = (g.met.K.Keeper.counted).none c.args.keeper.now;
+  prompt = λ n some le. absurd (omega (arith, some, le));
 }
 
 pub loop-turn-preserved : goal.loop-turn-preserved
@@ -54,9 +59,9 @@ loop-turn-preserved g c =
     let inv = c.loop-turn.invariant in
     let e = c.in-Ok-one_turn.ensures in
     let k' = c.one_turn.new.keeper in
+    let whole = whole_step g.K.Keeper.model c.histories_grow.ensures c.cut_joins.ensures (g.K.Keeper.told c.args.keeper.now) (g.K.Keeper.told c.loop-turn.keeper) (g.K.Keeper.told k') (g.C.Clock.gave c.args.clock.now c.loop-turn.clock) (g.C.Clock.gave c.loop-turn.clock c.one_turn.new.clock) (g.C.Clock.gave c.args.clock.now c.one_turn.new.clock) _ _ _ [] (ids_of c.loop-turn.pending.items) (ids_of c.one_turn.new.pending.items) [] _ _ 0 _ _ c.loop-turn.counts c.in-Ok-one_turn.more c.sum_of-counts.result c.sum_of-counts.ensures inv.whole e.ok e.honest ((g.met.C.Clock.logged).onward c.args.clock.now c.loop-turn.clock c.one_turn.new.clock) in
     record {
-      whole = whole_step g.K.Keeper.model c.histories_grow.ensures c.cut_joins.ensures (g.K.Keeper.told c.args.keeper.now) (g.K.Keeper.told c.loop-turn.keeper) (g.K.Keeper.told k') (g.C.Clock.gave c.args.clock.now c.loop-turn.clock) (g.C.Clock.gave c.loop-turn.clock c.one_turn.new.clock) (g.C.Clock.gave c.args.clock.now c.one_turn.new.clock) _ _ _ [] (ids_of c.loop-turn.pending.items) (ids_of c.one_turn.new.pending.items) [] _ _ 0 _ _ c.loop-turn.counts c.in-Ok-one_turn.more c.sum_of-counts.result
-          c.sum_of-counts.ensures inv.whole e.ok e.honest ((g.met.C.Clock.logged).onward c.args.clock.now c.loop-turn.clock c.one_turn.new.clock);
+      whole = whole;
       ready = e.opened;
       below = subst (λ x. IsBelow x ((c.loop-turn.turn + 1) * 2 ^ 20)) (sym c.sum_of-counts.ensures) (below_more _ (c.loop-turn.turn * 2 ^ 20 + 2 ^ 20) _ (omega arith) (plus_below c.loop-turn.counts c.in-Ok-one_turn.more (c.loop-turn.turn * 2 ^ 20) (2 ^ 20) inv.below e.below));
       few = e.few;
@@ -72,14 +77,22 @@ loop-turn-preserved g c =
       room = room_still c.loop-turn.buffer.len c.one_turn.new.buffer _ (omega (arith, e.buffer, inv.room)) (omega (arith, c.loop-turn.buffer.ok.0, inv.room));
       honest = λ honest. inv.honest (e.honest honest);
       may = λ f may. inv.may f (e.may f may);
+      same = (g.met.P.Port.path).onward c.args.port.now c.loop-turn.port c.one_turn.new.port inv.same e.same;
+      unopened = (g.met.K.Keeper.counted).then c.args.keeper.now c.loop-turn.keeper k' 0 0 inv.unopened e.unopened;
+      prompt = caught_more g.K.Keeper.model g.P.Port.told g.P.Port.became (g.K.Keeper.told c.args.keeper.now) (g.K.Keeper.told c.loop-turn.keeper) (g.K.Keeper.told k') c.args.port.now c.loop-turn.port c.one_turn.new.port c.loop-turn.turn
+          g.met.P.Port.path inv.same e.same e.honest (omega (arith, e.receives, inv.receives)) (whole_caught_up g.K.Keeper.model _ _ _ _ _ _ _ _ _ whole) inv.prompt;
     }
 
 pub returns-in-Err-clause-ends : goal.returns-in-Err-clause-ends
 returns-in-Err-clause-ends g c =
     let inv = c.loop-turn.invariant in
     let e = c.in-Err.ensures in
-    ends_step g.K.Keeper.model c.histories_grow.ensures c.cut_joins.ensures (g.K.Keeper.told c.args.keeper.now) (g.K.Keeper.told c.loop-turn.keeper) (g.K.Keeper.told c.one_turn.new.keeper) (g.C.Clock.gave c.args.clock.now c.loop-turn.clock) (g.C.Clock.gave c.loop-turn.clock c.one_turn.new.clock) (g.C.Clock.gave c.args.clock.now c.one_turn.new.clock) _ _ _ [] (ids_of c.loop-turn.pending.items) [] _ 0 _ 0 c.args.turns c.in-Err.served.ended c.loop-turn.counts c.in-Err.served.counts c.sum_of-sum.result
-    c.sum_of-sum.ensures inv.whole e.ends e.not_turns inv.receive_failures inv.has_ended e.honest ((g.met.C.Clock.logged).onward c.args.clock.now c.loop-turn.clock c.one_turn.new.clock)
+    record {
+      counts = c.sum_of-sum.result;
+      ends = ends_step g.K.Keeper.model c.histories_grow.ensures c.cut_joins.ensures (g.K.Keeper.told c.args.keeper.now) (g.K.Keeper.told c.loop-turn.keeper) (g.K.Keeper.told c.one_turn.new.keeper) (g.C.Clock.gave c.args.clock.now c.loop-turn.clock) (g.C.Clock.gave c.loop-turn.clock c.one_turn.new.clock) (g.C.Clock.gave c.args.clock.now c.one_turn.new.clock) _ _ _ [] (ids_of c.loop-turn.pending.items) [] _ 0 _ 0 c.args.turns c.in-Err.halt.ended c.loop-turn.counts c.in-Err.halt.counts c.sum_of-sum.result
+          c.sum_of-sum.ensures inv.whole e.ends e.not_turns inv.receive_failures inv.has_ended e.honest ((g.met.C.Clock.logged).onward c.args.clock.now c.loop-turn.clock c.one_turn.new.clock);
+      told_are = c.counts_of-told.ensures;
+    }
 
 pub returns-in-Err-clause-life : goal.returns-in-Err-clause-life
 returns-in-Err-clause-life g c =
@@ -89,13 +102,13 @@ returns-in-Err-clause-life g c =
     let m = c.loop-turn.keeper in
     let k' = c.one_turn.new.keeper in
     life_more g.K.Keeper.model c.histories_grow.ensures c.cut_joins.ensures (g.K.Keeper.told k) (g.K.Keeper.told m) (g.K.Keeper.told k') (g.C.Clock.gave c.args.clock.now c.loop-turn.clock) (g.C.Clock.gave c.loop-turn.clock c.one_turn.new.clock) (g.C.Clock.gave c.args.clock.now c.one_turn.new.clock) _ _ _ []
-    (ids_of c.loop-turn.pending.items) [] _ 0 _ c.loop-turn.counts _ _ _ _ inv.whole e.life (may_end (g.K.Keeper.told k).may_answer (g.K.Keeper.told m).may_answer c.in-Err.served.ended inv.may) (g.met.K.Keeper.sound k').clean_is_honest e.honest inv.firm ((g.met.C.Clock.logged).onward c.args.clock.now c.loop-turn.clock c.one_turn.new.clock)
+    (ids_of c.loop-turn.pending.items) [] _ 0 _ c.loop-turn.counts _ _ _ _ inv.whole e.life (may_end (g.K.Keeper.told k).may_answer (g.K.Keeper.told m).may_answer c.in-Err.halt.ended inv.may) (g.met.K.Keeper.sound k').clean_is_honest e.honest inv.firm ((g.met.C.Clock.logged).onward c.args.clock.now c.loop-turn.clock c.one_turn.new.clock)
 
 pub returns-in-Err-clause-exactly : goal.returns-in-Err-clause-exactly
 returns-in-Err-clause-exactly g c =
     let k = c.args.keeper.now in
     let k' = c.one_turn.new.keeper in
-    exact_at g.K.Keeper.model (g.K.Keeper.told k) (g.K.Keeper.told k') _ _ _ [] [] c.in-Err.served.ended (returns-in-Err-clause-life g c)
+    exact_at g.K.Keeper.model (g.K.Keeper.told k) (g.K.Keeper.told k') _ _ _ [] [] c.in-Err.halt.ended (returns-in-Err-clause-life g c)
 
 pub returns-in-Err-clause-at_most : goal.returns-in-Err-clause-at_most
 returns-in-Err-clause-at_most g c = λ confirms clean rows (records : Records) held rowed.
@@ -110,12 +123,23 @@ returns-in-Err-clause-settled g c = λ clean.
     few_settled g.K.Keeper.model (g.K.Keeper.told k) (g.K.Keeper.told k') _ _ _ _ _ _ (g.met.K.Keeper.sound k').clean_is_honest clean (returns-in-Err-clause-life g c)
 
 pub returns-in-Err-clause-failed : goal.returns-in-Err-clause-failed
-returns-in-Err-clause-failed g c = λ is. omega (arith, c.in-Err.ensures.failed is, c.loop-turn.invariant.failures)
+returns-in-Err-clause-failed g c =
+    failed_both c.in-Err.halt.ended _ _ (subst (λ n. FailedBy (ended_port c.in-Err.halt.ended) n (g.P.Port.told c.one_turn.new.port).failures) c.loop-turn.invariant.failures c.in-Err.ensures.failed)
+
+pub returns-in-Err-clause-prompt : goal.returns-in-Err-clause-prompt
+returns-in-Err-clause-prompt g c = λ n some lt.
+    let inv = c.loop-turn.invariant in
+    caught_later g.K.Keeper.model g.P.Port.told g.P.Port.became (g.K.Keeper.told c.args.keeper.now) (g.K.Keeper.told c.loop-turn.keeper) (g.K.Keeper.told c.one_turn.new.keeper) c.args.port.now c.loop-turn.port c.one_turn.new.port n
+    g.met.P.Port.path c.in-Err.ensures.same c.in-Err.ensures.honest (inv.prompt n some (omega (arith, lt, c.in-Err.ensures.receives, inv.receives)))
 
 pub returns-clause-ends : goal.returns-clause-ends
 returns-clause-ends g c =
     let inv = c.loop-turn.invariant in
-    (omega (arith, inv.receives), inv.has_ended, record { rest = c.loop-turn.framer.bytes; place = c.loop-turn.framer.at; pending' = ids_of c.loop-turn.pending.items; whole = inv.whole; so = (inv.ready.none, inv.ready.good) })
+    record {
+      counts = c.loop-turn.counts;
+      ends = (omega (arith, inv.receives), inv.has_ended, record { rest = c.loop-turn.framer.bytes; place = c.loop-turn.framer.at; pending' = ids_of c.loop-turn.pending.items; whole = inv.whole; so = (inv.ready.none, inv.ready.good) });
+      told_are = refl;
+    }
 
 pub returns-clause-life : goal.returns-clause-life
 returns-clause-life g c =
@@ -136,3 +160,21 @@ returns-clause-at_most g c = λ confirms clean rows (records : Records) held row
     let inv = c.loop-turn.invariant in
     let k' = c.loop-turn.keeper in
     at_most g.K.Keeper.model records (g.K.Keeper.told k') (ids_of c.loop-turn.pending.items) (inv.more confirms ((g.met.K.Keeper.sound k').clean_is_honest clean) records (hands_start g.K.Keeper.model (g.K.Keeper.told c.args.keeper.now) [] rows records held rowed))
+
+pub returns-clause-prompt : goal.returns-clause-prompt
+returns-clause-prompt g c = λ n some lt. c.loop-turn.invariant.prompt n some (omega (arith, lt, c.loop-turn.invariant.receives))
+
+pub returns-clause-failed : goal.returns-clause-failed
+returns-clause-failed g c = failed_both Turns _ _ c.loop-turn.invariant.failures
+
+pub returns-in_default-clause-failed : goal.returns-in_default-clause-failed
+returns-in_default-clause-failed g c = failed_both Memory _ _ refl
+
+pub returns-in-Err-clause-may : goal.returns-in-Err-clause-may
+returns-in-Err-clause-may g c = λ f may. c.loop-turn.invariant.may f (c.in-Err.ensures.may f may)
+
+pub returns-in-Err-clause-unopened : goal.returns-in-Err-clause-unopened
+returns-in-Err-clause-unopened g c = (g.met.K.Keeper.counted).then c.args.keeper.now c.loop-turn.keeper c.one_turn.new.keeper 0 0 c.loop-turn.invariant.unopened c.in-Err.ensures.unopened
+
+pub returns-in-Err-clause-same : goal.returns-in-Err-clause-same
+returns-in-Err-clause-same g c = (g.met.P.Port.path).onward c.args.port.now c.loop-turn.port c.one_turn.new.port c.loop-turn.invariant.same c.in-Err.ensures.same

@@ -1,5 +1,4 @@
-use Rattle.std.proofs.Common.{◌≡◌, ◌≤◌, ◌+◌, ◌*◌, ◌^◌, [], length, true, false}
-use Rattle.fuse_wire.specs.declared.moment.Moment.{Moment}
+use Rattle.std.proofs.Common.{◌≡◌, ℕ, ◌<◌, ◌≤◌, ◌+◌, ◌*◌, ◌^◌, [], length, true, false}
 use Rattle.fuse_request.specs.Framing.{fed_of}
 use Rattle.fuse_keeper.specs.declared.fault.StoreFault.{StoreFault}
 use Rattle.fuse_keeper.specs.Stands.{Records}
@@ -9,6 +8,7 @@ use Rattle.fuse_session.specs.Moves.{HandsOn}
 use Rattle.fuse_session.specs.Counting.{IsBelow}
 use Rattle.fuse_session.specs.Receiving.{IsOpen}
 use Rattle.fuse_session.specs.Serving.{Whole}
+use Rattle.fuse_session.specs.Prompt.{WasCaughtUp}
 use Rattle.fuse_session.proofs.serving.serve.Given as goal
 
 abbrev pub invariant-loop-turn : goal.invariant-loop-turn
@@ -30,5 +30,8 @@ invariant-loop-turn g l = record {
   fed : fed_of l.framer ≤ l.turn * 135168;
   room : length l.buffer.items ≡ 135168;
   honest : (g.K.Keeper.told l.keeper).is_honest → (g.K.Keeper.told l.fn.keeper).is_honest;
+  same : g.P.Port.became l.fn.port l.port;
+  unopened : g.K.Keeper.became l.fn.keeper l.keeper 0;
+  prompt : (n : ℕ) → 0 < n → n ≤ l.turn → WasCaughtUp g.P.Port.told g.P.Port.became (g.K.Keeper.told l.fn.keeper) (g.K.Keeper.told l.keeper) l.fn.port l.port n;
   may : (f : StoreFault) → (g.K.Keeper.told l.keeper).may_answer f → (g.K.Keeper.told l.fn.keeper).may_answer f;
 }

@@ -22,6 +22,7 @@ loop-at-init g c = record {
   failures = refl;
   honest = λ is. is;
   same = (g.met.P.Port.path).none c.args.port.now;
+  unopened = (g.met.K.Keeper.counted).none c.args.keeper.now;
   quiet = quiet_none (g.P.Port.told c.args.port.now);
   may = λ f may. may;
 }
@@ -87,6 +88,7 @@ loop-at-preserved g c =
       more = λ confirms honest (before : Records) h. c.in-Ok.ensures.more (inv.quiet.confirms ∙ confirms) honest before (inv.more confirms (c.in-Ok.ensures.honest honest) before h);
       failures = c.in-Ok.ensures.failures ∙ inv.failures;
       honest = λ honest. inv.honest (c.in-Ok.ensures.honest honest);
+      unopened = (g.met.K.Keeper.counted).then c.args.keeper.now c.loop-at.keeper k' 0 0 inv.unopened c.in-Ok.ensures.unopened;
       same = (g.met.P.Port.path).onward c.args.port.now c.loop-at.port c.work_group.new.port inv.same c.in-Ok.ensures.same;
       quiet = quiet_more (g.P.Port.told c.args.port.now) (g.P.Port.told c.loop-at.port) (g.P.Port.told c.work_group.new.port) inv.quiet c.in-Ok.ensures.quiet;
       may = λ f may. inv.may f (c.in-Ok.ensures.may f may);
@@ -97,3 +99,12 @@ returns-clause-ok g c =
     let inv = c.loop-at.invariant in
     worked_all g.K.Keeper.model (g.K.Keeper.told c.args.keeper.now) (g.K.Keeper.told c.loop-at.keeper) _ _ _ (ids_of c.args.pending.now.items) (ids_of c.loop-at.pending.items) c.args.messages.now c.loop-at.at c.args.begin c.loop-at.place c.loop-at.counts
     c.loop-at-test.false inv.placed inv.turned
+
+pub returns-in-Err-clause-unopened : goal.returns-in-Err-clause-unopened
+returns-in-Err-clause-unopened g c = (g.met.K.Keeper.counted).then c.args.keeper.now c.loop-at.keeper c.work_group.new.keeper 0 0 c.loop-at.invariant.unopened c.in-Err.ensures.unopened
+
+pub returns-then-over-clause-unopened : goal.returns-then-over-clause-unopened
+returns-then-over-clause-unopened g c = (g.met.K.Keeper.counted).then c.args.keeper.now c.loop-at.keeper c.work_group.new.keeper 0 0 c.loop-at.invariant.unopened c.in-Ok.ensures.unopened
+
+pub returns-clause-unopened : goal.returns-clause-unopened
+returns-clause-unopened g c = c.loop-at.invariant.unopened
