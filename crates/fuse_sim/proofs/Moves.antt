@@ -6,6 +6,7 @@ use Rattle.fuse_wire.specs.declared.moment.Moment.{Moment}
 use Rattle.fuse_wire.specs.declared.id.Id.{Id}
 use Rattle.fuse_answer.specs.Said.{Said}
 use Rattle.fuse_request.specs.declared.request.Request.{Request}
+use Rattle.fuse_request.specs.declared.class.Class.{Class}
 use Rattle.fuse_request.specs.Classes.{class_of}
 use Rattle.fuse_keeper.specs.History.{Entry, entry_id, HistoriesGrow, grown, is_in, ids_in, Includes, IsUnsettled}
 use Rattle.fuse_keeper.specs.Model.{Model}
@@ -19,7 +20,7 @@ use Rattle.fuse_sim.specs.declared.event.Event.{Event}
 use Rattle.fuse_sim.specs.declared.event.Outcome.{Outcome}
 use Rattle.fuse_sim.specs.Driving.{commits, commits_by, commits_in, committed, outcome_of, bytes_given, is_taken, where_taken, answer_in, settles, settled_by, NoneReused, IsFit, dies}
 use Rattle.fuse_sim.specs.HandedOn.{Ledger, empty_ledger, after_commit, crashed_if, handed_at, handed_on, ledger_after}
-use Rattle.fuse_sim.specs.Running.{dies_before, IsRun, StartsNone, Begins, Gathers, NoneDiesBefore, handed_to, left_pending, settles_in, RecordsRan, Ran, MayBegin, Moved, Worked}
+use Rattle.fuse_sim.specs.Running.{dies_before, IsRun, StartsNone, StopsAt, Begins, Gathers, NoneDiesBefore, handed_to, left_pending, settles_in, RecordsRan, Ran, MayBegin, Moved, Worked}
 use Rattle.fuse_sim.proofs.Gathered.{commits-append, only_one}
 use Rattle.fuse_sim.proofs.Settled.{is_in-append, tested, includes_both, in_either, stands_kept}
 use Rattle.fuse_sim.proofs.Ledgers.{RunLedger, run_begins, few_pending}
@@ -213,7 +214,7 @@ may_begin false l run others handed pending ledger stops = elim (stops refl) [
   | inr ends ↦ inr ends
 ]
 
-stops_at : (run others : List Event) (taken : List (Request × Moment)) (died : Bool) → entries_of taken ≡ commits_in run → (died ≡ false → (length taken ≡ 16) ⊎ StartsNone others)
+stops_at : (run others : List Event) (taken : List (Request × Moment)) (died : Bool) → entries_of taken ≡ commits_in run → StopsAt taken died others
     → died ≡ false → (length (commits_in run) ≡ 16) ⊎ StartsNone others
 stops_at run others taken died entries stops alive = elim (stops alive) [
   | inl all ↦ inl (sym (ap length entries) ∙ length-map taken entry_of ∙ all)
@@ -223,13 +224,13 @@ stops_at run others taken died entries stops alive = elim (stops alive) [
 pub few_taken : (run : List Event) (taken : List (Request × Moment)) (n : ℕ) → entries_of taken ≡ commits_in run → length taken ≤ n → length (commits_in run) ≤ n
 few_taken run taken n entries few = omega (arith, few, ap length entries, length-map taken entry_of)
 
-pub group_moved : (M : Model) → (holds mid holds' : KeeperState M) (died : Bool) (run slice others : List Event) (taken : List (Request × Moment)) (p p_mid p' : List ℕ) (old new : List (Option Outcome))
-    → Gathers run taken died → slice ≡ run → length taken ≤ 16 → (died ≡ false → (length taken ≡ 16) ⊎ StartsNone others)
+pub group_moved : (M : Model) → (holds mid holds' : KeeperState M) (died : Bool) (run slice others : List Event) (classes : List Class) (taken : List (Request × Moment)) (p p_mid p' : List ℕ) (old new : List (Option Outcome))
+    → Gathers run classes taken died → slice ≡ run → StopsAt taken died others
     → Worked holds mid slice p p_mid old new → (holds'.is_honest → KeepsHeld mid holds') → (holds'.is_honest → mid.is_honest) → p' ≡ (if died then [] else p_mid)
     → Moved holds holds' (record { room = 0; pending = p }) run others p' old new
-group_moved M holds mid holds' died run slice others taken p p_mid p' old new gathers same few stops all keeps was left =
+group_moved M holds mid holds' died run slice others classes taken p p_mid p' old new gathers same stops all keeps was left =
     let worked = subst (λ x. Worked holds mid x p p_mid old new) same all in
-    let ledger = run_begins died run p gathers.goes (few_taken run taken 16 gathers.entries few) in
+    let ledger = run_begins died run p gathers.goes (few_taken run taken 16 gathers.entries gathers.few) in
     record {
       fit = gathers.fit;
       ran = group_ran M holds mid holds' died run p p_mid old new ledger worked keeps was;

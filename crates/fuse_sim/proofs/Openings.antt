@@ -1,19 +1,19 @@
 -- How often the keeper was opened again, and what stood then.
 use Rattle.std.proofs.Common.{◌≡◌, ◌⊎◌, inl, inr, ℕ, suc, ◌+◌, ◌<◌, Bool, true, false, if◌then◌else◌, List, [], ◌∷◌, ◌++◌, length, take, drop, get_or, Option, Some, None, IsSomeAnd, refl, sym, ap, subst, ◌∙◌, append_assoc, drop-cons, arith}
-use Rattle.std.proofs.Math.Seq.{take-add}
 use Rattle.std.proofs.lemmas.List.{append-nil}
 use Rattle.fuse_wire.specs.declared.moment.Moment.{Moment}
 use Rattle.fuse_request.specs.declared.request.Request.{Request}
+use Rattle.fuse_request.specs.declared.class.Class.{Class}
 use Rattle.fuse_request.specs.Classes.{class_of}
 use Rattle.fuse_keeper.specs.History.{History, grown, Includes}
 use Rattle.fuse_keeper.specs.Model.{Model}
 use Rattle.fuse_keeper.specs.KeeperState.{KeeperState, IsCount}
 use Rattle.fuse_session.specs.Worked.{entry_if, message_entry}
 use Rattle.fuse_sim.specs.declared.event.Fate.{Fate}
-use Rattle.fuse_sim.specs.declared.event.Fate.TheVariants.{Answered, AnswerLost, DiedBeforeCommit, DiedAfterCommit}
+use Rattle.fuse_sim.specs.declared.event.Fate.TheVariants.{DiedAfterCommit}
 use Rattle.fuse_sim.specs.declared.event.Event.{Event}
 use Rattle.fuse_sim.specs.declared.event.Outcome.{Outcome}
-use Rattle.fuse_sim.specs.Driving.{commits, commits_by, commits_in, committed, dies, deaths, settles, settled_by, NoneReused, told_in, StandsIn, became_in, OpenedAt, Opened}
+use Rattle.fuse_sim.specs.Driving.{commits_by, commits_in, committed, dies, deaths, settles, settled_by, NoneReused, told_in, StandsIn, became_in, OpenedAt, Opened}
 use Rattle.fuse_sim.specs.Running.{dies_before, IsRun, DiesLast, Gathers, handed_to, Worked, Opens}
 use Rattle.fuse_sim.proofs.Settled.{includes_left, includes_both, stands_later}
 use Rattle.fuse_sim.proofs.Driven.{committed-append, settled-append, settled_still, reused-parts, all_unsettled_too, none_reused}
@@ -121,13 +121,13 @@ Stood {M} told old new es = (told_in told new).is_honest → (s : M.State) (h : 
     → StandsIn told new s (committed h es) (settled_by t es)
 
 -- what stood after the first events, and then for the second, stands for both
-stood_more : (M : Model) → {K : Type 0} (told : K → KeeperState M) (old mid new : Option K) (xs ys : List Event) (p : List ℕ)
-    → ((t : List ℕ) → Includes (settled_by t xs) p) → ((told_in told new).is_honest → (told_in told mid).is_honest) → Stood told old mid xs
-    → ((told_in told new).is_honest → (s : M.State) (h : History) (t : List ℕ) → StandsIn told mid s h t → Includes t p → NoneReused t ys → StandsIn told new s (committed h ys) (settled_by t ys))
-    → Stood told old new (xs ++ ys)
-stood_more M told old mid new xs ys p within was one two = λ is s h t so none.
+stood_more : (M : Model) → {K : Type 0} (told : K → KeeperState M) (old mid new : Option K) (xs ys : List Event) (p : List ℕ) → ((t : List ℕ) → Includes (settled_by t xs) p)
+    → ((s : M.State) (h : History) (t : List ℕ) → StandsIn told old s h t → NoneReused t xs → StandsIn told mid s (committed h xs) (settled_by t xs))
+    → ((s : M.State) (h : History) (t : List ℕ) → StandsIn told mid s h t → Includes t p → NoneReused t ys → StandsIn told new s (committed h ys) (settled_by t ys))
+    → (s : M.State) (h : History) (t : List ℕ) → StandsIn told old s h t → NoneReused t (xs ++ ys) → StandsIn told new s (committed h (xs ++ ys)) (settled_by t (xs ++ ys))
+stood_more M told old mid new xs ys p within one two s h t so none =
     let parts = reused-parts t xs ys none in
-    let stands = two is s (committed h xs) (settled_by t xs) (one (was is) s h t so parts.0) (within t) parts.1 in
+    let stands = two s (committed h xs) (settled_by t xs) (one s h t so parts.0) (within t) parts.1 in
     subst (λ g. StandsIn told new s g (settled_by t (xs ++ ys))) (sym (committed-append h xs ys))
     (subst (StandsIn told new s (committed (committed h xs) ys)) (sym (settled-append t xs ys)) stands)
 
@@ -140,8 +140,7 @@ opened_before M told became law old mid new ys earlier e more later rest further
   before = one.before;
   once = one.once;
   after = became_then became law one.opened mid new (deaths more) (deaths ys) (deaths later) one.after further (sym (ap deaths rest ∙ deaths-append more ys));
-  honest = λ is. one.honest (was is);
-  stood = one.stood;
+  stood = λ is. one.stood (was is);
 }
 
 opened_last : (M : Model) → {K : Type 0} (told : K → KeeperState M) (became : K → K → ℕ → Type 0) → IsCount became → (old mid new : Option K) (xs ys : List Event) (p : List ℕ) (earlier front : List Event) (e : Event) (later : List Event)
@@ -158,9 +157,8 @@ opened_last M told became law old mid new xs ys p earlier front e later within s
           (omega (arith, ap deaths begin, deaths-append xs front, last.calm));
       once = once;
       after = subst (became_in became new new) (ap deaths (sym last.ends)) (became_last became law two.left new 1 once);
-      honest = two.honest;
-      stood = subst (λ es. (told_in told two.left).is_honest → (s : M.State) (h : History) (t : List ℕ) → StandsIn told old s h t → NoneReused t es → StandsIn told two.left s (committed h es) (settled_by t es)) (sym whole)
-          (stood_more M told old mid two.left xs ys p within two.was_honest stood two.stood);
+      stood = λ is. subst (λ es. (s : M.State) (h : History) (t : List ℕ) → StandsIn told old s h t → NoneReused t es → StandsIn told two.left s (committed h es) (settled_by t es)) (sym whole)
+          (stood_more M told old mid two.left xs ys p within (stood (two.was_honest (two.honest is))) (two.stood (two.honest is)));
     }
 
 opened_place : (M : Model) → {K : Type 0} (told : K → KeeperState M) (became : K → K → ℕ → Type 0) → IsCount became → (old mid new : Option K) (xs ys : List Event) (p : List ℕ)
@@ -183,6 +181,39 @@ opened_more M told became law old mid new xs ys p within stood one two =
       often = became_then became law old mid new (deaths xs) (deaths ys) (deaths (xs ++ ys)) one.often further (sym (deaths-append xs ys));
       each = opened_place M told became law old mid new xs ys p within stood further was one two;
     }
+
+-- two lists in a row
+pub stands_twice : (M : Model) → {K : Type 0} (told : K → KeeperState M) (old mid new : Option K) (xs ys : List Event)
+    → ((s : M.State) (h : History) (t : List ℕ) → StandsIn told old s h t → NoneReused t xs → StandsIn told mid s (committed h xs) (settled_by t xs))
+    → ((s : M.State) (h : History) (t : List ℕ) → StandsIn told mid s h t → NoneReused t ys → StandsIn told new s (committed h ys) (settled_by t ys))
+    → (s : M.State) (h : History) (t : List ℕ) → StandsIn told old s h t → NoneReused t (xs ++ ys) → StandsIn told new s (committed h (xs ++ ys)) (settled_by t (xs ++ ys))
+stands_twice M told old mid new xs ys one two =
+    stood_more M told old mid new xs ys [] (λ t i there. absurd (cc there)) one (λ s h t so within none. two s h t so none)
+
+opened_second : (M : Model) → {K : Type 0} (told : K → KeeperState M) (became : K → K → ℕ → Type 0) → IsCount became → (old mid new : Option K) (xs ys earlier front : List Event) (e : Event) (later : List Event)
+    → ((told_in told new).is_honest → (told_in told mid).is_honest) → Stood told old mid xs → became_in became old mid (deaths xs) → earlier ≡ xs ++ front
+    → OpenedAt told became mid new front e later → OpenedAt told became old new earlier e later
+opened_second M told became law old mid new xs ys earlier front e later was stood often begin at =
+    let whole : earlier ++ e ∷ [] ≡ xs ++ (front ++ e ∷ []) = ap (λ (zs : List Event). zs ++ e ∷ []) begin ∙ append_assoc xs front (e ∷ []) in
+    record {
+      left = at.left;
+      opened = at.opened;
+      before = became_then became law old mid at.left (deaths xs) (deaths front) (deaths earlier) often at.before (sym (ap deaths begin ∙ deaths-append xs front));
+      once = at.once;
+      after = at.after;
+      stood = λ is. subst (λ es. (s : M.State) (h : History) (t : List ℕ) → StandsIn told old s h t → NoneReused t es → StandsIn told at.left s (committed h es) (settled_by t es)) (sym whole)
+          (stands_twice M told old mid at.left xs (front ++ e ∷ []) (stood (was is)) (at.stood is));
+    }
+
+pub opened_twice : (M : Model) → {K : Type 0} (told : K → KeeperState M) (became : K → K → ℕ → Type 0) → IsCount became → (old mid new : Option K) (xs ys : List Event)
+    → ((told_in told new).is_honest → (told_in told mid).is_honest) → Stood told old mid xs → Opened told became old mid xs → Opened told became mid new ys → Opened told became old new (xs ++ ys)
+opened_twice M told became law old mid new xs ys was stood one two = record {
+  often = became_then became law old mid new (deaths xs) (deaths ys) (deaths (xs ++ ys)) one.often two.often (sym (deaths-append xs ys));
+  each = λ earlier e later is so. elim (in_which xs ys earlier e later is) [
+    | inl first ↦ opened_before M told became law old mid new ys earlier e first.more later first.rest two.often was (one.each earlier e first.more first.parts so)
+    | inr second ↦ opened_second M told became law old mid new xs ys earlier second.front e later was stood one.often second.begin (two.each second.front e later second.parts so)
+  ];
+}
 
 pub opened_none : (M : Model) → {K : Type 0} (told : K → KeeperState M) (became : K → K → ℕ → Type 0) → IsCount became → (P : K → Type 0) (k : Option K) → IsSomeAnd k P → Opened told became k k []
 opened_none M told became law P k is = record {
@@ -210,10 +241,10 @@ run_last died (e ∷ run) is = elim is [
   | inr last ↦ inr (last.0, dies_later e.fate last.1, last.2)
 ]
 
-pub group_opens : (M : Model) → {K : Type 0} (told : K → KeeperState M) (became : K → K → ℕ → Type 0) (old mid new : Option K) (died : Bool) (run slice : List Event) (taken : List (Request × Moment)) (p p' : List ℕ) (outs outs' : List (Option Outcome))
-    → Gathers run taken died → slice ≡ run → Worked (told_in told old) (told_in told mid) slice p p' outs outs' → became_in became old mid 0 → became_in became mid new (if died then 1 else 0)
+pub group_opens : (M : Model) → {K : Type 0} (told : K → KeeperState M) (became : K → K → ℕ → Type 0) (old mid new : Option K) (died : Bool) (run slice : List Event) (classes : List Class) (taken : List (Request × Moment)) (p p' : List ℕ) (outs outs' : List (Option Outcome))
+    → Gathers run classes taken died → slice ≡ run → Worked (told_in told old) (told_in told mid) slice p p' outs outs' → became_in became old mid 0 → became_in became mid new (if died then 1 else 0)
     → ((told_in told new).is_honest → (told_in told mid).is_honest) → ((told_in told mid).is_honest → (told_in told old).is_honest) → Opens told became old new p run
-group_opens M told became old mid new died run slice taken p p' outs outs' gathers same all before after honest was =
+group_opens M told became old mid new died run slice classes taken p p' outs outs' gathers same all before after honest was =
     let worked = subst (λ x. Worked (told_in told old) (told_in told mid) x p p' outs outs') same all in
     let cs = commits_in run in
     record {

@@ -1,12 +1,14 @@
 -- Faults at the events that are run, and the keepers that they leave.
 use Rattle.std.proofs.Common.{◌≡◌, inl, inr, ℕ, zero, suc, ◌+◌, ◌-◌, ◌≤◌, ◌<◌, Bool, true, false, List, [], ◌∷◌, ◌++◌, length, take, drop, All, Option, Some, None, IsSomeAnd, IfSome, slice_get, refl, sym, ap, subst, ◌∙◌, append_assoc, length-append, arith}
 use Rattle.std.proofs.Math.Seq.{take-append_seam}
-use Rattle.std.proofs.lemmas.List.{take-append-drop, take_all, length-take-le, length-drop}
+use Rattle.std.proofs.lemmas.List.{take-append-drop, take_all, length-take-le, length-drop, drop-drop}
 use Rattle.std.proofs.lemmas.List.Elements.{All-append, All-pop}
+use Rattle.fuse_wire.specs.declared.moment.Moment.{Moment}
+use Rattle.fuse_request.specs.declared.request.Request.{Request}
+use Rattle.fuse_request.specs.declared.class.Class.{Class}
 use Rattle.fuse_keeper.specs.declared.fault.StoreFault.{StoreFault}
 use Rattle.fuse_keeper.specs.History.{History}
 use Rattle.fuse_keeper.specs.Model.{Model}
-use Rattle.fuse_keeper.specs.Stands.{Records}
 use Rattle.fuse_keeper.specs.KeeperState.{KeeperState, KeepsHeld, IsCount}
 use Rattle.fuse_sim.specs.declared.event.Fate.{Fate}
 use Rattle.fuse_sim.specs.declared.event.Fate.TheVariants.{Answered, AnswerLost, DiedBeforeCommit, DiedAfterCommit}
@@ -14,7 +16,7 @@ use Rattle.fuse_sim.specs.declared.event.Event.{Event}
 use Rattle.fuse_sim.specs.declared.event.DriveFault.{DriveFault}
 use Rattle.fuse_sim.specs.declared.event.DriveFault.TheVariants.{NotAMessage, ZeroUnique, Store, Memory}
 use Rattle.fuse_sim.specs.Driving.{told_in, IsFit, event_of, StandsIn, became_in, CausedBy, OfRestart, is_store, IsStoreFault, LeftBy, dies}
-use Rattle.fuse_sim.specs.Running.{dies_before, IsRun, Begins, Stops}
+use Rattle.fuse_sim.specs.Running.{dies_before, IsRun, Begins, Gathers, StopsAt, Stops}
 use Rattle.fuse_sim.proofs.Openings.{became_itself}
 
 -- ---- places
@@ -166,6 +168,18 @@ whole_rest events at = take_all (length events - at) (drop at events) (omega (ar
 
 pub run_slice : (events : List Event) (at count : ℕ) → take (at + count - at) (drop at events) ≡ take count (drop at events)
 run_slice events at count = let same : at + count - at ≡ count = omega arith in ap (λ n. take n (drop at events)) same
+
+-- what was read off the rest of the events
+pub group_read : (events : List Event) (at count : ℕ) (classes : List Class) (taken : List (Request × Moment)) (died : Bool) → count ≡ length classes
+    → Gathers (take (length classes) (take (length events - at) (drop at events))) classes taken died → Gathers (take count (drop at events)) classes taken died
+group_read events at count classes taken died same g =
+    subst (λ n. Gathers (take n (drop at events)) classes taken died) (sym same) (subst (λ x. Gathers (take (length classes) x) classes taken died) (whole_rest events at) g)
+
+pub group_stops : (events : List Event) (at count : ℕ) (classes : List Class) (taken : List (Request × Moment)) (died : Bool) → count ≡ length classes
+    → StopsAt taken died (drop (length classes) (take (length events - at) (drop at events))) → StopsAt taken died (drop (at + count) events)
+group_stops events at count classes taken died same stops =
+    subst (StopsAt taken died) (drop-drop count at events)
+    (subst (λ n. StopsAt taken died (drop n (drop at events))) (sym same) (subst (λ x. StopsAt taken died (drop (length classes) x)) (whole_rest events at) stops))
 
 begins_some : (events : List Event) → Begins events → 0 < length events
 begins_some [] begins = absurd begins

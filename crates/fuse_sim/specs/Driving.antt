@@ -12,7 +12,6 @@ use Rattle.fuse_keeper.specs.declared.fault.StoreFault.{StoreFault}
 use Rattle.fuse_keeper.specs.History.{Entry, History, grown, said}
 use Rattle.fuse_keeper.specs.Model.{Model}
 use Rattle.fuse_keeper.specs.Lots.{no_lots}
-use Rattle.fuse_keeper.specs.Stands.{Records}
 use Rattle.fuse_keeper.specs.KeeperState.{KeeperState, StandsFor}
 use Rattle.fuse_session.specs.Worked.{unique_of, message_id, message_entry, entry_if}
 use Rattle.fuse_session.specs.Settling.{settles_if, MayCome}
@@ -133,8 +132,7 @@ pub record OpenedAt {M : Model} {K : Type 0} (told : K → KeeperState M) (becam
   pub before : became_in became old left (deaths earlier)
   pub once : became_in became left opened 1
   pub after : became_in became opened new (deaths later)
-  pub honest : (told_in told new).is_honest → (told_in told left).is_honest
-  pub stood : (told_in told left).is_honest → (s : M.State) (h : History) (t : List ℕ) → StandsIn told old s h t → NoneReused t (earlier ++ one ∷ [])
+  pub stood : (told_in told new).is_honest → (s : M.State) (h : History) (t : List ℕ) → StandsIn told old s h t → NoneReused t (earlier ++ one ∷ [])
       → StandsIn told left s (committed h (earlier ++ one ∷ [])) (settled_by t (earlier ++ one ∷ []))
 
 -- the keeper was opened again once for each event at which the server died, after what that event committed

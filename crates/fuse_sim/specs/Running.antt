@@ -1,5 +1,5 @@
 -- Events as they are run, group after group.
-use Rattle.std.specs.Prelude.{◌≡◌, ◌<◌, ◌⊎◌, ℕ, Bool, true, false, if◌then◌else◌, List, [], ◌∷◌, ◌++◌, length, map, take, All, Option, Some, None, slice_get, IfSome, IsSomeAnd}
+use Rattle.std.specs.Prelude.{◌≡◌, ◌≤◌, ◌<◌, ◌⊎◌, ℕ, Bool, true, false, if◌then◌else◌, List, [], ◌∷◌, ◌++◌, length, map, take, All, Option, Some, None, slice_get, IfSome, IsSomeAnd}
 use Rattle.std.specs.List.{flat_map}
 use Rattle.fuse_wire.specs.declared.moment.Moment.{Moment}
 use Rattle.fuse_answer.specs.Said.{Said}
@@ -15,7 +15,7 @@ use Rattle.fuse_keeper.specs.Model.{Model}
 use Rattle.fuse_keeper.specs.Stands.{Records}
 use Rattle.fuse_keeper.specs.KeeperState.{KeeperState, StandsFor, KeepsHeld, KeepsOthers, Tells}
 use Rattle.fuse_keeper.specs.declared.keeper.TheConstants.{MAX_GROUP}
-use Rattle.fuse_keeper.specs.Group.{entries_of}
+use Rattle.fuse_keeper.specs.Group.{entries_of, HasId, IsKept}
 use Rattle.fuse_session.specs.Worked.{unique_of}
 use Rattle.fuse_session.specs.Group.{left_by}
 use Rattle.fuse_sim.specs.declared.event.Fate.{Fate}
@@ -48,15 +48,35 @@ abbrev pub Begins : List Event → Type 0
 Begins [] = ⊥
 Begins (e ∷ es) = IsFit e × (dies_before e.fate ≡ false)
 
--- a group with these requests ends before an event
-abbrev pub EndsWith : List (Request × Moment) → Event → Type 0
-EndsWith taken e = (length taken ≡ MAX_GROUP) ⊎ ((dies_before e.fate ≡ true) ⊎ ¬ IsFit e)
+-- no event of a group is lost
+abbrev pub NoneDiesBefore : List Event → Type 0
+NoneDiesBefore run = All (λ e. dies_before e.fate ≡ false) run
 
--- requests were read off the events of a group
-pub record Gathers (run : List Event) (taken : List (Request × Moment)) (died : Bool) : Type 0 where
+-- the class of each message
+abbrev pub classes_in : List Event → List Class
+classes_in run = map (λ e. class_of e.bytes) run
+
+-- a group with these requests, after which the server died or not, ends before an event
+abbrev pub EndsWith : List (Request × Moment) → Bool → Event → Type 0
+EndsWith taken died e = (died ≡ true) ⊎ ((length taken ≡ MAX_GROUP) ⊎ ((dies_before e.fate ≡ true) ⊎ ¬ IsFit e))
+
+-- it ends before these events
+abbrev pub StopsAt : List (Request × Moment) → Bool → List Event → Type 0
+StopsAt taken died others = died ≡ false → (length taken ≡ MAX_GROUP) ⊎ StartsNone others
+
+-- a group was read off events
+pub record Gathers (run : List Event) (classes : List Class) (taken : List (Request × Moment)) (died : Bool) : Type 0 where
   pub fit : All IsFit run
   pub goes : IsRun died run
+  pub classes_are : classes ≡ classes_in run
   pub entries : entries_of taken ≡ commits_in run
+  pub few : length taken ≤ MAX_GROUP
+  pub named : All HasId (entries_of taken)
+  pub kept : All IsKept (entries_of taken)
+
+-- one more event joined it
+abbrev pub Joins : Event → List Class → List (Request × Moment) → Bool → List Class → List (Request × Moment) → Bool → Type 0
+Joins e classes taken died classes' taken' died' = (died ≡ false) × ((run : List Event) → Gathers run classes taken false → Gathers (run ++ e ∷ []) classes' taken' died')
 
 -- a group without a kept message isn't performed: nothing is handed on, and all stays pending
 abbrev pub handed_to : List Entry → List ℕ → List ℕ
@@ -99,10 +119,6 @@ pub record Adds (old new : List (Option Outcome)) (outcomes : List (Option (List
   pub added : List (Option Outcome)
   pub items : new ≡ old ++ added
   pub are : map bytes_given added ≡ outcomes
-
--- no event of a group is lost
-abbrev pub NoneDiesBefore : List Event → Type 0
-NoneDiesBefore run = All (λ e. dies_before e.fate ≡ false) run
 
 -- a group was performed, and its outcomes were added, by any keeper
 pub record Worked {M : Model} (k k' : KeeperState M) (run : List Event) (pending pending' : List ℕ) (old new : List (Option Outcome)) : Type 0 where

@@ -7,7 +7,7 @@ use Rattle.fuse_sim.specs.Driving.{told_in, IsFit}
 use Rattle.fuse_sim.proofs.Moves.{begins_at, next_moved, lost_moved}
 use Rattle.fuse_sim.proofs.Openings.{lost_opens}
 use Rattle.fuse_sim.proofs.Stopping.{stops_here, stops_restart, lost_dies}
-use Rattle.fuse_sim.proofs.running.run_next.Goals as goal
+use Rattle.fuse_sim.proofs.driving.run_next.Goals as goal
 
 pub returns-then-not-is_before_commit-clause-ok : goal.returns-then-not-is_before_commit-clause-ok
 returns-then-not-is_before_commit-clause-ok g c =

@@ -2,7 +2,7 @@ use Rattle.std.proofs.Common.{sym, ap, subst, ◌∙◌}
 use Rattle.fuse_request.specs.Classes.{is_zero}
 use Rattle.fuse_request.specs.Stream.{IsMessage}
 use Rattle.fuse_sim.proofs.Alone.{message_is_alone}
-use Rattle.fuse_sim.proofs.gathering.test_event.Goals as goal
+use Rattle.fuse_sim.proofs.group.test_event.Goals as goal
 
 pub returns-then-has_zero_unique-clause-caused : goal.returns-then-has_zero_unique-clause-caused
 returns-then-has_zero_unique-clause-caused c =

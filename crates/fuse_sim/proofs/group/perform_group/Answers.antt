@@ -5,7 +5,7 @@ use Rattle.fuse_keeper.specs.KeeperState.{HoldsOthers}
 use Rattle.fuse_keeper.specs.Group.{entries_of, ids_of}
 use Rattle.fuse_sim.specs.Running.{handed_to}
 use Rattle.fuse_sim.proofs.Settled.{handed_all, stands_later, includes_left, includes_right}
-use Rattle.fuse_sim.proofs.performing.perform_group.Goals as goal
+use Rattle.fuse_sim.proofs.group.perform_group.Goals as goal
 
 pub returns-in-Ok-clause-ok : goal.returns-in-Ok-clause-ok
 returns-in-Ok-clause-ok g c = λ honest s h t so un.
