@@ -1,6 +1,6 @@
 -- Groups, one event after another.
-use Rattle.std.proofs.Common.{◌≡◌, ◌≢◌, ◌⊎◌, inl, inr, ℕ, ◌+◌, ◌<◌, ◌==◌, Bool, true, false, not, ◌&&◌, if◌then◌else◌, List, [], ◌∷◌, ◌++◌, length, take, drop, get_or, All, refl, sym, ap, subst, ◌∙◌, arith, append_assoc, drop-cons}
-use Rattle.std.proofs.lemmas.List.{take_more, append-nil, map-append}
+use Rattle.std.proofs.Common.{◌≡◌, ◌≢◌, ◌⊎◌, inl, inr, ℕ, ◌+◌, ◌≤◌, ◌<◌, ◌==◌, Bool, true, false, not, ◌&&◌, if◌then◌else◌, List, [], ◌∷◌, ◌++◌, length, take, drop, get_or, All, refl, sym, ap, subst, ◌∙◌, arith, append_assoc, length-append, drop-cons}
+use Rattle.std.proofs.lemmas.List.{take_more, append-nil, map-append, length-map, length-take-le, drop_all}
 use Rattle.std.proofs.lemmas.List.Elements.{All-append, All-cons, All-nil}
 use Rattle.fuse_wire.specs.Ids.{id_of}
 use Rattle.fuse_wire.specs.Opcodes.{silent}
@@ -19,7 +19,7 @@ use Rattle.fuse_sim.specs.declared.event.Fate.{Fate}
 use Rattle.fuse_sim.specs.declared.event.Fate.TheVariants.{Answered, AnswerLost, DiedBeforeCommit, DiedAfterCommit}
 use Rattle.fuse_sim.specs.declared.event.Event.{Event}
 use Rattle.fuse_sim.specs.Driving.{commits, commits_by, commits_in, dies, IsFit}
-use Rattle.fuse_sim.specs.Running.{dies_before, IsRun, StartsNone, EndsWith, Gathers}
+use Rattle.fuse_sim.specs.Running.{dies_before, IsRun, StartsNone, EndsWith, StopsAt, Gathers, Joins}
 
 pub only_one : {A : Type 0} (P : A → Type 0) (x : A) → P x → All P (x ∷ [])
 only_one P x p = All-cons P x [] p (All-nil P)
@@ -44,32 +44,47 @@ run_more (x ∷ xs) e b so is died = elim so [
   | inr last ↦ absurd (cc last.0)
 ]
 
-pub none_gathered : (taken : List (Request × Moment)) → taken ≡ [] → Gathers [] taken false
-none_gathered taken is = record { fit = All-nil IsFit; goes = refl; entries = ap entries_of is }
+pub none_gathered : (classes : List Class) (taken : List (Request × Moment)) → classes ≡ [] → taken ≡ [] → Gathers [] classes taken false
+none_gathered classes taken none is = record {
+  fit = All-nil IsFit;
+  goes = refl;
+  classes_are = none;
+  entries = ap entries_of is;
+  few = omega (arith, ap length is);
+  named = subst (λ (t : List (Request × Moment)). All HasId (entries_of t)) (sym is) (All-nil HasId);
+  kept = subst (λ (t : List (Request × Moment)). All IsKept (entries_of t)) (sym is) (All-nil IsKept);
+}
 
-pub gathers_more : (events : List Event) (i : ℕ) (e : Event) (taken taken' : List (Request × Moment)) (b : Bool) → i < length events → e ≡ get_or events i e → Gathers (take i events) taken false → IsFit e → dies_before e.fate ≡ false
-    → entries_of taken' ≡ entries_of taken ++ entry_if (class_of e.bytes) (message_entry e.bytes e.moment) → dies e.fate ≡ b → (b ≡ true → e.fate ≡ DiedAfterCommit) → Gathers (take (i + 1) events) taken' b
-gathers_more events i e taken taken' b lt at so_far fit goes entries is died =
+-- one more
+pub gathers_next : (events : List Event) (i : ℕ) (e : Event) (classes classes' : List Class) (taken taken' : List (Request × Moment)) (died died' : Bool) → i < length events → e ≡ get_or events i e
+    → Gathers (take i events) classes taken died → Joins e classes taken died classes' taken' died' → Gathers (take (i + 1) events) classes' taken' died'
+gathers_next events i e classes classes' taken taken' died died' lt at so_far joins =
     let more : take i events ++ e ∷ [] ≡ take (i + 1) events = ap (λ x. take i events ++ x ∷ []) at ∙ sym (take_more events i e lt) in
-    subst (λ run. Gathers run taken' b) more (record {
-      fit = All-append IsFit (take i events) (e ∷ []) so_far.fit (only_one IsFit e fit);
-      goes = run_more (take i events) e b so_far.goes is died;
-      entries = entries ∙ ap (λ r. r ++ entry_if (class_of e.bytes) (message_entry e.bytes e.moment)) so_far.entries
-          ∙ ap (λ r. commits_in (take i events) ++ r) (sym (append-nil (commits e) ∙ commits_kept e.fate (entry_if (class_of e.bytes) (message_entry e.bytes e.moment)) goes))
-          ∙ sym (commits-append (take i events) (e ∷ []));
-    })
+    subst (λ run. Gathers run classes' taken' died') more (joins.1 (take i events) (subst (Gathers (take i events) classes taken) joins.0 so_far))
 
--- a group ends where it is full, or before an event that stands apart
-pub ends_here : (events : List Event) (n i : ℕ) (e : Event) (taken taken' : List (Request × Moment)) → n ≡ i → i < length events → e ≡ get_or events i e → taken' ≡ taken → EndsWith taken e
-    → (length taken' ≡ MAX_GROUP) ⊎ StartsNone (drop n events)
-ends_here events n i e taken taken' same lt at is ends = elim ends [
-  | inl full ↦ inl (ap length is ∙ full)
-  | inr apart ↦ inr (subst (λ k. StartsNone (drop k events)) (sym same)
-      (subst StartsNone (sym (drop-cons events i e lt)) (subst (λ (x : Event). (dies_before x.fate ≡ true) ⊎ (¬ IsFit x)) at apart)))
+pub gathers_count : (events : List Event) (i : ℕ) (classes : List Class) (taken : List (Request × Moment)) (died : Bool) → i ≤ length events → Gathers (take i events) classes taken died → length classes ≡ i
+gathers_count events i classes taken died le g = ap length g.classes_are ∙ length-map (take i events) (λ (e : Event). class_of e.bytes) ∙ length-take-le i events le
+
+pub gathers_counted : (events : List Event) (i : ℕ) (classes : List Class) (taken : List (Request × Moment)) (died : Bool) → i ≤ length events → Gathers (take i events) classes taken died → Gathers (take (length classes) events) classes taken died
+gathers_counted events i classes taken died le g = subst (λ n. Gathers (take n events) classes taken died) (sym (gathers_count events i classes taken died le g)) g
+
+-- a group ends where the server died, where it is full, or before an event that stands apart
+pub ends_here : (events : List Event) (i : ℕ) (e : Event) (classes : List Class) (taken : List (Request × Moment)) (died : Bool) → i < length events → e ≡ get_or events i e
+    → Gathers (take i events) classes taken died → EndsWith taken died e → StopsAt taken died (drop (length classes) events)
+ends_here events i e classes taken died lt at g ends alive = elim ends [
+  | inl dead ↦ absurd (cc (alive, dead))
+  | inr so ↦ elim so [
+    | inl full ↦ inl full
+    | inr apart ↦ inr (subst (λ k. StartsNone (drop k events)) (sym (gathers_count events i classes taken died (omega (arith, lt)) g))
+        (subst StartsNone (sym (drop-cons events i e lt)) (subst (λ (x : Event). (dies_before x.fate ≡ true) ⊎ (¬ IsFit x)) at apart)))
+  ]
 ]
 
-pub starts_none_at_end : (events : List Event) (n : ℕ) → drop n events ≡ [] → StartsNone (drop n events)
-starts_none_at_end events n is = subst StartsNone (sym is) tt
+pub stops_at_end : (events : List Event) (i : ℕ) (classes : List Class) (taken : List (Request × Moment)) (died : Bool) → i ≤ length events → length events ≤ i
+    → Gathers (take i events) classes taken died → StopsAt taken died (drop (length classes) events)
+stops_at_end events i classes taken died le past g alive =
+    let n = gathers_count events i classes taken died le g in
+    inr (subst StartsNone (sym (drop_all (length classes) events (omega (arith, n, past)))) tt)
 
 -- a kept message is answered
 kept_speaks : (b : List ℕ) → class_of b ≡ Kept → silent (raw_of b).opcode ≡ false
@@ -93,16 +108,48 @@ one_kept Silent x e is = absurd (cc is)
 one_kept (Bare errno) x e is = absurd (cc is)
 one_kept Kept x e is = (refl, cc is)
 
-pub named_more : (bytes : List ℕ) (taken taken' : List (Request × Moment)) (one : Request × Moment) (t : Moment) → is_zero bytes ≡ false
+named_more : (bytes : List ℕ) (taken taken' : List (Request × Moment)) (one : Request × Moment) (t : Moment) → is_zero bytes ≡ false
     → entry_of one ∷ [] ≡ entry_if (class_of bytes) (message_entry bytes t) → taken' ≡ taken ++ one ∷ [] → All HasId (entries_of taken) → All HasId (entries_of taken')
 named_more bytes taken taken' one t named some pushed each =
     let kept = one_kept (class_of bytes) (entry_of one) (message_entry bytes t) some in
     let here : HasId (entry_of one) = subst HasId (sym kept.1) (has_id bytes t kept.0 named) in
     subst (All HasId) (sym (ap entries_of pushed ∙ map-append entry_of taken (one ∷ []))) (All-append HasId (entries_of taken) (entry_of one ∷ []) each (only_one HasId (entry_of one) here))
 
-pub kept_more : (taken taken' : List (Request × Moment)) (one : Request × Moment) → All IsKept (entry_of one ∷ []) → taken' ≡ taken ++ one ∷ [] → All IsKept (entries_of taken) → All IsKept (entries_of taken')
+kept_more : (taken taken' : List (Request × Moment)) (one : Request × Moment) → All IsKept (entry_of one ∷ []) → taken' ≡ taken ++ one ∷ [] → All IsKept (entries_of taken) → All IsKept (entries_of taken')
 kept_more taken taken' one here pushed each =
     subst (All IsKept) (sym (ap entries_of pushed ∙ map-append entry_of taken (one ∷ []))) (All-append IsKept (entries_of taken) (entry_of one ∷ []) each here)
 
-pub entries_more : (taken taken' : List (Request × Moment)) (one : Request × Moment) (es : List Entry) → taken' ≡ taken ++ one ∷ [] → entry_of one ∷ [] ≡ es → entries_of taken' ≡ entries_of taken ++ es
-entries_more taken taken' one es pushed is = ap entries_of pushed ∙ map-append entry_of taken (one ∷ []) ∙ ap (λ r. entries_of taken ++ r) is
+entries_one : (run : List Event) (e : Event) (es : List Entry) → dies_before e.fate ≡ false → es ≡ entry_if (class_of e.bytes) (message_entry e.bytes e.moment) → commits_in run ++ es ≡ commits_in (run ++ e ∷ [])
+entries_one run e es goes is =
+    ap (λ r. commits_in run ++ r) (is ∙ sym (append-nil (commits e) ∙ commits_kept e.fate (entry_if (class_of e.bytes) (message_entry e.bytes e.moment)) goes)) ∙ sym (commits-append run (e ∷ []))
+
+few_more : (n m : ℕ) → n ≤ MAX_GROUP → (n ≡ MAX_GROUP → ⊥) → m ≡ n + 1 → m ≤ MAX_GROUP
+few_more n m few room is = grind (arith, few, room, is)
+
+-- an event with its request
+pub joins_kept : (e : Event) (classes classes' : List Class) (taken taken' : List (Request × Moment)) (one : Request × Moment) (died died' : Bool) → died ≡ false → IsFit e → dies_before e.fate ≡ false
+    → entry_of one ∷ [] ≡ entry_if (class_of e.bytes) (message_entry e.bytes e.moment) → All IsKept (entry_of one ∷ []) → (length taken ≡ MAX_GROUP → ⊥)
+    → classes' ≡ classes ++ class_of e.bytes ∷ [] → taken' ≡ taken ++ one ∷ [] → dies e.fate ≡ died' → (died' ≡ true → e.fate ≡ DiedAfterCommit) → Joins e classes taken died classes' taken' died'
+joins_kept e classes classes' taken taken' one died died' alive fit goes some kept room classed pushed is dead = (alive, λ run g. record {
+  fit = All-append IsFit run (e ∷ []) g.fit (only_one IsFit e fit);
+  goes = run_more run e died' g.goes is dead;
+  classes_are = classed ∙ ap (λ (cs : List Class). cs ++ class_of e.bytes ∷ []) g.classes_are ∙ sym (map-append (λ (x : Event). class_of x.bytes) run (e ∷ []));
+  entries = ap entries_of pushed ∙ map-append entry_of taken (one ∷ []) ∙ ap (λ r. r ++ entry_of one ∷ []) g.entries ∙ entries_one run e (entry_of one ∷ []) goes some;
+  few = few_more (length taken) (length taken') g.few room (ap length pushed ∙ length-append taken (one ∷ []));
+  named = named_more e.bytes taken taken' one e.moment fit.named some pushed g.named;
+  kept = kept_more taken taken' one kept pushed g.kept;
+})
+
+-- an event without one
+pub joins_bare : (e : Event) (classes classes' : List Class) (taken taken' : List (Request × Moment)) (died died' : Bool) → died ≡ false → IsFit e → dies_before e.fate ≡ false
+    → [] ≡ entry_if (class_of e.bytes) (message_entry e.bytes e.moment)
+    → classes' ≡ classes ++ class_of e.bytes ∷ [] → taken' ≡ taken → dies e.fate ≡ died' → (died' ≡ true → e.fate ≡ DiedAfterCommit) → Joins e classes taken died classes' taken' died'
+joins_bare e classes classes' taken taken' died died' alive fit goes none classed same is dead = (alive, λ run g. record {
+  fit = All-append IsFit run (e ∷ []) g.fit (only_one IsFit e fit);
+  goes = run_more run e died' g.goes is dead;
+  classes_are = classed ∙ ap (λ (cs : List Class). cs ++ class_of e.bytes ∷ []) g.classes_are ∙ sym (map-append (λ (x : Event). class_of x.bytes) run (e ∷ []));
+  entries = ap entries_of same ∙ g.entries ∙ sym (append-nil (commits_in run)) ∙ entries_one run e [] goes none;
+  few = omega (arith, g.few, ap length same);
+  named = subst (λ (t : List (Request × Moment)). All HasId (entries_of t)) (sym same) g.named;
+  kept = subst (λ (t : List (Request × Moment)). All IsKept (entries_of t)) (sym same) g.kept;
+})

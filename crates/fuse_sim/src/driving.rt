@@ -1,20 +1,208 @@
 // Running events to their end.
-ghost use Rattle.std.specs.Prelude.{◌≡◌, ℕ, List, [], false, true, length, map, IsSomeAnd, IfSome, None, All, IfOk, IfErr, OnOk, MatchResult};
+ghost use Rattle.std.specs.Prelude.{◌≡◌, ◌≤◌, ◌<◌, ◌+◌, ◌++◌, ℕ, List, [], false, true};
+ghost use Rattle.std.specs.Prelude.{if◌then◌else◌, length, map, take, drop, All, vec_capacity};
+ghost use Rattle.std.specs.Prelude.{None, IsSome, IsSomeAnd, IfSome, is_err};
+ghost use Rattle.std.specs.Prelude.{IfOk, IfErr, OnOk, OnErr, MatchResult};
 ghost use Rattle.fuse_keeper.specs.History.{History, said, is_in};
 ghost use Rattle.fuse_keeper.specs.Stands.{Records};
-ghost use Rattle.fuse_sim.specs.Driving.{told_in, StandsIn, AnswersNoMore, committed, outcome_of, bytes_given, settled_by, NoneReused, IsFit, Names, before, is_store, IsStoreFault, LeftBy, OfRestart};
-ghost use Rattle.fuse_sim.specs.LeftRecords.{Behind, RecordsLeft};
+ghost use Rattle.fuse_keeper.specs.KeeperState.{Called, KeepsHeld, Tells};
+ghost use Rattle.fuse_keeper.specs.Group.{ids_of};
+ghost use Rattle.fuse_keeper.specs.declared.keeper.TheConstants.{MAX_SETTLED as max_settled};
+ghost use Rattle.fuse_sim.specs.Driving.{told_in, StandsIn, committed, outcome_of, bytes_given};
+ghost use Rattle.fuse_sim.specs.Driving.{settled_by, NoneReused, IsFit, Names, event_of, before};
+ghost use Rattle.fuse_sim.specs.Driving.{is_store, IsStoreFault, LeftBy, OfRestart};
+ghost use Rattle.fuse_sim.specs.Driving.{became_in, Opened, AnsweredBy};
+ghost use Rattle.fuse_sim.specs.LeftRecords.{Behind, RecordsLeft, HoldsRecords};
+ghost use Rattle.fuse_sim.specs.HandedOn.{Ledger};
+ghost use Rattle.fuse_sim.specs.Running.{Gathers, Begins, Worked, Moved, MayBegin, Opens, Stops};
 
 use crate::event::{DriveFault, Event, Outcome};
-use crate::running::run_next;
-use fuse_keeper::{Restart, histories_grow};
-use std::alloc::Global;
+use crate::group::{Group, answer_group, gather, is_before_commit, perform_group, test_event};
+use fuse_keeper::{Restart, StoreFault, histories_grow};
+use fuse_wire::Id;
+use std::alloc::{AllocError, Global};
+
+// Opens the keeper again. A fault leaves none.
+fn reopen<K: Restart>(keeper: &mut Option<K>) -> Result<(), StoreFault>
+    requires { IsSome keeper.old }
+    ensures same { OnOk result ((told_in K.told keeper.new).is_honest
+        → KeepsHeld (told_in K.told keeper.old) (told_in K.told keeper.new)) }
+    ensures honest { (told_in K.told keeper.new).is_honest → (told_in K.told keeper.old).is_honest }
+    ensures going { OnOk result (IsSomeAnd keeper.new (λ k. (K.told k).has_failed ≡ false)) }
+    ensures err { OnErr result (keeper.new ≡ None) }
+    ensures refused { IfErr result (λ f. IsSomeAnd keeper.old (λ k. K.may_refuse k f)) }
+    ensures once { OnOk result (became_in K.became keeper.old keeper.new 1) }
+{
+    let old = keeper.take().unwrap();
+    *keeper = Some(old.restart()?);
+    Ok(())
+}
+
+// Where the server dies at an event, of this number, it starts again, and nothing is pending.
+fn end_group<K: Restart>(
+    keeper: &mut Option<K>,
+    dies: bool,
+    event: usize,
+    pending: &mut Vec<Id>,
+) -> Result<(), DriveFault>
+    requires { IsSomeAnd keeper.old (λ k. (K.told k).has_failed ≡ false) }
+    ensures same { OnOk result ((told_in K.told keeper.new).is_honest
+        → KeepsHeld (told_in K.told keeper.old) (told_in K.told keeper.new)) }
+    ensures honest { (told_in K.told keeper.new).is_honest → (told_in K.told keeper.old).is_honest }
+    ensures going { OnOk result (IsSomeAnd keeper.new (λ k. (K.told k).has_failed ≡ false)) }
+    ensures pending { OnOk result
+        (pending.new.items ≡ (if dies then [] else pending.old.items)) }
+    ensures err { OnErr result ((keeper.new ≡ None) × (dies ≡ true)) }
+    ensures fault { IfErr result (λ f. (is_store f ≡ true) × (event_of f ≡ event)) }
+    ensures refused { IfErr result
+        (λ f. IsSomeAnd keeper.old (λ k. IsStoreFault (K.may_refuse k) f)) }
+    ensures opened { OnOk result
+        (became_in K.became keeper.old keeper.new (if dies then 1 else 0)) }
+{
+    if !dies {
+        return Ok(());
+    }
+    pending.clear();
+    match reopen(keeper) {
+        Ok(()) => Ok(()),
+        Err(fault) => Err(DriveFault::Store { event, fault }),
+    }
+}
+
+// Room for the outcomes of so many events, and for so many ids.
+fn make_room(
+    outcomes: &mut Vec<Option<Outcome>>,
+    events: usize,
+    pending: &mut Vec<Id>,
+    ids: usize,
+) -> Result<(), AllocError>
+    ensures outcomes { outcomes.new.items ≡ outcomes.old.items }
+    ensures pending { pending.new.items ≡ pending.old.items }
+    ensures room { OnOk result (length outcomes.new.items + events ≤ vec_capacity outcomes.new) }
+    ensures places { OnOk result (length pending.new.items + ids ≤ vec_capacity pending.new) }
+{
+    outcomes.reserve(events)?;
+    pending.reserve(ids)
+}
+
+// Performs a group that was read off events, on the keeper that is there, and gives them their
+// outcomes. There is room for them, and for the ids that they settle.
+fn work_group<K: Restart>(
+    alloc: Global,
+    keeper: &mut Option<K>,
+    run: &[Event],
+    group: &Group<'_>,
+    pending: &mut Vec<Id>,
+    outcomes: &mut Vec<Option<Outcome>>,
+) -> Result<(), StoreFault>
+    requires gathers { Gathers run.now group.now.classes.items group.now.taken.items
+        group.now.died }
+    requires few { length pending.old.items ≤ max_settled }
+    requires going { IsSomeAnd keeper.old (λ k. (K.told k).has_failed ≡ false) }
+    requires room { length outcomes.old.items + length run.now ≤ vec_capacity outcomes.old }
+    requires places { length pending.old.items + length group.now.taken.items
+        ≤ vec_capacity pending.old }
+    ensures ok { OnOk result (Worked (told_in K.told keeper.old) (told_in K.told keeper.new)
+        run.now (ids_of pending.old.items) (ids_of pending.new.items)
+        outcomes.old.items outcomes.new.items) }
+    ensures called { Called (told_in K.told keeper.old) (told_in K.told keeper.new) result }
+    ensures same { became_in K.became keeper.old keeper.new 0 }
+    ensures failed { IsSomeAnd keeper.new (λ k. (K.told k).has_failed ≡ is_err result) }
+{
+    let inner = keeper.as_mut().unwrap();
+    let dones = perform_group(alloc, inner, group.taken.as_slice(), pending)?;
+    answer_group(alloc, run, group.classes.as_slice(), dones, pending, outcomes);
+    Ok(())
+}
+
+// Runs the group that begins at a place, and says how many events it has.
+fn run_group<K: Restart>(
+    alloc: Global,
+    keeper: &mut Option<K>,
+    events: &[Event],
+    at: usize,
+    pending: &mut Vec<Id>,
+    outcomes: &mut Vec<Option<Outcome>>,
+) -> Result<usize, DriveFault>
+    requires begins { Begins (drop at events.now) }
+    requires few { length pending.old.items ≤ max_settled }
+    requires going { IsSomeAnd keeper.old (λ k. (K.told k).has_failed ≡ false) }
+    ensures moves { IfOk result (λ n. 0 < n) }
+    ensures within { IfOk result (λ n. at + n ≤ length events.now) }
+    ensures ok { IfOk result (λ n. Moved
+        (told_in K.told keeper.old) (told_in K.told keeper.new)
+        (record { room = 0; pending = ids_of pending.old.items })
+        (take n (drop at events.now)) (drop (at + n) events.now)
+        (ids_of pending.new.items) outcomes.old.items outcomes.new.items) }
+    ensures opens { IfOk result (λ n. Opens K.told K.became keeper.old keeper.new
+        (ids_of pending.old.items) (take n (drop at events.now))) }
+    ensures few { OnOk result (length pending.new.items ≤ max_settled) }
+    ensures going { OnOk result (IsSomeAnd keeper.new (λ k. (K.told k).has_failed ≡ false)) }
+    ensures honest { (told_in K.told keeper.new).is_honest → (told_in K.told keeper.old).is_honest }
+    ensures err { IfErr result
+        (Stops K.told K.became K.may_refuse keeper.old keeper.new events.now at) }
+{
+    let Ok(group) = gather(alloc, &events[at..]) else {
+        return Err(DriveFault::Memory { event: at });
+    };
+    let count = group.classes.len();
+    let run = &events[at..at + count];
+    if make_room(outcomes, count, pending, group.taken.len()).is_err() {
+        return Err(DriveFault::Memory { event: at });
+    }
+    if let Err(fault) = work_group(alloc, keeper, run, &group, pending, outcomes) {
+        return Err(DriveFault::Store { event: at, fault });
+    }
+    end_group(keeper, group.died, at + count - 1, pending)?;
+    Ok(count)
+}
+
+// Runs the events that come next, a group of them or one that is lost, and says how many.
+fn run_next<K: Restart>(
+    alloc: Global,
+    keeper: &mut Option<K>,
+    events: &[Event],
+    at: usize,
+    pending: &mut Vec<Id>,
+    outcomes: &mut Vec<Option<Outcome>>,
+) -> Result<usize, DriveFault>
+    requires at { at < length events.now }
+    requires few { length pending.old.items ≤ max_settled }
+    requires going { IsSomeAnd keeper.old (λ k. (K.told k).has_failed ≡ false) }
+    ensures moves { IfOk result (λ n. 0 < n) }
+    ensures within { IfOk result (λ n. at + n ≤ length events.now) }
+    ensures ok { IfOk result (λ n. (l : Ledger)
+        → l.pending ≡ ids_of pending.old.items → MayBegin l (drop at events.now)
+        → Moved (told_in K.told keeper.old) (told_in K.told keeper.new) l
+            (take n (drop at events.now)) (drop (at + n) events.now)
+            (ids_of pending.new.items) outcomes.old.items outcomes.new.items) }
+    ensures opens { IfOk result (λ n. Opens K.told K.became keeper.old keeper.new
+        (ids_of pending.old.items) (take n (drop at events.now))) }
+    ensures few { OnOk result (length pending.new.items ≤ max_settled) }
+    ensures going { OnOk result (IsSomeAnd keeper.new (λ k. (K.told k).has_failed ≡ false)) }
+    ensures honest { (told_in K.told keeper.new).is_honest → (told_in K.told keeper.old).is_honest }
+    ensures err { IfErr result
+        (Stops K.told K.became K.may_refuse keeper.old keeper.new events.now at) }
+{
+    let event = &events[at];
+    test_event(event, at)?;
+    if !is_before_commit(event.fate) {
+        return run_group(alloc, keeper, events, at, pending, outcomes);
+    }
+    if make_room(outcomes, 1, pending, 0).is_err() {
+        return Err(DriveFault::Memory { event: at });
+    }
+    end_group(keeper, true, at, pending)?;
+    outcomes.push_reserved(None);
+    Ok(1)
+}
 
 /// Runs events over a keeper, in groups, and answers what the kernel takes for each of them.
 ///
-/// A group is a run of events with up to 16 kept messages, of which the last may be one after which the server dies.
-/// Room for its outcomes is made before it is performed. The keeper is opened again wherever the server dies. A fault
-/// leaves the keeper as the events before the one that it names left it; the fault of an opening leaves none.
+/// A group is a run of events with up to 16 kept messages, of which the last may be one after which
+/// the server dies. Room for its outcomes is made before it is performed. The keeper is opened again
+/// wherever the server dies. A fault leaves the keeper as the events before the one that it names
+/// left it; the fault of an opening leaves none.
 pub fn drive<K: Restart>(
     alloc: Global,
     keeper: &mut Option<K>,
@@ -22,40 +210,70 @@ pub fn drive<K: Restart>(
 ) -> Result<Vec<Option<Outcome>>, DriveFault>
     requires present { IsSomeAnd keeper.old (λ k. (K.told k).has_failed ≡ false) }
 
-    // What stood stands with the requests that were committed, each once, in the order of their first commit.
-    ensures tree_stands { OnOk result ((told_in K.told keeper.new).is_honest → (start : K.model.State) (h : History) (settled : List ℕ) → StandsIn K.told keeper.old start h settled
-        → NoneReused settled events.now → StandsIn K.told keeper.new start (committed h events.now) (settled_by settled events.now)) }
+    // What stood stands with the requests that were committed, each once, in the order of their
+    // first commit.
+    ensures tree_stands { OnOk result ((told_in K.told keeper.new).is_honest
+        → (start : K.model.State) (h : History) (settled : List ℕ)
+        → StandsIn K.told keeper.old start h settled → NoneReused settled events.now
+        → StandsIn K.told keeper.new start (committed h events.now)
+            (settled_by settled events.now)) }
 
     // Each answer, that to a resend too, is what was said there of its id.
-    ensures outcomes { IfOk result (λ outcomes. (told_in K.told keeper.new).is_honest → (start : K.model.State) (h : History) (settled : List ℕ) → StandsIn K.told keeper.old start h settled
-        → NoneReused settled events.now → map bytes_given outcomes.items ≡ map (outcome_of K.model start (committed h events.now)) events.now) }
+    ensures outcomes { IfOk result (λ outcomes. (told_in K.told keeper.new).is_honest
+        → (start : K.model.State) (h : History) (settled : List ℕ)
+        → StandsIn K.told keeper.old start h settled → NoneReused settled events.now
+        → map bytes_given outcomes.items
+            ≡ map (outcome_of K.model start (committed h events.now)) events.now) }
     ensures count { IfOk result (λ outcomes. length outcomes.items ≡ length events.now) }
 
+    // The keeper is opened again once for each event at which the server dies, after its commit.
+    ensures opened { OnOk result (Opened K.told K.became keeper.old keeper.new events.now) }
+
     // Why it faults; and where it doesn't, each event can be run.
-    ensures fault_causes { MatchResult result (λ _. All IsFit events.now) (λ fault. Names fault events.now) }
+    ensures fault_causes { MatchResult result
+        (λ _. All IsFit events.now) (λ fault. Names fault events.now) }
 
     // The keeper that a fault leaves stands for the events before the one that is named,
-    ensures after_fault { IfErr result (λ fault. (start : K.model.State) (h : History) (settled : List ℕ) → StandsIn K.told keeper.old start h settled → NoneReused settled (before fault events.now)
-        → LeftBy (told_in K.told keeper.new) (is_store fault) (StandsIn K.told keeper.new start (committed h (before fault events.now)) (settled_by settled (before fault events.now)))) }
-    // and then a fault of the store is one that the keeper may answer.
-    ensures store { IfErr result (λ fault. is_store fault ≡ true → (told_in K.told keeper.new).is_clean → (start : K.model.State) (h : History) (settled : List ℕ) → StandsIn K.told keeper.old start h settled
-        → NoneReused settled (before fault events.now) → IsStoreFault (told_in K.told keeper.old).may_answer fault) }
+    ensures after_fault { IfErr result (λ fault.
+        (start : K.model.State) (h : History) (settled : List ℕ)
+        → StandsIn K.told keeper.old start h settled → NoneReused settled (before fault events.now)
+        → LeftBy (told_in K.told keeper.new) (is_store fault)
+            (StandsIn K.told keeper.new start (committed h (before fault events.now))
+                (settled_by settled (before fault events.now)))) }
+    // was opened again once for each of these at which the server died,
+    ensures opened_before { IfErr result (λ fault. ¬ (keeper.new ≡ None)
+        → Opened K.told K.became keeper.old keeper.new (before fault events.now)) }
+    // and a fault of the store is one that the keeper may answer which was in place.
+    ensures store { IfErr result (λ fault. is_store fault ≡ true
+        → (told_in K.told keeper.new).is_clean
+        → (start : K.model.State) (h : History) (settled : List ℕ)
+        → StandsIn K.told keeper.old start h settled → NoneReused settled (before fault events.now)
+        → AnsweredBy K.told K.became keeper.old keeper.new (before fault events.now) fault) }
     // No keeper is left only where one refused to be opened again, with this fault.
-    ensures emptied { IfErr result (λ fault. keeper.new ≡ None → OfRestart K.may_refuse events.now fault) }
+    ensures emptied { IfErr result (λ fault. keeper.new ≡ None
+        → OfRestart K.may_refuse events.now fault) }
 
     // A keeper that is left has failed exactly where the store answered the fault.
     ensures going { OnOk result (IsSomeAnd keeper.new (λ k. (K.told k).has_failed ≡ false)) }
-    ensures failed { IfErr result (λ fault. IfSome keeper.new (λ k. (K.told k).has_failed ≡ is_store fault)) }
+    ensures failed { IfErr result
+        (λ fault. IfSome keeper.new (λ k. (K.told k).has_failed ≡ is_store fault)) }
 
-    // It may answer no fault afterwards that it couldn't before.
-    ensures may { AnswersNoMore K.told keeper.old keeper.new }
+    // A store that gave back what was written did so before.
+    ensures honest { (told_in K.told keeper.new).is_honest → (told_in K.told keeper.old).is_honest }
 
-    // Not of the headline: which records are left. That of an answered id goes with the 16th request committed behind it
-    // at the latest, and with the first at the earliest, unless the server dies before.
-    ensures records { OnOk result ((told_in K.told keeper.new).is_honest → NoneReused [] events.now → (rows : K.model.Rows) (records : Records) → (told_in K.told keeper.old).holds rows records
-        → (rows' : K.model.Rows) × (records' : Records) × (told_in K.told keeper.new).holds rows' records' × RecordsLeft events.now records records') }
-    ensures kept { OnOk result ((told_in K.told keeper.new).is_honest → (start : K.model.State) (h : History) (settled : List ℕ) → StandsIn K.told keeper.old start h settled → NoneReused settled events.now
-        → (rows : K.model.Rows) (records : Records) → (told_in K.told keeper.new).holds rows records → (i : ℕ) → is_in settled i ≡ false → ¬ Behind 1 events.now i → records i ≡ said K.model start (committed h events.now) i) }
+    // Not of the headline: which records are left. That of an answered id goes with the 16th
+    // request committed behind it at the latest, and with the first at the earliest, unless the
+    // server dies before.
+    ensures records { OnOk result (NoneReused [] events.now
+        → Tells (told_in K.told keeper.old) (told_in K.told keeper.new) (λ rows records.
+            HoldsRecords (told_in K.told keeper.new) (RecordsLeft events.now records))) }
+    ensures kept { OnOk result ((told_in K.told keeper.new).is_honest
+        → (start : K.model.State) (h : History) (settled : List ℕ)
+        → StandsIn K.told keeper.old start h settled → NoneReused settled events.now
+        → (rows : K.model.Rows) (records : Records)
+        → (told_in K.told keeper.new).holds rows records
+        → (i : ℕ) → is_in settled i ≡ false → ¬ Behind 1 events.now i
+        → records i ≡ said K.model start (committed h events.now) i) }
 {
     histories_grow::<K>();
     let mut outcomes = Vec::new(alloc);
@@ -65,4 +283,32 @@ pub fn drive<K: Restart>(
         at += run_next(alloc, keeper, events, at, &mut pending, &mut outcomes)?;
     }
     Ok(outcomes)
+}
+
+/// Runs events, and then more of them. What `drive` says of one list is so of both in a row.
+pub fn drive_twice<K: Restart>(
+    alloc: Global,
+    keeper: &mut Option<K>,
+    events: &[Event],
+    more: &[Event],
+) -> Result<(Vec<Option<Outcome>>, Vec<Option<Outcome>>), DriveFault>
+    requires present { IsSomeAnd keeper.old (λ k. (K.told k).has_failed ≡ false) }
+    ensures tree_stands { OnOk result ((told_in K.told keeper.new).is_honest
+        → (start : K.model.State) (h : History) (settled : List ℕ)
+        → StandsIn K.told keeper.old start h settled → NoneReused settled (events.now ++ more.now)
+        → StandsIn K.told keeper.new start (committed h (events.now ++ more.now))
+            (settled_by settled (events.now ++ more.now))) }
+    ensures outcomes { IfOk result (λ both. (told_in K.told keeper.new).is_honest
+        → (start : K.model.State) (h : History) (settled : List ℕ)
+        → StandsIn K.told keeper.old start h settled → NoneReused settled (events.now ++ more.now)
+        → map bytes_given (both.0.items ++ both.1.items) ≡ map
+            (outcome_of K.model start (committed h (events.now ++ more.now)))
+            (events.now ++ more.now)) }
+    ensures opened { OnOk result
+        (Opened K.told K.became keeper.old keeper.new (events.now ++ more.now)) }
+{
+    histories_grow::<K>();
+    let first = drive(alloc, keeper, events)?;
+    let second = drive(alloc, keeper, more)?;
+    Ok((first, second))
 }

@@ -1,0 +1,9 @@
+use Rattle.std.proofs.Common.{◌≤◌, length, take}
+use Rattle.fuse_sim.specs.Running.{Gathers}
+use Rattle.fuse_sim.proofs.group.gather.Given as goal
+
+abbrev pub invariant-loop-event : goal.invariant-loop-event
+invariant-loop-event l = record {
+  within : l.event-index ≤ length l.events;
+  gathers : Gathers (take l.event-index l.events) l.group.classes.items l.group.taken.items l.group.died;
+}

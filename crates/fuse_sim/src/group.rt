@@ -1,0 +1,295 @@
+// A group of events: read off the first ones, performed, and answered.
+ghost use Rattle.std.specs.Prelude.{◌≡◌, ◌≤◌, ◌<◌, ◌⊎◌, ◌↔◌, ◌∷◌, ◌+◌, ◌++◌, [], true, false, ℕ};
+ghost use Rattle.std.specs.Prelude.{List, length, map, take, drop, Some, All, IsTrue, vec_capacity};
+ghost use Rattle.std.specs.Prelude.{IfOk, IfErr, OnOk};
+ghost use Rattle.std.specs.Vec.Iter.{into_iter_items};
+ghost use Rattle.fuse_answer.specs.Wire.{wire};
+ghost use Rattle.fuse_request.specs.Stream.{IsMessage};
+ghost use Rattle.fuse_request.specs.Classes.{class_of};
+ghost use Rattle.fuse_keeper.specs.History.{History, IsUnsettled};
+ghost use Rattle.fuse_keeper.specs.KeeperState.{StandsFor, Called, Performed, KeepsOthers};
+ghost use Rattle.fuse_keeper.specs.Group.{entries_of, HasId, IsKept, ids_of};
+ghost use Rattle.fuse_keeper.specs.declared.keeper.TheConstants.{MAX_GROUP as max_group};
+ghost use Rattle.fuse_keeper.specs.declared.keeper.TheConstants.{MAX_SETTLED as max_settled};
+ghost use Rattle.fuse_session.specs.Worked.{entry_if, message_entry};
+ghost use Rattle.fuse_session.specs.Group.{listed, left_by};
+ghost use Rattle.fuse_sim.specs.Driving.{IsFit, CausedBy, event_of, is_store, dies};
+ghost use Rattle.fuse_sim.specs.Driving.{bytes_given, settles, is_taken};
+ghost use Rattle.fuse_sim.specs.Running.{dies_before, Gathers, EndsWith, StopsAt, Joins};
+ghost use Rattle.fuse_sim.specs.Running.{handed_to, left_pending, classes_in, settles_in};
+ghost use Rattle.fuse_sim.specs.Running.{answers_in, head_outcome, outcomes_by, HasAnswers, Adds};
+
+use crate::event::{DriveFault, Event, Fate, Outcome};
+use fuse_answer::{Answer, head_of};
+use fuse_keeper::{Done, Keeper, MAX_GROUP, StoreFault};
+use fuse_request::{Class, MAX_MESSAGE, Request};
+use fuse_request::{classify, decode, has_zero_unique, header_of, one_cut, unique_of};
+use fuse_wire::{Id, Moment};
+use std::alloc::{AllocError, Global};
+use std::vec::IntoIter;
+
+/// A group of events: the class of each message, and the requests of the kept ones. `died` says
+/// that the server dies after the last of them.
+#[derive(Drop)]
+pub(crate) struct Group<'a> {
+    pub(crate) classes: Vec<Class>,
+    pub(crate) taken: Vec<(Request<'a>, Moment)>,
+    pub(crate) died: bool,
+}
+
+// Whether bytes are just one message.
+fn is_message(bytes: &[u8]) -> bool
+    ensures { IsTrue result ↔ IsMessage bytes.now }
+{
+    match header_of(bytes) {
+        Some(header) => header.len as usize == bytes.len() && bytes.len() <= MAX_MESSAGE,
+        None => false,
+    }
+}
+
+/// Whether an event, of this number, can be run.
+pub(crate) fn test_event(event: &Event, number: usize) -> Result<(), DriveFault>
+    ensures fit { OnOk result (IsFit event.now) }
+    ensures message { OnOk result (IsMessage event.now.bytes) }
+    ensures names { IfErr result (λ fault. event_of fault ≡ number) }
+    ensures caused { IfErr result (λ fault. CausedBy fault event.now) }
+    ensures unfit { IfErr result (λ fault. ¬ IsFit event.now) }
+    ensures store { IfErr result (λ fault. is_store fault ≡ false) }
+{
+    one_cut();
+    let bytes = event.bytes.as_slice();
+    if !is_message(bytes) {
+        return Err(DriveFault::NotAMessage { event: number });
+    }
+    if has_zero_unique(bytes) {
+        return Err(DriveFault::ZeroUnique { event: number });
+    }
+    Ok(())
+}
+
+/// Whether the server dies before it commits.
+pub(crate) fn is_before_commit(fate: Fate) -> bool
+    ensures { result ≡ dies_before fate }
+{
+    matches!(fate, Fate::DiedBeforeCommit)
+}
+
+// Whether the server dies after its commit.
+fn is_after_commit(fate: Fate) -> bool
+    ensures died { result ≡ true → fate ≡ Fate.DiedAfterCommit }
+    ensures dies { dies_before fate ≡ false → dies fate ≡ result }
+{
+    matches!(fate, Fate::DiedAfterCommit)
+}
+
+// Whether an event belongs to no group.
+fn stands_apart(event: &Event) -> bool
+    ensures apart { result ≡ true → (dies_before event.now.fate ≡ true) ⊎ ¬ IsFit event.now }
+    ensures goes { result ≡ false → dies_before event.now.fate ≡ false }
+    ensures fit { result ≡ false → IsFit event.now }
+    ensures message { result ≡ false → IsMessage event.now.bytes }
+{
+    match test_event(event, 0) {
+        Ok(()) => is_before_commit(event.fate),
+        Err(_) => true,
+    }
+}
+
+// The request of an event whose message is of this class, and its moment: only a kept one has it.
+fn read_one<'a>(event: &'a Event, class: Class) -> Option<(Request<'a>, Moment)>
+    requires message { IsMessage event.now.bytes }
+    requires class { class ≡ class_of event.now.bytes }
+    ensures entry { entries_of (listed result) ≡ entry_if (class_of event.now.bytes)
+        (message_entry event.now.bytes event.now.moment) }
+    ensures kept { All IsKept (entries_of (listed result)) }
+{
+    match class {
+        Class::Kept => match decode(event.bytes.as_slice()) {
+            Ok(request) => Some((request, event.moment)),
+            Err(_) => None,
+        },
+        Class::Silent => None,
+        Class::Bare(_) => None,
+    }
+}
+
+// Takes an event into a group. False where the group ends before it: the server died, the event
+// stands apart, or it is a kept one and the group is full.
+fn take_in<'a>(group: &mut Group<'a>, event: &'a Event) -> Result<bool, AllocError>
+    ensures joins { IfOk result (λ joins. joins ≡ true → Joins event.now
+        group.old.classes.items group.old.taken.items group.old.died
+        group.new.classes.items group.new.taken.items group.new.died) }
+    ensures ends { IfOk result (λ joins. joins ≡ false
+        → (group.new ≡ group.old) × EndsWith group.old.taken.items group.old.died event.now) }
+{
+    if group.died || stands_apart(event) {
+        return Ok(false);
+    }
+    let class = classify(event.bytes.as_slice());
+    if let Some(one) = read_one(event, class) {
+        if group.taken.len() == MAX_GROUP {
+            return Ok(false);
+        }
+        group.taken.push(one)?;
+    }
+    group.classes.push(class)?;
+    group.died = is_after_commit(event.fate);
+    Ok(true)
+}
+
+/// Reads a group off the first events: at most 16 kept ones, up to one that stands apart, and none
+/// behind a crash.
+pub(crate) fn gather<'a>(alloc: Global, events: &'a [Event]) -> Result<Group<'a>, AllocError>
+    ensures within { IfOk result (λ r. length r.classes.items ≤ length events.now) }
+    ensures gathers { IfOk result (λ r. Gathers (take (length r.classes.items) events.now)
+        r.classes.items r.taken.items r.died) }
+    ensures stops { IfOk result (λ r.
+        StopsAt r.taken.items r.died (drop (length r.classes.items) events.now)) }
+{
+    let mut group = Group {
+        classes: Vec::new(alloc),
+        taken: Vec::new(alloc),
+        died: false,
+    };
+    for event in events {
+        if !take_in(&mut group, event)? {
+            return Ok(group);
+        }
+    }
+    Ok(group)
+}
+
+/// Performs a group, if there is one, and hands on the pending ids.
+pub(crate) fn perform_group<K: Keeper>(
+    alloc: Global,
+    keeper: &mut K,
+    group: &[(Request<'_>, Moment)],
+    pending: &mut Vec<Id>,
+) -> Result<Vec<Done>, StoreFault>
+    requires short { length group.now ≤ max_group }
+    requires few { length pending.old.items ≤ max_settled }
+    requires named { All HasId (entries_of group.now) }
+    requires kept { All IsKept (entries_of group.now) }
+    requires going { (K.told keeper.old).has_failed ≡ false }
+    ensures count { IfOk result (λ dones. length dones.items ≡ length group.now) }
+    ensures called { Called (K.told keeper.old) (K.told keeper.new) result }
+    ensures ok { IfOk result (λ dones. (K.told keeper.new).is_honest
+        → (s : K.model.State) (h : History) (t : List ℕ) → StandsFor (K.told keeper.old) s h t
+        → All (IsUnsettled (t ++ handed_to (entries_of group.now) (ids_of pending.old.items)))
+            (entries_of group.now)
+        → Performed (K.told keeper.new) s h
+            (t ++ handed_to (entries_of group.now) (ids_of pending.old.items))
+            (entries_of group.now) dones.items) }
+    ensures others { OnOk result (KeepsOthers (K.told keeper.old) (K.told keeper.new)
+        (handed_to (entries_of group.now) (ids_of pending.old.items)) (entries_of group.now)) }
+    ensures pending { OnOk result (ids_of pending.new.items
+        ≡ left_pending (entries_of group.now) (ids_of pending.old.items)) }
+    ensures room { length pending.old.items + length group.now ≤ vec_capacity pending.old
+        → OnOk result (length pending.new.items + length group.now ≤ vec_capacity pending.new) }
+    ensures same { K.became keeper.old keeper.new 0 }
+{
+    if group.is_empty() {
+        return Ok(Vec::new(alloc));
+    }
+    match keeper.perform(group, pending.as_slice()) {
+        Ok(dones) => {
+            pending.clear();
+            Ok(dones)
+        }
+        Err(fault) => Err(fault),
+    }
+}
+
+// Whether the kernel takes the answer.
+fn is_answered(fate: Fate) -> bool
+    ensures { result ≡ is_taken fate }
+{
+    matches!(fate, Fate::Answered)
+}
+
+// An answer under this unique. Its body is moved.
+fn outcome_with(unique: u64, answer: Answer) -> Outcome
+    ensures { bytes_given (Some result) ≡ Some (wire answer.errno answer.body unique) }
+{
+    Outcome {
+        head: head_of(unique, &answer),
+        body: answer.body,
+    }
+}
+
+// What the kernel takes as the answer to an event whose message is of this class. A kept one uses
+// the next answer.
+fn outcome_of_event(
+    alloc: Global,
+    event: &Event,
+    class: Class,
+    answers: &mut IntoIter<Done>,
+) -> Option<Outcome>
+    requires message { IsMessage event.now.bytes }
+    requires class { class ≡ class_of event.now.bytes }
+    requires enough { class_of event.now.bytes ≡ Class.Kept
+        → 0 < length (into_iter_items answers.old) }
+    ensures outcome { bytes_given result
+        ≡ head_outcome event.now (answers_in (into_iter_items answers.old)) }
+    ensures left { answers_in (into_iter_items answers.new)
+        ≡ left_by (class_of event.now.bytes) (answers_in (into_iter_items answers.old)) }
+{
+    let answer = match class {
+        Class::Silent => return None,
+        Class::Bare(errno) => Answer::refusal(alloc, errno),
+        Class::Kept => answers.next().unwrap().answer,
+    };
+    if is_answered(event.fate) {
+        Some(outcome_with(unique_of(event.bytes.as_slice()), answer))
+    } else {
+        None
+    }
+}
+
+// The id that an event settles is to be handed on.
+fn settle(pending: &mut Vec<Id>, event: &Event, class: Class)
+    requires message { IsMessage event.now.bytes }
+    requires class { class ≡ class_of event.now.bytes }
+    requires place { class_of event.now.bytes ≡ Class.Kept
+        → length pending.old.items < vec_capacity pending.old }
+    ensures settled { ids_of pending.new.items ≡ ids_of pending.old.items ++ settles event.now }
+    ensures capacity { vec_capacity pending.new ≡ vec_capacity pending.old }
+{
+    let taken = is_answered(event.fate);
+    match class {
+        Class::Kept => {
+            if taken {
+                pending.push_reserved(Id::of(unique_of(event.bytes.as_slice())));
+            }
+        }
+        Class::Silent | Class::Bare(_) => {}
+    }
+}
+
+/// Gives the events of a group, whose messages are of these classes, their outcomes by the answers
+/// to the kept ones, and hands on the ids that they settle. Takes no memory.
+pub(crate) fn answer_group(
+    alloc: Global,
+    run: &[Event],
+    classes: &[Class],
+    dones: Vec<Done>,
+    pending: &mut Vec<Id>,
+    outcomes: &mut Vec<Option<Outcome>>,
+)
+    requires fit { All IsFit run.now }
+    requires classes { classes.now ≡ classes_in run.now }
+    requires enough { HasAnswers run.now (answers_in dones.items) }
+    requires room { length outcomes.old.items + length run.now ≤ vec_capacity outcomes.old }
+    requires places { length pending.old.items + length dones.items ≤ vec_capacity pending.old }
+    ensures outcomes { Adds outcomes.old.items outcomes.new.items
+        (outcomes_by run.now (answers_in dones.items)) }
+    ensures pending { ids_of pending.new.items ≡ ids_of pending.old.items ++ settles_in run.now }
+{
+    one_cut();
+    let mut answers = dones.into_iter();
+    for (place, event) in run.iter().enumerate() {
+        let class = classes[place];
+        outcomes.push_reserved(outcome_of_event(alloc, event, class, &mut answers));
+        settle(pending, event, class);
+    }
+}
