@@ -13,7 +13,7 @@ use Rattle.fuse_keeper.specs.History.{Entry, entry_id, History, has, Distinct, a
 use Rattle.fuse_session.specs.Port.{PortState}
 use Rattle.fuse_session.specs.Serving.{Lived}
 use Rattle.fuse_session.specs.Settling.{Mark, replies, settled_in, Replied}
-use Rattle.fuse_session.specs.Worked.{Timed, bytes_of, kept_in, entries_at, entry_if, timed_entry, message_id, unique_of, answered, answers, answer_by, out, Moments}
+use Rattle.fuse_session.specs.Worked.{Timed, bytes_of, kept_in, entries_at, entry_if, timed_entry, message_id, unique_of, answered, answers, answer_by, out, moment_if, moments_in, GaveFirst}
 use Rattle.fuse_sim.specs.Lives.{Lifetime, AreLives, after_lives, all_worked, AllSend, RanAsLife}
 
 tested : (b : Bool) → (b ≡ true) ⊎ (b ≡ false)
@@ -129,14 +129,19 @@ all_send M grows s ls lives = sends_by M grows s [] ls lives
 
 -- ---- a run of a server is a life
 
-Moments-front : (may : Moment → Type 0) (xs ys : List Timed) → Moments may (xs ++ ys) → Moments may xs
-Moments-front may [] ys all = tt
-Moments-front may (x ∷ xs) ys all = (all.0, Moments-front may xs ys all.1)
+moments-append : (xs ys : List Timed) → moments_in (xs ++ ys) ≡ moments_in xs ++ moments_in ys
+moments-append [] ys = refl
+moments-append (x ∷ xs) ys =
+    ap (λ (r : List Moment). moment_if (class_of x.bytes) x.moment ++ r) (moments-append xs ys) ∙ sym (append_assoc (moment_if (class_of x.bytes) x.moment) (moments_in xs) (moments_in ys))
 
-pub run_lived : (M : Model) → (stood : History → List ℕ → Type 0) (may : Moment → Type 0) (s : M.State) (h : History) (t : List ℕ) (old new : PortState) (received : List ℕ) (timed : List Timed) (others : List (List ℕ)) (marks : List Mark) (part : List ℕ)
-    → Consumes old.coming new.coming received → (cut received).0 ≡ bytes_of timed ++ others → Moments may timed → Replied old new marks part
-    → Lived M stood s h old.confirms t timed marks part → RanAsLife M stood may s h t old new
-run_lived M stood may s h t old new received timed others marks part came front moments replied l =
+gave_front : (gave : List Moment → Type 0) (xs ys : List Timed) → GaveFirst gave (xs ++ ys) → GaveFirst gave xs
+gave_front gave xs ys given =
+    (moments_in ys ++ given.0, subst gave (ap (λ (r : List Moment). r ++ given.0) (moments-append xs ys) ∙ append_assoc (moments_in xs) (moments_in ys) given.0) given.1)
+
+pub run_lived : (M : Model) → (stood : History → List ℕ → Type 0) (gave : List Moment → Type 0) (s : M.State) (h : History) (t : List ℕ) (old new : PortState) (received : List ℕ) (timed : List Timed) (others : List (List ℕ)) (marks : List Mark) (part : List ℕ)
+    → Consumes old.coming new.coming received → (cut received).0 ≡ bytes_of timed ++ others → GaveFirst gave timed → Replied old new marks part
+    → Lived M stood s h old.confirms t timed marks part → RanAsLife M stood gave s h t old new
+run_lived M stood gave s h t old new received timed others marks part came front moments replied l =
     let sent = joined (replies marks) ++ part in
     let parts : bytes_of timed ++ others ≡ bytes_of l.worked ++ (bytes_of l.unworked ++ others) =
     ap (λ (x : List Timed). bytes_of x ++ others) l.parts ∙ ap (λ (x : List (List ℕ)). x ++ others) (map-append (λ (x : Timed). x.bytes) l.worked l.unworked)
@@ -153,6 +158,6 @@ run_lived M stood may s h t old new received timed others marks part came front 
       replied = replied;
       sent = refl;
       settled_are = refl;
-      moments = Moments-front may l.worked l.unworked (subst (Moments may) l.parts moments);
+      moments = gave_front gave l.worked l.unworked (subst (GaveFirst gave) l.parts moments);
       stands = l.stands;
     }

@@ -11,7 +11,7 @@ use Rattle.fuse_session.specs.Ends.{MayEnd, ended_store, ended_memory}
 use Rattle.fuse_session.specs.Port.{PortState}
 use Rattle.fuse_session.specs.Serving.{Run}
 use Rattle.fuse_session.specs.Settling.{Mark, replies, settled_in, Replied}
-use Rattle.fuse_session.specs.Worked.{Timed, bytes_of, kept_in, out, Works, Moments}
+use Rattle.fuse_session.specs.Worked.{Timed, bytes_of, kept_in, out, Works, GaveFirst}
 
 -- the bytes that came, those that were sent, the messages that were worked off, and the ids that their answers settled
 pub record Lifetime : Type 0 where
@@ -50,12 +50,12 @@ AllSend M s last [] = Unit {0}
 AllSend M s last (life ∷ lives) = ((unsent : List ℕ) × (out M s last life.worked ≡ life.sent ++ unsent)) × AllSend M s last lives
 
 -- what the clause `life` of `serve` says of a run, at whatever end, of a keeper that was k and is k'
-abbrev pub RunOfServe : {M : Model} → KeeperState M → KeeperState M → (Moment → Type 0) → PortState → PortState → Ended → Type 0
-RunOfServe k k' may_tell old new ended = Run k k' may_tell old new [] [] (ended_store ended) (ended_memory ended) (MayEnd k.may_answer ended)
+abbrev pub RunOfServe : {M : Model} → KeeperState M → KeeperState M → (List Moment → Type 0) → PortState → PortState → Ended → Type 0
+RunOfServe k k' gave old new ended = Run k k' gave old new [] [] (ended_store ended) (ended_memory ended) (MayEnd k.may_answer ended)
 
 -- a run of a server was a life: the bytes that came to its port, the answers that it sent whole and the part of another
 -- one, the ids that these settle, the moments that its clock gave, and what is left
-pub record RanAsLife (M : Model) (stood : History → List ℕ → Type 0) (may : Moment → Type 0) (s : M.State) (h : History) (t : List ℕ) (old new : PortState) : Type 0 where
+pub record RanAsLife (M : Model) (stood : History → List ℕ → Type 0) (gave : List Moment → Type 0) (s : M.State) (h : History) (t : List ℕ) (old new : PortState) : Type 0 where
   pub life : Lifetime
   pub lived : IsLife M s h life
   pub came : Consumes old.coming new.coming life.received
@@ -64,5 +64,5 @@ pub record RanAsLife (M : Model) (stood : History → List ℕ → Type 0) (may 
   pub replied : Replied old new marks part
   pub sent : life.sent ≡ joined (replies marks) ++ part
   pub settled_are : life.settled ≡ settled_in old.confirms (bytes_of life.worked) marks
-  pub moments : Moments may life.worked
+  pub moments : GaveFirst gave life.worked
   pub stands : stood (grown h (kept_in life.worked)) (t ++ life.settled)

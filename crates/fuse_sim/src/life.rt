@@ -26,17 +26,17 @@ pub fn lives<K: Keeper>()
 }
 
 /// Each run of `serve` is such a life: `run` is what its clause `life` says, of a keeper that was `k` and is `k'`, at
-/// whatever end. Its premise is that no kept message comes again whose answer was settled before or by the run.
+/// whatever end; its clock was `c` and is `c'`. Its premise is that no kept message comes again whose answer was settled before or by the run.
 pub fn runs_are_lives<K: Keeper, C: Clock>()
     // What the keeper is left with stands for the history that the life leaves, where its store is clean,
-    ensures ends { (k k' : K) (c : C) (old new : PortState) (ended : EndedValue)
-        (run : RunOfServe (K.told k) (K.told k') (C.may_answer c) old new ended)
+    ensures ends { (k k' : K) (c c' : C) (old new : PortState) (ended : EndedValue)
+        (run : RunOfServe (K.told k) (K.told k') (C.gave c c') old new ended)
         (s : K.model.State) (h : History) (t : List ℕ) → StandsFor (K.told k) s h t → NoneComesAgain old.confirms t (bytes_of run.broken.timed) run.broken.marks
-        → (K.told k').is_clean → RanAsLife K.model (StandsFor (K.told k') s) (C.may_answer c) s h t old new }
+        → (K.told k').is_clean → RanAsLife K.model (StandsFor (K.told k') s) (C.gave c c') s h t old new }
     // and so does whatever a crash then leaves, where the keeper was firm.
-    ensures crashes { (k k' : K) (c : C) (old new : PortState) (ended : EndedValue)
-        (run : RunOfServe (K.told k) (K.told k') (C.may_answer c) old new ended)
+    ensures crashes { (k k' : K) (c c' : C) (old new : PortState) (ended : EndedValue)
+        (run : RunOfServe (K.told k) (K.told k') (C.gave c c') old new ended)
         (s : K.model.State) (h : History) (t : List ℕ) → StandsFor (K.told k) s h t → NoneComesAgain old.confirms t (bytes_of run.broken.timed) run.broken.marks
         → (K.told k').is_honest → IsFirm (K.told k)
-        → Leaves (K.told k') (λ x r. RanAsLife K.model (Stands K.model x r s) (C.may_answer c) s h t old new) }
+        → Leaves (K.told k') (λ x r. RanAsLife K.model (Stands K.model x r s) (C.gave c c') s h t old new) }
 {}
