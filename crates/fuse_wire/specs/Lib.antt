@@ -1,4 +1,7 @@
 pub mod Bytes
+pub mod Bits
+pub mod Bounds
+pub mod Errnos
 pub mod Ids
 pub mod Layout
 pub mod Flags

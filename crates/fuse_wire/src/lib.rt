@@ -1,9 +1,10 @@
-//! What the bytes of messages are made of: numbers with their lowest byte first, names that end in a
-//! NUL, the id of a request, error numbers and flag sets.
+//! What the bytes of messages are made of: numbers with their lowest byte first, names that end in
+//! a NUL, the id of a request, error numbers and flag sets.
 #![tactic(auto)]
 
 mod access_mode;
 mod byte_list;
+mod constants;
 mod errno;
 mod fields;
 mod id;
@@ -20,6 +21,9 @@ mod tests;
 
 pub use access_mode::{AccessMode, O_ACCMODE, O_RDONLY, O_RDWR, O_WRONLY};
 pub use byte_list::ByteList;
+pub use constants::{
+    access_numbers, errno_numbers, init_flag_numbers, opcode_numbers, valid_numbers,
+};
 pub use errno::Errno;
 pub use fields::Fields;
 pub use id::{Id, UNIQUE_RESEND, is_resend};

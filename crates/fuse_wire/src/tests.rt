@@ -37,6 +37,11 @@ fn vectors() {
     lowest_first();
     read_back();
     same_id();
+    opcode_numbers();
+    errno_numbers();
+    valid_numbers();
+    init_flag_numbers();
+    access_numbers();
     one_number();
 }
 
