@@ -2,7 +2,7 @@
 use Rattle.std.proofs.Common.{◌≡◌, ℕ, Bool, true, false, cond, List, drop, Option, Some, None, Result, Ok, Err, inl, inr, refl, sym, ap, ◌∙◌}
 use Rattle.std.specs.Prelude.{IfOk, IfErr, IsOkAnd}
 use Rattle.fuse_wire.specs.Bytes.{number_of}
-use Rattle.fuse_wire.specs.declared.errno.TheConstants.Errno.{EINVAL, ENOSYS}
+use Rattle.fuse_wire.specs.Errnos.{einval, enosys}
 use Rattle.fuse_request.specs.declared.class.Class.{Class}
 use Rattle.fuse_request.specs.declared.class.Class.TheVariants.{Silent, Bare, Kept}
 use Rattle.fuse_request.specs.declared.decoding.Malformed.{Malformed}
@@ -32,13 +32,13 @@ pub classed_silent : (m : List ℕ) → silent (number_of 4 (drop 4 m)) ≡ true
 unfolding class_of
 classed_silent m e = (rw e refl, e)
 
-pub classed_fault : (m : List ℕ) (f : Malformed) → silent (number_of 4 (drop 4 m)) ≡ false → first_fault m ≡ Some f → Classed (Bare EINVAL) m
+pub classed_fault : (m : List ℕ) (f : Malformed) → silent (number_of 4 (drop 4 m)) ≡ false → first_fault m ≡ Some f → Classed (Bare einval) m
 classed_fault m f loud e = (
   sym (loud_class m (Some f) (raw_of m).opcode loud e refl),
   (loud, inl (refl, λ v s. (let none : first_fault m ≡ None = no_fault v m s in absurd cc))),
 )
 
-pub classed_unsupported : (m : List ℕ) (v : Asked) → silent (number_of 4 (drop 4 m)) ≡ false → Spells v m → in_profile (number_of 4 (drop 4 m)) ≡ false → Classed (Bare ENOSYS) m
+pub classed_unsupported : (m : List ℕ) (v : Asked) → silent (number_of 4 (drop 4 m)) ≡ false → Spells v m → in_profile (number_of 4 (drop 4 m)) ≡ false → Classed (Bare enosys) m
 classed_unsupported m v loud s outside =
     let opcode : number_of 4 (drop 4 m) ≡ opcode_of v.act = (has_parts v m s).opcode in
     let outside : in_profile (opcode_of v.act) ≡ false = sym (ap in_profile opcode) ∙ outside in (
@@ -57,7 +57,7 @@ kept_by : (quiet : Bool) (f : Option Malformed) (opcode : ℕ) → cond {A = Cla
 kept_by true f opcode e = absurd cc
 kept_by false (Some f) opcode e = absurd cc
 kept_by false None opcode e =
-    elim (in_profile opcode) as (λ p. cond {A = Class} p Kept (Bare ENOSYS) ≡ Kept → (◌≡◌ {A = Option Malformed} None None) × (◌≡◌ {A = Bool} false false) × (p ≡ true)) [
+    elim (in_profile opcode) as (λ p. cond {A = Class} p Kept (Bare enosys) ≡ Kept → (◌≡◌ {A = Option Malformed} None None) × (◌≡◌ {A = Bool} false false) × (p ≡ true)) [
       | true ↦ (λ q. (refl, refl, refl))
       | false ↦ (λ q. absurd cc)
     ] e

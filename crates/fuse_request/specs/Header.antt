@@ -2,7 +2,7 @@
 use Rattle.std.specs.Prelude.{◌-◌, ◌*◌, ℕ, List, length, take, drop}
 use Rattle.fuse_wire.specs.Bytes.{number_of}
 use Rattle.fuse_request.specs.declared.header.RawHeader.{RawHeader}
-use Rattle.fuse_request.specs.declared.header.TheConstants.{MIN_MESSAGE}
+use Rattle.fuse_wire.specs.Bounds.{min_message_len}
 
 -- the fields of the first 40 bytes, each at its place
 abbrev pub raw_of : List ℕ → RawHeader
@@ -24,4 +24,4 @@ ext_len b = 8 * (raw_of b).total_extlen
 
 -- what stands between the header and the extensions
 abbrev pub body_of : List ℕ → List ℕ
-body_of b = take (length b - MIN_MESSAGE - ext_len b) (drop MIN_MESSAGE b)
+body_of b = take (length b - min_message_len - ext_len b) (drop min_message_len b)

@@ -1,6 +1,7 @@
 // Writing a request as a message.
 ghost use Rattle.std.specs.Prelude.{◌≡◌, ◌<◌, ◌≤◌, ◌+◌, ◌^◌, ◌↔◌, ◌++◌, ◌∷◌, [], Err, OnOk, OnErr, length, true};
 ghost use Rattle.fuse_wire.specs.Layout.{form, widths};
+ghost use Rattle.fuse_wire.specs.Bounds.{max_message_len, min_message_len};
 ghost use Rattle.fuse_request.specs.Act.{act, asked};
 ghost use Rattle.fuse_request.specs.Act as acts;
 ghost use Rattle.fuse_request.specs.Canon.{canon, len_of, sayable};
@@ -216,7 +217,7 @@ fn put_write(
     flags: u32,
     payload: &[u8],
 ) -> Result<(), Memory>
-    requires { length payload.now ≤ MAX_MESSAGE }
+    requires { length payload.now ≤ max_message_len }
     ensures ok { OnOk result (out.new.items ≡ out.old.items ++ form (parts (acts.Write fh offset write_flags lock_owner flags payload.now))) }
     ensures fits { OnOk result (AllFit (parts (acts.Write fh offset write_flags lock_owner flags payload.now))) }
     ensures grows { Extends out.old.items out.new.items }
@@ -237,7 +238,7 @@ fn put_write(
 }
 
 fn put_batch_forget(out: &mut Vec<u8>, items: &[u8]) -> Result<(), Memory>
-    requires { length items.now ≤ MAX_MESSAGE }
+    requires { length items.now ≤ max_message_len }
     ensures ok { OnOk result (out.new.items ≡ out.old.items ++ form (parts (acts.BatchForget items.now))) }
     ensures fits { OnOk result (AllFit (parts (acts.BatchForget items.now))) }
     ensures grows { Extends out.old.items out.new.items }
@@ -285,7 +286,7 @@ fn put_named(out: &mut Vec<u8>, op: &Op<'_>) -> Result<(), Memory>
 
 // Appends the body of a request.
 fn put_op(out: &mut Vec<u8>, op: &Op<'_>) -> Result<(), Memory>
-    requires short { widths (parts (act op.now)) ≤ MAX_MESSAGE }
+    requires short { widths (parts (act op.now)) ≤ max_message_len }
     ensures ok { OnOk result (out.new.items ≡ out.old.items ++ form (parts (act op.now))) }
     ensures fits { OnOk result (AllFit (parts (act op.now))) }
     ensures grows { Extends out.old.items out.new.items }
@@ -402,7 +403,7 @@ fn opcode_of(op: &Op<'_>) -> u32
 // How many bytes the message of a request has.
 fn message_len(request: &Request<'_>) -> u128
     ensures len { result ≡ len_of (asked request.now) }
-    ensures widths { result ≡ MIN_MESSAGE + (widths (parts (act request.now.op)) + length request.now.ext.now) }
+    ensures widths { result ≡ min_message_len + (widths (parts (act request.now.op)) + length request.now.ext.now) }
 {
     MIN_MESSAGE as u128 + (body_len(&request.op) + long(request.ext))
 }
@@ -432,8 +433,8 @@ fn put_header(out: &mut Vec<u8>, request: &Request<'_>, len: u32, units: u16) ->
 // Appends the message of a request, or a part of it.
 fn put_message(out: &mut Vec<u8>, request: &Request<'_>, len: u32) -> Result<(), Memory>
     requires len { len ≡ len_of (asked request.now) }
-    requires widths { len ≡ MIN_MESSAGE + (widths (parts (act request.now.op)) + length request.now.ext.now) }
-    requires short { len ≤ MAX_MESSAGE }
+    requires widths { len ≡ min_message_len + (widths (parts (act request.now.op)) + length request.now.ext.now) }
+    requires short { len ≤ max_message_len }
     ensures ok { OnOk result (out.new.items ≡ out.old.items ++ canon (asked request.now)) }
     ensures fits { OnOk result (HasNumbers (asked request.now)) }
     ensures grows { Extends out.old.items out.new.items }
@@ -453,7 +454,7 @@ pub fn encode(request: &Request<'_>, out: &mut Vec<u8>) -> Result<(), EncodeFaul
     // What decode answers for the message is the request.
     ensures decoded { OnOk result (ReadsAs (canon (asked request.now)) (asked request.now)) }
     // It is tested before anything is written.
-    ensures too_long { (result ≡ Err EncodeFault.TooLong) ↔ (MAX_MESSAGE < len_of (asked request.now)) }
+    ensures too_long { (result ≡ Err EncodeFault.TooLong) ↔ (max_message_len < len_of (asked request.now)) }
 {
     let len = message_len(request);
     if len > MAX_MESSAGE as u128 {

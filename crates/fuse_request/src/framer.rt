@@ -1,6 +1,7 @@
 ghost use Rattle.std.specs.Prelude.{◌≡◌, ◌+◌, ◌<◌, ◌≤◌, ◌++◌, [], None, Some, length, if◌then◌else◌, OnOk, OnErr, IfOk, IfErr, IfSome};
 ghost use Rattle.std.specs.Option.{unwrap_or};
 ghost use Rattle.std.specs.Result.{result_err};
+ghost use Rattle.fuse_wire.specs.Bounds.{max_fed_len, max_message_len};
 ghost use Rattle.fuse_wire.specs.Bytes.{number_of};
 ghost use Rattle.fuse_request.specs.Stream.{is_whole};
 ghost use Rattle.fuse_request.specs.Framing.{bad_length, end_fault, ends, fed_of, GivesNext};
@@ -124,7 +125,7 @@ impl Framer {
 
     /// Appends a piece of the stream.
     pub fn feed(&mut self, piece: &[u8]) -> Result<(), FrameFault>
-        requires { fed_of self.old + length piece.now ≤ MAX_FED }
+        requires { fed_of self.old + length piece.now ≤ max_fed_len }
         ensures ok { OnOk result ((self.old.fault ≡ None) × (self.new ≡ record self.old { bytes = self.old.bytes ++ piece.now })) }
         ensures err { OnErr result (self.new ≡ self.old) }
 
@@ -146,7 +147,7 @@ impl Framer {
         // A bad length that was answered is answered from then on.
         ensures again { IfSome self.old.fault (λ f. result ≡ Err f) }
 
-        ensures room { IfOk result (λ message. message ≡ None → length self.new.bytes < MAX_MESSAGE) }
+        ensures room { IfOk result (λ message. message ≡ None → length self.new.bytes < max_message_len) }
     {
         if let Some(fault) = length_fault(self.at, &self.held) {
             self.fault = Some(fault);

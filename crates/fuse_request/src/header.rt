@@ -1,4 +1,5 @@
 ghost use Rattle.std.specs.Prelude.{◌≡◌, ◌≤◌, Some, None, nat_lt, if◌then◌else◌, length};
+ghost use Rattle.fuse_wire.specs.Bounds.{min_message_len};
 ghost use Rattle.fuse_request.specs.Header.{raw_of};
 
 use fuse_wire::{u16_at, u32_at, u64_at};
@@ -25,7 +26,7 @@ pub struct RawHeader {
 
 /// The header of a message. `None` where there are fewer bytes than a header has.
 pub fn header_of(message: &[u8]) -> Option<RawHeader>
-    ensures { result ≡ (if nat_lt (length message.now) MIN_MESSAGE then None else Some (raw_of message.now)) }
+    ensures { result ≡ (if nat_lt (length message.now) min_message_len then None else Some (raw_of message.now)) }
 {
     if message.len() < MIN_MESSAGE {
         return None;
@@ -45,7 +46,7 @@ pub fn header_of(message: &[u8]) -> Option<RawHeader>
 
 /// The `unique` of a whole message, as it was received: a resend has its bit set. Takes no memory.
 pub fn unique_of(message: &[u8]) -> u64
-    requires { MIN_MESSAGE ≤ length message.now }
+    requires { min_message_len ≤ length message.now }
     ensures { result ≡ (raw_of message.now).unique }
 {
     u64_at(message, 8)

@@ -1,5 +1,5 @@
 -- Bounds of messages, answers and trees (fuse.h and Linux where it is said; the others are own).
-use Rattle.std.specs.Prelude.{ℕ}
+use Rattle.std.specs.Prelude.{ℕ, ◌^◌}
 
 -- the shortest message is a header alone: fuse_in_header (fuse.h)
 abbrev pub min_message_len : ℕ
@@ -8,7 +8,11 @@ min_message_len = 40
 abbrev pub max_message_len : ℕ
 max_message_len = 135168
 
--- of an answer, and so of READ and READDIR
+-- of all that a framer is fed
+abbrev pub max_fed_len : ℕ
+max_fed_len = 2 ^ 60
+
+-- of an answer's body, and so of READ and READDIR
 abbrev pub max_body_len : ℕ
 max_body_len = 1048576
 
