@@ -28,7 +28,7 @@ pub use errno::Errno;
 pub use fields::Fields;
 pub use id::{Id, UNIQUE_RESEND, is_resend};
 pub use init_flags::InitFlags;
-pub use laws::one_number;
+pub use laws::{layouts_stand, names_end, numbers_read, one_number};
 pub use memory::Memory;
 pub use moment::Moment;
 pub use places::{u16_at, u32_at, u64_at};
