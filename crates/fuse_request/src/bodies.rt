@@ -15,13 +15,14 @@ use crate::opcode::{
     READ, READDIR, RELEASE, RELEASEDIR, RENAME, RENAME2, RMDIR, SETATTR, UNLINK, WRITE,
 };
 use crate::request::{InitIn, Op, ReadIn, ReleaseIn, SetattrIn};
-use fuse_wire::{Fields, u32_at, u64_at};
+use fuse_wire::{Fields, names_end, u32_at, u64_at};
 
 // A name that is the last of its body.
 #[tactic(auto, using(crate::proofs::BodyFaults::endless, crate::proofs::BodyFaults::not_all))]
 fn last_name(bytes: &[u8]) -> Result<&[u8], Malformed>
     ensures { GivesLastName bytes.now result }
 {
+    names_end();
     let mut fields = Fields::new(bytes);
     let Some(name) = fields.until_nul() else {
         return Err(Malformed::NoNul);
@@ -37,6 +38,7 @@ fn last_name(bytes: &[u8]) -> Result<&[u8], Malformed>
 fn two_names(bytes: &[u8]) -> Result<(&[u8], &[u8]), Malformed>
     ensures { GivesTwoNames bytes.now result }
 {
+    names_end();
     let mut fields = Fields::new(bytes);
     let Some(old_name) = fields.until_nul() else {
         return Err(Malformed::NoNul);

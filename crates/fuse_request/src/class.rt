@@ -6,7 +6,7 @@ ghost use Rattle.fuse_request.specs.Classes.{class_of, IsOfClass, is_zero};
 use crate::decoding::decode;
 use crate::header::MIN_MESSAGE;
 use crate::opcode::{is_in_profile, is_silent};
-use fuse_wire::{Errno, Id, u32_at, u64_at};
+use fuse_wire::{Errno, Id, layouts_stand, names_end, u32_at, u64_at};
 
 /// How a message is answered.
 #[derive(Clone, Copy, Debug, PartialEq, Eq)]
@@ -27,6 +27,8 @@ pub fn classify(message: &[u8]) -> Class
     // What that says of the requests that the message spells.
     ensures spells { IsOfClass result message.now }
 {
+    layouts_stand();
+    names_end();
     let opcode = u32_at(message, 4);
     if is_silent(opcode) {
         return Class::Silent;

@@ -18,7 +18,7 @@ use crate::opcode::{
     READ, READDIR, RELEASE, RELEASEDIR, RENAME, RENAME2, RMDIR, SETATTR, UNLINK, WRITE,
 };
 use crate::request::{InitIn, Op, ReadIn, ReleaseIn, Request, SetattrIn};
-use fuse_wire::{Memory, put_bytes, put_u16, put_u32, put_u64};
+use fuse_wire::{Memory, layouts_stand, names_end, put_bytes, put_u16, put_u32, put_u64};
 
 /// Why a request wasn't encoded.
 #[derive(Clone, Copy, Debug, PartialEq, Eq)]
@@ -405,6 +405,7 @@ fn message_len(request: &Request<'_>) -> u128
     ensures len { result ≡ len_of (asked request.now) }
     ensures widths { result ≡ min_message_len + (widths (parts (act request.now.op)) + length request.now.ext.now) }
 {
+    layouts_stand();
     MIN_MESSAGE as u128 + (body_len(&request.op) + long(request.ext))
 }
 
@@ -456,6 +457,8 @@ pub fn encode(request: &Request<'_>, out: &mut Vec<u8>) -> Result<(), EncodeFaul
     // It is tested before anything is written.
     ensures too_long { (result ≡ Err EncodeFault.TooLong) ↔ (max_message_len < len_of (asked request.now)) }
 {
+    layouts_stand();
+    names_end();
     let len = message_len(request);
     if len > MAX_MESSAGE as u128 {
         return Err(EncodeFault::TooLong);

@@ -8,7 +8,7 @@ ghost use Rattle.fuse_request.specs.Framing.{bad_length, end_fault, ends, fed_of
 
 use crate::header::{MAX_MESSAGE, MIN_MESSAGE};
 use bytes::{Bytes, BytesMut};
-use fuse_wire::u32_at;
+use fuse_wire::{numbers_read, u32_at};
 use std::alloc::Global;
 use std::marker::Model;
 
@@ -149,6 +149,7 @@ impl Framer {
 
         ensures room { IfOk result (λ message. message ≡ None → length self.new.bytes < max_message_len) }
     {
+        numbers_read();
         if let Some(fault) = length_fault(self.at, &self.held) {
             self.fault = Some(fault);
             return Err(fault);
@@ -170,6 +171,7 @@ impl Framer {
     pub fn end(&self) -> Result<(), FrameFault>
         ensures { result_err result ≡ ends self.now }
     {
+        numbers_read();
         let mut rest = self.held.as_slice();
         let mut at = self.at;
         while let Some(len) = whole_len(rest) {

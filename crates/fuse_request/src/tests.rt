@@ -1,7 +1,7 @@
 ghost use Rattle.fuse_request.specs.Vectors.{BodyFaults, Exchange, Faults, FirstRun, MissingLookup, RenameBytes, WriteBytes};
 
 use super::*;
-use fuse_wire::Errno;
+use fuse_wire::{Errno, layouts_stand};
 use std::test::*;
 
 #[tactic(auto, unfolding(fuse_wire::specs::Bytes::number_of))]
@@ -16,27 +16,38 @@ fn body_faults()
 
 fn missing_lookup()
     ensures { MissingLookup }
-{}
+{
+    layouts_stand();
+}
 
 fn first_run()
     ensures { FirstRun }
-{}
+{
+    layouts_stand();
+}
 
 fn rename_bytes()
     ensures { RenameBytes }
-{}
+{
+    layouts_stand();
+}
 
 fn write_bytes()
     ensures { WriteBytes }
-{}
+{
+    layouts_stand();
+}
 
 fn exchange()
     ensures { Exchange }
-{}
+{
+    layouts_stand();
+}
 
 // The vectors, which the check computes.
 #[test]
 fn vectors() {
+    message_bounds();
     faults();
     body_faults();
     rename_bytes();

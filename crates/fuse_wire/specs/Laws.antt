@@ -3,12 +3,15 @@ use Rattle.std.specs.Prelude.{◌≡◌, ◌<◌, ◌≤◌, ◌^◌, ℕ, List,
 use Rattle.fuse_wire.specs.Bytes.{le, number_of, IsBytes, HasNoNul, after_nul}
 use Rattle.fuse_wire.specs.Layout.{Part, Lays, Placed, widths, form, HasForm}
 
--- the bytes of a number are read as that number, bytes are those of the number that is read, and what follows isn't looked at
+-- the bytes of a number are read as that number, bytes are those of the number that is read, and what follows isn't looked at;
+-- the front and the rest of bytes are bytes
 pub record NumbersRead : Type 0 where
   pub len : (w n : ℕ) → length (le w n) ≡ w
   pub read : (w n : ℕ) (rest : List ℕ) → n < 256 ^ w → number_of w (le w n ++ rest) ≡ n
   pub front : (w : ℕ) (b : List ℕ) → w ≤ length b → IsBytes b → (number_of w b < 256 ^ w) × (b ≡ le w (number_of w b) ++ drop w b)
   pub apart : (w : ℕ) (b rest : List ℕ) → w ≤ length b → number_of w (b ++ rest) ≡ number_of w b
+  pub front_bytes : (n : ℕ) (b : List ℕ) → IsBytes b → IsBytes (take n b)
+  pub rest_bytes : (n : ℕ) (b : List ℕ) → IsBytes b → IsBytes (drop n b)
 
 -- how long layouts are, which bytes have one, where their parts stand, and how layouts are joined and parted
 pub record LayoutsStand : Type 0 where
