@@ -4,7 +4,7 @@ ghost use Rattle.fuse_answer.specs.Entries.{entry_of, dirent_parts, entries_byte
 ghost use Rattle.fuse_answer.specs.declared.packing.PackFault.TheVariants.{FirstTooBig as first_too_big};
 
 use crate::dirent::{Dirent, packed_len, padding};
-use fuse_wire::{ByteList, Memory, put_bytes, put_u32, put_u64};
+use fuse_wire::{ByteList, Memory, layouts_stand, put_bytes, put_u32, put_u64};
 use std::alloc::Global;
 
 /// Entries of a directory as the body of an answer.
@@ -59,6 +59,7 @@ fn put_fitting(body: &mut Vec<u8>, entries: &[Dirent<'_>], size: usize) -> Resul
     ensures lists { IfOk result (λ taken. Lists (take taken (map entry_of entries.now)) body.new.items) }
     ensures within { IfOk result (λ taken. length body.new.items ≤ size) }
 {
+    layouts_stand();
     for (taken, dirent) in entries.iter().enumerate() {
         if packed_len(dirent.name.len()) > size - body.len() {
             return Ok(taken);
