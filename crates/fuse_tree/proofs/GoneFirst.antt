@@ -6,7 +6,7 @@ use Rattle.fuse_wire.specs.declared.access_mode.AccessMode.{AccessMode}
 use Rattle.fuse_wire.specs.declared.access_mode.AccessMode.TheVariants.{ReadOnly}
 use Rattle.fuse_wire.specs.declared.errno.Errno.{Errno}
 use Rattle.fuse_wire.specs.declared.moment.Moment.{Moment}
-use Rattle.fuse_wire.specs.declared.setattr_valid.TheConstants.SetattrValid.{SIZE}
+use Rattle.fuse_wire.specs.Bits.{fattr_size}
 use Rattle.fuse_wire.specs.Flags.{access_of}
 use Rattle.fuse_request.specs.declared.request.InHeader.{InHeader}
 use Rattle.fuse_request.specs.declared.request.InitIn.{InitIn}
@@ -111,7 +111,7 @@ mknod_orders header mode rdev name now row rows =
 -- ---- SETATTR, WRITE and READ
 
 setattr_orders : (set : SetattrIn) (now : Moment) (row : NodeRow) → Orders (plan_setattr set now row)
-setattr_orders set now row = unless (set_fault set row.mode) _ (by_test _ (step (has set SIZE)))
+setattr_orders set now row = unless (set_fault set row.mode) _ (by_test _ (step (has set fattr_size)))
   where
     step : (sizes : Bool) → goes_first (changes.Node (set_row set now row) ∷ cond sizes (changes.Sized row.node set.size ∷ []) []) ≡ true
     step true = refl

@@ -5,7 +5,7 @@ use Rattle.std.specs.List.{AllByRecursion, list_any}
 use Rattle.std.proofs.lemmas.Bool.{eqb-true, ne_eqb, leb-false}
 use Rattle.std.proofs.lemmas.List.{length-append}
 use Rattle.fuse_wire.specs.declared.access_mode.AccessMode.{AccessMode}
-use Rattle.fuse_wire.specs.declared.errno.TheConstants.Errno.{ENFILE, ENOSPC}
+use Rattle.fuse_wire.specs.Errnos.{enfile, enospc}
 use Rattle.fuse_tree.specs.declared.limits.TheConstants.{MAX_HANDLES, COUNTER_END}
 use Rattle.fuse_tree.specs.declared.rows.HandleRow.{HandleRow}
 use Rattle.fuse_tree.specs.State.{State, Node, Tree, Apart, IsHandle, is_open_at}
@@ -25,7 +25,7 @@ pub record Room (s : State) : Type 0 where
 
 pub room : (s : State) → open_fault (length s.handles) s.next_fh ≡ None → Room s
 room s none =
-    let h = no_fault _ _ ENFILE ENOSPC none in
+    let h = no_fault _ _ enfile enospc none in
     record { few = leb-false _ (length s.handles) h.0; left = leb-false _ s.next_fh h.1 }
 
 -- the test that the node of this number passes, a node passes

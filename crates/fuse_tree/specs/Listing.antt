@@ -1,7 +1,7 @@
 -- What READDIR does (own profile): the entries of a directory behind an offset, as many as fit.
 use Rattle.std.specs.Prelude.{◌<◌, ◌==◌, ℕ, zero, suc, Bool, true, not, nat_le, nat_lt, if◌then◌else◌, List, [], ◌∷◌, ◌++◌, length, map, take, filter, Option, Some, None, codes}
 use Rattle.std.specs.List.{sum_by}
-use Rattle.fuse_wire.specs.declared.errno.TheConstants.Errno.{ENOENT, EBADF, ENOTDIR, EINVAL}
+use Rattle.fuse_wire.specs.Errnos.{enoent, ebadf, enotdir, einval}
 use Rattle.fuse_request.specs.declared.request.ReadIn.{ReadIn}
 use Rattle.fuse_answer.specs.Entries.{Entry, packed_len, entries_bytes, IsLongest}
 use Rattle.fuse_tree.specs.declared.limits.TheConstants.{MAX_READ, ROOT_ID}
@@ -59,14 +59,14 @@ first_fits (e ∷ es) size = nat_le (packed_len e) size
 -- ---- READDIR
 
 abbrev pub list_front : State → List Entry → ℕ → Done
-list_front s es size = if not (first_fits es size) then refuse s EINVAL else answer s (entries_bytes (longest_front es size))
+list_front s es size = if not (first_fits es size) then refuse s einval else answer s (entries_bytes (longest_front es size))
 
 abbrev pub read_dir : State → ReadIn → Node → Done
 read_dir s asked n =
-    if not (is_open s.handles asked.fh n.number) then refuse s EBADF
-    else if not (is_dir n.mode) then refuse s ENOTDIR
-    else if nat_lt MAX_READ asked.size then refuse s EINVAL
-    else if not (is_named s n.number) then refuse s ENOENT
+    if not (is_open s.handles asked.fh n.number) then refuse s ebadf
+    else if not (is_dir n.mode) then refuse s enotdir
+    else if nat_lt MAX_READ asked.size then refuse s einval
+    else if not (is_named s n.number) then refuse s enoent
     else list_front s (entries_behind s n.number asked.offset) asked.size
 
 -- ---- laws

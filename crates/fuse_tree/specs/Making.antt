@@ -1,6 +1,6 @@
 -- What MKNOD and MKDIR do (own profile): a new node and its entry.
 use Rattle.std.specs.Prelude.{◌+◌, ◌*◌, ◌%◌, ◌==◌, ◌||◌, ℕ, Bool, not, nat_le, if◌then◌else◌, List, [], ◌∷◌, ◌++◌, length, is_some}
-use Rattle.fuse_wire.specs.declared.errno.TheConstants.Errno.{ENOENT, EEXIST, ENOTDIR, EINVAL, ENOSPC}
+use Rattle.fuse_wire.specs.Errnos.{enoent, eexist, enotdir, einval, enospc}
 use Rattle.fuse_wire.specs.declared.moment.Moment.{Moment}
 use Rattle.fuse_request.specs.declared.request.InHeader.{InHeader}
 use Rattle.fuse_answer.specs.Bodies.{entry_bytes}
@@ -52,14 +52,14 @@ is_full nodes next_node next_cookie = nat_le MAX_NODES nodes || nat_le COUNTER_E
 -- a new node, where there is room for it
 abbrev pub make_with_room : State → NewNode → ℕ → List ℕ → Done
 make_with_room s fresh dir name =
-    if is_full (length s.nodes) s.next_node s.next_cookie then refuse s ENOSPC
+    if is_full (length s.nodes) s.next_node s.next_cookie then refuse s enospc
     else answer (with_node s fresh dir name) (entry_bytes (entry_of (attr_of (with_node s fresh dir name) (new_node s fresh))))
 
 -- a new node in directory n, where the name is free
 abbrev pub make : State → NewNode → List ℕ → Node → Done
 make s fresh name n =
-    if not (is_named s n.number) then refuse s ENOENT
-    else if is_some (entry_at s.entries n.number name) then refuse s EEXIST
+    if not (is_named s n.number) then refuse s enoent
+    else if is_some (entry_at s.entries n.number name) then refuse s eexist
     else make_with_room s fresh n.number name
 
 -- ---- MKDIR
@@ -70,7 +70,7 @@ dir_mode mode = S_IFDIR + mode % TYPE_UNIT
 
 abbrev pub mkdir : State → InHeader → ℕ → List ℕ → Moment → Node → Done
 mkdir s header mode name now n =
-    if not (is_dir n.mode) then refuse s ENOTDIR
+    if not (is_dir n.mode) then refuse s enotdir
     else refuse_for s (name_fault name) (make s (begun header (dir_mode mode) 0 now) name n)
 
 -- ---- MKNOD
@@ -96,6 +96,6 @@ node_rdev mode rdev = if is_device (type_bits mode) then rdev else 0
 
 abbrev pub mknod : State → InHeader → ℕ → ℕ → List ℕ → Moment → Node → Done
 mknod s header mode rdev name now n =
-    if not (is_dir n.mode) then refuse s ENOTDIR
-    else if not (may_make (type_bits mode)) then refuse s EINVAL
+    if not (is_dir n.mode) then refuse s enotdir
+    else if not (may_make (type_bits mode)) then refuse s einval
     else refuse_for s (name_fault name) (make s (begun header (node_mode mode) (node_rdev mode rdev) now) name n)

@@ -1,7 +1,7 @@
 -- What the plan of READDIR reads off the rows (own profile), in the order of its checks.
 -- Not part of what is trusted: neither `done` nor the public clauses of `plan` speak of it.
 use Rattle.std.specs.Prelude.{◌≡◌, ◌≢◌, ◌≤◌, ◌+◌, ◌/◌, ◌==◌, ℕ, not, nat_lt, if◌then◌else◌, List, ◌++◌, length, map, filter, Option, Some, None, Result, IfOk, IfErr}
-use Rattle.fuse_wire.specs.declared.errno.TheConstants.Errno.{ENOENT, EBADF, ENOTDIR, EINVAL}
+use Rattle.fuse_wire.specs.Errnos.{enoent, ebadf, enotdir, einval}
 use Rattle.fuse_request.specs.declared.request.ReadIn.{ReadIn}
 use Rattle.fuse_answer.specs.Entries.{Entry, entries_bytes}
 use Rattle.fuse_tree.specs.declared.limits.TheConstants.{MAX_READ, MAX_NAME, ROOT_ID}
@@ -43,17 +43,17 @@ rows_behind offset size row rows = dots_behind offset row ++ map (row_entry rows
 -- ---- READDIR
 
 abbrev pub plan_front : List Entry → ℕ → Planned
-plan_front es size = if not (first_fits es size) then refused EINVAL else told (entries_bytes (longest_front es size))
+plan_front es size = if not (first_fits es size) then refused einval else told (entries_bytes (longest_front es size))
 
 abbrev pub plan_list : ℕ → ℕ → NodeRow → Rows → Planned
 plan_list offset size row rows = plan_front (rows_behind offset size row rows) size
 
 abbrev pub plan_read_dir : ReadIn → NodeRow → Rows → Planned
 plan_read_dir asked row rows =
-    if not (is_open rows.handles asked.fh row.node) then refused EBADF
-    else if not (is_dir row.mode) then refused ENOTDIR
-    else if nat_lt MAX_READ asked.size then refused EINVAL
-    else if not (row_is_named row) then refused ENOENT
+    if not (is_open rows.handles asked.fh row.node) then refused ebadf
+    else if not (is_dir row.mode) then refused enotdir
+    else if nat_lt MAX_READ asked.size then refused einval
+    else if not (row_is_named row) then refused enoent
     else plan_list asked.offset asked.size row rows
 
 -- ---- what the parts answer

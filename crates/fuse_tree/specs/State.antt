@@ -6,7 +6,7 @@ use Rattle.std.specs.Cmp.Lexicographic.{pointwise}
 use Rattle.fuse_wire.specs.declared.access_mode.AccessMode.{AccessMode}
 use Rattle.fuse_wire.specs.declared.access_mode.AccessMode.TheVariants.{ReadOnly, WriteOnly, ReadWrite}
 use Rattle.fuse_wire.specs.declared.errno.Errno.{Errno}
-use Rattle.fuse_wire.specs.declared.errno.TheConstants.Errno.{EINVAL, ENAMETOOLONG}
+use Rattle.fuse_wire.specs.Errnos.{einval, enametoolong}
 use Rattle.fuse_wire.specs.declared.moment.Moment.{Moment}
 use Rattle.fuse_init.specs.declared.settings.Settings.{Settings}
 use Rattle.fuse_tree.specs.declared.limits.TheConstants.{MAX_NODES, MAX_HANDLES, COUNTER_END, MAX_FILE, MAX_NAME, ROOT_ID}
@@ -93,8 +93,8 @@ is_odd_name name = (length name == 0) || pointwise nat_eq name (codes ".") || po
 -- what is wrong with a name
 abbrev pub name_fault : List ℕ → Option Errno
 name_fault name =
-    if nat_lt MAX_NAME (length name) then Some ENAMETOOLONG
-    else if is_odd_name name then Some EINVAL
+    if nat_lt MAX_NAME (length name) then Some enametoolong
+    else if is_odd_name name then Some einval
     else None
 
 -- the entry stands in this directory under this name
