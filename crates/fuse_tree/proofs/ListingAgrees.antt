@@ -3,7 +3,7 @@ use Rattle.std.proofs.Common.{ℕ, not, nat_lt, List, refl, ap}
 use Rattle.fuse_wire.specs.Errnos.{enoent, ebadf, enotdir, einval}
 use Rattle.fuse_request.specs.declared.request.ReadIn.{ReadIn}
 use Rattle.fuse_answer.specs.Entries.{Entry, entries_bytes}
-use Rattle.fuse_tree.specs.declared.limits.TheConstants.{MAX_READ}
+use Rattle.fuse_tree.specs.Bounds.{read_limit}
 use Rattle.fuse_tree.specs.State.{State, Node, Tree, is_dir, is_named}
 use Rattle.fuse_tree.specs.Rows.{row_of, rows_of_state}
 use Rattle.fuse_tree.specs.Handles.{is_open}
@@ -25,6 +25,6 @@ pub read_dir_agrees : (s : State) (asked : ReadIn) (d : Node) → Tree s → Agr
 read_dir_agrees s asked d tree =
     both s (not (is_open s.handles asked.fh d.number)) _ _ _ _ (λ _. refused_agrees s tree ebadf) (λ _.
     both s (not (is_dir d.mode)) _ _ _ _ (λ _. refused_agrees s tree enotdir) (λ _.
-    both s (nat_lt MAX_READ asked.size) _ _ _ _ (λ _. refused_agrees s tree einval) (λ _.
+    both s (nat_lt read_limit asked.size) _ _ _ _ (λ _. refused_agrees s tree einval) (λ _.
     both s (not (is_named s d.number)) _ _ _ _ (λ _. refused_agrees s tree enoent) (λ _.
     list_agrees s asked.offset asked.size d tree))))

@@ -8,7 +8,7 @@ use Rattle.fuse_wire.specs.Errnos.{enotdir, eisdir, enfile, enospc}
 use Rattle.fuse_wire.specs.Flags.{access_of}
 use Rattle.fuse_answer.specs.Laws.{ReadBack, RecordSizes}
 use Rattle.fuse_answer.specs.Replies.{AnOpen, Nothing}
-use Rattle.fuse_tree.specs.declared.limits.TheConstants.{MAX_HANDLES, COUNTER_END}
+use Rattle.fuse_tree.specs.Bounds.{handle_limit, number_end}
 use Rattle.fuse_tree.specs.State.{State, Node, is_dir, is_file}
 use Rattle.fuse_tree.specs.Handles.{is_open}
 use Rattle.fuse_tree.specs.Done.{Done, refuse_for, answer}
@@ -51,7 +51,7 @@ open_fault_reads s false false d so = so
 
 open_node_reads : ReadBack → (s : State) (access : AccessMode) (n : Node) → Reads AnOpen (open_node s access n)
 open_node_reads back s access n =
-    open_fault_reads s (nat_le MAX_HANDLES (length s.handles)) (nat_le COUNTER_END s.next_fh) _ (answered_reads (opened s n.number access) _ (back.opened (open_of s.next_fh)))
+    open_fault_reads s (nat_le handle_limit (length s.handles)) (nat_le number_end s.next_fh) _ (answered_reads (opened s n.number access) _ (back.opened (open_of s.next_fh)))
 
 open_for_reads : ReadBack → (s : State) (access : Option AccessMode) (n : Node) → Reads AnOpen (open_for s access n)
 open_for_reads back s None n = refused_reads s _ refl

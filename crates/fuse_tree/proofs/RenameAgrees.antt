@@ -7,7 +7,7 @@ use Rattle.std.specs.Cmp.Lexicographic.{same_text}
 use Rattle.std.proofs.lemmas.Bool.{eqb-true, eqb-false, leb-false, ltb-false}
 use Rattle.fuse_wire.specs.declared.errno.Errno.{Errno}
 use Rattle.fuse_wire.specs.Errnos.{enoent, eexist, einval, enospc, estale}
-use Rattle.fuse_tree.specs.declared.limits.TheConstants.{COUNTER_END}
+use Rattle.fuse_tree.specs.Bounds.{number_end}
 use Rattle.fuse_tree.specs.declared.planning.finding.Link.{Link}
 use Rattle.fuse_tree.specs.declared.rows.EntryRow.{EntryRow}
 use Rattle.fuse_tree.specs.declared.rows.NodeRow.{NodeRow}
@@ -146,7 +146,7 @@ module _ (s : State) (r : Renaming) (d t : Node) (tree : Tree s) (at_d : node_at
       → Agrees s (plan_rename_link r (row_of s d) (row_of s t) (link e c) None (rows_of_state s)) (rename_entry s r d.number e None)
   free_agrees e c p at_e free =
       both_as s (holds s e.child r.new_dir) _ _ _ _ _ (same_holds s e.child r.new_dir c tree p.child) (λ _. refused_agrees s tree einval) (λ apart.
-      both s (nat_le COUNTER_END s.next_cookie) _ _ _ _ (λ _. refused_agrees s tree enospc) (λ room. (
+      both s (nat_le number_end s.next_cookie) _ _ _ _ (λ _. refused_agrees s tree enospc) (λ room. (
       let never = never_held s e.child r.new_dir tree p.given to_there apart in
       record {
         answer = refl;
@@ -163,7 +163,7 @@ module _ (s : State) (r : Renaming) (d t : Node) (tree : Tree s) (at_d : node_at
       (ap (λ (b : Bool). kinds_fault b (is_dir o.mode) (has_entries s.entries o.number)) (sym (dir_at s e.child c tree p.child))
       ∙ ap (λ (b : Bool). kinds_fault (is_dir_at s e.child) b (has_entries s.entries o.number)) (sym (dir_at s f.child o tree q.child))
       ∙ ap (λ (k : ℕ). kinds_fault (is_dir_at s e.child) (is_dir_at s f.child) (has_entries s.entries k)) (node_found s f.child o tree q.child).0) (λ fits.
-      both s (nat_le COUNTER_END s.next_cookie) _ _ _ _ (λ _. refused_agrees s tree enospc) (λ room. (
+      both s (nat_le number_end s.next_cookie) _ _ _ _ (λ _. refused_agrees s tree enospc) (λ room. (
       let never = never_held s e.child r.new_dir tree p.given to_there apart in
       let empty = none_in_empty s.entries f.child (kinds_none _ _ _ fits) in
       let ne = eqb-false e.cookie f.cookie other in
@@ -191,12 +191,12 @@ module _ (s : State) (r : Renaming) (d t : Node) (tree : Tree s) (at_d : node_at
       both_as s (holds s e.child r.new_dir || holds s f.child d.number) _ _ _ _ _
       (ap (λ (b : Bool). b || row_holds (rows_of_state s) (row_of s o) d.number) (same_holds s e.child r.new_dir c tree p.child) ∙ ap (λ (b : Bool). holds s e.child r.new_dir || b) (same_holds s f.child d.number o tree q.child))
       (λ _. refused_agrees s tree einval) (λ apart.
-      both s (nat_lt (COUNTER_END - 2) s.next_cookie) _ _ _ _ (λ _. refused_agrees s tree enospc) (λ room. (
+      both s (nat_lt (number_end - 2) s.next_cookie) _ _ _ _ (λ _. refused_agrees s tree enospc) (λ room. (
       let parts = or_false (holds s e.child r.new_dir) (holds s f.child d.number) apart in
       let never_e = never_held s e.child r.new_dir tree p.given to_there parts.0 in
       let never_f = never_held s f.child d.number tree q.given from_there parts.1 in
       let ne = eqb-false e.cookie f.cookie other in
-      let few : s.next_cookie ≤ COUNTER_END - 2 = ltb-false (COUNTER_END - 2) s.next_cookie room in
+      let few : s.next_cookie ≤ number_end - 2 = ltb-false (number_end - 2) s.next_cookie room in
       record {
         answer = refl;
         rows = exchange_rows s r d t c o e f tree at_d at_t p.child q.child at_e at_f p.dir_is q.dir_is ne (not_own d.number r.old_name e c p at_e) (λ same. never_e 0 (sym same)) (λ same. never_f 0 (sym same)) (not_own r.new_dir r.new_name f o q at_f);

@@ -7,7 +7,7 @@ use Rattle.fuse_wire.specs.declared.moment.Moment.{Moment}
 use Rattle.fuse_request.specs.declared.request.SetattrIn.{SetattrIn}
 use Rattle.fuse_answer.specs.Laws.{ReadBack, RecordSizes}
 use Rattle.fuse_answer.specs.Replies.{Kind, Attributes}
-use Rattle.fuse_tree.specs.declared.limits.TheConstants.{MAX_FILE}
+use Rattle.fuse_tree.specs.Bounds.{file_limit}
 use Rattle.fuse_tree.specs.State.{State, Node, is_dir, is_file}
 use Rattle.fuse_tree.specs.Done.{Done, refuse_for, attr_of, attr_out_of}
 use Rattle.fuse_tree.specs.Setting.{has, set_fault, set_node, with_set, setattr}
@@ -30,5 +30,5 @@ size_reads s true false true false d so = so
 
 pub setattr_reads : ReadBack → (s : State) (set : SetattrIn) (now : Moment) (n : Node) → Reads Attributes (setattr s set now n)
 setattr_reads back s set now n =
-    size_reads s (has set fattr_size) (is_dir n.mode) (is_file n.mode) (nat_lt MAX_FILE set.size) _
+    size_reads s (has set fattr_size) (is_dir n.mode) (is_file n.mode) (nat_lt file_limit set.size) _
     (answered_reads (with_set s set now n.number) _ (back.attributes (attr_out_of (attr_of (with_set s set now n.number) (set_node set now n)))))

@@ -4,8 +4,8 @@ use Rattle.fuse_wire.specs.Errnos.{enoent, eexist, enotdir, einval, enospc}
 use Rattle.fuse_wire.specs.declared.moment.Moment.{Moment}
 use Rattle.fuse_request.specs.declared.request.InHeader.{InHeader}
 use Rattle.fuse_answer.specs.Bodies.{entry_bytes}
-use Rattle.fuse_tree.specs.declared.limits.TheConstants.{MAX_NODES, COUNTER_END}
-use Rattle.fuse_tree.specs.declared.mode.TheConstants.{S_IFBLK, S_IFCHR, S_IFDIR, S_IFIFO, S_IFREG, S_IFSOCK, TYPE_UNIT}
+use Rattle.fuse_tree.specs.Bounds.{node_limit, number_end}
+use Rattle.fuse_tree.specs.Modes.{s_ifblk, s_ifchr, s_ifdir, s_ififo, s_ifreg, s_ifsock, type_unit}
 use Rattle.fuse_tree.specs.declared.planning.make.NewNode.{NewNode}
 use Rattle.fuse_tree.specs.declared.rows.EntryRow.{EntryRow}
 use Rattle.fuse_tree.specs.State.{State, Node, type_of, is_dir, is_named, name_fault}
@@ -47,7 +47,7 @@ with_node s fresh dir name = grow (new_node s fresh) (new_entry s dir name) (tou
 
 -- no room for a node: there are too many, or a counter is at its end
 abbrev pub is_full : ℕ → ℕ → ℕ → Bool
-is_full nodes next_node next_cookie = nat_le MAX_NODES nodes || nat_le COUNTER_END next_node || nat_le COUNTER_END next_cookie
+is_full nodes next_node next_cookie = nat_le node_limit nodes || nat_le number_end next_node || nat_le number_end next_cookie
 
 -- a new node, where there is room for it
 abbrev pub make_with_room : State → NewNode → ℕ → List ℕ → Done
@@ -66,7 +66,7 @@ make s fresh name n =
 
 -- the mode of a new directory: its type, and the permissions asked for
 abbrev pub dir_mode : ℕ → ℕ
-dir_mode mode = S_IFDIR + mode % TYPE_UNIT
+dir_mode mode = s_ifdir + mode % type_unit
 
 abbrev pub mkdir : State → InHeader → ℕ → List ℕ → Moment → Node → Done
 mkdir s header mode name now n =
@@ -77,18 +77,18 @@ mkdir s header mode name now n =
 
 -- the bits of a mode that tell its type
 abbrev pub type_bits : ℕ → ℕ
-type_bits mode = type_of mode * TYPE_UNIT
+type_bits mode = type_of mode * type_unit
 
 -- these bits are of a type that MKNOD makes; 0 stands for a regular file
 abbrev pub may_make : ℕ → Bool
-may_make bits = (bits == 0) || (bits == S_IFREG) || (bits == S_IFCHR) || (bits == S_IFBLK) || (bits == S_IFIFO) || (bits == S_IFSOCK)
+may_make bits = (bits == 0) || (bits == s_ifreg) || (bits == s_ifchr) || (bits == s_ifblk) || (bits == s_ififo) || (bits == s_ifsock)
 
 abbrev pub is_device : ℕ → Bool
-is_device bits = (bits == S_IFCHR) || (bits == S_IFBLK)
+is_device bits = (bits == s_ifchr) || (bits == s_ifblk)
 
 -- the mode of a new node: its type, and the permissions asked for
 abbrev pub node_mode : ℕ → ℕ
-node_mode mode = (if type_bits mode == 0 then S_IFREG else type_bits mode) + mode % TYPE_UNIT
+node_mode mode = (if type_bits mode == 0 then s_ifreg else type_bits mode) + mode % type_unit
 
 -- the device that a new node stands for, where it stands for one
 abbrev pub node_rdev : ℕ → ℕ → ℕ

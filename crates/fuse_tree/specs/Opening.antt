@@ -7,7 +7,7 @@ use Rattle.fuse_wire.specs.Errnos.{ebadf, enotdir, eisdir, einval, enfile, enosp
 use Rattle.fuse_wire.specs.Flags.{access_of}
 use Rattle.fuse_answer.specs.Bodies.{open_bytes}
 use Rattle.fuse_answer.specs.declared.records.OpenOut.{OpenOut}
-use Rattle.fuse_tree.specs.declared.limits.TheConstants.{MAX_HANDLES, COUNTER_END}
+use Rattle.fuse_tree.specs.Bounds.{handle_limit, number_end}
 use Rattle.fuse_tree.specs.declared.rows.HandleRow.{HandleRow}
 use Rattle.fuse_tree.specs.State.{State, Node, is_dir, is_file}
 use Rattle.fuse_tree.specs.Handles.{is_open}
@@ -18,8 +18,8 @@ use Rattle.fuse_tree.specs.Done.{Done, refuse, refuse_for, answer}
 -- why no handle is given out
 abbrev pub open_fault : ℕ → ℕ → Option Errno
 open_fault handles next_fh =
-    if nat_le MAX_HANDLES handles then Some enfile
-    else if nat_le COUNTER_END next_fh then Some enospc
+    if nat_le handle_limit handles then Some enfile
+    else if nat_le number_end next_fh then Some enospc
     else None
 
 abbrev pub new_handle : ℕ → ℕ → AccessMode → HandleRow

@@ -4,7 +4,7 @@ use Rattle.std.specs.Prelude.{◌+◌, ◌-◌, ◌==◌, ◌&&◌, ◌||◌, �
 use Rattle.fuse_wire.specs.declared.errno.Errno.{Errno}
 use Rattle.fuse_wire.specs.Errnos.{enoent, eexist, einval, enospc, enotempty, estale}
 use Rattle.fuse_wire.specs.declared.moment.Moment.{Moment}
-use Rattle.fuse_tree.specs.declared.limits.TheConstants.{COUNTER_END}
+use Rattle.fuse_tree.specs.Bounds.{number_end}
 use Rattle.fuse_tree.specs.declared.planning.finding.Link.{Link}
 use Rattle.fuse_tree.specs.declared.planning.rename.RenameIn.{RenameIn}
 use Rattle.fuse_tree.specs.declared.rows.NodeRow.{NodeRow}
@@ -93,7 +93,7 @@ rename_changes r counters from to source other =
 
 abbrev pub plan_rename_with_room : Renaming → NodeRow → NodeRow → Link → Option Link → Rows → Planned
 plan_rename_with_room r from to source other rows =
-    if nat_le COUNTER_END rows.counters.next_cookie then refused enospc
+    if nat_le number_end rows.counters.next_cookie then refused enospc
     else record { answer = record { errno = 0; body = [] }; changes = rename_changes r rows.counters from to source other }
 
 abbrev pub plan_rename_fitting : Renaming → NodeRow → NodeRow → Link → Option Link → Rows → Planned
@@ -118,7 +118,7 @@ exchange_changes r counters from to source other =
 
 abbrev pub plan_exchange_with_room : Renaming → NodeRow → NodeRow → Link → Link → Rows → Planned
 plan_exchange_with_room r from to source other rows =
-    if nat_lt (COUNTER_END - 2) rows.counters.next_cookie then refused enospc
+    if nat_lt (number_end - 2) rows.counters.next_cookie then refused enospc
     else record { answer = record { errno = 0; body = [] }; changes = exchange_changes r rows.counters from to source other }
 
 abbrev pub plan_exchange_apart : Renaming → NodeRow → NodeRow → Link → Link → Rows → Planned

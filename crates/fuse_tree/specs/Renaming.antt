@@ -4,10 +4,10 @@ use Rattle.std.specs.List.{list_any}
 use Rattle.fuse_wire.specs.declared.errno.Errno.{Errno}
 use Rattle.fuse_wire.specs.Errnos.{enoent, eexist, enotdir, eisdir, einval, enospc, enotempty, estale}
 use Rattle.fuse_wire.specs.declared.moment.Moment.{Moment}
-use Rattle.fuse_tree.specs.declared.limits.TheConstants.{COUNTER_END}
+use Rattle.fuse_tree.specs.Bounds.{number_end}
 use Rattle.fuse_tree.specs.declared.planning.rename.RenameMode.{RenameMode}
 use Rattle.fuse_tree.specs.declared.planning.rename.RenameMode.TheVariants.{Replace, NoReplace, Exchange}
-use Rattle.fuse_tree.specs.declared.planning.rename.TheConstants.{RENAME_NOREPLACE, RENAME_EXCHANGE}
+use Rattle.fuse_tree.specs.Modes.{rename_noreplace, rename_exchange}
 use Rattle.fuse_tree.specs.declared.rows.EntryRow.{EntryRow}
 use Rattle.fuse_tree.specs.State.{State, Node, Tree, is_dir, is_dir_of, is_named, name_fault, node_at, above}
 use Rattle.fuse_tree.specs.Rows.{entry_at}
@@ -18,8 +18,8 @@ use Rattle.fuse_tree.specs.Removing.{mark, without, entry_gone, has_entries}
 abbrev pub mode_of : ℕ → Option RenameMode
 mode_of flags =
     if flags == 0 then Some Replace
-    else if flags == RENAME_NOREPLACE then Some NoReplace
-    else if flags == RENAME_EXCHANGE then Some Exchange
+    else if flags == rename_noreplace then Some NoReplace
+    else if flags == rename_exchange then Some Exchange
     else None
 
 abbrev pub is_no_replace : Option RenameMode → Bool
@@ -123,7 +123,7 @@ place_fault s child (Some other) = kinds_fault (is_dir_at s child) (is_dir_at s 
 -- ---- RENAME
 
 abbrev pub rename_with_room : State → Renaming → ℕ → EntryRow → Option EntryRow → Done
-rename_with_room s r dir e other = if nat_le COUNTER_END s.next_cookie then refuse s enospc else answer (renamed r dir e other s) []
+rename_with_room s r dir e other = if nat_le number_end s.next_cookie then refuse s enospc else answer (renamed r dir e other s) []
 
 abbrev pub rename_entry : State → Renaming → ℕ → EntryRow → Option EntryRow → Done
 rename_entry s r dir e other =
@@ -134,7 +134,7 @@ rename_entry s r dir e other =
 -- ---- EXCHANGE
 
 abbrev pub exchange_with_room : State → Renaming → ℕ → EntryRow → EntryRow → Done
-exchange_with_room s r dir e other = if nat_lt (COUNTER_END - 2) s.next_cookie then refuse s enospc else answer (exchanged r dir e other s) []
+exchange_with_room s r dir e other = if nat_lt (number_end - 2) s.next_cookie then refuse s enospc else answer (exchanged r dir e other s) []
 
 abbrev pub exchange_entry : State → Renaming → ℕ → EntryRow → Option EntryRow → Done
 exchange_entry s r dir e None = refuse s enoent

@@ -9,8 +9,8 @@ use Rattle.fuse_wire.specs.declared.setattr_valid.SetattrValid.{SetattrValid}
 use Rattle.fuse_wire.specs.Bits.{fattr_mode, fattr_uid, fattr_gid, fattr_size, fattr_atime, fattr_mtime, fattr_atime_now, fattr_mtime_now, fattr_ctime}
 use Rattle.fuse_request.specs.declared.request.SetattrIn.{SetattrIn}
 use Rattle.fuse_answer.specs.Bodies.{attr_out_bytes}
-use Rattle.fuse_tree.specs.declared.limits.TheConstants.{MAX_FILE}
-use Rattle.fuse_tree.specs.declared.mode.TheConstants.{TYPE_UNIT}
+use Rattle.fuse_tree.specs.Bounds.{file_limit}
+use Rattle.fuse_tree.specs.Modes.{type_unit}
 use Rattle.fuse_tree.specs.State.{State, Node, is_dir, is_file}
 use Rattle.fuse_tree.specs.Rows.{sized}
 use Rattle.fuse_tree.specs.Done.{Done, refuse_for, answer, attr_of, attr_out_of}
@@ -29,7 +29,7 @@ sets_any set =
 
 -- the permissions are replaced, and the type stays
 abbrev pub mode_after : SetattrIn → ℕ → ℕ
-mode_after set mode = if has set fattr_mode then mode / TYPE_UNIT * TYPE_UNIT + set.mode % TYPE_UNIT else mode
+mode_after set mode = if has set fattr_mode then mode / type_unit * type_unit + set.mode % type_unit else mode
 
 abbrev pub uid_after : SetattrIn → ℕ → ℕ
 uid_after set uid = if has set fattr_uid then set.uid else uid
@@ -75,7 +75,7 @@ abbrev pub size_fault : ℕ → ℕ → Option Errno
 size_fault mode size =
     if is_dir mode then Some eisdir
     else if not (is_file mode) then Some einval
-    else if nat_lt MAX_FILE size then Some efbig
+    else if nat_lt file_limit size then Some efbig
     else None
 
 abbrev pub set_fault : SetattrIn → ℕ → Option Errno

@@ -6,7 +6,7 @@ use Rattle.fuse_wire.specs.Errnos.{ebadf, eisdir, einval, efbig}
 use Rattle.fuse_wire.specs.declared.moment.Moment.{Moment}
 use Rattle.fuse_request.specs.declared.request.ReadIn.{ReadIn}
 use Rattle.fuse_answer.specs.Bodies.{write_bytes}
-use Rattle.fuse_tree.specs.declared.limits.TheConstants.{MAX_FILE, MAX_READ}
+use Rattle.fuse_tree.specs.Bounds.{file_limit, read_limit}
 use Rattle.fuse_tree.specs.State.{State, Node, is_dir}
 use Rattle.fuse_tree.specs.Rows.{written}
 use Rattle.fuse_tree.specs.Handles.{access_at}
@@ -38,7 +38,7 @@ abbrev pub write : State → ℕ → ℕ → List ℕ → Moment → Node → Do
 write s fh offset payload now n =
     if not (may_write (access_at s.handles fh n.number)) then refuse s ebadf
     else if length payload == 0 then answer s (count_body 0)
-    else if nat_lt MAX_FILE (offset + length payload) then refuse s efbig
+    else if nat_lt file_limit (offset + length payload) then refuse s efbig
     else answer (with_bytes s offset payload now n.number) (count_body (length payload))
 
 -- ---- READ
@@ -55,5 +55,5 @@ abbrev pub read : State → ReadIn → Node → Done
 read s asked n =
     if not (may_read (access_at s.handles asked.fh n.number)) then refuse s ebadf
     else if is_dir n.mode then refuse s eisdir
-    else if nat_lt MAX_READ asked.size then refuse s einval
+    else if nat_lt read_limit asked.size then refuse s einval
     else answer s (take asked.size (drop asked.offset n.content))
