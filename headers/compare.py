@@ -14,6 +14,9 @@ NUMBERS = [
     ("fuse_tree/specs/Modes.antt", str.upper),
 ]
 
+# Names of these tables that are own.
+OWN = {"type_unit", "type_count"}
+
 # Numbers of other tables that the headers have too. Where a file isn't there it is passed over.
 SINGLE_NUMBERS = [
     ("fuse_wire/specs/Bounds.antt", "max_name_len", "NAME_MAX"),
@@ -53,7 +56,7 @@ LAYOUTS = [
     ("fuse_request/specs/Spelling.antt", "parts (Interrupt unique)", "fuse_interrupt_in", {}),
     ("fuse_request/specs/Spelling.antt", "parts (BatchForget items)", "fuse_batch_forget_in",
      {"items": "count"}),
-    ("fuse_answer/specs/Bodies.antt", "header_parts h", "fuse_out_header", {}),
+    ("fuse_answer/specs/Bodies.antt", "head_parts len error unique", "fuse_out_header", {}),
     ("fuse_answer/specs/Bodies.antt", "attr_parts a", "fuse_attr", {}),
     ("fuse_answer/specs/Bodies.antt", "entry_parts e", "fuse_entry_out", {}),
     ("fuse_answer/specs/Bodies.antt", "attr_out_parts a", "fuse_attr_out", {}),
@@ -207,7 +210,7 @@ def main(crates, lines):
 
     for name, called in NUMBERS:
         for left, right in file_sides(name).items():
-            if value_of(right) is not None:
+            if value_of(right) is not None and left not in OWN:
                 result.number(called(left), value_of(right))
     for name, left, real in SINGLE_NUMBERS:
         if file_sides(name):

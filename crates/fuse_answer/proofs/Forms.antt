@@ -89,9 +89,9 @@ pub laid_entry : LayoutsStand → (x : EntryOut) (body : List ℕ) → body ≡ 
 unfolding entry_bytes
 laid_entry laws x body e h = subst (Lays (entry_parts x)) (sym e) (laws.formed (entry_parts x) h)
 
-pub laid_attr_out : LayoutsStand → (a : AttrOut) (body : List ℕ) → body ≡ attr_out_bytes a → HasForm (attr_out_parts a) → Lays (attr_out_parts a) body
+pub laid_attrs : LayoutsStand → (a : AttrOut) (body : List ℕ) → body ≡ attr_out_bytes a → HasForm (attr_out_parts a) → Lays (attr_out_parts a) body
 unfolding attr_out_bytes
-laid_attr_out laws a body e h = subst (Lays (attr_out_parts a)) (sym e) (laws.formed (attr_out_parts a) h)
+laid_attrs laws a body e h = subst (Lays (attr_out_parts a)) (sym e) (laws.formed (attr_out_parts a) h)
 
 pub laid_open : LayoutsStand → (o : OpenOut) (body : List ℕ) → body ≡ open_bytes o → HasForm (open_parts o) → Lays (open_parts o) body
 unfolding open_bytes

@@ -3,7 +3,8 @@ ghost use Rattle.std.specs.Prelude.{◌≡◌, length};
 ghost use Rattle.fuse_wire.specs.Layout.{Lays};
 ghost use Rattle.fuse_answer.specs.Sizes.{attr_size};
 ghost use Rattle.fuse_answer.specs.Bodies.{attr_parts};
-ghost use Rattle.fuse_answer.specs.Replies.{kind_of, AnEntry, Attributes, AnOpen, AWrite, AnInit, Directory, Nothing as NothingKind};
+ghost use Rattle.fuse_answer.specs.Replies.{kind_of, AnEntry, Attributes, AnOpen, AWrite, AnInit};
+ghost use Rattle.fuse_answer.specs.Replies.{Directory, Nothing as NothingKind};
 ghost use Rattle.fuse_answer.specs.Readers.{Reads};
 
 use crate::init_out::InitOut;

@@ -1,7 +1,10 @@
 ghost use Rattle.std.specs.Prelude.{◌≡◌, ◌++◌, length, OnOk, IfOk};
 ghost use Rattle.fuse_wire.specs.Layout.{HasForm, Lays};
-ghost use Rattle.fuse_answer.specs.Bodies.{header_parts, attr_parts, entry_parts, attr_out_parts, open_parts, write_parts, header_bytes, attr_bytes, entry_bytes, attr_out_bytes, open_bytes, write_bytes};
-ghost use Rattle.fuse_answer.specs.Sizes.{out_header_size, attr_size, entry_out_size, attr_out_size, open_out_size, write_out_size};
+ghost use Rattle.fuse_answer.specs.Bodies.{header_parts, attr_parts, entry_parts, attr_out_parts};
+ghost use Rattle.fuse_answer.specs.Bodies.{open_parts, write_parts, header_bytes, attr_bytes};
+ghost use Rattle.fuse_answer.specs.Bodies.{entry_bytes, attr_out_bytes, open_bytes, write_bytes};
+ghost use Rattle.fuse_answer.specs.Sizes.{out_header_size, attr_size, entry_out_size};
+ghost use Rattle.fuse_answer.specs.Sizes.{attr_out_size, open_out_size, write_out_size};
 
 use crate::numbers::{put_u32s, put_u64s};
 use fuse_wire::{Memory, layouts_stand, put_bytes, put_i32, put_u32, put_u64};
@@ -202,7 +205,7 @@ impl AttrOut {
     }
 
     /// The body of an answer to GETATTR or SETATTR.
-    #[tactic(auto, using(crate::proofs::Forms::length_attr_out, crate::proofs::Forms::laid_attr_out))]
+    #[tactic(auto, using(crate::proofs::Forms::length_attr_out, crate::proofs::Forms::laid_attrs))]
     pub fn body_of(&self, alloc: Global) -> Result<Vec<u8>, Memory>
         ensures bytes { IfOk result (λ body. body.items ≡ attr_out_bytes self.now) }
         ensures size { IfOk result (λ body. length body.items ≡ attr_out_size) }

@@ -1,7 +1,8 @@
 ghost use Rattle.std.specs.Prelude.{◌≡◌, ◌≤◌, false, length, IfOk, IfErr, IsOkAnd};
 ghost use Rattle.fuse_wire.specs.Opcodes.{silent};
 ghost use Rattle.fuse_answer.specs.Sizes.{out_header_size};
-ghost use Rattle.fuse_answer.specs.Replies.{Told, told, content, Answers, IsProper, FirstFault, errno_in};
+ghost use Rattle.fuse_answer.specs.Replies.{Told, told, content, Answers, IsProper, FirstFault};
+ghost use Rattle.fuse_answer.specs.Replies.{errno_in};
 
 use crate::bodies::body_of;
 use crate::init_out::InitOut;

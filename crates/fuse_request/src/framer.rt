@@ -1,4 +1,5 @@
-ghost use Rattle.std.specs.Prelude.{◌≡◌, ◌+◌, ◌<◌, ◌≤◌, ◌++◌, [], None, Some, length, if◌then◌else◌, OnOk, OnErr, IfOk, IfErr, IfSome};
+ghost use Rattle.std.specs.Prelude.{◌≡◌, ◌+◌, ◌<◌, ◌≤◌, ◌++◌, [], None, Some, length};
+ghost use Rattle.std.specs.Prelude.{if◌then◌else◌, OnOk, OnErr, IfOk, IfErr, IfSome};
 ghost use Rattle.std.specs.Option.{unwrap_or};
 ghost use Rattle.std.specs.Result.{result_err};
 ghost use Rattle.fuse_wire.specs.Bounds.{max_fed_len, max_message_len};
@@ -126,7 +127,8 @@ impl Framer {
     /// Appends a piece of the stream.
     pub fn feed(&mut self, piece: &[u8]) -> Result<(), FrameFault>
         requires { fed_of self.old + length piece.now ≤ max_fed_len }
-        ensures ok { OnOk result ((self.old.fault ≡ None) × (self.new ≡ record self.old { bytes = self.old.bytes ++ piece.now })) }
+        ensures ok { OnOk result ((self.old.fault ≡ None)
+            × (self.new ≡ record self.old { bytes = self.old.bytes ++ piece.now })) }
         ensures err { OnErr result (self.new ≡ self.old) }
 
         // The fault that it holds, and else want of memory.
@@ -141,13 +143,15 @@ impl Framer {
         }
     }
 
-    /// The next message, where it is whole. A bad length is answered as soon as its four bytes are there.
+    /// The next message, where it is whole. A bad length is answered as soon as its four
+    /// bytes are there.
     pub fn next(&mut self) -> Result<Option<Bytes>, FrameFault>
         ensures next { GivesNext self.old self.new result }
         // A bad length that was answered is answered from then on.
         ensures again { IfSome self.old.fault (λ f. result ≡ Err f) }
 
-        ensures room { IfOk result (λ message. message ≡ None → length self.new.bytes < max_message_len) }
+        ensures room { IfOk result (λ message. message ≡ None → length self.new.bytes
+            < max_message_len) }
     {
         numbers_read();
         if let Some(fault) = length_fault(self.at, &self.held) {

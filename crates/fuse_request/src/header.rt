@@ -30,7 +30,8 @@ pub fn header_of(message: &[u8]) -> Option<RawHeader>
     ensures laid { IfSome result (λ h. IsHeaderOf h message.now) }
     ensures none { (result ≡ None) ↔ (length message.now < min_message_len) }
 
-    ensures fields { result ≡ (if nat_lt (length message.now) min_message_len then None else Some (raw_of message.now)) }
+    ensures fields { result ≡ (if nat_lt (length message.now) min_message_len then None
+        else Some (raw_of message.now)) }
 {
     layouts_stand();
     if message.len() < MIN_MESSAGE {

@@ -1,4 +1,5 @@
-ghost use Rattle.fuse_request.specs.Vectors.{BodyFaults, Exchange, Faults, FirstRun, MissingLookup, RenameBytes, WriteBytes};
+ghost use Rattle.fuse_request.specs.Vectors.{BodyFaults, Exchange, Faults, FirstRun, MissingLookup};
+ghost use Rattle.fuse_request.specs.Vectors.{RenameBytes, WriteBytes};
 
 use super::*;
 use fuse_wire::{Errno, layouts_stand};
@@ -116,7 +117,8 @@ fn fault_in(message: &[u8]) -> Option<Malformed> {
     decode(message).err()
 }
 
-// The class of a message, and whether its id is 0 where it has to be answered; `None` where it isn't whole.
+// The class of a message, and whether its id is 0 where it has to be answered; `None` where it
+// isn't whole.
 fn class_in(message: &[u8]) -> Option<(Class, bool)> {
     let raw = header_of(message)?;
     if raw.len as usize != message.len() {
@@ -125,8 +127,8 @@ fn class_in(message: &[u8]) -> Option<(Class, bool)> {
     Some((classify(message), has_zero_unique(message)))
 }
 
-// A whole message: its row, its bytes, what is wrong with it, its class, and whether its id is 0 where it has to be
-// answered.
+// A whole message: its row, its bytes, what is wrong with it, its class, and whether its id is 0
+// where it has to be answered.
 struct Whole {
     row: &'static str,
     bytes: &'static [u8],

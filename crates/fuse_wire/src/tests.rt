@@ -43,6 +43,9 @@ fn vectors() {
     init_flag_numbers();
     access_numbers();
     one_number();
+    numbers_read();
+    layouts_stand();
+    names_end();
 }
 
 #[test]
