@@ -5,9 +5,8 @@ use Rattle.std.proofs.lemmas.Bool.{eq-eqb, ne_eqb}
 use Rattle.std.proofs.lemmas.Int.{to_z-of_z}
 use Rattle.std.proofs.lemmas.List.{append-nil, drop-drop, length-append, length-drop}
 use Rattle.fuse_wire.specs.Bytes.{le, number_of, IsBytes}
-use Rattle.fuse_wire.specs.Layout.{bytes, Lays}
-use Rattle.fuse_wire.proofs.Numbers.{length-le, number_front, IsBytes-drop}
-use Rattle.fuse_wire.proofs.Layouts.{Lays-length, peel, stands}
+use Rattle.fuse_wire.specs.Layout.{Part, number, bytes, Lays, Placed, form, HasForm}
+use Rattle.fuse_wire.specs.Laws.{NumbersRead, LayoutsStand}
 use Rattle.fuse_answer.specs.declared.records.Attr.{Attr}
 use Rattle.fuse_answer.specs.declared.reply.Reply.{Reply}
 use Rattle.fuse_answer.specs.declared.reply.BadAnswer.{BadAnswer}
@@ -52,44 +51,44 @@ content_at Unknown b = of_unknown b
 all : (xs b : List ℕ) → Lays (bytes xs ∷ []) b → b ≡ xs
 all xs b h = h.1 ∙ ap (λ (x : List ℕ). xs ++ x) h.2 ∙ append-nil xs
 
-content_is : (c : Content) (b : List ℕ) → Lays (content_parts c) b → IsProper c → content_at (kind_is c) b ≡ c
+content_is : LayoutsStand → (c : Content) (b : List ℕ) → Lays (content_parts c) b → IsProper c → content_at (kind_is c) b ≡ c
 unfolding content_at attr_at
-content_is (of_entry e) b h proper =
-    let p = stands 0 (entry_parts e) b (omega arith) h in
+content_is laws (of_entry e) b h proper =
+    let p = laws.stands (entry_parts e) b h in
     let p1 = p.1 in let p2 = p1.1 in let p3 = p2.1 in let p4 = p3.1 in let p5 = p4.1 in let p6 = p5.1 in let p7 = p6.1 in let p8 = p7.1 in let p9 = p8.1 in let p10 = p9.1 in let p11 = p10.1 in let p12 = p11.1 in let p13 = p12.1 in let p14 = p13.1 in let p15 = p14.1 in let p16 = p15.1 in let p17 = p16.1 in let p18 = p17.1 in let p19 = p18.1 in let p20 = p19.1 in let p21 = p20.1 in
     rw (← p.0, ← p1.0, ← p2.0, ← p3.0, ← p4.0, ← p5.0, ← p6.0, ← p7.0, ← p8.0, ← p9.0, ← p10.0, ← p11.0, ← p12.0, ← p13.0, ← p14.0, ← p15.0, ← p16.0, ← p17.0, ← p18.0, ← p19.0, ← p20.0, ← p21.0) refl
-content_is (of_attributes a) b h proper =
-    let p = stands 0 (attr_out_parts a) b (omega arith) h in
+content_is laws (of_attributes a) b h proper =
+    let p = laws.stands (attr_out_parts a) b h in
     let p1 = p.1 in let p2 = p1.1 in let p3 = p2.1 in let p4 = p3.1 in let p5 = p4.1 in let p6 = p5.1 in let p7 = p6.1 in let p8 = p7.1 in let p9 = p8.1 in let p10 = p9.1 in let p11 = p10.1 in let p12 = p11.1 in let p13 = p12.1 in let p14 = p13.1 in let p15 = p14.1 in let p16 = p15.1 in let p17 = p16.1 in
     rw (← p.0, ← p1.0, ← p2.0, ← p3.0, ← p4.0, ← p5.0, ← p6.0, ← p7.0, ← p8.0, ← p9.0, ← p10.0, ← p11.0, ← p12.0, ← p13.0, ← p14.0, ← p15.0, ← p16.0, ← p17.0) refl
-content_is (of_open o) b h proper =
-    let p = stands 0 (open_parts o) b (omega arith) h in
+content_is laws (of_open o) b h proper =
+    let p = laws.stands (open_parts o) b h in
     let p1 = p.1 in let p2 = p1.1 in
     let signed : to_z w32 (of_z w32 o.backing_id) ≡ o.backing_id = to_z-of_z w32 o.backing_id proper in
     rw (← p.0, ← p1.0, ← p2.0, signed) refl
-content_is (of_write w) b h proper =
-    let p = stands 0 (write_parts w) b (omega arith) h in
+content_is laws (of_write w) b h proper =
+    let p = laws.stands (write_parts w) b h in
     rw (← p.0) refl
-content_is (of_init i) b h proper =
-    let p = stands 0 (init_parts i) b (omega arith) h in
+content_is laws (of_init i) b h proper =
+    let p = laws.stands (init_parts i) b h in
     let p1 = p.1 in let p2 = p1.1 in let p3 = p2.1 in let p4 = p3.1 in let p5 = p4.1 in let p6 = p5.1 in let p7 = p6.1 in let p8 = p7.1 in let p9 = p8.1 in let p10 = p9.1 in let p11 = p10.1 in
     rw (← p.0, ← p1.0, ← p2.0, ← p3.0, ← p4.0, ← p5.0, ← p6.0, ← p7.0, ← p8.0, ← p9.0, ← p10.0, ← p11.0) refl
-content_is (of_data xs) b h proper = ap of_data (all xs b h)
-content_is (of_directory xs) b h proper = ap of_directory (all xs b h)
-content_is of_nothing b h proper = refl
-content_is (of_unknown xs) b h proper = ap of_unknown (all xs b h)
+content_is laws (of_data xs) b h proper = ap of_data (all xs b h)
+content_is laws (of_directory xs) b h proper = ap of_directory (all xs b h)
+content_is laws of_nothing b h proper = refl
+content_is laws (of_unknown xs) b h proper = ap of_unknown (all xs b h)
 
 -- a body of a fixed size has it
-sized : (c : Content) (b : List ℕ) → Lays (content_parts c) b → IsOtherThan (size_of (kind_is c)) (length b) → ⊥
-sized (of_entry e) b h other = other (Lays-length (entry_parts e) b h)
-sized (of_attributes a) b h other = other (Lays-length (attr_out_parts a) b h)
-sized (of_open o) b h other = other (Lays-length (open_parts o) b h)
-sized (of_write w) b h other = other (Lays-length (write_parts w) b h)
-sized (of_init i) b h other = other (Lays-length (init_parts i) b h)
-sized (of_data xs) b h other = other
-sized (of_directory xs) b h other = other
-sized of_nothing b h other = other (ap length h)
-sized (of_unknown xs) b h other = other
+sized : LayoutsStand → (c : Content) (b : List ℕ) → Lays (content_parts c) b → IsOtherThan (size_of (kind_is c)) (length b) → ⊥
+sized laws (of_entry e) b h other = other (laws.len (entry_parts e) b h)
+sized laws (of_attributes a) b h other = other (laws.len (attr_out_parts a) b h)
+sized laws (of_open o) b h other = other (laws.len (open_parts o) b h)
+sized laws (of_write w) b h other = other (laws.len (write_parts w) b h)
+sized laws (of_init i) b h other = other (laws.len (init_parts i) b h)
+sized laws (of_data xs) b h other = other
+sized laws (of_directory xs) b h other = other
+sized laws of_nothing b h other = other (ap length h)
+sized laws (of_unknown xs) b h other = other
 
 listed : (c : Content) (b : List ℕ) → Lays (content_parts c) b → IsProper c → kind_is c ≡ Directory → IsListing b
 listed (of_directory xs) b h proper is = subst IsListing (sym (all xs b h)) proper
@@ -103,13 +102,13 @@ listed of_nothing b h proper is = absurd cc
 listed (of_unknown xs) b h proper is = absurd cc
 
 -- what is held has no fault
-held : (kind : Kind) (c : Content) (b : List ℕ) (f : BadAnswer) → Holds kind c b → BodyFault kind b f → ⊥
-held kind c b BodyLength h fault = sized c b h.laid (subst (λ (k : Kind). IsOtherThan (size_of k) (length b)) (sym h.of_kind) fault)
-held kind c b BadDirent h fault = fault.1 (listed c b h.laid h.proper (h.of_kind ∙ fault.0))
-held kind c b Short h fault = fault
-held kind c b LenDiffers h fault = fault
-held kind c b ErrorRange h fault = fault
-held kind c b BodyAfterError h fault = fault
+held : LayoutsStand → (kind : Kind) (c : Content) (b : List ℕ) (f : BadAnswer) → Holds kind c b → BodyFault kind b f → ⊥
+held laws kind c b BodyLength h fault = sized laws c b h.laid (subst (λ (k : Kind). IsOtherThan (size_of k) (length b)) (sym h.of_kind) fault)
+held laws kind c b BadDirent h fault = fault.1 (listed c b h.laid h.proper (h.of_kind ∙ fault.0))
+held laws kind c b Short h fault = fault
+held laws kind c b LenDiffers h fault = fault
+held laws kind c b ErrorRange h fault = fault
+held laws kind c b BodyAfterError h fault = fault
 
 -- what the bytes say at the places of an answer
 record HasPlaces (t : Told) (body m : List ℕ) : Type 0 where
@@ -123,34 +122,24 @@ few_of : (opcode : ℕ) (t : Told) (body : List ℕ) → IsOf opcode t body → 
 few_of opcode t body (inl h) = omega (arith, h.0)
 few_of opcode t body (inr h) = h.1
 
-has_places : (opcode : ℕ) (t : Told) (m : List ℕ) (a : Answers opcode t m) → HasPlaces t a.body m
+has_places : LayoutsStand → (opcode : ℕ) (t : Told) (m : List ℕ) (a : Answers opcode t m) → HasPlaces t a.body m
 unfolding wire wire_head
-has_places opcode t m a =
+has_places laws opcode t m a =
     let n : ℕ = 16 + length a.body in
     let e : ℕ = negated t.errno in
     let few = few_of opcode t a.body a.said in
-    let head2 : List ℕ = le 8 t.unique ++ [] in
-    let head1 : List ℕ = le 4 e ++ head2 in
-    let len : length m ≡ n = omega (
-      arith,
-      ap length a.whole,
-      length-append (le 4 n ++ head1) a.body,
-      length-append (le 4 n) head1,
-      length-append (le 4 e) head2,
-      length-append (le 8 t.unique) [],
-      length-le 4 n,
-      length-le 4 e,
-      length-le 8 t.unique,
-    ) in
-    let p0 = peel 0 4 n m (le 4 n ++ head1) head1 a.body a.whole refl (omega (arith, len, a.len)) in
-    let p1 = peel 4 4 e m head1 head2 a.body p0.1 refl (omega arith) in
-    let p2 = peel 8 8 t.unique m head2 [] a.body p1.1 refl a.unique in
+    let ps : List Part = number 4 n ∷ number 4 e ∷ number 8 t.unique ∷ [] in
+    let more : List Part = bytes a.body ∷ [] in
+    let len : length m ≡ n = omega (arith, ap length a.whole, length-append (form ps) a.body, laws.form_len ps) in
+    let has : HasForm ps = (omega (arith, len, a.len), (omega arith, (a.unique, tt))) in
+    let laid : Lays (ps ++ more) (form ps ++ a.body) = laws.joined ps more (form ps) a.body (laws.formed ps has) ([], sym (append-nil a.body), refl) in
+    let p : Placed 0 (ps ++ more) m = laws.stands (ps ++ more) m (subst (Lays (ps ++ more)) (sym a.whole) laid) in
     record {
       long = omega (arith, len);
-      len = p0.0 ∙ sym len;
-      errno = ap negated p1.0 ∙ omega (arith, few);
-      unique = p2.0;
-      body_is = p2.1;
+      len = sym p.0 ∙ sym len;
+      errno = ap negated (sym p.1.0) ∙ omega (arith, few);
+      unique = sym p.1.1.0;
+      body_is = all a.body (drop 16 m) p.1.1.1.1;
     }
 
 -- the answer by its places
@@ -161,58 +150,58 @@ told_at opcode m = record {
   content = if errno_in m == 0 then content_at (kind_of opcode) (drop 16 m) else of_nothing;
 }
 
-content_of : (opcode : ℕ) (t : Told) (body : List ℕ) → IsOf opcode t body → (if t.errno == 0 then content_at (kind_of opcode) body else of_nothing) ≡ t.content
-content_of opcode t body (inl h) =
+content_of : LayoutsStand → (opcode : ℕ) (t : Told) (body : List ℕ) → IsOf opcode t body → (if t.errno == 0 then content_at (kind_of opcode) body else of_nothing) ≡ t.content
+content_of laws opcode t body (inl h) =
     let held = h.1 in
-    rw (eq-eqb t.errno 0 h.0, ← held.of_kind) (content_is t.content body held.laid held.proper)
-content_of opcode t body (inr h) = rw (ne_eqb t.errno 0 h.0) (sym h.2)
+    rw (eq-eqb t.errno 0 h.0, ← held.of_kind) (content_is laws t.content body held.laid held.proper)
+content_of laws opcode t body (inr h) = rw (ne_eqb t.errno 0 h.0) (sym h.2)
 
-is_at : (opcode : ℕ) (t : Told) (m : List ℕ) → Answers opcode t m → told_at opcode m ≡ t
+is_at : LayoutsStand → (opcode : ℕ) (t : Told) (m : List ℕ) → Answers opcode t m → told_at opcode m ≡ t
 unfolding told_at
-is_at opcode t m a =
-    let p = has_places opcode t m a in
-    rw (p.unique, p.errno, p.body_is, content_of opcode t a.body a.said) refl
+is_at laws opcode t m a =
+    let p = has_places laws opcode t m a in
+    rw (p.unique, p.errno, p.body_is, content_of laws opcode t a.body a.said) refl
 
 of_error : (opcode : ℕ) (t : Told) (body : List ℕ) → IsOf opcode t body → t.errno ≢ 0 → body ≡ []
 of_error opcode t body (inl h) some = absurd (some h.0)
 of_error opcode t body (inr h) some = h.3
 
-of_success : (opcode : ℕ) (t : Told) (body : List ℕ) (f : BadAnswer) → IsOf opcode t body → t.errno ≡ 0 → BodyFault (kind_of opcode) body f → ⊥
-of_success opcode t body f (inl h) none fault = held (kind_of opcode) t.content body f h.1 fault
-of_success opcode t body f (inr h) none fault = h.0 none
+of_success : LayoutsStand → (opcode : ℕ) (t : Told) (body : List ℕ) (f : BadAnswer) → IsOf opcode t body → t.errno ≡ 0 → BodyFault (kind_of opcode) body f → ⊥
+of_success laws opcode t body f (inl h) none fault = held laws (kind_of opcode) t.content body f h.1 fault
+of_success laws opcode t body f (inr h) none fault = h.0 none
 
-pub no_fault : (opcode : ℕ) (t : Told) (m : List ℕ) (f : BadAnswer) → Answers opcode t m → FirstFault opcode m f → ⊥
-no_fault opcode t m Short a fault = absurd (omega (arith, (has_places opcode t m a).long, fault))
-no_fault opcode t m LenDiffers a fault = fault.1 (has_places opcode t m a).len
-no_fault opcode t m ErrorRange a fault = absurd (omega (arith, (has_places opcode t m a).errno, few_of opcode t a.body a.said, fault.1))
-no_fault opcode t m BodyAfterError a fault =
-    let p = has_places opcode t m a in
+pub no_fault : LayoutsStand → (opcode : ℕ) (t : Told) (m : List ℕ) (f : BadAnswer) → Answers opcode t m → FirstFault opcode m f → ⊥
+no_fault laws opcode t m Short a fault = absurd (omega (arith, (has_places laws opcode t m a).long, fault))
+no_fault laws opcode t m LenDiffers a fault = fault.1 (has_places laws opcode t m a).len
+no_fault laws opcode t m ErrorRange a fault = absurd (omega (arith, (has_places laws opcode t m a).errno, few_of opcode t a.body a.said, fault.1))
+no_fault laws opcode t m BodyAfterError a fault =
+    let p = has_places laws opcode t m a in
     fault.3 (p.body_is ∙ of_error opcode t a.body a.said (λ e. fault.1 (p.errno ∙ e)))
-no_fault opcode t m BodyLength a fault =
-    let p = has_places opcode t m a in
-    of_success opcode t a.body BodyLength a.said (sym p.errno ∙ fault.1) (subst (λ (x : List ℕ). BodyFault (kind_of opcode) x BodyLength) p.body_is fault.2)
-no_fault opcode t m BadDirent a fault =
-    let p = has_places opcode t m a in
-    of_success opcode t a.body BadDirent a.said (sym p.errno ∙ fault.1) (subst (λ (x : List ℕ). BodyFault (kind_of opcode) x BadDirent) p.body_is fault.2)
+no_fault laws opcode t m BodyLength a fault =
+    let p = has_places laws opcode t m a in
+    of_success laws opcode t a.body BodyLength a.said (sym p.errno ∙ fault.1) (subst (λ (x : List ℕ). BodyFault (kind_of opcode) x BodyLength) p.body_is fault.2)
+no_fault laws opcode t m BadDirent a fault =
+    let p = has_places laws opcode t m a in
+    of_success laws opcode t a.body BadDirent a.said (sym p.errno ∙ fault.1) (subst (λ (x : List ℕ). BodyFault (kind_of opcode) x BadDirent) p.body_is fault.2)
 
 -- what a reader answers is the one answer, where there is one
-pub only_one : (opcode : ℕ) (m : List ℕ) (r : Result Reply BadAnswer) → IfOk r (λ q. Answers opcode (told q) m) → IfErr r (λ f. FirstFault opcode m f)
+pub only_one : LayoutsStand → (opcode : ℕ) (m : List ℕ) (r : Result Reply BadAnswer) → IfOk r (λ q. Answers opcode (told q) m) → IfErr r (λ f. FirstFault opcode m f)
     → (t : Told) → Answers opcode t m → IsOkAnd r (λ q. told q ≡ t)
-only_one opcode m (Ok q) found fault t a = sym (is_at opcode (told q) m found) ∙ is_at opcode t m a
-only_one opcode m (Err f) found fault t a = absurd (no_fault opcode t m f a fault)
+only_one laws opcode m (Ok q) found fault t a = sym (is_at laws opcode (told q) m found) ∙ is_at laws opcode t m a
+only_one laws opcode m (Err f) found fault t a = absurd (no_fault laws opcode t m f a fault)
 
 regroup : (a b c d : List ℕ) → (a ++ (b ++ (c ++ []))) ++ d ≡ a ++ (b ++ (c ++ d))
 regroup a b c d =
     append_assoc a (b ++ (c ++ [])) d ∙ ap (λ (x : List ℕ). a ++ x) (append_assoc b (c ++ []) d ∙ ap (λ (x : List ℕ). b ++ x) (append_assoc c [] d))
 
 -- what is said at the places is answered
-pub answered : (opcode : ℕ) (t : Told) (m : List ℕ) → IsBytes m → 16 ≤ length m → number_of 4 m ≡ length m → t.errno ≡ errno_in m
+pub answered : NumbersRead → (opcode : ℕ) (t : Told) (m : List ℕ) → IsBytes m → 16 ≤ length m → number_of 4 m ≡ length m → t.errno ≡ errno_in m
     → t.unique ≡ number_of 8 (drop 8 m) → IsOf opcode t (drop 16 m) → Answers opcode t m
 unfolding wire wire_head
-answered opcode t m fits long len errno unique said =
-    let q0 = number_front 4 m (omega (arith, long)) fits in
-    let q1 = number_front 4 (drop 4 m) (omega (arith, long, length-drop 4 m)) (IsBytes-drop 4 m fits) in
-    let q2 = number_front 8 (drop 8 m) (omega (arith, long, length-drop 8 m)) (IsBytes-drop 8 m fits) in
+answered laws opcode t m fits long len errno unique said =
+    let q0 = laws.front 4 m (omega (arith, long)) fits in
+    let q1 = laws.front 4 (drop 4 m) (omega (arith, long, length-drop 4 m)) (laws.rest_bytes 4 m fits) in
+    let q2 = laws.front 8 (drop 8 m) (omega (arith, long, length-drop 8 m)) (laws.rest_bytes 8 m fits) in
     let n_is : number_of 4 m ≡ 16 + length (drop 16 m) = omega (arith, len, long, length-drop 16 m) in
     let e_is : number_of 4 (drop 4 m) ≡ negated t.errno = omega (arith, errno, q1.0) in
     let r0 : m ≡ le 4 (16 + length (drop 16 m)) ++ drop 4 m = rw (← n_is) q0.1 in

@@ -1,11 +1,10 @@
 -- Parts that stand one after the other, and how many bytes they take.
 use Rattle.std.proofs.Common.{◌≡◌, ℕ, suc, get_or, List, [], ◌∷◌, ◌++◌, ◌+◌, ◌<◌, ◌≤◌, ◌^◌, length, Result, Ok, Err, refl, sym, ap, subst, ◌∙◌, append_assoc, arith}
 use Rattle.std.specs.Prelude.{OnOk, replicate}
-use Rattle.std.proofs.lemmas.List.{append-nil, length-append, length-replicate}
+use Rattle.std.proofs.lemmas.List.{append-nil, length-append}
 use Rattle.fuse_wire.specs.Bytes.{le}
-use Rattle.fuse_wire.specs.Layout.{Part, number, unused, text, bytes, Lays, HasForm, widths, form}
-use Rattle.fuse_wire.proofs.Numbers.{length-le}
-use Rattle.fuse_wire.proofs.Layouts.{Lays-form}
+use Rattle.fuse_wire.specs.Layout.{Part, number, unused, text, bytes, Lays, HasForm, form}
+use Rattle.fuse_wire.specs.Laws.{NumbersRead, LayoutsStand}
 use Rattle.fuse_answer.specs.Bodies.{numbers, header_parts, attr_parts, entry_parts, attr_out_parts, open_parts, write_parts, init_parts, header_bytes, attr_bytes, entry_bytes, attr_out_bytes, open_bytes, write_bytes, init_bytes}
 use Rattle.fuse_answer.specs.Laws.{BeginsWithLen}
 use Rattle.fuse_answer.specs.Wire.{negated, wire, wire_head}
@@ -53,65 +52,58 @@ pub put-last : {T E : Type 0} (r : Result T E) (old mid new : List ℕ) (ps qs :
     → OnOk r (new ≡ mid ++ form qs) → OnOk r (new ≡ old ++ form (ps ++ qs))
 put-last r old mid new ps qs e = on_ok r (new ≡ mid ++ form qs) (new ≡ old ++ form (ps ++ qs)) (put-more old mid new ps qs e)
 
-pub length-form : (ps : List Part) → length (form ps) ≡ widths ps
-length-form [] = refl
-length-form (number w n ∷ ps) = omega (arith, length-append (le w n) (form ps), length-le w n, length-form ps)
-length-form (unused w ∷ ps) = omega (arith, length-append (replicate w 0) (form ps), length-replicate {A = ℕ} w 0, length-form ps)
-length-form (text t ∷ ps) = omega (arith, length-append t (0 ∷ form ps), length-form ps)
-length-form (bytes xs ∷ ps) = omega (arith, length-append xs (form ps), length-form ps)
-
-pub length_attr : (a : Attr) → length (attr_bytes a) ≡ 88
+pub length_attr : LayoutsStand → (a : Attr) → length (attr_bytes a) ≡ 88
 unfolding attr_bytes
-length_attr a = length-form (attr_parts a)
+length_attr laws a = laws.form_len (attr_parts a)
 
-pub length_entry : (e : EntryOut) → length (entry_bytes e) ≡ 128
+pub length_entry : LayoutsStand → (e : EntryOut) → length (entry_bytes e) ≡ 128
 unfolding entry_bytes
-length_entry e = length-form (entry_parts e)
+length_entry laws e = laws.form_len (entry_parts e)
 
-pub length_attr_out : (a : AttrOut) → length (attr_out_bytes a) ≡ 104
+pub length_attr_out : LayoutsStand → (a : AttrOut) → length (attr_out_bytes a) ≡ 104
 unfolding attr_out_bytes
-length_attr_out a = length-form (attr_out_parts a)
+length_attr_out laws a = laws.form_len (attr_out_parts a)
 
-pub length_open : (o : OpenOut) → length (open_bytes o) ≡ 16
+pub length_open : LayoutsStand → (o : OpenOut) → length (open_bytes o) ≡ 16
 unfolding open_bytes
-length_open o = length-form (open_parts o)
+length_open laws o = laws.form_len (open_parts o)
 
-pub length_write : (w : WriteOut) → length (write_bytes w) ≡ 8
+pub length_write : LayoutsStand → (w : WriteOut) → length (write_bytes w) ≡ 8
 unfolding write_bytes
-length_write w = length-form (write_parts w)
+length_write laws w = laws.form_len (write_parts w)
 
-pub length_init : (i : InitOut) → length (init_bytes i) ≡ 64
+pub length_init : LayoutsStand → (i : InitOut) → length (init_bytes i) ≡ 64
 unfolding init_bytes
-length_init i = length-form (init_parts i)
+length_init laws i = laws.form_len (init_parts i)
 
 -- the bytes of a record are laid out as it is
-pub laid_header : (h : OutHeader) (body : List ℕ) → body ≡ header_bytes h → HasForm (header_parts h) → Lays (header_parts h) body
+pub laid_header : LayoutsStand → (h : OutHeader) (body : List ℕ) → body ≡ header_bytes h → HasForm (header_parts h) → Lays (header_parts h) body
 unfolding header_bytes
-laid_header h body e f = subst (Lays (header_parts h)) (sym e) (Lays-form (header_parts h) f)
+laid_header laws h body e f = subst (Lays (header_parts h)) (sym e) (laws.formed (header_parts h) f)
 
-pub laid_attr : (a : Attr) (body : List ℕ) → body ≡ attr_bytes a → HasForm (attr_parts a) → Lays (attr_parts a) body
+pub laid_attr : LayoutsStand → (a : Attr) (body : List ℕ) → body ≡ attr_bytes a → HasForm (attr_parts a) → Lays (attr_parts a) body
 unfolding attr_bytes
-laid_attr a body e h = subst (Lays (attr_parts a)) (sym e) (Lays-form (attr_parts a) h)
+laid_attr laws a body e h = subst (Lays (attr_parts a)) (sym e) (laws.formed (attr_parts a) h)
 
-pub laid_entry : (x : EntryOut) (body : List ℕ) → body ≡ entry_bytes x → HasForm (entry_parts x) → Lays (entry_parts x) body
+pub laid_entry : LayoutsStand → (x : EntryOut) (body : List ℕ) → body ≡ entry_bytes x → HasForm (entry_parts x) → Lays (entry_parts x) body
 unfolding entry_bytes
-laid_entry x body e h = subst (Lays (entry_parts x)) (sym e) (Lays-form (entry_parts x) h)
+laid_entry laws x body e h = subst (Lays (entry_parts x)) (sym e) (laws.formed (entry_parts x) h)
 
-pub laid_attr_out : (a : AttrOut) (body : List ℕ) → body ≡ attr_out_bytes a → HasForm (attr_out_parts a) → Lays (attr_out_parts a) body
+pub laid_attrs : LayoutsStand → (a : AttrOut) (body : List ℕ) → body ≡ attr_out_bytes a → HasForm (attr_out_parts a) → Lays (attr_out_parts a) body
 unfolding attr_out_bytes
-laid_attr_out a body e h = subst (Lays (attr_out_parts a)) (sym e) (Lays-form (attr_out_parts a) h)
+laid_attrs laws a body e h = subst (Lays (attr_out_parts a)) (sym e) (laws.formed (attr_out_parts a) h)
 
-pub laid_open : (o : OpenOut) (body : List ℕ) → body ≡ open_bytes o → HasForm (open_parts o) → Lays (open_parts o) body
+pub laid_open : LayoutsStand → (o : OpenOut) (body : List ℕ) → body ≡ open_bytes o → HasForm (open_parts o) → Lays (open_parts o) body
 unfolding open_bytes
-laid_open o body e h = subst (Lays (open_parts o)) (sym e) (Lays-form (open_parts o) h)
+laid_open laws o body e h = subst (Lays (open_parts o)) (sym e) (laws.formed (open_parts o) h)
 
-pub laid_write : (w : WriteOut) (body : List ℕ) → body ≡ write_bytes w → HasForm (write_parts w) → Lays (write_parts w) body
+pub laid_write : LayoutsStand → (w : WriteOut) (body : List ℕ) → body ≡ write_bytes w → HasForm (write_parts w) → Lays (write_parts w) body
 unfolding write_bytes
-laid_write w body e h = subst (Lays (write_parts w)) (sym e) (Lays-form (write_parts w) h)
+laid_write laws w body e h = subst (Lays (write_parts w)) (sym e) (laws.formed (write_parts w) h)
 
-pub laid_init : (i : InitOut) (body : List ℕ) → body ≡ init_bytes i → HasForm (init_parts i) → Lays (init_parts i) body
+pub laid_init : LayoutsStand → (i : InitOut) (body : List ℕ) → body ≡ init_bytes i → HasForm (init_parts i) → Lays (init_parts i) body
 unfolding init_bytes
-laid_init i body e h = subst (Lays (init_parts i)) (sym e) (Lays-form (init_parts i) h)
+laid_init laws i body e h = subst (Lays (init_parts i)) (sym e) (laws.formed (init_parts i) h)
 
 -- parts that have a form, one after the other
 pub has-append : (ps qs : List Part) → HasForm ps → HasForm qs → HasForm (ps ++ qs)
@@ -132,17 +124,17 @@ pub same-head : (body body' : List ℕ) (e e' u : ℕ) → body ≡ body' → e 
 same-head body body' e e' u p q = rw (p, q) refl
 
 -- an answer begins with its length
-pub len_first : (errno : ℕ) (body : List ℕ) (unique : ℕ) → length body ≤ 1048576 → BeginsWithLen (wire errno body unique)
+pub len_first : (NumbersRead × LayoutsStand) → (errno : ℕ) (body : List ℕ) (unique : ℕ) → length body ≤ 1048576 → BeginsWithLen (wire errno body unique)
 unfolding wire wire_head
-len_first errno body unique short =
+len_first laws errno body unique short =
     let len : ℕ = 16 + length body in
     let others : List ℕ = form (number 4 (negated errno) ∷ number 8 unique ∷ []) in
     let rest : List ℕ = others ++ body in
     let parts : wire errno body unique ≡ le 4 len ++ rest = append_assoc (le 4 len) others body in
-    let four : length others ≡ 12 = length-form (number 4 (negated errno) ∷ number 8 unique ∷ []) in
+    let four : length others ≡ 12 = laws.1.form_len (number 4 (negated errno) ∷ number 8 unique ∷ []) in
     let behind : length rest ≡ length others + length body = length-append others body in
     let all : length (wire errno body unique) ≡ length (le 4 len) + length rest = ap (length {A = ℕ}) parts ∙ length-append (le 4 len) rest in
-    let front : length (le 4 len) ≡ 4 = length-le 4 len in
+    let front : length (le 4 len) ≡ 4 = laws.0.len 4 len in
     let size : length (wire errno body unique) ≡ len = omega arith in
     record {
       rest = rest;

@@ -5,14 +5,13 @@ use Rattle.std.proofs.lemmas.Bool.{cases_lt}
 use Rattle.std.proofs.lemmas.List.{append-nil, take_more, take-take, length-append}
 use Rattle.std.proofs.lemmas.List.Sums.{sum_by-cons, sum_by_more, sum_by-take-le}
 use Rattle.fuse_wire.specs.Layout.{form, HasForm}
-use Rattle.fuse_wire.proofs.Layouts.{Lays-form, Lays-length}
+use Rattle.fuse_wire.specs.Laws.{LayoutsStand}
 use Rattle.fuse_answer.specs.Entries.{Entry, IsNamed, dirent_parts, Lists, packed_len, entries_bytes, IsLongest}
-use Rattle.fuse_answer.proofs.Forms.{length-form}
 
-pub length_entries : (es : List Entry) → length (entries_bytes es) ≡ sum_by packed_len es
-length_entries [] = refl
-length_entries (e ∷ es) =
-    omega (arith, length-append (form (dirent_parts e)) (entries_bytes es), length-form (dirent_parts e), sum_by-cons packed_len e es, length_entries es)
+pub length_entries : LayoutsStand → (es : List Entry) → length (entries_bytes es) ≡ sum_by packed_len es
+length_entries laws [] = refl
+length_entries laws (e ∷ es) =
+    omega (arith, length-append (form (dirent_parts e)) (entries_bytes es), laws.form_len (dirent_parts e), sum_by-cons packed_len e es, length_entries laws es)
 
 -- the first n entries are put, and fit
 pub record Filled (es : List Entry) (size n : ℕ) (body : List ℕ) : Type 0 where
@@ -37,13 +36,13 @@ lists-append (e ∷ es) fs a b h g =
 pub filled_none : (es : List Entry) (size : ℕ) (body : List ℕ) → body ≡ [] → Filled es size 0 body
 filled_none es size body e = record { bytes = e; lists = e; len = ap length e; fits = omega (arith, ap length e) }
 
-pub filled_more : (es : List Entry) (size n : ℕ) (body new : List ℕ) (e : Entry) → n < length es → get_or es n e ≡ e → Filled es size n body
+pub filled_more : LayoutsStand → (es : List Entry) (size n : ℕ) (body new : List ℕ) (e : Entry) → n < length es → get_or es n e ≡ e → Filled es size n body
     → IsNamed e → HasForm (dirent_parts e) → packed_len e ≤ size - length body → new ≡ body ++ form (dirent_parts e) → Filled es size (n + 1) new
-filled_more es size n body new e within is f named has room put =
+filled_more laws es size n body new e within is f named has room put =
     let more : take (n + 1) es ≡ take n es ++ e ∷ [] = take_more es n e within ∙ ap (λ (x : Entry). take n es ++ x ∷ []) is in
     let b : List ℕ = form (dirent_parts e) in
-    let laid = Lays-form (dirent_parts e) has in
-    let len : length b ≡ packed_len e = omega (arith, Lays-length (dirent_parts e) b laid) in
+    let laid = laws.formed (dirent_parts e) has in
+    let len : length b ≡ packed_len e = omega (arith, laws.len (dirent_parts e) b laid) in
     let one : Lists (e ∷ []) b = ([], record { front = b; whole = sym (append-nil b); named = named; laid = laid }, refl) in
     let total = sum_by_more packed_len es n e within ∙ ap (λ (x : Entry). sum_by packed_len (take n es) + packed_len x) is in
     record {

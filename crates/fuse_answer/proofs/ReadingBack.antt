@@ -7,7 +7,7 @@ use Rattle.std.proofs.lemmas.Int.{of_z-to_z}
 use Rattle.std.proofs.lemmas.List.{append-nil, length-replicate, length-drop, nil_from_length}
 use Rattle.fuse_wire.specs.Bytes.{le, number_of, IsBytes}
 use Rattle.fuse_wire.specs.Layout.{Part, number, unused, text, bytes, Lays, form}
-use Rattle.fuse_wire.proofs.Numbers.{length-le, number_of-le, number_front}
+use Rattle.fuse_wire.specs.Laws.{NumbersRead, LayoutsStand}
 use Rattle.fuse_answer.specs.declared.init_out.InitOut.{InitOut}
 use Rattle.fuse_answer.specs.declared.records.Attr.{Attr}
 use Rattle.fuse_answer.specs.declared.records.AttrOut.{AttrOut}
@@ -39,16 +39,16 @@ le_small w n = low_small 0 w n
 low : ℕ → ℕ → ℕ
 low w n = number_of w (le w n)
 
-low_is : (w n : ℕ) → (low w n < 256 ^ w) × (le w (low w n) ≡ le w n)
+low_is : NumbersRead → (w n : ℕ) → (low w n < 256 ^ w) × (le w (low w n) ≡ le w n)
 unfolding low
-low_is w n =
-    let front = number_front w (le w n) (omega (arith, length-le w n)) (le_small w n) in
-    let none : drop w (le w n) ≡ [] = nil_from_length (drop w (le w n)) (omega (arith, length-drop w (le w n), length-le w n)) in
+low_is laws w n =
+    let front = laws.front w (le w n) (omega (arith, laws.len w n)) (le_small w n) in
+    let none : drop w (le w n) ≡ [] = nil_from_length (drop w (le w n)) (omega (arith, length-drop w (le w n), laws.len w n)) in
     (front.0, sym (front.1 ∙ ap (λ (x : List ℕ). le w (number_of w (le w n)) ++ x) none ∙ append-nil (le w (number_of w (le w n)))))
 
-low_same : (w n : ℕ) → n < 256 ^ w → low w n ≡ n
+low_same : NumbersRead → (w n : ℕ) → n < 256 ^ w → low w n ≡ n
 unfolding low
-low_same w n fits = ap (number_of w) (sym (append-nil (le w n))) ∙ number_of-le w n [] fits
+low_same laws w n fits = ap (number_of w) (sym (append-nil (le w n))) ∙ laws.read w n [] fits
 
 -- ---- parts as they are read
 
@@ -66,13 +66,13 @@ HasNoText (unused w ∷ ps) = HasNoText ps
 HasNoText (text t ∷ ps) = ⊥
 HasNoText (bytes xs ∷ ps) = HasNoText ps
 
-lays : (ps : List Part) → HasNoText ps → Lays (lowered ps) (form ps)
+lays : NumbersRead → (ps : List Part) → HasNoText ps → Lays (lowered ps) (form ps)
 unfolding lowered HasNoText
-lays [] h = refl
-lays (number w n ∷ ps) h = (form ps, (low_is w n).0, ap (λ (x : List ℕ). x ++ form ps) (sym (low_is w n).1), lays ps h)
-lays (unused w ∷ ps) h = (replicate w 0, form ps, length-replicate w 0, refl, lays ps h)
-lays (text t ∷ ps) h = absurd h
-lays (bytes xs ∷ ps) h = (form ps, refl, lays ps h)
+lays laws [] h = refl
+lays laws (number w n ∷ ps) h = (form ps, (low_is laws w n).0, ap (λ (x : List ℕ). x ++ form ps) (sym (low_is laws w n).1), lays laws ps h)
+lays laws (unused w ∷ ps) h = (replicate w 0, form ps, length-replicate w 0, refl, lays laws ps h)
+lays laws (text t ∷ ps) h = absurd h
+lays laws (bytes xs ∷ ps) h = (form ps, refl, lays laws ps h)
 
 -- ---- the records
 
@@ -96,10 +96,10 @@ low_attr a = record {
   flags = low 4 a.flags;
 }
 
-pub entry_body : (e : EntryOut) → IsBody AnEntry (entry_bytes e)
+pub entry_body : NumbersRead → (e : EntryOut) → IsBody AnEntry (entry_bytes e)
 unfolding entry_bytes lowered HasNoText low_attr
-entry_body e =
-    let read : EntryOut = record {
+entry_body laws e =
+    let back : EntryOut = record {
       nodeid = low 8 e.nodeid;
       generation = low 8 e.generation;
       entry_valid = low 8 e.entry_valid;
@@ -108,22 +108,22 @@ entry_body e =
       attr_valid_nsec = low 4 e.attr_valid_nsec;
       attr = low_attr e.attr;
     } in
-    (of_entry read, record { of_kind = refl; laid = lays (entry_parts e) tt; proper = tt })
+    (of_entry back, record { of_kind = refl; laid = lays laws (entry_parts e) tt; proper = tt })
 
-pub attributes_body : (a : AttrOut) → IsBody Attributes (attr_out_bytes a)
+pub attributes_body : NumbersRead → (a : AttrOut) → IsBody Attributes (attr_out_bytes a)
 unfolding attr_out_bytes lowered HasNoText low_attr
-attributes_body a =
-    let read : AttrOut = record { attr_valid = low 8 a.attr_valid; attr_valid_nsec = low 4 a.attr_valid_nsec; attr = low_attr a.attr } in
-    (of_attributes read, record { of_kind = refl; laid = lays (attr_out_parts a) tt; proper = tt })
+attributes_body laws a =
+    let back : AttrOut = record { attr_valid = low 8 a.attr_valid; attr_valid_nsec = low 4 a.attr_valid_nsec; attr = low_attr a.attr } in
+    (of_attributes back, record { of_kind = refl; laid = lays laws (attr_out_parts a) tt; proper = tt })
 
-pub write_body : (w : WriteOut) → IsBody AWrite (write_bytes w)
+pub write_body : NumbersRead → (w : WriteOut) → IsBody AWrite (write_bytes w)
 unfolding write_bytes lowered HasNoText
-write_body w = (of_write (record { size = low 4 w.size }), record { of_kind = refl; laid = lays (write_parts w) tt; proper = tt })
+write_body laws w = (of_write (record { size = low 4 w.size }), record { of_kind = refl; laid = lays laws (write_parts w) tt; proper = tt })
 
-pub init_body : (i : InitOut) → IsBody AnInit (init_bytes i)
+pub init_body : NumbersRead → (i : InitOut) → IsBody AnInit (init_bytes i)
 unfolding init_bytes lowered HasNoText
-init_body i =
-    let read : InitOut = record {
+init_body laws i =
+    let back : InitOut = record {
       major = low 4 i.major;
       minor = low 4 i.minor;
       max_readahead = low 4 i.max_readahead;
@@ -137,16 +137,16 @@ init_body i =
       flags2 = low 4 i.flags2;
       max_stack_depth = low 4 i.max_stack_depth;
     } in
-    (of_init read, record { of_kind = refl; laid = lays (init_parts i) tt; proper = tt })
+    (of_init back, record { of_kind = refl; laid = lays laws (init_parts i) tt; proper = tt })
 
-pub open_body : (o : OpenOut) → IsBody AnOpen (open_bytes o)
+pub open_body : NumbersRead → (o : OpenOut) → IsBody AnOpen (open_bytes o)
 unfolding open_bytes lowered HasNoText
-open_body o =
+open_body laws o =
     let bits : ℕ = low 4 (cast_unsigned w32 o.backing_id) in
-    let few = (low_is 4 (cast_unsigned w32 o.backing_id)).0 in
+    let few = (low_is laws 4 (cast_unsigned w32 o.backing_id)).0 in
     let same : of_z w32 (to_z w32 bits) ≡ bits = of_z-to_z w32 bits (omega (arith, few)) in
-    let read : OpenOut = record { fh = low 8 o.fh; open_flags = low 4 o.open_flags; backing_id = to_z w32 bits } in
-    (of_open read, record { of_kind = refl; laid = rw same (lays (open_parts o) tt); proper = search rules })
+    let back : OpenOut = record { fh = low 8 o.fh; open_flags = low 4 o.open_flags; backing_id = to_z w32 bits } in
+    (of_open back, record { of_kind = refl; laid = rw same (lays laws (open_parts o) tt); proper = search rules })
 
 -- ---- the entries of a directory
 
@@ -157,26 +157,26 @@ low_entries : List Entry → List Entry
 low_entries [] = []
 low_entries (e ∷ es) = low_entry e ∷ low_entries es
 
-dirent_lays : (e : Entry) → length e.name ≤ 255 → Lays (dirent_parts (low_entry e)) (form (dirent_parts e))
+dirent_lays : NumbersRead → (e : Entry) → length e.name ≤ 255 → Lays (dirent_parts (low_entry e)) (form (dirent_parts e))
 unfolding lowered HasNoText low_entry
-dirent_lays e few =
-    let same : low 4 (length e.name) ≡ length e.name = low_same 4 (length e.name) (omega (arith, few)) in
-    rw same at (lays (dirent_parts e) tt)
+dirent_lays laws e few =
+    let same : low 4 (length e.name) ≡ length e.name = low_same laws 4 (length e.name) (omega (arith, few)) in
+    rw same at (lays laws (dirent_parts e) tt)
 
-lists : (es : List Entry) → AllByRecursion IsNamed es → Lists (low_entries es) (entries_bytes es)
+lists : NumbersRead → (es : List Entry) → AllByRecursion IsNamed es → Lists (low_entries es) (entries_bytes es)
 unfolding low_entries low_entry
-lists [] named = refl
-lists (e ∷ es) named = (entries_bytes es, record { front = form (dirent_parts e); whole = refl; named = named.0; laid = dirent_lays e named.0.1 }, lists es named.1)
+lists laws [] named = refl
+lists laws (e ∷ es) named = (entries_bytes es, record { front = form (dirent_parts e); whole = refl; named = named.0; laid = dirent_lays laws e named.0.1 }, lists laws es named.1)
 
-pub listing_body : (es : List Entry) → AllByRecursion IsNamed es → IsBody Directory (entries_bytes es)
-listing_body es named =
+pub listing_body : NumbersRead → (es : List Entry) → AllByRecursion IsNamed es → IsBody Directory (entries_bytes es)
+listing_body laws es named =
     let b : List ℕ = entries_bytes es in
-    (of_directory b, record { of_kind = refl; laid = ([], sym (append-nil b), refl); proper = (low_entries es, lists es named) })
+    (of_directory b, record { of_kind = refl; laid = ([], sym (append-nil b), refl); proper = (low_entries es, lists laws es named) })
 
 -- ---- whole answers
 
-pub read : (opcode : ℕ) (a : Said) → FitsAnswer a → IsOfKind (kind_of opcode) a → IsRead opcode a
-read opcode a fits (inl is) unique small =
-    (is.1.0, record { body = a.body; whole = refl; len = (len_first a.errno a.body unique fits.short).fits; unique = small; said = inl (is.0, is.1.1) })
-read opcode a fits (inr is) unique small =
-    (of_nothing, record { body = a.body; whole = refl; len = (len_first a.errno a.body unique fits.short).fits; unique = small; said = inr (is.0, is.1, refl, is.2) })
+pub read : (NumbersRead × LayoutsStand) → (opcode : ℕ) (a : Said) → FitsAnswer a → IsOfKind (kind_of opcode) a → IsRead opcode a
+read laws opcode a fits (inl is) unique small =
+    (is.1.0, record { body = a.body; whole = refl; len = (len_first laws a.errno a.body unique fits.short).fits; unique = small; said = inl (is.0, is.1.1) })
+read laws opcode a fits (inr is) unique small =
+    (of_nothing, record { body = a.body; whole = refl; len = (len_first laws a.errno a.body unique fits.short).fits; unique = small; said = inr (is.0, is.1, refl, is.2) })

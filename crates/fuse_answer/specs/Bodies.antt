@@ -16,9 +16,13 @@ abbrev pub numbers : ℕ → List ℕ → List Part
 numbers w [] = []
 numbers w (n ∷ ns) = number w n ∷ numbers w ns
 
+-- of a header: its length, the bits of its error, and its unique
+abbrev pub head_parts : ℕ → ℕ → ℕ → List Part
+head_parts len error unique = number 4 len ∷ number 4 error ∷ number 8 unique ∷ []
+
 -- the error in two's complement
 abbrev pub header_parts : OutHeader → List Part
-header_parts h = number 4 h.len ∷ number 4 (cast_unsigned w32 h.error) ∷ number 8 h.unique ∷ []
+header_parts h = head_parts h.len (cast_unsigned w32 h.error) h.unique
 
 abbrev pub attr_parts : Attr → List Part
 attr_parts a =

@@ -2,8 +2,8 @@
 use Rattle.std.specs.Prelude.{◌≡◌, ◌<◌, ◌≤◌, ◌+◌, ◌-◌, ◌%◌, ℕ, List, [], ◌∷◌, ◌++◌, length, take}
 use Rattle.std.specs.List.{sum_by}
 use Rattle.fuse_wire.specs.Layout.{Part, number, unused, bytes, Lays, form}
-use Rattle.fuse_answer.specs.declared.dirent.TheConstants.{MAX_NAME}
-use Rattle.fuse_answer.specs.declared.dirent.TheConstants.Dirent.{NAME_AT}
+use Rattle.fuse_wire.specs.Bounds.{max_name_len}
+use Rattle.fuse_answer.specs.Sizes.{dirent_name_offset}
 use Rattle.fuse_answer.specs.declared.dirent.Dirent.{Dirent}
 
 -- an entry without where its name lies in memory
@@ -18,7 +18,7 @@ entry_of d = record { ino = d.ino; off = d.off; kind = d.kind; name = d.name.now
 
 -- a name has 1 to 255 bytes
 abbrev pub IsNamed : Entry → Type 0
-IsNamed e = (1 ≤ length e.name) × (length e.name ≤ MAX_NAME)
+IsNamed e = (1 ≤ length e.name) × (length e.name ≤ max_name_len)
 
 -- what n bytes lack to a multiple of 8
 abbrev pub padding : ℕ → ℕ
@@ -47,7 +47,7 @@ IsListing b = (es : List Entry) × Lists es b
 
 -- how many bytes an entry takes whose name has n
 abbrev pub entry_len : ℕ → ℕ
-entry_len n = NAME_AT + (n + padding n)
+entry_len n = dirent_name_offset + (n + padding n)
 
 abbrev pub packed_len : Entry → ℕ
 packed_len e = entry_len (length e.name)

@@ -2,8 +2,8 @@
 use Rattle.std.specs.Prelude.{◌==◌, ℕ, zero, suc, nat_lt, if◌then◌else◌, List, [], ◌∷◌, length, take, drop, Option, Some, None}
 use Rattle.std.specs.Option.{option_map_or}
 use Rattle.fuse_wire.specs.Bytes.{number_of}
-use Rattle.fuse_answer.specs.declared.dirent.TheConstants.{MAX_NAME}
-use Rattle.fuse_answer.specs.declared.dirent.TheConstants.Dirent.{NAME_AT}
+use Rattle.fuse_wire.specs.Bounds.{max_name_len}
+use Rattle.fuse_answer.specs.Sizes.{dirent_name_offset}
 use Rattle.fuse_answer.specs.declared.unpacking.Dirents.{Dirents}
 use Rattle.fuse_answer.specs.Entries.{Entry, entry_len}
 
@@ -15,15 +15,15 @@ entry_at b = record {
   ino = number_of 8 b;
   off = number_of 8 (drop 8 b);
   kind = number_of 4 (drop 20 b);
-  name = take (name_len b) (drop NAME_AT b);
+  name = take (name_len b) (drop dirent_name_offset b);
 }
 
 -- the entry and what follows it, where a whole one stands there
 abbrev pub front_of : List ℕ → Option (Entry × List ℕ)
 front_of b =
-    if nat_lt (length b) NAME_AT then None
+    if nat_lt (length b) dirent_name_offset then None
     else if name_len b == 0 then None
-    else if nat_lt MAX_NAME (name_len b) then None
+    else if nat_lt max_name_len (name_len b) then None
     else if nat_lt (length b) (entry_len (name_len b)) then None
     else Some (entry_at b, drop (entry_len (name_len b)) b)
 

@@ -2,17 +2,13 @@
 use Rattle.std.specs.Prelude.{◌≡◌, ◌<◌, ◌≤◌, ◌+◌, ◌^◌, ℕ, List, ◌++◌, length}
 use Rattle.std.specs.List.{AllByRecursion, sum_by}
 use Rattle.fuse_wire.specs.Bytes.{le}
-use Rattle.fuse_answer.specs.declared.answer.TheConstants.{MAX_BODY}
+use Rattle.fuse_wire.specs.Bounds.{max_body_len}
 use Rattle.fuse_answer.specs.declared.init_out.InitOut.{InitOut}
-use Rattle.fuse_answer.specs.declared.init_out.TheConstants.InitOut.{SIZE as INIT_SIZE}
+use Rattle.fuse_answer.specs.Sizes.{init_out_size, attr_out_size, entry_out_size, open_out_size, write_out_size}
 use Rattle.fuse_answer.specs.declared.records.AttrOut.{AttrOut}
 use Rattle.fuse_answer.specs.declared.records.EntryOut.{EntryOut}
 use Rattle.fuse_answer.specs.declared.records.OpenOut.{OpenOut}
 use Rattle.fuse_answer.specs.declared.records.WriteOut.{WriteOut}
-use Rattle.fuse_answer.specs.declared.records.TheConstants.AttrOut.{SIZE as ATTR_OUT_SIZE}
-use Rattle.fuse_answer.specs.declared.records.TheConstants.EntryOut.{SIZE as ENTRY_SIZE}
-use Rattle.fuse_answer.specs.declared.records.TheConstants.OpenOut.{SIZE as OPEN_SIZE}
-use Rattle.fuse_answer.specs.declared.records.TheConstants.WriteOut.{SIZE as WRITE_SIZE}
 use Rattle.fuse_answer.specs.Bodies.{entry_bytes, attr_out_bytes, open_bytes, write_bytes, init_bytes}
 use Rattle.fuse_answer.specs.Entries.{Entry, IsNamed, packed_len, entries_bytes}
 use Rattle.fuse_answer.specs.Replies.{AnEntry, Attributes, AnOpen, AWrite, AnInit, Directory, kind_of, IsBody, IsRead, IsOfKind}
@@ -28,16 +24,16 @@ pub record BeginsWithLen (b : List ℕ) : Type 0 where
 
 -- so does every answer whose body is as short as bodies are
 abbrev pub LenStandsFirst : Type 0
-LenStandsFirst = (errno : ℕ) (body : List ℕ) (unique : ℕ) → length body ≤ MAX_BODY → BeginsWithLen (wire errno body unique)
+LenStandsFirst = (errno : ℕ) (body : List ℕ) (unique : ℕ) → length body ≤ max_body_len → BeginsWithLen (wire errno body unique)
 
 -- the records have the sizes of fuse.h, and entries of a directory take what they take together
 abbrev pub RecordSizes : Type 0
 RecordSizes =
-    ((e : EntryOut) → length (entry_bytes e) ≡ ENTRY_SIZE)
-    × ((a : AttrOut) → length (attr_out_bytes a) ≡ ATTR_OUT_SIZE)
-    × ((o : OpenOut) → length (open_bytes o) ≡ OPEN_SIZE)
-    × ((w : WriteOut) → length (write_bytes w) ≡ WRITE_SIZE)
-    × ((i : InitOut) → length (init_bytes i) ≡ INIT_SIZE)
+    ((e : EntryOut) → length (entry_bytes e) ≡ entry_out_size)
+    × ((a : AttrOut) → length (attr_out_bytes a) ≡ attr_out_size)
+    × ((o : OpenOut) → length (open_bytes o) ≡ open_out_size)
+    × ((w : WriteOut) → length (write_bytes w) ≡ write_out_size)
+    × ((i : InitOut) → length (init_bytes i) ≡ init_out_size)
     × ((es : List Entry) → length (entries_bytes es) ≡ sum_by packed_len es)
 
 -- what fits and is of the opcode's kind is read; each record is a body of its kind, and so are entries whose names are

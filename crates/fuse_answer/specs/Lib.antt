@@ -1,3 +1,4 @@
+pub mod Sizes
 pub mod Said
 pub mod Bodies
 pub mod Wire

@@ -1,11 +1,12 @@
 -- What a server tells the kernel without being asked (fuse.h: fuse_out_header, fuse_notify_code).
-use Rattle.std.specs.Prelude.{ℕ, List, [], ◌∷◌}
-use Rattle.fuse_wire.specs.Layout.{number, form}
-use Rattle.fuse_answer.specs.declared.records.TheConstants.OutHeader.{SIZE}
+use Rattle.std.specs.Prelude.{ℕ, List}
+use Rattle.fuse_wire.specs.Layout.{form}
+use Rattle.fuse_answer.specs.Bodies.{head_parts}
+use Rattle.fuse_answer.specs.Sizes.{out_header_size}
 
 -- a header alone, with the code of the notice where an answer has its error, and no request's unique
 abbrev pub notice_bytes : ℕ → List ℕ
-notice_bytes code = form (number 4 SIZE ∷ number 4 code ∷ number 8 0 ∷ [])
+notice_bytes code = form (head_parts out_header_size code 0)
 
 -- FUSE_NOTIFY_RESEND: send the pending requests again
 abbrev pub notify_resend : ℕ

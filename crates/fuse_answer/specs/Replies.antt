@@ -3,19 +3,14 @@ use Rattle.std.specs.Prelude.{◌≡◌, ◌≢◌, ◌<◌, ◌≤◌, ◌^◌,
 use Rattle.std.specs.Int.{w32}
 use Rattle.fuse_wire.specs.Bytes.{number_of}
 use Rattle.fuse_wire.specs.Layout.{Part, bytes, Lays}
-use Rattle.fuse_wire.specs.declared.opcode.TheConstants.{LOOKUP, GETATTR, SETATTR, MKNOD, MKDIR, UNLINK, RMDIR, RENAME, OPEN, READ, WRITE, RELEASE, INIT, OPENDIR, READDIR, RELEASEDIR, DESTROY, RENAME2}
+use Rattle.fuse_wire.specs.Opcodes.{fuse_lookup, fuse_getattr, fuse_setattr, fuse_mknod, fuse_mkdir, fuse_unlink, fuse_rmdir, fuse_rename, fuse_open, fuse_read, fuse_write, fuse_release, fuse_init, fuse_opendir, fuse_readdir, fuse_releasedir, fuse_destroy, fuse_rename2}
 use Rattle.fuse_answer.specs.declared.records.EntryOut.{EntryOut}
 use Rattle.fuse_answer.specs.declared.records.AttrOut.{AttrOut}
 use Rattle.fuse_answer.specs.declared.records.OpenOut.{OpenOut}
 use Rattle.fuse_answer.specs.declared.records.WriteOut.{WriteOut}
 use Rattle.fuse_answer.specs.declared.init_out.InitOut.{InitOut}
-use Rattle.fuse_answer.specs.declared.records.TheConstants.OutHeader.{SIZE as HEADER_SIZE}
-use Rattle.fuse_answer.specs.declared.records.TheConstants.EntryOut.{SIZE as ENTRY_SIZE}
-use Rattle.fuse_answer.specs.declared.records.TheConstants.AttrOut.{SIZE as ATTR_OUT_SIZE}
-use Rattle.fuse_answer.specs.declared.records.TheConstants.OpenOut.{SIZE as OPEN_SIZE}
-use Rattle.fuse_answer.specs.declared.records.TheConstants.WriteOut.{SIZE as WRITE_SIZE}
-use Rattle.fuse_answer.specs.declared.init_out.TheConstants.InitOut.{SIZE as INIT_SIZE}
-use Rattle.fuse_answer.specs.declared.reply.TheConstants.{MAX_ERRNO}
+use Rattle.fuse_answer.specs.Sizes.{out_header_size, entry_out_size, attr_out_size, open_out_size, write_out_size, init_out_size}
+use Rattle.fuse_wire.specs.Bounds.{max_error_number}
 use Rattle.fuse_answer.specs.declared.reply.Reply.{Reply}
 use Rattle.fuse_answer.specs.declared.reply.ReplyBody.{ReplyBody}
 use Rattle.fuse_answer.specs.declared.reply.ReplyBody.TheVariants as bodies
@@ -41,24 +36,24 @@ pub data Kind : Type 0 where
 -- which kind the answer to an opcode has, where it is no error
 abbrev pub kind_of : ℕ → Kind
 kind_of opcode =
-    if opcode == LOOKUP || (opcode == MKNOD || opcode == MKDIR) then AnEntry
-    else if opcode == GETATTR || opcode == SETATTR then Attributes
-    else if opcode == OPEN || opcode == OPENDIR then AnOpen
-    else if opcode == READ then Data
-    else if opcode == WRITE then AWrite
-    else if opcode == INIT then AnInit
-    else if opcode == READDIR then Directory
-    else if opcode == UNLINK || (opcode == RMDIR || (opcode == RENAME || opcode == RENAME2)) then Nothing
-    else if opcode == RELEASE || (opcode == RELEASEDIR || opcode == DESTROY) then Nothing
+    if opcode == fuse_lookup || (opcode == fuse_mknod || opcode == fuse_mkdir) then AnEntry
+    else if opcode == fuse_getattr || opcode == fuse_setattr then Attributes
+    else if opcode == fuse_open || opcode == fuse_opendir then AnOpen
+    else if opcode == fuse_read then Data
+    else if opcode == fuse_write then AWrite
+    else if opcode == fuse_init then AnInit
+    else if opcode == fuse_readdir then Directory
+    else if opcode == fuse_unlink || (opcode == fuse_rmdir || (opcode == fuse_rename || opcode == fuse_rename2)) then Nothing
+    else if opcode == fuse_release || (opcode == fuse_releasedir || opcode == fuse_destroy) then Nothing
     else Unknown
 
 -- how many bytes a body of a kind has, where that is fixed
 abbrev pub size_of : Kind → Option ℕ
-size_of AnEntry = Some ENTRY_SIZE
-size_of Attributes = Some ATTR_OUT_SIZE
-size_of AnOpen = Some OPEN_SIZE
-size_of AWrite = Some WRITE_SIZE
-size_of AnInit = Some INIT_SIZE
+size_of AnEntry = Some entry_out_size
+size_of Attributes = Some attr_out_size
+size_of AnOpen = Some open_out_size
+size_of AWrite = Some write_out_size
+size_of AnInit = Some init_out_size
 size_of Nothing = Some 0
 size_of _ = None
 
@@ -136,7 +131,7 @@ told r = record { unique = r.unique; errno = r.errno.0; content = content r.body
 abbrev pub IsOf : ℕ → Told → List ℕ → Type 0
 IsOf opcode t body =
     ((t.errno ≡ 0) × Holds (kind_of opcode) t.content body)
-    ⊎ ((t.errno ≢ 0) × (t.errno ≤ MAX_ERRNO) × (t.content ≡ of_nothing) × (body ≡ []))
+    ⊎ ((t.errno ≢ 0) × (t.errno ≤ max_error_number) × (t.content ≡ of_nothing) × (body ≡ []))
 
 -- the message answers a request of this opcode, and says t
 pub record Answers (opcode : ℕ) (t : Told) (message : List ℕ) : Type 0 where
@@ -152,7 +147,7 @@ IsRead opcode a = (unique : ℕ) → unique < 2 ^ 64 → (c : Content) × Answer
 
 -- an error and no body, or no error and a body of the kind
 abbrev pub IsOfKind : Kind → Said → Type 0
-IsOfKind kind a = ((a.errno ≡ 0) × IsBody kind a.body) ⊎ ((a.errno ≢ 0) × (a.errno ≤ MAX_ERRNO) × (a.body ≡ []))
+IsOfKind kind a = ((a.errno ≡ 0) × IsBody kind a.body) ⊎ ((a.errno ≢ 0) × (a.errno ≤ max_error_number) × (a.body ≡ []))
 
 -- there is a size, and the length is another
 abbrev pub IsOtherThan : Option ℕ → ℕ → Type 0
@@ -171,12 +166,12 @@ errno_in b = negated (number_of 4 (drop 4 b))
 
 -- there is a header, and it tells the number of bytes
 abbrev pub IsMeasured : List ℕ → Type 0
-IsMeasured b = (HEADER_SIZE ≤ length b) × (number_of 4 b ≡ length b)
+IsMeasured b = (out_header_size ≤ length b) × (number_of 4 b ≡ length b)
 
 -- what is wrong with bytes that are no answer to an opcode: the first fault in the order of BadAnswer (own)
 abbrev pub FirstFault : ℕ → List ℕ → BadAnswer → Type 0
-FirstFault opcode b Short = length b < HEADER_SIZE
-FirstFault opcode b LenDiffers = (HEADER_SIZE ≤ length b) × (number_of 4 b ≢ length b)
-FirstFault opcode b ErrorRange = IsMeasured b × (MAX_ERRNO < errno_in b)
-FirstFault opcode b BodyAfterError = IsMeasured b × (errno_in b ≢ 0) × (errno_in b ≤ MAX_ERRNO) × (drop HEADER_SIZE b ≢ [])
-FirstFault opcode b m = IsMeasured b × (errno_in b ≡ 0) × BodyFault (kind_of opcode) (drop HEADER_SIZE b) m
+FirstFault opcode b Short = length b < out_header_size
+FirstFault opcode b LenDiffers = (out_header_size ≤ length b) × (number_of 4 b ≢ length b)
+FirstFault opcode b ErrorRange = IsMeasured b × (max_error_number < errno_in b)
+FirstFault opcode b BodyAfterError = IsMeasured b × (errno_in b ≢ 0) × (errno_in b ≤ max_error_number) × (drop out_header_size b ≢ [])
+FirstFault opcode b m = IsMeasured b × (errno_in b ≡ 0) × BodyFault (kind_of opcode) (drop out_header_size b) m

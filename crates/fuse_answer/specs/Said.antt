@@ -1,6 +1,6 @@
 -- What an answer says (own profile: its bounds).
 use Rattle.std.specs.Prelude.{◌≡◌, ◌≢◌, ◌≤◌, ℕ, List, [], length}
-use Rattle.fuse_answer.specs.declared.answer.TheConstants.{MAX_BODY}
+use Rattle.fuse_wire.specs.Bounds.{max_body_len}
 
 pub record Said : Type 0 where
   pub errno : ℕ
@@ -9,4 +9,4 @@ pub record Said : Type 0 where
 -- an error has no body, and a body is no longer than the largest READ
 pub record FitsAnswer (a : Said) : Type 0 where
   pub refusal : a.errno ≢ 0 → a.body ≡ []
-  pub short : length a.body ≤ MAX_BODY
+  pub short : length a.body ≤ max_body_len

@@ -2,7 +2,7 @@
 use Rattle.std.specs.Prelude.{◌≡◌, ℕ, List, [], ◌∷◌, ◌++◌, pos, negsuc, replicate, codes}
 use Rattle.fuse_wire.specs.Bytes.{le}
 use Rattle.fuse_wire.specs.Hex.{hex}
-use Rattle.fuse_wire.specs.declared.errno.TheConstants.Errno.{ENOENT, EBADF, EEXIST, ENOTDIR, EISDIR, EINVAL, ENFILE, EFBIG, ENOSPC, ENAMETOOLONG, ENOSYS, ENOTEMPTY, EPROTO, ESTALE}
+use Rattle.fuse_wire.specs.Errnos.{enoent, ebadf, eexist, enotdir, eisdir, einval, enfile, efbig, enospc, enametoolong, enosys, enotempty, eproto, estale}
 use Rattle.fuse_answer.specs.declared.records.Attr.{Attr}
 use Rattle.fuse_answer.specs.declared.records.EntryOut.{EntryOut}
 use Rattle.fuse_answer.specs.declared.records.AttrOut.{AttrOut}
@@ -15,20 +15,20 @@ use Rattle.fuse_answer.specs.Notice.{resend_bytes}
 -- the error field of each refusal
 abbrev pub ErrorFields : Type 0
 ErrorFields =
-    (le 4 (negated ENOENT.0) ≡ hex (codes "feffffff"))
-    × (le 4 (negated EBADF.0) ≡ hex (codes "f7ffffff"))
-    × (le 4 (negated EEXIST.0) ≡ hex (codes "efffffff"))
-    × (le 4 (negated ENOTDIR.0) ≡ hex (codes "ecffffff"))
-    × (le 4 (negated EISDIR.0) ≡ hex (codes "ebffffff"))
-    × (le 4 (negated EINVAL.0) ≡ hex (codes "eaffffff"))
-    × (le 4 (negated ENFILE.0) ≡ hex (codes "e9ffffff"))
-    × (le 4 (negated EFBIG.0) ≡ hex (codes "e5ffffff"))
-    × (le 4 (negated ENOSPC.0) ≡ hex (codes "e4ffffff"))
-    × (le 4 (negated ENAMETOOLONG.0) ≡ hex (codes "dcffffff"))
-    × (le 4 (negated ENOSYS.0) ≡ hex (codes "daffffff"))
-    × (le 4 (negated ENOTEMPTY.0) ≡ hex (codes "d9ffffff"))
-    × (le 4 (negated EPROTO.0) ≡ hex (codes "b9ffffff"))
-    × (le 4 (negated ESTALE.0) ≡ hex (codes "8cffffff"))
+    (le 4 (negated enoent.0) ≡ hex (codes "feffffff"))
+    × (le 4 (negated ebadf.0) ≡ hex (codes "f7ffffff"))
+    × (le 4 (negated eexist.0) ≡ hex (codes "efffffff"))
+    × (le 4 (negated enotdir.0) ≡ hex (codes "ecffffff"))
+    × (le 4 (negated eisdir.0) ≡ hex (codes "ebffffff"))
+    × (le 4 (negated einval.0) ≡ hex (codes "eaffffff"))
+    × (le 4 (negated enfile.0) ≡ hex (codes "e9ffffff"))
+    × (le 4 (negated efbig.0) ≡ hex (codes "e5ffffff"))
+    × (le 4 (negated enospc.0) ≡ hex (codes "e4ffffff"))
+    × (le 4 (negated enametoolong.0) ≡ hex (codes "dcffffff"))
+    × (le 4 (negated enosys.0) ≡ hex (codes "daffffff"))
+    × (le 4 (negated enotempty.0) ≡ hex (codes "d9ffffff"))
+    × (le 4 (negated eproto.0) ≡ hex (codes "b9ffffff"))
+    × (le 4 (negated estale.0) ≡ hex (codes "8cffffff"))
 
 -- headers alone: LOOKUP of a name that isn't there, and the notice that asks for a resend
 abbrev pub Headers : Type 0
@@ -40,9 +40,9 @@ Headers =
 -- refusals, of requests and of a resend
 abbrev pub Refusals : Type 0
 Refusals =
-    (wire ENOENT.0 [] 4 ≡ hex (codes "10000000 feffffff 0400000000000000"))
-    × (wire ENOENT.0 [] 0x8000000000000004 ≡ hex (codes "10000000 feffffff 0400000000000080"))
-    × (wire EPROTO.0 [] 2 ≡ hex (codes "10000000 b9ffffff 0200000000000000"))
+    (wire enoent.0 [] 4 ≡ hex (codes "10000000 feffffff 0400000000000000"))
+    × (wire enoent.0 [] 0x8000000000000004 ≡ hex (codes "10000000 feffffff 0400000000000080"))
+    × (wire eproto.0 [] 2 ≡ hex (codes "10000000 b9ffffff 0200000000000000"))
 
 -- READ of three bytes, its resend, and the header alone
 abbrev pub Reads : Type 0

@@ -1,5 +1,5 @@
 ghost use Rattle.std.specs.Prelude.{◌≡◌, ◌≤◌, [], length, IfOk};
-ghost use Rattle.fuse_answer.specs.declared.answer.TheConstants.{MAX_BODY as max_body};
+ghost use Rattle.fuse_wire.specs.Bounds.{max_body_len};
 
 use fuse_wire::{ByteList, Errno, Memory};
 use std::alloc::Global;
@@ -39,7 +39,7 @@ impl Answer {
 
     /// This body, and no error.
     pub fn success(body: ByteList) -> Answer
-        requires { length body ≤ max_body }
+        requires { length body ≤ max_body_len }
         ensures { result ≡ record { errno = 0; body = body } }
     {
         Answer {

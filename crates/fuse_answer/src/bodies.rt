@@ -1,9 +1,10 @@
 // Bodies by their places.
 ghost use Rattle.std.specs.Prelude.{◌≡◌, length};
 ghost use Rattle.fuse_wire.specs.Layout.{Lays};
-ghost use Rattle.fuse_answer.specs.declared.records.TheConstants.Attr.{SIZE as ATTR_SIZE};
+ghost use Rattle.fuse_answer.specs.Sizes.{attr_size};
 ghost use Rattle.fuse_answer.specs.Bodies.{attr_parts};
-ghost use Rattle.fuse_answer.specs.Replies.{kind_of, AnEntry, Attributes, AnOpen, AWrite, AnInit, Directory, Nothing as NothingKind};
+ghost use Rattle.fuse_answer.specs.Replies.{kind_of, AnEntry, Attributes, AnOpen, AWrite, AnInit};
+ghost use Rattle.fuse_answer.specs.Replies.{Directory, Nothing as NothingKind};
 ghost use Rattle.fuse_answer.specs.Readers.{Reads};
 
 use crate::init_out::InitOut;
@@ -14,12 +15,13 @@ use fuse_wire::opcode::{
     DESTROY, GETATTR, INIT, LOOKUP, MKDIR, MKNOD, OPEN, OPENDIR, READ, READDIR, RELEASE,
     RELEASEDIR, RENAME, RENAME2, RMDIR, SETATTR, UNLINK, WRITE,
 };
-use fuse_wire::{u16_at, u32_at, u64_at};
+use fuse_wire::{layouts_stand, numbers_read, u16_at, u32_at, u64_at};
 
 fn attr_of(bytes: &[u8]) -> Attr
-    requires { length bytes.now ≡ ATTR_SIZE }
+    requires { length bytes.now ≡ attr_size }
     ensures { Lays (attr_parts result) bytes.now }
 {
+    layouts_stand();
     Attr {
         ino: u64_at(bytes, 0),
         size: u64_at(bytes, 8),
@@ -43,6 +45,8 @@ fn attr_of(bytes: &[u8]) -> Attr
 fn entry_of(body: &[u8]) -> Result<ReplyBody<'_>, BadAnswer>
     ensures { Reads AnEntry body.now result }
 {
+    numbers_read();
+    layouts_stand();
     if body.len() != EntryOut::SIZE {
         return Err(BadAnswer::BodyLength);
     }
@@ -61,6 +65,8 @@ fn entry_of(body: &[u8]) -> Result<ReplyBody<'_>, BadAnswer>
 fn attributes_of(body: &[u8]) -> Result<ReplyBody<'_>, BadAnswer>
     ensures { Reads Attributes body.now result }
 {
+    numbers_read();
+    layouts_stand();
     if body.len() != AttrOut::SIZE {
         return Err(BadAnswer::BodyLength);
     }
@@ -75,6 +81,7 @@ fn attributes_of(body: &[u8]) -> Result<ReplyBody<'_>, BadAnswer>
 fn open_of(body: &[u8]) -> Result<ReplyBody<'_>, BadAnswer>
     ensures { Reads AnOpen body.now result }
 {
+    layouts_stand();
     if body.len() != OpenOut::SIZE {
         return Err(BadAnswer::BodyLength);
     }
@@ -88,6 +95,7 @@ fn open_of(body: &[u8]) -> Result<ReplyBody<'_>, BadAnswer>
 fn write_of(body: &[u8]) -> Result<ReplyBody<'_>, BadAnswer>
     ensures { Reads AWrite body.now result }
 {
+    layouts_stand();
     if body.len() != WriteOut::SIZE {
         return Err(BadAnswer::BodyLength);
     }
@@ -99,6 +107,7 @@ fn write_of(body: &[u8]) -> Result<ReplyBody<'_>, BadAnswer>
 fn init_of(body: &[u8]) -> Result<ReplyBody<'_>, BadAnswer>
     ensures { Reads AnInit body.now result }
 {
+    layouts_stand();
     if body.len() != InitOut::SIZE {
         return Err(BadAnswer::BodyLength);
     }

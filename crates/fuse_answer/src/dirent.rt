@@ -1,5 +1,5 @@
 ghost use Rattle.std.specs.Prelude.{◌≡◌, ◌≤◌};
-ghost use Rattle.fuse_answer.specs.declared.dirent.TheConstants.{MAX_NAME as max_name};
+ghost use Rattle.fuse_wire.specs.Bounds.{max_name_len};
 ghost use Rattle.fuse_answer.specs.Entries.{entry_len, padding as padding_of};
 
 /// The most bytes that a name has.
@@ -29,7 +29,7 @@ pub(crate) fn padding(name_len: usize) -> usize
 
 // How many bytes an entry takes whose name has so many.
 pub(crate) fn packed_len(name_len: usize) -> usize
-    requires { name_len ≤ max_name }
+    requires { name_len ≤ max_name_len }
     ensures { result ≡ entry_len name_len }
 {
     Dirent::NAME_AT + name_len.next_multiple_of(8)

@@ -1,10 +1,10 @@
 ghost use Rattle.std.specs.Prelude.{◌≡◌, ◌++◌, length, OnOk, IfOk};
 ghost use Rattle.fuse_wire.specs.Layout.{HasForm, Lays};
 ghost use Rattle.fuse_answer.specs.Bodies.{init_parts, init_bytes};
-ghost use Rattle.fuse_answer.specs.declared.init_out.TheConstants.InitOut.{SIZE as INIT_SIZE};
+ghost use Rattle.fuse_answer.specs.Sizes.{init_out_size};
 
 use crate::numbers::put_u32s;
-use fuse_wire::{Memory, put_bytes, put_u16};
+use fuse_wire::{Memory, layouts_stand, put_bytes, put_u16};
 use std::alloc::Global;
 
 /// What INIT answers, `fuse_init_out` of `fuse.h`.
@@ -50,9 +50,10 @@ impl InitOut {
     #[tactic(auto, using(crate::proofs::Forms::length_init, crate::proofs::Forms::laid_init))]
     pub fn body_of(&self, alloc: Global) -> Result<Vec<u8>, Memory>
         ensures bytes { IfOk result (λ body. body.items ≡ init_bytes self.now) }
-        ensures size { IfOk result (λ body. length body.items ≡ INIT_SIZE) }
+        ensures size { IfOk result (λ body. length body.items ≡ init_out_size) }
         ensures laid { IfOk result (λ body. Lays (init_parts self.now) body.items) }
     {
+        layouts_stand();
         let mut body = Vec::with_capacity(alloc, InitOut::SIZE)?;
         self.put(&mut body)?;
         Ok(body)

@@ -23,7 +23,7 @@ mod wire;
 pub use answer::{Answer, MAX_BODY};
 pub use dirent::{Dirent, MAX_NAME};
 pub use init_out::InitOut;
-pub use laws::{len_stands_first, read_back, record_sizes};
+pub use laws::{answer_numbers, len_stands_first, read_back, record_sizes};
 pub use notice::{NOTIFY_RESEND, resend_notice};
 pub use packing::{PackFault, Packed, pack};
 pub use records::{Attr, AttrOut, EntryOut, OpenOut, OutHeader, WriteOut};

@@ -4,7 +4,8 @@ ghost use Rattle.fuse_answer.specs.Notice.{resend_bytes};
 
 use crate::records::OutHeader;
 
-/// The code of the notice that asks the kernel to send its pending requests again, `FUSE_NOTIFY_RESEND` of `fuse.h`.
+/// The code of the notice that asks the kernel to send its pending requests again,
+/// `FUSE_NOTIFY_RESEND` of `fuse.h`.
 pub const NOTIFY_RESEND: i32 = 7;
 
 /// The notice that asks the kernel to send its pending requests again. Takes no memory.

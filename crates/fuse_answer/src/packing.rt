@@ -1,10 +1,11 @@
-ghost use Rattle.std.specs.Prelude.{◌≡◌, ◌≤◌, ◌↔◌, ◌++◌, [], Err, All, length, map, take, IsTrue, IfOk, OnOk};
+ghost use Rattle.std.specs.Prelude.{◌≡◌, ◌≤◌, ◌↔◌, ◌++◌, [], Err, All, length, map, take, IsTrue};
+ghost use Rattle.std.specs.Prelude.{IfOk, OnOk};
 ghost use Rattle.fuse_wire.specs.Layout.{form, HasForm};
-ghost use Rattle.fuse_answer.specs.Entries.{entry_of, dirent_parts, entries_bytes, IsNamed, Lists, IsLongest, FirstIsTooBig};
-ghost use Rattle.fuse_answer.specs.declared.packing.PackFault.TheVariants.{FirstTooBig as first_too_big};
+ghost use Rattle.fuse_answer.specs.Entries.{entry_of, dirent_parts, entries_bytes, IsNamed, Lists};
+ghost use Rattle.fuse_answer.specs.Entries.{IsLongest, FirstIsTooBig};
 
 use crate::dirent::{Dirent, packed_len, padding};
-use fuse_wire::{ByteList, Memory, put_bytes, put_u32, put_u64};
+use fuse_wire::{ByteList, Memory, layouts_stand, put_bytes, put_u32, put_u64};
 use std::alloc::Global;
 
 /// Entries of a directory as the body of an answer.
@@ -38,7 +39,8 @@ impl From<Memory> for PackFault {
 // Appends an entry and its padding.
 fn put_dirent(out: &mut Vec<u8>, dirent: &Dirent<'_>) -> Result<(), Memory>
     requires { IsNamed (entry_of dirent.now) }
-    ensures bytes { OnOk result (out.new.items ≡ out.old.items ++ form (dirent_parts (entry_of dirent.now))) }
+    ensures bytes { OnOk result (out.new.items ≡ out.old.items
+        ++ form (dirent_parts (entry_of dirent.now))) }
     ensures fits { OnOk result (HasForm (dirent_parts (entry_of dirent.now))) }
 {
     let name_len = dirent.name.len();
@@ -55,10 +57,13 @@ fn put_fitting(body: &mut Vec<u8>, entries: &[Dirent<'_>], size: usize) -> Resul
     requires named { All (λ d. IsNamed (entry_of d)) entries.now }
     requires empty { body.old.items ≡ [] }
     ensures longest { IfOk result (λ taken. IsLongest (map entry_of entries.now) size taken) }
-    ensures bytes { IfOk result (λ taken. body.new.items ≡ entries_bytes (take taken (map entry_of entries.now))) }
-    ensures lists { IfOk result (λ taken. Lists (take taken (map entry_of entries.now)) body.new.items) }
+    ensures bytes { IfOk result (λ taken. body.new.items
+        ≡ entries_bytes (take taken (map entry_of entries.now))) }
+    ensures lists { IfOk result (λ taken. Lists (take taken (map entry_of entries.now))
+        body.new.items) }
     ensures within { IfOk result (λ taken. length body.new.items ≤ size) }
 {
+    layouts_stand();
     for (taken, dirent) in entries.iter().enumerate() {
         if packed_len(dirent.name.len()) > size - body.len() {
             return Ok(taken);
@@ -83,13 +88,16 @@ pub fn pack(alloc: Global, entries: &[Dirent<'_>], size: u32) -> Result<Packed, 
     requires { All (λ d. IsNamed (entry_of d)) entries.now }
 
     // How many are taken, and their bytes.
-    ensures longest { IfOk result (λ packed. IsLongest (map entry_of entries.now) size packed.taken) }
-    ensures bytes { IfOk result (λ packed. packed.body ≡ entries_bytes (take packed.taken (map entry_of entries.now))) }
+    ensures longest { IfOk result (λ packed. IsLongest
+        (map entry_of entries.now) size packed.taken) }
+    ensures bytes { IfOk result (λ packed. packed.body
+        ≡ entries_bytes (take packed.taken (map entry_of entries.now))) }
     // So `unpack` gives them back.
-    ensures lists { IfOk result (λ packed. Lists (take packed.taken (map entry_of entries.now)) packed.body) }
+    ensures lists { IfOk result (λ packed. Lists (take packed.taken (map entry_of entries.now))
+        packed.body) }
     ensures within { IfOk result (λ packed. length packed.body ≤ size) }
 
-    ensures first { FirstIsTooBig (map entry_of entries.now) size ↔ (result ≡ Err first_too_big) }
+    ensures first { FirstIsTooBig (map entry_of entries.now) size ↔ (result ≡ Err PackFault.FirstTooBig) }
 {
     let size = size as usize;
     if first_is_too_big(entries, size) {

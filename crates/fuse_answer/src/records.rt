@@ -1,15 +1,13 @@
 ghost use Rattle.std.specs.Prelude.{◌≡◌, ◌++◌, length, OnOk, IfOk};
 ghost use Rattle.fuse_wire.specs.Layout.{HasForm, Lays};
-ghost use Rattle.fuse_answer.specs.Bodies.{header_parts, attr_parts, entry_parts, attr_out_parts, open_parts, write_parts, header_bytes, attr_bytes, entry_bytes, attr_out_bytes, open_bytes, write_bytes};
-ghost use Rattle.fuse_answer.specs.declared.records.TheConstants.OutHeader.{SIZE as HEADER_SIZE};
-ghost use Rattle.fuse_answer.specs.declared.records.TheConstants.Attr.{SIZE as ATTR_SIZE};
-ghost use Rattle.fuse_answer.specs.declared.records.TheConstants.EntryOut.{SIZE as ENTRY_SIZE};
-ghost use Rattle.fuse_answer.specs.declared.records.TheConstants.AttrOut.{SIZE as ATTR_OUT_SIZE};
-ghost use Rattle.fuse_answer.specs.declared.records.TheConstants.OpenOut.{SIZE as OPEN_SIZE};
-ghost use Rattle.fuse_answer.specs.declared.records.TheConstants.WriteOut.{SIZE as WRITE_SIZE};
+ghost use Rattle.fuse_answer.specs.Bodies.{header_parts, attr_parts, entry_parts, attr_out_parts};
+ghost use Rattle.fuse_answer.specs.Bodies.{open_parts, write_parts, header_bytes, attr_bytes};
+ghost use Rattle.fuse_answer.specs.Bodies.{entry_bytes, attr_out_bytes, open_bytes, write_bytes};
+ghost use Rattle.fuse_answer.specs.Sizes.{out_header_size, attr_size, entry_out_size};
+ghost use Rattle.fuse_answer.specs.Sizes.{attr_out_size, open_out_size, write_out_size};
 
 use crate::numbers::{put_u32s, put_u64s};
-use fuse_wire::{Memory, put_bytes, put_i32, put_u32, put_u64};
+use fuse_wire::{Memory, layouts_stand, put_bytes, put_i32, put_u32, put_u64};
 use std::alloc::Global;
 
 /// The header of an answer, `fuse_out_header` of `fuse.h`.
@@ -96,9 +94,10 @@ impl OutHeader {
     /// The bytes of a header alone, as a notice is.
     pub fn body_of(&self, alloc: Global) -> Result<Vec<u8>, Memory>
         ensures bytes { IfOk result (λ body. body.items ≡ header_bytes self.now) }
-        ensures size { IfOk result (λ body. length body.items ≡ HEADER_SIZE) }
+        ensures size { IfOk result (λ body. length body.items ≡ out_header_size) }
         ensures laid { IfOk result (λ body. Lays (header_parts self.now) body.items) }
     {
+        layouts_stand();
         Ok(Vec::from_slice(alloc, &self.bytes())?)
     }
 }
@@ -144,9 +143,10 @@ impl Attr {
     #[tactic(auto, using(crate::proofs::Forms::length_attr, crate::proofs::Forms::laid_attr))]
     pub fn body_of(&self, alloc: Global) -> Result<Vec<u8>, Memory>
         ensures bytes { IfOk result (λ body. body.items ≡ attr_bytes self.now) }
-        ensures size { IfOk result (λ body. length body.items ≡ ATTR_SIZE) }
+        ensures size { IfOk result (λ body. length body.items ≡ attr_size) }
         ensures laid { IfOk result (λ body. Lays (attr_parts self.now) body.items) }
     {
+        layouts_stand();
         let mut body = Vec::with_capacity(alloc, Attr::SIZE)?;
         self.put(&mut body)?;
         Ok(body)
@@ -179,9 +179,10 @@ impl EntryOut {
     #[tactic(auto, using(crate::proofs::Forms::length_entry, crate::proofs::Forms::laid_entry))]
     pub fn body_of(&self, alloc: Global) -> Result<Vec<u8>, Memory>
         ensures bytes { IfOk result (λ body. body.items ≡ entry_bytes self.now) }
-        ensures size { IfOk result (λ body. length body.items ≡ ENTRY_SIZE) }
+        ensures size { IfOk result (λ body. length body.items ≡ entry_out_size) }
         ensures laid { IfOk result (λ body. Lays (entry_parts self.now) body.items) }
     {
+        layouts_stand();
         let mut body = Vec::with_capacity(alloc, EntryOut::SIZE)?;
         self.put(&mut body)?;
         Ok(body)
@@ -204,12 +205,13 @@ impl AttrOut {
     }
 
     /// The body of an answer to GETATTR or SETATTR.
-    #[tactic(auto, using(crate::proofs::Forms::length_attr_out, crate::proofs::Forms::laid_attr_out))]
+    #[tactic(auto, using(crate::proofs::Forms::length_attr_out, crate::proofs::Forms::laid_attrs))]
     pub fn body_of(&self, alloc: Global) -> Result<Vec<u8>, Memory>
         ensures bytes { IfOk result (λ body. body.items ≡ attr_out_bytes self.now) }
-        ensures size { IfOk result (λ body. length body.items ≡ ATTR_OUT_SIZE) }
+        ensures size { IfOk result (λ body. length body.items ≡ attr_out_size) }
         ensures laid { IfOk result (λ body. Lays (attr_out_parts self.now) body.items) }
     {
+        layouts_stand();
         let mut body = Vec::with_capacity(alloc, AttrOut::SIZE)?;
         self.put(&mut body)?;
         Ok(body)
@@ -234,9 +236,10 @@ impl OpenOut {
     #[tactic(auto, using(crate::proofs::Forms::length_open, crate::proofs::Forms::laid_open))]
     pub fn body_of(&self, alloc: Global) -> Result<Vec<u8>, Memory>
         ensures bytes { IfOk result (λ body. body.items ≡ open_bytes self.now) }
-        ensures size { IfOk result (λ body. length body.items ≡ OPEN_SIZE) }
+        ensures size { IfOk result (λ body. length body.items ≡ open_out_size) }
         ensures laid { IfOk result (λ body. Lays (open_parts self.now) body.items) }
     {
+        layouts_stand();
         let mut body = Vec::with_capacity(alloc, OpenOut::SIZE)?;
         self.put(&mut body)?;
         Ok(body)
@@ -260,9 +263,10 @@ impl WriteOut {
     #[tactic(auto, using(crate::proofs::Forms::length_write, crate::proofs::Forms::laid_write))]
     pub fn body_of(&self, alloc: Global) -> Result<Vec<u8>, Memory>
         ensures bytes { IfOk result (λ body. body.items ≡ write_bytes self.now) }
-        ensures size { IfOk result (λ body. length body.items ≡ WRITE_SIZE) }
+        ensures size { IfOk result (λ body. length body.items ≡ write_out_size) }
         ensures laid { IfOk result (λ body. Lays (write_parts self.now) body.items) }
     {
+        layouts_stand();
         let mut body = Vec::with_capacity(alloc, WriteOut::SIZE)?;
         self.put(&mut body)?;
         Ok(body)

@@ -1,12 +1,13 @@
 ghost use Rattle.std.specs.Prelude.{◌≡◌, ◌≤◌, false, length, IfOk, IfErr, IsOkAnd};
 ghost use Rattle.fuse_wire.specs.Opcodes.{silent};
-ghost use Rattle.fuse_answer.specs.declared.records.TheConstants.OutHeader.{SIZE as HEADER_SIZE};
-ghost use Rattle.fuse_answer.specs.Replies.{Told, told, content, Answers, IsProper, FirstFault, errno_in};
+ghost use Rattle.fuse_answer.specs.Sizes.{out_header_size};
+ghost use Rattle.fuse_answer.specs.Replies.{Told, told, content, Answers, IsProper, FirstFault};
+ghost use Rattle.fuse_answer.specs.Replies.{errno_in};
 
 use crate::bodies::body_of;
 use crate::init_out::InitOut;
 use crate::records::{AttrOut, EntryOut, OpenOut, OutHeader, WriteOut};
-use fuse_wire::{Errno, u32_at, u64_at};
+use fuse_wire::{Errno, layouts_stand, numbers_read, u32_at, u64_at};
 
 /// The largest error number that an answer may bear.
 pub const MAX_ERRNO: u32 = 511;
@@ -61,7 +62,7 @@ pub enum BadAnswer {
 
 // The error number of a header, which holds its negation.
 fn errno_at(bytes: &[u8]) -> u32
-    requires { HEADER_SIZE ≤ length bytes.now }
+    requires { out_header_size ≤ length bytes.now }
     ensures { result ≡ errno_in bytes.now }
 {
     u32_at(bytes, 4).wrapping_neg()
@@ -72,6 +73,7 @@ fn read(opcode: u32, bytes: &[u8]) -> Result<Reply<'_>, BadAnswer>
     ensures found { IfOk result (λ r. Answers opcode (told r) bytes.now) }
     ensures fault { IfErr result (λ m. FirstFault opcode bytes.now m) }
 {
+    numbers_read();
     if bytes.len() < OutHeader::SIZE {
         return Err(BadAnswer::Short);
     }
@@ -116,5 +118,6 @@ pub fn read_answer(opcode: u32, bytes: &[u8]) -> Result<Reply<'_>, BadAnswer>
     // Which fault it is.
     ensures fault { IfErr result (λ m. FirstFault opcode bytes.now m) }
 {
+    layouts_stand();
     read(opcode, bytes)
 }

@@ -1,4 +1,5 @@
-ghost use Rattle.fuse_answer.specs.Vectors.{ErrorFields, FirstRun, Headers, Inits, Listing, OpenAndWrite, Reads, Refusals};
+ghost use Rattle.fuse_answer.specs.Vectors.{ErrorFields, FirstRun, Headers, Inits, Listing};
+ghost use Rattle.fuse_answer.specs.Vectors.{OpenAndWrite, Reads, Refusals};
 
 use super::*;
 use fuse_wire::{ByteList, Errno, Memory};
@@ -54,6 +55,10 @@ fn vectors() {
     open_and_write();
     inits();
     listing();
+    len_stands_first();
+    record_sizes();
+    read_back();
+    answer_numbers();
 }
 
 // A directory made at second 1,000, and its bytes.

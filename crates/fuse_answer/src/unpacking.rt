@@ -4,13 +4,14 @@ ghost use Rattle.fuse_answer.specs.Entries.{Entry, entry_of, StandsBefore, Lists
 ghost use Rattle.fuse_answer.specs.Front.{front_of, entries_left};
 
 use crate::dirent::{Dirent, MAX_NAME, packed_len};
-use fuse_wire::{u32_at, u64_at};
+use fuse_wire::{layouts_stand, u32_at, u64_at};
 
 // The entry at the front, and what follows it. `None` where no whole entry stands there.
 fn split_entry(bytes: &[u8]) -> Option<(Dirent<'_>, &[u8])>
     ensures front { option_map (λ p. (entry_of p.0, p.1.now)) result ≡ front_of bytes.now }
     ensures laid { IfSome result (λ p. StandsBefore (entry_of p.0) p.1.now bytes.now) }
 {
+    layouts_stand();
     if bytes.len() < Dirent::NAME_AT {
         return None;
     }
@@ -35,6 +36,7 @@ fn split_entry(bytes: &[u8]) -> Option<(Dirent<'_>, &[u8])>
 pub(crate) fn is_listing(body: &[u8]) -> bool
     ensures { IsTrue result ↔ (IsListing body.now) }
 {
+    layouts_stand();
     let mut rest = body;
     while !rest.is_empty() {
         let Some((_dirent, behind)) = split_entry(rest) else {
@@ -56,6 +58,7 @@ pub fn unpack(body: &[u8]) -> Dirents<'_>
     requires { IsListing body.now }
     ensures { (es : List Entry) → Lists es body.now → entries_left result ≡ es }
 {
+    layouts_stand();
     Dirents { rest: body }
 }
 

@@ -27,7 +27,8 @@ pub fn head_of(unique: u64, answer: &Answer) -> [u8; 16]
 
 /// Appends the answer to the request of this `unique`. An `Err` leaves `out` unchanged.
 pub fn write_answer(unique: u64, answer: &Answer, out: &mut Vec<u8>) -> Result<(), Memory>
-    ensures ok { OnOk result (out.new.items ≡ out.old.items ++ wire answer.now.errno answer.now.body unique) }
+    ensures ok { OnOk result (out.new.items ≡ out.old.items
+        ++ wire answer.now.errno answer.now.body unique) }
     ensures err { OnErr result (out.new.items ≡ out.old.items) }
 {
     let start = out.len();

@@ -1,1 +1,4 @@
+pub mod Numbers
 pub mod Agree
+pub mod Sets
+pub mod Vectors

@@ -1,11 +1,13 @@
 //! What kernel and server agree on by INIT.
 #![tactic(auto)]
 
+mod laws;
 mod negotiation;
 mod settings;
 #[cfg(test)]
 mod tests;
 
+pub use laws::agreed_bits;
 pub use negotiation::{
     CONGESTION_THRESHOLD, MAJOR, MAX_BACKGROUND, MAX_WRITE, MIN_MINOR, MINOR, Negotiated,
     TIME_GRAN, negotiate,

@@ -1,8 +1,47 @@
+ghost use Rattle.fuse_init.specs.Vectors.{ExtIn16, InitAgreed, InitNewerMajor};
+ghost use Rattle.fuse_init.specs.Vectors.{InitShort, InitTooOld, NewerMinor};
+
 use super::*;
 use fuse_answer::InitOut;
 use fuse_request::InitIn;
 use fuse_wire::{Errno, InitFlags};
 use std::test::*;
+
+fn init_agreed()
+    ensures { InitAgreed }
+{}
+
+fn init_short()
+    ensures { InitShort }
+{}
+
+fn init_newer_major()
+    ensures { InitNewerMajor }
+{}
+
+fn init_too_old()
+    ensures { InitTooOld }
+{}
+
+fn newer_minor_row()
+    ensures { NewerMinor }
+{}
+
+fn ext_in_16()
+    ensures { ExtIn16 }
+{}
+
+// The vectors, which the check computes.
+#[test]
+fn vectors() {
+    init_agreed();
+    init_short();
+    init_newer_major();
+    init_too_old();
+    newer_minor_row();
+    ext_in_16();
+    agreed_bits();
+}
 
 fn offer(major: u32, minor: u32, flags: u32, flags2: Option<u32>) -> InitIn {
     InitIn {

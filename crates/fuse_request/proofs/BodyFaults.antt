@@ -6,7 +6,7 @@ use Rattle.std.proofs.lemmas.Bool.{le-ltb, eq-eqb}
 use Rattle.std.proofs.lemmas.List.Elements.{recursion_from_All}
 use Rattle.fuse_wire.specs.Bytes.{HasNoNul, number_of, after_nul}
 use Rattle.fuse_wire.specs.Layout.{Lays, text}
-use Rattle.fuse_wire.proofs.Numbers.{after_nul-none, after_nul-text}
+use Rattle.fuse_wire.specs.Laws.{NamesEnd}
 use Rattle.fuse_request.specs.declared.decoding.Malformed.{Malformed}
 use Rattle.fuse_request.specs.declared.decoding.Malformed.TheVariants.{NoNul, AfterNul}
 use Rattle.fuse_request.specs.Bodies.{fixed, at_least, name_fault, end_fault, names_fault, second_fault, counted}
@@ -26,25 +26,25 @@ counted_none n k unit b long count = rw (le-ltb (length b) n long, eq-eqb (unit 
 -- ---- names
 
 -- a text that doesn't end, and one that isn't all
-pub endless : (b : List ℕ) → HasNoNul b → name_fault b ≡ Some NoNul
-endless b h = ap end_fault (after_nul-none b h)
+pub endless : NamesEnd → (b : List ℕ) → HasNoNul b → name_fault b ≡ Some NoNul
+endless ends b h = ap end_fault (ends.endless b h)
 
-more_after : (t : List ℕ) (x : ℕ) (rest : List ℕ) → HasNoNul t → name_fault (t ++ 0 ∷ x ∷ rest) ≡ Some AfterNul
-more_after t x rest h = ap end_fault (after_nul-text t (x ∷ rest) h)
+more_after : NamesEnd → (t : List ℕ) (x : ℕ) (rest : List ℕ) → HasNoNul t → name_fault (t ++ 0 ∷ x ∷ rest) ≡ Some AfterNul
+more_after ends t x rest h = ap end_fault (ends.text t (x ∷ rest) h)
 
-ended : (t : List ℕ) → HasNoNul t → name_fault (t ++ 0 ∷ []) ≡ None
-ended t h = ap end_fault (after_nul-text t [] h)
+ended : NamesEnd → (t : List ℕ) → HasNoNul t → name_fault (t ++ 0 ∷ []) ≡ None
+ended ends t h = ap end_fault (ends.text t [] h)
 
-pub not_all : (b t rest : List ℕ) → HasNoNul t → b ≡ t ++ 0 ∷ rest → 0 < length rest → name_fault b ≡ Some AfterNul
-not_all b t [] h e more = absurd (omega arith)
-not_all b t (x ∷ rest) h e more = ap name_fault e ∙ more_after t x rest h
+pub not_all : NamesEnd → (b t rest : List ℕ) → HasNoNul t → b ≡ t ++ 0 ∷ rest → 0 < length rest → name_fault b ≡ Some AfterNul
+not_all ends b t [] h e more = absurd (omega arith)
+not_all ends b t (x ∷ rest) h e more = ap name_fault e ∙ more_after ends t x rest h
 
 -- the first of two names doesn't end, or what is behind it has a fault
-pub endless_first : (b : List ℕ) → HasNoNul b → names_fault b ≡ Some NoNul
-endless_first b h = ap second_fault (after_nul-none b h)
+pub endless_first : NamesEnd → (b : List ℕ) → HasNoNul b → names_fault b ≡ Some NoNul
+endless_first ends b h = ap second_fault (ends.endless b h)
 
-pub behind_first : (b t rest : List ℕ) → HasNoNul t → b ≡ t ++ 0 ∷ rest → names_fault b ≡ name_fault rest
-behind_first b t rest h e = ap names_fault e ∙ ap second_fault (after_nul-text t rest h)
+pub behind : NamesEnd → (b t rest : List ℕ) → HasNoNul t → b ≡ t ++ 0 ∷ rest → names_fault b ≡ name_fault rest
+behind ends b t rest h e = ap names_fault e ∙ ap second_fault (ends.text t rest h)
 
 first_text : (t rest : List ℕ) → AllByRecursion (λ x. x ≢ 0) t → before_nul (t ++ 0 ∷ rest) ≡ t
 first_text [] rest h = refl
@@ -55,16 +55,16 @@ before_nul-text : (t rest : List ℕ) → HasNoNul t → before_nul (t ++ 0 ∷ 
 before_nul-text t rest h = first_text t rest (recursion_from_All (λ x. x ≢ 0) t h)
 
 -- a name that is laid out is read, and has no fault
-pub one_name : (t b : List ℕ) → Lays (text t ∷ []) b → (before_nul b ≡ t) × (name_fault b ≡ None)
-one_name t b h =
+pub one_name : NamesEnd → (t b : List ℕ) → Lays (text t ∷ []) b → (before_nul b ≡ t) × (name_fault b ≡ None)
+one_name ends t b h =
     let e : b ≡ t ++ 0 ∷ [] = h.2 ∙ ap (λ (x : List ℕ). t ++ 0 ∷ x) h.3 in
-    (ap before_nul e ∙ before_nul-text t [] h.1, ap name_fault e ∙ ended t h.1)
+    (ap before_nul e ∙ before_nul-text t [] h.1, ap name_fault e ∙ ended ends t h.1)
 
 -- so are two
-pub both_names : (s t b : List ℕ) → Lays (text s ∷ text t ∷ []) b → (before_nul b ≡ s) × (second_name b ≡ t) × (names_fault b ≡ None)
-both_names s t b h =
-    let after : after_nul b ≡ Some h.0 = ap after_nul h.2 ∙ after_nul-text s h.0 h.1 in
-    let last = one_name t h.0 h.3 in (
+pub both_names : NamesEnd → (s t b : List ℕ) → Lays (text s ∷ text t ∷ []) b → (before_nul b ≡ s) × (second_name b ≡ t) × (names_fault b ≡ None)
+both_names ends s t b h =
+    let after : after_nul b ≡ Some h.0 = ap after_nul h.2 ∙ ends.text s h.0 h.1 in
+    let last = one_name ends t h.0 h.3 in (
       ap before_nul h.2 ∙ before_nul-text s h.0 h.1,
       ap (λ (o : Option (List ℕ)). before_nul (unwrap_or o [])) after ∙ last.0,
       ap second_fault after ∙ last.1,

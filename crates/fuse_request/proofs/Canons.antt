@@ -7,18 +7,18 @@ use Rattle.std.proofs.lemmas.List.Elements.{All-from_recursion}
 use Rattle.std.proofs.lemmas.List.{length-append}
 use Rattle.fuse_wire.specs.Bytes.{HasNoNul}
 use Rattle.fuse_wire.specs.Layout.{form, HasForm, Lays}
-use Rattle.fuse_wire.proofs.Layouts.{Lays-length, Lays-form}
+use Rattle.fuse_wire.specs.Laws.{LayoutsStand}
 use Rattle.fuse_request.specs.Act.{Act, Lookup, Mknod, Mkdir, Unlink, Rmdir, Rename, Init, BatchForget, Rename2, Unsupported, Asked}
 use Rattle.fuse_request.specs.Spelling.{parts, flags2_parts, header_parts, IsSpellable, Spells}
 use Rattle.fuse_request.specs.Canon.{len_of, canon, no_nul, sayable_act, sayable, CanonSpells}
 use Rattle.fuse_request.specs.Encoding.{AllFit, HasNumbers}
 
-pub canon_spells : CanonSpells
-canon_spells v h =
+pub canon_spells : LayoutsStand → CanonSpells
+canon_spells laws v h =
     let units : ℕ = length v.ext / 8 in
     let head : List ℕ = form (header_parts (len_of v) units v) in
-    let laid : Lays (header_parts (len_of v) units v) head = Lays-form (header_parts (len_of v) units v) h.header in
-    let head_len : length head ≡ 40 = Lays-length (header_parts (len_of v) units v) head laid in
+    let laid : Lays (header_parts (len_of v) units v) head = laws.formed (header_parts (len_of v) units v) h.header in
+    let head_len : length head ≡ 40 = laws.len (header_parts (len_of v) units v) head laid in
     let total : length (canon v) ≡ len_of v = omega (arith, head_len, length-append head (form (parts v.act) ++ v.ext), length-append (form (parts v.act)) v.ext) in
     record {
       head = head;
@@ -27,7 +27,7 @@ canon_spells v h =
       whole = refl;
       ext = h.ext;
       header = subst (λ (n : ℕ). Lays (header_parts n units v) head) (sym total) laid;
-      parted = Lays-form (parts v.act) h.body;
+      parted = laws.formed (parts v.act) h.body;
       named = h.named;
     }
 
@@ -84,10 +84,10 @@ named_by (Unsupported opcode body) e = not_true _ e
 named_by _ e = tt
 
 -- it is spelled by its canon
-pub spelled_again : (v : Asked) → sayable v ≡ true → HasNumbers v → Spells v (canon v)
-spelled_again v e h =
+pub spelled_again : LayoutsStand → (v : Asked) → sayable v ≡ true → HasNumbers v → Spells v (canon v)
+spelled_again laws v e h =
     let s = both_true (sayable_act v.act) _ e in
-    canon_spells v (record { header = h.0; body = body_form v.act s.0 h.1; ext = whole_units (length v.ext) s.1; named = named_by v.act s.0 })
+    canon_spells laws v (record { header = h.0; body = body_form v.act s.0 h.1; ext = whole_units (length v.ext) s.1; named = named_by v.act s.0 })
 
 pub well : {T E : Type 0} (r : Result T E) (P : Type 0) (b : Bool) → OnOk r P → b ≡ is_err r → b ≡ false → P
 well (Ok x) P b h is wrong = h

@@ -4,6 +4,7 @@ use Rattle.std.specs.Prelude.{◌⊎◌}
 use Rattle.std.proofs.lemmas.List.{length-take, take-append-drop}
 use Rattle.std.proofs.lemmas.Bool.{ltb-true}
 use Rattle.fuse_wire.specs.Bytes.{number_of}
+use Rattle.fuse_wire.specs.Laws.{NumbersRead}
 use Rattle.fuse_request.specs.declared.framer.FrameFault.{FrameFault}
 use Rattle.fuse_request.specs.declared.framer.FrameFault.TheVariants.{Short, TooLong, Cut, Memory}
 use Rattle.fuse_request.specs.Stream.{is_whole, cut, IsMessage}
@@ -28,21 +29,21 @@ pub record Passed (n : ℕ) (w : List ℕ) : Type 0 where
   pub there : n ≤ length w
   pub rest : (cut (drop n w)).1 ≡ (cut w).1
 
-pub pass : (n : ℕ) (w : List ℕ) → IsFront (Some n) w → Passed n w
-pass n w e =
+pub pass : NumbersRead → (n : ℕ) (w : List ℕ) → IsFront (Some n) w → Passed n w
+pass laws n w e =
     let p = front_by (is_whole w) n (number_of 4 w) e in
     let f = front_of w p.0 in
     let low = f.low in
     let there = f.there in
     let size : n ≡ number_of 4 w = p.1 in
-    let step : (cut w).1 ≡ (cut (drop (number_of 4 w) w)).1 = ap (λ (c : List (List ℕ) × List ℕ). c.1) ((cut_steps w).0 p.0) in
+    let step : (cut w).1 ≡ (cut (drop (number_of 4 w) w)).1 = ap (λ (c : List (List ℕ) × List ℕ). c.1) ((cut_steps laws w).0 p.0) in
     record { some = omega arith; there = omega arith; rest = rw size (sym step) }
 
 -- where no message is left, the fault is that of the end
-pub ended_at : (h : Held) (at : ℕ) (rest : List ℕ) → h.at ≤ at → at + length rest ≡ h.at + length h.bytes → (cut rest).1 ≡ (cut h.bytes).1 → IsFront None rest
+pub ended_at : NumbersRead → (h : Held) (at : ℕ) (rest : List ℕ) → h.at ≤ at → at + length rest ≡ h.at + length h.bytes → (cut rest).1 ≡ (cut h.bytes).1 → IsFront None rest
     → end_fault at rest ≡ ends h
-ended_at h at rest behind place same none =
-    let stuck : cut rest ≡ ([], rest) = (cut_steps rest).1 (none_by (is_whole rest) (number_of 4 rest) none) in
+ended_at laws h at rest behind place same none =
+    let stuck : cut rest ≡ ([], rest) = (cut_steps laws rest).1 (none_by (is_whole rest) (number_of 4 rest) none) in
     let left : (cut h.bytes).1 ≡ rest = sym same ∙ ap (λ (c : List (List ℕ) × List ℕ). c.1) stuck in
     let here : h.at + (length h.bytes - length rest) ≡ at = omega arith in
     rw (left, here) refl
@@ -68,28 +69,28 @@ only_false : (b : Bool) → ¬ (b ≡ true) → b ≡ false
 only_false true h = absurd (h refl)
 only_false false h = refl
 
-bad_none : (at : ℕ) (w : List ℕ) (f : FrameFault) → bad_length at w ≡ Some f → HasNone w
-bad_none at w f e =
-    (cut_steps w).1 (only_false (is_whole w) (λ whole. (
+bad_none : NumbersRead → (at : ℕ) (w : List ℕ) (f : FrameFault) → bad_length at w ≡ Some f → HasNone w
+bad_none laws at w f e =
+    (cut_steps laws w).1 (only_false (is_whole w) (λ whole. (
     let front = front_of w whole in
     let low = front.low in
     let high = front.high in
     elim (bad at w f e) [ inl p ↦ omega (arith, p.0) | inr p ↦ omega (arith, p.0) ])))
 
 -- a bad length is answered
-pub gives_fault : (old new : Held) (f : FrameFault) → Some f ≡ bad_length old.at old.bytes → new ≡ record old { fault = Some f } → GivesNext old new (Err f)
-gives_fault old new (Short at len) e same = (bad_none old.at old.bytes (Short at len) (sym e), sym e, same)
-gives_fault old new (TooLong at len) e same = (bad_none old.at old.bytes (TooLong at len) (sym e), sym e, same)
-gives_fault old new (Cut at have need) e same = absurd (elim (bad old.at old.bytes (Cut at have need) (sym e)) [ inl p ↦ (let h = p.1 in cc) | inr p ↦ (let h = p.1 in cc) ])
-gives_fault old new Memory e same = absurd (elim (bad old.at old.bytes Memory (sym e)) [ inl p ↦ (let h = p.1 in cc) | inr p ↦ (let h = p.1 in cc) ])
+pub gives_fault : NumbersRead → (old new : Held) (f : FrameFault) → Some f ≡ bad_length old.at old.bytes → new ≡ record old { fault = Some f } → GivesNext old new (Err f)
+gives_fault laws old new (Short at len) e same = (bad_none laws old.at old.bytes (Short at len) (sym e), sym e, same)
+gives_fault laws old new (TooLong at len) e same = (bad_none laws old.at old.bytes (TooLong at len) (sym e), sym e, same)
+gives_fault laws old new (Cut at have need) e same = absurd (elim (bad old.at old.bytes (Cut at have need) (sym e)) [ inl p ↦ (let h = p.1 in cc) | inr p ↦ (let h = p.1 in cc) ])
+gives_fault laws old new Memory e same = absurd (elim (bad old.at old.bytes Memory (sym e)) [ inl p ↦ (let h = p.1 in cc) | inr p ↦ (let h = p.1 in cc) ])
 
 -- there is no message yet
-pub gives_none : (old new : Held) → None ≡ bad_length old.at old.bytes → IsFront None old.bytes → new ≡ old → GivesNext old new (Ok None)
-gives_none old new good none same = ((cut_steps old.bytes).1 (none_by (is_whole old.bytes) (number_of 4 old.bytes) none), sym good, same)
+pub gives_none : NumbersRead → (old new : Held) → None ≡ bad_length old.at old.bytes → IsFront None old.bytes → new ≡ old → GivesNext old new (Ok None)
+gives_none laws old new good none same = ((cut_steps laws old.bytes).1 (none_by (is_whole old.bytes) (number_of 4 old.bytes) none), sym good, same)
 
 -- the first message is given out
-pub gives_first : (old new : Held) (n : ℕ) (m : List ℕ) → IsFront (Some n) old.bytes → m ≡ take n old.bytes → new ≡ record old { bytes = drop n old.bytes; at = old.at + n } → Gives old new m
-gives_first old new n m e front same =
+pub gives_first : NumbersRead → (old new : Held) (n : ℕ) (m : List ℕ) → IsFront (Some n) old.bytes → m ≡ take n old.bytes → new ≡ record old { bytes = drop n old.bytes; at = old.at + n } → Gives old new m
+gives_first laws old new n m e front same =
     let p = front_by (is_whole old.bytes) n (number_of 4 old.bytes) e in
     let f = front_of old.bytes p.0 in
     let there = f.there in
@@ -98,16 +99,16 @@ gives_first old new n m e front same =
     let rest_is : drop (number_of 4 old.bytes) old.bytes ≡ new.bytes = sym (ap (λ (h : Held). h.bytes) same ∙ ap (λ (k : ℕ). drop k old.bytes) size) in
     let len : length m ≡ n = ap length front ∙ omega (arith, length-take n old.bytes) in
     record {
-      message = subst IsMessage m_is (first_message old.bytes p.0);
-      first = (cut_steps old.bytes).0 p.0 ∙ rw (m_is, rest_is) refl;
+      message = subst IsMessage m_is (first_message laws old.bytes p.0);
+      first = (cut_steps laws old.bytes).0 p.0 ∙ rw (m_is, rest_is) refl;
       rest = sym (take-append-drop (number_of 4 old.bytes) old.bytes) ∙ rw (m_is, rest_is) refl;
       at = ap (λ (h : Held). h.at) same ∙ ap (λ (k : ℕ). old.at + k) (sym len);
       fault = ap (λ (h : Held). h.fault) same;
     }
 
 -- there is a message, and no memory to give it out
-pub gives_memory : (old new : Held) (n : ℕ) → IsFront (Some n) old.bytes → new ≡ old → GivesNext old new (Err Memory)
-gives_memory old new n e same =
+pub gives_memory : NumbersRead → (old new : Held) (n : ℕ) → IsFront (Some n) old.bytes → new ≡ old → GivesNext old new (Err Memory)
+gives_memory laws old new n e same =
     let p = front_by (is_whole old.bytes) n (number_of 4 old.bytes) e in
-    let step = (cut_steps old.bytes).0 p.0 in
+    let step = (cut_steps laws old.bytes).0 p.0 in
     ((λ (none : HasNone old.bytes). (let same : (cut old.bytes).0 ≡ [] = ap (λ (c : List (List ℕ) × List ℕ). c.0) none in let more = ap (λ (c : List (List ℕ) × List ℕ). c.0) step in cc)), same)

@@ -3,14 +3,15 @@ use Rattle.std.proofs.Common.{◌≡◌, ◌≢◌, ℕ, List, [], ◌∷◌, re
 use Rattle.std.specs.List.{AllByRecursion}
 use Rattle.std.proofs.lemmas.List.Elements.{All-from_recursion}
 use Rattle.fuse_wire.specs.Bytes.{le, HasNoNul}
+use Rattle.fuse_wire.specs.Laws.{LayoutsStand}
 use Rattle.fuse_request.specs.Act.{Asked}
 use Rattle.fuse_request.specs.Spelling.{Spells}
 use Rattle.fuse_request.specs.Canon.{canon, HasCanon}
 use Rattle.fuse_request.specs.Vectors.{hello, lookup_hello, lookup_bytes, mkdir_a, mkdir_bytes, MissingLookup, FirstRun, rename_a, rename_text, RenameBytes, write_one, write_text, WriteBytes, exchange_a, exchange_text, Exchange}
 use Rattle.fuse_request.proofs.Canons.{canon_spells}
 
-spelled : (v : Asked) (b : List ℕ) → HasCanon v → canon v ≡ b → (canon v ≡ b) × Spells v b
-spelled v b h e = (e, subst (Spells v) e (canon_spells v h))
+spelled : LayoutsStand → (v : Asked) (b : List ℕ) → HasCanon v → canon v ≡ b → (canon v ≡ b) × Spells v b
+spelled laws v b h e = (e, subst (Spells v) e (canon_spells laws v h))
 
 no_nul : (t : List ℕ) → AllByRecursion (λ x. x ≢ 0) t → HasNoNul t
 no_nul t h = All-from_recursion (λ x. x ≢ 0) t h
@@ -18,38 +19,38 @@ no_nul t h = All-from_recursion (λ x. x ≢ 0) t h
 lookup_sayable : HasCanon lookup_hello
 lookup_sayable = record { header = search rules; body = (no_nul hello (search rules), tt); ext = refl; named = tt }
 
-pub missing_lookup : MissingLookup
+pub missing_lookup : LayoutsStand → MissingLookup
 unfolding le
-missing_lookup = spelled lookup_hello lookup_bytes lookup_sayable refl
+missing_lookup laws = spelled laws lookup_hello lookup_bytes lookup_sayable refl
 
 mkdir_sayable : HasCanon mkdir_a
 unfolding le
 mkdir_sayable = record { header = search rules; body = (omega arith, (omega arith, (no_nul (0x61 ∷ []) (search rules), tt))); ext = refl; named = tt }
 
-pub first_run : FirstRun
+pub first_run : LayoutsStand → FirstRun
 unfolding le
-first_run = spelled mkdir_a mkdir_bytes mkdir_sayable refl
+first_run laws = spelled laws mkdir_a mkdir_bytes mkdir_sayable refl
 
 rename_sayable : HasCanon rename_a
 unfolding le
 rename_sayable = record { header = search rules; body = (omega arith, (no_nul (0x61 ∷ []) (search rules), (no_nul (0x62 ∷ []) (search rules), tt))); ext = refl; named = tt }
 
-pub rename_bytes : RenameBytes
+pub rename_bytes : LayoutsStand → RenameBytes
 unfolding le
-rename_bytes = spelled rename_a rename_text rename_sayable refl
+rename_bytes laws = spelled laws rename_a rename_text rename_sayable refl
 
 write_sayable : HasCanon write_one
 unfolding le
 write_sayable = record { header = search rules; body = search rules; ext = refl; named = tt }
 
-pub write_bytes : WriteBytes
+pub write_bytes : LayoutsStand → WriteBytes
 unfolding le
-write_bytes = spelled write_one write_text write_sayable refl
+write_bytes laws = spelled laws write_one write_text write_sayable refl
 
 exchange_sayable : HasCanon exchange_a
 unfolding le
 exchange_sayable = record { header = search rules; body = (omega arith, (omega arith, (no_nul (0x61 ∷ []) (search rules), (no_nul (0x62 ∷ []) (search rules), tt)))); ext = refl; named = tt }
 
-pub exchange : Exchange
+pub exchange : LayoutsStand → Exchange
 unfolding le
-exchange = spelled exchange_a exchange_text exchange_sayable refl
+exchange laws = spelled laws exchange_a exchange_text exchange_sayable refl

@@ -1,6 +1,6 @@
 -- Requests without where they lie in memory (fuse.h: fuse_opcode and the request bodies).
 use Rattle.std.specs.Prelude.{◌≡◌, ℕ, true, List}
-use Rattle.fuse_wire.specs.declared.opcode.TheConstants.{LOOKUP, FORGET, GETATTR, SETATTR, MKNOD, MKDIR, UNLINK, RMDIR, RENAME, OPEN, READ, WRITE, RELEASE, INIT, OPENDIR, READDIR, RELEASEDIR, INTERRUPT, DESTROY, BATCH_FORGET, RENAME2}
+use Rattle.fuse_wire.specs.Opcodes.{fuse_lookup, fuse_forget, fuse_getattr, fuse_setattr, fuse_mknod, fuse_mkdir, fuse_unlink, fuse_rmdir, fuse_rename, fuse_open, fuse_read, fuse_write, fuse_release, fuse_init, fuse_opendir, fuse_readdir, fuse_releasedir, fuse_interrupt, fuse_destroy, fuse_batch_forget, fuse_rename2}
 use Rattle.fuse_request.specs.declared.request.InHeader.{InHeader}
 use Rattle.fuse_request.specs.declared.request.InitIn.{InitIn}
 use Rattle.fuse_request.specs.declared.request.Op.{Op}
@@ -61,27 +61,27 @@ act (ops.Rename2 new_dir flags old_name new_name) = Rename2 new_dir flags old_na
 act (ops.Unsupported opcode body) = Unsupported opcode body.now
 
 abbrev pub opcode_of : Act → ℕ
-opcode_of (Lookup name) = LOOKUP
-opcode_of (Forget nlookup) = FORGET
-opcode_of (Getattr flags fh) = GETATTR
-opcode_of (Setattr x) = SETATTR
-opcode_of (Mknod mode rdev umask name) = MKNOD
-opcode_of (Mkdir mode umask name) = MKDIR
-opcode_of (Unlink name) = UNLINK
-opcode_of (Rmdir name) = RMDIR
-opcode_of (Rename new_dir old_name new_name) = RENAME
-opcode_of (OpenFile flags open_flags) = OPEN
-opcode_of (Read x) = READ
-opcode_of (Write fh offset write_flags lock_owner flags payload) = WRITE
-opcode_of (Release x) = RELEASE
-opcode_of (Init x) = INIT
-opcode_of (OpenDir flags open_flags) = OPENDIR
-opcode_of (ReadDir x) = READDIR
-opcode_of (ReleaseDir x) = RELEASEDIR
-opcode_of (Interrupt unique) = INTERRUPT
-opcode_of Destroy = DESTROY
-opcode_of (BatchForget items) = BATCH_FORGET
-opcode_of (Rename2 new_dir flags old_name new_name) = RENAME2
+opcode_of (Lookup name) = fuse_lookup
+opcode_of (Forget nlookup) = fuse_forget
+opcode_of (Getattr flags fh) = fuse_getattr
+opcode_of (Setattr x) = fuse_setattr
+opcode_of (Mknod mode rdev umask name) = fuse_mknod
+opcode_of (Mkdir mode umask name) = fuse_mkdir
+opcode_of (Unlink name) = fuse_unlink
+opcode_of (Rmdir name) = fuse_rmdir
+opcode_of (Rename new_dir old_name new_name) = fuse_rename
+opcode_of (OpenFile flags open_flags) = fuse_open
+opcode_of (Read x) = fuse_read
+opcode_of (Write fh offset write_flags lock_owner flags payload) = fuse_write
+opcode_of (Release x) = fuse_release
+opcode_of (Init x) = fuse_init
+opcode_of (OpenDir flags open_flags) = fuse_opendir
+opcode_of (ReadDir x) = fuse_readdir
+opcode_of (ReleaseDir x) = fuse_releasedir
+opcode_of (Interrupt unique) = fuse_interrupt
+opcode_of Destroy = fuse_destroy
+opcode_of (BatchForget items) = fuse_batch_forget
+opcode_of (Rename2 new_dir flags old_name new_name) = fuse_rename2
 opcode_of (Unsupported opcode body) = opcode
 
 pub record Asked : Type 0 where

@@ -3,7 +3,7 @@ use Rattle.std.specs.Prelude.{◌-◌, ◌*◌, ◌==◌, ◌||◌, ℕ, nat_lt,
 use Rattle.fuse_wire.specs.Bytes.{number_of, after_nul}
 use Rattle.fuse_request.specs.declared.decoding.Malformed.{Malformed}
 use Rattle.fuse_request.specs.declared.decoding.Malformed.TheVariants.{BodyLength, NoNul, AfterNul, CountDiffers}
-use Rattle.fuse_request.specs.declared.lengths.TheConstants.{COMPAT_INIT_IN, INIT_IN}
+use Rattle.fuse_request.specs.Lengths.{compat_init_in_size, init_in_size}
 
 -- of n bytes
 abbrev pub fixed : ℕ → List ℕ → Option Malformed
@@ -41,4 +41,4 @@ counted n k unit b =
 
 -- INIT's, of one of its two lengths
 abbrev pub init_fault : List ℕ → Option Malformed
-init_fault b = if length b == COMPAT_INIT_IN || length b == INIT_IN then None else Some BodyLength
+init_fault b = if length b == compat_init_in_size || length b == init_in_size then None else Some BodyLength

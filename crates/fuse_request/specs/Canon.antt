@@ -2,14 +2,14 @@
 use Rattle.std.specs.Prelude.{◌≡◌, ◌+◌, ◌*◌, ◌/◌, ◌%◌, ◌==◌, ◌&&◌, ℕ, Bool, true, not, List, ◌++◌, length}
 use Rattle.std.specs.List.{list_any}
 use Rattle.fuse_wire.specs.Layout.{form, HasForm}
-use Rattle.fuse_request.specs.declared.header.TheConstants.{MIN_MESSAGE}
-use Rattle.fuse_request.specs.declared.lengths.TheConstants.{FORGET_ONE}
+use Rattle.fuse_wire.specs.Bounds.{min_message_len}
+use Rattle.fuse_request.specs.Lengths.{forget_one_size}
 use Rattle.fuse_request.specs.Opcodes.{in_profile}
 use Rattle.fuse_request.specs.Act.{Act, Lookup, Mknod, Mkdir, Unlink, Rmdir, Rename, BatchForget, Rename2, Unsupported, Asked}
 use Rattle.fuse_request.specs.Spelling.{parts, header_parts, IsSpellable, Spells}
 
 abbrev pub len_of : Asked → ℕ
-len_of v = MIN_MESSAGE + (length (form (parts v.act)) + length v.ext)
+len_of v = min_message_len + (length (form (parts v.act)) + length v.ext)
 
 abbrev pub canon : Asked → List ℕ
 canon v = form (header_parts (len_of v) (length v.ext / 8) v) ++ (form (parts v.act) ++ v.ext)
@@ -37,7 +37,7 @@ sayable_act (Unlink name) = no_nul name
 sayable_act (Rmdir name) = no_nul name
 sayable_act (Rename new_dir old_name new_name) = no_nul old_name && no_nul new_name
 sayable_act (Rename2 new_dir flags old_name new_name) = no_nul old_name && no_nul new_name
-sayable_act (BatchForget items) = length items % FORGET_ONE == 0
+sayable_act (BatchForget items) = length items % forget_one_size == 0
 sayable_act (Unsupported opcode body) = not (in_profile opcode)
 sayable_act _ = true
 

@@ -1,6 +1,6 @@
 -- How a message is answered (own profile).
 use Rattle.std.specs.Prelude.{◌≡◌, ◌==◌, ◌&&◌, ◌⊎◌, ℕ, Bool, true, false, not, if◌then◌else◌, List, Option, Some, None}
-use Rattle.fuse_wire.specs.declared.errno.TheConstants.Errno.{EINVAL, ENOSYS}
+use Rattle.fuse_wire.specs.Errnos.{einval, enosys}
 use Rattle.fuse_wire.specs.Ids.{id_of}
 use Rattle.fuse_request.specs.declared.class.Class.{Class}
 use Rattle.fuse_request.specs.declared.class.Class.TheVariants.{Silent, Bare, Kept}
@@ -14,8 +14,8 @@ use Rattle.fuse_request.specs.Spelling.{Spells}
 
 -- by its fault, and else by whether its opcode is of the profile
 abbrev pub class_by : Option Malformed → ℕ → Class
-class_by (Some m) opcode = Bare EINVAL
-class_by None opcode = if in_profile opcode then Kept else Bare ENOSYS
+class_by (Some m) opcode = Bare einval
+class_by None opcode = if in_profile opcode then Kept else Bare enosys
 
 unfoldable pub class_of : List ℕ → Class
 class_of b = if silent (raw_of b).opcode then Silent else class_by (first_fault b) (raw_of b).opcode
@@ -25,7 +25,7 @@ abbrev pub IsOfClass : Class → List ℕ → Type 0
 IsOfClass Silent b = silent (raw_of b).opcode ≡ true
 IsOfClass (Bare errno) b =
     (silent (raw_of b).opcode ≡ false)
-    × (((errno ≡ EINVAL) × ((r : Asked) → ¬ (Spells r b))) ⊎ ((errno ≡ ENOSYS) × ((r : Asked) × Spells r b × ¬ (IsInProfile r.act))))
+    × (((errno ≡ einval) × ((r : Asked) → ¬ (Spells r b))) ⊎ ((errno ≡ enosys) × ((r : Asked) × Spells r b × ¬ (IsInProfile r.act))))
 IsOfClass Kept b = (silent (raw_of b).opcode ≡ false) × ((r : Asked) × Spells r b × IsInProfile r.act)
 
 -- it would have to be answered, and its id is 0

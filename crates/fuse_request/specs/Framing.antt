@@ -2,8 +2,7 @@
 use Rattle.std.specs.Prelude.{◌≡◌, ◌≤◌, ◌+◌, ◌-◌, ℕ, nat_lt, if◌then◌else◌, List, [], ◌∷◌, ◌++◌, length, Option, Some, None, Result, Ok, Err, IfSome}
 use Rattle.std.specs.Option.{option_or}
 use Rattle.fuse_wire.specs.Bytes.{number_of}
-use Rattle.fuse_request.specs.declared.header.TheConstants.{MIN_MESSAGE, MAX_MESSAGE}
-use Rattle.fuse_request.specs.declared.framer.TheConstants.{MAX_FED}
+use Rattle.fuse_wire.specs.Bounds.{min_message_len, max_message_len, max_fed_len}
 use Rattle.fuse_request.specs.declared.framer.FrameFault.{FrameFault}
 use Rattle.fuse_request.specs.declared.framer.FrameFault.TheVariants.{Short, TooLong, Cut, Memory}
 use Rattle.fuse_request.specs.Stream.{cut, IsMessage}
@@ -22,13 +21,13 @@ fed_of h = h.at + length h.bytes
 abbrev pub bad_length : ℕ → List ℕ → Option FrameFault
 bad_length at w =
     if nat_lt (length w) 4 then None
-    else if nat_lt (number_of 4 w) MIN_MESSAGE then Some (Short at (number_of 4 w))
-    else if nat_lt MAX_MESSAGE (number_of 4 w) then Some (TooLong at (number_of 4 w))
+    else if nat_lt (number_of 4 w) min_message_len then Some (Short at (number_of 4 w))
+    else if nat_lt max_message_len (number_of 4 w) then Some (TooLong at (number_of 4 w))
     else None
 
 -- no more was fed than may be, and a fault that is held is that of the length at the front
 pub record IsHeld (h : Held) : Type 0 where
-  pub fed : fed_of h ≤ MAX_FED
+  pub fed : fed_of h ≤ max_fed_len
   pub fault : IfSome h.fault (λ f. bad_length h.at h.bytes ≡ Some f)
 
 -- the first message of the cut is given out, and what follows it is held then

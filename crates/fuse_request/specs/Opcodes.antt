@@ -2,9 +2,8 @@
 use Rattle.std.specs.Prelude.{◌==◌, ◌&&◌, ℕ, Bool, not, if◌then◌else◌, List, [], ◌∷◌, Option, Some, None, is_some, codes}
 use Rattle.std.specs.Option.{option_map}
 use Rattle.fuse_request.specs.declared.decoding.Malformed.{Malformed}
-use Rattle.fuse_request.specs.declared.lengths.TheConstants.{FORGET_IN, GETATTR_IN, SETATTR_IN, MKNOD_IN, MKDIR_IN, RENAME_IN, RENAME2_IN, OPEN_IN, READ_IN, WRITE_IN, RELEASE_IN, INTERRUPT_IN, BATCH_FORGET_IN, FORGET_ONE}
-use Rattle.fuse_wire.specs.declared.opcode.TheConstants.{LOOKUP, FORGET, GETATTR, SETATTR, MKNOD, MKDIR, UNLINK, RMDIR, RENAME, OPEN, READ, WRITE, RELEASE, INIT, OPENDIR, READDIR, RELEASEDIR, INTERRUPT, DESTROY, BATCH_FORGET, RENAME2}
-use Rattle.fuse_wire.specs.Opcodes.{silent}
+use Rattle.fuse_request.specs.Lengths.{forget_in_size, getattr_in_size, setattr_in_size, mknod_in_size, mkdir_in_size, rename_in_size, rename2_in_size, open_in_size, read_in_size, write_in_size, release_in_size, interrupt_in_size, batch_forget_in_size, forget_one_size}
+use Rattle.fuse_wire.specs.Opcodes.{fuse_lookup, fuse_forget, fuse_getattr, fuse_setattr, fuse_mknod, fuse_mkdir, fuse_unlink, fuse_rmdir, fuse_rename, fuse_open, fuse_read, fuse_write, fuse_release, fuse_init, fuse_opendir, fuse_readdir, fuse_releasedir, fuse_interrupt, fuse_destroy, fuse_batch_forget, fuse_rename2, silent}
 use Rattle.fuse_request.specs.Bodies.{fixed, at_least, name_fault, names_fault, counted, init_fault}
 
 -- an opcode: its number, its name, and what is wrong with a body
@@ -18,27 +17,27 @@ row number name fault = record { number = number; name = name; fault = fault }
 
 abbrev pub profile : List Opcode
 profile =
-    row LOOKUP (codes "LOOKUP") name_fault
-    ∷ row FORGET (codes "FORGET") (fixed FORGET_IN)
-    ∷ row GETATTR (codes "GETATTR") (fixed GETATTR_IN)
-    ∷ row SETATTR (codes "SETATTR") (fixed SETATTR_IN)
-    ∷ row MKNOD (codes "MKNOD") (at_least MKNOD_IN name_fault)
-    ∷ row MKDIR (codes "MKDIR") (at_least MKDIR_IN name_fault)
-    ∷ row UNLINK (codes "UNLINK") name_fault
-    ∷ row RMDIR (codes "RMDIR") name_fault
-    ∷ row RENAME (codes "RENAME") (at_least RENAME_IN names_fault)
-    ∷ row OPEN (codes "OPEN") (fixed OPEN_IN)
-    ∷ row READ (codes "READ") (fixed READ_IN)
-    ∷ row WRITE (codes "WRITE") (counted WRITE_IN 16 1)
-    ∷ row RELEASE (codes "RELEASE") (fixed RELEASE_IN)
-    ∷ row INIT (codes "INIT") init_fault
-    ∷ row OPENDIR (codes "OPENDIR") (fixed OPEN_IN)
-    ∷ row READDIR (codes "READDIR") (fixed READ_IN)
-    ∷ row RELEASEDIR (codes "RELEASEDIR") (fixed RELEASE_IN)
-    ∷ row INTERRUPT (codes "INTERRUPT") (fixed INTERRUPT_IN)
-    ∷ row DESTROY (codes "DESTROY") (fixed 0)
-    ∷ row BATCH_FORGET (codes "BATCH_FORGET") (counted BATCH_FORGET_IN 0 FORGET_ONE)
-    ∷ row RENAME2 (codes "RENAME2") (at_least RENAME2_IN names_fault)
+    row fuse_lookup (codes "LOOKUP") name_fault
+    ∷ row fuse_forget (codes "FORGET") (fixed forget_in_size)
+    ∷ row fuse_getattr (codes "GETATTR") (fixed getattr_in_size)
+    ∷ row fuse_setattr (codes "SETATTR") (fixed setattr_in_size)
+    ∷ row fuse_mknod (codes "MKNOD") (at_least mknod_in_size name_fault)
+    ∷ row fuse_mkdir (codes "MKDIR") (at_least mkdir_in_size name_fault)
+    ∷ row fuse_unlink (codes "UNLINK") name_fault
+    ∷ row fuse_rmdir (codes "RMDIR") name_fault
+    ∷ row fuse_rename (codes "RENAME") (at_least rename_in_size names_fault)
+    ∷ row fuse_open (codes "OPEN") (fixed open_in_size)
+    ∷ row fuse_read (codes "READ") (fixed read_in_size)
+    ∷ row fuse_write (codes "WRITE") (counted write_in_size 16 1)
+    ∷ row fuse_release (codes "RELEASE") (fixed release_in_size)
+    ∷ row fuse_init (codes "INIT") init_fault
+    ∷ row fuse_opendir (codes "OPENDIR") (fixed open_in_size)
+    ∷ row fuse_readdir (codes "READDIR") (fixed read_in_size)
+    ∷ row fuse_releasedir (codes "RELEASEDIR") (fixed release_in_size)
+    ∷ row fuse_interrupt (codes "INTERRUPT") (fixed interrupt_in_size)
+    ∷ row fuse_destroy (codes "DESTROY") (fixed 0)
+    ∷ row fuse_batch_forget (codes "BATCH_FORGET") (counted batch_forget_in_size 0 forget_one_size)
+    ∷ row fuse_rename2 (codes "RENAME2") (at_least rename2_in_size names_fault)
     ∷ []
 
 abbrev pub find : ℕ → List Opcode → Option Opcode

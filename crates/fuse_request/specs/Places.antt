@@ -2,9 +2,9 @@
 use Rattle.std.specs.Prelude.{◌≡◌, ◌≤◌, ◌-◌, ◌==◌, ℕ, zero, suc, if◌then◌else◌, List, [], ◌∷◌, length, drop, Option, Some, None}
 use Rattle.std.specs.Option.{unwrap_or}
 use Rattle.fuse_wire.specs.Bytes.{number_of, after_nul}
-use Rattle.fuse_request.specs.declared.lengths.TheConstants.{COMPAT_INIT_IN, MKNOD_IN, MKDIR_IN, RENAME_IN, RENAME2_IN, WRITE_IN, BATCH_FORGET_IN}
-use Rattle.fuse_wire.specs.declared.opcode.TheConstants.{LOOKUP, FORGET, GETATTR, SETATTR, MKNOD, MKDIR, UNLINK, RMDIR, RENAME, OPEN, READ, WRITE, RELEASE, INIT, OPENDIR, READDIR, RELEASEDIR, INTERRUPT, DESTROY, BATCH_FORGET, RENAME2}
-use Rattle.fuse_request.specs.declared.header.TheConstants.{MIN_MESSAGE}
+use Rattle.fuse_request.specs.Lengths.{compat_init_in_size, mknod_in_size, mkdir_in_size, rename_in_size, rename2_in_size, write_in_size, batch_forget_in_size}
+use Rattle.fuse_wire.specs.Opcodes.{fuse_lookup, fuse_forget, fuse_getattr, fuse_setattr, fuse_mknod, fuse_mkdir, fuse_unlink, fuse_rmdir, fuse_rename, fuse_open, fuse_read, fuse_write, fuse_release, fuse_init, fuse_opendir, fuse_readdir, fuse_releasedir, fuse_interrupt, fuse_destroy, fuse_batch_forget, fuse_rename2}
+use Rattle.fuse_wire.specs.Bounds.{min_message_len}
 use Rattle.fuse_request.specs.declared.request.InHeader.{InHeader}
 use Rattle.fuse_request.specs.declared.request.InitIn.{InitIn}
 use Rattle.fuse_request.specs.declared.request.ReadIn.{ReadIn}
@@ -70,32 +70,32 @@ init_with b flags2 = record {
 
 -- the shorter one ends before flags2
 abbrev pub init_at : List ℕ → InitIn
-init_at b = init_with b (if length b == COMPAT_INIT_IN then None else Some (number_of 4 (drop 16 b)))
+init_at b = init_with b (if length b == compat_init_in_size then None else Some (number_of 4 (drop 16 b)))
 
 -- each opcode of the profile, with what its body says
 abbrev pub places : List (ℕ × (List ℕ → Act))
 places =
-    (LOOKUP, λ b. Lookup (before_nul b))
-    ∷ (FORGET, λ b. Forget (number_of 8 b))
-    ∷ (GETATTR, λ b. Getattr (number_of 4 b) (number_of 8 (drop 8 b)))
-    ∷ (SETATTR, λ b. Setattr (setattr_at b))
-    ∷ (MKNOD, λ b. Mknod (number_of 4 b) (number_of 4 (drop 4 b)) (number_of 4 (drop 8 b)) (before_nul (drop MKNOD_IN b)))
-    ∷ (MKDIR, λ b. Mkdir (number_of 4 b) (number_of 4 (drop 4 b)) (before_nul (drop MKDIR_IN b)))
-    ∷ (UNLINK, λ b. Unlink (before_nul b))
-    ∷ (RMDIR, λ b. Rmdir (before_nul b))
-    ∷ (RENAME, λ b. Rename (number_of 8 b) (before_nul (drop RENAME_IN b)) (second_name (drop RENAME_IN b)))
-    ∷ (OPEN, λ b. OpenFile (number_of 4 b) (number_of 4 (drop 4 b)))
-    ∷ (READ, λ b. Read (read_at b))
-    ∷ (WRITE, λ b. Write (number_of 8 b) (number_of 8 (drop 8 b)) (number_of 4 (drop 20 b)) (number_of 8 (drop 24 b)) (number_of 4 (drop 32 b)) (drop WRITE_IN b))
-    ∷ (RELEASE, λ b. Release (release_at b))
-    ∷ (INIT, λ b. Init (init_at b))
-    ∷ (OPENDIR, λ b. OpenDir (number_of 4 b) (number_of 4 (drop 4 b)))
-    ∷ (READDIR, λ b. ReadDir (read_at b))
-    ∷ (RELEASEDIR, λ b. ReleaseDir (release_at b))
-    ∷ (INTERRUPT, λ b. Interrupt (number_of 8 b))
-    ∷ (DESTROY, λ b. Destroy)
-    ∷ (BATCH_FORGET, λ b. BatchForget (drop BATCH_FORGET_IN b))
-    ∷ (RENAME2, λ b. Rename2 (number_of 8 b) (number_of 4 (drop 8 b)) (before_nul (drop RENAME2_IN b)) (second_name (drop RENAME2_IN b)))
+    (fuse_lookup, λ b. Lookup (before_nul b))
+    ∷ (fuse_forget, λ b. Forget (number_of 8 b))
+    ∷ (fuse_getattr, λ b. Getattr (number_of 4 b) (number_of 8 (drop 8 b)))
+    ∷ (fuse_setattr, λ b. Setattr (setattr_at b))
+    ∷ (fuse_mknod, λ b. Mknod (number_of 4 b) (number_of 4 (drop 4 b)) (number_of 4 (drop 8 b)) (before_nul (drop mknod_in_size b)))
+    ∷ (fuse_mkdir, λ b. Mkdir (number_of 4 b) (number_of 4 (drop 4 b)) (before_nul (drop mkdir_in_size b)))
+    ∷ (fuse_unlink, λ b. Unlink (before_nul b))
+    ∷ (fuse_rmdir, λ b. Rmdir (before_nul b))
+    ∷ (fuse_rename, λ b. Rename (number_of 8 b) (before_nul (drop rename_in_size b)) (second_name (drop rename_in_size b)))
+    ∷ (fuse_open, λ b. OpenFile (number_of 4 b) (number_of 4 (drop 4 b)))
+    ∷ (fuse_read, λ b. Read (read_at b))
+    ∷ (fuse_write, λ b. Write (number_of 8 b) (number_of 8 (drop 8 b)) (number_of 4 (drop 20 b)) (number_of 8 (drop 24 b)) (number_of 4 (drop 32 b)) (drop write_in_size b))
+    ∷ (fuse_release, λ b. Release (release_at b))
+    ∷ (fuse_init, λ b. Init (init_at b))
+    ∷ (fuse_opendir, λ b. OpenDir (number_of 4 b) (number_of 4 (drop 4 b)))
+    ∷ (fuse_readdir, λ b. ReadDir (read_at b))
+    ∷ (fuse_releasedir, λ b. ReleaseDir (release_at b))
+    ∷ (fuse_interrupt, λ b. Interrupt (number_of 8 b))
+    ∷ (fuse_destroy, λ b. Destroy)
+    ∷ (fuse_batch_forget, λ b. BatchForget (drop batch_forget_in_size b))
+    ∷ (fuse_rename2, λ b. Rename2 (number_of 8 b) (number_of 4 (drop 8 b)) (before_nul (drop rename2_in_size b)) (second_name (drop rename2_in_size b)))
     ∷ []
 
 -- by the row of this number, and else by none
@@ -126,7 +126,7 @@ asked_at m = record { header = header_at m; act = act_in m; ext = ext_in m }
 
 -- the message has a header, with the opcode of the request, and says it at the places of that opcode
 pub record StandsAt (v : Asked) (m : List ℕ) : Type 0 where
-  pub long : MIN_MESSAGE ≤ length m
+  pub long : min_message_len ≤ length m
   pub opcode : (raw_of m).opcode ≡ opcode_of v.act
   pub says : asked_at m ≡ v
 

@@ -1,7 +1,7 @@
 -- What the readers of bodies answer: what a body spells (fuse.h), or its fault (own profile).
 use Rattle.std.specs.Prelude.{◌≡◌, ℕ, List, [], ◌∷◌, Some, Result, Ok, Err}
 use Rattle.std.specs.Borrow.{Bor}
-use Rattle.fuse_wire.specs.Layout.{Lays, text}
+use Rattle.fuse_wire.specs.Layout.{Lays, Placed, text}
 use Rattle.fuse_request.specs.declared.decoding.Malformed.{Malformed}
 use Rattle.fuse_request.specs.declared.request.Op.{Op}
 use Rattle.fuse_request.specs.Act.{act, opcode_of}
@@ -9,9 +9,9 @@ use Rattle.fuse_request.specs.Bodies.{name_fault, names_fault}
 use Rattle.fuse_request.specs.Spelling.{parts, IsSpellable}
 use Rattle.fuse_request.specs.Faults.{body_fault}
 
--- the body of an opcode is read, or its fault
+-- the body of an opcode is read at the places of its layout, or its fault
 abbrev pub Reads : ℕ → List ℕ → Result Op Malformed → Type 0
-Reads opcode b (Ok op) = (opcode_of (act op) ≡ opcode) × IsSpellable (act op) × Lays (parts (act op)) b
+Reads opcode b (Ok op) = (opcode_of (act op) ≡ opcode) × IsSpellable (act op) × Placed 0 (parts (act op)) b
 Reads opcode b (Err m) = body_fault opcode b ≡ Some m
 
 -- a name that ends the body is read, or its fault

@@ -1,7 +1,7 @@
 -- How a request is spelled (fuse.h: fuse_in_header and the request bodies).
 use Rattle.std.specs.Prelude.{◌≡◌, ◌*◌, ◌/◌, ℕ, false, List, [], ◌∷◌, ◌++◌, length, Option, Some, None}
 use Rattle.fuse_wire.specs.Layout.{Part, number, unused, text, bytes, Lays}
-use Rattle.fuse_request.specs.declared.lengths.TheConstants.{FORGET_ONE}
+use Rattle.fuse_request.specs.Lengths.{forget_one_size}
 use Rattle.fuse_request.specs.declared.request.ReadIn.{ReadIn}
 use Rattle.fuse_request.specs.declared.request.ReleaseIn.{ReleaseIn}
 use Rattle.fuse_request.specs.declared.request.SetattrIn.{SetattrIn}
@@ -56,14 +56,14 @@ parts (ReadDir x) = read_parts x
 parts (ReleaseDir x) = release_parts x
 parts (Interrupt unique) = number 8 unique ∷ []
 parts Destroy = []
-parts (BatchForget items) = number 4 (length items / FORGET_ONE) ∷ unused 4 ∷ bytes items ∷ []
+parts (BatchForget items) = number 4 (length items / forget_one_size) ∷ unused 4 ∷ bytes items ∷ []
 parts (Rename2 new_dir flags old_name new_name) = number 8 new_dir ∷ number 4 flags ∷ unused 4 ∷ text old_name ∷ text new_name ∷ []
 parts (Unsupported opcode body) = bytes body ∷ []
 
 -- only what is outside the profile is unsupported, and the items of BATCH_FORGET are whole
 abbrev pub IsSpellable : Act → Type 0
 IsSpellable (Unsupported opcode body) = in_profile opcode ≡ false
-IsSpellable (BatchForget items) = length items ≡ FORGET_ONE * (length items / FORGET_ONE)
+IsSpellable (BatchForget items) = length items ≡ forget_one_size * (length items / forget_one_size)
 IsSpellable _ = Unit {0}
 
 -- the layout of the header of a message of len bytes, with units of 8 bytes of extensions

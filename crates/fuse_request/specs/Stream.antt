@@ -2,13 +2,13 @@
 use Rattle.std.specs.Prelude.{◌≡◌, ◌≤◌, ◌&&◌, ℕ, zero, suc, Bool, true, false, nat_le, if◌then◌else◌, List, [], ◌∷◌, ◌++◌, length, take, drop}
 use Rattle.std.specs.List.{flat_map, AllByRecursion}
 use Rattle.fuse_wire.specs.Bytes.{number_of}
-use Rattle.fuse_request.specs.declared.header.TheConstants.{MIN_MESSAGE, MAX_MESSAGE}
+use Rattle.fuse_wire.specs.Bounds.{min_message_len, max_message_len}
 
 -- a whole message stands at the front
 abbrev pub is_whole : List ℕ → Bool
 is_whole w =
     nat_le 4 (length w)
-    && (nat_le MIN_MESSAGE (number_of 4 w) && (nat_le (number_of 4 w) MAX_MESSAGE && nat_le (number_of 4 w) (length w)))
+    && (nat_le min_message_len (number_of 4 w) && (nat_le (number_of 4 w) max_message_len && nat_le (number_of 4 w) (length w)))
 
 -- the messages at the front, n of them at most, and the rest
 abbrev pub cut_by : ℕ → List ℕ → List (List ℕ) × List ℕ
@@ -23,8 +23,8 @@ cut w = cut_by (length w) w
 
 pub record IsMessage (m : List ℕ) : Type 0 where
   pub size : number_of 4 m ≡ length m
-  pub low : MIN_MESSAGE ≤ length m
-  pub high : length m ≤ MAX_MESSAGE
+  pub low : min_message_len ≤ length m
+  pub high : length m ≤ max_message_len
 
 abbrev pub joined : List (List ℕ) → List ℕ
 joined ms = flat_map (λ m. m) ms

@@ -2,7 +2,7 @@
 -- and exchange.
 use Rattle.std.specs.Prelude.{◌≡◌, ℕ, List, [], ◌∷◌, ◌++◌, Some, None, codes, replicate}
 use Rattle.fuse_wire.specs.Hex.{hex}
-use Rattle.fuse_wire.specs.declared.opcode.TheConstants.{FORGET, MKDIR, RENAME, INIT, DESTROY, BATCH_FORGET}
+use Rattle.fuse_wire.specs.Opcodes.{fuse_forget, fuse_mkdir, fuse_rename, fuse_init, fuse_destroy, fuse_batch_forget}
 use Rattle.fuse_request.specs.declared.request.InHeader.{InHeader}
 use Rattle.fuse_request.specs.declared.decoding.Malformed.TheVariants.{HeaderShort, LenDiffers, BodyLength, NoNul, AfterNul, CountDiffers}
 use Rattle.fuse_request.specs.Act.{Asked, Lookup, Mkdir, Rename, Write, Rename2}
@@ -90,15 +90,15 @@ Exchange = (canon exchange_a ≡ exchange_text) × Spells exchange_a exchange_te
 -- bodies, by their opcodes
 abbrev pub BodyFaults : Type 0
 BodyFaults =
-    (body_fault INIT (replicate 24 0) ≡ Some BodyLength)
-    × (body_fault INIT (replicate 16 0) ≡ None)
-    × (body_fault INIT (replicate 64 0) ≡ None)
-    × (body_fault RENAME (hex (codes "0100000000000000 6100 62")) ≡ Some NoNul)
-    × (body_fault RENAME (hex (codes "0100000000000000 6100 6200 63")) ≡ Some AfterNul)
-    × (body_fault BATCH_FORGET (2 ∷ replicate 39 0) ≡ None)
-    × (body_fault BATCH_FORGET (3 ∷ replicate 39 0) ≡ Some CountDiffers)
-    × (body_fault BATCH_FORGET (hex (codes "00000010 00000000")) ≡ Some CountDiffers)
-    × (body_fault DESTROY (0 ∷ []) ≡ Some BodyLength)
-    × (body_fault FORGET (replicate 7 0) ≡ Some BodyLength)
-    × (body_fault MKDIR (replicate 4 0) ≡ Some BodyLength)
+    (body_fault fuse_init (replicate 24 0) ≡ Some BodyLength)
+    × (body_fault fuse_init (replicate 16 0) ≡ None)
+    × (body_fault fuse_init (replicate 64 0) ≡ None)
+    × (body_fault fuse_rename (hex (codes "0100000000000000 6100 62")) ≡ Some NoNul)
+    × (body_fault fuse_rename (hex (codes "0100000000000000 6100 6200 63")) ≡ Some AfterNul)
+    × (body_fault fuse_batch_forget (2 ∷ replicate 39 0) ≡ None)
+    × (body_fault fuse_batch_forget (3 ∷ replicate 39 0) ≡ Some CountDiffers)
+    × (body_fault fuse_batch_forget (hex (codes "00000010 00000000")) ≡ Some CountDiffers)
+    × (body_fault fuse_destroy (0 ∷ []) ≡ Some BodyLength)
+    × (body_fault fuse_forget (replicate 7 0) ≡ Some BodyLength)
+    × (body_fault fuse_mkdir (replicate 4 0) ≡ Some BodyLength)
     × (body_fault 35 (0 ∷ []) ≡ None)

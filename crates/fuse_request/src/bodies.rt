@@ -1,5 +1,7 @@
 // Reading the body of a message: numbers by their places, names by their NUL.
 ghost use Rattle.std.specs.Prelude.{◌≡◌, ◌≤◌, length};
+ghost use Rattle.fuse_wire.specs.Opcodes as opcodes;
+ghost use Rattle.fuse_request.specs.Lengths as lengths;
 ghost use Rattle.fuse_request.specs.Places as places;
 ghost use Rattle.fuse_request.specs.Readers.{GivesLastName, GivesTwoNames, Reads};
 
@@ -13,13 +15,14 @@ use crate::opcode::{
     READ, READDIR, RELEASE, RELEASEDIR, RENAME, RENAME2, RMDIR, SETATTR, UNLINK, WRITE,
 };
 use crate::request::{InitIn, Op, ReadIn, ReleaseIn, SetattrIn};
-use fuse_wire::{Fields, u32_at, u64_at};
+use fuse_wire::{Fields, names_end, u32_at, u64_at};
 
 // A name that is the last of its body.
 #[tactic(auto, using(crate::proofs::BodyFaults::endless, crate::proofs::BodyFaults::not_all))]
 fn last_name(bytes: &[u8]) -> Result<&[u8], Malformed>
     ensures { GivesLastName bytes.now result }
 {
+    names_end();
     let mut fields = Fields::new(bytes);
     let Some(name) = fields.until_nul() else {
         return Err(Malformed::NoNul);
@@ -31,10 +34,11 @@ fn last_name(bytes: &[u8]) -> Result<&[u8], Malformed>
 }
 
 // Two names that are the last of their body.
-#[tactic(auto, using(crate::proofs::BodyFaults::endless_first, crate::proofs::BodyFaults::behind_first))]
+#[tactic(auto, using(crate::proofs::BodyFaults::endless_first, crate::proofs::BodyFaults::behind))]
 fn two_names(bytes: &[u8]) -> Result<(&[u8], &[u8]), Malformed>
     ensures { GivesTwoNames bytes.now result }
 {
+    names_end();
     let mut fields = Fields::new(bytes);
     let Some(old_name) = fields.until_nul() else {
         return Err(Malformed::NoNul);
@@ -44,14 +48,14 @@ fn two_names(bytes: &[u8]) -> Result<(&[u8], &[u8]), Malformed>
 }
 
 fn lookup_of(body: &[u8]) -> Result<Op<'_>, Malformed>
-    ensures { Reads LOOKUP body.now result }
+    ensures { Reads opcodes.fuse_lookup body.now result }
 {
     let name = last_name(body)?;
     Ok(Op::Lookup { name })
 }
 
 fn forget_of(body: &[u8]) -> Result<Op<'_>, Malformed>
-    ensures { Reads FORGET body.now result }
+    ensures { Reads opcodes.fuse_forget body.now result }
 {
     if body.len() != FORGET_IN {
         return Err(Malformed::BodyLength);
@@ -61,7 +65,7 @@ fn forget_of(body: &[u8]) -> Result<Op<'_>, Malformed>
 }
 
 fn getattr_of(body: &[u8]) -> Result<Op<'_>, Malformed>
-    ensures { Reads GETATTR body.now result }
+    ensures { Reads opcodes.fuse_getattr body.now result }
 {
     if body.len() != GETATTR_IN {
         return Err(Malformed::BodyLength);
@@ -72,7 +76,7 @@ fn getattr_of(body: &[u8]) -> Result<Op<'_>, Malformed>
 }
 
 fn setattr_at(body: &[u8]) -> SetattrIn
-    requires { length body.now ≡ SETATTR_IN }
+    requires { length body.now ≡ lengths.setattr_in_size }
     ensures { result ≡ places.setattr_at body.now }
 {
     SetattrIn {
@@ -93,7 +97,7 @@ fn setattr_at(body: &[u8]) -> SetattrIn
 }
 
 fn setattr_of(body: &[u8]) -> Result<Op<'_>, Malformed>
-    ensures { Reads SETATTR body.now result }
+    ensures { Reads opcodes.fuse_setattr body.now result }
 {
     if body.len() != SETATTR_IN {
         return Err(Malformed::BodyLength);
@@ -102,7 +106,7 @@ fn setattr_of(body: &[u8]) -> Result<Op<'_>, Malformed>
 }
 
 fn mknod_of(body: &[u8]) -> Result<Op<'_>, Malformed>
-    ensures { Reads MKNOD body.now result }
+    ensures { Reads opcodes.fuse_mknod body.now result }
 {
     if body.len() < MKNOD_IN {
         return Err(Malformed::BodyLength);
@@ -121,7 +125,7 @@ fn mknod_of(body: &[u8]) -> Result<Op<'_>, Malformed>
 }
 
 fn mkdir_of(body: &[u8]) -> Result<Op<'_>, Malformed>
-    ensures { Reads MKDIR body.now result }
+    ensures { Reads opcodes.fuse_mkdir body.now result }
 {
     if body.len() < MKDIR_IN {
         return Err(Malformed::BodyLength);
@@ -134,21 +138,21 @@ fn mkdir_of(body: &[u8]) -> Result<Op<'_>, Malformed>
 }
 
 fn unlink_of(body: &[u8]) -> Result<Op<'_>, Malformed>
-    ensures { Reads UNLINK body.now result }
+    ensures { Reads opcodes.fuse_unlink body.now result }
 {
     let name = last_name(body)?;
     Ok(Op::Unlink { name })
 }
 
 fn rmdir_of(body: &[u8]) -> Result<Op<'_>, Malformed>
-    ensures { Reads RMDIR body.now result }
+    ensures { Reads opcodes.fuse_rmdir body.now result }
 {
     let name = last_name(body)?;
     Ok(Op::Rmdir { name })
 }
 
 fn rename_of(body: &[u8]) -> Result<Op<'_>, Malformed>
-    ensures { Reads RENAME body.now result }
+    ensures { Reads opcodes.fuse_rename body.now result }
 {
     if body.len() < RENAME_IN {
         return Err(Malformed::BodyLength);
@@ -165,7 +169,7 @@ fn rename_of(body: &[u8]) -> Result<Op<'_>, Malformed>
 }
 
 fn open_of(body: &[u8]) -> Result<Op<'_>, Malformed>
-    ensures { Reads OPEN body.now result }
+    ensures { Reads opcodes.fuse_open body.now result }
 {
     if body.len() != OPEN_IN {
         return Err(Malformed::BodyLength);
@@ -176,7 +180,7 @@ fn open_of(body: &[u8]) -> Result<Op<'_>, Malformed>
 }
 
 fn read_at(body: &[u8]) -> ReadIn
-    requires { length body.now ≡ READ_IN }
+    requires { length body.now ≡ lengths.read_in_size }
     ensures { result ≡ places.read_at body.now }
 {
     ReadIn {
@@ -190,7 +194,7 @@ fn read_at(body: &[u8]) -> ReadIn
 }
 
 fn read_of(body: &[u8]) -> Result<Op<'_>, Malformed>
-    ensures { Reads READ body.now result }
+    ensures { Reads opcodes.fuse_read body.now result }
 {
     if body.len() != READ_IN {
         return Err(Malformed::BodyLength);
@@ -199,7 +203,7 @@ fn read_of(body: &[u8]) -> Result<Op<'_>, Malformed>
 }
 
 fn write_of(body: &[u8]) -> Result<Op<'_>, Malformed>
-    ensures { Reads WRITE body.now result }
+    ensures { Reads opcodes.fuse_write body.now result }
 {
     if body.len() < WRITE_IN {
         return Err(Malformed::BodyLength);
@@ -225,7 +229,7 @@ fn write_of(body: &[u8]) -> Result<Op<'_>, Malformed>
 }
 
 fn release_at(body: &[u8]) -> ReleaseIn
-    requires { length body.now ≡ RELEASE_IN }
+    requires { length body.now ≡ lengths.release_in_size }
     ensures { result ≡ places.release_at body.now }
 {
     ReleaseIn {
@@ -237,7 +241,7 @@ fn release_at(body: &[u8]) -> ReleaseIn
 }
 
 fn release_of(body: &[u8]) -> Result<Op<'_>, Malformed>
-    ensures { Reads RELEASE body.now result }
+    ensures { Reads opcodes.fuse_release body.now result }
 {
     if body.len() != RELEASE_IN {
         return Err(Malformed::BodyLength);
@@ -246,7 +250,7 @@ fn release_of(body: &[u8]) -> Result<Op<'_>, Malformed>
 }
 
 fn init_with(body: &[u8], flags2: Option<u32>) -> InitIn
-    requires { COMPAT_INIT_IN ≤ length body.now }
+    requires { lengths.compat_init_in_size ≤ length body.now }
     ensures { result ≡ places.init_with body.now flags2 }
 {
     InitIn {
@@ -259,7 +263,7 @@ fn init_with(body: &[u8], flags2: Option<u32>) -> InitIn
 }
 
 fn init_of(body: &[u8]) -> Result<Op<'_>, Malformed>
-    ensures { Reads INIT body.now result }
+    ensures { Reads opcodes.fuse_init body.now result }
 {
     if body.len() == COMPAT_INIT_IN {
         return Ok(Op::Init(init_with(body, None)));
@@ -272,7 +276,7 @@ fn init_of(body: &[u8]) -> Result<Op<'_>, Malformed>
 }
 
 fn open_dir_of(body: &[u8]) -> Result<Op<'_>, Malformed>
-    ensures { Reads OPENDIR body.now result }
+    ensures { Reads opcodes.fuse_opendir body.now result }
 {
     if body.len() != OPEN_IN {
         return Err(Malformed::BodyLength);
@@ -283,7 +287,7 @@ fn open_dir_of(body: &[u8]) -> Result<Op<'_>, Malformed>
 }
 
 fn read_dir_of(body: &[u8]) -> Result<Op<'_>, Malformed>
-    ensures { Reads READDIR body.now result }
+    ensures { Reads opcodes.fuse_readdir body.now result }
 {
     if body.len() != READ_IN {
         return Err(Malformed::BodyLength);
@@ -292,7 +296,7 @@ fn read_dir_of(body: &[u8]) -> Result<Op<'_>, Malformed>
 }
 
 fn release_dir_of(body: &[u8]) -> Result<Op<'_>, Malformed>
-    ensures { Reads RELEASEDIR body.now result }
+    ensures { Reads opcodes.fuse_releasedir body.now result }
 {
     if body.len() != RELEASE_IN {
         return Err(Malformed::BodyLength);
@@ -301,7 +305,7 @@ fn release_dir_of(body: &[u8]) -> Result<Op<'_>, Malformed>
 }
 
 fn interrupt_of(body: &[u8]) -> Result<Op<'_>, Malformed>
-    ensures { Reads INTERRUPT body.now result }
+    ensures { Reads opcodes.fuse_interrupt body.now result }
 {
     if body.len() != INTERRUPT_IN {
         return Err(Malformed::BodyLength);
@@ -311,7 +315,7 @@ fn interrupt_of(body: &[u8]) -> Result<Op<'_>, Malformed>
 }
 
 fn destroy_of(body: &[u8]) -> Result<Op<'_>, Malformed>
-    ensures { Reads DESTROY body.now result }
+    ensures { Reads opcodes.fuse_destroy body.now result }
 {
     if !body.is_empty() {
         return Err(Malformed::BodyLength);
@@ -320,7 +324,7 @@ fn destroy_of(body: &[u8]) -> Result<Op<'_>, Malformed>
 }
 
 fn batch_forget_of(body: &[u8]) -> Result<Op<'_>, Malformed>
-    ensures { Reads BATCH_FORGET body.now result }
+    ensures { Reads opcodes.fuse_batch_forget body.now result }
 {
     if body.len() < BATCH_FORGET_IN {
         return Err(Malformed::BodyLength);
@@ -334,7 +338,7 @@ fn batch_forget_of(body: &[u8]) -> Result<Op<'_>, Malformed>
 }
 
 fn rename2_of(body: &[u8]) -> Result<Op<'_>, Malformed>
-    ensures { Reads RENAME2 body.now result }
+    ensures { Reads opcodes.fuse_rename2 body.now result }
 {
     if body.len() < RENAME2_IN {
         return Err(Malformed::BodyLength);

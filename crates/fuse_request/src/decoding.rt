@@ -10,6 +10,7 @@ ghost use Rattle.fuse_request.specs.declared.class.Class.{Class};
 use crate::bodies::op_of;
 use crate::header::{MIN_MESSAGE, header_of};
 use crate::request::{InHeader, Request};
+use fuse_wire::{layouts_stand, names_end, numbers_read};
 
 /// Why a message spells no request. Where several apply it is the first in this order.
 #[derive(Clone, Copy, Debug, PartialEq, Eq)]
@@ -35,6 +36,8 @@ fn read(message: &[u8]) -> Result<Request<'_>, Malformed>
     ensures found { IfOk result (λ r. Spells (asked r) message.now) }
     ensures fault { IfErr result (λ m. first_fault message.now ≡ Some m) }
 {
+    numbers_read();
+    layouts_stand();
     let Some(raw) = header_of(message) else {
         return Err(Malformed::HeaderShort);
     };
@@ -73,5 +76,7 @@ pub fn decode(message: &[u8]) -> Result<Request<'_>, Malformed>
     // What is kept is read as a request that is kept.
     ensures kept { class_of message.now ≡ Class.Kept → IsOkAnd result (λ r. IsKept (act r.op)) }
 {
+    layouts_stand();
+    names_end();
     read(message)
 }

@@ -1,10 +1,13 @@
 // Writing a request as a message.
-ghost use Rattle.std.specs.Prelude.{◌≡◌, ◌<◌, ◌≤◌, ◌+◌, ◌^◌, ◌↔◌, ◌++◌, ◌∷◌, [], Err, OnOk, OnErr, length, true};
+ghost use Rattle.std.specs.Prelude.{◌≡◌, ◌<◌, ◌≤◌, ◌+◌, ◌^◌, ◌↔◌, ◌++◌, ◌∷◌, [], Err, OnOk, OnErr};
+ghost use Rattle.std.specs.Prelude.{length, true};
 ghost use Rattle.fuse_wire.specs.Layout.{form, widths};
+ghost use Rattle.fuse_wire.specs.Bounds.{max_message_len, min_message_len};
 ghost use Rattle.fuse_request.specs.Act.{act, asked};
 ghost use Rattle.fuse_request.specs.Act as acts;
 ghost use Rattle.fuse_request.specs.Canon.{canon, len_of, sayable};
-ghost use Rattle.fuse_request.specs.Encoding.{AllFit, EndsWithName, Extends, HasNumbers, ReadsAs, laid, part_of};
+ghost use Rattle.fuse_request.specs.Encoding.{AllFit, EndsWithName, Extends, HasNumbers, ReadsAs};
+ghost use Rattle.fuse_request.specs.Encoding.{laid, part_of};
 ghost use Rattle.fuse_request.specs.Spelling.{Spells, header_parts, parts};
 
 use crate::header::{MAX_MESSAGE, MIN_MESSAGE};
@@ -17,7 +20,7 @@ use crate::opcode::{
     READ, READDIR, RELEASE, RELEASEDIR, RENAME, RENAME2, RMDIR, SETATTR, UNLINK, WRITE,
 };
 use crate::request::{InitIn, Op, ReadIn, ReleaseIn, Request, SetattrIn};
-use fuse_wire::{Memory, put_bytes, put_u16, put_u32, put_u64};
+use fuse_wire::{Memory, layouts_stand, names_end, put_bytes, put_u16, put_u32, put_u64};
 
 /// Why a request wasn't encoded.
 #[derive(Clone, Copy, Debug, PartialEq, Eq)]
@@ -168,7 +171,8 @@ fn put_init(out: &mut Vec<u8>, x: &InitIn) -> Result<(), Memory>
 }
 
 fn put_mknod(out: &mut Vec<u8>, mode: u32, rdev: u32, umask: u32, name: &[u8]) -> Result<(), Memory>
-    ensures ok { OnOk result (out.new.items ≡ out.old.items ++ form (parts (acts.Mknod mode rdev umask name.now))) }
+    ensures ok { OnOk result (out.new.items ≡ out.old.items
+        ++ form (parts (acts.Mknod mode rdev umask name.now))) }
     ensures fits { OnOk result (AllFit (parts (acts.Mknod mode rdev umask name.now))) }
     ensures grows { Extends out.old.items out.new.items }
 {
@@ -191,8 +195,10 @@ fn put_rename2<'a>(
     old_name: &'a [u8],
     new_name: &'a [u8],
 ) -> Result<(), Memory>
-    ensures ok { OnOk result (out.new.items ≡ out.old.items ++ form (parts (acts.Rename2 new_dir flags old_name.now new_name.now))) }
-    ensures fits { OnOk result (AllFit (parts (acts.Rename2 new_dir flags old_name.now new_name.now))) }
+    ensures ok { OnOk result (out.new.items ≡ out.old.items
+        ++ form (parts (acts.Rename2 new_dir flags old_name.now new_name.now))) }
+    ensures fits { OnOk result (AllFit (parts (acts.Rename2 new_dir flags old_name.now
+        new_name.now))) }
     ensures grows { Extends out.old.items out.new.items }
 {
     put_fields(
@@ -216,9 +222,11 @@ fn put_write(
     flags: u32,
     payload: &[u8],
 ) -> Result<(), Memory>
-    requires { length payload.now ≤ MAX_MESSAGE }
-    ensures ok { OnOk result (out.new.items ≡ out.old.items ++ form (parts (acts.Write fh offset write_flags lock_owner flags payload.now))) }
-    ensures fits { OnOk result (AllFit (parts (acts.Write fh offset write_flags lock_owner flags payload.now))) }
+    requires { length payload.now ≤ max_message_len }
+    ensures ok { OnOk result (out.new.items ≡ out.old.items
+        ++ form (parts (acts.Write fh offset write_flags lock_owner flags payload.now))) }
+    ensures fits { OnOk result (AllFit (parts (acts.Write fh offset write_flags lock_owner flags
+        payload.now))) }
     ensures grows { Extends out.old.items out.new.items }
 {
     put_fields(
@@ -237,8 +245,9 @@ fn put_write(
 }
 
 fn put_batch_forget(out: &mut Vec<u8>, items: &[u8]) -> Result<(), Memory>
-    requires { length items.now ≤ MAX_MESSAGE }
-    ensures ok { OnOk result (out.new.items ≡ out.old.items ++ form (parts (acts.BatchForget items.now))) }
+    requires { length items.now ≤ max_message_len }
+    ensures ok { OnOk result (out.new.items ≡ out.old.items
+        ++ form (parts (acts.BatchForget items.now))) }
     ensures fits { OnOk result (AllFit (parts (acts.BatchForget items.now))) }
     ensures grows { Extends out.old.items out.new.items }
 {
@@ -285,7 +294,7 @@ fn put_named(out: &mut Vec<u8>, op: &Op<'_>) -> Result<(), Memory>
 
 // Appends the body of a request.
 fn put_op(out: &mut Vec<u8>, op: &Op<'_>) -> Result<(), Memory>
-    requires short { widths (parts (act op.now)) ≤ MAX_MESSAGE }
+    requires short { widths (parts (act op.now)) ≤ max_message_len }
     ensures ok { OnOk result (out.new.items ≡ out.old.items ++ form (parts (act op.now))) }
     ensures fits { OnOk result (AllFit (parts (act op.now))) }
     ensures grows { Extends out.old.items out.new.items }
@@ -402,13 +411,16 @@ fn opcode_of(op: &Op<'_>) -> u32
 // How many bytes the message of a request has.
 fn message_len(request: &Request<'_>) -> u128
     ensures len { result ≡ len_of (asked request.now) }
-    ensures widths { result ≡ MIN_MESSAGE + (widths (parts (act request.now.op)) + length request.now.ext.now) }
+    ensures widths { result ≡ min_message_len + (widths (parts (act request.now.op))
+        + length request.now.ext.now) }
 {
+    layouts_stand();
     MIN_MESSAGE as u128 + (body_len(&request.op) + long(request.ext))
 }
 
 fn put_header(out: &mut Vec<u8>, request: &Request<'_>, len: u32, units: u16) -> Result<(), Memory>
-    ensures ok { OnOk result (out.new.items ≡ out.old.items ++ form (header_parts len units (asked request.now))) }
+    ensures ok { OnOk result (out.new.items ≡ out.old.items
+        ++ form (header_parts len units (asked request.now))) }
     ensures fits { OnOk result (AllFit (header_parts len units (asked request.now))) }
     ensures grows { Extends out.old.items out.new.items }
 {
@@ -432,8 +444,9 @@ fn put_header(out: &mut Vec<u8>, request: &Request<'_>, len: u32, units: u16) ->
 // Appends the message of a request, or a part of it.
 fn put_message(out: &mut Vec<u8>, request: &Request<'_>, len: u32) -> Result<(), Memory>
     requires len { len ≡ len_of (asked request.now) }
-    requires widths { len ≡ MIN_MESSAGE + (widths (parts (act request.now.op)) + length request.now.ext.now) }
-    requires short { len ≤ MAX_MESSAGE }
+    requires widths { len ≡ min_message_len + (widths (parts (act request.now.op))
+        + length request.now.ext.now) }
+    requires short { len ≤ max_message_len }
     ensures ok { OnOk result (out.new.items ≡ out.old.items ++ canon (asked request.now)) }
     ensures fits { OnOk result (HasNumbers (asked request.now)) }
     ensures grows { Extends out.old.items out.new.items }
@@ -444,7 +457,8 @@ fn put_message(out: &mut Vec<u8>, request: &Request<'_>, len: u32) -> Result<(),
     put_bytes(out, request.ext)
 }
 
-/// Appends the message that says a request, with zeros where a field isn't used. A fault leaves `out` unchanged.
+/// Appends the message that says a request, with zeros where a field isn't used. A fault leaves
+/// `out` unchanged.
 pub fn encode(request: &Request<'_>, out: &mut Vec<u8>) -> Result<(), EncodeFault>
     requires { sayable (asked request.now) ≡ true }
     ensures ok { OnOk result (out.new.items ≡ out.old.items ++ canon (asked request.now)) }
@@ -453,8 +467,11 @@ pub fn encode(request: &Request<'_>, out: &mut Vec<u8>) -> Result<(), EncodeFaul
     // What decode answers for the message is the request.
     ensures decoded { OnOk result (ReadsAs (canon (asked request.now)) (asked request.now)) }
     // It is tested before anything is written.
-    ensures too_long { (result ≡ Err EncodeFault.TooLong) ↔ (MAX_MESSAGE < len_of (asked request.now)) }
+    ensures too_long { (result ≡ Err EncodeFault.TooLong)
+        ↔ (max_message_len < len_of (asked request.now)) }
 {
+    layouts_stand();
+    names_end();
     let len = message_len(request);
     if len > MAX_MESSAGE as u128 {
         return Err(EncodeFault::TooLong);

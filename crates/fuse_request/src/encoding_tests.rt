@@ -75,7 +75,8 @@ fn write(payload: &[u8]) -> Request<'_> {
     }
 }
 
-// What the encoder answers to a WRITE of this payload, and what it leaves where one byte was before.
+// What the encoder answers to a WRITE of this payload, and what it leaves where one byte was
+// before.
 fn written(alloc: Global, payload: &[u8]) -> Result<(Option<EncodeFault>, Vec<u8>), Fail> {
     let mut out = Vec::from_slice(alloc, b"a")?;
     let request = write(payload);

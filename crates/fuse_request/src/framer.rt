@@ -1,13 +1,15 @@
-ghost use Rattle.std.specs.Prelude.{◌≡◌, ◌+◌, ◌<◌, ◌≤◌, ◌++◌, [], None, Some, length, if◌then◌else◌, OnOk, OnErr, IfOk, IfErr, IfSome};
+ghost use Rattle.std.specs.Prelude.{◌≡◌, ◌+◌, ◌<◌, ◌≤◌, ◌++◌, [], None, Some, length};
+ghost use Rattle.std.specs.Prelude.{if◌then◌else◌, OnOk, OnErr, IfOk, IfErr, IfSome};
 ghost use Rattle.std.specs.Option.{unwrap_or};
 ghost use Rattle.std.specs.Result.{result_err};
+ghost use Rattle.fuse_wire.specs.Bounds.{max_fed_len, max_message_len};
 ghost use Rattle.fuse_wire.specs.Bytes.{number_of};
 ghost use Rattle.fuse_request.specs.Stream.{is_whole};
 ghost use Rattle.fuse_request.specs.Framing.{bad_length, end_fault, ends, fed_of, GivesNext};
 
 use crate::header::{MAX_MESSAGE, MIN_MESSAGE};
 use bytes::{Bytes, BytesMut};
-use fuse_wire::u32_at;
+use fuse_wire::{numbers_read, u32_at};
 use std::alloc::Global;
 use std::marker::Model;
 
@@ -124,8 +126,9 @@ impl Framer {
 
     /// Appends a piece of the stream.
     pub fn feed(&mut self, piece: &[u8]) -> Result<(), FrameFault>
-        requires { fed_of self.old + length piece.now ≤ MAX_FED }
-        ensures ok { OnOk result ((self.old.fault ≡ None) × (self.new ≡ record self.old { bytes = self.old.bytes ++ piece.now })) }
+        requires { fed_of self.old + length piece.now ≤ max_fed_len }
+        ensures ok { OnOk result ((self.old.fault ≡ None)
+            × (self.new ≡ record self.old { bytes = self.old.bytes ++ piece.now })) }
         ensures err { OnErr result (self.new ≡ self.old) }
 
         // The fault that it holds, and else want of memory.
@@ -140,14 +143,17 @@ impl Framer {
         }
     }
 
-    /// The next message, where it is whole. A bad length is answered as soon as its four bytes are there.
+    /// The next message, where it is whole. A bad length is answered as soon as its four
+    /// bytes are there.
     pub fn next(&mut self) -> Result<Option<Bytes>, FrameFault>
         ensures next { GivesNext self.old self.new result }
         // A bad length that was answered is answered from then on.
         ensures again { IfSome self.old.fault (λ f. result ≡ Err f) }
 
-        ensures room { IfOk result (λ message. message ≡ None → length self.new.bytes < MAX_MESSAGE) }
+        ensures room { IfOk result (λ message. message ≡ None → length self.new.bytes
+            < max_message_len) }
     {
+        numbers_read();
         if let Some(fault) = length_fault(self.at, &self.held) {
             self.fault = Some(fault);
             return Err(fault);
@@ -169,6 +175,7 @@ impl Framer {
     pub fn end(&self) -> Result<(), FrameFault>
         ensures { result_err result ≡ ends self.now }
     {
+        numbers_read();
         let mut rest = self.held.as_slice();
         let mut at = self.at;
         while let Some(len) = whole_len(rest) {

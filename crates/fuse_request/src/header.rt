@@ -1,7 +1,8 @@
-ghost use Rattle.std.specs.Prelude.{◌≡◌, ◌≤◌, Some, None, nat_lt, if◌then◌else◌, length};
-ghost use Rattle.fuse_request.specs.Header.{raw_of};
+ghost use Rattle.std.specs.Prelude.{◌≡◌, ◌<◌, ◌≤◌, ◌↔◌, IfSome, nat_lt, if◌then◌else◌, length};
+ghost use Rattle.fuse_wire.specs.Bounds.{min_message_len};
+ghost use Rattle.fuse_request.specs.Header.{IsHeaderOf, raw_of};
 
-use fuse_wire::{u16_at, u32_at, u64_at};
+use fuse_wire::{layouts_stand, u16_at, u32_at, u64_at};
 
 /// The length of the shortest message: a header alone, `fuse_in_header` of `fuse.h`.
 pub const MIN_MESSAGE: usize = 40;
@@ -25,8 +26,14 @@ pub struct RawHeader {
 
 /// The header of a message. `None` where there are fewer bytes than a header has.
 pub fn header_of(message: &[u8]) -> Option<RawHeader>
-    ensures { result ≡ (if nat_lt (length message.now) MIN_MESSAGE then None else Some (raw_of message.now)) }
+    // The first 40 bytes are laid out as the fields of `fuse_in_header`.
+    ensures laid { IfSome result (λ h. IsHeaderOf h message.now) }
+    ensures none { (result ≡ None) ↔ (length message.now < min_message_len) }
+
+    ensures fields { result ≡ (if nat_lt (length message.now) min_message_len then None
+        else Some (raw_of message.now)) }
 {
+    layouts_stand();
     if message.len() < MIN_MESSAGE {
         return None;
     }
@@ -45,7 +52,7 @@ pub fn header_of(message: &[u8]) -> Option<RawHeader>
 
 /// The `unique` of a whole message, as it was received: a resend has its bit set. Takes no memory.
 pub fn unique_of(message: &[u8]) -> u64
-    requires { MIN_MESSAGE ≤ length message.now }
+    requires { min_message_len ≤ length message.now }
     ensures { result ≡ (raw_of message.now).unique }
 {
     u64_at(message, 8)

@@ -45,30 +45,7 @@ pub fn name_of(opcode: u32) -> Option<&'static str>
 pub fn is_in_profile(opcode: u32) -> bool
     ensures { result ≡ in_profile opcode }
 {
-    matches!(
-        opcode,
-        LOOKUP
-            | FORGET
-            | GETATTR
-            | SETATTR
-            | MKNOD
-            | MKDIR
-            | UNLINK
-            | RMDIR
-            | RENAME
-            | OPEN
-            | READ
-            | WRITE
-            | RELEASE
-            | INIT
-            | OPENDIR
-            | READDIR
-            | RELEASEDIR
-            | INTERRUPT
-            | DESTROY
-            | BATCH_FORGET
-            | RENAME2
-    )
+    name_of(opcode).is_some()
 }
 
 /// Whether messages of this opcode are never answered.

@@ -51,8 +51,9 @@ fn is_sayable_op(op: &Op<'_>) -> bool
 }
 
 impl<'a> Request<'a> {
-    /// Whether there is a message that says it: its names hold no NUL, its extensions are whole units of 8 bytes, the
-    /// items of BATCH_FORGET are whole, and no opcode of the profile is unsupported.
+    /// Whether there is a message that says it: its names hold no NUL, its extensions are whole
+    /// units of 8 bytes, the items of BATCH_FORGET are whole, and no opcode of the profile is
+    /// unsupported.
     pub fn is_sayable(&self) -> bool
         ensures { result ≡ sayable (asked self.now) }
     {

@@ -1,7 +1,8 @@
-ghost use Rattle.fuse_request.specs.Vectors.{BodyFaults, Exchange, Faults, FirstRun, MissingLookup, RenameBytes, WriteBytes};
+ghost use Rattle.fuse_request.specs.Vectors.{BodyFaults, Exchange, Faults, FirstRun, MissingLookup};
+ghost use Rattle.fuse_request.specs.Vectors.{RenameBytes, WriteBytes};
 
 use super::*;
-use fuse_wire::Errno;
+use fuse_wire::{Errno, layouts_stand};
 use std::test::*;
 
 #[tactic(auto, unfolding(fuse_wire::specs::Bytes::number_of))]
@@ -16,27 +17,38 @@ fn body_faults()
 
 fn missing_lookup()
     ensures { MissingLookup }
-{}
+{
+    layouts_stand();
+}
 
 fn first_run()
     ensures { FirstRun }
-{}
+{
+    layouts_stand();
+}
 
 fn rename_bytes()
     ensures { RenameBytes }
-{}
+{
+    layouts_stand();
+}
 
 fn write_bytes()
     ensures { WriteBytes }
-{}
+{
+    layouts_stand();
+}
 
 fn exchange()
     ensures { Exchange }
-{}
+{
+    layouts_stand();
+}
 
 // The vectors, which the check computes.
 #[test]
 fn vectors() {
+    message_bounds();
     faults();
     body_faults();
     rename_bytes();
@@ -105,7 +117,8 @@ fn fault_in(message: &[u8]) -> Option<Malformed> {
     decode(message).err()
 }
 
-// The class of a message, and whether its id is 0 where it has to be answered; `None` where it isn't whole.
+// The class of a message, and whether its id is 0 where it has to be answered; `None` where it
+// isn't whole.
 fn class_in(message: &[u8]) -> Option<(Class, bool)> {
     let raw = header_of(message)?;
     if raw.len as usize != message.len() {
@@ -114,8 +127,8 @@ fn class_in(message: &[u8]) -> Option<(Class, bool)> {
     Some((classify(message), has_zero_unique(message)))
 }
 
-// A whole message: its row, its bytes, what is wrong with it, its class, and whether its id is 0 where it has to be
-// answered.
+// A whole message: its row, its bytes, what is wrong with it, its class, and whether its id is 0
+// where it has to be answered.
 struct Whole {
     row: &'static str,
     bytes: &'static [u8],

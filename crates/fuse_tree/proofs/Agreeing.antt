@@ -2,7 +2,7 @@
 use Rattle.std.proofs.Common.{◌≡◌, ℕ, true, not, List, Option, Some, None, refl, sym, subst}
 use Rattle.std.specs.Prelude.{Result, Ok, Err, IfOk, IfErr, is_some}
 use Rattle.std.specs.Option.{option_map}
-use Rattle.fuse_wire.specs.declared.errno.TheConstants.Errno.{ENOENT, ENOTDIR, ENOSYS, EPROTO, ESTALE}
+use Rattle.fuse_wire.specs.Errnos.{enoent, enotdir, enosys, eproto, estale}
 use Rattle.fuse_wire.specs.declared.moment.Moment.{Moment}
 use Rattle.fuse_request.specs.declared.request.InHeader.{InHeader}
 use Rattle.fuse_request.specs.declared.request.InitIn.{InitIn}
@@ -37,18 +37,18 @@ use Rattle.fuse_tree.proofs.Puts.{row_found, node_found}
 use Rattle.fuse_tree.proofs.GoneFirst.{plan_orders}
 
 child_agrees : (s : State) → Tree s → (o : Option Node) → Agrees s (plan_child (option_map (row_of s) o)) (lookup_child s o)
-child_agrees s tree None = refused_agrees s tree ENOENT
+child_agrees s tree None = refused_agrees s tree enoent
 child_agrees s tree (Some n) = record { answer = refl; rows = refl; tree = tree }
 
 entry_agrees : (s : State) → Tree s → (o : Option EntryRow) → Agrees s (plan_child (child_of (rows_of_state s) o)) (lookup_entry s o)
-entry_agrees s tree None = refused_agrees s tree ENOENT
+entry_agrees s tree None = refused_agrees s tree enoent
 entry_agrees s tree (Some e) = subst (λ (r : Option NodeRow). Agrees s (plan_child r) (lookup_child s (node_at s e.child))) (sym (row_found s e.child)) (child_agrees s tree (node_at s e.child))
 
 lookup_agrees : (s : State) (name : List ℕ) (d : Node) → Tree s → Agrees s (plan_lookup name (row_of s d) (rows_of_state s)) (lookup s name d)
 lookup_agrees s name d tree =
-    both s (not (is_dir d.mode)) _ _ _ _ (λ _. refused_agrees s tree ENOTDIR) (λ _.
+    both s (not (is_dir d.mode)) _ _ _ _ (λ _. refused_agrees s tree enotdir) (λ _.
     both_for s (name_fault name) _ _ tree (λ _.
-    both s (not (is_named s d.number)) _ _ _ _ (λ _. refused_agrees s tree ENOENT) (λ _.
+    both s (not (is_named s d.number)) _ _ _ _ (λ _. refused_agrees s tree enoent) (λ _.
     entry_agrees s tree (entry_at s.entries d.number name))))
 
 act_agrees : (s : State) (header : InHeader) (a : Act) (now : Moment) (d : Node) → Tree s → node_at s d.number ≡ Some d → Agrees s (plan_act header a now (row_of s d) (rows_of_state s)) (do_act s header a now d)
@@ -68,11 +68,11 @@ act_agrees s header (acts.Release x) now d tree e = release_agrees s x.fh d tree
 act_agrees s header (acts.ReleaseDir x) now d tree e = release_dir_agrees s x.fh d tree
 act_agrees s header (acts.Rename new_dir old_name new_name) now d tree e = renaming_agrees s (asking new_dir 0 old_name new_name now) d tree e
 act_agrees s header (acts.Rename2 new_dir flags old_name new_name) now d tree e = renaming_agrees s (asking new_dir flags old_name new_name now) d tree e
-act_agrees s header _ now d tree e = refused_agrees s tree ENOSYS
+act_agrees s header _ now d tree e = refused_agrees s tree enosys
 
 at_agrees : (s : State) (request : Asked) (now : Moment) (o : Option Node) → Tree s → node_at s request.header.nodeid ≡ o
     → Agrees s (plan_at request now (option_map (row_of s) o) (rows_of_state s)) (do_at s request now o)
-at_agrees s request now None tree e = refused_agrees s tree ESTALE
+at_agrees s request now None tree e = refused_agrees s tree estale
 at_agrees s request now (Some d) tree e =
     act_agrees s request.header request.act now d tree (subst (λ number. node_at s number ≡ Some d) (sym (node_found s request.header.nodeid d tree e).0) e)
 
@@ -85,7 +85,7 @@ agreed_agrees s request now tree = both s (names_node request.act) _ _ _ _ (λ _
 
 plan_agrees : (s : State) (request : Asked) (now : Moment) (offer : Option InitIn) → Tree s → Agrees s (plan_offered request now offer (rows_of_state s)) (do_offered s request now offer)
 plan_agrees s request now (Some offer) tree = init_agrees s (agree offer) tree
-plan_agrees s request now None tree = both s (is_some s.settings) _ _ _ _ (λ _. agreed_agrees s request now tree) (λ _. refused_agrees s tree EPROTO)
+plan_agrees s request now None tree = both s (is_some s.settings) _ _ _ _ (λ _. agreed_agrees s request now tree) (λ _. refused_agrees s tree eproto)
 
 -- what a plan over the rows of a tree is
 pub plan_meets : (s : State) (request : Asked) (now : Moment) → Tree s → Meets s (plan_of request now (rowed s)) (done s request now)

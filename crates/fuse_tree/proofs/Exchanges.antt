@@ -5,7 +5,7 @@ use Rattle.std.specs.List.{AllByRecursion, list_any}
 use Rattle.std.proofs.lemmas.Bool.{ne_eqb, eq-eqb}
 use Rattle.std.proofs.lemmas.Bool.Decides.{eqb_tells}
 use Rattle.fuse_wire.specs.declared.moment.Moment.{Moment}
-use Rattle.fuse_tree.specs.declared.limits.TheConstants.{COUNTER_END}
+use Rattle.fuse_tree.specs.Bounds.{number_end}
 use Rattle.fuse_tree.specs.declared.rows.Change.{Change}
 use Rattle.fuse_tree.specs.declared.rows.Change.TheVariants as changes
 use Rattle.fuse_tree.specs.declared.rows.EntryRow.{EntryRow}
@@ -153,7 +153,7 @@ module _ (s : State) (r : Renaming) (d t c o : Node) (e f : EntryRow) (tree : Tr
 
   -- ---- the tree
 
-  pub exchange_tree : e.name ≡ r.old_name → f.name ≡ r.new_name → ((n : ℕ) → above s.entries n r.new_dir ≢ e.child) → ((n : ℕ) → above s.entries n d.number ≢ f.child) → s.next_cookie + 2 ≤ COUNTER_END → Tree (exchanged r d.number e f s)
+  pub exchange_tree : e.name ≡ r.old_name → f.name ≡ r.new_name → ((n : ℕ) → above s.entries n r.new_dir ≢ e.child) → ((n : ℕ) → above s.entries n d.number ≢ f.child) → s.next_cookie + 2 ≤ number_end → Tree (exchanged r d.number e f s)
   exchange_tree e_name f_name never_e never_f room =
       let moved = tree_exchanged s one two e f d.number r.new_dir r.old_name r.new_name tree at_e at_f apart e_dir f_dir e_name f_name never_e never_f room in
       let s2 = placed r.new_dir r.new_name e.child (placed d.number r.old_name f.child (without f.cookie (without e.cookie s))) in

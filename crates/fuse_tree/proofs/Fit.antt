@@ -4,8 +4,8 @@ use Rattle.std.specs.Prelude.{nat_le}
 use Rattle.std.proofs.lemmas.Bool.{ltb-true, leb-true}
 use Rattle.std.proofs.lemmas.List.{append-nil}
 use Rattle.fuse_wire.specs.declared.errno.Errno.{Errno}
-use Rattle.fuse_wire.specs.declared.errno.TheConstants.Errno.{EINVAL, ENAMETOOLONG}
-use Rattle.fuse_answer.specs.declared.reply.TheConstants.{MAX_ERRNO}
+use Rattle.fuse_wire.specs.Errnos.{einval, enametoolong}
+use Rattle.fuse_wire.specs.Bounds.{max_error_number}
 use Rattle.fuse_answer.specs.Replies.{Kind, Data, Nothing, of_data, of_nothing, IsBody, IsOfKind}
 use Rattle.fuse_answer.specs.Said.{FitsAnswer}
 use Rattle.fuse_tree.specs.State.{State, is_odd_name, name_fault}
@@ -42,13 +42,13 @@ Reads kind d = IsOfKind kind d.said
 
 -- an error number that an answer may bear
 abbrev pub is_error : Errno → Bool
-is_error errno = nat_lt 0 errno.0 && nat_le errno.0 MAX_ERRNO
+is_error errno = nat_lt 0 errno.0 && nat_le errno.0 max_error_number
 
 pub refused_reads : {kind : Kind} (s : State) (errno : Errno) → is_error errno ≡ true → Reads kind (refuse s errno)
 refused_reads s errno e =
     let both = and_true _ _ e in
     let some : 0 < errno.0 = ltb-true 0 errno.0 both.0 in
-    inr (λ none. absurd (omega (arith, none, some)), leb-true errno.0 MAX_ERRNO both.1, refl)
+    inr (λ none. absurd (omega (arith, none, some)), leb-true errno.0 max_error_number both.1, refl)
 
 pub answered_reads : {kind : Kind} (s : State) (body : List ℕ) → IsBody kind body → Reads kind (answer s body)
 answered_reads s body is = inl (refl, is)
@@ -57,9 +57,9 @@ pub chosen_reads : {kind : Kind} (b : Bool) (d e : Done) → Reads kind d → Re
 chosen_reads true d e one two = one
 chosen_reads false d e one two = two
 
-name_reads : {kind : Kind} (s : State) (long odd : Bool) (d : Done) → Reads kind d → Reads kind (refuse_for s (if long then Some ENAMETOOLONG else if odd then Some EINVAL else None) d)
-name_reads s true odd d so = refused_reads s ENAMETOOLONG refl
-name_reads s false true d so = refused_reads s EINVAL refl
+name_reads : {kind : Kind} (s : State) (long odd : Bool) (d : Done) → Reads kind d → Reads kind (refuse_for s (if long then Some enametoolong else if odd then Some einval else None) d)
+name_reads s true odd d so = refused_reads s enametoolong refl
+name_reads s false true d so = refused_reads s einval refl
 name_reads s false false d so = so
 
 pub refused_name_reads : {kind : Kind} (s : State) (name : List ℕ) (d : Done) → Reads kind d → Reads kind (refuse_for s (name_fault name) d)

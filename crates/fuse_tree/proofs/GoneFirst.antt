@@ -6,7 +6,7 @@ use Rattle.fuse_wire.specs.declared.access_mode.AccessMode.{AccessMode}
 use Rattle.fuse_wire.specs.declared.access_mode.AccessMode.TheVariants.{ReadOnly}
 use Rattle.fuse_wire.specs.declared.errno.Errno.{Errno}
 use Rattle.fuse_wire.specs.declared.moment.Moment.{Moment}
-use Rattle.fuse_wire.specs.declared.setattr_valid.TheConstants.SetattrValid.{SIZE}
+use Rattle.fuse_wire.specs.Bits.{fattr_size}
 use Rattle.fuse_wire.specs.Flags.{access_of}
 use Rattle.fuse_request.specs.declared.request.InHeader.{InHeader}
 use Rattle.fuse_request.specs.declared.request.InitIn.{InitIn}
@@ -17,7 +17,7 @@ use Rattle.fuse_request.specs.Act as acts
 use Rattle.fuse_init.specs.declared.negotiation.Negotiated.{Negotiated}
 use Rattle.fuse_init.specs.declared.negotiation.Negotiated.TheVariants.{Agreed, Again, Refused}
 use Rattle.fuse_init.specs.Agree.{agree}
-use Rattle.fuse_tree.specs.declared.limits.TheConstants.{COUNTER_END, MAX_FILE, MAX_READ}
+use Rattle.fuse_tree.specs.Bounds.{number_end, file_limit, read_limit}
 use Rattle.fuse_tree.specs.declared.planning.finding.Link.{Link}
 use Rattle.fuse_tree.specs.declared.planning.make.NewNode.{NewNode}
 use Rattle.fuse_tree.specs.declared.rows.Change.{Change}
@@ -111,7 +111,7 @@ mknod_orders header mode rdev name now row rows =
 -- ---- SETATTR, WRITE and READ
 
 setattr_orders : (set : SetattrIn) (now : Moment) (row : NodeRow) → Orders (plan_setattr set now row)
-setattr_orders set now row = unless (set_fault set row.mode) _ (by_test _ (step (has set SIZE)))
+setattr_orders set now row = unless (set_fault set row.mode) _ (by_test _ (step (has set fattr_size)))
   where
     step : (sizes : Bool) → goes_first (changes.Node (set_row set now row) ∷ cond sizes (changes.Sized row.node set.size ∷ []) []) ≡ true
     step true = refl
@@ -120,11 +120,11 @@ setattr_orders set now row = unless (set_fault set row.mode) _ (by_test _ (step 
 write_orders : (fh offset : ℕ) (payload : List ℕ) (now : Moment) (row : NodeRow) (rows : Rows) → Orders (plan_write fh offset payload now row rows)
 write_orders fh offset payload now row rows =
     chosen (not (may_write (access_at rows.handles fh row.node))) _ _ (by_test _ refl)
-    (chosen (length payload == 0) _ _ (by_test _ refl) (chosen (nat_lt MAX_FILE (offset + length payload)) _ _ (by_test _ refl) (by_test _ refl)))
+    (chosen (length payload == 0) _ _ (by_test _ refl) (chosen (nat_lt file_limit (offset + length payload)) _ _ (by_test _ refl) (by_test _ refl)))
 
 read_orders : (asked : ReadIn) (row : NodeRow) (rows : Rows) → Orders (plan_read asked row rows)
 read_orders asked row rows =
-    chosen (not (may_read (access_at rows.handles asked.fh row.node))) _ _ (by_test _ refl) (chosen (is_dir row.mode) _ _ (by_test _ refl) (chosen (nat_lt MAX_READ asked.size) _ _ (by_test _ refl) (by_test _ refl)))
+    chosen (not (may_read (access_at rows.handles asked.fh row.node))) _ _ (by_test _ refl) (chosen (is_dir row.mode) _ _ (by_test _ refl) (chosen (nat_lt read_limit asked.size) _ _ (by_test _ refl) (by_test _ refl)))
 
 -- ---- READDIR
 
@@ -132,7 +132,7 @@ read_dir_orders : (asked : ReadIn) (row : NodeRow) (rows : Rows) → Orders (pla
 read_dir_orders asked row rows =
     chosen (not (is_open rows.handles asked.fh row.node)) _ _ (by_test _ refl)
     (chosen (not (is_dir row.mode)) _ _ (by_test _ refl)
-    (chosen (nat_lt MAX_READ asked.size) _ _ (by_test _ refl)
+    (chosen (nat_lt read_limit asked.size) _ _ (by_test _ refl)
     (chosen (not (row_is_named row)) _ _ (by_test _ refl)
     (chosen (not (first_fits (rows_behind asked.offset asked.size row rows) asked.size)) _ _ (by_test _ refl) (by_test _ refl)))))
 
@@ -190,14 +190,14 @@ link_orders : (r : Renaming) (from to : NodeRow) (source : Link) (other : Option
 link_orders r from to source other rows =
     chosen (is_same_link source other) _ _ (by_test _ refl)
     (chosen (row_holds rows source.child r.new_dir) _ _ (by_test _ refl)
-    (unless (link_fault rows source other) _ (chosen (nat_le COUNTER_END rows.counters.next_cookie) _ _ (by_test _ refl) (by_test _ (moved_first r rows.counters from to source other)))))
+    (unless (link_fault rows source other) _ (chosen (nat_le number_end rows.counters.next_cookie) _ _ (by_test _ refl) (by_test _ (moved_first r rows.counters from to source other)))))
 
 exchange_orders : (r : Renaming) (from to : NodeRow) (source : Link) (other : Option Link) (rows : Rows) → Orders (plan_exchange_link r from to source other rows)
 exchange_orders r from to source None rows = by_test _ refl
 exchange_orders r from to source (Some other) rows =
     chosen (source.cookie == other.cookie) _ _ (by_test _ refl)
     (chosen (row_holds rows source.child r.new_dir || row_holds rows other.child from.node) _ _ (by_test _ refl)
-    (chosen (nat_lt (COUNTER_END - 2) rows.counters.next_cookie) _ _ (by_test _ refl) (by_test _ (exchanged_first r rows.counters from to source other))))
+    (chosen (nat_lt (number_end - 2) rows.counters.next_cookie) _ _ (by_test _ refl) (by_test _ (exchanged_first r rows.counters from to source other))))
 
 by_orders : (r : Renaming) (from to : NodeRow) (source : Link) (other : Option Link) (rows : Rows) → Orders (plan_rename_by r from to source other rows)
 by_orders r from to source other rows =

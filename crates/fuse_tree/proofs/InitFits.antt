@@ -1,6 +1,6 @@
 -- What is answered to INIT fits, and is read.
 use Rattle.std.proofs.Common.{Bool, true, false, if◌then◌else◌, nat_lt, Some, refl, arith}
-use Rattle.fuse_wire.specs.declared.errno.TheConstants.Errno.{EPROTO}
+use Rattle.fuse_wire.specs.Errnos.{eproto}
 use Rattle.fuse_request.specs.declared.request.InitIn.{InitIn}
 use Rattle.fuse_answer.specs.declared.init_out.InitOut.{InitOut}
 use Rattle.fuse_answer.specs.Laws.{ReadBack, RecordSizes}
@@ -21,7 +21,7 @@ init_fits sizes s (Refused errno) = refused s errno
 pub init_reads : ReadBack → (s : State) (offer : InitIn) → Reads AnInit (init s (agree offer))
 init_reads back s offer = either (is_older offer) (nat_lt 7 offer.major) _ _ _
   where
-    either : (older newer : Bool) (again out : InitOut) (settings : Settings) → Reads AnInit (init s (if older then Refused EPROTO else if newer then Again again else Agreed out settings))
-    either true newer again out settings = refused_reads s EPROTO refl
+    either : (older newer : Bool) (again out : InitOut) (settings : Settings) → Reads AnInit (init s (if older then Refused eproto else if newer then Again again else Agreed out settings))
+    either true newer again out settings = refused_reads s eproto refl
     either false true again out settings = answered_reads s _ (back.init again)
     either false false again out settings = answered_reads (record s { settings = Some settings }) _ (back.init out)

@@ -1,9 +1,9 @@
 -- The plan of READDIR agrees with what is done.
 use Rattle.std.proofs.Common.{ℕ, not, nat_lt, List, refl, ap}
-use Rattle.fuse_wire.specs.declared.errno.TheConstants.Errno.{ENOENT, EBADF, ENOTDIR, EINVAL}
+use Rattle.fuse_wire.specs.Errnos.{enoent, ebadf, enotdir, einval}
 use Rattle.fuse_request.specs.declared.request.ReadIn.{ReadIn}
 use Rattle.fuse_answer.specs.Entries.{Entry, entries_bytes}
-use Rattle.fuse_tree.specs.declared.limits.TheConstants.{MAX_READ}
+use Rattle.fuse_tree.specs.Bounds.{read_limit}
 use Rattle.fuse_tree.specs.State.{State, Node, Tree, is_dir, is_named}
 use Rattle.fuse_tree.specs.Rows.{row_of, rows_of_state}
 use Rattle.fuse_tree.specs.Handles.{is_open}
@@ -15,7 +15,7 @@ use Rattle.fuse_tree.proofs.Listing.{same_front, same_first}
 list_agrees : (s : State) (offset size : ℕ) (d : Node) → Tree s → Agrees s (plan_list offset size (row_of s d) (rows_of_state s)) (list_front s (entries_behind s d.number offset) size)
 list_agrees s offset size d tree =
     rw (same_first s d offset size)
-    (both s (not (first_fits (entries_behind s d.number offset) size)) _ _ _ _ (λ _. refused_agrees s tree EINVAL) (λ _. record {
+    (both s (not (first_fits (entries_behind s d.number offset) size)) _ _ _ _ (λ _. refused_agrees s tree einval) (λ _. record {
       answer = ap (λ (es : List Entry). record { errno = 0; body = entries_bytes es }) (same_front s d offset size tree);
       rows = refl;
       tree = tree;
@@ -23,8 +23,8 @@ list_agrees s offset size d tree =
 
 pub read_dir_agrees : (s : State) (asked : ReadIn) (d : Node) → Tree s → Agrees s (plan_read_dir asked (row_of s d) (rows_of_state s)) (read_dir s asked d)
 read_dir_agrees s asked d tree =
-    both s (not (is_open s.handles asked.fh d.number)) _ _ _ _ (λ _. refused_agrees s tree EBADF) (λ _.
-    both s (not (is_dir d.mode)) _ _ _ _ (λ _. refused_agrees s tree ENOTDIR) (λ _.
-    both s (nat_lt MAX_READ asked.size) _ _ _ _ (λ _. refused_agrees s tree EINVAL) (λ _.
-    both s (not (is_named s d.number)) _ _ _ _ (λ _. refused_agrees s tree ENOENT) (λ _.
+    both s (not (is_open s.handles asked.fh d.number)) _ _ _ _ (λ _. refused_agrees s tree ebadf) (λ _.
+    both s (not (is_dir d.mode)) _ _ _ _ (λ _. refused_agrees s tree enotdir) (λ _.
+    both s (nat_lt read_limit asked.size) _ _ _ _ (λ _. refused_agrees s tree einval) (λ _.
+    both s (not (is_named s d.number)) _ _ _ _ (λ _. refused_agrees s tree enoent) (λ _.
     list_agrees s asked.offset asked.size d tree))))

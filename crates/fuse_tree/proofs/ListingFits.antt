@@ -6,7 +6,7 @@ use Rattle.fuse_request.specs.declared.request.ReadIn.{ReadIn}
 use Rattle.fuse_answer.specs.Entries.{Entry, IsNamed}
 use Rattle.fuse_answer.specs.Laws.{ReadBack, RecordSizes}
 use Rattle.fuse_answer.specs.Replies.{Directory}
-use Rattle.fuse_tree.specs.declared.limits.TheConstants.{MAX_READ}
+use Rattle.fuse_tree.specs.Bounds.{read_limit}
 use Rattle.fuse_tree.specs.State.{State, Node, Tree, is_dir, is_named}
 use Rattle.fuse_tree.specs.Handles.{is_open}
 use Rattle.fuse_tree.specs.Listing.{entries_behind, first_fits, longest_front, list_front, read_dir}
@@ -24,9 +24,9 @@ pub read_dir_fits : RecordSizes → (s : State) (asked : ReadIn) (n : Node) → 
 read_dir_fits sizes s asked n =
     chosen (not (is_open s.handles asked.fh n.number)) _ _ (refused s _)
     (chosen (not (is_dir n.mode)) _ _ (refused s _)
-    (chosen_then (nat_lt MAX_READ asked.size) _ _ (refused s _) (λ few.
+    (chosen_then (nat_lt read_limit asked.size) _ _ (refused s _) (λ few.
     chosen (not (is_named s n.number)) _ _ (refused s _)
-    (list_fits sizes s (entries_behind s n.number asked.offset) asked.size (ltb-false MAX_READ asked.size few)))))
+    (list_fits sizes s (entries_behind s n.number asked.offset) asked.size (ltb-false read_limit asked.size few)))))
 
 -- ---- it is read
 
@@ -38,6 +38,6 @@ pub read_dir_reads : ReadBack → (s : State) (asked : ReadIn) (n : Node) → Tr
 read_dir_reads back s asked n tree =
     chosen_reads (not (is_open s.handles asked.fh n.number)) _ _ (refused_reads s _ refl)
     (chosen_reads (not (is_dir n.mode)) _ _ (refused_reads s _ refl)
-    (chosen_reads (nat_lt MAX_READ asked.size) _ _ (refused_reads s _ refl)
+    (chosen_reads (nat_lt read_limit asked.size) _ _ (refused_reads s _ refl)
     (chosen_reads (not (is_named s n.number)) _ _ (refused_reads s _ refl)
     (list_reads back s (entries_behind s n.number asked.offset) asked.size (all_named s n.number asked.offset tree)))))

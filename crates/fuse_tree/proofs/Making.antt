@@ -5,7 +5,7 @@ use Rattle.std.specs.List.{list_any}
 use Rattle.std.proofs.lemmas.Bool.{ne_eqb, eq-eqb, leb-false}
 use Rattle.std.proofs.lemmas.List.{length-append, length-map, map-append}
 use Rattle.fuse_wire.specs.declared.moment.Moment.{Moment}
-use Rattle.fuse_tree.specs.declared.limits.TheConstants.{MAX_NODES}
+use Rattle.fuse_tree.specs.Bounds.{node_limit}
 use Rattle.fuse_tree.specs.declared.planning.make.NewNode.{NewNode}
 use Rattle.fuse_tree.specs.declared.rows.Full.{Full}
 use Rattle.fuse_tree.specs.State.{State, Node, Tree, IsNode, is_dir, is_dir_of, node_at, is_named, name_fault, subdirs_of}
@@ -84,7 +84,7 @@ module _ (s : State) (fresh : NewNode) (name : List ℕ) (d : Node) (tree : Tree
   -- the tree goes on
   pub make_tree : is_dir d.mode ≡ true → name_fault name ≡ None → is_named s d.number ≡ true → entry_at s.entries d.number name ≡ None → is_full (length s.nodes) s.next_node s.next_cookie ≡ false → Tree after
   make_tree dir name_ok named free room =
-      let few : nat_le MAX_NODES (length s.nodes) ≡ false = (or_false _ _ (or_false _ _ room).0).0 in
+      let few : nat_le node_limit (length s.nodes) ≡ false = (or_false _ _ (or_false _ _ room).0).0 in
       tree_grown (touch d.number fresh.made s) (new_node s fresh) (new_entry s d.number name) (record {
         number = refl;
         empty = refl;
@@ -94,7 +94,7 @@ module _ (s : State) (fresh : NewNode) (name : List ℕ) (d : Node) (tree : Tree
         named = named;
         name = name_ok;
         free = free;
-        few = omega (arith, length-map s.nodes (touched d.number fresh.made), leb-false MAX_NODES (length s.nodes) few);
+        few = omega (arith, length-map s.nodes (touched d.number fresh.made), leb-false node_limit (length s.nodes) few);
         node_left = leb-false _ s.next_node (or_false _ _ (or_false _ _ room).0).1;
         cookie_left = leb-false _ s.next_cookie (or_false _ _ room).1;
       }) (tree_touched s d.number fresh.made tree)

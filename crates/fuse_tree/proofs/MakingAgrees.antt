@@ -1,7 +1,7 @@
 -- The plan of a new node agrees with what is done.
 use Rattle.std.proofs.Common.{◌≡◌, ℕ, true, not, List, length, None, Some, sym, ap}
 use Rattle.std.specs.Prelude.{is_some}
-use Rattle.fuse_wire.specs.declared.errno.TheConstants.Errno.{ENOENT, EEXIST, ENOTDIR, EINVAL, ENOSPC}
+use Rattle.fuse_wire.specs.Errnos.{enoent, eexist, enotdir, einval, enospc}
 use Rattle.fuse_wire.specs.declared.moment.Moment.{Moment}
 use Rattle.fuse_request.specs.declared.request.InHeader.{InHeader}
 use Rattle.fuse_tree.specs.declared.planning.make.NewNode.{NewNode}
@@ -17,9 +17,9 @@ use Rattle.fuse_tree.proofs.Making.{new_full, make_rows, make_tree}
 pub make_agrees : (s : State) (fresh : NewNode) (name : List ℕ) (d : Node) → Tree s → node_at s d.number ≡ Some d → is_dir d.mode ≡ true → name_fault name ≡ None
     → Agrees s (plan_make fresh name (row_of s d) (rows_of_state s)) (make s fresh name d)
 make_agrees s fresh name d tree e dir name_ok =
-    both s (not (is_named s d.number)) _ _ _ _ (λ _. refused_agrees s tree ENOENT) (λ named.
-    both s (is_some (entry_at s.entries d.number name)) _ _ _ _ (λ _. refused_agrees s tree EEXIST) (λ free.
-    both s (is_full (length s.nodes) s.next_node s.next_cookie) _ _ _ _ (λ _. refused_agrees s tree ENOSPC) (λ room. record {
+    both s (not (is_named s d.number)) _ _ _ _ (λ _. refused_agrees s tree enoent) (λ named.
+    both s (is_some (entry_at s.entries d.number name)) _ _ _ _ (λ _. refused_agrees s tree eexist) (λ free.
+    both s (is_full (length s.nodes) s.next_node s.next_cookie) _ _ _ _ (λ _. refused_agrees s tree enospc) (λ room. record {
       answer = ap (λ (f : Full). record { errno = 0; body = entry_body f.row }) (sym (new_full s fresh name d tree e));
       rows = make_rows s fresh name d tree e;
       tree = make_tree s fresh name d tree e dir name_ok (not_false _ named) (none_some _ free) room;
@@ -28,14 +28,14 @@ make_agrees s fresh name d tree e dir name_ok =
 pub mkdir_agrees : (s : State) (header : InHeader) (mode : ℕ) (name : List ℕ) (now : Moment) (d : Node) → Tree s → node_at s d.number ≡ Some d
     → Agrees s (plan_mkdir header mode name now (row_of s d) (rows_of_state s)) (mkdir s header mode name now d)
 mkdir_agrees s header mode name now d tree e =
-    both s (not (is_dir d.mode)) _ _ _ _ (λ _. refused_agrees s tree ENOTDIR) (λ dir.
+    both s (not (is_dir d.mode)) _ _ _ _ (λ _. refused_agrees s tree enotdir) (λ dir.
     both_for s (name_fault name) _ _ tree (λ name_ok.
     make_agrees s (begun header (dir_mode mode) 0 now) name d tree e (not_false _ dir) name_ok))
 
 pub mknod_agrees : (s : State) (header : InHeader) (mode rdev : ℕ) (name : List ℕ) (now : Moment) (d : Node) → Tree s → node_at s d.number ≡ Some d
     → Agrees s (plan_mknod header mode rdev name now (row_of s d) (rows_of_state s)) (mknod s header mode rdev name now d)
 mknod_agrees s header mode rdev name now d tree e =
-    both s (not (is_dir d.mode)) _ _ _ _ (λ _. refused_agrees s tree ENOTDIR) (λ dir.
-    both s (not (may_make (type_bits mode))) _ _ _ _ (λ _. refused_agrees s tree EINVAL) (λ _.
+    both s (not (is_dir d.mode)) _ _ _ _ (λ _. refused_agrees s tree enotdir) (λ dir.
+    both s (not (may_make (type_bits mode))) _ _ _ _ (λ _. refused_agrees s tree einval) (λ _.
     both_for s (name_fault name) _ _ tree (λ name_ok.
     make_agrees s (begun header (node_mode mode) (node_rdev mode rdev) now) name d tree e (not_false _ dir) name_ok)))

@@ -3,7 +3,7 @@ use Rattle.std.proofs.Common.{◌≡◌, ◌≢◌, ◌<◌, ◌≤◌, ◌+◌,
 use Rattle.std.specs.Prelude.{find, filter}
 use Rattle.std.specs.List.{AllByRecursion, list_any}
 use Rattle.std.proofs.lemmas.Bool.Decides.{eqb_tells}
-use Rattle.fuse_tree.specs.declared.limits.TheConstants.{COUNTER_END}
+use Rattle.fuse_tree.specs.Bounds.{number_end}
 use Rattle.fuse_tree.specs.declared.rows.EntryRow.{EntryRow}
 use Rattle.fuse_tree.specs.State.{State, Tree, IsEntry, Apart, AreApart, Reaches, above, up_of, is_dir_of, is_entry, name_fault}
 use Rattle.fuse_tree.specs.Removing.{without}
@@ -15,7 +15,7 @@ use Rattle.fuse_tree.proofs.Trees.{entry_moved}
 use Rattle.fuse_tree.proofs.Moving.{Differs, others_differ, keeps, kept_differ, up_found, up_kept, up_last, reaches_on}
 
 -- the entries of a tree, in other places
-pub tree_entries : (s : State) (fs : List EntryRow) (next : ℕ) → AllByRecursion (IsEntry s.nodes fs next) fs → Apart AreApart fs → s.next_cookie ≤ next → next ≤ COUNTER_END → Tree s → Tree (record s { entries = fs; next_cookie = next })
+pub tree_entries : (s : State) (fs : List EntryRow) (next : ℕ) → AllByRecursion (IsEntry s.nodes fs next) fs → Apart AreApart fs → s.next_cookie ≤ next → next ≤ number_end → Tree s → Tree (record s { entries = fs; next_cookie = next })
 tree_entries s fs next entries apart more few tree = record {
   root = tree.root;
   nodes = tree.nodes;
@@ -69,7 +69,7 @@ module _ (s : State) (test : EntryRow → Bool) (e : EntryRow) (to : ℕ) (name 
       ]) before.0 k tt before.1
 
   -- into a directory that isn't under its child
-  pub tree_moved : list_any (is_dir_of to) s.nodes ≡ true → Reaches s.entries to → ((n : ℕ) → above s.entries n to ≢ e.child) → name_fault name ≡ None → AllByRecursion (λ z. is_entry to name z ≡ false) left → s.next_cookie < COUNTER_END → Tree (placed to name e.child (without e.cookie s))
+  pub tree_moved : list_any (is_dir_of to) s.nodes ≡ true → Reaches s.entries to → ((n : ℕ) → above s.entries n to ≢ e.child) → name_fault name ≡ None → AllByRecursion (λ z. is_entry to name z ≡ false) left → s.next_cookie < number_end → Tree (placed to name e.child (without e.cookie s))
   tree_moved dir climb apart name_ok free room =
       let was : IsEntry s.nodes s.entries s.next_cookie e = (found (IsEntry s.nodes s.entries s.next_cookie) test s.entries e tree.entries at).0 in
       let three : 3 ≤ s.next_cookie = tree.limits.cookie_from_three in
@@ -84,7 +84,7 @@ module _ (s : State) (test : EntryRow → Bool) (e : EntryRow) (to : ℕ) (name 
       (all_both (λ z. IsEntry s.nodes s.entries s.next_cookie z × Differs e z) (λ z. is_entry to name z ≡ false) (λ z. AreApart z there) left
       (λ z p no. (let lt : z.cookie < s.next_cookie = p.0.below in record { cookie = lt; child = p.1.child; place = no }))
       (all_both (IsEntry s.nodes s.entries s.next_cookie) (Differs e) (λ z. IsEntry s.nodes s.entries s.next_cookie z × Differs e z) left (λ z p q. (p, q)) old left_differ) free))
-      more (let lt : s.next_cookie < COUNTER_END = room in omega arith) tree
+      more (let lt : s.next_cookie < number_end = room in omega arith) tree
 
 -- ---- two children change places
 
@@ -154,7 +154,7 @@ module _ (s : State) (one two : EntryRow → Bool) (e f : EntryRow) (dir to : �
       ]) before.0 k tt before.1
 
   -- where neither directory is under the child that comes into it
-  pub tree_exchanged : e.dir ≡ dir → f.dir ≡ to → e.name ≡ old → f.name ≡ new → ((n : ℕ) → above s.entries n to ≢ e.child) → ((n : ℕ) → above s.entries n dir ≢ f.child) → s.next_cookie + 2 ≤ COUNTER_END
+  pub tree_exchanged : e.dir ≡ dir → f.dir ≡ to → e.name ≡ old → f.name ≡ new → ((n : ℕ) → above s.entries n to ≢ e.child) → ((n : ℕ) → above s.entries n dir ≢ f.child) → s.next_cookie + 2 ≤ number_end
       → Tree (placed to new e.child (placed dir old f.child (without f.cookie (without e.cookie s))))
   tree_exchanged e_dir f_dir e_name f_name apart_e apart_f room =
       let P = IsEntry s.nodes s.entries s.next_cookie in

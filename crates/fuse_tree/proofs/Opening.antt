@@ -5,8 +5,8 @@ use Rattle.std.specs.List.{AllByRecursion, list_any}
 use Rattle.std.proofs.lemmas.Bool.{eqb-true, ne_eqb, leb-false}
 use Rattle.std.proofs.lemmas.List.{length-append}
 use Rattle.fuse_wire.specs.declared.access_mode.AccessMode.{AccessMode}
-use Rattle.fuse_wire.specs.declared.errno.TheConstants.Errno.{ENFILE, ENOSPC}
-use Rattle.fuse_tree.specs.declared.limits.TheConstants.{MAX_HANDLES, COUNTER_END}
+use Rattle.fuse_wire.specs.Errnos.{enfile, enospc}
+use Rattle.fuse_tree.specs.Bounds.{handle_limit, number_end}
 use Rattle.fuse_tree.specs.declared.rows.HandleRow.{HandleRow}
 use Rattle.fuse_tree.specs.State.{State, Node, Tree, Apart, IsHandle, is_open_at}
 use Rattle.fuse_tree.specs.Rows.{rows_of_state, counters_of, handle_at, apply}
@@ -20,12 +20,12 @@ use Rattle.fuse_tree.proofs.Trees.{handle_moved}
 -- ---- a handle more
 
 pub record Room (s : State) : Type 0 where
-  pub few : length s.handles < MAX_HANDLES
-  pub left : s.next_fh < COUNTER_END
+  pub few : length s.handles < handle_limit
+  pub left : s.next_fh < number_end
 
 pub room : (s : State) → open_fault (length s.handles) s.next_fh ≡ None → Room s
 room s none =
-    let h = no_fault _ _ ENFILE ENOSPC none in
+    let h = no_fault _ _ enfile enospc none in
     record { few = leb-false _ (length s.handles) h.0; left = leb-false _ s.next_fh h.1 }
 
 -- the test that the node of this number passes, a node passes

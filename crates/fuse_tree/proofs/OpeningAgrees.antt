@@ -4,7 +4,7 @@ use Rattle.std.proofs.lemmas.Bool.{eq-eqb}
 use Rattle.fuse_wire.specs.declared.access_mode.AccessMode.{AccessMode}
 use Rattle.fuse_wire.specs.declared.access_mode.AccessMode.TheVariants.{ReadOnly}
 use Rattle.fuse_wire.specs.declared.errno.Errno.{Errno}
-use Rattle.fuse_wire.specs.declared.errno.TheConstants.Errno.{EBADF, ENOTDIR, EISDIR, EINVAL}
+use Rattle.fuse_wire.specs.Errnos.{ebadf, enotdir, eisdir, einval}
 use Rattle.fuse_wire.specs.Flags.{access_of}
 use Rattle.fuse_tree.specs.State.{State, Node, Tree, is_dir, is_file, is_open_at, node_at}
 use Rattle.fuse_tree.specs.Rows.{row_of, rows_of_state}
@@ -26,23 +26,23 @@ open_node_agrees s access d tree e opens =
 
 open_for_agrees : (s : State) (access : Option AccessMode) (d : Node) → Tree s → node_at s d.number ≡ Some d → is_file d.mode ≡ true
     → Agrees s (plan_open_for access (row_of s d) (rows_of_state s)) (open_for s access d)
-open_for_agrees s None d tree e file = refused_agrees s tree EINVAL
+open_for_agrees s None d tree e file = refused_agrees s tree einval
 open_for_agrees s (Some access) d tree e file = open_node_agrees s access d tree e (rw (eq-eqb d.number d.number refl, file) refl)
 
 pub open_agrees : (s : State) (flags : ℕ) (d : Node) → Tree s → node_at s d.number ≡ Some d → Agrees s (plan_open flags (row_of s d) (rows_of_state s)) (open_file s flags d)
 open_agrees s flags d tree e =
-    both s (is_dir d.mode) _ _ _ _ (λ _. refused_agrees s tree EISDIR) (λ _.
-    both s (not (is_file d.mode)) _ _ _ _ (λ _. refused_agrees s tree EINVAL) (λ file.
+    both s (is_dir d.mode) _ _ _ _ (λ _. refused_agrees s tree eisdir) (λ _.
+    both s (not (is_file d.mode)) _ _ _ _ (λ _. refused_agrees s tree einval) (λ file.
     open_for_agrees s (access_of flags) d tree e (not_false _ file)))
 
 pub open_dir_agrees : (s : State) (d : Node) → Tree s → node_at s d.number ≡ Some d → Agrees s (plan_open_dir (row_of s d) (rows_of_state s)) (open_dir s d)
 open_dir_agrees s d tree e =
-    both s (not (is_dir d.mode)) _ _ _ _ (λ _. refused_agrees s tree ENOTDIR) (λ dir.
+    both s (not (is_dir d.mode)) _ _ _ _ (λ _. refused_agrees s tree enotdir) (λ dir.
     open_node_agrees s ReadOnly d tree e (rw (eq-eqb d.number d.number refl, not_false _ dir) (or_true (is_file d.mode))))
 
 close_agrees : (s : State) (fh : ℕ) (kind_fault : Option Errno) (d : Node) → Tree s → Agrees s (plan_close fh kind_fault d.number (rows_of_state s)) (close s fh kind_fault d)
 close_agrees s fh kind_fault d tree =
-    both s (not (is_open s.handles fh d.number)) _ _ _ _ (λ _. refused_agrees s tree EBADF) (λ there.
+    both s (not (is_open s.handles fh d.number)) _ _ _ _ (λ _. refused_agrees s tree ebadf) (λ there.
     both_for s kind_fault _ _ tree (λ _. record { answer = refl; rows = close_rows s fh d.number tree (not_false _ there); tree = tree_closed s fh tree }))
 
 pub release_agrees : (s : State) (fh : ℕ) (d : Node) → Tree s → Agrees s (plan_release fh (row_of s d) (rows_of_state s)) (release s fh d)

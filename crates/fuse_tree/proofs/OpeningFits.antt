@@ -4,11 +4,11 @@ use Rattle.std.specs.Prelude.{nat_le}
 use Rattle.fuse_wire.specs.declared.access_mode.AccessMode.{AccessMode}
 use Rattle.fuse_wire.specs.declared.access_mode.AccessMode.TheVariants.{ReadOnly}
 use Rattle.fuse_wire.specs.declared.errno.Errno.{Errno}
-use Rattle.fuse_wire.specs.declared.errno.TheConstants.Errno.{ENOTDIR, EISDIR, ENFILE, ENOSPC}
+use Rattle.fuse_wire.specs.Errnos.{enotdir, eisdir, enfile, enospc}
 use Rattle.fuse_wire.specs.Flags.{access_of}
 use Rattle.fuse_answer.specs.Laws.{ReadBack, RecordSizes}
 use Rattle.fuse_answer.specs.Replies.{AnOpen, Nothing}
-use Rattle.fuse_tree.specs.declared.limits.TheConstants.{MAX_HANDLES, COUNTER_END}
+use Rattle.fuse_tree.specs.Bounds.{handle_limit, number_end}
 use Rattle.fuse_tree.specs.State.{State, Node, is_dir, is_file}
 use Rattle.fuse_tree.specs.Handles.{is_open}
 use Rattle.fuse_tree.specs.Done.{Done, refuse_for, answer}
@@ -44,14 +44,14 @@ release_dir_fits s fh n = close_fits s fh (for_dirs_alone n.mode) n
 
 -- ---- it is read
 
-open_fault_reads : (s : State) (many ended : Bool) (d : Done) → Reads AnOpen d → Reads AnOpen (refuse_for s (if many then Some ENFILE else if ended then Some ENOSPC else None) d)
-open_fault_reads s true ended d so = refused_reads s ENFILE refl
-open_fault_reads s false true d so = refused_reads s ENOSPC refl
+open_fault_reads : (s : State) (many ended : Bool) (d : Done) → Reads AnOpen d → Reads AnOpen (refuse_for s (if many then Some enfile else if ended then Some enospc else None) d)
+open_fault_reads s true ended d so = refused_reads s enfile refl
+open_fault_reads s false true d so = refused_reads s enospc refl
 open_fault_reads s false false d so = so
 
 open_node_reads : ReadBack → (s : State) (access : AccessMode) (n : Node) → Reads AnOpen (open_node s access n)
 open_node_reads back s access n =
-    open_fault_reads s (nat_le MAX_HANDLES (length s.handles)) (nat_le COUNTER_END s.next_fh) _ (answered_reads (opened s n.number access) _ (back.opened (open_of s.next_fh)))
+    open_fault_reads s (nat_le handle_limit (length s.handles)) (nat_le number_end s.next_fh) _ (answered_reads (opened s n.number access) _ (back.opened (open_of s.next_fh)))
 
 open_for_reads : ReadBack → (s : State) (access : Option AccessMode) (n : Node) → Reads AnOpen (open_for s access n)
 open_for_reads back s None n = refused_reads s _ refl
@@ -68,16 +68,16 @@ open_dir_reads back s n = chosen_reads (not (is_dir n.mode)) _ _ (refused_reads 
 close_reads : (s : State) (fh : ℕ) (n : Node) (kind_fault : Option Errno) → Reads Nothing (refuse_for s kind_fault (answer (closed s fh) [])) → Reads Nothing (close s fh kind_fault n)
 close_reads s fh n kind_fault so = chosen_reads (not (is_open s.handles fh n.number)) _ _ (refused_reads s _ refl) so
 
-not_for_dirs_reads : (s : State) (dir : Bool) (d : Done) → Reads Nothing d → Reads Nothing (refuse_for s (if dir then Some EISDIR else None) d)
-not_for_dirs_reads s true d so = refused_reads s EISDIR refl
+not_for_dirs_reads : (s : State) (dir : Bool) (d : Done) → Reads Nothing d → Reads Nothing (refuse_for s (if dir then Some eisdir else None) d)
+not_for_dirs_reads s true d so = refused_reads s eisdir refl
 not_for_dirs_reads s false d so = so
 
 pub release_reads : (s : State) (fh : ℕ) (n : Node) → Reads Nothing (release s fh n)
 release_reads s fh n = close_reads s fh n _ (not_for_dirs_reads s (is_dir n.mode) _ (answered_reads (closed s fh) [] no_body))
 
-for_dirs_reads : (s : State) (dir : Bool) (d : Done) → Reads Nothing d → Reads Nothing (refuse_for s (if dir then None else Some ENOTDIR) d)
+for_dirs_reads : (s : State) (dir : Bool) (d : Done) → Reads Nothing d → Reads Nothing (refuse_for s (if dir then None else Some enotdir) d)
 for_dirs_reads s true d so = so
-for_dirs_reads s false d so = refused_reads s ENOTDIR refl
+for_dirs_reads s false d so = refused_reads s enotdir refl
 
 pub release_dir_reads : (s : State) (fh : ℕ) (n : Node) → Reads Nothing (release_dir s fh n)
 release_dir_reads s fh n = close_reads s fh n _ (for_dirs_reads s (is_dir n.mode) _ (answered_reads (closed s fh) [] no_body))

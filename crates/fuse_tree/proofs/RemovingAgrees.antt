@@ -3,7 +3,7 @@ use Rattle.std.proofs.Common.{◌≡◌, ◌≢◌, ℕ, not, List, [], Option, 
 use Rattle.std.specs.Option.{option_map}
 use Rattle.std.specs.List.{AllByRecursion}
 use Rattle.std.proofs.lemmas.Bool.{eqb-true}
-use Rattle.fuse_wire.specs.declared.errno.TheConstants.Errno.{ENOENT, ENOTDIR, EISDIR, ENOTEMPTY}
+use Rattle.fuse_wire.specs.Errnos.{enoent, enotdir, eisdir, enotempty}
 use Rattle.fuse_wire.specs.declared.moment.Moment.{Moment}
 use Rattle.fuse_tree.specs.declared.planning.finding.Link.{Link}
 use Rattle.fuse_tree.specs.declared.rows.EntryRow.{EntryRow}
@@ -40,41 +40,41 @@ module _ (s : State) (name : List ℕ) (now : Moment) (d : Node) (tree : Tree s)
 
   unlink_child_agrees : (e : EntryRow) (o : Option Node) → entry_at s.entries d.number name ≡ Some e → node_at s e.child ≡ o
       → Agrees s (plan_unlink_link now (row_of s d) (linked e (option_map (row_of s) o))) (unlink_child s e now o)
-  unlink_child_agrees e None at_e at_c = refused_agrees s tree ENOENT
+  unlink_child_agrees e None at_e at_c = refused_agrees s tree enoent
   unlink_child_agrees e (Some c) at_e at_c =
-      both s (is_dir c.mode) _ _ _ _ (λ _. refused_agrees s tree EISDIR) (λ file.
+      both s (is_dir c.mode) _ _ _ _ (λ _. refused_agrees s tree eisdir) (λ file.
       gone_agrees s name now d e c tree at_d at_e at_c (none_in_file s e.child c tree at_c file))
 
   unlink_entry_agrees : (o : Option EntryRow) → entry_at s.entries d.number name ≡ o → Agrees s (plan_unlink_link now (row_of s d) (link_of (rows_of_state s) o)) (unlink_entry s now o)
-  unlink_entry_agrees None at_e = refused_agrees s tree ENOENT
+  unlink_entry_agrees None at_e = refused_agrees s tree enoent
   unlink_entry_agrees (Some e) at_e =
       subst (λ (row : Option NodeRow). Agrees s (plan_unlink_link now (row_of s d) (linked e row)) (unlink_child s e now (node_at s e.child))) (sym (row_found s e.child)) (unlink_child_agrees e (node_at s e.child) at_e refl)
 
   pub unlink_agrees : Agrees s (plan_unlink name now (row_of s d) (rows_of_state s)) (unlink s name now d)
   unlink_agrees =
-      both s (not (is_dir d.mode)) _ _ _ _ (λ _. refused_agrees s tree ENOTDIR) (λ _.
+      both s (not (is_dir d.mode)) _ _ _ _ (λ _. refused_agrees s tree enotdir) (λ _.
       both_for s (name_fault name) _ _ tree (λ _.
-      both s (not (is_named s d.number)) _ _ _ _ (λ _. refused_agrees s tree ENOENT) (λ _.
+      both s (not (is_named s d.number)) _ _ _ _ (λ _. refused_agrees s tree enoent) (λ _.
       unlink_entry_agrees (entry_at s.entries d.number name) refl)))
 
   -- ---- RMDIR
 
   rmdir_child_agrees : (e : EntryRow) (o : Option Node) → entry_at s.entries d.number name ≡ Some e → node_at s e.child ≡ o
       → Agrees s (plan_rmdir_link now (row_of s d) (rows_of_state s) (linked e (option_map (row_of s) o))) (rmdir_child s e now o)
-  rmdir_child_agrees e None at_e at_c = refused_agrees s tree ENOENT
+  rmdir_child_agrees e None at_e at_c = refused_agrees s tree enoent
   rmdir_child_agrees e (Some c) at_e at_c =
-      both s (not (is_dir c.mode)) _ _ _ _ (λ _. refused_agrees s tree ENOTDIR) (λ _.
-      both s (has_entries s.entries c.number) _ _ _ _ (λ _. refused_agrees s tree ENOTEMPTY) (λ none.
+      both s (not (is_dir c.mode)) _ _ _ _ (λ _. refused_agrees s tree enotdir) (λ _.
+      both s (has_entries s.entries c.number) _ _ _ _ (λ _. refused_agrees s tree enotempty) (λ none.
       gone_agrees s name now d e c tree at_d at_e at_c (subst (λ (k : ℕ). AllByRecursion (λ x. x.dir ≢ k) s.entries) (node_found s e.child c tree at_c).0 (none_in_empty s.entries c.number none))))
 
   rmdir_entry_agrees : (o : Option EntryRow) → entry_at s.entries d.number name ≡ o → Agrees s (plan_rmdir_link now (row_of s d) (rows_of_state s) (link_of (rows_of_state s) o)) (rmdir_entry s now o)
-  rmdir_entry_agrees None at_e = refused_agrees s tree ENOENT
+  rmdir_entry_agrees None at_e = refused_agrees s tree enoent
   rmdir_entry_agrees (Some e) at_e =
       subst (λ (row : Option NodeRow). Agrees s (plan_rmdir_link now (row_of s d) (rows_of_state s) (linked e row)) (rmdir_child s e now (node_at s e.child))) (sym (row_found s e.child)) (rmdir_child_agrees e (node_at s e.child) at_e refl)
 
   pub rmdir_agrees : Agrees s (plan_rmdir name now (row_of s d) (rows_of_state s)) (rmdir s name now d)
   rmdir_agrees =
-      both s (not (is_dir d.mode)) _ _ _ _ (λ _. refused_agrees s tree ENOTDIR) (λ _.
+      both s (not (is_dir d.mode)) _ _ _ _ (λ _. refused_agrees s tree enotdir) (λ _.
       both_for s (name_fault name) _ _ tree (λ _.
-      both s (not (is_named s d.number)) _ _ _ _ (λ _. refused_agrees s tree ENOENT) (λ _.
+      both s (not (is_named s d.number)) _ _ _ _ (λ _. refused_agrees s tree enoent) (λ _.
       rmdir_entry_agrees (entry_at s.entries d.number name) refl)))

@@ -6,8 +6,8 @@ use Rattle.std.specs.List.{list_any}
 use Rattle.std.specs.Cmp.Lexicographic.{same_text}
 use Rattle.std.proofs.lemmas.Bool.{eqb-true, eqb-false, leb-false, ltb-false}
 use Rattle.fuse_wire.specs.declared.errno.Errno.{Errno}
-use Rattle.fuse_wire.specs.declared.errno.TheConstants.Errno.{ENOENT, EEXIST, EINVAL, ENOSPC, ESTALE}
-use Rattle.fuse_tree.specs.declared.limits.TheConstants.{COUNTER_END}
+use Rattle.fuse_wire.specs.Errnos.{enoent, eexist, einval, enospc, estale}
+use Rattle.fuse_tree.specs.Bounds.{number_end}
 use Rattle.fuse_tree.specs.declared.planning.finding.Link.{Link}
 use Rattle.fuse_tree.specs.declared.rows.EntryRow.{EntryRow}
 use Rattle.fuse_tree.specs.declared.rows.NodeRow.{NodeRow}
@@ -145,8 +145,8 @@ module _ (s : State) (r : Renaming) (d t : Node) (tree : Tree s) (at_d : node_at
   free_agrees : (e : EntryRow) (c : Node) → Found s d.number r.old_name e c → entry_at s.entries d.number r.old_name ≡ Some e → entry_at s.entries r.new_dir r.new_name ≡ None
       → Agrees s (plan_rename_link r (row_of s d) (row_of s t) (link e c) None (rows_of_state s)) (rename_entry s r d.number e None)
   free_agrees e c p at_e free =
-      both_as s (holds s e.child r.new_dir) _ _ _ _ _ (same_holds s e.child r.new_dir c tree p.child) (λ _. refused_agrees s tree EINVAL) (λ apart.
-      both s (nat_le COUNTER_END s.next_cookie) _ _ _ _ (λ _. refused_agrees s tree ENOSPC) (λ room. (
+      both_as s (holds s e.child r.new_dir) _ _ _ _ _ (same_holds s e.child r.new_dir c tree p.child) (λ _. refused_agrees s tree einval) (λ apart.
+      both s (nat_le number_end s.next_cookie) _ _ _ _ (λ _. refused_agrees s tree enospc) (λ room. (
       let never = never_held s e.child r.new_dir tree p.given to_there apart in
       record {
         answer = refl;
@@ -158,12 +158,12 @@ module _ (s : State) (r : Renaming) (d t : Node) (tree : Tree s) (at_d : node_at
       → Agrees s (plan_rename_link r (row_of s d) (row_of s t) (link e c) (Some (link f o)) (rows_of_state s)) (rename_entry s r d.number e (Some f))
   over_agrees e c f o p at_e q at_f =
       both s (eqb e.cookie f.cookie) _ _ _ _ (λ _. record { answer = refl; rows = refl; tree = tree }) (λ other.
-      both_as s (holds s e.child r.new_dir) _ _ _ _ _ (same_holds s e.child r.new_dir c tree p.child) (λ _. refused_agrees s tree EINVAL) (λ apart.
+      both_as s (holds s e.child r.new_dir) _ _ _ _ _ (same_holds s e.child r.new_dir c tree p.child) (λ _. refused_agrees s tree einval) (λ apart.
       both_for_as s (place_fault s e.child (Some f)) (link_fault (rows_of_state s) (link e c) (Some (link f o))) _ _ tree
       (ap (λ (b : Bool). kinds_fault b (is_dir o.mode) (has_entries s.entries o.number)) (sym (dir_at s e.child c tree p.child))
       ∙ ap (λ (b : Bool). kinds_fault (is_dir_at s e.child) b (has_entries s.entries o.number)) (sym (dir_at s f.child o tree q.child))
       ∙ ap (λ (k : ℕ). kinds_fault (is_dir_at s e.child) (is_dir_at s f.child) (has_entries s.entries k)) (node_found s f.child o tree q.child).0) (λ fits.
-      both s (nat_le COUNTER_END s.next_cookie) _ _ _ _ (λ _. refused_agrees s tree ENOSPC) (λ room. (
+      both s (nat_le number_end s.next_cookie) _ _ _ _ (λ _. refused_agrees s tree enospc) (λ room. (
       let never = never_held s e.child r.new_dir tree p.given to_there apart in
       let empty = none_in_empty s.entries f.child (kinds_none _ _ _ fits) in
       let ne = eqb-false e.cookie f.cookie other in
@@ -190,13 +190,13 @@ module _ (s : State) (r : Renaming) (d t : Node) (tree : Tree s) (at_d : node_at
       both s (eqb e.cookie f.cookie) _ _ _ _ (λ _. record { answer = refl; rows = refl; tree = tree }) (λ other.
       both_as s (holds s e.child r.new_dir || holds s f.child d.number) _ _ _ _ _
       (ap (λ (b : Bool). b || row_holds (rows_of_state s) (row_of s o) d.number) (same_holds s e.child r.new_dir c tree p.child) ∙ ap (λ (b : Bool). holds s e.child r.new_dir || b) (same_holds s f.child d.number o tree q.child))
-      (λ _. refused_agrees s tree EINVAL) (λ apart.
-      both s (nat_lt (COUNTER_END - 2) s.next_cookie) _ _ _ _ (λ _. refused_agrees s tree ENOSPC) (λ room. (
+      (λ _. refused_agrees s tree einval) (λ apart.
+      both s (nat_lt (number_end - 2) s.next_cookie) _ _ _ _ (λ _. refused_agrees s tree enospc) (λ room. (
       let parts = or_false (holds s e.child r.new_dir) (holds s f.child d.number) apart in
       let never_e = never_held s e.child r.new_dir tree p.given to_there parts.0 in
       let never_f = never_held s f.child d.number tree q.given from_there parts.1 in
       let ne = eqb-false e.cookie f.cookie other in
-      let few : s.next_cookie ≤ COUNTER_END - 2 = ltb-false (COUNTER_END - 2) s.next_cookie room in
+      let few : s.next_cookie ≤ number_end - 2 = ltb-false (number_end - 2) s.next_cookie room in
       record {
         answer = refl;
         rows = exchange_rows s r d t c o e f tree at_d at_t p.child q.child at_e at_f p.dir_is q.dir_is ne (not_own d.number r.old_name e c p at_e) (λ same. never_e 0 (sym same)) (λ same. never_f 0 (sym same)) (not_own r.new_dir r.new_name f o q at_f);
@@ -205,7 +205,7 @@ module _ (s : State) (r : Renaming) (d t : Node) (tree : Tree s) (at_d : node_at
 
   exchange_agrees : (e : EntryRow) (c : Node) → Found s d.number r.old_name e c → entry_at s.entries d.number r.old_name ≡ Some e → (other : Option EntryRow) → entry_at s.entries r.new_dir r.new_name ≡ other
       → Agrees s (plan_exchange_link r (row_of s d) (row_of s t) (link e c) (link_of (rows_of_state s) other) (rows_of_state s)) (exchange_entry s r d.number e other)
-  exchange_agrees e c p at_e None at = refused_agrees s tree ENOENT
+  exchange_agrees e c p at_e None at = refused_agrees s tree enoent
   exchange_agrees e c p at_e (Some f) at =
       let o = found_entry s r.new_dir r.new_name f tree at in
       subst (λ (l : Option Link). Agrees s (plan_exchange_link r (row_of s d) (row_of s t) (link e c) l (rows_of_state s)) (exchange_entry s r d.number e (Some f))) (sym o.1.link)
@@ -222,10 +222,10 @@ module _ (s : State) (r : Renaming) (d t : Node) (tree : Tree s) (at_d : node_at
   by_agrees e c p at_e other at =
       both s (is_exchange r.mode) _ _ _ _ (λ _. exchange_agrees e c p at_e other at) (λ _.
       both_as s (is_no_replace r.mode && is_some other) _ _ _ _ _ (ap (λ (b : Bool). is_no_replace r.mode && b) (same_some other at))
-      (λ _. refused_agrees s tree EEXIST) (λ _. rename_agrees e c p at_e other at))
+      (λ _. refused_agrees s tree eexist) (λ _. rename_agrees e c p at_e other at))
 
   pub from_agrees : (o : Option EntryRow) → entry_at s.entries d.number r.old_name ≡ o → Agrees s (plan_rename_from r (row_of s d) (row_of s t) (link_of (rows_of_state s) o) (rows_of_state s)) (rename_from s r d.number o)
-  from_agrees None at = refused_agrees s tree ENOENT
+  from_agrees None at = refused_agrees s tree enoent
   from_agrees (Some e) at =
       let c = found_entry s d.number r.old_name e tree at in
       subst (λ (l : Option Link). Agrees s (plan_rename_from r (row_of s d) (row_of s t) l (rows_of_state s)) (rename_from s r d.number (Some e))) (sym c.1.link)
@@ -233,7 +233,7 @@ module _ (s : State) (r : Renaming) (d t : Node) (tree : Tree s) (at_d : node_at
 
 between_agrees : (s : State) (r : Renaming) (d : Node) → Tree s → node_at s d.number ≡ Some d → (o : Option Node) → node_at s r.new_dir ≡ o
     → Agrees s (plan_rename_between r (row_of s d) (option_map (row_of s) o) (rows_of_state s)) (rename_between s r d o)
-between_agrees s r d tree at_d None at = refused_agrees s tree ESTALE
+between_agrees s r d tree at_d None at = refused_agrees s tree estale
 between_agrees s r d tree at_d (Some t) at =
     both_for s (asked_fault r (is_dir d.mode && is_dir t.mode) (is_named s d.number && is_named s t.number)) _ _ tree (λ none. (
     let asks = asked_none r (is_dir d.mode && is_dir t.mode) (is_named s d.number && is_named s t.number) none in

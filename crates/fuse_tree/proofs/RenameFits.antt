@@ -3,7 +3,7 @@ use Rattle.std.proofs.Common.{◌≡◌, ◌-◌, ◌&&◌, ◌||◌, ◌==◌, 
 use Rattle.std.specs.Prelude.{nat_le, nat_lt}
 use Rattle.fuse_wire.specs.declared.errno.Errno.{Errno}
 use Rattle.fuse_answer.specs.Replies.{Kind, Nothing}
-use Rattle.fuse_tree.specs.declared.limits.TheConstants.{COUNTER_END}
+use Rattle.fuse_tree.specs.Bounds.{number_end}
 use Rattle.fuse_tree.specs.declared.rows.EntryRow.{EntryRow}
 use Rattle.fuse_tree.specs.State.{State, Node, is_dir, is_named, is_odd_name, name_fault, node_at}
 use Rattle.fuse_tree.specs.Rows.{entry_at}
@@ -15,7 +15,7 @@ use Rattle.fuse_tree.proofs.Fit.{Fits, Reads, refused, answered, chosen, refused
 -- ---- fits
 
 room_fits : (s : State) (r : Renaming) (dir : ℕ) (e : EntryRow) (other : Option EntryRow) → Fits (rename_with_room s r dir e other)
-room_fits s r dir e other = chosen (nat_le COUNTER_END s.next_cookie) _ _ (refused s _) (answered (renamed r dir e other s) [] (omega arith))
+room_fits s r dir e other = chosen (nat_le number_end s.next_cookie) _ _ (refused s _) (answered (renamed r dir e other s) [] (omega arith))
 
 entry_fits : (s : State) (r : Renaming) (dir : ℕ) (e : EntryRow) (other : Option EntryRow) → Fits (rename_entry s r dir e other)
 entry_fits s r dir e other =
@@ -28,7 +28,7 @@ exchange_fits s r dir e None = refused s _
 exchange_fits s r dir e (Some other) =
     chosen (e.cookie == other.cookie) _ _ (answered s [] (omega arith))
     (chosen (holds s e.child r.new_dir || holds s other.child dir) _ _ (refused s _)
-    (chosen (nat_lt (COUNTER_END - 2) s.next_cookie) _ _ (refused s _) (answered (exchanged r dir e other s) [] (omega arith))))
+    (chosen (nat_lt (number_end - 2) s.next_cookie) _ _ (refused s _) (answered (exchanged r dir e other s) [] (omega arith))))
 
 by_fits : (s : State) (r : Renaming) (dir : ℕ) (e : EntryRow) (other : Option EntryRow) → Fits (rename_by s r dir e other)
 by_fits s r dir e other =
@@ -92,14 +92,14 @@ entry_reads s r dir e other =
     chosen_reads (is_same e other) _ _ (answered_reads s [] no_body)
     (chosen_reads (holds s e.child r.new_dir) _ _ (refused_reads s _ refl)
     (refused_for_reads s (place_fault s e.child other) _ (place_error s e.child other)
-    (chosen_reads (nat_le COUNTER_END s.next_cookie) _ _ (refused_reads s _ refl) (answered_reads (renamed r dir e other s) [] no_body))))
+    (chosen_reads (nat_le number_end s.next_cookie) _ _ (refused_reads s _ refl) (answered_reads (renamed r dir e other s) [] no_body))))
 
 exchange_reads : (s : State) (r : Renaming) (dir : ℕ) (e : EntryRow) (other : Option EntryRow) → Reads Nothing (exchange_entry s r dir e other)
 exchange_reads s r dir e None = refused_reads s _ refl
 exchange_reads s r dir e (Some other) =
     chosen_reads (e.cookie == other.cookie) _ _ (answered_reads s [] no_body)
     (chosen_reads (holds s e.child r.new_dir || holds s other.child dir) _ _ (refused_reads s _ refl)
-    (chosen_reads (nat_lt (COUNTER_END - 2) s.next_cookie) _ _ (refused_reads s _ refl) (answered_reads (exchanged r dir e other s) [] no_body)))
+    (chosen_reads (nat_lt (number_end - 2) s.next_cookie) _ _ (refused_reads s _ refl) (answered_reads (exchanged r dir e other s) [] no_body)))
 
 from_reads : (s : State) (r : Renaming) (dir : ℕ) (o : Option EntryRow) → Reads Nothing (rename_from s r dir o)
 from_reads s r dir None = refused_reads s _ refl

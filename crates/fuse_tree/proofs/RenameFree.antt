@@ -2,7 +2,7 @@
 use Rattle.std.proofs.Common.{◌≡◌, ◌≢◌, ◌<◌, ◌+◌, ◌||◌, ◌==◌, ℕ, Bool, true, false, cond, eqb, List, [], ◌∷◌, ◌++◌, map, Some, None, refl, sym, ap, ◌∙◌}
 use Rattle.std.specs.Prelude.{filter}
 use Rattle.fuse_wire.specs.declared.moment.Moment.{Moment}
-use Rattle.fuse_tree.specs.declared.limits.TheConstants.{COUNTER_END}
+use Rattle.fuse_tree.specs.Bounds.{number_end}
 use Rattle.fuse_tree.specs.declared.rows.Change.{Change}
 use Rattle.fuse_tree.specs.declared.rows.Change.TheVariants as changes
 use Rattle.fuse_tree.specs.declared.rows.EntryRow.{EntryRow}
@@ -102,7 +102,7 @@ module _ (s : State) (r : Renaming) (d t c : Node) (e : EntryRow) (tree : Tree s
   free_rows = ap (λ (k : ℕ). apply (rows_of_state s) (planned (eqb d.number r.new_dir) k)) (node_found s e.child c tree at_c).0 ∙ each_way (eqb d.number r.new_dir) refl
 
   -- the tree goes on
-  pub free_tree : is_dir t.mode ≡ true → is_named s r.new_dir ≡ true → name_fault r.new_name ≡ None → entry_at s.entries r.new_dir r.new_name ≡ None → ((n : ℕ) → above s.entries n r.new_dir ≢ e.child) → s.next_cookie < COUNTER_END → Tree (renamed r d.number e None s)
+  pub free_tree : is_dir t.mode ≡ true → is_named s r.new_dir ≡ true → name_fault r.new_name ≡ None → entry_at s.entries r.new_dir r.new_name ≡ None → ((n : ℕ) → above s.entries n r.new_dir ≢ e.child) → s.next_cookie < number_end → Tree (renamed r d.number e None s)
   free_tree dir named name_ok free never room =
       let moved = tree_moved s (is_entry d.number r.old_name) e r.new_dir r.new_name tree at_e (dir_there r.new_dir t s.nodes at_t dir) (named_climbs s r.new_dir tree named) never name_ok
       (all_kept (λ z. is_entry r.new_dir r.new_name z ≡ false) (keeps e.cookie) s.entries (none_found (is_entry r.new_dir r.new_name) s.entries free)) room in

@@ -5,7 +5,7 @@ use Rattle.std.specs.List.{AllByRecursion, list_any}
 use Rattle.std.proofs.lemmas.Bool.{ne_eqb, eq-eqb}
 use Rattle.std.proofs.lemmas.Bool.Decides.{eqb_tells}
 use Rattle.fuse_wire.specs.declared.moment.Moment.{Moment}
-use Rattle.fuse_tree.specs.declared.limits.TheConstants.{COUNTER_END}
+use Rattle.fuse_tree.specs.Bounds.{number_end}
 use Rattle.fuse_tree.specs.declared.rows.Change.{Change}
 use Rattle.fuse_tree.specs.declared.rows.Change.TheVariants as changes
 use Rattle.fuse_tree.specs.declared.rows.EntryRow.{EntryRow}
@@ -198,7 +198,7 @@ module _ (s : State) (r : Renaming) (d t c o : Node) (e f : EntryRow) (tree : Tr
   never_then never n at =
       never n (sym (above_same (λ j. j ≢ f.child) s.entries without_f (λ j ne. (up_kept s.entries f others_f j ne, up_in (λ i. i ≢ f.child) s.entries j empty given)) n r.new_dir (λ same. y_to (sym same))) ∙ at)
 
-  pub over_tree : is_dir t.mode ≡ true → is_named s r.new_dir ≡ true → name_fault r.new_name ≡ None → f.name ≡ r.new_name → ((n : ℕ) → above s.entries n r.new_dir ≢ e.child) → s.next_cookie < COUNTER_END → Tree (renamed r d.number e (Some f) s)
+  pub over_tree : is_dir t.mode ≡ true → is_named s r.new_dir ≡ true → name_fault r.new_name ≡ None → f.name ≡ r.new_name → ((n : ℕ) → above s.entries n r.new_dir ≢ e.child) → s.next_cookie < number_end → Tree (renamed r d.number e (Some f) s)
   over_tree dir named name_ok f_name never room =
       let climb = reaches_less (keeps f.cookie) s.entries f.child (gone_child s.entries f others_f) empty given r.new_dir (λ same. y_to (sym same)) (named_climbs s r.new_dir tree named) in
       let free = all_more (Differs f) (λ z. is_entry r.new_dir r.new_name z ≡ false) rest

@@ -3,9 +3,9 @@ use Rattle.std.proofs.Common.{◌≡◌, ◌≤◌, ◌<◌, ◌+◌, ◌*◌, �
 use Rattle.std.specs.Prelude.{nat_lt}
 use Rattle.std.proofs.lemmas.Bool.{ltb-false}
 use Rattle.std.proofs.lemmas.Nat.{div-mul-add}
-use Rattle.fuse_wire.specs.declared.errno.TheConstants.Errno.{EISDIR, EINVAL, EFBIG}
+use Rattle.fuse_wire.specs.Errnos.{eisdir, einval, efbig}
 use Rattle.fuse_wire.specs.declared.moment.Moment.{Moment}
-use Rattle.fuse_wire.specs.declared.setattr_valid.TheConstants.SetattrValid.{MODE, SIZE}
+use Rattle.fuse_wire.specs.Bits.{fattr_mode, fattr_size}
 use Rattle.fuse_request.specs.declared.request.SetattrIn.{SetattrIn}
 use Rattle.fuse_tree.specs.declared.rows.Full.{Full}
 use Rattle.fuse_tree.specs.declared.rows.Change.TheVariants as changes
@@ -29,12 +29,12 @@ kind_stays mode new true =
 kind_stays mode new false = refl
 
 same_kind : (set : SetattrIn) (mode : ℕ) → type_of (mode_after set mode) ≡ type_of mode
-same_kind set mode = kind_stays mode set.mode (has set MODE)
+same_kind set mode = kind_stays mode set.mode (has set fattr_mode)
 
 set_same : (set : SetattrIn) (now : Moment) (n : Node) → SamePlace n (set_node set now n)
 set_same set now n = record { number = refl; kind = same_kind set n.mode }
 
-no_fault : (dir file over : Bool) → cond dir (Some EISDIR) (cond (not file) (Some EINVAL) (cond over (Some EFBIG) None)) ≡ None → (file ≡ true) × (over ≡ false)
+no_fault : (dir file over : Bool) → cond dir (Some eisdir) (cond (not file) (Some einval) (cond over (Some efbig) None)) ≡ None → (file ≡ true) × (over ≡ false)
 no_fault true file over e = absurd cc
 no_fault false false over e = absurd cc
 no_fault false true true e = absurd cc
@@ -53,7 +53,7 @@ content_then mode size content false e p = p
 
 set_is_node : (next : ℕ) (set : SetattrIn) (now : Moment) (d : Node) → set_fault set d.mode ≡ None → IsNode next d → IsNode next (set_node set now d)
 set_is_node next set now d e p =
-    let q = content_then d.mode set.size d.content (has set SIZE) e (record { content = p.content; size = p.size }) in
+    let q = content_then d.mode set.size d.content (has set fattr_size) e (record { content = p.content; size = p.size }) in
     let kind : is_file (mode_after set d.mode) ≡ is_file d.mode = ap (λ (k : ℕ). k == 8) (same_kind set d.mode) in
     record { from_one = p.from_one; below = p.below; content = λ isnt. q.content (sym kind ∙ isnt); size = q.size }
 
@@ -79,14 +79,14 @@ resized rows node size false = ap (λ (fs : List Full). record rows { nodes = fs
 -- in the node d
 module _ (s : State) (set : SetattrIn) (now : Moment) (d : Node) (tree : Tree s) (e : node_at s d.number ≡ Some d) where
   abbrev bytes_after : List ℕ → List ℕ
-  bytes_after content = cond (has set SIZE) (sized set.size content) content
+  bytes_after content = cond (has set fattr_size) (sized set.size content) content
 
   set_full : full_of s (set_node set now d) ≡ record { row = set_row set now (row_of s d); content = bytes_after d.content }
-  set_full = rw (size_then set.size d.content (has set SIZE)) refl
+  set_full = rw (size_then set.size d.content (has set fattr_size)) refl
 
   set_rows : apply (rows_of_state s) (set_changes set now (row_of s d)) ≡ rows_of_state (with_set s set now d.number)
   set_rows =
-      resized (record (rows_of_state s) { nodes = put_node (set_row set now (row_of s d)) (map (full_of s) s.nodes) }) d.number set.size (has set SIZE)
+      resized (record (rows_of_state s) { nodes = put_node (set_row set now (row_of s d)) (map (full_of s) s.nodes) }) d.number set.size (has set fattr_size)
       ∙ changed_rows s (set_node set now) (set_same set now) d tree e (set_row set now (row_of s d)) bytes_after set_full
 
   set_tree : set_fault set d.mode ≡ None → Tree (with_set s set now d.number)

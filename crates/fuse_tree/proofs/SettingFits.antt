@@ -1,13 +1,13 @@
 -- What SETATTR answers fits, and is read.
 use Rattle.std.proofs.Common.{Bool, true, false, if◌then◌else◌, not, Some, None, refl, arith}
 use Rattle.std.specs.Prelude.{nat_lt}
-use Rattle.fuse_wire.specs.declared.errno.TheConstants.Errno.{EISDIR, EINVAL, EFBIG}
-use Rattle.fuse_wire.specs.declared.setattr_valid.TheConstants.SetattrValid.{SIZE}
+use Rattle.fuse_wire.specs.Errnos.{eisdir, einval, efbig}
+use Rattle.fuse_wire.specs.Bits.{fattr_size}
 use Rattle.fuse_wire.specs.declared.moment.Moment.{Moment}
 use Rattle.fuse_request.specs.declared.request.SetattrIn.{SetattrIn}
 use Rattle.fuse_answer.specs.Laws.{ReadBack, RecordSizes}
 use Rattle.fuse_answer.specs.Replies.{Kind, Attributes}
-use Rattle.fuse_tree.specs.declared.limits.TheConstants.{MAX_FILE}
+use Rattle.fuse_tree.specs.Bounds.{file_limit}
 use Rattle.fuse_tree.specs.State.{State, Node, is_dir, is_file}
 use Rattle.fuse_tree.specs.Done.{Done, refuse_for, attr_of, attr_out_of}
 use Rattle.fuse_tree.specs.Setting.{has, set_fault, set_node, with_set, setattr}
@@ -21,14 +21,14 @@ setattr_fits sizes s set now n =
 -- ---- it is read
 
 size_reads : {kind : Kind} (s : State) (asked dir file over : Bool) (d : Done) → Reads kind d
-    → Reads kind (refuse_for s (if asked then (if dir then Some EISDIR else if not file then Some EINVAL else if over then Some EFBIG else None) else None) d)
+    → Reads kind (refuse_for s (if asked then (if dir then Some eisdir else if not file then Some einval else if over then Some efbig else None) else None) d)
 size_reads s false dir file over d so = so
-size_reads s true true file over d so = refused_reads s EISDIR refl
-size_reads s true false false over d so = refused_reads s EINVAL refl
-size_reads s true false true true d so = refused_reads s EFBIG refl
+size_reads s true true file over d so = refused_reads s eisdir refl
+size_reads s true false false over d so = refused_reads s einval refl
+size_reads s true false true true d so = refused_reads s efbig refl
 size_reads s true false true false d so = so
 
 pub setattr_reads : ReadBack → (s : State) (set : SetattrIn) (now : Moment) (n : Node) → Reads Attributes (setattr s set now n)
 setattr_reads back s set now n =
-    size_reads s (has set SIZE) (is_dir n.mode) (is_file n.mode) (nat_lt MAX_FILE set.size) _
+    size_reads s (has set fattr_size) (is_dir n.mode) (is_file n.mode) (nat_lt file_limit set.size) _
     (answered_reads (with_set s set now n.number) _ (back.attributes (attr_out_of (attr_of (with_set s set now n.number) (set_node set now n)))))

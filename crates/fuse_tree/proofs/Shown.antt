@@ -3,7 +3,7 @@ use Rattle.std.proofs.Common.{◌≡◌, ◌<◌, ◌≤◌, ◌+◌, ℕ, zero,
 use Rattle.std.specs.List.{AllByRecursion}
 use Rattle.std.proofs.lemmas.Bool.{eqb-false, ltb-false}
 use Rattle.std.proofs.lemmas.List.{map-append, take_more}
-use Rattle.fuse_wire.specs.declared.errno.TheConstants.Errno.{EINVAL, ENAMETOOLONG}
+use Rattle.fuse_wire.specs.Errnos.{einval, enametoolong}
 use Rattle.fuse_answer.specs.declared.dirent.Dirent.{Dirent}
 use Rattle.fuse_answer.specs.Entries.{Entry, entry_of}
 use Rattle.fuse_tree.specs.declared.rows.EntryRow.{EntryRow}
@@ -22,7 +22,7 @@ pub record NameFits (name : List ℕ) : Type 0 where
 
 pub name_fits : (name : List ℕ) → name_fault name ≡ None → NameFits name
 name_fits name none =
-    let h = no_fault _ (is_odd_name name) ENAMETOOLONG EINVAL none in
+    let h = no_fault _ (is_odd_name name) enametoolong einval none in
     let given = eqb-false (length name) 0 (or_false _ _ (or_false _ _ (or_false _ _ h.1).0).0).0 in
     record { some = omega (arith, given); short = ltb-false 255 (length name) h.0 }
 

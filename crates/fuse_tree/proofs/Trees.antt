@@ -3,7 +3,7 @@ use Rattle.std.proofs.Common.{◌≡◌, ◌<◌, ◌≤◌, ◌+◌, ◌||◌, 
 use Rattle.std.specs.List.{AllByRecursion, list_any}
 use Rattle.std.proofs.lemmas.Bool.{eqb-true, eqb-false, eq-eqb}
 use Rattle.std.proofs.lemmas.List.{length-append, length-map}
-use Rattle.fuse_tree.specs.declared.limits.TheConstants.{MAX_NODES, COUNTER_END}
+use Rattle.fuse_tree.specs.Bounds.{node_limit, number_end}
 use Rattle.fuse_tree.specs.declared.rows.EntryRow.{EntryRow}
 use Rattle.fuse_tree.specs.declared.rows.HandleRow.{HandleRow}
 use Rattle.fuse_tree.specs.State.{State, Node, Tree, IsNode, IsEntry, IsHandle, AreApart, Reaches, type_of, is_dir_of, has_number, is_open_at, is_entry, name_fault, up_of, is_named}
@@ -104,9 +104,9 @@ pub record Fits (s : State) (n : Node) (e : EntryRow) : Type 0 where
   pub named : is_named s e.dir ≡ true
   pub name : name_fault e.name ≡ None
   pub free : entry_at s.entries e.dir e.name ≡ None
-  pub few : length s.nodes < MAX_NODES
-  pub node_left : s.next_node < COUNTER_END
-  pub cookie_left : s.next_cookie < COUNTER_END
+  pub few : length s.nodes < node_limit
+  pub node_left : s.next_node < number_end
+  pub cookie_left : s.next_cookie < number_end
 
 one_more : (a b : ℕ) → a < b → a + 1 ≤ b
 one_more a b lt = omega arith

@@ -2,7 +2,7 @@
 use Rattle.std.proofs.Common.{◌≡◌, ◌==◌, ◌≤◌, ◌<◌, ◌≢◌, ◌+◌, ◌-◌, ◌&&◌, ◌||◌, ℕ, zero, suc, Bool, true, false, eqb, List, length, Option, Some, None, refl, sym, ap, subst, ◌∙◌, inl, inr, arith}
 use Rattle.std.specs.Option.{option_map}
 use Rattle.std.proofs.lemmas.Bool.{eqb-true, eqb-false, ne_eqb, eq-eqb, cases_lt}
-use Rattle.fuse_tree.specs.declared.limits.TheConstants.{MAX_NODES}
+use Rattle.fuse_tree.specs.Bounds.{node_limit}
 use Rattle.fuse_tree.specs.declared.rows.EntryRow.{EntryRow}
 use Rattle.fuse_tree.specs.declared.rows.NodeRow.{NodeRow}
 use Rattle.fuse_tree.specs.State.{State, Node, Tree, IsEntry, has_number, node_at, up_of, above}
@@ -57,9 +57,9 @@ rows_end rows k is =
     ap (λ (r : Rows). above r.entries r.counters.nodes k) (is.2 ∙ rowed_is s) ∙ ends_within s is.1 k
 
 -- there are no more nodes than a tree has
-pub rows_few : (rows : Rows) → IsRowed rows → rows.counters.nodes ≤ MAX_NODES
+pub rows_few : (rows : Rows) → IsRowed rows → rows.counters.nodes ≤ node_limit
 unfolding IsRowed
-rows_few rows is = let s = is.0 in subst (λ (r : Rows). r.counters.nodes ≤ MAX_NODES) (sym (is.2 ∙ rowed_is s)) is.1.limits.nodes
+rows_few rows is = let s = is.0 in subst (λ (r : Rows). r.counters.nodes ≤ node_limit) (sym (is.2 ∙ rowed_is s)) is.1.limits.nodes
 
 rows_none : (rows : Rows) → IsRowed rows → up_of rows.entries 0 ≡ 0
 unfolding IsRowed

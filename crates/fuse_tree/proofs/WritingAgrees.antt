@@ -5,7 +5,7 @@ use Rattle.std.specs.Option.{option_map}
 use Rattle.std.proofs.lemmas.Bool.{eqb-true, ltb-false}
 use Rattle.fuse_wire.specs.declared.access_mode.AccessMode.{AccessMode}
 use Rattle.fuse_wire.specs.declared.access_mode.AccessMode.TheVariants.{ReadOnly, WriteOnly, ReadWrite}
-use Rattle.fuse_wire.specs.declared.errno.TheConstants.Errno.{EBADF, EISDIR, EINVAL, EFBIG}
+use Rattle.fuse_wire.specs.Errnos.{ebadf, eisdir, einval, efbig}
 use Rattle.fuse_wire.specs.declared.moment.Moment.{Moment}
 use Rattle.fuse_request.specs.declared.request.ReadIn.{ReadIn}
 use Rattle.fuse_tree.specs.declared.rows.Full.{Full}
@@ -77,9 +77,9 @@ module _ (s : State) (offset : ℕ) (payload : List ℕ) (now : Moment) (d : Nod
 
   pub write_agrees : (fh : ℕ) → Agrees s (plan_write fh offset payload now (row_of s d) (rows_of_state s)) (write s fh offset payload now d)
   write_agrees fh =
-      both s (not (may_write (access_at s.handles fh d.number))) _ _ _ _ (λ _. refused_agrees s tree EBADF) (λ may.
+      both s (not (may_write (access_at s.handles fh d.number))) _ _ _ _ (λ _. refused_agrees s tree ebadf) (λ may.
       both s (length payload == 0) _ _ _ _ (λ _. record { answer = refl; rows = refl; tree = tree }) (λ _.
-      both s (nat_lt 16777216 (offset + length payload)) _ _ _ _ (λ _. refused_agrees s tree EFBIG) (λ low. record {
+      both s (nat_lt 16777216 (offset + length payload)) _ _ _ _ (λ _. refused_agrees s tree efbig) (λ low. record {
         answer = refl;
         rows = write_rows;
         tree = write_tree (writable_file s d fh (handle_at s.handles fh) tree e refl (not_false _ may)) (ltb-false 16777216 (offset + length payload) low);
@@ -97,9 +97,9 @@ bytes_found s d offset size e =
 
 pub read_agrees : (s : State) (asked : ReadIn) (d : Node) → Tree s → node_at s d.number ≡ Some d → Agrees s (plan_read asked (row_of s d) (rows_of_state s)) (read s asked d)
 read_agrees s asked d tree e =
-    both s (not (may_read (access_at s.handles asked.fh d.number))) _ _ _ _ (λ _. refused_agrees s tree EBADF) (λ _.
-    both s (is_dir d.mode) _ _ _ _ (λ _. refused_agrees s tree EISDIR) (λ _.
-    both s (nat_lt 1048576 asked.size) _ _ _ _ (λ _. refused_agrees s tree EINVAL) (λ _. record {
+    both s (not (may_read (access_at s.handles asked.fh d.number))) _ _ _ _ (λ _. refused_agrees s tree ebadf) (λ _.
+    both s (is_dir d.mode) _ _ _ _ (λ _. refused_agrees s tree eisdir) (λ _.
+    both s (nat_lt 1048576 asked.size) _ _ _ _ (λ _. refused_agrees s tree einval) (λ _. record {
       answer = ap (λ (bytes : List ℕ). (told bytes).answer) (bytes_found s d asked.offset asked.size e);
       rows = refl;
       tree = tree;

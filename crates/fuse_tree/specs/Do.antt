@@ -1,7 +1,7 @@
 -- What each request does to a state and answers (own profile), over the whole state: the first check that
 -- applies decides. Neither unique nor pid nor the extensions are looked at.
 use Rattle.std.specs.Prelude.{ℕ, Bool, true, false, not, if◌then◌else◌, List, [], Option, Some, None, is_some}
-use Rattle.fuse_wire.specs.declared.errno.TheConstants.Errno.{ENOENT, ENOTDIR, ENOSYS, EPROTO, ESTALE}
+use Rattle.fuse_wire.specs.Errnos.{enoent, enotdir, enosys, eproto, estale}
 use Rattle.fuse_wire.specs.declared.moment.Moment.{Moment}
 use Rattle.fuse_request.specs.declared.request.InHeader.{InHeader}
 use Rattle.fuse_request.specs.declared.request.InitIn.{InitIn}
@@ -25,20 +25,20 @@ use Rattle.fuse_tree.specs.Renaming.{asking, rename}
 -- ---- LOOKUP
 
 abbrev pub lookup_child : State → Option Node → Done
-lookup_child s None = refuse s ENOENT
+lookup_child s None = refuse s enoent
 lookup_child s (Some child) = answer s (entry_bytes (entry_of (attr_of s child)))
 
 abbrev pub lookup_entry : State → Option EntryRow → Done
-lookup_entry s None = refuse s ENOENT
+lookup_entry s None = refuse s enoent
 lookup_entry s (Some e) = lookup_child s (node_at s e.child)
 
 -- where directory n has a name of its own
 abbrev pub lookup_named : State → List ℕ → Node → Done
-lookup_named s name n = if not (is_named s n.number) then refuse s ENOENT else lookup_entry s (entry_at s.entries n.number name)
+lookup_named s name n = if not (is_named s n.number) then refuse s enoent else lookup_entry s (entry_at s.entries n.number name)
 
 abbrev pub lookup : State → List ℕ → Node → Done
 lookup s name n =
-    if not (is_dir n.mode) then refuse s ENOTDIR
+    if not (is_dir n.mode) then refuse s enotdir
     else refuse_for s (name_fault name) (lookup_named s name n)
 
 -- ---- GETATTR
@@ -67,10 +67,10 @@ do_act s header (acts.Release x) now n = release s x.fh n
 do_act s header (acts.ReleaseDir x) now n = release_dir s x.fh n
 do_act s header (acts.Rename new_dir old_name new_name) now n = rename s (asking new_dir 0 old_name new_name now) n
 do_act s header (acts.Rename2 new_dir flags old_name new_name) now n = rename s (asking new_dir flags old_name new_name now) n
-do_act s header _ now n = refuse s ENOSYS
+do_act s header _ now n = refuse s enosys
 
 abbrev pub do_at : State → Asked → Moment → Option Node → Done
-do_at s request now None = refuse s ESTALE
+do_at s request now None = refuse s estale
 do_at s request now (Some n) = do_act s request.header request.act now n
 
 -- whether the node that the header names is looked at
@@ -90,7 +90,7 @@ offer_of _ = None
 -- INIT is answered always, and all else where settings are agreed on
 abbrev pub do_offered : State → Asked → Moment → Option InitIn → Done
 do_offered s request now (Some offer) = init s (agree offer)
-do_offered s request now None = if is_some s.settings then do_agreed s request now else refuse s EPROTO
+do_offered s request now None = if is_some s.settings then do_agreed s request now else refuse s eproto
 
 -- what a request does at a moment
 unfoldable pub done : State → Asked → Moment → Done

@@ -6,7 +6,7 @@ use Rattle.fuse_answer.specs.Said.{Said}
 use Rattle.fuse_answer.specs.declared.records.Attr.{Attr}
 use Rattle.fuse_answer.specs.declared.records.EntryOut.{EntryOut}
 use Rattle.fuse_answer.specs.declared.records.AttrOut.{AttrOut}
-use Rattle.fuse_tree.specs.declared.limits.TheConstants.{BLOCK_SIZE, SECTOR_SIZE, VALID_SECS}
+use Rattle.fuse_tree.specs.Bounds.{block_bytes, sector_bytes, valid_seconds}
 use Rattle.fuse_tree.specs.State.{State, Node, links_of}
 
 -- the state after a request, and what it is answered
@@ -33,7 +33,7 @@ abbrev pub attr_of : State → Node → Attr
 attr_of s n = record {
   ino = n.number;
   size = length n.content;
-  blocks = (length n.content + (SECTOR_SIZE - 1)) / SECTOR_SIZE;
+  blocks = (length n.content + (sector_bytes - 1)) / sector_bytes;
   atime = n.atime.secs;
   mtime = n.mtime.secs;
   ctime = n.ctime.secs;
@@ -45,17 +45,17 @@ attr_of s n = record {
   uid = n.uid;
   gid = n.gid;
   rdev = n.rdev;
-  blksize = BLOCK_SIZE;
+  blksize = block_bytes;
   flags = 0;
 }
 
 -- an entry's answer, valid for a second
 abbrev pub entry_of : Attr → EntryOut
-entry_of attr = record { nodeid = attr.ino; generation = 0; entry_valid = VALID_SECS; attr_valid = VALID_SECS; entry_valid_nsec = 0; attr_valid_nsec = 0; attr = attr }
+entry_of attr = record { nodeid = attr.ino; generation = 0; entry_valid = valid_seconds; attr_valid = valid_seconds; entry_valid_nsec = 0; attr_valid_nsec = 0; attr = attr }
 
 -- an attribute answer, valid for a second
 abbrev pub attr_out_of : Attr → AttrOut
-attr_out_of attr = record { attr_valid = VALID_SECS; attr_valid_nsec = 0; attr = attr }
+attr_out_of attr = record { attr_valid = valid_seconds; attr_valid_nsec = 0; attr = attr }
 
 -- ---- times
 

@@ -1,3 +1,5 @@
+pub mod Bounds
+pub mod Modes
 pub mod State
 pub mod Rows
 pub mod Handles

@@ -1,11 +1,11 @@
 -- What READDIR does (own profile): the entries of a directory behind an offset, as many as fit.
 use Rattle.std.specs.Prelude.{◌<◌, ◌==◌, ℕ, zero, suc, Bool, true, not, nat_le, nat_lt, if◌then◌else◌, List, [], ◌∷◌, ◌++◌, length, map, take, filter, Option, Some, None, codes}
 use Rattle.std.specs.List.{sum_by}
-use Rattle.fuse_wire.specs.declared.errno.TheConstants.Errno.{ENOENT, EBADF, ENOTDIR, EINVAL}
+use Rattle.fuse_wire.specs.Errnos.{enoent, ebadf, enotdir, einval}
 use Rattle.fuse_request.specs.declared.request.ReadIn.{ReadIn}
 use Rattle.fuse_answer.specs.Entries.{Entry, packed_len, entries_bytes, IsLongest}
-use Rattle.fuse_tree.specs.declared.limits.TheConstants.{MAX_READ, ROOT_ID}
-use Rattle.fuse_tree.specs.declared.mode.TheConstants.{S_IFDIR}
+use Rattle.fuse_tree.specs.Bounds.{read_limit, fuse_root_id}
+use Rattle.fuse_tree.specs.Modes.{s_ifdir}
 use Rattle.fuse_tree.specs.declared.rows.EntryRow.{EntryRow}
 use Rattle.fuse_tree.specs.State.{State, Node, Tree, Apart, type_of, is_dir, node_at, is_named, up_of}
 use Rattle.fuse_tree.specs.Handles.{is_open}
@@ -16,13 +16,13 @@ use Rattle.fuse_tree.specs.Done.{Done, refuse, answer}
 -- the directory itself and the one above it, at the first two offsets
 abbrev pub dots : ℕ → ℕ → List Entry
 dots dir above =
-    record { ino = dir; off = 1; kind = type_of S_IFDIR; name = codes "." }
-    ∷ record { ino = above; off = 2; kind = type_of S_IFDIR; name = codes ".." }
+    record { ino = dir; off = 1; kind = type_of s_ifdir; name = codes "." }
+    ∷ record { ino = above; off = 2; kind = type_of s_ifdir; name = codes ".." }
     ∷ []
 
 -- the directory above, and above the root the root
 abbrev pub above_or_root : State → ℕ → ℕ
-above_or_root s dir = if dir == ROOT_ID then ROOT_ID else up_of s.entries dir
+above_or_root s dir = if dir == fuse_root_id then fuse_root_id else up_of s.entries dir
 
 abbrev pub kind_of : Option Node → ℕ
 kind_of None = 0
@@ -59,14 +59,14 @@ first_fits (e ∷ es) size = nat_le (packed_len e) size
 -- ---- READDIR
 
 abbrev pub list_front : State → List Entry → ℕ → Done
-list_front s es size = if not (first_fits es size) then refuse s EINVAL else answer s (entries_bytes (longest_front es size))
+list_front s es size = if not (first_fits es size) then refuse s einval else answer s (entries_bytes (longest_front es size))
 
 abbrev pub read_dir : State → ReadIn → Node → Done
 read_dir s asked n =
-    if not (is_open s.handles asked.fh n.number) then refuse s EBADF
-    else if not (is_dir n.mode) then refuse s ENOTDIR
-    else if nat_lt MAX_READ asked.size then refuse s EINVAL
-    else if not (is_named s n.number) then refuse s ENOENT
+    if not (is_open s.handles asked.fh n.number) then refuse s ebadf
+    else if not (is_dir n.mode) then refuse s enotdir
+    else if nat_lt read_limit asked.size then refuse s einval
+    else if not (is_named s n.number) then refuse s enoent
     else list_front s (entries_behind s n.number asked.offset) asked.size
 
 -- ---- laws

@@ -1,11 +1,11 @@
 -- What MKNOD and MKDIR do (own profile): a new node and its entry.
 use Rattle.std.specs.Prelude.{◌+◌, ◌*◌, ◌%◌, ◌==◌, ◌||◌, ℕ, Bool, not, nat_le, if◌then◌else◌, List, [], ◌∷◌, ◌++◌, length, is_some}
-use Rattle.fuse_wire.specs.declared.errno.TheConstants.Errno.{ENOENT, EEXIST, ENOTDIR, EINVAL, ENOSPC}
+use Rattle.fuse_wire.specs.Errnos.{enoent, eexist, enotdir, einval, enospc}
 use Rattle.fuse_wire.specs.declared.moment.Moment.{Moment}
 use Rattle.fuse_request.specs.declared.request.InHeader.{InHeader}
 use Rattle.fuse_answer.specs.Bodies.{entry_bytes}
-use Rattle.fuse_tree.specs.declared.limits.TheConstants.{MAX_NODES, COUNTER_END}
-use Rattle.fuse_tree.specs.declared.mode.TheConstants.{S_IFBLK, S_IFCHR, S_IFDIR, S_IFIFO, S_IFREG, S_IFSOCK, TYPE_UNIT}
+use Rattle.fuse_tree.specs.Bounds.{node_limit, number_end}
+use Rattle.fuse_tree.specs.Modes.{s_ifblk, s_ifchr, s_ifdir, s_ififo, s_ifreg, s_ifsock, type_unit}
 use Rattle.fuse_tree.specs.declared.planning.make.NewNode.{NewNode}
 use Rattle.fuse_tree.specs.declared.rows.EntryRow.{EntryRow}
 use Rattle.fuse_tree.specs.State.{State, Node, type_of, is_dir, is_named, name_fault}
@@ -47,48 +47,48 @@ with_node s fresh dir name = grow (new_node s fresh) (new_entry s dir name) (tou
 
 -- no room for a node: there are too many, or a counter is at its end
 abbrev pub is_full : ℕ → ℕ → ℕ → Bool
-is_full nodes next_node next_cookie = nat_le MAX_NODES nodes || nat_le COUNTER_END next_node || nat_le COUNTER_END next_cookie
+is_full nodes next_node next_cookie = nat_le node_limit nodes || nat_le number_end next_node || nat_le number_end next_cookie
 
 -- a new node, where there is room for it
 abbrev pub make_with_room : State → NewNode → ℕ → List ℕ → Done
 make_with_room s fresh dir name =
-    if is_full (length s.nodes) s.next_node s.next_cookie then refuse s ENOSPC
+    if is_full (length s.nodes) s.next_node s.next_cookie then refuse s enospc
     else answer (with_node s fresh dir name) (entry_bytes (entry_of (attr_of (with_node s fresh dir name) (new_node s fresh))))
 
 -- a new node in directory n, where the name is free
 abbrev pub make : State → NewNode → List ℕ → Node → Done
 make s fresh name n =
-    if not (is_named s n.number) then refuse s ENOENT
-    else if is_some (entry_at s.entries n.number name) then refuse s EEXIST
+    if not (is_named s n.number) then refuse s enoent
+    else if is_some (entry_at s.entries n.number name) then refuse s eexist
     else make_with_room s fresh n.number name
 
 -- ---- MKDIR
 
 -- the mode of a new directory: its type, and the permissions asked for
 abbrev pub dir_mode : ℕ → ℕ
-dir_mode mode = S_IFDIR + mode % TYPE_UNIT
+dir_mode mode = s_ifdir + mode % type_unit
 
 abbrev pub mkdir : State → InHeader → ℕ → List ℕ → Moment → Node → Done
 mkdir s header mode name now n =
-    if not (is_dir n.mode) then refuse s ENOTDIR
+    if not (is_dir n.mode) then refuse s enotdir
     else refuse_for s (name_fault name) (make s (begun header (dir_mode mode) 0 now) name n)
 
 -- ---- MKNOD
 
 -- the bits of a mode that tell its type
 abbrev pub type_bits : ℕ → ℕ
-type_bits mode = type_of mode * TYPE_UNIT
+type_bits mode = type_of mode * type_unit
 
 -- these bits are of a type that MKNOD makes; 0 stands for a regular file
 abbrev pub may_make : ℕ → Bool
-may_make bits = (bits == 0) || (bits == S_IFREG) || (bits == S_IFCHR) || (bits == S_IFBLK) || (bits == S_IFIFO) || (bits == S_IFSOCK)
+may_make bits = (bits == 0) || (bits == s_ifreg) || (bits == s_ifchr) || (bits == s_ifblk) || (bits == s_ififo) || (bits == s_ifsock)
 
 abbrev pub is_device : ℕ → Bool
-is_device bits = (bits == S_IFCHR) || (bits == S_IFBLK)
+is_device bits = (bits == s_ifchr) || (bits == s_ifblk)
 
 -- the mode of a new node: its type, and the permissions asked for
 abbrev pub node_mode : ℕ → ℕ
-node_mode mode = (if type_bits mode == 0 then S_IFREG else type_bits mode) + mode % TYPE_UNIT
+node_mode mode = (if type_bits mode == 0 then s_ifreg else type_bits mode) + mode % type_unit
 
 -- the device that a new node stands for, where it stands for one
 abbrev pub node_rdev : ℕ → ℕ → ℕ
@@ -96,6 +96,6 @@ node_rdev mode rdev = if is_device (type_bits mode) then rdev else 0
 
 abbrev pub mknod : State → InHeader → ℕ → ℕ → List ℕ → Moment → Node → Done
 mknod s header mode rdev name now n =
-    if not (is_dir n.mode) then refuse s ENOTDIR
-    else if not (may_make (type_bits mode)) then refuse s EINVAL
+    if not (is_dir n.mode) then refuse s enotdir
+    else if not (may_make (type_bits mode)) then refuse s einval
     else refuse_for s (name_fault name) (make s (begun header (node_mode mode) (node_rdev mode rdev) now) name n)

@@ -3,11 +3,11 @@ use Rattle.std.specs.Prelude.{◌+◌, ◌==◌, ℕ, not, nat_le, if◌then◌e
 use Rattle.fuse_wire.specs.declared.access_mode.AccessMode.{AccessMode}
 use Rattle.fuse_wire.specs.declared.access_mode.AccessMode.TheVariants.{ReadOnly}
 use Rattle.fuse_wire.specs.declared.errno.Errno.{Errno}
-use Rattle.fuse_wire.specs.declared.errno.TheConstants.Errno.{EBADF, ENOTDIR, EISDIR, EINVAL, ENFILE, ENOSPC}
+use Rattle.fuse_wire.specs.Errnos.{ebadf, enotdir, eisdir, einval, enfile, enospc}
 use Rattle.fuse_wire.specs.Flags.{access_of}
 use Rattle.fuse_answer.specs.Bodies.{open_bytes}
 use Rattle.fuse_answer.specs.declared.records.OpenOut.{OpenOut}
-use Rattle.fuse_tree.specs.declared.limits.TheConstants.{MAX_HANDLES, COUNTER_END}
+use Rattle.fuse_tree.specs.Bounds.{handle_limit, number_end}
 use Rattle.fuse_tree.specs.declared.rows.HandleRow.{HandleRow}
 use Rattle.fuse_tree.specs.State.{State, Node, is_dir, is_file}
 use Rattle.fuse_tree.specs.Handles.{is_open}
@@ -18,8 +18,8 @@ use Rattle.fuse_tree.specs.Done.{Done, refuse, refuse_for, answer}
 -- why no handle is given out
 abbrev pub open_fault : ℕ → ℕ → Option Errno
 open_fault handles next_fh =
-    if nat_le MAX_HANDLES handles then Some ENFILE
-    else if nat_le COUNTER_END next_fh then Some ENOSPC
+    if nat_le handle_limit handles then Some enfile
+    else if nat_le number_end next_fh then Some enospc
     else None
 
 abbrev pub new_handle : ℕ → ℕ → AccessMode → HandleRow
@@ -39,19 +39,19 @@ open_node s access n = refuse_for s (open_fault (length s.handles) s.next_fh) (a
 -- ---- OPEN
 
 abbrev pub open_for : State → Option AccessMode → Node → Done
-open_for s None n = refuse s EINVAL
+open_for s None n = refuse s einval
 open_for s (Some access) n = open_node s access n
 
 abbrev pub open_file : State → ℕ → Node → Done
 open_file s flags n =
-    if is_dir n.mode then refuse s EISDIR
-    else if not (is_file n.mode) then refuse s EINVAL
+    if is_dir n.mode then refuse s eisdir
+    else if not (is_file n.mode) then refuse s einval
     else open_for s (access_of flags) n
 
 -- ---- OPENDIR
 
 abbrev pub open_dir : State → Node → Done
-open_dir s n = if not (is_dir n.mode) then refuse s ENOTDIR else open_node s ReadOnly n
+open_dir s n = if not (is_dir n.mode) then refuse s enotdir else open_node s ReadOnly n
 
 -- ---- a handle less
 
@@ -62,13 +62,13 @@ closed s fh = record s { handles = filter (λ h. not (h.fh == fh)) s.handles }
 -- a handle that is open at node n is closed, unless the kind of the node is another
 abbrev pub close : State → ℕ → Option Errno → Node → Done
 close s fh kind_fault n =
-    if not (is_open s.handles fh n.number) then refuse s EBADF
+    if not (is_open s.handles fh n.number) then refuse s ebadf
     else refuse_for s kind_fault (answer (closed s fh) [])
 
 -- ---- RELEASE
 
 abbrev pub not_for_dirs : ℕ → Option Errno
-not_for_dirs mode = if is_dir mode then Some EISDIR else None
+not_for_dirs mode = if is_dir mode then Some eisdir else None
 
 abbrev pub release : State → ℕ → Node → Done
 release s fh n = close s fh (not_for_dirs n.mode) n
@@ -76,7 +76,7 @@ release s fh n = close s fh (not_for_dirs n.mode) n
 -- ---- RELEASEDIR
 
 abbrev pub for_dirs_alone : ℕ → Option Errno
-for_dirs_alone mode = if is_dir mode then None else Some ENOTDIR
+for_dirs_alone mode = if is_dir mode then None else Some enotdir
 
 abbrev pub release_dir : State → ℕ → Node → Done
 release_dir s fh n = close s fh (for_dirs_alone n.mode) n

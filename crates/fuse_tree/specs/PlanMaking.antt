@@ -1,7 +1,7 @@
 -- What the plans of MKNOD and MKDIR read off the rows (own profile), in the order of their checks.
 -- Not part of what is trusted: neither `done` nor the public clauses of `plan` speak of it.
 use Rattle.std.specs.Prelude.{◌+◌, ℕ, not, if◌then◌else◌, List, [], ◌∷◌, is_some}
-use Rattle.fuse_wire.specs.declared.errno.TheConstants.Errno.{ENOENT, EEXIST, ENOTDIR, EINVAL, ENOSPC}
+use Rattle.fuse_wire.specs.Errnos.{enoent, eexist, enotdir, einval, enospc}
 use Rattle.fuse_wire.specs.declared.moment.Moment.{Moment}
 use Rattle.fuse_request.specs.declared.request.InHeader.{InHeader}
 use Rattle.fuse_tree.specs.declared.planning.make.NewNode.{NewNode}
@@ -53,26 +53,26 @@ plan_new counters fresh name row = record { answer = record { errno = 0; body = 
 
 abbrev pub plan_make_with_room : NewNode → List ℕ → NodeRow → Rows → Planned
 plan_make_with_room fresh name row rows =
-    if is_full rows.counters.nodes rows.counters.next_node rows.counters.next_cookie then refused ENOSPC
+    if is_full rows.counters.nodes rows.counters.next_node rows.counters.next_cookie then refused enospc
     else plan_new rows.counters fresh name row
 
 abbrev pub plan_make : NewNode → List ℕ → NodeRow → Rows → Planned
 plan_make fresh name row rows =
-    if not (row_is_named row) then refused ENOENT
-    else if is_some (entry_at rows.entries row.node name) then refused EEXIST
+    if not (row_is_named row) then refused enoent
+    else if is_some (entry_at rows.entries row.node name) then refused eexist
     else plan_make_with_room fresh name row rows
 
 -- ---- MKDIR
 
 abbrev pub plan_mkdir : InHeader → ℕ → List ℕ → Moment → NodeRow → Rows → Planned
 plan_mkdir header mode name now row rows =
-    if not (is_dir row.mode) then refused ENOTDIR
+    if not (is_dir row.mode) then refused enotdir
     else refused_for (name_fault name) (plan_make (begun header (dir_mode mode) 0 now) name row rows)
 
 -- ---- MKNOD
 
 abbrev pub plan_mknod : InHeader → ℕ → ℕ → List ℕ → Moment → NodeRow → Rows → Planned
 plan_mknod header mode rdev name now row rows =
-    if not (is_dir row.mode) then refused ENOTDIR
-    else if not (may_make (type_bits mode)) then refused EINVAL
+    if not (is_dir row.mode) then refused enotdir
+    else if not (may_make (type_bits mode)) then refused einval
     else refused_for (name_fault name) (plan_make (begun header (node_mode mode) (node_rdev mode rdev) now) name row rows)

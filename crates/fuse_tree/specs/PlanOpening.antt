@@ -4,7 +4,7 @@ use Rattle.std.specs.Prelude.{◌+◌, ◌-◌, ℕ, not, if◌then◌else◌, L
 use Rattle.fuse_wire.specs.declared.access_mode.AccessMode.{AccessMode}
 use Rattle.fuse_wire.specs.declared.access_mode.AccessMode.TheVariants.{ReadOnly}
 use Rattle.fuse_wire.specs.declared.errno.Errno.{Errno}
-use Rattle.fuse_wire.specs.declared.errno.TheConstants.Errno.{EBADF, ENOTDIR, EISDIR, EINVAL}
+use Rattle.fuse_wire.specs.Errnos.{ebadf, enotdir, eisdir, einval}
 use Rattle.fuse_wire.specs.Flags.{access_of}
 use Rattle.fuse_answer.specs.Bodies.{open_bytes}
 use Rattle.fuse_tree.specs.declared.rows.NodeRow.{NodeRow}
@@ -35,19 +35,19 @@ plan_open_node access node rows = refused_for (open_fault rows.counters.handles 
 -- ---- OPEN
 
 abbrev pub plan_open_for : Option AccessMode → NodeRow → Rows → Planned
-plan_open_for None row rows = refused EINVAL
+plan_open_for None row rows = refused einval
 plan_open_for (Some access) row rows = plan_open_node access row.node rows
 
 abbrev pub plan_open : ℕ → NodeRow → Rows → Planned
 plan_open flags row rows =
-    if is_dir row.mode then refused EISDIR
-    else if not (is_file row.mode) then refused EINVAL
+    if is_dir row.mode then refused eisdir
+    else if not (is_file row.mode) then refused einval
     else plan_open_for (access_of flags) row rows
 
 -- ---- OPENDIR
 
 abbrev pub plan_open_dir : NodeRow → Rows → Planned
-plan_open_dir row rows = if not (is_dir row.mode) then refused ENOTDIR else plan_open_node ReadOnly row.node rows
+plan_open_dir row rows = if not (is_dir row.mode) then refused enotdir else plan_open_node ReadOnly row.node rows
 
 -- ---- a handle less
 
@@ -59,7 +59,7 @@ plan_closed counters fh = record { answer = record { errno = 0; body = [] }; cha
 
 abbrev pub plan_close : ℕ → Option Errno → ℕ → Rows → Planned
 plan_close fh kind_fault node rows =
-    if not (is_open rows.handles fh node) then refused EBADF
+    if not (is_open rows.handles fh node) then refused ebadf
     else refused_for kind_fault (plan_closed rows.counters fh)
 
 -- ---- RELEASE and RELEASEDIR

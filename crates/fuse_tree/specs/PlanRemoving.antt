@@ -2,7 +2,7 @@
 -- Not part of what is trusted: neither `done` nor the public clauses of `plan` speak of it.
 use Rattle.std.specs.Prelude.{◌-◌, ℕ, not, if◌then◌else◌, List, [], ◌∷◌, Option, Some, None}
 use Rattle.std.specs.Option.{option_map}
-use Rattle.fuse_wire.specs.declared.errno.TheConstants.Errno.{ENOENT, ENOTDIR, EISDIR, ENOTEMPTY}
+use Rattle.fuse_wire.specs.Errnos.{enoent, enotdir, eisdir, enotempty}
 use Rattle.fuse_wire.specs.declared.moment.Moment.{Moment}
 use Rattle.fuse_tree.specs.declared.planning.finding.Link.{Link}
 use Rattle.fuse_tree.specs.declared.rows.NodeRow.{NodeRow}
@@ -44,34 +44,34 @@ plan_gone now link row = record { answer = record { errno = 0; body = [] }; chan
 -- ---- UNLINK
 
 abbrev pub plan_unlink_link : Moment → NodeRow → Option Link → Planned
-plan_unlink_link now row None = refused ENOENT
+plan_unlink_link now row None = refused enoent
 plan_unlink_link now row (Some link) =
-    if is_dir link.child.mode then refused EISDIR
+    if is_dir link.child.mode then refused eisdir
     else plan_gone now link row
 
 abbrev pub plan_unlink_named : List ℕ → Moment → NodeRow → Rows → Planned
-plan_unlink_named name now row rows = if not (row_is_named row) then refused ENOENT else plan_unlink_link now row (link_at rows row.node name)
+plan_unlink_named name now row rows = if not (row_is_named row) then refused enoent else plan_unlink_link now row (link_at rows row.node name)
 
 abbrev pub plan_unlink : List ℕ → Moment → NodeRow → Rows → Planned
 plan_unlink name now row rows =
-    if not (is_dir row.mode) then refused ENOTDIR
+    if not (is_dir row.mode) then refused enotdir
     else refused_for (name_fault name) (plan_unlink_named name now row rows)
 
 -- ---- RMDIR
 
 abbrev pub plan_rmdir_empty : Moment → Link → NodeRow → Rows → Planned
-plan_rmdir_empty now link row rows = if has_entries rows.entries link.child.node then refused ENOTEMPTY else plan_gone now link row
+plan_rmdir_empty now link row rows = if has_entries rows.entries link.child.node then refused enotempty else plan_gone now link row
 
 abbrev pub plan_rmdir_link : Moment → NodeRow → Rows → Option Link → Planned
-plan_rmdir_link now row rows None = refused ENOENT
+plan_rmdir_link now row rows None = refused enoent
 plan_rmdir_link now row rows (Some link) =
-    if not (is_dir link.child.mode) then refused ENOTDIR
+    if not (is_dir link.child.mode) then refused enotdir
     else plan_rmdir_empty now link row rows
 
 abbrev pub plan_rmdir_named : List ℕ → Moment → NodeRow → Rows → Planned
-plan_rmdir_named name now row rows = if not (row_is_named row) then refused ENOENT else plan_rmdir_link now row rows (link_at rows row.node name)
+plan_rmdir_named name now row rows = if not (row_is_named row) then refused enoent else plan_rmdir_link now row rows (link_at rows row.node name)
 
 abbrev pub plan_rmdir : List ℕ → Moment → NodeRow → Rows → Planned
 plan_rmdir name now row rows =
-    if not (is_dir row.mode) then refused ENOTDIR
+    if not (is_dir row.mode) then refused enotdir
     else refused_for (name_fault name) (plan_rmdir_named name now row rows)

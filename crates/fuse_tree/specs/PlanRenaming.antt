@@ -2,9 +2,9 @@
 -- Not part of what is trusted: neither `done` nor the public clauses of `plan` speak of it.
 use Rattle.std.specs.Prelude.{◌+◌, ◌-◌, ◌==◌, ◌&&◌, ◌||◌, ℕ, Bool, false, nat_le, nat_lt, if◌then◌else◌, List, [], ◌∷◌, ◌++◌, is_some, Option, Some, None}
 use Rattle.fuse_wire.specs.declared.errno.Errno.{Errno}
-use Rattle.fuse_wire.specs.declared.errno.TheConstants.Errno.{ENOENT, EEXIST, EINVAL, ENOSPC, ENOTEMPTY, ESTALE}
+use Rattle.fuse_wire.specs.Errnos.{enoent, eexist, einval, enospc, enotempty, estale}
 use Rattle.fuse_wire.specs.declared.moment.Moment.{Moment}
-use Rattle.fuse_tree.specs.declared.limits.TheConstants.{COUNTER_END}
+use Rattle.fuse_tree.specs.Bounds.{number_end}
 use Rattle.fuse_tree.specs.declared.planning.finding.Link.{Link}
 use Rattle.fuse_tree.specs.declared.planning.rename.RenameIn.{RenameIn}
 use Rattle.fuse_tree.specs.declared.rows.NodeRow.{NodeRow}
@@ -70,7 +70,7 @@ row_holds rows child dir = is_dir child.mode && leads_to rows.entries rows.count
 
 -- why a node with entries can't be replaced
 abbrev pub entries_fault : Rows → ℕ → Option Errno
-entries_fault rows dir = if has_entries rows.entries dir then Some ENOTEMPTY else None
+entries_fault rows dir = if has_entries rows.entries dir then Some enotempty else None
 
 -- why the source can't come to stand where the other link is
 abbrev pub link_fault : Rows → Link → Option Link → Option Errno
@@ -93,7 +93,7 @@ rename_changes r counters from to source other =
 
 abbrev pub plan_rename_with_room : Renaming → NodeRow → NodeRow → Link → Option Link → Rows → Planned
 plan_rename_with_room r from to source other rows =
-    if nat_le COUNTER_END rows.counters.next_cookie then refused ENOSPC
+    if nat_le number_end rows.counters.next_cookie then refused enospc
     else record { answer = record { errno = 0; body = [] }; changes = rename_changes r rows.counters from to source other }
 
 abbrev pub plan_rename_fitting : Renaming → NodeRow → NodeRow → Link → Option Link → Rows → Planned
@@ -102,7 +102,7 @@ plan_rename_fitting r from to source other rows = refused_for (link_fault rows s
 abbrev pub plan_rename_link : Renaming → NodeRow → NodeRow → Link → Option Link → Rows → Planned
 plan_rename_link r from to source other rows =
     if is_same_link source other then told []
-    else if row_holds rows source.child r.new_dir then refused EINVAL
+    else if row_holds rows source.child r.new_dir then refused einval
     else plan_rename_fitting r from to source other rows
 
 -- ---- EXCHANGE
@@ -118,16 +118,16 @@ exchange_changes r counters from to source other =
 
 abbrev pub plan_exchange_with_room : Renaming → NodeRow → NodeRow → Link → Link → Rows → Planned
 plan_exchange_with_room r from to source other rows =
-    if nat_lt (COUNTER_END - 2) rows.counters.next_cookie then refused ENOSPC
+    if nat_lt (number_end - 2) rows.counters.next_cookie then refused enospc
     else record { answer = record { errno = 0; body = [] }; changes = exchange_changes r rows.counters from to source other }
 
 abbrev pub plan_exchange_apart : Renaming → NodeRow → NodeRow → Link → Link → Rows → Planned
 plan_exchange_apart r from to source other rows =
-    if row_holds rows source.child r.new_dir || row_holds rows other.child from.node then refused EINVAL
+    if row_holds rows source.child r.new_dir || row_holds rows other.child from.node then refused einval
     else plan_exchange_with_room r from to source other rows
 
 abbrev pub plan_exchange_link : Renaming → NodeRow → NodeRow → Link → Option Link → Rows → Planned
-plan_exchange_link r from to source None rows = refused ENOENT
+plan_exchange_link r from to source None rows = refused enoent
 plan_exchange_link r from to source (Some other) rows =
     if source.cookie == other.cookie then told []
     else plan_exchange_apart r from to source other rows
@@ -137,15 +137,15 @@ plan_exchange_link r from to source (Some other) rows =
 abbrev pub plan_rename_by : Renaming → NodeRow → NodeRow → Link → Option Link → Rows → Planned
 plan_rename_by r from to source other rows =
     if is_exchange r.mode then plan_exchange_link r from to source other rows
-    else if is_no_replace r.mode && is_some other then refused EEXIST
+    else if is_no_replace r.mode && is_some other then refused eexist
     else plan_rename_link r from to source other rows
 
 abbrev pub plan_rename_from : Renaming → NodeRow → NodeRow → Option Link → Rows → Planned
-plan_rename_from r from to None rows = refused ENOENT
+plan_rename_from r from to None rows = refused enoent
 plan_rename_from r from to (Some source) rows = plan_rename_by r from to source (link_at rows r.new_dir r.new_name) rows
 
 abbrev pub plan_rename_between : Renaming → NodeRow → Option NodeRow → Rows → Planned
-plan_rename_between r from None rows = refused ESTALE
+plan_rename_between r from None rows = refused estale
 plan_rename_between r from (Some to) rows =
     refused_for (asked_fault r (is_dir from.mode && is_dir to.mode) (row_is_named from && row_is_named to))
     (plan_rename_from r from to (link_at rows from.node r.old_name) rows)

@@ -2,7 +2,7 @@
 -- Not part of what is trusted: neither `done` nor the public clauses of `plan` speak of it.
 use Rattle.std.specs.Prelude.{ℕ, if◌then◌else◌, List, [], ◌∷◌}
 use Rattle.fuse_wire.specs.declared.moment.Moment.{Moment}
-use Rattle.fuse_wire.specs.declared.setattr_valid.TheConstants.SetattrValid.{SIZE}
+use Rattle.fuse_wire.specs.Bits.{fattr_size}
 use Rattle.fuse_request.specs.declared.request.SetattrIn.{SetattrIn}
 use Rattle.fuse_tree.specs.declared.rows.NodeRow.{NodeRow}
 use Rattle.fuse_tree.specs.declared.rows.Change.{Change}
@@ -16,7 +16,7 @@ set_row set now row = record row {
   mode = mode_after set row.mode;
   uid = uid_after set row.uid;
   gid = gid_after set row.gid;
-  size = if has set SIZE then set.size else row.size;
+  size = if has set fattr_size then set.size else row.size;
   atime = atime_after set now row.atime;
   mtime = mtime_after set now row.mtime;
   ctime = ctime_after set now row.ctime;
@@ -24,7 +24,7 @@ set_row set now row = record row {
 
 -- the bytes change only where the size is set
 abbrev pub size_changes : SetattrIn → ℕ → List Change
-size_changes set node = if has set SIZE then changes.Sized node set.size ∷ [] else []
+size_changes set node = if has set fattr_size then changes.Sized node set.size ∷ [] else []
 
 abbrev pub set_changes : SetattrIn → Moment → NodeRow → List Change
 set_changes set now row = changes.Node (set_row set now row) ∷ size_changes set row.node

@@ -1,10 +1,10 @@
 -- What the plans of WRITE and READ read off the rows (own profile), in the order of their checks.
 -- Not part of what is trusted: neither `done` nor the public clauses of `plan` speak of it.
 use Rattle.std.specs.Prelude.{◌+◌, ◌==◌, ℕ, max, not, nat_lt, if◌then◌else◌, List, [], ◌∷◌, length}
-use Rattle.fuse_wire.specs.declared.errno.TheConstants.Errno.{EBADF, EISDIR, EINVAL, EFBIG}
+use Rattle.fuse_wire.specs.Errnos.{ebadf, eisdir, einval, efbig}
 use Rattle.fuse_wire.specs.declared.moment.Moment.{Moment}
 use Rattle.fuse_request.specs.declared.request.ReadIn.{ReadIn}
-use Rattle.fuse_tree.specs.declared.limits.TheConstants.{MAX_FILE, MAX_READ}
+use Rattle.fuse_tree.specs.Bounds.{file_limit, read_limit}
 use Rattle.fuse_tree.specs.declared.rows.NodeRow.{NodeRow}
 use Rattle.fuse_tree.specs.declared.rows.Change.{Change}
 use Rattle.fuse_tree.specs.declared.rows.Change.TheVariants as changes
@@ -30,16 +30,16 @@ plan_written offset payload now row = record { answer = record { errno = 0; body
 
 abbrev pub plan_write : ℕ → ℕ → List ℕ → Moment → NodeRow → Rows → Planned
 plan_write fh offset payload now row rows =
-    if not (may_write (access_at rows.handles fh row.node)) then refused EBADF
+    if not (may_write (access_at rows.handles fh row.node)) then refused ebadf
     else if length payload == 0 then told (count_body 0)
-    else if nat_lt MAX_FILE (offset + length payload) then refused EFBIG
+    else if nat_lt file_limit (offset + length payload) then refused efbig
     else plan_written offset payload now row
 
 -- ---- READ
 
 abbrev pub plan_read : ReadIn → NodeRow → Rows → Planned
 plan_read asked row rows =
-    if not (may_read (access_at rows.handles asked.fh row.node)) then refused EBADF
-    else if is_dir row.mode then refused EISDIR
-    else if nat_lt MAX_READ asked.size then refused EINVAL
+    if not (may_read (access_at rows.handles asked.fh row.node)) then refused ebadf
+    else if is_dir row.mode then refused eisdir
+    else if nat_lt read_limit asked.size then refused einval
     else told (bytes_at rows row.node asked.offset asked.size)

@@ -1,7 +1,7 @@
 -- What `plan` reads off the rows (own profile), in the order of its checks.
 -- Not part of what is trusted: neither `done` nor the public clauses of `plan` speak of it.
 use Rattle.std.specs.Prelude.{ℕ, Bool, true, false, not, if◌then◌else◌, List, [], Option, Some, None, is_some}
-use Rattle.fuse_wire.specs.declared.errno.TheConstants.Errno.{ENOENT, ENOTDIR, ENOSYS, EPROTO, ESTALE}
+use Rattle.fuse_wire.specs.Errnos.{enoent, enotdir, enosys, eproto, estale}
 use Rattle.fuse_wire.specs.declared.moment.Moment.{Moment}
 use Rattle.fuse_request.specs.declared.request.InHeader.{InHeader}
 use Rattle.fuse_request.specs.declared.request.InitIn.{InitIn}
@@ -27,15 +27,15 @@ use Rattle.fuse_tree.specs.PlanRenaming.{plan_rename}
 -- ---- LOOKUP
 
 abbrev pub plan_child : Option NodeRow → Planned
-plan_child None = refused ENOENT
+plan_child None = refused enoent
 plan_child (Some child) = told (entry_body child)
 
 abbrev pub plan_lookup_named : List ℕ → NodeRow → Rows → Planned
-plan_lookup_named name row rows = if not (row_is_named row) then refused ENOENT else plan_child (child_at rows row.node name)
+plan_lookup_named name row rows = if not (row_is_named row) then refused enoent else plan_child (child_at rows row.node name)
 
 abbrev pub plan_lookup : List ℕ → NodeRow → Rows → Planned
 plan_lookup name row rows =
-    if not (is_dir row.mode) then refused ENOTDIR
+    if not (is_dir row.mode) then refused enotdir
     else refused_for (name_fault name) (plan_lookup_named name row rows)
 
 -- ---- all requests
@@ -69,10 +69,10 @@ plan_act header (acts.Release x) now row rows = plan_release x.fh row rows
 plan_act header (acts.ReleaseDir x) now row rows = plan_release_dir x.fh row rows
 plan_act header (acts.Rename new_dir old_name new_name) now row rows = plan_rename (asking new_dir 0 old_name new_name now) row rows
 plan_act header (acts.Rename2 new_dir flags old_name new_name) now row rows = plan_rename (asking new_dir flags old_name new_name now) row rows
-plan_act header _ now row rows = refused ENOSYS
+plan_act header _ now row rows = refused enosys
 
 abbrev pub plan_at : Asked → Moment → Option NodeRow → Rows → Planned
-plan_at request now None rows = refused ESTALE
+plan_at request now None rows = refused estale
 plan_at request now (Some row) rows = plan_act request.header request.act now row rows
 
 -- where settings are agreed on
@@ -81,7 +81,7 @@ plan_agreed request now rows = if names_node request.act then plan_at request no
 
 abbrev pub plan_offered : Asked → Moment → Option InitIn → Rows → Planned
 plan_offered request now (Some offer) rows = plan_init (agree offer)
-plan_offered request now None rows = if is_some rows.settings then plan_agreed request now rows else refused EPROTO
+plan_offered request now None rows = if is_some rows.settings then plan_agreed request now rows else refused eproto
 
 abbrev pub plan_of : Asked → Moment → Rows → Planned
 plan_of request now rows = plan_offered request now (offer_of request.act) rows

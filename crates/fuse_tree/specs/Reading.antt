@@ -4,7 +4,7 @@ use Rattle.std.specs.Prelude.{◌≡◌, ◌≤◌, ◌+◌, ◌-◌, ◌/◌, �
 use Rattle.fuse_wire.specs.declared.errno.Errno.{Errno}
 use Rattle.fuse_answer.specs.Bodies.{entry_bytes, attr_out_bytes}
 use Rattle.fuse_answer.specs.declared.records.Attr.{Attr}
-use Rattle.fuse_tree.specs.declared.limits.TheConstants.{MAX_NODES, MAX_FILE, BLOCK_SIZE, SECTOR_SIZE}
+use Rattle.fuse_tree.specs.Bounds.{node_limit, file_limit, block_bytes, sector_bytes}
 use Rattle.fuse_tree.specs.declared.planning.fault.PlanFault.{PlanFault}
 use Rattle.fuse_tree.specs.declared.planning.fault.PlanFault.TheVariants as faults
 use Rattle.fuse_tree.specs.declared.rows.NodeRow.{NodeRow}
@@ -27,8 +27,8 @@ Reads clean sees result told = look_fault result ≡ None → clean → (rows : 
 
 -- a row within the bounds of each tree
 pub record IsWithin (row : NodeRow) : Type 0 where
-  pub size : row.size ≤ MAX_FILE
-  pub subdirs : row.subdirs ≤ MAX_NODES
+  pub size : row.size ≤ file_limit
+  pub subdirs : row.subdirs ≤ node_limit
 
 -- ---- answers
 
@@ -55,7 +55,7 @@ abbrev pub row_attr : NodeRow → Attr
 row_attr row = record {
   ino = row.node;
   size = row.size;
-  blocks = (row.size + (SECTOR_SIZE - 1)) / SECTOR_SIZE;
+  blocks = (row.size + (sector_bytes - 1)) / sector_bytes;
   atime = row.atime.secs;
   mtime = row.mtime.secs;
   ctime = row.ctime.secs;
@@ -67,7 +67,7 @@ row_attr row = record {
   uid = row.uid;
   gid = row.gid;
   rdev = row.rdev;
-  blksize = BLOCK_SIZE;
+  blksize = block_bytes;
   flags = 0;
 }
 

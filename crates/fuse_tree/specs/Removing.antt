@@ -1,7 +1,7 @@
 -- What UNLINK and RMDIR do (own profile): an entry goes, and its child stays as a node without a name.
 use Rattle.std.specs.Prelude.{◌==◌, ℕ, Bool, not, if◌then◌else◌, List, [], map, filter, Option, Some, None}
 use Rattle.std.specs.List.{list_any}
-use Rattle.fuse_wire.specs.declared.errno.TheConstants.Errno.{ENOENT, ENOTDIR, EISDIR, ENOTEMPTY}
+use Rattle.fuse_wire.specs.Errnos.{enoent, enotdir, eisdir, enotempty}
 use Rattle.fuse_wire.specs.declared.moment.Moment.{Moment}
 use Rattle.fuse_tree.specs.declared.rows.EntryRow.{EntryRow}
 use Rattle.fuse_tree.specs.State.{State, Node, is_dir, node_at, is_named, name_fault}
@@ -33,42 +33,42 @@ has_entries entries dir = list_any (λ e. e.dir == dir) entries
 -- ---- UNLINK
 
 abbrev pub unlink_child : State → EntryRow → Moment → Option Node → Done
-unlink_child s e now None = refuse s ENOENT
+unlink_child s e now None = refuse s enoent
 unlink_child s e now (Some child) =
-    if is_dir child.mode then refuse s EISDIR
+    if is_dir child.mode then refuse s eisdir
     else answer (entry_gone e now s) []
 
 abbrev pub unlink_entry : State → Moment → Option EntryRow → Done
-unlink_entry s now None = refuse s ENOENT
+unlink_entry s now None = refuse s enoent
 unlink_entry s now (Some e) = unlink_child s e now (node_at s e.child)
 
 -- where directory n has a name of its own
 abbrev pub unlink_named : State → List ℕ → Moment → Node → Done
-unlink_named s name now n = if not (is_named s n.number) then refuse s ENOENT else unlink_entry s now (entry_at s.entries n.number name)
+unlink_named s name now n = if not (is_named s n.number) then refuse s enoent else unlink_entry s now (entry_at s.entries n.number name)
 
 abbrev pub unlink : State → List ℕ → Moment → Node → Done
 unlink s name now n =
-    if not (is_dir n.mode) then refuse s ENOTDIR
+    if not (is_dir n.mode) then refuse s enotdir
     else refuse_for s (name_fault name) (unlink_named s name now n)
 
 -- ---- RMDIR
 
 abbrev pub rmdir_child : State → EntryRow → Moment → Option Node → Done
-rmdir_child s e now None = refuse s ENOENT
+rmdir_child s e now None = refuse s enoent
 rmdir_child s e now (Some child) =
-    if not (is_dir child.mode) then refuse s ENOTDIR
-    else if has_entries s.entries child.number then refuse s ENOTEMPTY
+    if not (is_dir child.mode) then refuse s enotdir
+    else if has_entries s.entries child.number then refuse s enotempty
     else answer (entry_gone e now s) []
 
 abbrev pub rmdir_entry : State → Moment → Option EntryRow → Done
-rmdir_entry s now None = refuse s ENOENT
+rmdir_entry s now None = refuse s enoent
 rmdir_entry s now (Some e) = rmdir_child s e now (node_at s e.child)
 
 -- where directory n has a name of its own
 abbrev pub rmdir_named : State → List ℕ → Moment → Node → Done
-rmdir_named s name now n = if not (is_named s n.number) then refuse s ENOENT else rmdir_entry s now (entry_at s.entries n.number name)
+rmdir_named s name now n = if not (is_named s n.number) then refuse s enoent else rmdir_entry s now (entry_at s.entries n.number name)
 
 abbrev pub rmdir : State → List ℕ → Moment → Node → Done
 rmdir s name now n =
-    if not (is_dir n.mode) then refuse s ENOTDIR
+    if not (is_dir n.mode) then refuse s enotdir
     else refuse_for s (name_fault name) (rmdir_named s name now n)

@@ -2,12 +2,12 @@
 use Rattle.std.specs.Prelude.{◌≡◌, ◌≢◌, ◌+◌, ◌-◌, ◌==◌, ◌&&◌, ◌||◌, ℕ, zero, suc, Bool, true, false, not, nat_le, nat_lt, if◌then◌else◌, List, [], ◌∷◌, ◌++◌, length, is_some, Option, Some, None}
 use Rattle.std.specs.List.{list_any}
 use Rattle.fuse_wire.specs.declared.errno.Errno.{Errno}
-use Rattle.fuse_wire.specs.declared.errno.TheConstants.Errno.{ENOENT, EEXIST, ENOTDIR, EISDIR, EINVAL, ENOSPC, ENOTEMPTY, ESTALE}
+use Rattle.fuse_wire.specs.Errnos.{enoent, eexist, enotdir, eisdir, einval, enospc, enotempty, estale}
 use Rattle.fuse_wire.specs.declared.moment.Moment.{Moment}
-use Rattle.fuse_tree.specs.declared.limits.TheConstants.{COUNTER_END}
+use Rattle.fuse_tree.specs.Bounds.{number_end}
 use Rattle.fuse_tree.specs.declared.planning.rename.RenameMode.{RenameMode}
 use Rattle.fuse_tree.specs.declared.planning.rename.RenameMode.TheVariants.{Replace, NoReplace, Exchange}
-use Rattle.fuse_tree.specs.declared.planning.rename.TheConstants.{RENAME_NOREPLACE, RENAME_EXCHANGE}
+use Rattle.fuse_tree.specs.Modes.{rename_noreplace, rename_exchange}
 use Rattle.fuse_tree.specs.declared.rows.EntryRow.{EntryRow}
 use Rattle.fuse_tree.specs.State.{State, Node, Tree, is_dir, is_dir_of, is_named, name_fault, node_at, above}
 use Rattle.fuse_tree.specs.Rows.{entry_at}
@@ -18,8 +18,8 @@ use Rattle.fuse_tree.specs.Removing.{mark, without, entry_gone, has_entries}
 abbrev pub mode_of : ℕ → Option RenameMode
 mode_of flags =
     if flags == 0 then Some Replace
-    else if flags == RENAME_NOREPLACE then Some NoReplace
-    else if flags == RENAME_EXCHANGE then Some Exchange
+    else if flags == rename_noreplace then Some NoReplace
+    else if flags == rename_exchange then Some Exchange
     else None
 
 abbrev pub is_no_replace : Option RenameMode → Bool
@@ -98,9 +98,9 @@ earlier None later = later
 -- what is wrong before any entry is looked at, where both are directories and both are named, or not
 abbrev pub asked_fault : Renaming → Bool → Bool → Option Errno
 asked_fault r are_dirs are_named =
-    if not are_dirs then Some ENOTDIR
+    if not are_dirs then Some enotdir
     else earlier (name_fault r.old_name) (earlier (name_fault r.new_name)
-    (if not (is_some r.mode) then Some EINVAL else if not are_named then Some ENOENT else None))
+    (if not (is_some r.mode) then Some einval else if not are_named then Some enoent else None))
 
 -- both places are the same entry
 abbrev pub is_same : EntryRow → Option EntryRow → Bool
@@ -110,9 +110,9 @@ is_same e (Some other) = e.cookie == other.cookie
 -- why a node can't take the place of another
 abbrev pub kinds_fault : Bool → Bool → Bool → Option Errno
 kinds_fault is_dir other_is_dir other_has_entries =
-    if is_dir && not other_is_dir then Some ENOTDIR
-    else if not is_dir && other_is_dir then Some EISDIR
-    else if other_has_entries then Some ENOTEMPTY
+    if is_dir && not other_is_dir then Some enotdir
+    else if not is_dir && other_is_dir then Some eisdir
+    else if other_has_entries then Some enotempty
     else None
 
 -- why the child can't come to stand where the other entry is
@@ -123,24 +123,24 @@ place_fault s child (Some other) = kinds_fault (is_dir_at s child) (is_dir_at s 
 -- ---- RENAME
 
 abbrev pub rename_with_room : State → Renaming → ℕ → EntryRow → Option EntryRow → Done
-rename_with_room s r dir e other = if nat_le COUNTER_END s.next_cookie then refuse s ENOSPC else answer (renamed r dir e other s) []
+rename_with_room s r dir e other = if nat_le number_end s.next_cookie then refuse s enospc else answer (renamed r dir e other s) []
 
 abbrev pub rename_entry : State → Renaming → ℕ → EntryRow → Option EntryRow → Done
 rename_entry s r dir e other =
     if is_same e other then answer s []
-    else if holds s e.child r.new_dir then refuse s EINVAL
+    else if holds s e.child r.new_dir then refuse s einval
     else refuse_for s (place_fault s e.child other) (rename_with_room s r dir e other)
 
 -- ---- EXCHANGE
 
 abbrev pub exchange_with_room : State → Renaming → ℕ → EntryRow → EntryRow → Done
-exchange_with_room s r dir e other = if nat_lt (COUNTER_END - 2) s.next_cookie then refuse s ENOSPC else answer (exchanged r dir e other s) []
+exchange_with_room s r dir e other = if nat_lt (number_end - 2) s.next_cookie then refuse s enospc else answer (exchanged r dir e other s) []
 
 abbrev pub exchange_entry : State → Renaming → ℕ → EntryRow → Option EntryRow → Done
-exchange_entry s r dir e None = refuse s ENOENT
+exchange_entry s r dir e None = refuse s enoent
 exchange_entry s r dir e (Some other) =
     if e.cookie == other.cookie then answer s []
-    else if holds s e.child r.new_dir || holds s other.child dir then refuse s EINVAL
+    else if holds s e.child r.new_dir || holds s other.child dir then refuse s einval
     else exchange_with_room s r dir e other
 
 -- ---- by the mode
@@ -149,16 +149,16 @@ exchange_entry s r dir e (Some other) =
 abbrev pub rename_by : State → Renaming → ℕ → EntryRow → Option EntryRow → Done
 rename_by s r dir e other =
     if is_exchange r.mode then exchange_entry s r dir e other
-    else if is_no_replace r.mode && is_some other then refuse s EEXIST
+    else if is_no_replace r.mode && is_some other then refuse s eexist
     else rename_entry s r dir e other
 
 abbrev pub rename_from : State → Renaming → ℕ → Option EntryRow → Done
-rename_from s r dir None = refuse s ENOENT
+rename_from s r dir None = refuse s enoent
 rename_from s r dir (Some e) = rename_by s r dir e (entry_at s.entries r.new_dir r.new_name)
 
 -- from directory n to directory `to`
 abbrev pub rename_between : State → Renaming → Node → Option Node → Done
-rename_between s r n None = refuse s ESTALE
+rename_between s r n None = refuse s estale
 rename_between s r n (Some to) =
     refuse_for s (asked_fault r (is_dir n.mode && is_dir to.mode) (is_named s n.number && is_named s to.number))
     (rename_from s r n.number (entry_at s.entries n.number r.old_name))

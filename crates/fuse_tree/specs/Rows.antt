@@ -3,7 +3,7 @@ use Rattle.std.specs.Prelude.{◌≡◌, ◌+◌, ◌-◌, ◌==◌, ◌&&◌, �
 use Rattle.std.specs.Option.{option_map}
 use Rattle.std.specs.List.{list_any}
 use Rattle.fuse_init.specs.declared.settings.Settings.{Settings}
-use Rattle.fuse_tree.specs.declared.limits.TheConstants.{ROOT_ID}
+use Rattle.fuse_tree.specs.Bounds.{fuse_root_id}
 use Rattle.fuse_tree.specs.declared.rows.NodeRow.{NodeRow}
 use Rattle.fuse_tree.specs.declared.rows.Full.{Full}
 use Rattle.fuse_tree.specs.declared.rows.EntryRow.{EntryRow}
@@ -41,7 +41,7 @@ row_of s n = record {
 
 -- the row is that of a named node
 abbrev pub row_is_named : NodeRow → Bool
-row_is_named row = (row.node == ROOT_ID) || not (row.up == 0)
+row_is_named row = (row.node == fuse_root_id) || not (row.up == 0)
 
 abbrev pub full_of : State → Node → Full
 full_of s n = record { row = row_of s n; content = n.content }

@@ -3,14 +3,14 @@ use Rattle.std.specs.Prelude.{◌+◌, ◌*◌, ◌/◌, ◌%◌, ◌==◌, ◌|
 use Rattle.std.specs.Int.RustNames.{bit_and}
 use Rattle.fuse_wire.specs.Flags.{valid_bits}
 use Rattle.fuse_wire.specs.declared.errno.Errno.{Errno}
-use Rattle.fuse_wire.specs.declared.errno.TheConstants.Errno.{EISDIR, EINVAL, EFBIG}
+use Rattle.fuse_wire.specs.Errnos.{eisdir, einval, efbig}
 use Rattle.fuse_wire.specs.declared.moment.Moment.{Moment}
 use Rattle.fuse_wire.specs.declared.setattr_valid.SetattrValid.{SetattrValid}
-use Rattle.fuse_wire.specs.declared.setattr_valid.TheConstants.SetattrValid.{MODE, UID, GID, SIZE, ATIME, MTIME, ATIME_NOW, MTIME_NOW, CTIME}
+use Rattle.fuse_wire.specs.Bits.{fattr_mode, fattr_uid, fattr_gid, fattr_size, fattr_atime, fattr_mtime, fattr_atime_now, fattr_mtime_now, fattr_ctime}
 use Rattle.fuse_request.specs.declared.request.SetattrIn.{SetattrIn}
 use Rattle.fuse_answer.specs.Bodies.{attr_out_bytes}
-use Rattle.fuse_tree.specs.declared.limits.TheConstants.{MAX_FILE}
-use Rattle.fuse_tree.specs.declared.mode.TheConstants.{TYPE_UNIT}
+use Rattle.fuse_tree.specs.Bounds.{file_limit}
+use Rattle.fuse_tree.specs.Modes.{type_unit}
 use Rattle.fuse_tree.specs.State.{State, Node, is_dir, is_file}
 use Rattle.fuse_tree.specs.Rows.{sized}
 use Rattle.fuse_tree.specs.Done.{Done, refuse_for, answer, attr_of, attr_out_of}
@@ -23,37 +23,37 @@ has set bit = bit_and (bit_and set.valid valid_bits) bit.0 == bit.0
 -- one of the attributes is set, CTIME apart
 abbrev pub sets_any : SetattrIn → Bool
 sets_any set =
-    has set MODE || has set UID || has set GID || has set SIZE || has set ATIME || has set MTIME || has set ATIME_NOW || has set MTIME_NOW
+    has set fattr_mode || has set fattr_uid || has set fattr_gid || has set fattr_size || has set fattr_atime || has set fattr_mtime || has set fattr_atime_now || has set fattr_mtime_now
 
 -- ---- each attribute after it, from what it was
 
 -- the permissions are replaced, and the type stays
 abbrev pub mode_after : SetattrIn → ℕ → ℕ
-mode_after set mode = if has set MODE then mode / TYPE_UNIT * TYPE_UNIT + set.mode % TYPE_UNIT else mode
+mode_after set mode = if has set fattr_mode then mode / type_unit * type_unit + set.mode % type_unit else mode
 
 abbrev pub uid_after : SetattrIn → ℕ → ℕ
-uid_after set uid = if has set UID then set.uid else uid
+uid_after set uid = if has set fattr_uid then set.uid else uid
 
 abbrev pub gid_after : SetattrIn → ℕ → ℕ
-gid_after set gid = if has set GID then set.gid else gid
+gid_after set gid = if has set fattr_gid then set.gid else gid
 
 abbrev pub atime_after : SetattrIn → Moment → Moment → Moment
 atime_after set now atime =
-    if has set ATIME_NOW then now
-    else if has set ATIME then record { secs = set.atime; nanos = set.atimensec }
+    if has set fattr_atime_now then now
+    else if has set fattr_atime then record { secs = set.atime; nanos = set.atimensec }
     else atime
 
 -- what changes the size changes this time
 abbrev pub mtime_after : SetattrIn → Moment → Moment → Moment
 mtime_after set now mtime =
-    if has set MTIME_NOW then now
-    else if has set MTIME then record { secs = set.mtime; nanos = set.mtimensec }
-    else if has set SIZE then now
+    if has set fattr_mtime_now then now
+    else if has set fattr_mtime then record { secs = set.mtime; nanos = set.mtimensec }
+    else if has set fattr_size then now
     else mtime
 
 abbrev pub ctime_after : SetattrIn → Moment → Moment → Moment
 ctime_after set now ctime =
-    if has set CTIME then record { secs = set.ctime; nanos = set.ctimensec }
+    if has set fattr_ctime then record { secs = set.ctime; nanos = set.ctimensec }
     else if sets_any set then now
     else ctime
 
@@ -65,7 +65,7 @@ set_node set now n = record n {
   atime = atime_after set now n.atime;
   mtime = mtime_after set now n.mtime;
   ctime = ctime_after set now n.ctime;
-  content = if has set SIZE then sized set.size n.content else n.content;
+  content = if has set fattr_size then sized set.size n.content else n.content;
 }
 
 -- ---- SETATTR
@@ -73,13 +73,13 @@ set_node set now n = record n {
 -- what speaks against this size of a node of this mode
 abbrev pub size_fault : ℕ → ℕ → Option Errno
 size_fault mode size =
-    if is_dir mode then Some EISDIR
-    else if not (is_file mode) then Some EINVAL
-    else if nat_lt MAX_FILE size then Some EFBIG
+    if is_dir mode then Some eisdir
+    else if not (is_file mode) then Some einval
+    else if nat_lt file_limit size then Some efbig
     else None
 
 abbrev pub set_fault : SetattrIn → ℕ → Option Errno
-set_fault set mode = if has set SIZE then size_fault mode set.size else None
+set_fault set mode = if has set fattr_size then size_fault mode set.size else None
 
 abbrev pub with_set : State → SetattrIn → Moment → ℕ → State
 with_set s set now number = with_changed number (set_node set now) s

@@ -6,11 +6,11 @@ use Rattle.std.specs.Cmp.Lexicographic.{pointwise}
 use Rattle.fuse_wire.specs.declared.access_mode.AccessMode.{AccessMode}
 use Rattle.fuse_wire.specs.declared.access_mode.AccessMode.TheVariants.{ReadOnly, WriteOnly, ReadWrite}
 use Rattle.fuse_wire.specs.declared.errno.Errno.{Errno}
-use Rattle.fuse_wire.specs.declared.errno.TheConstants.Errno.{EINVAL, ENAMETOOLONG}
+use Rattle.fuse_wire.specs.Errnos.{einval, enametoolong}
 use Rattle.fuse_wire.specs.declared.moment.Moment.{Moment}
 use Rattle.fuse_init.specs.declared.settings.Settings.{Settings}
-use Rattle.fuse_tree.specs.declared.limits.TheConstants.{MAX_NODES, MAX_HANDLES, COUNTER_END, MAX_FILE, MAX_NAME, ROOT_ID}
-use Rattle.fuse_tree.specs.declared.mode.TheConstants.{S_IFDIR, S_IFREG, TYPE_UNIT, TYPES}
+use Rattle.fuse_tree.specs.Bounds.{node_limit, handle_limit, number_end, file_limit, name_limit, fuse_root_id}
+use Rattle.fuse_tree.specs.Modes.{s_ifdir, s_ifreg, type_unit, type_count}
 use Rattle.fuse_tree.specs.declared.rows.EntryRow.{EntryRow}
 use Rattle.fuse_tree.specs.declared.rows.HandleRow.{HandleRow}
 
@@ -38,7 +38,7 @@ pub record State : Type 0 where
 
 -- the root of a new store: an empty directory
 abbrev pub root_node : Moment → Node
-root_node now = record { number = ROOT_ID; mode = S_IFDIR + 0o755; uid = 0; gid = 0; rdev = 0; atime = now; mtime = now; ctime = now; content = [] }
+root_node now = record { number = fuse_root_id; mode = s_ifdir + 0o755; uid = 0; gid = 0; rdev = 0; atime = now; mtime = now; ctime = now; content = [] }
 
 -- a store that is made at this moment
 abbrev pub new_store : Moment → State
@@ -48,13 +48,13 @@ new_store now = record { nodes = root_node now ∷ []; entries = []; handles = [
 
 -- the type of a node, from its mode
 abbrev pub type_of : ℕ → ℕ
-type_of mode = mode / TYPE_UNIT % TYPES
+type_of mode = mode / type_unit % type_count
 
 abbrev pub is_dir : ℕ → Bool
-is_dir mode = type_of mode == S_IFDIR / TYPE_UNIT
+is_dir mode = type_of mode == s_ifdir / type_unit
 
 abbrev pub is_file : ℕ → Bool
-is_file mode = type_of mode == S_IFREG / TYPE_UNIT
+is_file mode = type_of mode == s_ifreg / type_unit
 
 -- the node of this number
 abbrev pub node_at : State → ℕ → Option Node
@@ -67,7 +67,7 @@ up_of (e ∷ entries) number = if e.child == number then e.dir else up_of entrie
 
 -- an entry leads to the node, or it is the root
 abbrev pub is_named : State → ℕ → Bool
-is_named s number = (number == ROOT_ID) || not (up_of s.entries number == 0)
+is_named s number = (number == fuse_root_id) || not (up_of s.entries number == 0)
 
 -- the node is a directory with an entry in this one
 abbrev pub is_below : List EntryRow → ℕ → Node → Bool
@@ -93,8 +93,8 @@ is_odd_name name = (length name == 0) || pointwise nat_eq name (codes ".") || po
 -- what is wrong with a name
 abbrev pub name_fault : List ℕ → Option Errno
 name_fault name =
-    if nat_lt MAX_NAME (length name) then Some ENAMETOOLONG
-    else if is_odd_name name then Some EINVAL
+    if nat_lt name_limit (length name) then Some enametoolong
+    else if is_odd_name name then Some einval
     else None
 
 -- the entry stands in this directory under this name
@@ -130,20 +130,20 @@ above entries (suc steps) number = above entries steps (up_of entries number)
 
 -- going up from a node reaches the root
 abbrev pub Reaches : List EntryRow → ℕ → Type 0
-Reaches entries number = (steps : ℕ) × (above entries steps number ≡ ROOT_ID)
+Reaches entries number = (steps : ℕ) × (above entries steps number ≡ fuse_root_id)
 
 -- a node's number is given out, and only regular files have content
 pub record IsNode (next_node : ℕ) (n : Node) : Type 0 where
   pub from_one : 1 ≤ n.number
   pub below : n.number < next_node
   pub content : is_file n.mode ≡ false → n.content ≡ []
-  pub size : length n.content ≤ MAX_FILE
+  pub size : length n.content ≤ file_limit
 
 -- an entry leads from a directory under the root to a node other than the root
 pub record IsEntry (nodes : List Node) (entries : List EntryRow) (next_cookie : ℕ) (e : EntryRow) : Type 0 where
   pub dir : list_any (is_dir_of e.dir) nodes ≡ true
   pub child : list_any (has_number e.child) nodes ≡ true
-  pub not_root : e.child ≢ ROOT_ID
+  pub not_root : e.child ≢ fuse_root_id
   pub name : name_fault e.name ≡ None
   pub reaches : Reaches entries e.dir
   pub from_three : 3 ≤ e.cookie
@@ -163,17 +163,17 @@ pub record IsHandle (nodes : List Node) (next_fh : ℕ) (h : HandleRow) : Type 0
 
 -- the limits of a store
 pub record Limits (s : State) : Type 0 where
-  pub nodes : length s.nodes ≤ MAX_NODES
-  pub handles : length s.handles ≤ MAX_HANDLES
-  pub next_node : s.next_node ≤ COUNTER_END
-  pub next_fh : s.next_fh ≤ COUNTER_END
-  pub next_cookie : s.next_cookie ≤ COUNTER_END
+  pub nodes : length s.nodes ≤ node_limit
+  pub handles : length s.handles ≤ handle_limit
+  pub next_node : s.next_node ≤ number_end
+  pub next_fh : s.next_fh ≤ number_end
+  pub next_cookie : s.next_cookie ≤ number_end
   pub fh_from_one : 1 ≤ s.next_fh
   pub cookie_from_three : 3 ≤ s.next_cookie
 
 -- the state is a tree of files
 pub record Tree (s : State) : Type 0 where
-  pub root : list_any (is_dir_of ROOT_ID) s.nodes ≡ true
+  pub root : list_any (is_dir_of fuse_root_id) s.nodes ≡ true
   pub nodes : AllByRecursion (IsNode s.next_node) s.nodes
   pub nodes_rise : Apart (λ n later. n.number < later.number) s.nodes
   pub entries : AllByRecursion (IsEntry s.nodes s.entries s.next_cookie) s.entries

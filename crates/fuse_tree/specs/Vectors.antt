@@ -2,7 +2,7 @@
 use Rattle.std.specs.Prelude.{◌≡◌, ◌+◌, ◌^◌, ℕ, List, [], Option, Some, None, replicate, codes}
 use Rattle.fuse_wire.specs.declared.moment.Moment.{Moment}
 use Rattle.fuse_wire.specs.declared.errno.Errno.{Errno}
-use Rattle.fuse_wire.specs.declared.errno.TheConstants.Errno.{ENOENT, EEXIST, EINVAL, ENAMETOOLONG, ENOSYS, EPROTO, ESTALE}
+use Rattle.fuse_wire.specs.Errnos.{enoent, eexist, einval, enametoolong, enosys, eproto, estale}
 use Rattle.fuse_request.specs.Act.{Act, Asked}
 use Rattle.fuse_request.specs.Act as acts
 use Rattle.fuse_answer.specs.Said.{Said}
@@ -46,9 +46,9 @@ Inits =
     × ((after_init first (init 7 31 0x21 None)).settings ≡ agrees 31 (2 ^ 0 + 2 ^ 5))
     × ((after_init (new_store (at 0)) (init 8 0 0x21 None)).settings ≡ None)
     × ((after_init first (init 8 0 0x21 None)).settings ≡ first.settings)
-    × ((done (new_store (at 0)) (asks 2 0 (init 7 22 0x21 None)) (at 1000)).said ≡ refuses EPROTO)
-    × ((done (new_store (at 0)) (asks 4 1 (acts.Getattr 0 0)) (at 1000)).said ≡ refuses EPROTO)
-    × ((done (new_store (at 0)) (asks 4 9 acts.Destroy) (at 1000)).said ≡ refuses EPROTO)
+    × ((done (new_store (at 0)) (asks 2 0 (init 7 22 0x21 None)) (at 1000)).said ≡ refuses eproto)
+    × ((done (new_store (at 0)) (asks 4 1 (acts.Getattr 0 0)) (at 1000)).said ≡ refuses eproto)
+    × ((done (new_store (at 0)) (asks 4 9 acts.Destroy) (at 1000)).said ≡ refuses eproto)
 
 -- ---- first-run: MKDIR of `a` at 1000 s
 
@@ -87,7 +87,7 @@ FirstRun =
     ((done first (asks 6 1 mkdir_a) (at 1000)).said ≡ says entry_a)
     × ((done made (asks 8 2 (acts.Getattr 0 0)) (at 1000)).said ≡ says (attr_out_bytes (record { attr_valid = 1; attr_valid_nsec = 0; attr = attr_a })))
     × ((done made (asks 10 1 (acts.Lookup (codes "a"))) (at 1000)).said ≡ says entry_a)
-    × ((done made (asks 12 1 mkdir_a) (at 1000)).said ≡ refuses EEXIST)
+    × ((done made (asks 12 1 mkdir_a) (at 1000)).said ≡ refuses eexist)
 
 -- ---- missing-lookup, and the names and nodes that are refused
 
@@ -96,12 +96,12 @@ lookup_of nodeid name = (done first (asks 4 nodeid (acts.Lookup name)) (at 1000)
 
 abbrev pub Refusals : Type 0
 Refusals =
-    (lookup_of 1 (codes "hello") ≡ refuses ENOENT)
-    × (lookup_of 1 [] ≡ refuses EINVAL)
-    × (lookup_of 1 (codes ".") ≡ refuses EINVAL)
-    × (lookup_of 1 (codes "..") ≡ refuses EINVAL)
-    × (lookup_of 1 (codes "a/b") ≡ refuses EINVAL)
-    × (lookup_of 1 (replicate 256 97) ≡ refuses ENAMETOOLONG)
-    × (lookup_of 1 (replicate 255 97) ≡ refuses ENOENT)
-    × (lookup_of 2 (codes "hello") ≡ refuses ESTALE)
-    × ((done first (asks 4 1 (acts.Unsupported 35 [])) (at 1000)).said ≡ refuses ENOSYS)
+    (lookup_of 1 (codes "hello") ≡ refuses enoent)
+    × (lookup_of 1 [] ≡ refuses einval)
+    × (lookup_of 1 (codes ".") ≡ refuses einval)
+    × (lookup_of 1 (codes "..") ≡ refuses einval)
+    × (lookup_of 1 (codes "a/b") ≡ refuses einval)
+    × (lookup_of 1 (replicate 256 97) ≡ refuses enametoolong)
+    × (lookup_of 1 (replicate 255 97) ≡ refuses enoent)
+    × (lookup_of 2 (codes "hello") ≡ refuses estale)
+    × ((done first (asks 4 1 (acts.Unsupported 35 [])) (at 1000)).said ≡ refuses enosys)

@@ -2,11 +2,11 @@
 use Rattle.std.specs.Prelude.{◌+◌, ◌==◌, ℕ, Bool, true, false, not, nat_lt, if◌then◌else◌, List, length, take, drop, Option, Some, None}
 use Rattle.fuse_wire.specs.declared.access_mode.AccessMode.{AccessMode}
 use Rattle.fuse_wire.specs.declared.access_mode.AccessMode.TheVariants.{ReadOnly, WriteOnly, ReadWrite}
-use Rattle.fuse_wire.specs.declared.errno.TheConstants.Errno.{EBADF, EISDIR, EINVAL, EFBIG}
+use Rattle.fuse_wire.specs.Errnos.{ebadf, eisdir, einval, efbig}
 use Rattle.fuse_wire.specs.declared.moment.Moment.{Moment}
 use Rattle.fuse_request.specs.declared.request.ReadIn.{ReadIn}
 use Rattle.fuse_answer.specs.Bodies.{write_bytes}
-use Rattle.fuse_tree.specs.declared.limits.TheConstants.{MAX_FILE, MAX_READ}
+use Rattle.fuse_tree.specs.Bounds.{file_limit, read_limit}
 use Rattle.fuse_tree.specs.State.{State, Node, is_dir}
 use Rattle.fuse_tree.specs.Rows.{written}
 use Rattle.fuse_tree.specs.Handles.{access_at}
@@ -36,9 +36,9 @@ count_body size = write_bytes (record { size = size })
 -- a WRITE of no byte changes nothing
 abbrev pub write : State → ℕ → ℕ → List ℕ → Moment → Node → Done
 write s fh offset payload now n =
-    if not (may_write (access_at s.handles fh n.number)) then refuse s EBADF
+    if not (may_write (access_at s.handles fh n.number)) then refuse s ebadf
     else if length payload == 0 then answer s (count_body 0)
-    else if nat_lt MAX_FILE (offset + length payload) then refuse s EFBIG
+    else if nat_lt file_limit (offset + length payload) then refuse s efbig
     else answer (with_bytes s offset payload now n.number) (count_body (length payload))
 
 -- ---- READ
@@ -53,7 +53,7 @@ may_read (Some ReadWrite) = true
 -- the content from the offset on, at most so many bytes: none from the end on
 abbrev pub read : State → ReadIn → Node → Done
 read s asked n =
-    if not (may_read (access_at s.handles asked.fh n.number)) then refuse s EBADF
-    else if is_dir n.mode then refuse s EISDIR
-    else if nat_lt MAX_READ asked.size then refuse s EINVAL
+    if not (may_read (access_at s.handles asked.fh n.number)) then refuse s ebadf
+    else if is_dir n.mode then refuse s eisdir
+    else if nat_lt read_limit asked.size then refuse s einval
     else answer s (take asked.size (drop asked.offset n.content))

@@ -1,6 +1,10 @@
 pub mod Bytes
+pub mod Bits
+pub mod Bounds
+pub mod Errnos
 pub mod Ids
 pub mod Layout
+pub mod Laws
 pub mod Flags
 pub mod Hex
 pub mod Opcodes

@@ -1,6 +1,71 @@
--- The opcodes that are never answered (fuse.h).
+-- The opcodes (fuse.h: enum fuse_opcode), and which of them are never answered.
 use Rattle.std.specs.Prelude.{◌==◌, ◌||◌, ℕ, Bool}
-use Rattle.fuse_wire.specs.declared.opcode.TheConstants.{FORGET, INTERRUPT, NOTIFY_REPLY, BATCH_FORGET}
+
+abbrev pub fuse_lookup : ℕ
+fuse_lookup = 1
+
+abbrev pub fuse_forget : ℕ
+fuse_forget = 2
+
+abbrev pub fuse_getattr : ℕ
+fuse_getattr = 3
+
+abbrev pub fuse_setattr : ℕ
+fuse_setattr = 4
+
+abbrev pub fuse_mknod : ℕ
+fuse_mknod = 8
+
+abbrev pub fuse_mkdir : ℕ
+fuse_mkdir = 9
+
+abbrev pub fuse_unlink : ℕ
+fuse_unlink = 10
+
+abbrev pub fuse_rmdir : ℕ
+fuse_rmdir = 11
+
+abbrev pub fuse_rename : ℕ
+fuse_rename = 12
+
+abbrev pub fuse_open : ℕ
+fuse_open = 14
+
+abbrev pub fuse_read : ℕ
+fuse_read = 15
+
+abbrev pub fuse_write : ℕ
+fuse_write = 16
+
+abbrev pub fuse_release : ℕ
+fuse_release = 18
+
+abbrev pub fuse_init : ℕ
+fuse_init = 26
+
+abbrev pub fuse_opendir : ℕ
+fuse_opendir = 27
+
+abbrev pub fuse_readdir : ℕ
+fuse_readdir = 28
+
+abbrev pub fuse_releasedir : ℕ
+fuse_releasedir = 29
+
+abbrev pub fuse_interrupt : ℕ
+fuse_interrupt = 36
+
+abbrev pub fuse_destroy : ℕ
+fuse_destroy = 38
+
+abbrev pub fuse_notify_reply : ℕ
+fuse_notify_reply = 41
+
+abbrev pub fuse_batch_forget : ℕ
+fuse_batch_forget = 42
+
+abbrev pub fuse_rename2 : ℕ
+fuse_rename2 = 45
 
 abbrev pub silent : ℕ → Bool
-silent opcode = opcode == FORGET || (opcode == INTERRUPT || (opcode == NOTIFY_REPLY || opcode == BATCH_FORGET))
+silent opcode = opcode == fuse_forget || (opcode == fuse_interrupt || (opcode == fuse_notify_reply || opcode == fuse_batch_forget))

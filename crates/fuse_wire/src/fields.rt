@@ -111,7 +111,8 @@ impl<'a> Fields<'a> {
         Some(front)
     }
 
-    /// The bytes before the next NUL, which is passed. `None` where there is none, and then nothing changes.
+    /// The bytes before the next NUL, which is passed. `None` where there is none, and then
+    /// nothing changes.
     pub fn until_nul(&mut self) -> Option<&'a [u8]>
         ensures { GivesText self.old self.new (option_map (λ x. x.now) result) }
     {

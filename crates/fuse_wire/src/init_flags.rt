@@ -21,8 +21,8 @@ impl Flags for InitFlags {
 
     ghost exact = { ⊤ };
 
-    ghost table = { (codes "ASYNC_READ", 0x1) ∷ (codes "BIG_WRITES", 0x20) ∷ (codes "INIT_EXT", 0x4000_0000)
-        ∷ (codes "HAS_RESEND", 0x80_0000_0000) ∷ [] };
+    ghost table = { (codes "ASYNC_READ", 0x1) ∷ (codes "BIG_WRITES", 0x20)
+        ∷ (codes "INIT_EXT", 0x4000_0000) ∷ (codes "HAS_RESEND", 0x80_0000_0000) ∷ [] };
 
     ghost set_of = { λ f. f.0 };
 

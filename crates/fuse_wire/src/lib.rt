@@ -1,9 +1,10 @@
-//! What the bytes of messages are made of: numbers with their lowest byte first, names that end in a
-//! NUL, the id of a request, error numbers and flag sets.
+//! What the bytes of messages are made of: numbers with their lowest byte first, names that end in
+//! a NUL, the id of a request, error numbers and flag sets.
 #![tactic(auto)]
 
 mod access_mode;
 mod byte_list;
+mod constants;
 mod errno;
 mod fields;
 mod id;
@@ -20,11 +21,14 @@ mod tests;
 
 pub use access_mode::{AccessMode, O_ACCMODE, O_RDONLY, O_RDWR, O_WRONLY};
 pub use byte_list::ByteList;
+pub use constants::{
+    access_numbers, errno_numbers, init_flag_numbers, opcode_numbers, valid_numbers,
+};
 pub use errno::Errno;
 pub use fields::Fields;
 pub use id::{Id, UNIQUE_RESEND, is_resend};
 pub use init_flags::InitFlags;
-pub use laws::one_number;
+pub use laws::{layouts_stand, names_end, numbers_read, one_number};
 pub use memory::Memory;
 pub use moment::Moment;
 pub use places::{u16_at, u32_at, u64_at};

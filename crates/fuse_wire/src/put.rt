@@ -38,7 +38,8 @@ pub fn put_u32(out: &mut Vec<u8>, n: u32) -> Result<(), Memory>
     put_bytes(out, &bytes)
 }
 
-/// Appends the four bytes of a number in two's complement, the lowest first. An `Err` leaves `out` unchanged.
+/// Appends the four bytes of a number in two's complement, the lowest first. An `Err` leaves
+/// `out` unchanged.
 pub fn put_i32(out: &mut Vec<u8>, n: i32) -> Result<(), Memory>
     ensures ok { OnOk result (out.new.items ≡ out.old.items ++ le 4 (cast_unsigned w32 n)) }
     ensures err { OnErr result (out.new.items ≡ out.old.items) }

@@ -31,9 +31,10 @@ impl Flags for SetattrValid {
 
     ghost exact = { ⊤ };
 
-    ghost table = { (codes "MODE", 0x1) ∷ (codes "UID", 0x2) ∷ (codes "GID", 0x4) ∷ (codes "SIZE", 0x8) ∷ (codes "ATIME", 0x10)
-        ∷ (codes "MTIME", 0x20) ∷ (codes "FH", 0x40) ∷ (codes "ATIME_NOW", 0x80) ∷ (codes "MTIME_NOW", 0x100)
-        ∷ (codes "LOCKOWNER", 0x200) ∷ (codes "CTIME", 0x400) ∷ (codes "KILL_SUIDGID", 0x800) ∷ [] };
+    ghost table = { (codes "MODE", 0x1) ∷ (codes "UID", 0x2) ∷ (codes "GID", 0x4)
+        ∷ (codes "SIZE", 0x8) ∷ (codes "ATIME", 0x10) ∷ (codes "MTIME", 0x20) ∷ (codes "FH", 0x40)
+        ∷ (codes "ATIME_NOW", 0x80) ∷ (codes "MTIME_NOW", 0x100) ∷ (codes "LOCKOWNER", 0x200)
+        ∷ (codes "CTIME", 0x400) ∷ (codes "KILL_SUIDGID", 0x800) ∷ [] };
 
     ghost set_of = { λ f. f.0 };
 

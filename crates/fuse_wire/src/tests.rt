@@ -37,7 +37,15 @@ fn vectors() {
     lowest_first();
     read_back();
     same_id();
+    opcode_numbers();
+    errno_numbers();
+    valid_numbers();
+    init_flag_numbers();
+    access_numbers();
     one_number();
+    numbers_read();
+    layouts_stand();
+    names_end();
 }
 
 #[test]

@@ -1,6 +1,5 @@
 use Rattle.std.proofs.Common.{◌≡◌, ℤ, refl, ap, ◌∙◌, rules, arith, w32, to_z, of_z}
 use Rattle.std.proofs.lemmas.Int.{of_z-to_z}
-use Rattle.fuse_wire.proofs.Layouts.{placed}
 use Rattle.fuse_answer.specs.Bodies.{open_parts}
 use Rattle.fuse_answer.proofs.bodies.open_of.Goals as goal
 
@@ -9,5 +8,5 @@ returns c =
     let z : ℤ = c.cast_signed.result in
     let bits : of_z w32 z ≡ c.u32_at-2.result = ap (of_z w32) c.cast_signed.ensures ∙ of_z-to_z w32 c.u32_at-2.result (omega arith) in
     let twice = of_z-to_z w32 (of_z w32 z) (omega (arith, bits)) in
-    let laid = placed 0 (open_parts (record { fh = c.u64_at.result; open_flags = c.u32_at.result; backing_id = to_z w32 (of_z w32 c.cast_signed.result) })) c.args.body.now (λ i. omega (arith, c.type_inv.body i)) (c.u64_at.ensures, (c.u32_at.ensures, (twice ∙ bits ∙ c.u32_at-2.ensures, c.if-body-ne-SIZE.false))) in
+    let laid = c.layouts_stand.ensures.placed (open_parts (record { fh = c.u64_at.result; open_flags = c.u32_at.result; backing_id = to_z w32 (of_z w32 c.cast_signed.result) })) c.args.body.now (λ i. omega (arith, c.type_inv.body i)) (c.u64_at.ensures, (c.u32_at.ensures, (twice ∙ bits ∙ c.u32_at-2.ensures, c.if-body-ne-SIZE.false))) in
     record { of_kind = refl; laid = laid; proper = search rules }

@@ -3,11 +3,11 @@ use Rattle.fuse_answer.proofs.laws.read_back.Goals as goal
 
 pub returns : goal.returns
 returns c = record {
-  said = back.read;
-  entry = back.entry_body;
-  attributes = back.attributes_body;
-  opened = back.open_body;
-  written = back.write_body;
-  init = back.init_body;
-  listing = back.listing_body;
+  said = back.read (c.numbers_read.ensures, c.layouts_stand.ensures);
+  entry = back.entry_body c.numbers_read.ensures;
+  attributes = back.attributes_body c.numbers_read.ensures;
+  opened = back.open_body c.numbers_read.ensures;
+  written = back.write_body c.numbers_read.ensures;
+  init = back.init_body c.numbers_read.ensures;
+  listing = back.listing_body c.numbers_read.ensures;
 }

@@ -5,4 +5,4 @@ use Rattle.fuse_answer.proofs.unpacking.unpack.Goals as goal
 
 pub returns : goal.returns
 unfolding entries_left
-returns c es h = entries_are es _ c.args.body.now (omega arith) h
+returns c es h = entries_are c.layouts_stand.ensures es _ c.args.body.now (omega arith) h

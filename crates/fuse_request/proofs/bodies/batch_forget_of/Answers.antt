@@ -1,8 +1,5 @@
 use Rattle.std.proofs.Common.{◌≡◌, ◌*◌, ◌/◌, length, drop, refl, arith}
 use Rattle.fuse_wire.specs.Bytes.{number_of}
-use Rattle.fuse_wire.proofs.Layouts.{placed}
-use Rattle.fuse_request.specs.Act.{BatchForget}
-use Rattle.fuse_request.specs.Spelling.{parts}
 use Rattle.fuse_request.proofs.Laid.{bytes_laid}
 use Rattle.fuse_request.proofs.bodies.batch_forget_of.Goals as goal
 
@@ -12,4 +9,4 @@ returns c =
     let counted = c.if-count-items.false in
     let whole : length items ≡ 16 * (length items / 16) = omega (arith, counted) in
     let count : length items / 16 ≡ number_of 4 (drop 0 c.args.body.now) = omega (arith, counted, c.u32_at-count.ensures) in
-    (refl, whole, placed 0 (parts (BatchForget items)) c.args.body.now (λ i. omega (arith, c.type_inv.body i)) (count, (c.if-body-lt-BATCH_FORGET_IN.false, bytes_laid items _ c.split_at.ensures.back)))
+    (refl, whole, (count, (c.if-body-lt-BATCH_FORGET_IN.false, bytes_laid items _ c.split_at.ensures.back)))

@@ -1,6 +1,6 @@
-use Rattle.std.proofs.Common.{refl, arith}
-use Rattle.fuse_request.proofs.Laid.{release_laid}
+use Rattle.std.proofs.Common.{refl}
+use Rattle.fuse_request.proofs.Laid.{release_placed}
 use Rattle.fuse_request.proofs.bodies.release_of.Goals as goal
 
 pub returns : goal.returns
-returns c = rw c.release_at.ensures (refl, tt, release_laid c.args.body.now (λ i. omega (arith, c.type_inv.body i)) c.if-body-ne-RELEASE_IN.false)
+returns c = rw c.release_at.ensures (refl, tt, release_placed c.args.body.now c.if-body-ne-RELEASE_IN.false)

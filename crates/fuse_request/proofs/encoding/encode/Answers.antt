@@ -3,6 +3,7 @@ use Rattle.fuse_request.specs.Act.{asked}
 use Rattle.fuse_request.specs.Encoding.{HasNumbers}
 use Rattle.fuse_request.specs.Canon.{canon}
 use Rattle.fuse_request.proofs.Canons.{spelled_again, well}
+use Rattle.fuse_request.proofs.Acts.{Laws}
 use Rattle.fuse_request.proofs.Heads.{no_fault, is_at}
 use Rattle.fuse_request.proofs.encoding.encode.Goals as goal
 
@@ -18,10 +19,11 @@ returns-clause-too_long c = (λ is. absurd cc, λ long. absurd (omega (arith, lo
 pub returns-clause-spelled : goal.returns-clause-spelled
 returns-clause-spelled c =
     let v = asked c.args.request.now in
-    spelled_again v c.requires (well c.put_message.result (HasNumbers v) c.is_err.result c.put_message.ensures.fits c.is_err.ensures.value c.if-is_err.false)
+    spelled_again c.layouts_stand.ensures v c.requires (well c.put_message.result (HasNumbers v) c.is_err.result c.put_message.ensures.fits c.is_err.ensures.value c.if-is_err.false)
 
 pub returns-clause-decoded : goal.returns-clause-decoded
 returns-clause-decoded c =
     let v = asked c.args.request.now in
-    let s = spelled_again v c.requires (well c.put_message.result (HasNumbers v) c.is_err.result c.put_message.ensures.fits c.is_err.ensures.value c.if-is_err.false) in
-    (no_fault v (canon v) s, is_at v (canon v) s)
+    let s = spelled_again c.layouts_stand.ensures v c.requires (well c.put_message.result (HasNumbers v) c.is_err.result c.put_message.ensures.fits c.is_err.ensures.value c.if-is_err.false) in
+    let laws : Laws = (c.layouts_stand.ensures, c.names_end.ensures) in
+    (no_fault laws v (canon v) s, is_at laws v (canon v) s)

@@ -5,7 +5,7 @@ use Rattle.fuse_request.proofs.framer.Framer.end.Goals as goal
 
 pub loop-len-preserved : goal.loop-len-preserved
 loop-len-preserved c =
-    let p = pass c.in-Some.len c.loop-len.rest.now c.in-Some.ensures in
+    let p = pass c.numbers_read.ensures c.in-Some.len c.loop-len.rest.now c.in-Some.ensures in
     let there = p.there in
     let back = c.split_at.ensures.back in
     record {
@@ -17,4 +17,4 @@ loop-len-preserved c =
 pub returns : goal.returns
 returns c =
     let i = c.loop-len.invariant in
-    c.end_of.ensures ∙ ended_at c.args.self.now c.loop-len.at c.loop-len.rest.now i.behind i.place i.rest c.in_default.ensures
+    c.end_of.ensures ∙ ended_at c.numbers_read.ensures c.args.self.now c.loop-len.at c.loop-len.rest.now i.behind i.place i.rest c.in_default.ensures

@@ -1,0 +1,44 @@
+-- The bounds and sizes of trees (own profile; fuse.h where it is said).
+use Rattle.std.specs.Prelude.{ℕ, ◌^◌}
+
+-- how many nodes there are at most, and how many open handles
+abbrev pub node_limit : ℕ
+node_limit = 65536
+
+abbrev pub handle_limit : ℕ
+handle_limit = 65536
+
+-- the numbers of nodes, handles and cookies are below this
+abbrev pub number_end : ℕ
+number_end = 2 ^ 62
+
+-- the most bytes of a file: 16 MiB
+abbrev pub file_limit : ℕ
+file_limit = 16777216
+
+-- the most bytes that READ and READDIR ask for
+abbrev pub read_limit : ℕ
+read_limit = 1048576
+
+-- the most bytes of a name (Linux: NAME_MAX)
+abbrev pub name_limit : ℕ
+name_limit = 255
+
+-- the node at the top (fuse.h: FUSE_ROOT_ID)
+abbrev pub fuse_root_id : ℕ
+fuse_root_id = 1
+
+-- blksize of the attributes, and what one of their blocks counts
+abbrev pub block_bytes : ℕ
+block_bytes = 4096
+
+abbrev pub sector_bytes : ℕ
+sector_bytes = 512
+
+-- how long the kernel may keep names and attributes
+abbrev pub valid_seconds : ℕ
+valid_seconds = 1
+
+-- what the shortest entry of a directory takes: 24 bytes and a name of one, padded to a multiple of 8
+abbrev pub least_entry : ℕ
+least_entry = 32

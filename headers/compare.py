@@ -1,0 +1,238 @@
+"""Compares what the definitions in specs/ state with the lines that numbers.c prints: compare.py CRATES LINES.
+
+The last line tells what was compared; the exit status is 1 where anything differs.
+"""
+import os
+import re
+import sys
+
+# The tables of numbers: a file, and what a name of it is called in the headers.
+NUMBERS = [
+    ("fuse_wire/specs/Opcodes.antt", str.upper),
+    ("fuse_wire/specs/Errnos.antt", str.upper),
+    ("fuse_wire/specs/Bits.antt", str.upper),
+    ("fuse_tree/specs/Modes.antt", str.upper),
+]
+
+# Names of these tables that are own.
+OWN = {"type_unit", "type_count"}
+
+# Numbers of other tables that the headers have too. Where a file isn't there it is passed over.
+SINGLE_NUMBERS = [
+    ("fuse_wire/specs/Bounds.antt", "max_name_len", "NAME_MAX"),
+    ("fuse_answer/specs/Sizes.antt", "dirent_name_offset", "FUSE_NAME_OFFSET"),
+    ("fuse_answer/specs/Notice.antt", "notify_resend", "FUSE_NOTIFY_RESEND"),
+    ("fuse_init/specs/Numbers.antt", "kernel_version", "FUSE_KERNEL_VERSION"),
+    ("fuse_init/specs/Numbers.antt", "kernel_minor_version", "FUSE_KERNEL_MINOR_VERSION"),
+    ("fuse_tree/specs/Bounds.antt", "fuse_root_id", "FUSE_ROOT_ID"),
+]
+
+# The tables of sizes: NAME_size is the size of fuse_NAME.
+SIZES = ["fuse_request/specs/Lengths.antt", "fuse_answer/specs/Sizes.antt"]
+SINGLE_SIZES = [("fuse_wire/specs/Bounds.antt", "min_message_len", "fuse_in_header")]
+
+# The layouts: a file, a definition's left side up to `=`, its struct, and fields that are called otherwise there.
+LAYOUTS = [
+    ("fuse_request/specs/Header.antt", "raw_parts h", "fuse_in_header", {}),
+    ("fuse_request/specs/Spelling.antt", "header_parts len units r", "fuse_in_header",
+     {"units": "total_extlen", "act": "opcode"}),
+    ("fuse_request/specs/Spelling.antt", "setattr_parts x", "fuse_setattr_in", {}),
+    ("fuse_request/specs/Spelling.antt", "open_parts flags open_flags", "fuse_open_in", {}),
+    ("fuse_request/specs/Spelling.antt", "read_parts x", "fuse_read_in", {}),
+    ("fuse_request/specs/Spelling.antt", "release_parts x", "fuse_release_in", {}),
+    ("fuse_request/specs/Spelling.antt", "parts (Forget nlookup)", "fuse_forget_in", {}),
+    ("fuse_request/specs/Spelling.antt", "parts (Getattr flags fh)", "fuse_getattr_in",
+     {"flags": "getattr_flags"}),
+    ("fuse_request/specs/Spelling.antt", "parts (Mknod mode rdev umask name)", "fuse_mknod_in", {}),
+    ("fuse_request/specs/Spelling.antt", "parts (Mkdir mode umask name)", "fuse_mkdir_in", {}),
+    ("fuse_request/specs/Spelling.antt", "parts (Rename new_dir old_name new_name)", "fuse_rename_in",
+     {"new_dir": "newdir"}),
+    ("fuse_request/specs/Spelling.antt", "parts (Rename2 new_dir flags old_name new_name)",
+     "fuse_rename2_in", {"new_dir": "newdir"}),
+    ("fuse_request/specs/Spelling.antt",
+     "parts (Write fh offset write_flags lock_owner flags payload)", "fuse_write_in",
+     {"payload": "size"}),
+    ("fuse_request/specs/Spelling.antt", "parts (Init x)", "fuse_init_in", {}),
+    ("fuse_request/specs/Spelling.antt", "parts (Interrupt unique)", "fuse_interrupt_in", {}),
+    ("fuse_request/specs/Spelling.antt", "parts (BatchForget items)", "fuse_batch_forget_in",
+     {"items": "count"}),
+    ("fuse_answer/specs/Bodies.antt", "head_parts len error unique", "fuse_out_header", {}),
+    ("fuse_answer/specs/Bodies.antt", "attr_parts a", "fuse_attr", {}),
+    ("fuse_answer/specs/Bodies.antt", "entry_parts e", "fuse_entry_out", {}),
+    ("fuse_answer/specs/Bodies.antt", "attr_out_parts a", "fuse_attr_out", {}),
+    ("fuse_answer/specs/Bodies.antt", "open_parts o", "fuse_open_out", {}),
+    ("fuse_answer/specs/Bodies.antt", "write_parts w", "fuse_write_out", {}),
+    ("fuse_answer/specs/Bodies.antt", "init_parts i", "fuse_init_out", {}),
+    ("fuse_answer/specs/Entries.antt", "dirent_parts e", "fuse_dirent",
+     {"name": "namelen", "kind": "type"}),
+]
+
+# Parts of a layout that are the parts of another definition of the same file, and what its fields stand under.
+INNER = {
+    "attr_parts a.attr": ("attr_parts a", "attr."),
+    "attr_parts e.attr": ("attr_parts a", "attr."),
+    "flags2_parts x.flags2": ("flags2_parts (Some flags2)", ""),
+}
+
+
+class Found:
+    """What the headers say."""
+
+    def __init__(self, path):
+        self.version, self.numbers, self.sizes, self.fields, self.lacks = "", {}, {}, {}, set()
+        for line in open(path):
+            kind, *words = line.split()
+            if kind == "version":
+                self.version = words[0]
+            elif kind == "number":
+                self.numbers[words[0]] = int(words[1])
+            elif kind == "size":
+                self.sizes[words[0]] = int(words[1])
+            elif kind == "field":
+                self.fields.setdefault(words[0], {})[words[1]] = (int(words[2]), int(words[3]))
+            else:
+                self.lacks.add(words[0])
+
+
+class Comparison:
+    """Counts what agrees, and keeps what differs and what was passed over."""
+
+    def __init__(self, found):
+        self.found, self.agreed, self.skipped, self.wrong = found, 0, [], []
+
+    def same(self, name, stated, real, lacked):
+        """Whether the headers say the same of this name."""
+        if real is None:
+            if lacked:
+                self.skipped.append(name)
+            else:
+                self.wrong.append(f"{name} isn't printed by numbers.c")
+        elif stated != real:
+            self.wrong.append(f"{name} is {real} in the headers and {stated} in specs/")
+        else:
+            self.agreed += 1
+
+    def number(self, name, stated):
+        found = self.found
+        self.same(name, stated, found.numbers.get(name), name in found.lacks)
+
+    def size(self, name, stated):
+        found = self.found
+        self.same(f"sizeof {name}", stated, found.sizes.get(name), name in found.lacks)
+
+    def field(self, struct, name, stated):
+        found = self.found
+        real = found.fields.get(struct, {}).get(name)
+        self.same(f"{struct}.{name}", stated, real, f"{struct}.{name}" in found.lacks)
+
+
+def value_of(text):
+    """The number that a right side states, or None."""
+    text = text.strip()
+    inner = re.fullmatch(r"record \{ 0 = (.*) \}", text)
+    if inner:
+        return value_of(inner.group(1))
+    bit = re.fullmatch(r"bit (\d+)", text)
+    if bit:
+        return 1 << int(bit.group(1))
+    power = re.fullmatch(r"(\d+) \^ (\d+)", text)
+    if power:
+        return int(power.group(1)) ** int(power.group(2))
+    return int(text, 0) if re.fullmatch(r"0[xo][0-9a-f]+|\d+", text) else None
+
+
+def definitions(path):
+    """The definitions of a file, each by its left side, with its lines joined."""
+    sides, last = {}, None
+    for line in open(path, encoding="utf-8"):
+        line = line.rstrip()
+        head = re.match(r"(\S.*?) =( |$)(.*)", line)
+        if line.startswith("--") or not line:
+            last = None
+        elif head and not line.startswith(" "):
+            last = head.group(1)
+            sides[last] = head.group(3)
+        elif last is not None and line.startswith(" "):
+            sides[last] += " " + line.strip()
+    return sides
+
+
+def parts_of(sides, left, others, under=""):
+    """The parts of a layout up to its first text or payload: each one's width, and its field or None where it is unused."""
+    pairs = []
+    for part in map(str.strip, sides[left].split("∷")):
+        number = re.fullmatch(r"number (\d+) (.*)", part)
+        unused = re.fullmatch(r"unused (\d+)", part)
+        if number:
+            pairs.append((int(number.group(1)), under + field_of(number.group(2), others)))
+        elif unused:
+            pairs.append((int(unused.group(1)), None))
+        elif part in INNER:
+            pairs += parts_of(sides, INNER[part][0], others, INNER[part][1])
+        elif part == "[]" or part.startswith(("text ", "bytes ")):
+            break
+        else:
+            raise ValueError(f"{left}: {part} is read as no part")
+    return pairs
+
+
+def field_of(expression, others):
+    """Which field an expression names: its last name that is one, as the headers call it."""
+    names = [word for word in re.findall(r"[a-z_]\w*", expression) if word != "forget_one_size"]
+    return others.get(names[-1], names[-1])
+
+
+def compare_layout(result, sides, left, struct, others):
+    """Each field at its place with its width, no field left out, and no more or fewer bytes in all."""
+    place, named = 0, set()
+    for width, field in parts_of(sides, left, others):
+        if field is not None:
+            result.field(struct, field, (place, width))
+            named.add(field)
+        place += width
+    for field in result.found.fields.get(struct, {}):
+        if field not in named and not re.match(r"padding|dummy|unused", field):
+            result.wrong.append(f"{struct}.{field} isn't in `{left}`")
+    if struct in result.found.sizes:
+        result.size(struct, place)
+
+
+def main(crates, lines):
+    found = Found(lines)
+    result = Comparison(found)
+    sides = {}
+
+    def file_sides(name):
+        path = os.path.join(crates, name)
+        if name not in sides:
+            sides[name] = definitions(path) if os.path.exists(path) else {}
+        return sides[name]
+
+    for name, called in NUMBERS:
+        for left, right in file_sides(name).items():
+            if value_of(right) is not None and left not in OWN:
+                result.number(called(left), value_of(right))
+    for name, left, real in SINGLE_NUMBERS:
+        if file_sides(name):
+            result.number(real, value_of(file_sides(name)[left]))
+    for name in SIZES:
+        for left, right in file_sides(name).items():
+            if left.endswith("_size"):
+                stem = left[: -len("_size")]
+                result.size(stem if stem == "compat_init_in" else "fuse_" + stem, value_of(right))
+    for name, left, struct in SINGLE_SIZES:
+        result.size(struct, value_of(file_sides(name)[left]))
+    for name, left, struct, others in LAYOUTS:
+        compare_layout(result, file_sides(name), left, struct, others)
+
+    for line in result.wrong:
+        print("headers:", line)
+    skipped = ", ".join(sorted(set(result.skipped)))
+    print(f"headers: {result.agreed} numbers, sizes and fields agree with linux/fuse.h {found.version}"
+          + f", {len(result.wrong)} differ"
+          + (f"; it lacks {skipped}" if skipped else ""))
+    return 1 if result.wrong else 0
+
+
+if __name__ == "__main__":
+    sys.exit(main(*sys.argv[1:]))
