@@ -200,9 +200,9 @@ fn run_next<K: Restart>(
 /// Runs events over a keeper, in groups, and answers what the kernel takes for each of them.
 ///
 /// A group is a run of events with up to 16 kept messages, of which the last may be one after which
-/// the server dies. Room for its outcomes is made before it is performed. The keeper is opened again
-/// wherever the server dies. A fault leaves the keeper as the events before the one that it names
-/// left it; the fault of an opening leaves none.
+/// the server dies. Room for its outcomes is made before it is performed. The keeper is opened
+/// again wherever the server dies. A fault leaves the keeper as the events before the one that it
+/// names left it; the fault of an opening leaves none.
 pub fn drive<K: Restart>(
     alloc: Global,
     keeper: &mut Option<K>,

@@ -78,7 +78,7 @@ returns-clause-opens g c =
     group_opens k.model k.told k.became c.args.keeper.now c.work_group.new.keeper c.end_group.new.keeper
     group.died (take count (drop at events)) (take (at + count - at) (drop at events)) group.classes.items group.taken.items
     (ids_of c.args.pending.now.items) (ids_of c.work_group.new.pending.items) c.args.outcomes.now.items c.work_group.new.outcomes.items
-    gathers (run_slice events at count) worked c.work_group.ensures.same c.in_ok-end_group.ensures.opened c.end_group.ensures.honest c.work_group.ensures.called.honest
+    gathers (run_slice events at count) worked c.work_group.ensures.same c.in_ok-end_group.ensures.opened c.in_ok-end_group.ensures.same c.end_group.ensures.honest c.work_group.ensures.called.honest
 
 pub returns-clause-few : goal.returns-clause-few
 returns-clause-few g c =
