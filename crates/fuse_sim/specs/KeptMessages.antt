@@ -35,4 +35,4 @@ abbrev pub StandsFirst : ℕ → List Asked → Option ℕ → Type 0
 StandsFirst unique rs None = owner unique rs ≡ None
 StandsFirst unique rs (Some place) =
     (before : List Asked) × (one : Asked) × (after : List Asked) × (rs ≡ before ++ one ∷ after) × (length before ≡ place) × (owner unique before ≡ None)
-        × (has_unique unique one ≡ true)
+    × (has_unique unique one ≡ true)

@@ -99,7 +99,7 @@ fn copies_again(
     requires there { All (λ place. place < length pending.now) places.now }
     ensures { IfOk result (λ messages. map (λ m. Some m) (messages_in messages.items)
         ≡ map (λ place. option_map (λ r. canon (again r))
-            (slice_get (requests_in pending.now) place)) places.now) }
+        (slice_get (requests_in pending.now) place)) places.now) }
 {
     let mut messages = Vec::with_capacity(alloc, places.len())?;
     for place in places {
@@ -180,8 +180,8 @@ impl Kernel {
         Ok(message)
     }
 
-    /// Whether a pending request has this id, by which a caller tests the condition of `send`. Takes
-    /// no memory.
+    /// Whether a pending request has this id, by which a caller tests the condition of `send`.
+    /// Takes no memory.
     pub fn awaits(&self, id: Id) -> bool
         ensures { result ≡ is_in (request_ids self.now) id.0 }
     {
@@ -202,7 +202,7 @@ impl Kernel {
         requires { All (λ place. place < length self.old) order.now }
         ensures messages { IfOk result (λ messages. map (λ m. Some m) (messages_in messages.items)
             ≡ map (λ place. option_map (λ r. canon (again r)) (slice_get self.old place))
-                order.now) }
+            order.now) }
         ensures pending { OnOk result (self.new ≡ all_again order.now self.old) }
         ensures err { OnErr result (self.new ≡ self.old) }
     {

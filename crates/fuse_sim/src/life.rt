@@ -10,8 +10,8 @@ ghost use Rattle.fuse_session.specs.Worked.{bytes_of, kept_in};
 ghost use Rattle.fuse_sim.specs.Lives.{Lifetime, AreLives, after_lives, all_worked, AllSend};
 ghost use Rattle.fuse_sim.specs.Lives.{RunOfServe, RanAsLife};
 
-use fuse_session::Clock;
 use fuse_keeper::{Keeper, histories_grow};
+use fuse_session::Clock;
 
 /// Over every list of lives of one mount, each beginning with the history that the one before left
 /// and the first with none.
@@ -47,5 +47,5 @@ pub fn runs_are_lives<K: Keeper, C: Clock>()
         → NoneComesAgain old.confirms t (bytes_of run.broken.timed) run.broken.marks
         → (K.told k').is_honest → IsFirm (K.told k)
         → Leaves (K.told k') (λ x r.
-            RanAsLife K.model (Stands K.model x r s) (C.may_answer c) s h t old new) }
+        RanAsLife K.model (Stands K.model x r s) (C.may_answer c) s h t old new) }
 {}
