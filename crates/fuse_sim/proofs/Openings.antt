@@ -21,7 +21,7 @@ use Rattle.fuse_sim.proofs.Moves.{handed_within, is_lost}
 
 -- ---- what became of a keeper
 
-became_then : {K : Type 0} (became : K → K → ℕ → Type 0) → IsCount became → (a b c : Option K) (m n o : ℕ) → became_in became a b m → became_in became b c n → m + n ≡ o → became_in became a c o
+pub became_then : {K : Type 0} (became : K → K → ℕ → Type 0) → IsCount became → (a b c : Option K) (m n o : ℕ) → became_in became a b m → became_in became b c n → m + n ≡ o → became_in became a c o
 became_then became law None b c m n o one two sum = absurd one
 became_then became law (Some a) None c m n o one two sum = absurd one
 became_then became law (Some a) (Some b) None m n o one two sum = absurd two
@@ -49,7 +49,7 @@ deaths-append (x ∷ xs) ys =
     elim (dies x.fate) as (λ b. (if b then suc (deaths (xs ++ ys)) else deaths (xs ++ ys)) ≡ (if b then suc (deaths xs) else deaths xs) + deaths ys)
     [ true ↦ omega (arith, more) | false ↦ more ]
 
-deaths_first : (x : Event) (xs : List Event) (b : Bool) → dies x.fate ≡ b → deaths (x ∷ xs) ≡ (if b then suc (deaths xs) else deaths xs)
+pub deaths_first : (x : Event) (xs : List Event) (b : Bool) → dies x.fate ≡ b → deaths (x ∷ xs) ≡ (if b then suc (deaths xs) else deaths xs)
 deaths_first x xs b is = ap (λ c. if c then suc (deaths xs) else deaths xs) is
 
 deaths_last : (died : Bool) (run : List Event) → DiesLast died run → deaths run ≡ (if died then 1 else 0)

@@ -195,11 +195,13 @@ pub record AnsweredBy {M : Model} {K : Type 0} (told : K → KeeperState M) (bec
   pub after : became_in became keeper new 0
   pub may : IsStoreFault (told_in told keeper).may_answer fault
 
--- the server died at the event that is named, and a keeper refused with this fault to be opened again
-pub record OfRestart {K : Type 0} (may_refuse : K → StoreFault → Type 0) (events : List Event) (fault : DriveFault) : Type 0 where
+-- the server died at the event that is named, and the keeper that was in place refused with this fault to be opened again
+pub record OfRestart {K : Type 0} (became : K → K → ℕ → Type 0) (may_refuse : K → StoreFault → Type 0)
+    (old : Option K) (events : List Event) (fault : DriveFault) : Type 0 where
   pub died : IsSomeAnd (slice_get events (event_of fault)) (λ e. dies e.fate ≡ true)
-  pub keeper : K
-  pub refused : IsStoreFault (may_refuse keeper) fault
+  pub keeper : Option K
+  pub often : became_in became old keeper (deaths (before fault events))
+  pub refused : IsSomeAnd keeper (λ k. IsStoreFault (may_refuse k) fault)
 
 -- a keeper that is left stands for the events before the fault: where the store answered it, if the store is clean,
 -- and else if it gave back what was written

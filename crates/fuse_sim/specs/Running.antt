@@ -24,8 +24,8 @@ use Rattle.fuse_sim.specs.declared.event.Fate.TheVariants.{Answered, AnswerLost,
 use Rattle.fuse_sim.specs.declared.event.Event.{Event}
 use Rattle.fuse_sim.specs.declared.event.Outcome.{Outcome}
 use Rattle.fuse_sim.specs.declared.event.DriveFault.{DriveFault}
-use Rattle.fuse_sim.specs.Driving.{commits_in, committed, settles, outcome_of, bytes_given, is_taken, where_taken, dies, Calm, NoneReused, IsFit, settled_by}
-use Rattle.fuse_sim.specs.Driving.{told_in, StandsIn, became_in, event_of, before, CausedBy, IsStoreFault, OfRestart, is_store, LeftBy}
+use Rattle.fuse_sim.specs.Driving.{commits_in, committed, settles, outcome_of, bytes_given, is_taken, where_taken, dies, deaths, Calm, NoneReused, IsFit, settled_by}
+use Rattle.fuse_sim.specs.Driving.{told_in, StandsIn, became_in, event_of, before, CausedBy, IsStoreFault, is_store, LeftBy}
 use Rattle.fuse_sim.specs.HandedOn.{Ledger, ledger_after, handed_on}
 use Rattle.fuse_sim.specs.LeftRecords.{HoldsRecords}
 
@@ -183,6 +183,15 @@ pub record Opens {M : Model} {K : Type 0} (told : K → KeeperState M) (became :
   pub stood : (told_in told left).is_honest → (s : M.State) (h : History) (t : List ℕ) → StandsIn told old s h t → Includes t pending → NoneReused t run
       → StandsIn told left s (committed h run) (settled_by t run)
 
+-- the server died at the event that is named, and what these events had left by then refused to be opened again
+pub record Refuses {K : Type 0} (became : K → K → ℕ → Type 0) (refuses : K → StoreFault → Type 0)
+    (old : Option K) (events : List Event) (at : ℕ) (fault : DriveFault) : Type 0 where
+  pub died : IsSomeAnd (slice_get events (event_of fault)) (λ e. dies e.fate ≡ true)
+  pub keeper : Option K
+  pub same : became_in became old keeper 0
+  pub calm : deaths (before fault events) ≡ deaths (take at events)
+  pub refused : IsSomeAnd keeper (λ k. IsStoreFault (refuses k) fault)
+
 -- a fault came at the events that begin at a place: what it names, and the keeper that it leaves
 pub record Stops {M : Model} {K : Type 0} (told : K → KeeperState M) (became : K → K → ℕ → Type 0) (refuses : K → StoreFault → Type 0)
     (old new : Option K) (events : List Event) (at : ℕ) (fault : DriveFault) : Type 0 where
@@ -192,6 +201,6 @@ pub record Stops {M : Model} {K : Type 0} (told : K → KeeperState M) (became :
   pub answered : is_store fault ≡ true → (told_in told new).is_clean → (s : M.State) (h : History) (t : List ℕ) → StandsIn told old s h t
       → IsStoreFault (told_in told old).may_answer fault
   pub stayed : (new ≡ None → ⊥) → (event_of fault ≡ at) × became_in became old new 0
-  pub emptied : new ≡ None → OfRestart refuses events fault
+  pub emptied : new ≡ None → Refuses became refuses old events at fault
   pub has_failed : IfSome new (λ k. (told k).has_failed ≡ is_store fault)
   pub was_honest : (told_in told new).is_honest → (told_in told old).is_honest

@@ -256,9 +256,9 @@ pub fn drive<K: Restart>(
         → (start : K.model.State) (h : History) (settled : List ℕ)
         → StandsIn K.told keeper.old start h settled → NoneReused settled (before fault events.now)
         → AnsweredBy K.told K.became keeper.old keeper.new (before fault events.now) fault) }
-    // No keeper is left only where one refused to be opened again, with this fault.
+    // No keeper is left only where the one in place refused with this fault to be opened again.
     ensures emptied { IfErr result (λ fault. keeper.new ≡ None
-        → OfRestart K.may_refuse events.now fault) }
+        → OfRestart K.became K.may_refuse keeper.old events.now fault) }
 
     // A keeper that is left has failed exactly where the store answered the fault.
     ensures going { OnOk result (IsSomeAnd keeper.new (λ k. (K.told k).has_failed ≡ false)) }
