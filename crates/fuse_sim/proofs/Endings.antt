@@ -1,5 +1,5 @@
 -- What holds when events have been run, to their end or to a fault.
-use Rattle.std.proofs.Common.{◌≡◌, ℕ, ◌+◌, ◌≤◌, Bool, true, false, ◌||◌, inl, inr, List, [], ◌++◌, map, take, drop, Option, Some, None, if◌then◌else◌, length, refl, sym, ap, subst, ◌∙◌}
+use Rattle.std.proofs.Common.{◌≡◌, ℕ, ◌+◌, ◌≤◌, Bool, true, false, ◌||◌, inl, inr, List, [], ◌++◌, map, take, drop, Option, Some, None, if◌then◌else◌, length, refl, sym, ap, subst, ◌∙◌, arith}
 use Rattle.std.proofs.Math.Seq.{take-add}
 use Rattle.std.proofs.lemmas.List.{take_all}
 use Rattle.std.proofs.lemmas.List.Elements.{All-append, All-nil}
@@ -11,7 +11,7 @@ use Rattle.fuse_keeper.specs.KeeperState.{KeeperState, StandsFor, KeepsHeld, Tel
 use Rattle.fuse_sim.specs.declared.event.Event.{Event}
 use Rattle.fuse_sim.specs.declared.event.Outcome.{Outcome}
 use Rattle.fuse_sim.specs.declared.event.DriveFault.{DriveFault}
-use Rattle.fuse_sim.specs.Driving.{committed, outcome_of, bytes_given, settled_by, NoneReused, told_in, StandsIn, became_in, deaths, Opened, AnsweredBy, IsFit, event_of, before, is_store, LeftBy}
+use Rattle.fuse_sim.specs.Driving.{committed, outcome_of, bytes_given, settled_by, NoneReused, told_in, StandsIn, became_in, deaths, Opened, AnsweredBy, OfRestart, IsFit, event_of, before, is_store, LeftBy}
 use Rattle.fuse_sim.specs.HandedOn.{Ledger, empty_ledger, ledger_after, handed_on}
 use Rattle.fuse_sim.specs.LeftRecords.{Behind, RecordsLeft, HoldsRecords}
 use Rattle.fuse_sim.specs.Running.{Moved, MayBegin, Opens, Stops}
@@ -19,7 +19,7 @@ use Rattle.fuse_sim.proofs.Settled.{tested, is_in-append, stands_later, stands_k
 use Rattle.fuse_sim.proofs.Driven.{ledger-append, pending_settled, settled_all, includes_none, handed_came}
 use Rattle.fuse_sim.proofs.Removed.{behind_handed, handed_behind}
 use Rattle.fuse_sim.proofs.Moves.{ran_more, ran_none}
-use Rattle.fuse_sim.proofs.Openings.{opened_more, opened_still}
+use Rattle.fuse_sim.proofs.Openings.{became_then, opened_more, opened_still}
 
 -- events, and then others
 moved_parts : (M : Model) → HistoriesGrow M → (holds mid holds' : KeeperState M) (es es' others others' : List Event) (p p' : List ℕ) (new new' : List (Option Outcome)) → (holds'.is_honest → mid.is_honest)
@@ -175,3 +175,15 @@ pub stopped_opened : (M : Model) → {K : Type 0} (told : K → KeeperState M) (
 stopped_opened M told became refuses law old mid new events at fault opened stops there =
     let stayed = stops.stayed there in
     subst (λ n. Opened told became old new (take n events)) (sym stayed.0) (opened_still M told became law old mid new (take at events) stayed.1 stops.was_honest opened)
+
+-- no keeper was left
+pub stopped_emptied : (M : Model) → {K : Type 0} (told : K → KeeperState M) (became : K → K → ℕ → Type 0) (refuses : K → StoreFault → Type 0) → IsCount became → (old mid new : Option K) (events : List Event) (at : ℕ) (fault : DriveFault)
+    → Opened told became old mid (take at events) → Stops told became refuses mid new events at fault → new ≡ None → OfRestart became refuses old events fault
+stopped_emptied M told became refuses law old mid new events at fault opened stops none =
+    let refused = stops.emptied none in
+    record {
+      died = refused.died;
+      keeper = refused.keeper;
+      often = became_then became law old mid refused.keeper (deaths (take at events)) 0 (deaths (before fault events)) opened.often refused.same (omega (arith, refused.calm));
+      refused = refused.refused;
+    }

@@ -130,26 +130,32 @@ few_more n m few room is = grind (arith, few, room, is)
 pub joins_kept : (e : Event) (classes classes' : List Class) (taken taken' : List (Request × Moment)) (one : Request × Moment) (died died' : Bool) → died ≡ false → IsFit e → dies_before e.fate ≡ false
     → entry_of one ∷ [] ≡ entry_if (class_of e.bytes) (message_entry e.bytes e.moment) → All IsKept (entry_of one ∷ []) → (length taken ≡ MAX_GROUP → ⊥)
     → classes' ≡ classes ++ class_of e.bytes ∷ [] → taken' ≡ taken ++ one ∷ [] → dies e.fate ≡ died' → (died' ≡ true → e.fate ≡ DiedAfterCommit) → Joins e classes taken died classes' taken' died'
-joins_kept e classes classes' taken taken' one died died' alive fit goes some kept room classed pushed is dead = (alive, λ run g. record {
-  fit = All-append IsFit run (e ∷ []) g.fit (only_one IsFit e fit);
-  goes = run_more run e died' g.goes is dead;
-  classes_are = classed ∙ ap (λ (cs : List Class). cs ++ class_of e.bytes ∷ []) g.classes_are ∙ sym (map-append (λ (x : Event). class_of x.bytes) run (e ∷ []));
-  entries = ap entries_of pushed ∙ map-append entry_of taken (one ∷ []) ∙ ap (λ r. r ++ entry_of one ∷ []) g.entries ∙ entries_one run e (entry_of one ∷ []) goes some;
-  few = few_more (length taken) (length taken') g.few room (ap length pushed ∙ length-append taken (one ∷ []));
-  named = named_more e.bytes taken taken' one e.moment fit.named some pushed g.named;
-  kept = kept_more taken taken' one kept pushed g.kept;
-})
+joins_kept e classes classes' taken taken' one died died' alive fit goes some kept room classed pushed is dead = (
+  alive,
+  λ run g. record {
+    fit = All-append IsFit run (e ∷ []) g.fit (only_one IsFit e fit);
+    goes = run_more run e died' g.goes is dead;
+    classes_are = classed ∙ ap (λ (cs : List Class). cs ++ class_of e.bytes ∷ []) g.classes_are ∙ sym (map-append (λ (x : Event). class_of x.bytes) run (e ∷ []));
+    entries = ap entries_of pushed ∙ map-append entry_of taken (one ∷ []) ∙ ap (λ r. r ++ entry_of one ∷ []) g.entries ∙ entries_one run e (entry_of one ∷ []) goes some;
+    few = few_more (length taken) (length taken') g.few room (ap length pushed ∙ length-append taken (one ∷ []));
+    named = named_more e.bytes taken taken' one e.moment fit.named some pushed g.named;
+    kept = kept_more taken taken' one kept pushed g.kept;
+  },
+)
 
 -- an event without one
 pub joins_bare : (e : Event) (classes classes' : List Class) (taken taken' : List (Request × Moment)) (died died' : Bool) → died ≡ false → IsFit e → dies_before e.fate ≡ false
     → [] ≡ entry_if (class_of e.bytes) (message_entry e.bytes e.moment)
     → classes' ≡ classes ++ class_of e.bytes ∷ [] → taken' ≡ taken → dies e.fate ≡ died' → (died' ≡ true → e.fate ≡ DiedAfterCommit) → Joins e classes taken died classes' taken' died'
-joins_bare e classes classes' taken taken' died died' alive fit goes none classed same is dead = (alive, λ run g. record {
-  fit = All-append IsFit run (e ∷ []) g.fit (only_one IsFit e fit);
-  goes = run_more run e died' g.goes is dead;
-  classes_are = classed ∙ ap (λ (cs : List Class). cs ++ class_of e.bytes ∷ []) g.classes_are ∙ sym (map-append (λ (x : Event). class_of x.bytes) run (e ∷ []));
-  entries = ap entries_of same ∙ g.entries ∙ sym (append-nil (commits_in run)) ∙ entries_one run e [] goes none;
-  few = omega (arith, g.few, ap length same);
-  named = subst (λ (t : List (Request × Moment)). All HasId (entries_of t)) (sym same) g.named;
-  kept = subst (λ (t : List (Request × Moment)). All IsKept (entries_of t)) (sym same) g.kept;
-})
+joins_bare e classes classes' taken taken' died died' alive fit goes none classed same is dead = (
+  alive,
+  λ run g. record {
+    fit = All-append IsFit run (e ∷ []) g.fit (only_one IsFit e fit);
+    goes = run_more run e died' g.goes is dead;
+    classes_are = classed ∙ ap (λ (cs : List Class). cs ++ class_of e.bytes ∷ []) g.classes_are ∙ sym (map-append (λ (x : Event). class_of x.bytes) run (e ∷ []));
+    entries = ap entries_of same ∙ g.entries ∙ sym (append-nil (commits_in run)) ∙ entries_one run e [] goes none;
+    few = omega (arith, g.few, ap length same);
+    named = subst (λ (t : List (Request × Moment)). All HasId (entries_of t)) (sym same) g.named;
+    kept = subst (λ (t : List (Request × Moment)). All IsKept (entries_of t)) (sym same) g.kept;
+  },
+)

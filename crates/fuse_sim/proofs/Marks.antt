@@ -10,7 +10,8 @@ use Rattle.fuse_request.specs.Act.{Asked, opcode_of}
 use Rattle.fuse_request.specs.Canon.{canon, len_of}
 use Rattle.fuse_request.specs.Places.{asked_at, SpelledAt}
 use Rattle.fuse_request.specs.Spelling.{header_parts, parts, Spells}
-use Rattle.fuse_sim.specs.Pending.{again, marked, is_silent, request_id, IsOwed}
+use Rattle.fuse_sim.specs.Pending.{again, is_silent, request_id}
+use Rattle.fuse_sim.specs.KeptMessages.{marked, IsOwed}
 
 length-le : (w n : ℕ) → length (le w n) ≡ w
 unfolding le

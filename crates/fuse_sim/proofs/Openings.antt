@@ -7,7 +7,7 @@ use Rattle.fuse_request.specs.declared.class.Class.{Class}
 use Rattle.fuse_request.specs.Classes.{class_of}
 use Rattle.fuse_keeper.specs.History.{History, grown, Includes}
 use Rattle.fuse_keeper.specs.Model.{Model}
-use Rattle.fuse_keeper.specs.KeeperState.{KeeperState, IsCount}
+use Rattle.fuse_keeper.specs.KeeperState.{KeeperState, KeepsHeld, IsCount}
 use Rattle.fuse_session.specs.Worked.{entry_if, message_entry}
 use Rattle.fuse_sim.specs.declared.event.Fate.{Fate}
 use Rattle.fuse_sim.specs.declared.event.Fate.TheVariants.{DiedAfterCommit}
@@ -21,7 +21,7 @@ use Rattle.fuse_sim.proofs.Moves.{handed_within, is_lost}
 
 -- ---- what became of a keeper
 
-became_then : {K : Type 0} (became : K → K → ℕ → Type 0) → IsCount became → (a b c : Option K) (m n o : ℕ) → became_in became a b m → became_in became b c n → m + n ≡ o → became_in became a c o
+pub became_then : {K : Type 0} (became : K → K → ℕ → Type 0) → IsCount became → (a b c : Option K) (m n o : ℕ) → became_in became a b m → became_in became b c n → m + n ≡ o → became_in became a c o
 became_then became law None b c m n o one two sum = absurd one
 became_then became law (Some a) None c m n o one two sum = absurd one
 became_then became law (Some a) (Some b) None m n o one two sum = absurd two
@@ -49,7 +49,7 @@ deaths-append (x ∷ xs) ys =
     elim (dies x.fate) as (λ b. (if b then suc (deaths (xs ++ ys)) else deaths (xs ++ ys)) ≡ (if b then suc (deaths xs) else deaths xs) + deaths ys)
     [ true ↦ omega (arith, more) | false ↦ more ]
 
-deaths_first : (x : Event) (xs : List Event) (b : Bool) → dies x.fate ≡ b → deaths (x ∷ xs) ≡ (if b then suc (deaths xs) else deaths xs)
+pub deaths_first : (x : Event) (xs : List Event) (b : Bool) → dies x.fate ≡ b → deaths (x ∷ xs) ≡ (if b then suc (deaths xs) else deaths xs)
 deaths_first x xs b is = ap (λ c. if c then suc (deaths xs) else deaths xs) is
 
 deaths_last : (died : Bool) (run : List Event) → DiesLast died run → deaths run ≡ (if died then 1 else 0)
@@ -140,6 +140,7 @@ opened_before M told became law old mid new ys earlier e more later rest further
   before = one.before;
   once = one.once;
   after = became_then became law one.opened mid new (deaths more) (deaths ys) (deaths later) one.after further (sym (ap deaths rest ∙ deaths-append more ys));
+  kept = λ is. one.kept (was is);
   stood = λ is. one.stood (was is);
 }
 
@@ -157,6 +158,7 @@ opened_last M told became law old mid new xs ys p earlier front e later within s
           (omega (arith, ap deaths begin, deaths-append xs front, last.calm));
       once = once;
       after = subst (became_in became new new) (ap deaths (sym last.ends)) (became_last became law two.left new 1 once);
+      kept = two.kept;
       stood = λ is. subst (λ es. (s : M.State) (h : History) (t : List ℕ) → StandsIn told old s h t → NoneReused t es → StandsIn told two.left s (committed h es) (settled_by t es)) (sym whole)
           (stood_more M told old mid two.left xs ys p within (stood (two.was_honest (two.honest is))) (two.stood (two.honest is)));
     }
@@ -201,6 +203,7 @@ opened_second M told became law old mid new xs ys earlier front e later was stoo
       before = became_then became law old mid at.left (deaths xs) (deaths front) (deaths earlier) often at.before (sym (ap deaths begin ∙ deaths-append xs front));
       once = at.once;
       after = at.after;
+      kept = at.kept;
       stood = λ is. subst (λ es. (s : M.State) (h : History) (t : List ℕ) → StandsIn told old s h t → NoneReused t es → StandsIn told at.left s (committed h es) (settled_by t es)) (sym whole)
           (stands_twice M told old mid at.left xs (front ++ e ∷ []) (stood (was is)) (at.stood is));
     }
@@ -243,8 +246,9 @@ run_last died (e ∷ run) is = elim is [
 
 pub group_opens : (M : Model) → {K : Type 0} (told : K → KeeperState M) (became : K → K → ℕ → Type 0) (old mid new : Option K) (died : Bool) (run slice : List Event) (classes : List Class) (taken : List (Request × Moment)) (p p' : List ℕ) (outs outs' : List (Option Outcome))
     → Gathers run classes taken died → slice ≡ run → Worked (told_in told old) (told_in told mid) slice p p' outs outs' → became_in became old mid 0 → became_in became mid new (if died then 1 else 0)
+    → ((told_in told new).is_honest → KeepsHeld (told_in told mid) (told_in told new))
     → ((told_in told new).is_honest → (told_in told mid).is_honest) → ((told_in told mid).is_honest → (told_in told old).is_honest) → Opens told became old new p run
-group_opens M told became old mid new died run slice classes taken p p' outs outs' gathers same all before after honest was =
+group_opens M told became old mid new died run slice classes taken p p' outs outs' gathers same all before after keeps honest was =
     let worked = subst (λ x. Worked (told_in told old) (told_in told mid) x p p' outs outs') same all in
     let cs = commits_in run in
     record {
@@ -255,6 +259,7 @@ group_opens M told became old mid new died run slice classes taken p p' outs out
       after = after;
       honest = honest;
       was_honest = was;
+      kept = keeps;
       stood = λ is s h t so within none.
           let handed = handed_within t p cs within in
           let fresh = all_unsettled_too t (t ++ handed_to cs p) cs (includes_both t t (handed_to cs p) (λ i there. there) handed) (none_reused t run none) in
@@ -263,9 +268,10 @@ group_opens M told became old mid new died run slice classes taken p p' outs out
     }
 
 pub lost_opens : (M : Model) → {K : Type 0} (told : K → KeeperState M) (became : K → K → ℕ → Type 0) → IsCount became → (old new : Option K) (events : List Event) (at : ℕ) (e : Event) (p : List ℕ)
-    → at < length events → e ≡ get_or events at e → dies_before e.fate ≡ true → became_in became old new 1 → ((told_in told new).is_honest → (told_in told old).is_honest)
+    → at < length events → e ≡ get_or events at e → dies_before e.fate ≡ true → became_in became old new 1
+    → ((told_in told new).is_honest → KeepsHeld (told_in told old) (told_in told new)) → ((told_in told new).is_honest → (told_in told old).is_honest)
     → Opens told became old new p (take 1 (drop at events))
-lost_opens M told became law old new events at e p lt is before once honest =
+lost_opens M told became law old new events at e p lt is before once keeps honest =
     let lost = is_lost e.fate before in
     let one : e ∷ [] ≡ take 1 (drop at events) = ap (λ (x : Event). x ∷ []) is ∙ ap (take 1) (sym (drop-cons events at e lt)) in
     let none : commits_in (e ∷ []) ≡ [] = ap (λ f. commits_by f (entry_if (class_of e.bytes) (message_entry e.bytes e.moment)) ++ []) lost in
@@ -277,6 +283,7 @@ lost_opens M told became law old new events at e p lt is before once honest =
       after = once;
       honest = honest;
       was_honest = λ is. is;
+      kept = keeps;
       stood = λ is s h t so within unused.
           subst (λ cs. StandsIn told old s (grown h cs) (settled_by t (e ∷ []))) (sym none)
           (stands_later M (told_in told old) s h t (settled_by t (e ∷ [])) (includes_left t (settles e)) so);

@@ -15,9 +15,9 @@ use Rattle.fuse_sim.specs.declared.event.Fate.TheVariants.{Answered, AnswerLost,
 use Rattle.fuse_sim.specs.declared.event.Event.{Event}
 use Rattle.fuse_sim.specs.declared.event.DriveFault.{DriveFault}
 use Rattle.fuse_sim.specs.declared.event.DriveFault.TheVariants.{NotAMessage, ZeroUnique, Store, Memory}
-use Rattle.fuse_sim.specs.Driving.{told_in, IsFit, event_of, StandsIn, became_in, CausedBy, OfRestart, is_store, IsStoreFault, LeftBy, dies}
-use Rattle.fuse_sim.specs.Running.{dies_before, IsRun, Begins, Gathers, StopsAt, Stops}
-use Rattle.fuse_sim.proofs.Openings.{became_itself}
+use Rattle.fuse_sim.specs.Driving.{told_in, IsFit, event_of, StandsIn, became_in, CausedBy, is_store, IsStoreFault, LeftBy, dies, deaths, Calm}
+use Rattle.fuse_sim.specs.Running.{dies_before, IsRun, Begins, Gathers, StopsAt, Refuses, Stops}
+use Rattle.fuse_sim.proofs.Openings.{became_itself, deaths_first, deaths-append}
 
 -- ---- places
 
@@ -85,26 +85,28 @@ caused_by_store (ZeroUnique n) e is fit = absurd (cc is)
 caused_by_store (Store n fault) e is fit = fit
 caused_by_store (Memory n) e is fit = absurd (cc is)
 
-of_restart : {K : Type 0} (refuses : K → StoreFault → Type 0) (k : Option K) (fault : DriveFault) (events : List Event) (n : ℕ) (e : Event) → event_of fault ≡ n → slice_get events n ≡ Some e → dies e.fate ≡ true
-    → IsSomeAnd k (λ x. IsStoreFault (refuses x) fault) → OfRestart refuses events fault
-of_restart refuses None fault events n e place there died refused = absurd refused
-of_restart refuses (Some k) fault events n e place there died refused = record {
+refused_at : {K : Type 0} (became : K → K → ℕ → Type 0) (refuses : K → StoreFault → Type 0) (k q : Option K) (fault : DriveFault) (events : List Event) (at n : ℕ) (e : Event)
+    → event_of fault ≡ n → slice_get events n ≡ Some e → dies e.fate ≡ true → became_in became k q 0 → deaths (take n events) ≡ deaths (take at events)
+    → IsSomeAnd q (λ x. IsStoreFault (refuses x) fault) → Refuses became refuses k events at fault
+refused_at became refuses k q fault events at n e place there died same calm refused = record {
   died = subst (λ o. IsSomeAnd o (λ (x : Event). dies x.fate ≡ true)) (sym (ap (slice_get events) place ∙ there)) died;
-  keeper = k;
+  keeper = q;
+  same = same;
+  calm = ap (λ m. deaths (take m events)) place ∙ calm;
   refused = refused;
 }
 
 -- a restart left no keeper: it was after the last of some events
 pub stops_restart : (M : Model) → {K : Type 0} (told : K → KeeperState M) (became : K → K → ℕ → Type 0) (refuses : K → StoreFault → Type 0) (k q k' : Option K) (events : List Event) (at n : ℕ) (fault : DriveFault) (e : Event)
     → k' ≡ None → IsSomeAnd q (λ x. IsStoreFault (refuses x) fault) → is_store fault ≡ true → event_of fault ≡ n → slice_get events n ≡ Some e → IsFit e → dies e.fate ≡ true → (All IsFit (take at events) → All IsFit (take n events))
-    → Stops told became refuses k k' events at fault
-stops_restart M told became refuses k q k' events at n fault e none refused kind place there fit died earlier = record {
+    → became_in became k q 0 → deaths (take n events) ≡ deaths (take at events) → Stops told became refuses k k' events at fault
+stops_restart M told became refuses k q k' events at n fault e none refused kind place there fit died earlier same calm = record {
   named = subst (λ m. IsSomeAnd (slice_get events m) (CausedBy fault)) (sym place) (subst (λ o. IsSomeAnd o (CausedBy fault)) (sym there) (caused_by_store fault e kind fit));
   earlier = λ each. subst (λ m. All IsFit (take m events)) (sym place) (earlier each);
   left = subst (λ b. LeftBy (told_in told k') b ((event_of fault ≡ at) × KeepsHeld (told_in told k) (told_in told k'))) (sym kind) (λ is. absurd (subst (λ o. (told_in told o).is_clean) none is));
   answered = λ _ is. absurd (subst (λ o. (told_in told o).is_clean) none is);
   stayed = λ there. absurd (there none);
-  emptied = λ _. of_restart refuses q fault events n e place there died refused;
+  emptied = λ _. refused_at became refuses k q fault events at n e place there died same calm refused;
   has_failed = subst (λ o. IfSome o (λ x. (told x).has_failed ≡ is_store fault)) (sym none) tt;
   was_honest = λ is. absurd (subst (λ o. (told_in told o).is_honest) none is);
 }
@@ -116,15 +118,22 @@ pub record LastDies (run : List Event) : Type 0 where
   pub one : Event
   pub parts : run ≡ earlier ++ one ∷ []
   pub died : dies one.fate ≡ true
+  pub calm : deaths earlier ≡ 0
 
-last_more : (e : Event) (run : List Event) → LastDies run → LastDies (e ∷ run)
-last_more e run last = record { earlier = e ∷ last.earlier; one = last.one; parts = ap (λ (x : List Event). e ∷ x) last.parts; died = last.died }
+last_more : (e : Event) (run : List Event) → Calm e → LastDies run → LastDies (e ∷ run)
+last_more e run calm last = record {
+  earlier = e ∷ last.earlier;
+  one = last.one;
+  parts = ap (λ (x : List Event). e ∷ x) last.parts;
+  died = last.died;
+  calm = deaths_first e last.earlier false calm ∙ last.calm;
+}
 
 last_dies : (died : Bool) (run : List Event) → died ≡ true → IsRun died run → LastDies run
 last_dies died [] is so = absurd (cc (is, so))
 last_dies died (e ∷ run) is so = elim so [
-  | inl more ↦ last_more e run (last_dies died run is more.1)
-  | inr last ↦ record { earlier = []; one = e; parts = ap (λ (x : List Event). e ∷ x) last.2; died = ap dies last.1 }
+  | inl more ↦ last_more e run more.0 (last_dies died run is more.1)
+  | inr last ↦ record { earlier = []; one = e; parts = ap (λ (x : List Event). e ∷ x) last.2; died = ap dies last.1; calm = refl }
 ]
 
 pub record DiesAt (events : List Event) (at n : ℕ) : Type 0 where
@@ -132,20 +141,24 @@ pub record DiesAt (events : List Event) (at n : ℕ) : Type 0 where
   pub there : slice_get events n ≡ Some one
   pub fit : IsFit one
   pub died : dies one.fate ≡ true
+  pub calm : deaths (take n events) ≡ deaths (take at events)
   pub earlier : All IsFit (take at events) → All IsFit (take n events)
 
-dies_in : (events front earlier others : List Event) (e : Event) (at n : ℕ) → events ≡ front ++ ((earlier ++ e ∷ []) ++ others) → take at events ≡ front → n ≡ length front + length earlier → All IsFit (earlier ++ e ∷ []) → dies e.fate ≡ true → DiesAt events at n
-dies_in events front earlier others e at n parts first place fit died =
+dies_in : (events front earlier others : List Event) (e : Event) (at n : ℕ) → events ≡ front ++ ((earlier ++ e ∷ []) ++ others) → take at events ≡ front → n ≡ length front + length earlier → All IsFit (earlier ++ e ∷ []) → dies e.fate ≡ true
+    → deaths earlier ≡ 0 → DiesAt events at n
+dies_in events front earlier others e at n parts first place fit died calm =
     let pre = front ++ earlier in
     let whole : events ≡ pre ++ e ∷ others = parts ∙ ap (λ (x : List Event). front ++ x) (append_assoc earlier (e ∷ []) others) ∙ sym (append_assoc front earlier (e ∷ others)) in
     let len : n ≡ length pre = place ∙ sym (length-append front earlier) in
+    let up_to : take n events ≡ pre = ap (λ x. take n x) whole ∙ ap (λ m. take m (pre ++ e ∷ others)) len ∙ take-append_seam pre (e ∷ others) in
     let popped = All-pop IsFit (earlier ++ e ∷ []) earlier (Some e) refl fit in
     record {
       one = e;
       there = ap (λ x. slice_get x n) whole ∙ ap (slice_get (pre ++ e ∷ others)) len ∙ get_middle pre others e;
       fit = popped.1;
       died = died;
-      earlier = λ each. subst (All IsFit) (sym (ap (λ x. take n x) whole ∙ ap (λ m. take m (pre ++ e ∷ others)) len ∙ take-append_seam pre (e ∷ others)))
+      calm = omega (arith, ap deaths up_to, ap deaths first, deaths-append front earlier, calm);
+      earlier = λ each. subst (All IsFit) (sym up_to)
           (All-append IsFit front earlier (subst (All IsFit) first each) popped.0);
     }
 
@@ -159,7 +172,7 @@ dies_at events at count died within so fit is =
     let before_it : length (take at events) ≡ at = length-take-le at events (omega (arith, within)) in
     let in_it : length run ≡ count = length-take-le count (drop at events) (omega (arith, within, length-drop at events)) in
     dies_in events (take at events) last.earlier (drop count (drop at events)) last.one at (at + count - 1) parts refl
-    (omega (arith, before_it, in_it, ap length last.parts, length-append last.earlier (last.one ∷ []))) (subst (All IsFit) last.parts fit) last.died
+    (omega (arith, before_it, in_it, ap length last.parts, length-append last.earlier (last.one ∷ []))) (subst (All IsFit) last.parts fit) last.died last.calm
 
 -- ---- slices
 

@@ -12,7 +12,7 @@ use Rattle.fuse_keeper.specs.declared.fault.StoreFault.{StoreFault}
 use Rattle.fuse_keeper.specs.History.{Entry, History, grown, said}
 use Rattle.fuse_keeper.specs.Model.{Model}
 use Rattle.fuse_keeper.specs.Lots.{no_lots}
-use Rattle.fuse_keeper.specs.KeeperState.{KeeperState, StandsFor}
+use Rattle.fuse_keeper.specs.KeeperState.{KeeperState, StandsFor, KeepsHeld}
 use Rattle.fuse_session.specs.Worked.{unique_of, message_id, message_entry, entry_if}
 use Rattle.fuse_session.specs.Settling.{settles_if, MayCome}
 use Rattle.fuse_sim.specs.declared.event.Fate.{Fate}
@@ -125,13 +125,16 @@ became_in became None new n = ⊥
 became_in became (Some a) None n = ⊥
 became_in became (Some a) (Some b) n = became a b n
 
--- the server died at one of the events: what was left then stood for all events up to this one, and it was opened again, once
-pub record OpenedAt {M : Model} {K : Type 0} (told : K → KeeperState M) (became : K → K → ℕ → Type 0) (old new : Option K) (earlier : List Event) (one : Event) (later : List Event) : Type 0 where
+-- the server died at one of the events: what was left then stood for all events up to this one, and it was opened again, once,
+-- before anything else was done
+pub record OpenedAt {M : Model} {K : Type 0} (told : K → KeeperState M) (became : K → K → ℕ → Type 0)
+    (old new : Option K) (earlier : List Event) (one : Event) (later : List Event) : Type 0 where
   pub left : Option K
   pub opened : Option K
   pub before : became_in became old left (deaths earlier)
   pub once : became_in became left opened 1
   pub after : became_in became opened new (deaths later)
+  pub kept : (told_in told new).is_honest → KeepsHeld (told_in told left) (told_in told opened)
   pub stood : (told_in told new).is_honest → (s : M.State) (h : History) (t : List ℕ) → StandsIn told old s h t → NoneReused t (earlier ++ one ∷ [])
       → StandsIn told left s (committed h (earlier ++ one ∷ [])) (settled_by t (earlier ++ one ∷ []))
 
@@ -185,17 +188,20 @@ IsStoreFault may (Store n fault) = may fault
 IsStoreFault may (Memory n) = ⊥
 
 -- it is one that the keeper may answer which was in place after these events
-pub record AnsweredBy {M : Model} {K : Type 0} (told : K → KeeperState M) (became : K → K → ℕ → Type 0) (old new : Option K) (events : List Event) (fault : DriveFault) : Type 0 where
+pub record AnsweredBy {M : Model} {K : Type 0} (told : K → KeeperState M) (became : K → K → ℕ → Type 0)
+    (old new : Option K) (events : List Event) (fault : DriveFault) : Type 0 where
   pub keeper : Option K
   pub before : became_in became old keeper (deaths events)
   pub after : became_in became keeper new 0
   pub may : IsStoreFault (told_in told keeper).may_answer fault
 
--- the server died at the event that is named, and a keeper refused with this fault to be opened again
-pub record OfRestart {K : Type 0} (may_refuse : K → StoreFault → Type 0) (events : List Event) (fault : DriveFault) : Type 0 where
+-- the server died at the event that is named, and the keeper that was in place refused with this fault to be opened again
+pub record OfRestart {K : Type 0} (became : K → K → ℕ → Type 0) (may_refuse : K → StoreFault → Type 0)
+    (old : Option K) (events : List Event) (fault : DriveFault) : Type 0 where
   pub died : IsSomeAnd (slice_get events (event_of fault)) (λ e. dies e.fate ≡ true)
-  pub keeper : K
-  pub refused : IsStoreFault (may_refuse keeper) fault
+  pub keeper : Option K
+  pub often : became_in became old keeper (deaths (before fault events))
+  pub refused : IsSomeAnd keeper (λ k. IsStoreFault (may_refuse k) fault)
 
 -- a keeper that is left stands for the events before the fault: where the store answered it, if the store is clean,
 -- and else if it gave back what was written

@@ -3,4 +3,5 @@ pub mod LeftRecords
 pub mod HandedOn
 pub mod Running
 pub mod Pending
+pub mod KeptMessages
 pub mod Lives

@@ -1,16 +1,14 @@
 -- What is pending on the kernel's side: the requests that were sent and whose answers weren't taken, in order (own
 -- profile).
-use Rattle.std.specs.Prelude.{◌≡◌, ◌≢◌, ◌+◌, ◌==◌, ℕ, suc, Bool, true, false, not, if◌then◌else◌, List, [], ◌∷◌, ◌++◌, length, map, drop, All, Vec, take, Option, Some, None, Result, Ok, Err}
+use Rattle.std.specs.Prelude.{◌≡◌, ◌≢◌, ◌+◌, ◌==◌, ℕ, suc, Bool, false, not, if◌then◌else◌, List, [], ◌∷◌, map, drop, Vec, Option, Some, None, Result, Ok, Err}
 use Rattle.std.specs.Global.{Global}
 use Rattle.std.specs.List.{filter}
-use Rattle.fuse_wire.specs.Bytes.{le, number_of}
+use Rattle.fuse_wire.specs.Bytes.{number_of}
 use Rattle.fuse_wire.specs.Ids.{id_of}
 use Rattle.fuse_wire.specs.Opcodes.{silent}
 use Rattle.fuse_wire.specs.declared.id.TheConstants.{UNIQUE_RESEND}
 use Rattle.fuse_request.specs.Act.{Asked, opcode_of}
-use Rattle.fuse_request.specs.Canon.{canon}
 use Rattle.fuse_request.specs.Places.{asked_at}
-use Rattle.fuse_request.specs.Spelling.{Spells}
 use Rattle.fuse_answer.specs.Replies.{Told, Answers, FirstFault}
 use Rattle.fuse_keeper.specs.History.{is_in}
 use Rattle.fuse_sim.specs.declared.kernel.TakeFault.{TakeFault}
@@ -67,35 +65,9 @@ TakenOf (Some r) old new answer (Ok _) = ((told : Told) × Answers (opcode_of r.
 TakenOf (Some r) old new answer (Err Unknown) = ⊥
 TakenOf (Some r) old new answer (Err (Bad fault)) = FirstFault (opcode_of r.act) answer fault × ((told : Told) → Answers (opcode_of r.act) told answer → ⊥)
 
--- ---- how the kernel keeps them
-
--- a message that spells a request which is answered, with zeros where a field isn't used
-pub record IsOwed (m : List ℕ) : Type 0 where
-  pub spells : Spells (asked_at m) m
-  pub canon_is : m ≡ canon (asked_at m)
-  pub loud : is_silent (asked_at m) ≡ false
-
--- the bytes of a message with bit 63 of its unique set
-abbrev pub marked : List ℕ → List ℕ
-marked m = take 8 m ++ (le 8 (id_of (number_of 8 (drop 8 m)) + UNIQUE_RESEND) ++ drop 16 m)
-
--- no number stands twice
-abbrev pub NoneTwice : List ℕ → Type 0
-NoneTwice [] = Unit {0}
-NoneTwice (x ∷ xs) = (is_in xs x ≡ false) × NoneTwice xs
-
+-- the messages that are kept, and the requests that they are
 abbrev pub messages_in : List (Vec ℕ Global) → List (List ℕ)
 messages_in pending = map (λ m. m.items) pending
 
 abbrev pub requests_in : List (Vec ℕ Global) → List Asked
 requests_in pending = map asked_at (messages_in pending)
-
-pub record ArePending (pending : List (Vec ℕ Global)) : Type 0 where
-  pub each : All IsOwed (messages_in pending)
-  pub once : NoneTwice (request_ids (requests_in pending))
-
--- the first pending request of this unique stands at a place
-abbrev pub StandsFirst : ℕ → List Asked → Option ℕ → Type 0
-StandsFirst unique rs None = owner unique rs ≡ None
-StandsFirst unique rs (Some place) =
-    (before : List Asked) × (one : Asked) × (after : List Asked) × (rs ≡ before ++ one ∷ after) × (length before ≡ place) × (owner unique before ≡ None) × (has_unique unique one ≡ true)

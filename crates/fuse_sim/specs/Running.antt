@@ -1,5 +1,6 @@
 -- Events as they are run, group after group.
-use Rattle.std.specs.Prelude.{◌≡◌, ◌≤◌, ◌<◌, ◌⊎◌, ℕ, Bool, true, false, if◌then◌else◌, List, [], ◌∷◌, ◌++◌, length, map, take, All, Option, Some, None, slice_get, IfSome, IsSomeAnd}
+use Rattle.std.specs.Prelude.{◌≡◌, ◌≤◌, ◌<◌, ◌⊎◌, ℕ, Bool, true, false, if◌then◌else◌, List, [], ◌∷◌, ◌++◌, length, map, take, All, Option, Some, None}
+use Rattle.std.specs.Prelude.{slice_get, IfSome, IsSomeAnd}
 use Rattle.std.specs.List.{flat_map}
 use Rattle.fuse_wire.specs.declared.moment.Moment.{Moment}
 use Rattle.fuse_answer.specs.Said.{Said}
@@ -23,7 +24,8 @@ use Rattle.fuse_sim.specs.declared.event.Fate.TheVariants.{Answered, AnswerLost,
 use Rattle.fuse_sim.specs.declared.event.Event.{Event}
 use Rattle.fuse_sim.specs.declared.event.Outcome.{Outcome}
 use Rattle.fuse_sim.specs.declared.event.DriveFault.{DriveFault}
-use Rattle.fuse_sim.specs.Driving.{commits_in, committed, settles, outcome_of, bytes_given, is_taken, where_taken, dies, Calm, NoneReused, IsFit, settled_by, told_in, StandsIn, became_in, event_of, before, CausedBy, IsStoreFault, OfRestart, is_store, LeftBy}
+use Rattle.fuse_sim.specs.Driving.{commits_in, committed, settles, outcome_of, bytes_given, is_taken, where_taken, dies, deaths, Calm, NoneReused, IsFit, settled_by}
+use Rattle.fuse_sim.specs.Driving.{told_in, StandsIn, became_in, event_of, before, CausedBy, IsStoreFault, is_store, LeftBy}
 use Rattle.fuse_sim.specs.HandedOn.{Ledger, ledger_after, handed_on}
 use Rattle.fuse_sim.specs.LeftRecords.{HoldsRecords}
 
@@ -76,7 +78,8 @@ pub record Gathers (run : List Event) (classes : List Class) (taken : List (Requ
 
 -- one more event joined it
 abbrev pub Joins : Event → List Class → List (Request × Moment) → Bool → List Class → List (Request × Moment) → Bool → Type 0
-Joins e classes taken died classes' taken' died' = (died ≡ false) × ((run : List Event) → Gathers run classes taken false → Gathers (run ++ e ∷ []) classes' taken' died')
+Joins e classes taken died classes' taken' died' = (died ≡ false)
+    × ((run : List Event) → Gathers run classes taken false → Gathers (run ++ e ∷ []) classes' taken' died')
 
 -- a group without a kept message isn't performed: nothing is handed on, and all stays pending
 abbrev pub handed_to : List Entry → List ℕ → List ℕ
@@ -125,9 +128,11 @@ pub record Worked {M : Model} (k k' : KeeperState M) (run : List Event) (pending
   pub added : List (Option Outcome)
   pub items : new ≡ old ++ added
   pub count : length added ≡ length run
-  pub stands : k'.is_honest → (s : M.State) (h : History) (t : List ℕ) → StandsFor k s h t → All (IsUnsettled (t ++ handed_to (commits_in run) pending)) (commits_in run)
+  pub stands : k'.is_honest → (s : M.State) (h : History) (t : List ℕ) → StandsFor k s h t
+      → All (IsUnsettled (t ++ handed_to (commits_in run) pending)) (commits_in run)
       → StandsFor k' s (committed h run) (t ++ handed_to (commits_in run) pending)
-  pub outcomes : k'.is_honest → (s : M.State) (h : History) (t : List ℕ) → StandsFor k s h t → All (IsUnsettled (t ++ handed_to (commits_in run) pending)) (commits_in run)
+  pub outcomes : k'.is_honest → (s : M.State) (h : History) (t : List ℕ) → StandsFor k s h t
+      → All (IsUnsettled (t ++ handed_to (commits_in run) pending)) (commits_in run)
       → map bytes_given added ≡ map (outcome_of M s (committed h run)) run
   pub records : KeepsOthers k k' (handed_to (commits_in run) pending) (commits_in run)
   pub handed : pending' ≡ left_pending (commits_in run) pending ++ settles_in run
@@ -165,7 +170,8 @@ DiesLast died [] = died ≡ false
 DiesLast died (e ∷ es) = (Calm e × DiesLast died es) ⊎ ((died ≡ true) × (dies e.fate ≡ true) × (es ≡ []))
 
 -- events were run, and where the server died at the last of them, what stood for all of them was opened again, once
-pub record Opens {M : Model} {K : Type 0} (told : K → KeeperState M) (became : K → K → ℕ → Type 0) (old new : Option K) (pending : List ℕ) (run : List Event) : Type 0 where
+pub record Opens {M : Model} {K : Type 0} (told : K → KeeperState M) (became : K → K → ℕ → Type 0)
+    (old new : Option K) (pending : List ℕ) (run : List Event) : Type 0 where
   pub died : Bool
   pub last : DiesLast died run
   pub left : Option K
@@ -173,16 +179,28 @@ pub record Opens {M : Model} {K : Type 0} (told : K → KeeperState M) (became :
   pub after : became_in became left new (if died then 1 else 0)
   pub honest : (told_in told new).is_honest → (told_in told left).is_honest
   pub was_honest : (told_in told left).is_honest → (told_in told old).is_honest
+  pub kept : (told_in told new).is_honest → KeepsHeld (told_in told left) (told_in told new)
   pub stood : (told_in told left).is_honest → (s : M.State) (h : History) (t : List ℕ) → StandsIn told old s h t → Includes t pending → NoneReused t run
       → StandsIn told left s (committed h run) (settled_by t run)
 
+-- the server died at the event that is named, and what these events had left by then refused to be opened again
+pub record Refuses {K : Type 0} (became : K → K → ℕ → Type 0) (refuses : K → StoreFault → Type 0)
+    (old : Option K) (events : List Event) (at : ℕ) (fault : DriveFault) : Type 0 where
+  pub died : IsSomeAnd (slice_get events (event_of fault)) (λ e. dies e.fate ≡ true)
+  pub keeper : Option K
+  pub same : became_in became old keeper 0
+  pub calm : deaths (before fault events) ≡ deaths (take at events)
+  pub refused : IsSomeAnd keeper (λ k. IsStoreFault (refuses k) fault)
+
 -- a fault came at the events that begin at a place: what it names, and the keeper that it leaves
-pub record Stops {M : Model} {K : Type 0} (told : K → KeeperState M) (became : K → K → ℕ → Type 0) (refuses : K → StoreFault → Type 0) (old new : Option K) (events : List Event) (at : ℕ) (fault : DriveFault) : Type 0 where
+pub record Stops {M : Model} {K : Type 0} (told : K → KeeperState M) (became : K → K → ℕ → Type 0) (refuses : K → StoreFault → Type 0)
+    (old new : Option K) (events : List Event) (at : ℕ) (fault : DriveFault) : Type 0 where
   pub named : IsSomeAnd (slice_get events (event_of fault)) (CausedBy fault)
   pub earlier : All IsFit (take at events) → All IsFit (before fault events)
   pub left : LeftBy (told_in told new) (is_store fault) ((event_of fault ≡ at) × KeepsHeld (told_in told old) (told_in told new))
-  pub answered : is_store fault ≡ true → (told_in told new).is_clean → (s : M.State) (h : History) (t : List ℕ) → StandsIn told old s h t → IsStoreFault (told_in told old).may_answer fault
+  pub answered : is_store fault ≡ true → (told_in told new).is_clean → (s : M.State) (h : History) (t : List ℕ) → StandsIn told old s h t
+      → IsStoreFault (told_in told old).may_answer fault
   pub stayed : (new ≡ None → ⊥) → (event_of fault ≡ at) × became_in became old new 0
-  pub emptied : new ≡ None → OfRestart refuses events fault
+  pub emptied : new ≡ None → Refuses became refuses old events at fault
   pub has_failed : IfSome new (λ k. (told k).has_failed ≡ is_store fault)
   pub was_honest : (told_in told new).is_honest → (told_in told old).is_honest

@@ -111,7 +111,14 @@ fn work_group<K: Restart>(
 {
     let inner = keeper.as_mut().unwrap();
     let dones = perform_group(alloc, inner, group.taken.as_slice(), pending)?;
-    answer_group(alloc, run, group.classes.as_slice(), dones, pending, outcomes);
+    answer_group(
+        alloc,
+        run,
+        group.classes.as_slice(),
+        dones,
+        pending,
+        outcomes,
+    );
     Ok(())
 }
 
@@ -174,8 +181,8 @@ fn run_next<K: Restart>(
     ensures ok { IfOk result (λ n. (l : Ledger)
         → l.pending ≡ ids_of pending.old.items → MayBegin l (drop at events.now)
         → Moved (told_in K.told keeper.old) (told_in K.told keeper.new) l
-            (take n (drop at events.now)) (drop (at + n) events.now)
-            (ids_of pending.new.items) outcomes.old.items outcomes.new.items) }
+        (take n (drop at events.now)) (drop (at + n) events.now)
+        (ids_of pending.new.items) outcomes.old.items outcomes.new.items) }
     ensures opens { IfOk result (λ n. Opens K.told K.became keeper.old keeper.new
         (ids_of pending.old.items) (take n (drop at events.now))) }
     ensures few { OnOk result (length pending.new.items ≤ max_settled) }
@@ -200,9 +207,9 @@ fn run_next<K: Restart>(
 /// Runs events over a keeper, in groups, and answers what the kernel takes for each of them.
 ///
 /// A group is a run of events with up to 16 kept messages, of which the last may be one after which
-/// the server dies. Room for its outcomes is made before it is performed. The keeper is opened again
-/// wherever the server dies. A fault leaves the keeper as the events before the one that it names
-/// left it; the fault of an opening leaves none.
+/// the server dies. Room for its outcomes is made before it is performed. The keeper is opened
+/// again wherever the server dies. A fault leaves the keeper as the events before the one that it
+/// names left it; the fault of an opening leaves none.
 pub fn drive<K: Restart>(
     alloc: Global,
     keeper: &mut Option<K>,
@@ -216,14 +223,14 @@ pub fn drive<K: Restart>(
         → (start : K.model.State) (h : History) (settled : List ℕ)
         → StandsIn K.told keeper.old start h settled → NoneReused settled events.now
         → StandsIn K.told keeper.new start (committed h events.now)
-            (settled_by settled events.now)) }
+        (settled_by settled events.now)) }
 
     // Each answer, that to a resend too, is what was said there of its id.
     ensures outcomes { IfOk result (λ outcomes. (told_in K.told keeper.new).is_honest
         → (start : K.model.State) (h : History) (settled : List ℕ)
         → StandsIn K.told keeper.old start h settled → NoneReused settled events.now
         → map bytes_given outcomes.items
-            ≡ map (outcome_of K.model start (committed h events.now)) events.now) }
+        ≡ map (outcome_of K.model start (committed h events.now)) events.now) }
     ensures count { IfOk result (λ outcomes. length outcomes.items ≡ length events.now) }
 
     // The keeper is opened again once for each event at which the server dies, after its commit.
@@ -238,8 +245,8 @@ pub fn drive<K: Restart>(
         (start : K.model.State) (h : History) (settled : List ℕ)
         → StandsIn K.told keeper.old start h settled → NoneReused settled (before fault events.now)
         → LeftBy (told_in K.told keeper.new) (is_store fault)
-            (StandsIn K.told keeper.new start (committed h (before fault events.now))
-                (settled_by settled (before fault events.now)))) }
+        (StandsIn K.told keeper.new start (committed h (before fault events.now))
+        (settled_by settled (before fault events.now)))) }
     // was opened again once for each of these at which the server died,
     ensures opened_before { IfErr result (λ fault. ¬ (keeper.new ≡ None)
         → Opened K.told K.became keeper.old keeper.new (before fault events.now)) }
@@ -249,9 +256,9 @@ pub fn drive<K: Restart>(
         → (start : K.model.State) (h : History) (settled : List ℕ)
         → StandsIn K.told keeper.old start h settled → NoneReused settled (before fault events.now)
         → AnsweredBy K.told K.became keeper.old keeper.new (before fault events.now) fault) }
-    // No keeper is left only where one refused to be opened again, with this fault.
+    // No keeper is left only where the one in place refused with this fault to be opened again.
     ensures emptied { IfErr result (λ fault. keeper.new ≡ None
-        → OfRestart K.may_refuse events.now fault) }
+        → OfRestart K.became K.may_refuse keeper.old events.now fault) }
 
     // A keeper that is left has failed exactly where the store answered the fault.
     ensures going { OnOk result (IsSomeAnd keeper.new (λ k. (K.told k).has_failed ≡ false)) }
@@ -266,7 +273,7 @@ pub fn drive<K: Restart>(
     // server dies before.
     ensures records { OnOk result (NoneReused [] events.now
         → Tells (told_in K.told keeper.old) (told_in K.told keeper.new) (λ rows records.
-            HoldsRecords (told_in K.told keeper.new) (RecordsLeft events.now records))) }
+        HoldsRecords (told_in K.told keeper.new) (RecordsLeft events.now records))) }
     ensures kept { OnOk result ((told_in K.told keeper.new).is_honest
         → (start : K.model.State) (h : History) (settled : List ℕ)
         → StandsIn K.told keeper.old start h settled → NoneReused settled events.now
@@ -297,13 +304,13 @@ pub fn drive_twice<K: Restart>(
         → (start : K.model.State) (h : History) (settled : List ℕ)
         → StandsIn K.told keeper.old start h settled → NoneReused settled (events.now ++ more.now)
         → StandsIn K.told keeper.new start (committed h (events.now ++ more.now))
-            (settled_by settled (events.now ++ more.now))) }
+        (settled_by settled (events.now ++ more.now))) }
     ensures outcomes { IfOk result (λ both. (told_in K.told keeper.new).is_honest
         → (start : K.model.State) (h : History) (settled : List ℕ)
         → StandsIn K.told keeper.old start h settled → NoneReused settled (events.now ++ more.now)
         → map bytes_given (both.0.items ++ both.1.items) ≡ map
-            (outcome_of K.model start (committed h (events.now ++ more.now)))
-            (events.now ++ more.now)) }
+        (outcome_of K.model start (committed h (events.now ++ more.now)))
+        (events.now ++ more.now)) }
     ensures opened { OnOk result
         (Opened K.told K.became keeper.old keeper.new (events.now ++ more.now)) }
 {

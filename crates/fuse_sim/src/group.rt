@@ -22,8 +22,9 @@ ghost use Rattle.fuse_sim.specs.Running.{answers_in, head_outcome, outcomes_by, 
 use crate::event::{DriveFault, Event, Fate, Outcome};
 use fuse_answer::{Answer, head_of};
 use fuse_keeper::{Done, Keeper, MAX_GROUP, StoreFault};
-use fuse_request::{Class, MAX_MESSAGE, Request};
-use fuse_request::{classify, decode, has_zero_unique, header_of, one_cut, unique_of};
+use fuse_request::{
+    Class, MAX_MESSAGE, Request, classify, decode, has_zero_unique, header_of, one_cut, unique_of,
+};
 use fuse_wire::{Id, Moment};
 use std::alloc::{AllocError, Global};
 use std::vec::IntoIter;
@@ -176,10 +177,10 @@ pub(crate) fn perform_group<K: Keeper>(
     ensures ok { IfOk result (λ dones. (K.told keeper.new).is_honest
         → (s : K.model.State) (h : History) (t : List ℕ) → StandsFor (K.told keeper.old) s h t
         → All (IsUnsettled (t ++ handed_to (entries_of group.now) (ids_of pending.old.items)))
-            (entries_of group.now)
+        (entries_of group.now)
         → Performed (K.told keeper.new) s h
-            (t ++ handed_to (entries_of group.now) (ids_of pending.old.items))
-            (entries_of group.now) dones.items) }
+        (t ++ handed_to (entries_of group.now) (ids_of pending.old.items))
+        (entries_of group.now) dones.items) }
     ensures others { OnOk result (KeepsOthers (K.told keeper.old) (K.told keeper.new)
         (handed_to (entries_of group.now) (ids_of pending.old.items)) (entries_of group.now)) }
     ensures pending { OnOk result (ids_of pending.new.items

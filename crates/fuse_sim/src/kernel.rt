@@ -1,5 +1,7 @@
 // The kernel's side: requests that are pending, sent again, and taken.
-ghost use Rattle.std.specs.Prelude.{◌≡◌, ◌≤◌, ◌<◌, ◌∷◌, ◌++◌, true, [], drop, if◌then◌else◌, ℕ, length, map, option_map, slice_get, All, Option, IfOk, OnOk, OnErr};
+ghost use Rattle.std.specs.Prelude.{◌≡◌, ◌≤◌, ◌<◌, ◌∷◌, ◌++◌, true, [], if◌then◌else◌, ℕ};
+ghost use Rattle.std.specs.Prelude.{length, map, drop, option_map, slice_get, All, Option};
+ghost use Rattle.std.specs.Prelude.{IfOk, OnOk, OnErr};
 ghost use Rattle.fuse_wire.specs.Bytes.{number_of};
 ghost use Rattle.fuse_wire.specs.Opcodes.{silent};
 ghost use Rattle.fuse_request.specs.Act.{asked};
@@ -8,7 +10,9 @@ ghost use Rattle.fuse_request.specs.declared.header.TheConstants.{MAX_MESSAGE as
 ghost use Rattle.fuse_answer.specs.declared.records.TheConstants.OutHeader.{SIZE as header_size};
 ghost use Rattle.fuse_request.specs.Places.{asked_at};
 ghost use Rattle.fuse_keeper.specs.History.{is_in};
-ghost use Rattle.fuse_sim.specs.Pending.{MayBeSent, owed, again, all_again, borne, owner, TakenOf, request_ids, IsOwed, StandsFirst, marked, messages_in, requests_in};
+ghost use Rattle.fuse_sim.specs.Pending.{MayBeSent, owed, again, all_again, borne, owner, TakenOf};
+ghost use Rattle.fuse_sim.specs.Pending.{request_ids, messages_in, requests_in};
+ghost use Rattle.fuse_sim.specs.KeptMessages.{IsOwed, StandsFirst, marked};
 
 use byteorder::{ByteOrder, LittleEndian};
 use fuse_answer::{BadAnswer, OutHeader, read_answer};
@@ -27,8 +31,9 @@ pub enum TakeFault {
     BadAnswer(BadAnswer),
 }
 
-/// The kernel's side of a mount: it sends requests, and keeps each one that is answered until its answer is taken.
-/// Contracts see the requests that are pending, in the order in which they were first sent.
+/// The kernel's side of a mount: it sends requests, and keeps each one that is answered until its
+/// answer is taken. Contracts see the requests that are pending, in the order in which they were
+/// first sent.
 #[derive(Drop)]
 pub struct Kernel {
     alloc: Global,
@@ -41,7 +46,8 @@ impl Model for Kernel {
 
     ghost Value = { List Asked };
 
-    ghost use Rattle.fuse_sim.specs.Pending.{requests_in, ArePending};
+    ghost use Rattle.fuse_sim.specs.Pending.{requests_in};
+    ghost use Rattle.fuse_sim.specs.KeptMessages.{ArePending};
 
     ghost view = { λ k. requests_in k.pending.items };
 
@@ -51,7 +57,8 @@ impl Model for Kernel {
 // Keeps a message pending, unless it is silent.
 fn keep(alloc: Global, pending: &mut Vec<Vec<u8>>, message: &[u8]) -> Result<(), Memory>
     requires { 8 ≤ length message.now }
-    ensures ok { OnOk result (messages_in pending.new.items ≡ messages_in pending.old.items ++ (if silent (number_of 4 (drop 4 message.now)) then [] else message.now ∷ [])) }
+    ensures ok { OnOk result (messages_in pending.new.items ≡ messages_in pending.old.items
+        ++ (if silent (number_of 4 (drop 4 message.now)) then [] else message.now ∷ [])) }
     ensures err { OnErr result (pending.new.items ≡ pending.old.items) }
 {
     if is_silent(u32_at(message, 4)) {
@@ -91,7 +98,8 @@ fn copies_again(
     requires owed { All IsOwed (messages_in pending.now) }
     requires there { All (λ place. place < length pending.now) places.now }
     ensures { IfOk result (λ messages. map (λ m. Some m) (messages_in messages.items)
-        ≡ map (λ place. option_map (λ r. canon (again r)) (slice_get (requests_in pending.now) place)) places.now) }
+        ≡ map (λ place. option_map (λ r. canon (again r))
+        (slice_get (requests_in pending.now) place)) places.now) }
 {
     let mut messages = Vec::with_capacity(alloc, places.len())?;
     for place in places {
@@ -153,8 +161,8 @@ impl Kernel {
         }
     }
 
-    /// The message that sends a request. It is pending from then on, unless it is silent. An `Err` leaves the kernel as it
-    /// was.
+    /// The message that sends a request. It is pending from then on, unless it is silent. An `Err`
+    /// leaves the kernel as it was.
     pub fn send(&mut self, request: &Request<'_>) -> Result<Vec<u8>, Memory>
         requires sayable { sayable (asked request.now) ≡ true }
         requires short { len_of (asked request.now) ≤ max_message }
@@ -172,7 +180,8 @@ impl Kernel {
         Ok(message)
     }
 
-    /// Whether a pending request has this id, by which a caller tests the condition of `send`. Takes no memory.
+    /// Whether a pending request has this id, by which a caller tests the condition of `send`.
+    /// Takes no memory.
     pub fn awaits(&self, id: Id) -> bool
         ensures { result ≡ is_in (request_ids self.now) id.0 }
     {
@@ -186,12 +195,14 @@ impl Kernel {
         self.pending.as_slice()
     }
 
-    /// The messages that send the requests at these places of the pending ones again, in this order. They bear the bit of a
-    /// resend from then on, and an answer has to bear it too. An `Err` leaves the kernel as it was.
+    /// The messages that send the requests at these places of the pending ones again, in this
+    /// order. They bear the bit of a resend from then on, and an answer has to bear it too. An
+    /// `Err` leaves the kernel as it was.
     pub fn resend(&mut self, order: &[usize]) -> Result<Vec<Vec<u8>>, Memory>
         requires { All (λ place. place < length self.old) order.now }
         ensures messages { IfOk result (λ messages. map (λ m. Some m) (messages_in messages.items)
-            ≡ map (λ place. option_map (λ r. canon (again r)) (slice_get self.old place)) order.now) }
+            ≡ map (λ place. option_map (λ r. canon (again r)) (slice_get self.old place))
+            order.now) }
         ensures pending { OnOk result (self.new ≡ all_again order.now self.old) }
         ensures err { OnErr result (self.new ≡ self.old) }
     {
@@ -200,11 +211,14 @@ impl Kernel {
         Ok(messages)
     }
 
-    /// Takes an answer: the request of its unique is pending no more. An `Err` leaves the kernel as it was. Takes no memory.
+    /// Takes an answer: the request of its unique is pending no more. An `Err` leaves the kernel as
+    /// it was. Takes no memory.
     pub fn take(&mut self, answer: &[u8]) -> Result<(), TakeFault>
         // What is no header is refused first.
-        ensures short { length answer.now < header_size → result ≡ Err (TakeFault.BadAnswer BadAnswer.Short) }
-        ensures taken { header_size ≤ length answer.now → TakenOf (owner (borne answer.now) self.old) self.old self.new answer.now result }
+        ensures short { length answer.now < header_size
+            → result ≡ Err (TakeFault.BadAnswer BadAnswer.Short) }
+        ensures taken { header_size ≤ length answer.now → TakenOf
+            (owner (borne answer.now) self.old) self.old self.new answer.now result }
         ensures err { OnErr result (self.new ≡ self.old) }
     {
         spelled_at();

@@ -7,36 +7,45 @@ ghost use Rattle.fuse_session.specs.declared.ended.Ended.{Ended as EndedValue};
 ghost use Rattle.fuse_session.specs.Port.{PortState};
 ghost use Rattle.fuse_session.specs.Settling.{NoneComesAgain};
 ghost use Rattle.fuse_session.specs.Worked.{bytes_of, kept_in};
-ghost use Rattle.fuse_sim.specs.Lives.{Lifetime, AreLives, after_lives, all_worked, AllSend, RunOfServe, RanAsLife};
+ghost use Rattle.fuse_sim.specs.Lives.{Lifetime, AreLives, after_lives, all_worked, AllSend};
+ghost use Rattle.fuse_sim.specs.Lives.{RunOfServe, RanAsLife};
 
-use fuse_session::Clock;
 use fuse_keeper::{Keeper, histories_grow};
+use fuse_session::Clock;
 
-/// Over every list of lives of one mount, each beginning with the history that the one before left and the first with
-/// none.
+/// Over every list of lives of one mount, each beginning with the history that the one before left
+/// and the first with none.
 pub fn lives<K: Keeper>()
     // The last history is that of all messages that they worked off, in a row,
-    ensures in_a_row { (ls : List Lifetime) → after_lives [] ls ≡ grown [] (kept_in (all_worked ls)) }
+    ensures in_a_row { (ls : List Lifetime)
+        → after_lives [] ls ≡ grown [] (kept_in (all_worked ls)) }
     // in which no request stands twice,
     ensures once { (ls : List Lifetime) → Distinct (after_lives [] ls) }
     // and what each life sent is a front of what is to be sent by that history.
-    ensures send { (s : K.model.State) (ls : List Lifetime) → AreLives K.model s [] ls → AllSend K.model s (after_lives [] ls) ls }
+    ensures send { (s : K.model.State) (ls : List Lifetime)
+        → AreLives K.model s [] ls → AllSend K.model s (after_lives [] ls) ls }
 {
     histories_grow::<K>();
 }
 
-/// Each run of `serve` is such a life: `run` is what its clause `life` says, of a keeper that was `k` and is `k'`, at
-/// whatever end; its clock was `c` and is `c'`. Its premise is that no kept message comes again whose answer was settled before or by the run.
+/// Each run of `serve` is such a life: `run` is what its clause `life` says, of a keeper that was
+/// `k` and is `k'`, at whatever end; its clock was `c` and is `c'`. Its premise is that no kept
+/// message comes again whose answer was settled before or by the run.
 pub fn runs_are_lives<K: Keeper, C: Clock>()
-    // What the keeper is left with stands for the history that the life leaves, where its store is clean,
+    // What the keeper is left with stands for the history that the life leaves, where its store is
+    // clean,
     ensures ends { (k k' : K) (c c' : C) (old new : PortState) (ended : EndedValue)
         (run : RunOfServe (K.told k) (K.told k') (C.gave c c') old new ended)
-        (s : K.model.State) (h : History) (t : List ℕ) → StandsFor (K.told k) s h t → NoneComesAgain old.confirms t (bytes_of run.broken.timed) run.broken.marks
-        → (K.told k').is_clean → RanAsLife K.model (StandsFor (K.told k') s) (C.gave c c') s h t old new }
+        (s : K.model.State) (h : History) (t : List ℕ) → StandsFor (K.told k) s h t
+        → NoneComesAgain old.confirms t (bytes_of run.broken.timed) run.broken.marks
+        → (K.told k').is_clean
+        → RanAsLife K.model (StandsFor (K.told k') s) (C.gave c c') s h t old new }
     // and so does whatever a crash then leaves, where the keeper was firm.
     ensures crashes { (k k' : K) (c c' : C) (old new : PortState) (ended : EndedValue)
         (run : RunOfServe (K.told k) (K.told k') (C.gave c c') old new ended)
-        (s : K.model.State) (h : History) (t : List ℕ) → StandsFor (K.told k) s h t → NoneComesAgain old.confirms t (bytes_of run.broken.timed) run.broken.marks
+        (s : K.model.State) (h : History) (t : List ℕ) → StandsFor (K.told k) s h t
+        → NoneComesAgain old.confirms t (bytes_of run.broken.timed) run.broken.marks
         → (K.told k').is_honest → IsFirm (K.told k)
-        → Leaves (K.told k') (λ x r. RanAsLife K.model (Stands K.model x r s) (C.gave c c') s h t old new) }
+        → Leaves (K.told k') (λ x r.
+        RanAsLife K.model (Stands K.model x r s) (C.gave c c') s h t old new) }
 {}

@@ -4,7 +4,7 @@ use Rattle.std.proofs.lemmas.Result.{err_from_is_err_and}
 use Rattle.fuse_keeper.specs.Group.{ids_of}
 use Rattle.fuse_sim.specs.Driving.{told_in, Opened}
 use Rattle.fuse_sim.proofs.Openings.{opened_none}
-use Rattle.fuse_sim.proofs.Endings.{moved_none, moved_more, moved_opened, stopped_opened, moved_all, moved_stands, moved_left, moved_outcomes, moved_count, moved_records, stopped, stopped_store}
+use Rattle.fuse_sim.proofs.Endings.{moved_none, moved_more, moved_opened, stopped_opened, stopped_emptied, moved_all, moved_stands, moved_left, moved_outcomes, moved_count, moved_records, stopped, stopped_store}
 use Rattle.fuse_sim.proofs.driving.drive.Goals as goal
 
 pub loop-at-init : goal.loop-at-init
@@ -52,6 +52,13 @@ returns-in_err-at-clause-opened_before g c =
     let k = g.K.Keeper in
     let p = err_from_is_err_and c.from_residual.result c.from_residual.ensures.1 in
     rw (p.1, p.2) (stopped_opened g.K.Keeper.model k.told k.became g.K.Restart.may_refuse g.met.K.Keeper.counted c.args.keeper.now c.loop-at.keeper c.run_next.new.keeper c.args.events.now c.loop-at.at c.in_err-at.field-0.0
+    c.loop-at.invariant.opened c.in_err-at.ensures.err)
+
+pub returns-in_err-at-clause-emptied : goal.returns-in_err-at-clause-emptied
+returns-in_err-at-clause-emptied g c =
+    let k = g.K.Keeper in
+    let p = err_from_is_err_and c.from_residual.result c.from_residual.ensures.1 in
+    rw (p.1, p.2) (stopped_emptied g.K.Keeper.model k.told k.became g.K.Restart.may_refuse g.met.K.Keeper.counted c.args.keeper.now c.loop-at.keeper c.run_next.new.keeper c.args.events.now c.loop-at.at c.in_err-at.field-0.0
     c.loop-at.invariant.opened c.in_err-at.ensures.err)
 
 pub returns-in_err-at-clause-honest : goal.returns-in_err-at-clause-honest

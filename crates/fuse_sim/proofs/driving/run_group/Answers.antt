@@ -46,7 +46,7 @@ returns-in_err-end_group-clause-err g c =
     let last = dies_at events at count group.died (within_rest events at count c.requires.begins few) gathers.goes gathers.fit none.1 in
     let p = err_from_is_err_and c.from_residual.result c.from_residual.ensures.1 in
     rw (p.1, p.2) (stops_restart k.model k.told k.became g.K.Restart.may_refuse c.args.keeper.now c.work_group.new.keeper c.end_group.new.keeper events at (at + count - 1) c.in_err-end_group.field-0.0 last.one
-    none.0 c.in_err-end_group.ensures.refused fault.0 fault.1 last.there last.fit last.died last.earlier)
+    none.0 c.in_err-end_group.ensures.refused fault.0 fault.1 last.there last.fit last.died last.earlier c.work_group.ensures.same last.calm)
 
 pub returns-clause-ok : goal.returns-clause-ok
 returns-clause-ok g c =
@@ -78,7 +78,7 @@ returns-clause-opens g c =
     group_opens k.model k.told k.became c.args.keeper.now c.work_group.new.keeper c.end_group.new.keeper
     group.died (take count (drop at events)) (take (at + count - at) (drop at events)) group.classes.items group.taken.items
     (ids_of c.args.pending.now.items) (ids_of c.work_group.new.pending.items) c.args.outcomes.now.items c.work_group.new.outcomes.items
-    gathers (run_slice events at count) worked c.work_group.ensures.same c.in_ok-end_group.ensures.opened c.end_group.ensures.honest c.work_group.ensures.called.honest
+    gathers (run_slice events at count) worked c.work_group.ensures.same c.in_ok-end_group.ensures.opened c.in_ok-end_group.ensures.same c.end_group.ensures.honest c.work_group.ensures.called.honest
 
 pub returns-clause-few : goal.returns-clause-few
 returns-clause-few g c =

@@ -1,11 +1,11 @@
-use Rattle.std.proofs.Common.{◌+◌, ◌++◌, ◌∷◌, [], List, Option, None, sym, ap, subst, refl, ◌∙◌, take, drop, IsSomeAnd}
+use Rattle.std.proofs.Common.{◌≡◌, false, ◌+◌, ◌++◌, ◌∷◌, [], List, Option, None, sym, ap, subst, refl, ◌∙◌, take, drop, IsSomeAnd}
 use Rattle.std.proofs.lemmas.Option.{slice_get_read}
 use Rattle.std.proofs.lemmas.Result.{err_from_is_err_and, IfOk-weaker}
 use Rattle.fuse_keeper.specs.Group.{ids_of}
 use Rattle.fuse_sim.specs.declared.event.Outcome.{Outcome}
 use Rattle.fuse_sim.specs.Driving.{told_in, IsFit}
 use Rattle.fuse_sim.proofs.Moves.{begins_at, next_moved, lost_moved}
-use Rattle.fuse_sim.proofs.Openings.{lost_opens}
+use Rattle.fuse_sim.proofs.Openings.{became_itself, lost_opens}
 use Rattle.fuse_sim.proofs.Stopping.{stops_here, stops_restart, lost_dies}
 use Rattle.fuse_sim.proofs.driving.run_next.Goals as goal
 
@@ -35,7 +35,8 @@ returns-in_err-end_group-clause-err g c =
     let p = err_from_is_err_and c.from_residual-in_err-end_group.result c.from_residual-in_err-end_group.ensures.1 in
     rw (p.1, p.2) (stops_restart g.K.Keeper.model k.told k.became g.K.Restart.may_refuse c.args.keeper.now c.args.keeper.now c.end_group.new.keeper events at at c.in_err-end_group.field-0.0 e
     c.in_err-end_group.ensures.err.0 c.in_err-end_group.ensures.refused fault.0 fault.1 (slice_get_read events _ at e refl c.requires.at c.index-events-at.is) c.in_ok-test_event.ensures.fit
-    (lost_dies e.fate (sym c.is_before_commit.ensures ∙ c.if-not-is_before_commit.false)) (λ each. each))
+    (lost_dies e.fate (sym c.is_before_commit.ensures ∙ c.if-not-is_before_commit.false)) (λ each. each)
+    (became_itself k.became g.met.K.Keeper.counted (λ x. (k.told x).has_failed ≡ false) c.args.keeper.now c.requires.going) refl)
 
 pub returns-clause-ok : goal.returns-clause-ok
 returns-clause-ok g c = λ l same may.
@@ -51,4 +52,4 @@ pub returns-clause-opens : goal.returns-clause-opens
 returns-clause-opens g c =
     let k = g.K.Keeper in
     lost_opens g.K.Keeper.model k.told k.became g.met.K.Keeper.counted c.args.keeper.now c.end_group.new.keeper c.args.events.now c.args.at c.index-events-at.result (ids_of c.args.pending.now.items)
-    c.requires.at c.index-events-at.is (sym c.is_before_commit.ensures ∙ c.if-not-is_before_commit.false) c.in_ok-end_group.ensures.opened c.end_group.ensures.honest
+    c.requires.at c.index-events-at.is (sym c.is_before_commit.ensures ∙ c.if-not-is_before_commit.false) c.in_ok-end_group.ensures.opened c.in_ok-end_group.ensures.same c.end_group.ensures.honest

@@ -4,7 +4,8 @@ use Rattle.std.specs.Option.{option_map}
 use Rattle.std.proofs.lemmas.List.{take_more}
 use Rattle.fuse_request.specs.Canon.{canon}
 use Rattle.fuse_request.specs.Places.{asked_at}
-use Rattle.fuse_sim.specs.Pending.{again, requests_in, messages_in, IsOwed}
+use Rattle.fuse_sim.specs.Pending.{again, requests_in, messages_in}
+use Rattle.fuse_sim.specs.KeptMessages.{IsOwed}
 use Rattle.fuse_sim.proofs.Pendings.{owed_at, copied_more}
 use Rattle.fuse_sim.proofs.kernel.copies_again.Goals as goal
 

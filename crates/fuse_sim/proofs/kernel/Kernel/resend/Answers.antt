@@ -1,6 +1,6 @@
 use Rattle.std.proofs.Common.{sym, subst, ◌∙◌}
 use Rattle.std.proofs.lemmas.List.{with_items_is}
-use Rattle.fuse_sim.specs.Pending.{ArePending}
+use Rattle.fuse_sim.specs.KeptMessages.{ArePending}
 use Rattle.fuse_sim.proofs.Pendings.{all_marked}
 use Rattle.fuse_sim.proofs.kernel.Kernel.resend.Goals as goal
 

@@ -4,7 +4,8 @@ use Rattle.fuse_wire.specs.Bytes.{number_of}
 use Rattle.fuse_wire.specs.Opcodes.{silent}
 use Rattle.fuse_request.specs.Act.{asked}
 use Rattle.fuse_request.specs.Canon.{canon}
-use Rattle.fuse_sim.specs.Pending.{owed, messages_in, requests_in, ArePending, MayBeSent}
+use Rattle.fuse_sim.specs.Pending.{owed, messages_in, requests_in, MayBeSent}
+use Rattle.fuse_sim.specs.KeptMessages.{ArePending}
 use Rattle.fuse_sim.proofs.Pendings.{sent}
 use Rattle.fuse_sim.proofs.kernel.Kernel.send.Goals as goal
 
