@@ -2,6 +2,7 @@ pub mod Agreeing
 mod Agreement
 pub mod Bounds
 pub mod Changing
+mod Columns
 pub mod Counts
 pub mod EntryGone
 pub mod Exchanges
