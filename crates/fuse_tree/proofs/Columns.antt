@@ -1,6 +1,7 @@
 -- The changes of each plan over the rows of a tree fit a table.
-use Rattle.std.proofs.Common.{◌≡◌, ◌+◌, ◌-◌, ◌<◌, ◌≤◌, ◌==◌, ◌&&◌, ◌||◌, ◌^◌, ℕ, Bool, true, false, cond, not, eqb, List, [], ◌∷◌, ◌++◌, length, map, Option, Some, None, is_some, refl, sym, subst, arith}
-use Rattle.std.specs.Prelude.{nat_lt, nat_le}
+use Rattle.std.proofs.Common.{◌≡◌, ◌+◌, ◌-◌, ◌<◌, ◌≤◌, ◌==◌, ◌&&◌, ◌||◌, ◌^◌, ℕ, Bool, true, false, cond, not, eqb, List, [], ◌∷◌, ◌++◌, length, map, Option, Some, None, is_some, refl, sym, subst, inl, inr, arith}
+use Rattle.std.specs.Prelude.{nat_eq, nat_lt, nat_le}
+use Rattle.std.specs.Cmp.Lexicographic.{pointwise}
 use Rattle.std.specs.List.{AllByRecursion, list_any}
 use Rattle.std.specs.Option.{option_map}
 use Rattle.std.proofs.lemmas.Bool.{eqb-true, ltb-true, ltb-false}
@@ -52,10 +53,10 @@ use Rattle.fuse_tree.specs.PlanWriting.{plan_written, plan_write, plan_read}
 use Rattle.fuse_tree.specs.PlanListing.{rows_behind, plan_read_dir}
 use Rattle.fuse_tree.specs.PlanOpening.{plan_opened, plan_open_node, plan_open_for, plan_open, plan_open_dir, plan_closed, plan_close}
 use Rattle.fuse_tree.specs.PlanRemoving.{link_of, link_at, plan_gone, plan_unlink_link, plan_unlink, plan_rmdir_link, plan_rmdir}
-use Rattle.fuse_tree.specs.PlanRenaming.{is_same_link, row_holds, link_fault, lost_changes, dir_row, dirs_changes, rename_changes, exchange_changes, is_dir_link, is_dir_other, plan_rename_link, plan_exchange_link, plan_rename_from, plan_rename_between, plan_rename}
+use Rattle.fuse_tree.specs.PlanRenaming.{is_same_link, row_holds, other_at, new_dir_at, link_fault, lost_changes, dir_row, dirs_changes, rename_changes, exchange_changes, is_dir_link, is_dir_other, plan_rename_link, plan_exchange_link, plan_rename_from, plan_rename_between, plan_rename}
 use Rattle.fuse_tree.specs.Renaming.{Renaming, is_exchange, is_no_replace, asking, asked_fault}
 use Rattle.fuse_tree.specs.Reading.{refused_for, child_at}
-use Rattle.fuse_tree.proofs.Lists.{and_true, any_gives, found}
+use Rattle.fuse_tree.proofs.Lists.{and_true, any_gives, cond_found, found}
 use Rattle.fuse_tree.proofs.Trees.{nodes_below, children_below, dirs_below}
 
 -- ---- the rows of a tree
@@ -401,7 +402,7 @@ link_fits : (r : Renaming) (from to : NodeRow) (source : Link) (other : Option L
     → Fit (plan_rename_link r from to source other rows)
 link_fits r from to source other rows all one two dir there given =
     past (is_same_link source other) _ _ refl
-    (λ _. past (row_holds rows source.child r.new_dir) _ _ refl
+    (λ _. past (row_holds rows source.child from.node r.new_dir) _ _ refl
     (λ _. unless (link_fault rows source other) _
     (λ _. past (nat_le COUNTER_END rows.counters.next_cookie) _ _ refl (λ _. record { columns = moved_fits r rows.counters from to source other all.counters one two dir there given }))))
 
@@ -410,30 +411,41 @@ exchange_fits : (r : Renaming) (from to : NodeRow) (source : Link) (other : Opti
 exchange_fits r from to source None rows all one two dir there given = nothing _ refl
 exchange_fits r from to source (Some other) rows all one two dir there given =
     past (source.cookie == other.cookie) _ _ refl
-    (λ _. past (row_holds rows source.child r.new_dir || row_holds rows other.child from.node) _ _ refl
+    (λ _. past (row_holds rows source.child from.node r.new_dir || row_holds rows other.child r.new_dir from.node) _ _ refl
     (λ _. past (nat_lt (COUNTER_END - 2) rows.counters.next_cookie) _ _ refl (λ _. record { columns = exchanged_fits r rows.counters from to source other all.counters one two dir there given })))
 
 chosen : (b : Bool) (p q : Planned) → Fit p → Fit q → Fit (cond b p q)
 chosen true p q one two = one
 chosen false p q one two = two
 
+either_found : (b : Bool) (o p : Option Link) → FitsFound o → FitsFound p → FitsFound (cond b o p)
+either_found true o p one two = one
+either_found false o p one two = two
+
 from_fits : (r : Renaming) (from to : NodeRow) (o : Option Link) (rows : Rows) → Small rows → FitsNode from → FitsNode to → r.new_dir < 2 ^ 63 → FitsFound o → Fit (plan_rename_from r from to o rows)
 from_fits r from to None rows all one two dir there = nothing _ refl
 from_fits r from to (Some source) rows all one two dir there =
-    let other = link_at rows r.new_dir r.new_name in
-    let given = link_small rows r.new_dir r.new_name all in
+    let other = other_at r from.node source rows in
+    let given = either_found ((from.node == r.new_dir) && pointwise nat_eq r.old_name r.new_name) (Some source) (link_at rows r.new_dir r.new_name) there (link_small rows r.new_dir r.new_name all) in
     chosen (is_exchange r.mode) _ _ (exchange_fits r from to source other rows all one two dir there given)
     (past (is_no_replace r.mode && is_some other) _ _ refl (λ _. link_fits r from to source other rows all one two dir there given))
 
-between_fits : (r : Renaming) (from : NodeRow) (o : Option NodeRow) (rows : Rows) → Small rows → FitsNode from → row_at rows r.new_dir ≡ o → Fit (plan_rename_between r from o rows)
+new_dir_small : (new_dir : ℕ) (from to : NodeRow) (rows : Rows) → Small rows → FitsNode from → new_dir_at new_dir from rows ≡ Some to → FitsNode to × (to.node ≡ new_dir)
+new_dir_small new_dir from to rows all one is =
+    elim (cond_found (eqb from.node new_dir) from to (row_at rows new_dir) is) [
+      | inl h ↦ subst (λ (row : NodeRow). FitsNode row × (row.node ≡ new_dir)) h.1 (one, eqb-true from.node new_dir h.0)
+      | inr h ↦ found_small rows new_dir to all h.1
+    ]
+
+between_fits : (r : Renaming) (from : NodeRow) (o : Option NodeRow) (rows : Rows) → Small rows → FitsNode from → new_dir_at r.new_dir from rows ≡ o → Fit (plan_rename_between r from o rows)
 between_fits r from None rows all one is = nothing _ refl
 between_fits r from (Some to) rows all one is =
-    let p = found_small rows r.new_dir to all is in
+    let p = new_dir_small r.new_dir from to rows all one is in
     unless (asked_fault r (is_dir from.mode && is_dir to.mode) (row_is_named from && row_is_named to)) _
     (λ _. from_fits r from to (link_at rows from.node r.old_name) rows all one p.0 (omega (arith, p.0.node, p.1)) (link_small rows from.node r.old_name all))
 
 rename_fits : (r : Renaming) (from : NodeRow) (rows : Rows) → Small rows → FitsNode from → Fit (plan_rename r from rows)
-rename_fits r from rows all one = between_fits r from (row_at rows r.new_dir) rows all one refl
+rename_fits r from rows all one = between_fits r from (new_dir_at r.new_dir from rows) rows all one refl
 
 -- ---- all requests
 
