@@ -3,6 +3,7 @@ mod Agreement
 pub mod Bounds
 pub mod Changing
 mod Columns
+mod Cuts
 pub mod Counts
 pub mod EntryGone
 pub mod Exchanges
