@@ -25,7 +25,7 @@ use Rattle.fuse_init.specs.Agree.{agree, offered, taken, is_older}
 use Rattle.fuse_init.specs.declared.negotiation.TheConstants.{MAJOR}
 use Rattle.fuse_tree.specs.declared.limits.TheConstants.{COUNTER_END, MAX_FILE, MAX_NODES, MAX_HANDLES, MAX_READ}
 use Rattle.fuse_tree.specs.declared.planning.finding.Link.{Link}
-use Rattle.fuse_tree.specs.declared.planning.make.NewNode.{NewNode}
+use Rattle.fuse_tree.specs.declared.new_node.NewNode.{NewNode}
 use Rattle.fuse_tree.specs.declared.rows.Change.{Change}
 use Rattle.fuse_tree.specs.declared.rows.Change.TheVariants as changes
 use Rattle.fuse_tree.specs.declared.rows.Counters.{Counters as CountersRow}

@@ -19,7 +19,7 @@ use Rattle.fuse_init.specs.declared.negotiation.Negotiated.TheVariants.{Agreed, 
 use Rattle.fuse_init.specs.Agree.{agree}
 use Rattle.fuse_tree.specs.declared.limits.TheConstants.{COUNTER_END, MAX_FILE, MAX_READ}
 use Rattle.fuse_tree.specs.declared.planning.finding.Link.{Link}
-use Rattle.fuse_tree.specs.declared.planning.make.NewNode.{NewNode}
+use Rattle.fuse_tree.specs.declared.new_node.NewNode.{NewNode}
 use Rattle.fuse_tree.specs.declared.rows.Change.{Change}
 use Rattle.fuse_tree.specs.declared.rows.Change.TheVariants as changes
 use Rattle.fuse_tree.specs.declared.rows.Counters.{Counters as CountersRow}

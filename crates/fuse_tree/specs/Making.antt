@@ -6,7 +6,7 @@ use Rattle.fuse_request.specs.declared.request.InHeader.{InHeader}
 use Rattle.fuse_answer.specs.Bodies.{entry_bytes}
 use Rattle.fuse_tree.specs.declared.limits.TheConstants.{MAX_NODES, COUNTER_END}
 use Rattle.fuse_tree.specs.declared.mode.TheConstants.{S_IFBLK, S_IFCHR, S_IFDIR, S_IFIFO, S_IFREG, S_IFSOCK, TYPE_UNIT}
-use Rattle.fuse_tree.specs.declared.planning.make.NewNode.{NewNode}
+use Rattle.fuse_tree.specs.declared.new_node.NewNode.{NewNode}
 use Rattle.fuse_tree.specs.declared.rows.EntryRow.{EntryRow}
 use Rattle.fuse_tree.specs.State.{State, Node, type_of, is_dir, is_named, name_fault}
 use Rattle.fuse_tree.specs.Rows.{entry_at}

@@ -5,9 +5,9 @@ use Rattle.fuse_wire.specs.declared.errno.Errno.{Errno}
 use Rattle.fuse_wire.specs.declared.errno.TheConstants.Errno.{ENOENT, EEXIST, ENOTDIR, EISDIR, EINVAL, ENOSPC, ENOTEMPTY, ESTALE}
 use Rattle.fuse_wire.specs.declared.moment.Moment.{Moment}
 use Rattle.fuse_tree.specs.declared.limits.TheConstants.{COUNTER_END}
-use Rattle.fuse_tree.specs.declared.planning.rename.RenameMode.{RenameMode}
-use Rattle.fuse_tree.specs.declared.planning.rename.RenameMode.TheVariants.{Replace, NoReplace, Exchange}
-use Rattle.fuse_tree.specs.declared.planning.rename.TheConstants.{RENAME_NOREPLACE, RENAME_EXCHANGE}
+use Rattle.fuse_tree.specs.declared.rename_mode.RenameMode.{RenameMode}
+use Rattle.fuse_tree.specs.declared.rename_mode.RenameMode.TheVariants.{Replace, NoReplace, Exchange}
+use Rattle.fuse_tree.specs.declared.rename_mode.TheConstants.{RENAME_NOREPLACE, RENAME_EXCHANGE}
 use Rattle.fuse_tree.specs.declared.rows.EntryRow.{EntryRow}
 use Rattle.fuse_tree.specs.State.{State, Node, Tree, is_dir, is_dir_of, is_named, name_fault, node_at, above}
 use Rattle.fuse_tree.specs.Rows.{entry_at}

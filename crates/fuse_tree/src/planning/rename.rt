@@ -6,7 +6,7 @@ ghost use Rattle.fuse_tree.specs.Rows.{row_is_named};
 ghost use Rattle.fuse_tree.specs.Reading.{IsWithin, Reads};
 ghost use Rattle.fuse_tree.specs.PlanRemoving.{link_at};
 ghost use Rattle.fuse_tree.specs.Renaming as renaming;
-ghost use Rattle.fuse_tree.specs.Renaming.{mode_of, asked_fault};
+ghost use Rattle.fuse_tree.specs.Renaming.{asked_fault};
 ghost use Rattle.fuse_tree.specs.PlanRenaming as planning;
 ghost use Rattle.fuse_tree.specs.PlanRenaming.{renaming_of, is_same_link, row_holds, link_fault, new_dir_at, other_at, plan_rename_from, plan_rename_by, plan_rename_link, plan_rename_fitting, plan_rename_with_room};
 
@@ -20,40 +20,10 @@ use super::names::fault_of_name;
 use super::walking::lies_in;
 use crate::limits::COUNTER_END;
 use crate::look::Look;
+use crate::rename_mode::RenameMode;
 use crate::rows::{NodeRow, Planned};
 use fuse_wire::{Errno, Moment};
 use std::alloc::Global;
-
-/// The flag of RENAME2 that refuses to replace an entry.
-pub const RENAME_NOREPLACE: u32 = 1;
-
-/// The flag of RENAME2 that makes two children change places.
-pub const RENAME_EXCHANGE: u32 = 2;
-
-/// What is done about a node that stands at the new place.
-#[derive(Clone, Copy, Debug, PartialEq, Eq)]
-pub enum RenameMode {
-    /// It loses its name there. RENAME does so too.
-    Replace,
-    /// Nothing may stand there.
-    NoReplace,
-    /// It gets the old place.
-    Exchange,
-}
-
-impl RenameMode {
-    // What the flags of RENAME2 ask for. `None` where they have no meaning.
-    fn of(flags: u32) -> Option<RenameMode>
-        ensures { result ≡ mode_of flags }
-    {
-        match flags {
-            0 => Some(RenameMode::Replace),
-            RENAME_NOREPLACE => Some(RenameMode::NoReplace),
-            RENAME_EXCHANGE => Some(RenameMode::Exchange),
-            _ => None,
-        }
-    }
-}
 
 /// What RENAME and RENAME2 ask for, and when. Without a mode the flags have no meaning.
 #[derive(Clone, Copy)]
