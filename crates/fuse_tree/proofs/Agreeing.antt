@@ -35,6 +35,7 @@ use Rattle.fuse_tree.proofs.RemovingAgrees.{unlink_agrees, rmdir_agrees}
 use Rattle.fuse_tree.proofs.RenameAgrees.{renaming_agrees}
 use Rattle.fuse_tree.proofs.Puts.{row_found, node_found}
 use Rattle.fuse_tree.proofs.GoneFirst.{plan_orders}
+use Rattle.fuse_tree.proofs.Columns.{plan_fits}
 
 child_agrees : (s : State) → Tree s → (o : Option Node) → Agrees s (plan_child (option_map (row_of s) o)) (lookup_child s o)
 child_agrees s tree None = refused_agrees s tree enoent
@@ -90,7 +91,7 @@ plan_agrees s request now None tree = both s (is_some s.settings) _ _ _ _ (λ _.
 -- what a plan over the rows of a tree is
 pub plan_meets : (s : State) (request : Asked) (now : Moment) → Tree s → Meets s (plan_of request now (rowed s)) (done s request now)
 unfolding rowed done
-plan_meets s request now tree = let a = plan_agrees s request now (offer_of request.act) tree in record { answer = a.answer; rows = a.rows; order = plan_orders request now (rowed s); tree = a.tree }
+plan_meets s request now tree = let a = plan_agrees s request now (offer_of request.act) tree in record { answer = a.answer; rows = a.rows; order = plan_orders request now (rowed s); fits = plan_fits s request now tree; tree = a.tree }
 
 pub tree_kept : TreeKept
 tree_kept s request now tree = (plan_meets s request now tree).tree

@@ -69,24 +69,27 @@ most_few : (es : List Entry) (size k : ℕ) → AllByRecursion IsNamed es → si
 most_few es size k named past =
     omega (arith, least_sum es (most es size (length es)) named (most_within es size (length es)), most_fits es size (length es), past)
 
-cut_longest : (es : List Entry) (size k : ℕ) → AllByRecursion IsNamed es → size < 32 * k → IsLongest (take k es) size (most es size (length es))
-cut_longest es size k named past =
+cut_longest : (es : List Entry) (size k : ℕ) → most es size (length es) ≤ k → IsLongest (take k es) size (most es size (length es))
+cut_longest es size k few =
     let all = longest es size in
     let n : ℕ = most es size (length es) in
-    let few : n < k = most_few es size k named past in
     let len = length-take k es in
-    let same : take n (take k es) ≡ take n es = take-take n k es (omega (arith, few)) in
+    let same : take n (take k es) ≡ take n es = take-take n k es few in
     record {
       within = omega (arith, few, all.within, len);
       fits = subst (λ (fs : List Entry). sum_by packed_len fs ≤ size) (sym same) all.fits;
       longest = λ m fewer fits. all.longest m (omega (arith, fewer, len)) (subst (λ (fs : List Entry). sum_by packed_len fs ≤ size) (take-take m k es (omega (arith, fewer, len))) fits);
     }
 
--- the front is the same where entries are left out that can't fit
-pub front_cut : (es : List Entry) (size k : ℕ) → AllByRecursion IsNamed es → size < 32 * k → longest_front (take k es) size ≡ longest_front es size
-front_cut es size k named past =
+-- the front is the same where entries are left out that are not of it
+pub front_upto : (es : List Entry) (size k : ℕ) → most es size (length es) ≤ k → longest_front (take k es) size ≡ longest_front es size
+front_upto es size k few =
     let n : ℕ = most es size (length es) in
-    sym (front_is (take k es) size n (cut_longest es size k named past)) ∙ take-take n k es (let few = most_few es size k named past in omega (arith, few))
+    sym (front_is (take k es) size n (cut_longest es size k few)) ∙ take-take n k es few
+
+-- and so where they can't fit
+pub front_cut : (es : List Entry) (size k : ℕ) → AllByRecursion IsNamed es → size < 32 * k → longest_front (take k es) size ≡ longest_front es size
+front_cut es size k named past = front_upto es size k (let few = most_few es size k named past in omega (arith, few))
 
 pub first_cut : (es : List Entry) (size k : ℕ) → 0 < k → first_fits (take k es) size ≡ first_fits es size
 first_cut [] size zero some = refl

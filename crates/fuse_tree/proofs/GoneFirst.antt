@@ -19,7 +19,7 @@ use Rattle.fuse_init.specs.declared.negotiation.Negotiated.TheVariants.{Agreed, 
 use Rattle.fuse_init.specs.Agree.{agree}
 use Rattle.fuse_tree.specs.Bounds.{number_end, file_limit, read_limit}
 use Rattle.fuse_tree.specs.declared.planning.finding.Link.{Link}
-use Rattle.fuse_tree.specs.declared.planning.make.NewNode.{NewNode}
+use Rattle.fuse_tree.specs.declared.new_node.NewNode.{NewNode}
 use Rattle.fuse_tree.specs.declared.rows.Change.{Change}
 use Rattle.fuse_tree.specs.declared.rows.Change.TheVariants as changes
 use Rattle.fuse_tree.specs.declared.rows.Counters.{Counters as CountersRow}
@@ -44,7 +44,7 @@ use Rattle.fuse_tree.specs.PlanWriting.{plan_write, plan_read}
 use Rattle.fuse_tree.specs.PlanListing.{rows_behind, plan_read_dir}
 use Rattle.fuse_tree.specs.PlanOpening.{plan_open_node, plan_open_for, plan_open, plan_open_dir, plan_close}
 use Rattle.fuse_tree.specs.PlanRemoving.{link_at, plan_unlink_link, plan_unlink, plan_rmdir_link, plan_rmdir}
-use Rattle.fuse_tree.specs.PlanRenaming.{is_same_link, row_holds, link_fault, rename_changes, exchange_changes, plan_rename_link, plan_exchange_link, plan_rename_by, plan_rename_from, plan_rename_between, plan_rename}
+use Rattle.fuse_tree.specs.PlanRenaming.{is_same_link, row_holds, other_at, new_dir_at, link_fault, rename_changes, exchange_changes, plan_rename_link, plan_exchange_link, plan_rename_by, plan_rename_from, plan_rename_between, plan_rename}
 use Rattle.fuse_tree.specs.Renaming.{Renaming, is_exchange, is_no_replace, asking, asked_fault}
 use Rattle.fuse_tree.specs.Reading.{refused_for, child_at}
 use Rattle.fuse_tree.proofs.Lists.{and_true}
@@ -189,14 +189,14 @@ exchanged_first r counters from to source other = either (from.node == r.new_dir
 link_orders : (r : Renaming) (from to : NodeRow) (source : Link) (other : Option Link) (rows : Rows) → Orders (plan_rename_link r from to source other rows)
 link_orders r from to source other rows =
     chosen (is_same_link source other) _ _ (by_test _ refl)
-    (chosen (row_holds rows source.child r.new_dir) _ _ (by_test _ refl)
+    (chosen (row_holds rows source.child from.node r.new_dir) _ _ (by_test _ refl)
     (unless (link_fault rows source other) _ (chosen (nat_le number_end rows.counters.next_cookie) _ _ (by_test _ refl) (by_test _ (moved_first r rows.counters from to source other)))))
 
 exchange_orders : (r : Renaming) (from to : NodeRow) (source : Link) (other : Option Link) (rows : Rows) → Orders (plan_exchange_link r from to source other rows)
 exchange_orders r from to source None rows = by_test _ refl
 exchange_orders r from to source (Some other) rows =
     chosen (source.cookie == other.cookie) _ _ (by_test _ refl)
-    (chosen (row_holds rows source.child r.new_dir || row_holds rows other.child from.node) _ _ (by_test _ refl)
+    (chosen (row_holds rows source.child from.node r.new_dir || row_holds rows other.child r.new_dir from.node) _ _ (by_test _ refl)
     (chosen (nat_lt (number_end - 2) rows.counters.next_cookie) _ _ (by_test _ refl) (by_test _ (exchanged_first r rows.counters from to source other))))
 
 by_orders : (r : Renaming) (from to : NodeRow) (source : Link) (other : Option Link) (rows : Rows) → Orders (plan_rename_by r from to source other rows)
@@ -205,7 +205,7 @@ by_orders r from to source other rows =
 
 from_orders : (r : Renaming) (from to : NodeRow) (o : Option Link) (rows : Rows) → Orders (plan_rename_from r from to o rows)
 from_orders r from to None rows = by_test _ refl
-from_orders r from to (Some source) rows = by_orders r from to source (link_at rows r.new_dir r.new_name) rows
+from_orders r from to (Some source) rows = by_orders r from to source (other_at r from.node source rows) rows
 
 between_orders : (r : Renaming) (from : NodeRow) (o : Option NodeRow) (rows : Rows) → Orders (plan_rename_between r from o rows)
 between_orders r from None rows = by_test _ refl
@@ -213,7 +213,7 @@ between_orders r from (Some to) rows =
     unless (asked_fault r (is_dir from.mode && is_dir to.mode) (row_is_named from && row_is_named to)) _ (from_orders r from to (link_at rows from.node r.old_name) rows)
 
 rename_orders : (r : Renaming) (from : NodeRow) (rows : Rows) → Orders (plan_rename r from rows)
-rename_orders r from rows = between_orders r from (row_at rows r.new_dir) rows
+rename_orders r from rows = between_orders r from (new_dir_at r.new_dir from rows) rows
 
 -- ---- all requests
 

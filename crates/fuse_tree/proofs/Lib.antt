@@ -2,6 +2,8 @@ pub mod Agreeing
 mod Agreement
 pub mod Bounds
 pub mod Changing
+mod Columns
+mod Cuts
 pub mod Counts
 pub mod EntryGone
 pub mod Exchanges

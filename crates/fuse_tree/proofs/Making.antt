@@ -6,7 +6,7 @@ use Rattle.std.proofs.lemmas.Bool.{ne_eqb, eq-eqb, leb-false}
 use Rattle.std.proofs.lemmas.List.{length-append, length-map, map-append}
 use Rattle.fuse_wire.specs.declared.moment.Moment.{Moment}
 use Rattle.fuse_tree.specs.Bounds.{node_limit}
-use Rattle.fuse_tree.specs.declared.planning.make.NewNode.{NewNode}
+use Rattle.fuse_tree.specs.declared.new_node.NewNode.{NewNode}
 use Rattle.fuse_tree.specs.declared.rows.Full.{Full}
 use Rattle.fuse_tree.specs.State.{State, Node, Tree, IsNode, is_dir, is_dir_of, node_at, is_named, name_fault, subdirs_of}
 use Rattle.fuse_tree.specs.Rows.{full_of, counters_of, rows_of_state, row_of, entry_at, put_node, apply}

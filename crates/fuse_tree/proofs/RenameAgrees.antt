@@ -1,10 +1,10 @@
 -- The plan of RENAME and RENAME2 agrees with what is done.
-use Rattle.std.proofs.Common.{◌≡◌, ◌≢◌, ◌≤◌, ◌-◌, ◌&&◌, ◌||◌, ℕ, Bool, true, false, cond, not, eqb, List, [], ◌∷◌, Option, Some, None, refl, sym, ap, subst, ◌∙◌, arith}
-use Rattle.std.specs.Prelude.{find, nat_le, nat_lt, is_some}
+use Rattle.std.proofs.Common.{◌≡◌, ◌≢◌, ◌≤◌, ◌-◌, ◌==◌, ◌&&◌, ◌||◌, ℕ, zero, suc, Bool, true, false, cond, not, eqb, List, [], ◌∷◌, length, Option, Some, None, refl, sym, ap, subst, ◌∙◌, arith}
+use Rattle.std.specs.Prelude.{find, nat_eq, nat_le, nat_lt, is_some}
 use Rattle.std.specs.Option.{option_map}
 use Rattle.std.specs.List.{list_any}
-use Rattle.std.specs.Cmp.Lexicographic.{same_text}
-use Rattle.std.proofs.lemmas.Bool.{eqb-true, eqb-false, leb-false, ltb-false}
+use Rattle.std.specs.Cmp.Lexicographic.{pointwise, same_text}
+use Rattle.std.proofs.lemmas.Bool.{eqb-true, eqb-false, ne_eqb, leb-false, ltb-false}
 use Rattle.fuse_wire.specs.declared.errno.Errno.{Errno}
 use Rattle.fuse_wire.specs.Errnos.{enoent, eexist, einval, enospc, estale}
 use Rattle.fuse_tree.specs.Bounds.{number_end}
@@ -12,16 +12,16 @@ use Rattle.fuse_tree.specs.declared.planning.finding.Link.{Link}
 use Rattle.fuse_tree.specs.declared.rows.EntryRow.{EntryRow}
 use Rattle.fuse_tree.specs.declared.rows.NodeRow.{NodeRow}
 use Rattle.fuse_tree.specs.declared.rows.Planned.{Planned}
-use Rattle.fuse_tree.specs.State.{State, Node, Tree, IsNode, IsEntry, Reaches, is_dir, is_dir_of, has_number, is_entry, is_named, name_fault, node_at}
-use Rattle.fuse_tree.specs.Rows.{row_of, rows_of_state, entry_at}
+use Rattle.fuse_tree.specs.State.{State, Node, Tree, IsNode, IsEntry, Reaches, is_dir, is_dir_of, has_number, is_entry, is_named, name_fault, node_at, above}
+use Rattle.fuse_tree.specs.Rows.{row_of, rows_of_state, row_at, entry_at}
 use Rattle.fuse_tree.specs.Done.{Done, refuse_for}
 use Rattle.fuse_tree.specs.Reading.{refused_for}
 use Rattle.fuse_tree.specs.Removing.{has_entries}
-use Rattle.fuse_tree.specs.Renaming.{Renaming, is_exchange, is_no_replace, lies_in, is_dir_at, holds, asked_fault, earlier, kinds_fault, place_fault, rename_entry, exchange_entry, rename_by, rename_from, rename_between, rename}
+use Rattle.fuse_tree.specs.Renaming.{Renaming, is_exchange, is_no_replace, leads_to, lies_in, is_dir_at, holds, asked_fault, earlier, kinds_fault, place_fault, rename_entry, exchange_entry, rename_by, rename_from, rename_between, rename}
 use Rattle.fuse_tree.specs.PlanRemoving.{link_of}
-use Rattle.fuse_tree.specs.PlanRenaming.{row_holds, link_fault, plan_rename_link, plan_exchange_link, plan_rename_by, plan_rename_from, plan_rename_between, plan_rename}
+use Rattle.fuse_tree.specs.PlanRenaming.{row_holds, link_fault, other_at, new_dir_at, plan_rename_link, plan_exchange_link, plan_rename_by, plan_rename_from, plan_rename_between, plan_rename}
 use Rattle.fuse_tree.proofs.Agreement.{Agrees, refused_agrees, both, both_for}
-use Rattle.fuse_tree.proofs.Lists.{any_gives, found, and_true, or_false}
+use Rattle.fuse_tree.proofs.Lists.{any_gives, found, and_true, and_false, or_false}
 use Rattle.fuse_tree.proofs.Puts.{row_found, node_found, only_one, dir_there}
 use Rattle.fuse_tree.proofs.Heights.{rooted, not_under_own}
 use Rattle.fuse_tree.proofs.GoneRows.{none_in_empty}
@@ -117,10 +117,42 @@ dir_at s k n tree at = step (is_dir n.mode) refl (is_dir_at s k) refl
         let same : is_dir n.mode ≡ true = subst (λ (i : Node). is_dir i.mode ≡ true) (one (eqb-true m.number k parts.0)) parts.1 in
         cc)))
 
-same_holds : (s : State) (k dir : ℕ) (n : Node) → Tree s → node_at s k ≡ Some n → row_holds (rows_of_state s) (row_of s n) dir ≡ holds s k dir
-same_holds s k dir n tree at =
+-- what is never above a directory doesn't hold it
+none_leads : (es : List EntryRow) (n node dir : ℕ) → ((i : ℕ) → above es i dir ≢ node) → leads_to es n node dir ≡ false
+none_leads es zero node dir never = refl
+none_leads es (suc n) node dir never = rw (none_leads es n node dir never, ne_eqb (above es n dir) node (never n)) refl
+
+never_holds : (s : State) (node dir : ℕ) → ((i : ℕ) → above s.entries i dir ≢ node) → holds s node dir ≡ false
+never_holds s node dir never = ap (λ (b : Bool). is_dir_at s node && b) (none_leads s.entries (length s.nodes) node dir never) ∙ and_false (is_dir_at s node)
+
+held : (s : State) (k dir : ℕ) (n : Node) → Tree s → node_at s k ≡ Some n → (is_dir n.mode && lies_in s n.number dir) ≡ holds s k dir
+held s k dir n tree at =
     ap (λ (i : ℕ). is_dir n.mode && lies_in s i dir) (node_found s k n tree at).0
     ∙ ap (λ (b : Bool). b && lies_in s k dir) (sym (dir_at s k n tree at))
+
+-- the child of an entry in a directory is never above it, so it isn't asked there
+same_holds : (s : State) (k from dir : ℕ) (n : Node) → Tree s → node_at s k ≡ Some n → ((i : ℕ) → above s.entries i from ≢ k)
+    → row_holds (rows_of_state s) (row_of s n) from dir ≡ holds s k dir
+same_holds s k from dir n tree at never = step (eqb from dir) refl
+  where
+    step : (b : Bool) → eqb from dir ≡ b → (is_dir n.mode && (not b && lies_in s n.number dir)) ≡ holds s k dir
+    step true is = and_false (is_dir n.mode) ∙ sym (subst (λ (d : ℕ). holds s k d ≡ false) (eqb-true from dir is) (never_holds s k from never))
+    step false is = held s k dir n tree at
+
+-- only directories have entries
+dirs_alone : (s : State) (k : ℕ) (n : Node) → Tree s → node_at s k ≡ Some n → (is_dir n.mode && has_entries s.entries n.number) ≡ has_entries s.entries k
+dirs_alone s k n tree at =
+    ap (λ (i : ℕ). is_dir n.mode && has_entries s.entries i) (node_found s k n tree at).0 ∙ step (is_dir n.mode) refl (has_entries s.entries k) refl
+  where
+    step : (b : Bool) → is_dir n.mode ≡ b → (h : Bool) → has_entries s.entries k ≡ h → (b && h) ≡ h
+    step true is h e = refl
+    step false is false e = refl
+    step false is true e =
+        absurd (any_gives (IsEntry s.nodes s.entries s.next_cookie) (λ x. x.dir == k) ⊥ s.entries tree.entries e
+        (λ x p same. (
+        let there : is_dir_at s k ≡ true = subst (λ (d : ℕ). is_dir_at s d ≡ true) (eqb-true x.dir k same) p.dir in
+        let isnt = dir_at s k n tree at in
+        cc)))
 
 -- ---- from directory d to directory t
 
@@ -136,16 +168,19 @@ module _ (s : State) (r : Renaming) (d t : Node) (tree : Tree s) (at_d : node_at
   from_there = dir_at s d.number d tree at_d ∙ dir_d
 
   -- no directory is under its own entry's child
+  never_above : (dir : ℕ) (name : List ℕ) (e : EntryRow) (c : Node) → Found s dir name e c → entry_at s.entries dir name ≡ Some e → (i : ℕ) → above s.entries i dir ≢ e.child
+  never_above dir name e c p at =
+      not_under_own s.entries (rooted s tree) e.child dir (up_found (is_entry dir name) s.entries e tree.entries_apart at ∙ p.dir_is) (subst (λ (k : ℕ). Reaches s.entries k) p.dir_is p.entry.reaches)
+
   not_own : (dir : ℕ) (name : List ℕ) (e : EntryRow) (c : Node) → Found s dir name e c → entry_at s.entries dir name ≡ Some e → e.child ≢ dir
-  not_own dir name e c p at same =
-      not_under_own s.entries (rooted s tree) e.child dir (up_found (is_entry dir name) s.entries e tree.entries_apart at ∙ p.dir_is) (subst (λ (k : ℕ). Reaches s.entries k) p.dir_is p.entry.reaches) 0 (sym same)
+  not_own dir name e c p at same = never_above dir name e c p at 0 (sym same)
 
   -- ---- RENAME
 
   free_agrees : (e : EntryRow) (c : Node) → Found s d.number r.old_name e c → entry_at s.entries d.number r.old_name ≡ Some e → entry_at s.entries r.new_dir r.new_name ≡ None
       → Agrees s (plan_rename_link r (row_of s d) (row_of s t) (link e c) None (rows_of_state s)) (rename_entry s r d.number e None)
   free_agrees e c p at_e free =
-      both_as s (holds s e.child r.new_dir) _ _ _ _ _ (same_holds s e.child r.new_dir c tree p.child) (λ _. refused_agrees s tree einval) (λ apart.
+      both_as s (holds s e.child r.new_dir) _ _ _ _ _ (same_holds s e.child d.number r.new_dir c tree p.child (never_above d.number r.old_name e c p at_e)) (λ _. refused_agrees s tree einval) (λ apart.
       both s (nat_le number_end s.next_cookie) _ _ _ _ (λ _. refused_agrees s tree enospc) (λ room. (
       let never = never_held s e.child r.new_dir tree p.given to_there apart in
       record {
@@ -158,11 +193,11 @@ module _ (s : State) (r : Renaming) (d t : Node) (tree : Tree s) (at_d : node_at
       → Agrees s (plan_rename_link r (row_of s d) (row_of s t) (link e c) (Some (link f o)) (rows_of_state s)) (rename_entry s r d.number e (Some f))
   over_agrees e c f o p at_e q at_f =
       both s (eqb e.cookie f.cookie) _ _ _ _ (λ _. record { answer = refl; rows = refl; tree = tree }) (λ other.
-      both_as s (holds s e.child r.new_dir) _ _ _ _ _ (same_holds s e.child r.new_dir c tree p.child) (λ _. refused_agrees s tree einval) (λ apart.
+      both_as s (holds s e.child r.new_dir) _ _ _ _ _ (same_holds s e.child d.number r.new_dir c tree p.child (never_above d.number r.old_name e c p at_e)) (λ _. refused_agrees s tree einval) (λ apart.
       both_for_as s (place_fault s e.child (Some f)) (link_fault (rows_of_state s) (link e c) (Some (link f o))) _ _ tree
-      (ap (λ (b : Bool). kinds_fault b (is_dir o.mode) (has_entries s.entries o.number)) (sym (dir_at s e.child c tree p.child))
-      ∙ ap (λ (b : Bool). kinds_fault (is_dir_at s e.child) b (has_entries s.entries o.number)) (sym (dir_at s f.child o tree q.child))
-      ∙ ap (λ (k : ℕ). kinds_fault (is_dir_at s e.child) (is_dir_at s f.child) (has_entries s.entries k)) (node_found s f.child o tree q.child).0) (λ fits.
+      (ap (λ (b : Bool). kinds_fault b (is_dir o.mode) (is_dir o.mode && has_entries s.entries o.number)) (sym (dir_at s e.child c tree p.child))
+      ∙ ap (λ (b : Bool). kinds_fault (is_dir_at s e.child) b (is_dir o.mode && has_entries s.entries o.number)) (sym (dir_at s f.child o tree q.child))
+      ∙ ap (kinds_fault (is_dir_at s e.child) (is_dir_at s f.child)) (dirs_alone s f.child o tree q.child)) (λ fits.
       both s (nat_le number_end s.next_cookie) _ _ _ _ (λ _. refused_agrees s tree enospc) (λ room. (
       let never = never_held s e.child r.new_dir tree p.given to_there apart in
       let empty = none_in_empty s.entries f.child (kinds_none _ _ _ fits) in
@@ -189,7 +224,8 @@ module _ (s : State) (r : Renaming) (d t : Node) (tree : Tree s) (at_d : node_at
   swap_agrees e c f o p at_e q at_f =
       both s (eqb e.cookie f.cookie) _ _ _ _ (λ _. record { answer = refl; rows = refl; tree = tree }) (λ other.
       both_as s (holds s e.child r.new_dir || holds s f.child d.number) _ _ _ _ _
-      (ap (λ (b : Bool). b || row_holds (rows_of_state s) (row_of s o) d.number) (same_holds s e.child r.new_dir c tree p.child) ∙ ap (λ (b : Bool). holds s e.child r.new_dir || b) (same_holds s f.child d.number o tree q.child))
+      (ap (λ (b : Bool). b || row_holds (rows_of_state s) (row_of s o) r.new_dir d.number) (same_holds s e.child d.number r.new_dir c tree p.child (never_above d.number r.old_name e c p at_e))
+      ∙ ap (λ (b : Bool). holds s e.child r.new_dir || b) (same_holds s f.child r.new_dir d.number o tree q.child (never_above r.new_dir r.new_name f o q at_f)))
       (λ _. refused_agrees s tree einval) (λ apart.
       both s (nat_lt (number_end - 2) s.next_cookie) _ _ _ _ (λ _. refused_agrees s tree enospc) (λ room. (
       let parts = or_false (holds s e.child r.new_dir) (holds s f.child d.number) apart in
@@ -224,12 +260,27 @@ module _ (s : State) (r : Renaming) (d t : Node) (tree : Tree s) (at_d : node_at
       both_as s (is_no_replace r.mode && is_some other) _ _ _ _ _ (ap (λ (b : Bool). is_no_replace r.mode && b) (same_some other at))
       (λ _. refused_agrees s tree eexist) (λ _. rename_agrees e c p at_e other at))
 
+  -- what stands at the new place, also where that is the old one
+  same_other : (e : EntryRow) (c : Node) → Found s d.number r.old_name e c → entry_at s.entries d.number r.old_name ≡ Some e
+      → other_at r d.number (link e c) (rows_of_state s) ≡ link_of (rows_of_state s) (entry_at s.entries r.new_dir r.new_name)
+  same_other e c p at_e = step ((d.number == r.new_dir) && pointwise nat_eq r.old_name r.new_name) refl
+    where
+      step : (b : Bool) → ((d.number == r.new_dir) && pointwise nat_eq r.old_name r.new_name) ≡ b
+          → cond b (Some (link e c)) (link_of (rows_of_state s) (entry_at s.entries r.new_dir r.new_name)) ≡ link_of (rows_of_state s) (entry_at s.entries r.new_dir r.new_name)
+      step true is =
+          let parts = and_true (d.number == r.new_dir) _ is in
+          let here = subst (λ (k : ℕ). entry_at s.entries k r.old_name ≡ Some e) (eqb-true d.number r.new_dir parts.0) at_e in
+          let there = subst (λ (name : List ℕ). entry_at s.entries r.new_dir name ≡ Some e) (same_text r.old_name r.new_name (sym parts.1)) here in
+          sym (ap (link_of (rows_of_state s)) there ∙ p.link)
+      step false is = refl
+
   pub from_agrees : (o : Option EntryRow) → entry_at s.entries d.number r.old_name ≡ o → Agrees s (plan_rename_from r (row_of s d) (row_of s t) (link_of (rows_of_state s) o) (rows_of_state s)) (rename_from s r d.number o)
   from_agrees None at = refused_agrees s tree enoent
   from_agrees (Some e) at =
       let c = found_entry s d.number r.old_name e tree at in
       subst (λ (l : Option Link). Agrees s (plan_rename_from r (row_of s d) (row_of s t) l (rows_of_state s)) (rename_from s r d.number (Some e))) (sym c.1.link)
-      (by_agrees e c.0 c.1 at (entry_at s.entries r.new_dir r.new_name) refl)
+      (subst (λ (l : Option Link). Agrees s (plan_rename_by r (row_of s d) (row_of s t) (link e c.0) l (rows_of_state s)) (rename_from s r d.number (Some e))) (sym (same_other e c.0 c.1 at))
+      (by_agrees e c.0 c.1 at (entry_at s.entries r.new_dir r.new_name) refl))
 
 between_agrees : (s : State) (r : Renaming) (d : Node) → Tree s → node_at s d.number ≡ Some d → (o : Option Node) → node_at s r.new_dir ≡ o
     → Agrees s (plan_rename_between r (row_of s d) (option_map (row_of s) o) (rows_of_state s)) (rename_between s r d o)
@@ -241,7 +292,15 @@ between_agrees s r d tree at_d (Some t) at =
     let named = subst (λ (k : ℕ). is_named s k ≡ true) (node_found s r.new_dir t tree at).0 (and_true (is_named s d.number) (is_named s t.number) asks.named).1 in
     from_agrees s r d t tree at_d at dirs.0 dirs.1 named asks.new_name (entry_at s.entries d.number r.old_name) refl))
 
+-- the row of the new directory is that of the node, also where that is the old one
+same_new_dir : (s : State) (k : ℕ) (d : Node) → Tree s → node_at s d.number ≡ Some d → new_dir_at k (row_of s d) (rows_of_state s) ≡ option_map (row_of s) (node_at s k)
+same_new_dir s k d tree at_d = step (d.number == k) refl
+  where
+    step : (b : Bool) → (d.number == k) ≡ b → cond b (Some (row_of s d)) (row_at (rows_of_state s) k) ≡ option_map (row_of s) (node_at s k)
+    step true is = sym (ap (option_map (row_of s)) (subst (λ (i : ℕ). node_at s i ≡ Some d) (eqb-true d.number k is) at_d))
+    step false is = row_found s k
+
 -- RENAME2, and with flags 0 RENAME
 pub renaming_agrees : (s : State) (r : Renaming) (d : Node) → Tree s → node_at s d.number ≡ Some d → Agrees s (plan_rename r (row_of s d) (rows_of_state s)) (rename s r d)
 renaming_agrees s r d tree at_d =
-    subst (λ (o : Option NodeRow). Agrees s (plan_rename_between r (row_of s d) o (rows_of_state s)) (rename s r d)) (sym (row_found s r.new_dir)) (between_agrees s r d tree at_d (node_at s r.new_dir) refl)
+    subst (λ (o : Option NodeRow). Agrees s (plan_rename_between r (row_of s d) o (rows_of_state s)) (rename s r d)) (sym (same_new_dir s r.new_dir d tree at_d)) (between_agrees s r d tree at_d (node_at s r.new_dir) refl)

@@ -18,6 +18,7 @@ pub mod Renaming
 pub mod Opening
 pub mod Listing
 pub mod Do
+pub mod Columns
 pub mod Plan
 pub mod Reading
 pub mod PlanInit

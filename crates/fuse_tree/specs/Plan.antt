@@ -14,6 +14,7 @@ use Rattle.fuse_tree.specs.State.{State, Tree, Apart, new_store}
 use Rattle.fuse_tree.specs.Rows.{rowed, apply}
 use Rattle.fuse_tree.specs.Done.{Done}
 use Rattle.fuse_tree.specs.Do.{done}
+use Rattle.fuse_tree.specs.Columns.{FitColumns}
 
 abbrev pub makes_entry : Change → Bool
 makes_entry (changes.Entry entry) = true
@@ -27,11 +28,13 @@ takes_entry _ = false
 abbrev pub GoneFirst : List Change → Type 0
 GoneFirst = Apart (λ change later. makes_entry change ≡ true → takes_entry later ≡ false)
 
--- the plan is what is done: its answer is the one said, and its changes make the rows of the state after it, a tree
+-- the plan is what is done: its answer is the one said, and its changes, each of which fits a table, make the rows of the
+-- state after it, a tree
 pub record Meets (s : State) (p : Planned) (d : Done) : Type 0 where
   pub answer : p.answer ≡ d.said
   pub rows : apply (rowed s) p.changes ≡ rowed d.state
   pub order : GoneFirst p.changes
+  pub fits : FitColumns p.changes
   pub tree : Tree d.state
 
 -- the fault of a look that is answered

@@ -1,13 +1,13 @@
 -- What the plan of READDIR reads off the rows (own profile), in the order of its checks.
 -- Not part of what is trusted: neither `done` nor the public clauses of `plan` speak of it.
-use Rattle.std.specs.Prelude.{◌≡◌, ◌≢◌, ◌≤◌, ◌+◌, ◌/◌, ◌==◌, ℕ, not, nat_lt, if◌then◌else◌, List, ◌++◌, length, map, filter, Option, Some, None, Result, IfOk, IfErr}
+use Rattle.std.specs.Prelude.{◌≡◌, ◌≢◌, ◌<◌, ◌≤◌, ◌+◌, ◌/◌, ◌==◌, ℕ, not, nat_lt, if◌then◌else◌, List, ◌++◌, length, map, take, filter, Option, Some, None, Result, IfOk, IfErr}
+use Rattle.std.specs.List.{sum_by}
 use Rattle.fuse_wire.specs.Errnos.{enoent, ebadf, enotdir, einval}
 use Rattle.fuse_request.specs.declared.request.ReadIn.{ReadIn}
-use Rattle.fuse_answer.specs.Entries.{Entry, entries_bytes}
-use Rattle.fuse_tree.specs.Bounds.{read_limit, name_limit, fuse_root_id}
+use Rattle.fuse_answer.specs.Entries.{Entry, entry_len, entries_bytes}
+use Rattle.fuse_tree.specs.Bounds.{read_limit, name_limit, fuse_root_id, least_entry}
 use Rattle.fuse_tree.specs.declared.planning.fault.PlanFault.{PlanFault}
 use Rattle.fuse_tree.specs.declared.planning.fault.PlanFault.TheVariants as faults
-use Rattle.fuse_tree.specs.Bounds.{least_entry}
 use Rattle.fuse_tree.specs.declared.rows.NodeRow.{NodeRow}
 use Rattle.fuse_tree.specs.declared.rows.EntryRow.{EntryRow}
 use Rattle.fuse_tree.specs.declared.rows.Planned.{Planned}
@@ -39,6 +39,15 @@ dots_behind offset row = filter (is_behind offset) (dots row.node (row_above row
 
 abbrev pub rows_behind : ℕ → ℕ → NodeRow → Rows → List Entry
 rows_behind offset size row rows = dots_behind offset row ++ map (row_entry rows) (entries_after rows row.node offset (enough size))
+
+-- how many bytes the entry takes in a listing
+abbrev pub row_len : EntryRow → ℕ
+row_len e = entry_len (length e.name)
+
+-- the first n entries are followed by one that ends past so many bytes, or they are all
+pub record IsCut (es : List EntryRow) (left n : ℕ) : Type 0 where
+  pub within : n ≤ length es
+  pub past : n < length es → left < sum_by row_len (take (n + 1) es)
 
 -- ---- READDIR
 

@@ -1,6 +1,7 @@
 -- What the plans of RENAME and RENAME2 read off the rows (own profile), in the order of their checks.
 -- Not part of what is trusted: neither `done` nor the public clauses of `plan` speak of it.
-use Rattle.std.specs.Prelude.{◌+◌, ◌-◌, ◌==◌, ◌&&◌, ◌||◌, ℕ, Bool, false, nat_le, nat_lt, if◌then◌else◌, List, [], ◌∷◌, ◌++◌, is_some, Option, Some, None}
+use Rattle.std.specs.Prelude.{◌+◌, ◌-◌, ◌==◌, ◌&&◌, ◌||◌, ℕ, Bool, false, not, nat_eq, nat_le, nat_lt, if◌then◌else◌, List, [], ◌∷◌, ◌++◌, is_some, Option, Some, None}
+use Rattle.std.specs.Cmp.Lexicographic.{pointwise}
 use Rattle.fuse_wire.specs.declared.errno.Errno.{Errno}
 use Rattle.fuse_wire.specs.Errnos.{enoent, eexist, einval, enospc, enotempty, estale}
 use Rattle.fuse_wire.specs.declared.moment.Moment.{Moment}
@@ -64,18 +65,18 @@ abbrev pub is_same_link : Link → Option Link → Bool
 is_same_link source None = false
 is_same_link source (Some other) = source.cookie == other.cookie
 
--- the child is a directory that can't come to stand in this one
-abbrev pub row_holds : Rows → NodeRow → ℕ → Bool
-row_holds rows child dir = is_dir child.mode && leads_to rows.entries rows.counters.nodes child.node dir
+-- the child is a directory that can't come to stand in this one; in the one where it stands it can
+abbrev pub row_holds : Rows → NodeRow → ℕ → ℕ → Bool
+row_holds rows child from dir = is_dir child.mode && (not (from == dir) && leads_to rows.entries rows.counters.nodes child.node dir)
 
 -- why a node with entries can't be replaced
 abbrev pub entries_fault : Rows → ℕ → Option Errno
 entries_fault rows dir = if has_entries rows.entries dir then Some enotempty else None
 
--- why the source can't come to stand where the other link is
+-- why the source can't come to stand where the other link is; no file has entries
 abbrev pub link_fault : Rows → Link → Option Link → Option Errno
 link_fault rows source None = None
-link_fault rows source (Some other) = kinds_fault (is_dir_link source) (is_dir_link other) (has_entries rows.entries other.child.node)
+link_fault rows source (Some other) = kinds_fault (is_dir_link source) (is_dir_link other) (is_dir_link other && has_entries rows.entries other.child.node)
 
 -- ---- RENAME
 
@@ -102,7 +103,7 @@ plan_rename_fitting r from to source other rows = refused_for (link_fault rows s
 abbrev pub plan_rename_link : Renaming → NodeRow → NodeRow → Link → Option Link → Rows → Planned
 plan_rename_link r from to source other rows =
     if is_same_link source other then told []
-    else if row_holds rows source.child r.new_dir then refused einval
+    else if row_holds rows source.child from.node r.new_dir then refused einval
     else plan_rename_fitting r from to source other rows
 
 -- ---- EXCHANGE
@@ -123,7 +124,7 @@ plan_exchange_with_room r from to source other rows =
 
 abbrev pub plan_exchange_apart : Renaming → NodeRow → NodeRow → Link → Link → Rows → Planned
 plan_exchange_apart r from to source other rows =
-    if row_holds rows source.child r.new_dir || row_holds rows other.child from.node then refused einval
+    if row_holds rows source.child from.node r.new_dir || row_holds rows other.child r.new_dir from.node then refused einval
     else plan_exchange_with_room r from to source other rows
 
 abbrev pub plan_exchange_link : Renaming → NodeRow → NodeRow → Link → Option Link → Rows → Planned
@@ -140,9 +141,13 @@ plan_rename_by r from to source other rows =
     else if is_no_replace r.mode && is_some other then refused eexist
     else plan_rename_link r from to source other rows
 
+-- what stands at the new place, which may be the old one
+abbrev pub other_at : Renaming → ℕ → Link → Rows → Option Link
+other_at r dir source rows = if (dir == r.new_dir) && pointwise nat_eq r.old_name r.new_name then Some source else link_at rows r.new_dir r.new_name
+
 abbrev pub plan_rename_from : Renaming → NodeRow → NodeRow → Option Link → Rows → Planned
 plan_rename_from r from to None rows = refused enoent
-plan_rename_from r from to (Some source) rows = plan_rename_by r from to source (link_at rows r.new_dir r.new_name) rows
+plan_rename_from r from to (Some source) rows = plan_rename_by r from to source (other_at r from.node source rows) rows
 
 abbrev pub plan_rename_between : Renaming → NodeRow → Option NodeRow → Rows → Planned
 plan_rename_between r from None rows = refused estale
@@ -150,5 +155,9 @@ plan_rename_between r from (Some to) rows =
     refused_for (asked_fault r (is_dir from.mode && is_dir to.mode) (row_is_named from && row_is_named to))
     (plan_rename_from r from to (link_at rows from.node r.old_name) rows)
 
+-- the row of the new directory, which may be the old one
+abbrev pub new_dir_at : ℕ → NodeRow → Rows → Option NodeRow
+new_dir_at new_dir from rows = if from.node == new_dir then Some from else row_at rows new_dir
+
 abbrev pub plan_rename : Renaming → NodeRow → Rows → Planned
-plan_rename r from rows = plan_rename_between r from (row_at rows r.new_dir) rows
+plan_rename r from rows = plan_rename_between r from (new_dir_at r.new_dir from rows) rows

@@ -5,8 +5,8 @@ use Rattle.fuse_wire.specs.declared.errno.Errno.{Errno}
 use Rattle.fuse_wire.specs.Errnos.{enoent, eexist, enotdir, eisdir, einval, enospc, enotempty, estale}
 use Rattle.fuse_wire.specs.declared.moment.Moment.{Moment}
 use Rattle.fuse_tree.specs.Bounds.{number_end}
-use Rattle.fuse_tree.specs.declared.planning.rename.RenameMode.{RenameMode}
-use Rattle.fuse_tree.specs.declared.planning.rename.RenameMode.TheVariants.{Replace, NoReplace, Exchange}
+use Rattle.fuse_tree.specs.declared.rename_mode.RenameMode.{RenameMode}
+use Rattle.fuse_tree.specs.declared.rename_mode.RenameMode.TheVariants.{Replace, NoReplace, Exchange}
 use Rattle.fuse_tree.specs.Modes.{rename_noreplace, rename_exchange}
 use Rattle.fuse_tree.specs.declared.rows.EntryRow.{EntryRow}
 use Rattle.fuse_tree.specs.State.{State, Node, Tree, is_dir, is_dir_of, is_named, name_fault, node_at, above}

@@ -6,9 +6,11 @@ mod limits;
 mod look;
 mod mode;
 mod mount;
+mod new_node;
 mod pieces;
 mod plain;
 mod planning;
+mod rename_mode;
 mod rows;
 
 pub use laws::{

@@ -59,13 +59,13 @@ fn exchange_apart<L: Look>(
     ensures looks { look_fault result ≡ None → L.looks look.old look.new }
     ensures fails { OnErr result (L.fails look.old look.new) }
 {
-    if is_either_held(look, &source.child, asked.new_dir, &other.child, from.node)? {
+    if is_either_held(look, &source.child, from.node, &other.child, asked.new_dir)? {
         return Ok(refused(alloc, Errno::EINVAL));
     }
     exchange_with_room(alloc, look, asked, from, to, source, other)
 }
 
-// Whether one of two children is a directory that can't come to stand in its new one.
+// Whether one of two children is a directory that can't come to stand in the other's directory.
 fn is_either_held<L: Look>(
     look: &mut L,
     child: &NodeRow,
@@ -74,15 +74,15 @@ fn is_either_held<L: Look>(
     other_dir: u64,
 ) -> Result<bool, PlanFault>
     requires { L.fault look.old ≡ None }
-    ensures held { Reads (L.is_clean look.new) (L.sees look.old) result (λ rows. row_holds rows child.now dir || row_holds rows other.now other_dir) }
+    ensures held { Reads (L.is_clean look.new) (L.sees look.old) result (λ rows. row_holds rows child.now dir other_dir || row_holds rows other.now other_dir dir) }
     ensures fault { L.fault look.new ≡ look_fault result }
     ensures looks { look_fault result ≡ None → L.looks look.old look.new }
     ensures fails { OnErr result (L.fails look.old look.new) }
 {
-    if is_held(look, child, dir)? {
+    if is_held(look, child, dir, other_dir)? {
         return Ok(true);
     }
-    is_held(look, other, other_dir)
+    is_held(look, other, other_dir, dir)
 }
 
 // Where there are two cookies left.

@@ -11,19 +11,10 @@ use super::fault::PlanFault;
 use super::finding::{find_counters, is_taken};
 use crate::limits::{COUNTER_END, MAX_NODES};
 use crate::look::Look;
+use crate::new_node::NewNode;
 use crate::rows::{Change, ChangeList, Counters, EntryRow, NodeRow, Planned};
 use fuse_wire::{ByteList, Errno, Memory, Moment};
 use std::alloc::Global;
-
-/// What a request's new node begins with.
-#[derive(Clone, Copy)]
-pub struct NewNode {
-    pub mode: u32,
-    pub uid: u32,
-    pub gid: u32,
-    pub rdev: u32,
-    pub made: Moment,
-}
 
 // A new node in the directory of this row, where the name is free.
 pub(crate) fn plan_make<L: Look>(

@@ -1,16 +1,18 @@
-ghost use Rattle.std.specs.Prelude.{◌≡◌, ◌≤◌, ◌++◌, None, All, map, IfOk, IfErr, OnOk, OnErr, ◌≢◌};
-ghost use Rattle.std.specs.List.{AllByRecursion};
-ghost use Rattle.fuse_answer.specs.Entries.{entry_of, IsNamed};
+ghost use Rattle.std.specs.Prelude.{◌≡◌, ◌≤◌, ◌*◌, ◌++◌, [], if◌then◌else◌, None, All, length, map, IfOk, IfErr, OnOk, OnErr, ◌≢◌};
+ghost use Rattle.std.specs.List.{AllByRecursion, sum_by};
+ghost use Rattle.fuse_wire.specs.declared.errno.TheConstants.Errno.{EINVAL};
+ghost use Rattle.fuse_answer.specs.Entries.{entry_of, packed_len, IsNamed};
 ghost use Rattle.fuse_tree.specs.State.{type_of};
 ghost use Rattle.fuse_tree.specs.Rows.{Rows, IsRowed, entries_after};
 ghost use Rattle.fuse_tree.specs.Plan.{look_fault};
 ghost use Rattle.fuse_tree.specs.PlanListing as planning;
-ghost use Rattle.fuse_tree.specs.PlanListing.{dots_behind, row_above, row_entry, plan_front, plan_list, ReadsBy, IsShown};
-ghost use Rattle.fuse_tree.specs.Reading.{Reads};
+ghost use Rattle.fuse_tree.specs.PlanListing.{dots_behind, row_above, row_entry, row_len, plan_front, plan_list, ReadsBy, IsCut, IsShown};
+ghost use Rattle.fuse_tree.specs.Reading as planned;
+ghost use Rattle.fuse_tree.specs.Reading.{Reads, Tells, told};
 ghost use Rattle.fuse_tree.specs.declared.limits.TheConstants.{MAX_READ as max_read};
 ghost use Rattle.fuse_tree.specs.declared.mode.TheConstants.{S_IFDIR as s_ifdir};
 
-use super::answers::{refused, unchanged};
+use super::answers::{done_nothing, refused, unchanged};
 use super::attributes::is_directory;
 use super::fault::PlanFault;
 use super::finding::{find_node, is_open_at};
@@ -71,9 +73,73 @@ fn list<L: Look>(
 {
     let enough = size / LEAST_ENTRY + 1;
     let entries = find_entries(look, row.node, offset, enough as usize)?;
-    let mut dirents = dots_of(alloc, offset, row)?;
-    push_entries(look, &mut dirents, entries.as_slice())?;
+    let dirents = dots_of(alloc, offset, row)?;
+    list_behind(alloc, look, dirents, entries.as_slice(), size)
+}
+
+// Behind the dots as many entries as fit. No other's child is looked up.
+#[tactic(auto, using(crate::proofs::Cuts::same_told, crate::proofs::Cuts::none_told, crate::proofs::Cuts::dots_fit))]
+fn list_behind<'a, L: Look>(
+    alloc: Global,
+    look: &mut L,
+    mut dirents: Vec<Dirent<'a>>,
+    entries: &'a [EntryRow],
+    size: u32,
+) -> Result<Planned, PlanFault>
+    requires fault { L.fault look.old ≡ None }
+    requires size { size ≤ max_read }
+    requires few { length dirents.items ≤ 2 }
+    requires dots { sum_by packed_len (map entry_of dirents.items) ≡ 32 * length dirents.items }
+    requires named { All (λ d. IsNamed (entry_of d)) dirents.items }
+    ensures plan { look_fault result ≡ None → L.is_clean look.new → (rows : Rows) → IsRowed rows
+        → L.sees look.old rows → AllByRecursion (IsShown rows) entries.now
+        → Tells result (plan_front (map entry_of dirents.entry.items ++ map (row_entry rows) entries.now) size) }
+    ensures fault { L.fault look.new ≡ look_fault result }
+    ensures looks { look_fault result ≡ None → L.looks look.old look.new }
+    ensures fails { OnErr result (L.fails look.old look.new) }
+{
+    let dots_len = LEAST_ENTRY as usize * dirents.len();
+    let count = count_fitting(entries, (size as usize).saturating_sub(dots_len));
+    if count == 0 && dirents.is_empty() {
+        return Ok(list_nothing(alloc, entries.is_empty()));
+    }
+    push_entries(look, &mut dirents, &entries[..count])?;
     Ok(list_front(alloc, dirents.as_slice(), size)?)
+}
+
+// Where no entry fits: none is there, or the first one is too big.
+fn list_nothing(alloc: Global, is_all: bool) -> Planned
+    ensures { result ≡ (if is_all then told [] else planned.refused EINVAL) }
+{
+    if is_all {
+        done_nothing(alloc)
+    } else {
+        refused(alloc, Errno::EINVAL)
+    }
+}
+
+// How many entries come before the first that ends past so many bytes.
+fn count_fitting(entries: &[EntryRow], room: usize) -> usize
+    ensures { IsCut entries.now room result }
+{
+    let mut left = room;
+    let mut count = 0;
+    for entry in entries {
+        let len = len_of(entry);
+        if len > left {
+            return count;
+        }
+        left -= len;
+        count += 1;
+    }
+    count
+}
+
+// How many bytes the entry takes in a listing.
+fn len_of(entry: &EntryRow) -> usize
+    ensures { result ≡ row_len entry.now }
+{
+    Dirent::NAME_AT + entry.name.as_slice().len().next_multiple_of(8)
 }
 
 fn find_entries<L: Look>(

@@ -1,13 +1,14 @@
-ghost use Rattle.std.specs.Prelude.{◌≡◌, ◌&&◌, None, OnErr};
+ghost use Rattle.std.specs.Prelude.{◌≡◌, ◌==◌, ◌&&◌, nat_eq, None, IfOk, IfSome, OnErr};
+ghost use Rattle.std.specs.Cmp.Lexicographic.{pointwise};
 ghost use Rattle.fuse_tree.specs.Plan.{look_fault};
 ghost use Rattle.fuse_tree.specs.State.{is_dir};
 ghost use Rattle.fuse_tree.specs.Rows.{row_is_named};
 ghost use Rattle.fuse_tree.specs.Reading.{IsWithin, Reads};
 ghost use Rattle.fuse_tree.specs.PlanRemoving.{link_at};
 ghost use Rattle.fuse_tree.specs.Renaming as renaming;
-ghost use Rattle.fuse_tree.specs.Renaming.{mode_of, asked_fault};
+ghost use Rattle.fuse_tree.specs.Renaming.{asked_fault};
 ghost use Rattle.fuse_tree.specs.PlanRenaming as planning;
-ghost use Rattle.fuse_tree.specs.PlanRenaming.{renaming_of, is_same_link, row_holds, link_fault, plan_rename_from, plan_rename_by, plan_rename_link, plan_rename_fitting, plan_rename_with_room};
+ghost use Rattle.fuse_tree.specs.PlanRenaming.{renaming_of, is_same_link, row_holds, link_fault, new_dir_at, other_at, plan_rename_from, plan_rename_by, plan_rename_link, plan_rename_fitting, plan_rename_with_room};
 
 use super::answers::{done_nothing, refused};
 use super::attributes::is_directory;
@@ -19,40 +20,10 @@ use super::names::fault_of_name;
 use super::walking::lies_in;
 use crate::limits::COUNTER_END;
 use crate::look::Look;
+use crate::rename_mode::RenameMode;
 use crate::rows::{NodeRow, Planned};
 use fuse_wire::{Errno, Moment};
 use std::alloc::Global;
-
-/// The flag of RENAME2 that refuses to replace an entry.
-pub const RENAME_NOREPLACE: u32 = 1;
-
-/// The flag of RENAME2 that makes two children change places.
-pub const RENAME_EXCHANGE: u32 = 2;
-
-/// What is done about a node that stands at the new place.
-#[derive(Clone, Copy, Debug, PartialEq, Eq)]
-pub enum RenameMode {
-    /// It loses its name there. RENAME does so too.
-    Replace,
-    /// Nothing may stand there.
-    NoReplace,
-    /// It gets the old place.
-    Exchange,
-}
-
-impl RenameMode {
-    // What the flags of RENAME2 ask for. `None` where they have no meaning.
-    fn of(flags: u32) -> Option<RenameMode>
-        ensures { result ≡ mode_of flags }
-    {
-        match flags {
-            0 => Some(RenameMode::Replace),
-            RENAME_NOREPLACE => Some(RenameMode::NoReplace),
-            RENAME_EXCHANGE => Some(RenameMode::Exchange),
-            _ => None,
-        }
-    }
-}
 
 /// What RENAME and RENAME2 ask for, and when. Without a mode the flags have no meaning.
 #[derive(Clone, Copy)]
@@ -97,13 +68,33 @@ pub(crate) fn plan_rename<L: Look>(
     ensures looks { look_fault result ≡ None → L.looks look.old look.new }
     ensures fails { OnErr result (L.fails look.old look.new) }
 {
-    let Some(to) = find_node(look, asked.new_dir)? else {
+    let Some(to) = find_new_dir(look, asked.new_dir, from)? else {
         return Ok(refused(alloc, Errno::ESTALE));
     };
     if let Some(errno) = fault_of_asked(asked, from, &to) {
         return Ok(refused(alloc, errno));
     }
     rename_from(alloc, look, asked, from, &to)
+}
+
+// The row of the new directory, which is looked up only where it isn't the old one.
+fn find_new_dir<L: Look>(
+    look: &mut L,
+    new_dir: u64,
+    from: &NodeRow,
+) -> Result<Option<NodeRow>, PlanFault>
+    requires fault { L.fault look.old ≡ None }
+    requires within { IsWithin from.now }
+    ensures row { Reads (L.is_clean look.new) (L.sees look.old) result (new_dir_at new_dir from.now) }
+    ensures within { IfOk result (λ row. IfSome row IsWithin) }
+    ensures fault { L.fault look.new ≡ look_fault result }
+    ensures looks { look_fault result ≡ None → L.looks look.old look.new }
+    ensures fails { OnErr result (L.fails look.old look.new) }
+{
+    if from.node == new_dir {
+        return Ok(Some(*from));
+    }
+    find_node(look, new_dir)
 }
 
 // What is wrong before any entry is looked at.
@@ -163,13 +154,39 @@ fn rename_to<L: Look>(
     requires fault { L.fault look.old ≡ None }
     requires from_within { IsWithin from.now }
     requires to_within { IsWithin to.now }
-    ensures plan { Reads (L.is_clean look.new) (L.sees look.old) result (λ rows. plan_rename_by (renaming_of asked.now) from.now to.now source.now (link_at rows asked.now.new_dir asked.now.new_name.now) rows) }
+    ensures plan { Reads (L.is_clean look.new) (L.sees look.old) result (λ rows. plan_rename_by (renaming_of asked.now) from.now to.now source.now (other_at (renaming_of asked.now) from.now.node source.now rows) rows) }
     ensures fault { L.fault look.new ≡ look_fault result }
     ensures looks { look_fault result ≡ None → L.looks look.old look.new }
     ensures fails { OnErr result (L.fails look.old look.new) }
 {
-    let other = find_link(look, asked.new_dir, asked.new_name)?;
+    let other = find_other(look, asked, from.node, source)?;
     rename_by(alloc, look, asked, from, to, source, other)
+}
+
+// What stands under the new name, which is looked up only where it isn't the old place.
+fn find_other<L: Look>(
+    look: &mut L,
+    asked: &RenameIn<'_>,
+    dir: u64,
+    source: &Link,
+) -> Result<Option<Link>, PlanFault>
+    requires { L.fault look.old ≡ None }
+    ensures other { Reads (L.is_clean look.new) (L.sees look.old) result (λ rows. other_at (renaming_of asked.now) dir source.now rows) }
+    ensures fault { L.fault look.new ≡ look_fault result }
+    ensures looks { look_fault result ≡ None → L.looks look.old look.new }
+    ensures fails { OnErr result (L.fails look.old look.new) }
+{
+    if is_one_place(asked, dir) {
+        return Ok(Some(*source));
+    }
+    find_link(look, asked.new_dir, asked.new_name)
+}
+
+// Whether the old name in this directory is the new name in the new one.
+fn is_one_place(asked: &RenameIn<'_>, dir: u64) -> bool
+    ensures { result ≡ ((dir == asked.now.new_dir) && pointwise nat_eq asked.now.old_name.now asked.now.new_name.now) }
+{
+    dir == asked.new_dir && asked.old_name == asked.new_name
 }
 
 // By the mode, where the other link stands under the new name.
@@ -218,7 +235,7 @@ fn rename_link<L: Look>(
     if is_same(source, other) {
         return Ok(done_nothing(alloc));
     }
-    if is_held(look, &source.child, asked.new_dir)? {
+    if is_held(look, &source.child, from.node, asked.new_dir)? {
         return Ok(refused(alloc, Errno::EINVAL));
     }
     rename_fitting(alloc, look, asked, from, to, source, other)
@@ -234,19 +251,27 @@ fn is_same(source: &Link, other: Option<Link>) -> bool
     }
 }
 
-// Whether the child is a directory that can't come to stand in this one, since this one lies in it.
-pub(crate) fn is_held<L: Look>(look: &mut L, child: &NodeRow, dir: u64) -> Result<bool, PlanFault>
+// Whether the child is a directory that can't come to stand in this one, since this one lies in it. It stands in
+// the first, and can stay there.
+pub(crate) fn is_held<L: Look>(
+    look: &mut L,
+    child: &NodeRow,
+    from: u64,
+    dir: u64,
+) -> Result<bool, PlanFault>
     requires { L.fault look.old ≡ None }
-    ensures held { Reads (L.is_clean look.new) (L.sees look.old) result (λ rows. row_holds rows child.now dir) }
+    ensures held { Reads (L.is_clean look.new) (L.sees look.old) result (λ rows. row_holds rows child.now from dir) }
     ensures fault { L.fault look.new ≡ look_fault result }
     ensures looks { look_fault result ≡ None → L.looks look.old look.new }
     ensures fails { OnErr result (L.fails look.old look.new) }
 {
-    if is_directory(child.mode) {
-        lies_in(look, child.node, dir)
-    } else {
-        Ok(false)
+    if !is_directory(child.mode) {
+        return Ok(false);
     }
+    if from == dir {
+        return Ok(false);
+    }
+    lies_in(look, child.node, dir)
 }
 
 // Where the source may stand in the new directory.
@@ -295,6 +320,9 @@ fn fault_of_place<L: Look>(
     }
     if !is_dir && other_is_dir {
         return Ok(Some(Errno::EISDIR));
+    }
+    if !other_is_dir {
+        return Ok(None);
     }
     fault_of_entries(look, other.child.node)
 }
