@@ -1,0 +1,4 @@
+pub mod Asked
+pub mod Fronts
+pub mod Fits
+pub mod Same
