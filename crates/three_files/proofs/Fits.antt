@@ -21,7 +21,8 @@ use Rattle.fuse_keeper.specs.Model.{IsSoundModel}
 use Rattle.three_files.specs.declared.node.Node.{Node}
 use Rattle.three_files.specs.Nodes.{number_of, node_at, is_dir, content_of}
 use Rattle.three_files.specs.Answers.{refuse, give, refuse_for, entry_out, attr_out, open_out, give_entry, give_attr, give_open}
-use Rattle.three_files.specs.Asking.{name_fault, file_named, found, lookup, open_for, release, release_dir, read, said_at, said_for, names_node, said_init, offer_of, said_offered, said}
+use Rattle.three_files.specs.Asking.{name_fault, file_named, found, lookup, open_for, release, release_dir, read, said_at}
+use Rattle.three_files.specs.Asking.{said_for, names_node, said_init, offer_of, said_offered, said}
 use Rattle.three_files.specs.Listing.{entries_behind, fitting, first_fits, list, read_dir}
 use Rattle.three_files.specs.TheFiles.{the_files}
 use Rattle.three_files.proofs.Fronts.{fitting_fits}

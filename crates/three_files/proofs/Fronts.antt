@@ -1,5 +1,6 @@
 -- The entries behind an offset, and those of them that fit.
-use Rattle.std.proofs.Common.{◌≡◌, ◌≤◌, ◌-◌, ℕ, zero, suc, Bool, true, false, not, cond, nat_le, nat_lt, List, [], ◌∷◌, map, take, drop, refl, sym, ap, ◌∙◌, arith}
+use Rattle.std.proofs.Common.{◌≡◌, ◌≤◌, ◌-◌, ℕ, zero, suc, Bool, true, false, not, cond, nat_le, nat_lt, List, [], ◌∷◌, map}
+use Rattle.std.proofs.Common.{take, drop, refl, sym, ap, ◌∙◌, arith}
 use Rattle.std.specs.List.{sum_by}
 use Rattle.std.proofs.lemmas.Bool.{leb-true, leb-false, le-ltb}
 use Rattle.std.proofs.lemmas.List.{drop-map, drop_all}
@@ -78,5 +79,6 @@ first_that_fits (e ∷ es) size fits =
     step (nat_le (packed_len e) size) refl
 
 -- what is packed is what is to be listed
-pub front_listed : (es : List Entry) (size n : ℕ) (body : List ℕ) → (FirstIsTooBig es size → ⊥) → IsLongest es size n → body ≡ entries_bytes (take n es) → give body ≡ list es size
+pub front_listed : (es : List Entry) (size n : ℕ) (body : List ℕ) → (FirstIsTooBig es size → ⊥) → IsLongest es size n
+    → body ≡ entries_bytes (take n es) → give body ≡ list es size
 front_listed es size n body fits is e = rw (first_that_fits es size fits) (ap give (e ∙ ap entries_bytes (front_is es size n is)))

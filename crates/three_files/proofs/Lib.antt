@@ -2,3 +2,4 @@ pub mod Asked
 pub mod Fronts
 pub mod Fits
 pub mod Same
+pub mod Staying

@@ -11,11 +11,12 @@ use Rattle.three_files.specs.Asking.{offer_of, said_offered, said, agreed_by, ag
 use Rattle.three_files.specs.TheFiles.{the_files}
 use Rattle.three_files.specs.NeverChanges.{NeverChanges}
 
-same_offered : (s s' : Option Settings) (asked : Asked) (offer : Option InitIn) → is_some s ≡ true → is_some s' ≡ true → said_offered s' asked offer ≡ said_offered s asked offer
+same_offered : (s s' : Option Settings) (asked : Asked) (offer : Option InitIn) → is_some s ≡ true → is_some s' ≡ true
+    → said_offered s' asked offer ≡ said_offered s asked offer
 same_offered s s' asked (Some offer) some some' = refl
 same_offered s s' asked None some some' = rw (some, some') refl
 
-same_said : (s s' : Option Settings) (asked : Asked) → is_some s ≡ true → is_some s' ≡ true → said s' asked ≡ said s asked
+pub same_said : (s s' : Option Settings) (asked : Asked) → is_some s ≡ true → is_some s' ≡ true → said s' asked ≡ said s asked
 unfolding said
 same_said s s' asked some some' = same_offered s s' asked (offer_of asked.act) some some'
 
@@ -28,7 +29,7 @@ some_offered : (s : Option Settings) (offer : Option InitIn) → is_some s ≡ t
 some_offered s (Some offer) some = some_by s (agree offer) some
 some_offered s None some = some
 
-some_next : (s : Option Settings) (asked : Asked) → is_some s ≡ true → is_some (agreed_after s asked) ≡ true
+pub some_next : (s : Option Settings) (asked : Asked) → is_some s ≡ true → is_some (agreed_after s asked) ≡ true
 unfolding agreed_after
 some_next s asked some = some_offered s (offer_of asked.act) some
 

@@ -1,5 +1,6 @@
 -- What each request is answered, and what it leaves agreed on: the first check that applies decides. A moment doesn't matter.
-use Rattle.std.specs.Prelude.{◌==◌, ◌||◌, ℕ, Bool, true, false, not, nat_eq, nat_lt, if◌then◌else◌, List, [], length, take, drop, Option, Some, None, is_some, codes}
+use Rattle.std.specs.Prelude.{◌==◌, ◌||◌, ℕ, Bool, true, false, not, nat_eq, nat_lt, if◌then◌else◌, List, [], length, take, drop}
+use Rattle.std.specs.Prelude.{Option, Some, None, is_some, codes}
 use Rattle.std.specs.List.{list_any}
 use Rattle.std.specs.Cmp.Lexicographic.{pointwise}
 use Rattle.fuse_wire.specs.declared.access_mode.AccessMode.{AccessMode}

@@ -4,3 +4,4 @@ pub mod Listing
 pub mod Asking
 pub mod TheFiles
 pub mod NeverChanges
+pub mod Serving

@@ -2,7 +2,8 @@
 ghost use Rattle.std.specs.Prelude.{◌≡◌, IfOk, OnOk};
 ghost use Rattle.fuse_request.specs.Act.{asked, act};
 ghost use Rattle.three_files.specs.Asking as asking;
-ghost use Rattle.three_files.specs.Asking.{name_fault, file_named, said, said_agreed, said_at, agreed_after};
+ghost use Rattle.three_files.specs.Asking.{name_fault, file_named};
+ghost use Rattle.three_files.specs.Asking.{said, said_agreed, said_at, agreed_after};
 
 use crate::attributes::{attr_answer, entry_answer};
 use crate::init::init;
@@ -60,7 +61,8 @@ fn lookup(alloc: Global, name: &[u8], node: Node) -> Result<Answer, Memory>
     }
 }
 
-// What is asked at a node. All that would change something is refused; the last line is of what isn't asked here.
+// What is asked at a node. All that would change something is refused; the last line is of what
+// isn't asked here.
 fn answer_at(alloc: Global, op: &Op<'_>, node: Node) -> Result<Answer, Memory>
     ensures { IfOk result (λ answer. answer ≡ said_at (act op.now) node) }
 {
@@ -99,7 +101,8 @@ fn answer_agreed(alloc: Global, request: &Request<'_>) -> Result<Answer, Memory>
     }
 }
 
-// What a request is answered, and what it leaves agreed on. INIT is answered always, and all else where settings are agreed on.
+// What a request is answered, and what it leaves agreed on. INIT is answered always, and all else
+// where settings are agreed on.
 #[tactic(auto, using(crate::proofs::Asked::offers_nothing), unfolding(crate::specs::Asking::said, crate::specs::Asking::agreed_after))]
 pub(crate) fn answer(
     alloc: Global,

@@ -10,8 +10,10 @@ mod limits;
 mod listing;
 mod node;
 mod opening;
+mod serving;
 
 pub use files::ThreeFiles;
 pub use laws::never_changes;
 pub use limits::{EROFS, MAX_NAME, MAX_READ};
 pub use node::Node;
+pub use serving::serve_files;

@@ -1,5 +1,5 @@
-// OPEN, OPENDIR, READ, RELEASE and RELEASEDIR. The handle of an open node is its number: nothing depends on how often a
-// node is open, so that nothing is to be kept of it.
+// OPEN, OPENDIR, READ, RELEASE and RELEASEDIR. The handle of an open node is its number: nothing
+// depends on how often a node is open, so that nothing is to be kept of it.
 ghost use Rattle.std.specs.Prelude.{◌≡◌, [], take, drop, IfOk};
 ghost use Rattle.three_files.specs.Answers.{give, give_open};
 ghost use Rattle.three_files.specs.Asking as asking;

@@ -1,0 +1,25 @@
+// Serving the three files.
+ghost use Rattle.std.specs.Prelude.{◌≡◌, ◌<◌, ◌^◌, false};
+ghost use Rattle.three_files.specs.Serving.{files_told, FilesStay};
+
+use crate::files::ThreeFiles;
+use fuse_keeper::PlainKeeper;
+use fuse_session::{Clock, Port, Served, serve};
+use std::alloc::Global;
+
+/// Serves the files, as `serve` does. However it ends and whatever was asked, they stay as they were.
+pub fn serve_files<P: Port, C: Clock>(
+    alloc: Global,
+    keeper: &mut PlainKeeper<ThreeFiles>,
+    port: &mut P,
+    clock: &mut C,
+    turns: u32,
+) -> Served
+    requires going { (files_told keeper.old).has_failed ≡ false }
+    requires receives { (P.told port.old).receives < 2 ^ 62 }
+    requires failures { (P.told port.old).failures < 2 ^ 62 }
+    ensures { FilesStay (files_told keeper.old) (files_told keeper.new)
+        (P.told port.old) (P.told port.new) }
+{
+    serve(alloc, keeper, port, clock, turns)
+}
