@@ -17,3 +17,6 @@ pub use laws::never_changes;
 pub use limits::{EROFS, MAX_NAME, MAX_READ};
 pub use node::Node;
 pub use serving::serve_files;
+
+#[cfg(test)]
+mod tests;
