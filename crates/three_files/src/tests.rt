@@ -8,6 +8,7 @@ use std::alloc::{AllocError, Global};
 use std::test::*;
 use texts::*;
 
+mod mounts;
 mod texts;
 
 const NOW: Moment = Moment {
