@@ -1,5 +1,6 @@
 // Serving the three files.
-ghost use Rattle.std.specs.Prelude.{◌≡◌, ◌<◌, ◌^◌, false};
+ghost use Rattle.std.specs.Prelude.{◌≡◌, ◌<◌, ◌^◌, false, []};
+ghost use Rattle.fuse_session.specs.Ends.{EndsAs};
 ghost use Rattle.three_files.specs.Serving.{files_told, FilesStay};
 
 use crate::files::ThreeFiles;
@@ -18,7 +19,12 @@ pub fn serve_files<P: Port, C: Clock>(
     requires going { (files_told keeper.old).has_failed ≡ false }
     requires receives { (P.told port.old).receives < 2 ^ 62 }
     requires failures { (P.told port.old).failures < 2 ^ 62 }
-    ensures { FilesStay (files_told keeper.old) (files_told keeper.new)
+    // What was worked off and answered at each of the ends, as `serve` says.
+    ensures ends { EndsAs (files_told keeper.old) (files_told keeper.new) (C.may_answer clock.old)
+        (P.told port.old) (P.told port.new) [] [] 0 turns result.ended result.counts }
+
+    // What was asked changes nothing of the files.
+    ensures files { FilesStay (files_told keeper.old) (files_told keeper.new)
         (P.told port.old) (P.told port.new) }
 {
     serve(alloc, keeper, port, clock, turns)

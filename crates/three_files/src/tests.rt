@@ -1,7 +1,7 @@
 //! Sessions over the three files, and mounts with crashes.
 
-use crate::{ThreeFiles, serve_files};
-use fuse_keeper::{Keeper, PlainKeeper};
+use crate::{Node, ThreeFiles, never_changes, serve_files};
+use fuse_keeper::{Keeper, PlainKeeper, StoreFault};
 use fuse_session::{Ended, Fixed, MemoryPort, SessionCounts};
 use fuse_wire::Moment;
 use std::alloc::{AllocError, Global};
@@ -83,22 +83,37 @@ fn ended_well(kept: u64, repeated: u64) -> Seen {
     }
 }
 
-// A session of these, in one piece, over new files.
-fn seen_of(alloc: Global, pairs: &[Pair]) -> Result<Option<Seen>, Fail> {
+// A session of these, in one piece, where the keeper hasn't failed.
+fn serve_on(
+    alloc: Global,
+    keeper: &mut PlainKeeper<ThreeFiles>,
+    pairs: &[Pair],
+) -> Result<Option<Seen>, AllocError> {
     let session = session_of(alloc, pairs)?;
-    let mut keeper: PlainKeeper<ThreeFiles> = PlainKeeper::new(alloc, NOW)?;
     if keeper.failed() {
         return Ok(None);
     }
     let arrivals = Vec::new(alloc);
     let outcomes = Vec::new(alloc);
     let mut port = MemoryPort::new(alloc, session.input, arrivals, outcomes, false);
-    let served = serve_files(alloc, &mut keeper, &mut port, &mut Fixed(NOW), 1000);
+    let served = serve_files(alloc, keeper, &mut port, &mut Fixed(NOW), 1000);
     Ok(Some(Seen {
         is_end: matches!(served.ended, Ended::End),
         is_sent: port.sent() == session.wanted.as_slice(),
         counts: served.counts,
     }))
+}
+
+// The same over new files.
+fn seen_of(alloc: Global, pairs: &[Pair]) -> Result<Option<Seen>, Fail> {
+    let mut keeper: PlainKeeper<ThreeFiles> = PlainKeeper::new(alloc, NOW)?;
+    Ok(serve_on(alloc, &mut keeper, pairs)?)
+}
+
+// How many nodes and handles a keeper has.
+fn held(keeper: &mut PlainKeeper<ThreeFiles>) -> Result<(u64, u64), StoreFault> {
+    let counts = keeper.counts()?;
+    Ok((counts.nodes, counts.handles))
 }
 
 #[test]
@@ -128,4 +143,30 @@ fn before_init(rt: HostRuntime) -> Result<(), Fail> {
     let seen = seen_of(rt.alloc(), &BEFORE_INIT)?;
     assert_eq!(rt; seen, Some(ended_well(2, 0)));
     Ok(())
+}
+
+// A new mount has agreed on nothing yet, and the files are those of before.
+#[test]
+fn mounted_again(rt: HostRuntime) -> Result<(), Fail> {
+    let alloc = rt.alloc();
+    let mut keeper: PlainKeeper<ThreeFiles> = PlainKeeper::new(alloc, NOW)?;
+    let first = serve_on(alloc, &mut keeper, &CHANGING)?;
+    keeper.begin_mount()?;
+    let again = serve_on(alloc, &mut keeper, &BEFORE_INIT)?;
+    assert_eq!(rt; first, Some(ended_well(11, 1)));
+    assert_eq!(rt; again, Some(ended_well(2, 0)));
+    assert_eq!(rt; held(&mut keeper)?, (4, 0));
+    Ok(())
+}
+
+#[test]
+fn nodes(rt: HostRuntime) {
+    never_changes();
+    assert_eq!(rt; Node::at(4), Some(Node::Hours));
+    assert_eq!(rt; Node::at(5), None);
+    assert_eq!(rt; Node::Licence.number(), 3);
+    assert_eq!(rt; Node::Licence.name(), b"licence".as_slice());
+    assert_eq!(rt; Node::Hours.content(), b"9 to 5".as_slice());
+    assert_eq!(rt; Node::Directory.mode(), 0o040555);
+    assert!(rt; Node::Directory.is_directory());
 }

@@ -1,8 +1,8 @@
 use Rattle.three_files.proofs.Staying.{lived_same}
 use Rattle.three_files.proofs.serving.serve_files.Goals as goal
 
-pub returns : goal.returns
-returns g c =
+pub returns-clause-files : goal.returns-clause-files
+returns-clause-files g c =
     let run = c.serve.ensures.life in
     record {
       received = run.received;
