@@ -8,7 +8,8 @@ use fuse_keeper::PlainKeeper;
 use fuse_session::{Clock, Port, Served, serve};
 use std::alloc::Global;
 
-/// Serves the files, as `serve` does. However it ends and whatever was asked, they stay as they were.
+/// Serves the files, as `serve` does. However it ends and whatever was asked, they stay as they
+/// were.
 pub fn serve_files<P: Port, C: Clock>(
     alloc: Global,
     keeper: &mut PlainKeeper<ThreeFiles>,

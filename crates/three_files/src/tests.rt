@@ -61,7 +61,8 @@ fn session_of(alloc: Global, pairs: &[Pair]) -> Result<Session, AllocError> {
     Ok(session)
 }
 
-// What a session did: whether it ended where its bytes do, whether just what was wanted was sent, and its counts.
+// What a session did: whether it ended where its bytes do, whether just what was wanted was sent,
+// and its counts.
 #[derive(Clone, Copy, Debug, PartialEq, Eq)]
 struct Seen {
     is_end: bool,

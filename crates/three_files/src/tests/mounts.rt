@@ -3,11 +3,12 @@ use super::*;
 use fuse_sim::{Event, Fate, Outcome, drive};
 use fuse_wire::ByteList;
 
-// What becomes of a message, and the message with its answer, which the kernel takes only where it is answered.
+// What becomes of a message, and the message with its answer, which the kernel takes only where it
+// is answered.
 type Step = (Fate, Pair);
 
-// The server dies before it commits MKDIR, and is asked again; its refusal is lost with the server, and is asked for
-// once more. Then it dies behind a READ, which is resent.
+// The server dies before it commits MKDIR, and is asked again; its refusal is lost with the server,
+// and is asked for once more. Then it dies behind a READ, which is resent.
 const STEPS: [Step; 7] = [
     (Fate::Answered, INIT),
     (Fate::Answered, OPEN),
