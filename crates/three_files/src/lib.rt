@@ -1,0 +1,22 @@
+//! A file system of three files that nobody can change: an example of one that isn't a tree.
+#![tactic(auto)]
+
+mod asking;
+mod attributes;
+mod files;
+mod init;
+mod laws;
+mod limits;
+mod listing;
+mod node;
+mod opening;
+mod serving;
+
+pub use files::ThreeFiles;
+pub use laws::never_changes;
+pub use limits::{EROFS, MAX_NAME, MAX_READ};
+pub use node::Node;
+pub use serving::serve_files;
+
+#[cfg(test)]
+mod tests;

@@ -1,0 +1,32 @@
+// Serving the three files.
+ghost use Rattle.std.specs.Prelude.{◌≡◌, ◌<◌, ◌^◌, false, []};
+ghost use Rattle.fuse_session.specs.Ends.{EndsAs};
+ghost use Rattle.three_files.specs.Serving.{files_told, FilesStay};
+
+use crate::files::ThreeFiles;
+use fuse_keeper::PlainKeeper;
+use fuse_session::{Clock, Port, Served, serve};
+use std::alloc::Global;
+
+/// Serves the files, as `serve` does. However it ends and whatever was asked, they stay as they
+/// were.
+pub fn serve_files<P: Port, C: Clock>(
+    alloc: Global,
+    keeper: &mut PlainKeeper<ThreeFiles>,
+    port: &mut P,
+    clock: &mut C,
+    turns: u32,
+) -> Served
+    requires going { (files_told keeper.old).has_failed ≡ false }
+    requires receives { (P.told port.old).receives < 2 ^ 62 }
+    requires failures { (P.told port.old).failures < 2 ^ 62 }
+    // What was worked off and answered at each of the ends, as `serve` says.
+    ensures ends { EndsAs (files_told keeper.old) (files_told keeper.new) (C.may_answer clock.old)
+        (P.told port.old) (P.told port.new) [] [] 0 turns result.ended result.counts }
+
+    // What was asked changes nothing of the files.
+    ensures files { FilesStay (files_told keeper.old) (files_told keeper.new)
+        (P.told port.old) (P.told port.new) }
+{
+    serve(alloc, keeper, port, clock, turns)
+}
