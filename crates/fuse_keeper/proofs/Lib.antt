@@ -3,5 +3,6 @@ pub mod Standing
 pub mod Performing
 pub mod Overlays
 pub mod Counting
+pub mod Copying
 pub mod Keeping
 pub mod Small

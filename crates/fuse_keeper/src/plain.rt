@@ -18,6 +18,17 @@ use fuse_wire::{Id, Memory, Moment};
 use std::alloc::Global;
 use std::collections::HashMap;
 
+// A map of the same records.
+fn copy_of(records: &HashMap<u64, Answer>, alloc: Global) -> Result<HashMap<u64, Answer>, Memory>
+    ensures { IfOk result (λ copy. (i : ℕ) → mapped copy i ≡ mapped records.now i) }
+{
+    let mut copy = HashMap::new(alloc);
+    for (id, answer) in records.iter() {
+        copy.insert(*id, answer.to_copy(alloc)?)?;
+    }
+    Ok(copy)
+}
+
 /// A keeper whose rows are lists and whose records are a map, all in memory. A crash leaves what it holds.
 #[derive(Drop)]
 pub struct PlainKeeper<F> {
@@ -29,7 +40,7 @@ pub struct PlainKeeper<F> {
 
 impl<F: FileSystem> PlainKeeper<F> {
     ghost use Rattle.fuse_keeper.specs.PlainKeeper.{plain_holds, plain_told};
-    ghost use Rattle.fuse_keeper.specs.KeeperState.{StandsFor};
+    ghost use Rattle.fuse_keeper.specs.KeeperState.{StandsFor, KeepsHeld};
 
     /// A new store, made at this moment.
     pub fn new(alloc: Global, now: Moment) -> Result<PlainKeeper<F>, Memory>
@@ -52,6 +63,21 @@ impl<F: FileSystem> PlainKeeper<F> {
             records: HashMap::new(alloc),
             failed: false,
         }
+    }
+
+    /// A keeper that holds the same, as if no call of it had failed.
+    pub fn to_copy(&self) -> Result<PlainKeeper<F>, Memory>
+        ensures same { IfOk result (λ copy. KeepsHeld (plain_told F.model F.held self.now) (plain_told F.model F.held copy)) }
+        ensures no_more { IfOk result (λ copy. KeepsHeld (plain_told F.model F.held copy) (plain_told F.model F.held self.now)) }
+        ensures going { IfOk result (λ copy. (plain_told F.model F.held copy).has_failed ≡ false) }
+    {
+        let rows = self.rows.to_copy()?;
+        Ok(PlainKeeper {
+            alloc: self.alloc,
+            rows,
+            records: copy_of(&self.records, self.alloc)?,
+            failed: false,
+        })
     }
 
     // Performs a group. A fault leaves what it holds.
