@@ -13,4 +13,6 @@ mod requests;
 #[cfg(test)]
 mod run;
 #[cfg(test)]
+mod sessions;
+#[cfg(test)]
 mod texts;

@@ -1,5 +1,6 @@
 //! Messages and answers as the rows have them, by what differs between them.
 use crate::hex::put_hex;
+use crate::run::Pair;
 use std::alloc::{AllocError, Global};
 
 /// The bit of `unique` that marks a resend.
@@ -78,7 +79,7 @@ fn put_destroy(out: &mut Vec<u8>, unique: u64) -> Result<(), AllocError> {
 }
 
 /// A message by its unique: MKDIR of a name, LOOKUP of `hello`, GETATTR of a node, FORGET, CREATE,
-/// DESTROY, or its text.
+/// DESTROY, its text, or the first of a pair.
 #[derive(Clone, Copy)]
 pub enum Ask {
     Mkdir(u64, u8),
@@ -88,6 +89,7 @@ pub enum Ask {
     Create(u64),
     Destroy(u64),
     Text(&'static str),
+    Of(Pair),
 }
 
 pub fn put_ask(out: &mut Vec<u8>, ask: Ask) -> Result<(), AllocError> {
@@ -99,6 +101,7 @@ pub fn put_ask(out: &mut Vec<u8>, ask: Ask) -> Result<(), AllocError> {
         Ask::Create(unique) => put_create(out, unique),
         Ask::Destroy(unique) => put_destroy(out, unique),
         Ask::Text(text) => put_hex(out, text),
+        Ask::Of((asked, _)) => put_hex(out, asked),
     }
 }
 
@@ -180,13 +183,15 @@ fn put_error(out: &mut Vec<u8>, unique: u64, errno: u32) -> Result<(), AllocErro
     out.extend_from_slice(&unique.to_le_bytes())
 }
 
-/// An answer by its unique: the entry or the attributes of a directory, an error, or its text.
+/// An answer by its unique: the entry or the attributes of a directory, an error, its text, or the
+/// second of a pair.
 #[derive(Clone, Copy)]
 pub enum Reply {
     Entry(u64, u64),
     Attr(u64, u64),
     Error(u64, u32),
     Text(&'static str),
+    Of(Pair),
 }
 
 pub fn put_reply(out: &mut Vec<u8>, reply: Reply) -> Result<(), AllocError> {
@@ -195,6 +200,7 @@ pub fn put_reply(out: &mut Vec<u8>, reply: Reply) -> Result<(), AllocError> {
         Reply::Attr(unique, node) => put_attr(out, unique, node),
         Reply::Error(unique, errno) => put_error(out, unique, errno),
         Reply::Text(text) => put_hex(out, text),
+        Reply::Of((_, answer)) => put_hex(out, answer),
     }
 }
 
