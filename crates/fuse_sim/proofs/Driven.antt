@@ -113,7 +113,7 @@ reused-parts u (x ∷ xs) ys none =
     let more = reused-parts (u ++ settles x) xs ys none.1 in
     ((none.0, more.0), more.1)
 
-settled_still : (u : List ℕ) (es : List Event) → Includes (settled_by u es) u
+pub settled_still : (u : List ℕ) (es : List Event) → Includes (settled_by u es) u
 settled_still u [] i there = there
 settled_still u (e ∷ es) i there = settled_still (u ++ settles e) es i (includes_left u (settles e) i there)
 

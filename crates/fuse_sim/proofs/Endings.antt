@@ -2,24 +2,25 @@
 use Rattle.std.proofs.Common.{◌≡◌, ℕ, ◌+◌, ◌≤◌, Bool, true, false, ◌||◌, inl, inr, List, [], ◌++◌, map, take, drop, Option, Some, None, IsSomeAnd, if◌then◌else◌, length, refl, sym, ap, subst, ◌∙◌}
 use Rattle.std.proofs.Math.Seq.{take-add}
 use Rattle.std.proofs.lemmas.List.{take_all}
-use Rattle.std.proofs.lemmas.List.Elements.{All-append}
+use Rattle.std.proofs.lemmas.List.Elements.{All-append, All-nil}
 use Rattle.fuse_keeper.specs.declared.fault.StoreFault.{StoreFault}
-use Rattle.fuse_keeper.specs.History.{History, HistoriesGrow, is_in, said}
+use Rattle.fuse_keeper.specs.History.{History, HistoriesGrow, Includes, is_in, said}
 use Rattle.fuse_keeper.specs.Model.{Model}
 use Rattle.fuse_keeper.specs.Stands.{Records}
-use Rattle.fuse_keeper.specs.KeeperState.{KeeperState, StandsFor, KeepsHeld}
+use Rattle.fuse_keeper.specs.KeeperState.{KeeperState, StandsFor, KeepsHeld, Tells, IsCount}
 use Rattle.fuse_sim.specs.declared.event.Event.{Event}
 use Rattle.fuse_sim.specs.declared.event.Outcome.{Outcome}
 use Rattle.fuse_sim.specs.declared.event.DriveFault.{DriveFault}
 use Rattle.fuse_sim.specs.declared.event.DriveFault.TheVariants.{NotAMessage, ZeroUnique, Store, Memory}
-use Rattle.fuse_sim.specs.Driving.{AnswersNoMore, committed, outcome_of, bytes_given, settled_by, NoneReused, told_in, StandsIn, IsFit, event_of, before, is_store, IsStoreFault, LeftBy}
+use Rattle.fuse_sim.specs.Driving.{committed, outcome_of, bytes_given, settled_by, NoneReused, told_in, StandsIn, became_in, deaths, Opened, AnsweredBy, IsFit, event_of, before, is_store, LeftBy}
 use Rattle.fuse_sim.specs.HandedOn.{Ledger, empty_ledger, ledger_after, handed_on}
-use Rattle.fuse_sim.specs.LeftRecords.{Behind, RecordsLeft}
-use Rattle.fuse_sim.specs.Running.{Moved, MayBegin, Stops}
+use Rattle.fuse_sim.specs.LeftRecords.{Behind, RecordsLeft, HoldsRecords}
+use Rattle.fuse_sim.specs.Running.{Moved, MayBegin, Opens, Stops}
 use Rattle.fuse_sim.proofs.Settled.{tested, is_in-append, stands_later, stands_kept}
-use Rattle.fuse_sim.proofs.Driven.{ledger-append, settled_all, includes_none, handed_came}
+use Rattle.fuse_sim.proofs.Driven.{ledger-append, pending_settled, settled_all, includes_none, handed_came}
 use Rattle.fuse_sim.proofs.Removed.{behind_handed, handed_behind}
-use Rattle.fuse_sim.proofs.Moves.{ran_more}
+use Rattle.fuse_sim.proofs.Moves.{ran_more, ran_none}
+use Rattle.fuse_sim.proofs.Openings.{opened_more, opened_still}
 
 -- events, and then others
 moved_parts : (M : Model) → HistoriesGrow M → (holds mid holds' : KeeperState M) (es es' others others' : List Event) (p p' : List ℕ) (new new' : List (Option Outcome)) → (holds'.is_honest → mid.is_honest)
@@ -39,6 +40,14 @@ moved_more M grows holds mid holds' events at n p p' new new' was one next =
     subst (λ es. Moved holds holds' empty_ledger es (drop (at + n) events) p' [] new') (sym (take-add at n events))
     (moved_parts M grows holds mid holds' (take at events) (take n (drop at events)) (drop at events) (drop (at + n) events) p p' new new' was one
     (next (ledger_after empty_ledger (take at events)) (sym one.pending) one.begin))
+
+-- none were run yet
+pub moved_none : (M : Model) → (k : KeeperState M) (others : List Event) (p : List ℕ) (new : List (Option Outcome)) → p ≡ [] → new ≡ [] → Moved k k empty_ledger [] others p [] new
+moved_none M k others p new same is = record { fit = All-nil IsFit; ran = ran_none M k empty_ledger [] new is; pending = same; begin = inl refl }
+
+-- what is pending was settled by the events
+pending_within : (l : Ledger) (p : List ℕ) (es : List Event) → l ≡ ledger_after empty_ledger es → p ≡ l.pending → (t : List ℕ) → Includes (settled_by t es) p
+pending_within l p es is same t = subst (Includes (settled_by t es)) (sym (same ∙ ap (λ (x : Ledger). x.pending) is)) (pending_settled t empty_ledger es (includes_none t))
 
 -- all were run
 pub moved_all : (M : Model) → (holds holds' : KeeperState M) (events others : List Event) (at : ℕ) (p : List ℕ) (new : List (Option Outcome)) → length events ≤ at
@@ -63,23 +72,33 @@ moved_outcomes M holds holds' es others p new moved is s h t so none = ap (map b
 pub moved_count : (M : Model) → (holds holds' : KeeperState M) (es others : List Event) (p : List ℕ) (new : List (Option Outcome)) → Moved holds holds' empty_ledger es others p [] new → length new ≡ length es
 moved_count M holds holds' es others p new moved = ap length moved.ran.items ∙ moved.ran.count
 
+pub moved_opened : (M : Model) → {K : Type 0} (told : K → KeeperState M) (became : K → K → ℕ → Type 0) → IsCount became → (old mid new : Option K) (events : List Event) (at n : ℕ) (p : List ℕ) (outcomes : List (Option Outcome))
+    → Moved (told_in told old) (told_in told mid) empty_ledger (take at events) (drop at events) p [] outcomes → Opened told became old mid (take at events)
+    → Opens told became mid new p (take n (drop at events)) → Opened told became old new (take (at + n) events)
+moved_opened M told became law old mid new events at n p outcomes moved opened opens =
+    subst (Opened told became old new) (sym (take-add at n events))
+    (opened_more M told became law old mid new (take at events) (take n (drop at events)) p (pending_within (ledger_after empty_ledger (take at events)) p (take at events) refl moved.pending)
+    (moved_stands M (told_in told old) (told_in told mid) (take at events) (drop at events) p outcomes moved) opened opens)
+
 -- which records are left
 kept_or_gone : {A : Type 0} (b : Bool) (o now : Option A) → now ≡ (if b then None else o) → (b ≡ true → ⊥) → now ≡ o
 kept_or_gone true o now is isnt = absurd (isnt refl)
 kept_or_gone false o now is isnt = is
 
 pub moved_records : (M : Model) → (holds holds' : KeeperState M) (es others : List Event) (p : List ℕ) (new : List (Option Outcome)) → Moved holds holds' empty_ledger es others p [] new
-    → holds'.is_honest → NoneReused [] es → (rows : M.Rows) (records : Records) → holds.holds rows records → (rows' : M.Rows) × (records' : Records) × holds'.holds rows' records' × RecordsLeft es records records'
-moved_records M holds holds' es others p new moved is none rows records held =
-    let done = moved.ran.records is rows records held in (
-      done.0,
-      done.1,
-      done.2,
-      record {
-        gone = λ i behind. done.3.gone [] (includes_none []) none i (behind_handed es i behind);
-        others = λ i isnt. kept_or_gone (is_in (handed_on empty_ledger es) i) (records i) (done.1 i) (done.3.others i isnt) (λ there. absurd (let came = handed_came es i there in cc (came, isnt)));
-      },
-    )
+    → NoneReused [] es → Tells holds holds' (λ rows records. HoldsRecords holds' (RecordsLeft es records))
+moved_records M holds holds' es others p new moved none is rows records held rowed =
+    let done = moved.ran.records is rows records held rowed in
+    record {
+      rows = done.rows;
+      records = done.records;
+      held = done.held;
+      rowed = done.rowed;
+      left = record {
+        gone = λ i behind. done.left.gone [] (includes_none []) none i (behind_handed es i behind);
+        others = λ i isnt. kept_or_gone (is_in (handed_on empty_ledger es) i) (records i) (done.records i) (done.left.others i isnt) (λ there. absurd (let came = handed_came es i there in cc (came, isnt)));
+      };
+    }
 
 not_handed : (es : List Event) (i : ℕ) → ¬ Behind 1 es i → is_in (handed_on empty_ledger es) i ≡ false
 not_handed es i isnt = elim (tested (is_in (handed_on empty_ledger es) i)) [
@@ -123,11 +142,11 @@ stopped_at M told old mid events at fault p outcomes moved place is s h t so non
     subst (λ es. StandsIn told mid s (committed h es) (settled_by t es)) (sym same)
     (moved_stands M (told_in told old) (told_in told mid) (take at events) (drop at events) p outcomes moved is s h t so (subst (NoneReused t) same none))
 
-pub stopped : (M : Model) → {K : Type 0} (told : K → KeeperState M) (refuses : K → StoreFault → Type 0) (old mid new : Option K) (events : List Event) (at : ℕ) (fault : DriveFault) (p : List ℕ) (outcomes : List (Option Outcome))
-    → ((k : K) → (told k).is_clean → (told k).is_honest) → Moved (told_in told old) (told_in told mid) empty_ledger (take at events) (drop at events) p [] outcomes → Stops told refuses mid new events at fault
+pub stopped : (M : Model) → {K : Type 0} (told : K → KeeperState M) (became : K → K → ℕ → Type 0) (refuses : K → StoreFault → Type 0) (old mid new : Option K) (events : List Event) (at : ℕ) (fault : DriveFault) (p : List ℕ) (outcomes : List (Option Outcome))
+    → ((k : K) → (told k).is_clean → (told k).is_honest) → Moved (told_in told old) (told_in told mid) empty_ledger (take at events) (drop at events) p [] outcomes → Stops told became refuses mid new events at fault
     → (s : M.State) (h : History) (t : List ℕ) → StandsIn told old s h t → NoneReused t (before fault events)
     → LeftBy (told_in told new) (is_store fault) (StandsIn told new s (committed h (before fault events)) (settled_by t (before fault events)))
-stopped M told refuses old mid new events at fault p outcomes too moved stops s h t so none =
+stopped M told became refuses old mid new events at fault p outcomes too moved stops s h t so none =
     left_map M told (is_store fault) new ((event_of fault ≡ at) × KeepsHeld (told_in told mid) (told_in told new)) (StandsIn told new s (committed h (before fault events)) (settled_by t (before fault events)))
     (clean_too M told new too) stops.left (λ is left.
     stands_kept M (told_in told mid) (told_in told new) s (committed h (before fault events)) (settled_by t (before fault events)) left.1
@@ -135,18 +154,25 @@ stopped M told refuses old mid new events at fault p outcomes too moved stops s 
 
 -- which fault of the store it was
 
-no_more : (M : Model) → {K : Type 0} (told : K → KeeperState M) (old mid : Option K) (fault : DriveFault) → AnswersNoMore told old mid → IsStoreFault (told_in told mid).may_answer fault → IsStoreFault (told_in told old).may_answer fault
-no_more M told old mid (NotAMessage n) less is = is
-no_more M told old mid (ZeroUnique n) less is = is
-no_more M told old mid (Store n fault) less is = less fault is
-no_more M told old mid (Memory n) less is = is
+there_is : (M : Model) → {K : Type 0} (told : K → KeeperState M) (k : Option K) → (told_in told k).is_clean → k ≡ None → ⊥
+there_is M told k is none = subst (λ o. (told_in told o).is_clean) none is
 
-pub stopped_store : (M : Model) → {K : Type 0} (told : K → KeeperState M) (refuses : K → StoreFault → Type 0) (old mid new : Option K) (events : List Event) (at : ℕ) (fault : DriveFault) (p : List ℕ) (outcomes : List (Option Outcome))
-    → ((k : K) → (told k).is_clean → (told k).is_honest) → Moved (told_in told old) (told_in told mid) empty_ledger (take at events) (drop at events) p [] outcomes → AnswersNoMore told old mid
-    → Stops told refuses mid new events at fault → is_store fault ≡ true → (told_in told new).is_clean
-    → (s : M.State) (h : History) (t : List ℕ) → StandsIn told old s h t → NoneReused t (before fault events) → IsStoreFault (told_in told old).may_answer fault
-stopped_store M told refuses old mid new events at fault p outcomes too moved less stops store is s h t so none =
-    let left = subst (λ b. LeftBy (told_in told new) b ((event_of fault ≡ at) × KeepsHeld (told_in told mid) (told_in told new))) store stops.left is in
+pub stopped_store : (M : Model) → {K : Type 0} (told : K → KeeperState M) (became : K → K → ℕ → Type 0) (refuses : K → StoreFault → Type 0) (old mid new : Option K) (events : List Event) (at : ℕ) (fault : DriveFault) (p : List ℕ) (outcomes : List (Option Outcome))
+    → ((k : K) → (told k).is_clean → (told k).is_honest) → Moved (told_in told old) (told_in told mid) empty_ledger (take at events) (drop at events) p [] outcomes
+    → Opened told became old mid (take at events) → Stops told became refuses mid new events at fault → is_store fault ≡ true → (told_in told new).is_clean
+    → (s : M.State) (h : History) (t : List ℕ) → StandsIn told old s h t → NoneReused t (before fault events) → AnsweredBy told became old new (before fault events) fault
+stopped_store M told became refuses old mid new events at fault p outcomes too moved opened stops store is s h t so none =
+    let stayed = stops.stayed (there_is M told new is) in
     let was = stops.was_honest (clean_too M told new too is) in
-    no_more M told old mid fault less
-    (stops.answered store is s (committed h (before fault events)) (settled_by t (before fault events)) (stopped_at M told old mid events at fault p outcomes moved left.0 was s h t so none))
+    record {
+      keeper = mid;
+      before = subst (λ n. became_in became old mid (deaths (take n events))) (sym stayed.0) opened.often;
+      after = stayed.1;
+      may = stops.answered store is s (committed h (before fault events)) (settled_by t (before fault events)) (stopped_at M told old mid events at fault p outcomes moved stayed.0 was s h t so none);
+    }
+
+pub stopped_opened : (M : Model) → {K : Type 0} (told : K → KeeperState M) (became : K → K → ℕ → Type 0) (refuses : K → StoreFault → Type 0) → IsCount became → (old mid new : Option K) (events : List Event) (at : ℕ) (fault : DriveFault)
+    → Opened told became old mid (take at events) → Stops told became refuses mid new events at fault → (new ≡ None → ⊥) → Opened told became old new (before fault events)
+stopped_opened M told became refuses law old mid new events at fault opened stops there =
+    let stayed = stops.stayed there in
+    subst (λ n. Opened told became old new (take n events)) (sym stayed.0) (opened_still M told became law old mid new (take at events) stayed.1 stops.was_honest opened)

@@ -1,5 +1,5 @@
 -- A group that was performed.
-use Rattle.std.proofs.Common.{◌≡◌, ℕ, suc, ◌<◌, false, List, [], ◌∷◌, ◌++◌, length, map, All, Option, Some, option_map, refl, sym, ap, subst, ◌∙◌, arith}
+use Rattle.std.proofs.Common.{◌≡◌, ℕ, suc, ◌<◌, false, List, [], ◌∷◌, ◌++◌, length, map, All, Option, Some, Err, option_map, refl, sym, ap, subst, ◌∙◌, arith}
 use Rattle.std.proofs.lemmas.List.{length-map}
 use Rattle.fuse_wire.specs.declared.moment.Moment.{Moment}
 use Rattle.fuse_answer.specs.Said.{Said}
@@ -9,9 +9,9 @@ use Rattle.fuse_request.specs.declared.class.Class.{Class}
 use Rattle.fuse_request.specs.declared.class.Class.TheVariants.{Silent, Bare, Kept}
 use Rattle.fuse_request.specs.Classes.{class_of}
 use Rattle.fuse_keeper.specs.History.{Entry, entry_id, History, said, IsUnsettled}
+use Rattle.fuse_keeper.specs.declared.fault.StoreFault.{StoreFault}
 use Rattle.fuse_keeper.specs.Model.{Model}
-use Rattle.fuse_keeper.specs.Stands.{Records, OthersStay}
-use Rattle.fuse_keeper.specs.KeeperState.{KeeperState, StandsFor, Performed}
+use Rattle.fuse_keeper.specs.KeeperState.{KeeperState, StandsFor, Performed, KeepsOthers, Called}
 use Rattle.fuse_keeper.specs.Group.{entry_of, entries_of}
 use Rattle.fuse_keeper.specs.declared.keeper.Done.{Done}
 use Rattle.fuse_session.specs.Worked.{entry_if, message_entry, unique_of}
@@ -94,13 +94,11 @@ pub worked : (M : Model) → (holds holds' : KeeperState M) (run : List Event) (
     → NoneDiesBefore run → entries_of taken ≡ commits_in run
     → (holds'.is_honest → (s : M.State) (h : History) (t : List ℕ) → StandsFor holds s h t → All (IsUnsettled (t ++ handed_to (entries_of taken) pending)) (entries_of taken)
     → Performed holds' s h (t ++ handed_to (entries_of taken) pending) (entries_of taken) dones)
-    → (holds'.is_honest → (rows : M.Rows) (records : Records) → holds.holds rows records
-    → (rows' : M.Rows) × (records' : Records) × holds'.holds rows' records' × OthersStay records (handed_to (entries_of taken) pending) (entries_of taken) records')
+    → KeepsOthers holds holds' (handed_to (entries_of taken) pending) (entries_of taken)
     → mid ≡ left_pending (entries_of taken) pending → Adds old new (outcomes_by run (answers_in dones)) → pending' ≡ mid ++ settles_in run
     → Worked holds holds' run pending pending' old new
 worked M holds holds' run taken pending mid pending' dones old new goes entries performed others left adds settled =
     let P = λ (es : List Entry). holds'.is_honest → (s : M.State) (h : History) (t : List ℕ) → StandsFor holds s h t → All (IsUnsettled (t ++ handed_to es pending)) es → Performed holds' s h (t ++ handed_to es pending) es dones in
-    let Q = λ (es : List Entry). holds'.is_honest → (rows : M.Rows) (records : Records) → holds.holds rows records → (rows' : M.Rows) × (records' : Records) × holds'.holds rows' records' × OthersStay records (handed_to es pending) es records' in
     let done = subst P entries performed in
     record {
       added = adds.added;
@@ -108,6 +106,10 @@ worked M holds holds' run taken pending mid pending' dones old new goes entries 
       count = sym (length-map adds.added bytes_given) ∙ ap length adds.are ∙ outcomes_count run (answers_in dones);
       stands = λ honest s h t so un. (done honest s h t so un).stands;
       outcomes = λ honest s h t so un. adds.are ∙ outcomes_say M s (committed h run) run (answers_in dones) goes (some_answers dones ∙ (done honest s h t so un).answers);
-      records = subst Q entries others;
+      records = subst (λ (es : List Entry). KeepsOthers holds holds' (handed_to es pending) es) entries others;
       handed = settled ∙ ap (λ (m : List ℕ). m ++ settles_in run) (left ∙ ap (λ es. left_pending es pending) entries);
     }
+
+-- a fault is one whatever would have been answered
+pub called_err : (M : Model) → {A B : Type 0} (k k' : KeeperState M) (fault : StoreFault) → Called {M = M} {A = A} k k' (Err fault) → Called {M = M} {A = B} k k' (Err fault)
+called_err M k k' fault called = record { failed = called.failed; honest = called.honest; err = called.err; err_lots = called.err_lots; fault = called.fault }

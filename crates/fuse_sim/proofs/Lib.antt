@@ -7,9 +7,9 @@ pub mod Ledgers
 pub mod Driven
 pub mod Removed
 pub mod Moves
+pub mod Openings
 pub mod Stopping
 pub mod Endings
 pub mod Marks
 pub mod Pendings
 pub mod Lifetimes
-pub mod Vectors

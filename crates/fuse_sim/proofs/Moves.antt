@@ -100,10 +100,10 @@ ran_more M grows holds mid holds' l es es' old new new' was one two = record {
       ∙ ap (λ x. x ++ map bytes_given two.added) (one.outcomes (was is) s h t u so within pending parts.0)
       ∙ ap (λ x. map (outcome_of M s (committed h es)) es ++ x) (two.outcomes is s (committed h es) (t ++ handed_on l es) (settled_by u es) first (settled_all u t l es within pending) (pending_settled u l es pending) parts.1)
       ∙ sym (outcomes-append M grows s h es es');
-  records = λ is rows records held.
-      let first = one.records (was is) rows records held in
-      let second = two.records is first.0 first.1 first.2 in
-      (second.0, second.1, second.2, records_more l es es' records first.1 second.1 first.3 second.3);
+  records = λ is rows records held rowed.
+      let first = one.records (was is) rows records held rowed in
+      let second = two.records is first.rows first.records first.held first.rowed in
+      record { rows = second.rows; records = second.records; held = second.held; rowed = second.rowed; left = records_more l es es' records first.records second.records first.left second.left };
 }
 
 pub ran_none : (M : Model) → (holds : KeeperState M) (l : Ledger) (old new : List (Option Outcome)) → new ≡ old → Ran holds holds l [] old new
@@ -113,12 +113,12 @@ ran_none M holds l old new is = record {
   count = refl;
   stands = λ _ s h t u so _ _ _. subst (StandsFor holds s h) (sym (append-nil t)) so;
   outcomes = λ _ s h t u so _ _ _. refl;
-  records = λ _ rows records held. (rows, records, held, record { others = λ i _. refl; gone = λ u _ _ i there. absurd (cc there) });
+  records = λ _ rows records held rowed. record { rows = rows; records = records; held = held; rowed = rowed; left = record { others = λ i _. refl; gone = λ u _ _ i there. absurd (cc there) } };
 }
 
 -- ---- a group
 
-handed_within : (u p : List ℕ) (es : List Entry) → Includes u p → Includes u (handed_to es p)
+pub handed_within : (u p : List ℕ) (es : List Entry) → Includes u p → Includes u (handed_to es p)
 handed_within u p [] within = λ i there. absurd (cc there)
 handed_within u p (e ∷ es) within = within
 
@@ -156,18 +156,20 @@ group_ran M holds mid holds' died run p p' old new ledger worked keeps was =
           subst (λ (x : List ℕ). StandsFor holds' s (committed h run) (t ++ x)) (sym ledger.handed_is)
           (stands_kept M mid holds' s (committed h run) (t ++ handed_to cs p) (keeps is) (worked.stands (was is) s h t so (fresh_ids t u within pending none)));
       outcomes = λ is s h t u so within pending none. worked.outcomes (was is) s h t so (fresh_ids t u within pending none);
-      records = λ is rows records held.
-          let done = worked.records (was is) rows records held in (
-            done.0,
-            done.1,
-            keeps is done.0 done.1 done.2,
-            record {
-              others = λ i isnt. done.3 i isnt ∙ ap (λ x. if is_in x i then None else records i) (sym ledger.handed_is);
+      records = λ is rows records held rowed.
+          let done = worked.records (was is) rows records held rowed in
+          record {
+            rows = done.rows;
+            records = done.records;
+            held = keeps is done.rows done.records done.held;
+            rowed = done.rowed;
+            left = record {
+              others = λ i isnt. done.others i isnt ∙ ap (λ x. if is_in x i then None else records i) (sym ledger.handed_is);
               gone = λ u within none i there.
                   let handed = sym (ap (λ x. is_in x i) ledger.handed_is) ∙ there in
-                  done.3 i (not_among u cs i (none_reused u run none) (handed_within u p cs within i handed)) ∙ ap (λ b. if b then None else records i) handed;
-            },
-          );
+                  done.others i (not_among u cs i (none_reused u run none) (handed_within u p cs within i handed)) ∙ ap (λ b. if b then None else records i) handed;
+            };
+          };
     }
 
 -- ---- an event that is lost
@@ -189,15 +191,16 @@ lost_ran M holds holds' l e old new lost pushed keeps =
           (subst (StandsFor holds' s (committed h (e ∷ []))) (sym (append-nil t))
           (subst (λ g. StandsFor holds' s g t) (ap (grown h) (sym none)) (stands_kept M holds holds' s h t (keeps is) so)));
       outcomes = λ is s h t u so within pending again. ap (λ f. where_taken (is_taken f) (answer_in M s (committed h (e ∷ [])) (class_of e.bytes) (unique_of e.bytes)) ∷ []) (sym lost);
-      records = λ is rows records held. (
-        rows,
-        records,
-        keeps is rows records held,
-        record {
+      records = λ is rows records held rowed. record {
+        rows = rows;
+        records = records;
+        held = keeps is rows records held;
+        rowed = rowed;
+        left = record {
           others = λ i _. ap (λ x. if is_in x i then None else records i) (sym unhanded);
           gone = λ u _ _ i there. absurd (let no_way = sym (ap (λ x. is_in x i) unhanded) ∙ there in cc no_way);
-        },
-      );
+        };
+      };
     }
 
 -- ---- what is said of it
@@ -270,7 +273,7 @@ pub next_moved : (M : Model) → (holds holds' : KeeperState M) (p p' : List ℕ
 next_moved M holds holds' p p' run others rest old new begins moved l same may =
     subst (λ x. Moved holds holds' x run rest p' old new) (begins_with l p others same may begins) moved
 
-is_lost : (fate : Fate) → dies_before fate ≡ true → fate ≡ DiedBeforeCommit
+pub is_lost : (fate : Fate) → dies_before fate ≡ true → fate ≡ DiedBeforeCommit
 is_lost Answered is = absurd (cc is)
 is_lost AnswerLost is = absurd (cc is)
 is_lost DiedBeforeCommit is = refl

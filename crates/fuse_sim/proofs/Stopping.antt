@@ -7,14 +7,15 @@ use Rattle.fuse_keeper.specs.declared.fault.StoreFault.{StoreFault}
 use Rattle.fuse_keeper.specs.History.{History}
 use Rattle.fuse_keeper.specs.Model.{Model}
 use Rattle.fuse_keeper.specs.Stands.{Records}
-use Rattle.fuse_keeper.specs.KeeperState.{KeeperState, KeepsHeld}
+use Rattle.fuse_keeper.specs.KeeperState.{KeeperState, KeepsHeld, IsCount}
 use Rattle.fuse_sim.specs.declared.event.Fate.{Fate}
 use Rattle.fuse_sim.specs.declared.event.Fate.TheVariants.{Answered, AnswerLost, DiedBeforeCommit, DiedAfterCommit}
 use Rattle.fuse_sim.specs.declared.event.Event.{Event}
 use Rattle.fuse_sim.specs.declared.event.DriveFault.{DriveFault}
 use Rattle.fuse_sim.specs.declared.event.DriveFault.TheVariants.{NotAMessage, ZeroUnique, Store, Memory}
-use Rattle.fuse_sim.specs.Driving.{told_in, IsFit, event_of, StandsIn, CausedBy, OfRestart, is_store, IsStoreFault, LeftBy, dies}
+use Rattle.fuse_sim.specs.Driving.{told_in, IsFit, event_of, StandsIn, became_in, CausedBy, OfRestart, is_store, IsStoreFault, LeftBy, dies}
 use Rattle.fuse_sim.specs.Running.{dies_before, IsRun, Begins, Stops}
+use Rattle.fuse_sim.proofs.Openings.{became_itself}
 
 -- ---- places
 
@@ -47,28 +48,30 @@ not_none P (Some k) is none = absurd (cc none)
 -- ---- faults
 
 -- no keeper was touched
-pub stops_here : (M : Model) → {K : Type 0} (told : K → KeeperState M) (refuses : K → StoreFault → Type 0) (k : Option K) (events : List Event) (at : ℕ) (fault : DriveFault)
-    → event_of fault ≡ at → is_store fault ≡ false → IsSomeAnd (slice_get events at) (CausedBy fault) → IsSomeAnd k (λ x. (told x).has_failed ≡ false) → Stops told refuses k k events at fault
-stops_here M told refuses k events at fault place kind caused going = record {
+pub stops_here : (M : Model) → {K : Type 0} (told : K → KeeperState M) (became : K → K → ℕ → Type 0) (refuses : K → StoreFault → Type 0) (k : Option K) (events : List Event) (at : ℕ) (fault : DriveFault)
+    → event_of fault ≡ at → is_store fault ≡ false → IsSomeAnd (slice_get events at) (CausedBy fault) → IsSomeAnd k (λ x. (told x).has_failed ≡ false) → IsCount became → Stops told became refuses k k events at fault
+stops_here M told became refuses k events at fault place kind caused going law = record {
   named = subst (λ n. IsSomeAnd (slice_get events n) (CausedBy fault)) (sym place) caused;
   earlier = λ each. subst (λ n. All IsFit (take n events)) (sym place) each;
   left = subst (λ b. LeftBy (told_in told k) b ((event_of fault ≡ at) × KeepsHeld (told_in told k) (told_in told k))) (sym kind) (λ _. (place, λ rows records held. held));
   answered = λ store. absurd (cc (kind, store));
+  stayed = λ _. (place, became_itself became law (λ x. (told x).has_failed ≡ false) k going);
   emptied = λ none. absurd (not_none (λ x. (told x).has_failed ≡ false) k going none);
   has_failed = some_failed (λ x. (told x).has_failed) k (is_store fault) (subst (λ b. IsSomeAnd k (λ x. (told x).has_failed ≡ b)) (sym kind) going);
   was_honest = λ is. is;
 }
 
 -- the store answered a fault to a group
-pub stops_store : (M : Model) → {K : Type 0} (told : K → KeeperState M) (refuses : K → StoreFault → Type 0) (k k' : Option K) (events : List Event) (at : ℕ) (fault : StoreFault)
+pub stops_store : (M : Model) → {K : Type 0} (told : K → KeeperState M) (became : K → K → ℕ → Type 0) (refuses : K → StoreFault → Type 0) (k k' : Option K) (events : List Event) (at : ℕ) (fault : StoreFault)
     → IsSomeAnd (slice_get events at) IsFit → IsSomeAnd k' (λ x. (told x).has_failed ≡ true) → ((told_in told k').is_clean → KeepsHeld (told_in told k) (told_in told k')) → ((told_in told k').is_honest → (told_in told k).is_honest)
     → ((told_in told k').is_clean → (s : M.State) (h : History) (t : List ℕ) → StandsIn told k s h t → (told_in told k).may_answer fault)
-    → Stops told refuses k k' events at (Store at fault)
-stops_store M told refuses k k' events at fault fit has keeps was answered = record {
+    → became_in became k k' 0 → Stops told became refuses k k' events at (Store at fault)
+stops_store M told became refuses k k' events at fault fit has keeps was answered same = record {
   named = fit;
   earlier = λ each. each;
   left = λ is. (refl, keeps is);
   answered = λ _. answered;
+  stayed = λ _. (refl, same);
   emptied = λ none. absurd (not_none (λ x. (told x).has_failed ≡ true) k' has none);
   has_failed = some_failed (λ x. (told x).has_failed) k' true has;
   was_honest = was;
@@ -90,14 +93,15 @@ of_restart refuses (Some k) fault events n e place there died refused = record {
 }
 
 -- a restart left no keeper: it was after the last of some events
-pub stops_restart : (M : Model) → {K : Type 0} (told : K → KeeperState M) (refuses : K → StoreFault → Type 0) (k q k' : Option K) (events : List Event) (at n : ℕ) (fault : DriveFault) (e : Event)
+pub stops_restart : (M : Model) → {K : Type 0} (told : K → KeeperState M) (became : K → K → ℕ → Type 0) (refuses : K → StoreFault → Type 0) (k q k' : Option K) (events : List Event) (at n : ℕ) (fault : DriveFault) (e : Event)
     → k' ≡ None → IsSomeAnd q (λ x. IsStoreFault (refuses x) fault) → is_store fault ≡ true → event_of fault ≡ n → slice_get events n ≡ Some e → IsFit e → dies e.fate ≡ true → (All IsFit (take at events) → All IsFit (take n events))
-    → Stops told refuses k k' events at fault
-stops_restart M told refuses k q k' events at n fault e none refused kind place there fit died earlier = record {
+    → Stops told became refuses k k' events at fault
+stops_restart M told became refuses k q k' events at n fault e none refused kind place there fit died earlier = record {
   named = subst (λ m. IsSomeAnd (slice_get events m) (CausedBy fault)) (sym place) (subst (λ o. IsSomeAnd o (CausedBy fault)) (sym there) (caused_by_store fault e kind fit));
   earlier = λ each. subst (λ m. All IsFit (take m events)) (sym place) (earlier each);
   left = subst (λ b. LeftBy (told_in told k') b ((event_of fault ≡ at) × KeepsHeld (told_in told k) (told_in told k'))) (sym kind) (λ is. absurd (subst (λ o. (told_in told o).is_clean) none is));
   answered = λ _ is. absurd (subst (λ o. (told_in told o).is_clean) none is);
+  stayed = λ there. absurd (there none);
   emptied = λ _. of_restart refuses q fault events n e place there died refused;
   has_failed = subst (λ o. IfSome o (λ x. (told x).has_failed ≡ is_store fault)) (sym none) tt;
   was_honest = λ is. absurd (subst (λ o. (told_in told o).is_honest) none is);

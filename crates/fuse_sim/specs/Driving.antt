@@ -1,5 +1,5 @@
 -- What events do to a keeper, and what they are answered (own profile).
-use Rattle.std.specs.Prelude.{◌≡◌, ℕ, Bool, true, false, List, [], ◌∷◌, ◌++◌, take, Option, Some, None, IsSomeAnd, slice_get, All}
+use Rattle.std.specs.Prelude.{◌≡◌, ℕ, suc, Bool, true, false, if◌then◌else◌, List, [], ◌∷◌, ◌++◌, take, Option, Some, None, IsSomeAnd, slice_get, All}
 use Rattle.std.specs.List.{flat_map}
 use Rattle.std.specs.Option.{option_map}
 use Rattle.fuse_wire.specs.Ids.{id_of}
@@ -11,6 +11,7 @@ use Rattle.fuse_request.specs.Stream.{cut}
 use Rattle.fuse_keeper.specs.declared.fault.StoreFault.{StoreFault}
 use Rattle.fuse_keeper.specs.History.{Entry, History, grown, said}
 use Rattle.fuse_keeper.specs.Model.{Model}
+use Rattle.fuse_keeper.specs.Lots.{no_lots}
 use Rattle.fuse_keeper.specs.Stands.{Records}
 use Rattle.fuse_keeper.specs.KeeperState.{KeeperState, StandsFor}
 use Rattle.fuse_session.specs.Worked.{unique_of, message_id, message_entry, entry_if}
@@ -50,6 +51,11 @@ dies DiedAfterCommit = true
 
 abbrev pub Calm : Event → Type 0
 Calm e = dies e.fate ≡ false
+
+-- at how many events the server dies
+abbrev pub deaths : List Event → ℕ
+deaths [] = 0
+deaths (e ∷ es) = if dies e.fate then suc (deaths es) else deaths es
 
 -- ---- what is answered
 
@@ -105,16 +111,37 @@ told_in told None = record {
   leaves_whole = ⊥;
   may_leave = λ rows records. ⊥;
   may_answer = λ fault. ⊥;
-  lots = 0;
+  lots = no_lots;
 }
 told_in told (Some k) = told k
 
 abbrev pub StandsIn : {M : Model} {K : Type 0} → (K → KeeperState M) → Option K → M.State → History → List ℕ → Type 0
 StandsIn told keeper = StandsFor (told_in told keeper)
 
--- the second keeper may answer no fault that the first one couldn't
-abbrev pub AnswersNoMore : {M : Model} {K : Type 0} → (K → KeeperState M) → Option K → Option K → Type 0
-AnswersNoMore told old new = (f : StoreFault) → (told_in told new).may_answer f → (told_in told old).may_answer f
+-- ---- how often it was opened again
+
+-- there are both, and the second is what became of the first, which was opened again so often on the way
+abbrev pub became_in : {K : Type 0} → (K → K → ℕ → Type 0) → Option K → Option K → ℕ → Type 0
+became_in became None new n = ⊥
+became_in became (Some a) None n = ⊥
+became_in became (Some a) (Some b) n = became a b n
+
+-- the server died at one of the events: what was left then stood for all events up to this one, and it was opened again, once
+pub record OpenedAt {M : Model} {K : Type 0} (told : K → KeeperState M) (became : K → K → ℕ → Type 0) (old new : Option K) (earlier : List Event) (one : Event) (later : List Event) : Type 0 where
+  pub left : Option K
+  pub opened : Option K
+  pub before : became_in became old left (deaths earlier)
+  pub once : became_in became left opened 1
+  pub after : became_in became opened new (deaths later)
+  pub honest : (told_in told new).is_honest → (told_in told left).is_honest
+  pub stood : (told_in told left).is_honest → (s : M.State) (h : History) (t : List ℕ) → StandsIn told old s h t → NoneReused t (earlier ++ one ∷ [])
+      → StandsIn told left s (committed h (earlier ++ one ∷ [])) (settled_by t (earlier ++ one ∷ []))
+
+-- the keeper was opened again once for each event at which the server died, after what that event committed
+pub record Opened {M : Model} {K : Type 0} (told : K → KeeperState M) (became : K → K → ℕ → Type 0) (old new : Option K) (events : List Event) : Type 0 where
+  pub often : became_in became old new (deaths events)
+  pub each : (earlier : List Event) (one : Event) (later : List Event) → events ≡ earlier ++ one ∷ later → dies one.fate ≡ true
+      → OpenedAt told became old new earlier one later
 
 -- ---- faults
 
@@ -158,6 +185,13 @@ IsStoreFault may (NotAMessage n) = ⊥
 IsStoreFault may (ZeroUnique n) = ⊥
 IsStoreFault may (Store n fault) = may fault
 IsStoreFault may (Memory n) = ⊥
+
+-- it is one that the keeper may answer which was in place after these events
+pub record AnsweredBy {M : Model} {K : Type 0} (told : K → KeeperState M) (became : K → K → ℕ → Type 0) (old new : Option K) (events : List Event) (fault : DriveFault) : Type 0 where
+  pub keeper : Option K
+  pub before : became_in became old keeper (deaths events)
+  pub after : became_in became keeper new 0
+  pub may : IsStoreFault (told_in told keeper).may_answer fault
 
 -- the server died at the event that is named, and a keeper refused with this fault to be opened again
 pub record OfRestart {K : Type 0} (may_refuse : K → StoreFault → Type 0) (events : List Event) (fault : DriveFault) : Type 0 where

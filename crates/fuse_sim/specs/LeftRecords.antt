@@ -2,7 +2,9 @@
 use Rattle.std.specs.Prelude.{◌≡◌, ◌≤◌, ℕ, false, List, [], ◌∷◌, ◌++◌, length, All, None}
 use Rattle.fuse_keeper.specs.declared.keeper.TheConstants.{MAX_GROUP}
 use Rattle.fuse_keeper.specs.History.{is_in, ids_in}
+use Rattle.fuse_keeper.specs.Model.{Model, IsRowed}
 use Rattle.fuse_keeper.specs.Stands.{Records}
+use Rattle.fuse_keeper.specs.KeeperState.{KeeperState}
 use Rattle.fuse_sim.specs.declared.event.Event.{Event}
 use Rattle.fuse_sim.specs.Driving.{commits_in, settles, Calm}
 
@@ -28,3 +30,11 @@ pub record Behind (n : ℕ) (events : List Event) (i : ℕ) : Type 0 where
 pub record RecordsLeft (events : List Event) (records records' : Records) : Type 0 where
   pub gone : (i : ℕ) → Behind MAX_GROUP events i → records' i ≡ None
   pub others : (i : ℕ) → is_in (ids_in (commits_in events)) i ≡ false → records' i ≡ records i
+
+-- it holds something of a good state, with such records
+pub record HoldsRecords {M : Model} (k : KeeperState M) (P : Records → Type 0) : Type 0 where
+  pub rows : M.Rows
+  pub records : Records
+  pub held : k.holds rows records
+  pub rowed : IsRowed M rows
+  pub left : P records

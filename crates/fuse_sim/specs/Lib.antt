@@ -4,4 +4,3 @@ pub mod HandedOn
 pub mod Running
 pub mod Pending
 pub mod Lives
-pub mod Vectors

@@ -12,8 +12,8 @@ use Rattle.fuse_keeper.specs.History.{Entry, History, is_in, ids_in, Includes, I
 use Rattle.fuse_keeper.specs.declared.fault.StoreFault.{StoreFault}
 use Rattle.fuse_keeper.specs.declared.keeper.Done.{Done}
 use Rattle.fuse_keeper.specs.Model.{Model}
-use Rattle.fuse_keeper.specs.Stands.{Records, OthersStay}
-use Rattle.fuse_keeper.specs.KeeperState.{KeeperState, StandsFor, KeepsHeld}
+use Rattle.fuse_keeper.specs.Stands.{Records}
+use Rattle.fuse_keeper.specs.KeeperState.{KeeperState, StandsFor, KeepsHeld, KeepsOthers, Tells}
 use Rattle.fuse_keeper.specs.declared.keeper.TheConstants.{MAX_GROUP}
 use Rattle.fuse_keeper.specs.Group.{entries_of}
 use Rattle.fuse_session.specs.Worked.{unique_of}
@@ -23,8 +23,9 @@ use Rattle.fuse_sim.specs.declared.event.Fate.TheVariants.{Answered, AnswerLost,
 use Rattle.fuse_sim.specs.declared.event.Event.{Event}
 use Rattle.fuse_sim.specs.declared.event.Outcome.{Outcome}
 use Rattle.fuse_sim.specs.declared.event.DriveFault.{DriveFault}
-use Rattle.fuse_sim.specs.Driving.{commits_in, committed, settles, outcome_of, bytes_given, is_taken, where_taken, Calm, NoneReused, IsFit, told_in, StandsIn, event_of, before, CausedBy, IsStoreFault, OfRestart, is_store, LeftBy}
+use Rattle.fuse_sim.specs.Driving.{commits_in, committed, settles, outcome_of, bytes_given, is_taken, where_taken, dies, Calm, NoneReused, IsFit, settled_by, told_in, StandsIn, became_in, event_of, before, CausedBy, IsStoreFault, OfRestart, is_store, LeftBy}
 use Rattle.fuse_sim.specs.HandedOn.{Ledger, ledger_after, handed_on}
+use Rattle.fuse_sim.specs.LeftRecords.{HoldsRecords}
 
 abbrev pub dies_before : Fate → Bool
 dies_before Answered = false
@@ -112,8 +113,7 @@ pub record Worked {M : Model} (k k' : KeeperState M) (run : List Event) (pending
       → StandsFor k' s (committed h run) (t ++ handed_to (commits_in run) pending)
   pub outcomes : k'.is_honest → (s : M.State) (h : History) (t : List ℕ) → StandsFor k s h t → All (IsUnsettled (t ++ handed_to (commits_in run) pending)) (commits_in run)
       → map bytes_given added ≡ map (outcome_of M s (committed h run)) run
-  pub records : k'.is_honest → (rows : M.Rows) (records : Records) → k.holds rows records
-      → (rows' : M.Rows) × (records' : Records) × k'.holds rows' records' × OthersStay records (handed_to (commits_in run) pending) (commits_in run) records'
+  pub records : KeepsOthers k k' (handed_to (commits_in run) pending) (commits_in run)
   pub handed : pending' ≡ left_pending (commits_in run) pending ++ settles_in run
 
 -- what becomes of records: those that are handed on go, and of the other ids those that don't come stay
@@ -130,8 +130,7 @@ pub record Ran {M : Model} (k k' : KeeperState M) (l : Ledger) (es : List Event)
       → StandsFor k' s (committed h es) (t ++ handed_on l es)
   pub outcomes : k'.is_honest → (s : M.State) (h : History) (t u : List ℕ) → StandsFor k s h t → Includes u t → Includes u l.pending → NoneReused u es
       → map bytes_given added ≡ map (outcome_of M s (committed h es)) es
-  pub records : k'.is_honest → (rows : M.Rows) (records : Records) → k.holds rows records
-      → (rows' : M.Rows) × (records' : Records) × k'.holds rows' records' × RecordsRan l es records records'
+  pub records : Tells k k' (λ rows records. HoldsRecords k' (RecordsRan l es records))
 
 -- no more kept messages are in the group that was begun, or none begins here
 abbrev pub MayBegin : Ledger → List Event → Type 0
@@ -144,12 +143,30 @@ pub record Moved {M : Model} (k k' : KeeperState M) (l : Ledger) (es others : Li
   pub pending : pending' ≡ (ledger_after l es).pending
   pub begin : MayBegin (ledger_after l es) others
 
+-- the server dies at none of these events but the last, where it does
+abbrev pub DiesLast : Bool → List Event → Type 0
+DiesLast died [] = died ≡ false
+DiesLast died (e ∷ es) = (Calm e × DiesLast died es) ⊎ ((died ≡ true) × (dies e.fate ≡ true) × (es ≡ []))
+
+-- events were run, and where the server died at the last of them, what stood for all of them was opened again, once
+pub record Opens {M : Model} {K : Type 0} (told : K → KeeperState M) (became : K → K → ℕ → Type 0) (old new : Option K) (pending : List ℕ) (run : List Event) : Type 0 where
+  pub died : Bool
+  pub last : DiesLast died run
+  pub left : Option K
+  pub before : became_in became old left 0
+  pub after : became_in became left new (if died then 1 else 0)
+  pub honest : (told_in told new).is_honest → (told_in told left).is_honest
+  pub was_honest : (told_in told left).is_honest → (told_in told old).is_honest
+  pub stood : (told_in told left).is_honest → (s : M.State) (h : History) (t : List ℕ) → StandsIn told old s h t → Includes t pending → NoneReused t run
+      → StandsIn told left s (committed h run) (settled_by t run)
+
 -- a fault came at the events that begin at a place: what it names, and the keeper that it leaves
-pub record Stops {M : Model} {K : Type 0} (told : K → KeeperState M) (refuses : K → StoreFault → Type 0) (old new : Option K) (events : List Event) (at : ℕ) (fault : DriveFault) : Type 0 where
+pub record Stops {M : Model} {K : Type 0} (told : K → KeeperState M) (became : K → K → ℕ → Type 0) (refuses : K → StoreFault → Type 0) (old new : Option K) (events : List Event) (at : ℕ) (fault : DriveFault) : Type 0 where
   pub named : IsSomeAnd (slice_get events (event_of fault)) (CausedBy fault)
   pub earlier : All IsFit (take at events) → All IsFit (before fault events)
   pub left : LeftBy (told_in told new) (is_store fault) ((event_of fault ≡ at) × KeepsHeld (told_in told old) (told_in told new))
   pub answered : is_store fault ≡ true → (told_in told new).is_clean → (s : M.State) (h : History) (t : List ℕ) → StandsIn told old s h t → IsStoreFault (told_in told old).may_answer fault
+  pub stayed : (new ≡ None → ⊥) → (event_of fault ≡ at) × became_in became old new 0
   pub emptied : new ≡ None → OfRestart refuses events fault
   pub has_failed : IfSome new (λ k. (told k).has_failed ≡ is_store fault)
   pub was_honest : (told_in told new).is_honest → (told_in told old).is_honest

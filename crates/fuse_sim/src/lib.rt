@@ -14,6 +14,3 @@ pub use driving::drive;
 pub use event::{DriveFault, Event, Fate, Outcome};
 pub use kernel::{Kernel, TakeFault};
 pub use life::{lives, runs_are_lives};
-
-#[cfg(test)]
-mod tests;

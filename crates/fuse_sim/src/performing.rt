@@ -1,9 +1,7 @@
 // Performing a group, and giving its events their outcomes.
-ghost use Rattle.std.specs.Prelude.{◌≡◌, ◌≤◌, ◌+◌, ◌++◌, false, ℕ, List, length, All, IfOk, IfErr, OnOk, OnErr, is_err, vec_capacity};
-ghost use Rattle.fuse_keeper.specs.declared.fault.StoreFault.{StoreFault as StoreFaultValue};
+ghost use Rattle.std.specs.Prelude.{◌≡◌, ◌≤◌, ◌+◌, ◌++◌, false, ℕ, List, length, All, IfOk, OnOk, vec_capacity};
 ghost use Rattle.fuse_keeper.specs.History.{History, IsUnsettled};
-ghost use Rattle.fuse_keeper.specs.Stands.{Records, OthersStay};
-ghost use Rattle.fuse_keeper.specs.KeeperState.{StandsFor, Performed, KeepsHeld};
+ghost use Rattle.fuse_keeper.specs.KeeperState.{StandsFor, Called, Performed, KeepsOthers};
 ghost use Rattle.fuse_keeper.specs.Group.{entries_of, HasId, IsKept, ids_of};
 ghost use Rattle.fuse_keeper.specs.declared.keeper.TheConstants.{MAX_GROUP as max_group, MAX_SETTLED as max_settled};
 ghost use Rattle.fuse_sim.specs.Driving.{IsFit, commits_in};
@@ -29,18 +27,19 @@ fn perform_group<K: Keeper>(
     requires kept { All IsKept (entries_of group.now) }
     requires going { (K.told keeper.old).has_failed ≡ false }
     ensures count { IfOk result (λ dones. length dones.items ≡ length group.now) }
-    ensures ok { (K.told keeper.new).is_honest → IfOk result (λ dones. (s : K.model.State) (h : History) (t : List ℕ) → StandsFor (K.told keeper.old) s h t
-        → All (IsUnsettled (t ++ handed_to (entries_of group.now) (ids_of pending.old.items))) (entries_of group.now)
-        → Performed (K.told keeper.new) s h (t ++ handed_to (entries_of group.now) (ids_of pending.old.items)) (entries_of group.now) dones.items) }
-    ensures others { (K.told keeper.new).is_honest → OnOk result ((rows : K.model.Rows) (records : Records) → (K.told keeper.old).holds rows records
-        → (rows' : K.model.Rows) × (records' : Records) × (K.told keeper.new).holds rows' records' × OthersStay records (handed_to (entries_of group.now) (ids_of pending.old.items)) (entries_of group.now) records') }
+    ensures called { Called (K.told keeper.old) (K.told keeper.new) result }
+    ensures ok { IfOk result (λ dones. (K.told keeper.new).is_honest
+        → (s : K.model.State) (h : History) (t : List ℕ) → StandsFor (K.told keeper.old) s h t
+        → All (IsUnsettled (t ++ handed_to (entries_of group.now) (ids_of pending.old.items)))
+            (entries_of group.now)
+        → Performed (K.told keeper.new) s h
+            (t ++ handed_to (entries_of group.now) (ids_of pending.old.items))
+            (entries_of group.now) dones.items) }
+    ensures others { OnOk result (KeepsOthers (K.told keeper.old) (K.told keeper.new)
+        (handed_to (entries_of group.now) (ids_of pending.old.items)) (entries_of group.now)) }
     ensures pending { OnOk result (ids_of pending.new.items ≡ left_pending (entries_of group.now) (ids_of pending.old.items)) }
     ensures room { length pending.old.items + length group.now ≤ vec_capacity pending.old → OnOk result (length pending.new.items + length group.now ≤ vec_capacity pending.new) }
-    ensures err { OnErr result ((K.told keeper.new).is_clean → KeepsHeld (K.told keeper.old) (K.told keeper.new)) }
-    ensures fault { IfErr result (λ f. (K.told keeper.new).is_clean → (s : K.model.State) (h : History) (t : List ℕ) → StandsFor (K.told keeper.old) s h t → (K.told keeper.old).may_answer f) }
-    ensures may { (f : StoreFaultValue) → (K.told keeper.new).may_answer f → (K.told keeper.old).may_answer f }
-    ensures honest { (K.told keeper.new).is_honest → (K.told keeper.old).is_honest }
-    ensures failed { (K.told keeper.new).has_failed ≡ is_err result }
+    ensures same { K.became keeper.old keeper.new 0 }
 {
     if group.is_empty() {
         return Ok(Vec::new(alloc));
@@ -75,11 +74,8 @@ pub(crate) fn work_run<K: Keeper>(
     requires room { length outcomes.old.items + length run.now ≤ vec_capacity outcomes.old }
     requires places { length pending.old.items + length taken.now ≤ vec_capacity pending.old }
     ensures ok { OnOk result (Worked (K.told keeper.old) (K.told keeper.new) run.now (ids_of pending.old.items) (ids_of pending.new.items) outcomes.old.items outcomes.new.items) }
-    ensures err { OnErr result ((K.told keeper.new).is_clean → KeepsHeld (K.told keeper.old) (K.told keeper.new)) }
-    ensures fault { IfErr result (λ f. (K.told keeper.new).is_clean → (s : K.model.State) (h : History) (t : List ℕ) → StandsFor (K.told keeper.old) s h t → (K.told keeper.old).may_answer f) }
-    ensures may { (f : StoreFaultValue) → (K.told keeper.new).may_answer f → (K.told keeper.old).may_answer f }
-    ensures honest { (K.told keeper.new).is_honest → (K.told keeper.old).is_honest }
-    ensures failed { (K.told keeper.new).has_failed ≡ is_err result }
+    ensures called { Called (K.told keeper.old) (K.told keeper.new) result }
+    ensures same { K.became keeper.old keeper.new 0 }
 {
     let dones = perform_group(alloc, keeper, taken, pending)?;
     answer_run(alloc, run, dones, pending, outcomes);

@@ -1,12 +1,11 @@
 // Running the events that come next: a group of them, or one that is lost.
 ghost use Rattle.std.specs.Prelude.{◌≡◌, ◌≤◌, ◌<◌, ◌+◌, ◌-◌, ℕ, List, false, true, if◌then◌else◌, [], length, take, drop, IsSome, IsSomeAnd, None, IfOk, IfErr, OnOk, OnErr, All, is_err, vec_capacity};
-ghost use Rattle.fuse_keeper.specs.History.{History};
-ghost use Rattle.fuse_keeper.specs.KeeperState.{KeepsHeld};
+ghost use Rattle.fuse_keeper.specs.KeeperState.{Called, KeepsHeld};
 ghost use Rattle.fuse_keeper.specs.Group.{entries_of, HasId, IsKept, ids_of};
 ghost use Rattle.fuse_keeper.specs.declared.keeper.TheConstants.{MAX_GROUP as max_group, MAX_SETTLED as max_settled};
-ghost use Rattle.fuse_sim.specs.Driving.{told_in, StandsIn, AnswersNoMore, IsFit, commits_in, event_of, is_store, IsStoreFault};
+ghost use Rattle.fuse_sim.specs.Driving.{told_in, became_in, IsFit, commits_in, event_of, is_store, IsStoreFault};
 ghost use Rattle.fuse_sim.specs.HandedOn.{Ledger};
-ghost use Rattle.fuse_sim.specs.Running.{NoneDiesBefore, Worked, Moved, Stops, Begins, MayBegin};
+ghost use Rattle.fuse_sim.specs.Running.{NoneDiesBefore, Worked, Moved, Opens, Stops, Begins, MayBegin};
 
 use crate::event::{DriveFault, Event, Outcome};
 use crate::gathering::{gather, is_before_commit, test_event};
@@ -20,11 +19,11 @@ use std::alloc::{AllocError, Global};
 fn reopen<K: Restart>(keeper: &mut Option<K>) -> Result<(), StoreFault>
     requires { IsSome keeper.old }
     ensures same { OnOk result ((told_in K.told keeper.new).is_honest → KeepsHeld (told_in K.told keeper.old) (told_in K.told keeper.new)) }
-    ensures honest { OnOk result ((told_in K.told keeper.new).is_honest → (told_in K.told keeper.old).is_honest) }
+    ensures honest { (told_in K.told keeper.new).is_honest → (told_in K.told keeper.old).is_honest }
     ensures going { OnOk result (IsSomeAnd keeper.new (λ k. (K.told k).has_failed ≡ false)) }
-    ensures may { AnswersNoMore K.told keeper.old keeper.new }
     ensures err { OnErr result (keeper.new ≡ None) }
     ensures refused { IfErr result (λ f. IsSomeAnd keeper.old (λ k. K.may_refuse k f)) }
+    ensures once { OnOk result (became_in K.became keeper.old keeper.new 1) }
 {
     let old = keeper.take().unwrap();
     *keeper = Some(old.restart()?);
@@ -40,13 +39,13 @@ fn end_group<K: Restart>(
 ) -> Result<(), DriveFault>
     requires { IsSomeAnd keeper.old (λ k. (K.told k).has_failed ≡ false) }
     ensures same { OnOk result ((told_in K.told keeper.new).is_honest → KeepsHeld (told_in K.told keeper.old) (told_in K.told keeper.new)) }
-    ensures honest { OnOk result ((told_in K.told keeper.new).is_honest → (told_in K.told keeper.old).is_honest) }
+    ensures honest { (told_in K.told keeper.new).is_honest → (told_in K.told keeper.old).is_honest }
     ensures going { OnOk result (IsSomeAnd keeper.new (λ k. (K.told k).has_failed ≡ false)) }
-    ensures may { AnswersNoMore K.told keeper.old keeper.new }
     ensures pending { OnOk result (pending.new.items ≡ (if dies then [] else pending.old.items)) }
     ensures err { OnErr result ((keeper.new ≡ None) × (dies ≡ true)) }
     ensures fault { IfErr result (λ f. (is_store f ≡ true) × (event_of f ≡ event)) }
     ensures refused { IfErr result (λ f. IsSomeAnd keeper.old (λ k. IsStoreFault (K.may_refuse k) f)) }
+    ensures opened { OnOk result (became_in K.became keeper.old keeper.new (if dies then 1 else 0)) }
 {
     if !dies {
         return Ok(());
@@ -94,10 +93,8 @@ fn work_group<K: Restart>(
     requires room { length outcomes.old.items + length run.now ≤ vec_capacity outcomes.old }
     requires places { length pending.old.items + length taken.now ≤ vec_capacity pending.old }
     ensures ok { OnOk result (Worked (told_in K.told keeper.old) (told_in K.told keeper.new) run.now (ids_of pending.old.items) (ids_of pending.new.items) outcomes.old.items outcomes.new.items) }
-    ensures err { OnErr result ((told_in K.told keeper.new).is_clean → KeepsHeld (told_in K.told keeper.old) (told_in K.told keeper.new)) }
-    ensures fault { IfErr result (λ f. (told_in K.told keeper.new).is_clean → (s : K.model.State) (h : History) (t : List ℕ) → StandsIn K.told keeper.old s h t → (told_in K.told keeper.old).may_answer f) }
-    ensures may { AnswersNoMore K.told keeper.old keeper.new }
-    ensures honest { (told_in K.told keeper.new).is_honest → (told_in K.told keeper.old).is_honest }
+    ensures called { Called (told_in K.told keeper.old) (told_in K.told keeper.new) result }
+    ensures same { became_in K.became keeper.old keeper.new 0 }
     ensures failed { IsSomeAnd keeper.new (λ k. (K.told k).has_failed ≡ is_err result) }
 {
     let inner = keeper.as_mut().unwrap();
@@ -120,11 +117,11 @@ fn run_group<K: Restart>(
     ensures within { IfOk result (λ n. at + n ≤ length events.now) }
     ensures ok { IfOk result (λ n. Moved (told_in K.told keeper.old) (told_in K.told keeper.new) (record { room = 0; pending = ids_of pending.old.items })
         (take n (drop at events.now)) (drop (at + n) events.now) (ids_of pending.new.items) outcomes.old.items outcomes.new.items) }
+    ensures opens { IfOk result (λ n. Opens K.told K.became keeper.old keeper.new (ids_of pending.old.items) (take n (drop at events.now))) }
     ensures few { OnOk result (length pending.new.items ≤ max_settled) }
     ensures going { OnOk result (IsSomeAnd keeper.new (λ k. (K.told k).has_failed ≡ false)) }
-    ensures honest { OnOk result ((told_in K.told keeper.new).is_honest → (told_in K.told keeper.old).is_honest) }
-    ensures may { AnswersNoMore K.told keeper.old keeper.new }
-    ensures err { IfErr result (λ fault. Stops K.told K.may_refuse keeper.old keeper.new events.now at fault) }
+    ensures honest { (told_in K.told keeper.new).is_honest → (told_in K.told keeper.old).is_honest }
+    ensures err { IfErr result (λ fault. Stops K.told K.became K.may_refuse keeper.old keeper.new events.now at fault) }
 {
     let Ok(group) = gather(alloc, &events[at..]) else {
         return Err(DriveFault::Memory { event: at });
@@ -158,11 +155,11 @@ pub(crate) fn run_next<K: Restart>(
     ensures ok { IfOk result (λ n. (l : Ledger) → l.pending ≡ ids_of pending.old.items → MayBegin l (drop at events.now)
         → Moved (told_in K.told keeper.old) (told_in K.told keeper.new) l
         (take n (drop at events.now)) (drop (at + n) events.now) (ids_of pending.new.items) outcomes.old.items outcomes.new.items) }
+    ensures opens { IfOk result (λ n. Opens K.told K.became keeper.old keeper.new (ids_of pending.old.items) (take n (drop at events.now))) }
     ensures few { OnOk result (length pending.new.items ≤ max_settled) }
     ensures going { OnOk result (IsSomeAnd keeper.new (λ k. (K.told k).has_failed ≡ false)) }
-    ensures honest { OnOk result ((told_in K.told keeper.new).is_honest → (told_in K.told keeper.old).is_honest) }
-    ensures may { AnswersNoMore K.told keeper.old keeper.new }
-    ensures err { IfErr result (λ fault. Stops K.told K.may_refuse keeper.old keeper.new events.now at fault) }
+    ensures honest { (told_in K.told keeper.new).is_honest → (told_in K.told keeper.old).is_honest }
+    ensures err { IfErr result (λ fault. Stops K.told K.became K.may_refuse keeper.old keeper.new events.now at fault) }
 {
     let event = &events[at];
     test_event(event, at)?;

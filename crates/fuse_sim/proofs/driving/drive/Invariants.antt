@@ -1,6 +1,6 @@
 use Rattle.std.proofs.Common.{◌≡◌, ◌≤◌, ◌-◌, length, take, drop, [], IsSomeAnd, false}
 use Rattle.fuse_keeper.specs.Group.{ids_of}
-use Rattle.fuse_sim.specs.Driving.{told_in, AnswersNoMore}
+use Rattle.fuse_sim.specs.Driving.{told_in, Opened}
 use Rattle.fuse_sim.specs.HandedOn.{empty_ledger}
 use Rattle.fuse_sim.specs.Running.{Moved}
 use Rattle.fuse_sim.proofs.driving.drive.Given as goal
@@ -11,7 +11,8 @@ invariant-loop-at g l = record {
   moved : Moved (told_in g.K.Keeper.told l.fn.keeper) (told_in g.K.Keeper.told l.keeper) empty_ledger (take l.at l.events) (drop l.at l.events) (ids_of l.pending.items) [] l.outcomes.items;
   few : length l.pending.items ≤ 16;
   going : IsSomeAnd l.keeper (λ k. (g.K.Keeper.told k).has_failed ≡ false);
-  may : AnswersNoMore g.K.Keeper.told l.fn.keeper l.keeper;
+  opened : Opened g.K.Keeper.told g.K.Keeper.became l.fn.keeper l.keeper (take l.at l.events);
+  honest : (told_in g.K.Keeper.told l.keeper).is_honest → (told_in g.K.Keeper.told l.fn.keeper).is_honest;
 }
 
 abbrev pub decreases-loop-at : goal.decreases-loop-at

@@ -1,0 +1,252 @@
+-- How often the keeper was opened again, and what stood then.
+use Rattle.std.proofs.Common.{◌≡◌, ◌⊎◌, inl, inr, ℕ, suc, ◌+◌, ◌<◌, Bool, true, false, if◌then◌else◌, List, [], ◌∷◌, ◌++◌, length, take, drop, get_or, Option, Some, None, IsSomeAnd, refl, sym, ap, subst, ◌∙◌, append_assoc, drop-cons, arith}
+use Rattle.std.proofs.Math.Seq.{take-add}
+use Rattle.std.proofs.lemmas.List.{append-nil}
+use Rattle.fuse_wire.specs.declared.moment.Moment.{Moment}
+use Rattle.fuse_request.specs.declared.request.Request.{Request}
+use Rattle.fuse_request.specs.Classes.{class_of}
+use Rattle.fuse_keeper.specs.History.{History, grown, Includes}
+use Rattle.fuse_keeper.specs.Model.{Model}
+use Rattle.fuse_keeper.specs.KeeperState.{KeeperState, IsCount}
+use Rattle.fuse_session.specs.Worked.{entry_if, message_entry}
+use Rattle.fuse_sim.specs.declared.event.Fate.{Fate}
+use Rattle.fuse_sim.specs.declared.event.Fate.TheVariants.{Answered, AnswerLost, DiedBeforeCommit, DiedAfterCommit}
+use Rattle.fuse_sim.specs.declared.event.Event.{Event}
+use Rattle.fuse_sim.specs.declared.event.Outcome.{Outcome}
+use Rattle.fuse_sim.specs.Driving.{commits, commits_by, commits_in, committed, dies, deaths, settles, settled_by, NoneReused, told_in, StandsIn, became_in, OpenedAt, Opened}
+use Rattle.fuse_sim.specs.Running.{dies_before, IsRun, DiesLast, Gathers, handed_to, Worked, Opens}
+use Rattle.fuse_sim.proofs.Settled.{includes_left, includes_both, stands_later}
+use Rattle.fuse_sim.proofs.Driven.{committed-append, settled-append, settled_still, reused-parts, all_unsettled_too, none_reused}
+use Rattle.fuse_sim.proofs.Moves.{handed_within, is_lost}
+
+-- ---- what became of a keeper
+
+became_then : {K : Type 0} (became : K → K → ℕ → Type 0) → IsCount became → (a b c : Option K) (m n o : ℕ) → became_in became a b m → became_in became b c n → m + n ≡ o → became_in became a c o
+became_then became law None b c m n o one two sum = absurd one
+became_then became law (Some a) None c m n o one two sum = absurd one
+became_then became law (Some a) (Some b) None m n o one two sum = absurd two
+became_then became law (Some a) (Some b) (Some c) m n o one two sum = subst (became a c) sum (law.then a b c m n one two)
+
+became_first : {K : Type 0} (became : K → K → ℕ → Type 0) → IsCount became → (a b : Option K) (n : ℕ) → became_in became a b n → became_in became a a 0
+became_first became law None b n is = absurd is
+became_first became law (Some a) b n is = law.none a
+
+became_last : {K : Type 0} (became : K → K → ℕ → Type 0) → IsCount became → (a b : Option K) (n : ℕ) → became_in became a b n → became_in became b b 0
+became_last became law None b n is = absurd is
+became_last became law (Some a) None n is = absurd is
+became_last became law (Some a) (Some b) n is = law.none b
+
+pub became_itself : {K : Type 0} (became : K → K → ℕ → Type 0) → IsCount became → (P : K → Type 0) (k : Option K) → IsSomeAnd k P → became_in became k k 0
+became_itself became law P None is = absurd is
+became_itself became law P (Some k) is = law.none k
+
+-- ---- deaths
+
+pub deaths-append : (xs ys : List Event) → deaths (xs ++ ys) ≡ deaths xs + deaths ys
+deaths-append [] ys = omega arith
+deaths-append (x ∷ xs) ys =
+    let more = deaths-append xs ys in
+    elim (dies x.fate) as (λ b. (if b then suc (deaths (xs ++ ys)) else deaths (xs ++ ys)) ≡ (if b then suc (deaths xs) else deaths xs) + deaths ys)
+    [ true ↦ omega (arith, more) | false ↦ more ]
+
+deaths_first : (x : Event) (xs : List Event) (b : Bool) → dies x.fate ≡ b → deaths (x ∷ xs) ≡ (if b then suc (deaths xs) else deaths xs)
+deaths_first x xs b is = ap (λ c. if c then suc (deaths xs) else deaths xs) is
+
+deaths_last : (died : Bool) (run : List Event) → DiesLast died run → deaths run ≡ (if died then 1 else 0)
+deaths_last died [] is = ap (λ b. if b then 1 else 0) (sym is)
+deaths_last died (e ∷ run) is = elim is [
+  | inl more ↦ deaths_first e run false more.0 ∙ deaths_last died run more.1
+  | inr last ↦ deaths_first e run true last.1 ∙ ap (λ es. suc (deaths es)) last.2 ∙ ap (λ b. if b then 1 else 0) (sym last.0)
+]
+
+record AtLast (died : Bool) (earlier later : List Event) : Type 0 where
+  pub died_is : died ≡ true
+  pub ends : later ≡ []
+  pub calm : deaths earlier ≡ 0
+
+no_middle : (earlier : List Event) (e : Event) (later : List Event) → earlier ++ e ∷ later ≡ [] → ⊥
+no_middle [] e later is = absurd (cc is)
+no_middle (x ∷ earlier) e later is = absurd (cc is)
+
+at_last : (died : Bool) (run earlier : List Event) (e : Event) (later : List Event) → DiesLast died run → run ≡ earlier ++ e ∷ later → dies e.fate ≡ true → AtLast died earlier later
+at_last died [] [] e later last is so = absurd (cc is)
+at_last died [] (y ∷ earlier) e later last is so = absurd (cc is)
+at_last died (x ∷ run) [] e later last is so =
+    let same : x ≡ e = cc is in
+    let rest : run ≡ later = cc is in
+    elim last [
+      | inl more ↦ absurd (let calm = more.0 in let there = ap (λ (o : Event). dies o.fate) same ∙ so in cc (calm, there))
+      | inr end ↦ record { died_is = end.0; ends = sym rest ∙ end.2; calm = refl }
+    ]
+at_last died (x ∷ run) (y ∷ earlier) e later last is so =
+    let same : x ≡ y = cc is in
+    let rest : run ≡ earlier ++ e ∷ later = cc is in
+    elim last [
+      | inl more ↦
+          let found = at_last died run earlier e later more.1 rest so in
+          record { died_is = found.died_is; ends = found.ends; calm = deaths_first y earlier false (ap (λ (o : Event). dies o.fate) (sym same) ∙ more.0) ∙ found.calm }
+      | inr end ↦ absurd (no_middle earlier e later (sym rest ∙ end.2))
+    ]
+
+-- ---- places in two lists
+
+record InFirst (xs ys earlier : List Event) (e : Event) (later : List Event) : Type 0 where
+  pub more : List Event
+  pub parts : xs ≡ earlier ++ e ∷ more
+  pub rest : later ≡ more ++ ys
+
+record InSecond (xs ys earlier : List Event) (e : Event) (later : List Event) : Type 0 where
+  pub front : List Event
+  pub parts : ys ≡ front ++ e ∷ later
+  pub begin : earlier ≡ xs ++ front
+
+in_which : (xs ys earlier : List Event) (e : Event) (later : List Event) → xs ++ ys ≡ earlier ++ e ∷ later → InFirst xs ys earlier e later ⊎ InSecond xs ys earlier e later
+in_which [] ys earlier e later is = inr (record { front = earlier; parts = is; begin = refl })
+in_which (x ∷ xs) ys [] e later is =
+    let same : x ≡ e = cc is in
+    let rest : xs ++ ys ≡ later = cc is in
+    inl (record { more = xs; parts = ap (λ (y : Event). y ∷ xs) same; rest = sym rest })
+in_which (x ∷ xs) ys (y ∷ earlier) e later is =
+    let same : x ≡ y = cc is in
+    let rest : xs ++ ys ≡ earlier ++ e ∷ later = cc is in
+    elim (in_which xs ys earlier e later rest) [
+      | inl first ↦ inl (record { more = first.more; parts = ap (λ (z : Event). z ∷ xs) same ∙ ap (λ (zs : List Event). y ∷ zs) first.parts; rest = first.rest })
+      | inr second ↦ inr (record { front = second.front; parts = second.parts; begin = ap (λ (z : Event). z ∷ earlier) (sym same) ∙ ap (λ (zs : List Event). x ∷ zs) second.begin })
+    ]
+
+-- ---- events, and then others
+
+abbrev Stood : {M : Model} {K : Type 0} → (K → KeeperState M) → Option K → Option K → List Event → Type 0
+Stood {M} told old new es = (told_in told new).is_honest → (s : M.State) (h : History) (t : List ℕ) → StandsIn told old s h t → NoneReused t es
+    → StandsIn told new s (committed h es) (settled_by t es)
+
+-- what stood after the first events, and then for the second, stands for both
+stood_more : (M : Model) → {K : Type 0} (told : K → KeeperState M) (old mid new : Option K) (xs ys : List Event) (p : List ℕ)
+    → ((t : List ℕ) → Includes (settled_by t xs) p) → ((told_in told new).is_honest → (told_in told mid).is_honest) → Stood told old mid xs
+    → ((told_in told new).is_honest → (s : M.State) (h : History) (t : List ℕ) → StandsIn told mid s h t → Includes t p → NoneReused t ys → StandsIn told new s (committed h ys) (settled_by t ys))
+    → Stood told old new (xs ++ ys)
+stood_more M told old mid new xs ys p within was one two = λ is s h t so none.
+    let parts = reused-parts t xs ys none in
+    let stands = two is s (committed h xs) (settled_by t xs) (one (was is) s h t so parts.0) (within t) parts.1 in
+    subst (λ g. StandsIn told new s g (settled_by t (xs ++ ys))) (sym (committed-append h xs ys))
+    (subst (StandsIn told new s (committed (committed h xs) ys)) (sym (settled-append t xs ys)) stands)
+
+opened_before : (M : Model) → {K : Type 0} (told : K → KeeperState M) (became : K → K → ℕ → Type 0) → IsCount became → (old mid new : Option K) (ys earlier : List Event) (e : Event) (more later : List Event)
+    → later ≡ more ++ ys → became_in became mid new (deaths ys) → ((told_in told new).is_honest → (told_in told mid).is_honest)
+    → OpenedAt told became old mid earlier e more → OpenedAt told became old new earlier e later
+opened_before M told became law old mid new ys earlier e more later rest further was one = record {
+  left = one.left;
+  opened = one.opened;
+  before = one.before;
+  once = one.once;
+  after = became_then became law one.opened mid new (deaths more) (deaths ys) (deaths later) one.after further (sym (ap deaths rest ∙ deaths-append more ys));
+  honest = λ is. one.honest (was is);
+  stood = one.stood;
+}
+
+opened_last : (M : Model) → {K : Type 0} (told : K → KeeperState M) (became : K → K → ℕ → Type 0) → IsCount became → (old mid new : Option K) (xs ys : List Event) (p : List ℕ) (earlier front : List Event) (e : Event) (later : List Event)
+    → ((t : List ℕ) → Includes (settled_by t xs) p) → Stood told old mid xs → became_in became old mid (deaths xs) → (two : Opens told became mid new p ys)
+    → ys ≡ front ++ e ∷ later → earlier ≡ xs ++ front → AtLast two.died front later → OpenedAt told became old new earlier e later
+opened_last M told became law old mid new xs ys p earlier front e later within stood often two parts begin last =
+    let once : became_in became two.left new 1 = subst (λ b. became_in became two.left new (if b then 1 else 0)) last.died_is two.after in
+    let whole : earlier ++ e ∷ [] ≡ xs ++ ys =
+    ap (λ (zs : List Event). zs ++ e ∷ []) begin ∙ append_assoc xs front (e ∷ []) ∙ ap (λ (zs : List Event). xs ++ (front ++ e ∷ zs)) (sym last.ends) ∙ ap (λ (zs : List Event). xs ++ zs) (sym parts) in
+    record {
+      left = two.left;
+      opened = new;
+      before = became_then became law old mid two.left (deaths xs) 0 (deaths earlier) often two.before
+          (omega (arith, ap deaths begin, deaths-append xs front, last.calm));
+      once = once;
+      after = subst (became_in became new new) (ap deaths (sym last.ends)) (became_last became law two.left new 1 once);
+      honest = two.honest;
+      stood = subst (λ es. (told_in told two.left).is_honest → (s : M.State) (h : History) (t : List ℕ) → StandsIn told old s h t → NoneReused t es → StandsIn told two.left s (committed h es) (settled_by t es)) (sym whole)
+          (stood_more M told old mid two.left xs ys p within two.was_honest stood two.stood);
+    }
+
+opened_place : (M : Model) → {K : Type 0} (told : K → KeeperState M) (became : K → K → ℕ → Type 0) → IsCount became → (old mid new : Option K) (xs ys : List Event) (p : List ℕ)
+    → ((t : List ℕ) → Includes (settled_by t xs) p) → Stood told old mid xs → became_in became mid new (deaths ys) → ((told_in told new).is_honest → (told_in told mid).is_honest)
+    → Opened told became old mid xs → Opens told became mid new p ys
+    → (earlier : List Event) (e : Event) (later : List Event) → xs ++ ys ≡ earlier ++ e ∷ later → dies e.fate ≡ true → OpenedAt told became old new earlier e later
+opened_place M told became law old mid new xs ys p within stood further was one two earlier e later is so = elim (in_which xs ys earlier e later is) [
+  | inl first ↦ opened_before M told became law old mid new ys earlier e first.more later first.rest further was (one.each earlier e first.more first.parts so)
+  | inr second ↦ opened_last M told became law old mid new xs ys p earlier second.front e later within stood one.often two second.parts second.begin
+      (at_last two.died ys second.front e later two.last second.parts so)
+]
+
+pub opened_more : (M : Model) → {K : Type 0} (told : K → KeeperState M) (became : K → K → ℕ → Type 0) → IsCount became → (old mid new : Option K) (xs ys : List Event) (p : List ℕ)
+    → ((t : List ℕ) → Includes (settled_by t xs) p) → Stood told old mid xs → Opened told became old mid xs → Opens told became mid new p ys → Opened told became old new (xs ++ ys)
+opened_more M told became law old mid new xs ys p within stood one two =
+    let further : became_in became mid new (deaths ys) =
+    became_then became law mid two.left new 0 (if two.died then 1 else 0) (deaths ys) two.before two.after (omega (arith, deaths_last two.died ys two.last)) in
+    let was : (told_in told new).is_honest → (told_in told mid).is_honest = λ is. two.was_honest (two.honest is) in
+    record {
+      often = became_then became law old mid new (deaths xs) (deaths ys) (deaths (xs ++ ys)) one.often further (sym (deaths-append xs ys));
+      each = opened_place M told became law old mid new xs ys p within stood further was one two;
+    }
+
+pub opened_none : (M : Model) → {K : Type 0} (told : K → KeeperState M) (became : K → K → ℕ → Type 0) → IsCount became → (P : K → Type 0) (k : Option K) → IsSomeAnd k P → Opened told became k k []
+opened_none M told became law P k is = record {
+  often = became_itself became law P k is;
+  each = λ earlier e later none. absurd (no_middle earlier e later (sym none));
+}
+
+-- it was opened no more
+pub opened_still : (M : Model) → {K : Type 0} (told : K → KeeperState M) (became : K → K → ℕ → Type 0) → IsCount became → (old mid new : Option K) (es : List Event)
+    → became_in became mid new 0 → ((told_in told new).is_honest → (told_in told mid).is_honest) → Opened told became old mid es → Opened told became old new es
+opened_still M told became law old mid new es same was one = record {
+  often = became_then became law old mid new (deaths es) 0 (deaths es) one.often same (omega arith);
+  each = λ earlier e later is so. opened_before M told became law old mid new [] earlier e later later (sym (append-nil later)) same was (one.each earlier e later is so);
+}
+
+-- ---- a group, and an event that is lost
+
+dies_later : (fate : Fate) → fate ≡ DiedAfterCommit → dies fate ≡ true
+dies_later fate is = ap dies is
+
+run_last : (died : Bool) (run : List Event) → IsRun died run → DiesLast died run
+run_last died [] is = is
+run_last died (e ∷ run) is = elim is [
+  | inl more ↦ inl (more.0, run_last died run more.1)
+  | inr last ↦ inr (last.0, dies_later e.fate last.1, last.2)
+]
+
+pub group_opens : (M : Model) → {K : Type 0} (told : K → KeeperState M) (became : K → K → ℕ → Type 0) (old mid new : Option K) (died : Bool) (run slice : List Event) (taken : List (Request × Moment)) (p p' : List ℕ) (outs outs' : List (Option Outcome))
+    → Gathers run taken died → slice ≡ run → Worked (told_in told old) (told_in told mid) slice p p' outs outs' → became_in became old mid 0 → became_in became mid new (if died then 1 else 0)
+    → ((told_in told new).is_honest → (told_in told mid).is_honest) → ((told_in told mid).is_honest → (told_in told old).is_honest) → Opens told became old new p run
+group_opens M told became old mid new died run slice taken p p' outs outs' gathers same all before after honest was =
+    let worked = subst (λ x. Worked (told_in told old) (told_in told mid) x p p' outs outs') same all in
+    let cs = commits_in run in
+    record {
+      died = died;
+      last = run_last died run gathers.goes;
+      left = mid;
+      before = before;
+      after = after;
+      honest = honest;
+      was_honest = was;
+      stood = λ is s h t so within none.
+          let handed = handed_within t p cs within in
+          let fresh = all_unsettled_too t (t ++ handed_to cs p) cs (includes_both t t (handed_to cs p) (λ i there. there) handed) (none_reused t run none) in
+          stands_later M (told_in told mid) s (committed h run) (t ++ handed_to cs p) (settled_by t run)
+          (includes_both (settled_by t run) t (handed_to cs p) (settled_still t run) (λ i there. settled_still t run i (handed i there))) (worked.stands is s h t so fresh);
+    }
+
+pub lost_opens : (M : Model) → {K : Type 0} (told : K → KeeperState M) (became : K → K → ℕ → Type 0) → IsCount became → (old new : Option K) (events : List Event) (at : ℕ) (e : Event) (p : List ℕ)
+    → at < length events → e ≡ get_or events at e → dies_before e.fate ≡ true → became_in became old new 1 → ((told_in told new).is_honest → (told_in told old).is_honest)
+    → Opens told became old new p (take 1 (drop at events))
+lost_opens M told became law old new events at e p lt is before once honest =
+    let lost = is_lost e.fate before in
+    let one : e ∷ [] ≡ take 1 (drop at events) = ap (λ (x : Event). x ∷ []) is ∙ ap (take 1) (sym (drop-cons events at e lt)) in
+    let none : commits_in (e ∷ []) ≡ [] = ap (λ f. commits_by f (entry_if (class_of e.bytes) (message_entry e.bytes e.moment)) ++ []) lost in
+    subst (Opens told became old new p) one (record {
+      died = true;
+      last = inr (refl, ap dies lost, refl);
+      left = old;
+      before = became_first became law old new 1 once;
+      after = once;
+      honest = honest;
+      was_honest = λ is. is;
+      stood = λ is s h t so within unused.
+          subst (λ cs. StandsIn told old s (grown h cs) (settled_by t (e ∷ []))) (sym none)
+          (stands_later M (told_in told old) s h t (settled_by t (e ∷ [])) (includes_left t (settles e)) so);
+    })
