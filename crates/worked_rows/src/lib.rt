@@ -3,6 +3,8 @@
 #![tactic(auto)]
 
 #[cfg(test)]
+mod events;
+#[cfg(test)]
 mod hex;
 #[cfg(test)]
 mod keepers;
