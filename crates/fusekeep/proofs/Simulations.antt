@@ -1,5 +1,5 @@
 -- How scripts are run, and what is printed of them.
-use Rattle.std.proofs.Common.{◌≡◌, inl, inr, refl, arith, true, ℕ, zero, suc, ◌+◌, ◌<◌, List, [], ◌∷◌, ◌++◌, length, take, map, get_or, All, Option, Some, None, sym, ap, subst, ◌∙◌, Result, Ok, Err}
+use Rattle.std.proofs.Common.{◌≡◌, inl, inr, refl, arith, true, ℕ, zero, suc, ◌+◌, ◌<◌, ◌≤◌, List, [], ◌∷◌, ◌++◌, length, take, map, get_or, All, Option, Some, None, sym, ap, subst, ◌∙◌, Result, Ok, Err}
 use Rattle.std.specs.Prelude.{IfSome, IfOk, IsSomeAnd}
 use Rattle.std.specs.List.{AllByRecursion}
 use Rattle.std.specs.Io.KnownBytes.{Appends, Consumes, IsAtEnd}
@@ -15,7 +15,8 @@ use Rattle.fuse_keeper.specs.declared.keeper.StoreCounts.{StoreCounts}
 use Rattle.fuse_keeper.specs.declared.plain.PlainKeeper.{PlainKeeper}
 use Rattle.fuse_keeper.specs.Model.{Model, IsRowed}
 use Rattle.fuse_keeper.specs.History.{History, after}
-use Rattle.fuse_keeper.specs.KeeperState.{KeeperState, StandsFor, Tells}
+use Rattle.fuse_keeper.specs.KeeperState.{KeeperState, StandsFor}
+use Rattle.fuse_keeper.specs.KeeperState.{Tells as TellsHeld}
 use Rattle.fuse_store.specs.declared.tree.PlainTree.{PlainTree}
 use Rattle.fuse_store.specs.PlainTree.{tree_told}
 use Rattle.fuse_store.specs.TheTree.{the_tree}
@@ -28,7 +29,8 @@ use Rattle.fusekeep.specs.declared.ending.Ending.{Ending}
 use Rattle.fusekeep.specs.declared.simulate.Simulation.{Simulation}
 use Rattle.fusekeep.specs.Endings.{status_of, store_ending}
 use Rattle.fusekeep.specs.Scripts.{lines_of, Tells}
-use Rattle.fusekeep.specs.Simulating.{start, outcome_line, outcome_lines, state_after, outcomes_of, Went, AnsweredFault, StoreEnded, RanScript}
+use Rattle.fusekeep.specs.Printing.{line, store_line}
+use Rattle.fusekeep.specs.Simulating.{start, outcome_line, outcome_lines, simulation_text, state_after, outcomes_of, Went, AnsweredFault, StoreEnded, RanScript}
 use Rattle.fusekeep.proofs.Known.{consumes_then}
 
 -- ---- reading
@@ -69,16 +71,16 @@ pub went : {M : Model} {K : Type 0} (told : K → KeeperState M) (left : Option 
     → left ≡ Some k → ((told k').is_honest → (told k).is_honest) → (told k').is_honest
     → ((told_in told left).is_honest → map bytes_given outcomes ≡ map (outcome_of M s (committed [] events)) events)
     → ((told_in told left).is_honest → StandsIn told left s (committed [] events) (settled_by [] events))
-    → Tells (told k) (told k') (λ rows records. counts.nodes ≡ M.nodes rows) → Tells (told k) (told k') (λ rows records. counts.handles ≡ M.handles rows)
-    → Went M s events (record { outcomes = outcomes; counts = counts })
+    → TellsHeld (told k) (told k') (λ rows records. counts.nodes ≡ M.nodes rows) → TellsHeld (told k) (told k') (λ rows records. counts.handles ≡ M.handles rows)
+    → (map bytes_given outcomes ≡ outcomes_of M s events) × (counts.nodes ≡ M.nodes (M.held_for (state_after M s events))) × (counts.handles ≡ M.handles (M.held_for (state_after M s events)))
 went {M} told left k k' s events outcomes counts is keeps last answers stands nodes handles =
     let good : (told_in told left).is_honest = subst (λ o. (told_in told o).is_honest) (sym is) (keeps last) in
     let so = subst (λ o. StandsIn told o s (committed [] events) (settled_by [] events)) is (stands good) in
-    record {
-      outcomes = answers good;
-      nodes = counted (told k) M.nodes s (committed [] events) (settled_by [] events) counts.nodes so (nodes last);
-      handles = counted (told k) M.handles s (committed [] events) (settled_by [] events) counts.handles so (handles last);
-    }
+    (
+      answers good,
+      counted (told k) M.nodes s (committed [] events) (settled_by [] events) counts.nodes so (nodes last),
+      counted (told k) M.handles s (committed [] events) (settled_by [] events) counts.handles so (handles last),
+    )
 
 pub ran : (k : KeeperState the_tree) (r : Result Simulation Ending) (known : Option (List ℕ)) (script slice : List ℕ) (items events : List Event)
     → IfOk r (λ simulation. (s : State) → StandsFor k s [] [] → NoneReused [] events → Went the_tree s events simulation) → StandsFor k start [] []
@@ -151,3 +153,26 @@ printed_more old mid new outcomes i d there so one =
     ap (λ x. outcome_lines (map bytes_given x)) (take_more outcomes i d there) ∙ ap outcome_lines (map-append bytes_given (take i outcomes) (get_or outcomes i d ∷ []))
     ∙ flat_map-append outcome_line (map bytes_given (take i outcomes)) (bytes_given (get_or outcomes i d) ∷ []) ∙ ap (λ (x : List ℕ). outcome_lines (map bytes_given (take i outcomes)) ++ x) (append-nil (outcome_line (bytes_given (get_or outcomes i d)))) in
     subst (Appends old new) (sym text) (Appends-trans old mid new _ _ so one)
+
+tree_counts : (s : State) → (the_tree.nodes (rowed s) ≡ length s.nodes) × (the_tree.handles (rowed s) ≡ length s.handles)
+unfolding rowed
+tree_counts s = (refl, refl)
+
+-- what is printed of a script that was run
+printed_text : (script : List ℕ) (simulation : Simulation) (old new : Option (List ℕ)) → RanScript script simulation
+    → Appends old new (outcome_lines (map bytes_given simulation.outcomes.items) ++ line (store_line simulation.counts.nodes simulation.counts.handles))
+    → (events : List Event) × Tells (lines_of script) events × (NoneReused [] events → Appends old new (simulation_text start events))
+printed_text script simulation old new ran printed = (ran.events, ran.tells, λ none.
+    let w = ran.went none in
+    let state = state_after the_tree start ran.events in
+    let nodes : simulation.counts.nodes ≡ length state.nodes = w.nodes ∙ (tree_counts state).0 in
+    let handles : simulation.counts.handles ≡ length state.handles = w.handles ∙ (tree_counts state).1 in
+    subst (λ (o : List (Option (List ℕ))). Appends old new (outcome_lines o ++ line (store_line (length state.nodes) (length state.handles)))) w.outcomes
+    (subst (λ n. Appends old new (outcome_lines (map bytes_given simulation.outcomes.items) ++ line (store_line (length state.nodes) n))) handles
+    (subst (λ n. Appends old new (outcome_lines (map bytes_given simulation.outcomes.items) ++ line (store_line n simulation.counts.handles))) nodes printed)))
+
+pub simulated : (known : Option (List ℕ)) (simulation : Simulation) (old new : Option (List ℕ)) → IfSome known (λ script. RanScript script simulation)
+    → Appends old new (outcome_lines (map bytes_given simulation.outcomes.items) ++ line (store_line simulation.counts.nodes simulation.counts.handles))
+    → IfSome known (λ script. 0 ≤ 1 → (events : List Event) × Tells (lines_of script) events × (NoneReused [] events → Appends old new (simulation_text start events)))
+simulated None simulation old new ran printed = tt
+simulated (Some script) simulation old new ran printed = λ small. printed_text script simulation old new ran printed

@@ -4,9 +4,10 @@ use Rattle.fusekeep.proofs.simulate.run_events.Goals as goal
 
 pub returns-in-Ok-counts-clause-ok : goal.returns-in-Ok-counts-clause-ok
 returns-in-Ok-counts-clause-ok g c = λ honest s so again.
-    went g.K.Keeper.told c.drive.new.keeper c.in-Some.keeper c.counts.new.self s c.args.events.now c.in-Ok.outcomes.items c.in-Ok-counts.counts
+    let all = went g.K.Keeper.told c.drive.new.keeper c.in-Some.keeper c.counts.new.self s c.args.events.now c.in-Ok.outcomes.items c.in-Ok-counts.counts
     c.in-Some.is c.counts.ensures.looked.called.honest honest (λ good. c.in-Ok.ensures.outcomes good s [] [] so again) (λ good. c.in-Ok.ensures.tree_stands good s [] [] so again)
-    c.in-Ok-counts.ensures.nodes c.in-Ok-counts.ensures.handles
+    c.in-Ok-counts.ensures.nodes c.in-Ok-counts.ensures.handles in
+    record { outcomes = all.0; nodes = all.1; handles = all.2 }
 
 pub returns-in-Err-Store-clause-store : goal.returns-in-Err-Store-clause-store
 returns-in-Err-Store-clause-store g c = λ is s so none.
