@@ -1,2 +1,3 @@
 pub mod TheTree
 pub mod Causing
+pub mod PlainTree

@@ -13,14 +13,13 @@ use Rattle.fuse_request.specs.declared.class.Class.TheVariants.{Silent, Bare, Ke
 use Rattle.fuse_request.specs.Stream.{cut, joined, is_whole, CutJoins, CutSteps}
 use Rattle.fuse_request.specs.Framing.{bad_length, end_fault, needed}
 use Rattle.fuse_request.specs.Classes.{class_of}
-use Rattle.fuse_store.specs.declared.fault.StoreFault.{StoreFault}
-use Rattle.fuse_store.specs.declared.fault.StoreFault.TheVariants as store
-use Rattle.fuse_tree.specs.State.{State}
-use Rattle.fuse_tree.specs.Rows.{Rows}
+use Rattle.fuse_keeper.specs.declared.fault.StoreFault.{StoreFault}
+use Rattle.fuse_keeper.specs.declared.fault.StoreFault.TheVariants as store
 use Rattle.fuse_answer.specs.Said.{Said, FitsAnswer}
 use Rattle.fuse_answer.specs.Laws.{BeginsWithLen, LenStandsFirst}
-use Rattle.fuse_store.specs.History.{History, grown, said, SaidFits}
-use Rattle.fuse_store.specs.Stands.{Records, StandsFor}
+use Rattle.fuse_keeper.specs.Model.{Model}
+use Rattle.fuse_keeper.specs.History.{History, grown, said, SaidFits}
+use Rattle.fuse_keeper.specs.KeeperState.{KeeperState, StandsFor}
 use Rattle.fuse_session.specs.declared.counts.SessionCounts.{SessionCounts}
 use Rattle.fuse_session.specs.declared.ended.Ended.{Ended}
 use Rattle.fuse_session.specs.declared.ended.Ended.TheVariants as session
@@ -73,22 +72,22 @@ sent_is None sent all is more = absurd (cc is)
 sent_is (Some xs) sent all is more = let same : xs ≡ sent = cc is in sym same ∙ more
 
 -- what is known of messages that were worked off
-pub record Settled (stood : History → Type 0) (s : State) (h : History) (timed : List Timed) (going : Bool) (sent : List ℕ) (counts : SessionCounts) : Type 0 where
-  pub works : Works s h timed
-  pub goes : going ≡ true → GoesOn s h timed
-  pub last : going ≡ false → EndsLast s h timed
+pub record Settled (M : Model) (stood : History → Type 0) (s : M.State) (h : History) (timed : List Timed) (going : Bool) (sent : List ℕ) (counts : SessionCounts) : Type 0 where
+  pub works : Works M s h timed
+  pub goes : going ≡ true → GoesOn M s h timed
+  pub last : going ≡ false → EndsLast M s h timed
   pub stands : stood (grown h (kept_in timed))
-  pub sends : Sends sent counts (answers s (grown h (kept_in timed)) timed) (counted h timed)
+  pub sends : Sends sent counts (answers M s (grown h (kept_in timed)) timed) (counted h timed)
 
 -- what is told of a port that is at its end
 pub record Told (p : PortState) (sent : List ℕ) : Type 0 where
   pub gone : p.gone ≡ []
   pub sent_is : p.sent ≡ Some sent
 
-settled : (holds holds' : Rows → Records → Type 0) (honest' : Type 0) (may : Moment → Type 0) (coming : Option (List ℕ)) (p : PortState) (ids ids' : List ℕ) (front : List (List ℕ)) (going : Bool) (counts : SessionCounts) (sent : List ℕ) → ids ≡ []
-    → Told p sent → (turned : Turned holds holds' honest' may (fresh coming (Some []) false) p ids ids' front going counts) → honest'
-    → (s : State) (h : History) (t : List ℕ) → StandsFor holds s h t → AllByRecursion (MayCome t) (bytes_of turned.timed) → Settled (λ g. StandsFor holds' s g t) s h turned.timed going sent counts
-settled holds holds' honest' may coming p ids ids' front going counts sent none told turned honest s h t so may_come =
+settled : {M : Model} (k k' : KeeperState M) (may : Moment → Type 0) (coming : Option (List ℕ)) (p : PortState) (ids ids' : List ℕ) (front : List (List ℕ)) (going : Bool) (counts : SessionCounts) (sent : List ℕ) → ids ≡ []
+    → Told p sent → (turned : Turned k k' may (fresh coming (Some []) false) p ids ids' front going counts) → k'.is_honest
+    → (s : M.State) (h : History) (t : List ℕ) → StandsFor k s h t → AllByRecursion (MayCome t) (bytes_of turned.timed) → Settled M (λ g. StandsFor k' s g t) s h turned.timed going sent counts
+settled k k' may coming p ids ids' front going counts sent none told turned honest s h t so may_come =
     let r = turned.replied in
     let taken = all_taken (Some []) turned.marks r.places (sym r.gone ∙ told.gone) r.placed in
     let a = turned.all honest s h t so (λ i there. absurd (cc (ap (λ (x : List ℕ). x) none, there))) (none_again t (bytes_of turned.timed) turned.marks taken may_come) in
@@ -97,7 +96,7 @@ settled holds holds' honest' may coming p ids ids' front going counts sent none 
       works = a.works;
       goes = a.goes;
       last = a.last;
-      stands = subst (StandsFor holds' s (grown h (kept_in turned.timed))) same a.stands;
+      stands = subst (StandsFor k' s (grown h (kept_in turned.timed))) same a.stands;
       sends = (sent_is p.sent sent (joined (replies turned.marks) ++ []) told.sent_is r.sent ∙ append-nil (joined (replies turned.marks)) ∙ ap joined a.sent, a.counts_are);
     }
 
@@ -179,11 +178,11 @@ bad_came joins steps input received later rest at f is rest_is e =
 -- ---- each end
 
 -- all that came was worked off
-rested : (holds holds' : Rows → Records → Type 0) (honest' : Type 0) (moment : Moment) (input sent : List ℕ) (p : PortState) (ids' rest : List ℕ) (place : ℕ) (counts : SessionCounts) (ending : Ending) → Told p sent
-    → (w : Whole holds holds' honest' (λ t. t ≡ moment) (fresh (Some input) (Some []) false) p [] ids' [] rest 0 place counts) → (cut input).0 ≡ (cut w.received).0
-    → ((s : State) (h : History) (timed : List Timed) → GoesOn s h timed → place ≡ length (joined (bytes_of timed)) → EndsAt ending s h timed [] (length (joined (bytes_of timed))) (cut input).1)
-    → Replayed holds holds' honest' moment input ending (Sends sent counts)
-rested holds holds' honest' moment input sent p ids' rest place counts ending told w same ends =
+rested : {M : Model} (k k' : KeeperState M) (moment : Moment) (input sent : List ℕ) (p : PortState) (ids' rest : List ℕ) (place : ℕ) (counts : SessionCounts) (ending : Ending) → Told p sent
+    → (w : Whole k k' (λ t. t ≡ moment) (fresh (Some input) (Some []) false) p [] ids' [] rest 0 place counts) → (cut input).0 ≡ (cut w.received).0
+    → ((s : M.State) (h : History) (timed : List Timed) → GoesOn M s h timed → place ≡ length (joined (bytes_of timed)) → EndsAt M ending s h timed [] (length (joined (bytes_of timed))) (cut input).1)
+    → Replayed k k' moment input ending (Sends sent counts)
+rested k k' moment input sent p ids' rest place counts ending told w same ends =
     let at : place ≡ length (joined (bytes_of w.turned.timed)) = omega (arith, w.at, ap (λ ms. length (joined ms)) w.turned.bytes) in
     record {
       timed = w.turned.timed;
@@ -191,7 +190,7 @@ rested holds holds' honest' moment input sent p ids' rest place counts ending to
       parts = same ∙ w.turned.bytes ∙ sym (append-nil (bytes_of w.turned.timed));
       moments = w.turned.moments;
       all = λ honest s h t so may.
-          let d = settled holds holds' honest' (λ t. t ≡ moment) (Some input) p [] ids' (cut w.received).0 true counts sent refl told w.turned honest s h t so may in
+          let d = settled k k' (λ t. t ≡ moment) (Some input) p [] ids' (cut w.received).0 true counts sent refl told w.turned honest s h t so may in
           record { works = d.works; ends = ends s h w.turned.timed (d.goes refl) at; stands = d.stands; gave = d.sends };
     }
 
@@ -200,13 +199,13 @@ zero_more [] more zero = absurd zero
 zero_more (m ∷ ms) more zero = zero
 
 -- some of it was
-halted : CutJoins → (holds holds' : Rows → Records → Type 0) (honest' : Type 0) (moment : Moment) (input sent : List ℕ) (p : PortState) (ids' received : List ℕ) (front others : List (List ℕ)) (going : Bool) (place : ℕ) (counts : SessionCounts) (ending : Ending)
+halted : CutJoins → {M : Model} (k k' : KeeperState M) (moment : Moment) (input sent : List ℕ) (p : PortState) (ids' received : List ℕ) (front others : List (List ℕ)) (going : Bool) (place : ℕ) (counts : SessionCounts) (ending : Ending)
     → Told p sent → Consumes (Some input) p.coming received → (cut received).0 ≡ front ++ others → place ≡ 0 + length (joined front)
-    → Turned holds holds' honest' (λ t. t ≡ moment) (fresh (Some input) (Some []) false) p [] ids' front going counts
-    → ((s : State) (h : History) (timed : List Timed) (more : List (List ℕ)) → (going ≡ true → GoesOn s h timed) → (going ≡ false → EndsLast s h timed) → place ≡ length (joined (bytes_of timed))
-    → EndsAt ending s h timed (others ++ more) (length (joined (bytes_of timed))) (cut input).1)
-    → Replayed holds holds' honest' moment input ending (Sends sent counts)
-halted joins holds holds' honest' moment input sent p ids' received front others going place counts ending told came_from parts place_is turned ends =
+    → Turned k k' (λ t. t ≡ moment) (fresh (Some input) (Some []) false) p [] ids' front going counts
+    → ((s : M.State) (h : History) (timed : List Timed) (more : List (List ℕ)) → (going ≡ true → GoesOn M s h timed) → (going ≡ false → EndsLast M s h timed) → place ≡ length (joined (bytes_of timed))
+    → EndsAt M ending s h timed (others ++ more) (length (joined (bytes_of timed))) (cut input).1)
+    → Replayed k k' moment input ending (Sends sent counts)
+halted joins k k' moment input sent p ids' received front others going place counts ending told came_from parts place_is turned ends =
     let c = came input p.coming received came_from in
     let more = (cut ((cut received).1 ++ c.later)).0 in
     let all = cut_came joins input received c.later c.parts in
@@ -218,15 +217,15 @@ halted joins holds holds' honest' moment input sent p ids' received front others
       parts = ap (λ (x : List (List ℕ) × List ℕ). x.0) all ∙ ap (λ ms. ms ++ more) (parts ∙ ap (λ ms. ms ++ others) turned.bytes) ∙ append_assoc (bytes_of timed) others more;
       moments = turned.moments;
       all = λ honest s h t so may.
-          let d = settled holds holds' honest' (λ t. t ≡ moment) (Some input) p [] ids' front going counts sent refl told turned honest s h t so may in
+          let d = settled k k' (λ t. t ≡ moment) (Some input) p [] ids' front going counts sent refl told turned honest s h t so may in
           record { works = d.works; ends = ends s h timed more d.goes d.last at; stands = d.stands; gave = d.sends };
     }
 
-faulty : (f : FrameFault) (s : State) (h : History) (timed : List Timed) (others : List (List ℕ)) (place : ℕ) (rest : List ℕ) → IsOfStream (stream_ending f) → EndsFaulty s h timed others place rest f → EndsAt (stream_ending f) s h timed others place rest
-faulty (frame.Short at len) s h timed others place rest of_stream e = e
-faulty (frame.TooLong at len) s h timed others place rest of_stream e = e
-faulty (frame.Cut at have need) s h timed others place rest of_stream e = e
-faulty frame.Memory s h timed others place rest of_stream e = absurd (omega (arith, of_stream))
+faulty : (M : Model) (f : FrameFault) (s : M.State) (h : History) (timed : List Timed) (others : List (List ℕ)) (place : ℕ) (rest : List ℕ) → IsOfStream (stream_ending f) → EndsFaulty M s h timed others place rest f → EndsAt M (stream_ending f) s h timed others place rest
+faulty M (frame.Short at len) s h timed others place rest of_stream e = e
+faulty M (frame.TooLong at len) s h timed others place rest of_stream e = e
+faulty M (frame.Cut at have need) s h timed others place rest of_stream e = e
+faulty M frame.Memory s h timed others place rest of_stream e = absurd (omega (arith, of_stream))
 
 of_store : (f : StoreFault) → IsOfStream (store_ending f) → ⊥
 of_store store.Memory h = omega (arith, h)
@@ -235,54 +234,54 @@ of_store store.NotAStore h = omega (arith, h)
 of_store (store.Version n) h = omega (arith, h)
 of_store store.Damaged h = omega (arith, h)
 
-pub replayed : CutJoins → CutSteps → (holds holds' : Rows → Records → Type 0) (honest' : Type 0) (moment : Moment) (input sent : List ℕ) (p : PortState) (turns : ℕ) (e : Ended) (counts : SessionCounts) → Told p sent
-    → EndsAs holds holds' honest' (λ t. t ≡ moment) (fresh (Some input) (Some []) false) p [] [] 0 turns e counts → IsOfStream (session_ending e)
-    → Replayed holds holds' honest' moment input (session_ending e) (Sends sent counts)
-replayed joins steps holds holds' honest' moment input sent p turns session.End counts told e of_stream =
+pub replayed : CutJoins → CutSteps → {M : Model} (k k' : KeeperState M) (moment : Moment) (input sent : List ℕ) (p : PortState) (turns : ℕ) (e : Ended) (counts : SessionCounts) → Told p sent
+    → EndsAs k k' (λ t. t ≡ moment) (fresh (Some input) (Some []) false) p [] [] 0 turns e counts → IsOfStream (session_ending e)
+    → Replayed k k' moment input (session_ending e) (Sends sent counts)
+replayed joins steps k k' moment input sent p turns session.End counts told e of_stream =
     let r = e.1 in
     let c = came input p.coming r.whole.received r.whole.came in
     let same = all_came input r.whole.received c.later c.parts (c.over e.0.1) in
-    rested holds holds' honest' moment input sent p r.pending' r.rest r.place counts Done told r.whole (ap (λ (x : List (List ℕ) × List ℕ). x.0) same)
+    rested k k' moment input sent p r.pending' r.rest r.place counts Done told r.whole (ap (λ (x : List (List ℕ) × List ℕ). x.0) same)
     (λ s h timed goes at. inr (goes, refl, ap (λ (x : List (List ℕ) × List ℕ). x.1) same ∙ sym r.whole.rest_is ∙ r.so))
-replayed joins steps holds holds' honest' moment input sent p turns session.Destroyed counts told e of_stream =
+replayed joins steps k k' moment input sent p turns session.Destroyed counts told e of_stream =
     let w = e.1.stopped.worked in
-    halted joins holds holds' honest' moment input sent p e.1.pending' e.1.stopped.received w.front w.others false e.0 counts Done told e.1.stopped.came w.parts w.at w.turned (λ s h timed more goes last at. inl (last refl))
-replayed joins steps holds holds' honest' moment input sent p turns (session.Frame f) counts told r of_stream =
+    halted joins k k' moment input sent p e.1.pending' e.1.stopped.received w.front w.others false e.0 counts Done told e.1.stopped.came w.parts w.at w.turned (λ s h timed more goes last at. inl (last refl))
+replayed joins steps k k' moment input sent p turns (session.Frame f) counts told r of_stream =
     let c = came input p.coming r.whole.received r.whole.came in
     elim r.so [
       | inl length_bad ↦
           let b = bad_came joins steps input r.whole.received c.later r.rest r.place f c.parts r.whole.rest_is length_bad in
-          rested holds holds' honest' moment input sent p r.pending' r.rest r.place counts (stream_ending f) told r.whole b.0
-          (λ s h timed goes at. faulty f s h timed [] (length (joined (bytes_of timed))) (cut input).1 of_stream (goes, refl, subst (λ n. end_fault n (cut input).1 ≡ Some f) at b.1))
+          rested k k' moment input sent p r.pending' r.rest r.place counts (stream_ending f) told r.whole b.0
+          (λ s h timed goes at. faulty _ f s h timed [] (length (joined (bytes_of timed))) (cut input).1 of_stream (goes, refl, subst (λ n. end_fault n (cut input).1 ≡ Some f) at b.1))
       | inr cut_off ↦
           let same = all_came input r.whole.received c.later c.parts (c.over cut_off.0.1) in
           let fault : end_fault r.place (cut input).1 ≡ Some f = subst (λ w. end_fault r.place w ≡ Some f) (r.whole.rest_is ∙ sym (ap (λ (x : List (List ℕ) × List ℕ). x.1) same)) cut_off.2 in
-          rested holds holds' honest' moment input sent p r.pending' r.rest r.place counts (stream_ending f) told r.whole (ap (λ (x : List (List ℕ) × List ℕ). x.0) same)
-          (λ s h timed goes at. faulty f s h timed [] (length (joined (bytes_of timed))) (cut input).1 of_stream (goes, refl, subst (λ n. end_fault n (cut input).1 ≡ Some f) at fault))
+          rested k k' moment input sent p r.pending' r.rest r.place counts (stream_ending f) told r.whole (ap (λ (x : List (List ℕ) × List ℕ). x.0) same)
+          (λ s h timed goes at. faulty _ f s h timed [] (length (joined (bytes_of timed))) (cut input).1 of_stream (goes, refl, subst (λ n. end_fault n (cut input).1 ≡ Some f) at fault))
     ]
-replayed joins steps holds holds' honest' moment input sent p turns (session.ZeroUnique at) counts told e of_stream =
+replayed joins steps k k' moment input sent p turns (session.ZeroUnique at) counts told e of_stream =
     let w = e.stopped.worked in
-    halted joins holds holds' honest' moment input sent p e.pending' e.stopped.received w.front w.others true at counts (ZeroUnique at) told e.stopped.came w.parts w.at w.turned
+    halted joins k k' moment input sent p e.pending' e.stopped.received w.front w.others true at counts (ZeroUnique at) told e.stopped.came w.parts w.at w.turned
     (λ s h timed more goes last place. (goes refl, zero_more w.others more (w.zero refl), place))
-replayed joins steps holds holds' honest' moment input sent p turns session.Turns counts told e of_stream = absurd (omega (arith, of_stream))
-replayed joins steps holds holds' honest' moment input sent p turns session.PortFailed counts told e of_stream = absurd (omega (arith, of_stream))
-replayed joins steps holds holds' honest' moment input sent p turns (session.Store f) counts told e of_stream = absurd (of_store f of_stream)
-replayed joins steps holds holds' honest' moment input sent p turns session.Memory counts told e of_stream = absurd (omega (arith, of_stream))
+replayed joins steps k k' moment input sent p turns session.Turns counts told e of_stream = absurd (omega (arith, of_stream))
+replayed joins steps k k' moment input sent p turns session.PortFailed counts told e of_stream = absurd (omega (arith, of_stream))
+replayed joins steps k k' moment input sent p turns (session.Store f) counts told e of_stream = absurd (of_store f of_stream)
+replayed joins steps k k' moment input sent p turns session.Memory counts told e of_stream = absurd (omega (arith, of_stream))
 
 -- the same for a port that begins so, and an ending that is told so
-pub session_replayed : CutJoins → CutSteps → (holds holds' : Rows → Records → Type 0) (honest' : Type 0) (moment : Moment) (input sent : List ℕ) (q p : PortState) (turns : ℕ) (e : Ended) (counts : SessionCounts) (ending : Ending)
-    → ending ≡ session_ending e → q ≡ fresh (Some input) (Some []) false → p.gone ≡ [] → p.sent ≡ Some sent → EndsAs holds holds' honest' (λ t. t ≡ moment) q p [] [] 0 turns e counts → IsOfStream ending
-    → Replayed holds holds' honest' moment input ending (Sends sent counts)
-session_replayed joins steps holds holds' honest' moment input sent q p turns e counts ending is start gone told ends of_stream =
-    subst (λ x. Replayed holds holds' honest' moment input x (Sends sent counts)) (sym is)
-    (replayed joins steps holds holds' honest' moment input sent p turns e counts (record { gone = gone; sent_is = told })
-    (subst (λ x. EndsAs holds holds' honest' (λ t. t ≡ moment) x p [] [] 0 turns e counts) start ends) (subst IsOfStream is of_stream))
+pub session_replayed : CutJoins → CutSteps → {M : Model} (k k' : KeeperState M) (moment : Moment) (input sent : List ℕ) (q p : PortState) (turns : ℕ) (e : Ended) (counts : SessionCounts) (ending : Ending)
+    → ending ≡ session_ending e → q ≡ fresh (Some input) (Some []) false → p.gone ≡ [] → p.sent ≡ Some sent → EndsAs k k' (λ t. t ≡ moment) q p [] [] 0 turns e counts → IsOfStream ending
+    → Replayed k k' moment input ending (Sends sent counts)
+session_replayed joins steps k k' moment input sent q p turns e counts ending is start gone told ends of_stream =
+    subst (λ x. Replayed k k' moment input x (Sends sent counts)) (sym is)
+    (replayed joins steps k k' moment input sent p turns e counts (record { gone = gone; sent_is = told })
+    (subst (λ x. EndsAs k k' (λ t. t ≡ moment) x p [] [] 0 turns e counts) start ends) (subst IsOfStream is of_stream))
 
 -- ---- a fault of the store
 
-faulted : CutJoins → (holds holds' : Rows → Records → Type 0) (clean' honest' may_fault : Type 0) (moment : Moment) (input sent : List ℕ) (p : PortState) → (clean' → honest') → Told p sent
-    → SentExactly holds honest' (λ s g t. clean' → StandsFor holds' s g t × may_fault) (λ t. t ≡ moment) (fresh (Some input) (Some []) false) p [] [] → Faulted holds holds' clean' moment input (λ answers. sent ≡ joined answers)
-faulted joins holds holds' clean' honest' may_fault moment input sent p clean_honest told life =
+faulted : CutJoins → {M : Model} (k k' : KeeperState M) (may_fault : Type 0) (moment : Moment) (input sent : List ℕ) (p : PortState) → (k'.is_clean → k'.is_honest) → Told p sent
+    → SentExactly k k' (λ s g t. k'.is_clean → StandsFor k' s g t × may_fault) (λ t. t ≡ moment) (fresh (Some input) (Some []) false) p [] [] → Faulted k k' moment input (λ answers. sent ≡ joined answers)
+faulted joins k k' may_fault moment input sent p clean_honest told life =
     let r = life.replied in
     let c = came input p.coming life.received life.came in
     let more = (cut ((cut life.received).1 ++ c.later)).0 in
@@ -302,32 +301,32 @@ faulted joins holds holds' clean' honest' may_fault moment input sent p clean_ho
             unworked = l.unworked;
             parts = l.parts;
             works = l.works;
-            stands = subst (StandsFor holds' s g) same (l.stands clean).0;
+            stands = subst (StandsFor k' s g) same (l.stands clean).0;
             gave = sent_so ∙ append-nil (joined (replies life.marks)) ∙ ap joined l.sent;
           };
     }
 
 -- status 3 comes by a fault of the store alone
-store_faulted : CutJoins → (holds holds' : Rows → Records → Type 0) (clean' honest' : Type 0) (may_fault : StoreFault → Type 0) (moment : Moment) (input sent : List ℕ) (p : PortState) (e : Ended) → (clean' → honest') → Told p sent
-    → status_of (session_ending e) ≡ 3 → ExactAt holds holds' clean' honest' may_fault (λ t. t ≡ moment) (fresh (Some input) (Some []) false) p [] [] e → Faulted holds holds' clean' moment input (λ answers. sent ≡ joined answers)
-store_faulted joins holds holds' clean' honest' may_fault moment input sent p (session.Store f) clean_honest told is life = faulted joins holds holds' clean' honest' (may_fault f) moment input sent p clean_honest told life
-store_faulted joins holds holds' clean' honest' may_fault moment input sent p session.End clean_honest told is life = absurd (omega (arith, is))
-store_faulted joins holds holds' clean' honest' may_fault moment input sent p session.Destroyed clean_honest told is life = absurd (omega (arith, is))
-store_faulted joins holds holds' clean' honest' may_fault moment input sent p session.Turns clean_honest told is life = absurd (omega (arith, is))
-store_faulted joins holds holds' clean' honest' may_fault moment input sent p (session.Frame (frame.Short at len)) clean_honest told is life = absurd (omega (arith, is))
-store_faulted joins holds holds' clean' honest' may_fault moment input sent p (session.Frame (frame.TooLong at len)) clean_honest told is life = absurd (omega (arith, is))
-store_faulted joins holds holds' clean' honest' may_fault moment input sent p (session.Frame (frame.Cut at have need)) clean_honest told is life = absurd (omega (arith, is))
-store_faulted joins holds holds' clean' honest' may_fault moment input sent p (session.Frame frame.Memory) clean_honest told is life = absurd (omega (arith, is))
-store_faulted joins holds holds' clean' honest' may_fault moment input sent p (session.ZeroUnique at) clean_honest told is life = absurd (omega (arith, is))
-store_faulted joins holds holds' clean' honest' may_fault moment input sent p session.PortFailed clean_honest told is life = absurd (omega (arith, is))
-store_faulted joins holds holds' clean' honest' may_fault moment input sent p session.Memory clean_honest told is life = absurd (omega (arith, is))
+store_faulted : CutJoins → {M : Model} (k k' : KeeperState M) (moment : Moment) (input sent : List ℕ) (p : PortState) (e : Ended) → (k'.is_clean → k'.is_honest) → Told p sent
+    → status_of (session_ending e) ≡ 3 → ExactAt k k' (λ t. t ≡ moment) (fresh (Some input) (Some []) false) p [] [] e → Faulted k k' moment input (λ answers. sent ≡ joined answers)
+store_faulted joins k k' moment input sent p (session.Store f) clean_honest told is life = faulted joins k k' (k.may_answer f) moment input sent p clean_honest told life
+store_faulted joins k k' moment input sent p session.End clean_honest told is life = absurd (omega (arith, is))
+store_faulted joins k k' moment input sent p session.Destroyed clean_honest told is life = absurd (omega (arith, is))
+store_faulted joins k k' moment input sent p session.Turns clean_honest told is life = absurd (omega (arith, is))
+store_faulted joins k k' moment input sent p (session.Frame (frame.Short at len)) clean_honest told is life = absurd (omega (arith, is))
+store_faulted joins k k' moment input sent p (session.Frame (frame.TooLong at len)) clean_honest told is life = absurd (omega (arith, is))
+store_faulted joins k k' moment input sent p (session.Frame (frame.Cut at have need)) clean_honest told is life = absurd (omega (arith, is))
+store_faulted joins k k' moment input sent p (session.Frame frame.Memory) clean_honest told is life = absurd (omega (arith, is))
+store_faulted joins k k' moment input sent p (session.ZeroUnique at) clean_honest told is life = absurd (omega (arith, is))
+store_faulted joins k k' moment input sent p session.PortFailed clean_honest told is life = absurd (omega (arith, is))
+store_faulted joins k k' moment input sent p session.Memory clean_honest told is life = absurd (omega (arith, is))
 
-pub session_faulted : CutJoins → (holds holds' : Rows → Records → Type 0) (clean' honest' : Type 0) (may_fault : StoreFault → Type 0) (moment : Moment) (input sent : List ℕ) (q p : PortState) (e : Ended) (ending : Ending) → (clean' → honest')
-    → ending ≡ session_ending e → q ≡ fresh (Some input) (Some []) false → p.gone ≡ [] → p.sent ≡ Some sent → ExactAt holds holds' clean' honest' may_fault (λ t. t ≡ moment) q p [] [] e → status_of ending ≡ 3
-    → Faulted holds holds' clean' moment input (λ answers. sent ≡ joined answers)
-session_faulted joins holds holds' clean' honest' may_fault moment input sent q p e ending clean_honest is start gone told life three =
-    store_faulted joins holds holds' clean' honest' may_fault moment input sent p e clean_honest (record { gone = gone; sent_is = told }) (sym (ap status_of is) ∙ three)
-    (subst (λ x. ExactAt holds holds' clean' honest' may_fault (λ t. t ≡ moment) x p [] [] e) start life)
+pub session_faulted : CutJoins → {M : Model} (k k' : KeeperState M) (moment : Moment) (input sent : List ℕ) (q p : PortState) (e : Ended) (ending : Ending) → (k'.is_clean → k'.is_honest)
+    → ending ≡ session_ending e → q ≡ fresh (Some input) (Some []) false → p.gone ≡ [] → p.sent ≡ Some sent → ExactAt k k' (λ t. t ≡ moment) q p [] [] e → status_of ending ≡ 3
+    → Faulted k k' moment input (λ answers. sent ≡ joined answers)
+session_faulted joins k k' moment input sent q p e ending clean_honest is start gone told life three =
+    store_faulted joins k k' moment input sent p e clean_honest (record { gone = gone; sent_is = told }) (sym (ap status_of is) ∙ three)
+    (subst (λ x. ExactAt k k' (λ t. t ≡ moment) x p [] [] e) start life)
 
 -- ---- what is printed of it
 
@@ -341,15 +340,15 @@ answer_begins len (Bare errno) o unique fits = begins_answer _ (len errno.0 [] u
 answer_begins len Kept None unique fits = tt
 answer_begins len Kept (Some a) unique fits = begins_answer _ (len a.errno a.body unique (fits a refl).short)
 
-answers_begin : LenStandsFirst → SaidFits → (s : State) (g : History) (timed : List Timed) → AllByRecursion IsAnswer (answers s g timed)
-answers_begin len fits s g [] = tt
-answers_begin len fits s g (t ∷ timed) =
-    (answer_begins len (class_of t.bytes) (said s g (message_id t.bytes)) (unique_of t.bytes) (fits s g (message_id t.bytes)), answers_begin len fits s g timed)
+answers_begin : (M : Model) → LenStandsFirst → SaidFits M → (s : M.State) (g : History) (timed : List Timed) → AllByRecursion IsAnswer (answers M s g timed)
+answers_begin M len fits s g [] = tt
+answers_begin M len fits s g (t ∷ timed) =
+    (answer_begins len (class_of t.bytes) (said M s g (message_id t.bytes)) (unique_of t.bytes) (fits s g (message_id t.bytes)), answers_begin M len fits s g timed)
 
-pub printed : LenStandsFirst → SaidFits → (holds holds' : Rows → Records → Type 0) (honest' : Type 0) (moment : Moment) (input sent : List ℕ) (counts : SessionCounts) (ending : Ending) (written written' : Option (List ℕ))
+pub printed : {M : Model} → LenStandsFirst → SaidFits M → (k k' : KeeperState M) (moment : Moment) (input sent : List ℕ) (counts : SessionCounts) (ending : Ending) (written written' : Option (List ℕ))
     → ((answers : List (List ℕ)) → AllByRecursion IsAnswer answers → sent ≡ joined answers → Prints written written' answers counts)
-    → Replayed holds holds' honest' moment input ending (Sends sent counts) → Replayed holds holds' honest' moment input ending (Prints written written')
-printed len fits holds holds' honest' moment input sent counts ending written written' prints r = record {
+    → Replayed k k' moment input ending (Sends sent counts) → Replayed k k' moment input ending (Prints written written')
+printed {M} len fits k k' moment input sent counts ending written written' prints r = record {
   timed = r.timed;
   others = r.others;
   parts = r.parts;
@@ -361,14 +360,14 @@ printed len fits holds holds' honest' moment input sent counts ending written wr
         works = d.works;
         ends = d.ends;
         stands = d.stands;
-        gave = subst (Prints written written' (answers s g r.timed)) d.gave.1 (prints (answers s g r.timed) (answers_begin len fits s g r.timed) d.gave.0);
+        gave = subst (Prints written written' (answers M s g r.timed)) d.gave.1 (prints (answers M s g r.timed) (answers_begin M len fits s g r.timed) d.gave.0);
       };
 }
 
-pub fault_printed : LenStandsFirst → SaidFits → (holds holds' : Rows → Records → Type 0) (clean' : Type 0) (moment : Moment) (input sent : List ℕ) (written written' : Option (List ℕ))
+pub fault_printed : {M : Model} → LenStandsFirst → SaidFits M → (k k' : KeeperState M) (moment : Moment) (input sent : List ℕ) (written written' : Option (List ℕ))
     → ((answers : List (List ℕ)) → AllByRecursion IsAnswer answers → sent ≡ joined answers → PrintsAnswers written written' answers)
-    → Faulted holds holds' clean' moment input (λ answers. sent ≡ joined answers) → Faulted holds holds' clean' moment input (PrintsAnswers written written')
-fault_printed len fits holds holds' clean' moment input sent written written' prints f = record {
+    → Faulted k k' moment input (λ answers. sent ≡ joined answers) → Faulted k k' moment input (PrintsAnswers written written')
+fault_printed {M} len fits k k' moment input sent written written' prints f = record {
   timed = f.timed;
   others = f.others;
   parts = f.parts;
@@ -382,6 +381,6 @@ fault_printed len fits holds holds' clean' moment input sent written written' pr
         parts = d.parts;
         works = d.works;
         stands = d.stands;
-        gave = prints (answers s g d.worked) (answers_begin len fits s g d.worked) d.gave;
+        gave = prints (answers M s g d.worked) (answers_begin M len fits s g d.worked) d.gave;
       };
 }

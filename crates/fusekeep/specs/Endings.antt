@@ -2,8 +2,8 @@
 use Rattle.std.specs.Prelude.{◌≤◌, ◌<◌, List, ℕ, ◌++◌, codes, decimal, Option, Some, None}
 use Rattle.fuse_request.specs.declared.framer.FrameFault.{FrameFault}
 use Rattle.fuse_request.specs.declared.framer.FrameFault.TheVariants as frame
-use Rattle.fuse_store.specs.declared.fault.StoreFault.{StoreFault}
-use Rattle.fuse_store.specs.declared.fault.StoreFault.TheVariants as store
+use Rattle.fuse_keeper.specs.declared.fault.StoreFault.{StoreFault}
+use Rattle.fuse_keeper.specs.declared.fault.StoreFault.TheVariants as store
 use Rattle.fuse_session.specs.declared.ended.Ended.{Ended}
 use Rattle.fuse_session.specs.declared.ended.Ended.TheVariants as session
 use Rattle.fusekeep.specs.declared.ending.Ending.{Ending}

@@ -7,10 +7,9 @@ use Rattle.fuse_request.specs.declared.framer.FrameFault.{FrameFault}
 use Rattle.fuse_request.specs.declared.framer.FrameFault.TheVariants as frame
 use Rattle.fuse_request.specs.Stream.{cut, joined}
 use Rattle.fuse_request.specs.Framing.{end_fault}
-use Rattle.fuse_tree.specs.State.{State}
-use Rattle.fuse_tree.specs.Rows.{Rows}
-use Rattle.fuse_store.specs.History.{History, grown}
-use Rattle.fuse_store.specs.Stands.{Records, StandsFor}
+use Rattle.fuse_keeper.specs.Model.{Model}
+use Rattle.fuse_keeper.specs.History.{History, grown}
+use Rattle.fuse_keeper.specs.KeeperState.{KeeperState, StandsFor}
 use Rattle.fuse_session.specs.declared.counts.SessionCounts.{SessionCounts}
 use Rattle.fuse_session.specs.Worked.{Timed, bytes_of, kept_in, answers, GoesOn, Works, EndsLast, StartsZero, Moments}
 use Rattle.fuse_session.specs.Settling.{MayCome}
@@ -20,51 +19,52 @@ use Rattle.fusekeep.specs.declared.ending.Ending.TheVariants.{Done, Short, TooLo
 use Rattle.fusekeep.specs.Printing.{line, answer_lines, count_line}
 
 -- all messages were worked off, and what is behind them at this place has this fault
-abbrev pub EndsFaulty : State → History → List Timed → List (List ℕ) → ℕ → List ℕ → FrameFault → Type 0
-EndsFaulty s h timed others place rest fault = GoesOn s h timed × (others ≡ []) × (end_fault place rest ≡ Some fault)
+abbrev pub EndsFaulty : (M : Model) → M.State → History → List Timed → List (List ℕ) → ℕ → List ℕ → FrameFault → Type 0
+EndsFaulty M s h timed others place rest fault = GoesOn M s h timed × (others ≡ []) × (end_fault place rest ≡ Some fault)
 
 -- why no more messages were worked off: these others are behind them, at this place, and then the rest of the stream
-abbrev pub EndsAt : Ending → State → History → List Timed → List (List ℕ) → ℕ → List ℕ → Type 0
-EndsAt Done s h timed others place rest = EndsLast s h timed ⊎ (GoesOn s h timed × (others ≡ []) × (rest ≡ []))
-EndsAt (Short at len) s h timed others place rest = EndsFaulty s h timed others place rest (frame.Short at len)
-EndsAt (TooLong at len) s h timed others place rest = EndsFaulty s h timed others place rest (frame.TooLong at len)
-EndsAt (Cut at have need) s h timed others place rest = EndsFaulty s h timed others place rest (frame.Cut at have need)
-EndsAt (ZeroUnique at) s h timed others place rest = GoesOn s h timed × StartsZero others × (at ≡ place)
-EndsAt _ s h timed others place rest = ⊥
+abbrev pub EndsAt : (M : Model) → Ending → M.State → History → List Timed → List (List ℕ) → ℕ → List ℕ → Type 0
+EndsAt M Done s h timed others place rest = EndsLast M s h timed ⊎ (GoesOn M s h timed × (others ≡ []) × (rest ≡ []))
+EndsAt M (Short at len) s h timed others place rest = EndsFaulty M s h timed others place rest (frame.Short at len)
+EndsAt M (TooLong at len) s h timed others place rest = EndsFaulty M s h timed others place rest (frame.TooLong at len)
+EndsAt M (Cut at have need) s h timed others place rest = EndsFaulty M s h timed others place rest (frame.Cut at have need)
+EndsAt M (ZeroUnique at) s h timed others place rest = GoesOn M s h timed × StartsZero others × (at ≡ place)
+EndsAt M _ s h timed others place rest = ⊥
 
 -- messages were worked off as far as the stream goes, and this is what their answers and counts gave
-pub record Replay (stood : History → Type 0) (s : State) (h : History) (timed : List Timed) (others : List (List ℕ)) (rest : List ℕ) (ending : Ending) (Gave : List (List ℕ) → SessionCounts → Type 0) : Type 0 where
-  pub works : Works s h timed
-  pub ends : EndsAt ending s h timed others (length (joined (bytes_of timed))) rest
+pub record Replay (M : Model) (stood : History → Type 0) (s : M.State) (h : History) (timed : List Timed) (others : List (List ℕ)) (rest : List ℕ) (ending : Ending) (Gave : List (List ℕ) → SessionCounts → Type 0) : Type 0 where
+  pub works : Works M s h timed
+  pub ends : EndsAt M ending s h timed others (length (joined (bytes_of timed))) rest
   pub stands : stood (grown h (kept_in timed))
-  pub gave : Gave (answers s (grown h (kept_in timed)) timed) (counted h timed)
+  pub gave : Gave (answers M s (grown h (kept_in timed)) timed) (counted h timed)
 
 -- the first messages of the input were worked off, the kept ones at this moment, whatever the keeper stood for and
 -- whatever was settled, where no message comes again
-pub record Replayed (holds holds' : Rows → Records → Type 0) (honest' : Type 0) (moment : Moment) (input : List ℕ) (ending : Ending) (Gave : List (List ℕ) → SessionCounts → Type 0) : Type 0 where
+pub record Replayed {M : Model} (k k' : KeeperState M) (moment : Moment) (input : List ℕ) (ending : Ending) (Gave : List (List ℕ) → SessionCounts → Type 0) : Type 0 where
   pub timed : List Timed
   pub others : List (List ℕ)
   pub parts : (cut input).0 ≡ bytes_of timed ++ others
   pub moments : Moments (λ t. t ≡ moment) timed
-  pub all : honest' → (s : State) (h : History) (t : List ℕ) → StandsFor holds s h t → AllByRecursion (MayCome t) (bytes_of timed)
-      → Replay (λ g. StandsFor holds' s g t) s h timed others (cut input).1 ending Gave
+  pub all : k'.is_honest → (s : M.State) (h : History) (t : List ℕ) → StandsFor k s h t → AllByRecursion (MayCome t) (bytes_of timed)
+      → Replay M (λ g. StandsFor k' s g t) s h timed others (cut input).1 ending Gave
 
 -- some of these messages were worked off, and this is what their answers gave
-pub record Part (stood : History → Type 0) (s : State) (h : History) (timed : List Timed) (Gave : List (List ℕ) → Type 0) : Type 0 where
+pub record Part (M : Model) (stood : History → Type 0) (s : M.State) (h : History) (timed : List Timed) (Gave : List (List ℕ) → Type 0) : Type 0 where
   pub worked : List Timed
   pub unworked : List Timed
   pub parts : timed ≡ worked ++ unworked
-  pub works : Works s h worked
+  pub works : Works M s h worked
   pub stands : stood (grown h (kept_in worked))
-  pub gave : Gave (answers s (grown h (kept_in worked)) worked)
+  pub gave : Gave (answers M s (grown h (kept_in worked)) worked)
 
 -- the store answered a fault: of the first messages of the input some were worked off, the kept ones at this moment
-pub record Faulted (holds holds' : Rows → Records → Type 0) (clean' : Type 0) (moment : Moment) (input : List ℕ) (Gave : List (List ℕ) → Type 0) : Type 0 where
+pub record Faulted {M : Model} (k k' : KeeperState M) (moment : Moment) (input : List ℕ) (Gave : List (List ℕ) → Type 0) : Type 0 where
   pub timed : List Timed
   pub others : List (List ℕ)
   pub parts : (cut input).0 ≡ bytes_of timed ++ others
   pub moments : Moments (λ t. t ≡ moment) timed
-  pub all : clean' → (s : State) (h : History) (t : List ℕ) → StandsFor holds s h t → AllByRecursion (MayCome t) (bytes_of timed) → Part (λ g. StandsFor holds' s g t) s h timed Gave
+  pub all : k'.is_clean → (s : M.State) (h : History) (t : List ℕ) → StandsFor k s h t → AllByRecursion (MayCome t) (bytes_of timed)
+      → Part M (λ g. StandsFor k' s g t) s h timed Gave
 
 -- these answers were sent, and so it was counted
 abbrev pub Sends : List ℕ → SessionCounts → List (List ℕ) → SessionCounts → Type 0

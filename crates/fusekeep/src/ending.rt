@@ -3,7 +3,7 @@ ghost use Rattle.fusekeep.specs.Endings.{line_of, session_ending, status_of, sto
 
 use fuse_request::FrameFault;
 use fuse_session::Ended;
-use fuse_store::StoreFault;
+use fuse_keeper::StoreFault;
 use std::alloc::AllocError;
 use std::{fmt, io};
 

@@ -21,7 +21,8 @@ use clap::Error;
 use clap::error::ErrorKind;
 use dump::run_dump;
 use ending::Ending;
-use fuse_store::PlainKeeper;
+use fuse_keeper::PlainKeeper;
+use fuse_store::PlainTree;
 use fuse_wire::Moment;
 use replay::run_replay;
 use simulate::{START, run_simulate};
@@ -94,7 +95,7 @@ fn replay_from<S: Read + Drop, W: Write>(
     writer: &mut W,
     at: u64,
 ) -> Ending {
-    let Ok(mut keeper) = PlainKeeper::new(alloc, START) else {
+    let Ok(mut keeper) = PlainKeeper::<PlainTree>::new(alloc, START) else {
         return Ending::Memory;
     };
     let moment = Moment { secs: at, nanos: 0 };

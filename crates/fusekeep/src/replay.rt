@@ -9,9 +9,9 @@ use crate::ending::Ending;
 use crate::printing::{write_answers, write_counts};
 use crate::reading::MAX_READS;
 use fuse_answer::len_stands_first;
+use fuse_keeper::{Keeper, said_fits};
 use fuse_request::{cut_joins, cut_steps};
 use fuse_session::{Fixed, SessionCounts, StreamPort, serve};
-use fuse_store::{Keeper, said_fits};
 use fuse_wire::Moment;
 use std::alloc::Global;
 use std::io::{Read, Write};
@@ -31,13 +31,13 @@ fn serve_stream<K: Keeper, R: Read>(
     reader: &mut R,
     moment: Moment,
 ) -> Session
-    requires going { K.has_failed keeper.old ≡ false }
+    requires going { (K.told keeper.old).has_failed ≡ false }
     ensures replayed { IsOfStream result.ending → (input : List ℕ) → R.remaining reader.old ≡ Some input
-        → Replayed (K.holds keeper.old) (K.holds keeper.new) (K.is_honest keeper.new) moment input result.ending (Sends result.sent.items result.counts) }
+        → Replayed (K.told keeper.old) (K.told keeper.new) moment input result.ending (Sends result.sent.items result.counts) }
     ensures faulted { status_of result.ending ≡ 3 → (input : List ℕ) → R.remaining reader.old ≡ Some input
-        → Faulted (K.holds keeper.old) (K.holds keeper.new) (K.is_clean keeper.new) moment input (λ answers. result.sent.items ≡ joined answers) }
-    ensures store { status_of result.ending ≡ 3 → K.has_failed keeper.new ≡ true }
-    ensures failed { K.has_failed keeper.new ≡ true → 3 ≤ status_of result.ending }
+        → Faulted (K.told keeper.old) (K.told keeper.new) moment input (λ answers. result.sent.items ≡ joined answers) }
+    ensures store { status_of result.ending ≡ 3 → (K.told keeper.new).has_failed ≡ true }
+    ensures failed { (K.told keeper.new).has_failed ≡ true → 3 ≤ status_of result.ending }
     ensures usage { status_of result.ending ≢ 2 }
 {
     cut_joins();
@@ -76,20 +76,20 @@ pub fn run_replay<K: Keeper, R: Read + Drop, W: Write>(
     writer: &mut W,
     moment: Moment,
 ) -> Ending
-    requires going { K.has_failed keeper.old ≡ false }
+    requires going { (K.told keeper.old).has_failed ≡ false }
     // At status 0 or 1: what was worked off of the input, what is printed of it, and what the keeper then stands for.
     ensures replayed { IsOfStream result → (input : List ℕ) → R.remaining reader ≡ Some input
-        → Replayed (K.holds keeper.old) (K.holds keeper.new) (K.is_honest keeper.new) moment input result (Prints (W.contents writer.old) (W.contents writer.new)) }
+        → Replayed (K.told keeper.old) (K.told keeper.new) moment input result (Prints (W.contents writer.old) (W.contents writer.new)) }
 
     // At a fault of the store the answers before it are printed, and no counts.
     ensures faulted { status_of result ≡ 3 → (input : List ℕ) → R.remaining reader ≡ Some input
-        → Faulted (K.holds keeper.old) (K.holds keeper.new) (K.is_clean keeper.new) moment input (PrintsAnswers (W.contents writer.old) (W.contents writer.new)) }
-    ensures store { status_of result ≡ 3 → K.has_failed keeper.new ≡ true }
-    ensures failed { K.has_failed keeper.new ≡ true → 3 ≤ status_of result }
+        → Faulted (K.told keeper.old) (K.told keeper.new) moment input (PrintsAnswers (W.contents writer.old) (W.contents writer.new)) }
+    ensures store { status_of result ≡ 3 → (K.told keeper.new).has_failed ≡ true }
+    ensures failed { (K.told keeper.new).has_failed ≡ true → 3 ≤ status_of result }
     ensures usage { status_of result ≢ 2 }
 {
     len_stands_first();
-    said_fits();
+    said_fits::<K>();
     let session = serve_stream(alloc, keeper, &mut reader, moment);
     match print_session(alloc, writer, &session) {
         Ok(()) => session.ending,

@@ -2,9 +2,10 @@
 ghost use Rattle.std.specs.Prelude.{◌≡◌, ◌≢◌, ◌≤◌, ◌++◌, [], false, map, All, IsSome, IsSomeAnd, IfSome, IfOk, IfErr, OnOk};
 ghost use Rattle.std.specs.Io.KnownBytes.{Appends};
 ghost use Rattle.fuse_tree.specs.State.{State};
-ghost use Rattle.fuse_store.specs.PlainKeeper.{plain_holds, plain_failed};
-ghost use Rattle.fuse_store.specs.Stands.{StandsFor};
-ghost use Rattle.fuse_sim.specs.Driving.{StandsIn, NoneReused, IsFit, bytes_given};
+ghost use Rattle.fuse_keeper.specs.KeeperState.{StandsFor};
+ghost use Rattle.fuse_store.specs.TheTree.{the_tree};
+ghost use Rattle.fuse_store.specs.PlainTree.{tree_told};
+ghost use Rattle.fuse_sim.specs.Driving.{told_in, StandsIn, NoneReused, IsFit, bytes_given};
 ghost use Rattle.fusekeep.specs.Endings.{status_of, GaveOut};
 ghost use Rattle.fusekeep.specs.Printing.{line, store_line};
 ghost use Rattle.fusekeep.specs.Simulating.{Went, StoreEnded, Reuses, RanScript, NotRun, Simulated, outcome_line, outcome_lines};
@@ -13,8 +14,9 @@ use crate::ending::Ending;
 use crate::printing::{write_hex_line, write_store};
 use crate::reading::read_all;
 use crate::script::read_script;
+use fuse_keeper::{PlainKeeper, Restart, StoreCounts};
 use fuse_sim::{DriveFault, Event, Outcome, drive};
-use fuse_store::{PlainKeeper, Restart, StoreCounts};
+use fuse_store::PlainTree;
 use fuse_wire::Moment;
 use std::alloc::Global;
 use std::io::{Read, Write};
@@ -35,12 +37,16 @@ fn run_events<K: Restart>(
     keeper: &mut Option<K>,
     events: &[Event],
 ) -> Result<Simulation, Ending>
-    requires going { IsSomeAnd keeper.old (λ k. K.has_failed k ≡ false) }
+    requires going { IsSomeAnd keeper.old (λ k. (K.told k).has_failed ≡ false) }
     requires fit { All IsFit events.now }
-    ensures ok { IfOk result (λ simulation. IsSomeAnd keeper.new K.is_honest → (s : State) → StandsIn K.holds keeper.old s [] [] → NoneReused [] events.now → Went s events.now simulation) }
+    ensures ok { IfOk result (λ simulation. (told_in K.told keeper.new).is_honest
+        → (s : K.model.State) → StandsIn K.told keeper.old s [] [] → NoneReused [] events.now
+        → Went K.model s events.now simulation) }
     ensures left { OnOk result (IsSome keeper.new) }
     ensures err { IfErr result (λ ending. 3 ≤ status_of ending) }
-    ensures store { IfErr result (λ ending. status_of ending ≡ 3 → (s : State) → StandsIn K.holds keeper.old s [] [] → NoneReused [] events.now → StoreEnded K.is_clean K.may_answer K.may_refuse keeper.old keeper.new ending) }
+    ensures store { IfErr result (λ ending. status_of ending ≡ 3
+        → (s : K.model.State) → StandsIn K.told keeper.old s [] [] → NoneReused [] events.now
+        → StoreEnded K.told K.became K.may_refuse keeper.old keeper.new ending) }
 {
     let outcomes = match drive(alloc, keeper, events) {
         Ok(outcomes) => outcomes,
@@ -95,12 +101,19 @@ fn print_simulation<W: Write>(
 }
 
 // Runs events over a store in memory.
-fn run_in_memory(alloc: Global, keeper: PlainKeeper, events: &[Event]) -> Result<Simulation, Ending>
-    requires going { plain_failed keeper ≡ false }
+fn run_in_memory(
+    alloc: Global,
+    keeper: PlainKeeper<PlainTree>,
+    events: &[Event],
+) -> Result<Simulation, Ending>
+    requires going { (tree_told keeper).has_failed ≡ false }
     requires fit { All IsFit events.now }
-    ensures ok { IfOk result (λ simulation. (s : State) → StandsFor (plain_holds keeper) s [] [] → NoneReused [] events.now → Went s events.now simulation) }
+    ensures ok { IfOk result (λ simulation. (s : State)
+        → StandsFor (tree_told keeper) s [] [] → NoneReused [] events.now
+        → Went the_tree s events.now simulation) }
     ensures err { IfErr result (λ ending. 3 ≤ status_of ending) }
-    ensures store { IfErr result (λ ending. status_of ending ≡ 3 → (s : State) → StandsFor (plain_holds keeper) s [] [] → ¬ NoneReused [] events.now) }
+    ensures store { IfErr result (λ ending. status_of ending ≡ 3 → (s : State)
+        → StandsFor (tree_told keeper) s [] [] → ¬ NoneReused [] events.now) }
 {
     let mut keeper = Some(keeper);
     run_events(alloc, &mut keeper, events)
@@ -113,7 +126,7 @@ fn simulate<R: Read + Drop>(alloc: Global, reader: R) -> Result<Simulation, Endi
     ensures usage { IfErr result (λ ending. status_of ending ≢ 2) }
     ensures store { IfErr result (λ ending. IfSome (R.remaining reader) (λ script. status_of ending ≡ 3 → Reuses script)) }
 {
-    let Ok(keeper) = PlainKeeper::new(alloc, START) else {
+    let Ok(keeper) = PlainKeeper::<PlainTree>::new(alloc, START) else {
         return Err(Ending::Memory);
     };
     let script = read_all(alloc, reader)?;

@@ -3,8 +3,9 @@ use crate::ending::Ending;
 use crate::replay::run_replay;
 use crate::simulate::START;
 use clap::error::ErrorKind;
+use fuse_keeper::{Keeper, PlainKeeper, StoreFault};
 use fuse_session::Ended;
-use fuse_store::{Keeper, PlainKeeper, StoreFault};
+use fuse_store::PlainTree;
 use fuse_wire::Moment;
 use std::alloc::Global;
 use std::io;
@@ -19,6 +20,9 @@ mod names;
 mod rows;
 mod scripts;
 mod tables;
+
+// A keeper of the tree in memory.
+type TreeKeeper = PlainKeeper<PlainTree>;
 
 const AT_1000: Moment = Moment {
     secs: 1000,
@@ -42,15 +46,15 @@ fn bytes_of(alloc: Global, parts: &[&str]) -> Result<Vec<u8>, Fail> {
 
 // What `replay --at 1000` prints of a stream over a new store, and how it ends.
 fn replayed_first<R: Read + Drop>(alloc: Global, reader: R) -> Result<(Ending, Vec<u8>), Fail> {
-    let mut keeper = PlainKeeper::new(alloc, START)?;
+    let mut keeper = TreeKeeper::new(alloc, START)?;
     let mut printed = Vec::new(alloc);
     let ending = run_replay(alloc, &mut keeper, reader, &mut printed, AT_1000);
     Ok((ending, printed))
 }
 
 // A new store in which row init-agreed was answered: what the other rows begin with.
-fn begun(alloc: Global) -> Result<PlainKeeper, Fail> {
-    let mut keeper = PlainKeeper::new(alloc, START)?;
+fn begun(alloc: Global) -> Result<TreeKeeper, Fail> {
+    let mut keeper = TreeKeeper::new(alloc, START)?;
     let init = bytes_of(alloc, &[inits::AGREED])?;
     let mut printed = Vec::new(alloc);
     run_replay(alloc, &mut keeper, init.as_slice(), &mut printed, AT_1000);

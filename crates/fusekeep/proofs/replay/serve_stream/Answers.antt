@@ -7,14 +7,13 @@ use Rattle.fusekeep.proofs.replay.serve_stream.Goals as goal
 pub returns-clause-replayed : goal.returns-clause-replayed
 returns-clause-replayed g c = λ of_stream input told.
     let start = c.new-port.ensures ∙ ap (λ o. fresh o (Some c.new.result.items) false) told ∙ ap (λ (x : List ℕ). fresh (Some input) (Some x) false) c.new.ensures.items in
-    session_replayed c.cut_joins.ensures c.cut_steps.ensures (g.K.Keeper.holds c.args.keeper.now) (g.K.Keeper.holds c.serve-served.new.keeper) (g.K.Keeper.is_honest c.serve-served.new.keeper) c.args.moment input c.into_writer.result.items
+    session_replayed c.cut_joins.ensures c.cut_steps.ensures (g.K.Keeper.told c.args.keeper.now) (g.K.Keeper.told c.serve-served.new.keeper) c.args.moment input c.into_writer.result.items
     (stream_told (λ r. g.R.Read.remaining r.now) (λ w. Some w.items) c.new-port.result) (stream_told (λ r. g.R.Read.remaining r.now) (λ w. Some w.items) c.serve-served.new.port) _ c.serve-served.result.ended c.serve-served.result.counts c.of_session.result
     c.of_session.ensures start refl c.into_writer.ensures c.serve-served.ensures.ends of_stream
 
 pub returns-clause-faulted : goal.returns-clause-faulted
 returns-clause-faulted g c = λ three input told.
     let start = c.new-port.ensures ∙ ap (λ o. fresh o (Some c.new.result.items) false) told ∙ ap (λ (x : List ℕ). fresh (Some input) (Some x) false) c.new.ensures.items in
-    session_faulted c.cut_joins.ensures (g.K.Keeper.holds c.args.keeper.now) (g.K.Keeper.holds c.serve-served.new.keeper) (g.K.Keeper.is_clean c.serve-served.new.keeper) (g.K.Keeper.is_honest c.serve-served.new.keeper)
-    (g.K.Keeper.may_answer c.args.keeper.now) c.args.moment input c.into_writer.result.items
+    session_faulted c.cut_joins.ensures (g.K.Keeper.told c.args.keeper.now) (g.K.Keeper.told c.serve-served.new.keeper) c.args.moment input c.into_writer.result.items
     (stream_told (λ r. g.R.Read.remaining r.now) (λ w. Some w.items) c.new-port.result) (stream_told (λ r. g.R.Read.remaining r.now) (λ w. Some w.items) c.serve-served.new.port) c.serve-served.result.ended c.of_session.result
-    (g.met.K.Keeper.clean_is_honest c.serve-served.new.keeper) c.of_session.ensures start refl c.into_writer.ensures c.serve-served.ensures.exactly three
+    (g.met.K.Keeper.sound c.serve-served.new.keeper).clean_is_honest c.of_session.ensures start refl c.into_writer.ensures c.serve-served.ensures.exactly three

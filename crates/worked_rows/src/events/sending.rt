@@ -1,0 +1,44 @@
+//! Calls of a `Kernel`, where their conditions hold.
+use super::*;
+use fuse_request::{Request, encode};
+use fuse_sim::Kernel;
+use fuse_wire::Id;
+
+/// Why a request wasn't sent.
+#[derive(Clone, Copy, Debug, PartialEq, Eq)]
+pub enum Unsent {
+    /// It may not be sent.
+    MayNotBe,
+    /// There was no memory to test that.
+    Untested,
+    /// There was no memory to send it.
+    Memory,
+}
+
+/// Sends a request, where it may be sent.
+pub fn send(alloc: Global, kernel: &mut Kernel, request: &Request<'_>) -> Result<Vec<u8>, Unsent> {
+    let id = Id::of(request.header.unique);
+    if !request.is_sayable() || id.0 == 0 || kernel.awaits(id) {
+        return Err(Unsent::MayNotBe);
+    }
+    let mut scratch = Vec::new(alloc);
+    if encode(request, &mut scratch).is_err() {
+        return Err(Unsent::Untested);
+    }
+    match kernel.send(request) {
+        Ok(message) => Ok(message),
+        Err(_) => Err(Unsent::Memory),
+    }
+}
+
+/// Sends the requests at these places again, where they are places.
+pub fn resend(kernel: &mut Kernel, order: &[usize]) -> Result<Vec<Vec<u8>>, Unsent> {
+    let count = kernel.pending().len();
+    if !order.iter().all(|place| *place < count) {
+        return Err(Unsent::MayNotBe);
+    }
+    match kernel.resend(order) {
+        Ok(messages) => Ok(messages),
+        Err(_) => Err(Unsent::Memory),
+    }
+}

@@ -1,0 +1,230 @@
+//! Messages and answers as the rows have them, by what differs between them.
+use crate::hex::put_hex;
+use crate::run::Pair;
+use std::alloc::{AllocError, Global};
+
+/// The bit of `unique` that marks a resend.
+pub const RESENT: u64 = 0x8000_0000_0000_0000;
+
+pub const ENOENT: u32 = 2;
+
+pub const EEXIST: u32 = 17;
+
+pub const EINVAL: u32 = 22;
+
+pub const ENOSYS: u32 = 38;
+
+pub const EPROTO: u32 = 71;
+
+pub const ESTALE: u32 = 116;
+
+/// The end of each header: uid and gid 1000, pid 77, no extensions.
+const TAIL: &str = "e8030000 e8030000 4d000000 00000000";
+
+/// The header of a message of this length.
+pub fn put_header(
+    out: &mut Vec<u8>,
+    len: u32,
+    opcode: u32,
+    unique: u64,
+    node: u64,
+) -> Result<(), AllocError> {
+    out.extend_from_slice(&len.to_le_bytes())?;
+    out.extend_from_slice(&opcode.to_le_bytes())?;
+    out.extend_from_slice(&unique.to_le_bytes())?;
+    out.extend_from_slice(&node.to_le_bytes())?;
+    put_hex(out, TAIL)
+}
+
+// MKDIR of a name of one letter in the root: 50 bytes.
+fn put_mkdir(out: &mut Vec<u8>, unique: u64, name: u8) -> Result<(), AllocError> {
+    put_header(out, 50, 9, unique, 1)?;
+    put_hex(out, "ed010000 12000000")?;
+    out.extend_from_slice(&[name, 0])
+}
+
+// MKNOD of a regular file with a name of one letter in the root: 58 bytes.
+fn put_mknod(out: &mut Vec<u8>, unique: u64, name: u8) -> Result<(), AllocError> {
+    put_header(out, 58, 8, unique, 1)?;
+    put_hex(out, "a4810000 00000000 12000000 00000000")?;
+    out.extend_from_slice(&[name, 0])
+}
+
+// LOOKUP of `hello` in the root: 46 bytes.
+fn put_lookup(out: &mut Vec<u8>, unique: u64) -> Result<(), AllocError> {
+    put_header(out, 46, 1, unique, 1)?;
+    put_hex(out, "68656c6c6f00")
+}
+
+// GETATTR: 56 bytes.
+fn put_getattr(out: &mut Vec<u8>, unique: u64, node: u64) -> Result<(), AllocError> {
+    put_header(out, 56, 3, unique, node)?;
+    out.extend_from_slice(&[0; 16])
+}
+
+// FORGET of one lookup of the root: 48 bytes.
+fn put_forget(out: &mut Vec<u8>, unique: u64) -> Result<(), AllocError> {
+    put_header(out, 48, 2, unique, 1)?;
+    put_hex(out, "0100000000000000")
+}
+
+// CREATE, of which the server knows nothing: 40 bytes.
+fn put_create(out: &mut Vec<u8>, unique: u64) -> Result<(), AllocError> {
+    put_header(out, 40, 35, unique, 1)
+}
+
+// DESTROY: 40 bytes.
+fn put_destroy(out: &mut Vec<u8>, unique: u64) -> Result<(), AllocError> {
+    put_header(out, 40, 38, unique, 0)
+}
+
+/// A message by its unique: MKDIR of a name, LOOKUP of `hello`, GETATTR of a node, FORGET, CREATE,
+/// DESTROY, its text, or the first of a pair.
+#[derive(Clone, Copy)]
+pub enum Ask {
+    Mkdir(u64, u8),
+    Lookup(u64),
+    Getattr(u64, u64),
+    Forget(u64),
+    Create(u64),
+    Destroy(u64),
+    Text(&'static str),
+    Of(Pair),
+}
+
+pub fn put_ask(out: &mut Vec<u8>, ask: Ask) -> Result<(), AllocError> {
+    match ask {
+        Ask::Mkdir(unique, name) => put_mkdir(out, unique, name),
+        Ask::Lookup(unique) => put_lookup(out, unique),
+        Ask::Getattr(unique, node) => put_getattr(out, unique, node),
+        Ask::Forget(unique) => put_forget(out, unique),
+        Ask::Create(unique) => put_create(out, unique),
+        Ask::Destroy(unique) => put_destroy(out, unique),
+        Ask::Text(text) => put_hex(out, text),
+        Ask::Of((asked, _)) => put_hex(out, asked),
+    }
+}
+
+/// These messages, one after another.
+pub fn asks(alloc: Global, list: &[Ask]) -> Result<Vec<u8>, AllocError> {
+    let mut out = Vec::new(alloc);
+    for ask in list {
+        put_ask(&mut out, *ask)?;
+    }
+    Ok(out)
+}
+
+/// Requests that make nodes of distinct names, the first `from` of them left out, under the uniques
+/// 4, 6 and so on with this bit.
+pub fn makings(
+    alloc: Global,
+    made: Made,
+    from: u8,
+    to: u8,
+    bit: u64,
+) -> Result<Vec<u8>, AllocError> {
+    let mut out = Vec::new(alloc);
+    for i in from..to {
+        let unique = bit | (4 + 2 * u64::from(i));
+        let name = 48 + i % 128;
+        match made {
+            Made::Directory => put_mkdir(&mut out, unique, name)?,
+            Made::File => put_mknod(&mut out, unique, name)?,
+        }
+    }
+    Ok(out)
+}
+
+/// What was made: a directory by MKDIR, or a regular file by MKNOD.
+#[derive(Clone, Copy)]
+pub enum Made {
+    Directory,
+    File,
+}
+
+// The attributes of a directory without children, or of an empty file, made at 1,000 s.
+fn put_attributes(out: &mut Vec<u8>, made: Made, node: u64) -> Result<(), AllocError> {
+    out.extend_from_slice(&node.to_le_bytes())?;
+    put_hex(
+        out,
+        "0*8 0*8 e803000000000000 e803000000000000 e803000000000000 0*12",
+    )?;
+    match made {
+        Made::Directory => put_hex(out, "ed410000 02000000")?,
+        Made::File => put_hex(out, "a4810000 01000000")?,
+    }
+    put_hex(out, "e8030000 e8030000 00000000 00100000 00000000")
+}
+
+// The answer to the request that made this node: 144 bytes.
+fn put_entry(out: &mut Vec<u8>, unique: u64, made: Made, node: u64) -> Result<(), AllocError> {
+    put_hex(out, "90000000 00000000")?;
+    out.extend_from_slice(&unique.to_le_bytes())?;
+    out.extend_from_slice(&node.to_le_bytes())?;
+    put_hex(
+        out,
+        "0*8 0100000000000000 0100000000000000 0*8",
+    )?;
+    put_attributes(out, made, node)
+}
+
+// The answer to a GETATTR of such a directory: 120 bytes.
+fn put_attr(out: &mut Vec<u8>, unique: u64, node: u64) -> Result<(), AllocError> {
+    put_hex(out, "78000000 00000000")?;
+    out.extend_from_slice(&unique.to_le_bytes())?;
+    put_hex(out, "0100000000000000 0*8")?;
+    put_attributes(out, Made::Directory, node)
+}
+
+// A refusal: 16 bytes.
+fn put_error(out: &mut Vec<u8>, unique: u64, errno: u32) -> Result<(), AllocError> {
+    put_hex(out, "10000000")?;
+    out.extend_from_slice(&errno.wrapping_neg().to_le_bytes())?;
+    out.extend_from_slice(&unique.to_le_bytes())
+}
+
+/// An answer by its unique: the entry or the attributes of a directory, an error, its text, or the
+/// second of a pair.
+#[derive(Clone, Copy)]
+pub enum Reply {
+    Entry(u64, u64),
+    Attr(u64, u64),
+    Error(u64, u32),
+    Text(&'static str),
+    Of(Pair),
+}
+
+pub fn put_reply(out: &mut Vec<u8>, reply: Reply) -> Result<(), AllocError> {
+    match reply {
+        Reply::Entry(unique, node) => put_entry(out, unique, Made::Directory, node),
+        Reply::Attr(unique, node) => put_attr(out, unique, node),
+        Reply::Error(unique, errno) => put_error(out, unique, errno),
+        Reply::Text(text) => put_hex(out, text),
+        Reply::Of((_, answer)) => put_hex(out, answer),
+    }
+}
+
+/// These answers, one after another.
+pub fn replies(alloc: Global, list: &[Reply]) -> Result<Vec<u8>, AllocError> {
+    let mut out = Vec::new(alloc);
+    for reply in list {
+        put_reply(&mut out, *reply)?;
+    }
+    Ok(out)
+}
+
+/// Their answers, where they make the nodes from 2 on.
+pub fn entries(
+    alloc: Global,
+    made: Made,
+    from: u8,
+    to: u8,
+    bit: u64,
+) -> Result<Vec<u8>, AllocError> {
+    let mut out = Vec::new(alloc);
+    for i in from..to {
+        let number = u64::from(i);
+        put_entry(&mut out, bit | (4 + 2 * number), made, 2 + number)?;
+    }
+    Ok(out)
+}

@@ -1,0 +1,98 @@
+//! Sessions of the run.
+use super::*;
+use crate::hex::{mark_resent, put_hex};
+use crate::run::{MESSAGES, QUESTIONS, RUN};
+
+// How many bytes each message of the run has, and each answer.
+const LENGTHS: [usize; MESSAGES] = [104, 58, 48, 83, 80, 50, 52, 64];
+
+const ANSWER_LENGTHS: [usize; MESSAGES] = [80, 144, 32, 24, 19, 144, 16, 16];
+
+/// Each message in a group of its own, or all in one group.
+#[derive(Clone, Copy, Debug, PartialEq, Eq)]
+pub enum Grouping {
+    Each,
+    All,
+}
+
+/// The first messages in pieces, so that they are grouped so.
+pub fn put_pieces(
+    arrivals: &mut Vec<Arrival>,
+    grouping: Grouping,
+    count: usize,
+) -> Result<(), AllocError> {
+    match grouping {
+        Grouping::Each => put_each(arrivals, count)?,
+        Grouping::All => arrivals.push(Arrival::Piece(size_of_first(&LENGTHS, count)))?,
+    }
+    Ok(())
+}
+
+fn put_each(arrivals: &mut Vec<Arrival>, count: usize) -> Result<(), AllocError> {
+    for len in LENGTHS.iter().take(count) {
+        arrivals.push(Arrival::Piece(*len))?;
+    }
+    Ok(())
+}
+
+fn size_of_first(lengths: &[usize], count: usize) -> usize {
+    let mut size: usize = 0;
+    for len in lengths.iter().take(count) {
+        size = size.saturating_add(*len);
+    }
+    size
+}
+
+/// How many bytes the first answers of the run have.
+pub fn size_of_answers(count: usize) -> usize {
+    size_of_first(&ANSWER_LENGTHS, count)
+}
+
+/// How many answers of the run these bytes are.
+pub fn answers_in(sent: usize) -> Option<usize> {
+    (0..MESSAGES + 1).find(|count| size_of_answers(*count) == sent)
+}
+
+/// The run over this peer.
+pub fn run(alloc: Global, peer: Peer) -> Result<Session, AllocError> {
+    let mut input = Vec::new(alloc);
+    let mut wanted = Vec::new(alloc);
+    for (asked, answer) in RUN {
+        put_hex(&mut input, asked)?;
+        put_hex(&mut wanted, answer)?;
+    }
+    Ok(Session {
+        input,
+        peer,
+        wanted,
+    })
+}
+
+// Appends a message or an answer with the bit that marks a resend.
+fn put_resent(out: &mut Vec<u8>, text: &str) -> Result<(), AllocError> {
+    let begin = out.len();
+    put_hex(out, text)?;
+    mark_resent(out.as_mut_slice(), begin);
+    Ok(())
+}
+
+// Appends the questions and their answers.
+fn put_questions(input: &mut Vec<u8>, wanted: &mut Vec<u8>) -> Result<(), AllocError> {
+    for (asked, answer) in QUESTIONS {
+        put_hex(input, asked)?;
+        put_hex(wanted, answer)?;
+    }
+    Ok(())
+}
+
+/// What follows after the notice: what has no answer yet is resent, and then the tree is asked about.
+pub fn resent_run(alloc: Global, answered: usize) -> Result<Session, AllocError> {
+    let mut input = Vec::new(alloc);
+    let mut wanted = NOTICE.to_vec(alloc)?;
+    for (asked, answer) in RUN.iter().skip(answered) {
+        put_resent(&mut input, asked)?;
+        put_resent(&mut wanted, answer)?;
+    }
+    put_questions(&mut input, &mut wanted)?;
+    Ok(plain(alloc, input, wanted))
+}
