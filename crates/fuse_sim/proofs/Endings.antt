@@ -1,5 +1,6 @@
 -- What holds when events have been run, to their end or to a fault.
-use Rattle.std.proofs.Common.{◌≡◌, ℕ, ◌+◌, ◌≤◌, Bool, true, false, ◌||◌, inl, inr, List, [], ◌++◌, map, take, drop, Option, Some, None, if◌then◌else◌, length, refl, sym, ap, subst, ◌∙◌, arith}
+use Rattle.std.proofs.Common.{◌≡◌, ℕ, ◌+◌, ◌≤◌, Bool, true, false, ◌||◌, inl, inr, List, [], ◌++◌, map, take, drop, Option, Some, None, if◌then◌else◌, length}
+use Rattle.std.proofs.Common.{refl, sym, ap, subst, ◌∙◌, arith}
 use Rattle.std.proofs.Math.Seq.{take-add}
 use Rattle.std.proofs.lemmas.List.{take_all}
 use Rattle.std.proofs.lemmas.List.Elements.{All-append, All-nil}
@@ -11,7 +12,8 @@ use Rattle.fuse_keeper.specs.KeeperState.{KeeperState, StandsFor, KeepsHeld, Tel
 use Rattle.fuse_sim.specs.declared.event.Event.{Event}
 use Rattle.fuse_sim.specs.declared.event.Outcome.{Outcome}
 use Rattle.fuse_sim.specs.declared.event.DriveFault.{DriveFault}
-use Rattle.fuse_sim.specs.Driving.{committed, outcome_of, bytes_given, settled_by, NoneReused, told_in, StandsIn, became_in, deaths, Opened, AnsweredBy, OfRestart, IsFit, event_of, before, is_store, LeftBy}
+use Rattle.fuse_sim.specs.Driving.{committed, outcome_of, bytes_given, settled_by, NoneReused, told_in, StandsIn, became_in, deaths, Opened, AnsweredBy}
+use Rattle.fuse_sim.specs.Driving.{OfRestart, IsFit, event_of, before, is_store, LeftBy}
 use Rattle.fuse_sim.specs.HandedOn.{Ledger, empty_ledger, ledger_after, handed_on}
 use Rattle.fuse_sim.specs.LeftRecords.{Behind, RecordsLeft, HoldsRecords}
 use Rattle.fuse_sim.specs.Running.{Moved, MayBegin, Opens, Stops}
@@ -22,8 +24,10 @@ use Rattle.fuse_sim.proofs.Moves.{ran_more, ran_none}
 use Rattle.fuse_sim.proofs.Openings.{became_then, opened_more, opened_still}
 
 -- events, and then others
-moved_parts : (M : Model) → HistoriesGrow M → (holds mid holds' : KeeperState M) (es es' others others' : List Event) (p p' : List ℕ) (new new' : List (Option Outcome)) → (holds'.is_honest → mid.is_honest)
-    → Moved holds mid empty_ledger es others p [] new → Moved mid holds' (ledger_after empty_ledger es) es' others' p' new new' → Moved holds holds' empty_ledger (es ++ es') others' p' [] new'
+moved_parts : (M : Model) → HistoriesGrow M → (holds mid holds' : KeeperState M) (es es' others others' : List Event) (p p' : List ℕ)
+    (new new' : List (Option Outcome)) → (holds'.is_honest → mid.is_honest)
+    → Moved holds mid empty_ledger es others p [] new → Moved mid holds' (ledger_after empty_ledger es) es' others' p' new new'
+    → Moved holds holds' empty_ledger (es ++ es') others' p' [] new'
 moved_parts M grows holds mid holds' es es' others others' p p' new new' was one two = record {
   fit = All-append IsFit es es' one.fit two.fit;
   ran = ran_more M grows holds mid holds' empty_ledger es es' [] new new' was one.ran two.ran;
@@ -31,7 +35,8 @@ moved_parts M grows holds mid holds' es es' others others' p p' new new' was one
   begin = subst (λ l. MayBegin l others') (sym (ledger-append empty_ledger es es')) two.begin;
 }
 
-pub moved_more : (M : Model) → HistoriesGrow M → (holds mid holds' : KeeperState M) (events : List Event) (at n : ℕ) (p p' : List ℕ) (new new' : List (Option Outcome)) → (holds'.is_honest → mid.is_honest)
+pub moved_more : (M : Model) → HistoriesGrow M → (holds mid holds' : KeeperState M) (events : List Event) (at n : ℕ) (p p' : List ℕ)
+    (new new' : List (Option Outcome)) → (holds'.is_honest → mid.is_honest)
     → Moved holds mid empty_ledger (take at events) (drop at events) p [] new
     → ((l : Ledger) → l.pending ≡ p → MayBegin l (drop at events) → Moved mid holds' l (take n (drop at events)) (drop (at + n) events) p' new new')
     → Moved holds holds' empty_ledger (take (at + n) events) (drop (at + n) events) p' [] new'
@@ -41,42 +46,56 @@ moved_more M grows holds mid holds' events at n p p' new new' was one next =
     (next (ledger_after empty_ledger (take at events)) (sym one.pending) one.begin))
 
 -- none were run yet
-pub moved_none : (M : Model) → (k : KeeperState M) (others : List Event) (p : List ℕ) (new : List (Option Outcome)) → p ≡ [] → new ≡ [] → Moved k k empty_ledger [] others p [] new
+pub moved_none : (M : Model) → (k : KeeperState M) (others : List Event) (p : List ℕ) (new : List (Option Outcome)) → p ≡ [] → new ≡ []
+    → Moved k k empty_ledger [] others p [] new
 moved_none M k others p new same is = record { fit = All-nil IsFit; ran = ran_none M k empty_ledger [] new is; pending = same; begin = inl refl }
 
 -- what is pending was settled by the events
 pending_within : (l : Ledger) (p : List ℕ) (es : List Event) → l ≡ ledger_after empty_ledger es → p ≡ l.pending → (t : List ℕ) → Includes (settled_by t es) p
-pending_within l p es is same t = subst (Includes (settled_by t es)) (sym (same ∙ ap (λ (x : Ledger). x.pending) is)) (pending_settled t empty_ledger es (includes_none t))
+pending_within l p es is same t = subst (Includes (settled_by t es)) (sym (same ∙ ap (λ (x : Ledger). x.pending) is))
+    (pending_settled t empty_ledger es (includes_none t))
 
 -- all were run
-pub moved_all : (M : Model) → (holds holds' : KeeperState M) (events others : List Event) (at : ℕ) (p : List ℕ) (new : List (Option Outcome)) → length events ≤ at
+pub moved_all : (M : Model) → (holds holds' : KeeperState M) (events others : List Event) (at : ℕ) (p : List ℕ) (new : List (Option Outcome))
+    → length events ≤ at
     → Moved holds holds' empty_ledger (take at events) others p [] new → Moved holds holds' empty_ledger events others p [] new
 moved_all M holds holds' events others at p new past moved = subst (λ es. Moved holds holds' empty_ledger es others p [] new) (take_all at events past) moved
 
 -- what stands in the end
-moved_kept : (M : Model) → (holds holds' : KeeperState M) (es others : List Event) (p : List ℕ) (new : List (Option Outcome)) → Moved holds holds' empty_ledger es others p [] new
-    → holds'.is_honest → (s : M.State) (h : History) (t : List ℕ) → StandsFor holds s h t → NoneReused t es → StandsFor holds' s (committed h es) (t ++ handed_on empty_ledger es)
+moved_kept : (M : Model) → (holds holds' : KeeperState M) (es others : List Event) (p : List ℕ) (new : List (Option Outcome))
+    → Moved holds holds' empty_ledger es others p [] new
+    → holds'.is_honest → (s : M.State) (h : History) (t : List ℕ) → StandsFor holds s h t → NoneReused t es
+    → StandsFor holds' s (committed h es) (t ++ handed_on empty_ledger es)
 moved_kept M holds holds' es others p new moved is s h t so none = moved.ran.stands is s h t t so (λ i there. there) (includes_none t) none
 
-pub moved_stands : (M : Model) → (holds holds' : KeeperState M) (es others : List Event) (p : List ℕ) (new : List (Option Outcome)) → Moved holds holds' empty_ledger es others p [] new
-    → holds'.is_honest → (s : M.State) (h : History) (t : List ℕ) → StandsFor holds s h t → NoneReused t es → StandsFor holds' s (committed h es) (settled_by t es)
+pub moved_stands : (M : Model) → (holds holds' : KeeperState M) (es others : List Event) (p : List ℕ) (new : List (Option Outcome))
+    → Moved holds holds' empty_ledger es others p [] new
+    → holds'.is_honest → (s : M.State) (h : History) (t : List ℕ) → StandsFor holds s h t → NoneReused t es
+    → StandsFor holds' s (committed h es) (settled_by t es)
 moved_stands M holds holds' es others p new moved is s h t so none =
-    stands_later M holds' s (committed h es) (t ++ handed_on empty_ledger es) (settled_by t es) (settled_all t t empty_ledger es (λ i there. there) (includes_none t))
+    stands_later M holds' s (committed h es) (t ++ handed_on empty_ledger es) (settled_by t es)
+    (settled_all t t empty_ledger es (λ i there. there) (includes_none t))
     (moved_kept M holds holds' es others p new moved is s h t so none)
 
-pub moved_outcomes : (M : Model) → (holds holds' : KeeperState M) (es others : List Event) (p : List ℕ) (new : List (Option Outcome)) → Moved holds holds' empty_ledger es others p [] new
-    → holds'.is_honest → (s : M.State) (h : History) (t : List ℕ) → StandsFor holds s h t → NoneReused t es → map bytes_given new ≡ map (outcome_of M s (committed h es)) es
-moved_outcomes M holds holds' es others p new moved is s h t so none = ap (map bytes_given) moved.ran.items ∙ moved.ran.outcomes is s h t t so (λ i there. there) (includes_none t) none
+pub moved_outcomes : (M : Model) → (holds holds' : KeeperState M) (es others : List Event) (p : List ℕ) (new : List (Option Outcome))
+    → Moved holds holds' empty_ledger es others p [] new
+    → holds'.is_honest → (s : M.State) (h : History) (t : List ℕ) → StandsFor holds s h t → NoneReused t es
+    → map bytes_given new ≡ map (outcome_of M s (committed h es)) es
+moved_outcomes M holds holds' es others p new moved is s h t so none = ap (map bytes_given) moved.ran.items
+    ∙ moved.ran.outcomes is s h t t so (λ i there. there) (includes_none t) none
 
-pub moved_count : (M : Model) → (holds holds' : KeeperState M) (es others : List Event) (p : List ℕ) (new : List (Option Outcome)) → Moved holds holds' empty_ledger es others p [] new → length new ≡ length es
+pub moved_count : (M : Model) → (holds holds' : KeeperState M) (es others : List Event) (p : List ℕ) (new : List (Option Outcome))
+    → Moved holds holds' empty_ledger es others p [] new → length new ≡ length es
 moved_count M holds holds' es others p new moved = ap length moved.ran.items ∙ moved.ran.count
 
-pub moved_opened : (M : Model) → {K : Type 0} (told : K → KeeperState M) (became : K → K → ℕ → Type 0) → IsCount became → (old mid new : Option K) (events : List Event) (at n : ℕ) (p : List ℕ) (outcomes : List (Option Outcome))
+pub moved_opened : (M : Model) → {K : Type 0} (told : K → KeeperState M) (became : K → K → ℕ → Type 0) → IsCount became
+    → (old mid new : Option K) (events : List Event) (at n : ℕ) (p : List ℕ) (outcomes : List (Option Outcome))
     → Moved (told_in told old) (told_in told mid) empty_ledger (take at events) (drop at events) p [] outcomes → Opened told became old mid (take at events)
     → Opens told became mid new p (take n (drop at events)) → Opened told became old new (take (at + n) events)
 moved_opened M told became law old mid new events at n p outcomes moved opened opens =
     subst (Opened told became old new) (sym (take-add at n events))
-    (opened_more M told became law old mid new (take at events) (take n (drop at events)) p (pending_within (ledger_after empty_ledger (take at events)) p (take at events) refl moved.pending)
+    (opened_more M told became law old mid new (take at events) (take n (drop at events)) p
+    (pending_within (ledger_after empty_ledger (take at events)) p (take at events) refl moved.pending)
     (moved_stands M (told_in told old) (told_in told mid) (take at events) (drop at events) p outcomes moved) opened opens)
 
 -- which records are left
@@ -84,7 +103,8 @@ kept_or_gone : {A : Type 0} (b : Bool) (o now : Option A) → now ≡ (if b then
 kept_or_gone true o now is isnt = absurd (isnt refl)
 kept_or_gone false o now is isnt = is
 
-pub moved_records : (M : Model) → (holds holds' : KeeperState M) (es others : List Event) (p : List ℕ) (new : List (Option Outcome)) → Moved holds holds' empty_ledger es others p [] new
+pub moved_records : (M : Model) → (holds holds' : KeeperState M) (es others : List Event) (p : List ℕ) (new : List (Option Outcome))
+    → Moved holds holds' empty_ledger es others p [] new
     → NoneReused [] es → Tells holds holds' (λ rows records. HoldsRecords holds' (RecordsLeft es records))
 moved_records M holds holds' es others p new moved none is rows records held rowed =
     let done = moved.ran.records is rows records held rowed in
@@ -95,7 +115,8 @@ moved_records M holds holds' es others p new moved none is rows records held row
       rowed = done.rowed;
       left = record {
         gone = λ i behind. done.left.gone [] (includes_none []) none i (behind_handed es i behind);
-        others = λ i isnt. kept_or_gone (is_in (handed_on empty_ledger es) i) (records i) (done.records i) (done.left.others i isnt) (λ there. absurd (let came = handed_came es i there in cc (came, isnt)));
+        others = λ i isnt. kept_or_gone (is_in (handed_on empty_ledger es) i) (records i) (done.records i) (done.left.others i isnt)
+            (λ there. absurd (let came = handed_came es i there in cc (came, isnt)));
       };
     }
 
@@ -108,14 +129,18 @@ not_handed es i isnt = elim (tested (is_in (handed_on empty_ledger es) i)) [
 not_in_both : (xs ys : List ℕ) (i : ℕ) → is_in xs i ≡ false → is_in ys i ≡ false → is_in (xs ++ ys) i ≡ false
 not_in_both xs ys i one two = is_in-append xs ys i ∙ ap (λ b. b || is_in ys i) one ∙ two
 
-same_records : (M : Model) → {K : Type 0} (told : K → KeeperState M) (k : Option K) (x y : M.Rows) (p q : Records) → ((k : K) (x y : M.Rows) (p q : Records) → (told k).holds x p → (told k).holds y q → (x ≡ y) × ((i : ℕ) → p i ≡ q i))
+same_records : (M : Model) → {K : Type 0} (told : K → KeeperState M) (k : Option K) (x y : M.Rows) (p q : Records)
+    → ((k : K) (x y : M.Rows) (p q : Records) → (told k).holds x p → (told k).holds y q → (x ≡ y) × ((i : ℕ) → p i ≡ q i))
     → (told_in told k).holds x p → (told_in told k).holds y q → (i : ℕ) → p i ≡ q i
 same_records M told None x y p q one first second i = absurd first
 same_records M told (Some k) x y p q one first second i = (one k x y p q first second).1 i
 
-pub moved_left : (M : Model) → {K : Type 0} (told : K → KeeperState M) (old new : Option K) (es others : List Event) (p : List ℕ) (outcomes : List (Option Outcome))
-    → ((k : K) (x y : M.Rows) (p q : Records) → (told k).holds x p → (told k).holds y q → (x ≡ y) × ((i : ℕ) → p i ≡ q i)) → Moved (told_in told old) (told_in told new) empty_ledger es others p [] outcomes
-    → (told_in told new).is_honest → (s : M.State) (h : History) (t : List ℕ) → StandsIn told old s h t → NoneReused t es → (rows : M.Rows) (records : Records) → (told_in told new).holds rows records
+pub moved_left : (M : Model) → {K : Type 0} (told : K → KeeperState M) (old new : Option K) (es others : List Event) (p : List ℕ)
+    (outcomes : List (Option Outcome))
+    → ((k : K) (x y : M.Rows) (p q : Records) → (told k).holds x p → (told k).holds y q → (x ≡ y) × ((i : ℕ) → p i ≡ q i))
+    → Moved (told_in told old) (told_in told new) empty_ledger es others p [] outcomes
+    → (told_in told new).is_honest → (s : M.State) (h : History) (t : List ℕ) → StandsIn told old s h t → NoneReused t es → (rows : M.Rows) (records : Records)
+    → (told_in told new).holds rows records
     → (i : ℕ) → is_in t i ≡ false → ¬ Behind 1 es i → records i ≡ said M s (committed h es) i
 moved_left M told old new es others p outcomes one moved is s h t so none rows records held i unsettled isnt =
     let left = moved_kept M (told_in told old) (told_in told new) es others p outcomes moved is s h t so none in
@@ -124,29 +149,38 @@ moved_left M told old new es others p outcomes one moved is s h t so none rows r
 
 -- ---- a fault
 
-left_map : (M : Model) → {K : Type 0} (told : K → KeeperState M) (b : Bool) (k : Option K) (P Q : Type 0) → ((told_in told k).is_clean → (told_in told k).is_honest) → LeftBy (told_in told k) b P → ((told_in told k).is_honest → P → Q) → LeftBy (told_in told k) b Q
+left_map : (M : Model) → {K : Type 0} (told : K → KeeperState M) (b : Bool) (k : Option K) (P Q : Type 0)
+    → ((told_in told k).is_clean → (told_in told k).is_honest) → LeftBy (told_in told k) b P → ((told_in told k).is_honest → P → Q)
+    → LeftBy (told_in told k) b Q
 left_map M told true k P Q too left f = λ is. f (too is) (left is)
 left_map M told false k P Q too left f = λ is. f is (left is)
 
-clean_too : (M : Model) → {K : Type 0} (told : K → KeeperState M) (k : Option K) → ((x : K) → (told x).is_clean → (told x).is_honest) → (told_in told k).is_clean → (told_in told k).is_honest
+clean_too : (M : Model) → {K : Type 0} (told : K → KeeperState M) (k : Option K) → ((x : K) → (told x).is_clean → (told x).is_honest)
+    → (told_in told k).is_clean → (told_in told k).is_honest
 clean_too M told None f is = is
 clean_too M told (Some k) f is = f k is
 
 -- where the events before it were run
-stopped_at : (M : Model) → {K : Type 0} (told : K → KeeperState M) (old mid : Option K) (events : List Event) (at : ℕ) (fault : DriveFault) (p : List ℕ) (outcomes : List (Option Outcome))
-    → Moved (told_in told old) (told_in told mid) empty_ledger (take at events) (drop at events) p [] outcomes → event_of fault ≡ at → (told_in told mid).is_honest
-    → (s : M.State) (h : History) (t : List ℕ) → StandsIn told old s h t → NoneReused t (before fault events) → StandsIn told mid s (committed h (before fault events)) (settled_by t (before fault events))
+stopped_at : (M : Model) → {K : Type 0} (told : K → KeeperState M) (old mid : Option K) (events : List Event) (at : ℕ) (fault : DriveFault) (p : List ℕ)
+    (outcomes : List (Option Outcome))
+    → Moved (told_in told old) (told_in told mid) empty_ledger (take at events) (drop at events) p [] outcomes → event_of fault ≡ at
+    → (told_in told mid).is_honest
+    → (s : M.State) (h : History) (t : List ℕ) → StandsIn told old s h t → NoneReused t (before fault events)
+    → StandsIn told mid s (committed h (before fault events)) (settled_by t (before fault events))
 stopped_at M told old mid events at fault p outcomes moved place is s h t so none =
     let same : before fault events ≡ take at events = ap (λ n. take n events) place in
     subst (λ es. StandsIn told mid s (committed h es) (settled_by t es)) (sym same)
     (moved_stands M (told_in told old) (told_in told mid) (take at events) (drop at events) p outcomes moved is s h t so (subst (NoneReused t) same none))
 
-pub stopped : (M : Model) → {K : Type 0} (told : K → KeeperState M) (became : K → K → ℕ → Type 0) (refuses : K → StoreFault → Type 0) (old mid new : Option K) (events : List Event) (at : ℕ) (fault : DriveFault) (p : List ℕ) (outcomes : List (Option Outcome))
-    → ((k : K) → (told k).is_clean → (told k).is_honest) → Moved (told_in told old) (told_in told mid) empty_ledger (take at events) (drop at events) p [] outcomes → Stops told became refuses mid new events at fault
+pub stopped : (M : Model) → {K : Type 0} (told : K → KeeperState M) (became : K → K → ℕ → Type 0) (refuses : K → StoreFault → Type 0) (old mid new : Option K)
+    (events : List Event) (at : ℕ) (fault : DriveFault) (p : List ℕ) (outcomes : List (Option Outcome))
+    → ((k : K) → (told k).is_clean → (told k).is_honest) → Moved (told_in told old) (told_in told mid) empty_ledger (take at events) (drop at events) p []
+    outcomes → Stops told became refuses mid new events at fault
     → (s : M.State) (h : History) (t : List ℕ) → StandsIn told old s h t → NoneReused t (before fault events)
     → LeftBy (told_in told new) (is_store fault) (StandsIn told new s (committed h (before fault events)) (settled_by t (before fault events)))
 stopped M told became refuses old mid new events at fault p outcomes too moved stops s h t so none =
-    left_map M told (is_store fault) new ((event_of fault ≡ at) × KeepsHeld (told_in told mid) (told_in told new)) (StandsIn told new s (committed h (before fault events)) (settled_by t (before fault events)))
+    left_map M told (is_store fault) new ((event_of fault ≡ at) × KeepsHeld (told_in told mid) (told_in told new))
+    (StandsIn told new s (committed h (before fault events)) (settled_by t (before fault events)))
     (clean_too M told new too) stops.left (λ is left.
     stands_kept M (told_in told mid) (told_in told new) s (committed h (before fault events)) (settled_by t (before fault events)) left.1
     (stopped_at M told old mid events at fault p outcomes moved left.0 (stops.was_honest is) s h t so none))
@@ -156,10 +190,13 @@ stopped M told became refuses old mid new events at fault p outcomes too moved s
 there_is : (M : Model) → {K : Type 0} (told : K → KeeperState M) (k : Option K) → (told_in told k).is_clean → k ≡ None → ⊥
 there_is M told k is none = subst (λ o. (told_in told o).is_clean) none is
 
-pub stopped_store : (M : Model) → {K : Type 0} (told : K → KeeperState M) (became : K → K → ℕ → Type 0) (refuses : K → StoreFault → Type 0) (old mid new : Option K) (events : List Event) (at : ℕ) (fault : DriveFault) (p : List ℕ) (outcomes : List (Option Outcome))
-    → ((k : K) → (told k).is_clean → (told k).is_honest) → Moved (told_in told old) (told_in told mid) empty_ledger (take at events) (drop at events) p [] outcomes
+pub stopped_store : (M : Model) → {K : Type 0} (told : K → KeeperState M) (became : K → K → ℕ → Type 0) (refuses : K → StoreFault → Type 0)
+    (old mid new : Option K) (events : List Event) (at : ℕ) (fault : DriveFault) (p : List ℕ) (outcomes : List (Option Outcome))
+    → ((k : K) → (told k).is_clean → (told k).is_honest) → Moved (told_in told old) (told_in told mid) empty_ledger (take at events) (drop at events) p []
+    outcomes
     → Opened told became old mid (take at events) → Stops told became refuses mid new events at fault → is_store fault ≡ true → (told_in told new).is_clean
-    → (s : M.State) (h : History) (t : List ℕ) → StandsIn told old s h t → NoneReused t (before fault events) → AnsweredBy told became old new (before fault events) fault
+    → (s : M.State) (h : History) (t : List ℕ) → StandsIn told old s h t → NoneReused t (before fault events)
+    → AnsweredBy told became old new (before fault events) fault
 stopped_store M told became refuses old mid new events at fault p outcomes too moved opened stops store is s h t so none =
     let stayed = stops.stayed (there_is M told new is) in
     let was = stops.was_honest (clean_too M told new too is) in
@@ -167,23 +204,29 @@ stopped_store M told became refuses old mid new events at fault p outcomes too m
       keeper = mid;
       before = subst (λ n. became_in became old mid (deaths (take n events))) (sym stayed.0) opened.often;
       after = stayed.1;
-      may = stops.answered store is s (committed h (before fault events)) (settled_by t (before fault events)) (stopped_at M told old mid events at fault p outcomes moved stayed.0 was s h t so none);
+      may = stops.answered store is s (committed h (before fault events)) (settled_by t (before fault events))
+          (stopped_at M told old mid events at fault p outcomes moved stayed.0 was s h t so none);
     }
 
-pub stopped_opened : (M : Model) → {K : Type 0} (told : K → KeeperState M) (became : K → K → ℕ → Type 0) (refuses : K → StoreFault → Type 0) → IsCount became → (old mid new : Option K) (events : List Event) (at : ℕ) (fault : DriveFault)
-    → Opened told became old mid (take at events) → Stops told became refuses mid new events at fault → (new ≡ None → ⊥) → Opened told became old new (before fault events)
+pub stopped_opened : (M : Model) → {K : Type 0} (told : K → KeeperState M) (became : K → K → ℕ → Type 0) (refuses : K → StoreFault → Type 0) → IsCount became
+    → (old mid new : Option K) (events : List Event) (at : ℕ) (fault : DriveFault)
+    → Opened told became old mid (take at events) → Stops told became refuses mid new events at fault → (new ≡ None → ⊥)
+    → Opened told became old new (before fault events)
 stopped_opened M told became refuses law old mid new events at fault opened stops there =
     let stayed = stops.stayed there in
-    subst (λ n. Opened told became old new (take n events)) (sym stayed.0) (opened_still M told became law old mid new (take at events) stayed.1 stops.was_honest opened)
+    subst (λ n. Opened told became old new (take n events)) (sym stayed.0)
+    (opened_still M told became law old mid new (take at events) stayed.1 stops.was_honest opened)
 
 -- no keeper was left
-pub stopped_emptied : (M : Model) → {K : Type 0} (told : K → KeeperState M) (became : K → K → ℕ → Type 0) (refuses : K → StoreFault → Type 0) → IsCount became → (old mid new : Option K) (events : List Event) (at : ℕ) (fault : DriveFault)
+pub stopped_emptied : (M : Model) → {K : Type 0} (told : K → KeeperState M) (became : K → K → ℕ → Type 0) (refuses : K → StoreFault → Type 0) → IsCount became
+    → (old mid new : Option K) (events : List Event) (at : ℕ) (fault : DriveFault)
     → Opened told became old mid (take at events) → Stops told became refuses mid new events at fault → new ≡ None → OfRestart became refuses old events fault
 stopped_emptied M told became refuses law old mid new events at fault opened stops none =
     let refused = stops.emptied none in
     record {
       died = refused.died;
       keeper = refused.keeper;
-      often = became_then became law old mid refused.keeper (deaths (take at events)) 0 (deaths (before fault events)) opened.often refused.same (omega (arith, refused.calm));
+      often = became_then became law old mid refused.keeper (deaths (take at events)) 0 (deaths (before fault events)) opened.often refused.same
+          (omega (arith, refused.calm));
       refused = refused.refused;
     }

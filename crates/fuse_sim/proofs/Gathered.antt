@@ -1,5 +1,6 @@
 -- Groups, one event after another.
-use Rattle.std.proofs.Common.{◌≡◌, ◌≢◌, ◌⊎◌, inl, inr, ℕ, ◌+◌, ◌≤◌, ◌<◌, ◌==◌, Bool, true, false, not, ◌&&◌, if◌then◌else◌, List, [], ◌∷◌, ◌++◌, length, take, drop, get_or, All, refl, sym, ap, subst, ◌∙◌, arith, append_assoc, length-append, drop-cons}
+use Rattle.std.proofs.Common.{◌≡◌, ◌≢◌, ◌⊎◌, inl, inr, ℕ, ◌+◌, ◌≤◌, ◌<◌, ◌==◌, Bool, true, false, not, ◌&&◌, if◌then◌else◌, List, [], ◌∷◌, ◌++◌, length, take}
+use Rattle.std.proofs.Common.{drop, get_or, All, refl, sym, ap, subst, ◌∙◌, arith, append_assoc, length-append, drop-cons}
 use Rattle.std.proofs.lemmas.List.{take_more, append-nil, map-append, length-map, length-take-le, drop_all}
 use Rattle.std.proofs.lemmas.List.Elements.{All-append, All-cons, All-nil}
 use Rattle.fuse_wire.specs.Ids.{id_of}
@@ -56,20 +57,26 @@ none_gathered classes taken none is = record {
 }
 
 -- one more
-pub gathers_next : (events : List Event) (i : ℕ) (e : Event) (classes classes' : List Class) (taken taken' : List (Request × Moment)) (died died' : Bool) → i < length events → e ≡ get_or events i e
+pub gathers_next : (events : List Event) (i : ℕ) (e : Event) (classes classes' : List Class) (taken taken' : List (Request × Moment)) (died died' : Bool)
+    → i < length events → e ≡ get_or events i e
     → Gathers (take i events) classes taken died → Joins e classes taken died classes' taken' died' → Gathers (take (i + 1) events) classes' taken' died'
 gathers_next events i e classes classes' taken taken' died died' lt at so_far joins =
     let more : take i events ++ e ∷ [] ≡ take (i + 1) events = ap (λ x. take i events ++ x ∷ []) at ∙ sym (take_more events i e lt) in
     subst (λ run. Gathers run classes' taken' died') more (joins.1 (take i events) (subst (Gathers (take i events) classes taken) joins.0 so_far))
 
-pub gathers_count : (events : List Event) (i : ℕ) (classes : List Class) (taken : List (Request × Moment)) (died : Bool) → i ≤ length events → Gathers (take i events) classes taken died → length classes ≡ i
-gathers_count events i classes taken died le g = ap length g.classes_are ∙ length-map (take i events) (λ (e : Event). class_of e.bytes) ∙ length-take-le i events le
+pub gathers_count : (events : List Event) (i : ℕ) (classes : List Class) (taken : List (Request × Moment)) (died : Bool) → i ≤ length events
+    → Gathers (take i events) classes taken died → length classes ≡ i
+gathers_count events i classes taken died le g = ap length g.classes_are ∙ length-map (take i events) (λ (e : Event). class_of e.bytes)
+    ∙ length-take-le i events le
 
-pub gathers_counted : (events : List Event) (i : ℕ) (classes : List Class) (taken : List (Request × Moment)) (died : Bool) → i ≤ length events → Gathers (take i events) classes taken died → Gathers (take (length classes) events) classes taken died
-gathers_counted events i classes taken died le g = subst (λ n. Gathers (take n events) classes taken died) (sym (gathers_count events i classes taken died le g)) g
+pub gathers_counted : (events : List Event) (i : ℕ) (classes : List Class) (taken : List (Request × Moment)) (died : Bool) → i ≤ length events
+    → Gathers (take i events) classes taken died → Gathers (take (length classes) events) classes taken died
+gathers_counted events i classes taken died le g = subst (λ n. Gathers (take n events) classes taken died)
+    (sym (gathers_count events i classes taken died le g)) g
 
 -- a group ends where the server died, where it is full, or before an event that stands apart
-pub ends_here : (events : List Event) (i : ℕ) (e : Event) (classes : List Class) (taken : List (Request × Moment)) (died : Bool) → i < length events → e ≡ get_or events i e
+pub ends_here : (events : List Event) (i : ℕ) (e : Event) (classes : List Class) (taken : List (Request × Moment)) (died : Bool) → i < length events
+    → e ≡ get_or events i e
     → Gathers (take i events) classes taken died → EndsWith taken died e → StopsAt taken died (drop (length classes) events)
 ends_here events i e classes taken died lt at g ends alive = elim ends [
   | inl dead ↦ absurd (cc (alive, dead))
@@ -109,34 +116,43 @@ one_kept (Bare errno) x e is = absurd (cc is)
 one_kept Kept x e is = (refl, cc is)
 
 named_more : (bytes : List ℕ) (taken taken' : List (Request × Moment)) (one : Request × Moment) (t : Moment) → is_zero bytes ≡ false
-    → entry_of one ∷ [] ≡ entry_if (class_of bytes) (message_entry bytes t) → taken' ≡ taken ++ one ∷ [] → All HasId (entries_of taken) → All HasId (entries_of taken')
+    → entry_of one ∷ [] ≡ entry_if (class_of bytes) (message_entry bytes t) → taken' ≡ taken ++ one ∷ [] → All HasId (entries_of taken)
+    → All HasId (entries_of taken')
 named_more bytes taken taken' one t named some pushed each =
     let kept = one_kept (class_of bytes) (entry_of one) (message_entry bytes t) some in
     let here : HasId (entry_of one) = subst HasId (sym kept.1) (has_id bytes t kept.0 named) in
-    subst (All HasId) (sym (ap entries_of pushed ∙ map-append entry_of taken (one ∷ []))) (All-append HasId (entries_of taken) (entry_of one ∷ []) each (only_one HasId (entry_of one) here))
+    subst (All HasId) (sym (ap entries_of pushed ∙ map-append entry_of taken (one ∷ [])))
+    (All-append HasId (entries_of taken) (entry_of one ∷ []) each (only_one HasId (entry_of one) here))
 
-kept_more : (taken taken' : List (Request × Moment)) (one : Request × Moment) → All IsKept (entry_of one ∷ []) → taken' ≡ taken ++ one ∷ [] → All IsKept (entries_of taken) → All IsKept (entries_of taken')
+kept_more : (taken taken' : List (Request × Moment)) (one : Request × Moment) → All IsKept (entry_of one ∷ []) → taken' ≡ taken ++ one ∷ []
+    → All IsKept (entries_of taken) → All IsKept (entries_of taken')
 kept_more taken taken' one here pushed each =
     subst (All IsKept) (sym (ap entries_of pushed ∙ map-append entry_of taken (one ∷ []))) (All-append IsKept (entries_of taken) (entry_of one ∷ []) each here)
 
-entries_one : (run : List Event) (e : Event) (es : List Entry) → dies_before e.fate ≡ false → es ≡ entry_if (class_of e.bytes) (message_entry e.bytes e.moment) → commits_in run ++ es ≡ commits_in (run ++ e ∷ [])
+entries_one : (run : List Event) (e : Event) (es : List Entry) → dies_before e.fate ≡ false → es ≡ entry_if (class_of e.bytes) (message_entry e.bytes e.moment)
+    → commits_in run ++ es ≡ commits_in (run ++ e ∷ [])
 entries_one run e es goes is =
-    ap (λ r. commits_in run ++ r) (is ∙ sym (append-nil (commits e) ∙ commits_kept e.fate (entry_if (class_of e.bytes) (message_entry e.bytes e.moment)) goes)) ∙ sym (commits-append run (e ∷ []))
+    ap (λ r. commits_in run ++ r) (is ∙ sym (append-nil (commits e) ∙ commits_kept e.fate (entry_if (class_of e.bytes) (message_entry e.bytes e.moment)) goes))
+    ∙ sym (commits-append run (e ∷ []))
 
 few_more : (n m : ℕ) → n ≤ MAX_GROUP → (n ≡ MAX_GROUP → ⊥) → m ≡ n + 1 → m ≤ MAX_GROUP
 few_more n m few room is = grind (arith, few, room, is)
 
 -- an event with its request
-pub joins_kept : (e : Event) (classes classes' : List Class) (taken taken' : List (Request × Moment)) (one : Request × Moment) (died died' : Bool) → died ≡ false → IsFit e → dies_before e.fate ≡ false
+pub joins_kept : (e : Event) (classes classes' : List Class) (taken taken' : List (Request × Moment)) (one : Request × Moment) (died died' : Bool)
+    → died ≡ false → IsFit e → dies_before e.fate ≡ false
     → entry_of one ∷ [] ≡ entry_if (class_of e.bytes) (message_entry e.bytes e.moment) → All IsKept (entry_of one ∷ []) → (length taken ≡ MAX_GROUP → ⊥)
-    → classes' ≡ classes ++ class_of e.bytes ∷ [] → taken' ≡ taken ++ one ∷ [] → dies e.fate ≡ died' → (died' ≡ true → e.fate ≡ DiedAfterCommit) → Joins e classes taken died classes' taken' died'
+    → classes' ≡ classes ++ class_of e.bytes ∷ [] → taken' ≡ taken ++ one ∷ [] → dies e.fate ≡ died' → (died' ≡ true → e.fate ≡ DiedAfterCommit)
+    → Joins e classes taken died classes' taken' died'
 joins_kept e classes classes' taken taken' one died died' alive fit goes some kept room classed pushed is dead = (
   alive,
   λ run g. record {
     fit = All-append IsFit run (e ∷ []) g.fit (only_one IsFit e fit);
     goes = run_more run e died' g.goes is dead;
-    classes_are = classed ∙ ap (λ (cs : List Class). cs ++ class_of e.bytes ∷ []) g.classes_are ∙ sym (map-append (λ (x : Event). class_of x.bytes) run (e ∷ []));
-    entries = ap entries_of pushed ∙ map-append entry_of taken (one ∷ []) ∙ ap (λ r. r ++ entry_of one ∷ []) g.entries ∙ entries_one run e (entry_of one ∷ []) goes some;
+    classes_are = classed ∙ ap (λ (cs : List Class). cs ++ class_of e.bytes ∷ []) g.classes_are
+        ∙ sym (map-append (λ (x : Event). class_of x.bytes) run (e ∷ []));
+    entries = ap entries_of pushed ∙ map-append entry_of taken (one ∷ []) ∙ ap (λ r. r ++ entry_of one ∷ []) g.entries
+        ∙ entries_one run e (entry_of one ∷ []) goes some;
     few = few_more (length taken) (length taken') g.few room (ap length pushed ∙ length-append taken (one ∷ []));
     named = named_more e.bytes taken taken' one e.moment fit.named some pushed g.named;
     kept = kept_more taken taken' one kept pushed g.kept;
@@ -144,15 +160,18 @@ joins_kept e classes classes' taken taken' one died died' alive fit goes some ke
 )
 
 -- an event without one
-pub joins_bare : (e : Event) (classes classes' : List Class) (taken taken' : List (Request × Moment)) (died died' : Bool) → died ≡ false → IsFit e → dies_before e.fate ≡ false
+pub joins_bare : (e : Event) (classes classes' : List Class) (taken taken' : List (Request × Moment)) (died died' : Bool) → died ≡ false → IsFit e
+    → dies_before e.fate ≡ false
     → [] ≡ entry_if (class_of e.bytes) (message_entry e.bytes e.moment)
-    → classes' ≡ classes ++ class_of e.bytes ∷ [] → taken' ≡ taken → dies e.fate ≡ died' → (died' ≡ true → e.fate ≡ DiedAfterCommit) → Joins e classes taken died classes' taken' died'
+    → classes' ≡ classes ++ class_of e.bytes ∷ [] → taken' ≡ taken → dies e.fate ≡ died' → (died' ≡ true → e.fate ≡ DiedAfterCommit)
+    → Joins e classes taken died classes' taken' died'
 joins_bare e classes classes' taken taken' died died' alive fit goes none classed same is dead = (
   alive,
   λ run g. record {
     fit = All-append IsFit run (e ∷ []) g.fit (only_one IsFit e fit);
     goes = run_more run e died' g.goes is dead;
-    classes_are = classed ∙ ap (λ (cs : List Class). cs ++ class_of e.bytes ∷ []) g.classes_are ∙ sym (map-append (λ (x : Event). class_of x.bytes) run (e ∷ []));
+    classes_are = classed ∙ ap (λ (cs : List Class). cs ++ class_of e.bytes ∷ []) g.classes_are
+        ∙ sym (map-append (λ (x : Event). class_of x.bytes) run (e ∷ []));
     entries = ap entries_of same ∙ g.entries ∙ sym (append-nil (commits_in run)) ∙ entries_one run e [] goes none;
     few = omega (arith, g.few, ap length same);
     named = subst (λ (t : List (Request × Moment)). All HasId (entries_of t)) (sym same) g.named;

@@ -1,5 +1,6 @@
 -- Events that were run, group after group.
-use Rattle.std.proofs.Common.{◌≡◌, ◌⊎◌, inl, inr, ℕ, suc, ◌≤◌, ◌<◌, Bool, true, false, ◌||◌, ◌==◌, if◌then◌else◌, List, [], ◌∷◌, ◌++◌, length, map, take, drop, get_or, All, Option, None, refl, sym, ap, subst, ◌∙◌, append_assoc, length-append, drop-cons, arith}
+use Rattle.std.proofs.Common.{◌≡◌, ◌⊎◌, inl, inr, ℕ, suc, ◌≤◌, ◌<◌, Bool, true, false, ◌||◌, ◌==◌, if◌then◌else◌, List, [], ◌∷◌, ◌++◌, length, map, take, drop}
+use Rattle.std.proofs.Common.{get_or, All, Option, None, refl, sym, ap, subst, ◌∙◌, append_assoc, length-append, drop-cons, arith}
 use Rattle.std.proofs.lemmas.List.{append-nil, map-append, length-map}
 use Rattle.std.proofs.lemmas.List.Elements.{All-nil, All-cons}
 use Rattle.fuse_wire.specs.declared.moment.Moment.{Moment}
@@ -18,13 +19,16 @@ use Rattle.fuse_sim.specs.declared.event.Fate.{Fate}
 use Rattle.fuse_sim.specs.declared.event.Fate.TheVariants.{Answered, AnswerLost, DiedBeforeCommit, DiedAfterCommit}
 use Rattle.fuse_sim.specs.declared.event.Event.{Event}
 use Rattle.fuse_sim.specs.declared.event.Outcome.{Outcome}
-use Rattle.fuse_sim.specs.Driving.{commits, commits_by, commits_in, committed, outcome_of, bytes_given, is_taken, where_taken, answer_in, settles, settled_by, NoneReused, IsFit, dies}
+use Rattle.fuse_sim.specs.Driving.{commits, commits_by, commits_in, committed, outcome_of, bytes_given, is_taken, where_taken, answer_in, settles, settled_by}
+use Rattle.fuse_sim.specs.Driving.{NoneReused, IsFit, dies}
 use Rattle.fuse_sim.specs.HandedOn.{Ledger, empty_ledger, after_commit, crashed_if, handed_at, handed_on, ledger_after}
-use Rattle.fuse_sim.specs.Running.{dies_before, IsRun, StartsNone, StopsAt, Begins, Gathers, NoneDiesBefore, handed_to, left_pending, settles_in, RecordsRan, Ran, MayBegin, Moved, Worked}
+use Rattle.fuse_sim.specs.Running.{dies_before, IsRun, StartsNone, StopsAt, Begins, Gathers, NoneDiesBefore, handed_to, left_pending, settles_in, RecordsRan}
+use Rattle.fuse_sim.specs.Running.{Ran, MayBegin, Moved, Worked}
 use Rattle.fuse_sim.proofs.Gathered.{commits-append, only_one}
 use Rattle.fuse_sim.proofs.Settled.{is_in-append, tested, includes_both, in_either, stands_kept}
 use Rattle.fuse_sim.proofs.Ledgers.{RunLedger, run_begins, few_pending}
-use Rattle.fuse_sim.proofs.Driven.{committed-append, outcomes-append, all_unsettled_too, none_reused, reused-parts, pending_settled, handed_settled, settled_all, handed-append}
+use Rattle.fuse_sim.proofs.Driven.{committed-append, outcomes-append, all_unsettled_too, none_reused, reused-parts, pending_settled, handed_settled}
+use Rattle.fuse_sim.proofs.Driven.{settled_all, handed-append}
 
 -- ---- records
 
@@ -59,13 +63,16 @@ not_among t (e ∷ es) i each there = elim (tested (entry_id e == i)) [
   | inr other ↦ ap (λ b. if b then true else is_in (ids_in es) i) other ∙ not_among t es i (λ k d lt. each (suc k) d (omega (arith, lt))) there
 ]
 
-records_more : (l : Ledger) (es es' : List Event) (r r' r'' : Records) → RecordsRan l es r r' → RecordsRan (ledger_after l es) es' r' r'' → RecordsRan l (es ++ es') r r''
+records_more : (l : Ledger) (es es' : List Event) (r r' r'' : Records) → RecordsRan l es r r' → RecordsRan (ledger_after l es) es' r' r''
+    → RecordsRan l (es ++ es') r r''
 records_more l es es' r r' r'' one two =
     let l' = ledger_after l es in
-    let ids : ids_in (commits_in (es ++ es')) ≡ ids_in (commits_in es) ++ ids_in (commits_in es') = ap ids_in (commits-append es es') ∙ ids-append (commits_in es) (commits_in es') in
+    let ids : ids_in (commits_in (es ++ es')) ≡ ids_in (commits_in es) ++ ids_in (commits_in es') = ap ids_in (commits-append es es')
+    ∙ ids-append (commits_in es) (commits_in es') in
     record {
       others = λ i isnt.
-          let both = or_false (is_in (ids_in (commits_in es)) i) (is_in (ids_in (commits_in es')) i) (sym (ap (λ x. is_in x i) ids ∙ is_in-append (ids_in (commits_in es)) (ids_in (commits_in es')) i) ∙ isnt) in
+          let both = or_false (is_in (ids_in (commits_in es)) i) (is_in (ids_in (commits_in es')) i)
+          (sym (ap (λ x. is_in x i) ids ∙ is_in-append (ids_in (commits_in es)) (ids_in (commits_in es')) i) ∙ isnt) in
           two.others i both.1 ∙ ap (λ (o : Option Said). if is_in (handed_on l' es') i then None else o) (one.others i both.0)
           ∙ or_none (is_in (handed_on l es) i) (is_in (handed_on l' es') i) (r i)
           ∙ ap (λ b. if b then None else r i) (sym (ap (λ x. is_in x i) (handed-append l es es') ∙ is_in-append (handed_on l es) (handed_on l' es') i));
@@ -82,7 +89,8 @@ records_more l es es' r r' r'' one two =
 
 -- ---- events, and then others
 
-pub ran_more : (M : Model) → HistoriesGrow M → (holds mid holds' : KeeperState M) (l : Ledger) (es es' : List Event) (old new new' : List (Option Outcome)) → (holds'.is_honest → mid.is_honest)
+pub ran_more : (M : Model) → HistoriesGrow M → (holds mid holds' : KeeperState M) (l : Ledger) (es es' : List Event) (old new new' : List (Option Outcome))
+    → (holds'.is_honest → mid.is_honest)
     → Ran holds mid l es old new → Ran mid holds' (ledger_after l es) es' new new' → Ran holds holds' l (es ++ es') old new'
 ran_more M grows holds mid holds' l es es' old new new' was one two = record {
   added = one.added ++ two.added;
@@ -91,20 +99,30 @@ ran_more M grows holds mid holds' l es es' old new new' was one two = record {
   stands = λ is s h t u so within pending none.
       let parts = reused-parts u es es' none in
       let first = one.stands (was is) s h t u so within pending parts.0 in
-      let second = two.stands is s (committed h es) (t ++ handed_on l es) (settled_by u es) first (settled_all u t l es within pending) (pending_settled u l es pending) parts.1 in
+      let second = two.stands is s (committed h es) (t ++ handed_on l es) (settled_by u es) first (settled_all u t l es within pending)
+      (pending_settled u l es pending) parts.1 in
       subst (λ g. StandsFor holds' s g (t ++ handed_on l (es ++ es'))) (sym (committed-append h es es'))
-      (subst (StandsFor holds' s (committed (committed h es) es')) (append_assoc t (handed_on l es) (handed_on (ledger_after l es) es') ∙ ap (λ (x : List ℕ). t ++ x) (sym (handed-append l es es'))) second);
+      (subst (StandsFor holds' s (committed (committed h es) es')) (append_assoc t (handed_on l es) (handed_on (ledger_after l es) es')
+      ∙ ap (λ (x : List ℕ). t ++ x) (sym (handed-append l es es'))) second);
   outcomes = λ is s h t u so within pending none.
       let parts = reused-parts u es es' none in
       let first = one.stands (was is) s h t u so within pending parts.0 in
       map-append bytes_given one.added two.added
       ∙ ap (λ x. x ++ map bytes_given two.added) (one.outcomes (was is) s h t u so within pending parts.0)
-      ∙ ap (λ x. map (outcome_of M s (committed h es)) es ++ x) (two.outcomes is s (committed h es) (t ++ handed_on l es) (settled_by u es) first (settled_all u t l es within pending) (pending_settled u l es pending) parts.1)
+      ∙ ap (λ x. map (outcome_of M s (committed h es)) es ++ x) (two.outcomes is s (committed h es) (t ++ handed_on l es) (settled_by u es) first
+      (settled_all u t l es within pending) (pending_settled u l es pending) parts.1)
       ∙ sym (outcomes-append M grows s h es es');
   records = λ is rows records held rowed.
       let first = one.records (was is) rows records held rowed in
       let second = two.records is first.rows first.records first.held first.rowed in
-      record { rows = second.rows; records = second.records; held = second.held; rowed = second.rowed; left = records_more l es es' records first.records second.records first.left second.left };
+      record {
+        rows = second.rows;
+        records = second.records;
+        held = second.held;
+        rowed = second.rowed;
+        left = records_more l es es' records first.records
+            second.records first.left second.left;
+      };
 }
 
 pub ran_none : (M : Model) → (holds : KeeperState M) (l : Ledger) (old new : List (Option Outcome)) → new ≡ old → Ran holds holds l [] old new
@@ -114,7 +132,14 @@ ran_none M holds l old new is = record {
   count = refl;
   stands = λ _ s h t u so _ _ _. subst (StandsFor holds s h) (sym (append-nil t)) so;
   outcomes = λ _ s h t u so _ _ _. refl;
-  records = λ _ rows records held rowed. record { rows = rows; records = records; held = held; rowed = rowed; left = record { others = λ i _. refl; gone = λ u _ _ i there. absurd (cc there) } };
+  records = λ _ rows records held rowed. record {
+    rows = rows;
+    records = records;
+    held = held;
+    rowed = rowed;
+    left = record
+        { others = λ i _. refl; gone = λ u _ _ i there. absurd (cc there) };
+  };
 }
 
 -- ---- a group
@@ -168,7 +193,8 @@ group_ran M holds mid holds' died run p p' old new ledger worked keeps was =
               others = λ i isnt. done.others i isnt ∙ ap (λ x. if is_in x i then None else records i) (sym ledger.handed_is);
               gone = λ u within none i there.
                   let handed = sym (ap (λ x. is_in x i) ledger.handed_is) ∙ there in
-                  done.others i (not_among u cs i (none_reused u run none) (handed_within u p cs within i handed)) ∙ ap (λ b. if b then None else records i) handed;
+                  done.others i (not_among u cs i (none_reused u run none) (handed_within u p cs within i handed))
+                  ∙ ap (λ b. if b then None else records i) handed;
             };
           };
     }
@@ -178,7 +204,8 @@ group_ran M holds mid holds' died run p p' old new ledger worked keeps was =
 commits_lost : (e : Event) → e.fate ≡ DiedBeforeCommit → commits e ≡ []
 commits_lost e is = ap (λ f. commits_by f (entry_if (class_of e.bytes) (message_entry e.bytes e.moment))) is
 
-pub lost_ran : (M : Model) → (holds holds' : KeeperState M) (l : Ledger) (e : Event) (old new : List (Option Outcome)) → e.fate ≡ DiedBeforeCommit → new ≡ old ++ None ∷ [] → (holds'.is_honest → KeepsHeld holds holds')
+pub lost_ran : (M : Model) → (holds holds' : KeeperState M) (l : Ledger) (e : Event) (old new : List (Option Outcome)) → e.fate ≡ DiedBeforeCommit
+    → new ≡ old ++ None ∷ [] → (holds'.is_honest → KeepsHeld holds holds')
     → Ran holds holds' l (e ∷ []) old new
 lost_ran M holds holds' l e old new lost pushed keeps =
     let none : commits_in (e ∷ []) ≡ [] = ap (λ (cs : List Entry). cs ++ []) (commits_lost e lost) in
@@ -191,7 +218,8 @@ lost_ran M holds holds' l e old new lost pushed keeps =
           subst (λ (x : List ℕ). StandsFor holds' s (committed h (e ∷ [])) (t ++ x)) (sym unhanded)
           (subst (StandsFor holds' s (committed h (e ∷ []))) (sym (append-nil t))
           (subst (λ g. StandsFor holds' s g t) (ap (grown h) (sym none)) (stands_kept M holds holds' s h t (keeps is) so)));
-      outcomes = λ is s h t u so within pending again. ap (λ f. where_taken (is_taken f) (answer_in M s (committed h (e ∷ [])) (class_of e.bytes) (unique_of e.bytes)) ∷ []) (sym lost);
+      outcomes = λ is s h t u so within pending again. ap (λ f. where_taken (is_taken f)
+          (answer_in M s (committed h (e ∷ [])) (class_of e.bytes) (unique_of e.bytes)) ∷ []) (sym lost);
       records = λ is rows records held rowed. record {
         rows = rows;
         records = records;
@@ -221,12 +249,15 @@ stops_at run others taken died entries stops alive = elim (stops alive) [
   | inr ends ↦ inr ends
 ]
 
-pub few_taken : (run : List Event) (taken : List (Request × Moment)) (n : ℕ) → entries_of taken ≡ commits_in run → length taken ≤ n → length (commits_in run) ≤ n
+pub few_taken : (run : List Event) (taken : List (Request × Moment)) (n : ℕ) → entries_of taken ≡ commits_in run → length taken ≤ n
+    → length (commits_in run) ≤ n
 few_taken run taken n entries few = omega (arith, few, ap length entries, length-map taken entry_of)
 
-pub group_moved : (M : Model) → (holds mid holds' : KeeperState M) (died : Bool) (run slice others : List Event) (classes : List Class) (taken : List (Request × Moment)) (p p_mid p' : List ℕ) (old new : List (Option Outcome))
+pub group_moved : (M : Model) → (holds mid holds' : KeeperState M) (died : Bool) (run slice others : List Event) (classes : List Class)
+    (taken : List (Request × Moment)) (p p_mid p' : List ℕ) (old new : List (Option Outcome))
     → Gathers run classes taken died → slice ≡ run → StopsAt taken died others
-    → Worked holds mid slice p p_mid old new → (holds'.is_honest → KeepsHeld mid holds') → (holds'.is_honest → mid.is_honest) → p' ≡ (if died then [] else p_mid)
+    → Worked holds mid slice p p_mid old new → (holds'.is_honest → KeepsHeld mid holds') → (holds'.is_honest → mid.is_honest)
+    → p' ≡ (if died then [] else p_mid)
     → Moved holds holds' (record { room = 0; pending = p }) run others p' old new
 group_moved M holds mid holds' died run slice others classes taken p p_mid p' old new gathers same stops all keeps was left =
     let worked = subst (λ x. Worked holds mid x p p_mid old new) same all in
@@ -247,10 +278,16 @@ few_if true pending' pending n is few = omega (arith, ap length is)
 few_if false pending' pending n is few = omega (arith, ap length is, few)
 
 -- no more than 16 are pending
-pub few_left : (died : Bool) (run : List Event) (old pending pending' : List Id) (n : ℕ) → pending' ≡ (if died then [] else pending) → ids_of pending ≡ left_pending (commits_in run) (ids_of old) ++ settles_in run
+pub few_left : (died : Bool) (run : List Event) (old pending pending' : List Id) (n : ℕ) → pending' ≡ (if died then [] else pending)
+    → ids_of pending ≡ left_pending (commits_in run) (ids_of old) ++ settles_in run
     → length old ≤ n → length (commits_in run) ≤ n → length pending' ≤ n
 few_left died run old pending pending' n left handed few many = few_if died pending' pending n left
-    (omega (arith, ap length handed, length-map pending (λ (id : Id). id.0), few_pending run (ids_of old) n (omega (arith, few, length-map old (λ (id : Id). id.0))) many))
+    (omega (
+      arith,
+      ap length handed,
+      length-map pending (λ (id : Id). id.0),
+      few_pending run (ids_of old) n (omega (arith, few, length-map old (λ (id : Id). id.0))) many,
+    ))
 
 -- ---- what comes next
 
@@ -266,11 +303,14 @@ begins_with l p others same may begins =
     let room : l.room ≡ 0 = elim may [ inl none ↦ none | inr ends ↦ absurd (begins_not others begins ends) ] in
     ap (λ (q : List ℕ). record { room = 0; pending = q }) (sym same) ∙ ap (λ (n : ℕ). record { room = n; pending = l.pending }) (sym room)
 
-pub begins_at : (events : List Event) (at : ℕ) (e : Event) → at < length events → e ≡ get_or events at e → IsFit e → dies_before e.fate ≡ false → Begins (drop at events)
-begins_at events at e lt is fit goes_on = subst Begins (sym (drop-cons events at e lt)) (subst (λ (x : Event). IsFit x × (dies_before x.fate ≡ false)) is (fit, goes_on))
+pub begins_at : (events : List Event) (at : ℕ) (e : Event) → at < length events → e ≡ get_or events at e → IsFit e → dies_before e.fate ≡ false
+    → Begins (drop at events)
+begins_at events at e lt is fit goes_on = subst Begins (sym (drop-cons events at e lt))
+    (subst (λ (x : Event). IsFit x × (dies_before x.fate ≡ false)) is (fit, goes_on))
 
 pub next_moved : (M : Model) → (holds holds' : KeeperState M) (p p' : List ℕ) (run others rest : List Event) (old new : List (Option Outcome)) → Begins others
-    → Moved holds holds' (record { room = 0; pending = p }) run rest p' old new → (l : Ledger) → l.pending ≡ p → MayBegin l others → Moved holds holds' l run rest p' old new
+    → Moved holds holds' (record { room = 0; pending = p }) run rest p' old new → (l : Ledger) → l.pending ≡ p → MayBegin l others
+    → Moved holds holds' l run rest p' old new
 next_moved M holds holds' p p' run others rest old new begins moved l same may =
     subst (λ x. Moved holds holds' x run rest p' old new) (begins_with l p others same may begins) moved
 
@@ -280,8 +320,10 @@ is_lost AnswerLost is = absurd (cc is)
 is_lost DiedBeforeCommit is = refl
 is_lost DiedAfterCommit is = absurd (cc is)
 
-pub lost_moved : (M : Model) → (holds holds' : KeeperState M) (l : Ledger) (events rest : List Event) (at : ℕ) (e : Event) (p' : List ℕ) (old new : List (Option Outcome))
-    → at < length events → e ≡ get_or events at e → IsFit e → dies_before e.fate ≡ true → new ≡ old ++ None ∷ [] → p' ≡ [] → (holds'.is_honest → KeepsHeld holds holds')
+pub lost_moved : (M : Model) → (holds holds' : KeeperState M) (l : Ledger) (events rest : List Event) (at : ℕ) (e : Event) (p' : List ℕ)
+    (old new : List (Option Outcome))
+    → at < length events → e ≡ get_or events at e → IsFit e → dies_before e.fate ≡ true → new ≡ old ++ None ∷ [] → p' ≡ []
+    → (holds'.is_honest → KeepsHeld holds holds')
     → Moved holds holds' l (take 1 (drop at events)) rest p' old new
 lost_moved M holds holds' l events rest at e p' old new lt is fit before pushed none keeps =
     let lost = is_lost e.fate before in

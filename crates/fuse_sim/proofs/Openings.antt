@@ -1,5 +1,6 @@
 -- How often the keeper was opened again, and what stood then.
-use Rattle.std.proofs.Common.{◌≡◌, ◌⊎◌, inl, inr, ℕ, suc, ◌+◌, ◌<◌, Bool, true, false, if◌then◌else◌, List, [], ◌∷◌, ◌++◌, length, take, drop, get_or, Option, Some, None, IsSomeAnd, refl, sym, ap, subst, ◌∙◌, append_assoc, drop-cons, arith}
+use Rattle.std.proofs.Common.{◌≡◌, ◌⊎◌, inl, inr, ℕ, suc, ◌+◌, ◌<◌, Bool, true, false, if◌then◌else◌, List, [], ◌∷◌, ◌++◌, length, take, drop, get_or, Option}
+use Rattle.std.proofs.Common.{Some, None, IsSomeAnd, refl, sym, ap, subst, ◌∙◌, append_assoc, drop-cons, arith}
 use Rattle.std.proofs.lemmas.List.{append-nil}
 use Rattle.fuse_wire.specs.declared.moment.Moment.{Moment}
 use Rattle.fuse_request.specs.declared.request.Request.{Request}
@@ -13,7 +14,8 @@ use Rattle.fuse_sim.specs.declared.event.Fate.{Fate}
 use Rattle.fuse_sim.specs.declared.event.Fate.TheVariants.{DiedAfterCommit}
 use Rattle.fuse_sim.specs.declared.event.Event.{Event}
 use Rattle.fuse_sim.specs.declared.event.Outcome.{Outcome}
-use Rattle.fuse_sim.specs.Driving.{commits_by, commits_in, committed, dies, deaths, settles, settled_by, NoneReused, told_in, StandsIn, became_in, OpenedAt, Opened}
+use Rattle.fuse_sim.specs.Driving.{commits_by, commits_in, committed, dies, deaths, settles, settled_by, NoneReused, told_in, StandsIn, became_in, OpenedAt}
+use Rattle.fuse_sim.specs.Driving.{Opened}
 use Rattle.fuse_sim.specs.Running.{dies_before, IsRun, DiesLast, Gathers, handed_to, Worked, Opens}
 use Rattle.fuse_sim.proofs.Settled.{includes_left, includes_both, stands_later}
 use Rattle.fuse_sim.proofs.Driven.{committed-append, settled-append, settled_still, reused-parts, all_unsettled_too, none_reused}
@@ -21,7 +23,8 @@ use Rattle.fuse_sim.proofs.Moves.{handed_within, is_lost}
 
 -- ---- what became of a keeper
 
-pub became_then : {K : Type 0} (became : K → K → ℕ → Type 0) → IsCount became → (a b c : Option K) (m n o : ℕ) → became_in became a b m → became_in became b c n → m + n ≡ o → became_in became a c o
+pub became_then : {K : Type 0} (became : K → K → ℕ → Type 0) → IsCount became → (a b c : Option K) (m n o : ℕ) → became_in became a b m → became_in became b c n
+    → m + n ≡ o → became_in became a c o
 became_then became law None b c m n o one two sum = absurd one
 became_then became law (Some a) None c m n o one two sum = absurd one
 became_then became law (Some a) (Some b) None m n o one two sum = absurd two
@@ -68,7 +71,8 @@ no_middle : (earlier : List Event) (e : Event) (later : List Event) → earlier 
 no_middle [] e later is = absurd (cc is)
 no_middle (x ∷ earlier) e later is = absurd (cc is)
 
-at_last : (died : Bool) (run earlier : List Event) (e : Event) (later : List Event) → DiesLast died run → run ≡ earlier ++ e ∷ later → dies e.fate ≡ true → AtLast died earlier later
+at_last : (died : Bool) (run earlier : List Event) (e : Event) (later : List Event) → DiesLast died run → run ≡ earlier ++ e ∷ later → dies e.fate ≡ true
+    → AtLast died earlier later
 at_last died [] [] e later last is so = absurd (cc is)
 at_last died [] (y ∷ earlier) e later last is so = absurd (cc is)
 at_last died (x ∷ run) [] e later last is so =
@@ -84,7 +88,12 @@ at_last died (x ∷ run) (y ∷ earlier) e later last is so =
     elim last [
       | inl more ↦
           let found = at_last died run earlier e later more.1 rest so in
-          record { died_is = found.died_is; ends = found.ends; calm = deaths_first y earlier false (ap (λ (o : Event). dies o.fate) (sym same) ∙ more.0) ∙ found.calm }
+          record {
+            died_is = found.died_is;
+            ends = found.ends;
+            calm = deaths_first y earlier false (ap (λ (o : Event). dies o.fate) (sym same) ∙ more.0)
+                ∙ found.calm;
+          }
       | inr end ↦ absurd (no_middle earlier e later (sym rest ∙ end.2))
     ]
 
@@ -100,7 +109,8 @@ record InSecond (xs ys earlier : List Event) (e : Event) (later : List Event) : 
   pub parts : ys ≡ front ++ e ∷ later
   pub begin : earlier ≡ xs ++ front
 
-in_which : (xs ys earlier : List Event) (e : Event) (later : List Event) → xs ++ ys ≡ earlier ++ e ∷ later → InFirst xs ys earlier e later ⊎ InSecond xs ys earlier e later
+in_which : (xs ys earlier : List Event) (e : Event) (later : List Event) → xs ++ ys ≡ earlier ++ e ∷ later
+    → InFirst xs ys earlier e later ⊎ InSecond xs ys earlier e later
 in_which [] ys earlier e later is = inr (record { front = earlier; parts = is; begin = refl })
 in_which (x ∷ xs) ys [] e later is =
     let same : x ≡ e = cc is in
@@ -110,8 +120,18 @@ in_which (x ∷ xs) ys (y ∷ earlier) e later is =
     let same : x ≡ y = cc is in
     let rest : xs ++ ys ≡ earlier ++ e ∷ later = cc is in
     elim (in_which xs ys earlier e later rest) [
-      | inl first ↦ inl (record { more = first.more; parts = ap (λ (z : Event). z ∷ xs) same ∙ ap (λ (zs : List Event). y ∷ zs) first.parts; rest = first.rest })
-      | inr second ↦ inr (record { front = second.front; parts = second.parts; begin = ap (λ (z : Event). z ∷ earlier) (sym same) ∙ ap (λ (zs : List Event). x ∷ zs) second.begin })
+      | inl first ↦ inl (record {
+        more = first.more;
+        parts = ap (λ (z : Event). z ∷ xs) same
+            ∙ ap (λ (zs : List Event). y ∷ zs) first.parts;
+        rest = first.rest;
+      })
+      | inr second ↦ inr (record {
+        front = second.front;
+        parts = second.parts;
+        begin = ap (λ (z : Event). z ∷ earlier) (sym same)
+            ∙ ap (λ (zs : List Event). x ∷ zs) second.begin;
+      })
     ]
 
 -- ---- events, and then others
@@ -121,17 +141,21 @@ Stood {M} told old new es = (told_in told new).is_honest → (s : M.State) (h : 
     → StandsIn told new s (committed h es) (settled_by t es)
 
 -- what stood after the first events, and then for the second, stands for both
-stood_more : (M : Model) → {K : Type 0} (told : K → KeeperState M) (old mid new : Option K) (xs ys : List Event) (p : List ℕ) → ((t : List ℕ) → Includes (settled_by t xs) p)
+stood_more : (M : Model) → {K : Type 0} (told : K → KeeperState M) (old mid new : Option K) (xs ys : List Event) (p : List ℕ)
+    → ((t : List ℕ) → Includes (settled_by t xs) p)
     → ((s : M.State) (h : History) (t : List ℕ) → StandsIn told old s h t → NoneReused t xs → StandsIn told mid s (committed h xs) (settled_by t xs))
-    → ((s : M.State) (h : History) (t : List ℕ) → StandsIn told mid s h t → Includes t p → NoneReused t ys → StandsIn told new s (committed h ys) (settled_by t ys))
-    → (s : M.State) (h : History) (t : List ℕ) → StandsIn told old s h t → NoneReused t (xs ++ ys) → StandsIn told new s (committed h (xs ++ ys)) (settled_by t (xs ++ ys))
+    → ((s : M.State) (h : History) (t : List ℕ) → StandsIn told mid s h t → Includes t p → NoneReused t ys
+    → StandsIn told new s (committed h ys) (settled_by t ys))
+    → (s : M.State) (h : History) (t : List ℕ) → StandsIn told old s h t → NoneReused t (xs ++ ys)
+    → StandsIn told new s (committed h (xs ++ ys)) (settled_by t (xs ++ ys))
 stood_more M told old mid new xs ys p within one two s h t so none =
     let parts = reused-parts t xs ys none in
     let stands = two s (committed h xs) (settled_by t xs) (one s h t so parts.0) (within t) parts.1 in
     subst (λ g. StandsIn told new s g (settled_by t (xs ++ ys))) (sym (committed-append h xs ys))
     (subst (StandsIn told new s (committed (committed h xs) ys)) (sym (settled-append t xs ys)) stands)
 
-opened_before : (M : Model) → {K : Type 0} (told : K → KeeperState M) (became : K → K → ℕ → Type 0) → IsCount became → (old mid new : Option K) (ys earlier : List Event) (e : Event) (more later : List Event)
+opened_before : (M : Model) → {K : Type 0} (told : K → KeeperState M) (became : K → K → ℕ → Type 0) → IsCount became
+    → (old mid new : Option K) (ys earlier : List Event) (e : Event) (more later : List Event)
     → later ≡ more ++ ys → became_in became mid new (deaths ys) → ((told_in told new).is_honest → (told_in told mid).is_honest)
     → OpenedAt told became old mid earlier e more → OpenedAt told became old new earlier e later
 opened_before M told became law old mid new ys earlier e more later rest further was one = record {
@@ -144,13 +168,15 @@ opened_before M told became law old mid new ys earlier e more later rest further
   stood = λ is. one.stood (was is);
 }
 
-opened_last : (M : Model) → {K : Type 0} (told : K → KeeperState M) (became : K → K → ℕ → Type 0) → IsCount became → (old mid new : Option K) (xs ys : List Event) (p : List ℕ) (earlier front : List Event) (e : Event) (later : List Event)
+opened_last : (M : Model) → {K : Type 0} (told : K → KeeperState M) (became : K → K → ℕ → Type 0) → IsCount became
+    → (old mid new : Option K) (xs ys : List Event) (p : List ℕ) (earlier front : List Event) (e : Event) (later : List Event)
     → ((t : List ℕ) → Includes (settled_by t xs) p) → Stood told old mid xs → became_in became old mid (deaths xs) → (two : Opens told became mid new p ys)
     → ys ≡ front ++ e ∷ later → earlier ≡ xs ++ front → AtLast two.died front later → OpenedAt told became old new earlier e later
 opened_last M told became law old mid new xs ys p earlier front e later within stood often two parts begin last =
     let once : became_in became two.left new 1 = subst (λ b. became_in became two.left new (if b then 1 else 0)) last.died_is two.after in
     let whole : earlier ++ e ∷ [] ≡ xs ++ ys =
-    ap (λ (zs : List Event). zs ++ e ∷ []) begin ∙ append_assoc xs front (e ∷ []) ∙ ap (λ (zs : List Event). xs ++ (front ++ e ∷ zs)) (sym last.ends) ∙ ap (λ (zs : List Event). xs ++ zs) (sym parts) in
+    ap (λ (zs : List Event). zs ++ e ∷ []) begin ∙ append_assoc xs front (e ∷ []) ∙ ap (λ (zs : List Event). xs ++ (front ++ e ∷ zs)) (sym last.ends)
+    ∙ ap (λ (zs : List Event). xs ++ zs) (sym parts) in
     record {
       left = two.left;
       opened = new;
@@ -159,22 +185,28 @@ opened_last M told became law old mid new xs ys p earlier front e later within s
       once = once;
       after = subst (became_in became new new) (ap deaths (sym last.ends)) (became_last became law two.left new 1 once);
       kept = two.kept;
-      stood = λ is. subst (λ es. (s : M.State) (h : History) (t : List ℕ) → StandsIn told old s h t → NoneReused t es → StandsIn told two.left s (committed h es) (settled_by t es)) (sym whole)
+      stood = λ is. subst (λ es. (s : M.State) (h : History) (t : List ℕ) → StandsIn told old s h t → NoneReused t es
+          → StandsIn told two.left s (committed h es) (settled_by t es)) (sym whole)
           (stood_more M told old mid two.left xs ys p within (stood (two.was_honest (two.honest is))) (two.stood (two.honest is)));
     }
 
-opened_place : (M : Model) → {K : Type 0} (told : K → KeeperState M) (became : K → K → ℕ → Type 0) → IsCount became → (old mid new : Option K) (xs ys : List Event) (p : List ℕ)
-    → ((t : List ℕ) → Includes (settled_by t xs) p) → Stood told old mid xs → became_in became mid new (deaths ys) → ((told_in told new).is_honest → (told_in told mid).is_honest)
+opened_place : (M : Model) → {K : Type 0} (told : K → KeeperState M) (became : K → K → ℕ → Type 0) → IsCount became
+    → (old mid new : Option K) (xs ys : List Event) (p : List ℕ)
+    → ((t : List ℕ) → Includes (settled_by t xs) p) → Stood told old mid xs → became_in became mid new (deaths ys)
+    → ((told_in told new).is_honest → (told_in told mid).is_honest)
     → Opened told became old mid xs → Opens told became mid new p ys
-    → (earlier : List Event) (e : Event) (later : List Event) → xs ++ ys ≡ earlier ++ e ∷ later → dies e.fate ≡ true → OpenedAt told became old new earlier e later
+    → (earlier : List Event) (e : Event) (later : List Event) → xs ++ ys ≡ earlier ++ e ∷ later → dies e.fate ≡ true
+    → OpenedAt told became old new earlier e later
 opened_place M told became law old mid new xs ys p within stood further was one two earlier e later is so = elim (in_which xs ys earlier e later is) [
   | inl first ↦ opened_before M told became law old mid new ys earlier e first.more later first.rest further was (one.each earlier e first.more first.parts so)
   | inr second ↦ opened_last M told became law old mid new xs ys p earlier second.front e later within stood one.often two second.parts second.begin
       (at_last two.died ys second.front e later two.last second.parts so)
 ]
 
-pub opened_more : (M : Model) → {K : Type 0} (told : K → KeeperState M) (became : K → K → ℕ → Type 0) → IsCount became → (old mid new : Option K) (xs ys : List Event) (p : List ℕ)
-    → ((t : List ℕ) → Includes (settled_by t xs) p) → Stood told old mid xs → Opened told became old mid xs → Opens told became mid new p ys → Opened told became old new (xs ++ ys)
+pub opened_more : (M : Model) → {K : Type 0} (told : K → KeeperState M) (became : K → K → ℕ → Type 0) → IsCount became
+    → (old mid new : Option K) (xs ys : List Event) (p : List ℕ)
+    → ((t : List ℕ) → Includes (settled_by t xs) p) → Stood told old mid xs → Opened told became old mid xs → Opens told became mid new p ys
+    → Opened told became old new (xs ++ ys)
 opened_more M told became law old mid new xs ys p within stood one two =
     let further : became_in became mid new (deaths ys) =
     became_then became law mid two.left new 0 (if two.died then 1 else 0) (deaths ys) two.before two.after (omega (arith, deaths_last two.died ys two.last)) in
@@ -188,11 +220,13 @@ opened_more M told became law old mid new xs ys p within stood one two =
 pub stands_twice : (M : Model) → {K : Type 0} (told : K → KeeperState M) (old mid new : Option K) (xs ys : List Event)
     → ((s : M.State) (h : History) (t : List ℕ) → StandsIn told old s h t → NoneReused t xs → StandsIn told mid s (committed h xs) (settled_by t xs))
     → ((s : M.State) (h : History) (t : List ℕ) → StandsIn told mid s h t → NoneReused t ys → StandsIn told new s (committed h ys) (settled_by t ys))
-    → (s : M.State) (h : History) (t : List ℕ) → StandsIn told old s h t → NoneReused t (xs ++ ys) → StandsIn told new s (committed h (xs ++ ys)) (settled_by t (xs ++ ys))
+    → (s : M.State) (h : History) (t : List ℕ) → StandsIn told old s h t → NoneReused t (xs ++ ys)
+    → StandsIn told new s (committed h (xs ++ ys)) (settled_by t (xs ++ ys))
 stands_twice M told old mid new xs ys one two =
     stood_more M told old mid new xs ys [] (λ t i there. absurd (cc there)) one (λ s h t so within none. two s h t so none)
 
-opened_second : (M : Model) → {K : Type 0} (told : K → KeeperState M) (became : K → K → ℕ → Type 0) → IsCount became → (old mid new : Option K) (xs ys earlier front : List Event) (e : Event) (later : List Event)
+opened_second : (M : Model) → {K : Type 0} (told : K → KeeperState M) (became : K → K → ℕ → Type 0) → IsCount became
+    → (old mid new : Option K) (xs ys earlier front : List Event) (e : Event) (later : List Event)
     → ((told_in told new).is_honest → (told_in told mid).is_honest) → Stood told old mid xs → became_in became old mid (deaths xs) → earlier ≡ xs ++ front
     → OpenedAt told became mid new front e later → OpenedAt told became old new earlier e later
 opened_second M told became law old mid new xs ys earlier front e later was stood often begin at =
@@ -200,36 +234,45 @@ opened_second M told became law old mid new xs ys earlier front e later was stoo
     record {
       left = at.left;
       opened = at.opened;
-      before = became_then became law old mid at.left (deaths xs) (deaths front) (deaths earlier) often at.before (sym (ap deaths begin ∙ deaths-append xs front));
+      before = became_then became law old mid at.left (deaths xs) (deaths front) (deaths earlier) often at.before
+          (sym (ap deaths begin ∙ deaths-append xs front));
       once = at.once;
       after = at.after;
       kept = at.kept;
-      stood = λ is. subst (λ es. (s : M.State) (h : History) (t : List ℕ) → StandsIn told old s h t → NoneReused t es → StandsIn told at.left s (committed h es) (settled_by t es)) (sym whole)
+      stood = λ is. subst (λ es. (s : M.State) (h : History) (t : List ℕ) → StandsIn told old s h t → NoneReused t es
+          → StandsIn told at.left s (committed h es) (settled_by t es)) (sym whole)
           (stands_twice M told old mid at.left xs (front ++ e ∷ []) (stood (was is)) (at.stood is));
     }
 
-pub opened_twice : (M : Model) → {K : Type 0} (told : K → KeeperState M) (became : K → K → ℕ → Type 0) → IsCount became → (old mid new : Option K) (xs ys : List Event)
-    → ((told_in told new).is_honest → (told_in told mid).is_honest) → Stood told old mid xs → Opened told became old mid xs → Opened told became mid new ys → Opened told became old new (xs ++ ys)
+pub opened_twice : (M : Model) → {K : Type 0} (told : K → KeeperState M) (became : K → K → ℕ → Type 0) → IsCount became
+    → (old mid new : Option K) (xs ys : List Event)
+    → ((told_in told new).is_honest → (told_in told mid).is_honest) → Stood told old mid xs → Opened told became old mid xs → Opened told became mid new ys
+    → Opened told became old new (xs ++ ys)
 opened_twice M told became law old mid new xs ys was stood one two = record {
   often = became_then became law old mid new (deaths xs) (deaths ys) (deaths (xs ++ ys)) one.often two.often (sym (deaths-append xs ys));
   each = λ earlier e later is so. elim (in_which xs ys earlier e later is) [
-    | inl first ↦ opened_before M told became law old mid new ys earlier e first.more later first.rest two.often was (one.each earlier e first.more first.parts so)
-    | inr second ↦ opened_second M told became law old mid new xs ys earlier second.front e later was stood one.often second.begin (two.each second.front e later second.parts so)
+    | inl first ↦ opened_before M told became law old mid new ys earlier e first.more later first.rest two.often was
+        (one.each earlier e first.more first.parts so)
+    | inr second ↦ opened_second M told became law old mid new xs ys earlier second.front e later was stood one.often second.begin
+        (two.each second.front e later second.parts so)
   ];
 }
 
-pub opened_none : (M : Model) → {K : Type 0} (told : K → KeeperState M) (became : K → K → ℕ → Type 0) → IsCount became → (P : K → Type 0) (k : Option K) → IsSomeAnd k P → Opened told became k k []
+pub opened_none : (M : Model) → {K : Type 0} (told : K → KeeperState M) (became : K → K → ℕ → Type 0) → IsCount became → (P : K → Type 0) (k : Option K)
+    → IsSomeAnd k P → Opened told became k k []
 opened_none M told became law P k is = record {
   often = became_itself became law P k is;
   each = λ earlier e later none. absurd (no_middle earlier e later (sym none));
 }
 
 -- it was opened no more
-pub opened_still : (M : Model) → {K : Type 0} (told : K → KeeperState M) (became : K → K → ℕ → Type 0) → IsCount became → (old mid new : Option K) (es : List Event)
+pub opened_still : (M : Model) → {K : Type 0} (told : K → KeeperState M) (became : K → K → ℕ → Type 0) → IsCount became
+    → (old mid new : Option K) (es : List Event)
     → became_in became mid new 0 → ((told_in told new).is_honest → (told_in told mid).is_honest) → Opened told became old mid es → Opened told became old new es
 opened_still M told became law old mid new es same was one = record {
   often = became_then became law old mid new (deaths es) 0 (deaths es) one.often same (omega arith);
-  each = λ earlier e later is so. opened_before M told became law old mid new [] earlier e later later (sym (append-nil later)) same was (one.each earlier e later is so);
+  each = λ earlier e later is so. opened_before M told became law old mid new [] earlier e later later (sym (append-nil later)) same was
+      (one.each earlier e later is so);
 }
 
 -- ---- a group, and an event that is lost
@@ -244,10 +287,13 @@ run_last died (e ∷ run) is = elim is [
   | inr last ↦ inr (last.0, dies_later e.fate last.1, last.2)
 ]
 
-pub group_opens : (M : Model) → {K : Type 0} (told : K → KeeperState M) (became : K → K → ℕ → Type 0) (old mid new : Option K) (died : Bool) (run slice : List Event) (classes : List Class) (taken : List (Request × Moment)) (p p' : List ℕ) (outs outs' : List (Option Outcome))
-    → Gathers run classes taken died → slice ≡ run → Worked (told_in told old) (told_in told mid) slice p p' outs outs' → became_in became old mid 0 → became_in became mid new (if died then 1 else 0)
+pub group_opens : (M : Model) → {K : Type 0} (told : K → KeeperState M) (became : K → K → ℕ → Type 0) (old mid new : Option K) (died : Bool)
+    (run slice : List Event) (classes : List Class) (taken : List (Request × Moment)) (p p' : List ℕ) (outs outs' : List (Option Outcome))
+    → Gathers run classes taken died → slice ≡ run → Worked (told_in told old) (told_in told mid) slice p p' outs outs' → became_in became old mid 0
+    → became_in became mid new (if died then 1 else 0)
     → ((told_in told new).is_honest → KeepsHeld (told_in told mid) (told_in told new))
-    → ((told_in told new).is_honest → (told_in told mid).is_honest) → ((told_in told mid).is_honest → (told_in told old).is_honest) → Opens told became old new p run
+    → ((told_in told new).is_honest → (told_in told mid).is_honest) → ((told_in told mid).is_honest → (told_in told old).is_honest)
+    → Opens told became old new p run
 group_opens M told became old mid new died run slice classes taken p p' outs outs' gathers same all before after keeps honest was =
     let worked = subst (λ x. Worked (told_in told old) (told_in told mid) x p p' outs outs') same all in
     let cs = commits_in run in
@@ -264,10 +310,12 @@ group_opens M told became old mid new died run slice classes taken p p' outs out
           let handed = handed_within t p cs within in
           let fresh = all_unsettled_too t (t ++ handed_to cs p) cs (includes_both t t (handed_to cs p) (λ i there. there) handed) (none_reused t run none) in
           stands_later M (told_in told mid) s (committed h run) (t ++ handed_to cs p) (settled_by t run)
-          (includes_both (settled_by t run) t (handed_to cs p) (settled_still t run) (λ i there. settled_still t run i (handed i there))) (worked.stands is s h t so fresh);
+          (includes_both (settled_by t run) t (handed_to cs p) (settled_still t run) (λ i there. settled_still t run i (handed i there)))
+          (worked.stands is s h t so fresh);
     }
 
-pub lost_opens : (M : Model) → {K : Type 0} (told : K → KeeperState M) (became : K → K → ℕ → Type 0) → IsCount became → (old new : Option K) (events : List Event) (at : ℕ) (e : Event) (p : List ℕ)
+pub lost_opens : (M : Model) → {K : Type 0} (told : K → KeeperState M) (became : K → K → ℕ → Type 0) → IsCount became
+    → (old new : Option K) (events : List Event) (at : ℕ) (e : Event) (p : List ℕ)
     → at < length events → e ≡ get_or events at e → dies_before e.fate ≡ true → became_in became old new 1
     → ((told_in told new).is_honest → KeepsHeld (told_in told old) (told_in told new)) → ((told_in told new).is_honest → (told_in told old).is_honest)
     → Opens told became old new p (take 1 (drop at events))

@@ -1,5 +1,6 @@
 -- Faults at the events that are run, and the keepers that they leave.
-use Rattle.std.proofs.Common.{◌≡◌, inl, inr, ℕ, zero, suc, ◌+◌, ◌-◌, ◌≤◌, ◌<◌, Bool, true, false, List, [], ◌∷◌, ◌++◌, length, take, drop, All, Option, Some, None, IsSomeAnd, IfSome, slice_get, refl, sym, ap, subst, ◌∙◌, append_assoc, length-append, arith}
+use Rattle.std.proofs.Common.{◌≡◌, inl, inr, ℕ, zero, suc, ◌+◌, ◌-◌, ◌≤◌, ◌<◌, Bool, true, false, List, [], ◌∷◌, ◌++◌, length, take, drop, All, Option, Some}
+use Rattle.std.proofs.Common.{None, IsSomeAnd, IfSome, slice_get, refl, sym, ap, subst, ◌∙◌, append_assoc, length-append, arith}
 use Rattle.std.proofs.Math.Seq.{take-append_seam}
 use Rattle.std.proofs.lemmas.List.{take-append-drop, take_all, length-take-le, length-drop, drop-drop}
 use Rattle.std.proofs.lemmas.List.Elements.{All-append, All-pop}
@@ -50,12 +51,15 @@ not_none P (Some k) is none = absurd (cc none)
 -- ---- faults
 
 -- no keeper was touched
-pub stops_here : (M : Model) → {K : Type 0} (told : K → KeeperState M) (became : K → K → ℕ → Type 0) (refuses : K → StoreFault → Type 0) (k : Option K) (events : List Event) (at : ℕ) (fault : DriveFault)
-    → event_of fault ≡ at → is_store fault ≡ false → IsSomeAnd (slice_get events at) (CausedBy fault) → IsSomeAnd k (λ x. (told x).has_failed ≡ false) → IsCount became → Stops told became refuses k k events at fault
+pub stops_here : (M : Model) → {K : Type 0} (told : K → KeeperState M) (became : K → K → ℕ → Type 0) (refuses : K → StoreFault → Type 0) (k : Option K)
+    (events : List Event) (at : ℕ) (fault : DriveFault)
+    → event_of fault ≡ at → is_store fault ≡ false → IsSomeAnd (slice_get events at) (CausedBy fault) → IsSomeAnd k (λ x. (told x).has_failed ≡ false)
+    → IsCount became → Stops told became refuses k k events at fault
 stops_here M told became refuses k events at fault place kind caused going law = record {
   named = subst (λ n. IsSomeAnd (slice_get events n) (CausedBy fault)) (sym place) caused;
   earlier = λ each. subst (λ n. All IsFit (take n events)) (sym place) each;
-  left = subst (λ b. LeftBy (told_in told k) b ((event_of fault ≡ at) × KeepsHeld (told_in told k) (told_in told k))) (sym kind) (λ _. (place, λ rows records held. held));
+  left = subst (λ b. LeftBy (told_in told k) b ((event_of fault ≡ at) × KeepsHeld (told_in told k) (told_in told k))) (sym kind)
+      (λ _. (place, λ rows records held. held));
   answered = λ store. absurd (cc (kind, store));
   stayed = λ _. (place, became_itself became law (λ x. (told x).has_failed ≡ false) k going);
   emptied = λ none. absurd (not_none (λ x. (told x).has_failed ≡ false) k going none);
@@ -64,8 +68,10 @@ stops_here M told became refuses k events at fault place kind caused going law =
 }
 
 -- the store answered a fault to a group
-pub stops_store : (M : Model) → {K : Type 0} (told : K → KeeperState M) (became : K → K → ℕ → Type 0) (refuses : K → StoreFault → Type 0) (k k' : Option K) (events : List Event) (at : ℕ) (fault : StoreFault)
-    → IsSomeAnd (slice_get events at) IsFit → IsSomeAnd k' (λ x. (told x).has_failed ≡ true) → ((told_in told k').is_clean → KeepsHeld (told_in told k) (told_in told k')) → ((told_in told k').is_honest → (told_in told k).is_honest)
+pub stops_store : (M : Model) → {K : Type 0} (told : K → KeeperState M) (became : K → K → ℕ → Type 0) (refuses : K → StoreFault → Type 0) (k k' : Option K)
+    (events : List Event) (at : ℕ) (fault : StoreFault)
+    → IsSomeAnd (slice_get events at) IsFit → IsSomeAnd k' (λ x. (told x).has_failed ≡ true)
+    → ((told_in told k').is_clean → KeepsHeld (told_in told k) (told_in told k')) → ((told_in told k').is_honest → (told_in told k).is_honest)
     → ((told_in told k').is_clean → (s : M.State) (h : History) (t : List ℕ) → StandsIn told k s h t → (told_in told k).may_answer fault)
     → became_in became k k' 0 → Stops told became refuses k k' events at (Store at fault)
 stops_store M told became refuses k k' events at fault fit has keeps was answered same = record {
@@ -85,7 +91,8 @@ caused_by_store (ZeroUnique n) e is fit = absurd (cc is)
 caused_by_store (Store n fault) e is fit = fit
 caused_by_store (Memory n) e is fit = absurd (cc is)
 
-refused_at : {K : Type 0} (became : K → K → ℕ → Type 0) (refuses : K → StoreFault → Type 0) (k q : Option K) (fault : DriveFault) (events : List Event) (at n : ℕ) (e : Event)
+refused_at : {K : Type 0} (became : K → K → ℕ → Type 0) (refuses : K → StoreFault → Type 0) (k q : Option K) (fault : DriveFault) (events : List Event)
+    (at n : ℕ) (e : Event)
     → event_of fault ≡ n → slice_get events n ≡ Some e → dies e.fate ≡ true → became_in became k q 0 → deaths (take n events) ≡ deaths (take at events)
     → IsSomeAnd q (λ x. IsStoreFault (refuses x) fault) → Refuses became refuses k events at fault
 refused_at became refuses k q fault events at n e place there died same calm refused = record {
@@ -97,13 +104,17 @@ refused_at became refuses k q fault events at n e place there died same calm ref
 }
 
 -- a restart left no keeper: it was after the last of some events
-pub stops_restart : (M : Model) → {K : Type 0} (told : K → KeeperState M) (became : K → K → ℕ → Type 0) (refuses : K → StoreFault → Type 0) (k q k' : Option K) (events : List Event) (at n : ℕ) (fault : DriveFault) (e : Event)
-    → k' ≡ None → IsSomeAnd q (λ x. IsStoreFault (refuses x) fault) → is_store fault ≡ true → event_of fault ≡ n → slice_get events n ≡ Some e → IsFit e → dies e.fate ≡ true → (All IsFit (take at events) → All IsFit (take n events))
+pub stops_restart : (M : Model) → {K : Type 0} (told : K → KeeperState M) (became : K → K → ℕ → Type 0) (refuses : K → StoreFault → Type 0) (k q k' : Option K)
+    (events : List Event) (at n : ℕ) (fault : DriveFault) (e : Event)
+    → k' ≡ None → IsSomeAnd q (λ x. IsStoreFault (refuses x) fault) → is_store fault ≡ true → event_of fault ≡ n → slice_get events n ≡ Some e → IsFit e
+    → dies e.fate ≡ true → (All IsFit (take at events) → All IsFit (take n events))
     → became_in became k q 0 → deaths (take n events) ≡ deaths (take at events) → Stops told became refuses k k' events at fault
 stops_restart M told became refuses k q k' events at n fault e none refused kind place there fit died earlier same calm = record {
-  named = subst (λ m. IsSomeAnd (slice_get events m) (CausedBy fault)) (sym place) (subst (λ o. IsSomeAnd o (CausedBy fault)) (sym there) (caused_by_store fault e kind fit));
+  named = subst (λ m. IsSomeAnd (slice_get events m) (CausedBy fault)) (sym place)
+      (subst (λ o. IsSomeAnd o (CausedBy fault)) (sym there) (caused_by_store fault e kind fit));
   earlier = λ each. subst (λ m. All IsFit (take m events)) (sym place) (earlier each);
-  left = subst (λ b. LeftBy (told_in told k') b ((event_of fault ≡ at) × KeepsHeld (told_in told k) (told_in told k'))) (sym kind) (λ is. absurd (subst (λ o. (told_in told o).is_clean) none is));
+  left = subst (λ b. LeftBy (told_in told k') b ((event_of fault ≡ at) × KeepsHeld (told_in told k) (told_in told k'))) (sym kind)
+      (λ is. absurd (subst (λ o. (told_in told o).is_clean) none is));
   answered = λ _ is. absurd (subst (λ o. (told_in told o).is_clean) none is);
   stayed = λ there. absurd (there none);
   emptied = λ _. refused_at became refuses k q fault events at n e place there died same calm refused;
@@ -144,11 +155,13 @@ pub record DiesAt (events : List Event) (at n : ℕ) : Type 0 where
   pub calm : deaths (take n events) ≡ deaths (take at events)
   pub earlier : All IsFit (take at events) → All IsFit (take n events)
 
-dies_in : (events front earlier others : List Event) (e : Event) (at n : ℕ) → events ≡ front ++ ((earlier ++ e ∷ []) ++ others) → take at events ≡ front → n ≡ length front + length earlier → All IsFit (earlier ++ e ∷ []) → dies e.fate ≡ true
+dies_in : (events front earlier others : List Event) (e : Event) (at n : ℕ) → events ≡ front ++ ((earlier ++ e ∷ []) ++ others) → take at events ≡ front
+    → n ≡ length front + length earlier → All IsFit (earlier ++ e ∷ []) → dies e.fate ≡ true
     → deaths earlier ≡ 0 → DiesAt events at n
 dies_in events front earlier others e at n parts first place fit died calm =
     let pre = front ++ earlier in
-    let whole : events ≡ pre ++ e ∷ others = parts ∙ ap (λ (x : List Event). front ++ x) (append_assoc earlier (e ∷ []) others) ∙ sym (append_assoc front earlier (e ∷ others)) in
+    let whole : events ≡ pre ++ e ∷ others = parts ∙ ap (λ (x : List Event). front ++ x) (append_assoc earlier (e ∷ []) others)
+    ∙ sym (append_assoc front earlier (e ∷ others)) in
     let len : n ≡ length pre = place ∙ sym (length-append front earlier) in
     let up_to : take n events ≡ pre = ap (λ x. take n x) whole ∙ ap (λ m. take m (pre ++ e ∷ others)) len ∙ take-append_seam pre (e ∷ others) in
     let popped = All-pop IsFit (earlier ++ e ∷ []) earlier (Some e) refl fit in
@@ -163,12 +176,14 @@ dies_in events front earlier others e at n parts first place fit died calm =
     }
 
 -- the group that begins at a place ends with an event at which the server dies
-pub dies_at : (events : List Event) (at count : ℕ) (died : Bool) → at + count ≤ length events → IsRun died (take count (drop at events)) → All IsFit (take count (drop at events)) → died ≡ true → DiesAt events at (at + count - 1)
+pub dies_at : (events : List Event) (at count : ℕ) (died : Bool) → at + count ≤ length events → IsRun died (take count (drop at events))
+    → All IsFit (take count (drop at events)) → died ≡ true → DiesAt events at (at + count - 1)
 dies_at events at count died within so fit is =
     let run = take count (drop at events) in
     let last = last_dies died run is so in
     let parts : events ≡ take at events ++ ((last.earlier ++ last.one ∷ []) ++ drop count (drop at events)) =
-    sym (take-append-drop at events) ∙ ap (λ (x : List Event). take at events ++ x) (sym (take-append-drop count (drop at events))) ∙ ap (λ (x : List Event). take at events ++ (x ++ drop count (drop at events))) last.parts in
+    sym (take-append-drop at events) ∙ ap (λ (x : List Event). take at events ++ x) (sym (take-append-drop count (drop at events)))
+    ∙ ap (λ (x : List Event). take at events ++ (x ++ drop count (drop at events))) last.parts in
     let before_it : length (take at events) ≡ at = length-take-le at events (omega (arith, within)) in
     let in_it : length run ≡ count = length-take-le count (drop at events) (omega (arith, within, length-drop at events)) in
     dies_in events (take at events) last.earlier (drop count (drop at events)) last.one at (at + count - 1) parts refl
@@ -186,20 +201,23 @@ run_slice events at count = let same : at + count - at ≡ count = omega arith i
 pub group_read : (events : List Event) (at count : ℕ) (classes : List Class) (taken : List (Request × Moment)) (died : Bool) → count ≡ length classes
     → Gathers (take (length classes) (take (length events - at) (drop at events))) classes taken died → Gathers (take count (drop at events)) classes taken died
 group_read events at count classes taken died same g =
-    subst (λ n. Gathers (take n (drop at events)) classes taken died) (sym same) (subst (λ x. Gathers (take (length classes) x) classes taken died) (whole_rest events at) g)
+    subst (λ n. Gathers (take n (drop at events)) classes taken died) (sym same)
+    (subst (λ x. Gathers (take (length classes) x) classes taken died) (whole_rest events at) g)
 
 pub group_stops : (events : List Event) (at count : ℕ) (classes : List Class) (taken : List (Request × Moment)) (died : Bool) → count ≡ length classes
     → StopsAt taken died (drop (length classes) (take (length events - at) (drop at events))) → StopsAt taken died (drop (at + count) events)
 group_stops events at count classes taken died same stops =
     subst (StopsAt taken died) (drop-drop count at events)
-    (subst (λ n. StopsAt taken died (drop n (drop at events))) (sym same) (subst (λ x. StopsAt taken died (drop (length classes) x)) (whole_rest events at) stops))
+    (subst (λ n. StopsAt taken died (drop n (drop at events))) (sym same)
+    (subst (λ x. StopsAt taken died (drop (length classes) x)) (whole_rest events at) stops))
 
 begins_some : (events : List Event) → Begins events → 0 < length events
 begins_some [] begins = absurd begins
 begins_some (e ∷ events) begins = omega arith
 
 -- the group lies within the events
-pub within_rest : (events : List Event) (at count : ℕ) → Begins (drop at events) → count ≤ length (take (length events - at) (drop at events)) → at + count ≤ length events
+pub within_rest : (events : List Event) (at count : ℕ) → Begins (drop at events) → count ≤ length (take (length events - at) (drop at events))
+    → at + count ≤ length events
 within_rest events at count begins within = omega (arith, within, ap length (whole_rest events at), length-drop at events, begins_some (drop at events) begins)
 
 pub lost_dies : (fate : Fate) → dies_before fate ≡ true → dies fate ≡ true

@@ -55,7 +55,8 @@ RunOfServe k k' gave old new ended = Run k k' gave old new [] [] (ended_store en
 
 -- a run of a server was a life: the bytes that came to its port, the answers that it sent whole and the part of another
 -- one, the ids that these settle, the moments that its clock gave, and what is left
-pub record RanAsLife (M : Model) (stood : History → List ℕ → Type 0) (gave : List Moment → Type 0) (s : M.State) (h : History) (t : List ℕ) (old new : PortState) : Type 0 where
+pub record RanAsLife (M : Model) (stood : History → List ℕ → Type 0) (gave : List Moment → Type 0) (s : M.State)
+    (h : History) (t : List ℕ) (old new : PortState) : Type 0 where
   pub life : Lifetime
   pub lived : IsLife M s h life
   pub came : Consumes old.coming new.coming life.received

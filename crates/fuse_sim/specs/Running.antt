@@ -24,7 +24,8 @@ use Rattle.fuse_sim.specs.declared.event.Fate.TheVariants.{Answered, AnswerLost,
 use Rattle.fuse_sim.specs.declared.event.Event.{Event}
 use Rattle.fuse_sim.specs.declared.event.Outcome.{Outcome}
 use Rattle.fuse_sim.specs.declared.event.DriveFault.{DriveFault}
-use Rattle.fuse_sim.specs.Driving.{commits_in, committed, settles, outcome_of, bytes_given, is_taken, where_taken, dies, deaths, Calm, NoneReused, IsFit, settled_by}
+use Rattle.fuse_sim.specs.Driving.{commits_in, committed, settles, outcome_of, bytes_given, is_taken, where_taken, dies, deaths, Calm, NoneReused, IsFit}
+use Rattle.fuse_sim.specs.Driving.{settled_by}
 use Rattle.fuse_sim.specs.Driving.{told_in, StandsIn, became_in, event_of, before, CausedBy, IsStoreFault, is_store, LeftBy}
 use Rattle.fuse_sim.specs.HandedOn.{Ledger, ledger_after, handed_on}
 use Rattle.fuse_sim.specs.LeftRecords.{HoldsRecords}

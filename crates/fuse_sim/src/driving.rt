@@ -292,7 +292,8 @@ pub fn drive<K: Restart>(
     Ok(outcomes)
 }
 
-/// Runs events, and then more of them. What `drive` says of one list is so of both in a row.
+/// Runs events, and then more of them. What `drive` says of one list is so of both in a row. A
+/// fault names an event of the list that it came at.
 pub fn drive_twice<K: Restart>(
     alloc: Global,
     keeper: &mut Option<K>,

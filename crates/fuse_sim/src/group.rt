@@ -1,6 +1,6 @@
 // A group of events: read off the first ones, performed, and answered.
-ghost use Rattle.std.specs.Prelude.{◌≡◌, ◌≤◌, ◌<◌, ◌⊎◌, ◌↔◌, ◌∷◌, ◌+◌, ◌++◌, [], true, false, ℕ};
-ghost use Rattle.std.specs.Prelude.{List, length, map, take, drop, Some, All, IsTrue, vec_capacity};
+ghost use Rattle.std.specs.Prelude.{◌≡◌, ◌≤◌, ◌<◌, ◌⊎◌, ◌↔◌, ◌+◌, ◌++◌, true, false, ℕ};
+ghost use Rattle.std.specs.Prelude.{List, length, take, drop, Some, All, IsTrue, vec_capacity};
 ghost use Rattle.std.specs.Prelude.{IfOk, IfErr, OnOk};
 ghost use Rattle.std.specs.Vec.Iter.{into_iter_items};
 ghost use Rattle.fuse_answer.specs.Wire.{wire};

@@ -1,5 +1,5 @@
 // The kernel's side: requests that are pending, sent again, and taken.
-ghost use Rattle.std.specs.Prelude.{◌≡◌, ◌≤◌, ◌<◌, ◌∷◌, ◌++◌, true, [], if◌then◌else◌, ℕ};
+ghost use Rattle.std.specs.Prelude.{◌≡◌, ◌≤◌, ◌<◌, ◌∷◌, ◌++◌, true, [], if◌then◌else◌};
 ghost use Rattle.std.specs.Prelude.{length, map, drop, option_map, slice_get, All, Option};
 ghost use Rattle.std.specs.Prelude.{IfOk, OnOk, OnErr};
 ghost use Rattle.fuse_wire.specs.Bytes.{number_of};

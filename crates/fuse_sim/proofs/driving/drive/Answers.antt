@@ -4,7 +4,8 @@ use Rattle.std.proofs.lemmas.Result.{err_from_is_err_and}
 use Rattle.fuse_keeper.specs.Group.{ids_of}
 use Rattle.fuse_sim.specs.Driving.{told_in, Opened}
 use Rattle.fuse_sim.proofs.Openings.{opened_none}
-use Rattle.fuse_sim.proofs.Endings.{moved_none, moved_more, moved_opened, stopped_opened, stopped_emptied, moved_all, moved_stands, moved_left, moved_outcomes, moved_count, moved_records, stopped, stopped_store}
+use Rattle.fuse_sim.proofs.Endings.{moved_none, moved_more, moved_opened, stopped_opened, stopped_emptied, moved_all, moved_stands, moved_left, moved_outcomes}
+use Rattle.fuse_sim.proofs.Endings.{moved_count, moved_records, stopped, stopped_store}
 use Rattle.fuse_sim.proofs.driving.drive.Goals as goal
 
 pub loop-at-init : goal.loop-at-init
@@ -12,7 +13,8 @@ loop-at-init g c =
     let k = g.K.Keeper in
     record {
       within = omega arith;
-      moved = moved_none k.model (told_in k.told c.args.keeper.now) c.args.events.now (ids_of c.new-pending.result.items) c.new-outcomes.result.items (ap ids_of {y = []} c.new-pending.ensures.items) c.new-outcomes.ensures.items;
+      moved = moved_none k.model (told_in k.told c.args.keeper.now) c.args.events.now (ids_of c.new-pending.result.items) c.new-outcomes.result.items
+          (ap ids_of {y = []} c.new-pending.ensures.items) c.new-outcomes.ensures.items;
       few = omega (arith, ap length c.new-pending.ensures.items);
       going = c.requires.present;
       opened = opened_none k.model k.told k.became g.met.K.Keeper.counted (λ x. (k.told x).has_failed ≡ false) c.args.keeper.now c.requires.present;
@@ -24,11 +26,14 @@ loop-at-preserved g c =
     let k = g.K.Keeper in
     record {
       within = c.in_ok-at.ensures.within;
-      moved = moved_more g.K.Keeper.model c.histories_grow.ensures (told_in k.told c.args.keeper.now) (told_in k.told c.loop-at.keeper) (told_in k.told c.run_next.new.keeper)
-          c.args.events.now c.loop-at.at c.in_ok-at.field-0 (ids_of c.loop-at.pending.items) (ids_of c.run_next.new.pending.items) c.loop-at.outcomes.items c.run_next.new.outcomes.items c.run_next.ensures.honest c.loop-at.invariant.moved c.in_ok-at.ensures.ok;
+      moved = moved_more g.K.Keeper.model c.histories_grow.ensures (told_in k.told c.args.keeper.now) (told_in k.told c.loop-at.keeper)
+          (told_in k.told c.run_next.new.keeper)
+          c.args.events.now c.loop-at.at c.in_ok-at.field-0 (ids_of c.loop-at.pending.items) (ids_of c.run_next.new.pending.items) c.loop-at.outcomes.items
+          c.run_next.new.outcomes.items c.run_next.ensures.honest c.loop-at.invariant.moved c.in_ok-at.ensures.ok;
       few = c.in_ok-at.ensures.few;
       going = c.in_ok-at.ensures.going;
-      opened = moved_opened g.K.Keeper.model k.told k.became g.met.K.Keeper.counted c.args.keeper.now c.loop-at.keeper c.run_next.new.keeper c.args.events.now c.loop-at.at c.in_ok-at.field-0
+      opened = moved_opened g.K.Keeper.model k.told k.became g.met.K.Keeper.counted c.args.keeper.now c.loop-at.keeper c.run_next.new.keeper c.args.events.now
+          c.loop-at.at c.in_ok-at.field-0
           (ids_of c.loop-at.pending.items) c.loop-at.outcomes.items c.loop-at.invariant.moved c.loop-at.invariant.opened c.in_ok-at.ensures.opens;
       honest = λ is. c.loop-at.invariant.honest (c.run_next.ensures.honest is);
     }
@@ -37,28 +42,32 @@ pub returns-in_err-at-clause-after_fault : goal.returns-in_err-at-clause-after_f
 returns-in_err-at-clause-after_fault g c =
     let k = g.K.Keeper in
     let p = err_from_is_err_and c.from_residual.result c.from_residual.ensures.1 in
-    rw (p.1, p.2) (stopped g.K.Keeper.model k.told k.became g.K.Restart.may_refuse c.args.keeper.now c.loop-at.keeper c.run_next.new.keeper c.args.events.now c.loop-at.at c.in_err-at.field-0.0 (ids_of c.loop-at.pending.items) c.loop-at.outcomes.items
+    rw (p.1, p.2) (stopped g.K.Keeper.model k.told k.became g.K.Restart.may_refuse c.args.keeper.now c.loop-at.keeper c.run_next.new.keeper c.args.events.now
+    c.loop-at.at c.in_err-at.field-0.0 (ids_of c.loop-at.pending.items) c.loop-at.outcomes.items
     (λ k. (g.met.K.Keeper.sound k).clean_is_honest) c.loop-at.invariant.moved c.in_err-at.ensures.err)
 
 pub returns-in_err-at-clause-store : goal.returns-in_err-at-clause-store
 returns-in_err-at-clause-store g c =
     let k = g.K.Keeper in
     let p = err_from_is_err_and c.from_residual.result c.from_residual.ensures.1 in
-    rw (p.1, p.2) (stopped_store g.K.Keeper.model k.told k.became g.K.Restart.may_refuse c.args.keeper.now c.loop-at.keeper c.run_next.new.keeper c.args.events.now c.loop-at.at c.in_err-at.field-0.0 (ids_of c.loop-at.pending.items) c.loop-at.outcomes.items
+    rw (p.1, p.2) (stopped_store g.K.Keeper.model k.told k.became g.K.Restart.may_refuse c.args.keeper.now c.loop-at.keeper c.run_next.new.keeper
+    c.args.events.now c.loop-at.at c.in_err-at.field-0.0 (ids_of c.loop-at.pending.items) c.loop-at.outcomes.items
     (λ k. (g.met.K.Keeper.sound k).clean_is_honest) c.loop-at.invariant.moved c.loop-at.invariant.opened c.in_err-at.ensures.err)
 
 pub returns-in_err-at-clause-opened_before : goal.returns-in_err-at-clause-opened_before
 returns-in_err-at-clause-opened_before g c =
     let k = g.K.Keeper in
     let p = err_from_is_err_and c.from_residual.result c.from_residual.ensures.1 in
-    rw (p.1, p.2) (stopped_opened g.K.Keeper.model k.told k.became g.K.Restart.may_refuse g.met.K.Keeper.counted c.args.keeper.now c.loop-at.keeper c.run_next.new.keeper c.args.events.now c.loop-at.at c.in_err-at.field-0.0
+    rw (p.1, p.2) (stopped_opened g.K.Keeper.model k.told k.became g.K.Restart.may_refuse g.met.K.Keeper.counted c.args.keeper.now c.loop-at.keeper
+    c.run_next.new.keeper c.args.events.now c.loop-at.at c.in_err-at.field-0.0
     c.loop-at.invariant.opened c.in_err-at.ensures.err)
 
 pub returns-in_err-at-clause-emptied : goal.returns-in_err-at-clause-emptied
 returns-in_err-at-clause-emptied g c =
     let k = g.K.Keeper in
     let p = err_from_is_err_and c.from_residual.result c.from_residual.ensures.1 in
-    rw (p.1, p.2) (stopped_emptied g.K.Keeper.model k.told k.became g.K.Restart.may_refuse g.met.K.Keeper.counted c.args.keeper.now c.loop-at.keeper c.run_next.new.keeper c.args.events.now c.loop-at.at c.in_err-at.field-0.0
+    rw (p.1, p.2) (stopped_emptied g.K.Keeper.model k.told k.became g.K.Restart.may_refuse g.met.K.Keeper.counted c.args.keeper.now c.loop-at.keeper
+    c.run_next.new.keeper c.args.events.now c.loop-at.at c.in_err-at.field-0.0
     c.loop-at.invariant.opened c.in_err-at.ensures.err)
 
 pub returns-in_err-at-clause-honest : goal.returns-in_err-at-clause-honest
@@ -66,29 +75,35 @@ returns-in_err-at-clause-honest g c = λ is. c.loop-at.invariant.honest (c.run_n
 
 pub returns-clause-opened : goal.returns-clause-opened
 returns-clause-opened g c =
-    subst (Opened g.K.Keeper.told g.K.Keeper.became c.args.keeper.now c.loop-at.keeper) (take_all c.loop-at.at c.args.events.now c.loop-at-test.false) c.loop-at.invariant.opened
+    subst (Opened g.K.Keeper.told g.K.Keeper.became c.args.keeper.now c.loop-at.keeper) (take_all c.loop-at.at c.args.events.now c.loop-at-test.false)
+    c.loop-at.invariant.opened
 
 pub returns-clause-tree_stands : goal.returns-clause-tree_stands
 returns-clause-tree_stands g c =
     moved_stands g.K.Keeper.model _ _ c.args.events.now _ _ _
-    (moved_all g.K.Keeper.model (told_in g.K.Keeper.told c.args.keeper.now) (told_in g.K.Keeper.told c.loop-at.keeper) c.args.events.now _ c.loop-at.at _ _ c.loop-at-test.false c.loop-at.invariant.moved)
+    (moved_all g.K.Keeper.model (told_in g.K.Keeper.told c.args.keeper.now) (told_in g.K.Keeper.told c.loop-at.keeper) c.args.events.now _ c.loop-at.at _ _
+    c.loop-at-test.false c.loop-at.invariant.moved)
 
 pub returns-clause-kept : goal.returns-clause-kept
 returns-clause-kept g c =
     moved_left g.K.Keeper.model g.K.Keeper.told c.args.keeper.now c.loop-at.keeper c.args.events.now _ _ _ (λ k. (g.met.K.Keeper.sound k).one_holding)
-    (moved_all g.K.Keeper.model (told_in g.K.Keeper.told c.args.keeper.now) (told_in g.K.Keeper.told c.loop-at.keeper) c.args.events.now _ c.loop-at.at _ _ c.loop-at-test.false c.loop-at.invariant.moved)
+    (moved_all g.K.Keeper.model (told_in g.K.Keeper.told c.args.keeper.now) (told_in g.K.Keeper.told c.loop-at.keeper) c.args.events.now _ c.loop-at.at _ _
+    c.loop-at-test.false c.loop-at.invariant.moved)
 
 pub returns-clause-outcomes : goal.returns-clause-outcomes
 returns-clause-outcomes g c =
     moved_outcomes g.K.Keeper.model _ _ c.args.events.now _ _ _
-    (moved_all g.K.Keeper.model (told_in g.K.Keeper.told c.args.keeper.now) (told_in g.K.Keeper.told c.loop-at.keeper) c.args.events.now _ c.loop-at.at _ _ c.loop-at-test.false c.loop-at.invariant.moved)
+    (moved_all g.K.Keeper.model (told_in g.K.Keeper.told c.args.keeper.now) (told_in g.K.Keeper.told c.loop-at.keeper) c.args.events.now _ c.loop-at.at _ _
+    c.loop-at-test.false c.loop-at.invariant.moved)
 
 pub returns-clause-count : goal.returns-clause-count
 returns-clause-count g c =
     moved_count g.K.Keeper.model _ _ c.args.events.now _ _ _
-    (moved_all g.K.Keeper.model (told_in g.K.Keeper.told c.args.keeper.now) (told_in g.K.Keeper.told c.loop-at.keeper) c.args.events.now _ c.loop-at.at _ _ c.loop-at-test.false c.loop-at.invariant.moved)
+    (moved_all g.K.Keeper.model (told_in g.K.Keeper.told c.args.keeper.now) (told_in g.K.Keeper.told c.loop-at.keeper) c.args.events.now _ c.loop-at.at _ _
+    c.loop-at-test.false c.loop-at.invariant.moved)
 
 pub returns-clause-records : goal.returns-clause-records
 returns-clause-records g c =
     moved_records g.K.Keeper.model _ _ c.args.events.now _ _ _
-    (moved_all g.K.Keeper.model (told_in g.K.Keeper.told c.args.keeper.now) (told_in g.K.Keeper.told c.loop-at.keeper) c.args.events.now _ c.loop-at.at _ _ c.loop-at-test.false c.loop-at.invariant.moved)
+    (moved_all g.K.Keeper.model (told_in g.K.Keeper.told c.args.keeper.now) (told_in g.K.Keeper.told c.loop-at.keeper) c.args.events.now _ c.loop-at.at _ _
+    c.loop-at-test.false c.loop-at.invariant.moved)

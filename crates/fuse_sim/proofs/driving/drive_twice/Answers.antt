@@ -21,7 +21,8 @@ returns-clause-outcomes g c = λ is start h settled so none.
     let stands = c.in_ok-first.ensures.tree_stands was start h settled so parts.0 in
     map-append bytes_given c.in_ok-first.first.items c.in_ok-second.second.items
     ∙ ap (λ os. os ++ map bytes_given c.in_ok-second.second.items) (c.in_ok-first.ensures.outcomes was start h settled so parts.0)
-    ∙ ap (λ os. map (outcome_of M start (committed h xs)) xs ++ os) (c.in_ok-second.ensures.outcomes is start (committed h xs) (settled_by settled xs) stands parts.1)
+    ∙ ap (λ os. map (outcome_of M start (committed h xs)) xs ++ os) (c.in_ok-second.ensures.outcomes is start (committed h xs) (settled_by settled xs) stands
+    parts.1)
     ∙ sym (outcomes-append M c.histories_grow.ensures start h xs ys)
 
 pub returns-clause-opened : goal.returns-clause-opened

@@ -11,12 +11,14 @@ use Rattle.fuse_sim.proofs.driving.run_group.Goals as goal
 pub returns-in_default-clause-err : goal.returns-in_default-clause-err
 returns-in_default-clause-err g c =
     let k = g.K.Keeper in
-    stops_here k.model k.told k.became g.K.Restart.may_refuse c.args.keeper.now c.args.events.now c.args.at _ refl refl (begins_fit c.args.events.now c.args.at c.requires.begins) c.requires.going g.met.K.Keeper.counted
+    stops_here k.model k.told k.became g.K.Restart.may_refuse c.args.keeper.now c.args.events.now c.args.at _ refl refl
+    (begins_fit c.args.events.now c.args.at c.requires.begins) c.requires.going g.met.K.Keeper.counted
 
 pub returns-then-is_err-clause-err : goal.returns-then-is_err-clause-err
 returns-then-is_err-clause-err g c =
     let k = g.K.Keeper in
-    stops_here k.model k.told k.became g.K.Restart.may_refuse c.args.keeper.now c.args.events.now c.args.at _ refl refl (begins_fit c.args.events.now c.args.at c.requires.begins) c.requires.going g.met.K.Keeper.counted
+    stops_here k.model k.told k.became g.K.Restart.may_refuse c.args.keeper.now c.args.events.now c.args.at _ refl refl
+    (begins_fit c.args.events.now c.args.at c.requires.begins) c.requires.going g.met.K.Keeper.counted
 
 pub work_group-requires-clause-gathers : goal.work_group-requires-clause-gathers
 work_group-requires-clause-gathers g c =
@@ -24,13 +26,15 @@ work_group-requires-clause-gathers g c =
     let events = c.args.events.now in
     let count = c.len-count.result in
     subst (λ x. Gathers x group.classes.items group.taken.items group.died) (sym (run_slice events c.args.at count))
-    (group_read events c.args.at count group.classes.items group.taken.items group.died (omega (arith, c.len-count.ensures, group.classes.ok)) c.in-Ok.ensures.gathers)
+    (group_read events c.args.at count group.classes.items group.taken.items group.died (omega (arith, c.len-count.ensures, group.classes.ok))
+    c.in-Ok.ensures.gathers)
 
 pub returns-in-Err-clause-err : goal.returns-in-Err-clause-err
 returns-in-Err-clause-err g c =
     let k = g.K.Keeper in
     stops_store k.model k.told k.became g.K.Restart.may_refuse c.args.keeper.now c.work_group.new.keeper c.args.events.now c.args.at c.in-Err.fault
-    (begins_fit c.args.events.now c.args.at c.requires.begins) c.in-Err.ensures.failed c.in-Err.ensures.called.err c.in-Err.ensures.called.honest c.in-Err.ensures.called.fault c.work_group.ensures.same
+    (begins_fit c.args.events.now c.args.at c.requires.begins) c.in-Err.ensures.failed c.in-Err.ensures.called.err c.in-Err.ensures.called.honest
+    c.in-Err.ensures.called.fault c.work_group.ensures.same
 
 pub returns-in_err-end_group-clause-err : goal.returns-in_err-end_group-clause-err
 returns-in_err-end_group-clause-err g c =
@@ -39,13 +43,15 @@ returns-in_err-end_group-clause-err g c =
     let at = c.args.at in
     let group = c.in-Ok.group in
     let count = c.len-count.result in
-    let gathers = group_read events at count group.classes.items group.taken.items group.died (omega (arith, c.len-count.ensures, group.classes.ok)) c.in-Ok.ensures.gathers in
+    let gathers = group_read events at count group.classes.items group.taken.items group.died (omega (arith, c.len-count.ensures, group.classes.ok))
+    c.in-Ok.ensures.gathers in
     let none = c.in_err-end_group.ensures.err in
     let fault = c.in_err-end_group.ensures.fault in
     let few : count ≤ length (take (length events - at) (drop at events)) = omega (arith, c.in-Ok.ensures.within, c.len-count.ensures, group.classes.ok) in
     let last = dies_at events at count group.died (within_rest events at count c.requires.begins few) gathers.goes gathers.fit none.1 in
     let p = err_from_is_err_and c.from_residual.result c.from_residual.ensures.1 in
-    rw (p.1, p.2) (stops_restart k.model k.told k.became g.K.Restart.may_refuse c.args.keeper.now c.work_group.new.keeper c.end_group.new.keeper events at (at + count - 1) c.in_err-end_group.field-0.0 last.one
+    rw (p.1, p.2) (stops_restart k.model k.told k.became g.K.Restart.may_refuse c.args.keeper.now c.work_group.new.keeper c.end_group.new.keeper events at
+    (at + count - 1) c.in_err-end_group.field-0.0 last.one
     none.0 c.in_err-end_group.ensures.refused fault.0 fault.1 last.there last.fit last.died last.earlier c.work_group.ensures.same last.calm)
 
 pub returns-clause-ok : goal.returns-clause-ok
@@ -55,15 +61,22 @@ returns-clause-ok g c =
     let at = c.args.at in
     let count = c.len-count.result in
     let group = c.in-Ok.group in
-    let gathers = group_read events at count group.classes.items group.taken.items group.died (omega (arith, c.len-count.ensures, group.classes.ok)) c.in-Ok.ensures.gathers in
-    let stops = group_stops events at count group.classes.items group.taken.items group.died (omega (arith, c.len-count.ensures, group.classes.ok)) c.in-Ok.ensures.stops in
-    let worked = subst (λ p. Worked (told_in k.told c.args.keeper.now) (told_in k.told c.work_group.new.keeper) (take (at + count - at) (drop at events)) (ids_of p) (ids_of c.work_group.new.pending.items) c.args.outcomes.now.items c.work_group.new.outcomes.items) c.make_room.ensures.pending
-    (subst (λ o. Worked (told_in k.told c.args.keeper.now) (told_in k.told c.work_group.new.keeper) (take (at + count - at) (drop at events)) (ids_of c.make_room.new.pending.items) (ids_of c.work_group.new.pending.items) o c.work_group.new.outcomes.items) c.make_room.ensures.outcomes c.in_default-work_group.ensures.ok) in
+    let gathers = group_read events at count group.classes.items group.taken.items group.died (omega (arith, c.len-count.ensures, group.classes.ok))
+    c.in-Ok.ensures.gathers in
+    let stops = group_stops events at count group.classes.items group.taken.items group.died (omega (arith, c.len-count.ensures, group.classes.ok))
+    c.in-Ok.ensures.stops in
+    let worked = subst (λ p. Worked (told_in k.told c.args.keeper.now) (told_in k.told c.work_group.new.keeper) (take (at + count - at) (drop at events))
+    (ids_of p) (ids_of c.work_group.new.pending.items) c.args.outcomes.now.items c.work_group.new.outcomes.items) c.make_room.ensures.pending
+    (subst (λ o. Worked (told_in k.told c.args.keeper.now) (told_in k.told c.work_group.new.keeper) (take (at + count - at) (drop at events))
+    (ids_of c.make_room.new.pending.items) (ids_of c.work_group.new.pending.items) o c.work_group.new.outcomes.items) c.make_room.ensures.outcomes
+    c.in_default-work_group.ensures.ok) in
     group_moved k.model (told_in k.told c.args.keeper.now) (told_in k.told c.work_group.new.keeper) (told_in k.told c.end_group.new.keeper)
     group.died (take count (drop at events)) (take (at + count - at) (drop at events)) (drop (at + count) events) group.classes.items group.taken.items
-    (ids_of c.args.pending.now.items) (ids_of c.work_group.new.pending.items) (ids_of c.end_group.new.pending.items) c.args.outcomes.now.items c.work_group.new.outcomes.items
+    (ids_of c.args.pending.now.items) (ids_of c.work_group.new.pending.items) (ids_of c.end_group.new.pending.items) c.args.outcomes.now.items
+    c.work_group.new.outcomes.items
     gathers (run_slice events at count) stops
-    worked c.in_ok-end_group.ensures.same c.end_group.ensures.honest (ids_left group.died c.end_group.new.pending.items c.work_group.new.pending.items c.in_ok-end_group.ensures.pending)
+    worked c.in_ok-end_group.ensures.same c.end_group.ensures.honest (ids_left group.died c.end_group.new.pending.items c.work_group.new.pending.items
+    c.in_ok-end_group.ensures.pending)
 
 pub returns-clause-opens : goal.returns-clause-opens
 returns-clause-opens g c =
@@ -72,13 +85,18 @@ returns-clause-opens g c =
     let at = c.args.at in
     let count = c.len-count.result in
     let group = c.in-Ok.group in
-    let gathers = group_read events at count group.classes.items group.taken.items group.died (omega (arith, c.len-count.ensures, group.classes.ok)) c.in-Ok.ensures.gathers in
-    let worked = subst (λ p. Worked (told_in k.told c.args.keeper.now) (told_in k.told c.work_group.new.keeper) (take (at + count - at) (drop at events)) (ids_of p) (ids_of c.work_group.new.pending.items) c.args.outcomes.now.items c.work_group.new.outcomes.items) c.make_room.ensures.pending
-    (subst (λ o. Worked (told_in k.told c.args.keeper.now) (told_in k.told c.work_group.new.keeper) (take (at + count - at) (drop at events)) (ids_of c.make_room.new.pending.items) (ids_of c.work_group.new.pending.items) o c.work_group.new.outcomes.items) c.make_room.ensures.outcomes c.in_default-work_group.ensures.ok) in
+    let gathers = group_read events at count group.classes.items group.taken.items group.died (omega (arith, c.len-count.ensures, group.classes.ok))
+    c.in-Ok.ensures.gathers in
+    let worked = subst (λ p. Worked (told_in k.told c.args.keeper.now) (told_in k.told c.work_group.new.keeper) (take (at + count - at) (drop at events))
+    (ids_of p) (ids_of c.work_group.new.pending.items) c.args.outcomes.now.items c.work_group.new.outcomes.items) c.make_room.ensures.pending
+    (subst (λ o. Worked (told_in k.told c.args.keeper.now) (told_in k.told c.work_group.new.keeper) (take (at + count - at) (drop at events))
+    (ids_of c.make_room.new.pending.items) (ids_of c.work_group.new.pending.items) o c.work_group.new.outcomes.items) c.make_room.ensures.outcomes
+    c.in_default-work_group.ensures.ok) in
     group_opens k.model k.told k.became c.args.keeper.now c.work_group.new.keeper c.end_group.new.keeper
     group.died (take count (drop at events)) (take (at + count - at) (drop at events)) group.classes.items group.taken.items
     (ids_of c.args.pending.now.items) (ids_of c.work_group.new.pending.items) c.args.outcomes.now.items c.work_group.new.outcomes.items
-    gathers (run_slice events at count) worked c.work_group.ensures.same c.in_ok-end_group.ensures.opened c.in_ok-end_group.ensures.same c.end_group.ensures.honest c.work_group.ensures.called.honest
+    gathers (run_slice events at count) worked c.work_group.ensures.same c.in_ok-end_group.ensures.opened c.in_ok-end_group.ensures.same
+    c.end_group.ensures.honest c.work_group.ensures.called.honest
 
 pub returns-clause-few : goal.returns-clause-few
 returns-clause-few g c =
@@ -86,6 +104,10 @@ returns-clause-few g c =
     let at = c.args.at in
     let count = c.len-count.result in
     let group = c.in-Ok.group in
-    let gathers = group_read events at count group.classes.items group.taken.items group.died (omega (arith, c.len-count.ensures, group.classes.ok)) c.in-Ok.ensures.gathers in
-    few_left group.died (take (at + count - at) (drop at events)) c.make_room.new.pending.items c.work_group.new.pending.items c.end_group.new.pending.items 16 c.in_ok-end_group.ensures.pending c.in_default-work_group.ensures.ok.handed
-    (omega (arith, c.requires.few, ap length c.make_room.ensures.pending)) (few_taken (take (at + count - at) (drop at events)) group.taken.items 16 (gathers.entries ∙ ap commits_in (sym (run_slice events at count))) gathers.few)
+    let gathers = group_read events at count group.classes.items group.taken.items group.died (omega (arith, c.len-count.ensures, group.classes.ok))
+    c.in-Ok.ensures.gathers in
+    few_left group.died (take (at + count - at) (drop at events)) c.make_room.new.pending.items c.work_group.new.pending.items c.end_group.new.pending.items 16
+    c.in_ok-end_group.ensures.pending c.in_default-work_group.ensures.ok.handed
+    (omega (arith, c.requires.few, ap length c.make_room.ensures.pending))
+    (few_taken (take (at + count - at) (drop at events)) group.taken.items 16 (gathers.entries ∙ ap commits_in (sym (run_slice events at count)))
+    gathers.few)

@@ -14,16 +14,20 @@ returns-then-not-is_before_commit-clause-ok g c =
     let k = g.K.Keeper in
     let events = c.args.events.now in
     let at = c.args.at in
-    let begins = begins_at events at c.index-events-at.result c.requires.at c.index-events-at.is c.in_ok-test_event.ensures.fit (sym c.is_before_commit.ensures ∙ c.if-not-is_before_commit.true) in
+    let begins = begins_at events at c.index-events-at.result c.requires.at c.index-events-at.is c.in_ok-test_event.ensures.fit (sym c.is_before_commit.ensures
+    ∙ c.if-not-is_before_commit.true) in
     IfOk-weaker c.run_group.result _ _ (λ n moved. next_moved g.K.Keeper.model (told_in k.told c.args.keeper.now) (told_in k.told c.run_group.new.keeper)
-    (ids_of c.args.pending.now.items) (ids_of c.run_group.new.pending.items) (take n (drop at events)) (drop at events) (drop (at + n) events) c.args.outcomes.now.items c.run_group.new.outcomes.items begins moved) c.run_group.ensures.ok
+    (ids_of c.args.pending.now.items) (ids_of c.run_group.new.pending.items) (take n (drop at events)) (drop at events) (drop (at + n) events)
+    c.args.outcomes.now.items c.run_group.new.outcomes.items begins moved) c.run_group.ensures.ok
 
 pub returns-then-is_err-clause-err : goal.returns-then-is_err-clause-err
 returns-then-is_err-clause-err g c =
     let k = g.K.Keeper in
     let events = c.args.events.now in
-    let fit = subst (λ o. IsSomeAnd o IsFit) (sym (slice_get_read events _ c.args.at c.index-events-at.result refl c.requires.at c.index-events-at.is)) c.in_ok-test_event.ensures.fit in
-    stops_here g.K.Keeper.model k.told k.became g.K.Restart.may_refuse c.args.keeper.now events c.args.at _ refl refl fit c.requires.going g.met.K.Keeper.counted
+    let fit = subst (λ o. IsSomeAnd o IsFit) (sym (slice_get_read events _ c.args.at c.index-events-at.result refl c.requires.at c.index-events-at.is))
+    c.in_ok-test_event.ensures.fit in
+    stops_here g.K.Keeper.model k.told k.became g.K.Restart.may_refuse c.args.keeper.now events c.args.at _ refl refl fit c.requires.going
+    g.met.K.Keeper.counted
 
 pub returns-in_err-end_group-clause-err : goal.returns-in_err-end_group-clause-err
 returns-in_err-end_group-clause-err g c =
@@ -33,8 +37,10 @@ returns-in_err-end_group-clause-err g c =
     let e = c.index-events-at.result in
     let fault = c.in_err-end_group.ensures.fault in
     let p = err_from_is_err_and c.from_residual-in_err-end_group.result c.from_residual-in_err-end_group.ensures.1 in
-    rw (p.1, p.2) (stops_restart g.K.Keeper.model k.told k.became g.K.Restart.may_refuse c.args.keeper.now c.args.keeper.now c.end_group.new.keeper events at at c.in_err-end_group.field-0.0 e
-    c.in_err-end_group.ensures.err.0 c.in_err-end_group.ensures.refused fault.0 fault.1 (slice_get_read events _ at e refl c.requires.at c.index-events-at.is) c.in_ok-test_event.ensures.fit
+    rw (p.1, p.2) (stops_restart g.K.Keeper.model k.told k.became g.K.Restart.may_refuse c.args.keeper.now c.args.keeper.now c.end_group.new.keeper events at at
+    c.in_err-end_group.field-0.0 e
+    c.in_err-end_group.ensures.err.0 c.in_err-end_group.ensures.refused fault.0 fault.1 (slice_get_read events _ at e refl c.requires.at c.index-events-at.is)
+    c.in_ok-test_event.ensures.fit
     (lost_dies e.fate (sym c.is_before_commit.ensures ∙ c.if-not-is_before_commit.false)) (λ each. each)
     (became_itself k.became g.met.K.Keeper.counted (λ x. (k.told x).has_failed ≡ false) c.args.keeper.now c.requires.going) refl)
 
@@ -43,13 +49,17 @@ returns-clause-ok g c = λ l same may.
     let k = g.K.Keeper in
     let events = c.args.events.now in
     let at = c.args.at in
-    lost_moved g.K.Keeper.model (told_in k.told c.args.keeper.now) (told_in k.told c.end_group.new.keeper) l events (drop (at + 1) events) at c.index-events-at.result
+    lost_moved g.K.Keeper.model (told_in k.told c.args.keeper.now) (told_in k.told c.end_group.new.keeper) l events (drop (at + 1) events) at
+    c.index-events-at.result
     (ids_of c.end_group.new.pending.items) c.args.outcomes.now.items c.push_reserved.new.self.items
     c.requires.at c.index-events-at.is c.in_ok-test_event.ensures.fit (sym c.is_before_commit.ensures ∙ c.if-not-is_before_commit.false)
-    (c.push_reserved.ensures.items ∙ ap (λ (x : List (Option Outcome)). x ++ None ∷ []) c.make_room.ensures.outcomes) (ap ids_of {y = []} c.in_ok-end_group.ensures.pending) c.in_ok-end_group.ensures.same
+    (c.push_reserved.ensures.items ∙ ap (λ (x : List (Option Outcome)). x ++ None ∷ []) c.make_room.ensures.outcomes)
+    (ap ids_of {y = []} c.in_ok-end_group.ensures.pending) c.in_ok-end_group.ensures.same
 
 pub returns-clause-opens : goal.returns-clause-opens
 returns-clause-opens g c =
     let k = g.K.Keeper in
-    lost_opens g.K.Keeper.model k.told k.became g.met.K.Keeper.counted c.args.keeper.now c.end_group.new.keeper c.args.events.now c.args.at c.index-events-at.result (ids_of c.args.pending.now.items)
-    c.requires.at c.index-events-at.is (sym c.is_before_commit.ensures ∙ c.if-not-is_before_commit.false) c.in_ok-end_group.ensures.opened c.in_ok-end_group.ensures.same c.end_group.ensures.honest
+    lost_opens g.K.Keeper.model k.told k.became g.met.K.Keeper.counted c.args.keeper.now c.end_group.new.keeper c.args.events.now c.args.at
+    c.index-events-at.result (ids_of c.args.pending.now.items)
+    c.requires.at c.index-events-at.is (sym c.is_before_commit.ensures ∙ c.if-not-is_before_commit.false) c.in_ok-end_group.ensures.opened
+    c.in_ok-end_group.ensures.same c.end_group.ensures.honest

@@ -9,7 +9,8 @@ use Rattle.fuse_sim.proofs.driving.work_group.Goals as goal
 pub answer_group-requires-clause-enough : goal.answer_group-requires-clause-enough
 answer_group-requires-clause-enough g c =
     let gathers = c.requires.gathers in
-    answers_for c.args.run.now c.args.group.now.taken.items c.in_ok-dones.dones.items (none_dies c.args.group.now.died c.args.run.now gathers.goes) gathers.entries (c.in_ok-dones.ensures.count ∙ ap length c.as_slice.ensures.value)
+    answers_for c.args.run.now c.args.group.now.taken.items c.in_ok-dones.dones.items (none_dies c.args.group.now.died c.args.run.now gathers.goes)
+    gathers.entries (c.in_ok-dones.ensures.count ∙ ap length c.as_slice.ensures.value)
 
 pub returns-clause-ok : goal.returns-clause-ok
 returns-clause-ok g c =
@@ -18,8 +19,10 @@ returns-clause-ok g c =
     let inner = c.unwrap-inner.result.now in
     let old = told_in k.told c.args.keeper.now in
     let done = worked k.model (k.told inner) (k.told c.perform_group.new.keeper) c.args.run.now c.as_slice.result.now
-    (ids_of c.args.pending.now.items) (ids_of c.perform_group.new.pending.items) (ids_of c.answer_group.new.pending.items) c.in_ok-dones.dones.items c.args.outcomes.now.items c.answer_group.new.outcomes.items
-    (none_dies c.args.group.now.died c.args.run.now gathers.goes) (ap entries_of c.as_slice.ensures.value ∙ gathers.entries) c.in_ok-dones.ensures.ok c.in_ok-dones.ensures.others c.in_ok-dones.ensures.pending
+    (ids_of c.args.pending.now.items) (ids_of c.perform_group.new.pending.items) (ids_of c.answer_group.new.pending.items) c.in_ok-dones.dones.items
+    c.args.outcomes.now.items c.answer_group.new.outcomes.items
+    (none_dies c.args.group.now.died c.args.run.now gathers.goes) (ap entries_of c.as_slice.ensures.value ∙ gathers.entries) c.in_ok-dones.ensures.ok
+    c.in_ok-dones.ensures.others c.in_ok-dones.ensures.pending
     c.answer_group.ensures.outcomes c.answer_group.ensures.pending in
     rw (sym c.as_mut.ensures.value, c.unwrap-inner.ensures) done
 
@@ -28,4 +31,5 @@ returns-in_err-dones-clause-called g c =
     let k = g.K.Keeper in
     let inner = c.unwrap-inner.result.now in
     let p = err_from_is_err_and c.from_residual.result c.from_residual.ensures.1 in
-    rw (p.1, p.2, sym c.as_mut.ensures.value, c.unwrap-inner.ensures) (called_err k.model (k.told inner) (k.told c.perform_group.new.keeper) c.in_err-dones.field-0.0 c.in_err-dones.ensures.called)
+    rw (p.1, p.2, sym c.as_mut.ensures.value, c.unwrap-inner.ensures) (called_err k.model (k.told inner) (k.told c.perform_group.new.keeper)
+    c.in_err-dones.field-0.0 c.in_err-dones.ensures.called)

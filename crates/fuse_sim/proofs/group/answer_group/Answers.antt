@@ -16,12 +16,15 @@ loop-place-preserved c =
     let left = c.outcome_of_event.ensures.left in
     let here = answers_here run i e (answers_in old) c.loop-place-test.true c.index-run-place.is inv.enough in
     record {
-      outcomes = adds_one c.args.outcomes.now.items c.loop-place.outcomes.items c.push_reserved.new.self.items c.outcome_of_event.result run i e (answers_in old) (answers_in new) (outcomes_by run (answers_in c.args.dones.items))
+      outcomes = adds_one c.args.outcomes.now.items c.loop-place.outcomes.items c.push_reserved.new.self.items c.outcome_of_event.result run i e
+          (answers_in old) (answers_in new) (outcomes_by run (answers_in c.args.dones.items))
           c.loop-place-test.true c.index-run-place.is inv.outcomes c.outcome_of_event.ensures.outcome left c.push_reserved.ensures.items;
-      pending = settled_one (ids_of c.loop-place.pending.items) (ids_of c.settle.new.pending.items) (ids_of c.args.pending.now.items ++ settles_in run) run i e c.loop-place-test.true c.index-run-place.is inv.pending c.settle.ensures.settled;
+      pending = settled_one (ids_of c.loop-place.pending.items) (ids_of c.settle.new.pending.items) (ids_of c.args.pending.now.items ++ settles_in run) run i e
+          c.loop-place-test.true c.index-run-place.is inv.pending c.settle.ensures.settled;
       enough = subst (HasAnswers (drop (i + 1) run)) (sym left) here.1;
       pushed = omega (arith, ap length c.push_reserved.ensures.items, length-append c.loop-place.outcomes.items (c.outcome_of_event.result ∷ []), inv.pushed);
       room = c.push_reserved.ensures.capacity ∙ inv.room;
-      places = places_left e c.loop-place.pending.items c.settle.new.pending.items old new (vec_capacity c.args.pending.now) here.0 left c.settle.ensures.settled inv.places;
+      places = places_left e c.loop-place.pending.items c.settle.new.pending.items old new (vec_capacity c.args.pending.now) here.0 left
+          c.settle.ensures.settled inv.places;
       kept = c.settle.ensures.capacity ∙ inv.kept;
     }

@@ -8,6 +8,7 @@ loop-event-preserved c =
     let new = c.take_in.new.group in
     record {
       within = omega (arith, c.loop-event-test.true);
-      gathers = gathers_next c.args.events.now c.loop-event.event-index c.event-item.result old.classes.items new.classes.items old.taken.items new.taken.items old.died new.died
+      gathers = gathers_next c.args.events.now c.loop-event.event-index c.event-item.result old.classes.items new.classes.items old.taken.items new.taken.items
+          old.died new.died
           c.loop-event-test.true c.event-item.is c.loop-event.invariant.gathers (c.in_ok-take_in.ensures.joins c.if-not-branch.false);
     }

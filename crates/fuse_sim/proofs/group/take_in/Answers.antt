@@ -15,13 +15,16 @@ returns-clause-joins c = λ _.
     let class : c.classify-class.result ≡ class_of e.bytes = c.classify-class.ensures.class ∙ ap class_of c.as_slice.ensures in
     elim c.match-read_one.branch [
       | in-Some+else-len-eq-MAX_GROUP+in_ok-push w ↦
-          joins_kept e old.classes.items c.push-2.new.self.items old.taken.items c.match-read_one.group.taken.items w.in-Some.one old.died died c.if-group.false fit goes
+          joins_kept e old.classes.items c.push-2.new.self.items old.taken.items c.match-read_one.group.taken.items w.in-Some.one old.died died c.if-group.false
+          fit goes
           w.in-Some.ensures.entry w.in-Some.ensures.kept (λ full. grind (arith, full, w.len.ensures, w.if-len-eq-MAX_GROUP.false))
-          (c.in_ok-push-2.ensures.items ∙ ap (λ g. g.classes.items ++ c.classify-class.result ∷ []) w.group-is ∙ ap (λ (k : Class). old.classes.items ++ k ∷ []) class)
+          (c.in_ok-push-2.ensures.items ∙ ap (λ g. g.classes.items ++ c.classify-class.result ∷ []) w.group-is
+          ∙ ap (λ (k : Class). old.classes.items ++ k ∷ []) class)
           (ap (λ g. g.taken.items) w.group-is ∙ w.in_ok-push.ensures.items) (c.is_after_commit-group.ensures.dies goes) c.is_after_commit-group.ensures.died
       | in_default w ↦
           joins_bare e old.classes.items c.push-2.new.self.items old.taken.items c.match-read_one.group.taken.items old.died died c.if-group.false fit goes
           w.in_default.ensures.entry
-          (c.in_ok-push-2.ensures.items ∙ ap (λ g. g.classes.items ++ c.classify-class.result ∷ []) w.group-is ∙ ap (λ (k : Class). old.classes.items ++ k ∷ []) class)
+          (c.in_ok-push-2.ensures.items ∙ ap (λ g. g.classes.items ++ c.classify-class.result ∷ []) w.group-is
+          ∙ ap (λ (k : Class). old.classes.items ++ k ∷ []) class)
           (ap (λ g. g.taken.items) w.group-is) (c.is_after_commit-group.ensures.dies goes) c.is_after_commit-group.ensures.died
     ]
