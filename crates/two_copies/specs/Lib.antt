@@ -1,1 +1,2 @@
 pub mod TwoCopies
+pub mod Lamp

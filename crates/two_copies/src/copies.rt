@@ -1,5 +1,5 @@
 // A keeper of lists with two copies.
-ghost use Rattle.std.specs.Prelude.{◌≡◌, ◌||◌, ◌+◌, ◌^◌, ◌⊎◌, true, false, [], IfOk, IfErr, OnOk, OnErr, is_err};
+ghost use Rattle.std.specs.Prelude.{◌≡◌, ◌+◌, ◌^◌, ◌⊎◌, false, [], IfOk, OnOk, OnErr, is_err};
 ghost use Rattle.fuse_keeper.specs.KeeperState.{StandsFor, KeepsHeld};
 ghost use Rattle.fuse_keeper.specs.PlainKeeper.{plain_told};
 ghost use Rattle.two_copies.specs.TwoCopies.{two_told};
@@ -33,7 +33,8 @@ pub struct TwoCopies<F> {
 impl<F: FileSystem> TwoCopies<F> {
     /// A new store, made at this moment. So many commits go well, the next one is refused, and so on.
     pub fn new(alloc: Global, now: Moment, commits: u64) -> Result<TwoCopies<F>, Memory>
-        ensures stands { IfOk result (λ k. StandsFor (two_told F.model F.held k) (F.model.start now) [] []) }
+        ensures stands { IfOk result (λ k.
+            StandsFor (two_told F.model F.held k) (F.model.start now) [] []) }
         ensures going { IfOk result (λ k. (two_told F.model F.held k).has_failed ≡ false) }
         ensures unopened { IfOk result (λ k. k.openings ≡ 0) }
     {
@@ -60,8 +61,10 @@ impl<F: FileSystem> TwoCopies<F> {
         ensures working { self.new.working ≡ self.old.working }
         ensures openings { self.new.openings ≡ self.old.openings }
         ensures uncommitted { self.new.uncommitted ≡ is_err result }
-        ensures same { OnOk result (KeepsHeld (plain_told F.model F.held self.old.working) (plain_told F.model F.held self.new.committed)) }
-        ensures no_more { OnOk result (KeepsHeld (plain_told F.model F.held self.new.committed) (plain_told F.model F.held self.old.working)) }
+        ensures same { OnOk result (KeepsHeld (plain_told F.model F.held self.old.working)
+            (plain_told F.model F.held self.new.committed)) }
+        ensures no_more { OnOk result (KeepsHeld (plain_told F.model F.held self.new.committed)
+            (plain_told F.model F.held self.old.working)) }
         ensures err { OnErr result (self.new.committed ≡ self.old.committed) }
     {
         self.uncommitted = true;

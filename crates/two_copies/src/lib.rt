@@ -4,3 +4,6 @@
 mod copies;
 
 pub use copies::TwoCopies;
+
+#[cfg(test)]
+mod tests;
