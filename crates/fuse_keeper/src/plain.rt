@@ -67,8 +67,10 @@ impl<F: FileSystem> PlainKeeper<F> {
 
     /// A keeper that holds the same, as if no call of it had failed.
     pub fn to_copy(&self) -> Result<PlainKeeper<F>, Memory>
-        ensures same { IfOk result (λ copy. KeepsHeld (plain_told F.model F.held self.now) (plain_told F.model F.held copy)) }
-        ensures no_more { IfOk result (λ copy. KeepsHeld (plain_told F.model F.held copy) (plain_told F.model F.held self.now)) }
+        ensures same { IfOk result (λ copy. KeepsHeld
+            (plain_told F.model F.held self.now) (plain_told F.model F.held copy)) }
+        ensures no_more { IfOk result (λ copy. KeepsHeld
+            (plain_told F.model F.held copy) (plain_told F.model F.held self.now)) }
         ensures going { IfOk result (λ copy. (plain_told F.model F.held copy).has_failed ≡ false) }
     {
         let rows = self.rows.to_copy()?;

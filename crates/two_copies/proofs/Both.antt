@@ -1,0 +1,166 @@
+-- What is told of two copies, from what is told of each.
+use Rattle.std.proofs.Common.{◌≡◌, ◌||◌, Bool, true, false, ℕ, List, Some, Result, Ok, Err, refl, sym, ap, subst, ◌∙◌}
+use Rattle.fuse_keeper.specs.declared.fault.StoreFault.{StoreFault}
+use Rattle.fuse_keeper.specs.declared.keeper.Done.{Done}
+use Rattle.fuse_keeper.specs.declared.plain.PlainKeeper.{PlainKeeper}
+use Rattle.fuse_keeper.specs.Model.{Model}
+use Rattle.fuse_keeper.specs.History.{Entry, History}
+use Rattle.fuse_keeper.specs.Lots.{no_lots, SameLots}
+use Rattle.fuse_keeper.specs.Stands.{Records, Stands, PerformedBy}
+use Rattle.fuse_keeper.specs.Plain.{mapped}
+use Rattle.fuse_keeper.specs.PlainKeeper.{plain_told}
+use Rattle.fuse_keeper.specs.KeeperState.{StandsFor, Performed, IsFirm, KeepsHeld, Called, Looked, HoldsOthers, Reopened}
+use Rattle.two_copies.specs.declared.copies.TwoCopies.{TwoCopies}
+use Rattle.two_copies.specs.TwoCopies.{two_told}
+
+pub or-true : (b : Bool) → (b || true) ≡ true
+or-true true = refl
+or-true false = refl
+
+or-append : (a b c : Bool) → (a || (b || c)) ≡ ((a || b) || c)
+or-append true b c = refl
+or-append false b c = refl
+
+pub lots_stay : SameLots no_lots no_lots
+lots_stay = record { numbers = refl; current = refl; under = λ i. refl }
+
+module _ {F : Type 0} (M : Model) (held : F → M.Rows) where
+  -- ---- one copy
+
+  pub plain_firm : (p : PlainKeeper F) → IsFirm (plain_told M held p)
+  plain_firm p = λ y q so. (tt, λ x r left. (left.0 ∙ sym so.0, λ i. left.1 i ∙ sym (so.1 i)))
+
+  -- what it holds stands for the history
+  pub held_stands : (p : PlainKeeper F) (s : M.State) (h : History) (t : List ℕ) (x : M.Rows) (r : Records) → StandsFor (plain_told M held p) s h t → (plain_told M held p).holds x r → Stands M x r s h t
+  held_stands p s h t x r so left = record {
+    tree = so.stands.tree;
+    distinct = so.stands.distinct;
+    rows_are = left.0 ∙ sym so.held.0 ∙ so.stands.rows_are;
+    right = λ i a is. so.stands.right i a (so.held.1 i ∙ sym (left.1 i) ∙ is);
+    kept = λ i fresh. left.1 i ∙ sym (so.held.1 i) ∙ so.stands.kept i fresh;
+  }
+
+  -- ---- both
+
+  pub copies_firm : (k : TwoCopies F) → IsFirm (two_told M held k)
+  copies_firm k = λ y q so. (tt, λ x r left. (left.0 ∙ sym so.0.0, λ i. left.1 i ∙ sym (so.0.1 i)))
+
+  pub working_stands : (k : TwoCopies F) (s : M.State) (h : History) (t : List ℕ) → StandsFor (two_told M held k) s h t → StandsFor (plain_told M held k.working) s h t
+  working_stands k s h t so = record { rows = so.rows; records = so.records; held = so.held.1; stands = so.stands }
+
+  pub committed_stands : (k : TwoCopies F) (s : M.State) (h : History) (t : List ℕ) → StandsFor (two_told M held k) s h t → StandsFor (plain_told M held k.committed) s h t
+  committed_stands k s h t so = record { rows = so.rows; records = so.records; held = so.held.0; stands = so.stands }
+
+  -- the committed copy is that of before, so a crash leaves what was held then
+  pub leaves_old : (old new : TwoCopies F) (s : M.State) (h : History) (t : List ℕ) (x : M.Rows) (r : Records) → new.committed ≡ old.committed
+      → StandsFor (two_told M held old) s h t → (two_told M held new).may_leave x r → Stands M x r s h t
+  leaves_old old new s h t x r is so left =
+      held_stands old.committed s h t x r (committed_stands old s h t so) (subst (λ p. (plain_told M held p).holds x r) is left)
+
+  -- ---- a commit
+
+  -- the committed copy was made anew from this one, which is the working one
+  pub record Commits (w : PlainKeeper F) (k : TwoCopies F) : Type 0 where
+    pub working : k.working ≡ w
+    pub closed : k.uncommitted ≡ false
+    pub same : KeepsHeld (plain_told M held w) (plain_told M held k.committed)
+    pub no_more : KeepsHeld (plain_told M held k.committed) (plain_told M held w)
+
+  pub both_hold : (w : PlainKeeper F) (k : TwoCopies F) (x : M.Rows) (r : Records) → Commits w k → (plain_told M held w).holds x r → (two_told M held k).holds x r
+  both_hold w k x r made so = (made.same x r so, subst (λ p. (plain_told M held p).holds x r) (sym made.working) so, made.closed)
+
+  pub both_stand : (w : PlainKeeper F) (k : TwoCopies F) (s : M.State) (h : History) (t : List ℕ) → Commits w k → StandsFor (plain_told M held w) s h t → StandsFor (two_told M held k) s h t
+  both_stand w k s h t made so = record { rows = so.rows; records = so.records; held = both_hold w k so.rows so.records made so.held; stands = so.stands }
+
+  pub both_performed : (w : PlainKeeper F) (k : TwoCopies F) (s : M.State) (h : History) (t : List ℕ) (es : List Entry) (dones : List Done) → Commits w k
+      → Performed (plain_told M held w) s h t es dones → Performed (two_told M held k) s h t es dones
+  both_performed w k s h t es dones made does = record { stands = both_stand w k s _ t made does.stands; answers = does.answers; repeated = does.repeated }
+
+  pub both_others : (w : PlainKeeper F) (k : TwoCopies F) (before : Records) (settled : List ℕ) (es : List Entry) → Commits w k
+      → HoldsOthers (plain_told M held w) before settled es → HoldsOthers (two_told M held k) before settled es
+  both_others w k before settled es made so = record {
+    rows = so.rows;
+    records = so.records;
+    held = both_hold w k so.rows so.records made so.held;
+    rowed = so.rowed;
+    others = so.others;
+  }
+
+  -- ---- faults
+
+  -- a write is left open
+  pub called_open : {A : Type 0} (old new : TwoCopies F) (fault : StoreFault) → new.uncommitted ≡ true → Called {A = A} (two_told M held old) (two_told M held new) (Err fault)
+  called_open old new fault is = record {
+    failed = ap (λ b. b || (plain_told M held new.working).has_failed) is ∙ sym (or-true (old.uncommitted || (plain_told M held old.working).has_failed));
+    honest = λ honest. honest;
+    err = λ clean. absurd (let e = clean in cc);
+    err_lots = λ clean. absurd (let e = clean in cc);
+    fault = λ clean. absurd (let e = clean in cc);
+  }
+
+  done_failed : (o o' f f' : Bool) → o ≡ false → o' ≡ false → f' ≡ (f || false) → (o' || f') ≡ ((o || f) || false)
+  done_failed o o' f f' is is' so = rw (is, is', so) refl
+
+  -- a call went well
+  pub called_done : {A : Type 0} (old new : TwoCopies F) (a : A) (w : PlainKeeper F) → old.uncommitted ≡ false → Commits w new
+      → (plain_told M held w).has_failed ≡ ((plain_told M held old.working).has_failed || false) → Called (two_told M held old) (two_told M held new) (Ok a)
+  called_done old new a w closed made failed = record {
+    failed = done_failed old.uncommitted new.uncommitted (plain_told M held old.working).has_failed (plain_told M held new.working).has_failed closed made.closed
+        (ap (λ p. (plain_told M held p).has_failed) made.working ∙ failed);
+    honest = λ honest. honest;
+    err = tt;
+    err_lots = tt;
+    fault = λ clean s h t so. tt;
+  }
+
+  -- ---- a call of the working copy alone
+
+  pub called_working : {A : Type 0} (result : Result A StoreFault) (old new : TwoCopies F) → new.committed ≡ old.committed → new.uncommitted ≡ old.uncommitted
+      → Called (plain_told M held old.working) (plain_told M held new.working) result → Called (two_told M held old) (two_told M held new) result
+  called_working {A} (Ok a) old new committed alike called = record {
+    failed = ap (λ b. b || (plain_told M held new.working).has_failed) alike ∙ ap (λ b. old.uncommitted || b) called.failed ∙ or-append old.uncommitted (plain_told M held old.working).has_failed false;
+    honest = λ honest. honest;
+    err = tt;
+    err_lots = tt;
+    fault = λ clean s h t so. tt;
+  }
+  called_working {A} (Err fault) old new committed alike called = record {
+    failed = ap (λ b. b || (plain_told M held new.working).has_failed) alike ∙ ap (λ b. old.uncommitted || b) called.failed ∙ or-append old.uncommitted (plain_told M held old.working).has_failed true;
+    honest = λ honest. honest;
+    err = λ clean x r so. (subst (λ p. (plain_told M held p).holds x r) (sym committed) so.0, called.err tt x r so.1, alike ∙ so.2);
+    err_lots = λ clean x r so. lots_stay;
+    fault = λ clean s h t so. called.fault tt s h t (working_stands old s h t so);
+  }
+
+  pub looked_working : {A : Type 0} (result : Result A StoreFault) (old new : TwoCopies F) → new.committed ≡ old.committed → new.uncommitted ≡ old.uncommitted
+      → Looked (plain_told M held old.working) (plain_told M held new.working) result → Looked (two_told M held old) (two_told M held new) result
+  looked_working {A} (Ok a) old new committed alike looked = record {
+    called = called_working (Ok a) old new committed alike looked.called;
+    may = looked.may;
+    same = λ honest x r so. (subst (λ p. (plain_told M held p).holds x r) (sym committed) so.0, looked.same tt x r so.1, alike ∙ so.2);
+    lots = λ honest x r so. lots_stay;
+    whole = λ rows records so whole. whole;
+    crash = λ x r rows records so left. subst (λ p. (plain_told M held p).holds x r) committed left;
+  }
+  looked_working {A} (Err fault) old new committed alike looked = record {
+    called = called_working (Err fault) old new committed alike looked.called;
+    may = looked.may;
+    same = tt;
+    lots = tt;
+    whole = λ rows records so whole. whole;
+    crash = λ x r rows records so left. subst (λ p. (plain_told M held p).holds x r) committed left;
+  }
+
+  -- ---- opened again
+
+  pub reopens : (old new : TwoCopies F) → new.committed ≡ old.committed → new.uncommitted ≡ false → (plain_told M held new.working).has_failed ≡ false
+      → KeepsHeld (plain_told M held new.committed) (plain_told M held new.working) → Reopened (two_told M held old) (two_told M held new)
+  reopens old new committed closed going copied = record {
+    same = λ honest x r so. (subst (λ p. (plain_told M held p).holds x r) (sym committed) so.0, copied x r (subst (λ p. (plain_told M held p).holds x r) (sym committed) so.0), closed);
+    held = λ honest whole. (held new.committed.rows, mapped new.committed.records, ((refl, λ i. refl), copied (held new.committed.rows) (mapped new.committed.records) (refl, λ i. refl), closed));
+    left = λ honest whole x r so. subst (λ p. (plain_told M held p).holds x r) committed so.0;
+    firm = λ honest. copies_firm new;
+    lots = λ honest x r so. record { numbers = refl; current = refl; under = λ i. refl };
+    honest = λ honest. honest;
+    going = rw (closed, going) refl;
+  }

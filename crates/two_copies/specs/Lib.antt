@@ -1,0 +1,2 @@
+pub mod TwoCopies
+pub mod Lamp

@@ -1,0 +1,20 @@
+-- What a keeper with two copies holds, and what a crash leaves of it.
+use Rattle.std.specs.Prelude.{◌≡◌, ◌||◌, false}
+use Rattle.fuse_keeper.specs.Model.{Model}
+use Rattle.fuse_keeper.specs.KeeperState.{KeeperState}
+use Rattle.fuse_keeper.specs.PlainKeeper.{plain_told}
+use Rattle.fuse_keeper.specs.Lots.{no_lots}
+use Rattle.two_copies.specs.declared.copies.TwoCopies.{TwoCopies}
+
+-- where no write is open it holds what both copies hold; a crash leaves the committed one
+abbrev pub two_told : {F : Type 0} → (M : Model) → (F → M.Rows) → TwoCopies F → KeeperState M
+two_told M held k = record {
+  holds = λ rows records. (plain_told M held k.committed).holds rows records × (plain_told M held k.working).holds rows records × (k.uncommitted ≡ false);
+  is_honest = Unit {0};
+  is_clean = k.uncommitted ≡ false;
+  has_failed = k.uncommitted || (plain_told M held k.working).has_failed;
+  leaves_whole = Unit {0};
+  may_leave = (plain_told M held k.committed).holds;
+  may_answer = (plain_told M held k.working).may_answer;
+  lots = no_lots;
+}

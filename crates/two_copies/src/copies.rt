@@ -1,0 +1,169 @@
+// A keeper of lists with two copies.
+ghost use Rattle.std.specs.Prelude.{◌≡◌, ◌+◌, ◌^◌, ◌⊎◌, false, [], IfOk, OnOk, OnErr, is_err};
+ghost use Rattle.fuse_keeper.specs.KeeperState.{StandsFor, KeepsHeld};
+ghost use Rattle.fuse_keeper.specs.PlainKeeper.{plain_told};
+ghost use Rattle.two_copies.specs.TwoCopies.{two_told};
+
+use fuse_answer::Answer;
+use fuse_init::Settings;
+use fuse_keeper::{Done, FileSystem, Keeper, PlainKeeper, Restart, StoreCounts, StoreFault};
+use fuse_request::Request;
+use fuse_wire::{Id, Memory, Moment};
+use std::alloc::Global;
+
+/// A keeper of lists in a working copy, from which a committed one is made after each change.
+///
+/// A commit may be refused, by plan or for want of memory. Then the working copy holds what the call
+/// did and the committed one doesn't, and nothing but opening it again helps, which loses what the call
+/// did, as a crash there does.
+#[derive(Drop)]
+pub struct TwoCopies<F> {
+    committed: PlainKeeper<F>,
+    working: PlainKeeper<F>,
+    // The working copy holds what isn't committed.
+    uncommitted: bool,
+    // How often it was opened again.
+    openings: u64,
+    // So many commits go well between two that are refused.
+    commits: u64,
+    // So many of them are left.
+    left: u64,
+}
+
+impl<F: FileSystem> TwoCopies<F> {
+    /// A new store, made at this moment. So many commits go well, the next one is refused, and so on.
+    pub fn new(alloc: Global, now: Moment, commits: u64) -> Result<TwoCopies<F>, Memory>
+        ensures stands { IfOk result (λ k.
+            StandsFor (two_told F.model F.held k) (F.model.start now) [] []) }
+        ensures going { IfOk result (λ k. (two_told F.model F.held k).has_failed ≡ false) }
+        ensures unopened { IfOk result (λ k. k.openings ≡ 0) }
+    {
+        let working = PlainKeeper::new(alloc, now)?;
+        Ok(TwoCopies {
+            committed: working.to_copy()?,
+            working,
+            uncommitted: false,
+            openings: 0,
+            commits,
+            left: commits,
+        })
+    }
+
+    /// How often it was opened again. Takes no memory.
+    pub fn openings(&self) -> u64
+        ensures { result ≡ self.now.openings }
+    {
+        self.openings
+    }
+
+    // Makes the committed copy anew from the working one.
+    fn commit(&mut self) -> Result<(), StoreFault>
+        ensures working { self.new.working ≡ self.old.working }
+        ensures openings { self.new.openings ≡ self.old.openings }
+        ensures uncommitted { self.new.uncommitted ≡ is_err result }
+        ensures same { OnOk result (KeepsHeld (plain_told F.model F.held self.old.working)
+            (plain_told F.model F.held self.new.committed)) }
+        ensures no_more { OnOk result (KeepsHeld (plain_told F.model F.held self.new.committed)
+            (plain_told F.model F.held self.old.working)) }
+        ensures err { OnErr result (self.new.committed ≡ self.old.committed) }
+    {
+        self.uncommitted = true;
+        if self.left == 0 {
+            self.left = self.commits;
+            return Err(StoreFault::Damaged);
+        }
+        self.committed = self.working.to_copy()?;
+        self.left -= 1;
+        self.uncommitted = false;
+        Ok(())
+    }
+}
+
+impl<F: FileSystem> Keeper for TwoCopies<F> {
+    ghost use Rattle.std.proofs.Common.{sym, ◌∙◌, arith};
+
+    ghost model = { F.model };
+
+    ghost told = { two_told F.model F.held };
+
+    ghost became = { λ a b n. b.openings ≡ a.openings + n };
+
+    /// One whose commit was refused refuses all until it is opened again.
+    fn perform(
+        &mut self,
+        group: &[(Request<'_>, Moment)],
+        settled: &[Id],
+    ) -> Result<Vec<Done>, StoreFault> {
+        if self.uncommitted {
+            return Err(StoreFault::Damaged);
+        }
+        match self.working.perform(group, settled) {
+            Ok(dones) => {
+                self.commit()?;
+                Ok(dones)
+            }
+            Err(fault) => Err(fault),
+        }
+    }
+
+    fn begin_mount(&mut self) -> Result<(), StoreFault> {
+        if self.uncommitted {
+            return Err(StoreFault::Damaged);
+        }
+        match self.working.begin_mount() {
+            Ok(()) => {
+                self.commit()?;
+                Ok(())
+            }
+            Err(fault) => Err(fault),
+        }
+    }
+
+    fn answer_of(&mut self, id: Id) -> Result<Option<Answer>, StoreFault> {
+        self.working.answer_of(id)
+    }
+
+    fn settings(&mut self) -> Result<Option<Settings>, StoreFault> {
+        self.working.settings()
+    }
+
+    fn counts(&mut self) -> Result<StoreCounts, StoreFault> {
+        self.working.counts()
+    }
+
+    fn failed(&self) -> bool {
+        self.uncommitted || self.working.failed()
+    }
+
+    fn model_is_sound() {
+        F::model_is_sound();
+    }
+
+    ghost sound = { λ k. record {
+      one_holding = λ x y p q one two. (one.0.0 ∙ sym two.0.0, λ i. one.0.1 i ∙ sym (two.0.1 i));
+      clean_is_honest = λ clean. tt;
+    } };
+
+    ghost counted = { record {
+      none = λ k. omega arith;
+      then = λ a b c m n before after. omega (arith, before, after);
+    } };
+}
+
+impl<F: FileSystem> Restart for TwoCopies<F> {
+    ghost use Rattle.fuse_keeper.specs.declared.fault.StoreFault.TheVariants.{Memory as NoMemory};
+
+    // For want of memory, or where the openings can't be counted any further.
+    ghost may_refuse = { λ k fault. (fault ≡ NoMemory) ⊎ (k.openings + 1 ≡ 2 ^ 64) };
+
+    /// Makes the working copy anew from the committed one. What was in the working copy alone is lost.
+    fn restart(mut self) -> Result<TwoCopies<F>, StoreFault> {
+        let Some(openings) = self.openings.checked_add(1) else {
+            return Err(StoreFault::Damaged);
+        };
+        self.working = self.committed.to_copy()?;
+        self.openings = openings;
+        self.uncommitted = false;
+        Ok(self)
+    }
+}
