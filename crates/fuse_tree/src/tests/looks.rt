@@ -43,7 +43,8 @@ impl Look for Many {
         let [b'n', digits @ ..] = name else {
             return Ok(None);
         };
-        match entry_of(self.alloc, b"", words::number(digits), 9) {
+        let number = words::number(digits);
+        match entry_of(self.alloc, b"", number, number) {
             Ok(entry) => Ok(Some(entry)),
             Err(_) => Err(self.fails()),
         }
