@@ -1,6 +1,7 @@
 ghost use Rattle.fuse_tree.specs.Listing.{ListingIsLongest};
 ghost use Rattle.fuse_tree.specs.Renaming.{LiesInIsUnder};
-ghost use Rattle.fuse_tree.specs.Plan.{TreeKept, NewStoreIsTree, RowsTellState, AnswersFit, AnswersAreRead};
+ghost use Rattle.fuse_tree.specs.Plan.{TreeKept, NewStoreIsTree, RowsTellState, AnswersFit};
+ghost use Rattle.fuse_tree.specs.Plan.{AnswersAreRead};
 
 use fuse_answer::{read_back, record_sizes};
 

@@ -1,6 +1,7 @@
 ghost use Rattle.std.specs.Prelude.{◌≡◌, None, IfOk, OnOk, OnErr, Option};
 ghost use Rattle.std.specs.Result.{result_err};
-ghost use Rattle.fuse_tree.specs.Rows.{Rows, IsRowed, row_at, entry_at, entries_after, handle_at, bytes_at};
+ghost use Rattle.fuse_tree.specs.Rows.{Rows, IsRowed, row_at, entry_at, entries_after, handle_at};
+ghost use Rattle.fuse_tree.specs.Rows.{bytes_at};
 ghost use Rattle.fuse_tree.specs.declared.look.LookFault.{LookFault};
 
 use crate::rows::{Counters, EntryRow, HandleRow, NodeRow};
@@ -38,7 +39,8 @@ pub trait Look {
     /// The row of this node.
     fn node(&mut self, number: u64) -> Result<Option<NodeRow>, LookFault>
         requires { fault self.old ≡ None }
-        ensures row { is_clean self.new → (rows : Rows) → IsRowed rows → sees self.old rows → IfOk result (λ row. row ≡ row_at rows number) }
+        ensures row { is_clean self.new → (rows : Rows) → IsRowed rows → sees self.old rows
+            → IfOk result (λ row. row ≡ row_at rows number) }
         ensures fault { fault self.new ≡ result_err result }
         ensures looks { OnOk result (looks self.old self.new) }
         ensures fails { OnErr result (fails self.old self.new) };
@@ -46,7 +48,8 @@ pub trait Look {
     /// The entry of this name in the directory.
     fn entry(&mut self, dir: u64, name: &[u8]) -> Result<Option<EntryRow>, LookFault>
         requires { fault self.old ≡ None }
-        ensures row { is_clean self.new → (rows : Rows) → IsRowed rows → sees self.old rows → IfOk result (λ row. row ≡ entry_at rows.entries dir name.now) }
+        ensures row { is_clean self.new → (rows : Rows) → IsRowed rows → sees self.old rows
+            → IfOk result (λ row. row ≡ entry_at rows.entries dir name.now) }
         ensures fault { fault self.new ≡ result_err result }
         ensures looks { OnOk result (looks self.old self.new) }
         ensures fails { OnErr result (fails self.old self.new) };
@@ -59,7 +62,8 @@ pub trait Look {
         limit: usize,
     ) -> Result<Vec<EntryRow>, LookFault>
         requires { fault self.old ≡ None }
-        ensures rows { is_clean self.new → (rows : Rows) → IsRowed rows → sees self.old rows → IfOk result (λ v. v.items ≡ entries_after rows dir cookie limit) }
+        ensures rows { is_clean self.new → (rows : Rows) → IsRowed rows → sees self.old rows
+            → IfOk result (λ v. v.items ≡ entries_after rows dir cookie limit) }
         ensures fault { fault self.new ≡ result_err result }
         ensures looks { OnOk result (looks self.old self.new) }
         ensures fails { OnErr result (fails self.old self.new) };
@@ -67,7 +71,8 @@ pub trait Look {
     /// The row of this handle.
     fn handle(&mut self, fh: u64) -> Result<Option<HandleRow>, LookFault>
         requires { fault self.old ≡ None }
-        ensures row { is_clean self.new → (rows : Rows) → IsRowed rows → sees self.old rows → IfOk result (λ row. row ≡ handle_at rows.handles fh) }
+        ensures row { is_clean self.new → (rows : Rows) → IsRowed rows → sees self.old rows
+            → IfOk result (λ row. row ≡ handle_at rows.handles fh) }
         ensures fault { fault self.new ≡ result_err result }
         ensures looks { OnOk result (looks self.old self.new) }
         ensures fails { OnErr result (fails self.old self.new) };
@@ -75,7 +80,8 @@ pub trait Look {
     /// At most `len` bytes of the node's content, from `offset` on.
     fn bytes(&mut self, node: u64, offset: u64, len: u32) -> Result<ByteList, LookFault>
         requires { fault self.old ≡ None }
-        ensures bytes { is_clean self.new → (rows : Rows) → IsRowed rows → sees self.old rows → IfOk result (λ bytes. bytes ≡ bytes_at rows node offset len) }
+        ensures bytes { is_clean self.new → (rows : Rows) → IsRowed rows → sees self.old rows
+            → IfOk result (λ bytes. bytes ≡ bytes_at rows node offset len) }
         ensures fault { fault self.new ≡ result_err result }
         ensures looks { OnOk result (looks self.old self.new) }
         ensures fails { OnErr result (fails self.old self.new) };
@@ -83,7 +89,8 @@ pub trait Look {
     /// The numbers that are given out next, and how many nodes and handles there are.
     fn counters(&mut self) -> Result<Counters, LookFault>
         requires { fault self.old ≡ None }
-        ensures row { is_clean self.new → (rows : Rows) → IsRowed rows → sees self.old rows → IfOk result (λ row. row ≡ rows.counters) }
+        ensures row { is_clean self.new → (rows : Rows) → IsRowed rows → sees self.old rows
+            → IfOk result (λ row. row ≡ rows.counters) }
         ensures fault { fault self.new ≡ result_err result }
         ensures looks { OnOk result (looks self.old self.new) }
         ensures fails { OnErr result (fails self.old self.new) };
@@ -91,7 +98,8 @@ pub trait Look {
     /// What was agreed on by INIT, where there was one.
     fn settings(&mut self) -> Result<Option<Settings>, LookFault>
         requires { fault self.old ≡ None }
-        ensures row { is_clean self.new → (rows : Rows) → IsRowed rows → sees self.old rows → IfOk result (λ row. row ≡ rows.settings) }
+        ensures row { is_clean self.new → (rows : Rows) → IsRowed rows → sees self.old rows
+            → IfOk result (λ row. row ≡ rows.settings) }
         ensures fault { fault self.new ≡ result_err result }
         ensures looks { OnOk result (looks self.old self.new) }
         ensures fails { OnErr result (fails self.old self.new) };
@@ -113,5 +121,6 @@ pub trait Look {
     ghost was_clean: { (a b : Self) → looks a b → is_clean b → is_clean a };
 
     /// Looks change nothing of what lies behind it.
-    ghost kept: { (a b : Self) → looks a b → is_clean b → (rows : Rows) → sees a rows → sees b rows };
+    ghost kept: { (a b : Self) → looks a b → is_clean b → (rows : Rows) → sees a rows
+        → sees b rows };
 }

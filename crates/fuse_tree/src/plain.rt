@@ -24,9 +24,11 @@ pub struct PlainRows {
 }
 
 impl PlainRows {
-    ghost use Rattle.std.specs.Prelude.{◌≡◌, None, Some, IfOk, OnOk, OnErr, ◌++◌, ◌∷◌, [], map, filter, not, ◌==◌};
+    ghost use Rattle.std.specs.Prelude.{◌≡◌, None, Some, IfOk, OnOk, OnErr, ◌++◌, ◌∷◌, [], map};
+    ghost use Rattle.std.specs.Prelude.{filter, not, ◌==◌};
     ghost use Rattle.fuse_tree.specs.State.{new_store};
-    ghost use Rattle.fuse_tree.specs.Rows.{rowed, apply_one, apply, put_node, at_node, written, sized};
+    ghost use Rattle.fuse_tree.specs.Rows.{rowed, apply_one, apply, put_node, at_node, written};
+    ghost use Rattle.fuse_tree.specs.Rows.{sized};
     ghost use Rattle.fuse_tree.specs.Clearing.{cleared_rows};
     ghost use Rattle.fuse_tree.specs.PlainRows.{rows_of, fault_of};
 
@@ -105,8 +107,8 @@ impl PlainRows {
         }
     }
 
-    /// Makes the changes, one after the other. On an `Err` some of them are made and the others not,
-    /// so that what is left stands for no tree.
+    /// Makes the changes, one after the other. On an `Err` some of them are made and the others
+    /// not, so that what is left stands for no tree.
     pub fn apply_all(&mut self, changes: ChangeList) -> Result<(), Memory>
         ensures ok { OnOk result (rows_of self.new ≡ apply (rows_of self.old) changes) }
         ensures fault { fault_of self.new ≡ fault_of self.old }
@@ -144,7 +146,8 @@ impl PlainRows {
     }
 
     fn put_node(&mut self, row: NodeRow) -> Result<(), Memory>
-        ensures ok { OnOk result (rows_of self.new ≡ record (rows_of self.old) { nodes = put_node row (rows_of self.old).nodes }) }
+        ensures ok { OnOk result (rows_of self.new
+            ≡ record (rows_of self.old) { nodes = put_node row (rows_of self.old).nodes }) }
         ensures err { OnErr result (rows_of self.new ≡ rows_of self.old) }
         ensures fault { fault_of self.new ≡ fault_of self.old }
     {
@@ -152,7 +155,8 @@ impl PlainRows {
     }
 
     fn add_entry(&mut self, entry: EntryRow) -> Result<(), Memory>
-        ensures ok { OnOk result (rows_of self.new ≡ record (rows_of self.old) { entries = (rows_of self.old).entries ++ entry ∷ [] }) }
+        ensures ok { OnOk result (rows_of self.new
+            ≡ record (rows_of self.old) { entries = (rows_of self.old).entries ++ entry ∷ [] }) }
         ensures err { OnErr result (rows_of self.new ≡ rows_of self.old) }
         ensures fault { fault_of self.new ≡ fault_of self.old }
     {
@@ -161,14 +165,18 @@ impl PlainRows {
     }
 
     fn remove_entry(&mut self, cookie: u64)
-        ensures rows { rows_of self.new ≡ record (rows_of self.old) { entries = filter (λ e. not (e.cookie == cookie)) (rows_of self.old).entries } }
+        ensures rows { rows_of self.new ≡ record (rows_of self.old) {
+          entries = filter
+              (λ e. not (e.cookie == cookie)) (rows_of self.old).entries;
+        } }
         ensures fault { fault_of self.new ≡ fault_of self.old }
     {
         entries::remove(&mut self.entries, cookie);
     }
 
     fn add_handle(&mut self, handle: HandleRow) -> Result<(), Memory>
-        ensures ok { OnOk result (rows_of self.new ≡ record (rows_of self.old) { handles = (rows_of self.old).handles ++ handle ∷ [] }) }
+        ensures ok { OnOk result (rows_of self.new
+            ≡ record (rows_of self.old) { handles = (rows_of self.old).handles ++ handle ∷ [] }) }
         ensures err { OnErr result (rows_of self.new ≡ rows_of self.old) }
         ensures fault { fault_of self.new ≡ fault_of self.old }
     {
@@ -177,14 +185,21 @@ impl PlainRows {
     }
 
     fn remove_handle(&mut self, fh: u64)
-        ensures rows { rows_of self.new ≡ record (rows_of self.old) { handles = filter (λ h. not (h.fh == fh)) (rows_of self.old).handles } }
+        ensures rows { rows_of self.new ≡ record (rows_of self.old) {
+          handles = filter
+              (λ h. not (h.fh == fh)) (rows_of self.old).handles;
+        } }
         ensures fault { fault_of self.new ≡ fault_of self.old }
     {
         handles::remove(&mut self.handles, fh);
     }
 
     fn write_bytes(&mut self, node: u64, offset: u64, bytes: &[u8]) -> Result<(), Memory>
-        ensures ok { OnOk result (rows_of self.new ≡ record (rows_of self.old) { nodes = map (at_node node (written offset bytes.now)) (rows_of self.old).nodes }) }
+        ensures ok { OnOk result (rows_of self.new
+            ≡ record (rows_of self.old) {
+              nodes = map (at_node node (written offset bytes.now))
+                  (rows_of self.old).nodes;
+            }) }
         ensures err { OnErr result (rows_of self.new ≡ rows_of self.old) }
         ensures fault { fault_of self.new ≡ fault_of self.old }
     {
@@ -192,7 +207,11 @@ impl PlainRows {
     }
 
     fn set_size(&mut self, node: u64, size: u64) -> Result<(), Memory>
-        ensures ok { OnOk result (rows_of self.new ≡ record (rows_of self.old) { nodes = map (at_node node (sized size)) (rows_of self.old).nodes }) }
+        ensures ok { OnOk result (rows_of self.new
+            ≡ record (rows_of self.old) {
+              nodes = map (at_node node (sized size))
+                  (rows_of self.old).nodes;
+            }) }
         ensures err { OnErr result (rows_of self.new ≡ rows_of self.old) }
         ensures fault { fault_of self.new ≡ fault_of self.old }
     {

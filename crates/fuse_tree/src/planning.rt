@@ -6,7 +6,8 @@ ghost use Rattle.fuse_tree.specs.Rows.{rowed};
 ghost use Rattle.fuse_tree.specs.Do.{done};
 ghost use Rattle.fuse_tree.specs.Plan.{Meets, look_fault};
 ghost use Rattle.fuse_tree.specs.Reading.{IsWithin, Reads};
-ghost use Rattle.fuse_tree.specs.Planning.{tells_name, plan_act, plan_agreed as planned_agreed, plan_of};
+ghost use Rattle.fuse_tree.specs.Planning.{tells_name, plan_act, plan_agreed as planned_agreed};
+ghost use Rattle.fuse_tree.specs.Planning.{plan_of};
 
 mod answers;
 mod attributes;
@@ -68,11 +69,14 @@ pub fn plan<L: Look>(
 ) -> Result<Planned, PlanFault>
     requires { L.fault look.old ≡ None }
     // Over the rows of a tree, it is what the request does there.
-    ensures meets { L.is_clean look.new → (s : State) → Tree s → L.sees look.old (rowed s) → IfOk result (λ p. Meets s p (done s (asked request.now) now)) }
+    ensures meets { L.is_clean look.new → (s : State) → Tree s → L.sees look.old (rowed s)
+        → IfOk result (λ p. Meets s p (done s (asked request.now) now)) }
     // Its answer is read as one to the request's opcode.
-    ensures read { L.is_clean look.new → (s : State) → Tree s → L.sees look.old (rowed s) → IfOk result (λ p. IsRead (opcode_of (act request.now.op)) p.answer) }
+    ensures read { L.is_clean look.new → (s : State) → Tree s → L.sees look.old (rowed s)
+        → IfOk result (λ p. IsRead (opcode_of (act request.now.op)) p.answer) }
     // The rows are said to be those of no tree only where they are.
-    ensures not_a_tree { IfErr result (λ f. f ≡ PlanFault.NotATree → L.is_clean look.new → (s : State) → Tree s → L.sees look.old (rowed s) → ⊥) }
+    ensures not_a_tree { IfErr result (λ f. f ≡ PlanFault.NotATree → L.is_clean look.new
+        → (s : State) → Tree s → L.sees look.old (rowed s) → ⊥) }
     // The look's fault is then the one that is answered, and none where none is.
     ensures fault { L.fault look.new ≡ look_fault result }
     ensures looks { look_fault result ≡ None → L.looks look.old look.new }
@@ -91,7 +95,8 @@ fn plan_request<L: Look>(
     now: Moment,
 ) -> Result<Planned, PlanFault>
     requires { L.fault look.old ≡ None }
-    ensures plan { Reads (L.is_clean look.new) (L.sees look.old) result (plan_of (asked request.now) now) }
+    ensures plan { Reads (L.is_clean look.new) (L.sees look.old) result
+        (plan_of (asked request.now) now) }
     ensures fault { L.fault look.new ≡ look_fault result }
     ensures looks { look_fault result ≡ None → L.looks look.old look.new }
     ensures fails { OnErr result (L.fails look.old look.new) }
@@ -113,7 +118,8 @@ fn plan_agreed<L: Look>(
     now: Moment,
 ) -> Result<Planned, PlanFault>
     requires { L.fault look.old ≡ None }
-    ensures plan { Reads (L.is_clean look.new) (L.sees look.old) result (planned_agreed (asked request.now) now) }
+    ensures plan { Reads (L.is_clean look.new) (L.sees look.old) result
+        (planned_agreed (asked request.now) now) }
     ensures fault { L.fault look.new ≡ look_fault result }
     ensures looks { look_fault result ≡ None → L.looks look.old look.new }
     ensures fails { OnErr result (L.fails look.old look.new) }
@@ -137,7 +143,8 @@ fn plan_op<L: Look>(
 ) -> Result<Planned, PlanFault>
     requires fault { L.fault look.old ≡ None }
     requires within { IsWithin row.now }
-    ensures plan { Reads (L.is_clean look.new) (L.sees look.old) result (plan_act request.now.header (act request.now.op) now row.now) }
+    ensures plan { Reads (L.is_clean look.new) (L.sees look.old) result
+        (plan_act request.now.header (act request.now.op) now row.now) }
     ensures fault { L.fault look.new ≡ look_fault result }
     ensures looks { look_fault result ≡ None → L.looks look.old look.new }
     ensures fails { OnErr result (L.fails look.old look.new) }
@@ -184,7 +191,8 @@ fn plan_named<L: Look>(
     requires fault { L.fault look.old ≡ None }
     requires within { IsWithin row.now }
     requires named { tells_name (act request.now.op) ≡ true }
-    ensures plan { Reads (L.is_clean look.new) (L.sees look.old) result (plan_act request.now.header (act request.now.op) now row.now) }
+    ensures plan { Reads (L.is_clean look.new) (L.sees look.old) result
+        (plan_act request.now.header (act request.now.op) now row.now) }
     ensures fault { L.fault look.new ≡ look_fault result }
     ensures looks { look_fault result ≡ None → L.looks look.old look.new }
     ensures fails { OnErr result (L.fails look.old look.new) }

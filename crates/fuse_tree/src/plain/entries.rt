@@ -1,4 +1,5 @@
-ghost use Rattle.std.specs.Prelude.{◌≡◌, ◌==◌, Some, IfOk, OnOk, List, [], ◌∷◌, ◌++◌, not, filter, take};
+ghost use Rattle.std.specs.Prelude.{◌≡◌, ◌==◌, Some, IfOk, OnOk, List, [], ◌∷◌, ◌++◌, not, filter};
+ghost use Rattle.std.specs.Prelude.{take};
 ghost use Rattle.fuse_tree.specs.State.{is_entry};
 ghost use Rattle.fuse_tree.specs.Rows.{entry_at, is_after};
 ghost use Rattle.fuse_tree.specs.declared.rows.EntryRow.{EntryRow};
@@ -75,7 +76,8 @@ fn push_copy(
     limit: usize,
     entry: &EntryRow,
 ) -> Result<(), Memory>
-    ensures { OnOk result ((all : List EntryRow) → found.old.items ≡ take limit all → found.new.items ≡ take limit (all ++ entry.now ∷ [])) }
+    ensures { OnOk result ((all : List EntryRow) → found.old.items ≡ take limit all
+        → found.new.items ≡ take limit (all ++ entry.now ∷ [])) }
 {
     if found.len() < limit {
         found.push(copy_of(alloc, entry)?)?;
@@ -90,7 +92,8 @@ pub(super) fn after(
     cookie: u64,
     limit: usize,
 ) -> Result<Vec<EntryRow>, Memory>
-    ensures { IfOk result (λ found. found.items ≡ take limit (filter (is_after dir cookie) entries.now)) }
+    ensures { IfOk result (λ found. found.items ≡ take limit (filter (is_after dir cookie)
+        entries.now)) }
 {
     let mut found = Vec::new(alloc);
     for entry in entries {

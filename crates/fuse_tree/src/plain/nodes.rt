@@ -25,7 +25,8 @@ impl Model for NodeList {
 }
 
 impl NodeList {
-    ghost use Rattle.std.specs.Prelude.{◌≡◌, ◌==◌, IfOk, OnOk, OnErr, [], length, map, filter, find, take, drop};
+    ghost use Rattle.std.specs.Prelude.{◌≡◌, ◌==◌, IfOk, OnOk, OnErr, [], length, map, filter};
+    ghost use Rattle.std.specs.Prelude.{find, take, drop};
     ghost use Rattle.std.specs.Option.{option_map};
     ghost use Rattle.fuse_tree.specs.Rows.{put_node, at_node, written, sized, content_of};
     ghost use Rattle.fuse_tree.specs.Clearing.{is_named_row};
@@ -58,7 +59,8 @@ impl NodeList {
         offset: u64,
         len: u32,
     ) -> Result<ByteList, Memory>
-        ensures { IfOk result (λ bytes. bytes ≡ take len (drop offset (content_of (find (λ f. f.row.node == number) self.now)))) }
+        ensures { IfOk result (λ bytes. bytes ≡ take len (drop offset
+            (content_of (find (λ f. f.row.node == number) self.now)))) }
     {
         bytes_in(alloc, self.nodes.as_slice(), number, offset, len)
     }
@@ -84,7 +86,8 @@ impl NodeList {
         offset: u64,
         bytes: &[u8],
     ) -> Result<(), Memory>
-        ensures ok { OnOk result (self.new ≡ map (at_node number (written offset bytes.now)) self.old) }
+        ensures ok { OnOk result (self.new ≡ map (at_node number (written offset bytes.now))
+            self.old) }
         ensures err { OnErr result (self.new ≡ self.old) }
     {
         if let Some(place) = place_in(self.nodes.as_slice(), number) {
@@ -166,7 +169,8 @@ fn bytes_in(
     offset: u64,
     len: u32,
 ) -> Result<ByteList, Memory>
-    ensures { IfOk result (λ bytes. bytes ≡ take len (drop offset (content_of (find (λ f. f.row.node == number) nodes.now)))) }
+    ensures { IfOk result (λ bytes. bytes ≡ take len (drop offset
+        (content_of (find (λ f. f.row.node == number) nodes.now)))) }
 {
     for full in nodes {
         if full.row.node == number {

@@ -25,9 +25,9 @@ impl From<LookFault> for PlanFault {
 
 impl From<Memory> for PlanFault {
     ghost use Rattle.std.specs.Prelude.{◌≡◌};
-    ghost use Rattle.fuse_tree.specs.declared.planning.fault.PlanFault.TheVariants.{Memory as NoMemory};
+    ghost use Rattle.fuse_tree.specs.declared.planning.fault.PlanFault.TheVariants as faults;
 
-    ghost from_gives = { λ _ e. e ≡ NoMemory };
+    ghost from_gives = { λ _ e. e ≡ faults.Memory };
 
     fn from(_e: Memory) -> PlanFault {
         PlanFault::Memory
@@ -36,9 +36,9 @@ impl From<Memory> for PlanFault {
 
 impl<T: Drop> From<AllocFailed<T>> for PlanFault {
     ghost use Rattle.std.specs.Prelude.{◌≡◌};
-    ghost use Rattle.fuse_tree.specs.declared.planning.fault.PlanFault.TheVariants.{Memory as NoMemory};
+    ghost use Rattle.fuse_tree.specs.declared.planning.fault.PlanFault.TheVariants as faults;
 
-    ghost from_gives = { λ _ e. e ≡ NoMemory };
+    ghost from_gives = { λ _ e. e ≡ faults.Memory };
 
     fn from(_e: AllocFailed<T>) -> PlanFault {
         PlanFault::from(Memory)

@@ -23,7 +23,8 @@ pub struct Link {
 #[tactic(auto, using(crate::proofs::Bounds::row_within))]
 pub(crate) fn find_node<L: Look>(look: &mut L, number: u64) -> Result<Option<NodeRow>, PlanFault>
     requires { L.fault look.old ≡ None }
-    ensures row { Reads (L.is_clean look.new) (L.sees look.old) result (λ rows. row_at rows number) }
+    ensures row { Reads (L.is_clean look.new) (L.sees look.old) result
+        (λ rows. row_at rows number) }
     ensures within { IfOk result (λ row. IfSome row IsWithin) }
     ensures fault { L.fault look.new ≡ look_fault result }
     ensures looks { look_fault result ≡ None → L.looks look.old look.new }
@@ -40,7 +41,8 @@ pub(crate) fn find_node<L: Look>(look: &mut L, number: u64) -> Result<Option<Nod
 
 fn find_entry<L: Look>(look: &mut L, dir: u64, name: &[u8]) -> Result<Option<EntryRow>, PlanFault>
     requires { L.fault look.old ≡ None }
-    ensures row { Reads (L.is_clean look.new) (L.sees look.old) result (λ rows. entry_at rows.entries dir name.now) }
+    ensures row { Reads (L.is_clean look.new) (L.sees look.old) result
+        (λ rows. entry_at rows.entries dir name.now) }
     ensures fault { L.fault look.new ≡ look_fault result }
     ensures looks { look_fault result ≡ None → L.looks look.old look.new }
     ensures fails { OnErr result (L.fails look.old look.new) }
@@ -51,7 +53,8 @@ fn find_entry<L: Look>(look: &mut L, dir: u64, name: &[u8]) -> Result<Option<Ent
 // Whether the name stands in the directory.
 pub(crate) fn is_taken<L: Look>(look: &mut L, dir: u64, name: &[u8]) -> Result<bool, PlanFault>
     requires { L.fault look.old ≡ None }
-    ensures taken { Reads (L.is_clean look.new) (L.sees look.old) result (λ rows. is_some (entry_at rows.entries dir name.now)) }
+    ensures taken { Reads (L.is_clean look.new) (L.sees look.old) result
+        (λ rows. is_some (entry_at rows.entries dir name.now)) }
     ensures fault { L.fault look.new ≡ look_fault result }
     ensures looks { look_fault result ≡ None → L.looks look.old look.new }
     ensures fails { OnErr result (L.fails look.old look.new) }
@@ -67,7 +70,8 @@ pub(crate) fn find_link<L: Look>(
     name: &[u8],
 ) -> Result<Option<Link>, PlanFault>
     requires { L.fault look.old ≡ None }
-    ensures row { Reads (L.is_clean look.new) (L.sees look.old) result (λ rows. link_at rows dir name.now) }
+    ensures row { Reads (L.is_clean look.new) (L.sees look.old) result
+        (λ rows. link_at rows dir name.now) }
     ensures within { IfOk result (λ link. IfSome link (λ l. IsWithin l.child)) }
     ensures fault { L.fault look.new ≡ look_fault result }
     ensures looks { look_fault result ≡ None → L.looks look.old look.new }
@@ -92,7 +96,8 @@ pub(crate) fn find_child<L: Look>(
     name: &[u8],
 ) -> Result<Option<NodeRow>, PlanFault>
     requires { L.fault look.old ≡ None }
-    ensures row { Reads (L.is_clean look.new) (L.sees look.old) result (λ rows. child_at rows dir name.now) }
+    ensures row { Reads (L.is_clean look.new) (L.sees look.old) result
+        (λ rows. child_at rows dir name.now) }
     ensures within { IfOk result (λ row. IfSome row IsWithin) }
     ensures fault { L.fault look.new ≡ look_fault result }
     ensures looks { look_fault result ≡ None → L.looks look.old look.new }
@@ -107,7 +112,8 @@ pub(crate) fn find_child<L: Look>(
 // Whether an entry stands in the directory.
 pub(crate) fn has_entries<L: Look>(look: &mut L, dir: u64) -> Result<bool, PlanFault>
     requires { L.fault look.old ≡ None }
-    ensures row { Reads (L.is_clean look.new) (L.sees look.old) result (λ rows. removing.has_entries rows.entries dir) }
+    ensures row { Reads (L.is_clean look.new) (L.sees look.old) result
+        (λ rows. removing.has_entries rows.entries dir) }
     ensures fault { L.fault look.new ≡ look_fault result }
     ensures looks { look_fault result ≡ None → L.looks look.old look.new }
     ensures fails { OnErr result (L.fails look.old look.new) }
@@ -127,7 +133,8 @@ pub(crate) fn find_counters<L: Look>(look: &mut L) -> Result<Counters, PlanFault
 
 pub(crate) fn find_handle<L: Look>(look: &mut L, fh: u64) -> Result<Option<HandleRow>, PlanFault>
     requires { L.fault look.old ≡ None }
-    ensures row { Reads (L.is_clean look.new) (L.sees look.old) result (λ rows. handle_at rows.handles fh) }
+    ensures row { Reads (L.is_clean look.new) (L.sees look.old) result
+        (λ rows. handle_at rows.handles fh) }
     ensures fault { L.fault look.new ≡ look_fault result }
     ensures looks { look_fault result ≡ None → L.looks look.old look.new }
     ensures fails { OnErr result (L.fails look.old look.new) }
@@ -142,7 +149,8 @@ pub(crate) fn find_access<L: Look>(
     node: u64,
 ) -> Result<Option<AccessMode>, PlanFault>
     requires { L.fault look.old ≡ None }
-    ensures access { Reads (L.is_clean look.new) (L.sees look.old) result (λ rows. access_at rows.handles fh node) }
+    ensures access { Reads (L.is_clean look.new) (L.sees look.old) result
+        (λ rows. access_at rows.handles fh node) }
     ensures fault { L.fault look.new ≡ look_fault result }
     ensures looks { look_fault result ≡ None → L.looks look.old look.new }
     ensures fails { OnErr result (L.fails look.old look.new) }
@@ -156,7 +164,8 @@ pub(crate) fn find_access<L: Look>(
 // Whether the handle is open at this node.
 pub(crate) fn is_open_at<L: Look>(look: &mut L, fh: u64, node: u64) -> Result<bool, PlanFault>
     requires { L.fault look.old ≡ None }
-    ensures open { Reads (L.is_clean look.new) (L.sees look.old) result (λ rows. is_open rows.handles fh node) }
+    ensures open { Reads (L.is_clean look.new) (L.sees look.old) result
+        (λ rows. is_open rows.handles fh node) }
     ensures fault { L.fault look.new ≡ look_fault result }
     ensures looks { look_fault result ≡ None → L.looks look.old look.new }
     ensures fails { OnErr result (L.fails look.old look.new) }
@@ -167,7 +176,8 @@ pub(crate) fn is_open_at<L: Look>(look: &mut L, fh: u64, node: u64) -> Result<bo
 // Whether an INIT is agreed on.
 pub(crate) fn has_settings<L: Look>(look: &mut L) -> Result<bool, PlanFault>
     requires { L.fault look.old ≡ None }
-    ensures settled { Reads (L.is_clean look.new) (L.sees look.old) result (λ rows. is_some rows.settings) }
+    ensures settled { Reads (L.is_clean look.new) (L.sees look.old) result
+        (λ rows. is_some rows.settings) }
     ensures fault { L.fault look.new ≡ look_fault result }
     ensures looks { look_fault result ≡ None → L.looks look.old look.new }
     ensures fails { OnErr result (L.fails look.old look.new) }

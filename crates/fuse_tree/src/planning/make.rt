@@ -3,7 +3,8 @@ ghost use Rattle.fuse_tree.specs.Making.{is_full};
 ghost use Rattle.fuse_tree.specs.Plan.{look_fault};
 ghost use Rattle.fuse_tree.specs.PlanMaking as planning;
 ghost use Rattle.fuse_tree.specs.Reading.{IsWithin, Reads};
-ghost use Rattle.fuse_tree.specs.PlanMaking.{dir_row, new_row, changes_of, plan_new, plan_make_with_room};
+ghost use Rattle.fuse_tree.specs.PlanMaking.{dir_row, new_row, changes_of, plan_new};
+ghost use Rattle.fuse_tree.specs.PlanMaking.{plan_make_with_room};
 
 use super::answers::{entry_answer, refused};
 use super::attributes::is_directory;
@@ -26,7 +27,8 @@ pub(crate) fn plan_make<L: Look>(
 ) -> Result<Planned, PlanFault>
     requires fault { L.fault look.old ≡ None }
     requires within { IsWithin row.now }
-    ensures plan { Reads (L.is_clean look.new) (L.sees look.old) result (planning.plan_make fresh.now name.now row.now) }
+    ensures plan { Reads (L.is_clean look.new) (L.sees look.old) result
+        (planning.plan_make fresh.now name.now row.now) }
     ensures fault { L.fault look.new ≡ look_fault result }
     ensures looks { look_fault result ≡ None → L.looks look.old look.new }
     ensures fails { OnErr result (L.fails look.old look.new) }
@@ -50,7 +52,8 @@ fn make_with_room<L: Look>(
 ) -> Result<Planned, PlanFault>
     requires fault { L.fault look.old ≡ None }
     requires within { IsWithin row.now }
-    ensures plan { Reads (L.is_clean look.new) (L.sees look.old) result (plan_make_with_room fresh.now name.now row.now) }
+    ensures plan { Reads (L.is_clean look.new) (L.sees look.old) result
+        (plan_make_with_room fresh.now name.now row.now) }
     ensures fault { L.fault look.new ≡ look_fault result }
     ensures looks { look_fault result ≡ None → L.looks look.old look.new }
     ensures fails { OnErr result (L.fails look.old look.new) }
@@ -78,7 +81,8 @@ fn make(
     row: &NodeRow,
 ) -> Result<Planned, Memory>
     requires within { IsWithin row.now }
-    requires room { is_full counters.now.nodes counters.now.next_node counters.now.next_cookie ≡ false }
+    requires room { is_full counters.now.nodes counters.now.next_node counters.now.next_cookie
+        ≡ false }
     ensures { IfOk result (λ p. p ≡ plan_new counters.now fresh.now name.now row.now) }
 {
     let answer = entry_answer(alloc, &new_row_of(counters, fresh, row.node))?;
@@ -95,8 +99,10 @@ fn make_changes(
     row: &NodeRow,
 ) -> Result<ChangeList, Memory>
     requires within { IsWithin row.now }
-    requires room { is_full counters.now.nodes counters.now.next_node counters.now.next_cookie ≡ false }
-    ensures { IfOk result (λ changes. changes ≡ changes_of counters.now fresh.now name.now row.now) }
+    requires room { is_full counters.now.nodes counters.now.next_node counters.now.next_cookie
+        ≡ false }
+    ensures { IfOk result (λ changes. changes ≡ changes_of counters.now fresh.now name.now
+        row.now) }
 {
     let mut changes = Vec::new(alloc);
     changes.push(Change::Node(dir_row_of(fresh, row)))?;

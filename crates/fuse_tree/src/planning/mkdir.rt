@@ -28,7 +28,8 @@ pub(crate) fn plan_mkdir<L: Look>(
 ) -> Result<Planned, PlanFault>
     requires fault { L.fault look.old ≡ None }
     requires within { IsWithin row.now }
-    ensures plan { Reads (L.is_clean look.new) (L.sees look.old) result (planning.plan_mkdir header.now mode name.now now row.now) }
+    ensures plan { Reads (L.is_clean look.new) (L.sees look.old) result
+        (planning.plan_mkdir header.now mode name.now now row.now) }
     ensures fault { L.fault look.new ≡ look_fault result }
     ensures looks { look_fault result ≡ None → L.looks look.old look.new }
     ensures fails { OnErr result (L.fails look.old look.new) }

@@ -2,7 +2,9 @@ ghost use Rattle.std.specs.Prelude.{◌≡◌, ◌<◌, ◌+◌, ◌≤◌, ◌+
 ghost use Rattle.fuse_tree.specs.declared.limits.TheConstants.{COUNTER_END as counter_end};
 ghost use Rattle.fuse_tree.specs.Reading.{IsWithin};
 ghost use Rattle.fuse_tree.specs.PlanRenaming as planning;
-ghost use Rattle.fuse_tree.specs.PlanRenaming.{renaming_of, is_dir_other, dirs_changes, entry_change, lost_changes, rename_changes, exchange_changes};
+ghost use Rattle.fuse_tree.specs.PlanRenaming.{renaming_of, is_dir_other, dirs_changes};
+ghost use Rattle.fuse_tree.specs.PlanRenaming.{entry_change, lost_changes, rename_changes};
+ghost use Rattle.fuse_tree.specs.PlanRenaming.{exchange_changes};
 
 use super::attributes::is_directory;
 use super::finding::Link;
@@ -77,7 +79,8 @@ fn put_dirs(
 ) -> Result<(), Memory>
     requires from_within { IsWithin from.now }
     requires to_within { IsWithin to.now }
-    ensures { OnOk result (changes.new.items ≡ changes.old.items ++ dirs_changes (renaming_of asked.now) from.now to.now dirs.moves dirs.comes dirs.lost) }
+    ensures { OnOk result (changes.new.items ≡ changes.old.items
+        ++ dirs_changes (renaming_of asked.now) from.now to.now dirs.moves dirs.comes dirs.lost) }
 {
     if from.node == asked.new_dir {
         let both = Passing {
@@ -144,7 +147,8 @@ pub(crate) fn rename_changes_of(
     requires from_within { IsWithin from.now }
     requires to_within { IsWithin to.now }
     requires room { counters.now.next_cookie < counter_end }
-    ensures { IfOk result (λ changes. changes ≡ rename_changes (renaming_of asked.now) counters.now from.now to.now source.now other) }
+    ensures { IfOk result (λ changes. changes ≡ rename_changes (renaming_of asked.now) counters.now
+        from.now to.now source.now other) }
 {
     let cookie = counters.next_cookie;
     let entry = entry_of(alloc, asked.new_dir, asked.new_name, &source.child, cookie)?;
@@ -181,7 +185,8 @@ pub(crate) fn exchange_changes_of(
     requires from_within { IsWithin from.now }
     requires to_within { IsWithin to.now }
     requires room { counters.now.next_cookie + 2 ≤ counter_end }
-    ensures { IfOk result (λ changes. changes ≡ exchange_changes (renaming_of asked.now) counters.now from.now to.now source.now other.now) }
+    ensures { IfOk result (λ changes. changes ≡ exchange_changes (renaming_of asked.now)
+        counters.now from.now to.now source.now other.now) }
 {
     let first = counters.next_cookie;
     let second = first + 1;

@@ -26,7 +26,8 @@ pub(crate) fn plan_read<L: Look>(
     row: &NodeRow,
 ) -> Result<Planned, PlanFault>
     requires { L.fault look.old ≡ None }
-    ensures plan { Reads (L.is_clean look.new) (L.sees look.old) result (planning.plan_read asked.now row.now) }
+    ensures plan { Reads (L.is_clean look.new) (L.sees look.old) result
+        (planning.plan_read asked.now row.now) }
     ensures fault { L.fault look.new ≡ look_fault result }
     ensures looks { look_fault result ≡ None → L.looks look.old look.new }
     ensures fails { OnErr result (L.fails look.old look.new) }
@@ -60,7 +61,8 @@ fn find_bytes<L: Look>(
 ) -> Result<ByteList, PlanFault>
     requires fault { L.fault look.old ≡ None }
     requires size { size ≤ max_body }
-    ensures bytes { Reads (L.is_clean look.new) (L.sees look.old) result (λ rows. bytes_at rows number offset size) }
+    ensures bytes { Reads (L.is_clean look.new) (L.sees look.old) result
+        (λ rows. bytes_at rows number offset size) }
     ensures short { IfOk result (λ bytes. length bytes ≤ max_body) }
     ensures fault { L.fault look.new ≡ look_fault result }
     ensures looks { look_fault result ≡ None → L.looks look.old look.new }

@@ -1,4 +1,5 @@
-ghost use Rattle.std.specs.Prelude.{◌≡◌, ◌≤◌, ◌*◌, ◌++◌, [], if◌then◌else◌, None, All, length, map, IfOk, IfErr, OnOk, OnErr, ◌≢◌};
+ghost use Rattle.std.specs.Prelude.{◌≡◌, ◌≤◌, ◌*◌, ◌++◌, [], if◌then◌else◌, None, All, length, map};
+ghost use Rattle.std.specs.Prelude.{IfOk, IfErr, OnOk, OnErr, ◌≢◌};
 ghost use Rattle.std.specs.List.{AllByRecursion, sum_by};
 ghost use Rattle.fuse_wire.specs.declared.errno.TheConstants.Errno.{EINVAL};
 ghost use Rattle.fuse_answer.specs.Entries.{entry_of, packed_len, IsNamed};
@@ -6,7 +7,8 @@ ghost use Rattle.fuse_tree.specs.State.{type_of};
 ghost use Rattle.fuse_tree.specs.Rows.{Rows, IsRowed, entries_after};
 ghost use Rattle.fuse_tree.specs.Plan.{look_fault};
 ghost use Rattle.fuse_tree.specs.PlanListing as planning;
-ghost use Rattle.fuse_tree.specs.PlanListing.{dots_behind, row_above, row_entry, row_len, plan_front, plan_list, ReadsBy, IsCut, IsShown};
+ghost use Rattle.fuse_tree.specs.PlanListing.{dots_behind, row_above, row_entry, row_len};
+ghost use Rattle.fuse_tree.specs.PlanListing.{plan_front, plan_list, ReadsBy, IsCut, IsShown};
 ghost use Rattle.fuse_tree.specs.Reading as planned;
 ghost use Rattle.fuse_tree.specs.Reading.{Reads, Tells, told};
 ghost use Rattle.fuse_tree.specs.declared.limits.TheConstants.{MAX_READ as max_read};
@@ -36,7 +38,8 @@ pub(crate) fn plan_read_dir<L: Look>(
     row: &NodeRow,
 ) -> Result<Planned, PlanFault>
     requires { L.fault look.old ≡ None }
-    ensures plan { Reads (L.is_clean look.new) (L.sees look.old) result (planning.plan_read_dir asked.now row.now) }
+    ensures plan { Reads (L.is_clean look.new) (L.sees look.old) result
+        (planning.plan_read_dir asked.now row.now) }
     ensures fault { L.fault look.new ≡ look_fault result }
     ensures looks { look_fault result ≡ None → L.looks look.old look.new }
     ensures fails { OnErr result (L.fails look.old look.new) }
@@ -66,7 +69,8 @@ fn list<L: Look>(
 ) -> Result<Planned, PlanFault>
     requires fault { L.fault look.old ≡ None }
     requires size { size ≤ max_read }
-    ensures plan { Reads (L.is_clean look.new) (L.sees look.old) result (plan_list offset size row.now) }
+    ensures plan { Reads (L.is_clean look.new) (L.sees look.old) result
+        (plan_list offset size row.now) }
     ensures fault { L.fault look.new ≡ look_fault result }
     ensures looks { look_fault result ≡ None → L.looks look.old look.new }
     ensures fails { OnErr result (L.fails look.old look.new) }
@@ -78,7 +82,7 @@ fn list<L: Look>(
 }
 
 // Behind the dots as many entries as fit. No other's child is looked up.
-#[tactic(auto, using(crate::proofs::Cuts::same_told, crate::proofs::Cuts::none_told, crate::proofs::Cuts::dots_fit))]
+#[tactic(auto, using(crate::proofs::Cuts::none_told, crate::proofs::Cuts::dots_fit))]
 fn list_behind<'a, L: Look>(
     alloc: Global,
     look: &mut L,
@@ -93,7 +97,8 @@ fn list_behind<'a, L: Look>(
     requires named { All (λ d. IsNamed (entry_of d)) dirents.items }
     ensures plan { look_fault result ≡ None → L.is_clean look.new → (rows : Rows) → IsRowed rows
         → L.sees look.old rows → AllByRecursion (IsShown rows) entries.now
-        → Tells result (plan_front (map entry_of dirents.entry.items ++ map (row_entry rows) entries.now) size) }
+        → Tells result (plan_front (map entry_of dirents.entry.items
+        ++ map (row_entry rows) entries.now) size) }
     ensures fault { L.fault look.new ≡ look_fault result }
     ensures looks { look_fault result ≡ None → L.looks look.old look.new }
     ensures fails { OnErr result (L.fails look.old look.new) }
@@ -149,7 +154,8 @@ fn find_entries<L: Look>(
     limit: usize,
 ) -> Result<Vec<EntryRow>, PlanFault>
     requires { L.fault look.old ≡ None }
-    ensures rows { ReadsBy (λ v. v.items) (L.is_clean look.new) (L.sees look.old) result (λ rows. entries_after rows dir cookie limit) }
+    ensures rows { ReadsBy (λ v. v.items) (L.is_clean look.new) (L.sees look.old) result
+        (λ rows. entries_after rows dir cookie limit) }
     ensures fault { L.fault look.new ≡ look_fault result }
     ensures looks { look_fault result ≡ None → L.looks look.old look.new }
     ensures fails { OnErr result (L.fails look.old look.new) }
@@ -159,7 +165,8 @@ fn find_entries<L: Look>(
 
 // The directory itself and the one above it, where they stand behind the offset.
 fn dots_of<'a>(alloc: Global, offset: u64, row: &NodeRow) -> Result<Vec<Dirent<'a>>, Memory>
-    ensures entries { IfOk result (λ dirents. map entry_of dirents.items ≡ dots_behind offset row.now) }
+    ensures entries { IfOk result (λ dirents. map entry_of dirents.items
+        ≡ dots_behind offset row.now) }
     ensures named { IfOk result (λ dirents. All (λ d. IsNamed (entry_of d)) dirents.items) }
 {
     let mut dirents = Vec::new(alloc);
@@ -180,7 +187,13 @@ fn above_of(row: &NodeRow) -> u64
 }
 
 fn dot_of(ino: u64, off: u64, name: &[u8]) -> Dirent<'_>
-    ensures { entry_of result ≡ record { ino = ino; off = off; kind = type_of s_ifdir; name = name.now } }
+    ensures { entry_of result ≡ record {
+      ino = ino;
+      off = off;
+      kind = type_of s_ifdir;
+      name
+          = name.now;
+    } }
 {
     Dirent {
         ino,
@@ -205,8 +218,10 @@ fn push_entries<'a, L: Look>(
 ) -> Result<(), PlanFault>
     requires fault { L.fault look.old ≡ None }
     requires named { All (λ d. IsNamed (entry_of d)) dirents.old.items }
-    ensures entries { look_fault result ≡ None → L.is_clean look.new → (rows : Rows) → IsRowed rows → L.sees look.old rows → AllByRecursion (IsShown rows) entries.now
-        → OnOk result (map entry_of dirents.new.items ≡ map entry_of dirents.old.items ++ map (row_entry rows) entries.now) × IfErr result (λ f. f ≢ PlanFault.NotATree) }
+    ensures entries { look_fault result ≡ None → L.is_clean look.new → (rows : Rows) → IsRowed rows
+        → L.sees look.old rows → AllByRecursion (IsShown rows) entries.now
+        → OnOk result (map entry_of dirents.new.items ≡ map entry_of dirents.old.items
+        ++ map (row_entry rows) entries.now) × IfErr result (λ f. f ≢ PlanFault.NotATree) }
     ensures named { OnOk result (All (λ d. IsNamed (entry_of d)) dirents.new.items) }
     ensures fault { L.fault look.new ≡ look_fault result }
     ensures looks { look_fault result ≡ None → L.looks look.old look.new }
@@ -221,8 +236,10 @@ fn push_entries<'a, L: Look>(
 
 fn dirent_of<'a, L: Look>(look: &mut L, entry: &'a EntryRow) -> Result<Dirent<'a>, PlanFault>
     requires { L.fault look.old ≡ None }
-    ensures entry { look_fault result ≡ None → L.is_clean look.new → (rows : Rows) → IsRowed rows → L.sees look.old rows → IsShown rows entry.now
-        → IfOk result (λ d. entry_of d ≡ row_entry rows entry.now) × IfErr result (λ f. f ≢ PlanFault.NotATree) }
+    ensures entry { look_fault result ≡ None → L.is_clean look.new → (rows : Rows) → IsRowed rows
+        → L.sees look.old rows → IsShown rows entry.now
+        → IfOk result (λ d. entry_of d ≡ row_entry rows entry.now)
+        × IfErr result (λ f. f ≢ PlanFault.NotATree) }
     ensures named { IfOk result (λ d. IsNamed (entry_of d)) }
     ensures fault { L.fault look.new ≡ look_fault result }
     ensures looks { look_fault result ≡ None → L.looks look.old look.new }

@@ -22,7 +22,8 @@ pub(crate) fn plan_release<L: Look>(
     row: &NodeRow,
 ) -> Result<Planned, PlanFault>
     requires { L.fault look.old ≡ None }
-    ensures plan { Reads (L.is_clean look.new) (L.sees look.old) result (planning.plan_release fh row.now) }
+    ensures plan { Reads (L.is_clean look.new) (L.sees look.old) result
+        (planning.plan_release fh row.now) }
     ensures fault { L.fault look.new ≡ look_fault result }
     ensures looks { look_fault result ≡ None → L.looks look.old look.new }
     ensures fails { OnErr result (L.fails look.old look.new) }
@@ -43,7 +44,8 @@ pub(crate) fn plan_release_dir<L: Look>(
     row: &NodeRow,
 ) -> Result<Planned, PlanFault>
     requires { L.fault look.old ≡ None }
-    ensures plan { Reads (L.is_clean look.new) (L.sees look.old) result (planning.plan_release_dir fh row.now) }
+    ensures plan { Reads (L.is_clean look.new) (L.sees look.old) result
+        (planning.plan_release_dir fh row.now) }
     ensures fault { L.fault look.new ≡ look_fault result }
     ensures looks { look_fault result ≡ None → L.looks look.old look.new }
     ensures fails { OnErr result (L.fails look.old look.new) }
@@ -66,7 +68,8 @@ fn close<L: Look>(
     node: u64,
 ) -> Result<Planned, PlanFault>
     requires { L.fault look.old ≡ None }
-    ensures plan { Reads (L.is_clean look.new) (L.sees look.old) result (plan_close fh kind_fault node) }
+    ensures plan { Reads (L.is_clean look.new) (L.sees look.old) result
+        (plan_close fh kind_fault node) }
     ensures fault { L.fault look.new ≡ look_fault result }
     ensures looks { look_fault result ≡ None → L.looks look.old look.new }
     ensures fails { OnErr result (L.fails look.old look.new) }

@@ -8,7 +8,10 @@ ghost use Rattle.fuse_tree.specs.PlanRemoving.{link_at};
 ghost use Rattle.fuse_tree.specs.Renaming as renaming;
 ghost use Rattle.fuse_tree.specs.Renaming.{asked_fault};
 ghost use Rattle.fuse_tree.specs.PlanRenaming as planning;
-ghost use Rattle.fuse_tree.specs.PlanRenaming.{renaming_of, is_same_link, row_holds, link_fault, new_dir_at, other_at, plan_rename_from, plan_rename_by, plan_rename_link, plan_rename_fitting, plan_rename_with_room};
+ghost use Rattle.fuse_tree.specs.PlanRenaming.{renaming_of, is_same_link, row_holds, link_fault};
+ghost use Rattle.fuse_tree.specs.PlanRenaming.{new_dir_at, other_at, plan_rename_from};
+ghost use Rattle.fuse_tree.specs.PlanRenaming.{plan_rename_by, plan_rename_link};
+ghost use Rattle.fuse_tree.specs.PlanRenaming.{plan_rename_fitting, plan_rename_with_room};
 
 use super::answers::{done_nothing, refused};
 use super::attributes::is_directory;
@@ -63,7 +66,8 @@ pub(crate) fn plan_rename<L: Look>(
 ) -> Result<Planned, PlanFault>
     requires fault { L.fault look.old ≡ None }
     requires within { IsWithin from.now }
-    ensures plan { Reads (L.is_clean look.new) (L.sees look.old) result (planning.plan_rename (renaming_of asked.now) from.now) }
+    ensures plan { Reads (L.is_clean look.new) (L.sees look.old) result
+        (planning.plan_rename (renaming_of asked.now) from.now) }
     ensures fault { L.fault look.new ≡ look_fault result }
     ensures looks { look_fault result ≡ None → L.looks look.old look.new }
     ensures fails { OnErr result (L.fails look.old look.new) }
@@ -85,7 +89,8 @@ fn find_new_dir<L: Look>(
 ) -> Result<Option<NodeRow>, PlanFault>
     requires fault { L.fault look.old ≡ None }
     requires within { IsWithin from.now }
-    ensures row { Reads (L.is_clean look.new) (L.sees look.old) result (new_dir_at new_dir from.now) }
+    ensures row { Reads (L.is_clean look.new) (L.sees look.old) result
+        (new_dir_at new_dir from.now) }
     ensures within { IfOk result (λ row. IfSome row IsWithin) }
     ensures fault { L.fault look.new ≡ look_fault result }
     ensures looks { look_fault result ≡ None → L.looks look.old look.new }
@@ -99,7 +104,9 @@ fn find_new_dir<L: Look>(
 
 // What is wrong before any entry is looked at.
 fn fault_of_asked(asked: &RenameIn<'_>, from: &NodeRow, to: &NodeRow) -> Option<Errno>
-    ensures { result ≡ asked_fault (renaming_of asked.now) (is_dir from.now.mode && is_dir to.now.mode) (row_is_named from.now && row_is_named to.now) }
+    ensures { result ≡ asked_fault (renaming_of asked.now)
+        (is_dir from.now.mode && is_dir to.now.mode)
+        (row_is_named from.now && row_is_named to.now) }
 {
     if !(is_directory(from.mode) && is_directory(to.mode)) {
         return Some(Errno::ENOTDIR);
@@ -131,7 +138,9 @@ fn rename_from<L: Look>(
     requires fault { L.fault look.old ≡ None }
     requires from_within { IsWithin from.now }
     requires to_within { IsWithin to.now }
-    ensures plan { Reads (L.is_clean look.new) (L.sees look.old) result (λ rows. plan_rename_from (renaming_of asked.now) from.now to.now (link_at rows from.now.node asked.now.old_name.now) rows) }
+    ensures plan { Reads (L.is_clean look.new) (L.sees look.old) result
+        (λ rows. plan_rename_from (renaming_of asked.now) from.now to.now
+        (link_at rows from.now.node asked.now.old_name.now) rows) }
     ensures fault { L.fault look.new ≡ look_fault result }
     ensures looks { look_fault result ≡ None → L.looks look.old look.new }
     ensures fails { OnErr result (L.fails look.old look.new) }
@@ -154,7 +163,9 @@ fn rename_to<L: Look>(
     requires fault { L.fault look.old ≡ None }
     requires from_within { IsWithin from.now }
     requires to_within { IsWithin to.now }
-    ensures plan { Reads (L.is_clean look.new) (L.sees look.old) result (λ rows. plan_rename_by (renaming_of asked.now) from.now to.now source.now (other_at (renaming_of asked.now) from.now.node source.now rows) rows) }
+    ensures plan { Reads (L.is_clean look.new) (L.sees look.old) result
+        (λ rows. plan_rename_by (renaming_of asked.now) from.now to.now source.now
+        (other_at (renaming_of asked.now) from.now.node source.now rows) rows) }
     ensures fault { L.fault look.new ≡ look_fault result }
     ensures looks { look_fault result ≡ None → L.looks look.old look.new }
     ensures fails { OnErr result (L.fails look.old look.new) }
@@ -171,7 +182,8 @@ fn find_other<L: Look>(
     source: &Link,
 ) -> Result<Option<Link>, PlanFault>
     requires { L.fault look.old ≡ None }
-    ensures other { Reads (L.is_clean look.new) (L.sees look.old) result (λ rows. other_at (renaming_of asked.now) dir source.now rows) }
+    ensures other { Reads (L.is_clean look.new) (L.sees look.old) result
+        (λ rows. other_at (renaming_of asked.now) dir source.now rows) }
     ensures fault { L.fault look.new ≡ look_fault result }
     ensures looks { look_fault result ≡ None → L.looks look.old look.new }
     ensures fails { OnErr result (L.fails look.old look.new) }
@@ -184,7 +196,8 @@ fn find_other<L: Look>(
 
 // Whether the old name in this directory is the new name in the new one.
 fn is_one_place(asked: &RenameIn<'_>, dir: u64) -> bool
-    ensures { result ≡ ((dir == asked.now.new_dir) && pointwise nat_eq asked.now.old_name.now asked.now.new_name.now) }
+    ensures { result ≡ ((dir == asked.now.new_dir) && pointwise nat_eq asked.now.old_name.now
+        asked.now.new_name.now) }
 {
     dir == asked.new_dir && asked.old_name == asked.new_name
 }
@@ -202,7 +215,8 @@ fn rename_by<L: Look>(
     requires fault { L.fault look.old ≡ None }
     requires from_within { IsWithin from.now }
     requires to_within { IsWithin to.now }
-    ensures plan { Reads (L.is_clean look.new) (L.sees look.old) result (plan_rename_by (renaming_of asked.now) from.now to.now source.now other) }
+    ensures plan { Reads (L.is_clean look.new) (L.sees look.old) result
+        (plan_rename_by (renaming_of asked.now) from.now to.now source.now other) }
     ensures fault { L.fault look.new ≡ look_fault result }
     ensures looks { look_fault result ≡ None → L.looks look.old look.new }
     ensures fails { OnErr result (L.fails look.old look.new) }
@@ -227,7 +241,8 @@ fn rename_link<L: Look>(
     requires fault { L.fault look.old ≡ None }
     requires from_within { IsWithin from.now }
     requires to_within { IsWithin to.now }
-    ensures plan { Reads (L.is_clean look.new) (L.sees look.old) result (plan_rename_link (renaming_of asked.now) from.now to.now source.now other) }
+    ensures plan { Reads (L.is_clean look.new) (L.sees look.old) result
+        (plan_rename_link (renaming_of asked.now) from.now to.now source.now other) }
     ensures fault { L.fault look.new ≡ look_fault result }
     ensures looks { look_fault result ≡ None → L.looks look.old look.new }
     ensures fails { OnErr result (L.fails look.old look.new) }
@@ -251,8 +266,8 @@ fn is_same(source: &Link, other: Option<Link>) -> bool
     }
 }
 
-// Whether the child is a directory that can't come to stand in this one, since this one lies in it. It stands in
-// the first, and can stay there.
+// Whether the child is a directory that can't come to stand in this one, since this one lies in
+// it. It stands in the first, and can stay there.
 pub(crate) fn is_held<L: Look>(
     look: &mut L,
     child: &NodeRow,
@@ -260,7 +275,8 @@ pub(crate) fn is_held<L: Look>(
     dir: u64,
 ) -> Result<bool, PlanFault>
     requires { L.fault look.old ≡ None }
-    ensures held { Reads (L.is_clean look.new) (L.sees look.old) result (λ rows. row_holds rows child.now from dir) }
+    ensures held { Reads (L.is_clean look.new) (L.sees look.old) result
+        (λ rows. row_holds rows child.now from dir) }
     ensures fault { L.fault look.new ≡ look_fault result }
     ensures looks { look_fault result ≡ None → L.looks look.old look.new }
     ensures fails { OnErr result (L.fails look.old look.new) }
@@ -287,7 +303,8 @@ fn rename_fitting<L: Look>(
     requires fault { L.fault look.old ≡ None }
     requires from_within { IsWithin from.now }
     requires to_within { IsWithin to.now }
-    ensures plan { Reads (L.is_clean look.new) (L.sees look.old) result (plan_rename_fitting (renaming_of asked.now) from.now to.now source.now other) }
+    ensures plan { Reads (L.is_clean look.new) (L.sees look.old) result
+        (plan_rename_fitting (renaming_of asked.now) from.now to.now source.now other) }
     ensures fault { L.fault look.new ≡ look_fault result }
     ensures looks { look_fault result ≡ None → L.looks look.old look.new }
     ensures fails { OnErr result (L.fails look.old look.new) }
@@ -305,7 +322,8 @@ fn fault_of_place<L: Look>(
     other: Option<Link>,
 ) -> Result<Option<Errno>, PlanFault>
     requires { L.fault look.old ≡ None }
-    ensures place { Reads (L.is_clean look.new) (L.sees look.old) result (λ rows. link_fault rows source.now other) }
+    ensures place { Reads (L.is_clean look.new) (L.sees look.old) result
+        (λ rows. link_fault rows source.now other) }
     ensures fault { L.fault look.new ≡ look_fault result }
     ensures looks { look_fault result ≡ None → L.looks look.old look.new }
     ensures fails { OnErr result (L.fails look.old look.new) }
@@ -330,7 +348,8 @@ fn fault_of_place<L: Look>(
 // A node in which an entry stands can't be replaced.
 fn fault_of_entries<L: Look>(look: &mut L, dir: u64) -> Result<Option<Errno>, PlanFault>
     requires { L.fault look.old ≡ None }
-    ensures place { Reads (L.is_clean look.new) (L.sees look.old) result (λ rows. planning.entries_fault rows dir) }
+    ensures place { Reads (L.is_clean look.new) (L.sees look.old) result
+        (λ rows. planning.entries_fault rows dir) }
     ensures fault { L.fault look.new ≡ look_fault result }
     ensures looks { look_fault result ≡ None → L.looks look.old look.new }
     ensures fails { OnErr result (L.fails look.old look.new) }
@@ -355,7 +374,8 @@ fn rename_with_room<L: Look>(
     requires fault { L.fault look.old ≡ None }
     requires from_within { IsWithin from.now }
     requires to_within { IsWithin to.now }
-    ensures plan { Reads (L.is_clean look.new) (L.sees look.old) result (plan_rename_with_room (renaming_of asked.now) from.now to.now source.now other) }
+    ensures plan { Reads (L.is_clean look.new) (L.sees look.old) result
+        (plan_rename_with_room (renaming_of asked.now) from.now to.now source.now other) }
     ensures fault { L.fault look.new ≡ look_fault result }
     ensures looks { look_fault result ≡ None → L.looks look.old look.new }
     ensures fails { OnErr result (L.fails look.old look.new) }

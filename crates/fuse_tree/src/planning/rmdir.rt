@@ -24,7 +24,8 @@ pub(crate) fn plan_rmdir<L: Look>(
     row: &NodeRow,
 ) -> Result<Planned, PlanFault>
     requires { L.fault look.old ≡ None }
-    ensures plan { Reads (L.is_clean look.new) (L.sees look.old) result (planning.plan_rmdir name.now now row.now) }
+    ensures plan { Reads (L.is_clean look.new) (L.sees look.old) result
+        (planning.plan_rmdir name.now now row.now) }
     ensures fault { L.fault look.new ≡ look_fault result }
     ensures looks { look_fault result ≡ None → L.looks look.old look.new }
     ensures fails { OnErr result (L.fails look.old look.new) }
@@ -47,7 +48,8 @@ fn rmdir_named<L: Look>(
     row: &NodeRow,
 ) -> Result<Planned, PlanFault>
     requires { L.fault look.old ≡ None }
-    ensures plan { Reads (L.is_clean look.new) (L.sees look.old) result (plan_rmdir_named name.now now row.now) }
+    ensures plan { Reads (L.is_clean look.new) (L.sees look.old) result
+        (plan_rmdir_named name.now now row.now) }
     ensures fault { L.fault look.new ≡ look_fault result }
     ensures looks { look_fault result ≡ None → L.looks look.old look.new }
     ensures fails { OnErr result (L.fails look.old look.new) }
@@ -73,7 +75,8 @@ fn rmdir_empty<L: Look>(
     row: &NodeRow,
 ) -> Result<Planned, PlanFault>
     requires { L.fault look.old ≡ None }
-    ensures plan { Reads (L.is_clean look.new) (L.sees look.old) result (plan_rmdir_empty now link.now row.now) }
+    ensures plan { Reads (L.is_clean look.new) (L.sees look.old) result
+        (plan_rmdir_empty now link.now row.now) }
     ensures fault { L.fault look.new ≡ look_fault result }
     ensures looks { look_fault result ≡ None → L.looks look.old look.new }
     ensures fails { OnErr result (L.fails look.old look.new) }

@@ -152,7 +152,8 @@ fn row_after(set: &SetattrIn, now: Moment, row: &NodeRow) -> NodeRow
 
 // The row, and where the size is set the bytes.
 fn changes_to(alloc: Global, set: &SetattrIn, after: NodeRow) -> Result<ChangeList, Memory>
-    ensures { IfOk result (λ changes. changes ≡ Change.Node after ∷ size_changes set.now after.node) }
+    ensures { IfOk result (λ changes. changes ≡ Change.Node after
+        ∷ size_changes set.now after.node) }
 {
     let mut changes = Vec::new(alloc);
     changes.push(Change::Node(after))?;

@@ -24,7 +24,8 @@ pub(crate) fn plan_unlink<L: Look>(
     row: &NodeRow,
 ) -> Result<Planned, PlanFault>
     requires { L.fault look.old ≡ None }
-    ensures plan { Reads (L.is_clean look.new) (L.sees look.old) result (planning.plan_unlink name.now now row.now) }
+    ensures plan { Reads (L.is_clean look.new) (L.sees look.old) result
+        (planning.plan_unlink name.now now row.now) }
     ensures fault { L.fault look.new ≡ look_fault result }
     ensures looks { look_fault result ≡ None → L.looks look.old look.new }
     ensures fails { OnErr result (L.fails look.old look.new) }
@@ -47,7 +48,8 @@ fn unlink_named<L: Look>(
     row: &NodeRow,
 ) -> Result<Planned, PlanFault>
     requires { L.fault look.old ≡ None }
-    ensures plan { Reads (L.is_clean look.new) (L.sees look.old) result (plan_unlink_named name.now now row.now) }
+    ensures plan { Reads (L.is_clean look.new) (L.sees look.old) result
+        (plan_unlink_named name.now now row.now) }
     ensures fault { L.fault look.new ≡ look_fault result }
     ensures looks { look_fault result ≡ None → L.looks look.old look.new }
     ensures fails { OnErr result (L.fails look.old look.new) }

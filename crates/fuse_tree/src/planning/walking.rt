@@ -14,7 +14,8 @@ use crate::look::Look;
 #[tactic(auto, using(crate::proofs::Walking::row_up, crate::proofs::Walking::none_up))]
 fn find_up<L: Look>(look: &mut L, number: u64) -> Result<u64, PlanFault>
     requires { L.fault look.old ≡ None }
-    ensures up { Reads (L.is_clean look.new) (L.sees look.old) result (λ rows. up_of rows.entries number) }
+    ensures up { Reads (L.is_clean look.new) (L.sees look.old) result
+        (λ rows. up_of rows.entries number) }
     ensures fault { L.fault look.new ≡ look_fault result }
     ensures looks { look_fault result ≡ None → L.looks look.old look.new }
     ensures fails { OnErr result (L.fails look.old look.new) }
@@ -30,7 +31,8 @@ fn find_up<L: Look>(look: &mut L, number: u64) -> Result<u64, PlanFault>
 #[tactic(auto, using(crate::proofs::Walking::rows_end, crate::proofs::Walking::rows_few))]
 pub(crate) fn lies_in<L: Look>(look: &mut L, node: u64, dir: u64) -> Result<bool, PlanFault>
     requires { L.fault look.old ≡ None }
-    ensures under { Reads (L.is_clean look.new) (L.sees look.old) result (λ rows. leads_to rows.entries rows.counters.nodes node dir) }
+    ensures under { Reads (L.is_clean look.new) (L.sees look.old) result
+        (λ rows. leads_to rows.entries rows.counters.nodes node dir) }
     ensures fault { L.fault look.new ≡ look_fault result }
     ensures looks { look_fault result ≡ None → L.looks look.old look.new }
     ensures fails { OnErr result (L.fails look.old look.new) }
@@ -42,11 +44,13 @@ pub(crate) fn lies_in<L: Look>(look: &mut L, node: u64, dir: u64) -> Result<bool
     go_up(look, node, dir, counters.nodes)
 }
 
-// Whether one of so many places on the way up from a directory is this node. Where the way doesn't end
-// there, the rows are those of no tree.
+// Whether one of so many places on the way up from a directory is this node. Where the way doesn't
+// end there, the rows are those of no tree.
 fn go_up<L: Look>(look: &mut L, node: u64, dir: u64, places: u64) -> Result<bool, PlanFault>
     requires { L.fault look.old ≡ None }
-    ensures under { look_fault result ≡ None → L.is_clean look.new → (rows : Rows) → IsRowed rows → L.sees look.old rows → above rows.entries places dir ≡ 0 → Tells result (leads_to rows.entries places node dir) }
+    ensures under { look_fault result ≡ None → L.is_clean look.new → (rows : Rows) → IsRowed rows
+        → L.sees look.old rows → above rows.entries places dir ≡ 0
+        → Tells result (leads_to rows.entries places node dir) }
     ensures fault { L.fault look.new ≡ look_fault result }
     ensures looks { look_fault result ≡ None → L.looks look.old look.new }
     ensures fails { OnErr result (L.fails look.old look.new) }

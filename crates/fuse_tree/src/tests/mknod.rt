@@ -1,130 +1,58 @@
 //! MKNOD: row `mknod-modes`, what else it makes, and its refusals.
+use super::rows::failed_row;
 use super::*;
-use fuse_wire::Fields;
 
-pub(super) const fn mknod(mode: u32, rdev: u32, name: &[u8]) -> Op<'_> {
-    Op::Mknod {
-        mode,
-        rdev,
-        umask: 0o022,
-        name,
-    }
-}
+// Modes and devices that are asked for, and those of the new node. A directory, a symbolic link and
+// numbers that are no type aren't made. The last cookie is taken.
+const MODES: &[u8] = b"\
+    new\n\
+    1000 1 mknod 0644 0 f = 0 all 02000000000000000000000000000000010000000000000001000000000000\
+    000000000000000000020000000000000000000000000000000000000000000000e803000000000000e803000000\
+    000000e803000000000000000000000000000000000000a481000001000000e8030000e803000000000000001000\
+    0000000000 *4\n\
+    1000 1 mknod 0644 0 f = 17\n\
+    1000 1 mknod 0644 0 f0 = 0 @100 a4810000 @116 00000000\n\
+    1000 1 mknod 0100644 259 f1 = 0 @100 a4810000 @116 00000000\n\
+    1000 1 mknod 0104755 0 f2 = 0 @100 ed890000 @116 00000000\n\
+    1000 1 mknod 0200600 0 f3 = 0 @100 80810000 @116 00000000\n\
+    1000 1 mknod 020600 259 f4 = 0 @100 80210000 @116 03010000\n\
+    1000 1 mknod 060660 2049 f5 = 0 @100 b0610000 @116 01080000\n\
+    1000 1 mknod 010644 259 f6 = 0 @100 a4110000 @116 00000000\n\
+    1000 1 mknod 0140644 259 f7 = 0 @100 a4c10000 @116 00000000\n\
+    1000 1 mknod 040644 0 x = 22\n\
+    1000 1 mknod 0120644 0 x = 22\n\
+    1000 1 mknod 030644 0 x = 22\n\
+    1000 1 mknod 0170644 0 x = 22\n\
+    new put-cookie 4611686018427387903\n\
+    1000 1 mknod 0644 0 f = 0\n\
+    entry 1 f 2 4611686018427387903\n\
+    counters 3 1 4611686018427387904 2 0";
 
-// The entry of `f`, made at 1000 s as node 2 with mode 0o644.
-fn entry_of_f() -> &'static [u8] {
-    b"\x02\0\0\0\0\0\0\0\
-      \0\0\0\0\0\0\0\0\
-      \x01\0\0\0\0\0\0\0\
-      \x01\0\0\0\0\0\0\0\
-      \0\0\0\0\0\0\0\0\
-      \x02\0\0\0\0\0\0\0\
-      \0\0\0\0\0\0\0\0\
-      \0\0\0\0\0\0\0\0\
-      \xe8\x03\0\0\0\0\0\0\
-      \xe8\x03\0\0\0\0\0\0\
-      \xe8\x03\0\0\0\0\0\0\
-      \0\0\0\0\0\0\0\0\
-      \0\0\0\0\xa4\x81\0\0\
-      \x01\0\0\0\xe8\x03\0\0\
-      \xe8\x03\0\0\0\0\0\0\
-      \0\x10\0\0\0\0\0\0"
-        .as_slice()
-}
+// Nodes 2 and 3, a directory and a file, have no names: the first check that applies decides.
+const REFUSALS: &[u8] = b"\
+    new\n\
+    1000 1 mkdir 0755 d = 0\n\
+    1000 1 mknod 0644 0 g = 0\n\
+    1000 1 rmdir d = 0\n\
+    1000 1 unlink g = 0\n\
+    1000 4 mknod 040644 0 - = 116\n\
+    1000 3 mknod 040644 0 - = 20\n\
+    1000 2 mknod 040644 0 LONG = 22\n\
+    1000 2 mknod 0644 0 LONG = 36\n\
+    1000 2 mknod 0644 0 - = 22\n\
+    1000 2 mknod 0644 0 f = 2\n\
+    1000 1 mknod 0644 0 LONG = 36\n\
+    1000 1 mknod 0644 0 LONGEST = 0\n\
+    1000 1 mknod 0644 0 f = 0";
 
-fn is_entry_of_f(body: &[u8]) -> bool {
-    body == entry_of_f()
-}
-
-#[test]
-fn makes_a_file(rt: HostRuntime) -> Result<(), Fail> {
-    let made = planned_first(rt.alloc(), 1, mknod(0o644, 0, b"f"))?;
-    assert_eq!(rt; made.answer.errno.0, 0);
-    assert!(rt; is_entry_of_f(made.answer.body.as_slice()));
-    assert_eq!(rt; made.changes.as_slice().len(), 4);
-    Ok(())
-}
-
-// The number in an answer, at this place.
-pub(super) fn number_at(body: &[u8], at: usize) -> Option<u32> {
-    Fields::new(body.get(at..)?).u32()
-}
-
-// The error number, and the mode and the device that an entry tells.
-fn made(alloc: Global, mode: u32, rdev: u32) -> Result<(u32, Option<u32>, Option<u32>), Fail> {
-    let made = planned_first(alloc, 1, mknod(mode, rdev, b"f"))?;
-    let body = made.answer.body.as_slice();
-    Ok((
-        made.answer.errno.0,
-        number_at(body, 100),
-        number_at(body, 116),
-    ))
-}
-
-// Modes and devices that are asked for, and those of the new node.
-const MADE: [(u32, u32, u32, u32); 8] = [
-    (0o644, 0, 0o100644, 0),
-    (0o100644, 259, 0o100644, 0),
-    (0o104755, 0, 0o104755, 0),
-    (0o200600, 0, 0o100600, 0),
-    (0o020600, 259, 0o020600, 259),
-    (0o060660, 2049, 0o060660, 2049),
-    (0o010644, 259, 0o010644, 0),
-    (0o140644, 259, 0o140644, 0),
-];
-
-// A directory, a symbolic link, and numbers that are no type.
-const NOT_MADE: [u32; 4] = [0o040644, 0o120644, 0o030644, 0o170644];
-
-// The first case of each table is row `mknod-modes`.
 #[test]
 fn mknod_modes(rt: HostRuntime) -> Result<(), Fail> {
-    for (mode, rdev, new_mode, new_rdev) in MADE {
-        assert_eq!(rt;
-            made(rt.alloc(), mode, rdev)?,
-            (0, Some(new_mode), Some(new_rdev))
-        );
-    }
-    for mode in NOT_MADE {
-        assert_eq!(rt; made(rt.alloc(), mode, 0)?, (22, None, None));
-    }
+    assert_eq!(rt; failed_row(rt.alloc(), BEGUN, MODES)?, None);
     Ok(())
 }
 
-// In a store with the root, an unnamed directory 2 and an unnamed file 3: the first check that applies decides.
 #[test]
 fn refuses_in_order(rt: HostRuntime) -> Result<(), Fail> {
-    let alloc = rt.alloc();
-    let long = [b'a'; 256];
-    for (nodeid, mode, name, errno) in [
-        (4, 0o040644, b"".as_slice(), 116),
-        (3, 0o040644, b"".as_slice(), 20),
-        (2, 0o040644, long.as_slice(), 22),
-        (2, 0o644, long.as_slice(), 36),
-        (2, 0o644, b"".as_slice(), 22),
-        (2, 0o644, b"f".as_slice(), 2),
-        (1, 0o644, b"f".as_slice(), 0),
-    ] {
-        assert_eq!(rt; refusal(alloc, nodeid, mknod(mode, 0, name))?, errno);
-    }
-    Ok(())
-}
-
-// Where `a` was made.
-#[test]
-fn makes_no_name_twice(rt: HostRuntime) -> Result<(), Fail> {
-    let again = planned_next(rt.alloc(), 1, mknod(0o644, 0, b"a"))?;
-    assert_eq!(rt; errno_of(&again)?, 17);
-    Ok(())
-}
-
-#[test]
-fn name_lengths(rt: HostRuntime) -> Result<(), Fail> {
-    let name = [b'a'; 256];
-    assert_eq!(rt; refusal(rt.alloc(), 1, mknod(0o644, 0, &name[1..]))?, 0);
-    assert_eq!(rt; refusal(rt.alloc(), 1, mknod(0o644, 0, &name))?, 36);
-    for name in [b"".as_slice(), b".", b"..", b"a/b"] {
-        assert_eq!(rt; refusal(rt.alloc(), 1, Op::Lookup { name })?, 22);
-    }
+    assert_eq!(rt; failed_row(rt.alloc(), BEGUN, REFUSALS)?, None);
     Ok(())
 }
