@@ -1,5 +1,6 @@
 -- What a session worked off of a stream.
 use Rattle.std.proofs.Common.{◌≡◌, ◌⊎◌, inl, inr, ◌≤◌, ◌<◌, ◌+◌, ◌&&◌, nat_lt, nat_le, if◌then◌else◌, ℕ, Bool, true, false, List, [], ◌∷◌, ◌++◌, length, Option, Some, None, refl, sym, ap, subst, ◌∙◌, append_assoc, append-nil, arith, length-append}
+use Rattle.std.specs.Prelude.{IfSome}
 use Rattle.std.specs.List.{AllByRecursion}
 use Rattle.std.specs.Option.{option_or}
 use Rattle.std.specs.Io.KnownBytes.{Appends, Consumes, IsAtEnd, append_known}
@@ -24,11 +25,11 @@ use Rattle.fuse_session.specs.declared.counts.SessionCounts.{SessionCounts}
 use Rattle.fuse_session.specs.declared.ended.Ended.{Ended}
 use Rattle.fuse_session.specs.declared.ended.Ended.TheVariants as session
 use Rattle.fuse_session.specs.Port.{PortState, fresh}
-use Rattle.fuse_session.specs.Worked.{Timed, bytes_of, kept_in, answers, answer_by, unique_of, GoesOn, Works, EndsLast, StartsZero, message_id}
+use Rattle.fuse_session.specs.Worked.{Timed, bytes_of, kept_in, answers, answer_by, unique_of, GoesOn, Works, EndsLast, StartsZero, message_id, moments_in}
 use Rattle.fuse_session.specs.Settling.{Mark, replies, settles, settled_in, NoneComesAgain, MayCome, Places, PlaceFirst}
 use Rattle.fuse_session.specs.Counting.{counted}
 use Rattle.fuse_session.specs.Serving.{Turned, Whole}
-use Rattle.fuse_session.specs.Ends.{EndsAs, SentExactly, ExactAt}
+use Rattle.fuse_session.specs.Ends.{EndsAs, SentExactly, ExactAt, counts_at}
 use Rattle.fusekeep.specs.declared.ending.Ending.{Ending}
 use Rattle.fusekeep.specs.declared.ending.Ending.TheVariants.{Done, ZeroUnique}
 use Rattle.fusekeep.specs.Endings.{session_ending, stream_ending, store_ending, status_of, IsOfStream}
@@ -84,10 +85,10 @@ pub record Told (p : PortState) (sent : List ℕ) : Type 0 where
   pub gone : p.gone ≡ []
   pub sent_is : p.sent ≡ Some sent
 
-settled : {M : Model} (k k' : KeeperState M) (may : Moment → Type 0) (coming : Option (List ℕ)) (p : PortState) (ids ids' : List ℕ) (front : List (List ℕ)) (going : Bool) (counts : SessionCounts) (sent : List ℕ) → ids ≡ []
-    → Told p sent → (turned : Turned k k' may (fresh coming (Some []) false) p ids ids' front going counts) → k'.is_honest
+settled : {M : Model} (k k' : KeeperState M) (gave : List Moment → Type 0) (coming : Option (List ℕ)) (p : PortState) (ids ids' : List ℕ) (front : List (List ℕ)) (going : Bool) (counts : SessionCounts) (sent : List ℕ) → ids ≡ []
+    → Told p sent → (turned : Turned k k' gave (fresh coming (Some []) false) p ids ids' front going counts) → k'.is_honest
     → (s : M.State) (h : History) (t : List ℕ) → StandsFor k s h t → AllByRecursion (MayCome t) (bytes_of turned.timed) → Settled M (λ g. StandsFor k' s g t) s h turned.timed going sent counts
-settled k k' may coming p ids ids' front going counts sent none told turned honest s h t so may_come =
+settled k k' gave coming p ids ids' front going counts sent none told turned honest s h t so may_come =
     let r = turned.replied in
     let taken = all_taken (Some []) turned.marks r.places (sym r.gone ∙ told.gone) r.placed in
     let a = turned.all honest s h t so (λ i there. absurd (cc (ap (λ (x : List ℕ). x) none, there))) (none_again t (bytes_of turned.timed) turned.marks taken may_come) in
@@ -175,22 +176,44 @@ bad_came joins steps input received later rest at f is rest_is e =
       subst (λ r. end_fault at r ≡ Some f) (sym (ap (λ (c : List (List ℕ) × List ℕ). c.1) all ∙ ap (λ (c : List (List ℕ) × List ℕ). c.1) none)) (bad_ends at w f here),
     )
 
+each_front : (P : Moment → Type 0) (xs ys : List Moment) → AllByRecursion P (xs ++ ys) → AllByRecursion P xs
+each_front P [] ys all = tt
+each_front P (x ∷ xs) ys all = (all.0, each_front P xs ys all.1)
+
+of_store : (f : StoreFault) → IsOfStream (store_ending f) → ⊥
+of_store store.Memory h = omega (arith, h)
+of_store (store.Sql e) h = omega (arith, h)
+of_store store.NotAStore h = omega (arith, h)
+of_store (store.Version n) h = omega (arith, h)
+of_store store.Damaged h = omega (arith, h)
+
+-- the counts that are told where the stream was served as far as it goes
+pub counts_told : (e : Ended) (counts n : SessionCounts) (told : Option SessionCounts) → IsOfStream (session_ending e) → told ≡ counts_at e counts → IfSome told (λ c. n ≡ c) → n ≡ counts
+counts_told session.End counts n told of_stream is so = subst (λ o. IfSome o (λ c. n ≡ c)) is so
+counts_told session.Destroyed counts n told of_stream is so = subst (λ o. IfSome o (λ c. n ≡ c)) is so
+counts_told session.Turns counts n told of_stream is so = subst (λ o. IfSome o (λ c. n ≡ c)) is so
+counts_told (session.Frame f) counts n told of_stream is so = subst (λ o. IfSome o (λ c. n ≡ c)) is so
+counts_told (session.ZeroUnique at) counts n told of_stream is so = subst (λ o. IfSome o (λ c. n ≡ c)) is so
+counts_told session.PortFailed counts n told of_stream is so = absurd (omega (arith, of_stream))
+counts_told (session.Store f) counts n told of_stream is so = absurd (of_store f of_stream)
+counts_told session.Memory counts n told of_stream is so = absurd (omega (arith, of_stream))
+
 -- ---- each end
 
 -- all that came was worked off
-rested : {M : Model} (k k' : KeeperState M) (moment : Moment) (input sent : List ℕ) (p : PortState) (ids' rest : List ℕ) (place : ℕ) (counts : SessionCounts) (ending : Ending) → Told p sent
-    → (w : Whole k k' (λ t. t ≡ moment) (fresh (Some input) (Some []) false) p [] ids' [] rest 0 place counts) → (cut input).0 ≡ (cut w.received).0
+rested : {M : Model} (k k' : KeeperState M) (moment : Moment) (gave : List Moment → Type 0) (each : (ts : List Moment) → gave ts → AllByRecursion (λ t. t ≡ moment) ts) (input sent : List ℕ) (p : PortState) (ids' rest : List ℕ) (place : ℕ) (counts : SessionCounts) (ending : Ending) → Told p sent
+    → (w : Whole k k' gave (fresh (Some input) (Some []) false) p [] ids' [] rest 0 place counts) → (cut input).0 ≡ (cut w.received).0
     → ((s : M.State) (h : History) (timed : List Timed) → GoesOn M s h timed → place ≡ length (joined (bytes_of timed)) → EndsAt M ending s h timed [] (length (joined (bytes_of timed))) (cut input).1)
     → Replayed k k' moment input ending (Sends sent counts)
-rested k k' moment input sent p ids' rest place counts ending told w same ends =
+rested k k' moment gave each input sent p ids' rest place counts ending told w same ends =
     let at : place ≡ length (joined (bytes_of w.turned.timed)) = omega (arith, w.at, ap (λ ms. length (joined ms)) w.turned.bytes) in
     record {
       timed = w.turned.timed;
       others = [];
       parts = same ∙ w.turned.bytes ∙ sym (append-nil (bytes_of w.turned.timed));
-      moments = w.turned.moments;
+      moments = each (moments_in w.turned.timed) w.turned.moments;
       all = λ honest s h t so may.
-          let d = settled k k' (λ t. t ≡ moment) (Some input) p [] ids' (cut w.received).0 true counts sent refl told w.turned honest s h t so may in
+          let d = settled k k' gave (Some input) p [] ids' (cut w.received).0 true counts sent refl told w.turned honest s h t so may in
           record { works = d.works; ends = ends s h w.turned.timed (d.goes refl) at; stands = d.stands; gave = d.sends };
     }
 
@@ -199,13 +222,13 @@ zero_more [] more zero = absurd zero
 zero_more (m ∷ ms) more zero = zero
 
 -- some of it was
-halted : CutJoins → {M : Model} (k k' : KeeperState M) (moment : Moment) (input sent : List ℕ) (p : PortState) (ids' received : List ℕ) (front others : List (List ℕ)) (going : Bool) (place : ℕ) (counts : SessionCounts) (ending : Ending)
+halted : CutJoins → {M : Model} (k k' : KeeperState M) (moment : Moment) (gave : List Moment → Type 0) (each : (ts : List Moment) → gave ts → AllByRecursion (λ t. t ≡ moment) ts) (input sent : List ℕ) (p : PortState) (ids' received : List ℕ) (front others : List (List ℕ)) (going : Bool) (place : ℕ) (counts : SessionCounts) (ending : Ending)
     → Told p sent → Consumes (Some input) p.coming received → (cut received).0 ≡ front ++ others → place ≡ 0 + length (joined front)
-    → Turned k k' (λ t. t ≡ moment) (fresh (Some input) (Some []) false) p [] ids' front going counts
+    → Turned k k' gave (fresh (Some input) (Some []) false) p [] ids' front going counts
     → ((s : M.State) (h : History) (timed : List Timed) (more : List (List ℕ)) → (going ≡ true → GoesOn M s h timed) → (going ≡ false → EndsLast M s h timed) → place ≡ length (joined (bytes_of timed))
     → EndsAt M ending s h timed (others ++ more) (length (joined (bytes_of timed))) (cut input).1)
     → Replayed k k' moment input ending (Sends sent counts)
-halted joins k k' moment input sent p ids' received front others going place counts ending told came_from parts place_is turned ends =
+halted joins k k' moment gave each input sent p ids' received front others going place counts ending told came_from parts place_is turned ends =
     let c = came input p.coming received came_from in
     let more = (cut ((cut received).1 ++ c.later)).0 in
     let all = cut_came joins input received c.later c.parts in
@@ -215,9 +238,9 @@ halted joins k k' moment input sent p ids' received front others going place cou
       timed = timed;
       others = others ++ more;
       parts = ap (λ (x : List (List ℕ) × List ℕ). x.0) all ∙ ap (λ ms. ms ++ more) (parts ∙ ap (λ ms. ms ++ others) turned.bytes) ∙ append_assoc (bytes_of timed) others more;
-      moments = turned.moments;
+      moments = each (moments_in turned.timed) turned.moments;
       all = λ honest s h t so may.
-          let d = settled k k' (λ t. t ≡ moment) (Some input) p [] ids' front going counts sent refl told turned honest s h t so may in
+          let d = settled k k' gave (Some input) p [] ids' front going counts sent refl told turned honest s h t so may in
           record { works = d.works; ends = ends s h timed more d.goes d.last at; stands = d.stands; gave = d.sends };
     }
 
@@ -227,61 +250,54 @@ faulty M (frame.TooLong at len) s h timed others place rest of_stream e = e
 faulty M (frame.Cut at have need) s h timed others place rest of_stream e = e
 faulty M frame.Memory s h timed others place rest of_stream e = absurd (omega (arith, of_stream))
 
-of_store : (f : StoreFault) → IsOfStream (store_ending f) → ⊥
-of_store store.Memory h = omega (arith, h)
-of_store (store.Sql e) h = omega (arith, h)
-of_store store.NotAStore h = omega (arith, h)
-of_store (store.Version n) h = omega (arith, h)
-of_store store.Damaged h = omega (arith, h)
-
-pub replayed : CutJoins → CutSteps → {M : Model} (k k' : KeeperState M) (moment : Moment) (input sent : List ℕ) (p : PortState) (turns : ℕ) (e : Ended) (counts : SessionCounts) → Told p sent
-    → EndsAs k k' (λ t. t ≡ moment) (fresh (Some input) (Some []) false) p [] [] 0 turns e counts → IsOfStream (session_ending e)
+pub replayed : CutJoins → CutSteps → {M : Model} (k k' : KeeperState M) (moment : Moment) (gave : List Moment → Type 0) (each : (ts : List Moment) → gave ts → AllByRecursion (λ t. t ≡ moment) ts) (input sent : List ℕ) (p : PortState) (turns : ℕ) (e : Ended) (counts : SessionCounts) → Told p sent
+    → EndsAs k k' gave (fresh (Some input) (Some []) false) p [] [] 0 turns e counts → IsOfStream (session_ending e)
     → Replayed k k' moment input (session_ending e) (Sends sent counts)
-replayed joins steps k k' moment input sent p turns session.End counts told e of_stream =
+replayed joins steps k k' moment gave each input sent p turns session.End counts told e of_stream =
     let r = e.1 in
     let c = came input p.coming r.whole.received r.whole.came in
     let same = all_came input r.whole.received c.later c.parts (c.over e.0.1) in
-    rested k k' moment input sent p r.pending' r.rest r.place counts Done told r.whole (ap (λ (x : List (List ℕ) × List ℕ). x.0) same)
+    rested k k' moment gave each input sent p r.pending' r.rest r.place counts Done told r.whole (ap (λ (x : List (List ℕ) × List ℕ). x.0) same)
     (λ s h timed goes at. inr (goes, refl, ap (λ (x : List (List ℕ) × List ℕ). x.1) same ∙ sym r.whole.rest_is ∙ r.so))
-replayed joins steps k k' moment input sent p turns session.Destroyed counts told e of_stream =
+replayed joins steps k k' moment gave each input sent p turns session.Destroyed counts told e of_stream =
     let w = e.1.stopped.worked in
-    halted joins k k' moment input sent p e.1.pending' e.1.stopped.received w.front w.others false e.0 counts Done told e.1.stopped.came w.parts w.at w.turned (λ s h timed more goes last at. inl (last refl))
-replayed joins steps k k' moment input sent p turns (session.Frame f) counts told r of_stream =
+    halted joins k k' moment gave each input sent p e.1.pending' e.1.stopped.received w.front w.others false e.0 counts Done told e.1.stopped.came w.parts w.at w.turned (λ s h timed more goes last at. inl (last refl))
+replayed joins steps k k' moment gave each input sent p turns (session.Frame f) counts told r of_stream =
     let c = came input p.coming r.whole.received r.whole.came in
     elim r.so [
       | inl length_bad ↦
           let b = bad_came joins steps input r.whole.received c.later r.rest r.place f c.parts r.whole.rest_is length_bad in
-          rested k k' moment input sent p r.pending' r.rest r.place counts (stream_ending f) told r.whole b.0
+          rested k k' moment gave each input sent p r.pending' r.rest r.place counts (stream_ending f) told r.whole b.0
           (λ s h timed goes at. faulty _ f s h timed [] (length (joined (bytes_of timed))) (cut input).1 of_stream (goes, refl, subst (λ n. end_fault n (cut input).1 ≡ Some f) at b.1))
       | inr cut_off ↦
           let same = all_came input r.whole.received c.later c.parts (c.over cut_off.0.1) in
           let fault : end_fault r.place (cut input).1 ≡ Some f = subst (λ w. end_fault r.place w ≡ Some f) (r.whole.rest_is ∙ sym (ap (λ (x : List (List ℕ) × List ℕ). x.1) same)) cut_off.2 in
-          rested k k' moment input sent p r.pending' r.rest r.place counts (stream_ending f) told r.whole (ap (λ (x : List (List ℕ) × List ℕ). x.0) same)
+          rested k k' moment gave each input sent p r.pending' r.rest r.place counts (stream_ending f) told r.whole (ap (λ (x : List (List ℕ) × List ℕ). x.0) same)
           (λ s h timed goes at. faulty _ f s h timed [] (length (joined (bytes_of timed))) (cut input).1 of_stream (goes, refl, subst (λ n. end_fault n (cut input).1 ≡ Some f) at fault))
     ]
-replayed joins steps k k' moment input sent p turns (session.ZeroUnique at) counts told e of_stream =
+replayed joins steps k k' moment gave each input sent p turns (session.ZeroUnique at) counts told e of_stream =
     let w = e.stopped.worked in
-    halted joins k k' moment input sent p e.pending' e.stopped.received w.front w.others true at counts (ZeroUnique at) told e.stopped.came w.parts w.at w.turned
+    halted joins k k' moment gave each input sent p e.pending' e.stopped.received w.front w.others true at counts (ZeroUnique at) told e.stopped.came w.parts w.at w.turned
     (λ s h timed more goes last place. (goes refl, zero_more w.others more (w.zero refl), place))
-replayed joins steps k k' moment input sent p turns session.Turns counts told e of_stream = absurd (omega (arith, of_stream))
-replayed joins steps k k' moment input sent p turns session.PortFailed counts told e of_stream = absurd (omega (arith, of_stream))
-replayed joins steps k k' moment input sent p turns (session.Store f) counts told e of_stream = absurd (of_store f of_stream)
-replayed joins steps k k' moment input sent p turns session.Memory counts told e of_stream = absurd (omega (arith, of_stream))
+replayed joins steps k k' moment gave each input sent p turns session.Turns counts told e of_stream = absurd (omega (arith, of_stream))
+replayed joins steps k k' moment gave each input sent p turns session.PortFailed counts told e of_stream = absurd (omega (arith, of_stream))
+replayed joins steps k k' moment gave each input sent p turns (session.Store f) counts told e of_stream = absurd (of_store f of_stream)
+replayed joins steps k k' moment gave each input sent p turns session.Memory counts told e of_stream = absurd (omega (arith, of_stream))
 
 -- the same for a port that begins so, and an ending that is told so
-pub session_replayed : CutJoins → CutSteps → {M : Model} (k k' : KeeperState M) (moment : Moment) (input sent : List ℕ) (q p : PortState) (turns : ℕ) (e : Ended) (counts : SessionCounts) (ending : Ending)
-    → ending ≡ session_ending e → q ≡ fresh (Some input) (Some []) false → p.gone ≡ [] → p.sent ≡ Some sent → EndsAs k k' (λ t. t ≡ moment) q p [] [] 0 turns e counts → IsOfStream ending
+pub session_replayed : CutJoins → CutSteps → {M : Model} (k k' : KeeperState M) (moment : Moment) (gave : List Moment → Type 0) (each : (ts : List Moment) → gave ts → AllByRecursion (λ t. t ≡ moment) ts) (input sent : List ℕ) (q p : PortState) (turns : ℕ) (e : Ended) (counts : SessionCounts) (ending : Ending)
+    → ending ≡ session_ending e → q ≡ fresh (Some input) (Some []) false → p.gone ≡ [] → p.sent ≡ Some sent → EndsAs k k' gave q p [] [] 0 turns e counts → IsOfStream ending
     → Replayed k k' moment input ending (Sends sent counts)
-session_replayed joins steps k k' moment input sent q p turns e counts ending is start gone told ends of_stream =
+session_replayed joins steps k k' moment gave each input sent q p turns e counts ending is start gone told ends of_stream =
     subst (λ x. Replayed k k' moment input x (Sends sent counts)) (sym is)
-    (replayed joins steps k k' moment input sent p turns e counts (record { gone = gone; sent_is = told })
-    (subst (λ x. EndsAs k k' (λ t. t ≡ moment) x p [] [] 0 turns e counts) start ends) (subst IsOfStream is of_stream))
+    (replayed joins steps k k' moment gave each input sent p turns e counts (record { gone = gone; sent_is = told })
+    (subst (λ x. EndsAs k k' gave x p [] [] 0 turns e counts) start ends) (subst IsOfStream is of_stream))
 
 -- ---- a fault of the store
 
-faulted : CutJoins → {M : Model} (k k' : KeeperState M) (may_fault : Type 0) (moment : Moment) (input sent : List ℕ) (p : PortState) → (k'.is_clean → k'.is_honest) → Told p sent
-    → SentExactly k k' (λ s g t. k'.is_clean → StandsFor k' s g t × may_fault) (λ t. t ≡ moment) (fresh (Some input) (Some []) false) p [] [] → Faulted k k' moment input (λ answers. sent ≡ joined answers)
-faulted joins k k' may_fault moment input sent p clean_honest told life =
+faulted : CutJoins → {M : Model} (k k' : KeeperState M) (may_fault : Type 0) (moment : Moment) (gave : List Moment → Type 0) (each : (ts : List Moment) → gave ts → AllByRecursion (λ t. t ≡ moment) ts) (input sent : List ℕ) (p : PortState) → (k'.is_clean → k'.is_honest) → Told p sent
+    → SentExactly k k' (λ s g t. k'.is_clean → StandsFor k' s g t × may_fault) gave (fresh (Some input) (Some []) false) p [] [] → Faulted k k' moment input (λ answers. sent ≡ joined answers)
+faulted joins k k' may_fault moment gave each input sent p clean_honest told life =
     let r = life.replied in
     let c = came input p.coming life.received life.came in
     let more = (cut ((cut life.received).1 ++ c.later)).0 in
@@ -291,7 +307,7 @@ faulted joins k k' may_fault moment input sent p clean_honest told life =
       timed = life.timed;
       others = life.others ++ more;
       parts = ap (λ (x : List (List ℕ) × List ℕ). x.0) (cut_came joins input life.received c.later c.parts) ∙ ap (λ ms. ms ++ more) life.front ∙ append_assoc (bytes_of life.timed) life.others more;
-      moments = life.moments;
+      moments = each_front (λ t. t ≡ moment) (moments_in life.timed) life.moments.0 (each _ life.moments.1);
       all = λ clean s h t so may.
           let l = life.exactly (clean_honest clean) s h t so (λ i there. absurd (cc there)) (none_again t (bytes_of life.timed) life.marks taken may) in
           let g = grown h (kept_in l.worked) in
@@ -307,26 +323,26 @@ faulted joins k k' may_fault moment input sent p clean_honest told life =
     }
 
 -- status 3 comes by a fault of the store alone
-store_faulted : CutJoins → {M : Model} (k k' : KeeperState M) (moment : Moment) (input sent : List ℕ) (p : PortState) (e : Ended) → (k'.is_clean → k'.is_honest) → Told p sent
-    → status_of (session_ending e) ≡ 3 → ExactAt k k' (λ t. t ≡ moment) (fresh (Some input) (Some []) false) p [] [] e → Faulted k k' moment input (λ answers. sent ≡ joined answers)
-store_faulted joins k k' moment input sent p (session.Store f) clean_honest told is life = faulted joins k k' (k.may_answer f) moment input sent p clean_honest told life
-store_faulted joins k k' moment input sent p session.End clean_honest told is life = absurd (omega (arith, is))
-store_faulted joins k k' moment input sent p session.Destroyed clean_honest told is life = absurd (omega (arith, is))
-store_faulted joins k k' moment input sent p session.Turns clean_honest told is life = absurd (omega (arith, is))
-store_faulted joins k k' moment input sent p (session.Frame (frame.Short at len)) clean_honest told is life = absurd (omega (arith, is))
-store_faulted joins k k' moment input sent p (session.Frame (frame.TooLong at len)) clean_honest told is life = absurd (omega (arith, is))
-store_faulted joins k k' moment input sent p (session.Frame (frame.Cut at have need)) clean_honest told is life = absurd (omega (arith, is))
-store_faulted joins k k' moment input sent p (session.Frame frame.Memory) clean_honest told is life = absurd (omega (arith, is))
-store_faulted joins k k' moment input sent p (session.ZeroUnique at) clean_honest told is life = absurd (omega (arith, is))
-store_faulted joins k k' moment input sent p session.PortFailed clean_honest told is life = absurd (omega (arith, is))
-store_faulted joins k k' moment input sent p session.Memory clean_honest told is life = absurd (omega (arith, is))
+store_faulted : CutJoins → {M : Model} (k k' : KeeperState M) (moment : Moment) (gave : List Moment → Type 0) (each : (ts : List Moment) → gave ts → AllByRecursion (λ t. t ≡ moment) ts) (input sent : List ℕ) (p : PortState) (e : Ended) → (k'.is_clean → k'.is_honest) → Told p sent
+    → status_of (session_ending e) ≡ 3 → ExactAt k k' gave (fresh (Some input) (Some []) false) p [] [] e → Faulted k k' moment input (λ answers. sent ≡ joined answers)
+store_faulted joins k k' moment gave each input sent p (session.Store f) clean_honest told is life = faulted joins k k' (k.may_answer f) moment gave each input sent p clean_honest told life
+store_faulted joins k k' moment gave each input sent p session.End clean_honest told is life = absurd (omega (arith, is))
+store_faulted joins k k' moment gave each input sent p session.Destroyed clean_honest told is life = absurd (omega (arith, is))
+store_faulted joins k k' moment gave each input sent p session.Turns clean_honest told is life = absurd (omega (arith, is))
+store_faulted joins k k' moment gave each input sent p (session.Frame (frame.Short at len)) clean_honest told is life = absurd (omega (arith, is))
+store_faulted joins k k' moment gave each input sent p (session.Frame (frame.TooLong at len)) clean_honest told is life = absurd (omega (arith, is))
+store_faulted joins k k' moment gave each input sent p (session.Frame (frame.Cut at have need)) clean_honest told is life = absurd (omega (arith, is))
+store_faulted joins k k' moment gave each input sent p (session.Frame frame.Memory) clean_honest told is life = absurd (omega (arith, is))
+store_faulted joins k k' moment gave each input sent p (session.ZeroUnique at) clean_honest told is life = absurd (omega (arith, is))
+store_faulted joins k k' moment gave each input sent p session.PortFailed clean_honest told is life = absurd (omega (arith, is))
+store_faulted joins k k' moment gave each input sent p session.Memory clean_honest told is life = absurd (omega (arith, is))
 
-pub session_faulted : CutJoins → {M : Model} (k k' : KeeperState M) (moment : Moment) (input sent : List ℕ) (q p : PortState) (e : Ended) (ending : Ending) → (k'.is_clean → k'.is_honest)
-    → ending ≡ session_ending e → q ≡ fresh (Some input) (Some []) false → p.gone ≡ [] → p.sent ≡ Some sent → ExactAt k k' (λ t. t ≡ moment) q p [] [] e → status_of ending ≡ 3
+pub session_faulted : CutJoins → {M : Model} (k k' : KeeperState M) (moment : Moment) (gave : List Moment → Type 0) (each : (ts : List Moment) → gave ts → AllByRecursion (λ t. t ≡ moment) ts) (input sent : List ℕ) (q p : PortState) (e : Ended) (ending : Ending) → (k'.is_clean → k'.is_honest)
+    → ending ≡ session_ending e → q ≡ fresh (Some input) (Some []) false → p.gone ≡ [] → p.sent ≡ Some sent → ExactAt k k' gave q p [] [] e → status_of ending ≡ 3
     → Faulted k k' moment input (λ answers. sent ≡ joined answers)
-session_faulted joins k k' moment input sent q p e ending clean_honest is start gone told life three =
-    store_faulted joins k k' moment input sent p e clean_honest (record { gone = gone; sent_is = told }) (sym (ap status_of is) ∙ three)
-    (subst (λ x. ExactAt k k' (λ t. t ≡ moment) x p [] [] e) start life)
+session_faulted joins k k' moment gave each input sent q p e ending clean_honest is start gone told life three =
+    store_faulted joins k k' moment gave each input sent p e clean_honest (record { gone = gone; sent_is = told }) (sym (ap status_of is) ∙ three)
+    (subst (λ x. ExactAt k k' gave x p [] [] e) start life)
 
 -- ---- what is printed of it
 

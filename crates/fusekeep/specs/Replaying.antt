@@ -11,7 +11,7 @@ use Rattle.fuse_keeper.specs.Model.{Model}
 use Rattle.fuse_keeper.specs.History.{History, grown}
 use Rattle.fuse_keeper.specs.KeeperState.{KeeperState, StandsFor}
 use Rattle.fuse_session.specs.declared.counts.SessionCounts.{SessionCounts}
-use Rattle.fuse_session.specs.Worked.{Timed, bytes_of, kept_in, answers, GoesOn, Works, EndsLast, StartsZero, Moments}
+use Rattle.fuse_session.specs.Worked.{Timed, bytes_of, kept_in, answers, GoesOn, Works, EndsLast, StartsZero, moments_in}
 use Rattle.fuse_session.specs.Settling.{MayCome}
 use Rattle.fuse_session.specs.Counting.{counted}
 use Rattle.fusekeep.specs.declared.ending.Ending.{Ending}
@@ -44,7 +44,7 @@ pub record Replayed {M : Model} (k k' : KeeperState M) (moment : Moment) (input 
   pub timed : List Timed
   pub others : List (List ℕ)
   pub parts : (cut input).0 ≡ bytes_of timed ++ others
-  pub moments : Moments (λ t. t ≡ moment) timed
+  pub moments : AllByRecursion (λ t. t ≡ moment) (moments_in timed)
   pub all : k'.is_honest → (s : M.State) (h : History) (t : List ℕ) → StandsFor k s h t → AllByRecursion (MayCome t) (bytes_of timed)
       → Replay M (λ g. StandsFor k' s g t) s h timed others (cut input).1 ending Gave
 
@@ -62,7 +62,7 @@ pub record Faulted {M : Model} (k k' : KeeperState M) (moment : Moment) (input :
   pub timed : List Timed
   pub others : List (List ℕ)
   pub parts : (cut input).0 ≡ bytes_of timed ++ others
-  pub moments : Moments (λ t. t ≡ moment) timed
+  pub moments : AllByRecursion (λ t. t ≡ moment) (moments_in timed)
   pub all : k'.is_clean → (s : M.State) (h : History) (t : List ℕ) → StandsFor k s h t → AllByRecursion (MayCome t) (bytes_of timed)
       → Part M (λ g. StandsFor k' s g t) s h timed Gave
 

@@ -1,4 +1,4 @@
-ghost use Rattle.std.specs.Prelude.{◌≡◌, ◌≢◌, ◌⊎◌, ◌≤◌, ℕ, true, false, List, Some, IfErr, OnOk};
+ghost use Rattle.std.specs.Prelude.{◌≡◌, ◌≢◌, ◌⊎◌, ◌≤◌, ℕ, true, false, List, Some, IfSome, IfErr, OnOk};
 ghost use Rattle.std.specs.List.{AllByRecursion};
 ghost use Rattle.fuse_request.specs.Stream.{joined};
 ghost use Rattle.fusekeep.specs.Endings.{status_of, IsOfStream};
@@ -24,6 +24,16 @@ struct Session {
     ending: Ending,
 }
 
+// The counts, where they are told.
+fn counts_of(told: Option<SessionCounts>) -> SessionCounts
+    ensures { IfSome told (λ counts. result ≡ counts) }
+{
+    match told {
+        Some(counts) => counts,
+        None => SessionCounts::NONE,
+    }
+}
+
 // Serves the stream that the reader gives, all at one moment.
 fn serve_stream<K: Keeper, R: Read>(
     alloc: Global,
@@ -46,7 +56,7 @@ fn serve_stream<K: Keeper, R: Read>(
     let served = serve(alloc, keeper, &mut port, &mut Fixed(moment), MAX_READS);
     Session {
         sent: port.into_writer(),
-        counts: served.counts,
+        counts: counts_of(served.counts),
         ending: Ending::of_session(served.ended),
     }
 }
