@@ -1,12 +1,12 @@
 -- What is told of two copies, from what is told of each.
-use Rattle.std.proofs.Common.{◌≡◌, ◌||◌, Bool, true, false, ℕ, List, Some, Result, Ok, Err, refl, sym, ap, subst, ◌∙◌}
+use Rattle.std.proofs.Common.{◌≡◌, ◌||◌, Bool, true, false, ℕ, List, Result, Ok, Err, refl, sym, ap, subst, ◌∙◌}
 use Rattle.fuse_keeper.specs.declared.fault.StoreFault.{StoreFault}
 use Rattle.fuse_keeper.specs.declared.keeper.Done.{Done}
 use Rattle.fuse_keeper.specs.declared.plain.PlainKeeper.{PlainKeeper}
 use Rattle.fuse_keeper.specs.Model.{Model}
 use Rattle.fuse_keeper.specs.History.{Entry, History}
 use Rattle.fuse_keeper.specs.Lots.{no_lots, SameLots}
-use Rattle.fuse_keeper.specs.Stands.{Records, Stands, PerformedBy}
+use Rattle.fuse_keeper.specs.Stands.{Records, Stands}
 use Rattle.fuse_keeper.specs.Plain.{mapped}
 use Rattle.fuse_keeper.specs.PlainKeeper.{plain_told}
 use Rattle.fuse_keeper.specs.KeeperState.{StandsFor, Performed, IsFirm, KeepsHeld, Called, Looked, HoldsOthers, Reopened}
@@ -31,7 +31,8 @@ module _ {F : Type 0} (M : Model) (held : F → M.Rows) where
   plain_firm p = λ y q so. (tt, λ x r left. (left.0 ∙ sym so.0, λ i. left.1 i ∙ sym (so.1 i)))
 
   -- what it holds stands for the history
-  pub held_stands : (p : PlainKeeper F) (s : M.State) (h : History) (t : List ℕ) (x : M.Rows) (r : Records) → StandsFor (plain_told M held p) s h t → (plain_told M held p).holds x r → Stands M x r s h t
+  pub held_stands : (p : PlainKeeper F) (s : M.State) (h : History) (t : List ℕ) (x : M.Rows) (r : Records) → StandsFor (plain_told M held p) s h t
+      → (plain_told M held p).holds x r → Stands M x r s h t
   held_stands p s h t x r so left = record {
     tree = so.stands.tree;
     distinct = so.stands.distinct;
@@ -45,10 +46,12 @@ module _ {F : Type 0} (M : Model) (held : F → M.Rows) where
   pub copies_firm : (k : TwoCopies F) → IsFirm (two_told M held k)
   copies_firm k = λ y q so. (tt, λ x r left. (left.0 ∙ sym so.0.0, λ i. left.1 i ∙ sym (so.0.1 i)))
 
-  pub working_stands : (k : TwoCopies F) (s : M.State) (h : History) (t : List ℕ) → StandsFor (two_told M held k) s h t → StandsFor (plain_told M held k.working) s h t
+  pub working_stands : (k : TwoCopies F) (s : M.State) (h : History) (t : List ℕ) → StandsFor (two_told M held k) s h t
+      → StandsFor (plain_told M held k.working) s h t
   working_stands k s h t so = record { rows = so.rows; records = so.records; held = so.held.1; stands = so.stands }
 
-  pub committed_stands : (k : TwoCopies F) (s : M.State) (h : History) (t : List ℕ) → StandsFor (two_told M held k) s h t → StandsFor (plain_told M held k.committed) s h t
+  pub committed_stands : (k : TwoCopies F) (s : M.State) (h : History) (t : List ℕ) → StandsFor (two_told M held k) s h t
+      → StandsFor (plain_told M held k.committed) s h t
   committed_stands k s h t so = record { rows = so.rows; records = so.records; held = so.held.0; stands = so.stands }
 
   -- the committed copy is that of before, so a crash leaves what was held then
@@ -66,10 +69,12 @@ module _ {F : Type 0} (M : Model) (held : F → M.Rows) where
     pub same : KeepsHeld (plain_told M held w) (plain_told M held k.committed)
     pub no_more : KeepsHeld (plain_told M held k.committed) (plain_told M held w)
 
-  pub both_hold : (w : PlainKeeper F) (k : TwoCopies F) (x : M.Rows) (r : Records) → Commits w k → (plain_told M held w).holds x r → (two_told M held k).holds x r
+  pub both_hold : (w : PlainKeeper F) (k : TwoCopies F) (x : M.Rows) (r : Records) → Commits w k → (plain_told M held w).holds x r
+      → (two_told M held k).holds x r
   both_hold w k x r made so = (made.same x r so, subst (λ p. (plain_told M held p).holds x r) (sym made.working) so, made.closed)
 
-  pub both_stand : (w : PlainKeeper F) (k : TwoCopies F) (s : M.State) (h : History) (t : List ℕ) → Commits w k → StandsFor (plain_told M held w) s h t → StandsFor (two_told M held k) s h t
+  pub both_stand : (w : PlainKeeper F) (k : TwoCopies F) (s : M.State) (h : History) (t : List ℕ) → Commits w k
+      → StandsFor (plain_told M held w) s h t → StandsFor (two_told M held k) s h t
   both_stand w k s h t made so = record { rows = so.rows; records = so.records; held = both_hold w k so.rows so.records made so.held; stands = so.stands }
 
   pub both_performed : (w : PlainKeeper F) (k : TwoCopies F) (s : M.State) (h : History) (t : List ℕ) (es : List Entry) (dones : List Done) → Commits w k
@@ -89,7 +94,8 @@ module _ {F : Type 0} (M : Model) (held : F → M.Rows) where
   -- ---- faults
 
   -- a write is left open
-  pub called_open : {A : Type 0} (old new : TwoCopies F) (fault : StoreFault) → new.uncommitted ≡ true → Called {A = A} (two_told M held old) (two_told M held new) (Err fault)
+  pub called_open : {A : Type 0} (old new : TwoCopies F) (fault : StoreFault) → new.uncommitted ≡ true
+      → Called {A = A} (two_told M held old) (two_told M held new) (Err fault)
   called_open old new fault is = record {
     failed = ap (λ b. b || (plain_told M held new.working).has_failed) is ∙ sym (or-true (old.uncommitted || (plain_told M held old.working).has_failed));
     honest = λ honest. honest;
@@ -105,8 +111,8 @@ module _ {F : Type 0} (M : Model) (held : F → M.Rows) where
   pub called_done : {A : Type 0} (old new : TwoCopies F) (a : A) (w : PlainKeeper F) → old.uncommitted ≡ false → Commits w new
       → (plain_told M held w).has_failed ≡ ((plain_told M held old.working).has_failed || false) → Called (two_told M held old) (two_told M held new) (Ok a)
   called_done old new a w closed made failed = record {
-    failed = done_failed old.uncommitted new.uncommitted (plain_told M held old.working).has_failed (plain_told M held new.working).has_failed closed made.closed
-        (ap (λ p. (plain_told M held p).has_failed) made.working ∙ failed);
+    failed = done_failed old.uncommitted new.uncommitted (plain_told M held old.working).has_failed (plain_told M held new.working).has_failed
+        closed made.closed (ap (λ p. (plain_told M held p).has_failed) made.working ∙ failed);
     honest = λ honest. honest;
     err = tt;
     err_lots = tt;
@@ -118,14 +124,16 @@ module _ {F : Type 0} (M : Model) (held : F → M.Rows) where
   pub called_working : {A : Type 0} (result : Result A StoreFault) (old new : TwoCopies F) → new.committed ≡ old.committed → new.uncommitted ≡ old.uncommitted
       → Called (plain_told M held old.working) (plain_told M held new.working) result → Called (two_told M held old) (two_told M held new) result
   called_working {A} (Ok a) old new committed alike called = record {
-    failed = ap (λ b. b || (plain_told M held new.working).has_failed) alike ∙ ap (λ b. old.uncommitted || b) called.failed ∙ or-append old.uncommitted (plain_told M held old.working).has_failed false;
+    failed = ap (λ b. b || (plain_told M held new.working).has_failed) alike ∙ ap (λ b. old.uncommitted || b) called.failed
+        ∙ or-append old.uncommitted (plain_told M held old.working).has_failed false;
     honest = λ honest. honest;
     err = tt;
     err_lots = tt;
     fault = λ clean s h t so. tt;
   }
   called_working {A} (Err fault) old new committed alike called = record {
-    failed = ap (λ b. b || (plain_told M held new.working).has_failed) alike ∙ ap (λ b. old.uncommitted || b) called.failed ∙ or-append old.uncommitted (plain_told M held old.working).has_failed true;
+    failed = ap (λ b. b || (plain_told M held new.working).has_failed) alike ∙ ap (λ b. old.uncommitted || b) called.failed
+        ∙ or-append old.uncommitted (plain_told M held old.working).has_failed true;
     honest = λ honest. honest;
     err = λ clean x r so. (subst (λ p. (plain_told M held p).holds x r) (sym committed) so.0, called.err tt x r so.1, alike ∙ so.2);
     err_lots = λ clean x r so. lots_stay;
@@ -156,8 +164,20 @@ module _ {F : Type 0} (M : Model) (held : F → M.Rows) where
   pub reopens : (old new : TwoCopies F) → new.committed ≡ old.committed → new.uncommitted ≡ false → (plain_told M held new.working).has_failed ≡ false
       → KeepsHeld (plain_told M held new.committed) (plain_told M held new.working) → Reopened (two_told M held old) (two_told M held new)
   reopens old new committed closed going copied = record {
-    same = λ honest x r so. (subst (λ p. (plain_told M held p).holds x r) (sym committed) so.0, copied x r (subst (λ p. (plain_told M held p).holds x r) (sym committed) so.0), closed);
-    held = λ honest whole. (held new.committed.rows, mapped new.committed.records, ((refl, λ i. refl), copied (held new.committed.rows) (mapped new.committed.records) (refl, λ i. refl), closed));
+    same = λ honest x r so. (
+      subst (λ p. (plain_told M held p).holds x r) (sym committed) so.0,
+      copied x r (subst (λ p. (plain_told M held p).holds x r) (sym committed) so.0),
+      closed,
+    );
+    held = λ honest whole. (
+      held new.committed.rows,
+      mapped new.committed.records,
+      (
+        (refl, λ i. refl),
+        copied (held new.committed.rows) (mapped new.committed.records) (refl, λ i. refl),
+        closed,
+      ),
+    );
     left = λ honest whole x r so. subst (λ p. (plain_told M held p).holds x r) committed so.0;
     firm = λ honest. copies_firm new;
     lots = λ honest x r so. record { numbers = refl; current = refl; under = λ i. refl };

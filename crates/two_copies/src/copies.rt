@@ -13,9 +13,9 @@ use std::alloc::Global;
 
 /// A keeper of lists in a working copy, from which a committed one is made after each change.
 ///
-/// A commit may be refused, by plan or for want of memory. Then the working copy holds what the call
-/// did and the committed one doesn't, and nothing but opening it again helps, which loses what the call
-/// did, as a crash there does.
+/// A commit may be refused, by plan or for want of memory. Then the working copy holds what the
+/// call did and the committed one doesn't. A crash there loses it, and so does opening the keeper
+/// again, without which it performs nothing more.
 #[derive(Drop)]
 pub struct TwoCopies<F> {
     committed: PlainKeeper<F>,
@@ -31,7 +31,8 @@ pub struct TwoCopies<F> {
 }
 
 impl<F: FileSystem> TwoCopies<F> {
-    /// A new store, made at this moment. So many commits go well, the next one is refused, and so on.
+    /// A new store, made at this moment. So many commits go well, the next one is refused, and so
+    /// on: at 0 each is refused.
     pub fn new(alloc: Global, now: Moment, commits: u64) -> Result<TwoCopies<F>, Memory>
         ensures stands { IfOk result (λ k.
             StandsFor (two_told F.model F.held k) (F.model.start now) [] []) }
@@ -88,7 +89,7 @@ impl<F: FileSystem> Keeper for TwoCopies<F> {
 
     ghost became = { λ a b n. b.openings ≡ a.openings + n };
 
-    /// One whose commit was refused refuses all until it is opened again.
+    /// Where the commit is refused the group is in the working copy alone: a crash then loses it.
     fn perform(
         &mut self,
         group: &[(Request<'_>, Moment)],
@@ -156,7 +157,7 @@ impl<F: FileSystem> Restart for TwoCopies<F> {
     // For want of memory, or where the openings can't be counted any further.
     ghost may_refuse = { λ k fault. (fault ≡ NoMemory) ⊎ (k.openings + 1 ≡ 2 ^ 64) };
 
-    /// Makes the working copy anew from the committed one. What was in the working copy alone is lost.
+    /// Makes the working copy anew from the committed one. What only the working copy held is lost.
     fn restart(mut self) -> Result<TwoCopies<F>, StoreFault> {
         let Some(openings) = self.openings.checked_add(1) else {
             return Err(StoreFault::Damaged);

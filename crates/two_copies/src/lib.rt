@@ -1,4 +1,4 @@
-//! A keeper of lists for tests, with a committed and a working copy: a crash loses what wasn't committed.
+//! A keeper of lists for tests, in a committed and a working copy: what a crash loses is lost.
 #![tactic(auto)]
 
 mod copies;

@@ -59,8 +59,8 @@ fn reopened(keeper: TwoCopies<Lamp>) -> Result<TwoCopies<Lamp>, StoreFault> {
     keeper.restart()
 }
 
-// The first group is committed. The second one is in the working copy alone, and goes when the keeper is
-// opened again; then it is performed as if it had never been.
+// The first group is committed. The second one is in the working copy alone, and goes when the
+// keeper is opened again; then it is performed as if it had never been.
 #[test]
 fn a_refused_commit_is_lost(rt: HostRuntime) -> Result<(), StoreFault> {
     let mut keeper = begun(&rt, 1)?;

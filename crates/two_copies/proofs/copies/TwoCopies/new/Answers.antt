@@ -5,6 +5,13 @@ use Rattle.two_copies.proofs.copies.TwoCopies.new.Goals as goal
 pub returns-clause-stands : goal.returns-clause-stands
 returns-clause-stands g c =
     both_stand g.F.FileSystem.model g.F.FileSystem.held c.in_ok-working.working
-    (record { committed = c.in_ok-to_copy.field-0; working = c.in_ok-working.working; uncommitted = false; openings = 0; commits = c.args.commits; left = c.args.commits })
+    (record {
+      committed = c.in_ok-to_copy.field-0;
+      working = c.in_ok-working.working;
+      uncommitted = false;
+      openings = 0;
+      commits = c.args.commits;
+      left = c.args.commits;
+    })
     (g.F.FileSystem.model.start c.args.now) [] []
     (record { working = refl; closed = refl; same = c.in_ok-to_copy.ensures.same; no_more = c.in_ok-to_copy.ensures.no_more }) c.in_ok-working.ensures.stands

@@ -20,4 +20,6 @@ returns-in_ok-commit-in-Ok-clause-crash g c = λ s h t so firm.
     (tt, λ x r left. leaves.1 x r (c.in_ok-commit-in-Ok.ensures.no_more x r left))
 
 pub returns-in-Err-clause-called : goal.returns-in-Err-clause-called
-returns-in-Err-clause-called g c = called_working g.F.FileSystem.model g.F.FileSystem.held _ c.args.self.now (record c.args.self.now { working = c.begin_mount.new.self }) refl refl c.in-Err.ensures.called
+returns-in-Err-clause-called g c =
+    called_working g.F.FileSystem.model g.F.FileSystem.held _ c.args.self.now
+    (record c.args.self.now { working = c.begin_mount.new.self }) refl refl c.in-Err.ensures.called

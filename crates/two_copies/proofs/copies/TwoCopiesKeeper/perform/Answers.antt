@@ -22,7 +22,8 @@ returns-in_ok-commit-in-Ok-clause-others g c = λ honest rows records so rowed.
       same = c.in_ok-commit-in-Ok.ensures.same;
       no_more = c.in_ok-commit-in-Ok.ensures.no_more;
     } in
-    both_others g.F.FileSystem.model g.F.FileSystem.held c.perform.new.self c.commit.new.self records (ids_of c.args.settled.now) (entries_of c.args.group.now) made
+    both_others g.F.FileSystem.model g.F.FileSystem.held c.perform.new.self c.commit.new.self records (ids_of c.args.settled.now)
+    (entries_of c.args.group.now) made
     (c.in-Ok.ensures.others tt rows records so.1 rowed)
 
 -- what a crash leaves is the new copy
@@ -33,7 +34,9 @@ returns-in_ok-commit-in-Ok-clause-crash g c = λ s h t so within fresh firm.
     (tt, λ x r left. leaves.1 x r (c.in_ok-commit-in-Ok.ensures.no_more x r left))
 
 pub returns-in-Err-clause-called : goal.returns-in-Err-clause-called
-returns-in-Err-clause-called g c = called_working g.F.FileSystem.model g.F.FileSystem.held _ c.args.self.now (record c.args.self.now { working = c.perform.new.self }) refl refl c.in-Err.ensures.called
+returns-in-Err-clause-called g c =
+    called_working g.F.FileSystem.model g.F.FileSystem.held _ c.args.self.now
+    (record c.args.self.now { working = c.perform.new.self }) refl refl c.in-Err.ensures.called
 
 pub returns-in-Err-clause-crash : goal.returns-in-Err-clause-crash
 returns-in-Err-clause-crash g c = λ s h t so within fresh firm.
