@@ -1,6 +1,6 @@
 -- How scripts are run, and what is printed of them.
 use Rattle.std.proofs.Common.{◌≡◌, inl, inr, refl, arith, true, ℕ, zero, suc, ◌+◌, ◌<◌, ◌≤◌, List, [], ◌∷◌, ◌++◌, length, take, map, get_or, All, Option, Some, None, sym, ap, subst, ◌∙◌, Result, Ok, Err}
-use Rattle.std.specs.Prelude.{IfSome, IfOk}
+use Rattle.std.specs.Prelude.{IfSome, IfOk, IsSomeAnd}
 use Rattle.std.specs.List.{AllByRecursion}
 use Rattle.std.specs.Io.KnownBytes.{Appends, Consumes, IsAtEnd}
 use Rattle.std.proofs.KnownBytes.{Appends-trans}
@@ -24,7 +24,7 @@ use Rattle.fuse_sim.specs.declared.event.Event.{Event}
 use Rattle.fuse_sim.specs.declared.event.Outcome.{Outcome}
 use Rattle.fuse_sim.specs.declared.event.DriveFault.{DriveFault}
 use Rattle.fuse_sim.specs.declared.event.DriveFault.TheVariants.{Store}
-use Rattle.fuse_sim.specs.Driving.{IsFit, StandsIn, OfRestart, AnsweredBy, is_store, settles, committed, outcome_of, settled_by, bytes_given, NoneReused, told_in, became_in, Opened, deaths, before}
+use Rattle.fuse_sim.specs.Driving.{IsFit, StandsIn, OfRestart, AnsweredBy, is_store, settles, committed, outcome_of, settled_by, bytes_given, NoneReused, IsStoreFault, told_in, became_in, Opened, deaths, before}
 use Rattle.fusekeep.specs.declared.ending.Ending.{Ending}
 use Rattle.fusekeep.specs.declared.simulate.Simulation.{Simulation}
 use Rattle.fusekeep.specs.Endings.{status_of, store_ending}
@@ -98,20 +98,25 @@ reused_front t zero events none = tt
 reused_front t (suc n) [] none = tt
 reused_front t (suc n) (e ∷ events) none = (none.0, reused_front (t ++ settles e) n events none.1)
 
+-- the keeper that refused
+refuser : {K : Type 0} (may_refuse : K → StoreFault → Type 0) (o : Option K) (fault : StoreFault) (n : ℕ) → IsSomeAnd o (λ k. IsStoreFault (may_refuse k) (Store n fault)) → (k : K) × may_refuse k fault
+refuser may_refuse None fault n none = absurd none
+refuser may_refuse (Some k) fault n refused = (k, refused)
+
 -- drive answered it
 ended_by : {M : Model} {K : Type 0} (told : K → KeeperState M) (became : K → K → ℕ → Type 0) (may_refuse : K → StoreFault → Type 0) (old new : Option K) (events : List Event) (n : ℕ) (fault : StoreFault) (ending : Ending)
-    → (new ≡ None → OfRestart may_refuse events (Store n fault)) → ((told_in told new).is_clean → AnsweredBy told became old new (before (Store n fault) events) (Store n fault)) → ending ≡ store_ending fault
+    → (new ≡ None → OfRestart became may_refuse old events (Store n fault)) → ((told_in told new).is_clean → AnsweredBy told became old new (before (Store n fault) events) (Store n fault)) → ending ≡ store_ending fault
     → StoreEnded told became may_refuse old new ending
-ended_by told became may_refuse old None events n fault ending emptied answered is = let r = emptied refl in (r.keeper, fault, r.refused, is)
+ended_by told became may_refuse old None events n fault ending emptied answered is = let r = emptied refl in let k = refuser may_refuse r.keeper fault n r.refused in (k.0, fault, k.1, is)
 ended_by told became may_refuse old (Some k) events n fault ending emptied answered is = λ good.
     let a = answered good in
     record { keeper = a.keeper; often = deaths (before (Store n fault) events); before = a.before; after = a.after; fault = fault; may = a.may; ends = is }
 
 pub drive_ended : {M : Model} {K : Type 0} (told : K → KeeperState M) (became : K → K → ℕ → Type 0) (may_refuse : K → StoreFault → Type 0) (old new : Option K) (events : List Event) (n : ℕ) (of : DriveFault) (fault : StoreFault) (ending : Ending)
-    → of ≡ Store n fault → (new ≡ None → OfRestart may_refuse events of) → (is_store of ≡ true → (told_in told new).is_clean → AnsweredBy told became old new (before of events) of) → ending ≡ store_ending fault
+    → of ≡ Store n fault → (new ≡ None → OfRestart became may_refuse old events of) → (is_store of ≡ true → (told_in told new).is_clean → AnsweredBy told became old new (before of events) of) → ending ≡ store_ending fault
     → StoreEnded told became may_refuse old new ending
 drive_ended told became may_refuse old new events n of fault ending same emptied answered is =
-    ended_by told became may_refuse old new events n fault ending (subst (λ f. new ≡ None → OfRestart may_refuse events f) same emptied)
+    ended_by told became may_refuse old new events n fault ending (subst (λ f. new ≡ None → OfRestart became may_refuse old events f) same emptied)
     (subst (λ f. is_store f ≡ true → (told_in told new).is_clean → AnsweredBy told became old new (before f events) f) same answered refl) is
 
 -- counting did, behind drive

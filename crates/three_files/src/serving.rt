@@ -1,6 +1,6 @@
 // Serving the three files.
-ghost use Rattle.std.specs.Prelude.{◌≡◌, ◌<◌, ◌^◌, false, []};
-ghost use Rattle.fuse_session.specs.Ends.{EndsAs};
+ghost use Rattle.std.specs.Prelude.{◌≡◌, ◌<◌, ◌^◌, false};
+ghost use Rattle.fuse_session.specs.Ends.{SessionEnds};
 ghost use Rattle.three_files.specs.Serving.{files_told, FilesStay};
 
 use crate::files::ThreeFiles;
@@ -21,8 +21,9 @@ pub fn serve_files<P: Port, C: Clock>(
     requires receives { (P.told port.old).receives < 2 ^ 62 }
     requires failures { (P.told port.old).failures < 2 ^ 62 }
     // What was worked off and answered at each of the ends, as `serve` says.
-    ensures ends { EndsAs (files_told keeper.old) (files_told keeper.new) (C.may_answer clock.old)
-        (P.told port.old) (P.told port.new) [] [] 0 turns result.ended result.counts }
+    ensures ends { SessionEnds (files_told keeper.old) (files_told keeper.new)
+        (C.gave clock.old clock.new) (P.told port.old) (P.told port.new) turns result.ended
+        result.counts }
 
     // What was asked changes nothing of the files.
     ensures files { FilesStay (files_told keeper.old) (files_told keeper.new)

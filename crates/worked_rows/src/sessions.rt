@@ -104,9 +104,12 @@ fn told_of_resume(fault: &ResumeFault) -> Told {
     }
 }
 
-// The counts of a session.
+// The counts of a session, if they are told.
 fn counts_of(served: &Served) -> SessionCounts {
-    served.counts
+    match served.counts {
+        Some(counts) => counts,
+        None => SessionCounts::NONE,
+    }
 }
 
 // What a session did: how it ended, its counts, how many bytes it sent, where these are a front of

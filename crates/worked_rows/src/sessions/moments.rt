@@ -9,7 +9,7 @@ struct Ticks {
 }
 
 impl Clock for Ticks {
-    ghost may_answer = { λ _ _. Unit {0} };
+    ghost gave = { λ _ _ _. Unit {0} };
 
     fn now(&mut self) -> Moment {
         self.asked = self.asked.wrapping_add(1);
@@ -18,6 +18,8 @@ impl Clock for Ticks {
             nanos: 0,
         }
     }
+
+    ghost logged = { record { none = λ c. tt; onward = λ a b c xs ys before after. tt } };
 }
 
 // A message of an opcode that there isn't.
