@@ -75,8 +75,7 @@ pub went : {M : Model} {K : Type 0} (told : K → KeeperState M) (left : Option 
     → (map bytes_given outcomes ≡ outcomes_of M s events) × (counts.nodes ≡ M.nodes (M.held_for (state_after M s events))) × (counts.handles ≡ M.handles (M.held_for (state_after M s events)))
 went {M} told left k k' s events outcomes counts is keeps last answers stands nodes handles =
     let good : (told_in told left).is_honest = subst (λ o. (told_in told o).is_honest) (sym is) (keeps last) in
-    let so = subst (λ o. StandsIn told o s (committed [] events) (settled_by [] events)) is (stands good) in
-    (
+    let so = subst (λ o. StandsIn told o s (committed [] events) (settled_by [] events)) is (stands good) in (
       answers good,
       counted (told k) M.nodes s (committed [] events) (settled_by [] events) counts.nodes so (nodes last),
       counted (told k) M.handles s (committed [] events) (settled_by [] events) counts.handles so (handles last),
@@ -167,14 +166,18 @@ tree_counts s = (refl, refl)
 printed_text : (script : List ℕ) (simulation : Simulation) (old new : Option (List ℕ)) → RanScript script simulation
     → Appends old new (outcome_lines (map bytes_given simulation.outcomes.items) ++ line (store_line simulation.counts.nodes simulation.counts.handles))
     → (events : List Event) × Tells (lines_of script) events × (NoneReused [] events → Appends old new (simulation_text start events))
-printed_text script simulation old new ran printed = (ran.events, ran.tells, λ none.
-    let w = ran.went none in
-    let state = state_after the_tree start ran.events in
-    let nodes : simulation.counts.nodes ≡ length state.nodes = w.nodes ∙ (tree_counts state).0 in
-    let handles : simulation.counts.handles ≡ length state.handles = w.handles ∙ (tree_counts state).1 in
-    subst (λ (o : List (Option (List ℕ))). Appends old new (outcome_lines o ++ line (store_line (length state.nodes) (length state.handles)))) w.outcomes
-    (subst (λ n. Appends old new (outcome_lines (map bytes_given simulation.outcomes.items) ++ line (store_line (length state.nodes) n))) handles
-    (subst (λ n. Appends old new (outcome_lines (map bytes_given simulation.outcomes.items) ++ line (store_line n simulation.counts.handles))) nodes printed)))
+printed_text script simulation old new ran printed = (
+  ran.events,
+  ran.tells,
+  λ none.
+      let w = ran.went none in
+      let state = state_after the_tree start ran.events in
+      let nodes : simulation.counts.nodes ≡ length state.nodes = w.nodes ∙ (tree_counts state).0 in
+      let handles : simulation.counts.handles ≡ length state.handles = w.handles ∙ (tree_counts state).1 in
+      subst (λ (o : List (Option (List ℕ))). Appends old new (outcome_lines o ++ line (store_line (length state.nodes) (length state.handles)))) w.outcomes
+      (subst (λ n. Appends old new (outcome_lines (map bytes_given simulation.outcomes.items) ++ line (store_line (length state.nodes) n))) handles
+      (subst (λ n. Appends old new (outcome_lines (map bytes_given simulation.outcomes.items) ++ line (store_line n simulation.counts.handles))) nodes printed)),
+)
 
 pub simulated : (known : Option (List ℕ)) (simulation : Simulation) (old new : Option (List ℕ)) → IfSome known (λ script. RanScript script simulation)
     → Appends old new (outcome_lines (map bytes_given simulation.outcomes.items) ++ line (store_line simulation.counts.nodes simulation.counts.handles))

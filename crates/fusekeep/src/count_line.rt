@@ -1,5 +1,5 @@
-use fuse_session::SessionCounts;
 use fuse_keeper::StoreCounts;
+use fuse_session::SessionCounts;
 use std::fmt;
 
 /// The line that tells how many messages a session worked off, by their class.

@@ -1,9 +1,9 @@
 ghost use Rattle.std.specs.Prelude.{◌≡◌, nat_le, option_map};
 ghost use Rattle.fusekeep.specs.Endings.{line_of, session_ending, status_of, store_ending, stream_ending};
 
+use fuse_keeper::StoreFault;
 use fuse_request::FrameFault;
 use fuse_session::Ended;
-use fuse_keeper::StoreFault;
 use std::alloc::AllocError;
 use std::{fmt, io};
 

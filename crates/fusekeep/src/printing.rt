@@ -8,8 +8,8 @@ ghost use Rattle.fusekeep.specs.Printing.{line, answer_lines, IsAnswer, count_li
 
 use crate::count_line::{CountLine, StoreLine};
 use crate::ending::Ending;
-use fuse_session::SessionCounts;
 use fuse_keeper::StoreCounts;
+use fuse_session::SessionCounts;
 use fuse_wire::{Fields, one_number};
 use std::alloc::Global;
 use std::io::Write;

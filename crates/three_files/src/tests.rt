@@ -67,7 +67,7 @@ fn session_of(alloc: Global, pairs: &[Pair]) -> Result<Session, AllocError> {
 struct Seen {
     is_end: bool,
     is_sent: bool,
-    counts: SessionCounts,
+    counts: Option<SessionCounts>,
 }
 
 // Of so many kept messages, some of them repeated.
@@ -75,12 +75,12 @@ fn ended_well(kept: u64, repeated: u64) -> Seen {
     Seen {
         is_end: true,
         is_sent: true,
-        counts: SessionCounts {
+        counts: Some(SessionCounts {
             messages: kept,
             kept,
             repeated,
             ..SessionCounts::NONE
-        },
+        }),
     }
 }
 

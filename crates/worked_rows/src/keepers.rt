@@ -147,8 +147,10 @@ fn is_answered<K: Keeper>(keeper: &mut K, step: &Step) -> Result<bool, StoreFaul
     let (request, repeated, want) = *step;
     let dones = perform(keeper, &[(request, AT_1000)], &[])?;
     Ok(match dones {
-        Some(dones) => dones.as_slice().iter().all(|done| done.repeated == repeated
-            && is_wanted(done, want)),
+        Some(dones) => dones
+            .as_slice()
+            .iter()
+            .all(|done| done.repeated == repeated && is_wanted(done, want)),
         None => false,
     })
 }

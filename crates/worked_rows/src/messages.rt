@@ -161,10 +161,7 @@ fn put_entry(out: &mut Vec<u8>, unique: u64, made: Made, node: u64) -> Result<()
     put_hex(out, "90000000 00000000")?;
     out.extend_from_slice(&unique.to_le_bytes())?;
     out.extend_from_slice(&node.to_le_bytes())?;
-    put_hex(
-        out,
-        "0*8 0100000000000000 0100000000000000 0*8",
-    )?;
+    put_hex(out, "0*8 0100000000000000 0100000000000000 0*8")?;
     put_attributes(out, made, node)
 }
 

@@ -178,12 +178,7 @@ fn serve_on(alloc: Global, keeper: &mut TreeKeeper, session: Session) -> Seen {
 }
 
 // The same, behind the asking for what is pending, over the same port.
-fn resume_on(
-    alloc: Global,
-    keeper: &mut TreeKeeper,
-    session: Session,
-    now: Moment,
-) -> Seen {
+fn resume_on(alloc: Global, keeper: &mut TreeKeeper, session: Session, now: Moment) -> Seen {
     if keeper.failed() {
         return FAILED;
     }

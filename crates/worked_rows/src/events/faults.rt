@@ -138,7 +138,10 @@ const FATES: [Fate; 4] = [
 const UNFIT: [(&[Ask], Why); 6] = [
     (&[], Why::NotAMessage),
     (&[Ask::Mkdir(8, b'c'), Ask::Text("00")], Why::NotAMessage),
-    (&[Ask::Mkdir(8, b'c'), Ask::Mkdir(10, b'd')], Why::NotAMessage),
+    (
+        &[Ask::Mkdir(8, b'c'), Ask::Mkdir(10, b'd')],
+        Why::NotAMessage,
+    ),
     (&[Ask::Text("27000000")], Why::NotAMessage),
     (&[Ask::Getattr(0, 1)], Why::ZeroUnique),
     (&[Ask::Getattr(UNIQUE_RESEND, 1)], Why::ZeroUnique),

@@ -77,7 +77,10 @@ fn sent_again(rt: HostRuntime) -> Result<(), Fail> {
         let wanted = asks(alloc, &[*ask])?;
         assert_eq!(rt; pending_at(&kernel, place), (3, wanted.as_slice()));
     }
-    assert!(rt; !take(alloc, &mut kernel, Reply::Error(4, EEXIST))?, "without the bit");
+    assert!(rt;
+        !take(alloc, &mut kernel, Reply::Error(4, EEXIST))?,
+        "without the bit"
+    );
     assert!(rt; take(alloc, &mut kernel, Reply::Error(RESENT | 4, EEXIST))?);
     assert_eq!(rt; pending_at(&kernel, 2).0, 2);
     Ok(())

@@ -135,6 +135,9 @@ fn is_right(alloc: Global, each: bool) -> bool {
 #[test]
 fn each_allocation(rt: HostRuntime) {
     for each in [true, false] {
-        assert!(rt; is_right(rt.alloc(), each), "in groups of their own: {each}");
+        assert!(rt;
+            is_right(rt.alloc(), each),
+            "in groups of their own: {each}"
+        );
     }
 }

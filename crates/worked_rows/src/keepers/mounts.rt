@@ -12,7 +12,11 @@ fn before_a_mount() -> [Step; 11] {
         (mknod(4, b"f"), false, Want::Node(2)),
         (mkdir(6, b"a"), false, Want::Node(3)),
         (mkdir(8, b"e"), false, Want::Node(4)),
-        (open(10, 2), false, Want::Body(b"\x01\0\0\0\0\0\0\0\0\0\0\0\0\0\0\0")),
+        (
+            open(10, 2),
+            false,
+            Want::Body(b"\x01\0\0\0\0\0\0\0\0\0\0\0\0\0\0\0"),
+        ),
         (write(12, b"one"), false, Want::Body(b"\x03\0\0\0\0\0\0\0")),
         (unlink(14, b"f"), false, Want::Body(b"")),
         (rmdir(16, b"e"), false, Want::Body(b"")),

@@ -65,10 +65,9 @@ fn ask_twice<K: Keeper>(keeper: &mut K) -> Result<Option<(bool, bool)>, StoreFau
     let dones = perform(keeper, &[(init(2), AT_1000), first, resent], &[])?;
     Ok(match dones.as_ref().map(|dones| dones.as_slice()) {
         Some([_, one, two])
-            if is_wanted(one, Want::Body(ENTRY_OF_A)) && is_wanted(two, Want::Body(ENTRY_OF_A)) =>
-            {
-                Some((one.repeated, two.repeated))
-            }
+            if is_wanted(one, Want::Body(ENTRY_OF_A)) && is_wanted(two, Want::Body(ENTRY_OF_A)) => {
+            Some((one.repeated, two.repeated))
+        }
         _ => None,
     })
 }

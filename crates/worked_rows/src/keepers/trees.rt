@@ -68,7 +68,10 @@ fn a_keeper_over_a_tree(rt: HostRuntime) -> Result<(), StoreFault> {
     let mut keeper = PlainKeeper::over(alloc, tree);
     assert!(rt; !keeper.failed());
     assert_eq!(rt; held_in(&mut keeper), Some(holding(2, 0, 0)));
-    assert_eq!(rt; first_wrong(&mut keeper, &[(lookup(6, b"a"), false, NODE_2)])?, None);
+    assert_eq!(rt;
+        first_wrong(&mut keeper, &[(lookup(6, b"a"), false, NODE_2)])?,
+        None
+    );
     Ok(())
 }
 

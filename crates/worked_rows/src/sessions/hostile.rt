@@ -269,6 +269,15 @@ fn changed_in(size: usize) -> Range<usize> {
     byte..byte + 1
 }
 
+// Of which messages: one after another, and in the whole stream of each.
+fn changed_of(size: usize) -> Range<usize> {
+    if size == WHOLE {
+        return 0..PLACES.len();
+    }
+    let message = size % PLACES.len();
+    message..message + 1
+}
+
 #[test]
 fn cut_anywhere(rt: HostRuntime) -> Result<(), StoreFault> {
     let alloc = rt.alloc();
@@ -279,7 +288,7 @@ fn cut_anywhere(rt: HostRuntime) -> Result<(), StoreFault> {
         let right = ends_so(alloc, prefix, &PLAIN, end_of(size))?;
         assert!(rt; right, "{size} bytes");
         for byte in changed_in(size) {
-            for message in 0..PLACES.len() {
+            for message in changed_of(size) {
                 let right = is_served(alloc, stream.as_slice(), size, message, byte)?;
                 assert!(rt; right, "{size} bytes, {byte} of {message}");
             }

@@ -143,8 +143,10 @@ fn is_served(alloc: Global, peer: Peer, sent: usize, done: usize) -> Result<bool
     let first = serve_on(alloc, &mut keeper, run(alloc, peer)?);
     let mut opened = keeper.restart()?;
     let again = resume_on(alloc, &mut opened, resent_run(alloc, sent)?, AT_1000);
-    Ok(first.is_cut(Told::PortFailed, size_of_answers(sent), held_after(done))
-        && again.is(Told::End, ALL_HELD))
+    Ok(
+        first.is_cut(Told::PortFailed, size_of_answers(sent), held_after(done))
+            && again.is(Told::End, ALL_HELD),
+    )
 }
 
 // So many messages come, and then a failure.

@@ -133,7 +133,12 @@ fn ask_after(
 ) -> Result<bool, StoreFault> {
     let mut keeper = begun(alloc, init)?;
     for (outcomes, sent) in asks {
-        let seen = ask(alloc, &mut keeper, outcomes.to_vec(alloc)?, front(NOTICE, *sent));
+        let seen = ask(
+            alloc,
+            &mut keeper,
+            outcomes.to_vec(alloc)?,
+            front(NOTICE, *sent),
+        );
         if seen != (wanted, true) {
             return Ok(false);
         }

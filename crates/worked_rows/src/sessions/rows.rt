@@ -77,7 +77,12 @@ const BEHIND_INIT: [Row; 21] = [
     Row {
         name: "write-then-read",
         asked: &[Ask::Of(MKNOD), Ask::Of(OPEN), Ask::Of(WRITE), Ask::Of(READ)],
-        answered: &[Reply::Of(MKNOD), Reply::Of(OPEN), Reply::Of(WRITE), Reply::Of(READ)],
+        answered: &[
+            Reply::Of(MKNOD),
+            Reply::Of(OPEN),
+            Reply::Of(WRITE),
+            Reply::Of(READ),
+        ],
         ended: Told::End,
         left: (2, 1, 5),
         counts: (4, 0, 0, 0),
@@ -100,7 +105,11 @@ const BEHIND_INIT: [Row; 21] = [
     },
     Row {
         name: "zero-unique with the bit, between others",
-        asked: &[Ask::Mkdir(4, b'a'), Ask::Getattr(RESENT, 1), Ask::Mkdir(6, b'b')],
+        asked: &[
+            Ask::Mkdir(4, b'a'),
+            Ask::Getattr(RESENT, 1),
+            Ask::Mkdir(6, b'b'),
+        ],
         answered: &[Reply::Entry(4, 2)],
         ended: Told::ZeroUnique { at: 50 },
         left: (2, 0, 2),
@@ -320,14 +329,14 @@ fn is_right(row: &Row, seen: &Seen) -> bool {
 }
 
 // What was seen where it isn't as the row has it.
-fn wrong_in(
-    alloc: Global,
-    keeper: &mut TreeKeeper,
-    row: &Row,
-) -> Result<Option<Seen>, AllocError> {
+fn wrong_in(alloc: Global, keeper: &mut TreeKeeper, row: &Row) -> Result<Option<Seen>, AllocError> {
     let session = plain_of(alloc, row.asked, row.answered)?;
     let seen = serve_on(alloc, keeper, session);
-    Ok(if is_right(row, &seen) { None } else { Some(seen) })
+    Ok(if is_right(row, &seen) {
+        None
+    } else {
+        Some(seen)
+    })
 }
 
 #[test]

@@ -50,7 +50,10 @@ fn settled_counts(rt: HostRuntime) -> Result<(), StoreFault> {
         let mut keeper = new_keeper(alloc)?;
         let session = all_of(alloc, peer_of(alloc, confirms, None)?)?;
         let seen = serve_on(alloc, &mut keeper, session);
-        assert!(rt; seen.is(Told::End, holding(41, 0, left)), "confirms: {confirms}");
+        assert!(rt;
+            seen.is(Told::End, holding(41, 0, left)),
+            "confirms: {confirms}"
+        );
     }
     Ok(())
 }
@@ -73,7 +76,10 @@ fn settled_after_fault(rt: HostRuntime) -> Result<(), StoreFault> {
         let (first, again) = after_fault(rt.alloc(), one_more)?;
         let sent = 80 + 15 * 144;
         assert!(rt; first.is_cut(Told::PortFailed, sent, holding(32, 0, 16)));
-        assert!(rt; again.is(Told::End, holding(32, 0, left)), "one more: {one_more}");
+        assert!(rt;
+            again.is(Told::End, holding(32, 0, left)),
+            "one more: {one_more}"
+        );
         assert_eq!(rt; again.counts.repeated, 16);
     }
     Ok(())
