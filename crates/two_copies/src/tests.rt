@@ -3,6 +3,7 @@ ghost use Rattle.std.specs.Prelude.{◌≢◌};
 ghost use Rattle.fuse_wire.specs.Ids.{id_of};
 
 mod lamp;
+mod running;
 
 use crate::TwoCopies;
 use fuse_keeper::{Done, Keeper, Restart, StoreFault};
