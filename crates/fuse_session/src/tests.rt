@@ -1,0 +1,3 @@
+//! The clocks by themselves. What a session over a keeper does is tested in worked_rows.
+
+mod clocks;
