@@ -5,4 +5,3 @@ pub mod Overlays
 pub mod Counting
 pub mod Copying
 pub mod Keeping
-pub mod Small
