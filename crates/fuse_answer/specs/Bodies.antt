@@ -11,11 +11,6 @@ use Rattle.fuse_answer.specs.declared.records.OpenOut.{OpenOut}
 use Rattle.fuse_answer.specs.declared.records.WriteOut.{WriteOut}
 use Rattle.fuse_answer.specs.declared.init_out.InitOut.{InitOut}
 
--- numbers of w bytes each
-abbrev pub numbers : ℕ → List ℕ → List Part
-numbers w [] = []
-numbers w (n ∷ ns) = number w n ∷ numbers w ns
-
 -- of a header: its length, the bits of its error, and its unique
 abbrev pub head_parts : ℕ → ℕ → ℕ → List Part
 head_parts len error unique = number 4 len ∷ number 4 error ∷ number 8 unique ∷ []

@@ -1,10 +1,11 @@
-ghost use Rattle.std.specs.Prelude.{◌≡◌, ◌++◌, length, OnOk, IfOk};
-ghost use Rattle.fuse_wire.specs.Layout.{HasForm, Lays};
+ghost use Rattle.std.specs.Prelude.{◌≡◌, length, IfOk};
+ghost use Rattle.fuse_wire.specs.Layout.{Lays};
 ghost use Rattle.fuse_answer.specs.Bodies.{init_parts, init_bytes};
 ghost use Rattle.fuse_answer.specs.Sizes.{init_out_size};
 
-use crate::numbers::put_u32s;
-use fuse_wire::{Memory, layouts_stand, put_bytes, put_u16};
+use crate::fields::body_of_fields;
+use fuse_wire::Field::{U16, U32, Unused};
+use fuse_wire::Memory;
 use std::alloc::Global;
 
 /// What INIT answers, `fuse_init_out` of `fuse.h`.
@@ -28,34 +29,28 @@ impl InitOut {
     /// The bytes that it takes.
     pub const SIZE: usize = 64;
 
-    // Appends the bytes.
-    fn put(&self, out: &mut Vec<u8>) -> Result<(), Memory>
-        ensures bytes { OnOk result (out.new.items ≡ out.old.items ++ init_bytes self.now) }
-        ensures fits { OnOk result (HasForm (init_parts self.now)) }
-    {
-        put_u32s(
-            out,
-            &[self.major, self.minor, self.max_readahead, self.flags],
-        )?;
-        put_u16(out, self.max_background)?;
-        put_u16(out, self.congestion_threshold)?;
-        put_u32s(out, &[self.max_write, self.time_gran])?;
-        put_u16(out, self.max_pages)?;
-        put_u16(out, self.map_alignment)?;
-        put_u32s(out, &[self.flags2, self.max_stack_depth])?;
-        put_bytes(out, &[0; 24])
-    }
-
     /// The body of an answer to INIT.
-    #[tactic(auto, using(crate::proofs::Forms::length_init, crate::proofs::Forms::laid_init))]
+    #[tactic(auto, unfolding(crate::specs::Bodies::init_bytes))]
     pub fn body_of(&self, alloc: Global) -> Result<Vec<u8>, Memory>
         ensures bytes { IfOk result (λ body. body.items ≡ init_bytes self.now) }
         ensures size { IfOk result (λ body. length body.items ≡ init_out_size) }
         ensures laid { IfOk result (λ body. Lays (init_parts self.now) body.items) }
     {
-        layouts_stand();
-        let mut body = Vec::with_capacity(alloc, InitOut::SIZE)?;
-        self.put(&mut body)?;
-        Ok(body)
+        let fields = [
+            U32(self.major),
+            U32(self.minor),
+            U32(self.max_readahead),
+            U32(self.flags),
+            U16(self.max_background),
+            U16(self.congestion_threshold),
+            U32(self.max_write),
+            U32(self.time_gran),
+            U16(self.max_pages),
+            U16(self.map_alignment),
+            U32(self.flags2),
+            U32(self.max_stack_depth),
+            Unused(24),
+        ];
+        body_of_fields(alloc, InitOut::SIZE, &fields)
     }
 }

@@ -6,10 +6,10 @@ mod bodies;
 #[cfg(test)]
 mod directory_tests;
 mod dirent;
+mod fields;
 mod init_out;
 mod laws;
 mod notice;
-mod numbers;
 mod packing;
 mod records;
 mod reply;

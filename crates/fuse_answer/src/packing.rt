@@ -1,11 +1,10 @@
-ghost use Rattle.std.specs.Prelude.{◌≡◌, ◌≤◌, ◌↔◌, ◌++◌, [], Err, All, length, map, take, IsTrue};
-ghost use Rattle.std.specs.Prelude.{IfOk, OnOk};
-ghost use Rattle.fuse_wire.specs.Layout.{form, HasForm};
+ghost use Rattle.std.specs.Prelude.{◌≡◌, ◌≤◌, ◌↔◌, [], Err, All, length, map, take, IfOk, IsTrue};
+ghost use Rattle.fuse_wire.specs.Written.{Puts};
 ghost use Rattle.fuse_answer.specs.Entries.{entry_of, dirent_parts, entries_bytes, IsNamed, Lists};
 ghost use Rattle.fuse_answer.specs.Entries.{IsLongest, FirstIsTooBig};
 
 use crate::dirent::{Dirent, packed_len, padding};
-use fuse_wire::{ByteList, Memory, layouts_stand, put_bytes, put_u32, put_u64};
+use fuse_wire::{ByteList, Field, Memory, layouts_stand, put_fields};
 use std::alloc::Global;
 
 /// Entries of a directory as the body of an answer.
@@ -39,17 +38,20 @@ impl From<Memory> for PackFault {
 // Appends an entry and its padding.
 fn put_dirent(out: &mut Vec<u8>, dirent: &Dirent<'_>) -> Result<(), Memory>
     requires { IsNamed (entry_of dirent.now) }
-    ensures bytes { OnOk result (out.new.items ≡ out.old.items
-        ++ form (dirent_parts (entry_of dirent.now))) }
-    ensures fits { OnOk result (HasForm (dirent_parts (entry_of dirent.now))) }
+    ensures { Puts (dirent_parts (entry_of dirent.now)) out.old.items out.new.items result }
 {
     let name_len = dirent.name.len();
-    put_u64(out, dirent.ino)?;
-    put_u64(out, dirent.off)?;
-    put_u32(out, name_len as u32)?;
-    put_u32(out, dirent.kind)?;
-    put_bytes(out, dirent.name)?;
-    put_bytes(out, &[0; 8][..padding(name_len)])
+    put_fields(
+        out,
+        &[
+            Field::U64(dirent.ino),
+            Field::U64(dirent.off),
+            Field::U32(name_len as u32),
+            Field::U32(dirent.kind),
+            Field::Bytes(dirent.name),
+            Field::Unused(padding(name_len) as u8),
+        ],
+    )
 }
 
 // Appends the entries as long as they fit, and says how many did.

@@ -1,13 +1,16 @@
-ghost use Rattle.std.specs.Prelude.{◌≡◌, ◌++◌, length, OnOk, IfOk};
-ghost use Rattle.fuse_wire.specs.Layout.{HasForm, Lays};
+ghost use Rattle.std.specs.Prelude.{◌≡◌, ◌++◌, length, IfOk};
+ghost use Rattle.fuse_wire.specs.Layout.{HasForm, Lays, form, widths};
+ghost use Rattle.fuse_wire.specs.Written.{HasNoText, Puts, laid};
 ghost use Rattle.fuse_answer.specs.Bodies.{header_parts, attr_parts, entry_parts, attr_out_parts};
 ghost use Rattle.fuse_answer.specs.Bodies.{open_parts, write_parts, header_bytes, attr_bytes};
 ghost use Rattle.fuse_answer.specs.Bodies.{entry_bytes, attr_out_bytes, open_bytes, write_bytes};
 ghost use Rattle.fuse_answer.specs.Sizes.{out_header_size, attr_size, entry_out_size};
 ghost use Rattle.fuse_answer.specs.Sizes.{attr_out_size, open_out_size, write_out_size};
 
-use crate::numbers::{put_u32s, put_u64s};
-use fuse_wire::{Memory, layouts_stand, put_bytes, put_i32, put_u32, put_u64};
+use crate::fields::body_of_fields;
+use byteorder::{ByteOrder, LittleEndian};
+use fuse_wire::Field::{U32, U64, Unused};
+use fuse_wire::{Field, Memory, layouts_stand, put_fields};
 use std::alloc::Global;
 
 /// The header of an answer, `fuse_out_header` of `fuse.h`.
@@ -82,13 +85,12 @@ impl OutHeader {
         ensures bytes { result ≡ header_bytes self.now }
         ensures fits { HasForm (header_parts self.now) }
     {
-        let len = self.len.to_le_bytes();
-        let error = self.error.cast_unsigned().to_le_bytes();
-        let unique = self.unique.to_le_bytes();
-        [
-            len[0], len[1], len[2], len[3], error[0], error[1], error[2], error[3], unique[0],
-            unique[1], unique[2], unique[3], unique[4], unique[5], unique[6], unique[7],
-        ]
+        let OutHeader { len, error, unique } = *self;
+        let mut bytes = [0; 16];
+        LittleEndian::write_u32(&mut bytes, len);
+        LittleEndian::write_i32(&mut bytes[4..], error);
+        LittleEndian::write_u64(&mut bytes[8..], unique);
+        bytes
     }
 
     /// The bytes of a header alone, as a notice is.
@@ -108,48 +110,56 @@ impl Attr {
 
     // Appends the bytes.
     fn put(&self, out: &mut Vec<u8>) -> Result<(), Memory>
-        ensures bytes { OnOk result (out.new.items ≡ out.old.items ++ attr_bytes self.now) }
-        ensures fits { OnOk result (HasForm (attr_parts self.now)) }
+        ensures { Puts (attr_parts self.now) out.old.items out.new.items result }
     {
-        put_u64s(
+        put_fields(
             out,
             &[
-                self.ino,
-                self.size,
-                self.blocks,
-                self.atime,
-                self.mtime,
-                self.ctime,
-            ],
-        )?;
-        put_u32s(
-            out,
-            &[
-                self.atimensec,
-                self.mtimensec,
-                self.ctimensec,
-                self.mode,
-                self.nlink,
-                self.uid,
-                self.gid,
-                self.rdev,
-                self.blksize,
-                self.flags,
+                U64(self.ino),
+                U64(self.size),
+                U64(self.blocks),
+                U64(self.atime),
+                U64(self.mtime),
+                U64(self.ctime),
+                U32(self.atimensec),
+                U32(self.mtimensec),
+                U32(self.ctimensec),
+                U32(self.mode),
+                U32(self.nlink),
+                U32(self.uid),
+                U32(self.gid),
+                U32(self.rdev),
+                U32(self.blksize),
+                U32(self.flags),
             ],
         )
     }
 
+    // A body of fields with the attributes behind them, for which `size` bytes are asked at once.
+    fn body_after(&self, alloc: Global, size: usize, front: &[Field<'_>]) -> Result<Vec<u8>, Memory>
+        requires { HasNoText (laid front.now) }
+        ensures bytes { IfOk result (λ body. body.items
+            ≡ form (laid front.now ++ attr_parts self.now)) }
+        ensures size { IfOk result (λ body. length body.items
+            ≡ widths (laid front.now ++ attr_parts self.now)) }
+        ensures laid { IfOk result (λ body. Lays
+            (laid front.now ++ attr_parts self.now) body.items) }
+    {
+        layouts_stand();
+        let mut body = Vec::with_capacity(alloc, size)?;
+        put_fields(&mut body, front)?;
+        self.put(&mut body)?;
+        Ok(body)
+    }
+
     /// Its bytes, as they end an entry and an answer to GETATTR.
-    #[tactic(auto, using(crate::proofs::Forms::length_attr, crate::proofs::Forms::laid_attr))]
+    #[tactic(auto, unfolding(crate::specs::Bodies::attr_bytes))]
     pub fn body_of(&self, alloc: Global) -> Result<Vec<u8>, Memory>
         ensures bytes { IfOk result (λ body. body.items ≡ attr_bytes self.now) }
         ensures size { IfOk result (λ body. length body.items ≡ attr_size) }
         ensures laid { IfOk result (λ body. Lays (attr_parts self.now) body.items) }
     {
-        layouts_stand();
-        let mut body = Vec::with_capacity(alloc, Attr::SIZE)?;
-        self.put(&mut body)?;
-        Ok(body)
+        self.body_after(alloc, Attr::SIZE, &[])
     }
 }
 
@@ -157,35 +167,22 @@ impl EntryOut {
     /// The bytes that it takes.
     pub const SIZE: usize = 128;
 
-    // Appends the bytes.
-    fn put(&self, out: &mut Vec<u8>) -> Result<(), Memory>
-        ensures bytes { OnOk result (out.new.items ≡ out.old.items ++ entry_bytes self.now) }
-        ensures fits { OnOk result (HasForm (entry_parts self.now)) }
-    {
-        put_u64s(
-            out,
-            &[
-                self.nodeid,
-                self.generation,
-                self.entry_valid,
-                self.attr_valid,
-            ],
-        )?;
-        put_u32s(out, &[self.entry_valid_nsec, self.attr_valid_nsec])?;
-        self.attr.put(out)
-    }
-
     /// The body of an answer to LOOKUP, MKNOD or MKDIR.
-    #[tactic(auto, using(crate::proofs::Forms::length_entry, crate::proofs::Forms::laid_entry))]
+    #[tactic(auto, unfolding(crate::specs::Bodies::entry_bytes))]
     pub fn body_of(&self, alloc: Global) -> Result<Vec<u8>, Memory>
         ensures bytes { IfOk result (λ body. body.items ≡ entry_bytes self.now) }
         ensures size { IfOk result (λ body. length body.items ≡ entry_out_size) }
         ensures laid { IfOk result (λ body. Lays (entry_parts self.now) body.items) }
     {
-        layouts_stand();
-        let mut body = Vec::with_capacity(alloc, EntryOut::SIZE)?;
-        self.put(&mut body)?;
-        Ok(body)
+        let front = [
+            U64(self.nodeid),
+            U64(self.generation),
+            U64(self.entry_valid),
+            U64(self.attr_valid),
+            U32(self.entry_valid_nsec),
+            U32(self.attr_valid_nsec),
+        ];
+        self.attr.body_after(alloc, EntryOut::SIZE, &front)
     }
 }
 
@@ -193,28 +190,15 @@ impl AttrOut {
     /// The bytes that it takes.
     pub const SIZE: usize = 104;
 
-    // Appends the bytes.
-    fn put(&self, out: &mut Vec<u8>) -> Result<(), Memory>
-        ensures bytes { OnOk result (out.new.items ≡ out.old.items ++ attr_out_bytes self.now) }
-        ensures fits { OnOk result (HasForm (attr_out_parts self.now)) }
-    {
-        put_u64(out, self.attr_valid)?;
-        put_u32(out, self.attr_valid_nsec)?;
-        put_bytes(out, &[0; 4])?;
-        self.attr.put(out)
-    }
-
     /// The body of an answer to GETATTR or SETATTR.
-    #[tactic(auto, using(crate::proofs::Forms::length_attr_out, crate::proofs::Forms::laid_attrs))]
+    #[tactic(auto, unfolding(crate::specs::Bodies::attr_out_bytes))]
     pub fn body_of(&self, alloc: Global) -> Result<Vec<u8>, Memory>
         ensures bytes { IfOk result (λ body. body.items ≡ attr_out_bytes self.now) }
         ensures size { IfOk result (λ body. length body.items ≡ attr_out_size) }
         ensures laid { IfOk result (λ body. Lays (attr_out_parts self.now) body.items) }
     {
-        layouts_stand();
-        let mut body = Vec::with_capacity(alloc, AttrOut::SIZE)?;
-        self.put(&mut body)?;
-        Ok(body)
+        let front = [U64(self.attr_valid), U32(self.attr_valid_nsec), Unused(4)];
+        self.attr.body_after(alloc, AttrOut::SIZE, &front)
     }
 }
 
@@ -222,27 +206,19 @@ impl OpenOut {
     /// The bytes that it takes.
     pub const SIZE: usize = 16;
 
-    // Appends the bytes.
-    fn put(&self, out: &mut Vec<u8>) -> Result<(), Memory>
-        ensures bytes { OnOk result (out.new.items ≡ out.old.items ++ open_bytes self.now) }
-        ensures fits { OnOk result (HasForm (open_parts self.now)) }
-    {
-        put_u64(out, self.fh)?;
-        put_u32(out, self.open_flags)?;
-        put_i32(out, self.backing_id)
-    }
-
     /// The body of an answer to OPEN or OPENDIR.
-    #[tactic(auto, using(crate::proofs::Forms::length_open, crate::proofs::Forms::laid_open))]
+    #[tactic(auto, unfolding(crate::specs::Bodies::open_bytes))]
     pub fn body_of(&self, alloc: Global) -> Result<Vec<u8>, Memory>
         ensures bytes { IfOk result (λ body. body.items ≡ open_bytes self.now) }
         ensures size { IfOk result (λ body. length body.items ≡ open_out_size) }
         ensures laid { IfOk result (λ body. Lays (open_parts self.now) body.items) }
     {
-        layouts_stand();
-        let mut body = Vec::with_capacity(alloc, OpenOut::SIZE)?;
-        self.put(&mut body)?;
-        Ok(body)
+        let fields = [
+            U64(self.fh),
+            U32(self.open_flags),
+            U32(self.backing_id.cast_unsigned()),
+        ];
+        body_of_fields(alloc, OpenOut::SIZE, &fields)
     }
 }
 
@@ -250,25 +226,13 @@ impl WriteOut {
     /// The bytes that it takes.
     pub const SIZE: usize = 8;
 
-    // Appends the bytes.
-    fn put(&self, out: &mut Vec<u8>) -> Result<(), Memory>
-        ensures bytes { OnOk result (out.new.items ≡ out.old.items ++ write_bytes self.now) }
-        ensures fits { OnOk result (HasForm (write_parts self.now)) }
-    {
-        put_u32(out, self.size)?;
-        put_bytes(out, &[0; 4])
-    }
-
     /// The body of an answer to WRITE.
-    #[tactic(auto, using(crate::proofs::Forms::length_write, crate::proofs::Forms::laid_write))]
+    #[tactic(auto, unfolding(crate::specs::Bodies::write_bytes))]
     pub fn body_of(&self, alloc: Global) -> Result<Vec<u8>, Memory>
         ensures bytes { IfOk result (λ body. body.items ≡ write_bytes self.now) }
         ensures size { IfOk result (λ body. length body.items ≡ write_out_size) }
         ensures laid { IfOk result (λ body. Lays (write_parts self.now) body.items) }
     {
-        layouts_stand();
-        let mut body = Vec::with_capacity(alloc, WriteOut::SIZE)?;
-        self.put(&mut body)?;
-        Ok(body)
+        body_of_fields(alloc, WriteOut::SIZE, &[U32(self.size), Unused(4)])
     }
 }

@@ -2,22 +2,36 @@
 use Rattle.std.specs.Prelude.{◌+◌, ◌-◌, ◌*◌, ℕ, zero, suc, List, [], ◌∷◌, length, take, drop}
 use Rattle.fuse_wire.specs.Bounds.{min_message_len}
 use Rattle.fuse_wire.specs.Bytes.{number_of}
-use Rattle.fuse_wire.specs.Layout.{Part, number, Lays}
+use Rattle.fuse_wire.specs.Layout.{Part, number, unused, text, bytes, Lays}
 use Rattle.fuse_request.specs.declared.header.RawHeader.{RawHeader}
 
--- its layout
-abbrev pub raw_parts : RawHeader → List Part
-raw_parts h =
+-- its layout: the numbers of a header, and what stands in the place of its padding
+abbrev pub head_parts : RawHeader → Part → List Part
+head_parts h padding =
     number 4 h.len ∷ number 4 h.opcode ∷ number 8 h.unique ∷ number 8 h.nodeid ∷ number 4 h.uid ∷ number 4 h.gid ∷ number 4 h.pid
-    ∷ number 2 h.total_extlen ∷ number 2 h.padding ∷ []
+    ∷ number 2 h.total_extlen ∷ padding ∷ []
+
+-- the padding as a number too
+abbrev pub raw_parts : RawHeader → List Part
+raw_parts h = head_parts h (number 2 h.padding)
 
 -- the message begins with this header
 abbrev pub IsHeaderOf : RawHeader → List ℕ → Type 0
 IsHeaderOf h message = Lays (raw_parts h) (take min_message_len message)
 
 -- the widths of the fields in their order
+abbrev pub widths_of : List Part → List ℕ
+widths_of [] = []
+widths_of (number w n ∷ ps) = w ∷ widths_of ps
+widths_of (unused w ∷ ps) = w ∷ widths_of ps
+widths_of (text t ∷ ps) = (length t + 1) ∷ widths_of ps
+widths_of (bytes xs ∷ ps) = length xs ∷ widths_of ps
+
+abbrev pub blank : RawHeader
+blank = record { len = 0; opcode = 0; unique = 0; nodeid = 0; uid = 0; gid = 0; pid = 0; total_extlen = 0; padding = 0 }
+
 abbrev pub header_widths : List ℕ
-header_widths = 4 ∷ 4 ∷ 8 ∷ 8 ∷ 4 ∷ 4 ∷ 4 ∷ 2 ∷ 2 ∷ []
+header_widths = widths_of (raw_parts blank)
 
 -- the field of this number, where fields of these widths follow one another from place k on
 abbrev pub field_from : ℕ → ℕ → List ℕ → List ℕ → ℕ

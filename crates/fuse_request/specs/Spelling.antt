@@ -2,6 +2,7 @@
 use Rattle.std.specs.Prelude.{◌≡◌, ◌*◌, ◌/◌, ℕ, false, List, [], ◌∷◌, ◌++◌, length, Option, Some, None}
 use Rattle.fuse_wire.specs.Layout.{Part, number, unused, text, bytes, Lays}
 use Rattle.fuse_request.specs.Lengths.{forget_one_size}
+use Rattle.fuse_request.specs.Header.{head_parts}
 use Rattle.fuse_request.specs.declared.request.ReadIn.{ReadIn}
 use Rattle.fuse_request.specs.declared.request.ReleaseIn.{ReleaseIn}
 use Rattle.fuse_request.specs.declared.request.SetattrIn.{SetattrIn}
@@ -66,11 +67,12 @@ IsSpellable (Unsupported opcode body) = in_profile opcode ≡ false
 IsSpellable (BatchForget items) = length items ≡ forget_one_size * (length items / forget_one_size)
 IsSpellable _ = Unit {0}
 
--- the layout of the header of a message of len bytes, with units of 8 bytes of extensions
+-- the header of a message of len bytes, with units of 8 bytes of extensions; its padding may be anything
 abbrev pub header_parts : ℕ → ℕ → Asked → List Part
 header_parts len units r =
-    number 4 len ∷ number 4 (opcode_of r.act) ∷ number 8 r.header.unique ∷ number 8 r.header.nodeid ∷ number 4 r.header.uid
-    ∷ number 4 r.header.gid ∷ number 4 r.header.pid ∷ number 2 units ∷ unused 2 ∷ []
+    head_parts
+    (record { len = len; opcode = opcode_of r.act; unique = r.header.unique; nodeid = r.header.nodeid; uid = r.header.uid; gid = r.header.gid; pid = r.header.pid; total_extlen = units; padding = 0 })
+    (unused 2)
 
 -- the message is the header, the body and the extensions, one after the other
 pub record Spells (r : Asked) (message : List ℕ) : Type 0 where

@@ -12,6 +12,7 @@ mod lengths;
 pub mod opcode;
 mod request;
 mod sayable;
+mod writing;
 
 pub use class::{Class, classify, has_zero_unique};
 pub use decoding::{Malformed, decode};

@@ -4,6 +4,7 @@ pub mod Bounds
 pub mod Errnos
 pub mod Ids
 pub mod Layout
+pub mod Written
 pub mod Laws
 pub mod Flags
 pub mod Hex

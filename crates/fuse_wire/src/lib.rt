@@ -6,6 +6,7 @@ mod access_mode;
 mod byte_list;
 mod constants;
 mod errno;
+mod field;
 mod fields;
 mod id;
 mod init_flags;
@@ -25,6 +26,7 @@ pub use constants::{
     access_numbers, errno_numbers, init_flag_numbers, opcode_numbers, valid_numbers,
 };
 pub use errno::Errno;
+pub use field::{Field, put_fields};
 pub use fields::Fields;
 pub use id::{Id, UNIQUE_RESEND, is_resend};
 pub use init_flags::InitFlags;

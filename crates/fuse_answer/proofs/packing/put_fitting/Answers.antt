@@ -28,4 +28,4 @@ loop-taken-preserved c =
     let named = All-get_or (λ d. IsNamed (entry_of d)) ds n none c.loop-taken-test.true c.requires.named in
     filled_more c.layouts_stand.ensures (map entry_of ds) c.args.size n c.loop-taken.body.items c.put_dirent.new.out.items (entry_of d) (omega (arith, long, c.loop-taken-test.true))
     (get_or-map entry_of ds n none (entry_of d) c.loop-taken-test.true) c.loop-taken.invariant named c.in_ok-put_dirent.ensures.fits
-    (omega (arith, c.if-packed_len-size.false, c.len.ensures, c.packed_len.ensures, c.loop-taken.body.ok)) c.in_ok-put_dirent.ensures.bytes
+    (omega (arith, c.if-packed_len-size.false, c.len.ensures, c.packed_len.ensures, c.loop-taken.body.ok)) c.in_ok-put_dirent.ensures.ok

@@ -1,7 +1,7 @@
 use Rattle.std.specs.Prelude.{◌≡◌, ◌++◌, ℕ, List, drop}
 use Rattle.fuse_wire.specs.Layout.{form}
-use Rattle.fuse_request.specs.Encoding.{AllFit, laid}
-use Rattle.fuse_request.proofs.encoding.put_fields.Given as goal
+use Rattle.fuse_wire.specs.Written.{AllFit, laid}
+use Rattle.fuse_wire.proofs.field.put_fields.Given as goal
 
 abbrev pub invariant-loop-field : goal.invariant-loop-field
 invariant-loop-field l = record {
