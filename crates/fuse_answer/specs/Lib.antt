@@ -7,5 +7,4 @@ pub mod Entries
 pub mod Front
 pub mod Replies
 pub mod Readers
-pub mod Vectors
 pub mod Laws

@@ -3,8 +3,6 @@
 
 mod answer;
 mod bodies;
-#[cfg(test)]
-mod directory_tests;
 mod dirent;
 mod fields;
 mod init_out;
@@ -13,10 +11,6 @@ mod notice;
 mod packing;
 mod records;
 mod reply;
-#[cfg(test)]
-mod reply_tests;
-#[cfg(test)]
-mod tests;
 mod unpacking;
 mod wire;
 

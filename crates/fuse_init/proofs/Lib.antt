@@ -1,2 +1,1 @@
 pub mod SetBits
-pub mod Vectors

@@ -4,8 +4,6 @@
 mod laws;
 mod negotiation;
 mod settings;
-#[cfg(test)]
-mod tests;
 
 pub use laws::agreed_bits;
 pub use negotiation::{

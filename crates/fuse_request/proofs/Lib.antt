@@ -6,4 +6,3 @@ pub mod Streams
 pub mod Framing
 pub mod Canons
 pub mod Classes
-pub mod Vectors

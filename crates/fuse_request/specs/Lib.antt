@@ -12,4 +12,3 @@ pub mod Canon
 pub mod Encoding
 pub mod Stream
 pub mod Framing
-pub mod Vectors

@@ -21,10 +21,3 @@ pub use framer::{FrameFault, Framer, MAX_FED};
 pub use header::{MAX_MESSAGE, MIN_MESSAGE, RawHeader, header_of, unique_of};
 pub use laws::{canon_spells, cut_joins, cut_steps, message_bounds, one_cut, spelled_at};
 pub use request::{InHeader, InitIn, Op, ReadIn, ReleaseIn, Request, SetattrIn};
-
-#[cfg(test)]
-mod encoding_tests;
-#[cfg(test)]
-mod framer_tests;
-#[cfg(test)]
-mod tests;

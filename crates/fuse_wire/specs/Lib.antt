@@ -9,4 +9,3 @@ pub mod Laws
 pub mod Flags
 pub mod Hex
 pub mod Opcodes
-pub mod Vectors

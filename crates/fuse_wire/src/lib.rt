@@ -17,8 +17,6 @@ pub mod opcode;
 mod places;
 mod put;
 mod setattr_valid;
-#[cfg(test)]
-mod tests;
 
 pub use access_mode::{AccessMode, O_ACCMODE, O_RDONLY, O_RDWR, O_WRONLY};
 pub use byte_list::ByteList;

@@ -1,5 +1,0 @@
-use Rattle.fuse_init.proofs.Vectors as vectors
-use Rattle.fuse_init.proofs.tests.init_newer_major.Goals as goal
-
-pub returns : goal.returns
-returns c = vectors.init_newer_major

@@ -1,5 +1,0 @@
-use Rattle.fuse_request.proofs.Vectors as vectors
-use Rattle.fuse_request.proofs.tests.write_bytes.Goals as goal
-
-pub returns : goal.returns
-returns c = vectors.write_bytes c.layouts_stand.ensures

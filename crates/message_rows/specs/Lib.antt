@@ -1,0 +1,4 @@
+pub mod WireRows
+pub mod RequestRows
+pub mod AnswerRows
+pub mod InitRows

@@ -1,0 +1,226 @@
+ghost use Rattle.message_rows.specs.AnswerRows.{ErrorFields, FirstRun, Headers, Inits, Listing};
+ghost use Rattle.message_rows.specs.AnswerRows.{OpenAndWrite, Reads, Refusals};
+
+use fuse_answer::*;
+use fuse_wire::{ByteList, Errno, Memory};
+use std::test::*;
+
+#[tactic(auto, unfolding(fuse_wire::specs::Bytes::le))]
+fn error_fields()
+    ensures { ErrorFields }
+{}
+
+#[tactic(auto, unfolding(fuse_wire::specs::Bytes::le, fuse_answer::specs::Bodies::header_bytes, fuse_answer::specs::Notice::resend_bytes))]
+fn headers()
+    ensures { Headers }
+{}
+
+#[tactic(auto, unfolding(fuse_wire::specs::Bytes::le, fuse_answer::specs::Wire::wire_head, fuse_answer::specs::Wire::wire))]
+fn refusals()
+    ensures { Refusals }
+{}
+
+#[tactic(auto, unfolding(fuse_wire::specs::Bytes::le, fuse_answer::specs::Wire::wire_head, fuse_answer::specs::Wire::wire))]
+fn reads()
+    ensures { Reads }
+{}
+
+#[tactic(auto, unfolding(fuse_wire::specs::Bytes::le, fuse_answer::specs::Wire::wire_head, fuse_answer::specs::Wire::wire, fuse_answer::specs::Bodies::attr_bytes, fuse_answer::specs::Bodies::entry_bytes, fuse_answer::specs::Bodies::attr_out_bytes))]
+fn first_run()
+    ensures { FirstRun }
+{}
+
+#[tactic(auto, unfolding(fuse_wire::specs::Bytes::le, fuse_answer::specs::Wire::wire_head, fuse_answer::specs::Wire::wire, fuse_answer::specs::Bodies::open_bytes, fuse_answer::specs::Bodies::write_bytes))]
+fn open_and_write()
+    ensures { OpenAndWrite }
+{}
+
+#[tactic(auto, unfolding(fuse_wire::specs::Bytes::le, fuse_answer::specs::Wire::wire_head, fuse_answer::specs::Wire::wire, fuse_answer::specs::Bodies::init_bytes))]
+fn inits()
+    ensures { Inits }
+{}
+
+#[tactic(auto, unfolding(fuse_wire::specs::Bytes::le))]
+fn listing()
+    ensures { Listing }
+{}
+
+#[test]
+fn vectors() {
+    error_fields();
+    headers();
+    refusals();
+    reads();
+    first_run();
+    open_and_write();
+    inits();
+    listing();
+    len_stands_first();
+    record_sizes();
+    read_back();
+    answer_numbers();
+}
+
+// A directory made at second 1,000, and its bytes.
+const DIRECTORY: Attr = Attr {
+    ino: 2,
+    size: 0,
+    blocks: 0,
+    atime: 1000,
+    mtime: 1000,
+    ctime: 1000,
+    atimensec: 0,
+    mtimensec: 0,
+    ctimensec: 0,
+    mode: 0o040755,
+    nlink: 2,
+    uid: 1000,
+    gid: 1000,
+    rdev: 0,
+    blksize: 4096,
+    flags: 0,
+};
+
+const DIRECTORY_BYTES: [u8; 88] = [
+    2, 0, 0, 0, 0, 0, 0, 0, 0, 0, 0, 0, 0, 0, 0, 0, 0, 0, 0, 0, 0, 0, 0, 0, 0xe8, 3, 0, 0, 0, 0, 0,
+    0, 0xe8, 3, 0, 0, 0, 0, 0, 0, 0xe8, 3, 0, 0, 0, 0, 0, 0, 0, 0, 0, 0, 0, 0, 0, 0, 0, 0, 0, 0,
+    0xed, 0x41, 0, 0, 2, 0, 0, 0, 0xe8, 3, 0, 0, 0xe8, 3, 0, 0, 0, 0, 0, 0, 0, 0x10, 0, 0, 0, 0, 0,
+    0,
+];
+
+#[test]
+fn attributes(rt: HostRuntime) -> Result<(), Memory> {
+    let body = DIRECTORY.body_of(rt.alloc())?;
+    assert_eq!(rt; body.as_slice(), DIRECTORY_BYTES.as_slice());
+    Ok(())
+}
+
+#[test]
+fn entry(rt: HostRuntime) -> Result<(), Memory> {
+    let made = EntryOut {
+        nodeid: 2,
+        generation: 0,
+        entry_valid: 1,
+        attr_valid: 1,
+        entry_valid_nsec: 0,
+        attr_valid_nsec: 0,
+        attr: DIRECTORY,
+    };
+    let body = made.body_of(rt.alloc())?;
+    let front = [
+        2, 0, 0, 0, 0, 0, 0, 0, 0, 0, 0, 0, 0, 0, 0, 0, 1, 0, 0, 0, 0, 0, 0, 0, 1, 0, 0, 0, 0, 0,
+        0, 0, 0, 0, 0, 0, 0, 0, 0, 0,
+    ];
+    assert_eq!(rt; body.len(), EntryOut::SIZE);
+    assert!(rt; body.as_slice().starts_with(&front));
+    assert!(rt; body.as_slice().ends_with(&DIRECTORY_BYTES));
+    Ok(())
+}
+
+#[test]
+fn attr_answer(rt: HostRuntime) -> Result<(), Memory> {
+    let asked = AttrOut {
+        attr_valid: 1,
+        attr_valid_nsec: 0,
+        attr: DIRECTORY,
+    };
+    let body = asked.body_of(rt.alloc())?;
+    let front = [1, 0, 0, 0, 0, 0, 0, 0, 0, 0, 0, 0, 0, 0, 0, 0];
+    assert_eq!(rt; body.len(), AttrOut::SIZE);
+    assert!(rt; body.as_slice().starts_with(&front));
+    assert!(rt; body.as_slice().ends_with(&DIRECTORY_BYTES));
+    Ok(())
+}
+
+#[test]
+fn open_answer(rt: HostRuntime) -> Result<(), Memory> {
+    let opened = OpenOut {
+        fh: 1,
+        open_flags: 0,
+        backing_id: -2,
+    };
+    let want = [1, 0, 0, 0, 0, 0, 0, 0, 0, 0, 0, 0, 0xfe, 0xff, 0xff, 0xff];
+    assert_eq!(rt; opened.body_of(rt.alloc())?.as_slice(), want.as_slice());
+    Ok(())
+}
+
+#[test]
+fn write_answer_body(rt: HostRuntime) -> Result<(), Memory> {
+    let written = WriteOut { size: 3 };
+    let want = [3, 0, 0, 0, 0, 0, 0, 0];
+    assert_eq!(rt; written.body_of(rt.alloc())?.as_slice(), want.as_slice());
+    Ok(())
+}
+
+#[test]
+fn init_answer(rt: HostRuntime) -> Result<(), Memory> {
+    let agreed = InitOut {
+        major: 7,
+        minor: 40,
+        max_readahead: 131_072,
+        flags: 0x4000_0021,
+        max_background: 12,
+        congestion_threshold: 9,
+        max_write: 131_072,
+        time_gran: 1,
+        max_pages: 0,
+        map_alignment: 0,
+        flags2: 0x80,
+        max_stack_depth: 0,
+    };
+    let front = [
+        7, 0, 0, 0, 0x28, 0, 0, 0, 0, 0, 2, 0, 0x21, 0, 0, 0x40, 0x0c, 0, 9, 0, 0, 0, 2, 0, 1, 0,
+        0, 0, 0, 0, 0, 0, 0x80, 0, 0, 0,
+    ];
+    let body = agreed.body_of(rt.alloc())?;
+    assert_eq!(rt; body.len(), InitOut::SIZE);
+    assert!(rt; body.as_slice().starts_with(&front));
+    assert!(rt; body.as_slice().ends_with(&[0; 28]));
+    Ok(())
+}
+
+#[test]
+fn notice(rt: HostRuntime) -> Result<(), Memory> {
+    let notice = OutHeader {
+        len: 16,
+        error: 7,
+        unique: 0,
+    };
+    let want = [0x10, 0, 0, 0, 7, 0, 0, 0, 0, 0, 0, 0, 0, 0, 0, 0];
+    assert_eq!(rt; notice.body_of(rt.alloc())?.as_slice(), want.as_slice());
+    assert_eq!(rt; resend_notice(), want);
+    Ok(())
+}
+
+#[test]
+fn missing_lookup(rt: HostRuntime) -> Result<(), Memory> {
+    let refusal = Answer::refusal(rt.alloc(), Errno::ENOENT);
+    let mut want = [
+        0x10, 0, 0, 0, 0xfe, 0xff, 0xff, 0xff, 4, 0, 0, 0, 0, 0, 0, 0,
+    ];
+    assert_eq!(rt; head_of(4, &refusal), want);
+    want[15] = 0x80;
+    let mut out = Vec::new(rt.alloc());
+    write_answer(
+        0x8000_0000_0000_0004,
+        &refusal.to_copy(rt.alloc())?,
+        &mut out,
+    )?;
+    assert_eq!(rt; out.as_slice(), want.as_slice());
+    Ok(())
+}
+
+#[test]
+fn resent_read(rt: HostRuntime) -> Result<(), Memory> {
+    let body = ByteList::from_vec(Vec::from_slice(rt.alloc(), b"one")?);
+    let read = Answer::success(body);
+    let mut out = Vec::from_slice(rt.alloc(), b"before")?;
+    write_answer(10, &read, &mut out)?;
+    let want = [
+        0x13, 0, 0, 0, 0, 0, 0, 0, 0x0a, 0, 0, 0, 0, 0, 0, 0, b'o', b'n', b'e',
+    ];
+    assert_eq!(rt; &out.as_slice()[..6], b"before".as_slice());
+    assert_eq!(rt; &out.as_slice()[6..], want.as_slice());
+    assert_eq!(rt; head_of(10, &read).as_slice(), &want[..16]);
+    Ok(())
+}
