@@ -1,5 +1,6 @@
 -- Bytes answer one thing at most, and then they have no fault.
-use Rattle.std.proofs.Common.{◌≡◌, ◌≢◌, ℕ, ◌+◌, ◌≤◌, inl, inr, if◌then◌else◌, List, [], ◌∷◌, ◌++◌, length, drop, Result, Ok, Err, refl, sym, ap, subst, ◌∙◌, append_assoc, arith, w32, to_z, of_z}
+use Rattle.std.proofs.Common.{◌≡◌, ◌≢◌, ℕ, ◌+◌, ◌≤◌, inl, inr, if◌then◌else◌, List, [], ◌∷◌, ◌++◌, length, drop, Result, Ok, Err, refl, sym, ap, subst, ◌∙◌}
+use Rattle.std.proofs.Common.{append_assoc, arith, w32, to_z, of_z}
 use Rattle.std.specs.Prelude.{◌==◌, IfOk, IfErr, IsOkAnd}
 use Rattle.std.proofs.lemmas.Bool.{eq-eqb, ne_eqb}
 use Rattle.std.proofs.lemmas.Int.{to_z-of_z}
@@ -14,7 +15,9 @@ use Rattle.fuse_answer.specs.declared.reply.BadAnswer.TheVariants.{Short, LenDif
 use Rattle.fuse_answer.specs.Bodies.{entry_parts, attr_out_parts, open_parts, write_parts, init_parts}
 use Rattle.fuse_answer.specs.Entries.{IsListing}
 use Rattle.fuse_answer.specs.Wire.{negated, wire, wire_head}
-use Rattle.fuse_answer.specs.Replies.{Kind, AnEntry, Attributes, AnOpen, AWrite, AnInit, Data, Directory, Nothing, Unknown, kind_of, size_of, Content, of_entry, of_attributes, of_open, of_write, of_init, of_data, of_directory, of_nothing, of_unknown, content, kind_is, content_parts, IsProper, Holds, Told, told, IsOf, Answers, IsOtherThan, BodyFault, errno_in, IsMeasured, FirstFault}
+use Rattle.fuse_answer.specs.Replies.{Kind, AnEntry, Attributes, AnOpen, AWrite, AnInit, Data, Directory, Nothing, Unknown, kind_of, size_of, Content}
+use Rattle.fuse_answer.specs.Replies.{of_entry, of_attributes, of_open, of_write, of_init, of_data, of_directory, of_nothing, of_unknown, content, kind_is}
+use Rattle.fuse_answer.specs.Replies.{content_parts, IsProper, Holds, Told, told, IsOf, Answers, IsOtherThan, BodyFault, errno_in, IsMeasured, FirstFault}
 
 -- a body of a kind by its places
 attr_at : ℕ → List ℕ → Attr
@@ -38,11 +41,34 @@ attr_at k b = record {
 }
 
 content_at : Kind → List ℕ → Content
-content_at AnEntry b = of_entry (record { nodeid = number_of 8 (drop 0 b); generation = number_of 8 (drop 8 b); entry_valid = number_of 8 (drop 16 b); attr_valid = number_of 8 (drop 24 b); entry_valid_nsec = number_of 4 (drop 32 b); attr_valid_nsec = number_of 4 (drop 36 b); attr = attr_at 40 b })
+content_at AnEntry b =
+    of_entry (record {
+      nodeid = number_of 8 (drop 0 b);
+      generation = number_of 8 (drop 8 b);
+      entry_valid = number_of 8 (drop 16 b);
+      attr_valid = number_of 8 (drop 24 b);
+      entry_valid_nsec = number_of 4 (drop 32 b);
+      attr_valid_nsec = number_of 4 (drop 36 b);
+      attr = attr_at 40 b;
+    })
 content_at Attributes b = of_attributes (record { attr_valid = number_of 8 (drop 0 b); attr_valid_nsec = number_of 4 (drop 8 b); attr = attr_at 16 b })
 content_at AnOpen b = of_open (record { fh = number_of 8 (drop 0 b); open_flags = number_of 4 (drop 8 b); backing_id = to_z w32 (number_of 4 (drop 12 b)) })
 content_at AWrite b = of_write (record { size = number_of 4 (drop 0 b) })
-content_at AnInit b = of_init (record { major = number_of 4 (drop 0 b); minor = number_of 4 (drop 4 b); max_readahead = number_of 4 (drop 8 b); flags = number_of 4 (drop 12 b); max_background = number_of 2 (drop 16 b); congestion_threshold = number_of 2 (drop 18 b); max_write = number_of 4 (drop 20 b); time_gran = number_of 4 (drop 24 b); max_pages = number_of 2 (drop 28 b); map_alignment = number_of 2 (drop 30 b); flags2 = number_of 4 (drop 32 b); max_stack_depth = number_of 4 (drop 36 b) })
+content_at AnInit b =
+    of_init (record {
+      major = number_of 4 (drop 0 b);
+      minor = number_of 4 (drop 4 b);
+      max_readahead = number_of 4 (drop 8 b);
+      flags = number_of 4 (drop 12 b);
+      max_background = number_of 2 (drop 16 b);
+      congestion_threshold = number_of 2 (drop 18 b);
+      max_write = number_of 4 (drop 20 b);
+      time_gran = number_of 4 (drop 24 b);
+      max_pages = number_of 2 (drop 28 b);
+      map_alignment = number_of 2 (drop 30 b);
+      flags2 = number_of 4 (drop 32 b);
+      max_stack_depth = number_of 4 (drop 36 b);
+    })
 content_at Data b = of_data b
 content_at Directory b = of_directory b
 content_at Nothing b = of_nothing
@@ -55,12 +81,57 @@ content_is : LayoutsStand → (c : Content) (b : List ℕ) → Lays (content_par
 unfolding content_at attr_at
 content_is laws (of_entry e) b h proper =
     let p = laws.stands (entry_parts e) b h in
-    let p1 = p.1 in let p2 = p1.1 in let p3 = p2.1 in let p4 = p3.1 in let p5 = p4.1 in let p6 = p5.1 in let p7 = p6.1 in let p8 = p7.1 in let p9 = p8.1 in let p10 = p9.1 in let p11 = p10.1 in let p12 = p11.1 in let p13 = p12.1 in let p14 = p13.1 in let p15 = p14.1 in let p16 = p15.1 in let p17 = p16.1 in let p18 = p17.1 in let p19 = p18.1 in let p20 = p19.1 in let p21 = p20.1 in
-    rw (← p.0, ← p1.0, ← p2.0, ← p3.0, ← p4.0, ← p5.0, ← p6.0, ← p7.0, ← p8.0, ← p9.0, ← p10.0, ← p11.0, ← p12.0, ← p13.0, ← p14.0, ← p15.0, ← p16.0, ← p17.0, ← p18.0, ← p19.0, ← p20.0, ← p21.0) refl
+    let p1 = p.1 in let p2 = p1.1 in let p3 = p2.1 in let p4 = p3.1 in let p5 = p4.1 in let p6 = p5.1 in let p7 = p6.1 in let p8 = p7.1 in let p9 = p8.1 in
+    let p10 = p9.1 in let p11 = p10.1 in let p12 = p11.1 in let p13 = p12.1 in let p14 = p13.1 in let p15 = p14.1 in let p16 = p15.1 in let p17 = p16.1 in
+    let p18 = p17.1 in let p19 = p18.1 in let p20 = p19.1 in let p21 = p20.1 in
+    rw (
+      ← p.0,
+      ← p1.0,
+      ← p2.0,
+      ← p3.0,
+      ← p4.0,
+      ← p5.0,
+      ← p6.0,
+      ← p7.0,
+      ← p8.0,
+      ← p9.0,
+      ← p10.0,
+      ← p11.0,
+      ← p12.0,
+      ← p13.0,
+      ← p14.0,
+      ← p15.0,
+      ← p16.0,
+      ← p17.0,
+      ← p18.0,
+      ← p19.0,
+      ← p20.0,
+      ← p21.0,
+    ) refl
 content_is laws (of_attributes a) b h proper =
     let p = laws.stands (attr_out_parts a) b h in
-    let p1 = p.1 in let p2 = p1.1 in let p3 = p2.1 in let p4 = p3.1 in let p5 = p4.1 in let p6 = p5.1 in let p7 = p6.1 in let p8 = p7.1 in let p9 = p8.1 in let p10 = p9.1 in let p11 = p10.1 in let p12 = p11.1 in let p13 = p12.1 in let p14 = p13.1 in let p15 = p14.1 in let p16 = p15.1 in let p17 = p16.1 in
-    rw (← p.0, ← p1.0, ← p2.0, ← p3.0, ← p4.0, ← p5.0, ← p6.0, ← p7.0, ← p8.0, ← p9.0, ← p10.0, ← p11.0, ← p12.0, ← p13.0, ← p14.0, ← p15.0, ← p16.0, ← p17.0) refl
+    let p1 = p.1 in let p2 = p1.1 in let p3 = p2.1 in let p4 = p3.1 in let p5 = p4.1 in let p6 = p5.1 in let p7 = p6.1 in let p8 = p7.1 in let p9 = p8.1 in
+    let p10 = p9.1 in let p11 = p10.1 in let p12 = p11.1 in let p13 = p12.1 in let p14 = p13.1 in let p15 = p14.1 in let p16 = p15.1 in let p17 = p16.1 in
+    rw (
+      ← p.0,
+      ← p1.0,
+      ← p2.0,
+      ← p3.0,
+      ← p4.0,
+      ← p5.0,
+      ← p6.0,
+      ← p7.0,
+      ← p8.0,
+      ← p9.0,
+      ← p10.0,
+      ← p11.0,
+      ← p12.0,
+      ← p13.0,
+      ← p14.0,
+      ← p15.0,
+      ← p16.0,
+      ← p17.0,
+    ) refl
 content_is laws (of_open o) b h proper =
     let p = laws.stands (open_parts o) b h in
     let p1 = p.1 in let p2 = p1.1 in
@@ -71,7 +142,8 @@ content_is laws (of_write w) b h proper =
     rw (← p.0) refl
 content_is laws (of_init i) b h proper =
     let p = laws.stands (init_parts i) b h in
-    let p1 = p.1 in let p2 = p1.1 in let p3 = p2.1 in let p4 = p3.1 in let p5 = p4.1 in let p6 = p5.1 in let p7 = p6.1 in let p8 = p7.1 in let p9 = p8.1 in let p10 = p9.1 in let p11 = p10.1 in
+    let p1 = p.1 in let p2 = p1.1 in let p3 = p2.1 in let p4 = p3.1 in let p5 = p4.1 in let p6 = p5.1 in let p7 = p6.1 in let p8 = p7.1 in let p9 = p8.1 in
+    let p10 = p9.1 in let p11 = p10.1 in
     rw (← p.0, ← p1.0, ← p2.0, ← p3.0, ← p4.0, ← p5.0, ← p6.0, ← p7.0, ← p8.0, ← p9.0, ← p10.0, ← p11.0) refl
 content_is laws (of_data xs) b h proper = ap of_data (all xs b h)
 content_is laws (of_directory xs) b h proper = ap of_directory (all xs b h)
@@ -150,7 +222,8 @@ told_at opcode m = record {
   content = if errno_in m == 0 then content_at (kind_of opcode) (drop 16 m) else of_nothing;
 }
 
-content_of : LayoutsStand → (opcode : ℕ) (t : Told) (body : List ℕ) → IsOf opcode t body → (if t.errno == 0 then content_at (kind_of opcode) body else of_nothing) ≡ t.content
+content_of : LayoutsStand → (opcode : ℕ) (t : Told) (body : List ℕ) → IsOf opcode t body
+    → (if t.errno == 0 then content_at (kind_of opcode) body else of_nothing) ≡ t.content
 content_of laws opcode t body (inl h) =
     let held = h.1 in
     rw (eq-eqb t.errno 0 h.0, ← held.of_kind) (content_is laws t.content body held.laid held.proper)
@@ -179,13 +252,15 @@ no_fault laws opcode t m BodyAfterError a fault =
     fault.3 (p.body_is ∙ of_error opcode t a.body a.said (λ e. fault.1 (p.errno ∙ e)))
 no_fault laws opcode t m BodyLength a fault =
     let p = has_places laws opcode t m a in
-    of_success laws opcode t a.body BodyLength a.said (sym p.errno ∙ fault.1) (subst (λ (x : List ℕ). BodyFault (kind_of opcode) x BodyLength) p.body_is fault.2)
+    of_success laws opcode t a.body BodyLength a.said (sym p.errno ∙ fault.1)
+    (subst (λ (x : List ℕ). BodyFault (kind_of opcode) x BodyLength) p.body_is fault.2)
 no_fault laws opcode t m BadDirent a fault =
     let p = has_places laws opcode t m a in
     of_success laws opcode t a.body BadDirent a.said (sym p.errno ∙ fault.1) (subst (λ (x : List ℕ). BodyFault (kind_of opcode) x BadDirent) p.body_is fault.2)
 
 -- what a reader answers is the one answer, where there is one
-pub only_one : LayoutsStand → (opcode : ℕ) (m : List ℕ) (r : Result Reply BadAnswer) → IfOk r (λ q. Answers opcode (told q) m) → IfErr r (λ f. FirstFault opcode m f)
+pub only_one : LayoutsStand → (opcode : ℕ) (m : List ℕ) (r : Result Reply BadAnswer) → IfOk r (λ q. Answers opcode (told q) m)
+    → IfErr r (λ f. FirstFault opcode m f)
     → (t : Told) → Answers opcode t m → IsOkAnd r (λ q. told q ≡ t)
 only_one laws opcode m (Ok q) found fault t a = sym (is_at laws opcode (told q) m found) ∙ is_at laws opcode t m a
 only_one laws opcode m (Err f) found fault t a = absurd (no_fault laws opcode t m f a fault)
@@ -209,7 +284,8 @@ answered laws opcode t m fits long len errno unique said =
     let r2 : drop 8 m ≡ le 8 t.unique ++ drop 16 m = rw unique (q2.1 ∙ ap (λ (x : List ℕ). le 8 (number_of 8 (drop 8 m)) ++ x) (drop-drop 8 8 m)) in
     record {
       body = drop 16 m;
-      whole = r0 ∙ ap (λ (x : List ℕ). le 4 (16 + length (drop 16 m)) ++ x) (r1 ∙ ap (λ (x : List ℕ). le 4 (negated t.errno) ++ x) r2) ∙ sym (regroup (le 4 (16 + length (drop 16 m))) (le 4 (negated t.errno)) (le 8 t.unique) (drop 16 m));
+      whole = r0 ∙ ap (λ (x : List ℕ). le 4 (16 + length (drop 16 m)) ++ x) (r1 ∙ ap (λ (x : List ℕ). le 4 (negated t.errno) ++ x) r2)
+          ∙ sym (regroup (le 4 (16 + length (drop 16 m))) (le 4 (negated t.errno)) (le 8 t.unique) (drop 16 m));
       len = omega (arith, len, q0.0);
       unique = rw unique q2.0;
       said = said;

@@ -1,5 +1,6 @@
 -- Entries one after the other, by relation and by places.
-use Rattle.std.proofs.Common.{◌≡◌, ◌≢◌, ℕ, zero, suc, ◌+◌, ◌<◌, ◌≤◌, ◌⊎◌, inl, inr, Bool, true, false, if◌then◌else◌, nat_lt, List, [], ◌∷◌, ◌++◌, length, take, drop, Option, Some, None, refl, sym, ap, subst, ◌∙◌, arith}
+use Rattle.std.proofs.Common.{◌≡◌, ◌≢◌, ℕ, zero, suc, ◌+◌, ◌<◌, ◌≤◌, ◌⊎◌, inl, inr, Bool, true, false, if◌then◌else◌, nat_lt, List, [], ◌∷◌, ◌++◌, length}
+use Rattle.std.proofs.Common.{take, drop, Option, Some, None, refl, sym, ap, subst, ◌∙◌, arith}
 use Rattle.std.specs.Prelude.{◌==◌}
 use Rattle.std.proofs.lemmas.Bool.{lt-ltb, le-ltb, ltb-false, ne_eqb}
 use Rattle.std.proofs.lemmas.List.{append-nil, take_at, drop_at, drop-drop, length-append, length-drop, length-take, take-append-drop}
@@ -31,13 +32,25 @@ front_back laws e rest b s =
     let name : take n (drop 24 b) ≡ e.name = ap (take n) named.1 ∙ take_at e.name named.0 n refl in
     let past : drop n (drop 24 b) ≡ named.0 = ap (drop n) named.1 ∙ drop_at e.name named.0 n refl in
     let behind : drop (24 + (n + padding n)) b ≡ rest =
-    sym (drop-drop (n + padding n) 24 b) ∙ sym (drop-drop (padding n) n (drop 24 b)) ∙ ap (drop (padding n)) (past ∙ after) ∙ drop_at padded.0 rest (padding n) padded.2 in
+    sym (drop-drop (n + padding n) 24 b) ∙ sym (drop-drop (padding n) n (drop 24 b)) ∙ ap (drop (padding n)) (past ∙ after)
+    ∙ drop_at padded.0 rest (padding n) padded.2 in
     let front_len : length s.front ≡ 24 + (n + padding n) = omega (arith, laws.len (dirent_parts e) s.front s.laid) in
     let len : length b ≡ length s.front + length rest = ap length s.whole ∙ length-append s.front rest in
     let long : 24 ≤ length b = omega (arith, len, front_len) in
     let fits : 24 + (n + padding n) ≤ length b = omega (arith, len, front_len) in
     let some : n ≢ 0 = omega (arith, s.named.0) in
-    rw (← p.1.1.0, ← p.0, ← p.1.0, ← p.1.1.1.0, name, behind, le-ltb (length b) 24 long, ne_eqb n 0 some, le-ltb 255 n s.named.1, le-ltb (length b) (24 + (n + padding n)) fits) refl
+    rw (
+      ← p.1.1.0,
+      ← p.0,
+      ← p.1.0,
+      ← p.1.1.1.0,
+      name,
+      behind,
+      le-ltb (length b) 24 long,
+      ne_eqb n 0 some,
+      le-ltb 255 n s.named.1,
+      le-ltb (length b) (24 + (n + padding n)) fits,
+    ) refl
 
 -- what is read by its places stands there
 pub front_laid : LayoutsStand → (b : List ℕ) (ino off n kind : ℕ) (name rest : List ℕ) → IsBytes b → 24 ≤ length b
@@ -53,7 +66,10 @@ front_laid laws b ino off n kind name rest fits long ino_is off_is n_is kind_is 
     let past : drop n (drop 24 b) ≡ gap ++ rest = sym (take-append-drop pad (drop n (drop 24 b))) ∙ ap (λ (x : List ℕ). gap ++ x) rest_at in
     let behind : drop 24 b ≡ name ++ (gap ++ rest) = sym (take-append-drop n (drop 24 b)) ∙ rw (← name_is) (ap (λ (x : List ℕ). name ++ x) past) in
     let ps : List Part = number 8 ino ∷ number 8 off ∷ number 4 n ∷ number 4 kind ∷ bytes name ∷ unused pad ∷ [] in
-    let placed : Placed 0 (ps ++ bytes rest ∷ []) b = (ino_is, (off_is, (n_is, (kind_is, (long, (gap ++ rest, behind, (gap, rest, gap_len, refl, bytes_laid rest))))))) in
+    let placed : Placed 0 (ps ++ bytes rest ∷ []) b = (
+      ino_is,
+      (off_is, (n_is, (kind_is, (long, (gap ++ rest, behind, (gap, rest, gap_len, refl, bytes_laid rest)))))),
+    ) in
     let total : widths ps ≡ entry_len n = omega (arith, len) in
     let laid : Lays ps (take (widths ps) b) = (laws.parted ps (bytes rest ∷ []) b (laws.placed (ps ++ bytes rest ∷ []) b fits placed)).0 in
     record {
@@ -76,7 +92,8 @@ by_tests false false false false x = inr (refl, refl)
 -- no entry is read, or one that is not empty
 pub front_cases : (b : List ℕ) → (front_of b ≡ None) ⊎ ((p : Entry × List ℕ) × (front_of b ≡ Some p) × (length p.1 < length b))
 front_cases b =
-    elim (by_tests (nat_lt (length b) 24) (name_len b == 0) (nat_lt 255 (name_len b)) (nat_lt (length b) (entry_len (name_len b))) (entry_at b, drop (entry_len (name_len b)) b)) [
+    elim (by_tests (nat_lt (length b) 24) (name_len b == 0) (nat_lt 255 (name_len b)) (nat_lt (length b) (entry_len (name_len b)))
+    (entry_at b, drop (entry_len (name_len b)) b)) [
       | inl none ↦ inl none
       | inr some ↦ (let long : 24 ≤ length b = ltb-false (length b) 24 some.0 in inr (_, some.1, omega (arith, long, length-drop (entry_len (name_len b)) b)))
     ]

@@ -22,7 +22,8 @@ pub record Filled (es : List Entry) (size n : ℕ) (body : List ℕ) : Type 0 wh
 
 bytes-append : (es fs : List Entry) → entries_bytes (es ++ fs) ≡ entries_bytes es ++ entries_bytes fs
 bytes-append [] fs = refl
-bytes-append (e ∷ es) fs = ap (λ (x : List ℕ). form (dirent_parts e) ++ x) (bytes-append es fs) ∙ sym (append_assoc (form (dirent_parts e)) (entries_bytes es) (entries_bytes fs))
+bytes-append (e ∷ es) fs =
+    ap (λ (x : List ℕ). form (dirent_parts e) ++ x) (bytes-append es fs) ∙ sym (append_assoc (form (dirent_parts e)) (entries_bytes es) (entries_bytes fs))
 
 lists-append : (es fs : List Entry) (a b : List ℕ) → Lists es a → Lists fs b → Lists (es ++ fs) (a ++ b)
 lists-append [] fs a b h g = subst (λ (x : List ℕ). Lists fs (x ++ b)) (sym h) g

@@ -14,9 +14,11 @@ use Rattle.fuse_answer.specs.declared.records.AttrOut.{AttrOut}
 use Rattle.fuse_answer.specs.declared.records.EntryOut.{EntryOut}
 use Rattle.fuse_answer.specs.declared.records.OpenOut.{OpenOut}
 use Rattle.fuse_answer.specs.declared.records.WriteOut.{WriteOut}
-use Rattle.fuse_answer.specs.Bodies.{entry_parts, attr_out_parts, open_parts, write_parts, init_parts, entry_bytes, attr_out_bytes, open_bytes, write_bytes, init_bytes}
+use Rattle.fuse_answer.specs.Bodies.{entry_parts, attr_out_parts, open_parts, write_parts, init_parts, entry_bytes, attr_out_bytes, open_bytes, write_bytes}
+use Rattle.fuse_answer.specs.Bodies.{init_bytes}
 use Rattle.fuse_answer.specs.Entries.{Entry, IsNamed, Lists, dirent_parts, entries_bytes}
-use Rattle.fuse_answer.specs.Replies.{AnEntry, Attributes, AnOpen, AWrite, AnInit, Directory, kind_of, of_entry, of_attributes, of_open, of_write, of_init, of_directory, of_nothing, IsBody, IsRead, IsOfKind}
+use Rattle.fuse_answer.specs.Replies.{AnEntry, Attributes, AnOpen, AWrite, AnInit, Directory, kind_of, of_entry, of_attributes, of_open, of_write, of_init}
+use Rattle.fuse_answer.specs.Replies.{of_directory, of_nothing, IsBody, IsRead, IsOfKind}
 use Rattle.fuse_answer.specs.Said.{Said, FitsAnswer}
 use Rattle.fuse_answer.proofs.Forms.{len_first}
 
@@ -166,7 +168,8 @@ dirent_lays laws e few =
 lists : NumbersRead → (es : List Entry) → AllByRecursion IsNamed es → Lists (low_entries es) (entries_bytes es)
 unfolding low_entries low_entry
 lists laws [] named = refl
-lists laws (e ∷ es) named = (entries_bytes es, record { front = form (dirent_parts e); whole = refl; named = named.0; laid = dirent_lays laws e named.0.1 }, lists laws es named.1)
+lists laws (e ∷ es) named =
+    (entries_bytes es, record { front = form (dirent_parts e); whole = refl; named = named.0; laid = dirent_lays laws e named.0.1 }, lists laws es named.1)
 
 pub listing_body : NumbersRead → (es : List Entry) → AllByRecursion IsNamed es → IsBody Directory (entries_bytes es)
 listing_body laws es named =
@@ -178,5 +181,13 @@ listing_body laws es named =
 pub read : (NumbersRead × LayoutsStand) → (opcode : ℕ) (a : Said) → FitsAnswer a → IsOfKind (kind_of opcode) a → IsRead opcode a
 read laws opcode a fits (inl is) unique small =
     (is.1.0, record { body = a.body; whole = refl; len = (len_first laws a.errno a.body unique fits.short).fits; unique = small; said = inl (is.0, is.1.1) })
-read laws opcode a fits (inr is) unique small =
-    (of_nothing, record { body = a.body; whole = refl; len = (len_first laws a.errno a.body unique fits.short).fits; unique = small; said = inr (is.0, is.1, refl, is.2) })
+read laws opcode a fits (inr is) unique small = (
+  of_nothing,
+  record {
+    body = a.body;
+    whole = refl;
+    len = (len_first laws a.errno a.body unique fits.short).fits;
+    unique = small;
+    said = inr (is.0, is.1, refl, is.2);
+  },
+)

@@ -10,6 +10,7 @@ pub laid_halves : (NumbersRead × LayoutsStand) → (k n : ℕ) (ps : List Part)
     → Placed 0 (take n ps) front → Lays (drop n ps) back → Lays ps b
 laid_halves laws k n ps b front back fits e f first second =
     let small : IsBytes front = subst IsBytes (sym e) (laws.0.front_bytes k b fits) in
-    let both : Lays (take n ps ++ drop n ps) (front ++ back) = laws.1.joined (take n ps) (drop n ps) front back (laws.1.placed (take n ps) front small first) second in
+    let both : Lays (take n ps ++ drop n ps) (front ++ back) = laws.1.joined (take n ps) (drop n ps) front back (laws.1.placed (take n ps) front small first)
+    second in
     let parts : Lays ps (front ++ back) = subst (λ (qs : List Part). Lays qs (front ++ back)) (take-append-drop n ps) both in
     subst (Lays ps) (rw (e, f) (take-append-drop k b)) parts

@@ -3,7 +3,8 @@ use Rattle.std.specs.Prelude.{◌≡◌, ◌≢◌, ◌<◌, ◌≤◌, ◌^◌,
 use Rattle.std.specs.Int.{w32}
 use Rattle.fuse_wire.specs.Bytes.{number_of}
 use Rattle.fuse_wire.specs.Layout.{Part, bytes, Lays}
-use Rattle.fuse_wire.specs.Opcodes.{fuse_lookup, fuse_getattr, fuse_setattr, fuse_mknod, fuse_mkdir, fuse_unlink, fuse_rmdir, fuse_rename, fuse_open, fuse_read, fuse_write, fuse_release, fuse_init, fuse_opendir, fuse_readdir, fuse_releasedir, fuse_destroy, fuse_rename2}
+use Rattle.fuse_wire.specs.Opcodes.{fuse_lookup, fuse_getattr, fuse_setattr, fuse_mknod, fuse_mkdir, fuse_unlink, fuse_rmdir, fuse_rename, fuse_open}
+use Rattle.fuse_wire.specs.Opcodes.{fuse_read, fuse_write, fuse_release, fuse_init, fuse_opendir, fuse_readdir, fuse_releasedir, fuse_destroy, fuse_rename2}
 use Rattle.fuse_answer.specs.declared.records.EntryOut.{EntryOut}
 use Rattle.fuse_answer.specs.declared.records.AttrOut.{AttrOut}
 use Rattle.fuse_answer.specs.declared.records.OpenOut.{OpenOut}
@@ -143,7 +144,8 @@ pub record Answers (opcode : ℕ) (t : Told) (message : List ℕ) : Type 0 where
 
 -- what is said is read as the answer to a request of this opcode, whichever its unique is
 abbrev pub IsRead : ℕ → Said → Type 0
-IsRead opcode a = (unique : ℕ) → unique < 2 ^ 64 → (c : Content) × Answers opcode (record { unique = unique; errno = a.errno; content = c }) (wire a.errno a.body unique)
+IsRead opcode a =
+    (unique : ℕ) → unique < 2 ^ 64 → (c : Content) × Answers opcode (record { unique = unique; errno = a.errno; content = c }) (wire a.errno a.body unique)
 
 -- an error and no body, or no error and a body of the kind
 abbrev pub IsOfKind : Kind → Said → Type 0

@@ -99,7 +99,8 @@ pub fn pack(alloc: Global, entries: &[Dirent<'_>], size: u32) -> Result<Packed, 
         packed.body) }
     ensures within { IfOk result (λ packed. length packed.body ≤ size) }
 
-    ensures first { FirstIsTooBig (map entry_of entries.now) size ↔ (result ≡ Err PackFault.FirstTooBig) }
+    ensures first { FirstIsTooBig (map entry_of entries.now) size
+        ↔ (result ≡ Err PackFault.FirstTooBig) }
 {
     let size = size as usize;
     if first_is_too_big(entries, size) {

@@ -1,5 +1,6 @@
 -- The agreed set, bit by bit.
-use Rattle.std.proofs.Common.{◌≡◌, ◌<◌, ◌≤◌, ◌+◌, ◌-◌, ◌*◌, ◌/◌, ◌%◌, ◌^◌, ◌⊎◌, ℕ, inl, inr, Bool, true, false, if◌then◌else◌, nat_lt, Option, Some, None, max, refl, sym, ap, ◌∙◌, arith}
+use Rattle.std.proofs.Common.{◌≡◌, ◌<◌, ◌≤◌, ◌+◌, ◌-◌, ◌*◌, ◌/◌, ◌%◌, ◌^◌, ◌⊎◌, ℕ, inl, inr, Bool, true, false, if◌then◌else◌, nat_lt, Option, Some, None}
+use Rattle.std.proofs.Common.{max, refl, sym, ap, ◌∙◌, arith}
 use Rattle.std.specs.Prelude.{◌==◌, ◌↔◌}
 use Rattle.std.specs.Int.{bit_at}
 use Rattle.std.specs.Int.RustNames.{bit_and, bit_or}
@@ -71,7 +72,12 @@ is_taken k set =
           | inl e ↦ inr (inr (inl e))
           | inr n30 ↦ elim (cases_eq k 39) [
             | inl e ↦ inr (inr (inr e))
-            | inr n39 ↦ (let no : 0 ≡ 1 = sym (taken_is k ∙ rw (bit_at-pow_other 0 k n0, bit_at-pow_other 5 k n5, bit_at-pow_other 30 k n30, bit_at-pow_other 39 k n39) refl) ∙ set in
+            | inr n39 ↦ (let no : 0 ≡ 1 = sym (taken_is k ∙ rw (
+              bit_at-pow_other 0 k n0,
+              bit_at-pow_other 5 k n5,
+              bit_at-pow_other 30 k n30,
+              bit_at-pow_other 39 k n39,
+            ) refl) ∙ set in
                 absurd (omega (arith, no)))
           ]
         ]

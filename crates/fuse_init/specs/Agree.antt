@@ -62,4 +62,8 @@ abbrev pub agree : InitIn → Negotiated
 agree i =
     if is_older i then Refused eproto
     else if nat_lt kernel_version i.major then Again again
-    else Agreed (agreed_out i.max_readahead (agreed i)) (record { minor = min i.minor kernel_minor_version; max_readahead = i.max_readahead; flags = record { 0 = agreed i } })
+    else Agreed (agreed_out i.max_readahead (agreed i)) (record {
+      minor = min i.minor kernel_minor_version;
+      max_readahead = i.max_readahead;
+      flags = record { 0 = agreed i };
+    })

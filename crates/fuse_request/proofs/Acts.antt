@@ -1,5 +1,6 @@
 -- The bytes of a body spell one act, and have no fault.
-use Rattle.std.proofs.Common.{◌≡◌, ℕ, ◌*◌, ◌-◌, ◌==◌, Bool, true, false, cond, subst, List, [], ◌∷◌, length, drop, map, Option, Some, None, refl, sym, ap, ◌∙◌, arith}
+use Rattle.std.proofs.Common.{◌≡◌, ℕ, ◌*◌, ◌-◌, ◌==◌, Bool, true, false, cond, subst, List, [], ◌∷◌, length, drop, map, Option, Some, None, refl, sym, ap}
+use Rattle.std.proofs.Common.{◌∙◌, arith}
 use Rattle.std.specs.Prelude.{is_some}
 use Rattle.std.proofs.lemmas.List.{length-drop}
 use Rattle.fuse_wire.specs.Bytes.{number_of}
@@ -11,7 +12,8 @@ use Rattle.fuse_request.specs.declared.request.ReleaseIn.{ReleaseIn}
 use Rattle.fuse_request.specs.declared.request.SetattrIn.{SetattrIn}
 use Rattle.fuse_request.specs.Bodies.{name_fault, names_fault}
 use Rattle.fuse_request.specs.Opcodes.{Opcode, profile, find, fault_by}
-use Rattle.fuse_request.specs.Act.{Act, Lookup, Forget, Getattr, Setattr, Mknod, Mkdir, Unlink, Rmdir, Rename, OpenFile, Read, Write, Release, Init, OpenDir, ReadDir, ReleaseDir, Interrupt, Destroy, BatchForget, Rename2, Unsupported, opcode_of}
+use Rattle.fuse_request.specs.Act.{Act, Lookup, Forget, Getattr, Setattr, Mknod, Mkdir, Unlink, Rmdir, Rename, OpenFile, Read, Write, Release, Init, OpenDir}
+use Rattle.fuse_request.specs.Act.{ReadDir, ReleaseDir, Interrupt, Destroy, BatchForget, Rename2, Unsupported, opcode_of}
 use Rattle.fuse_request.specs.Spelling.{parts, IsSpellable, setattr_parts, open_parts, read_parts, release_parts}
 use Rattle.fuse_request.specs.Faults.{body_fault}
 use Rattle.fuse_request.specs.Places.{places, at_row, act_at, setattr_at, read_at, release_at}
@@ -54,8 +56,10 @@ one_getattr laws flags fh b h = let p = laws.0.stands (parts (Getattr flags fh))
 setattr_placed : Laws → (x : SetattrIn) (b : List ℕ) → Lays (setattr_parts x) b → (setattr_at b ≡ x) × (length b ≡ 88)
 setattr_placed laws x b h =
     let p = laws.0.stands (setattr_parts x) b h in
-    let q = p.1.1.1.1.1.1.1 in
-    (rw (p.0, p.1.0, p.1.1.0, p.1.1.1.0, p.1.1.1.1.0, p.1.1.1.1.1.0, p.1.1.1.1.1.1.0, q.0, q.1.0, q.1.1.0, q.1.1.1.0, q.1.1.1.1.0, q.1.1.1.1.1.0) refl, q.1.1.1.1.1.1)
+    let q = p.1.1.1.1.1.1.1 in (
+      rw (p.0, p.1.0, p.1.1.0, p.1.1.1.0, p.1.1.1.1.0, p.1.1.1.1.1.0, p.1.1.1.1.1.1.0, q.0, q.1.0, q.1.1.0, q.1.1.1.0, q.1.1.1.1.0, q.1.1.1.1.1.0) refl,
+      q.1.1.1.1.1.1,
+    )
 
 one_setattr : Laws → (x : SetattrIn) (b : List ℕ) → Lays (parts (Setattr x)) b → IsOne (Setattr x) b
 one_setattr laws x b h = let p = setattr_placed laws x b h in (ap Setattr p.0, fixed_none 88 b p.1)
@@ -121,14 +125,16 @@ one_mkdir laws mode umask name b h =
     let n = one_name laws.1 name (drop 8 b) q.1 in
     (rw (p.0, p.1.0, n.0) refl, at_least_after 8 name_fault b q.0 ∙ n.1)
 
-one_rename : Laws → (new_dir : ℕ) (old_name new_name b : List ℕ) → Lays (parts (Rename new_dir old_name new_name)) b → IsOne (Rename new_dir old_name new_name) b
+one_rename : Laws → (new_dir : ℕ) (old_name new_name b : List ℕ) → Lays (parts (Rename new_dir old_name new_name)) b
+    → IsOne (Rename new_dir old_name new_name) b
 one_rename laws new_dir old_name new_name b h =
     let p = laws.0.stands (parts (Rename new_dir old_name new_name)) b h in
     let q = p.1 in
     let n = both_names laws.1 old_name new_name (drop 8 b) q.1 in
     (rw (p.0, n.0, n.1) refl, at_least_after 8 names_fault b q.0 ∙ n.2)
 
-one_rename2 : Laws → (new_dir flags : ℕ) (old_name new_name b : List ℕ) → Lays (parts (Rename2 new_dir flags old_name new_name)) b → IsOne (Rename2 new_dir flags old_name new_name) b
+one_rename2 : Laws → (new_dir flags : ℕ) (old_name new_name b : List ℕ) → Lays (parts (Rename2 new_dir flags old_name new_name)) b
+    → IsOne (Rename2 new_dir flags old_name new_name) b
 one_rename2 laws new_dir flags old_name new_name b h =
     let p = laws.0.stands (parts (Rename2 new_dir flags old_name new_name)) b h in
     let q = p.1.1 in
@@ -178,7 +184,8 @@ not_found : {A : Type 0} (o : Option A) → is_some o ≡ false → o ≡ None
 not_found None e = refl
 not_found (Some x) e = absurd cc
 
-one_unsupported : Laws → (opcode : ℕ) (body b : List ℕ) → Lays (parts (Unsupported opcode body)) b → IsSpellable (Unsupported opcode body) → IsOne (Unsupported opcode body) b
+one_unsupported : Laws → (opcode : ℕ) (body b : List ℕ) → Lays (parts (Unsupported opcode body)) b → IsSpellable (Unsupported opcode body)
+    → IsOne (Unsupported opcode body) b
 one_unsupported laws opcode body b h named =
     let none = not_found (find opcode profile) named in
     let other = no_row (Unsupported opcode) opcode places profile refl none in

@@ -1,5 +1,6 @@
 -- What has a spelling is spelled by its canon.
-use Rattle.std.proofs.Common.{◌≡◌, ◌≢◌, ◌/◌, ◌*◌, ◌%◌, ◌==◌, ◌&&◌, ◌||◌, ℕ, zero, suc, Bool, true, false, not, List, [], ◌∷◌, ◌++◌, length, Option, Some, None, refl, sym, subst, arith}
+use Rattle.std.proofs.Common.{◌≡◌, ◌≢◌, ◌/◌, ◌*◌, ◌%◌, ◌==◌, ◌&&◌, ◌||◌, ℕ, zero, suc, Bool, true, false, not, List, [], ◌∷◌, ◌++◌, length, Option, Some}
+use Rattle.std.proofs.Common.{None, refl, sym, subst, arith}
 use Rattle.std.specs.Prelude.{Result, Ok, Err, OnOk, is_err}
 use Rattle.std.specs.List.{list_any, AllByRecursion}
 use Rattle.std.proofs.lemmas.Bool.{eqb-true}
@@ -20,7 +21,12 @@ canon_spells laws v h =
     let head : List ℕ = form (header_parts (len_of v) units v) in
     let laid : Lays (header_parts (len_of v) units v) head = laws.formed (header_parts (len_of v) units v) h.header in
     let head_len : length head ≡ 40 = laws.len (header_parts (len_of v) units v) head laid in
-    let total : length (canon v) ≡ len_of v = omega (arith, head_len, length-append head (form (parts v.act) ++ v.ext), length-append (form (parts v.act)) v.ext) in
+    let total : length (canon v) ≡ len_of v = omega (
+      arith,
+      head_len,
+      length-append head (form (parts v.act) ++ v.ext),
+      length-append (form (parts v.act)) v.ext,
+    ) in
     record {
       head = head;
       body = form (parts v.act);

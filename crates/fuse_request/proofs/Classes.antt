@@ -18,7 +18,8 @@ use Rattle.fuse_request.proofs.Acts.{Laws}
 use Rattle.fuse_request.proofs.Heads.{has_parts, no_fault}
 
 -- the class of a message that isn't silent, and that has this fault and this opcode
-loud_class : (m : List ℕ) (f : Option Malformed) (opcode : ℕ) → silent (raw_of m).opcode ≡ false → first_fault m ≡ f → (raw_of m).opcode ≡ opcode → class_of m ≡ class_by f opcode
+loud_class : (m : List ℕ) (f : Option Malformed) (opcode : ℕ) → silent (raw_of m).opcode ≡ false → first_fault m ≡ f → (raw_of m).opcode ≡ opcode
+    → class_of m ≡ class_by f opcode
 unfolding class_of
 loud_class m f opcode loud e o = rw loud (rw (e, o) refl)
 
@@ -39,7 +40,8 @@ classed_fault laws m f loud e = (
   (loud, inl (refl, λ v s. (let none : first_fault m ≡ None = no_fault laws v m s in absurd cc))),
 )
 
-pub classed_unsupported : Laws → (m : List ℕ) (v : Asked) → silent (number_of 4 (drop 4 m)) ≡ false → Spells v m → in_profile (number_of 4 (drop 4 m)) ≡ false → Classed (Bare enosys) m
+pub classed_unsupported : Laws → (m : List ℕ) (v : Asked) → silent (number_of 4 (drop 4 m)) ≡ false → Spells v m
+    → in_profile (number_of 4 (drop 4 m)) ≡ false → Classed (Bare enosys) m
 classed_unsupported laws m v loud s outside =
     let opcode : number_of 4 (drop 4 m) ≡ opcode_of v.act = (has_parts laws v m s).opcode in
     let outside : in_profile (opcode_of v.act) ≡ false = sym (ap in_profile opcode) ∙ outside in (
@@ -47,18 +49,21 @@ classed_unsupported laws m v loud s outside =
       (loud, inr (refl, (v, s, λ h. absurd cc))),
     )
 
-pub classed_kept : Laws → (m : List ℕ) (v : Asked) → silent (number_of 4 (drop 4 m)) ≡ false → Spells v m → in_profile (number_of 4 (drop 4 m)) ≡ true → Classed Kept m
+pub classed_kept : Laws → (m : List ℕ) (v : Asked) → silent (number_of 4 (drop 4 m)) ≡ false → Spells v m → in_profile (number_of 4 (drop 4 m)) ≡ true
+    → Classed Kept m
 classed_kept laws m v loud s inside =
     let opcode : number_of 4 (drop 4 m) ≡ opcode_of v.act = (has_parts laws v m s).opcode in
     let inside : in_profile (opcode_of v.act) ≡ true = sym (ap in_profile opcode) ∙ inside in
     (sym (spelled_class laws v m loud s ∙ rw inside refl), (loud, (v, s, inside)))
 
 -- what is kept isn't silent and has no fault, and its opcode is of the profile
-kept_by : (quiet : Bool) (f : Option Malformed) (opcode : ℕ) → cond {A = Class} quiet Silent (class_by f opcode) ≡ Kept → (f ≡ None) × (quiet ≡ false) × (in_profile opcode ≡ true)
+kept_by : (quiet : Bool) (f : Option Malformed) (opcode : ℕ) → cond {A = Class} quiet Silent (class_by f opcode) ≡ Kept
+    → (f ≡ None) × (quiet ≡ false) × (in_profile opcode ≡ true)
 kept_by true f opcode e = absurd cc
 kept_by false (Some f) opcode e = absurd cc
 kept_by false None opcode e =
-    elim (in_profile opcode) as (λ p. cond {A = Class} p Kept (Bare enosys) ≡ Kept → (◌≡◌ {A = Option Malformed} None None) × (◌≡◌ {A = Bool} false false) × (p ≡ true)) [
+    elim (in_profile opcode) as (λ p. cond {A = Class} p Kept (Bare enosys) ≡ Kept → (◌≡◌ {A = Option Malformed} None None) × (◌≡◌ {A = Bool} false false)
+    × (p ≡ true)) [
       | true ↦ (λ q. (refl, refl, refl))
       | false ↦ (λ q. absurd cc)
     ] e

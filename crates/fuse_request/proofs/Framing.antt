@@ -1,5 +1,6 @@
 -- What a framer gives out, and what is left when all whole messages are passed.
-use Rattle.std.proofs.Common.{◌≡◌, ◌<◌, ◌≤◌, ◌+◌, ◌-◌, ℕ, Bool, true, false, cond, ltb, List, [], length, take, drop, Option, Some, None, Ok, Err, inl, inr, refl, sym, ap, subst, ◌∙◌, arith}
+use Rattle.std.proofs.Common.{◌≡◌, ◌<◌, ◌≤◌, ◌+◌, ◌-◌, ℕ, Bool, true, false, cond, ltb, List, [], length, take, drop, Option, Some, None, Ok, Err, inl, inr}
+use Rattle.std.proofs.Common.{refl, sym, ap, subst, ◌∙◌, arith}
 use Rattle.std.specs.Prelude.{◌⊎◌}
 use Rattle.std.proofs.lemmas.List.{length-take, take-append-drop}
 use Rattle.std.proofs.lemmas.Bool.{ltb-true}
@@ -40,7 +41,8 @@ pass laws n w e =
     record { some = omega arith; there = omega arith; rest = rw size (sym step) }
 
 -- where no message is left, the fault is that of the end
-pub ended_at : NumbersRead → (h : Held) (at : ℕ) (rest : List ℕ) → h.at ≤ at → at + length rest ≡ h.at + length h.bytes → (cut rest).1 ≡ (cut h.bytes).1 → IsFront None rest
+pub ended_at : NumbersRead → (h : Held) (at : ℕ) (rest : List ℕ) → h.at ≤ at → at + length rest ≡ h.at + length h.bytes → (cut rest).1 ≡ (cut h.bytes).1
+    → IsFront None rest
     → end_fault at rest ≡ ends h
 ended_at laws h at rest behind place same none =
     let stuck : cut rest ≡ ([], rest) = (cut_steps laws rest).1 (none_by (is_whole rest) (number_of 4 rest) none) in
@@ -50,7 +52,8 @@ ended_at laws h at rest behind place same none =
 
 -- the tests of bad_length
 bad_by : (few low high : Bool) (at n : ℕ) (f : FrameFault)
-    → cond {A = Option FrameFault} few None (cond {A = Option FrameFault} low (Some (Short at n)) (cond {A = Option FrameFault} high (Some (TooLong at n)) None)) ≡ Some f
+    → cond {A = Option FrameFault} few None (cond {A = Option FrameFault} low (Some (Short at n))
+    (cond {A = Option FrameFault} high (Some (TooLong at n)) None)) ≡ Some f
     → ((low ≡ true) × (f ≡ Short at n)) ⊎ ((high ≡ true) × (f ≡ TooLong at n))
 bad_by true low high at n f e = absurd cc
 bad_by false true high at n f e = inl (refl, cc)
@@ -78,10 +81,12 @@ bad_none laws at w f e =
     elim (bad at w f e) [ inl p ↦ omega (arith, p.0) | inr p ↦ omega (arith, p.0) ])))
 
 -- a bad length is answered
-pub gives_fault : NumbersRead → (old new : Held) (f : FrameFault) → Some f ≡ bad_length old.at old.bytes → new ≡ record old { fault = Some f } → GivesNext old new (Err f)
+pub gives_fault : NumbersRead → (old new : Held) (f : FrameFault) → Some f ≡ bad_length old.at old.bytes → new ≡ record old { fault = Some f }
+    → GivesNext old new (Err f)
 gives_fault laws old new (Short at len) e same = (bad_none laws old.at old.bytes (Short at len) (sym e), sym e, same)
 gives_fault laws old new (TooLong at len) e same = (bad_none laws old.at old.bytes (TooLong at len) (sym e), sym e, same)
-gives_fault laws old new (Cut at have need) e same = absurd (elim (bad old.at old.bytes (Cut at have need) (sym e)) [ inl p ↦ (let h = p.1 in cc) | inr p ↦ (let h = p.1 in cc) ])
+gives_fault laws old new (Cut at have need) e same =
+    absurd (elim (bad old.at old.bytes (Cut at have need) (sym e)) [ inl p ↦ (let h = p.1 in cc) | inr p ↦ (let h = p.1 in cc) ])
 gives_fault laws old new Memory e same = absurd (elim (bad old.at old.bytes Memory (sym e)) [ inl p ↦ (let h = p.1 in cc) | inr p ↦ (let h = p.1 in cc) ])
 
 -- there is no message yet
@@ -89,7 +94,8 @@ pub gives_none : NumbersRead → (old new : Held) → None ≡ bad_length old.at
 gives_none laws old new good none same = ((cut_steps laws old.bytes).1 (none_by (is_whole old.bytes) (number_of 4 old.bytes) none), sym good, same)
 
 -- the first message is given out
-pub gives_first : NumbersRead → (old new : Held) (n : ℕ) (m : List ℕ) → IsFront (Some n) old.bytes → m ≡ take n old.bytes → new ≡ record old { bytes = drop n old.bytes; at = old.at + n } → Gives old new m
+pub gives_first : NumbersRead → (old new : Held) (n : ℕ) (m : List ℕ) → IsFront (Some n) old.bytes → m ≡ take n old.bytes
+    → new ≡ record old { bytes = drop n old.bytes; at = old.at + n } → Gives old new m
 gives_first laws old new n m e front same =
     let p = front_by (is_whole old.bytes) n (number_of 4 old.bytes) e in
     let f = front_of old.bytes p.0 in
@@ -110,5 +116,8 @@ gives_first laws old new n m e front same =
 pub gives_memory : NumbersRead → (old new : Held) (n : ℕ) → IsFront (Some n) old.bytes → new ≡ old → GivesNext old new (Err Memory)
 gives_memory laws old new n e same =
     let p = front_by (is_whole old.bytes) n (number_of 4 old.bytes) e in
-    let step = (cut_steps laws old.bytes).0 p.0 in
-    ((λ (none : HasNone old.bytes). (let same : (cut old.bytes).0 ≡ [] = ap (λ (c : List (List ℕ) × List ℕ). c.0) none in let more = ap (λ (c : List (List ℕ) × List ℕ). c.0) step in cc)), same)
+    let step = (cut_steps laws old.bytes).0 p.0 in (
+      (λ (none : HasNone old.bytes). (let same : (cut old.bytes).0 ≡ [] = ap (λ (c : List (List ℕ) × List ℕ). c.0) none in let more = ap
+          (λ (c : List (List ℕ) × List ℕ). c.0) step in cc)),
+      same,
+    )

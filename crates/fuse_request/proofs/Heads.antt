@@ -45,7 +45,8 @@ has_parts laws v m s =
     let q = p.1.1.1.1 in
     let at40 : drop 40 m ≡ tail = all_bytes tail (drop 40 m) q.1.1.1.1.1 in
     let head_len : length s.head ≡ 40 = laws.0.len ps s.head s.header in
-    let len : length m ≡ 40 + (length s.body + length v.ext) = omega (arith, ap length s.whole, length-append s.head tail, length-append s.body v.ext, head_len) in
+    let len : length m ≡ 40 + (length s.body + length v.ext) = omega
+    (arith, ap length s.whole, length-append s.head tail, length-append s.body v.ext, head_len) in
     let units : s.units ≡ number_of 2 (drop 36 m) = q.1.1.1.0 in
     let e = s.ext in
     let body_len : length m - 40 - 8 * s.units ≡ length s.body = omega (arith, len, e) in
@@ -86,10 +87,17 @@ pub no_fault : Laws → (v : Asked) (m : List ℕ) → Spells v m → first_faul
 no_fault laws v m s =
     let p = has_parts laws v m s in
     let one = one_act laws v.act p.body p.laid s.named in
-    rw (le-ltb (length m) 40 p.long, eq-eqb (number_of 4 m) (length m) p.len, le-ltb (length m - 40) (8 * number_of 2 (drop 36 m)) p.fits, p.opcode, p.body_is) one.1
+    rw (
+      le-ltb (length m) 40 p.long,
+      eq-eqb (number_of 4 m) (length m) p.len,
+      le-ltb (length m - 40) (8 * number_of 2 (drop 36 m)) p.fits,
+      p.opcode,
+      p.body_is,
+    ) one.1
 
 -- a header that was read is that of the message
-is_raw : (m : List ℕ) (raw : RawHeader) → ◌≡◌ {A = Option RawHeader} (Some raw) (if nat_lt (length m) 40 then None else Some (raw_of m)) → (40 ≤ length m) × (raw ≡ raw_of m)
+is_raw : (m : List ℕ) (raw : RawHeader) → ◌≡◌ {A = Option RawHeader} (Some raw) (if nat_lt (length m) 40 then None else Some (raw_of m))
+    → (40 ≤ length m) × (raw ≡ raw_of m)
 is_raw m raw e =
     elim (cases_lt (length m) 40) [
       | inl lt ↦ (let h : ◌≡◌ {A = Option RawHeader} (Some raw) None = rw (lt-ltb (length m) 40 lt) at e in absurd cc)
@@ -97,7 +105,8 @@ is_raw m raw e =
     ]
 
 -- a fault of the body is that of the message, where nothing is wrong before it
-pub body_faulty : (m : List ℕ) (raw : RawHeader) (body : List ℕ) (f : Malformed) → ◌≡◌ {A = Option RawHeader} (Some raw) (if nat_lt (length m) 40 then None else Some (raw_of m))
+pub body_faulty : (m : List ℕ) (raw : RawHeader) (body : List ℕ) (f : Malformed)
+    → ◌≡◌ {A = Option RawHeader} (Some raw) (if nat_lt (length m) 40 then None else Some (raw_of m))
     → raw.len ≡ length m → 8 * raw.total_extlen ≤ length (drop 40 m) → body ≡ take (length (drop 40 m) - 8 * raw.total_extlen) (drop 40 m)
     → body_fault raw.opcode body ≡ Some f → first_fault m ≡ Some f
 body_faulty m raw body f e len room body_is fault =
@@ -125,7 +134,8 @@ only_one laws m (Err f) found fault v s =
     absurd cc
 
 -- which fault is answered
-pub fault_read : Laws → (m : List ℕ) (r : Result Request Malformed) → IfOk r (λ q. Spells (asked q) m) → IfErr r (λ f. first_fault m ≡ Some f) → result_err r ≡ first_fault m
+pub fault_read : Laws → (m : List ℕ) (r : Result Request Malformed) → IfOk r (λ q. Spells (asked q) m) → IfErr r (λ f. first_fault m ≡ Some f)
+    → result_err r ≡ first_fault m
 fault_read laws m (Ok q) found fault = sym (no_fault laws (asked q) m found)
 fault_read laws m (Err f) found fault = sym fault
 

@@ -1,5 +1,6 @@
 -- A stream has one cut, and cuts join.
-use Rattle.std.proofs.Common.{◌≡◌, ◌≤◌, ◌&&◌, ℕ, zero, suc, Bool, true, false, cond, leb, List, [], ◌∷◌, ◌++◌, length, take, drop, refl, sym, ap, ◌∙◌, append_assoc, arith}
+use Rattle.std.proofs.Common.{◌≡◌, ◌≤◌, ◌&&◌, ℕ, zero, suc, Bool, true, false, cond, leb, List, [], ◌∷◌, ◌++◌, length, take, drop, refl, sym, ap, ◌∙◌}
+use Rattle.std.proofs.Common.{append_assoc, arith}
 use Rattle.std.specs.List.{AllByRecursion}
 use Rattle.std.proofs.lemmas.Bool.{le-leb, leb-true}
 use Rattle.std.proofs.lemmas.List.{length-append, length-take, length-drop, take-append-drop, take_at, drop_at}
@@ -33,8 +34,11 @@ at_front laws m rest h =
     let high = h.high in
     let size : number_of 4 (m ++ rest) ≡ length m = laws.apart 4 m rest (omega arith) ∙ h.size in
     let long : 4 ≤ length (m ++ rest) = omega (arith, length-append m rest) in
-    let there : length m ≤ length (m ++ rest) = omega (arith, length-append m rest) in
-    (rw (size, le-leb 4 (length (m ++ rest)) long, le-leb 40 (length m) low, le-leb (length m) 135168 high, le-leb (length m) (length (m ++ rest)) there) refl, size)
+    let there : length m ≤ length (m ++ rest) = omega (arith, length-append m rest) in (
+      rw (size, le-leb 4 (length (m ++ rest)) long, le-leb 40 (length m) low, le-leb (length m) 135168 high, le-leb (length m) (length (m ++ rest)) there)
+          refl,
+      size,
+    )
 
 pub first_message : NumbersRead → (w : List ℕ) → is_whole w ≡ true → IsMessage (take (number_of 4 w) w)
 first_message laws w e =
@@ -48,7 +52,8 @@ first_message laws w e =
     let same : number_of 4 (take k w) ≡ k = sym read ∙ ap (number_of 4) (take-append-drop k w) in
     record { size = same ∙ sym len; low = omega arith; high = omega arith }
 
-cons_cuts : NumbersRead → (w : List ℕ) (more : List (List ℕ) × List ℕ) → is_whole w ≡ true → Cuts (drop (number_of 4 w) w) more.0 more.1 → Cuts w (take (number_of 4 w) w ∷ more.0) more.1
+cons_cuts : NumbersRead → (w : List ℕ) (more : List (List ℕ) × List ℕ) → is_whole w ≡ true → Cuts (drop (number_of 4 w) w) more.0 more.1
+    → Cuts w (take (number_of 4 w) w ∷ more.0) more.1
 cons_cuts laws w more e h =
     let k : ℕ = number_of 4 w in
     record {
@@ -58,7 +63,8 @@ cons_cuts laws w more e h =
     }
 
 case_cuts : NumbersRead → (w : List ℕ) (b : Bool) (more : List (List ℕ) × List ℕ) → is_whole w ≡ b → (b ≡ true → Cuts (drop (number_of 4 w) w) more.0 more.1)
-    → Cuts w (cond {A = List (List ℕ) × List ℕ} b (take (number_of 4 w) w ∷ more.0, more.1) ([], w)).0 (cond {A = List (List ℕ) × List ℕ} b (take (number_of 4 w) w ∷ more.0, more.1) ([], w)).1
+    → Cuts w (cond {A = List (List ℕ) × List ℕ} b (take (number_of 4 w) w ∷ more.0, more.1) ([], w)).0
+    (cond {A = List (List ℕ) × List ℕ} b (take (number_of 4 w) w ∷ more.0, more.1) ([], w)).1
 case_cuts laws w true more e h = cons_cuts laws w more e (h refl)
 case_cuts laws w false more e h = record { whole = refl; each = tt; stuck = e }
 
@@ -124,7 +130,8 @@ all_append P (x ∷ xs) ys a b = (a.0, all_append P xs ys a.1 b)
 pub Cuts-join : (a b : List ℕ) (ms ns : List (List ℕ)) (r q : List ℕ) → Cuts a ms r → Cuts (r ++ b) ns q → Cuts (a ++ b) (ms ++ ns) q
 Cuts-join a b ms ns r q c d =
     record {
-      whole = ap (λ (x : List ℕ). x ++ b) c.whole ∙ append_assoc (joined ms) r b ∙ ap (λ (x : List ℕ). joined ms ++ x) d.whole ∙ rw flat_map-append (sym (append_assoc (joined ms) (joined ns) q));
+      whole = ap (λ (x : List ℕ). x ++ b) c.whole ∙ append_assoc (joined ms) r b ∙ ap (λ (x : List ℕ). joined ms ++ x) d.whole
+          ∙ rw flat_map-append (sym (append_assoc (joined ms) (joined ns) q));
       each = all_append IsMessage ms ns c.each d.each;
       stuck = d.stuck;
     }
@@ -135,6 +142,7 @@ cut_joins laws a b = cut_is laws (a ++ b) ((cut a).0 ++ (cut ((cut a).1 ++ b)).0
 
 pub cut_steps : NumbersRead → CutSteps
 cut_steps laws w = (
-  (λ e. cut_is laws w (take (number_of 4 w) w ∷ (cut (drop (number_of 4 w) w)).0) (cut (drop (number_of 4 w) w)).1 (cons_cuts laws w (cut (drop (number_of 4 w) w)) e (cut_cuts laws (drop (number_of 4 w) w)))),
+  (λ e. cut_is laws w (take (number_of 4 w) w ∷ (cut (drop (number_of 4 w) w)).0) (cut (drop (number_of 4 w) w)).1
+      (cons_cuts laws w (cut (drop (number_of 4 w) w)) e (cut_cuts laws (drop (number_of 4 w) w)))),
   (λ e. cut_is laws w [] w (record { whole = refl; each = tt; stuck = e })),
 )

@@ -2,8 +2,11 @@
 use Rattle.std.specs.Prelude.{◌==◌, ◌&&◌, ℕ, Bool, not, if◌then◌else◌, List, [], ◌∷◌, Option, Some, None, is_some, codes}
 use Rattle.std.specs.Option.{option_map}
 use Rattle.fuse_request.specs.declared.decoding.Malformed.{Malformed}
-use Rattle.fuse_request.specs.Lengths.{forget_in_size, getattr_in_size, setattr_in_size, mknod_in_size, mkdir_in_size, rename_in_size, rename2_in_size, open_in_size, read_in_size, write_in_size, release_in_size, interrupt_in_size, batch_forget_in_size, forget_one_size}
-use Rattle.fuse_wire.specs.Opcodes.{fuse_lookup, fuse_forget, fuse_getattr, fuse_setattr, fuse_mknod, fuse_mkdir, fuse_unlink, fuse_rmdir, fuse_rename, fuse_open, fuse_read, fuse_write, fuse_release, fuse_init, fuse_opendir, fuse_readdir, fuse_releasedir, fuse_interrupt, fuse_destroy, fuse_batch_forget, fuse_rename2, silent}
+use Rattle.fuse_request.specs.Lengths.{forget_in_size, getattr_in_size, setattr_in_size, mknod_in_size, mkdir_in_size, rename_in_size, rename2_in_size}
+use Rattle.fuse_request.specs.Lengths.{open_in_size, read_in_size, write_in_size, release_in_size, interrupt_in_size, batch_forget_in_size, forget_one_size}
+use Rattle.fuse_wire.specs.Opcodes.{fuse_lookup, fuse_forget, fuse_getattr, fuse_setattr, fuse_mknod, fuse_mkdir, fuse_unlink, fuse_rmdir, fuse_rename}
+use Rattle.fuse_wire.specs.Opcodes.{fuse_open, fuse_read, fuse_write, fuse_release, fuse_init, fuse_opendir, fuse_readdir, fuse_releasedir, fuse_interrupt}
+use Rattle.fuse_wire.specs.Opcodes.{fuse_destroy, fuse_batch_forget, fuse_rename2, silent}
 use Rattle.fuse_request.specs.Bodies.{fixed, at_least, name_fault, names_fault, counted, init_fault}
 
 -- an opcode: its number, its name, and what is wrong with a body

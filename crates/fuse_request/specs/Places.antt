@@ -3,7 +3,9 @@ use Rattle.std.specs.Prelude.{◌≡◌, ◌≤◌, ◌-◌, ◌==◌, ℕ, zero
 use Rattle.std.specs.Option.{unwrap_or}
 use Rattle.fuse_wire.specs.Bytes.{number_of, after_nul}
 use Rattle.fuse_request.specs.Lengths.{compat_init_in_size, mknod_in_size, mkdir_in_size, rename_in_size, rename2_in_size, write_in_size, batch_forget_in_size}
-use Rattle.fuse_wire.specs.Opcodes.{fuse_lookup, fuse_forget, fuse_getattr, fuse_setattr, fuse_mknod, fuse_mkdir, fuse_unlink, fuse_rmdir, fuse_rename, fuse_open, fuse_read, fuse_write, fuse_release, fuse_init, fuse_opendir, fuse_readdir, fuse_releasedir, fuse_interrupt, fuse_destroy, fuse_batch_forget, fuse_rename2}
+use Rattle.fuse_wire.specs.Opcodes.{fuse_lookup, fuse_forget, fuse_getattr, fuse_setattr, fuse_mknod, fuse_mkdir, fuse_unlink, fuse_rmdir, fuse_rename}
+use Rattle.fuse_wire.specs.Opcodes.{fuse_open, fuse_read, fuse_write, fuse_release, fuse_init, fuse_opendir, fuse_readdir, fuse_releasedir, fuse_interrupt}
+use Rattle.fuse_wire.specs.Opcodes.{fuse_destroy, fuse_batch_forget, fuse_rename2}
 use Rattle.fuse_wire.specs.Bounds.{min_message_len}
 use Rattle.fuse_request.specs.declared.request.InHeader.{InHeader}
 use Rattle.fuse_request.specs.declared.request.InitIn.{InitIn}
@@ -11,7 +13,8 @@ use Rattle.fuse_request.specs.declared.request.ReadIn.{ReadIn}
 use Rattle.fuse_request.specs.declared.request.ReleaseIn.{ReleaseIn}
 use Rattle.fuse_request.specs.declared.request.SetattrIn.{SetattrIn}
 use Rattle.fuse_request.specs.Header.{raw_of, ext_len, body_of}
-use Rattle.fuse_request.specs.Act.{Act, Lookup, Forget, Getattr, Setattr, Mknod, Mkdir, Unlink, Rmdir, Rename, OpenFile, Read, Write, Release, Init, OpenDir, ReadDir, ReleaseDir, Interrupt, Destroy, BatchForget, Rename2, Unsupported, Asked, opcode_of}
+use Rattle.fuse_request.specs.Act.{Act, Lookup, Forget, Getattr, Setattr, Mknod, Mkdir, Unlink, Rmdir, Rename, OpenFile, Read, Write, Release, Init, OpenDir}
+use Rattle.fuse_request.specs.Act.{ReadDir, ReleaseDir, Interrupt, Destroy, BatchForget, Rename2, Unsupported, Asked, opcode_of}
 use Rattle.fuse_request.specs.Spelling.{Spells}
 
 -- the first name
@@ -86,7 +89,11 @@ places =
     ∷ (fuse_rename, λ b. Rename (number_of 8 b) (before_nul (drop rename_in_size b)) (second_name (drop rename_in_size b)))
     ∷ (fuse_open, λ b. OpenFile (number_of 4 b) (number_of 4 (drop 4 b)))
     ∷ (fuse_read, λ b. Read (read_at b))
-    ∷ (fuse_write, λ b. Write (number_of 8 b) (number_of 8 (drop 8 b)) (number_of 4 (drop 20 b)) (number_of 8 (drop 24 b)) (number_of 4 (drop 32 b)) (drop write_in_size b))
+    ∷ (
+      fuse_write,
+      λ b. Write (number_of 8 b) (number_of 8 (drop 8 b)) (number_of 4 (drop 20 b)) (number_of 8 (drop 24 b)) (number_of 4 (drop 32 b))
+          (drop write_in_size b),
+    )
     ∷ (fuse_release, λ b. Release (release_at b))
     ∷ (fuse_init, λ b. Init (init_at b))
     ∷ (fuse_opendir, λ b. OpenDir (number_of 4 b) (number_of 4 (drop 4 b)))

@@ -7,7 +7,8 @@ use Rattle.fuse_request.specs.declared.request.ReadIn.{ReadIn}
 use Rattle.fuse_request.specs.declared.request.ReleaseIn.{ReleaseIn}
 use Rattle.fuse_request.specs.declared.request.SetattrIn.{SetattrIn}
 use Rattle.fuse_request.specs.Opcodes.{in_profile}
-use Rattle.fuse_request.specs.Act.{Act, Lookup, Forget, Getattr, Setattr, Mknod, Mkdir, Unlink, Rmdir, Rename, OpenFile, Read, Write, Release, Init, OpenDir, ReadDir, ReleaseDir, Interrupt, Destroy, BatchForget, Rename2, Unsupported, Asked, opcode_of}
+use Rattle.fuse_request.specs.Act.{Act, Lookup, Forget, Getattr, Setattr, Mknod, Mkdir, Unlink, Rmdir, Rename, OpenFile, Read, Write, Release, Init, OpenDir}
+use Rattle.fuse_request.specs.Act.{ReadDir, ReleaseDir, Interrupt, Destroy, BatchForget, Rename2, Unsupported, Asked, opcode_of}
 
 -- fuse_setattr_in
 abbrev pub setattr_parts : SetattrIn → List Part
@@ -71,7 +72,17 @@ IsSpellable _ = Unit {0}
 abbrev pub header_parts : ℕ → ℕ → Asked → List Part
 header_parts len units r =
     head_parts
-    (record { len = len; opcode = opcode_of r.act; unique = r.header.unique; nodeid = r.header.nodeid; uid = r.header.uid; gid = r.header.gid; pid = r.header.pid; total_extlen = units; padding = 0 })
+    (record {
+      len = len;
+      opcode = opcode_of r.act;
+      unique = r.header.unique;
+      nodeid = r.header.nodeid;
+      uid = r.header.uid;
+      gid = r.header.gid;
+      pid = r.header.pid;
+      total_extlen = units;
+      padding = 0;
+    })
     (unused 2)
 
 -- the message is the header, the body and the extensions, one after the other

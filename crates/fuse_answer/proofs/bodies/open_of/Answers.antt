@@ -8,5 +8,10 @@ returns c =
     let z : ℤ = c.cast_signed.result in
     let bits : of_z w32 z ≡ c.u32_at-2.result = ap (of_z w32) c.cast_signed.ensures ∙ of_z-to_z w32 c.u32_at-2.result (omega arith) in
     let twice = of_z-to_z w32 (of_z w32 z) (omega (arith, bits)) in
-    let laid = c.layouts_stand.ensures.placed (open_parts (record { fh = c.u64_at.result; open_flags = c.u32_at.result; backing_id = to_z w32 (of_z w32 c.cast_signed.result) })) c.args.body.now (λ i. omega (arith, c.type_inv.body i)) (c.u64_at.ensures, (c.u32_at.ensures, (twice ∙ bits ∙ c.u32_at-2.ensures, c.if-body-ne-SIZE.false))) in
+    let laid = c.layouts_stand.ensures.placed (open_parts (record {
+      fh = c.u64_at.result;
+      open_flags = c.u32_at.result;
+      backing_id = to_z w32 (of_z w32 c.cast_signed.result);
+    })) c.args.body.now (λ i. omega (arith, c.type_inv.body i))
+    (c.u64_at.ensures, (c.u32_at.ensures, (twice ∙ bits ∙ c.u32_at-2.ensures, c.if-body-ne-SIZE.false))) in
     record { of_kind = refl; laid = laid; proper = search rules }

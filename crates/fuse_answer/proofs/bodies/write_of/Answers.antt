@@ -4,5 +4,6 @@ use Rattle.fuse_answer.proofs.bodies.write_of.Goals as goal
 
 pub returns : goal.returns
 returns c =
-    let laid = c.layouts_stand.ensures.placed (write_parts _) c.args.body.now (λ i. omega (arith, c.type_inv.body i)) (c.u32_at.ensures, c.if-body-ne-SIZE.false) in
+    let laid = c.layouts_stand.ensures.placed (write_parts _) c.args.body.now (λ i. omega (arith, c.type_inv.body i))
+    (c.u32_at.ensures, c.if-body-ne-SIZE.false) in
     record { of_kind = refl; laid = laid; proper = tt }

@@ -16,7 +16,8 @@ returns-then-packed_len-size-clause-longest c =
     let n = c.loop-taken.taken in
     let d = get_or ds n none in
     let long = length-map ds entry_of in
-    longest_before (map entry_of ds) c.args.size n c.loop-taken.body.items (entry_of d) (omega (arith, long, c.loop-taken-test.true)) (get_or-map entry_of ds n none (entry_of d) c.loop-taken-test.true)
+    longest_before (map entry_of ds) c.args.size n c.loop-taken.body.items (entry_of d) (omega (arith, long, c.loop-taken-test.true))
+    (get_or-map entry_of ds n none (entry_of d) c.loop-taken-test.true)
     c.loop-taken.invariant (omega (arith, c.if-packed_len-size.true, c.len.ensures, c.packed_len.ensures, c.loop-taken.body.ok))
 
 pub loop-taken-preserved : goal.loop-taken-preserved
@@ -26,6 +27,7 @@ loop-taken-preserved c =
     let d = get_or ds n none in
     let long = length-map ds entry_of in
     let named = All-get_or (λ d. IsNamed (entry_of d)) ds n none c.loop-taken-test.true c.requires.named in
-    filled_more c.layouts_stand.ensures (map entry_of ds) c.args.size n c.loop-taken.body.items c.put_dirent.new.out.items (entry_of d) (omega (arith, long, c.loop-taken-test.true))
+    filled_more c.layouts_stand.ensures (map entry_of ds) c.args.size n c.loop-taken.body.items c.put_dirent.new.out.items (entry_of d)
+    (omega (arith, long, c.loop-taken-test.true))
     (get_or-map entry_of ds n none (entry_of d) c.loop-taken-test.true) c.loop-taken.invariant named c.in_ok-put_dirent.ensures.fits
     (omega (arith, c.if-packed_len-size.false, c.len.ensures, c.packed_len.ensures, c.loop-taken.body.ok)) c.in_ok-put_dirent.ensures.ok

@@ -10,8 +10,14 @@ pub returns-then-errno-ne0-clause-found : goal.returns-then-errno-ne0-clause-fou
 returns-then-errno-ne0-clause-found c =
     let m = c.args.bytes.now in
     let rest : take (length m - 16) (drop 16 m) ≡ drop 16 m = take_all (length m - 16) (drop 16 m) (omega (arith, length-drop 16 m)) in
-    answered c.numbers_read.ensures c.args.opcode _ m (λ i. omega (arith, c.type_inv.bytes i)) c.if-bytes-lt-SIZE.false (sym c.u32_at.ensures ∙ c.if-u32_at-bytes.false) c.errno_at-errno.ensures
-    c.u64_at-unique.ensures (inr (c.if-errno-ne0.true, c.if-errno-gt-MAX_ERRNO.false, refl, nil_from_length (drop 16 m) (ap length (sym rest) ∙ eqb-true _ 0 (sym c.if-not-is_empty.ensures))))
+    answered c.numbers_read.ensures c.args.opcode _ m (λ i. omega (arith, c.type_inv.bytes i)) c.if-bytes-lt-SIZE.false
+    (sym c.u32_at.ensures ∙ c.if-u32_at-bytes.false) c.errno_at-errno.ensures
+    c.u64_at-unique.ensures (inr (
+      c.if-errno-ne0.true,
+      c.if-errno-gt-MAX_ERRNO.false,
+      refl,
+      nil_from_length (drop 16 m) (ap length (sym rest) ∙ eqb-true _ 0 (sym c.if-not-is_empty.ensures)),
+    ))
 
 pub returns-in_err-body-clause-fault : goal.returns-in_err-body-clause-fault
 returns-in_err-body-clause-fault c =
@@ -28,6 +34,7 @@ pub returns-clause-found : goal.returns-clause-found
 returns-clause-found c =
     let m = c.args.bytes.now in
     let rest : take (length m - 16) (drop 16 m) ≡ drop 16 m = take_all (length m - 16) (drop 16 m) (omega (arith, length-drop 16 m)) in
-    answered c.numbers_read.ensures c.args.opcode _ m (λ i. omega (arith, c.type_inv.bytes i)) c.if-bytes-lt-SIZE.false (sym c.u32_at.ensures ∙ c.if-u32_at-bytes.false)
+    answered c.numbers_read.ensures c.args.opcode _ m (λ i. omega (arith, c.type_inv.bytes i)) c.if-bytes-lt-SIZE.false
+    (sym c.u32_at.ensures ∙ c.if-u32_at-bytes.false)
     (sym c.if-errno-ne0.false ∙ c.errno_at-errno.ensures) c.u64_at-unique.ensures
     (inl (refl, subst (Holds (kind_of c.args.opcode) (content c.in_ok-body.body)) rest c.in_ok-body.ensures))

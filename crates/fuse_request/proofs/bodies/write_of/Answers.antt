@@ -6,5 +6,14 @@ pub returns : goal.returns
 returns c =
     let payload = c.split_at.result.1.now in
     let count = sym c.if-size-payload.false ∙ c.u32_at-size.ensures in
-    let laid = bytes_laid payload _ c.split_at.ensures.back in
-    (refl, tt, (c.u64_at-fh.ensures, (c.u64_at-offset.ensures, (count, (c.u32_at-write_flags.ensures, (c.u64_at-lock_owner.ensures, (c.u32_at-flags.ensures, (c.if-body-lt-WRITE_IN.false, laid))))))))
+    let laid = bytes_laid payload _ c.split_at.ensures.back in (
+      refl,
+      tt,
+      (
+        c.u64_at-fh.ensures,
+        (
+          c.u64_at-offset.ensures,
+          (count, (c.u32_at-write_flags.ensures, (c.u64_at-lock_owner.ensures, (c.u32_at-flags.ensures, (c.if-body-lt-WRITE_IN.false, laid))))),
+        ),
+      ),
+    )

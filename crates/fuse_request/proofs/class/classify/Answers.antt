@@ -12,7 +12,8 @@ returns-then-is_silent c =
 
 pub returns-in_default : goal.returns-in_default
 returns-in_default c =
-    let h = classed_fault (c.layouts_stand.ensures, c.names_end.ensures) c.args.message.now c.in_default.field-0 (sym (c.is_silent.ensures ∙ ap silent c.u32_at-opcode.ensures) ∙ c.if-is_silent.false) (sym c.in_default.ensures.fault) in
+    let h = classed_fault (c.layouts_stand.ensures, c.names_end.ensures) c.args.message.now c.in_default.field-0
+    (sym (c.is_silent.ensures ∙ ap silent c.u32_at-opcode.ensures) ∙ c.if-is_silent.false) (sym c.in_default.ensures.fault) in
     record { class = h.0; spells = h.1 }
 
 pub returns-then-not-is_in_profile : goal.returns-then-not-is_in_profile

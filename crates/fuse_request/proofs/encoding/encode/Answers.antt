@@ -19,11 +19,13 @@ returns-clause-too_long c = (λ is. absurd cc, λ long. absurd (omega (arith, lo
 pub returns-clause-spelled : goal.returns-clause-spelled
 returns-clause-spelled c =
     let v = asked c.args.request.now in
-    spelled_again c.layouts_stand.ensures v c.requires (well c.put_message.result (HasNumbers v) c.is_err.result c.put_message.ensures.fits c.is_err.ensures.value c.if-is_err.false)
+    spelled_again c.layouts_stand.ensures v c.requires (well c.put_message.result (HasNumbers v) c.is_err.result c.put_message.ensures.fits
+    c.is_err.ensures.value c.if-is_err.false)
 
 pub returns-clause-decoded : goal.returns-clause-decoded
 returns-clause-decoded c =
     let v = asked c.args.request.now in
-    let s = spelled_again c.layouts_stand.ensures v c.requires (well c.put_message.result (HasNumbers v) c.is_err.result c.put_message.ensures.fits c.is_err.ensures.value c.if-is_err.false) in
+    let s = spelled_again c.layouts_stand.ensures v c.requires (well c.put_message.result (HasNumbers v) c.is_err.result c.put_message.ensures.fits
+    c.is_err.ensures.value c.if-is_err.false) in
     let laws : Laws = (c.layouts_stand.ensures, c.names_end.ensures) in
     (no_fault laws v (canon v) s, is_at laws v (canon v) s)

@@ -16,5 +16,6 @@ returns-clause-steps c = entries_some _ _ c.in_ok-dirent.rest.now c.args.self.no
 pub returns-clause-goes : goal.returns-clause-goes
 unfolding entries_left
 returns-clause-goes c =
-    let some = entries_some (length c.args.self.now.rest.now) _ c.in_ok-dirent.rest.now c.args.self.now.rest.now (omega arith) (sym c.in_ok-dirent.ensures.front) in
+    let some = entries_some (length c.args.self.now.rest.now) _ c.in_ok-dirent.rest.now c.args.self.now.rest.now (omega arith)
+    (sym c.in_ok-dirent.ensures.front) in
     record { on = λ _. (tt, tt, omega (arith, ap length some)); keeps = tt; rests = λ _. tt }
