@@ -18,7 +18,7 @@ pub use laws::{
     rows_tell_state, tree_kept,
 };
 pub use limits::{
-    BLOCK_SIZE, COUNTER_END, MAX_FILE, MAX_HANDLES, MAX_NAME, MAX_NODES, MAX_READ, ROOT_ID,
+    BLOCK_SIZE, COUNTER_END, MAX_FILE, MAX_HANDLES, MAX_NODES, MAX_READ, ROOT_ID,
     SECTOR_SIZE, VALID_SECS,
 };
 pub use look::{Look, LookFault};

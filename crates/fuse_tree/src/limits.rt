@@ -13,9 +13,6 @@ pub const MAX_FILE: u64 = 16_777_216;
 /// The most bytes that READ and READDIR may ask for.
 pub const MAX_READ: u32 = 1_048_576;
 
-/// The most bytes of a name.
-pub const MAX_NAME: usize = 255;
-
 /// The number of the directory at the top of the tree: FUSE_ROOT_ID of `fuse.h`.
 pub const ROOT_ID: u64 = 1;
 

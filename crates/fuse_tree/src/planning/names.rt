@@ -1,7 +1,7 @@
 ghost use Rattle.std.specs.Prelude.{◌≡◌};
 ghost use Rattle.fuse_tree.specs.State.{name_fault};
 
-use crate::limits::MAX_NAME;
+use fuse_answer::MAX_NAME;
 use fuse_wire::Errno;
 
 // What is wrong with a name: it is too long, empty, or one that leads elsewhere.
