@@ -34,8 +34,6 @@ SINGLE_SIZES = [("fuse_wire/specs/Bounds.antt", "min_message_len", "fuse_in_head
 # The layouts: a file, a definition's left side up to `=`, its struct, and fields that are called otherwise there.
 LAYOUTS = [
     ("fuse_request/specs/Header.antt", "raw_parts h", "fuse_in_header", {}),
-    ("fuse_request/specs/Spelling.antt", "header_parts len units r", "fuse_in_header",
-     {"units": "total_extlen", "act": "opcode"}),
     ("fuse_request/specs/Spelling.antt", "setattr_parts x", "fuse_setattr_in", {}),
     ("fuse_request/specs/Spelling.antt", "open_parts flags open_flags", "fuse_open_in", {}),
     ("fuse_request/specs/Spelling.antt", "read_parts x", "fuse_read_in", {}),
@@ -72,7 +70,11 @@ INNER = {
     "attr_parts a.attr": ("attr_parts a", "attr."),
     "attr_parts e.attr": ("attr_parts a", "attr."),
     "flags2_parts x.flags2": ("flags2_parts (Some flags2)", ""),
+    "head_parts h (number 2 h.padding)": ("head_parts h padding", ""),
 }
+
+# A part that a definition is given, and what that is in the layout that is compared.
+GIVEN = {"padding": "number 2 h.padding"}
 
 
 class Found:
@@ -161,6 +163,7 @@ def parts_of(sides, left, others, under=""):
     """The parts of a layout up to its first text or payload: each one's width, and its field or None where it is unused."""
     pairs = []
     for part in map(str.strip, sides[left].split("∷")):
+        part = GIVEN.get(part, part)
         number = re.fullmatch(r"number (\d+) (.*)", part)
         unused = re.fullmatch(r"unused (\d+)", part)
         if number:
