@@ -23,6 +23,7 @@ pub mod Lists
 pub mod Making
 mod MakingAgrees
 mod MakingFits
+mod Modes
 mod Mounts
 pub mod MovedCounts
 pub mod MovedRows

@@ -1,5 +1,5 @@
 ghost use Rattle.std.specs.Prelude.{◌≡◌, None, OnErr};
-ghost use Rattle.fuse_tree.specs.Making as making;
+ghost use Rattle.fuse_tree.specs.State as state;
 ghost use Rattle.fuse_tree.specs.Making.{may_make, node_mode, node_rdev};
 ghost use Rattle.fuse_tree.specs.Plan.{look_fault};
 ghost use Rattle.fuse_tree.specs.PlanMaking as planning;
@@ -65,7 +65,7 @@ pub(crate) fn plan_mknod<L: Look>(
 
 // The bits that tell the type.
 fn type_bits(mode: u32) -> u32
-    ensures { result ≡ making.type_bits mode }
+    ensures { result ≡ state.type_bits mode }
 {
     mode / TYPE_UNIT % TYPES * TYPE_UNIT
 }
