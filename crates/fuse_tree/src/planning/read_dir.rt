@@ -18,7 +18,7 @@ use super::answers::{done_nothing, refused, unchanged};
 use super::attributes::is_directory;
 use super::fault::PlanFault;
 use super::finding::{find_node, is_open_at};
-use crate::limits::{MAX_NAME, MAX_READ, ROOT_ID};
+use crate::limits::{LEAST_ENTRY, MAX_NAME, MAX_READ, ROOT_ID};
 use crate::look::Look;
 use crate::mode::{S_IFDIR, TYPE_UNIT, TYPES};
 use crate::rows::{EntryRow, NodeRow, Planned};
@@ -26,9 +26,6 @@ use fuse_answer::{Answer, Dirent, PackFault, pack};
 use fuse_request::ReadIn;
 use fuse_wire::{Errno, Memory};
 use std::alloc::Global;
-
-/// The fewest bytes that an entry takes in a listing: those before its name, and a name of up to 8.
-pub const LEAST_ENTRY: u32 = 32;
 
 // READDIR of the directory of this row.
 pub(crate) fn plan_read_dir<L: Look>(
