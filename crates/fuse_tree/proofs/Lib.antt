@@ -1,6 +1,7 @@
 pub mod Agreeing
 mod Agreement
 pub mod Bounds
+mod BytesKept
 pub mod Changing
 mod Columns
 mod Cuts

@@ -3,6 +3,7 @@ ghost use Rattle.fuse_tree.specs.Renaming.{LiesInIsUnder};
 ghost use Rattle.fuse_tree.specs.Plan.{TreeKept, NewStoreIsTree, RowsTellState, AnswersFit};
 ghost use Rattle.fuse_tree.specs.Plan.{AnswersAreRead};
 ghost use Rattle.std.specs.Prelude.{◌≡◌};
+ghost use Rattle.fuse_tree.specs.Bytes.{BytesKept};
 ghost use Rattle.fuse_tree.specs.Bounds as bounds;
 ghost use Rattle.fuse_tree.specs.Modes as modes;
 
@@ -19,6 +20,11 @@ pub fn tree_kept()
 /// A new store is a tree.
 pub fn new_store_is_tree()
     ensures { NewStoreIsTree }
+{}
+
+/// Where requests bring bytes, contents are bytes and names are bytes other than NUL.
+pub fn bytes_kept()
+    ensures { BytesKept }
 {}
 
 /// The rows tell the whole state.

@@ -14,7 +14,7 @@ mod rename_mode;
 mod rows;
 
 pub use laws::{
-    answers_are_read, answers_fit, lies_in_is_under, limit_numbers, listing_is_longest,
+    answers_are_read, answers_fit, bytes_kept, lies_in_is_under, limit_numbers, listing_is_longest,
     mode_numbers, new_store_is_tree, rows_tell_state, tree_kept,
 };
 pub use limits::{

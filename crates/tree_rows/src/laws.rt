@@ -10,6 +10,7 @@ fn laws() {
     answers_are_read();
     listing_is_longest();
     lies_in_is_under();
+    bytes_kept();
     limit_numbers();
     mode_numbers();
     clearing();
