@@ -34,11 +34,11 @@ use Rattle.fuse_tree.specs.declared.rows.Full.{Full}
 use Rattle.fuse_tree.specs.declared.rows.HandleRow.{HandleRow}
 use Rattle.fuse_tree.specs.declared.rows.NodeRow.{NodeRow}
 use Rattle.fuse_tree.specs.declared.rows.Planned.{Planned}
-use Rattle.fuse_tree.specs.State.{State, Node, Tree, IsNode, IsEntry, IsHandle, is_open_at, is_dir, is_file, is_entry, name_fault, up_of}
+use Rattle.fuse_tree.specs.State.{State, Node, Tree, IsNode, IsEntry, IsHandle, is_open_at, is_dir, type_bits, is_file, is_entry, name_fault, up_of}
 use Rattle.fuse_tree.specs.Rows.{Rows, rows_of_state, full_of, full_at, row_at, entry_at, handle_at, row_is_named}
 use Rattle.fuse_tree.specs.Handles.{access_at, access_in, is_open}
 use Rattle.fuse_tree.specs.Do.{names_node, offer_of}
-use Rattle.fuse_tree.specs.Making.{is_full, begun, dir_mode, type_bits, may_make, node_mode, node_rdev}
+use Rattle.fuse_tree.specs.Making.{is_full, begun, dir_mode, may_make, node_mode, node_rdev}
 use Rattle.fuse_tree.specs.Setting.{has, size_fault, set_fault}
 use Rattle.fuse_tree.specs.Writing.{may_write, may_read}
 use Rattle.fuse_tree.specs.Removing.{has_entries}

@@ -25,11 +25,11 @@ use Rattle.fuse_tree.specs.declared.rows.Change.TheVariants as changes
 use Rattle.fuse_tree.specs.declared.rows.Counters.{Counters as CountersRow}
 use Rattle.fuse_tree.specs.declared.rows.NodeRow.{NodeRow}
 use Rattle.fuse_tree.specs.declared.rows.Planned.{Planned}
-use Rattle.fuse_tree.specs.State.{is_dir, is_file, name_fault}
+use Rattle.fuse_tree.specs.State.{is_dir, type_bits, is_file, name_fault}
 use Rattle.fuse_tree.specs.Rows.{Rows, row_at, entry_at, row_is_named}
 use Rattle.fuse_tree.specs.Handles.{access_at, is_open}
 use Rattle.fuse_tree.specs.Do.{names_node, offer_of}
-use Rattle.fuse_tree.specs.Making.{is_full, begun, dir_mode, type_bits, may_make, node_mode, node_rdev}
+use Rattle.fuse_tree.specs.Making.{is_full, begun, dir_mode, may_make, node_mode, node_rdev}
 use Rattle.fuse_tree.specs.Setting.{has, set_fault}
 use Rattle.fuse_tree.specs.Writing.{may_write, may_read}
 use Rattle.fuse_tree.specs.Removing.{has_entries}

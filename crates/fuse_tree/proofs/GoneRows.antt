@@ -83,7 +83,7 @@ marked_same k now n = record { number = refl; kind = refl }
 
 pub tree_marked : (s : State) (k : ℕ) (now : Moment) → Tree s → Tree (mark k now s)
 tree_marked s k now tree =
-    tree_mapped s (marked k now) (marked_same k now) (all_more (IsNode s.next_node) (λ n. IsNode s.next_node (marked k now n)) s.nodes (λ n p. record { from_one = p.from_one; below = p.below; content = p.content; size = p.size }) tree.nodes) tree
+    tree_mapped s (marked k now) (marked_same k now) (all_more (IsNode s.next_node) (λ n. IsNode s.next_node (marked k now n)) s.nodes (λ n p. record { from_one = p.from_one; below = p.below; mode = p.mode; content = p.content; size = p.size }) tree.nodes) tree
 
 -- ---- the entry e of directory d leads to node c, in which no entry stands
 

@@ -1,6 +1,7 @@
 pub mod Agreeing
 mod Agreement
 pub mod Bounds
+mod BytesKept
 pub mod Changing
 mod Columns
 mod Cuts
@@ -23,6 +24,7 @@ pub mod Lists
 pub mod Making
 mod MakingAgrees
 mod MakingFits
+mod Modes
 mod Mounts
 pub mod MovedCounts
 pub mod MovedRows

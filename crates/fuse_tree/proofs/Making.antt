@@ -8,7 +8,7 @@ use Rattle.fuse_wire.specs.declared.moment.Moment.{Moment}
 use Rattle.fuse_tree.specs.Bounds.{node_limit}
 use Rattle.fuse_tree.specs.declared.new_node.NewNode.{NewNode}
 use Rattle.fuse_tree.specs.declared.rows.Full.{Full}
-use Rattle.fuse_tree.specs.State.{State, Node, Tree, IsNode, is_dir, is_dir_of, node_at, is_named, name_fault, subdirs_of}
+use Rattle.fuse_tree.specs.State.{State, Node, Tree, HasMode, IsNode, is_dir, is_dir_of, node_at, is_named, name_fault, subdirs_of}
 use Rattle.fuse_tree.specs.Rows.{full_of, counters_of, rows_of_state, row_of, entry_at, put_node, apply}
 use Rattle.fuse_tree.specs.Done.{touched, touch}
 use Rattle.fuse_tree.specs.Making.{new_node, new_entry, with_node, is_full}
@@ -24,7 +24,7 @@ touched_same dir now n = record { number = refl; kind = refl }
 
 pub tree_touched : (s : State) (dir : ℕ) (now : Moment) → Tree s → Tree (touch dir now s)
 tree_touched s dir now tree =
-    tree_mapped s (touched dir now) (touched_same dir now) (all_more (IsNode s.next_node) (λ n. IsNode s.next_node (touched dir now n)) s.nodes (λ n p. record { from_one = p.from_one; below = p.below; content = p.content; size = p.size }) tree.nodes) tree
+    tree_mapped s (touched dir now) (touched_same dir now) (all_more (IsNode s.next_node) (λ n. IsNode s.next_node (touched dir now n)) s.nodes (λ n p. record { from_one = p.from_one; below = p.below; mode = p.mode; content = p.content; size = p.size }) tree.nodes) tree
 
 pub twice : (f : Node → Node) (g : Node → Full) (ns : List Node) → map g (map f ns) ≡ map (λ n. g (f n)) ns
 twice f g [] = refl
@@ -82,11 +82,13 @@ module _ (s : State) (fresh : NewNode) (name : List ℕ) (d : Node) (tree : Tree
       ∙ ap (λ (n : ℕ). record (rows_of_state after) { counters = record (counters_of after) { nodes = n } }) count
 
   -- the tree goes on
-  pub make_tree : is_dir d.mode ≡ true → name_fault name ≡ None → is_named s d.number ≡ true → entry_at s.entries d.number name ≡ None → is_full (length s.nodes) s.next_node s.next_cookie ≡ false → Tree after
-  make_tree dir name_ok named free room =
+  pub make_tree : is_dir d.mode ≡ true → name_fault name ≡ None → is_named s d.number ≡ true → entry_at s.entries d.number name ≡ None → is_full (length s.nodes) s.next_node s.next_cookie ≡ false
+      → HasMode fresh.mode fresh.rdev → Tree after
+  make_tree dir name_ok named free room mode =
       let few : nat_le node_limit (length s.nodes) ≡ false = (or_false _ _ (or_false _ _ room).0).0 in
       tree_grown (touch d.number fresh.made s) (new_node s fresh) (new_entry s d.number name) (record {
         number = refl;
+        mode = mode;
         empty = refl;
         child = refl;
         cookie = refl;

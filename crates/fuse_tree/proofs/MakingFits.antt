@@ -5,10 +5,10 @@ use Rattle.fuse_request.specs.declared.request.InHeader.{InHeader}
 use Rattle.fuse_answer.specs.Laws.{ReadBack, RecordSizes}
 use Rattle.fuse_answer.specs.Replies.{AnEntry}
 use Rattle.fuse_tree.specs.declared.new_node.NewNode.{NewNode}
-use Rattle.fuse_tree.specs.State.{State, Node, is_dir, is_named, name_fault}
+use Rattle.fuse_tree.specs.State.{State, Node, is_dir, type_bits, is_named, name_fault}
 use Rattle.fuse_tree.specs.Rows.{entry_at}
 use Rattle.fuse_tree.specs.Done.{attr_of, entry_of}
-use Rattle.fuse_tree.specs.Making.{new_node, with_node, begun, is_full, make, dir_mode, mkdir, type_bits, may_make, node_mode, node_rdev, mknod}
+use Rattle.fuse_tree.specs.Making.{new_node, with_node, begun, is_full, make, dir_mode, mkdir, may_make, node_mode, node_rdev, mknod}
 use Rattle.fuse_tree.proofs.Fit.{Fits, refused, answered, chosen, refused_for, Reads, refused_reads, answered_reads, chosen_reads, refused_name_reads}
 
 pub make_fits : RecordSizes → (s : State) (fresh : NewNode) (name : List ℕ) (n : Node) → Fits (make s fresh name n)

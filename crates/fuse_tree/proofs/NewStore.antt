@@ -6,7 +6,7 @@ use Rattle.fuse_tree.specs.State.{Tree, new_store}
 pub new_tree : (now : Moment) → Tree (new_store now)
 new_tree now = record {
   root = refl;
-  nodes = (record { from_one = omega arith; below = omega arith; content = λ _. refl; size = omega arith }, tt);
+  nodes = (record { from_one = omega arith; below = omega arith; mode = record { typed = refl; no_more = omega arith; no_device = λ _. refl }; content = λ _. refl; size = omega arith }, tt);
   nodes_rise = (tt, tt);
   entries = tt;
   entries_apart = tt;

@@ -1,8 +1,7 @@
 -- The plan of SETATTR agrees with what is done.
-use Rattle.std.proofs.Common.{◌≡◌, ◌≤◌, ◌<◌, ◌+◌, ◌*◌, ◌/◌, ◌%◌, ◌==◌, ℕ, Bool, true, false, cond, eqb, not, List, [], ◌∷◌, length, map, Some, None, refl, sym, ap, ◌∙◌, arith}
+use Rattle.std.proofs.Common.{◌≡◌, ◌≤◌, ◌==◌, ℕ, Bool, true, false, cond, eqb, not, List, [], ◌∷◌, length, map, Some, None, refl, sym, ap, ◌∙◌, arith}
 use Rattle.std.specs.Prelude.{nat_lt}
 use Rattle.std.proofs.lemmas.Bool.{ltb-false}
-use Rattle.std.proofs.lemmas.Nat.{div-mul-add}
 use Rattle.fuse_wire.specs.Errnos.{eisdir, einval, efbig}
 use Rattle.fuse_wire.specs.declared.moment.Moment.{Moment}
 use Rattle.fuse_wire.specs.Bits.{fattr_mode, fattr_size}
@@ -17,16 +16,11 @@ use Rattle.fuse_tree.specs.Reading.{attr_body}
 use Rattle.fuse_tree.proofs.Lists.{found}
 use Rattle.fuse_tree.proofs.Agreement.{Agrees, both_for}
 use Rattle.fuse_tree.proofs.Lengths.{length_sized}
+use Rattle.fuse_tree.proofs.Modes.{kind_stays, mode_stays}
 use Rattle.fuse_tree.proofs.Trees.{SamePlace}
 use Rattle.fuse_tree.proofs.Changing.{full_then, changed_rows, changed_tree}
 
 -- ---- the node after it
-
-kind_stays : (mode new : ℕ) (b : Bool) → type_of (cond b (mode / 4096 * 4096 + new % 4096) mode) ≡ type_of mode
-kind_stays mode new true =
-    let low : new % 4096 < 4096 = omega arith in
-    ap (λ (k : ℕ). k % 16) (div-mul-add (mode / 4096) 4096 (new % 4096) low)
-kind_stays mode new false = refl
 
 same_kind : (set : SetattrIn) (mode : ℕ) → type_of (mode_after set mode) ≡ type_of mode
 same_kind set mode = kind_stays mode set.mode (has set fattr_mode)
@@ -55,7 +49,7 @@ set_is_node : (next : ℕ) (set : SetattrIn) (now : Moment) (d : Node) → set_f
 set_is_node next set now d e p =
     let q = content_then d.mode set.size d.content (has set fattr_size) e (record { content = p.content; size = p.size }) in
     let kind : is_file (mode_after set d.mode) ≡ is_file d.mode = ap (λ (k : ℕ). k == 8) (same_kind set d.mode) in
-    record { from_one = p.from_one; below = p.below; content = λ isnt. q.content (sym kind ∙ isnt); size = q.size }
+    record { from_one = p.from_one; below = p.below; mode = mode_stays d.mode d.rdev set.mode (has set fattr_mode) p.mode; content = λ isnt. q.content (sym kind ∙ isnt); size = q.size }
 
 -- ---- its rows
 

@@ -6,7 +6,7 @@ use Rattle.std.proofs.lemmas.List.{length-append, length-map}
 use Rattle.fuse_tree.specs.Bounds.{node_limit, number_end}
 use Rattle.fuse_tree.specs.declared.rows.EntryRow.{EntryRow}
 use Rattle.fuse_tree.specs.declared.rows.HandleRow.{HandleRow}
-use Rattle.fuse_tree.specs.State.{State, Node, Tree, IsNode, IsEntry, IsHandle, AreApart, Reaches, type_of, is_dir_of, has_number, is_open_at, is_entry, name_fault, up_of, is_named}
+use Rattle.fuse_tree.specs.State.{State, Node, Tree, HasMode, IsNode, IsEntry, IsHandle, AreApart, Reaches, type_of, is_dir_of, has_number, is_open_at, is_entry, name_fault, up_of, is_named}
 use Rattle.fuse_tree.specs.Rows.{entry_at}
 use Rattle.fuse_tree.specs.Making.{grow}
 use Rattle.fuse_tree.proofs.Lists.{all_more, all_both, all_grown, all_mapped, apart_grown, apart_mapped, any_mapped, any_grown, any_last, any_gives, and_true, none_found}
@@ -97,6 +97,7 @@ tree_mapped s f same ok tree =
 
 pub record Fits (s : State) (n : Node) (e : EntryRow) : Type 0 where
   pub number : n.number ≡ s.next_node
+  pub mode : HasMode n.mode n.rdev
   pub empty : n.content ≡ []
   pub child : e.child ≡ s.next_node
   pub cookie : e.cookie ≡ s.next_cookie
@@ -137,8 +138,8 @@ tree_grown s n e fits tree =
     record {
       root = any_grown (is_dir_of 1) s.nodes n tree.root;
       nodes = all_grown (IsNode (s.next_node + 1)) s.nodes n
-          (all_more (IsNode s.next_node) (IsNode (s.next_node + 1)) s.nodes (λ m p. let lt : m.number < s.next_node = p.below in record { from_one = p.from_one; below = omega arith; content = p.content; size = p.size }) tree.nodes)
-          (record { from_one = omega arith; below = omega arith; content = λ _. fits.empty; size = rw fits.empty (omega arith) });
+          (all_more (IsNode s.next_node) (IsNode (s.next_node + 1)) s.nodes (λ m p. let lt : m.number < s.next_node = p.below in record { from_one = p.from_one; below = omega arith; mode = p.mode; content = p.content; size = p.size }) tree.nodes)
+          (record { from_one = omega arith; below = omega arith; mode = fits.mode; content = λ _. fits.empty; size = rw fits.empty (omega arith) });
       nodes_rise = apart_grown (λ a b. a.number < b.number) s.nodes n tree.nodes_rise (all_more (IsNode s.next_node) (λ m. m.number < n.number) s.nodes (λ m p. let lt : m.number < s.next_node = p.below in omega arith) tree.nodes);
       entries = all_grown (IsEntry (s.nodes ++ n ∷ []) (s.entries ++ e ∷ []) (s.next_cookie + 1)) s.entries e
           (all_more (IsEntry s.nodes s.entries s.next_cookie) (IsEntry (s.nodes ++ n ∷ []) (s.entries ++ e ∷ []) (s.next_cookie + 1)) s.entries old tree.entries) new;

@@ -60,7 +60,7 @@ wrote_same offset payload now n = record { number = refl; kind = refl }
 wrote_is_node : (next offset : ℕ) (payload : List ℕ) (now : Moment) (d : Node) → is_file d.mode ≡ true → offset + length payload ≤ 16777216 → IsNode next d → IsNode next (wrote offset payload now d)
 wrote_is_node next offset payload now d file low p =
     let size : length d.content ≤ 16777216 = p.size in
-    record { from_one = p.from_one; below = p.below; content = λ isnt. absurd cc; size = omega (arith, length_written offset payload d.content) }
+    record { from_one = p.from_one; below = p.below; mode = p.mode; content = λ isnt. absurd cc; size = omega (arith, length_written offset payload d.content) }
 
 -- in the node d
 module _ (s : State) (offset : ℕ) (payload : List ℕ) (now : Moment) (d : Node) (tree : Tree s) (e : node_at s d.number ≡ Some d) where

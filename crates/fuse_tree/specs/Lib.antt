@@ -30,4 +30,5 @@ pub mod PlanOpening
 pub mod PlanListing
 pub mod PlanRenaming
 pub mod Planning
+pub mod Bytes
 pub mod Vectors

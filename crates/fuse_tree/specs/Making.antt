@@ -1,5 +1,5 @@
 -- What MKNOD and MKDIR do (own profile): a new node and its entry.
-use Rattle.std.specs.Prelude.{◌+◌, ◌*◌, ◌%◌, ◌==◌, ◌||◌, ℕ, Bool, not, nat_le, if◌then◌else◌, List, [], ◌∷◌, ◌++◌, length, is_some}
+use Rattle.std.specs.Prelude.{◌+◌, ◌%◌, ◌==◌, ◌||◌, ℕ, Bool, not, nat_le, if◌then◌else◌, List, [], ◌∷◌, ◌++◌, length, is_some}
 use Rattle.fuse_wire.specs.Errnos.{enoent, eexist, enotdir, einval, enospc}
 use Rattle.fuse_wire.specs.declared.moment.Moment.{Moment}
 use Rattle.fuse_request.specs.declared.request.InHeader.{InHeader}
@@ -8,7 +8,7 @@ use Rattle.fuse_tree.specs.Bounds.{node_limit, number_end}
 use Rattle.fuse_tree.specs.Modes.{s_ifblk, s_ifchr, s_ifdir, s_ififo, s_ifreg, s_ifsock, type_unit}
 use Rattle.fuse_tree.specs.declared.new_node.NewNode.{NewNode}
 use Rattle.fuse_tree.specs.declared.rows.EntryRow.{EntryRow}
-use Rattle.fuse_tree.specs.State.{State, Node, type_of, is_dir, is_named, name_fault}
+use Rattle.fuse_tree.specs.State.{State, Node, is_dir, type_bits, is_device, is_named, name_fault}
 use Rattle.fuse_tree.specs.Rows.{entry_at}
 use Rattle.fuse_tree.specs.Done.{Done, refuse, refuse_for, answer, attr_of, entry_of, touch}
 
@@ -75,16 +75,9 @@ mkdir s header mode name now n =
 
 -- ---- MKNOD
 
--- the bits of a mode that tell its type
-abbrev pub type_bits : ℕ → ℕ
-type_bits mode = type_of mode * type_unit
-
 -- these bits are of a type that MKNOD makes; 0 stands for a regular file
 abbrev pub may_make : ℕ → Bool
 may_make bits = (bits == 0) || (bits == s_ifreg) || (bits == s_ifchr) || (bits == s_ifblk) || (bits == s_ififo) || (bits == s_ifsock)
-
-abbrev pub is_device : ℕ → Bool
-is_device bits = (bits == s_ifchr) || (bits == s_ifblk)
 
 -- the mode of a new node: its type, and the permissions asked for
 abbrev pub node_mode : ℕ → ℕ

@@ -11,9 +11,9 @@ use Rattle.fuse_tree.specs.declared.rows.Counters.{Counters as CountersRow}
 use Rattle.fuse_tree.specs.declared.rows.Change.{Change}
 use Rattle.fuse_tree.specs.declared.rows.Change.TheVariants as changes
 use Rattle.fuse_tree.specs.declared.rows.Planned.{Planned}
-use Rattle.fuse_tree.specs.State.{is_dir, name_fault}
+use Rattle.fuse_tree.specs.State.{is_dir, type_bits, name_fault}
 use Rattle.fuse_tree.specs.Rows.{Rows, entry_at, row_is_named}
-use Rattle.fuse_tree.specs.Making.{is_full, begun, dir_mode, type_bits, may_make, node_mode, node_rdev}
+use Rattle.fuse_tree.specs.Making.{is_full, begun, dir_mode, may_make, node_mode, node_rdev}
 use Rattle.fuse_tree.specs.Reading.{refused, refused_for, entry_body}
 
 -- ---- a new node

@@ -1,10 +1,11 @@
 -- What the parts of `plan` read off the rows (own profile): what the plans of the operations share.
 -- Not part of what is trusted: neither `done` nor the public clauses of `plan` speak of it.
-use Rattle.std.specs.Prelude.{◌≡◌, ◌≤◌, ◌+◌, ◌-◌, ◌/◌, ℕ, not, if◌then◌else◌, List, [], Option, Some, None, Result, IfOk, IfErr, ◌≢◌}
+use Rattle.std.specs.Prelude.{◌≡◌, ◌≤◌, ◌+◌, ◌-◌, ◌/◌, ℕ, not, if◌then◌else◌, List, [], Option, Some, None, Result, IfOk, IfErr, OnErr, ◌≢◌}
 use Rattle.fuse_wire.specs.declared.errno.Errno.{Errno}
 use Rattle.fuse_answer.specs.Bodies.{entry_bytes, attr_out_bytes}
 use Rattle.fuse_answer.specs.declared.records.Attr.{Attr}
 use Rattle.fuse_tree.specs.Bounds.{node_limit, file_limit, block_bytes, sector_bytes}
+use Rattle.fuse_tree.specs.declared.look.LookFault.{LookFault}
 use Rattle.fuse_tree.specs.declared.planning.fault.PlanFault.{PlanFault}
 use Rattle.fuse_tree.specs.declared.planning.fault.PlanFault.TheVariants as faults
 use Rattle.fuse_tree.specs.declared.rows.NodeRow.{NodeRow}
@@ -24,6 +25,20 @@ Tells result told = IfOk result (λ x. x ≡ told) × IfErr result (λ fault. fa
 -- where no look failed and nothing wrong was taken, over the rows of a tree it is what is read off them
 abbrev pub Reads : {X : Type 0} → Type 0 → (Rows → Type 0) → Result X PlanFault → (Rows → X) → Type 0
 Reads clean sees result told = look_fault result ≡ None → clean → (rows : Rows) → IsRowed rows → sees rows → Tells result (told rows)
+
+-- between the two lie looks alone, of which none failed but where its fault is answered
+pub record Looked {S X : Type 0} (fault_of : S → Option LookFault) (looking failing : S → S → Type 0) (old new : S) (result : Result X PlanFault) : Type 0 where
+  pub fault : fault_of new ≡ look_fault result
+  pub looks : look_fault result ≡ None → looking old new
+  pub fails : OnErr result (failing old new)
+
+-- what is looked up in the old is told by the result, and the new is what it is then
+pub record LooksUp {S X : Type 0} (clean : S → Type 0) (sees : S → Rows → Type 0) (fault_of : S → Option LookFault) (looking failing : S → S → Type 0) (old new : S)
+    (result : Result X PlanFault) (told : Rows → X) : Type 0 where
+  pub reads : Reads (clean new) (sees old) result told
+  pub fault : fault_of new ≡ look_fault result
+  pub looks : look_fault result ≡ None → looking old new
+  pub fails : OnErr result (failing old new)
 
 -- a row within the bounds of each tree
 pub record IsWithin (row : NodeRow) : Type 0 where

@@ -1,6 +1,6 @@
 -- A tree of files, and what is true of each (own profile). Numbers are given out in rising order, so each
 -- list stands in the order of its numbers: a list with rising numbers is a finite map.
-use Rattle.std.specs.Prelude.{◌≡◌, ◌≢◌, ◌<◌, ◌≤◌, ◌+◌, ◌/◌, ◌%◌, ◌==◌, ◌&&◌, ◌||◌, ℕ, zero, suc, Bool, true, false, not, nat_eq, nat_lt, if◌then◌else◌, List, [], ◌∷◌, length, find, filter, Option, Some, None, codes}
+use Rattle.std.specs.Prelude.{◌≡◌, ◌≢◌, ◌<◌, ◌≤◌, ◌+◌, ◌*◌, ◌/◌, ◌%◌, ◌^◌, ◌==◌, ◌&&◌, ◌||◌, ℕ, zero, suc, Bool, true, false, not, nat_eq, nat_lt, if◌then◌else◌, List, [], ◌∷◌, length, find, filter, Option, Some, None, codes}
 use Rattle.std.specs.List.{AllByRecursion, list_any}
 use Rattle.std.specs.Cmp.Lexicographic.{pointwise}
 use Rattle.fuse_wire.specs.declared.access_mode.AccessMode.{AccessMode}
@@ -10,7 +10,7 @@ use Rattle.fuse_wire.specs.Errnos.{einval, enametoolong}
 use Rattle.fuse_wire.specs.declared.moment.Moment.{Moment}
 use Rattle.fuse_init.specs.declared.settings.Settings.{Settings}
 use Rattle.fuse_tree.specs.Bounds.{node_limit, handle_limit, number_end, file_limit, name_limit, fuse_root_id}
-use Rattle.fuse_tree.specs.Modes.{s_ifdir, s_ifreg, type_unit, type_count}
+use Rattle.fuse_tree.specs.Modes.{s_ifblk, s_ifchr, s_ifdir, s_ififo, s_ifreg, s_ifsock, type_unit, type_count}
 use Rattle.fuse_tree.specs.declared.rows.EntryRow.{EntryRow}
 use Rattle.fuse_tree.specs.declared.rows.HandleRow.{HandleRow}
 
@@ -55,6 +55,18 @@ is_dir mode = type_of mode == s_ifdir / type_unit
 
 abbrev pub is_file : ℕ → Bool
 is_file mode = type_of mode == s_ifreg / type_unit
+
+-- the bits of a mode that tell its type
+abbrev pub type_bits : ℕ → ℕ
+type_bits mode = type_of mode * type_unit
+
+-- these bits are of a type that a node may have
+abbrev pub is_type : ℕ → Bool
+is_type bits =
+    (bits == s_ifdir) || (bits == s_ifreg) || (bits == s_ifchr) || (bits == s_ifblk) || (bits == s_ififo) || (bits == s_ifsock)
+
+abbrev pub is_device : ℕ → Bool
+is_device bits = (bits == s_ifchr) || (bits == s_ifblk)
 
 -- the node of this number
 abbrev pub node_at : State → ℕ → Option Node
@@ -132,10 +144,17 @@ above entries (suc steps) number = above entries steps (up_of entries number)
 abbrev pub Reaches : List EntryRow → ℕ → Type 0
 Reaches entries number = (steps : ℕ) × (above entries steps number ≡ fuse_root_id)
 
--- a node's number is given out, and only regular files have content
+-- a mode tells a type and permissions, and nothing more; only devices have the number of one
+pub record HasMode (mode rdev : ℕ) : Type 0 where
+  pub typed : is_type (type_bits mode) ≡ true
+  pub no_more : mode < 2 ^ 16
+  pub no_device : is_device (type_bits mode) ≡ false → rdev ≡ 0
+
+-- a node's number is given out, its mode is one, and only regular files have content
 pub record IsNode (next_node : ℕ) (n : Node) : Type 0 where
   pub from_one : 1 ≤ n.number
   pub below : n.number < next_node
+  pub mode : HasMode n.mode n.rdev
   pub content : is_file n.mode ≡ false → n.content ≡ []
   pub size : length n.content ≤ file_limit
 

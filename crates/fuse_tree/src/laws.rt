@@ -2,7 +2,14 @@ ghost use Rattle.fuse_tree.specs.Listing.{ListingIsLongest};
 ghost use Rattle.fuse_tree.specs.Renaming.{LiesInIsUnder};
 ghost use Rattle.fuse_tree.specs.Plan.{TreeKept, NewStoreIsTree, RowsTellState, AnswersFit};
 ghost use Rattle.fuse_tree.specs.Plan.{AnswersAreRead};
+ghost use Rattle.std.specs.Prelude.{◌≡◌};
+ghost use Rattle.fuse_tree.specs.Bytes.{BytesKept};
+ghost use Rattle.fuse_tree.specs.Bounds as bounds;
+ghost use Rattle.fuse_tree.specs.Modes as modes;
 
+use crate::limits::*;
+use crate::mode::*;
+use crate::rename_mode::{RENAME_EXCHANGE, RENAME_NOREPLACE};
 use fuse_answer::{read_back, record_sizes};
 
 /// What is done in a tree leaves a tree.
@@ -13,6 +20,11 @@ pub fn tree_kept()
 /// A new store is a tree.
 pub fn new_store_is_tree()
     ensures { NewStoreIsTree }
+{}
+
+/// Where requests bring bytes, contents are bytes and names are bytes other than NUL.
+pub fn bytes_kept()
+    ensures { BytesKept }
 {}
 
 /// The rows tell the whole state.
@@ -43,4 +55,32 @@ pub fn listing_is_longest()
 /// What lies under a directory is told by as many steps up as there are nodes.
 pub fn lies_in_is_under()
     ensures { LiesInIsUnder }
+{}
+
+/// The limits are those of the definitions, which state them as numbers.
+pub fn limit_numbers()
+    ensures nodes { MAX_NODES ≡ bounds.node_limit }
+    ensures handles { MAX_HANDLES ≡ bounds.handle_limit }
+    ensures counters { COUNTER_END ≡ bounds.number_end }
+    ensures file { MAX_FILE ≡ bounds.file_limit }
+    ensures read { MAX_READ ≡ bounds.read_limit }
+    ensures root { ROOT_ID ≡ bounds.fuse_root_id }
+    ensures block { BLOCK_SIZE ≡ bounds.block_bytes }
+    ensures sector { SECTOR_SIZE ≡ bounds.sector_bytes }
+    ensures valid { VALID_SECS ≡ bounds.valid_seconds }
+    ensures entry { LEAST_ENTRY ≡ bounds.least_entry }
+{}
+
+/// The types of modes and the flags of RENAME2 are those of Linux, as the definitions state them.
+pub fn mode_numbers()
+    ensures directory { S_IFDIR ≡ modes.s_ifdir }
+    ensures regular { S_IFREG ≡ modes.s_ifreg }
+    ensures character { S_IFCHR ≡ modes.s_ifchr }
+    ensures block { S_IFBLK ≡ modes.s_ifblk }
+    ensures fifo { S_IFIFO ≡ modes.s_ififo }
+    ensures socket { S_IFSOCK ≡ modes.s_ifsock }
+    ensures unit { TYPE_UNIT ≡ modes.type_unit }
+    ensures types { TYPES ≡ modes.type_count }
+    ensures no_replace { RENAME_NOREPLACE ≡ modes.rename_noreplace }
+    ensures exchange { RENAME_EXCHANGE ≡ modes.rename_exchange }
 {}

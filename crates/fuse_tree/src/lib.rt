@@ -14,8 +14,8 @@ mod rename_mode;
 mod rows;
 
 pub use laws::{
-    answers_are_read, answers_fit, lies_in_is_under, listing_is_longest, new_store_is_tree,
-    rows_tell_state, tree_kept,
+    answers_are_read, answers_fit, bytes_kept, lies_in_is_under, limit_numbers, listing_is_longest,
+    mode_numbers, new_store_is_tree, rows_tell_state, tree_kept,
 };
 pub use limits::{
     BLOCK_SIZE, COUNTER_END, MAX_FILE, MAX_HANDLES, MAX_NODES, MAX_READ, ROOT_ID,
@@ -28,6 +28,3 @@ pub use pieces::{Piece, Pieces};
 pub use plain::PlainRows;
 pub use planning::{PlanFault, plan};
 pub use rows::{Change, ChangeList, Counters, EntryRow, Full, HandleRow, NodeRow, Planned};
-
-#[cfg(test)]
-mod tests;

@@ -13,6 +13,9 @@ pub const MAX_FILE: u64 = 16_777_216;
 /// The most bytes that READ and READDIR may ask for.
 pub const MAX_READ: u32 = 1_048_576;
 
+/// The fewest bytes that an entry takes in a listing: those before its name, and a name of up to 8.
+pub const LEAST_ENTRY: u32 = 32;
+
 /// The number of the directory at the top of the tree: FUSE_ROOT_ID of `fuse.h`.
 pub const ROOT_ID: u64 = 1;
 

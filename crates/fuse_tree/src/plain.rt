@@ -305,6 +305,3 @@ impl Look for PlainRows {
 
     ghost kept = { λ a b p clean rows e. sym p ∙ e };
 }
-
-#[cfg(test)]
-mod tests;

@@ -5,7 +5,7 @@ ghost use Rattle.fuse_tree.specs.State.{State, Tree};
 ghost use Rattle.fuse_tree.specs.Rows.{rowed};
 ghost use Rattle.fuse_tree.specs.Do.{done};
 ghost use Rattle.fuse_tree.specs.Plan.{Meets, look_fault};
-ghost use Rattle.fuse_tree.specs.Reading.{IsWithin, Reads};
+ghost use Rattle.fuse_tree.specs.Reading.{IsWithin, LooksUp};
 ghost use Rattle.fuse_tree.specs.Planning.{tells_name, plan_act, plan_agreed as planned_agreed};
 ghost use Rattle.fuse_tree.specs.Planning.{plan_of};
 
@@ -95,11 +95,8 @@ fn plan_request<L: Look>(
     now: Moment,
 ) -> Result<Planned, PlanFault>
     requires { L.fault look.old ≡ None }
-    ensures plan { Reads (L.is_clean look.new) (L.sees look.old) result
+    ensures { LooksUp L.is_clean L.sees L.fault L.looks L.fails look.old look.new result
         (plan_of (asked request.now) now) }
-    ensures fault { L.fault look.new ≡ look_fault result }
-    ensures looks { look_fault result ≡ None → L.looks look.old look.new }
-    ensures fails { OnErr result (L.fails look.old look.new) }
 {
     if let Op::Init(offer) = &request.op {
         return Ok(plan_init(alloc, offer)?);
@@ -118,11 +115,8 @@ fn plan_agreed<L: Look>(
     now: Moment,
 ) -> Result<Planned, PlanFault>
     requires { L.fault look.old ≡ None }
-    ensures plan { Reads (L.is_clean look.new) (L.sees look.old) result
+    ensures { LooksUp L.is_clean L.sees L.fault L.looks L.fails look.old look.new result
         (planned_agreed (asked request.now) now) }
-    ensures fault { L.fault look.new ≡ look_fault result }
-    ensures looks { look_fault result ≡ None → L.looks look.old look.new }
-    ensures fails { OnErr result (L.fails look.old look.new) }
 {
     if let Op::Destroy = request.op {
         return Ok(done_nothing(alloc));
@@ -143,11 +137,8 @@ fn plan_op<L: Look>(
 ) -> Result<Planned, PlanFault>
     requires fault { L.fault look.old ≡ None }
     requires within { IsWithin row.now }
-    ensures plan { Reads (L.is_clean look.new) (L.sees look.old) result
+    ensures { LooksUp L.is_clean L.sees L.fault L.looks L.fails look.old look.new result
         (plan_act request.now.header (act request.now.op) now row.now) }
-    ensures fault { L.fault look.new ≡ look_fault result }
-    ensures looks { look_fault result ≡ None → L.looks look.old look.new }
-    ensures fails { OnErr result (L.fails look.old look.new) }
 {
     match &request.op {
         Op::Getattr { .. } => Ok(plan_getattr(alloc, row)?),
@@ -191,11 +182,8 @@ fn plan_named<L: Look>(
     requires fault { L.fault look.old ≡ None }
     requires within { IsWithin row.now }
     requires named { tells_name (act request.now.op) ≡ true }
-    ensures plan { Reads (L.is_clean look.new) (L.sees look.old) result
+    ensures { LooksUp L.is_clean L.sees L.fault L.looks L.fails look.old look.new result
         (plan_act request.now.header (act request.now.op) now row.now) }
-    ensures fault { L.fault look.new ≡ look_fault result }
-    ensures looks { look_fault result ≡ None → L.looks look.old look.new }
-    ensures fails { OnErr result (L.fails look.old look.new) }
 {
     match &request.op {
         Op::Lookup { name } => plan_lookup(alloc, look, name, row),

@@ -1,6 +1,5 @@
-ghost use Rattle.std.specs.Prelude.{◌≡◌, ◌||◌, None, OnErr};
-ghost use Rattle.fuse_tree.specs.Plan.{look_fault};
-ghost use Rattle.fuse_tree.specs.Reading.{IsWithin, Reads};
+ghost use Rattle.std.specs.Prelude.{◌≡◌, ◌||◌, None};
+ghost use Rattle.fuse_tree.specs.Reading.{IsWithin, LooksUp};
 ghost use Rattle.fuse_tree.specs.PlanRenaming.{renaming_of, row_holds, plan_exchange_link};
 ghost use Rattle.fuse_tree.specs.PlanRenaming.{plan_exchange_apart, plan_exchange_with_room};
 
@@ -28,11 +27,8 @@ pub(crate) fn exchange_links<L: Look>(
     requires fault { L.fault look.old ≡ None }
     requires from_within { IsWithin from.now }
     requires to_within { IsWithin to.now }
-    ensures plan { Reads (L.is_clean look.new) (L.sees look.old) result
+    ensures { LooksUp L.is_clean L.sees L.fault L.looks L.fails look.old look.new result
         (plan_exchange_link (renaming_of asked.now) from.now to.now source.now other) }
-    ensures fault { L.fault look.new ≡ look_fault result }
-    ensures looks { look_fault result ≡ None → L.looks look.old look.new }
-    ensures fails { OnErr result (L.fails look.old look.new) }
 {
     let Some(other) = other else {
         return Ok(refused(alloc, Errno::ENOENT));
@@ -56,11 +52,8 @@ fn exchange_apart<L: Look>(
     requires fault { L.fault look.old ≡ None }
     requires from_within { IsWithin from.now }
     requires to_within { IsWithin to.now }
-    ensures plan { Reads (L.is_clean look.new) (L.sees look.old) result
+    ensures { LooksUp L.is_clean L.sees L.fault L.looks L.fails look.old look.new result
         (plan_exchange_apart (renaming_of asked.now) from.now to.now source.now other.now) }
-    ensures fault { L.fault look.new ≡ look_fault result }
-    ensures looks { look_fault result ≡ None → L.looks look.old look.new }
-    ensures fails { OnErr result (L.fails look.old look.new) }
 {
     if is_either_held(look, &source.child, from.node, &other.child, asked.new_dir)? {
         return Ok(refused(alloc, Errno::EINVAL));
@@ -77,11 +70,8 @@ fn is_either_held<L: Look>(
     other_dir: u64,
 ) -> Result<bool, PlanFault>
     requires { L.fault look.old ≡ None }
-    ensures held { Reads (L.is_clean look.new) (L.sees look.old) result
+    ensures { LooksUp L.is_clean L.sees L.fault L.looks L.fails look.old look.new result
         (λ rows. row_holds rows child.now dir other_dir || row_holds rows other.now other_dir dir) }
-    ensures fault { L.fault look.new ≡ look_fault result }
-    ensures looks { look_fault result ≡ None → L.looks look.old look.new }
-    ensures fails { OnErr result (L.fails look.old look.new) }
 {
     if is_held(look, child, dir, other_dir)? {
         return Ok(true);
@@ -102,11 +92,8 @@ fn exchange_with_room<L: Look>(
     requires fault { L.fault look.old ≡ None }
     requires from_within { IsWithin from.now }
     requires to_within { IsWithin to.now }
-    ensures plan { Reads (L.is_clean look.new) (L.sees look.old) result
+    ensures { LooksUp L.is_clean L.sees L.fault L.looks L.fails look.old look.new result
         (plan_exchange_with_room (renaming_of asked.now) from.now to.now source.now other.now) }
-    ensures fault { L.fault look.new ≡ look_fault result }
-    ensures looks { look_fault result ≡ None → L.looks look.old look.new }
-    ensures fails { OnErr result (L.fails look.old look.new) }
 {
     let counters = find_counters(look)?;
     if counters.next_cookie > COUNTER_END - 2 {

@@ -1,8 +1,7 @@
-ghost use Rattle.std.specs.Prelude.{◌≡◌, None, is_some, IfOk, IfSome, OnErr};
+ghost use Rattle.std.specs.Prelude.{◌≡◌, None, is_some, IfOk, IfSome};
 ghost use Rattle.fuse_tree.specs.Rows.{row_at, entry_at, handle_at};
 ghost use Rattle.fuse_tree.specs.Handles.{access_at, is_open};
-ghost use Rattle.fuse_tree.specs.Plan.{look_fault};
-ghost use Rattle.fuse_tree.specs.Reading.{IsWithin, Reads, child_at};
+ghost use Rattle.fuse_tree.specs.Reading.{IsWithin, child_at, LooksUp};
 ghost use Rattle.fuse_tree.specs.Removing as removing;
 ghost use Rattle.fuse_tree.specs.PlanRemoving.{link_at};
 
@@ -23,12 +22,9 @@ pub struct Link {
 #[tactic(auto, using(crate::proofs::Bounds::row_within))]
 pub(crate) fn find_node<L: Look>(look: &mut L, number: u64) -> Result<Option<NodeRow>, PlanFault>
     requires { L.fault look.old ≡ None }
-    ensures row { Reads (L.is_clean look.new) (L.sees look.old) result
+    ensures row { LooksUp L.is_clean L.sees L.fault L.looks L.fails look.old look.new result
         (λ rows. row_at rows number) }
     ensures within { IfOk result (λ row. IfSome row IsWithin) }
-    ensures fault { L.fault look.new ≡ look_fault result }
-    ensures looks { look_fault result ≡ None → L.looks look.old look.new }
-    ensures fails { OnErr result (L.fails look.old look.new) }
 {
     let Some(row) = look.node(number)? else {
         return Ok(None);
@@ -41,11 +37,8 @@ pub(crate) fn find_node<L: Look>(look: &mut L, number: u64) -> Result<Option<Nod
 
 fn find_entry<L: Look>(look: &mut L, dir: u64, name: &[u8]) -> Result<Option<EntryRow>, PlanFault>
     requires { L.fault look.old ≡ None }
-    ensures row { Reads (L.is_clean look.new) (L.sees look.old) result
+    ensures { LooksUp L.is_clean L.sees L.fault L.looks L.fails look.old look.new result
         (λ rows. entry_at rows.entries dir name.now) }
-    ensures fault { L.fault look.new ≡ look_fault result }
-    ensures looks { look_fault result ≡ None → L.looks look.old look.new }
-    ensures fails { OnErr result (L.fails look.old look.new) }
 {
     Ok(look.entry(dir, name)?)
 }
@@ -53,11 +46,8 @@ fn find_entry<L: Look>(look: &mut L, dir: u64, name: &[u8]) -> Result<Option<Ent
 // Whether the name stands in the directory.
 pub(crate) fn is_taken<L: Look>(look: &mut L, dir: u64, name: &[u8]) -> Result<bool, PlanFault>
     requires { L.fault look.old ≡ None }
-    ensures taken { Reads (L.is_clean look.new) (L.sees look.old) result
+    ensures { LooksUp L.is_clean L.sees L.fault L.looks L.fails look.old look.new result
         (λ rows. is_some (entry_at rows.entries dir name.now)) }
-    ensures fault { L.fault look.new ≡ look_fault result }
-    ensures looks { look_fault result ≡ None → L.looks look.old look.new }
-    ensures fails { OnErr result (L.fails look.old look.new) }
 {
     Ok(find_entry(look, dir, name)?.is_some())
 }
@@ -70,12 +60,9 @@ pub(crate) fn find_link<L: Look>(
     name: &[u8],
 ) -> Result<Option<Link>, PlanFault>
     requires { L.fault look.old ≡ None }
-    ensures row { Reads (L.is_clean look.new) (L.sees look.old) result
+    ensures row { LooksUp L.is_clean L.sees L.fault L.looks L.fails look.old look.new result
         (λ rows. link_at rows dir name.now) }
     ensures within { IfOk result (λ link. IfSome link (λ l. IsWithin l.child)) }
-    ensures fault { L.fault look.new ≡ look_fault result }
-    ensures looks { look_fault result ≡ None → L.looks look.old look.new }
-    ensures fails { OnErr result (L.fails look.old look.new) }
 {
     let Some(entry) = find_entry(look, dir, name)? else {
         return Ok(None);
@@ -96,12 +83,9 @@ pub(crate) fn find_child<L: Look>(
     name: &[u8],
 ) -> Result<Option<NodeRow>, PlanFault>
     requires { L.fault look.old ≡ None }
-    ensures row { Reads (L.is_clean look.new) (L.sees look.old) result
+    ensures row { LooksUp L.is_clean L.sees L.fault L.looks L.fails look.old look.new result
         (λ rows. child_at rows dir name.now) }
     ensures within { IfOk result (λ row. IfSome row IsWithin) }
-    ensures fault { L.fault look.new ≡ look_fault result }
-    ensures looks { look_fault result ≡ None → L.looks look.old look.new }
-    ensures fails { OnErr result (L.fails look.old look.new) }
 {
     let Some(link) = find_link(look, dir, name)? else {
         return Ok(None);
@@ -112,32 +96,24 @@ pub(crate) fn find_child<L: Look>(
 // Whether an entry stands in the directory.
 pub(crate) fn has_entries<L: Look>(look: &mut L, dir: u64) -> Result<bool, PlanFault>
     requires { L.fault look.old ≡ None }
-    ensures row { Reads (L.is_clean look.new) (L.sees look.old) result
+    ensures { LooksUp L.is_clean L.sees L.fault L.looks L.fails look.old look.new result
         (λ rows. removing.has_entries rows.entries dir) }
-    ensures fault { L.fault look.new ≡ look_fault result }
-    ensures looks { look_fault result ≡ None → L.looks look.old look.new }
-    ensures fails { OnErr result (L.fails look.old look.new) }
 {
     Ok(!look.entries_after(dir, 0, 1)?.is_empty())
 }
 
 pub(crate) fn find_counters<L: Look>(look: &mut L) -> Result<Counters, PlanFault>
     requires { L.fault look.old ≡ None }
-    ensures row { Reads (L.is_clean look.new) (L.sees look.old) result (λ rows. rows.counters) }
-    ensures fault { L.fault look.new ≡ look_fault result }
-    ensures looks { look_fault result ≡ None → L.looks look.old look.new }
-    ensures fails { OnErr result (L.fails look.old look.new) }
+    ensures { LooksUp L.is_clean L.sees L.fault L.looks L.fails look.old look.new result
+        (λ rows. rows.counters) }
 {
     Ok(look.counters()?)
 }
 
 pub(crate) fn find_handle<L: Look>(look: &mut L, fh: u64) -> Result<Option<HandleRow>, PlanFault>
     requires { L.fault look.old ≡ None }
-    ensures row { Reads (L.is_clean look.new) (L.sees look.old) result
+    ensures { LooksUp L.is_clean L.sees L.fault L.looks L.fails look.old look.new result
         (λ rows. handle_at rows.handles fh) }
-    ensures fault { L.fault look.new ≡ look_fault result }
-    ensures looks { look_fault result ≡ None → L.looks look.old look.new }
-    ensures fails { OnErr result (L.fails look.old look.new) }
 {
     Ok(look.handle(fh)?)
 }
@@ -149,11 +125,8 @@ pub(crate) fn find_access<L: Look>(
     node: u64,
 ) -> Result<Option<AccessMode>, PlanFault>
     requires { L.fault look.old ≡ None }
-    ensures access { Reads (L.is_clean look.new) (L.sees look.old) result
+    ensures { LooksUp L.is_clean L.sees L.fault L.looks L.fails look.old look.new result
         (λ rows. access_at rows.handles fh node) }
-    ensures fault { L.fault look.new ≡ look_fault result }
-    ensures looks { look_fault result ≡ None → L.looks look.old look.new }
-    ensures fails { OnErr result (L.fails look.old look.new) }
 {
     match find_handle(look, fh)? {
         Some(handle) if handle.node == node => Ok(Some(handle.access)),
@@ -164,11 +137,8 @@ pub(crate) fn find_access<L: Look>(
 // Whether the handle is open at this node.
 pub(crate) fn is_open_at<L: Look>(look: &mut L, fh: u64, node: u64) -> Result<bool, PlanFault>
     requires { L.fault look.old ≡ None }
-    ensures open { Reads (L.is_clean look.new) (L.sees look.old) result
+    ensures { LooksUp L.is_clean L.sees L.fault L.looks L.fails look.old look.new result
         (λ rows. is_open rows.handles fh node) }
-    ensures fault { L.fault look.new ≡ look_fault result }
-    ensures looks { look_fault result ≡ None → L.looks look.old look.new }
-    ensures fails { OnErr result (L.fails look.old look.new) }
 {
     Ok(find_access(look, fh, node)?.is_some())
 }
@@ -176,11 +146,8 @@ pub(crate) fn is_open_at<L: Look>(look: &mut L, fh: u64, node: u64) -> Result<bo
 // Whether an INIT is agreed on.
 pub(crate) fn has_settings<L: Look>(look: &mut L) -> Result<bool, PlanFault>
     requires { L.fault look.old ≡ None }
-    ensures settled { Reads (L.is_clean look.new) (L.sees look.old) result
+    ensures { LooksUp L.is_clean L.sees L.fault L.looks L.fails look.old look.new result
         (λ rows. is_some rows.settings) }
-    ensures fault { L.fault look.new ≡ look_fault result }
-    ensures looks { look_fault result ≡ None → L.looks look.old look.new }
-    ensures fails { OnErr result (L.fails look.old look.new) }
 {
     Ok(look.settings()?.is_some())
 }

@@ -1,8 +1,7 @@
-ghost use Rattle.std.specs.Prelude.{◌≡◌, None, false, IfOk, OnErr};
+ghost use Rattle.std.specs.Prelude.{◌≡◌, None, false, IfOk};
 ghost use Rattle.fuse_tree.specs.Making.{is_full};
-ghost use Rattle.fuse_tree.specs.Plan.{look_fault};
 ghost use Rattle.fuse_tree.specs.PlanMaking as planning;
-ghost use Rattle.fuse_tree.specs.Reading.{IsWithin, Reads};
+ghost use Rattle.fuse_tree.specs.Reading.{IsWithin, LooksUp};
 ghost use Rattle.fuse_tree.specs.PlanMaking.{dir_row, new_row, changes_of, plan_new};
 ghost use Rattle.fuse_tree.specs.PlanMaking.{plan_make_with_room};
 
@@ -27,11 +26,8 @@ pub(crate) fn plan_make<L: Look>(
 ) -> Result<Planned, PlanFault>
     requires fault { L.fault look.old ≡ None }
     requires within { IsWithin row.now }
-    ensures plan { Reads (L.is_clean look.new) (L.sees look.old) result
+    ensures { LooksUp L.is_clean L.sees L.fault L.looks L.fails look.old look.new result
         (planning.plan_make fresh.now name.now row.now) }
-    ensures fault { L.fault look.new ≡ look_fault result }
-    ensures looks { look_fault result ≡ None → L.looks look.old look.new }
-    ensures fails { OnErr result (L.fails look.old look.new) }
 {
     if !row.is_named() {
         return Ok(refused(alloc, Errno::ENOENT));
@@ -52,11 +48,8 @@ fn make_with_room<L: Look>(
 ) -> Result<Planned, PlanFault>
     requires fault { L.fault look.old ≡ None }
     requires within { IsWithin row.now }
-    ensures plan { Reads (L.is_clean look.new) (L.sees look.old) result
+    ensures { LooksUp L.is_clean L.sees L.fault L.looks L.fails look.old look.new result
         (plan_make_with_room fresh.now name.now row.now) }
-    ensures fault { L.fault look.new ≡ look_fault result }
-    ensures looks { look_fault result ≡ None → L.looks look.old look.new }
-    ensures fails { OnErr result (L.fails look.old look.new) }
 {
     let counters = find_counters(look)?;
     if is_full_of(&counters) {

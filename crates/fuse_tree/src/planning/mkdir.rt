@@ -1,7 +1,6 @@
-ghost use Rattle.std.specs.Prelude.{◌≡◌, None, OnErr};
-ghost use Rattle.fuse_tree.specs.Plan.{look_fault};
+ghost use Rattle.std.specs.Prelude.{◌≡◌, None};
 ghost use Rattle.fuse_tree.specs.PlanMaking as planning;
-ghost use Rattle.fuse_tree.specs.Reading.{IsWithin, Reads};
+ghost use Rattle.fuse_tree.specs.Reading.{IsWithin, LooksUp};
 
 use super::answers::refused;
 use super::attributes::is_directory;
@@ -28,11 +27,8 @@ pub(crate) fn plan_mkdir<L: Look>(
 ) -> Result<Planned, PlanFault>
     requires fault { L.fault look.old ≡ None }
     requires within { IsWithin row.now }
-    ensures plan { Reads (L.is_clean look.new) (L.sees look.old) result
+    ensures { LooksUp L.is_clean L.sees L.fault L.looks L.fails look.old look.new result
         (planning.plan_mkdir header.now mode name.now now row.now) }
-    ensures fault { L.fault look.new ≡ look_fault result }
-    ensures looks { look_fault result ≡ None → L.looks look.old look.new }
-    ensures fails { OnErr result (L.fails look.old look.new) }
 {
     if !is_directory(row.mode) {
         return Ok(refused(alloc, Errno::ENOTDIR));

@@ -1,9 +1,8 @@
-ghost use Rattle.std.specs.Prelude.{◌≡◌, None, OnErr};
-ghost use Rattle.fuse_tree.specs.Making as making;
+ghost use Rattle.std.specs.Prelude.{◌≡◌, None};
+ghost use Rattle.fuse_tree.specs.State as state;
 ghost use Rattle.fuse_tree.specs.Making.{may_make, node_mode, node_rdev};
-ghost use Rattle.fuse_tree.specs.Plan.{look_fault};
 ghost use Rattle.fuse_tree.specs.PlanMaking as planning;
-ghost use Rattle.fuse_tree.specs.Reading.{IsWithin, Reads};
+ghost use Rattle.fuse_tree.specs.Reading.{IsWithin, LooksUp};
 
 use super::answers::refused;
 use super::attributes::is_directory;
@@ -37,12 +36,9 @@ pub(crate) fn plan_mknod<L: Look>(
 ) -> Result<Planned, PlanFault>
     requires fault { L.fault look.old ≡ None }
     requires within { IsWithin row.now }
-    ensures plan { Reads (L.is_clean look.new) (L.sees look.old) result
+    ensures { LooksUp L.is_clean L.sees L.fault L.looks L.fails look.old look.new result
         (planning.plan_mknod header.now asked.now.mode asked.now.rdev asked.now.name.now now
         row.now) }
-    ensures fault { L.fault look.new ≡ look_fault result }
-    ensures looks { look_fault result ≡ None → L.looks look.old look.new }
-    ensures fails { OnErr result (L.fails look.old look.new) }
 {
     if !is_directory(row.mode) {
         return Ok(refused(alloc, Errno::ENOTDIR));
@@ -65,7 +61,7 @@ pub(crate) fn plan_mknod<L: Look>(
 
 // The bits that tell the type.
 fn type_bits(mode: u32) -> u32
-    ensures { result ≡ making.type_bits mode }
+    ensures { result ≡ state.type_bits mode }
 {
     mode / TYPE_UNIT % TYPES * TYPE_UNIT
 }

@@ -1,9 +1,8 @@
-ghost use Rattle.std.specs.Prelude.{◌≡◌, None, IfOk, OnErr};
+ghost use Rattle.std.specs.Prelude.{◌≡◌, None, IfOk};
 ghost use Rattle.fuse_tree.specs.Opening.{open_fault};
-ghost use Rattle.fuse_tree.specs.Plan.{look_fault};
 ghost use Rattle.fuse_tree.specs.PlanOpening as planning;
 ghost use Rattle.fuse_tree.specs.PlanOpening.{opened_changes, plan_opened, plan_open_node};
-ghost use Rattle.fuse_tree.specs.Reading.{Reads};
+ghost use Rattle.fuse_tree.specs.Reading.{LooksUp};
 
 use super::answers::refused;
 use super::attributes::{is_directory, is_regular_file};
@@ -24,11 +23,8 @@ pub(crate) fn plan_open<L: Look>(
     row: &NodeRow,
 ) -> Result<Planned, PlanFault>
     requires { L.fault look.old ≡ None }
-    ensures plan { Reads (L.is_clean look.new) (L.sees look.old) result
+    ensures { LooksUp L.is_clean L.sees L.fault L.looks L.fails look.old look.new result
         (planning.plan_open flags row.now) }
-    ensures fault { L.fault look.new ≡ look_fault result }
-    ensures looks { look_fault result ≡ None → L.looks look.old look.new }
-    ensures fails { OnErr result (L.fails look.old look.new) }
 {
     if is_directory(row.mode) {
         return Ok(refused(alloc, Errno::EISDIR));
@@ -49,11 +45,8 @@ pub(crate) fn plan_open_dir<L: Look>(
     row: &NodeRow,
 ) -> Result<Planned, PlanFault>
     requires { L.fault look.old ≡ None }
-    ensures plan { Reads (L.is_clean look.new) (L.sees look.old) result
+    ensures { LooksUp L.is_clean L.sees L.fault L.looks L.fails look.old look.new result
         (planning.plan_open_dir row.now) }
-    ensures fault { L.fault look.new ≡ look_fault result }
-    ensures looks { look_fault result ≡ None → L.looks look.old look.new }
-    ensures fails { OnErr result (L.fails look.old look.new) }
 {
     if !is_directory(row.mode) {
         return Ok(refused(alloc, Errno::ENOTDIR));
@@ -69,11 +62,8 @@ fn open_node<L: Look>(
     node: u64,
 ) -> Result<Planned, PlanFault>
     requires { L.fault look.old ≡ None }
-    ensures plan { Reads (L.is_clean look.new) (L.sees look.old) result
+    ensures { LooksUp L.is_clean L.sees L.fault L.looks L.fails look.old look.new result
         (plan_open_node access node) }
-    ensures fault { L.fault look.new ≡ look_fault result }
-    ensures looks { look_fault result ≡ None → L.looks look.old look.new }
-    ensures fails { OnErr result (L.fails look.old look.new) }
 {
     let counters = find_counters(look)?;
     if let Some(errno) = fault_of_opening(&counters) {

@@ -1,10 +1,9 @@
-ghost use Rattle.std.specs.Prelude.{◌≡◌, ◌≤◌, None, length, IfOk, OnErr};
+ghost use Rattle.std.specs.Prelude.{◌≡◌, ◌≤◌, None, length, IfOk};
 ghost use Rattle.fuse_answer.specs.declared.answer.TheConstants.{MAX_BODY as max_body};
 ghost use Rattle.fuse_tree.specs.Rows.{bytes_at};
 ghost use Rattle.fuse_tree.specs.Writing as writing;
-ghost use Rattle.fuse_tree.specs.Plan.{look_fault};
 ghost use Rattle.fuse_tree.specs.PlanWriting as planning;
-ghost use Rattle.fuse_tree.specs.Reading.{Reads};
+ghost use Rattle.fuse_tree.specs.Reading.{LooksUp};
 
 use super::answers::{refused, unchanged};
 use super::attributes::is_directory;
@@ -26,11 +25,8 @@ pub(crate) fn plan_read<L: Look>(
     row: &NodeRow,
 ) -> Result<Planned, PlanFault>
     requires { L.fault look.old ≡ None }
-    ensures plan { Reads (L.is_clean look.new) (L.sees look.old) result
+    ensures { LooksUp L.is_clean L.sees L.fault L.looks L.fails look.old look.new result
         (planning.plan_read asked.now row.now) }
-    ensures fault { L.fault look.new ≡ look_fault result }
-    ensures looks { look_fault result ≡ None → L.looks look.old look.new }
-    ensures fails { OnErr result (L.fails look.old look.new) }
 {
     if !may_read(find_access(look, asked.fh, row.node)?) {
         return Ok(refused(alloc, Errno::EBADF));
@@ -61,12 +57,9 @@ fn find_bytes<L: Look>(
 ) -> Result<ByteList, PlanFault>
     requires fault { L.fault look.old ≡ None }
     requires size { size ≤ max_body }
-    ensures bytes { Reads (L.is_clean look.new) (L.sees look.old) result
+    ensures bytes { LooksUp L.is_clean L.sees L.fault L.looks L.fails look.old look.new result
         (λ rows. bytes_at rows number offset size) }
     ensures short { IfOk result (λ bytes. length bytes ≤ max_body) }
-    ensures fault { L.fault look.new ≡ look_fault result }
-    ensures looks { look_fault result ≡ None → L.looks look.old look.new }
-    ensures fails { OnErr result (L.fails look.old look.new) }
 {
     let bytes = look.bytes(number, offset, size)?;
     if bytes.as_slice().len() > MAX_BODY {

@@ -1,5 +1,5 @@
 ghost use Rattle.std.specs.Prelude.{◌≡◌, ◌≤◌, ◌*◌, ◌++◌, [], if◌then◌else◌, None, All, length, map};
-ghost use Rattle.std.specs.Prelude.{IfOk, IfErr, OnOk, OnErr, ◌≢◌};
+ghost use Rattle.std.specs.Prelude.{IfOk, IfErr, OnOk, ◌≢◌};
 ghost use Rattle.std.specs.List.{AllByRecursion, sum_by};
 ghost use Rattle.fuse_wire.specs.declared.errno.TheConstants.Errno.{EINVAL};
 ghost use Rattle.fuse_answer.specs.Entries.{entry_of, packed_len, IsNamed};
@@ -10,7 +10,7 @@ ghost use Rattle.fuse_tree.specs.PlanListing as planning;
 ghost use Rattle.fuse_tree.specs.PlanListing.{dots_behind, row_above, row_entry, row_len};
 ghost use Rattle.fuse_tree.specs.PlanListing.{plan_front, plan_list, ReadsBy, IsCut, IsShown};
 ghost use Rattle.fuse_tree.specs.Reading as planned;
-ghost use Rattle.fuse_tree.specs.Reading.{Reads, Tells, told};
+ghost use Rattle.fuse_tree.specs.Reading.{Tells, told, LooksUp, Looked};
 ghost use Rattle.fuse_tree.specs.declared.limits.TheConstants.{MAX_READ as max_read};
 ghost use Rattle.fuse_tree.specs.declared.mode.TheConstants.{S_IFDIR as s_ifdir};
 
@@ -18,7 +18,7 @@ use super::answers::{done_nothing, refused, unchanged};
 use super::attributes::is_directory;
 use super::fault::PlanFault;
 use super::finding::{find_node, is_open_at};
-use crate::limits::{MAX_READ, ROOT_ID};
+use crate::limits::{LEAST_ENTRY, MAX_READ, ROOT_ID};
 use crate::look::Look;
 use crate::mode::{S_IFDIR, TYPE_UNIT, TYPES};
 use crate::rows::{EntryRow, NodeRow, Planned};
@@ -26,9 +26,6 @@ use fuse_answer::{Answer, Dirent, MAX_NAME, PackFault, pack};
 use fuse_request::ReadIn;
 use fuse_wire::{Errno, Memory};
 use std::alloc::Global;
-
-/// The fewest bytes that an entry takes in a listing: those before its name, and a name of up to 8.
-pub const LEAST_ENTRY: u32 = 32;
 
 // READDIR of the directory of this row.
 pub(crate) fn plan_read_dir<L: Look>(
@@ -38,11 +35,8 @@ pub(crate) fn plan_read_dir<L: Look>(
     row: &NodeRow,
 ) -> Result<Planned, PlanFault>
     requires { L.fault look.old ≡ None }
-    ensures plan { Reads (L.is_clean look.new) (L.sees look.old) result
+    ensures { LooksUp L.is_clean L.sees L.fault L.looks L.fails look.old look.new result
         (planning.plan_read_dir asked.now row.now) }
-    ensures fault { L.fault look.new ≡ look_fault result }
-    ensures looks { look_fault result ≡ None → L.looks look.old look.new }
-    ensures fails { OnErr result (L.fails look.old look.new) }
 {
     if !is_open_at(look, asked.fh, row.node)? {
         return Ok(refused(alloc, Errno::EBADF));
@@ -69,11 +63,8 @@ fn list<L: Look>(
 ) -> Result<Planned, PlanFault>
     requires fault { L.fault look.old ≡ None }
     requires size { size ≤ max_read }
-    ensures plan { Reads (L.is_clean look.new) (L.sees look.old) result
+    ensures { LooksUp L.is_clean L.sees L.fault L.looks L.fails look.old look.new result
         (plan_list offset size row.now) }
-    ensures fault { L.fault look.new ≡ look_fault result }
-    ensures looks { look_fault result ≡ None → L.looks look.old look.new }
-    ensures fails { OnErr result (L.fails look.old look.new) }
 {
     let enough = size / LEAST_ENTRY + 1;
     let entries = find_entries(look, row.node, offset, enough as usize)?;
@@ -99,9 +90,7 @@ fn list_behind<'a, L: Look>(
         → L.sees look.old rows → AllByRecursion (IsShown rows) entries.now
         → Tells result (plan_front (map entry_of dirents.entry.items
         ++ map (row_entry rows) entries.now) size) }
-    ensures fault { L.fault look.new ≡ look_fault result }
-    ensures looks { look_fault result ≡ None → L.looks look.old look.new }
-    ensures fails { OnErr result (L.fails look.old look.new) }
+    ensures looked { Looked L.fault L.looks L.fails look.old look.new result }
 {
     let dots_len = LEAST_ENTRY as usize * dirents.len();
     let count = count_fitting(entries, (size as usize).saturating_sub(dots_len));
@@ -156,9 +145,7 @@ fn find_entries<L: Look>(
     requires { L.fault look.old ≡ None }
     ensures rows { ReadsBy (λ v. v.items) (L.is_clean look.new) (L.sees look.old) result
         (λ rows. entries_after rows dir cookie limit) }
-    ensures fault { L.fault look.new ≡ look_fault result }
-    ensures looks { look_fault result ≡ None → L.looks look.old look.new }
-    ensures fails { OnErr result (L.fails look.old look.new) }
+    ensures looked { Looked L.fault L.looks L.fails look.old look.new result }
 {
     Ok(look.entries_after(dir, cookie, limit)?)
 }
@@ -223,9 +210,7 @@ fn push_entries<'a, L: Look>(
         → OnOk result (map entry_of dirents.new.items ≡ map entry_of dirents.old.items
         ++ map (row_entry rows) entries.now) × IfErr result (λ f. f ≢ PlanFault.NotATree) }
     ensures named { OnOk result (All (λ d. IsNamed (entry_of d)) dirents.new.items) }
-    ensures fault { L.fault look.new ≡ look_fault result }
-    ensures looks { look_fault result ≡ None → L.looks look.old look.new }
-    ensures fails { OnErr result (L.fails look.old look.new) }
+    ensures looked { Looked L.fault L.looks L.fails look.old look.new result }
 {
     for entry in entries {
         let dirent = dirent_of(look, entry)?;
@@ -241,9 +226,7 @@ fn dirent_of<'a, L: Look>(look: &mut L, entry: &'a EntryRow) -> Result<Dirent<'a
         → IfOk result (λ d. entry_of d ≡ row_entry rows entry.now)
         × IfErr result (λ f. f ≢ PlanFault.NotATree) }
     ensures named { IfOk result (λ d. IsNamed (entry_of d)) }
-    ensures fault { L.fault look.new ≡ look_fault result }
-    ensures looks { look_fault result ≡ None → L.looks look.old look.new }
-    ensures fails { OnErr result (L.fails look.old look.new) }
+    ensures looked { Looked L.fault L.looks L.fails look.old look.new result }
 {
     let name = entry.name.as_slice();
     if name.is_empty() || name.len() > MAX_NAME {

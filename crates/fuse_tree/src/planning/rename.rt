@@ -1,9 +1,8 @@
-ghost use Rattle.std.specs.Prelude.{◌≡◌, ◌==◌, ◌&&◌, nat_eq, None, IfOk, IfSome, OnErr};
+ghost use Rattle.std.specs.Prelude.{◌≡◌, ◌==◌, ◌&&◌, nat_eq, None, IfOk, IfSome};
 ghost use Rattle.std.specs.Cmp.Lexicographic.{pointwise};
-ghost use Rattle.fuse_tree.specs.Plan.{look_fault};
 ghost use Rattle.fuse_tree.specs.State.{is_dir};
 ghost use Rattle.fuse_tree.specs.Rows.{row_is_named};
-ghost use Rattle.fuse_tree.specs.Reading.{IsWithin, Reads};
+ghost use Rattle.fuse_tree.specs.Reading.{IsWithin, LooksUp};
 ghost use Rattle.fuse_tree.specs.PlanRemoving.{link_at};
 ghost use Rattle.fuse_tree.specs.Renaming as renaming;
 ghost use Rattle.fuse_tree.specs.Renaming.{asked_fault};
@@ -66,11 +65,8 @@ pub(crate) fn plan_rename<L: Look>(
 ) -> Result<Planned, PlanFault>
     requires fault { L.fault look.old ≡ None }
     requires within { IsWithin from.now }
-    ensures plan { Reads (L.is_clean look.new) (L.sees look.old) result
+    ensures { LooksUp L.is_clean L.sees L.fault L.looks L.fails look.old look.new result
         (planning.plan_rename (renaming_of asked.now) from.now) }
-    ensures fault { L.fault look.new ≡ look_fault result }
-    ensures looks { look_fault result ≡ None → L.looks look.old look.new }
-    ensures fails { OnErr result (L.fails look.old look.new) }
 {
     let Some(to) = find_new_dir(look, asked.new_dir, from)? else {
         return Ok(refused(alloc, Errno::ESTALE));
@@ -89,12 +85,9 @@ fn find_new_dir<L: Look>(
 ) -> Result<Option<NodeRow>, PlanFault>
     requires fault { L.fault look.old ≡ None }
     requires within { IsWithin from.now }
-    ensures row { Reads (L.is_clean look.new) (L.sees look.old) result
+    ensures row { LooksUp L.is_clean L.sees L.fault L.looks L.fails look.old look.new result
         (new_dir_at new_dir from.now) }
     ensures within { IfOk result (λ row. IfSome row IsWithin) }
-    ensures fault { L.fault look.new ≡ look_fault result }
-    ensures looks { look_fault result ≡ None → L.looks look.old look.new }
-    ensures fails { OnErr result (L.fails look.old look.new) }
 {
     if from.node == new_dir {
         return Ok(Some(*from));
@@ -138,12 +131,9 @@ fn rename_from<L: Look>(
     requires fault { L.fault look.old ≡ None }
     requires from_within { IsWithin from.now }
     requires to_within { IsWithin to.now }
-    ensures plan { Reads (L.is_clean look.new) (L.sees look.old) result
+    ensures { LooksUp L.is_clean L.sees L.fault L.looks L.fails look.old look.new result
         (λ rows. plan_rename_from (renaming_of asked.now) from.now to.now
         (link_at rows from.now.node asked.now.old_name.now) rows) }
-    ensures fault { L.fault look.new ≡ look_fault result }
-    ensures looks { look_fault result ≡ None → L.looks look.old look.new }
-    ensures fails { OnErr result (L.fails look.old look.new) }
 {
     let Some(source) = find_link(look, from.node, asked.old_name)? else {
         return Ok(refused(alloc, Errno::ENOENT));
@@ -163,12 +153,9 @@ fn rename_to<L: Look>(
     requires fault { L.fault look.old ≡ None }
     requires from_within { IsWithin from.now }
     requires to_within { IsWithin to.now }
-    ensures plan { Reads (L.is_clean look.new) (L.sees look.old) result
+    ensures { LooksUp L.is_clean L.sees L.fault L.looks L.fails look.old look.new result
         (λ rows. plan_rename_by (renaming_of asked.now) from.now to.now source.now
         (other_at (renaming_of asked.now) from.now.node source.now rows) rows) }
-    ensures fault { L.fault look.new ≡ look_fault result }
-    ensures looks { look_fault result ≡ None → L.looks look.old look.new }
-    ensures fails { OnErr result (L.fails look.old look.new) }
 {
     let other = find_other(look, asked, from.node, source)?;
     rename_by(alloc, look, asked, from, to, source, other)
@@ -182,11 +169,8 @@ fn find_other<L: Look>(
     source: &Link,
 ) -> Result<Option<Link>, PlanFault>
     requires { L.fault look.old ≡ None }
-    ensures other { Reads (L.is_clean look.new) (L.sees look.old) result
+    ensures { LooksUp L.is_clean L.sees L.fault L.looks L.fails look.old look.new result
         (λ rows. other_at (renaming_of asked.now) dir source.now rows) }
-    ensures fault { L.fault look.new ≡ look_fault result }
-    ensures looks { look_fault result ≡ None → L.looks look.old look.new }
-    ensures fails { OnErr result (L.fails look.old look.new) }
 {
     if is_one_place(asked, dir) {
         return Ok(Some(*source));
@@ -215,11 +199,8 @@ fn rename_by<L: Look>(
     requires fault { L.fault look.old ≡ None }
     requires from_within { IsWithin from.now }
     requires to_within { IsWithin to.now }
-    ensures plan { Reads (L.is_clean look.new) (L.sees look.old) result
+    ensures { LooksUp L.is_clean L.sees L.fault L.looks L.fails look.old look.new result
         (plan_rename_by (renaming_of asked.now) from.now to.now source.now other) }
-    ensures fault { L.fault look.new ≡ look_fault result }
-    ensures looks { look_fault result ≡ None → L.looks look.old look.new }
-    ensures fails { OnErr result (L.fails look.old look.new) }
 {
     match asked.mode {
         Some(RenameMode::Exchange) => exchange_links(alloc, look, asked, from, to, source, other),
@@ -241,11 +222,8 @@ fn rename_link<L: Look>(
     requires fault { L.fault look.old ≡ None }
     requires from_within { IsWithin from.now }
     requires to_within { IsWithin to.now }
-    ensures plan { Reads (L.is_clean look.new) (L.sees look.old) result
+    ensures { LooksUp L.is_clean L.sees L.fault L.looks L.fails look.old look.new result
         (plan_rename_link (renaming_of asked.now) from.now to.now source.now other) }
-    ensures fault { L.fault look.new ≡ look_fault result }
-    ensures looks { look_fault result ≡ None → L.looks look.old look.new }
-    ensures fails { OnErr result (L.fails look.old look.new) }
 {
     if is_same(source, other) {
         return Ok(done_nothing(alloc));
@@ -275,11 +253,8 @@ pub(crate) fn is_held<L: Look>(
     dir: u64,
 ) -> Result<bool, PlanFault>
     requires { L.fault look.old ≡ None }
-    ensures held { Reads (L.is_clean look.new) (L.sees look.old) result
+    ensures { LooksUp L.is_clean L.sees L.fault L.looks L.fails look.old look.new result
         (λ rows. row_holds rows child.now from dir) }
-    ensures fault { L.fault look.new ≡ look_fault result }
-    ensures looks { look_fault result ≡ None → L.looks look.old look.new }
-    ensures fails { OnErr result (L.fails look.old look.new) }
 {
     if !is_directory(child.mode) {
         return Ok(false);
@@ -303,11 +278,8 @@ fn rename_fitting<L: Look>(
     requires fault { L.fault look.old ≡ None }
     requires from_within { IsWithin from.now }
     requires to_within { IsWithin to.now }
-    ensures plan { Reads (L.is_clean look.new) (L.sees look.old) result
+    ensures { LooksUp L.is_clean L.sees L.fault L.looks L.fails look.old look.new result
         (plan_rename_fitting (renaming_of asked.now) from.now to.now source.now other) }
-    ensures fault { L.fault look.new ≡ look_fault result }
-    ensures looks { look_fault result ≡ None → L.looks look.old look.new }
-    ensures fails { OnErr result (L.fails look.old look.new) }
 {
     if let Some(errno) = fault_of_place(look, source, other)? {
         return Ok(refused(alloc, errno));
@@ -322,11 +294,8 @@ fn fault_of_place<L: Look>(
     other: Option<Link>,
 ) -> Result<Option<Errno>, PlanFault>
     requires { L.fault look.old ≡ None }
-    ensures place { Reads (L.is_clean look.new) (L.sees look.old) result
+    ensures { LooksUp L.is_clean L.sees L.fault L.looks L.fails look.old look.new result
         (λ rows. link_fault rows source.now other) }
-    ensures fault { L.fault look.new ≡ look_fault result }
-    ensures looks { look_fault result ≡ None → L.looks look.old look.new }
-    ensures fails { OnErr result (L.fails look.old look.new) }
 {
     let Some(other) = other else {
         return Ok(None);
@@ -348,11 +317,8 @@ fn fault_of_place<L: Look>(
 // A node in which an entry stands can't be replaced.
 fn fault_of_entries<L: Look>(look: &mut L, dir: u64) -> Result<Option<Errno>, PlanFault>
     requires { L.fault look.old ≡ None }
-    ensures place { Reads (L.is_clean look.new) (L.sees look.old) result
+    ensures { LooksUp L.is_clean L.sees L.fault L.looks L.fails look.old look.new result
         (λ rows. planning.entries_fault rows dir) }
-    ensures fault { L.fault look.new ≡ look_fault result }
-    ensures looks { look_fault result ≡ None → L.looks look.old look.new }
-    ensures fails { OnErr result (L.fails look.old look.new) }
 {
     if has_entries(look, dir)? {
         Ok(Some(Errno::ENOTEMPTY))
@@ -374,11 +340,8 @@ fn rename_with_room<L: Look>(
     requires fault { L.fault look.old ≡ None }
     requires from_within { IsWithin from.now }
     requires to_within { IsWithin to.now }
-    ensures plan { Reads (L.is_clean look.new) (L.sees look.old) result
+    ensures { LooksUp L.is_clean L.sees L.fault L.looks L.fails look.old look.new result
         (plan_rename_with_room (renaming_of asked.now) from.now to.now source.now other) }
-    ensures fault { L.fault look.new ≡ look_fault result }
-    ensures looks { look_fault result ≡ None → L.looks look.old look.new }
-    ensures fails { OnErr result (L.fails look.old look.new) }
 {
     let counters = find_counters(look)?;
     if counters.next_cookie >= COUNTER_END {

@@ -1,8 +1,7 @@
-ghost use Rattle.std.specs.Prelude.{◌≡◌, None, OnErr};
-ghost use Rattle.fuse_tree.specs.Plan.{look_fault};
+ghost use Rattle.std.specs.Prelude.{◌≡◌, None};
 ghost use Rattle.fuse_tree.specs.PlanRemoving as planning;
 ghost use Rattle.fuse_tree.specs.PlanRemoving.{plan_unlink_named};
-ghost use Rattle.fuse_tree.specs.Reading.{Reads};
+ghost use Rattle.fuse_tree.specs.Reading.{LooksUp};
 
 use super::answers::refused;
 use super::attributes::is_directory;
@@ -24,11 +23,8 @@ pub(crate) fn plan_unlink<L: Look>(
     row: &NodeRow,
 ) -> Result<Planned, PlanFault>
     requires { L.fault look.old ≡ None }
-    ensures plan { Reads (L.is_clean look.new) (L.sees look.old) result
+    ensures { LooksUp L.is_clean L.sees L.fault L.looks L.fails look.old look.new result
         (planning.plan_unlink name.now now row.now) }
-    ensures fault { L.fault look.new ≡ look_fault result }
-    ensures looks { look_fault result ≡ None → L.looks look.old look.new }
-    ensures fails { OnErr result (L.fails look.old look.new) }
 {
     if !is_directory(row.mode) {
         return Ok(refused(alloc, Errno::ENOTDIR));
@@ -48,11 +44,8 @@ fn unlink_named<L: Look>(
     row: &NodeRow,
 ) -> Result<Planned, PlanFault>
     requires { L.fault look.old ≡ None }
-    ensures plan { Reads (L.is_clean look.new) (L.sees look.old) result
+    ensures { LooksUp L.is_clean L.sees L.fault L.looks L.fails look.old look.new result
         (plan_unlink_named name.now now row.now) }
-    ensures fault { L.fault look.new ≡ look_fault result }
-    ensures looks { look_fault result ≡ None → L.looks look.old look.new }
-    ensures fails { OnErr result (L.fails look.old look.new) }
 {
     if !row.is_named() {
         return Ok(refused(alloc, Errno::ENOENT));

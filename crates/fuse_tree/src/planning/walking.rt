@@ -1,9 +1,9 @@
-ghost use Rattle.std.specs.Prelude.{◌≡◌, None, OnErr};
+ghost use Rattle.std.specs.Prelude.{◌≡◌, None};
 ghost use Rattle.fuse_tree.specs.State.{up_of, above};
 ghost use Rattle.fuse_tree.specs.Rows.{Rows, IsRowed};
 ghost use Rattle.fuse_tree.specs.Plan.{look_fault};
 ghost use Rattle.fuse_tree.specs.Renaming.{leads_to};
-ghost use Rattle.fuse_tree.specs.Reading.{Reads, Tells};
+ghost use Rattle.fuse_tree.specs.Reading.{Tells, LooksUp, Looked};
 
 use super::fault::PlanFault;
 use super::finding::{find_counters, find_node};
@@ -14,11 +14,8 @@ use crate::look::Look;
 #[tactic(auto, using(crate::proofs::Walking::row_up, crate::proofs::Walking::none_up))]
 fn find_up<L: Look>(look: &mut L, number: u64) -> Result<u64, PlanFault>
     requires { L.fault look.old ≡ None }
-    ensures up { Reads (L.is_clean look.new) (L.sees look.old) result
+    ensures { LooksUp L.is_clean L.sees L.fault L.looks L.fails look.old look.new result
         (λ rows. up_of rows.entries number) }
-    ensures fault { L.fault look.new ≡ look_fault result }
-    ensures looks { look_fault result ≡ None → L.looks look.old look.new }
-    ensures fails { OnErr result (L.fails look.old look.new) }
 {
     match find_node(look, number)? {
         Some(row) => Ok(row.up),
@@ -31,11 +28,8 @@ fn find_up<L: Look>(look: &mut L, number: u64) -> Result<u64, PlanFault>
 #[tactic(auto, using(crate::proofs::Walking::rows_end, crate::proofs::Walking::rows_few))]
 pub(crate) fn lies_in<L: Look>(look: &mut L, node: u64, dir: u64) -> Result<bool, PlanFault>
     requires { L.fault look.old ≡ None }
-    ensures under { Reads (L.is_clean look.new) (L.sees look.old) result
+    ensures { LooksUp L.is_clean L.sees L.fault L.looks L.fails look.old look.new result
         (λ rows. leads_to rows.entries rows.counters.nodes node dir) }
-    ensures fault { L.fault look.new ≡ look_fault result }
-    ensures looks { look_fault result ≡ None → L.looks look.old look.new }
-    ensures fails { OnErr result (L.fails look.old look.new) }
 {
     let counters = find_counters(look)?;
     if counters.nodes > MAX_NODES {
@@ -51,9 +45,7 @@ fn go_up<L: Look>(look: &mut L, node: u64, dir: u64, places: u64) -> Result<bool
     ensures under { look_fault result ≡ None → L.is_clean look.new → (rows : Rows) → IsRowed rows
         → L.sees look.old rows → above rows.entries places dir ≡ 0
         → Tells result (leads_to rows.entries places node dir) }
-    ensures fault { L.fault look.new ≡ look_fault result }
-    ensures looks { look_fault result ≡ None → L.looks look.old look.new }
-    ensures fails { OnErr result (L.fails look.old look.new) }
+    ensures looked { Looked L.fault L.looks L.fails look.old look.new result }
 {
     let mut place = dir;
     for _step in 0..places {

@@ -1,11 +1,10 @@
-ghost use Rattle.std.specs.Prelude.{◌≡◌, ◌+◌, None, length, nat_lt, false, IfOk, OnErr};
+ghost use Rattle.std.specs.Prelude.{◌≡◌, ◌+◌, None, length, nat_lt, false, IfOk};
 ghost use Rattle.fuse_tree.specs.declared.limits.TheConstants.{MAX_FILE as max_file};
 ghost use Rattle.fuse_tree.specs.Writing as writing;
 ghost use Rattle.fuse_tree.specs.Writing.{count_body};
-ghost use Rattle.fuse_tree.specs.Plan.{look_fault};
 ghost use Rattle.fuse_tree.specs.PlanWriting as planning;
 ghost use Rattle.fuse_tree.specs.PlanWriting.{written_row, write_changes, plan_written};
-ghost use Rattle.fuse_tree.specs.Reading.{Reads, told};
+ghost use Rattle.fuse_tree.specs.Reading.{told, LooksUp};
 
 use super::answers::{refused, unchanged};
 use super::fault::PlanFault;
@@ -28,11 +27,8 @@ pub(crate) fn plan_write<L: Look>(
     row: &NodeRow,
 ) -> Result<Planned, PlanFault>
     requires { L.fault look.old ≡ None }
-    ensures plan { Reads (L.is_clean look.new) (L.sees look.old) result
+    ensures { LooksUp L.is_clean L.sees L.fault L.looks L.fails look.old look.new result
         (planning.plan_write fh offset payload.now now row.now) }
-    ensures fault { L.fault look.new ≡ look_fault result }
-    ensures looks { look_fault result ≡ None → L.looks look.old look.new }
-    ensures fails { OnErr result (L.fails look.old look.new) }
 {
     if !may_write(find_access(look, fh, row.node)?) {
         return Ok(refused(alloc, Errno::EBADF));

@@ -10,10 +10,10 @@ loop-entry-preserved g c =
     let before = c.loop-entry.invariant in
     let dirents = c.loop-entry.dirents.items in
     let one = c.in_ok-dirent.ensures in
-    let looks = one.looks (refl {a = None}) in
+    let looks = one.looked.looks (refl {a = None}) in
     let at = sym c.entry-item.is in
     record {
-      fault = one.fault;
+      fault = one.looked.fault;
       looks = g.met.L.Look.and_then c.args.look.now c.loop-entry.look c.dirent_of.new.look before.looks looks;
       named = rw c.in_ok-push.ensures.items (All-push (λ d. IsNamed (entry_of d)) dirents c.in_ok-dirent.dirent before.named one.named);
       entries = λ clean rows is sees shown.

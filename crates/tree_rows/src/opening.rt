@@ -1,6 +1,6 @@
 //! OPEN, OPENDIR, RELEASE and RELEASEDIR: what they answer, and their refusals.
-use super::rows::failed_row;
-use super::*;
+use crate::rows::failed_row;
+use std::test::*;
 
 // Directory `a` (node 2, cookie 3), file `nine.text` (3, 4), and a FIFO (4), which has no name any
 // more. The file is open under 1 and 2, the root under 3, and the directory under 4.

@@ -12,10 +12,15 @@
 //! - `put-node NODE MODE UP SUBDIRS`, `put-entry NAME CHILD COOKIE` (in the root), `put-handle FH
 //!   NODE`, `put-cookie N`, `put-nodes N` and `put-handles N` change it without a request. Where
 //!   it isn't a tree any more, what is asked may be answered `lost`.
-use super::words::{Words, number};
-use super::*;
+use crate::requests::{asked_at, at, nameless};
+use crate::words::{Words, number};
 use fuse_init::Settings;
-use fuse_wire::{AccessMode, InitFlags};
+use fuse_tree::{
+    Change, Counters, EntryRow, HandleRow, Look, NodeRow, PlainRows, Planned, ROOT_ID,
+};
+use fuse_wire::{AccessMode, ByteList, InitFlags};
+use std::alloc::Global;
+use std::test::Fail;
 
 // How many rows come before the first that isn't so.
 pub fn failed_row(alloc: Global, setup: &[u8], rows: &[u8]) -> Result<Option<usize>, Fail> {

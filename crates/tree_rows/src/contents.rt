@@ -1,8 +1,8 @@
 //! WRITE and READ, over a file that holds `one`: rows `write-limits`, `last-byte`, `cut-and-grow`
 //! and `handles`.
-use super::file::WITH_FILE;
-use super::rows::failed_row;
-use super::*;
+use crate::file::WITH_FILE;
+use crate::rows::failed_row;
+use std::test::*;
 
 // A gap is zero bytes, and no bytes make no gap.
 const WRITES: &[u8] = b"\

@@ -1,7 +1,15 @@
 //! A `Look` of the tests, which counts how often it is asked. Contracts say nothing of it.
-use super::*;
+use crate::requests::{at, nameless, request_of};
+use crate::words::{Words, number};
 use fuse_init::Settings;
-use fuse_wire::{AccessMode, InitFlags, Memory};
+use fuse_request::Op;
+use fuse_tree::{
+    Counters, EntryRow, HandleRow, Look, LookFault, NodeRow, Planned, ROOT_ID, S_IFDIR, S_IFREG,
+    plan,
+};
+use fuse_wire::{AccessMode, ByteList, InitFlags, Memory};
+use std::alloc::Global;
+use std::test::*;
 
 /// How often nodes, entries, listings and counters were looked at.
 pub type Looks = [u64; 4];
@@ -43,8 +51,8 @@ impl Look for Many {
         let [b'n', digits @ ..] = name else {
             return Ok(None);
         };
-        let number = words::number(digits);
-        match entry_of(self.alloc, b"", number, number) {
+        let child = number(digits);
+        match entry_of(self.alloc, b"", child, child) {
             Ok(entry) => Ok(Some(entry)),
             Err(_) => Err(self.fails()),
         }
@@ -182,7 +190,7 @@ const NINE: Counters = Counters {
 
 // How often is looked for what the words ask of the root, which is answered without an error.
 fn looks_of(alloc: Global, text: &[u8]) -> Result<Looks, Fail> {
-    let op = words::Words::of(text, b' ').op()?;
+    let op = Words::of(text, b' ').op()?;
     let (planned, looks) = planned_where(alloc, NINE, ROOT_ID, op)?;
     if planned.answer.errno.0 == 0 {
         Ok(looks)

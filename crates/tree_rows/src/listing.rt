@@ -1,7 +1,8 @@
 //! READDIR: rows `readdir` and `rename-new-cookie`, entries of a directory, and its refusals.
-use super::opening::OPENED;
-use super::rows::failed_row;
-use super::*;
+use crate::first::BEGUN;
+use crate::opening::OPENED;
+use crate::rows::failed_row;
+use std::test::*;
 
 // Entries that lead nowhere or have no name are those of no tree, and so are too many directories.
 const DOTS: &[u8] = b"\

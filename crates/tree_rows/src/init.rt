@@ -1,6 +1,6 @@
 //! INIT: what it answers, what it settles, and that it comes first.
-use super::rows::failed_row;
-use super::*;
+use crate::rows::failed_row;
+use std::test::*;
 
 // Before one is agreed on, and after one is: another agreed one replaces the settings, no other
 // does.

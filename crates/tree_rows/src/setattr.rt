@@ -1,7 +1,7 @@
 //! SETATTR, over a file that holds `one`: rows `setattr-size-and-mode` and `setattr-size-kinds`.
-use super::file::WITH_FILE;
-use super::rows::failed_row;
-use super::*;
+use crate::file::WITH_FILE;
+use crate::rows::failed_row;
+use std::test::*;
 
 const SIZES: &[u8] = b"\
     new 2000 2 setattr 8 5 0 = 0 all 01000000000000000000000000000000020000000000000005000000000\

@@ -1,8 +1,9 @@
 //! Row `limits`, over a `Look` of the test.
-use super::looks::planned_where;
-use super::rows::counters_of;
-use super::words::Words;
-use super::*;
+use crate::looks::planned_where;
+use crate::rows::counters_of;
+use crate::words::Words;
+use std::alloc::Global;
+use std::test::*;
 
 // The counters of a store, what is asked of a node there, and the error number.
 const LIMITS: &[u8] = b"\

@@ -1,7 +1,9 @@
 ghost use Rattle.std.specs.Prelude.{◌≤◌, ◌+◌};
 ghost use Rattle.fuse_tree.specs.declared.limits.TheConstants.{MAX_FILE as max_file};
 
-use super::*;
+use fuse_tree::{Piece, Pieces};
+use std::alloc::Global;
+use std::test::*;
 
 fn piece(block: u32, start: u32, len: u32) -> Piece {
     Piece { block, start, len }

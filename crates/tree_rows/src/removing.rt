@@ -1,6 +1,6 @@
 //! UNLINK and RMDIR: what they leave, and their refusals.
-use super::rows::failed_row;
-use super::*;
+use crate::rows::failed_row;
+use std::test::*;
 
 // Directory `a` (node 2, cookie 3), file `f` (3, 4), directory `a/b` (4, 5), file `a/b/g` (5, 6)
 // and directory `e` (6, 7), which has no name any more.

@@ -1,12 +1,14 @@
 ghost use Rattle.std.specs.Prelude.{◌≡◌, None, IfOk};
 ghost use Rattle.fuse_tree.specs.PlainRows.{fault_of};
 
-use super::*;
-use crate::limits::ROOT_ID;
-use crate::mode::S_IFREG;
-use fuse_wire::{AccessMode, InitFlags};
-use std::alloc::AllocError;
-use std::test::Fail;
+use fuse_init::Settings;
+use fuse_tree::{
+    Change, ChangeList, Counters, EntryRow, HandleRow, Look, LookFault, NodeRow, PlainRows,
+    ROOT_ID, S_IFREG,
+};
+use fuse_wire::{AccessMode, ByteList, InitFlags, Moment};
+use std::alloc::{AllocError, Global};
+use std::test::*;
 
 const EARLY: Moment = Moment { secs: 0, nanos: 0 };
 
@@ -119,10 +121,61 @@ fn a_new_store_has_a_root(rt: HostRuntime) -> Result<(), Fail> {
     Ok(())
 }
 
-// How many nodes, entries and handles there are, and what node 2 holds.
-fn shown(alloc: Global, rows: &PlainRows) -> Result<([usize; 3], ByteList), Memory> {
-    let counts = [rows.nodes.len(), rows.entries.len(), rows.handles.len()];
-    Ok((counts, rows.nodes.bytes(alloc, 2, 0, 100)?))
+// A copy of the rows.
+fn copy_of(rows: &PlainRows) -> Result<PlainRows, Fail>
+    ensures { IfOk result (λ copy. fault_of copy ≡ None) }
+{
+    Ok(rows.to_copy()?)
+}
+
+fn node_in(rows: &PlainRows, number: u64) -> Result<Option<NodeRow>, Fail> {
+    let mut copy = copy_of(rows)?;
+    Ok(copy.node(number)?)
+}
+
+fn handle_in(rows: &PlainRows, fh: u64) -> Result<Option<HandleRow>, Fail> {
+    let mut copy = copy_of(rows)?;
+    Ok(copy.handle(fh)?)
+}
+
+// The bytes of node 2, and what has failed after that.
+fn bytes_in(
+    rows: &PlainRows,
+    offset: u64,
+    len: u32,
+) -> Result<(ByteList, Option<LookFault>), Fail> {
+    let mut copy = copy_of(rows)?;
+    let bytes = copy.bytes(2, offset, len)?;
+    Ok((bytes, copy.failed()))
+}
+
+// The cookie of the root's entry of this name.
+fn cookie_in(rows: &PlainRows, name: &[u8]) -> Result<u64, Fail> {
+    let mut copy = copy_of(rows)?;
+    let found = copy.entry(ROOT_ID, name)?.ok_or("an entry")?;
+    Ok(found.cookie)
+}
+
+fn entries_in(rows: &PlainRows, cookie: u64, limit: usize) -> Result<Vec<EntryRow>, Fail> {
+    let mut copy = copy_of(rows)?;
+    Ok(copy.entries_after(ROOT_ID, cookie, limit)?)
+}
+
+// How many nodes have a name: those that a mount leaves.
+fn named_in(rows: &PlainRows) -> Result<u64, Fail> {
+    let mut copy = copy_of(rows)?;
+    copy.begin_mount();
+    Ok(copy.counted().nodes)
+}
+
+// How many nodes have a name and how many entries the root has, and whether handle 1 is there.
+fn shown(rows: &PlainRows) -> Result<(u64, usize, bool), Fail> {
+    let entries = entries_in(rows, 0, 9)?;
+    Ok((
+        named_in(rows)?,
+        entries.len(),
+        handle_in(rows, 1)?.is_some(),
+    ))
 }
 
 fn each_change(alloc: Global) -> Result<Vec<Change>, AllocError> {
@@ -140,17 +193,18 @@ fn each_change(alloc: Global) -> Result<Vec<Change>, AllocError> {
     Ok(changes)
 }
 
-const AFTER_EACH: [([usize; 3], &[u8]); 10] = [
-    ([2, 0, 0], b""),
-    ([2, 0, 0], b""),
-    ([2, 1, 0], b""),
-    ([2, 1, 1], b""),
-    ([2, 1, 1], b"\0\0\0abc"),
-    ([2, 1, 1], b"\0\0\0azc"),
-    ([2, 1, 1], b"\0\0\0az"),
-    ([2, 1, 1], b"\0\0\0az\0\0"),
-    ([2, 1, 0], b"\0\0\0az\0\0"),
-    ([2, 0, 0], b"\0\0\0az\0\0"),
+// What is shown after each, and what node 2 holds.
+const AFTER_EACH: [((u64, usize, bool), &[u8]); 10] = [
+    ((2, 0, false), b""),
+    ((1, 0, false), b""),
+    ((1, 1, false), b""),
+    ((1, 1, true), b""),
+    ((1, 1, true), b"\0\0\0abc"),
+    ((1, 1, true), b"\0\0\0azc"),
+    ((1, 1, true), b"\0\0\0az"),
+    ((1, 1, true), b"\0\0\0az\0\0"),
+    ((1, 1, false), b"\0\0\0az\0\0"),
+    ((1, 0, false), b"\0\0\0az\0\0"),
 ];
 
 #[test]
@@ -159,9 +213,9 @@ fn makes_each_change(rt: HostRuntime) -> Result<(), Fail> {
     let changes = each_change(rt.alloc())?;
     for (change, (counts, content)) in changes.into_iter().zip(AFTER_EACH) {
         rows.apply(change)?;
-        let after = shown(rt.alloc(), &rows)?;
-        assert_eq!(rt; after.0, counts);
-        assert_eq!(rt; after.1.as_slice(), content);
+        assert_eq!(rt; shown(&rows)?, counts);
+        let after = bytes_in(&rows, 0, 100)?;
+        assert_eq!(rt; after.0.as_slice(), content);
     }
     Ok(())
 }
@@ -174,58 +228,23 @@ fn keeps_counters_and_settings(rt: HostRuntime) -> Result<(), Fail> {
     Ok(())
 }
 
-// A copy of the rows.
-fn copied(alloc: Global) -> Result<PlainRows, Fail>
-    ensures { IfOk result (λ copy. fault_of copy ≡ None) }
-{
-    Ok(some_rows(alloc)?.to_copy()?)
-}
-
-fn node_in(alloc: Global, number: u64) -> Result<Option<NodeRow>, Fail> {
-    let mut copy = copied(alloc)?;
-    Ok(copy.node(number)?)
-}
-
-fn handle_in(alloc: Global, fh: u64) -> Result<Option<HandleRow>, Fail> {
-    let mut copy = copied(alloc)?;
-    Ok(copy.handle(fh)?)
-}
-
-// The bytes of node 2, and what has failed after that.
-fn bytes_in(alloc: Global, offset: u64, len: u32) -> Result<(ByteList, Option<LookFault>), Fail> {
-    let mut copy = copied(alloc)?;
-    let bytes = copy.bytes(2, offset, len)?;
-    Ok((bytes, copy.failed()))
-}
-
 #[test]
 fn looks_at_nodes_and_handles(rt: HostRuntime) -> Result<(), Fail> {
-    let alloc = rt.alloc();
-    assert_eq!(rt; node_in(alloc, 2)?, Some(file(2, ROOT_ID)));
-    assert_eq!(rt; node_in(alloc, 9)?, None);
-    assert_eq!(rt; handle_in(alloc, 1)?, Some(HANDLE));
-    let found = bytes_in(alloc, 1, 9)?;
+    let rows = some_rows(rt.alloc())?;
+    assert_eq!(rt; node_in(&rows, 2)?, Some(file(2, ROOT_ID)));
+    assert_eq!(rt; node_in(&rows, 9)?, None);
+    assert_eq!(rt; handle_in(&rows, 1)?, Some(HANDLE));
+    let found = bytes_in(&rows, 1, 9)?;
     assert_eq!(rt; found.0.as_slice(), b"ne".as_slice());
     assert_eq!(rt; found.1, None);
     Ok(())
 }
 
-// The cookie of the root's entry of this name.
-fn cookie_of(alloc: Global, name: &[u8]) -> Result<u64, Fail> {
-    let mut copy = copied(alloc)?;
-    let found = copy.entry(ROOT_ID, name)?.ok_or("an entry")?;
-    Ok(found.cookie)
-}
-
-fn entries_in(alloc: Global, cookie: u64, limit: usize) -> Result<Vec<EntryRow>, Fail> {
-    let mut copy = copied(alloc)?;
-    Ok(copy.entries_after(ROOT_ID, cookie, limit)?)
-}
-
 #[test]
 fn looks_at_entries(rt: HostRuntime) -> Result<(), Fail> {
-    assert_eq!(rt; cookie_of(rt.alloc(), b"b")?, 4);
-    let first = entries_in(rt.alloc(), 2, 1)?;
+    let rows = some_rows(rt.alloc())?;
+    assert_eq!(rt; cookie_in(&rows, b"b")?, 4);
+    let first = entries_in(&rows, 2, 1)?;
     assert_eq!(rt; first.len(), 1);
     assert_eq!(rt; first[0].cookie, 3);
     Ok(())
@@ -235,10 +254,10 @@ fn looks_at_entries(rt: HostRuntime) -> Result<(), Fail> {
 fn a_mount_leaves_named_nodes(rt: HostRuntime) -> Result<(), Fail> {
     let mut rows = some_rows(rt.alloc())?;
     rows.begin_mount();
-    assert_eq!(rt; rows.nodes.row(2), Some(file(2, ROOT_ID)));
-    assert_eq!(rt; rows.nodes.row(3), None);
-    assert_eq!(rt; rows.entries.len(), 2);
-    assert_eq!(rt; rows.handles.len(), 0);
+    assert_eq!(rt; node_in(&rows, 2)?, Some(file(2, ROOT_ID)));
+    assert_eq!(rt; node_in(&rows, 3)?, None);
+    assert_eq!(rt; entries_in(&rows, 0, 9)?.len(), 2);
+    assert_eq!(rt; handle_in(&rows, 1)?, None);
     assert_eq!(rt; rows.agreed(), None);
     let left = Counters {
         nodes: 2,
@@ -247,9 +266,4 @@ fn a_mount_leaves_named_nodes(rt: HostRuntime) -> Result<(), Fail> {
     };
     assert_eq!(rt; rows.counted(), left);
     Ok(())
-}
-
-#[test]
-fn laws() {
-    crate::mount::clearing();
 }

@@ -1,6 +1,7 @@
 //! MKNOD: row `mknod-modes`, what else it makes, and its refusals.
-use super::rows::failed_row;
-use super::*;
+use crate::first::BEGUN;
+use crate::rows::failed_row;
+use std::test::*;
 
 // Modes and devices that are asked for, and those of the new node. A directory, a symbolic link and
 // numbers that are no type aren't made. The last cookie is taken.

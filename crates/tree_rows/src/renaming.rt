@@ -1,7 +1,7 @@
 //! RENAME and RENAME2: rows `rename-refusals`, `rename-new-cookie`, `exchange` and
 //! `rename2-refusals`, what they leave, and the order of their checks.
-use super::rows::failed_row;
-use super::*;
+use crate::rows::failed_row;
+use std::test::*;
 
 // Directory `a` (node 2, cookie 3), directory `a/b` (3, 4), file `f` (4, 5), empty directory `e`
 // (5, 6), and directory 6, which has no name any more.

@@ -1,6 +1,6 @@
 //! The words of a row, and what they ask.
-use super::*;
-use fuse_request::{ReadIn, ReleaseIn, SetattrIn};
+use fuse_request::{InitIn, Op, ReadIn, ReleaseIn, SetattrIn};
+use std::test::Fail;
 
 /// What is left of words with a byte between them.
 #[derive(Clone, Copy)]
