@@ -1,5 +1,5 @@
 -- How a map of records is copied, one entry after another.
-use Rattle.std.proofs.Common.{◌≡◌, ℕ, ◌+◌, ◌<◌, suc, Bool, true, false, cond, nat_eq, List, ◌∷◌, length, get_or, All, Option, Some, None, refl, sym, ap, ◌∙◌, arith}
+use Rattle.std.proofs.Common.{◌≡◌, ℕ, suc, Bool, true, false, cond, nat_eq, List, ◌∷◌, All, Option, Some, None, refl, sym, ap, ◌∙◌, arith}
 use Rattle.std.specs.Map.{lookup}
 use Rattle.fuse_answer.specs.Said.{Said}
 use Rattle.fuse_keeper.specs.Stands.{Records}

@@ -5,3 +5,4 @@ pub mod Overlays
 pub mod Counting
 pub mod Copying
 pub mod Keeping
+mod Handing

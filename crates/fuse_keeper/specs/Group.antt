@@ -1,5 +1,5 @@
 -- The groups that a keeper performs.
-use Rattle.std.specs.Prelude.{◌≢◌, ℕ, List, map}
+use Rattle.std.specs.Prelude.{◌≢◌, ℕ, List, [], ◌∷◌, map}
 use Rattle.fuse_wire.specs.declared.id.Id.{Id}
 use Rattle.fuse_wire.specs.declared.moment.Moment.{Moment}
 use Rattle.fuse_request.specs.declared.request.Request.{Request}
@@ -25,3 +25,12 @@ IsKept e = act.IsKept e.asked.act
 -- the numbers of ids
 abbrev pub ids_of : List Id → List ℕ
 ids_of ids = map (λ id. id.0) ids
+
+-- an empty group isn't performed: no ids are handed on with it, and all stays pending
+abbrev pub handed_to : List Entry → List ℕ → List ℕ
+handed_to [] pending = []
+handed_to (e ∷ es) pending = pending
+
+abbrev pub left_pending : List Entry → List ℕ → List ℕ
+left_pending [] pending = pending
+left_pending (e ∷ es) pending = []

@@ -1,3 +1,4 @@
+pub mod Bounds
 pub mod Model
 pub mod History
 pub mod Lots

@@ -1,10 +1,12 @@
 // How a group of requests is taken, over rows and records that stay as they are meanwhile.
-ghost use Rattle.std.specs.Prelude.{◌≡◌, ◌⊎◌, ◌+◌, ◌++◌, ◌∷◌, [], ℕ, Bool, true, List, Option, Some, None, length, All, IfOk, IfErr, OnOk};
+ghost use Rattle.std.specs.Prelude.{◌≡◌, ◌⊎◌, ◌+◌, ◌++◌, ◌∷◌, [], ℕ, Bool, true, List, Option};
+ghost use Rattle.std.specs.Prelude.{Some, None, length, All, IfOk, IfErr, OnOk};
 ghost use Rattle.std.specs.Prelude.{◌≤◌, vec_len};
 ghost use Rattle.std.specs.HashMap.{spare};
 ghost use Rattle.std.specs.Option.{option_copied};
 ghost use Rattle.fuse_request.specs.Act.{asked};
-ghost use Rattle.fuse_keeper.specs.History.{History, entry_id, is_in, ids_in, Includes, IsUnsettled};
+ghost use Rattle.fuse_keeper.specs.History.{History, entry_id, is_in, ids_in, Includes};
+ghost use Rattle.fuse_keeper.specs.History.{IsUnsettled};
 ghost use Rattle.fuse_keeper.specs.Model.{IsRowed};
 ghost use Rattle.fuse_keeper.specs.Stands.{Records, AreThese, Stands, PerformedBy};
 ghost use Rattle.fuse_keeper.specs.Group.{entry_of, entries_of, IsKept, ids_of};
@@ -58,7 +60,8 @@ fn known<'a>(
     added: &'a [Record],
     id: u64,
 ) -> Option<&'a Answer>
-    ensures { option_copied result ≡ over added.now (without (ids_of settled.now) (mapped records.now)) id }
+    ensures { option_copied result ≡ over added.now
+        (without (ids_of settled.now) (mapped records.now)) id }
 {
     if let Some(answer) = recorded(added, id) {
         return Some(answer);
@@ -87,11 +90,17 @@ fn take_one<F: FileSystem>(
 ) -> Result<Done, StoreFault>
     requires ready { F.is_ready draft.old.rows }
     requires kept { IsKept (entry_of (request.now, now)) }
-    ensures took { IfOk result (λ done. Took F.model (F.held draft.old.rows) (over draft.old.added.items (without (ids_of settled.now) (mapped records.now))) (entry_of (request.now, now))
-        (F.held draft.new.rows) (over draft.new.added.items (without (ids_of settled.now) (mapped records.now))) done) }
+    ensures took { IfOk result (λ done. Took F.model (F.held draft.old.rows)
+        (over draft.old.added.items (without (ids_of settled.now) (mapped records.now)))
+        (entry_of (request.now, now))
+        (F.held draft.new.rows) (over draft.new.added.items
+        (without (ids_of settled.now) (mapped records.now))) done) }
     ensures ready { OnOk result (F.is_ready draft.new.rows) }
-    ensures ids { OnOk result ((i : ℕ) → is_in (record_ids draft.new.added.items) i ≡ true → (is_in (record_ids draft.old.added.items) i ≡ true) ⊎ (i ≡ entry_id (entry_of (request.now, now)))) }
-    ensures fault { IfErr result (λ f. IsRowed F.model (F.held draft.old.rows) → f ≡ StoreFault.Memory) }
+    ensures ids { OnOk result ((i : ℕ) → is_in (record_ids draft.new.added.items) i ≡ true
+        → (is_in (record_ids draft.old.added.items) i ≡ true)
+        ⊎ (i ≡ entry_id (entry_of (request.now, now)))) }
+    ensures fault { IfErr result (λ f. IsRowed F.model (F.held draft.old.rows)
+        → f ≡ StoreFault.Memory) }
 {
     let id = Id::of(request.header.unique).0;
     if let Some(answer) = known(records, settled, draft.added.as_slice(), id) {
@@ -125,13 +134,18 @@ pub(crate) fn take_all<F: FileSystem>(
     group: &[(Request<'_>, Moment)],
 ) -> Result<Taken<F>, StoreFault>
     requires { All IsKept (entries_of group.now) }
-    ensures performed { IfOk result (λ taken. (s : F.model.State) (h : History) (t : List ℕ) → Stands F.model (F.held rows.now) (without (ids_of settled.now) (mapped records.now)) s h t
+    ensures performed { IfOk result (λ taken. (s : F.model.State) (h : History) (t : List ℕ)
+        → Stands F.model (F.held rows.now) (without (ids_of settled.now) (mapped records.now)) s h t
         → All (IsUnsettled t) (entries_of group.now)
-        → PerformedBy F.model (AreThese F.model (F.held taken.draft.rows) (over taken.draft.added.items (without (ids_of settled.now) (mapped records.now)))) s h t (entries_of group.now) taken.dones.items) }
+        → PerformedBy F.model (AreThese F.model (F.held taken.draft.rows)
+        (over taken.draft.added.items (without (ids_of settled.now) (mapped records.now)))) s h t
+        (entries_of group.now) taken.dones.items) }
     ensures count { IfOk result (λ taken. length taken.dones.items ≡ length group.now) }
     ensures ready { IfOk result (λ taken. F.is_ready taken.draft.rows) }
-    ensures ids { IfOk result (λ taken. Includes (ids_in (entries_of group.now)) (record_ids taken.draft.added.items)) }
-    ensures rowed { IfOk result (λ taken. IsRowed F.model (F.held rows.now) → IsRowed F.model (F.held taken.draft.rows)) }
+    ensures ids { IfOk result (λ taken. Includes (ids_in (entries_of group.now))
+        (record_ids taken.draft.added.items)) }
+    ensures rowed { IfOk result (λ taken. IsRowed F.model (F.held rows.now)
+        → IsRowed F.model (F.held taken.draft.rows)) }
     ensures fault { IfErr result (λ f. IsRowed F.model (F.held rows.now) → f ≡ StoreFault.Memory) }
 {
     let mut draft = Draft {
@@ -152,7 +166,8 @@ pub(crate) fn take_all<F: FileSystem>(
 /// Removes the records of settled ids, and adds these. It needs room for them.
 pub(crate) fn settle(records: &mut HashMap<u64, Answer>, settled: &[Id], added: Vec<Record>)
     requires { vec_len added ≤ spare records.old }
-    ensures { (i : ℕ) → mapped records.new i ≡ over added.items (without (ids_of settled.now) (mapped records.old)) i }
+    ensures { (i : ℕ) → mapped records.new i ≡ over added.items
+        (without (ids_of settled.now) (mapped records.old)) i }
 {
     for id in settled {
         records.remove(&id.0);

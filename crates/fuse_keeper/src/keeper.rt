@@ -1,8 +1,9 @@
 ghost use Rattle.std.specs.Prelude.{◌≡◌, ◌≤◌, ℕ, length, All, IfOk, OnOk};
 ghost use Rattle.fuse_keeper.specs.Model.{Model, IsSoundModel};
 ghost use Rattle.fuse_keeper.specs.Stands.{Records, CountsRecords};
-ghost use Rattle.fuse_keeper.specs.KeeperState.{KeeperState, IsSound, IsFirm, Tells, AnswersNoMore, IsCount};
-ghost use Rattle.fuse_keeper.specs.KeeperState.{Called, Looked, Performs, KeepsOthers, KeepsLots, LeavesGroup};
+ghost use Rattle.fuse_keeper.specs.KeeperState.{KeeperState, IsSound, IsFirm, IsCount, Tells};
+ghost use Rattle.fuse_keeper.specs.KeeperState.{AnswersNoMore, Called, Looked, Performs};
+ghost use Rattle.fuse_keeper.specs.KeeperState.{KeepsOthers, KeepsLots, LeavesGroup};
 ghost use Rattle.fuse_keeper.specs.KeeperState.{BeginsMount, DropsLots, LeavesMount};
 ghost use Rattle.fuse_keeper.specs.Group.{entries_of, HasId, IsKept, ids_of};
 
@@ -50,8 +51,8 @@ pub trait Keeper: Drop {
     /// doesn't count lets all be so.
     ghost became: { Self → Self → ℕ → Type 0 };
 
-    /// Removes the records of settled ids, then performs a group, all in one transaction. A request whose id
-    /// is recorded, in the group too, is a repeat.
+    /// Removes the records of settled ids, then performs a group, all in one transaction. A request
+    /// whose id is recorded, in the group too, is a repeat.
     fn perform(
         &mut self,
         group: &[(Request<'_>, Moment)],

@@ -1,6 +1,8 @@
+ghost use Rattle.std.specs.Prelude.{◌≡◌};
+ghost use Rattle.fuse_keeper.specs.Bounds as bounds;
 ghost use Rattle.fuse_keeper.specs.History.{HistoriesGrow, SaidFits};
 
-use crate::keeper::Keeper;
+use crate::keeper::{Keeper, MAX_GROUP, MAX_SETTLED};
 
 /// What was said of an id fits.
 pub fn said_fits<K: Keeper>()
@@ -12,4 +14,10 @@ pub fn said_fits<K: Keeper>()
 /// What is added to a history is there, and what was said of it stays.
 pub fn histories_grow<K: Keeper>()
     ensures { HistoriesGrow K.model }
+{}
+
+/// How many requests a group has at most, and how many settled ids a call is given.
+pub fn group_bounds()
+    ensures requests { MAX_GROUP ≡ bounds.max_group_len }
+    ensures settled { MAX_SETTLED ≡ bounds.max_settled_len }
 {}

@@ -1,4 +1,5 @@
-//! Keepers of any file system: what one is, what a store of it and of the recorded answers is to do, and one in memory.
+//! Keepers of any file system: what one is, what a store of it and of the recorded answers is to
+//! do, and one in memory.
 #![tactic(auto)]
 
 mod fault;
@@ -6,12 +7,14 @@ mod file_system;
 mod group;
 mod keeper;
 mod laws;
+mod pending;
 mod plain;
 mod restart;
 
 pub use fault::StoreFault;
 pub use file_system::FileSystem;
 pub use keeper::{Done, Keeper, MAX_GROUP, MAX_SETTLED, StoreCounts};
-pub use laws::{histories_grow, said_fits};
+pub use laws::{group_bounds, histories_grow, said_fits};
+pub use pending::perform_group;
 pub use plain::PlainKeeper;
 pub use restart::Restart;

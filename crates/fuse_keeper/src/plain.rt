@@ -1,5 +1,6 @@
 // A keeper of lists.
-ghost use Rattle.std.specs.Prelude.{◌≡◌, ℕ, Bool, List, false, [], length, All, IfOk, OnOk, OnErr, IfErr, Ok};
+ghost use Rattle.std.specs.Prelude.{◌≡◌, ℕ, Bool, List, false, [], length, All, IfOk, OnOk, OnErr};
+ghost use Rattle.std.specs.Prelude.{IfErr, Ok};
 ghost use Rattle.fuse_keeper.specs.History.{History, Includes, IsUnsettled};
 ghost use Rattle.fuse_keeper.specs.Model.{IsRowed};
 ghost use Rattle.fuse_keeper.specs.Stands.{StandsBy, PerformedBy, KeepsHeldBy, OthersStay};
@@ -29,7 +30,8 @@ fn copy_of(records: &HashMap<u64, Answer>, alloc: Global) -> Result<HashMap<u64,
     Ok(copy)
 }
 
-/// A keeper whose rows are lists and whose records are a map, all in memory. A crash leaves what it holds.
+/// A keeper whose rows are lists and whose records are a map, all in memory. A crash leaves what it
+/// holds.
 #[derive(Drop)]
 pub struct PlainKeeper<F> {
     alloc: Global,
@@ -44,7 +46,8 @@ impl<F: FileSystem> PlainKeeper<F> {
 
     /// A new store, made at this moment.
     pub fn new(alloc: Global, now: Moment) -> Result<PlainKeeper<F>, Memory>
-        ensures stands { IfOk result (λ k. StandsFor (plain_told F.model F.held k) (F.model.start now) [] []) }
+        ensures stands { IfOk result (λ k. StandsFor (plain_told F.model F.held k)
+            (F.model.start now) [] []) }
         ensures going { IfOk result (λ k. (plain_told F.model F.held k).has_failed ≡ false) }
     {
         F::model_is_sound();
@@ -54,7 +57,8 @@ impl<F: FileSystem> PlainKeeper<F> {
 
     /// A store of this file system, without a record.
     pub fn over(alloc: Global, rows: F) -> PlainKeeper<F>
-        ensures stands { (s : F.model.State) → F.model.IsGood s → F.held rows ≡ F.model.held_for s → StandsFor (plain_told F.model F.held result) s [] [] }
+        ensures stands { (s : F.model.State) → F.model.IsGood s → F.held rows ≡ F.model.held_for s
+            → StandsFor (plain_told F.model F.held result) s [] [] }
         ensures going { (plain_told F.model F.held result).has_failed ≡ false }
     {
         PlainKeeper {
@@ -90,13 +94,19 @@ impl<F: FileSystem> PlainKeeper<F> {
     ) -> Result<Vec<Done>, StoreFault>
         requires { All IsKept (entries_of group.now) }
         ensures count { IfOk result (λ dones. length dones.items ≡ length group.now) }
-        ensures ok { IfOk result (λ dones. (s : F.model.State) (h : History) (t : List ℕ) → StandsBy F.model (plain_holds F.model F.held self.old) s h t
+        ensures ok { IfOk result (λ dones. (s : F.model.State) (h : History) (t : List ℕ)
+            → StandsBy F.model (plain_holds F.model F.held self.old) s h t
             → Includes t (ids_of settled.now) → All (IsUnsettled t) (entries_of group.now)
-            → PerformedBy F.model (plain_holds F.model F.held self.new) s h t (entries_of group.now) dones.items) }
-        ensures rowed { OnOk result (IsRowed F.model (F.held self.old.rows) → IsRowed F.model (F.held self.new.rows)) }
-        ensures others { OnOk result (OthersStay (mapped self.old.records) (ids_of settled.now) (entries_of group.now) (mapped self.new.records)) }
-        ensures err { OnErr result (KeepsHeldBy F.model (plain_holds F.model F.held self.old) (plain_holds F.model F.held self.new)) }
-        ensures fault { IfErr result (λ f. IsRowed F.model (F.held self.old.rows) → f ≡ StoreFault.Memory) }
+            → PerformedBy F.model (plain_holds F.model F.held self.new) s h t (entries_of group.now)
+            dones.items) }
+        ensures rowed { OnOk result (IsRowed F.model (F.held self.old.rows)
+            → IsRowed F.model (F.held self.new.rows)) }
+        ensures others { OnOk result (OthersStay (mapped self.old.records) (ids_of settled.now)
+            (entries_of group.now) (mapped self.new.records)) }
+        ensures err { OnErr result (KeepsHeldBy F.model (plain_holds F.model F.held self.old)
+            (plain_holds F.model F.held self.new)) }
+        ensures fault { IfErr result (λ f. IsRowed F.model (F.held self.old.rows)
+            → f ≡ StoreFault.Memory) }
         ensures failed { self.new.failed ≡ self.old.failed }
     {
         let taken = take_all(self.alloc, &self.rows, &self.records, settled, group)?;

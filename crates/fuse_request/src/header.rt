@@ -1,7 +1,10 @@
-ghost use Rattle.std.specs.Prelude.{◌≡◌, ◌<◌, ◌≤◌, ◌↔◌, IfSome, nat_lt, if◌then◌else◌, length};
+ghost use Rattle.std.specs.Prelude.{◌≡◌, ◌<◌, ◌≤◌, ◌↔◌, ◌∷◌, [], IfSome, IsTrue, nat_lt};
+ghost use Rattle.std.specs.Prelude.{if◌then◌else◌, length};
 ghost use Rattle.fuse_wire.specs.Bounds.{min_message_len};
 ghost use Rattle.fuse_request.specs.Header.{IsHeaderOf, raw_of};
+ghost use Rattle.fuse_request.specs.Stream.{IsMessage, cut};
 
+use crate::laws::cut_steps;
 use fuse_wire::{layouts_stand, u16_at, u32_at, u64_at};
 
 /// The length of the shortest message: a header alone, `fuse_in_header` of `fuse.h`.
@@ -48,6 +51,18 @@ pub fn header_of(message: &[u8]) -> Option<RawHeader>
         total_extlen: u16_at(message, 36),
         padding: u16_at(message, 38),
     })
+}
+
+/// Whether bytes are just one message. Takes no memory.
+pub fn is_message(bytes: &[u8]) -> bool
+    ensures message { IsTrue result ↔ IsMessage bytes.now }
+    // So a stream of them has that message alone, and no rest.
+    ensures alone { IsTrue result ↔ (cut bytes.now ≡ (bytes.now ∷ [], [])) }
+{
+    cut_steps();
+    bytes.len() >= MIN_MESSAGE
+        && bytes.len() <= MAX_MESSAGE
+        && u32_at(bytes, 0) as usize == bytes.len()
 }
 
 /// The `unique` of a whole message, as it was received: a resend has its bit set. Takes no memory.

@@ -18,6 +18,6 @@ pub use class::{Class, classify, has_zero_unique};
 pub use decoding::{Malformed, decode};
 pub use encoding::{EncodeFault, encode};
 pub use framer::{FrameFault, Framer, MAX_FED};
-pub use header::{MAX_MESSAGE, MIN_MESSAGE, RawHeader, header_of, unique_of};
+pub use header::{MAX_MESSAGE, MIN_MESSAGE, RawHeader, header_of, is_message, unique_of};
 pub use laws::{canon_spells, cut_joins, cut_steps, message_bounds, one_cut, spelled_at};
 pub use request::{InHeader, InitIn, Op, ReadIn, ReleaseIn, Request, SetattrIn};

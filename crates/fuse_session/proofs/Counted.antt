@@ -1,5 +1,6 @@
 -- How messages count, one after another.
 use Rattle.std.proofs.Common.{◌≡◌, ◌+◌, ◌≤◌, ◌<◌, ℕ, Bool, true, false, List, [], ◌∷◌, ◌++◌, length, drop, refl, sym, ap, subst, ◌∙◌, arith, add-one}
+use Rattle.std.proofs.lemmas.List.{get_or-map}
 use Rattle.std.proofs.Math.Nat.{zero-add, add-zero, add_assoc}
 use Rattle.fuse_request.specs.declared.class.Class.{Class}
 use Rattle.fuse_request.specs.declared.class.Class.TheVariants.{Silent, Bare, Kept}
@@ -11,7 +12,7 @@ use Rattle.fuse_session.proofs.Standing.{grown-append}
 use Rattle.fuse_session.specs.declared.counts.SessionCounts.{SessionCounts}
 use Rattle.fuse_session.specs.Worked.{Timed, bytes_of, kept_in, entries_at, entry_if, timed_entry}
 use Rattle.fuse_session.specs.Counting.{plus, none_counted, counted_one, counted, one_if, is_interrupt, IsBelow}
-use Rattle.fuse_session.specs.Group.{tallied, head_repeat, left_by, repeats_in}
+use Rattle.fuse_session.specs.Group.{tallied, head_repeat, left_by, repeats_in, classes_in}
 
 pub plus_assoc : (a b c : SessionCounts) → plus (plus a b) c ≡ plus a (plus b c)
 plus_assoc a b c = simp add_assoc
@@ -112,5 +113,11 @@ used_one [] n lt = absurd (omega arith)
 used_one (x ∷ xs) zero lt = refl
 used_one (x ∷ xs) (suc n) lt = used_one xs n (omega arith)
 
-pub used_kept : (m : List ℕ) (dones : List Done) (n : ℕ) → Kept ≡ class_of m → n < length dones → drop (n + 1) (repeats_in dones) ≡ left_by (class_of m) (drop n (repeats_in dones))
-used_kept m dones n is lt = subst (λ k. drop (n + 1) (repeats_in dones) ≡ left_by k (drop n (repeats_in dones))) is (rw add-one (used_one dones n lt))
+pub used_kept : (class : Class) (dones : List Done) (n : ℕ) → Kept ≡ class → n < length dones → drop (n + 1) (repeats_in dones) ≡ left_by class (drop n (repeats_in dones))
+used_kept class dones n is lt = subst (λ k. drop (n + 1) (repeats_in dones) ≡ left_by k (drop n (repeats_in dones))) is (rw add-one (used_one dones n lt))
+
+-- ---- the class at a place
+
+pub class_at : (ms : List (List ℕ)) (classes : List Class) (i : ℕ) (m bytes : List ℕ) (d : Class) → classes ≡ classes_in ms → i < length ms → m ≡ get_or ms i m → bytes ≡ m
+    → get_or classes i d ≡ class_of bytes
+class_at ms classes i m bytes d are lt at is = ap (λ cs. get_or cs i d) are ∙ get_or-map class_of ms i m d lt ∙ ap class_of (sym (is ∙ at))

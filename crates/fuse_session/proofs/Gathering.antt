@@ -1,6 +1,6 @@
 -- Groups, one message after another.
 use Rattle.std.proofs.Common.{◌≡◌, ◌≢◌, inl, inr, ℕ, ◌+◌, ◌<◌, ◌==◌, Bool, true, false, not, ◌&&◌, if◌then◌else◌, List, [], ◌∷◌, ◌++◌, length, take, get_or, All, refl, sym, ap, subst, ◌∙◌, append_assoc, arith}
-use Rattle.std.proofs.lemmas.List.{take_more, append-nil, map-append}
+use Rattle.std.proofs.lemmas.List.{take_more, append-nil, map-append, map_more}
 use Rattle.std.proofs.lemmas.List.Elements.{All-append}
 use Rattle.fuse_wire.specs.Ids.{id_of}
 use Rattle.fuse_wire.specs.declared.moment.Moment.{Moment}
@@ -15,7 +15,7 @@ use Rattle.fuse_keeper.specs.History.{Entry}
 use Rattle.fuse_keeper.specs.Group.{entry_of, entries_of, HasId, IsKept}
 use Rattle.fuse_wire.specs.declared.opcode.TheConstants.{DESTROY}
 use Rattle.fuse_session.specs.Worked.{Timed, kept_in, entry_if, message_entry, destroys, destroys_by, moment_if, moments_in, GaveFirst}
-use Rattle.fuse_session.specs.Group.{NoZero, NoDestroy, DestroyLast, Gathers}
+use Rattle.fuse_session.specs.Group.{NoZero, NoDestroy, DestroyLast, Gathers, classes_in}
 use Rattle.fuse_session.proofs.Outs.{kept_in-append}
 use Rattle.fuse_session.proofs.Settled.{only_one}
 
@@ -126,3 +126,11 @@ named_some bytes taken taken' one t each named some pushed =
 pub kept_some : (taken taken' : List (Request × Moment)) (one : Request × Moment) → All IsKept (entries_of taken) → All IsKept (entry_of one ∷ []) → taken' ≡ taken ++ one ∷ [] → All IsKept (entries_of taken')
 kept_some taken taken' one each here pushed =
     subst (All IsKept) (sym (ap entries_of pushed ∙ map-append entry_of taken (one ∷ []))) (All-append IsKept (entries_of taken) (entry_of one ∷ []) each here)
+
+-- the class of one message more
+pub classes_more : (ms : List (List ℕ)) (i : ℕ) (m bytes : List ℕ) (classes classes' : List Class) (class : Class) → i < length ms → m ≡ get_or ms i m → bytes ≡ m
+    → classes ≡ classes_in (take i ms) → class ≡ class_of bytes → classes' ≡ classes ++ class ∷ [] → classes' ≡ classes_in (take (i + 1) ms)
+classes_more ms i m bytes classes classes' class lt at is so here pushed =
+    pushed ∙ ap (λ (cs : List Class). cs ++ class ∷ []) so
+    ∙ ap (λ (k : Class). classes_in (take i ms) ++ k ∷ []) (here ∙ ap class_of (is ∙ at))
+    ∙ sym (map_more class_of ms i m lt)

@@ -333,3 +333,8 @@ pub are_enough : (gave : List Moment → Type 0) (front : List (List ℕ)) (take
 are_enough gave front taken ends slice group dones list gathers same same_group count same_list =
     subst (λ f. AreEnough f (answers_in list)) (sym (same ∙ gathers.bytes))
     (enough gathers.timed (answers_in list) (length-map list (λ (d : Done). d.answer) ∙ ap length same_list ∙ count ∙ ap length same_group ∙ sym (length-map taken entry_of) ∙ ap length gathers.entries))
+
+-- a group was read off so many messages
+pub gathers_to : (gave : List Moment → Type 0) (messages : List (List ℕ)) (n count : ℕ) (taken : List (Request × Moment)) (ends : Bool) → count ≡ n
+    → Gathers gave (take n messages) taken ends → Gathers gave (take count messages) taken ends
+gathers_to gave messages n count taken ends is gathers = subst (λ k. Gathers gave (take k messages) taken ends) (sym is) gathers

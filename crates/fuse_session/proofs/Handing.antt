@@ -1,5 +1,5 @@
 -- Which records stay, group after group, and which ids are to be handed on.
-use Rattle.std.proofs.Common.{◌≡◌, ◌⊎◌, inl, inr, ℕ, ◌≤◌, ◌+◌, Bool, true, false, if◌then◌else◌, List, [], ◌++◌, length, All, Option, None, refl, sym, ap, subst, ◌∙◌, arith, length-append}
+use Rattle.std.proofs.Common.{◌≡◌, ◌⊎◌, inl, inr, ℕ, ◌≤◌, ◌+◌, Bool, true, false, if◌then◌else◌, List, [], ◌∷◌, ◌++◌, length, All, Option, None, refl, sym, ap, subst, ◌∙◌, arith, length-append}
 use Rattle.std.proofs.lemmas.List.{append-nil, length-map}
 use Rattle.fuse_wire.specs.declared.moment.Moment.{Moment}
 use Rattle.fuse_answer.specs.Said.{Said}
@@ -7,8 +7,9 @@ use Rattle.fuse_request.specs.declared.request.Request.{Request}
 use Rattle.fuse_keeper.specs.History.{Entry, entry_id, is_in, ids_in, Includes, IsUnsettled}
 use Rattle.fuse_keeper.specs.Model.{Model, IsRowed}
 use Rattle.fuse_keeper.specs.Stands.{Records, OthersStay}
-use Rattle.fuse_keeper.specs.KeeperState.{KeeperState, KeepsHeld, OfHeld, HoldsOthers}
-use Rattle.fuse_keeper.specs.Group.{entries_of}
+use Rattle.fuse_keeper.specs.declared.keeper.Done.{Done}
+use Rattle.fuse_keeper.specs.KeeperState.{KeeperState, KeepsHeld, OfHeld, HoldsOthers, Performs, LeavesGroup}
+use Rattle.fuse_keeper.specs.Group.{entries_of, handed_to, left_pending}
 use Rattle.fuse_session.specs.Port.{PortState}
 use Rattle.fuse_session.specs.Worked.{Timed, bytes_of, kept_in}
 use Rattle.fuse_session.specs.Settling.{Mark, settled_in, SomeAndMore, AtMostMore, FewHave}
@@ -125,3 +126,59 @@ few_unsent M holds c u mid group ts marks is few h =
 -- at first nothing was settled
 pub few_start : (M : Model) → (holds : KeeperState M) (rows : M.Rows) (records : Records) → holds.holds rows records → IsRowed M rows → FewHave holds [] []
 few_start M holds rows records held rowed = record { rows = rows; records = records; held = held; rowed = rowed; few = omega arith; others = λ i there. absurd (cc there) }
+
+-- ---- a group was performed, if there was one
+
+-- what is handed on with a group was pending
+handed_within : (t pending : List ℕ) (es : List Entry) → Includes t pending → Includes t (handed_to es pending)
+handed_within t pending [] within = λ i there. absurd (cc there)
+handed_within t pending (e ∷ es) within = within
+
+pub performs_all : (M : Model) → (holds holds' : KeeperState M) (pending : List ℕ) (es : List Entry) (dones : List Done)
+    → Performs holds holds' (handed_to es pending) es dones → Performs holds holds' pending es dones
+performs_all M holds holds' pending es dones performs honest s h t so within un = performs honest s h t so (handed_within t pending es within) un
+
+pub leaves_all : (M : Model) → (holds holds' : KeeperState M) (pending : List ℕ) (es : List Entry) → LeavesGroup holds holds' (handed_to es pending) es
+    → LeavesGroup holds holds' pending es
+leaves_all M holds holds' pending es leaves s h t so within un firm = leaves s h t so (handed_within t pending es within) un firm
+
+-- what is still pending then was pending
+pub left_within : (pending left : List ℕ) (es : List Entry) → left ≡ left_pending es pending → (t : List ℕ) → Includes t pending → Includes t left
+left_within pending left [] is t within = subst (Includes t) (sym is) within
+left_within pending left (e ∷ es) is t within = subst (Includes t) (sym is) (λ i there. absurd (cc there))
+
+pub left_few : (pending left : List ℕ) (es : List Entry) → left ≡ left_pending es pending → length pending ≤ 16 → length es ≤ 16 → length left + length es ≤ 16
+left_few pending left [] is few short = omega (arith, ap length is, few)
+left_few pending left (e ∷ es) is few short = omega (arith, ap length is, short)
+
+pub hands_on : (M : Model) → (before : Records) (holds holds' : KeeperState M) (pending left : List ℕ) (es : List Entry) → left ≡ left_pending es pending
+    → length es ≤ 16 → OfHeld holds (λ rows records. HoldsOthers holds' records (handed_to es pending) es)
+    → HandsOn before holds pending → HandsOn before holds' (left ++ ids_in es)
+hands_on M before holds holds' pending left [] is few others h =
+    let o = others h.rows h.records h.held h.rowed in
+    record {
+      rows = o.rows;
+      records = o.records;
+      held = o.held;
+      rowed = o.rowed;
+      more = h.more;
+      few = h.few;
+      some = λ i isnt. left_of false (h.records i) (o.records i) (before i) (o.others i refl) (λ _. h.some i isnt);
+      all = λ i there. subst (λ (l : List ℕ). is_in (l ++ []) i ≡ true) (sym is) (includes_left pending [] i (h.all i there));
+    }
+hands_on M before holds holds' pending left (e ∷ es) is few others h = hands_more M before holds holds' pending left (e ∷ es) few others h
+
+pub few_left : (M : Model) → (holds holds' : KeeperState M) (u pending left : List ℕ) (es : List Entry) → left ≡ left_pending es pending → length left ≤ 16
+    → OfHeld holds (λ rows records. HoldsOthers holds' records (handed_to es pending) es)
+    → All (IsUnsettled u) es → FewHave holds u pending → FewHave holds' u left
+few_left M holds holds' u pending left [] is few stay un h =
+    let o = stay h.rows h.records h.held h.rowed in
+    record {
+      rows = o.rows;
+      records = o.records;
+      held = o.held;
+      rowed = o.rowed;
+      few = few;
+      others = λ i there absent. none_left false (h.records i) (o.records i) (o.others i refl) (λ _. h.others i there (subst (λ l. is_in l i ≡ false) is absent));
+    }
+few_left M holds holds' u pending left (e ∷ es) is few stay un h = few_performed M holds holds' u pending left (e ∷ es) few stay un h

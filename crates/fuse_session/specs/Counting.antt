@@ -2,7 +2,7 @@
 use Rattle.std.specs.Prelude.{ℕ, ◌+◌, ◌≤◌, ◌==◌, ◌&&◌, Bool, if◌then◌else◌, List, [], ◌∷◌, is_none}
 use Rattle.fuse_request.specs.declared.class.Class.{Class}
 use Rattle.fuse_request.specs.declared.class.Class.TheVariants.{Silent, Bare, Kept}
-use Rattle.fuse_wire.specs.declared.opcode.TheConstants.{INTERRUPT}
+use Rattle.fuse_wire.specs.Opcodes.{fuse_interrupt}
 use Rattle.fuse_request.specs.Classes.{class_of}
 use Rattle.fuse_request.specs.Faults.{first_fault}
 use Rattle.fuse_request.specs.Header.{raw_of}
@@ -12,7 +12,7 @@ use Rattle.fuse_keeper.specs.History.{History, entry_id, has, grown}
 
 -- a well-formed INTERRUPT
 abbrev pub is_interrupt : List ℕ → Bool
-is_interrupt m = (raw_of m).opcode == INTERRUPT && is_none (first_fault m)
+is_interrupt m = (raw_of m).opcode == fuse_interrupt && is_none (first_fault m)
 
 abbrev pub one_if : Bool → ℕ
 one_if b = if b then 1 else 0

@@ -54,6 +54,10 @@ pub record Gathers (gave : List Moment → Type 0) (front : List (List ℕ)) (ta
   pub only : DestroyLast timed
   pub ended : ends ≡ true → LastDestroys timed
 
+-- the class of each message
+abbrev pub classes_in : List (List ℕ) → List Class
+classes_in ms = map class_of ms
+
 abbrev pub listed : Option (Request × Moment) → List (Request × Moment)
 listed None = []
 listed (Some one) = one ∷ []

@@ -2,7 +2,7 @@
 use Rattle.std.specs.Prelude.{◌≡◌, ◌<◌, ◌≤◌, ◌+◌, ℕ, List, [], ◌++◌, length, All, Option, Some, None}
 use Rattle.std.specs.Io.KnownBytes.{Consumes}
 use Rattle.fuse_request.specs.declared.framer.FrameFault.{FrameFault}
-use Rattle.fuse_request.specs.declared.header.TheConstants.{MAX_MESSAGE}
+use Rattle.fuse_wire.specs.Bounds.{max_message_len}
 use Rattle.fuse_request.specs.Stream.{cut, joined, IsMessage}
 use Rattle.fuse_request.specs.Framing.{Held, HasNone, bad_length, end_fault}
 use Rattle.fuse_session.specs.declared.ended.Ended.{Ended}
@@ -14,7 +14,7 @@ pub record IsOpen (h : Held) : Type 0 where
   pub fault : h.fault ≡ None
   pub none : HasNone h.bytes
   pub good : bad_length h.at h.bytes ≡ None
-  pub short : length h.bytes < MAX_MESSAGE
+  pub short : length h.bytes < max_message_len
 
 -- the first messages were taken
 pub record TookSome (old new : Held) (messages : List (List ℕ)) : Type 0 where

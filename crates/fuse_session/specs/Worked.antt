@@ -10,7 +10,7 @@ use Rattle.fuse_request.specs.Classes.{class_of, is_zero}
 use Rattle.fuse_request.specs.Header.{raw_of}
 use Rattle.fuse_request.specs.Places.{asked_at}
 use Rattle.fuse_request.specs.Stream.{joined}
-use Rattle.fuse_wire.specs.declared.opcode.TheConstants.{DESTROY}
+use Rattle.fuse_wire.specs.Opcodes.{fuse_destroy}
 use Rattle.fuse_keeper.specs.Model.{Model}
 use Rattle.fuse_keeper.specs.History.{Entry, History, grown, said}
 
@@ -69,7 +69,7 @@ out M s h ts = joined (answers M s (grown h (kept_in ts)) ts)
 abbrev pub destroys_by : Class → ℕ → Bool
 destroys_by Silent opcode = false
 destroys_by (Bare errno) opcode = false
-destroys_by Kept opcode = opcode == DESTROY
+destroys_by Kept opcode = opcode == fuse_destroy
 
 abbrev pub destroys : List ℕ → Bool
 destroys bytes = destroys_by (class_of bytes) (raw_of bytes).opcode

@@ -4,13 +4,13 @@ ghost use Rattle.fuse_request.specs.Stream.{IsMessage};
 ghost use Rattle.fuse_request.specs.Classes.{class_of};
 ghost use Rattle.fuse_request.specs.Faults.{first_fault};
 ghost use Rattle.fuse_session.specs.Counting.{plus, counted_one, is_interrupt, IsBelow};
-ghost use Rattle.fuse_session.specs.Group.{tallied, repeats_in, head_repeat, left_by};
+ghost use Rattle.fuse_session.specs.Group.{tallied, repeats_in, head_repeat, left_by, classes_in};
 
 use crate::gather::has_opcode;
 use bytes::Bytes;
 use fuse_keeper::Done;
 use fuse_request::opcode::INTERRUPT;
-use fuse_request::{Class, classify, decode};
+use fuse_request::{Class, decode};
 
 /// How many messages were worked off, by class.
 #[derive(Clone, Copy, Debug, PartialEq, Eq)]
@@ -79,16 +79,16 @@ fn is_well_formed_interrupt(message: &[u8]) -> bool
     }
 }
 
-// How one message counts.
-fn count_one(message: &[u8], repeated: bool) -> SessionCounts
+// How one message of this class counts.
+fn count_one(message: &[u8], class: Class, repeated: bool) -> SessionCounts
     requires { IsMessage message.now }
-    ensures { result ≡ counted_one (class_of message.now) repeated (is_interrupt message.now) }
+    ensures { result ≡ counted_one class repeated (is_interrupt message.now) }
 {
     let one = SessionCounts {
         messages: 1,
         ..SessionCounts::NONE
     };
-    match classify(message) {
+    match class {
         Class::Silent => SessionCounts {
             silent: 1,
             interrupts: u64::from(is_well_formed_interrupt(message)),
@@ -114,32 +114,34 @@ fn repeat_at(dones: &[Done], next: usize) -> bool
     }
 }
 
-// How many answers are used after a message.
-fn used_after(message: &[u8], dones: &[Done], next: usize) -> usize
-    requires message { IsMessage message.now }
-    requires next { next ≤ length dones.now }
+// How many answers are used after a message of this class.
+fn used_after(class: Class, dones: &[Done], next: usize) -> usize
+    requires { next ≤ length dones.now }
     ensures within { result ≤ length dones.now }
-    ensures left { drop result (repeats_in dones.now) ≡ left_by (class_of message.now) (drop next (repeats_in dones.now)) }
+    ensures left { drop result (repeats_in dones.now)
+        ≡ left_by class (drop next (repeats_in dones.now)) }
 {
-    match classify(message) {
+    match class {
         Class::Silent | Class::Bare(_) => next,
         Class::Kept => { if next < dones.len() { next + 1 } else { next } }
     }
 }
 
-/// How the messages of a group count, by what they were answered.
-pub(crate) fn count_all(messages: &[Bytes], dones: &[Done]) -> SessionCounts
+/// How the messages of a group, which are of these classes, count, by what they were answered.
+pub(crate) fn count_all(messages: &[Bytes], classes: &[Class], dones: &[Done]) -> SessionCounts
     requires messages { All IsMessage messages.now }
+    requires classes { classes.now ≡ classes_in messages.now }
     requires few { length messages.now < 2 ^ 60 }
     ensures tallied { result ≡ tallied messages.now (repeats_in dones.now) }
     ensures below { IsBelow result (length messages.now) }
 {
     let mut counts = SessionCounts::NONE;
     let mut next = 0;
-    for message in messages {
-        let bytes = message.as_slice();
-        counts = sum_of(counts, count_one(bytes, repeat_at(dones, next)));
-        next = used_after(bytes, dones, next);
+    for (place, message) in messages.iter().enumerate() {
+        let class = classes[place];
+        let one = count_one(message.as_slice(), class, repeat_at(dones, next));
+        counts = sum_of(counts, one);
+        next = used_after(class, dones, next);
     }
     counts
 }

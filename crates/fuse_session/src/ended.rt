@@ -13,7 +13,8 @@ pub enum Ended {
     Turns,
     /// The bytes are no messages. All whole messages before are answered.
     Frame(FrameFault),
-    /// A message at this offset would have to be answered under the id 0. All messages before it are answered.
+    /// A message at this offset would have to be answered under the id 0. All messages before it
+    /// are answered.
     ZeroUnique { at: u64 },
     /// The port failed, or took no byte of what was left of an answer.
     PortFailed,
@@ -23,7 +24,8 @@ pub enum Ended {
     Memory,
 }
 
-/// How serving ended, and what was worked off: none is told where the port, the store or want of memory ended it.
+/// How serving ended, and what was worked off: none is told where the port, the store or want of
+/// memory ended it.
 #[derive(Drop)]
 pub struct Served {
     pub ended: Ended,

@@ -7,7 +7,7 @@ ghost use Rattle.fuse_request.specs.Header.{raw_of};
 ghost use Rattle.fuse_keeper.specs.Group.{entries_of, HasId, IsKept};
 ghost use Rattle.fuse_keeper.specs.declared.keeper.TheConstants.{MAX_GROUP as max_group};
 ghost use Rattle.fuse_session.specs.Worked.{entry_if, message_entry, moment_if};
-ghost use Rattle.fuse_session.specs.Group.{Gathers, IsStuck, listed};
+ghost use Rattle.fuse_session.specs.Group.{Gathers, IsStuck, listed, classes_in};
 
 use crate::clock::Clock;
 use bytes::Bytes;
@@ -17,11 +17,12 @@ use fuse_request::{Class, Request, classify, decode, has_zero_unique, header_of}
 use fuse_wire::Moment;
 use std::alloc::{AllocError, Global};
 
-/// A group of requests, read off the first messages. `ends` says that the last of them is a DESTROY.
+/// A group read off the first messages: the class of each of them, and the requests of the kept
+/// ones. `ends` says that the last of them is a DESTROY.
 #[derive(Drop)]
 pub(crate) struct Gathered<'a> {
+    pub(crate) classes: Vec<Class>,
     pub(crate) taken: Vec<(Request<'a>, Moment)>,
-    pub(crate) count: usize,
     pub(crate) ends: bool,
 }
 
@@ -36,14 +37,20 @@ pub(crate) fn has_opcode(message: &[u8], opcode: u32) -> bool
     }
 }
 
-// The request of a kept message, and its moment.
-fn read_one<'a, C: Clock>(clock: &mut C, message: &'a [u8]) -> Option<(Request<'a>, Moment)>
-    requires { IsMessage message.now }
-    ensures entry { (t : MomentValue) × (entries_of (listed result) ≡ entry_if (class_of message.now) (message_entry message.now t))
+// The request of a message of this class, and its moment: only a kept one has it.
+fn read_one<'a, C: Clock>(
+    clock: &mut C,
+    message: &'a [u8],
+    class: Class,
+) -> Option<(Request<'a>, Moment)>
+    requires message { IsMessage message.now }
+    requires class { class ≡ class_of message.now }
+    ensures entry { (t : MomentValue) × (entries_of (listed result)
+        ≡ entry_if (class_of message.now) (message_entry message.now t))
         × C.gave clock.old clock.new (moment_if (class_of message.now) t) }
     ensures kept { All IsKept (entries_of (listed result)) }
 {
-    match classify(message) {
+    match class {
         Class::Kept => match decode(message) {
             Ok(request) => Some((request, clock.now())),
             Err(_) => None,
@@ -53,44 +60,53 @@ fn read_one<'a, C: Clock>(clock: &mut C, message: &'a [u8]) -> Option<(Request<'
     }
 }
 
-/// Reads a group off the first messages: at most 16 kept ones, up to one that is zero, and none behind a DESTROY.
+/// Reads a group off the first messages: at most 16 kept ones, up to one that is zero, and none
+/// behind a DESTROY.
 pub(crate) fn gather<'a, C: Clock>(
     alloc: Global,
     clock: &mut C,
     messages: &'a [Bytes],
 ) -> Result<Gathered<'a>, AllocError>
     requires { All IsMessage messages.now }
-    ensures within { IfOk result (λ r. r.count ≤ length messages.now) }
-    ensures gathers { IfOk result (λ r. Gathers (C.gave clock.old clock.new) (take r.count messages.now) r.taken.items r.ends) }
+    ensures within { IfOk result (λ r. length r.classes.items ≤ length messages.now) }
+    ensures classes { IfOk result (λ r.
+        r.classes.items ≡ classes_in (take (length r.classes.items) messages.now)) }
+    ensures gathers { IfOk result (λ r. Gathers (C.gave clock.old clock.new)
+        (take (length r.classes.items) messages.now) r.taken.items r.ends) }
     ensures few { IfOk result (λ r. length r.taken.items ≤ max_group) }
     ensures named { IfOk result (λ r. All HasId (entries_of r.taken.items)) }
     ensures kept { IfOk result (λ r. All IsKept (entries_of r.taken.items)) }
-    ensures stuck { IfOk result (λ r. r.count ≡ 0 → IsStuck messages.now) }
+    ensures stuck { IfOk result (λ r. length r.classes.items ≡ 0 → IsStuck messages.now) }
     ensures logged { (given : List MomentValue) × C.gave clock.old clock.new given }
 {
+    let mut classes = Vec::new(alloc);
     let mut taken = Vec::new(alloc);
-    let mut count = 0;
     for message in messages {
         let bytes = message.as_slice();
         if taken.len() >= MAX_GROUP || has_zero_unique(bytes) {
             return Ok(Gathered {
+                classes,
                 taken,
-                count,
                 ends: false,
             });
         }
-        count += 1;
-        if let Some(one) = read_one(clock, bytes) {
+        let class = classify(bytes);
+        classes.push(class)?;
+        if let Some(one) = read_one(clock, bytes, class) {
             let ends = has_opcode(bytes, DESTROY);
             taken.push(one)?;
             if ends {
-                return Ok(Gathered { taken, count, ends });
+                return Ok(Gathered {
+                    classes,
+                    taken,
+                    ends,
+                });
             }
         }
     }
     Ok(Gathered {
+        classes,
         taken,
-        count,
         ends: false,
     })
 }

@@ -1,20 +1,20 @@
 // Working off one group.
-ghost use Rattle.std.specs.Prelude.{◌≡◌, ◌≤◌, ◌<◌, ◌+◌, ◌++◌, ◌&&◌, ◌==◌, [], ℕ, true, false, List, length, take, drop, ◌^◌, is_err, All, IfOk, IfErr, OnOk, OnErr};
+ghost use Rattle.std.specs.Prelude.{◌≡◌, ◌≤◌, ◌<◌, ◌&&◌, ◌==◌, [], true, false, length, take};
+ghost use Rattle.std.specs.Prelude.{drop, ◌^◌, All, IfOk, IfErr, OnOk, OnErr};
 ghost use Rattle.fuse_request.specs.Stream.{IsMessage};
 ghost use Rattle.fuse_keeper.specs.declared.fault.StoreFault.{StoreFault as StoreFaultValue};
-ghost use Rattle.fuse_keeper.specs.History.{ids_in, Includes, IsUnsettled};
 ghost use Rattle.fuse_keeper.specs.Stands.{Records};
-ghost use Rattle.fuse_keeper.specs.KeeperState.{Called, Performs, LeavesGroup, AnswersNoMore};
+ghost use Rattle.fuse_keeper.specs.Group.{ids_of};
+ghost use Rattle.fuse_keeper.specs.declared.keeper.TheConstants.{MAX_SETTLED as max_settled};
 ghost use Rattle.fuse_session.specs.Moves.{FailedBy, fault_port, stop_port, KeepsFirm};
-ghost use Rattle.fuse_keeper.specs.Group.{entries_of, HasId, IsKept, ids_of};
-ghost use Rattle.fuse_keeper.specs.declared.keeper.TheConstants.{MAX_GROUP as max_group, MAX_SETTLED as max_settled};
 ghost use Rattle.fuse_session.specs.Port.{IsYoung, IsQuiet};
 ghost use Rattle.fuse_session.specs.Worked.{StartsZero};
-ghost use Rattle.fuse_session.specs.Settling.{AtMostMore, FewHave};
+ghost use Rattle.fuse_session.specs.Settling.{AtMostMore};
 ghost use Rattle.fuse_session.specs.Moves.{HandsOn};
 ghost use Rattle.fuse_session.specs.Counting.{IsBelow};
 ghost use Rattle.fuse_session.specs.Group.{answers_in, last_zero, rest_by};
-ghost use Rattle.fuse_session.specs.Serving.{Turned, Broken, MayStop, lasts, goes_on, is_store, is_memory};
+ghost use Rattle.fuse_session.specs.Serving.{Turned, Broken, MayStop, lasts, goes_on};
+ghost use Rattle.fuse_session.specs.Serving.{is_store, is_memory};
 
 use crate::clock::Clock;
 use crate::counts::{SessionCounts, count_all};
@@ -23,9 +23,8 @@ use crate::port::Port;
 use crate::sending::{SendFault, send_answers};
 use bytes::Bytes;
 use fuse_answer::Answer;
-use fuse_keeper::{Done, Keeper, StoreFault, histories_grow};
-use fuse_request::Request;
-use fuse_wire::{Id, Moment};
+use fuse_keeper::{Done, Keeper, StoreFault, histories_grow, perform_group};
+use fuse_wire::Id;
 use std::alloc::Global;
 
 /// Why nothing more is worked off, where all answers so far were sent.
@@ -50,45 +49,6 @@ pub(crate) struct Turn {
     pub(crate) count: usize,
     pub(crate) rest: Rest,
     pub(crate) counts: SessionCounts,
-}
-
-// Performs a group, if there is one, and hands on the pending ids.
-fn perform_group<K: Keeper>(
-    alloc: Global,
-    keeper: &mut K,
-    group: &[(Request<'_>, Moment)],
-    pending: &mut Vec<Id>,
-) -> Result<Vec<Done>, StoreFault>
-    requires short { length group.now ≤ max_group }
-    requires few { length pending.old.items ≤ max_settled }
-    requires named { All HasId (entries_of group.now) }
-    requires kept { All IsKept (entries_of group.now) }
-    requires going { (K.told keeper.old).has_failed ≡ false }
-    ensures count { IfOk result (λ dones. length dones.items ≡ length group.now) }
-    ensures called { Called (K.told keeper.old) (K.told keeper.new) result }
-    ensures may { AnswersNoMore (K.told keeper.old) (K.told keeper.new) }
-    ensures ok { IfOk result (λ dones. Performs (K.told keeper.old) (K.told keeper.new) (ids_of pending.old.items) (entries_of group.now) dones.items) }
-    ensures few { IfOk result (λ dones. length pending.new.items + length dones.items ≤ max_settled) }
-    ensures pending { (t : List ℕ) → Includes t (ids_of pending.old.items) → Includes t (ids_of pending.new.items) }
-    ensures more { OnOk result ((K.told keeper.new).is_honest → (before : Records) → HandsOn before (K.told keeper.old) (ids_of pending.old.items)
-        → HandsOn before (K.told keeper.new) (ids_of pending.new.items ++ ids_in (entries_of group.now))) }
-    ensures gone { OnOk result ((K.told keeper.new).is_honest → (t : List ℕ) → All (IsUnsettled t) (entries_of group.now) → FewHave (K.told keeper.old) t (ids_of pending.old.items)
-        → FewHave (K.told keeper.new) t (ids_of pending.new.items)) }
-    ensures crash { OnErr result (LeavesGroup (K.told keeper.old) (K.told keeper.new) (ids_of pending.old.items) (entries_of group.now)) }
-    ensures firm { OnOk result (KeepsFirm (K.told keeper.old) (K.told keeper.new)) }
-    ensures failed { (K.told keeper.new).has_failed ≡ is_err result }
-    ensures unopened { K.became keeper.old keeper.new 0 }
-{
-    if group.is_empty() {
-        return Ok(Vec::new(alloc));
-    }
-    match keeper.perform(group, pending.as_slice()) {
-        Ok(dones) => {
-            pending.clear();
-            Ok(dones)
-        }
-        Err(fault) => Err(fault),
-    }
 }
 
 // Whether an answer tells no error.
@@ -140,7 +100,8 @@ fn stop_of(fault: SendFault) -> Stop
     }
 }
 
-/// Works off one group: reads it off the first messages, performs it, and sends its answers once it is committed.
+/// Works off one group: reads it off the first messages, performs it, and sends its answers once it
+/// is committed.
 pub(crate) fn work_group<K: Keeper, P: Port, C: Clock>(
     alloc: Global,
     keeper: &mut K,
@@ -155,21 +116,31 @@ pub(crate) fn work_group<K: Keeper, P: Port, C: Clock>(
     requires few { length pending.old.items ≤ max_settled }
     requires short { length messages.now < 2 ^ 60 }
     ensures within { IfOk result (λ turn. turn.count ≤ length messages.now) }
-    ensures moves { IfOk result (λ turn. goes_on turn.rest ≡ true → turn.count ≡ 0 → messages.now ≡ []) }
-    ensures zero { IfOk result (λ turn. turn.rest ≡ Rest.ZeroUnique → StartsZero (drop turn.count messages.now)) }
-    ensures ok { IfOk result (λ turn. Turned (K.told keeper.old) (K.told keeper.new) (C.gave clock.old clock.new) (P.told port.old) (P.told port.new)
-        (ids_of pending.old.items) (ids_of pending.new.items) (take turn.count messages.now) (lasts turn.rest) turn.counts) }
+    ensures moves { IfOk result (λ turn. goes_on turn.rest ≡ true → turn.count ≡ 0
+        → messages.now ≡ []) }
+    ensures zero { IfOk result (λ turn. turn.rest ≡ Rest.ZeroUnique
+        → StartsZero (drop turn.count messages.now)) }
+    ensures ok { IfOk result (λ turn. Turned (K.told keeper.old) (K.told keeper.new)
+        (C.gave clock.old clock.new) (P.told port.old) (P.told port.new)
+        (ids_of pending.old.items) (ids_of pending.new.items) (take turn.count messages.now)
+        (lasts turn.rest) turn.counts) }
     ensures below { IfOk result (λ turn. IsBelow turn.counts turn.count) }
     ensures few { OnOk result (length pending.new.items ≤ max_settled) }
     ensures going { OnOk result ((K.told keeper.new).has_failed ≡ false) }
     ensures firm { OnOk result (KeepsFirm (K.told keeper.old) (K.told keeper.new)) }
-    ensures more { OnOk result ((P.told port.old).confirms ≡ true → (K.told keeper.new).is_honest → (before : Records) → HandsOn before (K.told keeper.old) (ids_of pending.old.items)
+    ensures more { OnOk result ((P.told port.old).confirms ≡ true → (K.told keeper.new).is_honest
+        → (before : Records) → HandsOn before (K.told keeper.old) (ids_of pending.old.items)
         → HandsOn before (K.told keeper.new) (ids_of pending.new.items)) }
     ensures failures { OnOk result ((P.told port.new).failures ≡ (P.told port.old).failures) }
     ensures err { IfErr result (λ stop. Broken (K.told keeper.old) (K.told keeper.new)
-        (C.gave clock.old clock.new) (P.told port.old) (P.told port.new) (ids_of pending.old.items) messages.now (is_store stop) (is_memory stop) (MayStop (K.told keeper.old).may_answer stop)) }
-    ensures may { (f : StoreFaultValue) → (K.told keeper.new).may_answer f → (K.told keeper.old).may_answer f }
-    ensures at_most { OnErr result ((K.told keeper.new).is_clean → (before : Records) → HandsOn before (K.told keeper.old) (ids_of pending.old.items) → AtMostMore before (K.told keeper.new)) }
+        (C.gave clock.old clock.new) (P.told port.old) (P.told port.new)
+        (ids_of pending.old.items) messages.now (is_store stop) (is_memory stop)
+        (MayStop (K.told keeper.old).may_answer stop)) }
+    ensures may { (f : StoreFaultValue) → (K.told keeper.new).may_answer f
+        → (K.told keeper.old).may_answer f }
+    ensures at_most { OnErr result ((K.told keeper.new).is_clean → (before : Records)
+        → HandsOn before (K.told keeper.old) (ids_of pending.old.items)
+        → AtMostMore before (K.told keeper.new)) }
     ensures failed { IfErr result (λ stop. FailedBy (stop_port stop)
         (P.told port.old).failures (P.told port.new).failures) }
     ensures store { IfErr result (λ stop. (K.told keeper.new).has_failed ≡ is_store stop) }
@@ -182,24 +153,21 @@ pub(crate) fn work_group<K: Keeper, P: Port, C: Clock>(
     let Ok(gathered) = gather(alloc, clock, messages) else {
         return Err(Stop::Memory);
     };
-    let front = &messages[..gathered.count];
+    let count = gathered.classes.len();
+    let front = &messages[..count];
+    let classes = gathered.classes.as_slice();
     let group = gathered.taken.as_slice();
     let dones = match perform_group(alloc, keeper, group, pending) {
         Ok(dones) => dones,
         Err(fault) => return Err(Stop::Store(fault)),
     };
     let answered = dones.as_slice();
-    match send_answers(alloc, port, front, answered, pending) {
-        Ok(()) => {
-            let stuck = is_stuck(gathered.count, messages);
-            let rest = rest_of(gathered.ends, answered, stuck);
-            let counts = count_all(front, answered);
-            Ok(Turn {
-                count: gathered.count,
-                rest,
-                counts,
-            })
-        }
+    match send_answers(alloc, port, front, classes, answered, pending) {
+        Ok(()) => Ok(Turn {
+            count,
+            rest: rest_of(gathered.ends, answered, is_stuck(count, messages)),
+            counts: count_all(front, classes, answered),
+        }),
         Err(fault) => Err(stop_of(fault)),
     }
 }

@@ -24,8 +24,8 @@ pub enum Outcome {
     Failed,
 }
 
-/// Gives bytes in pieces, and keeps what is sent. Past its arrivals it gives what the buffer takes, and past its
-/// outcomes it takes all.
+/// Gives bytes in pieces, and keeps what is sent. Past its arrivals it gives what the buffer takes,
+/// and past its outcomes it takes all.
 #[derive(Drop)]
 pub struct MemoryPort {
     input: Vec<u8>,
@@ -51,7 +51,8 @@ impl MemoryPort {
     ghost use Rattle.fuse_session.specs.Memory.{first_arrival, first_outcome};
     ghost use Rattle.fuse_session.specs.Port.{fresh};
 
-    /// All of the input is to come. `confirms`: whether an answer taken whole counts as taken by the kernel.
+    /// All of the input is to come. `confirms`: whether an answer taken whole counts as taken by
+    /// the kernel.
     pub fn new(
         alloc: Global,
         input: Vec<u8>,
@@ -117,7 +118,8 @@ impl MemoryPort {
 }
 
 impl Port for MemoryPort {
-    ghost use Rattle.fuse_session.specs.Memory.{memory_told, arrivals_left, outcomes_left, bytes_left};
+    ghost use Rattle.fuse_session.specs.Memory.{memory_told, arrivals_left, outcomes_left};
+    ghost use Rattle.fuse_session.specs.Memory.{bytes_left};
     ghost use Rattle.fuse_session.specs.Memory.{first_arrival, first_outcome, received_by, sent_by};
     ghost use Rattle.fuse_session.specs.Port.{IsYoung, Receives, Sends};
 
@@ -127,7 +129,8 @@ impl Port for MemoryPort {
 
     fn receive(&mut self, buffer: &mut [u8]) -> Received
         requires young { IsYoung (memory_told self.old) }
-        ensures received { Receives (memory_told self.old) (memory_told self.new) result buffer.new }
+        ensures received { Receives (memory_told self.old) (memory_told self.new)
+            result buffer.new }
         ensures same { Unit {0} }
         // By its lists: what arrives next, of which one less is left then.
         ensures arrives { result ≡ received_by (first_arrival (arrivals_left self.old))
@@ -158,7 +161,8 @@ impl Port for MemoryPort {
         ensures sent { Sends (memory_told self.old) (memory_told self.new) result bytes.now }
         ensures same { Unit {0} }
         // By its lists: how it goes next, of which one less is left then.
-        ensures answers { (result ≡ sent_by (first_outcome (outcomes_left self.old)) (length bytes.now))
+        ensures answers { (result ≡ sent_by (first_outcome (outcomes_left self.old))
+            (length bytes.now))
             ⊎ (result ≡ Sent.Failed) }
         ensures left { outcomes_left self.new ≡ drop 1 (outcomes_left self.old) }
         ensures others { arrivals_left self.new ≡ arrivals_left self.old }

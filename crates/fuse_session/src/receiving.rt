@@ -1,5 +1,6 @@
 // Receiving, and the messages that wait then.
-ghost use Rattle.std.specs.Prelude.{◌≡◌, ◌≤◌, ◌+◌, ◌++◌, ◌^◌, None, Some, length, IfOk, IfErr, OnOk, OnErr};
+ghost use Rattle.std.specs.Prelude.{◌≡◌, ◌≤◌, ◌+◌, ◌++◌, ◌^◌, None, Some, length, IfOk, IfErr};
+ghost use Rattle.std.specs.Prelude.{OnOk, OnErr};
 ghost use Rattle.fuse_request.specs.Framing.{fed_of};
 ghost use Rattle.fuse_request.specs.declared.framer.TheConstants.{MAX_FED as max_fed};
 ghost use Rattle.fuse_request.specs.declared.header.TheConstants.{MAX_MESSAGE as max_message};
@@ -25,7 +26,8 @@ pub(crate) struct Waiting {
 
 // The messages before a fault of the framer, unless it is want of memory.
 fn stopped(messages: Vec<Bytes>, fault: FrameFault) -> Result<Waiting, Memory>
-    ensures { IfOk result (λ w. (fault ≡ FrameFault.Memory → ⊥) × (w.messages.items ≡ messages.items) × (w.fault ≡ Some fault)) }
+    ensures { IfOk result (λ w. (fault ≡ FrameFault.Memory → ⊥)
+        × (w.messages.items ≡ messages.items) × (w.fault ≡ Some fault)) }
 {
     match fault {
         FrameFault::Memory => Err(Memory),
@@ -38,12 +40,14 @@ fn stopped(messages: Vec<Bytes>, fault: FrameFault) -> Result<Waiting, Memory>
     }
 }
 
-// Holds what came too. Nothing else feeds the framer, and taking messages and ending only lessen what it holds.
+// Holds what came too. Nothing else feeds the framer, and taking messages and ending only lessen
+// what it holds.
 fn hold(framer: &mut Framer, piece: &[u8]) -> Result<(), Memory>
     requires opened { IsOpen framer.old }
     requires piece { length piece.now ≤ max_message }
     requires fed { fed_of framer.old + length piece.now ≤ max_fed }
-    ensures ok { OnOk result (framer.new ≡ record framer.old { bytes = framer.old.bytes ++ piece.now }) }
+    ensures ok { OnOk result (framer.new
+        ≡ record framer.old { bytes = framer.old.bytes ++ piece.now }) }
     ensures err { OnErr result (framer.new ≡ framer.old) }
     ensures held { length framer.new.bytes ≤ MAX_HELD }
 {
@@ -100,8 +104,10 @@ pub(crate) fn hear<P: Port>(
     requires room { length buffer.old ≡ max_message }
     requires opened { IsOpen framer.old }
     requires fed { fed_of framer.old + length buffer.old ≤ 2 ^ 60 }
-    ensures ok { IfOk result (λ w. Heard (P.told port.old) (P.told port.new) framer.old framer.new w.messages.items w.fault) }
-    ensures err { IfErr result (λ ended. NotHeard ended (P.told port.old) (P.told port.new) framer.old) }
+    ensures ok { IfOk result (λ w. Heard (P.told port.old) (P.told port.new) framer.old framer.new
+        w.messages.items w.fault) }
+    ensures err { IfErr result (λ ended. NotHeard ended (P.told port.old) (P.told port.new)
+        framer.old) }
     ensures hearing { IsHearing (P.told port.old) (P.told port.new) }
     ensures fed { fed_of framer.new ≤ fed_of framer.old + length buffer.old }
     ensures same { P.became port.old port.new }

@@ -31,9 +31,10 @@ fn may_be_asked(settings: Option<Settings>) -> bool
     }
 }
 
-/// Asks the kernel to send its pending requests again, where what INIT agreed on lets it or no INIT was yet. Takes no
-/// memory of its own, and changes nothing that the keeper holds. A port that answers `Gone` to the notice has done with it:
-/// the notice counts as sent, as an answer does, and the place where it ends is told.
+/// Asks the kernel to send its pending requests again, where what INIT agreed on lets it or no INIT
+/// was yet. Takes no memory of its own, and changes nothing that the keeper holds. A port that
+/// answers `Gone` to the notice has done with it: the notice counts as sent, as an answer does, and
+/// the place where it ends is told.
 pub fn resume<K: Keeper, P: Port>(keeper: &mut K, port: &mut P) -> Result<(), ResumeFault>
     requires going { (K.told keeper.old).has_failed ≡ false }
     requires receives { (P.told port.old).receives < 2 ^ 62 }

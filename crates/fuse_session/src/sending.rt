@@ -1,18 +1,20 @@
 // Sending the answers of a group.
-ghost use Rattle.std.specs.Prelude.{◌≡◌, ◌≤◌, ◌<◌, ◌+◌, ◌||◌, [], length, drop, All, IfOk, IfErr, OnOk};
+ghost use Rattle.std.specs.Prelude.{◌≡◌, ◌≤◌, ◌<◌, ◌+◌, ◌||◌, [], length, drop, All, IfOk, IfErr};
+ghost use Rattle.std.specs.Prelude.{OnOk};
 ghost use Rattle.fuse_answer.specs.Wire.{wire};
 ghost use Rattle.fuse_request.specs.Stream.{IsMessage};
 ghost use Rattle.fuse_request.specs.Classes.{class_of};
 ghost use Rattle.fuse_session.specs.Worked.{unique_of};
 ghost use Rattle.fuse_keeper.specs.Group.{ids_of};
 ghost use Rattle.fuse_session.specs.Port.{IsYoung, SentWhole, tells_gone};
-ghost use Rattle.fuse_session.specs.Group.{answers_in, wires, AreEnough, head_wire, left_by, SendFails, SentNext, SentAll, SentSome};
+ghost use Rattle.fuse_session.specs.Group.{answers_in, wires, AreEnough, head_wire, left_by};
+ghost use Rattle.fuse_session.specs.Group.{SendFails, SentNext, SentAll, SentSome, classes_in};
 
 use crate::port::{Passed, Port, PortFailed, send_whole};
 use bytes::Bytes;
 use fuse_answer::{Answer, write_answer};
 use fuse_keeper::Done;
-use fuse_request::{Class, classify};
+use fuse_request::Class;
 use fuse_wire::{Errno, Id};
 use std::alloc::Global;
 
@@ -31,8 +33,10 @@ fn send_reply<P: Port>(
     answer: &Answer,
 ) -> Result<Passed, SendFault>
     requires young { IsYoung (P.told port.old) }
-    ensures ok { IfOk result (λ passed. SentWhole (P.told port.old) (P.told port.new) (wire answer.now.errno answer.now.body unique) (tells_gone passed)) }
-    ensures err { IfErr result (λ fault. SendFails fault (P.told port.old) (P.told port.new) (wire answer.now.errno answer.now.body unique)) }
+    ensures ok { IfOk result (λ passed. SentWhole (P.told port.old) (P.told port.new)
+        (wire answer.now.errno answer.now.body unique) (tells_gone passed)) }
+    ensures err { IfErr result (λ fault. SendFails fault (P.told port.old) (P.told port.new)
+        (wire answer.now.errno answer.now.body unique)) }
     ensures same { P.became port.old port.new }
 {
     let mut bytes = Vec::new(alloc);
@@ -66,9 +70,12 @@ fn send_kept<P: Port>(
     requires message { IsMessage message.now }
     requires kept { class_of message.now ≡ Class.Kept }
     requires young { IsYoung (P.told port.old) }
-    ensures ok { OnOk result (SentNext (P.told port.old) (P.told port.new) message.now (wire answer.now.errno answer.now.body (unique_of message.now)) (ids_of pending.old.items) (ids_of pending.new.items)) }
+    ensures ok { OnOk result (SentNext (P.told port.old) (P.told port.new) message.now
+        (wire answer.now.errno answer.now.body (unique_of message.now))
+        (ids_of pending.old.items) (ids_of pending.new.items)) }
     ensures few { length pending.new.items ≤ length pending.old.items + 1 }
-    ensures err { IfErr result (λ fault. SendFails fault (P.told port.old) (P.told port.new) (wire answer.now.errno answer.now.body (unique_of message.now))) }
+    ensures err { IfErr result (λ fault. SendFails fault (P.told port.old) (P.told port.new)
+        (wire answer.now.errno answer.now.body (unique_of message.now))) }
     ensures same { P.became port.old port.new }
 {
     if pending.reserve(1).is_err() {
@@ -94,35 +101,46 @@ fn send_bare<P: Port>(
 ) -> Result<Passed, SendFault>
     requires message { IsMessage message.now }
     requires young { IsYoung (P.told port.old) }
-    ensures ok { IfOk result (λ passed. SentWhole (P.told port.old) (P.told port.new) (wire errno.0 [] (unique_of message.now)) (tells_gone passed)) }
-    ensures err { IfErr result (λ fault. SendFails fault (P.told port.old) (P.told port.new) (wire errno.0 [] (unique_of message.now))) }
+    ensures ok { IfOk result (λ passed. SentWhole (P.told port.old) (P.told port.new)
+        (wire errno.0 [] (unique_of message.now)) (tells_gone passed)) }
+    ensures err { IfErr result (λ fault. SendFails fault (P.told port.old) (P.told port.new)
+        (wire errno.0 [] (unique_of message.now))) }
     ensures same { P.became port.old port.new }
 {
     let answer = Answer::refusal(alloc, errno);
     send_reply(alloc, port, fuse_request::unique_of(message), &answer)
 }
 
-// Sends the answer to one message, and says how many answers are used then.
+// Sends the answer to one message of this class, and says how many answers are used then.
 fn send_next<P: Port>(
     alloc: Global,
     port: &mut P,
     message: &[u8],
+    class: Class,
     dones: &[Done],
     next: usize,
     pending: &mut Vec<Id>,
 ) -> Result<usize, SendFault>
     requires message { IsMessage message.now }
+    requires class { class ≡ class_of message.now }
     requires next { next ≤ length dones.now }
     requires enough { class_of message.now ≡ Class.Kept → next < length dones.now }
     requires young { IsYoung (P.told port.old) }
     ensures next { IfOk result (λ n. n ≤ length dones.now) }
-    ensures left { IfOk result (λ n. drop n (answers_in dones.now) ≡ left_by (class_of message.now) (drop next (answers_in dones.now))) }
-    ensures ok { OnOk result (SentNext (P.told port.old) (P.told port.new) message.now (head_wire (class_of message.now) (unique_of message.now) (drop next (answers_in dones.now))) (ids_of pending.old.items) (ids_of pending.new.items)) }
-    ensures few { IfOk result (λ n. length pending.new.items + next ≤ length pending.old.items + n) }
-    ensures err { IfErr result (λ fault. SendFails fault (P.told port.old) (P.told port.new) (head_wire (class_of message.now) (unique_of message.now) (drop next (answers_in dones.now)))) }
+    ensures left { IfOk result (λ n. drop n (answers_in dones.now)
+        ≡ left_by (class_of message.now) (drop next (answers_in dones.now))) }
+    ensures ok { OnOk result (SentNext (P.told port.old) (P.told port.new) message.now
+        (head_wire (class_of message.now) (unique_of message.now)
+        (drop next (answers_in dones.now)))
+        (ids_of pending.old.items) (ids_of pending.new.items)) }
+    ensures few { IfOk result
+        (λ n. length pending.new.items + next ≤ length pending.old.items + n) }
+    ensures err { IfErr result (λ fault. SendFails fault (P.told port.old) (P.told port.new)
+        (head_wire (class_of message.now) (unique_of message.now)
+        (drop next (answers_in dones.now)))) }
     ensures same { P.became port.old port.new }
 {
-    match classify(message) {
+    match class {
         Class::Silent => Ok(next),
         Class::Bare(errno) => match send_bare(alloc, port, message, errno) {
             Ok(_) => Ok(next),
@@ -135,25 +153,33 @@ fn send_next<P: Port>(
     }
 }
 
-/// Sends the answers to messages, in order. The ids that they settle are pending then.
+/// Sends the answers to messages of these classes, in order. The ids that they settle are pending
+/// then.
 pub(crate) fn send_answers<P: Port>(
     alloc: Global,
     port: &mut P,
     messages: &[Bytes],
+    classes: &[Class],
     dones: &[Done],
     pending: &mut Vec<Id>,
 ) -> Result<(), SendFault>
     requires messages { All IsMessage messages.now }
+    requires classes { classes.now ≡ classes_in messages.now }
     requires enough { AreEnough messages.now (answers_in dones.now) }
     requires young { IsYoung (P.told port.old) }
-    ensures ok { OnOk result (SentAll (P.told port.old) (P.told port.new) messages.now (wires messages.now (answers_in dones.now)) (ids_of pending.old.items) (ids_of pending.new.items)) }
-    ensures few { OnOk result (length pending.new.items ≤ length pending.old.items + length dones.now) }
-    ensures err { IfErr result (λ fault. SentSome (P.told port.old) (P.told port.new) (wires messages.now (answers_in dones.now)) fault) }
+    ensures ok { OnOk result (SentAll (P.told port.old) (P.told port.new) messages.now
+        (wires messages.now (answers_in dones.now))
+        (ids_of pending.old.items) (ids_of pending.new.items)) }
+    ensures few { OnOk result
+        (length pending.new.items ≤ length pending.old.items + length dones.now) }
+    ensures err { IfErr result (λ fault. SentSome (P.told port.old) (P.told port.new)
+        (wires messages.now (answers_in dones.now)) fault) }
     ensures same { P.became port.old port.new }
 {
     let mut next = 0;
-    for message in messages {
-        match send_next(alloc, port, message.as_slice(), dones, next, pending) {
+    for (place, message) in messages.iter().enumerate() {
+        let bytes = message.as_slice();
+        match send_next(alloc, port, bytes, classes[place], dones, next, pending) {
             Ok(used) => next = used,
             Err(fault) => return Err(fault),
         }

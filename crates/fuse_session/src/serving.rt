@@ -1,5 +1,6 @@
 // Serving a port from a keeper.
-ghost use Rattle.std.specs.Prelude.{◌≡◌, ◌↔◌, ◌≤◌, ◌<◌, ◌+◌, ◌^◌, [], true, false, None, length, IfOk, IfErr, OnOk, OnErr};
+ghost use Rattle.std.specs.Prelude.{◌≡◌, ◌↔◌, ◌≤◌, ◌<◌, ◌+◌, ◌^◌, [], true, false, None, length};
+ghost use Rattle.std.specs.Prelude.{IfOk, IfErr, OnOk, OnErr};
 ghost use Rattle.fuse_request.specs.Framing.{fed_of};
 ghost use Rattle.fuse_request.specs.declared.header.TheConstants.{MAX_MESSAGE as max_message};
 ghost use Rattle.fuse_keeper.specs.declared.fault.StoreFault.{StoreFault as StoreFaultValue};
@@ -70,8 +71,10 @@ fn counts_of(ended: &Ended, counts: SessionCounts) -> Option<SessionCounts>
 
 // What follows when the messages that waited are worked off, and this bad length is behind them.
 fn finish(work: Work, fault: Option<FrameFault>) -> Result<SessionCounts, Halt>
-    ensures ok { IfOk result (λ counts. (counts ≡ work.counts) × (work.rest ≡ Rest.GoesOn) × (fault ≡ None)) }
-    ensures err { IfErr result (λ halt. (halt.counts ≡ work.counts) × FinishedBy halt.ended work.rest work.place fault) }
+    ensures ok { IfOk result (λ counts. (counts ≡ work.counts) × (work.rest ≡ Rest.GoesOn)
+        × (fault ≡ None)) }
+    ensures err { IfErr result (λ halt. (halt.counts ≡ work.counts)
+        × FinishedBy halt.ended work.rest work.place fault) }
 {
     let counts = work.counts;
     match work.rest {
@@ -110,28 +113,38 @@ fn one_turn<K: Keeper, P: Port, C: Clock>(
     requires opened { IsOpen framer.old }
     requires room { length buffer.old ≡ max_message }
     requires fed { fed_of framer.old + length buffer.old ≤ 2 ^ 59 }
-    ensures ok { IfOk result (λ counts. Whole (K.told keeper.old) (K.told keeper.new) (C.gave clock.old clock.new) (P.told port.old) (P.told port.new)
-        (ids_of pending.old.items) (ids_of pending.new.items) framer.old.bytes framer.new.bytes framer.old.at framer.new.at counts) }
+    ensures ok { IfOk result (λ counts. Whole (K.told keeper.old) (K.told keeper.new)
+        (C.gave clock.old clock.new) (P.told port.old) (P.told port.new)
+        (ids_of pending.old.items) (ids_of pending.new.items) framer.old.bytes framer.new.bytes
+        framer.old.at framer.new.at counts) }
     ensures opened { OnOk result (IsOpen framer.new) }
     ensures below { IfOk result (λ counts. IsBelow counts (2 ^ 20)) }
     ensures few { OnOk result (length pending.new.items ≤ max_settled) }
     ensures going { OnOk result ((K.told keeper.new).has_failed ≡ false) }
     ensures firm { OnOk result (KeepsFirm (K.told keeper.old) (K.told keeper.new)) }
-    ensures more { OnOk result ((P.told port.old).confirms ≡ true → (K.told keeper.new).is_honest → (before : Records) → HandsOn before (K.told keeper.old) (ids_of pending.old.items)
+    ensures more { OnOk result ((P.told port.old).confirms ≡ true → (K.told keeper.new).is_honest
+        → (before : Records) → HandsOn before (K.told keeper.old) (ids_of pending.old.items)
         → HandsOn before (K.told keeper.new) (ids_of pending.new.items)) }
-    ensures still { OnOk result (((P.told port.new).failures ≡ (P.told port.old).failures) × ((P.told port.new).receive_failures ≡ (P.told port.old).receive_failures)
+    ensures still { OnOk result (((P.told port.new).failures ≡ (P.told port.old).failures)
+        × ((P.told port.new).receive_failures ≡ (P.told port.old).receive_failures)
         × ((P.told port.new).has_ended ≡ (P.told port.old).has_ended)) }
     ensures receives { (P.told port.new).receives ≡ (P.told port.old).receives + 1 }
     ensures confirms { (P.told port.new).confirms ≡ (P.told port.old).confirms }
     ensures fed { fed_of framer.new ≤ fed_of framer.old + length buffer.old }
     ensures buffer { length buffer.new ≡ length buffer.old }
     ensures life { IfErr result (λ halt. Run (K.told keeper.old) (K.told keeper.new)
-        (C.gave clock.old clock.new) (P.told port.old) (P.told port.new) (ids_of pending.old.items) framer.old.bytes (ended_store halt.ended) (ended_memory halt.ended) (MayEnd (K.told keeper.old).may_answer halt.ended)) }
-    ensures may { (f : StoreFaultValue) → (K.told keeper.new).may_answer f → (K.told keeper.old).may_answer f }
-    ensures ends { IfErr result (λ halt. EndsAs (K.told keeper.old) (K.told keeper.new) (C.gave clock.old clock.new) (P.told port.old) (P.told port.new)
+        (C.gave clock.old clock.new) (P.told port.old) (P.told port.new) (ids_of pending.old.items)
+        framer.old.bytes (ended_store halt.ended) (ended_memory halt.ended)
+        (MayEnd (K.told keeper.old).may_answer halt.ended)) }
+    ensures may { (f : StoreFaultValue) → (K.told keeper.new).may_answer f
+        → (K.told keeper.old).may_answer f }
+    ensures ends { IfErr result (λ halt. EndsAs (K.told keeper.old) (K.told keeper.new)
+        (C.gave clock.old clock.new) (P.told port.old) (P.told port.new)
         (ids_of pending.old.items) framer.old.bytes framer.old.at 0 halt.ended halt.counts) }
     ensures counted { IfErr result (λ halt. IsBelow halt.counts (2 ^ 20)) }
-    ensures at_most { OnErr result ((P.told port.old).confirms ≡ true → (K.told keeper.new).is_clean → (before : Records) → HandsOn before (K.told keeper.old) (ids_of pending.old.items) → AtMostMore before (K.told keeper.new)) }
+    ensures at_most { OnErr result ((P.told port.old).confirms ≡ true → (K.told keeper.new).is_clean
+        → (before : Records) → HandsOn before (K.told keeper.old) (ids_of pending.old.items)
+        → AtMostMore before (K.told keeper.new)) }
     ensures failed { IfErr result (λ halt. FailedBy (ended_port halt.ended)
         (P.told port.old).failures (P.told port.new).failures) }
     ensures store { IfErr result (λ halt. (K.told keeper.new).has_failed ≡ ended_store halt.ended) }
@@ -167,9 +180,10 @@ fn one_turn<K: Keeper, P: Port, C: Clock>(
     }
 }
 
-/// Serves what a port gives: receives at most as often as `turns` says, works off all whole messages after each turn
-/// in groups of at most 16 kept ones, and sends the answers of a group once it is committed. The ids that the answers
-/// settle are handed on to the keeper with the next group.
+/// Serves what a port gives: receives at most as often as `turns` says, works off all whole
+/// messages after each turn in groups of at most 16 kept ones, and sends the answers of a group
+/// once it is committed. The ids that the answers settle are handed on to the keeper with the next
+/// group.
 pub fn serve<K: Keeper, P: Port, C: Clock>(
     alloc: Global,
     keeper: &mut K,
@@ -204,8 +218,8 @@ pub fn serve<K: Keeper, P: Port, C: Clock>(
     ensures at_most { (P.told port.old).confirms ≡ true → (K.told keeper.new).is_clean
         → OfHeld (K.told keeper.old) (λ rows records. AtMostMore records (K.told keeper.new)) }
 
-    // On any port few of the ids that the answers settled have a record, be it that the port confirms
-    // or told Gone of them.
+    // On any port few of the ids that the answers settled have a record, be it that the port
+    // confirms or told Gone of them.
     ensures settled { (K.told keeper.new).is_clean → FewSettled (K.told keeper.old)
         (K.told keeper.new) (C.gave clock.old clock.new) (P.told port.old) (P.told port.new) }
 

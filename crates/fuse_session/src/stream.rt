@@ -24,7 +24,8 @@ impl<R: Read + Drop, W: Write + Drop> StreamPort<R, W> {
 
     /// `confirms`: whether an answer taken whole counts as taken by the kernel.
     pub fn new(reader: R, writer: W, confirms: bool) -> StreamPort<R, W>
-        ensures { stream_told R.remaining W.contents result ≡ fresh (R.remaining reader) (W.contents writer) confirms }
+        ensures { stream_told R.remaining W.contents result ≡ fresh (R.remaining reader)
+            (W.contents writer) confirms }
     {
         StreamPort {
             reader,

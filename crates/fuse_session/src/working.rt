@@ -1,5 +1,6 @@
 // Working off the messages that wait, in groups.
-ghost use Rattle.std.specs.Prelude.{◌≡◌, ◌≤◌, ◌<◌, ◌+◌, ◌^◌, true, false, not, length, All, IfOk, IfErr, OnOk, OnErr};
+ghost use Rattle.std.specs.Prelude.{◌≡◌, ◌≤◌, ◌<◌, ◌+◌, ◌^◌, true, false, not, length, All, IfOk};
+ghost use Rattle.std.specs.Prelude.{IfErr, OnOk, OnErr};
 ghost use Rattle.fuse_request.specs.Stream.{IsMessage, joined};
 ghost use Rattle.fuse_keeper.specs.declared.fault.StoreFault.{StoreFault as StoreFaultValue};
 ghost use Rattle.fuse_keeper.specs.Stands.{Records};
@@ -10,7 +11,8 @@ ghost use Rattle.fuse_session.specs.Port.{IsYoung, IsQuiet};
 ghost use Rattle.fuse_session.specs.Settling.{AtMostMore};
 ghost use Rattle.fuse_session.specs.Moves.{HandsOn};
 ghost use Rattle.fuse_session.specs.Counting.{IsBelow};
-ghost use Rattle.fuse_session.specs.Serving.{WorkedOff, Broken, MayStop, goes_on, is_store, is_memory};
+ghost use Rattle.fuse_session.specs.Serving.{WorkedOff, Broken, MayStop, goes_on, is_store};
+ghost use Rattle.fuse_session.specs.Serving.{is_memory};
 
 use crate::clock::Clock;
 use crate::counts::{SessionCounts, sum_of};
@@ -68,19 +70,27 @@ pub(crate) fn work_off<K: Keeper, P: Port, C: Clock>(
     requires few { length pending.old.items ≤ max_settled }
     requires short { length messages.now < 2 ^ 60 }
     requires place { begin + length (joined messages.now) < 2 ^ 62 }
-    ensures ok { IfOk result (λ work. WorkedOff (K.told keeper.old) (K.told keeper.new) (C.gave clock.old clock.new) (P.told port.old) (P.told port.new)
-        (ids_of pending.old.items) (ids_of pending.new.items) messages.now work.rest begin work.place work.counts) }
+    ensures ok { IfOk result (λ work. WorkedOff (K.told keeper.old) (K.told keeper.new)
+        (C.gave clock.old clock.new) (P.told port.old) (P.told port.new)
+        (ids_of pending.old.items) (ids_of pending.new.items) messages.now work.rest begin
+        work.place work.counts) }
     ensures below { IfOk result (λ work. IsBelow work.counts (length messages.now)) }
     ensures few { OnOk result (length pending.new.items ≤ max_settled) }
     ensures going { OnOk result ((K.told keeper.new).has_failed ≡ false) }
     ensures firm { OnOk result (KeepsFirm (K.told keeper.old) (K.told keeper.new)) }
-    ensures more { OnOk result ((P.told port.old).confirms ≡ true → (K.told keeper.new).is_honest → (before : Records) → HandsOn before (K.told keeper.old) (ids_of pending.old.items)
+    ensures more { OnOk result ((P.told port.old).confirms ≡ true → (K.told keeper.new).is_honest
+        → (before : Records) → HandsOn before (K.told keeper.old) (ids_of pending.old.items)
         → HandsOn before (K.told keeper.new) (ids_of pending.new.items)) }
     ensures failures { OnOk result ((P.told port.new).failures ≡ (P.told port.old).failures) }
     ensures err { IfErr result (λ stop. Broken (K.told keeper.old) (K.told keeper.new)
-        (C.gave clock.old clock.new) (P.told port.old) (P.told port.new) (ids_of pending.old.items) messages.now (is_store stop) (is_memory stop) (MayStop (K.told keeper.old).may_answer stop)) }
-    ensures may { (f : StoreFaultValue) → (K.told keeper.new).may_answer f → (K.told keeper.old).may_answer f }
-    ensures at_most { OnErr result ((P.told port.old).confirms ≡ true → (K.told keeper.new).is_clean → (before : Records) → HandsOn before (K.told keeper.old) (ids_of pending.old.items) → AtMostMore before (K.told keeper.new)) }
+        (C.gave clock.old clock.new) (P.told port.old) (P.told port.new) (ids_of pending.old.items)
+        messages.now (is_store stop) (is_memory stop)
+        (MayStop (K.told keeper.old).may_answer stop)) }
+    ensures may { (f : StoreFaultValue) → (K.told keeper.new).may_answer f
+        → (K.told keeper.old).may_answer f }
+    ensures at_most { OnErr result ((P.told port.old).confirms ≡ true → (K.told keeper.new).is_clean
+        → (before : Records) → HandsOn before (K.told keeper.old) (ids_of pending.old.items)
+        → AtMostMore before (K.told keeper.new)) }
     ensures failed { IfErr result (λ stop. FailedBy (stop_port stop)
         (P.told port.old).failures (P.told port.new).failures) }
     ensures store { IfErr result (λ stop. (K.told keeper.new).has_failed ≡ is_store stop) }

@@ -12,14 +12,14 @@ use Rattle.fuse_keeper.specs.History.{Entry, entry_id, History, said, IsUnsettle
 use Rattle.fuse_keeper.specs.declared.fault.StoreFault.{StoreFault}
 use Rattle.fuse_keeper.specs.Model.{Model}
 use Rattle.fuse_keeper.specs.KeeperState.{KeeperState, StandsFor, Performed, KeepsOthers, Called}
-use Rattle.fuse_keeper.specs.Group.{entry_of, entries_of}
+use Rattle.fuse_keeper.specs.Group.{entry_of, entries_of, handed_to, left_pending}
 use Rattle.fuse_keeper.specs.declared.keeper.Done.{Done}
 use Rattle.fuse_session.specs.Worked.{entry_if, message_entry, unique_of}
 use Rattle.fuse_session.specs.Group.{left_by}
 use Rattle.fuse_sim.specs.declared.event.Event.{Event}
 use Rattle.fuse_sim.specs.declared.event.Outcome.{Outcome}
 use Rattle.fuse_sim.specs.Driving.{commits_in, committed, answer_in, outcome_of, bytes_given, is_taken, where_taken}
-use Rattle.fuse_sim.specs.Running.{dies_before, NoneDiesBefore, handed_to, left_pending, answers_in, head_answer, outcomes_by, HasAnswers, settles_in, Adds}
+use Rattle.fuse_sim.specs.Running.{dies_before, NoneDiesBefore, answers_in, head_answer, outcomes_by, HasAnswers, settles_in, Adds}
 use Rattle.fuse_sim.specs.Running.{Worked}
 use Rattle.fuse_sim.proofs.Gathered.{commits_kept}
 

@@ -7,12 +7,13 @@ use Rattle.fuse_request.specs.Classes.{class_of}
 use Rattle.fuse_keeper.specs.History.{Entry}
 use Rattle.fuse_session.specs.Worked.{entry_if, message_entry, message_id}
 use Rattle.fuse_session.specs.Settling.{settles_if}
+use Rattle.fuse_keeper.specs.Group.{handed_to, left_pending}
 use Rattle.fuse_sim.specs.declared.event.Fate.{Fate}
 use Rattle.fuse_sim.specs.declared.event.Fate.TheVariants.{Answered, AnswerLost, DiedBeforeCommit, DiedAfterCommit}
 use Rattle.fuse_sim.specs.declared.event.Event.{Event}
 use Rattle.fuse_sim.specs.Driving.{commits, commits_by, commits_in, settles, is_taken, dies, Calm}
 use Rattle.fuse_sim.specs.HandedOn.{Ledger, empty_ledger, after_one, handed_by, after_commit, handed_at, crashed_if, after_event, ledger_after, handed_on}
-use Rattle.fuse_sim.specs.Running.{IsRun, handed_to, left_pending, settles_in}
+use Rattle.fuse_sim.specs.Running.{IsRun, settles_in}
 
 -- an event commits nothing and settles nothing, or it commits one message
 one_by : (fate : Fate) (class : Class) (e : Entry) (i : ℕ) → ((commits_by fate (entry_if class e) ≡ []) × (settles_if (is_taken fate) class i ≡ [])) ⊎ ((x : Entry) × (commits_by fate (entry_if class e) ≡ x ∷ []))

@@ -10,13 +10,14 @@ use Rattle.fuse_keeper.specs.History.{History, grown, Includes}
 use Rattle.fuse_keeper.specs.Model.{Model}
 use Rattle.fuse_keeper.specs.KeeperState.{KeeperState, KeepsHeld, IsCount}
 use Rattle.fuse_session.specs.Worked.{entry_if, message_entry}
+use Rattle.fuse_keeper.specs.Group.{handed_to}
 use Rattle.fuse_sim.specs.declared.event.Fate.{Fate}
 use Rattle.fuse_sim.specs.declared.event.Fate.TheVariants.{DiedAfterCommit}
 use Rattle.fuse_sim.specs.declared.event.Event.{Event}
 use Rattle.fuse_sim.specs.declared.event.Outcome.{Outcome}
 use Rattle.fuse_sim.specs.Driving.{commits_by, commits_in, committed, dies, deaths, settles, settled_by, NoneReused, told_in, StandsIn, became_in, OpenedAt}
 use Rattle.fuse_sim.specs.Driving.{Opened}
-use Rattle.fuse_sim.specs.Running.{dies_before, IsRun, DiesLast, Gathers, handed_to, Worked, Opens}
+use Rattle.fuse_sim.specs.Running.{dies_before, IsRun, DiesLast, Gathers, Worked, Opens}
 use Rattle.fuse_sim.proofs.Settled.{includes_left, includes_both, stands_later}
 use Rattle.fuse_sim.proofs.Driven.{committed-append, settled-append, settled_still, reused-parts, all_unsettled_too, none_reused}
 use Rattle.fuse_sim.proofs.Moves.{handed_within, is_lost}

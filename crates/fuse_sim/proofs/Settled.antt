@@ -1,13 +1,11 @@
 -- Which ids are settled, handed on, and left.
-use Rattle.std.proofs.Common.{◌≡◌, ◌⊎◌, inl, inr, ℕ, Bool, true, false, ◌||◌, ◌==◌, if◌then◌else◌, List, [], ◌∷◌, ◌++◌, length, refl, sym, ◌∙◌}
-use Rattle.fuse_wire.specs.declared.moment.Moment.{Moment}
-use Rattle.fuse_request.specs.declared.request.Request.{Request}
-use Rattle.fuse_keeper.specs.History.{History, is_in, Includes}
+use Rattle.std.proofs.Common.{◌≡◌, ◌⊎◌, inl, inr, ℕ, Bool, true, false, ◌||◌, ◌==◌, if◌then◌else◌, List, [], ◌∷◌, ◌++◌, ◌≤◌, length, All, refl, sym, ap, ◌∙◌, arith}
+use Rattle.fuse_keeper.specs.declared.keeper.Done.{Done}
+use Rattle.fuse_keeper.specs.History.{Entry, History, is_in, Includes, IsUnsettled}
 use Rattle.fuse_keeper.specs.Model.{Model}
 use Rattle.fuse_keeper.specs.Stands.{Records, Stands}
-use Rattle.fuse_keeper.specs.KeeperState.{KeeperState, StandsFor, KeepsHeld}
-use Rattle.fuse_keeper.specs.Group.{entries_of}
-use Rattle.fuse_sim.specs.Running.{handed_to}
+use Rattle.fuse_keeper.specs.KeeperState.{KeeperState, StandsFor, KeepsHeld, Performs, Performed}
+use Rattle.fuse_keeper.specs.Group.{left_pending}
 
 -- ---- ids
 
@@ -68,7 +66,14 @@ stands_later M holds s h t u more so = record { rows = so.rows; records = so.rec
 pub stands_kept : (M : Model) → (holds holds' : KeeperState M) (s : M.State) (h : History) (t : List ℕ) → KeepsHeld holds holds' → StandsFor holds s h t → StandsFor holds' s h t
 stands_kept M holds holds' s h t keeps so = record { rows = so.rows; records = so.records; held = keeps so.rows so.records so.held; stands = so.stands }
 
--- what is pending is handed on to a group that isn't empty
-pub handed_all : (group : List (Request × Moment)) (pending : List ℕ) → (length group ≡ 0 → ⊥) → handed_to (entries_of group) pending ≡ pending
-handed_all [] pending some = absurd (some refl)
-handed_all (one ∷ group) pending some = refl
+-- ids that are handed on with a group may be settled before it
+pub performs_later : (M : Model) → (holds holds' : KeeperState M) (handed : List ℕ) (es : List Entry) (dones : List Done) → Performs holds holds' handed es dones
+    → holds'.is_honest → (s : M.State) (h : History) (t : List ℕ) → StandsFor holds s h t → All (IsUnsettled (t ++ handed)) es
+    → Performed holds' s h (t ++ handed) es dones
+performs_later M holds holds' handed es dones performs honest s h t so un =
+    performs honest s h (t ++ handed) (stands_later M holds s h t (t ++ handed) (includes_left t handed) so) (includes_right t handed) un
+
+-- no more is pending than was
+pub left_short : (pending left : List ℕ) (es : List Entry) → left ≡ left_pending es pending → length left ≤ length pending
+left_short pending left [] is = omega (arith, ap length is)
+left_short pending left (e ∷ es) is = omega (arith, ap length is)

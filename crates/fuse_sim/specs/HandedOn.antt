@@ -1,6 +1,6 @@
 -- Which ids are handed on, so that their records are removed, as the groups of events step.
 use Rattle.std.specs.Prelude.{◌-◌, ℕ, zero, suc, Bool, true, false, List, [], ◌∷◌, ◌++◌}
-use Rattle.fuse_keeper.specs.declared.keeper.TheConstants.{MAX_GROUP}
+use Rattle.fuse_keeper.specs.Bounds.{max_group_len}
 use Rattle.fuse_keeper.specs.History.{Entry}
 use Rattle.fuse_sim.specs.declared.event.Event.{Event}
 use Rattle.fuse_sim.specs.Driving.{commits, settles, dies}
@@ -16,7 +16,7 @@ empty_ledger = record { room = 0; pending = [] }
 
 -- a kept message joins a group that has room; else it begins the next one, to which all that is pending is handed on
 abbrev pub after_one : ℕ → List ℕ → List ℕ → Ledger
-after_one zero pending settled = record { room = MAX_GROUP - 1; pending = settled }
+after_one zero pending settled = record { room = max_group_len - 1; pending = settled }
 after_one (suc room) pending settled = record { room = room; pending = pending ++ settled }
 
 abbrev pub handed_by : ℕ → List ℕ → List ℕ

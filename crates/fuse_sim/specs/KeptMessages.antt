@@ -3,7 +3,7 @@ use Rattle.std.specs.Prelude.{◌≡◌, ◌+◌, ℕ, true, false, List, [], �
 use Rattle.std.specs.Global.{Global}
 use Rattle.fuse_wire.specs.Bytes.{le, number_of}
 use Rattle.fuse_wire.specs.Ids.{id_of}
-use Rattle.fuse_wire.specs.declared.id.TheConstants.{UNIQUE_RESEND}
+use Rattle.fuse_wire.specs.Bits.{fuse_unique_resend}
 use Rattle.fuse_request.specs.Act.{Asked}
 use Rattle.fuse_request.specs.Canon.{canon}
 use Rattle.fuse_request.specs.Places.{asked_at}
@@ -19,7 +19,7 @@ pub record IsOwed (m : List ℕ) : Type 0 where
 
 -- the bytes of a message with bit 63 of its unique set
 abbrev pub marked : List ℕ → List ℕ
-marked m = take 8 m ++ (le 8 (id_of (number_of 8 (drop 8 m)) + UNIQUE_RESEND) ++ drop 16 m)
+marked m = take 8 m ++ (le 8 (id_of (number_of 8 (drop 8 m)) + fuse_unique_resend) ++ drop 16 m)
 
 -- no number stands twice
 abbrev pub NoneTwice : List ℕ → Type 0

@@ -1,6 +1,6 @@
 -- Which records are gone after events (own profile).
 use Rattle.std.specs.Prelude.{◌≡◌, ◌≤◌, ℕ, false, List, [], ◌∷◌, ◌++◌, length, All, None}
-use Rattle.fuse_keeper.specs.declared.keeper.TheConstants.{MAX_GROUP}
+use Rattle.fuse_keeper.specs.Bounds.{max_group_len}
 use Rattle.fuse_keeper.specs.History.{is_in, ids_in}
 use Rattle.fuse_keeper.specs.Model.{Model, IsRowed}
 use Rattle.fuse_keeper.specs.Stands.{Records}
@@ -28,7 +28,7 @@ pub record Behind (n : ℕ) (events : List Event) (i : ℕ) : Type 0 where
 
 -- a record goes with the 16th request committed behind its answer at the latest; those of ids that didn't come stay
 pub record RecordsLeft (events : List Event) (records records' : Records) : Type 0 where
-  pub gone : (i : ℕ) → Behind MAX_GROUP events i → records' i ≡ None
+  pub gone : (i : ℕ) → Behind max_group_len events i → records' i ≡ None
   pub others : (i : ℕ) → is_in (ids_in (commits_in events)) i ≡ false → records' i ≡ records i
 
 -- it holds something of a good state, with such records

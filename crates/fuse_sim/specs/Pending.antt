@@ -6,7 +6,7 @@ use Rattle.std.specs.List.{filter}
 use Rattle.fuse_wire.specs.Bytes.{number_of}
 use Rattle.fuse_wire.specs.Ids.{id_of}
 use Rattle.fuse_wire.specs.Opcodes.{silent}
-use Rattle.fuse_wire.specs.declared.id.TheConstants.{UNIQUE_RESEND}
+use Rattle.fuse_wire.specs.Bits.{fuse_unique_resend}
 use Rattle.fuse_request.specs.Act.{Asked, opcode_of}
 use Rattle.fuse_request.specs.Places.{asked_at}
 use Rattle.fuse_answer.specs.Replies.{Told, Answers, FirstFault}
@@ -33,7 +33,7 @@ owed r = if is_silent r then [] else r ∷ []
 
 -- the request as it is sent again, with bit 63 of its unique set
 abbrev pub again : Asked → Asked
-again r = record r { header = record r.header { unique = id_of r.header.unique + UNIQUE_RESEND } }
+again r = record r { header = record r.header { unique = id_of r.header.unique + fuse_unique_resend } }
 
 -- the requests from place n on, those at these places as they are sent again
 abbrev pub again_from : ℕ → List ℕ → List Asked → List Asked

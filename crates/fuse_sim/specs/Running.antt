@@ -9,14 +9,14 @@ use Rattle.fuse_request.specs.declared.request.Request.{Request}
 use Rattle.fuse_request.specs.declared.class.Class.{Class}
 use Rattle.fuse_request.specs.declared.class.Class.TheVariants.{Silent, Bare, Kept}
 use Rattle.fuse_request.specs.Classes.{class_of}
-use Rattle.fuse_keeper.specs.History.{Entry, History, is_in, ids_in, Includes, IsUnsettled}
+use Rattle.fuse_keeper.specs.History.{History, is_in, ids_in, Includes, IsUnsettled}
 use Rattle.fuse_keeper.specs.declared.fault.StoreFault.{StoreFault}
 use Rattle.fuse_keeper.specs.declared.keeper.Done.{Done}
 use Rattle.fuse_keeper.specs.Model.{Model}
 use Rattle.fuse_keeper.specs.Stands.{Records}
 use Rattle.fuse_keeper.specs.KeeperState.{KeeperState, StandsFor, KeepsHeld, KeepsOthers, Tells}
-use Rattle.fuse_keeper.specs.declared.keeper.TheConstants.{MAX_GROUP}
-use Rattle.fuse_keeper.specs.Group.{entries_of, HasId, IsKept}
+use Rattle.fuse_keeper.specs.Bounds.{max_group_len}
+use Rattle.fuse_keeper.specs.Group.{entries_of, HasId, IsKept, handed_to, left_pending}
 use Rattle.fuse_session.specs.Worked.{unique_of}
 use Rattle.fuse_session.specs.Group.{left_by}
 use Rattle.fuse_sim.specs.declared.event.Fate.{Fate}
@@ -61,11 +61,11 @@ classes_in run = map (λ e. class_of e.bytes) run
 
 -- a group with these requests, after which the server died or not, ends before an event
 abbrev pub EndsWith : List (Request × Moment) → Bool → Event → Type 0
-EndsWith taken died e = (died ≡ true) ⊎ ((length taken ≡ MAX_GROUP) ⊎ ((dies_before e.fate ≡ true) ⊎ ¬ IsFit e))
+EndsWith taken died e = (died ≡ true) ⊎ ((length taken ≡ max_group_len) ⊎ ((dies_before e.fate ≡ true) ⊎ ¬ IsFit e))
 
 -- it ends before these events
 abbrev pub StopsAt : List (Request × Moment) → Bool → List Event → Type 0
-StopsAt taken died others = died ≡ false → (length taken ≡ MAX_GROUP) ⊎ StartsNone others
+StopsAt taken died others = died ≡ false → (length taken ≡ max_group_len) ⊎ StartsNone others
 
 -- a group was read off events
 pub record Gathers (run : List Event) (classes : List Class) (taken : List (Request × Moment)) (died : Bool) : Type 0 where
@@ -73,7 +73,7 @@ pub record Gathers (run : List Event) (classes : List Class) (taken : List (Requ
   pub goes : IsRun died run
   pub classes_are : classes ≡ classes_in run
   pub entries : entries_of taken ≡ commits_in run
-  pub few : length taken ≤ MAX_GROUP
+  pub few : length taken ≤ max_group_len
   pub named : All HasId (entries_of taken)
   pub kept : All IsKept (entries_of taken)
 
@@ -81,15 +81,6 @@ pub record Gathers (run : List Event) (classes : List Class) (taken : List (Requ
 abbrev pub Joins : Event → List Class → List (Request × Moment) → Bool → List Class → List (Request × Moment) → Bool → Type 0
 Joins e classes taken died classes' taken' died' = (died ≡ false)
     × ((run : List Event) → Gathers run classes taken false → Gathers (run ++ e ∷ []) classes' taken' died')
-
--- a group without a kept message isn't performed: nothing is handed on, and all stays pending
-abbrev pub handed_to : List Entry → List ℕ → List ℕ
-handed_to [] pending = []
-handed_to (e ∷ es) pending = pending
-
-abbrev pub left_pending : List Entry → List ℕ → List ℕ
-left_pending [] pending = pending
-left_pending (e ∷ es) pending = []
 
 abbrev pub answers_in : List Done → List Said
 answers_in dones = map (λ d. d.answer) dones

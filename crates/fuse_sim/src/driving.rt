@@ -17,8 +17,8 @@ ghost use Rattle.fuse_sim.specs.HandedOn.{Ledger};
 ghost use Rattle.fuse_sim.specs.Running.{Gathers, Begins, Worked, Moved, MayBegin, Opens, Stops};
 
 use crate::event::{DriveFault, Event, Outcome};
-use crate::group::{Group, answer_group, gather, is_before_commit, perform_group, test_event};
-use fuse_keeper::{Restart, StoreFault, histories_grow};
+use crate::group::{Group, answer_group, gather, is_before_commit, test_event};
+use fuse_keeper::{Restart, StoreFault, histories_grow, perform_group};
 use fuse_wire::Id;
 use std::alloc::{AllocError, Global};
 

@@ -1,29 +1,25 @@
-// A group of events: read off the first ones, performed, and answered.
-ghost use Rattle.std.specs.Prelude.{◌≡◌, ◌≤◌, ◌<◌, ◌⊎◌, ◌↔◌, ◌+◌, ◌++◌, true, false, ℕ};
-ghost use Rattle.std.specs.Prelude.{List, length, take, drop, Some, All, IsTrue, vec_capacity};
+// A group of events: read off the first ones, and answered.
+ghost use Rattle.std.specs.Prelude.{◌≡◌, ◌≤◌, ◌<◌, ◌⊎◌, ◌+◌, ◌++◌, true, false};
+ghost use Rattle.std.specs.Prelude.{length, take, drop, Some, All, vec_capacity};
 ghost use Rattle.std.specs.Prelude.{IfOk, IfErr, OnOk};
 ghost use Rattle.std.specs.Vec.Iter.{into_iter_items};
 ghost use Rattle.fuse_answer.specs.Wire.{wire};
 ghost use Rattle.fuse_request.specs.Stream.{IsMessage};
 ghost use Rattle.fuse_request.specs.Classes.{class_of};
-ghost use Rattle.fuse_keeper.specs.History.{History, IsUnsettled};
-ghost use Rattle.fuse_keeper.specs.KeeperState.{StandsFor, Called, Performed, KeepsOthers};
-ghost use Rattle.fuse_keeper.specs.Group.{entries_of, HasId, IsKept, ids_of};
-ghost use Rattle.fuse_keeper.specs.declared.keeper.TheConstants.{MAX_GROUP as max_group};
-ghost use Rattle.fuse_keeper.specs.declared.keeper.TheConstants.{MAX_SETTLED as max_settled};
+ghost use Rattle.fuse_keeper.specs.Group.{entries_of, IsKept, ids_of};
 ghost use Rattle.fuse_session.specs.Worked.{entry_if, message_entry};
 ghost use Rattle.fuse_session.specs.Group.{listed, left_by};
 ghost use Rattle.fuse_sim.specs.Driving.{IsFit, CausedBy, event_of, is_store, dies};
 ghost use Rattle.fuse_sim.specs.Driving.{bytes_given, settles, is_taken};
 ghost use Rattle.fuse_sim.specs.Running.{dies_before, Gathers, EndsWith, StopsAt, Joins};
-ghost use Rattle.fuse_sim.specs.Running.{handed_to, left_pending, classes_in, settles_in};
+ghost use Rattle.fuse_sim.specs.Running.{classes_in, settles_in};
 ghost use Rattle.fuse_sim.specs.Running.{answers_in, head_outcome, outcomes_by, HasAnswers, Adds};
 
 use crate::event::{DriveFault, Event, Fate, Outcome};
 use fuse_answer::{Answer, head_of};
-use fuse_keeper::{Done, Keeper, MAX_GROUP, StoreFault};
+use fuse_keeper::{Done, MAX_GROUP};
 use fuse_request::{
-    Class, MAX_MESSAGE, Request, classify, decode, has_zero_unique, header_of, one_cut, unique_of,
+    Class, Request, classify, decode, has_zero_unique, is_message, one_cut, unique_of,
 };
 use fuse_wire::{Id, Moment};
 use std::alloc::{AllocError, Global};
@@ -38,16 +34,6 @@ pub(crate) struct Group<'a> {
     pub(crate) died: bool,
 }
 
-// Whether bytes are just one message.
-fn is_message(bytes: &[u8]) -> bool
-    ensures { IsTrue result ↔ IsMessage bytes.now }
-{
-    match header_of(bytes) {
-        Some(header) => header.len as usize == bytes.len() && bytes.len() <= MAX_MESSAGE,
-        None => false,
-    }
-}
-
 /// Whether an event, of this number, can be run.
 pub(crate) fn test_event(event: &Event, number: usize) -> Result<(), DriveFault>
     ensures fit { OnOk result (IsFit event.now) }
@@ -57,7 +43,6 @@ pub(crate) fn test_event(event: &Event, number: usize) -> Result<(), DriveFault>
     ensures unfit { IfErr result (λ fault. ¬ IsFit event.now) }
     ensures store { IfErr result (λ fault. is_store fault ≡ false) }
 {
-    one_cut();
     let bytes = event.bytes.as_slice();
     if !is_message(bytes) {
         return Err(DriveFault::NotAMessage { event: number });
@@ -158,47 +143,6 @@ pub(crate) fn gather<'a>(alloc: Global, events: &'a [Event]) -> Result<Group<'a>
         }
     }
     Ok(group)
-}
-
-/// Performs a group, if there is one, and hands on the pending ids.
-pub(crate) fn perform_group<K: Keeper>(
-    alloc: Global,
-    keeper: &mut K,
-    group: &[(Request<'_>, Moment)],
-    pending: &mut Vec<Id>,
-) -> Result<Vec<Done>, StoreFault>
-    requires short { length group.now ≤ max_group }
-    requires few { length pending.old.items ≤ max_settled }
-    requires named { All HasId (entries_of group.now) }
-    requires kept { All IsKept (entries_of group.now) }
-    requires going { (K.told keeper.old).has_failed ≡ false }
-    ensures count { IfOk result (λ dones. length dones.items ≡ length group.now) }
-    ensures called { Called (K.told keeper.old) (K.told keeper.new) result }
-    ensures ok { IfOk result (λ dones. (K.told keeper.new).is_honest
-        → (s : K.model.State) (h : History) (t : List ℕ) → StandsFor (K.told keeper.old) s h t
-        → All (IsUnsettled (t ++ handed_to (entries_of group.now) (ids_of pending.old.items)))
-        (entries_of group.now)
-        → Performed (K.told keeper.new) s h
-        (t ++ handed_to (entries_of group.now) (ids_of pending.old.items))
-        (entries_of group.now) dones.items) }
-    ensures others { OnOk result (KeepsOthers (K.told keeper.old) (K.told keeper.new)
-        (handed_to (entries_of group.now) (ids_of pending.old.items)) (entries_of group.now)) }
-    ensures pending { OnOk result (ids_of pending.new.items
-        ≡ left_pending (entries_of group.now) (ids_of pending.old.items)) }
-    ensures room { length pending.old.items + length group.now ≤ vec_capacity pending.old
-        → OnOk result (length pending.new.items + length group.now ≤ vec_capacity pending.new) }
-    ensures same { K.became keeper.old keeper.new 0 }
-{
-    if group.is_empty() {
-        return Ok(Vec::new(alloc));
-    }
-    match keeper.perform(group, pending.as_slice()) {
-        Ok(dones) => {
-            pending.clear();
-            Ok(dones)
-        }
-        Err(fault) => Err(fault),
-    }
 }
 
 // Whether the kernel takes the answer.

@@ -1,16 +1,14 @@
 //! Scripts: the events that the lines of a text tell.
-ghost use Rattle.std.specs.Prelude.{◌≡◌, ◌⊎◌, ◌≤◌, ◌<◌, ◌+◌, ◌*◌, ◌^◌, ◌++◌, ◌∷◌, [], ℕ, List, None, length, true, IsTrue, ◌↔◌, IfSome, IsSomeAnd, OnOk, IfOk, IfErr, MatchOption};
+ghost use Rattle.std.specs.Prelude.{◌≡◌, ◌⊎◌, ◌≤◌, ◌<◌, ◌+◌, ◌*◌, ◌^◌, ◌++◌, ◌∷◌, [], ℕ, List, None, length, IfSome, IsSomeAnd, OnOk, IfOk, IfErr, MatchOption};
 ghost use Rattle.std.specs.Char.{digit_value};
-ghost use Rattle.fuse_request.specs.declared.header.TheConstants.{MIN_MESSAGE as min_message};
-ghost use Rattle.fuse_request.specs.Stream.{cut};
 ghost use Rattle.fuse_sim.specs.declared.event.Event.{Event as EventValue};
 ghost use Rattle.fuse_sim.specs.declared.event.Fate.{Fate as FateValue};
 ghost use Rattle.fusekeep.specs.Scripts.{lines_of, parts_in, word_of, Lacks, IsSeconds, HasParts, IsHexOf, Writes, TellsNothing, Tells, TookLine, IsBad, FirstBad};
 
 use crate::ending::Ending;
-use fuse_request::{MAX_MESSAGE, MIN_MESSAGE, cut_steps, has_zero_unique};
+use fuse_request::{has_zero_unique, is_message};
 use fuse_sim::{Event, Fate};
-use fuse_wire::{ByteList, Moment, u32_at};
+use fuse_wire::{ByteList, Moment};
 use hex::FromHexError;
 use std::alloc::{AllocError, Global};
 
@@ -91,17 +89,6 @@ fn parts_of(line: &[u8]) -> Option<(Fate, u64, &[u8])>
     Some((fate_of(word)?, seconds_of(digits)?, text))
 }
 
-// Whether bytes are just one message.
-fn is_one_message(bytes: &[u8]) -> bool
-    ensures one { IsTrue result ↔ (cut bytes.now ≡ (bytes.now ∷ [], [])) }
-    ensures long { result ≡ true → min_message ≤ length bytes.now }
-{
-    cut_steps();
-    bytes.len() >= MIN_MESSAGE
-        && bytes.len() <= MAX_MESSAGE
-        && u32_at(bytes, 0) as usize == bytes.len()
-}
-
 // The message that a text has in hexadecimal, where it is just one and can be answered.
 fn message_of(alloc: Global, text: &[u8]) -> Result<ByteList, LineFault>
     ensures found { IfOk result (λ m. IsHexOf text.now m) }
@@ -112,7 +99,7 @@ fn message_of(alloc: Global, text: &[u8]) -> Result<ByteList, LineFault>
         Err(FromHexError::OutOfMemory) => return Err(LineFault::Memory),
         Err(_) => return Err(LineFault::Form),
     };
-    if !is_one_message(&bytes) || has_zero_unique(&bytes) {
+    if !is_message(&bytes) || has_zero_unique(&bytes) {
         return Err(LineFault::Form);
     }
     Ok(ByteList::from_vec(bytes))

@@ -13,6 +13,7 @@ use fuse_wire::Moment;
 use std::alloc::{AllocError, Global};
 
 mod allocations;
+mod clocks;
 mod hostile;
 mod moments;
 mod pieces;

@@ -3,9 +3,9 @@ use Rattle.fuse_session.specs.Counting.{plus, IsBelow}
 use Rattle.fuse_session.specs.Group.{tallied, repeats_in}
 use Rattle.fuse_session.proofs.counts.count_all.Given as goal
 
-abbrev pub invariant-loop-message : goal.invariant-loop-message
-invariant-loop-message l = record {
+abbrev pub invariant-loop-place : goal.invariant-loop-place
+invariant-loop-place l = record {
   next : l.next ≤ length l.dones;
-  so_far : plus l.counts (tallied (drop l.message-index l.messages) (drop l.next (repeats_in l.dones))) ≡ tallied l.messages (repeats_in l.dones);
-  below : IsBelow l.counts l.message-index;
+  so_far : plus l.counts (tallied (drop l.place l.messages) (drop l.next (repeats_in l.dones))) ≡ tallied l.messages (repeats_in l.dones);
+  below : IsBelow l.counts l.place;
 }

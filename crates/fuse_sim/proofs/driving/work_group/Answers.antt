@@ -1,9 +1,12 @@
-use Rattle.std.proofs.Common.{sym, ap, ◌∙◌, length}
+use Rattle.std.proofs.Common.{sym, ap, ◌∙◌, length, arith}
+use Rattle.std.proofs.lemmas.List.{length-map}
 use Rattle.std.proofs.lemmas.Result.{err_from_is_err_and}
-use Rattle.fuse_keeper.specs.Group.{entries_of, ids_of}
+use Rattle.fuse_wire.specs.declared.id.Id.{Id}
+use Rattle.fuse_keeper.specs.Group.{entries_of, ids_of, handed_to}
 use Rattle.fuse_sim.specs.Driving.{told_in}
 use Rattle.fuse_sim.proofs.Groups.{answers_for, worked, called_err}
 use Rattle.fuse_sim.proofs.Moves.{none_dies}
+use Rattle.fuse_sim.proofs.Settled.{performs_later, left_short}
 use Rattle.fuse_sim.proofs.driving.work_group.Goals as goal
 
 pub answer_group-requires-clause-enough : goal.answer_group-requires-clause-enough
@@ -11,6 +14,21 @@ answer_group-requires-clause-enough g c =
     let gathers = c.requires.gathers in
     answers_for c.args.run.now c.args.group.now.taken.items c.in_ok-dones.dones.items (none_dies c.args.group.now.died c.args.run.now gathers.goes)
     gathers.entries (c.in_ok-dones.ensures.count ∙ ap length c.as_slice.ensures.value)
+
+pub answer_group-requires-clause-places : goal.answer_group-requires-clause-places
+answer_group-requires-clause-places g c =
+    let short = left_short (ids_of c.args.pending.now.items) (ids_of c.perform_group.new.pending.items) (entries_of c.as_slice.result.now)
+    c.in_ok-dones.ensures.pending in
+    omega (
+      arith,
+      short,
+      length-map c.args.pending.now.items (λ (x : Id). x.0),
+      length-map c.perform_group.new.pending.items (λ (x : Id). x.0),
+      c.in_ok-dones.ensures.count,
+      ap length c.as_slice.ensures.value,
+      c.perform_group.ensures.capacity,
+      c.requires.places,
+    )
 
 pub returns-clause-ok : goal.returns-clause-ok
 returns-clause-ok g c =
@@ -21,7 +39,9 @@ returns-clause-ok g c =
     let done = worked k.model (k.told inner) (k.told c.perform_group.new.keeper) c.args.run.now c.as_slice.result.now
     (ids_of c.args.pending.now.items) (ids_of c.perform_group.new.pending.items) (ids_of c.answer_group.new.pending.items) c.in_ok-dones.dones.items
     c.args.outcomes.now.items c.answer_group.new.outcomes.items
-    (none_dies c.args.group.now.died c.args.run.now gathers.goes) (ap entries_of c.as_slice.ensures.value ∙ gathers.entries) c.in_ok-dones.ensures.ok
+    (none_dies c.args.group.now.died c.args.run.now gathers.goes) (ap entries_of c.as_slice.ensures.value ∙ gathers.entries)
+    (performs_later k.model (k.told inner) (k.told c.perform_group.new.keeper) (handed_to (entries_of c.as_slice.result.now) (ids_of c.args.pending.now.items))
+    (entries_of c.as_slice.result.now) c.in_ok-dones.dones.items c.in_ok-dones.ensures.ok)
     c.in_ok-dones.ensures.others c.in_ok-dones.ensures.pending
     c.answer_group.ensures.outcomes c.answer_group.ensures.pending in
     rw (sym c.as_mut.ensures.value, c.unwrap-inner.ensures) done

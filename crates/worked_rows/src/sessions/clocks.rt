@@ -1,5 +1,5 @@
 //! The machine's clock, where it gives a moment and where it gives none.
-use crate::{Clock, System};
+use fuse_session::{Clock, System};
 use fuse_wire::Moment;
 use std::cell::Cell;
 use std::test::*;
