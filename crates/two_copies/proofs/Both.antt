@@ -1,5 +1,5 @@
 -- What is told of two copies, from what is told of each.
-use Rattle.std.proofs.Common.{◌≡◌, ◌||◌, Bool, true, false, ℕ, List, Result, Ok, Err, refl, sym, ap, subst, ◌∙◌}
+use Rattle.std.proofs.Common.{◌≡◌, ◌||◌, Bool, true, false, ℕ, List, Result, Ok, Err, refl, sym, ap, subst, ◌∙◌, inl, inr, ◌⊎◌}
 use Rattle.fuse_keeper.specs.declared.fault.StoreFault.{StoreFault}
 use Rattle.fuse_keeper.specs.declared.keeper.Done.{Done}
 use Rattle.fuse_keeper.specs.declared.plain.PlainKeeper.{PlainKeeper}
@@ -9,9 +9,9 @@ use Rattle.fuse_keeper.specs.Lots.{no_lots, SameLots}
 use Rattle.fuse_keeper.specs.Stands.{Records, Stands}
 use Rattle.fuse_keeper.specs.Plain.{mapped}
 use Rattle.fuse_keeper.specs.PlainKeeper.{plain_told}
-use Rattle.fuse_keeper.specs.KeeperState.{StandsFor, Performed, IsFirm, KeepsHeld, Called, Looked, HoldsOthers, Reopened}
+use Rattle.fuse_keeper.specs.KeeperState.{StandsFor, Performed, IsFirm, KeepsHeld, Leaves, Called, Looked, HoldsOthers, Reopened}
 use Rattle.two_copies.specs.declared.copies.TwoCopies.{TwoCopies}
-use Rattle.two_copies.specs.TwoCopies.{two_told}
+use Rattle.two_copies.specs.TwoCopies.{HoldsAlike, two_told}
 
 pub or-true : (b : Bool) → (b || true) ≡ true
 or-true true = refl
@@ -60,18 +60,25 @@ module _ {F : Type 0} (M : Model) (held : F → M.Rows) where
   leaves_old old new s h t x r is so left =
       held_stands old.committed s h t x r (committed_stands old s h t so) (subst (λ p. (plain_told M held p).holds x r) is left)
 
+  -- and where the commit held, what the working copy then leaves
+  pub leaves_either : (old new : TwoCopies F) (w : PlainKeeper F) (s : M.State) (h : History) (t : List ℕ) (P : M.Rows → Records → Type 0)
+      → (new.committed ≡ old.committed) ⊎ HoldsAlike (plain_told M held w) (plain_told M held new.committed)
+      → StandsFor (two_told M held old) s h t → ((x : M.Rows) (r : Records) → Stands M x r s h t → P x r)
+      → Leaves (plain_told M held w) P → Leaves (two_told M held new) P
+  leaves_either old new w s h t P (inl same) so first leaves = (tt, λ x r left. first x r (leaves_old old new s h t x r same so left))
+  leaves_either old new w s h t P (inr alike) so first leaves = (tt, λ x r left. leaves.1 x r (alike.1 x r left))
+
   -- ---- a commit
 
   -- the committed copy was made anew from this one, which is the working one
   pub record Commits (w : PlainKeeper F) (k : TwoCopies F) : Type 0 where
     pub working : k.working ≡ w
-    pub closed : k.uncommitted ≡ false
-    pub same : KeepsHeld (plain_told M held w) (plain_told M held k.committed)
-    pub no_more : KeepsHeld (plain_told M held k.committed) (plain_told M held w)
+    pub closed : k.in_doubt ≡ false
+    pub alike : HoldsAlike (plain_told M held w) (plain_told M held k.committed)
 
   pub both_hold : (w : PlainKeeper F) (k : TwoCopies F) (x : M.Rows) (r : Records) → Commits w k → (plain_told M held w).holds x r
       → (two_told M held k).holds x r
-  both_hold w k x r made so = (made.same x r so, subst (λ p. (plain_told M held p).holds x r) (sym made.working) so, made.closed)
+  both_hold w k x r made so = (made.alike.0 x r so, subst (λ p. (plain_told M held p).holds x r) (sym made.working) so, made.closed)
 
   pub both_stand : (w : PlainKeeper F) (k : TwoCopies F) (s : M.State) (h : History) (t : List ℕ) → Commits w k
       → StandsFor (plain_told M held w) s h t → StandsFor (two_told M held k) s h t
@@ -94,10 +101,10 @@ module _ {F : Type 0} (M : Model) (held : F → M.Rows) where
   -- ---- faults
 
   -- a write is left open
-  pub called_open : {A : Type 0} (old new : TwoCopies F) (fault : StoreFault) → new.uncommitted ≡ true
+  pub called_open : {A : Type 0} (old new : TwoCopies F) (fault : StoreFault) → new.in_doubt ≡ true
       → Called {A = A} (two_told M held old) (two_told M held new) (Err fault)
   called_open old new fault is = record {
-    failed = ap (λ b. b || (plain_told M held new.working).has_failed) is ∙ sym (or-true (old.uncommitted || (plain_told M held old.working).has_failed));
+    failed = ap (λ b. b || (plain_told M held new.working).has_failed) is ∙ sym (or-true (old.in_doubt || (plain_told M held old.working).has_failed));
     honest = λ honest. honest;
     err = λ clean. absurd (let e = clean in cc);
     err_lots = λ clean. absurd (let e = clean in cc);
@@ -108,10 +115,10 @@ module _ {F : Type 0} (M : Model) (held : F → M.Rows) where
   done_failed o o' f f' is is' so = rw (is, is', so) refl
 
   -- a call went well
-  pub called_done : {A : Type 0} (old new : TwoCopies F) (a : A) (w : PlainKeeper F) → old.uncommitted ≡ false → Commits w new
+  pub called_done : {A : Type 0} (old new : TwoCopies F) (a : A) (w : PlainKeeper F) → old.in_doubt ≡ false → Commits w new
       → (plain_told M held w).has_failed ≡ ((plain_told M held old.working).has_failed || false) → Called (two_told M held old) (two_told M held new) (Ok a)
   called_done old new a w closed made failed = record {
-    failed = done_failed old.uncommitted new.uncommitted (plain_told M held old.working).has_failed (plain_told M held new.working).has_failed
+    failed = done_failed old.in_doubt new.in_doubt (plain_told M held old.working).has_failed (plain_told M held new.working).has_failed
         closed made.closed (ap (λ p. (plain_told M held p).has_failed) made.working ∙ failed);
     honest = λ honest. honest;
     err = tt;
@@ -121,26 +128,26 @@ module _ {F : Type 0} (M : Model) (held : F → M.Rows) where
 
   -- ---- a call of the working copy alone
 
-  pub called_working : {A : Type 0} (result : Result A StoreFault) (old new : TwoCopies F) → new.committed ≡ old.committed → new.uncommitted ≡ old.uncommitted
+  pub called_working : {A : Type 0} (result : Result A StoreFault) (old new : TwoCopies F) → new.committed ≡ old.committed → new.in_doubt ≡ old.in_doubt
       → Called (plain_told M held old.working) (plain_told M held new.working) result → Called (two_told M held old) (two_told M held new) result
   called_working {A} (Ok a) old new committed alike called = record {
-    failed = ap (λ b. b || (plain_told M held new.working).has_failed) alike ∙ ap (λ b. old.uncommitted || b) called.failed
-        ∙ or-append old.uncommitted (plain_told M held old.working).has_failed false;
+    failed = ap (λ b. b || (plain_told M held new.working).has_failed) alike ∙ ap (λ b. old.in_doubt || b) called.failed
+        ∙ or-append old.in_doubt (plain_told M held old.working).has_failed false;
     honest = λ honest. honest;
     err = tt;
     err_lots = tt;
     fault = λ clean s h t so. tt;
   }
   called_working {A} (Err fault) old new committed alike called = record {
-    failed = ap (λ b. b || (plain_told M held new.working).has_failed) alike ∙ ap (λ b. old.uncommitted || b) called.failed
-        ∙ or-append old.uncommitted (plain_told M held old.working).has_failed true;
+    failed = ap (λ b. b || (plain_told M held new.working).has_failed) alike ∙ ap (λ b. old.in_doubt || b) called.failed
+        ∙ or-append old.in_doubt (plain_told M held old.working).has_failed true;
     honest = λ honest. honest;
     err = λ clean x r so. (subst (λ p. (plain_told M held p).holds x r) (sym committed) so.0, called.err tt x r so.1, alike ∙ so.2);
     err_lots = λ clean x r so. lots_stay;
     fault = λ clean s h t so. called.fault tt s h t (working_stands old s h t so);
   }
 
-  pub looked_working : {A : Type 0} (result : Result A StoreFault) (old new : TwoCopies F) → new.committed ≡ old.committed → new.uncommitted ≡ old.uncommitted
+  pub looked_working : {A : Type 0} (result : Result A StoreFault) (old new : TwoCopies F) → new.committed ≡ old.committed → new.in_doubt ≡ old.in_doubt
       → Looked (plain_told M held old.working) (plain_told M held new.working) result → Looked (two_told M held old) (two_told M held new) result
   looked_working {A} (Ok a) old new committed alike looked = record {
     called = called_working (Ok a) old new committed alike looked.called;
@@ -161,7 +168,7 @@ module _ {F : Type 0} (M : Model) (held : F → M.Rows) where
 
   -- ---- opened again
 
-  pub reopens : (old new : TwoCopies F) → new.committed ≡ old.committed → new.uncommitted ≡ false → (plain_told M held new.working).has_failed ≡ false
+  pub reopens : (old new : TwoCopies F) → new.committed ≡ old.committed → new.in_doubt ≡ false → (plain_told M held new.working).has_failed ≡ false
       → KeepsHeld (plain_told M held new.committed) (plain_told M held new.working) → Reopened (two_told M held old) (two_told M held new)
   reopens old new committed closed going copied = record {
     same = λ honest x r so. (

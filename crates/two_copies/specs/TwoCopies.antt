@@ -1,18 +1,23 @@
 -- What a keeper with two copies holds, and what a crash leaves of it.
 use Rattle.std.specs.Prelude.{◌≡◌, ◌||◌, false}
 use Rattle.fuse_keeper.specs.Model.{Model}
-use Rattle.fuse_keeper.specs.KeeperState.{KeeperState}
+use Rattle.fuse_keeper.specs.KeeperState.{KeeperState, KeepsHeld}
 use Rattle.fuse_keeper.specs.PlainKeeper.{plain_told}
 use Rattle.fuse_keeper.specs.Lots.{no_lots}
 use Rattle.two_copies.specs.declared.copies.TwoCopies.{TwoCopies}
 
--- where no write is open it holds what both copies hold; a crash leaves the committed one
+-- both hold the same
+abbrev pub HoldsAlike : {M : Model} → KeeperState M → KeeperState M → Type 0
+HoldsAlike a b = KeepsHeld a b × KeepsHeld b a
+
+-- where no write is in doubt it holds what both copies hold; a crash leaves the committed one
 abbrev pub two_told : {F : Type 0} → (M : Model) → (F → M.Rows) → TwoCopies F → KeeperState M
 two_told M held k = record {
-  holds = λ rows records. (plain_told M held k.committed).holds rows records × (plain_told M held k.working).holds rows records × (k.uncommitted ≡ false);
+  holds = λ rows records. (plain_told M held k.committed).holds rows records
+      × (plain_told M held k.working).holds rows records × (k.in_doubt ≡ false);
   is_honest = Unit {0};
-  is_clean = k.uncommitted ≡ false;
-  has_failed = k.uncommitted || (plain_told M held k.working).has_failed;
+  is_clean = k.in_doubt ≡ false;
+  has_failed = k.in_doubt || (plain_told M held k.working).has_failed;
   leaves_whole = Unit {0};
   may_leave = (plain_told M held k.committed).holds;
   may_answer = (plain_told M held k.working).may_answer;

@@ -1,8 +1,8 @@
 // A keeper of lists with two copies.
-ghost use Rattle.std.specs.Prelude.{◌≡◌, ◌+◌, ◌^◌, ◌⊎◌, false, [], IfOk, OnOk, OnErr, is_err};
-ghost use Rattle.fuse_keeper.specs.KeeperState.{StandsFor, KeepsHeld};
+ghost use Rattle.std.specs.Prelude.{◌≡◌, ◌+◌, ◌^◌, ◌⊎◌, true, false, [], IfOk, OnOk, OnErr, is_err};
+ghost use Rattle.fuse_keeper.specs.KeeperState.{StandsFor};
 ghost use Rattle.fuse_keeper.specs.PlainKeeper.{plain_told};
-ghost use Rattle.two_copies.specs.TwoCopies.{two_told};
+ghost use Rattle.two_copies.specs.TwoCopies.{HoldsAlike, two_told};
 
 use fuse_answer::Answer;
 use fuse_init::Settings;
@@ -13,21 +13,24 @@ use std::alloc::Global;
 
 /// A keeper of lists in a working copy, from which a committed one is made after each change.
 ///
-/// A commit may be refused, by plan or for want of memory. Then the working copy holds what the
-/// call did and the committed one doesn't. A crash there loses it, and so does opening the keeper
-/// again, without which it performs nothing more.
+/// A commit may answer a fault, by plan or for want of memory. Then the working copy holds what the
+/// call did. The committed one holds it only where the maker asked for a commit that holds all the
+/// same: else a crash there loses it, and so does opening the keeper again. Until it is opened
+/// again the keeper performs nothing more.
 #[derive(Drop)]
 pub struct TwoCopies<F> {
     committed: PlainKeeper<F>,
     working: PlainKeeper<F>,
-    // The working copy holds what isn't committed.
-    uncommitted: bool,
+    // The last commit answered a fault.
+    in_doubt: bool,
     // How often it was opened again.
     openings: u64,
     // So many commits go well between two that are refused.
     commits: u64,
     // So many of them are left.
     left: u64,
+    // The next commit that isn't refused holds, and answers a fault.
+    faults: bool,
 }
 
 impl<F: FileSystem> TwoCopies<F> {
@@ -43,11 +46,21 @@ impl<F: FileSystem> TwoCopies<F> {
         Ok(TwoCopies {
             committed: working.to_copy()?,
             working,
-            uncommitted: false,
+            in_doubt: false,
             openings: 0,
             commits,
             left: commits,
+            faults: false,
         })
+    }
+
+    /// The same, but that the next commit that isn't refused holds and answers a fault. Takes no
+    /// memory.
+    pub fn with_a_fault(mut self) -> TwoCopies<F>
+        ensures { result ≡ record self { faults = true } }
+    {
+        self.faults = true;
+        self
     }
 
     /// How often it was opened again. Takes no memory.
@@ -57,25 +70,29 @@ impl<F: FileSystem> TwoCopies<F> {
         self.openings
     }
 
-    // Makes the committed copy anew from the working one.
+    // Makes the committed copy anew from the working one. Where it answers a fault it may have.
     fn commit(&mut self) -> Result<(), StoreFault>
         ensures working { self.new.working ≡ self.old.working }
         ensures openings { self.new.openings ≡ self.old.openings }
-        ensures uncommitted { self.new.uncommitted ≡ is_err result }
-        ensures same { OnOk result (KeepsHeld (plain_told F.model F.held self.old.working)
+        ensures in_doubt { self.new.in_doubt ≡ is_err result }
+        ensures ok { OnOk result (HoldsAlike (plain_told F.model F.held self.old.working)
             (plain_told F.model F.held self.new.committed)) }
-        ensures no_more { OnOk result (KeepsHeld (plain_told F.model F.held self.new.committed)
-            (plain_told F.model F.held self.old.working)) }
-        ensures err { OnErr result (self.new.committed ≡ self.old.committed) }
+        ensures err { OnErr result ((self.new.committed ≡ self.old.committed)
+            ⊎ HoldsAlike (plain_told F.model F.held self.old.working)
+            (plain_told F.model F.held self.new.committed)) }
     {
-        self.uncommitted = true;
+        self.in_doubt = true;
         if self.left == 0 {
             self.left = self.commits;
             return Err(StoreFault::Damaged);
         }
         self.committed = self.working.to_copy()?;
         self.left -= 1;
-        self.uncommitted = false;
+        if self.faults {
+            self.faults = false;
+            return Err(StoreFault::Damaged);
+        }
+        self.in_doubt = false;
         Ok(())
     }
 }
@@ -95,7 +112,7 @@ impl<F: FileSystem> Keeper for TwoCopies<F> {
         group: &[(Request<'_>, Moment)],
         settled: &[Id],
     ) -> Result<Vec<Done>, StoreFault> {
-        if self.uncommitted {
+        if self.in_doubt {
             return Err(StoreFault::Damaged);
         }
         match self.working.perform(group, settled) {
@@ -108,7 +125,7 @@ impl<F: FileSystem> Keeper for TwoCopies<F> {
     }
 
     fn begin_mount(&mut self) -> Result<(), StoreFault> {
-        if self.uncommitted {
+        if self.in_doubt {
             return Err(StoreFault::Damaged);
         }
         match self.working.begin_mount() {
@@ -133,7 +150,7 @@ impl<F: FileSystem> Keeper for TwoCopies<F> {
     }
 
     fn failed(&self) -> bool {
-        self.uncommitted || self.working.failed()
+        self.in_doubt || self.working.failed()
     }
 
     fn model_is_sound() {
@@ -164,7 +181,7 @@ impl<F: FileSystem> Restart for TwoCopies<F> {
         };
         self.working = self.committed.to_copy()?;
         self.openings = openings;
-        self.uncommitted = false;
+        self.in_doubt = false;
         Ok(self)
     }
 }

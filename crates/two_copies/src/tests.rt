@@ -1,4 +1,4 @@
-//! What a refused commit leaves, and what opening the keeper again loses.
+//! What a commit leaves that answered a fault, and what opening the keeper again loses.
 ghost use Rattle.std.specs.Prelude.{◌≢◌};
 ghost use Rattle.fuse_wire.specs.Ids.{id_of};
 
@@ -110,6 +110,27 @@ fn a_commit_stays(rt: HostRuntime) -> Result<(), StoreFault> {
     assert!(rt;
         is_answered(ask(&mut opened, 6)?, Errno::NONE, false),
         "third"
+    );
+    Ok(())
+}
+
+// A commit that holds and answers a fault, once: when the keeper is opened again its group is a
+// repeat.
+#[test]
+fn a_commit_that_faults_is_kept(rt: HostRuntime) -> Result<(), StoreFault> {
+    let mut keeper = begun(&rt, 8)?.with_a_fault();
+    assert!(rt; is_refused(ask(&mut keeper, 2)), "faults");
+    assert!(rt; has_failed(&keeper), "failed");
+
+    let mut opened = reopened(keeper)?;
+    assert!(rt; opened.counts()?.records == 1, "records");
+    assert!(rt;
+        is_answered(ask(&mut opened, 2)?, Errno::NONE, true),
+        "repeat"
+    );
+    assert!(rt;
+        is_answered(ask(&mut opened, 4)?, Errno::ENOSYS, false),
+        "once"
     );
     Ok(())
 }

@@ -58,7 +58,8 @@ fn told_of(served: &Served) -> Told {
     }
 }
 
-// Serves these messages, each in a piece of its own, and tells how it ended where just this was sent.
+// Serves these messages, each in a piece of its own, and tells how it ended where just this was
+// sent.
 fn serve_on(
     alloc: Global,
     keeper: &mut TwoCopies<Lamp>,
@@ -82,8 +83,8 @@ fn serve_on(
     Ok(Some(told_of(&served)))
 }
 
-// The second group isn't committed: its answer isn't sent. When the keeper is opened again the group
-// is gone; resent, it is performed.
+// The second group isn't committed: its answer isn't sent. When the keeper is opened again the
+// group is gone; resent, it is performed.
 #[test]
 fn a_session_loses_what_was_refused(rt: HostRuntime) -> Result<(), StoreFault> {
     let alloc = rt.alloc();
@@ -97,6 +98,25 @@ fn a_session_loses_what_was_refused(rt: HostRuntime) -> Result<(), StoreFault> {
     let last = serve_on(alloc, &mut opened, &[again], &[(again, true)])?;
     assert_eq!(rt; last, Some(Told::End));
     assert!(rt; opened.openings() == 1, "openings");
+    assert!(rt; opened.counts()?.records == 2, "both");
+    Ok(())
+}
+
+// The first group is committed though a fault is answered: its answer isn't sent. When the keeper
+// is opened again it is there; resent, it is a repeat.
+#[test]
+fn a_session_finds_what_was_committed(rt: HostRuntime) -> Result<(), StoreFault> {
+    let alloc = rt.alloc();
+    let mut keeper = begun(&rt, 8)?.with_a_fault();
+    let first = serve_on(alloc, &mut keeper, &[4, 6], &[])?;
+    assert_eq!(rt; first, Some(Told::Damaged));
+
+    let mut opened = reopened(keeper)?;
+    assert!(rt; opened.counts()?.records == 1, "records");
+    let again = [UNIQUE_RESEND | 4, UNIQUE_RESEND | 6];
+    let answered = [(again[0], false), (again[1], true)];
+    let last = serve_on(alloc, &mut opened, &again, &answered)?;
+    assert_eq!(rt; last, Some(Told::End));
     assert!(rt; opened.counts()?.records == 2, "both");
     Ok(())
 }

@@ -8,10 +8,11 @@ returns-clause-stands g c =
     (record {
       committed = c.in_ok-to_copy.field-0;
       working = c.in_ok-working.working;
-      uncommitted = false;
+      in_doubt = false;
       openings = 0;
       commits = c.args.commits;
       left = c.args.commits;
+      faults = false;
     })
     (g.F.FileSystem.model.start c.args.now) [] []
-    (record { working = refl; closed = refl; same = c.in_ok-to_copy.ensures.same; no_more = c.in_ok-to_copy.ensures.no_more }) c.in_ok-working.ensures.stands
+    (record { working = refl; closed = refl; alike = (c.in_ok-to_copy.ensures.same, c.in_ok-to_copy.ensures.no_more) }) c.in_ok-working.ensures.stands

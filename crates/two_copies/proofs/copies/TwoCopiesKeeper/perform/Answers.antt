@@ -1,15 +1,14 @@
 use Rattle.std.proofs.Common.{refl, inl}
 use Rattle.fuse_keeper.specs.Group.{ids_of, entries_of}
-use Rattle.two_copies.proofs.Both.{Commits, plain_firm, working_stands, leaves_old, both_performed, both_others, called_working}
+use Rattle.two_copies.proofs.Both.{Commits, plain_firm, working_stands, leaves_old, leaves_either, both_performed, both_others, called_working}
 use Rattle.two_copies.proofs.copies.TwoCopiesKeeper.perform.Goals as goal
 
 pub returns-in_ok-commit-in-Ok-clause-ok : goal.returns-in_ok-commit-in-Ok-clause-ok
 returns-in_ok-commit-in-Ok-clause-ok g c = λ honest s h t so within fresh.
     let made : Commits g.F.FileSystem.model g.F.FileSystem.held c.perform.new.self c.commit.new.self = record {
       working = c.in_ok-commit-in-Ok.ensures.working;
-      closed = c.in_ok-commit-in-Ok.ensures.uncommitted;
-      same = c.in_ok-commit-in-Ok.ensures.same;
-      no_more = c.in_ok-commit-in-Ok.ensures.no_more;
+      closed = c.in_ok-commit-in-Ok.ensures.in_doubt;
+      alike = c.in_ok-commit-in-Ok.ensures.ok;
     } in
     both_performed g.F.FileSystem.model g.F.FileSystem.held c.perform.new.self c.commit.new.self s h t (entries_of c.args.group.now) c.in-Ok.dones.items made
     (c.in-Ok.ensures.ok tt s h t (working_stands g.F.FileSystem.model g.F.FileSystem.held c.args.self.now s h t so) within fresh)
@@ -18,9 +17,8 @@ pub returns-in_ok-commit-in-Ok-clause-others : goal.returns-in_ok-commit-in-Ok-c
 returns-in_ok-commit-in-Ok-clause-others g c = λ honest rows records so rowed.
     let made : Commits g.F.FileSystem.model g.F.FileSystem.held c.perform.new.self c.commit.new.self = record {
       working = c.in_ok-commit-in-Ok.ensures.working;
-      closed = c.in_ok-commit-in-Ok.ensures.uncommitted;
-      same = c.in_ok-commit-in-Ok.ensures.same;
-      no_more = c.in_ok-commit-in-Ok.ensures.no_more;
+      closed = c.in_ok-commit-in-Ok.ensures.in_doubt;
+      alike = c.in_ok-commit-in-Ok.ensures.ok;
     } in
     both_others g.F.FileSystem.model g.F.FileSystem.held c.perform.new.self c.commit.new.self records (ids_of c.args.settled.now)
     (entries_of c.args.group.now) made
@@ -31,7 +29,15 @@ pub returns-in_ok-commit-in-Ok-clause-crash : goal.returns-in_ok-commit-in-Ok-cl
 returns-in_ok-commit-in-Ok-clause-crash g c = λ s h t so within fresh firm.
     let leaves = c.in-Ok.ensures.crash s h t (working_stands g.F.FileSystem.model g.F.FileSystem.held c.args.self.now s h t so) within fresh
     (plain_firm g.F.FileSystem.model g.F.FileSystem.held c.args.self.now.working) in
-    (tt, λ x r left. leaves.1 x r (c.in_ok-commit-in-Ok.ensures.no_more x r left))
+    (tt, λ x r left. leaves.1 x r (c.in_ok-commit-in-Ok.ensures.ok.1 x r left))
+
+-- the committed copy is that of before, or the new one
+pub returns-in_err-commit-in-Ok-clause-crash : goal.returns-in_err-commit-in-Ok-clause-crash
+returns-in_err-commit-in-Ok-clause-crash g c = λ s h t so within fresh firm.
+    leaves_either g.F.FileSystem.model g.F.FileSystem.held c.args.self.now c.commit.new.self c.perform.new.self s h t _
+    c.in_err-commit-in-Ok.ensures.err so (λ x r stands. inl stands)
+    (c.in-Ok.ensures.crash s h t (working_stands g.F.FileSystem.model g.F.FileSystem.held c.args.self.now s h t so) within fresh
+    (plain_firm g.F.FileSystem.model g.F.FileSystem.held c.args.self.now.working))
 
 pub returns-in-Err-clause-called : goal.returns-in-Err-clause-called
 returns-in-Err-clause-called g c =
