@@ -1,3 +1,4 @@
+pub mod Faults
 pub mod Model
 pub mod History
 pub mod Lots
