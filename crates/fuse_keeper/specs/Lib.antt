@@ -1,4 +1,5 @@
 pub mod Bounds
+pub mod Faults
 pub mod Model
 pub mod History
 pub mod Lots

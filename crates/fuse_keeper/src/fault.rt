@@ -1,4 +1,5 @@
 use fuse_wire::Memory;
+use sqlite::ErrorCode;
 use std::alloc::{AllocError, AllocFailed};
 use thiserror::Error;
 
@@ -50,5 +51,20 @@ impl<T: Drop> From<AllocFailed<T>> for StoreFault {
 
     fn from(_e: AllocFailed<T>) -> StoreFault {
         StoreFault::Memory
+    }
+}
+
+impl From<sqlite::Error> for StoreFault {
+    ghost use Rattle.std.specs.Prelude.{◌≡◌};
+    ghost use Rattle.fuse_keeper.specs.Faults.{fault_of};
+
+    ghost from_gives = { λ e f. f ≡ fault_of e };
+
+    fn from(e: sqlite::Error) -> StoreFault {
+        if matches!(e, sqlite::Error::SqliteFailure(ErrorCode::OutOfMemory)) {
+            StoreFault::Memory
+        } else {
+            StoreFault::Sql(e)
+        }
     }
 }

@@ -1,0 +1,224 @@
+-- Calls one after another.
+use Rattle.std.proofs.Common.{◌≡◌, Bool, true, false, cond, Ok, Err, Result, IfErr, sym, subst, ◌∙◌}
+use Rattle.std.specs.Result.{IsErr}
+use Rattle.sqlite.specs.Effect.{Database}
+use Rattle.sqlite.specs.State.{State, HasCleanDisk, Survives, KeepsCommit}
+use Rattle.sqlite.proofs.StateLemmas.{survives_weaker, survives_then}
+use Rattle.sqlite.proofs.InsideLemmas.{keeps_then}
+use Rattle.fuse_tables.specs.Content.{Content, Holds, LeftAs}
+use Rattle.fuse_tables.proofs.Following.{earlier, stays_then}
+use Rattle.sqlite.specs.declared.error.Error.{Error}
+use Rattle.sqlite.specs.Tree.{Trees}
+use Rattle.fuse_keeper.specs.declared.fault.StoreFault.{StoreFault}
+use Rattle.fuse_keeper.specs.declared.fault.StoreFault.TheVariants.{Memory, Sql}
+use Rattle.fuse_tables.specs.Faults.{IsOutside}
+use Rattle.fuse_keeper.specs.Faults.{fault_of, is_memory}
+use Rattle.fuse_tables.specs.Moves.{RestsAs, InsideAs, Takes, Makes, Begins, Ends, PerformsAs, Undoes, ServesAs, IsSure}
+
+-- one step after another, where the second is ready for what the first makes
+pub then_as : {C X Y E F : Type 0} (P Q R : C → Database → Type 0) (a b d : State) (x : X) (r : Result Y F) → Takes {X = X} {E = E} P Q a b (Ok x)
+    → Takes Q R b d r → Takes P R a d r
+then_as P Q R a b d x (Ok y) p q = record {
+  stays = stays_then P Q a b d p.stays (λ clean at. (at.0, p.turns clean at.0 at.1)) q.stays;
+  turns = λ clean c at. q.turns clean c (p.turns (earlier b d _ q.stays.survives clean) c at);
+}
+then_as P Q R a b d x (Err e) p q = record { stays = stays_then P Q a b d p.stays (λ clean at. (at.0, p.turns clean at.0 at.1)) q.stays; turns = tt }
+
+-- the same step, begun with the databases of another family
+pub taken_from : {C D X E : Type 0} (P Q : C → Database → Type 0) (f : D → C) (a b : State) (r : Result X E) → Takes P Q a b r
+    → Takes (λ d. P (f d)) (λ d. Q (f d)) a b r
+taken_from P Q f a b (Ok x) p = record {
+  stays = record {
+    survives = survives_weaker a b _ _ (λ _ db none at. none (f at.0, at.1)) p.stays.survives;
+    kept = λ clean at. p.stays.kept clean
+        (f at.0, at.1);
+  };
+  turns = λ clean d at. p.turns clean (f d) at;
+}
+taken_from P Q f a b (Err e) p = record {
+  stays = record {
+    survives = survives_weaker a b _ _ (λ _ db none at. none (f at.0, at.1)) p.stays.survives;
+    kept = λ clean at. p.stays.kept clean
+        (f at.0, at.1);
+  };
+  turns = tt;
+}
+
+pub makes_then : {X Y E F : Type 0} (f g : Content → Content) (a b d : State) (x : X) (r : Result Y F) → Makes {X = X} {E = E} f a b (Ok x) → Makes g b d r
+    → Makes (λ c. g (f c)) a d r
+makes_then f g a b d x r p q = then_as Holds (λ c. Holds (f c)) (λ c. Holds (g (f c))) a b d x r p (taken_from Holds (λ c. Holds (g c)) f b d r q)
+
+-- a call that failed makes nothing, so it may stand for any
+pub fails_as : {C X Y E F : Type 0} (P Q R : C → Database → Type 0) (a b : State) (e : E) (d : F) → Takes {X = X} P Q a b (Err e)
+    → Takes {X = Y} P R a b (Err d)
+fails_as P Q R a b e d p = record { stays = p.stays; turns = tt }
+
+pub makes_none : {X Y E F : Type 0} (f g : Content → Content) (a b : State) (e : E) (d : F) → Makes {X = X} f a b (Err e) → Makes {X = Y} g a b (Err d)
+makes_none f g a b e d p = record { stays = p.stays; turns = tt }
+
+-- a look that gave a value, and a call whose meaning is known by it
+pub makes_as_too : {X Y E F : Type 0} (f g : Content → Content) (a b d : State) (x : X) (r : Result Y F) → Makes {E = E} (λ c. c) a b (Ok x)
+    → ((c : Content) → HasCleanDisk b → InsideAs (Holds c) a → f c ≡ g c) → Makes f b d r → Makes g a d r
+makes_as_too f g a b d x (Ok y) p same q =
+    let both = makes_then (λ c. c) f a b d x (Ok y) p q in
+    record {
+      stays = both.stays;
+      turns = λ clean c at. subst (λ k. InsideAs (Holds k) d) (same c (earlier b d _ q.stays.survives clean) at)
+          (both.turns clean c at);
+    }
+makes_as_too f g a b d x (Err e) p same q = record { stays = (makes_then (λ c. c) f a b d x (Err e) p q).stays; turns = tt }
+
+-- a step that failed, behind one that went well, and what `?` returns
+pub fails_next : {C X Y Z E F G : Type 0} (P Q R S : C → Database → Type 0) (a b d : State) (x : X) (e : F) (r : Result Z G)
+    → Takes {X = X} {E = E} P Q a b (Ok x) → Takes {X = Y} Q R b d (Err e) → IsErr r → Takes P S a d r
+fails_next P Q R S a b d x e (Ok z) p q is = absurd cc
+fails_next P Q R S a b d x e (Err i) p q is = fails_as P R S a d e i (then_as P Q R a b d x (Err e) p q)
+
+pub fails_alone : {C X Z F G : Type 0} (P Q S : C → Database → Type 0) (a b : State) (e : F) (r : Result Z G) → Takes {X = X} P Q a b (Err e) → IsErr r
+    → Takes P S a b r
+fails_alone P Q S a b e (Ok z) p is = absurd cc
+fails_alone P Q S a b e (Err i) p is = fails_as P Q S a b e i p
+
+-- `Makes` as a step from one content to the next, begun with what an earlier step makes
+pub made_from : {X E : Type 0} (f g : Content → Content) (a b : State) (r : Result X E) → Makes g a b r → Takes (λ c. Holds (f c)) (λ c. Holds (g (f c))) a b r
+made_from f g a b r p = taken_from Holds (λ c. Holds (g c)) f a b r p
+
+-- ---- what the faults say
+
+pub outside : (e : Error) → IsOutside (fault_of e)
+outside e = told (is_memory e)
+  where
+    told : (b : Bool) → IsOutside (cond b Memory (Sql e))
+    told true = tt
+    told false = tt
+
+-- behind a step that went well
+pub sure_then : {X Y E : Type 0} (f : Content → Content) (a b d : State) (x : X) (r : Result Y StoreFault) → Makes {X = X} {E = E} f a b (Ok x)
+    → {K : Trees → Type 0} → Survives b d K → IsSure Holds b d r → IsSure Holds a d r
+sure_then f a b d x (Ok y) p s q clean = tt
+sure_then f a b d x (Err e) p s q clean = λ at. q clean (f at.0, p.turns (earlier b d _ s clean) at.0 at.1)
+
+pub sure_after : {C X : Type 0} (P : C → Database → Type 0) (a b d : State) (r : Result X StoreFault) {K : Trees → Type 0} → Survives b d K
+    → (HasCleanDisk b → (c : C) → InsideAs (P c) a → IfErr r IsOutside) → IsSure P a d r
+sure_after P a b d (Ok y) s h clean = tt
+sure_after P a b d (Err f) s h clean = λ at. h (earlier b d _ s clean) at.0 at.1
+
+pub sure_here : {C X : Type 0} (P : C → Database → Type 0) (a b : State) (r : Result X StoreFault) → (HasCleanDisk b → (c : C) → InsideAs (P c) a
+    → IfErr r IsOutside) → IsSure P a b r
+sure_here P a b (Ok y) h clean = tt
+sure_here P a b (Err f) h clean = λ at. h clean at.0 at.1
+
+pub told_of_two : {X A : Type 0} (R S : A → Type 0) (r : Result X StoreFault) → IfErr r (λ f. (x : A) → R x → S x → IsOutside f) → (x : A) → R x → S x
+    → IfErr r IsOutside
+told_of_two R S (Ok y) h x small is = tt
+told_of_two R S (Err f) h x small is = h x small is
+
+pub told_of : {X A : Type 0} (S : A → Type 0) (r : Result X StoreFault) → IfErr r (λ f. (x : A) → S x → IsOutside f) → (x : A) → S x → IfErr r IsOutside
+told_of S (Ok y) h x is = tt
+told_of S (Err f) h x is = h x is
+
+pub sure_next : {C X Y E : Type 0} (P Q : C → Database → Type 0) (a b d : State) (x : X) (r : Result Y StoreFault) → Takes {X = X} {E = E} P Q a b (Ok x)
+    → {K : Trees → Type 0} → Survives b d K → IsSure Q b d r → IsSure P a d r
+sure_next P Q a b d x (Ok y) p s q clean = tt
+sure_next P Q a b d x (Err f) p s q clean = λ at. q clean (at.0, p.turns (earlier b d _ s clean) at.0 at.1)
+
+-- ---- a whole transaction
+
+module _ {C : Type 0} (P Q : C → Database → Type 0) where
+  pub failed_first : {X Y E F : Type 0} (a b : State) (e : E) (d : F) → Begins {X = X} a b (Err e) → PerformsAs {X = Y} P Q a b (Err d)
+  failed_first a b e d p = record { survives = survives_weaker a b _ _ (λ _ db none. absurd none) p.survives; kept = λ clean c at. p.kept clean; done = tt }
+
+  begun : {X E : Type 0} (a b : State) (x : X) → Begins {E = E} a b (Ok x) → HasCleanDisk b → (c : C) → RestsAs (P c) a → InsideAs (P c) b
+  begun a b x p clean c at = let on = p.begun clean in record { is_open = on.0; in_transaction = on.1; holds = subst (P c) (sym on.2) at.holds }
+
+  pub failed_inside : {X Y Z E F G : Type 0} (R : C → Database → Type 0) (a b d : State) (x : X) (e : F) (h : G) → Begins {E = E} a b (Ok x)
+      → Takes {X = Y} P R b d (Err e) → PerformsAs {X = Z} P Q a d (Err h)
+  failed_inside R a b d x e h p q = record {
+    survives = survives_then a b d _ _ _ (λ _ db none. absurd none) (λ clean db none c at. absurd (none (
+      c,
+      begun a b x p (earlier b d _ q.stays.survives clean)
+          c at,
+    ))) p.survives q.stays.survives;
+    kept = λ clean c at. let mid = earlier b d _ q.stays.survives clean in keeps_then a b d (p.kept mid) (q.stays.kept clean (c, begun a b x p mid c at));
+    done = tt;
+  }
+
+  -- the transaction as it stands before the commit
+  within : (a b d : State) {X Y E F : Type 0} (x : X) (y : Y) → Begins {E = E} a b (Ok x) → Takes {E = F} P Q b d (Ok y) → HasCleanDisk d → (c : C)
+      → RestsAs (P c) a → InsideAs (Q c) d
+  within a b d x y p q clean c at = q.turns clean c (begun a b x p (earlier b d _ q.stays.survives clean) c at)
+
+  inside_survives : (a b d : State) {X Y E F : Type 0} (x : X) (y : Y) → Begins {E = E} a b (Ok x) → Takes {E = F} P Q b d (Ok y) → Survives a d (λ db. (c : C)
+      → RestsAs (P c) a → LeftAs (Q c) db)
+  inside_survives a b d x y p q = survives_then a b d _ _ _ (λ _ db none. absurd none) (λ clean db none c at. absurd
+      (none (c, begun a b x p (earlier b d _ q.stays.survives clean) c at))) p.survives q.stays.survives
+
+  all_survives : (a b d e : State) {X Y Z E F G : Type 0} (x : X) (y : Y) (r : Result Z G) → Begins {E = E} a b (Ok x) → Takes {E = F} P Q b d (Ok y)
+      → Ends d e r → Survives a e (λ db. (c : C) → RestsAs (P c) a → LeftAs (Q c) db)
+  all_survives a b d e x y r p q t = survives_then a d e _ _ _ (λ _ db left. left)
+      (λ clean db is c at. (d.now, (within a b d x y p q (earlier d e _ t.survives clean) c at).holds, sym is)) (inside_survives a b d x y p q) t.survives
+
+  -- what came before the commit keeps what was committed
+  kept_inside : (a b d : State) {X Y E F : Type 0} (x : X) (y : Y) → Begins {E = E} a b (Ok x) → Takes {E = F} P Q b d (Ok y) → HasCleanDisk d → (c : C)
+      → RestsAs (P c) a → KeepsCommit a d
+  kept_inside a b d x y p q clean c at = let mid = earlier b d _ q.stays.survives clean in keeps_then a b d (p.kept mid)
+      (q.stays.kept clean (c, begun a b x p mid c at))
+
+  pub committed : {X Y Z W E F G H : Type 0} (a b d e : State) (x : X) (y : Y) (z : Z) (w : W) → Begins {E = E} a b (Ok x) → Takes {E = F} P Q b d (Ok y)
+      → Ends {E = G} d e (Ok z) → PerformsAs {E = H} P Q a e (Ok w)
+  committed a b d e x y z w p q t = record {
+    survives = all_survives a b d e x y (Ok z) p q t;
+    kept = tt;
+    done = λ clean c at.
+        let on = t.ended clean in
+        record {
+          is_open = on.0;
+          autocommit = on.1;
+          holds = subst (Q c) (sym on.2) (within a b d x y p q (earlier d e _ t.survives clean) c at).holds;
+          committed = on.3;
+        };
+  }
+
+  pub failed_commit : {X Y Z W E F G H : Type 0} (a b d e : State) (x : X) (y : Y) (h : G) (i : H) → Begins {E = E} a b (Ok x) → Takes {E = F} P Q b d (Ok y)
+      → Ends {X = Z} d e (Err h) → PerformsAs {X = W} P Q a e (Err i)
+  failed_commit a b d e x y h i p q t = record {
+    survives = all_survives a b d e x y (Err h) p q t;
+    kept = λ clean c at. keeps_then a d e (kept_inside a b d x y p q (earlier d e _ t.survives clean) c at) (t.kept clean);
+    done = tt;
+  }
+
+  -- ---- with the roll-back of a call that failed
+
+  pub served : {X Y E F : Type 0} (a b : State) (x : X) (y : Y) → PerformsAs {E = E} P Q a b (Ok x) → ServesAs {E = F} P Q a b (Ok y)
+  served a b x y p = record { survives = p.survives; kept = tt; done = p.done }
+
+  pub undone : {X Y E F : Type 0} (a b d : State) (e : E) (h : F) → PerformsAs {X = X} P Q a b (Err e) → Undoes b d → ServesAs {X = Y} P Q a d (Err h)
+  undone a b d e h p u = record {
+    survives = survives_then a b d _ _ _ (λ _ db left. left) (λ _ db none. absurd none) p.survives u.survives;
+    kept = λ clean is_open c at.
+        let back = u.undone clean is_open in
+        let kept = p.kept (earlier b d _ u.survives clean) c at in
+        let same : b.committed ≡ a.now = kept.committed back.0 ∙ at.committed in
+        record {
+          is_open = is_open;
+          autocommit = u.autocommit clean;
+          holds = subst (P c) (sym (back.1 ∙ same)) at.holds;
+          committed = back.2 ∙ sym back.1;
+        };
+    done = tt;
+  }
+
+-- what `?` returns
+pub on_err : {X E : Type 0} (P : Result X E → Type 0) (r : Result X E) → IsErr r → ((e : E) → P (Err e)) → P r
+on_err P (Ok x) is all = absurd cc
+on_err P (Err e) is all = all e
+
+-- the same meaning, and any value
+pub makes_same : {X Y E F : Type 0} (f g : Content → Content) (a b : State) (x : X) (y : Y) → ((c : Content) → f c ≡ g c) → Makes {E = E} f a b (Ok x)
+    → Makes {E = F} g a b (Ok y)
+makes_same f g a b x y same p = record { stays = p.stays; turns = λ clean c at. subst (λ k. InsideAs (Holds k) b) (same c) (p.turns clean c at) }
+
+-- a meaning that is the same for what was found
+pub makes_known : {X Y E F : Type 0} (f g : Content → Content) (a b : State) (x : X) (y : Y) → Makes {E = E} f a b (Ok x) → ((c : Content) → HasCleanDisk b
+    → InsideAs (Holds c) a → f c ≡ g c) → Makes {E = F} g a b (Ok y)
+makes_known f g a b x y p same = record { stays = p.stays; turns = λ clean c at. subst (λ k. InsideAs (Holds k) b) (same c clean at) (p.turns clean c at) }

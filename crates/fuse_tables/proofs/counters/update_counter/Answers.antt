@@ -1,0 +1,9 @@
+use Rattle.sqlite.specs.Held.{state}
+use Rattle.fuse_tables.proofs.CounterRows.{sets}
+use Rattle.fuse_tables.proofs.counters.update_counter.Goals as goal
+
+pub returns : goal.returns
+returns g c =
+    sets c.args.key c.args.number (state g.S.Store c.args.conn.now) (state g.S.Store c.execute.new.self) c.execute.result (rw c.pair-values.ensures at
+    c.execute.ensures.runs)
+    (rw c.pair-values.ensures at c.execute.ensures.survives)

@@ -1,0 +1,12 @@
+use Rattle.sqlite.specs.Held.{state}
+use Rattle.fuse_tables.specs.Layout.{no_schema, with_kept, store_schema}
+use Rattle.fuse_tables.specs.Making.{IsBare}
+use Rattle.fuse_tables.proofs.SchemaLemmas.{orders}
+use Rattle.fuse_tables.proofs.Joining.{then_as}
+use Rattle.fuse_tables.proofs.making.make_entries_in_order.Goals as goal
+
+pub returns : goal.returns
+returns g c =
+    then_as (IsBare no_schema) (IsBare with_kept) (IsBare store_schema) (state g.S.Store c.args.conn.now) (state g.S.Store c.make_kept.new.conn)
+    (state g.S.Store c.execute.new.self) _ c.execute.result c.in_ok-make_kept.ensures
+    (orders (state g.S.Store c.make_kept.new.conn) (state g.S.Store c.execute.new.self) c.execute.result c.execute.ensures.runs c.execute.ensures.survives)

@@ -1,0 +1,12 @@
+use Rattle.sqlite.specs.Held.{state}
+use Rattle.fuse_tables.proofs.OpenLemmas.{meta_looks, meta_found}
+use Rattle.fuse_tables.proofs.meta.select_meta.Goals as goal
+
+pub returns-clause-unchanged : goal.returns-clause-unchanged
+returns-clause-unchanged g c =
+    meta_looks (λ rows. rows.items) (state g.S.Store c.args.conn.now) (state g.S.Store c.query_all.new.self) c.query_all.result c.query_all.ensures.ok
+    c.query_all.ensures.err c.query_all.ensures.survives
+
+pub returns-clause-found : goal.returns-clause-found
+returns-clause-found g c = meta_found (λ rows. rows.items) (state g.S.Store c.args.conn.now) (state g.S.Store c.query_all.new.self) c.query_all.result
+    c.query_all.ensures.ok

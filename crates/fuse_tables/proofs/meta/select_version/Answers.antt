@@ -1,0 +1,17 @@
+use Rattle.sqlite.specs.Held.{state}
+use Rattle.fuse_tables.proofs.OpenLemmas.{version_looks, version_found}
+use Rattle.fuse_tables.proofs.Sayings.{tells_version}
+use Rattle.fuse_tables.proofs.meta.select_version.Goals as goal
+
+pub returns-clause-unchanged : goal.returns-clause-unchanged
+returns-clause-unchanged g c =
+    version_looks (λ rows. rows.items) (state g.S.Store c.args.conn.now) (state g.S.Store c.query_all.new.self) c.query_all.result c.query_all.ensures.ok
+    c.query_all.ensures.err c.query_all.ensures.survives
+
+pub returns-clause-found : goal.returns-clause-found
+returns-clause-found g c = version_found (λ rows. rows.items) (state g.S.Store c.args.conn.now) (state g.S.Store c.query_all.new.self) c.query_all.result
+    c.query_all.ensures.ok
+
+pub returns-clause-tells : goal.returns-clause-tells
+returns-clause-tells g c = tells_version (λ rows. rows.items) (state g.S.Store c.args.conn.now) (state g.S.Store c.query_all.new.self) c.query_all.result
+    c.query_all.ensures.ok

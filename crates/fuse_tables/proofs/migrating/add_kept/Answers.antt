@@ -1,0 +1,12 @@
+use Rattle.sqlite.specs.Held.{state}
+use Rattle.fuse_tables.specs.Opening.{IsFirst, HasLots, HasKept}
+use Rattle.fuse_tables.proofs.Joining.{then_as}
+use Rattle.fuse_tables.proofs.Migration.{adds_kept_table}
+use Rattle.fuse_tables.proofs.migrating.add_kept.Goals as goal
+
+pub returns : goal.returns
+returns g c =
+    then_as IsFirst HasLots HasKept (state g.S.Store c.args.conn.now) (state g.S.Store c.add_lots.new.conn) (state g.S.Store c.execute.new.self) _
+    c.execute.result c.in_ok-add_lots.ensures
+    (adds_kept_table (state g.S.Store c.add_lots.new.conn) (state g.S.Store c.execute.new.self) c.execute.result c.execute.ensures.runs
+    c.execute.ensures.survives)

@@ -1,0 +1,7 @@
+use Rattle.sqlite.specs.Held.{state}
+use Rattle.fuse_tables.proofs.Unnamed.{removes_unnamed}
+use Rattle.fuse_tables.proofs.nodes.delete_unnamed.Goals as goal
+
+pub returns : goal.returns
+returns g c = removes_unnamed (state g.S.Store c.args.conn.now) (state g.S.Store c.execute.new.self) c.execute.result c.execute.ensures.runs
+    c.execute.ensures.survives

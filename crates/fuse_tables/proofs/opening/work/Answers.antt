@@ -1,0 +1,38 @@
+use Rattle.std.proofs.Common.{Ok}
+use Rattle.sqlite.specs.Held.{state}
+use Rattle.fuse_keeper.specs.declared.fault.StoreFault.{StoreFault}
+use Rattle.fuse_tables.specs.Opening.{IsStored, IsFirst, IsSecond, IsOpened}
+use Rattle.fuse_tables.specs.Moves.{Takes}
+use Rattle.fuse_tables.proofs.Joining.{then_as, fails_next}
+use Rattle.fuse_tables.proofs.Either.{narrowed}
+use Rattle.fuse_tables.proofs.Migration.{found_first, found_second}
+use Rattle.fuse_tables.proofs.opening.work.Goals as goal
+
+pub returns-in_err-open_first-clause-opened : goal.returns-in_err-open_first-clause-opened
+returns-in_err-open_first-clause-opened g c =
+    let a = state g.S.Store c.args.conn.now in
+    let b = state g.S.Store c.find_version.new.conn in
+    let v = c.in_ok-version.version in
+    let first : Takes {E = StoreFault} IsStored IsFirst a b (Ok v) = narrowed IsStored IsStored IsFirst a b v v c.in_ok-version.ensures.unchanged
+    (λ clean k at on. found_first a b v c.if-version-eq1.true (c.in_ok-version.ensures.value clean) k at on) in
+    fails_next IsStored IsFirst IsOpened IsOpened _ _ _ _ _ _ first c.in_err-open_first.ensures.made c.from_residual-in_err-open_first.ensures.0
+
+pub returns-in_ok-open_first-clause-opened : goal.returns-in_ok-open_first-clause-opened
+returns-in_ok-open_first-clause-opened g c =
+    let a = state g.S.Store c.args.conn.now in
+    let b = state g.S.Store c.find_version.new.conn in
+    let v = c.in_ok-version.version in
+    let first : Takes {E = StoreFault} IsStored IsFirst a b (Ok v) = narrowed IsStored IsStored IsFirst a b v v c.in_ok-version.ensures.unchanged
+    (λ clean k at on. found_first a b v c.if-version-eq1.true (c.in_ok-version.ensures.value clean) k at on) in
+    let all = then_as IsStored IsFirst IsOpened a b (state g.S.Store c.open_first.new.conn) v (Ok c.in_ok-open_first.field-0) first
+    c.in_ok-open_first.ensures.made in
+    record { stays = all.stays; turns = all.turns }
+
+pub returns-then-version-eq2-clause-opened : goal.returns-then-version-eq2-clause-opened
+returns-then-version-eq2-clause-opened g c =
+    let a = state g.S.Store c.args.conn.now in
+    let b = state g.S.Store c.find_version.new.conn in
+    let v = c.in_ok-version.version in
+    let second : Takes {E = StoreFault} IsStored IsSecond a b (Ok v) = narrowed IsStored IsStored IsSecond a b v v c.in_ok-version.ensures.unchanged
+    (λ clean k at on. found_second a b v c.if-version-eq2.true (c.in_ok-version.ensures.value clean) k at on) in
+    then_as IsStored IsSecond IsOpened a b (state g.S.Store c.open_second.new.conn) v c.open_second.result second c.open_second.ensures.opened

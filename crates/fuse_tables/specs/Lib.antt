@@ -1,0 +1,10 @@
+pub mod Layout
+pub mod Blocks
+pub mod Content
+pub mod Rows
+pub mod Moves
+pub mod Faults
+pub mod Making
+pub mod Clearing
+pub mod Opening
+pub mod Saying

@@ -1,0 +1,101 @@
+-- What a store is when it is opened, and what the opening makes of it.
+use Rattle.std.specs.Prelude.{◌≡◌, ◌≤◌, ◌⊎◌, ◌<◌, ◌^◌, ◌+◌, ℕ, zero, suc, pos, IsTrue, false, List, [], ◌∷◌, map, fold, length, if◌then◌else◌, nat_lt, ⊤}
+use Rattle.std.specs.List.{AllByRecursion}
+use Rattle.std.specs.Ordering.{is_eq, nat_cmp}
+use Rattle.sqlite.specs.declared.types.Value.TheVariants.{Int}
+use Rattle.sqlite.specs.Order.{Row}
+use Rattle.sqlite.specs.Effect.{Database}
+use Rattle.fuse_tables.specs.Layout.{with_answers, with_lots, with_kept}
+use Rattle.sqlite.specs.State.{State}
+use Rattle.fuse_tables.specs.Content.{Content, Counter, Answer, Kept, HoldsAs, Holds, LeftAs, stored, put_by, kept_key, value_at, set_counter, with_counter}
+use Rattle.fuse_tables.specs.Content.{with_lot, without_answers}
+
+-- ---- the rows of `meta`
+
+-- the greatest value of the row with this key
+abbrev pub most : ℕ → ℕ
+most key = if nat_lt key 5 then 2 ^ 62 else (if nat_lt key 7 then 65536 else (if nat_lt key 8 then 1 else (if nat_lt key 10 then 4294967295 else 2 ^ 62)))
+
+-- so many rows, whose keys follow each other from this one
+abbrev pub IsMetaFrom : ℕ → ℕ → List Counter → Type 0
+IsMetaFrom key zero [] = ⊤
+IsMetaFrom key zero (c ∷ cs) = ⊥
+IsMetaFrom key (suc n) [] = ⊥
+IsMetaFrom key (suc n) (c ∷ cs) = (c.key ≡ key) × (c.value ≤ most c.key) × IsMetaFrom (key + 1) n cs
+
+abbrev pub IsMeta : ℕ → Content → Type 0
+IsMeta n c = IsMetaFrom 1 n c.counters
+
+abbrev pub shown_meta : Counter → Row
+shown_meta c = Int (pos c.key) ∷ Int (pos c.value) ∷ []
+
+-- ---- the two versions
+
+-- version 1 has neither lots nor records under them
+pub record IsOld (c : Content) : Type 0 where
+  pub version : value_at 1 c ≡ 1
+  pub meta : IsMeta 10 c
+  pub errnos : AllByRecursion (λ (a : Answer). a.said.errno < 2 ^ 32) c.answers
+  pub few : length c.nodes ≤ 65536
+  pub no_lots : c.lots ≡ []
+  pub no_kept : c.kept ≡ []
+
+-- version 2
+pub record IsFit (c : Content) : Type 0 where
+  pub version : value_at 1 c ≡ 2
+  pub meta : IsMeta 11 c
+  pub errnos : AllByRecursion (λ (k : Kept). k.said.errno < 2 ^ 32) c.kept
+  pub few : length c.nodes ≤ 65536
+
+pub record IsFirst (c : Content) (d : Database) : Type 0 where
+  pub holds : HoldsAs with_answers (stored c) d
+  pub old : IsOld c
+
+pub record IsSecond (c : Content) (d : Database) : Type 0 where
+  pub holds : Holds c d
+  pub fit : IsFit c
+
+abbrev pub IsStored : Content → Database → Type 0
+IsStored c d = IsFirst c d ⊎ IsSecond c d
+
+-- ---- the migration
+
+-- a record of version 1, under a lot
+abbrev pub under : ℕ → Answer → Kept
+under lot a = record { id = a.id; lot = lot; said = a.said }
+
+abbrev pub with_copies : Content → Content
+with_copies c = record c { kept = fold (λ all k. put_by kept_key k all) c.kept (map (under 0) c.answers) }
+
+abbrev pub moved : Content → Content
+moved c = without_answers (with_copies (with_lot 0 c))
+
+abbrev pub marked : Content → Content
+marked c = set_counter 1 2 (with_counter 11 1 c)
+
+-- the tables of version 1, and then those of version 2 one after the other, before they are refilled
+pub record HasLots (c : Content) (d : Database) : Type 0 where
+  pub holds : HoldsAs with_lots (stored c) d
+  pub old : IsOld c
+
+pub record HasKept (c : Content) (d : Database) : Type 0 where
+  pub holds : HoldsAs with_kept (stored c) d
+  pub old : IsOld c
+
+pub record HasTables (c : Content) (d : Database) : Type 0 where
+  pub holds : Holds c d
+  pub old : IsOld c
+
+-- the records are under lot 0, and the next lot is 1
+abbrev pub migrated : Content → Content
+migrated c = record c { counters = (marked c).counters; answers = []; lots = 0 ∷ []; kept = map (under 0) c.answers }
+
+abbrev pub opened : Content → Content
+opened c = if is_eq (nat_cmp (value_at 1 c) 1) then migrated c else c
+
+abbrev pub IsOpened : Content → Database → Type 0
+IsOpened c = IsSecond (opened c)
+
+-- a store that is open, outside a transaction, and holds this in one of the two versions
+abbrev pub WasStored : Content → State → Type 0
+WasStored c s = IsTrue s.is_open × (s.in_transaction ≡ false) × LeftAs (IsStored c) s.committed.trees

@@ -1,0 +1,34 @@
+-- Where the tables say that they are no store, or one of another version.
+use Rattle.std.specs.Prelude.{◌≡◌, ◌≢◌, ◌⊎◌, ℕ, pos, List, [], ◌∷◌, codes, None, Ok, ⊤}
+use Rattle.sqlite.specs.declared.types.Value.TheVariants.{Int}
+use Rattle.sqlite.specs.Order.{Row, column}
+use Rattle.sqlite.specs.Effect.{Database, Reads}
+use Rattle.sqlite.specs.Clock.{timed}
+use Rattle.sqlite.specs.Listing.{understood, reads_listing, IsSourceOf}
+use Rattle.sqlite_resolve.specs.declared.compiled.Compiled.{Compiled}
+use Rattle.sqlite_schema.specs.Names.{table_named}
+use Rattle.fuse_keeper.specs.declared.fault.StoreFault.{StoreFault}
+use Rattle.fuse_keeper.specs.declared.fault.StoreFault.TheVariants.{NotAStore, Version}
+
+abbrev pub version_text : List ℕ
+version_text = codes "SELECT v FROM meta WHERE k = 1"
+
+-- asked for its version, the database shows these rows, unless the text had a RETURNING
+abbrev pub ShowsVersion : Database → List Row → Type 0
+ShowsVersion d rows =
+    (c : Compiled) × (understood d.schema version_text ≡ Ok c)
+    × ((c.returning ≢ None) ⊎ ((now : ℕ) × (source : Database) × IsSourceOf (reads_listing d.schema version_text) d source
+    × Reads c.command source (timed [] c.formats now) rows))
+
+abbrev pub HasFirst : ℕ → List Row → Type 0
+HasFirst n [] = ⊥
+HasFirst n (row ∷ rows) = column row 0 ≡ Int (pos n)
+
+abbrev pub TellsVersion : Database → ℕ → Type 0
+TellsVersion d n = (rows : List Row) × ShowsVersion d rows × HasFirst n rows
+
+-- `meta` isn't there, or no row of the version; or it is another version than 1 and 2
+abbrev pub Says : Database → StoreFault → Type 0
+Says d NotAStore = (table_named d.schema (codes "meta") ≡ None) ⊎ ShowsVersion d []
+Says d (Version n) = (n ≢ 1) × (n ≢ 2) × TellsVersion d n
+Says d _ = ⊤

@@ -1,0 +1,55 @@
+// The table of counters, `meta`.
+ghost use Rattle.std.specs.Prelude.{◌≡◌, ◌<◌, ◌^◌, map, IfOk, OnOk, OnErr};
+ghost use Rattle.sqlite.specs.State.{HasCleanDisk};
+ghost use Rattle.sqlite.specs.Held.{state};
+ghost use Rattle.fuse_tables.specs.Moves.{Inside, Makes, Looked, Stays};
+ghost use Rattle.fuse_tables.specs.Content.{Content, with_counter, set_counter, shown_counter};
+
+use crate::values::pair;
+use sqlite::{Alter, Connection, Error, Row};
+
+const INSERT: &str = "INSERT INTO meta VALUES (?1, ?2)";
+
+const UPDATE: &str = "UPDATE meta SET v = ?2 WHERE k = ?1";
+
+const SELECT: &str = "SELECT v FROM meta ORDER BY k";
+
+/// Adds a counter, whose key no other has.
+pub fn insert_counter<S: Alter>(
+    conn: &mut Connection<S>,
+    key: u64,
+    value: u64,
+) -> Result<usize, Error>
+    requires key { key < 2 ^ 63 }
+    requires value { value < 2 ^ 63 }
+    ensures { Makes (with_counter key value) (state S.Store conn.old) (state S.Store conn.new)
+        result }
+{
+    let values = pair(key, value);
+    conn.execute(INSERT, &values)
+}
+
+/// Gives the counter with this key another value.
+pub fn update_counter<S: Alter>(
+    conn: &mut Connection<S>,
+    key: u64,
+    number: u64,
+) -> Result<usize, Error>
+    requires key { key < 2 ^ 63 }
+    requires number { number < 2 ^ 63 }
+    ensures { Makes (set_counter key number) (state S.Store conn.old) (state S.Store conn.new)
+        result }
+{
+    let values = pair(key, number);
+    conn.execute(UPDATE, &values)
+}
+
+/// The values of all counters, in the order of their keys.
+pub fn select_counters<S: Alter>(conn: &mut Connection<S>) -> Result<Vec<Row>, Error>
+    ensures looks { OnOk result (Looked (state S.Store conn.old) (state S.Store conn.new)) }
+    ensures fails { OnErr result (Stays (state S.Store conn.old) (state S.Store conn.new)) }
+    ensures found { HasCleanDisk (state S.Store conn.new) → IfOk result (λ rows. (c : Content)
+        → Inside c (state S.Store conn.old) → rows.items ≡ map shown_counter c.counters) }
+{
+    conn.query_all(SELECT, &[])
+}

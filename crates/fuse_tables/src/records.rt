@@ -1,0 +1,123 @@
+// The tables of records and of lots.
+ghost use Rattle.std.specs.Prelude.{◌≡◌, ◌<◌, ◌^◌, [], ◌∷◌, pos, map, IfOk, OnOk, OnErr};
+ghost use Rattle.std.specs.Option.{option_to_list};
+ghost use Rattle.sqlite.specs.declared.types.Value.TheVariants.{Int, Blob};
+ghost use Rattle.sqlite.specs.State.{HasCleanDisk};
+ghost use Rattle.sqlite.specs.Held.{state};
+ghost use Rattle.sqlite.specs.Values.{bound};
+ghost use Rattle.fuse_tables.specs.Moves.{Inside, Makes, Looked, Stays};
+ghost use Rattle.fuse_tables.specs.Content.{Content, kept_key, at_by, with_kept, without_kept};
+ghost use Rattle.fuse_tables.specs.Content.{without_all_kept, with_lot, without_lots};
+ghost use Rattle.fuse_tables.specs.Content.{without_answers, shown_kept};
+ghost use Rattle.fuse_tables.specs.Opening.{with_copies};
+
+use crate::values::number;
+use fuse_answer::Answer;
+use sqlite::types::{ToSql, ValueRef};
+use sqlite::{Alter, Connection, Error, Row};
+
+const INSERT: &str = "INSERT INTO kept VALUES (?1, ?2, ?3, ?4)";
+
+const INSERT_LOT: &str = "INSERT INTO lots VALUES (?1)";
+
+const DELETE: &str = "DELETE FROM kept WHERE id = ?1";
+
+const DELETE_ALL: &str = "DELETE FROM kept";
+
+const DELETE_LOTS: &str = "DELETE FROM lots";
+
+const SELECT: &str = "SELECT errno, body FROM kept WHERE id = ?1";
+
+const COPY_ANSWERS: &str = "INSERT INTO kept SELECT id, 0, errno, body FROM answers ORDER BY id";
+
+const DELETE_ANSWERS: &str = "DELETE FROM answers";
+
+// The parameters of a record.
+fn kept_values<'a>(id: u64, lot: u64, answer: &'a Answer) -> [ValueRef<'a>; 4]
+    requires id { id < 2 ^ 63 }
+    requires lot { lot < 2 ^ 63 }
+    ensures { bound result ≡ Int (pos id) ∷ Int (pos lot) ∷ Int (pos answer.now.errno)
+        ∷ Blob answer.now.body ∷ [] }
+{
+    [
+        (id as i64).to_sql(),
+        (lot as i64).to_sql(),
+        answer.errno.0.to_sql(),
+        answer.body.as_slice().to_sql(),
+    ]
+}
+
+/// Adds a record under a lot, whose id no other has.
+pub fn insert_kept<S: Alter>(
+    conn: &mut Connection<S>,
+    id: u64,
+    lot: u64,
+    answer: &Answer,
+) -> Result<usize, Error>
+    requires id { id < 2 ^ 63 }
+    requires lot { lot < 2 ^ 63 }
+    ensures { Makes (with_kept (record { id = id; lot = lot; said = answer.now }))
+        (state S.Store conn.old) (state S.Store conn.new) result }
+{
+    let values = kept_values(id, lot, answer);
+    conn.execute(INSERT, &values)
+}
+
+/// Adds a lot, which isn't there.
+pub fn insert_lot<S: Alter>(conn: &mut Connection<S>, lot: u64) -> Result<usize, Error>
+    requires { lot < 2 ^ 63 }
+    ensures { Makes (with_lot lot) (state S.Store conn.old) (state S.Store conn.new) result }
+{
+    let values = number(lot);
+    conn.execute(INSERT_LOT, &values)
+}
+
+/// Takes out the record of this id, if it is there.
+pub fn delete_kept<S: Alter>(conn: &mut Connection<S>, id: u64) -> Result<usize, Error>
+    requires { id < 2 ^ 63 }
+    ensures { Makes (without_kept id) (state S.Store conn.old) (state S.Store conn.new) result }
+{
+    let values = number(id);
+    conn.execute(DELETE, &values)
+}
+
+/// Takes out every record.
+pub fn delete_all_kept<S: Alter>(conn: &mut Connection<S>) -> Result<usize, Error>
+    ensures { Makes without_all_kept (state S.Store conn.old) (state S.Store conn.new) result }
+{
+    conn.execute(DELETE_ALL, &[])
+}
+
+/// Takes out every lot.
+pub fn delete_all_lots<S: Alter>(conn: &mut Connection<S>) -> Result<usize, Error>
+    ensures { Makes without_lots (state S.Store conn.old) (state S.Store conn.new) result }
+{
+    conn.execute(DELETE_LOTS, &[])
+}
+
+/// The records of this id: one or none.
+pub fn select_kept<S: Alter>(conn: &mut Connection<S>, id: u64) -> Result<Vec<Row>, Error>
+    requires { id < 2 ^ 63 }
+    ensures looks { OnOk result (Looked (state S.Store conn.old) (state S.Store conn.new)) }
+    ensures fails { OnErr result (Stays (state S.Store conn.old) (state S.Store conn.new)) }
+    ensures found { HasCleanDisk (state S.Store conn.new) → IfOk result (λ rows. (c : Content)
+        → Inside c (state S.Store conn.old)
+        → rows.items ≡ map shown_kept (option_to_list (at_by kept_key id c.kept))) }
+{
+    let values = number(id);
+    conn.query_all(SELECT, &values)
+}
+
+/// Puts the records of version 1 under lot 0.
+pub(crate) fn copy_answers<S: Alter>(conn: &mut Connection<S>) -> Result<usize, Error>
+    ensures { Makes with_copies (state S.Store conn.old) (state S.Store conn.new) result }
+{
+    conn.execute(COPY_ANSWERS, &[])
+}
+
+/// Takes out the records of version 1.
+pub(crate) fn delete_answers<S: Alter>(conn: &mut Connection<S>) -> Result<usize, Error>
+    ensures { Makes without_answers (state S.Store conn.old) (state S.Store conn.new) result }
+{
+    conn.execute(DELETE_ANSWERS, &[])
+}
