@@ -18,8 +18,8 @@ pub use laws::{
     mode_numbers, new_store_is_tree, rows_tell_state, tree_kept,
 };
 pub use limits::{
-    BLOCK_SIZE, COUNTER_END, MAX_FILE, MAX_HANDLES, MAX_NODES, MAX_READ, ROOT_ID,
-    SECTOR_SIZE, VALID_SECS,
+    BLOCK_SIZE, COUNTER_END, MAX_FILE, MAX_HANDLES, MAX_NODES, MAX_READ, ROOT_ID, SECTOR_SIZE,
+    VALID_SECS,
 };
 pub use look::{Look, LookFault};
 pub use mode::{S_IFBLK, S_IFCHR, S_IFDIR, S_IFIFO, S_IFREG, S_IFSOCK, TYPE_UNIT, TYPES};

@@ -1,3 +1,5 @@
+use fuse_answer::MAX_BODY;
+
 /// The most nodes, the root and those without a name counted.
 pub const MAX_NODES: u64 = 65_536;
 
@@ -10,8 +12,8 @@ pub const COUNTER_END: u64 = 0x4000_0000_0000_0000;
 /// The most bytes of a file.
 pub const MAX_FILE: u64 = 16_777_216;
 
-/// The most bytes that READ and READDIR may ask for.
-pub const MAX_READ: u32 = 1_048_576;
+/// The most bytes that READ and READDIR may ask for: those that an answer may have.
+pub const MAX_READ: u32 = MAX_BODY as u32;
 
 /// The fewest bytes that an entry takes in a listing: those before its name, and a name of up to 8.
 pub const LEAST_ENTRY: u32 = 32;

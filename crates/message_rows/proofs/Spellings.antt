@@ -6,7 +6,8 @@ use Rattle.fuse_wire.specs.Bytes.{le, HasNoNul}
 use Rattle.fuse_request.specs.Act.{Asked}
 use Rattle.fuse_request.specs.Spelling.{Spells}
 use Rattle.fuse_request.specs.Canon.{canon, CanonSpells, HasCanon}
-use Rattle.message_rows.specs.RequestRows.{hello, lookup_hello, lookup_bytes, mkdir_a, mkdir_bytes, MissingLookup, FirstRun, rename_a, rename_text, RenameBytes, write_one, write_text, WriteBytes, exchange_a, exchange_text, Exchange}
+use Rattle.message_rows.specs.RequestRows.{hello, lookup_hello, lookup_bytes, mkdir_a, mkdir_bytes, MissingLookup, FirstRun, rename_a, rename_text}
+use Rattle.message_rows.specs.RequestRows.{RenameBytes, write_one, write_text, WriteBytes, exchange_a, exchange_text, Exchange}
 
 spelled : CanonSpells → (v : Asked) (b : List ℕ) → HasCanon v → canon v ≡ b → (canon v ≡ b) × Spells v b
 spelled law v b h e = (e, subst (Spells v) e (law v h))
@@ -31,7 +32,8 @@ first_run law = spelled law mkdir_a mkdir_bytes mkdir_sayable refl
 
 rename_sayable : HasCanon rename_a
 unfolding le
-rename_sayable = record { header = search rules; body = (omega arith, (no_nul (0x61 ∷ []) (search rules), (no_nul (0x62 ∷ []) (search rules), tt))); ext = refl; named = tt }
+rename_sayable =
+    record { header = search rules; body = (omega arith, (no_nul (0x61 ∷ []) (search rules), (no_nul (0x62 ∷ []) (search rules), tt))); ext = refl; named = tt }
 
 pub rename_bytes : CanonSpells → RenameBytes
 unfolding le
@@ -47,7 +49,13 @@ write_bytes law = spelled law write_one write_text write_sayable refl
 
 exchange_sayable : HasCanon exchange_a
 unfolding le
-exchange_sayable = record { header = search rules; body = (omega arith, (omega arith, (no_nul (0x61 ∷ []) (search rules), (no_nul (0x62 ∷ []) (search rules), tt)))); ext = refl; named = tt }
+exchange_sayable =
+    record {
+      header = search rules;
+      body = (omega arith, (omega arith, (no_nul (0x61 ∷ []) (search rules), (no_nul (0x62 ∷ []) (search rules), tt))));
+      ext = refl;
+      named = tt;
+    }
 
 pub exchange : CanonSpells → Exchange
 unfolding le

@@ -72,7 +72,8 @@ write_one = record { header = record { unique = 8; nodeid = 2; uid = 1000; gid =
 
 abbrev pub write_text : List ℕ
 write_text =
-    hex (codes "53000000 10000000 0800000000000000 0200000000000000 e8030000 e8030000 4d000000 00000000 0100000000000000 0000000000000000 03000000 00000000 0000000000000000 02000000 00000000 6f6e65")
+    hex (codes "53000000 10000000 0800000000000000 0200000000000000 e8030000 e8030000 4d000000 00000000")
+    ++ hex (codes "0100000000000000 0000000000000000 03000000 00000000 0000000000000000 02000000 00000000 6f6e65")
 
 abbrev pub WriteBytes : Type 0
 WriteBytes = (canon write_one ≡ write_text) × Spells write_one write_text
@@ -82,7 +83,8 @@ abbrev pub exchange_a : Asked
 exchange_a = record { header = header 8; act = Rename2 1 2 (0x61 ∷ []) (0x62 ∷ []); ext = [] }
 
 abbrev pub exchange_text : List ℕ
-exchange_text = hex (codes "3c000000 2d000000 0800000000000000 0100000000000000 e8030000 e8030000 4d000000 00000000 0100000000000000 02000000 00000000 6100 6200")
+exchange_text =
+    hex (codes "3c000000 2d000000 0800000000000000 0100000000000000 e8030000 e8030000 4d000000 00000000 0100000000000000 02000000 00000000 6100 6200")
 
 abbrev pub Exchange : Type 0
 Exchange = (canon exchange_a ≡ exchange_text) × Spells exchange_a exchange_text

@@ -97,8 +97,9 @@ fn agreed(rt: HostRuntime) {
 }
 
 // The body of what is answered where the kernel's minor is newer.
-const NEWER_MINOR: &[u8; 64] =
-    b"\x07\0\0\0\x28\0\0\0\0\x10\0\0\x21\0\0\0\x0c\0\x09\0\0\0\x02\0\x01\0\0\0\0\0\0\0\0\0\0\0\0\0\0\0\0\0\0\0\0\0\0\0\0\0\0\0\0\0\0\0\0\0\0\0\0\0\0\0";
+const NEWER_MINOR: &[u8; 64] = b"\x07\0\0\0\x28\0\0\0\0\x10\0\0\x21\0\0\0\
+    \x0c\0\x09\0\0\0\x02\0\x01\0\0\0\0\0\0\0\0\0\0\0\0\0\0\0\
+    \0\0\0\0\0\0\0\0\0\0\0\0\0\0\0\0\0\0\0\0\0\0\0\0";
 
 #[test]
 fn newer_minor(rt: HostRuntime) -> Result<(), Fail> {

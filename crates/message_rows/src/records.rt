@@ -10,32 +10,26 @@ fn error_fields()
     ensures { ErrorFields }
 {}
 
-#[tactic(auto, unfolding(fuse_wire::specs::Bytes::le, fuse_answer::specs::Bodies::header_bytes, fuse_answer::specs::Notice::resend_bytes))]
 fn headers()
     ensures { Headers }
 {}
 
-#[tactic(auto, unfolding(fuse_wire::specs::Bytes::le, fuse_answer::specs::Wire::wire_head, fuse_answer::specs::Wire::wire))]
 fn refusals()
     ensures { Refusals }
 {}
 
-#[tactic(auto, unfolding(fuse_wire::specs::Bytes::le, fuse_answer::specs::Wire::wire_head, fuse_answer::specs::Wire::wire))]
 fn reads()
     ensures { Reads }
 {}
 
-#[tactic(auto, unfolding(fuse_wire::specs::Bytes::le, fuse_answer::specs::Wire::wire_head, fuse_answer::specs::Wire::wire, fuse_answer::specs::Bodies::attr_bytes, fuse_answer::specs::Bodies::entry_bytes, fuse_answer::specs::Bodies::attr_out_bytes))]
 fn first_run()
     ensures { FirstRun }
 {}
 
-#[tactic(auto, unfolding(fuse_wire::specs::Bytes::le, fuse_answer::specs::Wire::wire_head, fuse_answer::specs::Wire::wire, fuse_answer::specs::Bodies::open_bytes, fuse_answer::specs::Bodies::write_bytes))]
 fn open_and_write()
     ensures { OpenAndWrite }
 {}
 
-#[tactic(auto, unfolding(fuse_wire::specs::Bytes::le, fuse_answer::specs::Wire::wire_head, fuse_answer::specs::Wire::wire, fuse_answer::specs::Bodies::init_bytes))]
 fn inits()
     ensures { Inits }
 {}
@@ -81,12 +75,10 @@ const DIRECTORY: Attr = Attr {
     flags: 0,
 };
 
-const DIRECTORY_BYTES: [u8; 88] = [
-    2, 0, 0, 0, 0, 0, 0, 0, 0, 0, 0, 0, 0, 0, 0, 0, 0, 0, 0, 0, 0, 0, 0, 0, 0xe8, 3, 0, 0, 0, 0, 0,
-    0, 0xe8, 3, 0, 0, 0, 0, 0, 0, 0xe8, 3, 0, 0, 0, 0, 0, 0, 0, 0, 0, 0, 0, 0, 0, 0, 0, 0, 0, 0,
-    0xed, 0x41, 0, 0, 2, 0, 0, 0, 0xe8, 3, 0, 0, 0xe8, 3, 0, 0, 0, 0, 0, 0, 0, 0x10, 0, 0, 0, 0, 0,
-    0,
-];
+const DIRECTORY_BYTES: &[u8; 88] = b"\x02\0\0\0\0\0\0\0\0\0\0\0\0\0\0\0\0\0\0\0\0\0\0\0\
+    \xe8\x03\0\0\0\0\0\0\xe8\x03\0\0\0\0\0\0\xe8\x03\0\0\0\0\0\0\
+    \0\0\0\0\0\0\0\0\0\0\0\0\xed\x41\0\0\x02\0\0\0\xe8\x03\0\0\
+    \xe8\x03\0\0\0\0\0\0\0\x10\0\0\0\0\0\0";
 
 #[test]
 fn attributes(rt: HostRuntime) -> Result<(), Memory> {
@@ -107,13 +99,12 @@ fn entry(rt: HostRuntime) -> Result<(), Memory> {
         attr: DIRECTORY,
     };
     let body = made.body_of(rt.alloc())?;
-    let front = [
-        2, 0, 0, 0, 0, 0, 0, 0, 0, 0, 0, 0, 0, 0, 0, 0, 1, 0, 0, 0, 0, 0, 0, 0, 1, 0, 0, 0, 0, 0,
-        0, 0, 0, 0, 0, 0, 0, 0, 0, 0,
-    ];
+    let front = b"\x02\0\0\0\0\0\0\0\0\0\0\0\0\0\0\0\
+        \x01\0\0\0\0\0\0\0\x01\0\0\0\0\0\0\0\
+        \0\0\0\0\0\0\0\0";
     assert_eq!(rt; body.len(), EntryOut::SIZE);
-    assert!(rt; body.as_slice().starts_with(&front));
-    assert!(rt; body.as_slice().ends_with(&DIRECTORY_BYTES));
+    assert!(rt; body.as_slice().starts_with(front));
+    assert!(rt; body.as_slice().ends_with(DIRECTORY_BYTES));
     Ok(())
 }
 
@@ -128,7 +119,7 @@ fn attr_answer(rt: HostRuntime) -> Result<(), Memory> {
     let front = [1, 0, 0, 0, 0, 0, 0, 0, 0, 0, 0, 0, 0, 0, 0, 0];
     assert_eq!(rt; body.len(), AttrOut::SIZE);
     assert!(rt; body.as_slice().starts_with(&front));
-    assert!(rt; body.as_slice().ends_with(&DIRECTORY_BYTES));
+    assert!(rt; body.as_slice().ends_with(DIRECTORY_BYTES));
     Ok(())
 }
 
@@ -168,13 +159,12 @@ fn init_answer(rt: HostRuntime) -> Result<(), Memory> {
         flags2: 0x80,
         max_stack_depth: 0,
     };
-    let front = [
-        7, 0, 0, 0, 0x28, 0, 0, 0, 0, 0, 2, 0, 0x21, 0, 0, 0x40, 0x0c, 0, 9, 0, 0, 0, 2, 0, 1, 0,
-        0, 0, 0, 0, 0, 0, 0x80, 0, 0, 0,
-    ];
+    let front = b"\x07\0\0\0\x28\0\0\0\0\0\x02\0\x21\0\0\x40\
+        \x0c\0\x09\0\0\0\x02\0\x01\0\0\0\0\0\0\0\
+        \x80\0\0\0";
     let body = agreed.body_of(rt.alloc())?;
     assert_eq!(rt; body.len(), InitOut::SIZE);
-    assert!(rt; body.as_slice().starts_with(&front));
+    assert!(rt; body.as_slice().starts_with(front));
     assert!(rt; body.as_slice().ends_with(&[0; 28]));
     Ok(())
 }
