@@ -1,5 +1,5 @@
 //! Scripts: the events that the lines of a text tell.
-ghost use Rattle.std.specs.Prelude.{◌≡◌, ◌⊎◌, ◌≤◌, ◌<◌, ◌+◌, ◌*◌, ◌^◌, ◌++◌, ◌∷◌, [], ℕ, List, None, length, IfSome, IsSomeAnd, OnOk, IfOk, IfErr, MatchOption};
+ghost use Rattle.std.specs.Prelude.{◌≡◌, ◌⊎◌, ◌≤◌, ◌<◌, ◌+◌, ◌*◌, ◌^◌, ◌++◌, ◌∷◌, [], ℕ, List, None, IsTrue, ◌↔◌, IfSome, IsSomeAnd, OnOk, IfOk, IfErr, MatchOption};
 ghost use Rattle.std.specs.Char.{digit_value};
 ghost use Rattle.fuse_sim.specs.declared.event.Event.{Event as EventValue};
 ghost use Rattle.fuse_sim.specs.declared.event.Fate.{Fate as FateValue};
