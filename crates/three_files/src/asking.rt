@@ -7,11 +7,11 @@ ghost use Rattle.three_files.specs.Asking.{said, said_agreed, said_at, agreed_af
 
 use crate::attributes::{attr_answer, entry_answer};
 use crate::init::init;
-use crate::limits::{EROFS, MAX_NAME};
+use crate::limits::EROFS;
 use crate::listing::read_dir;
 use crate::node::Node;
 use crate::opening::{done_nothing, open_dir, open_file, read, release, release_dir};
-use fuse_answer::Answer;
+use fuse_answer::{Answer, MAX_NAME};
 use fuse_init::Settings;
 use fuse_request::{Op, Request};
 use fuse_wire::{Errno, Memory};

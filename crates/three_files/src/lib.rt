@@ -14,7 +14,7 @@ mod serving;
 
 pub use files::ThreeFiles;
 pub use laws::never_changes;
-pub use limits::{EROFS, MAX_NAME, MAX_READ};
+pub use limits::{EROFS, MAX_READ};
 pub use node::Node;
 pub use serving::serve_files;
 
