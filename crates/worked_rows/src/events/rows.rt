@@ -50,12 +50,18 @@ fn event_of(alloc: Global, line: &str) -> Result<Event, Fail> {
     })
 }
 
+// Adds an event to a script, and what it is answered.
+fn read_event(alloc: Global, script: &mut Script, part: &str) -> Result<(), Fail> {
+    let (line, answer) = part.split_once("gives").unwrap_or((part, ""));
+    script.events.push(event_of(alloc, line)?)?;
+    script.answers.push(hex(alloc, answer)?)?;
+    Ok(())
+}
+
 // Adds the events of a text to a script.
 fn read_text(alloc: Global, script: &mut Script, text: &str) -> Result<(), Fail> {
     for part in text.split_terminator(';') {
-        let (line, answer) = part.split_once("gives").unwrap_or((part, ""));
-        script.events.push(event_of(alloc, line)?)?;
-        script.answers.push(hex(alloc, answer)?)?;
+        read_event(alloc, script, part)?;
     }
     Ok(())
 }
@@ -82,48 +88,74 @@ fn right_in(outcomes: &[Option<Outcome>], answers: &[Vec<u8>]) -> usize {
 
 // Runs a script on a store that was made at second 0.
 fn run(alloc: Global, script: &Script) -> Seen {
-    let mut keeper = new_keeper(alloc).ok();
-    let right = match drive_on(alloc, &mut keeper, script.events.as_slice()) {
-        Some(Ok(outcomes)) => right_in(outcomes.as_slice(), script.answers.as_slice()),
-        _ => 0,
+    let ran = run_on_new(alloc, script.events.as_slice());
+    let right = match &ran.outcomes {
+        Some(outcomes) => right_in(outcomes.as_slice(), script.answers.as_slice()),
+        None => 0,
     };
     Seen {
         events: script.events.len(),
         right,
-        left: held_of(&mut keeper),
+        left: ran.held,
     }
 }
 
-// Runs the events of these texts and then those of a row: what was seen, where it isn't as the row
-// has it.
-fn wrong_in(alloc: Global, first: &[&str], row: &Row) -> Result<Option<Seen>, Fail> {
+fn read_texts(alloc: Global, script: &mut Script, texts: &[&str]) -> Result<(), Fail> {
+    for text in texts {
+        read_text(alloc, script, text)?;
+    }
+    Ok(())
+}
+
+// The script of these texts and then of a row.
+fn script_of(alloc: Global, first: &[&str], row: &Row) -> Result<Script, Fail> {
     let mut script = Script {
         events: Vec::new(alloc),
         answers: Vec::new(alloc),
     };
-    for text in first {
-        read_text(alloc, &mut script, text)?;
-    }
-    for text in row.events {
-        read_text(alloc, &mut script, text)?;
-    }
-    let seen = run(alloc, &script);
+    read_texts(alloc, &mut script, first)?;
+    read_texts(alloc, &mut script, row.events)?;
+    Ok(script)
+}
+
+fn is_right(row: &Row, seen: &Seen) -> bool {
     let (nodes, handles, records) = row.left;
-    if seen.right == seen.events && seen.left == Some(holding(nodes, handles, records)) {
-        Ok(None)
-    } else {
-        Ok(Some(seen))
+    seen.right == seen.events && seen.left == Some(holding(nodes, handles, records))
+}
+
+// The first row that isn't as it should be behind these texts, and what was seen of it.
+fn first_wrong(
+    alloc: Global,
+    first: &[&str],
+    rows: &[Row],
+) -> Result<Option<(&'static str, Seen)>, Fail> {
+    for row in rows {
+        let script = script_of(alloc, first, row)?;
+        let seen = run(alloc, &script);
+        if !is_right(row, &seen) {
+            return Ok(Some((row.name, seen)));
+        }
     }
+    Ok(None)
 }
 
 #[test]
-fn rows(rt: HostRuntime) -> Result<(), Fail> {
-    let alloc = rt.alloc();
-    for row in &ON_A_NEW_STORE {
-        assert_eq!(rt; wrong_in(alloc, &[], row)?, None, "{}", row.name);
-    }
-    for row in BEHIND_INIT.iter().chain(&MOVES) {
-        assert_eq!(rt; wrong_in(alloc, &[AGREES], row)?, None, "{}", row.name);
-    }
+fn rows_on_a_new_store(rt: HostRuntime) -> Result<(), Fail> {
+    let wrong = first_wrong(rt.alloc(), &[], &ON_A_NEW_STORE)?;
+    assert!(rt; wrong.is_none(), "{wrong:?}");
+    Ok(())
+}
+
+#[test]
+fn rows_behind_an_init(rt: HostRuntime) -> Result<(), Fail> {
+    let wrong = first_wrong(rt.alloc(), &[AGREES], &BEHIND_INIT)?;
+    assert!(rt; wrong.is_none(), "{wrong:?}");
+    Ok(())
+}
+
+#[test]
+fn rows_that_move_names(rt: HostRuntime) -> Result<(), Fail> {
+    let wrong = first_wrong(rt.alloc(), &[AGREES], &MOVES)?;
+    assert!(rt; wrong.is_none(), "{wrong:?}");
     Ok(())
 }

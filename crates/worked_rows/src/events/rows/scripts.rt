@@ -1,7 +1,7 @@
 //! The texts of the rows that are events.
 //!
-//! An event is a line of a script, and then, where the kernel takes an answer, `gives` and the bytes
-//! of it. `;` ends it. `0*n` stands for n zero bytes, and so `61*n` for n bytes `61`.
+//! An event is a line of a script, and then, where the kernel takes an answer, `gives` and the
+//! bytes of it. `;` ends it. `0*n` stands for n zero bytes, and so `61*n` for n bytes `61`.
 //!
 //! An id whose answer the kernel took doesn't come again, by the headline's premise. So where a row
 //! repeats an id that was answered, its first answer is lost here.
