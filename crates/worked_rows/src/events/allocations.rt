@@ -190,6 +190,19 @@ fn ask_again(
     }
 }
 
+// The same, and once more where memory was refused.
+fn asks_surely(
+    alloc: Global,
+    sides: &mut Sides,
+    committed: usize,
+    pairs: &[Pair],
+) -> Result<bool, AllocError> {
+    if let Some(taken) = ask_again(alloc, sides, committed, pairs)? {
+        return Ok(taken);
+    }
+    Ok(ask_again(alloc, sides, committed, pairs)?.unwrap_or(false))
+}
+
 // Sends these requests and runs them. How many are committed then with those before.
 fn send_and_run(
     alloc: Global,
@@ -216,12 +229,18 @@ fn pass(
     let Some(committed) = send_and_run(alloc, sides, requests, fate, before)? else {
         return Ok(false);
     };
-    let taken = match ask_again(alloc, sides, committed, pairs)? {
-        Some(taken) => taken,
-        None => ask_again(alloc, sides, committed, pairs)? == Some(true),
-    };
     let left = held_after(before.saturating_add(requests.len()));
+    let taken = asks_surely(alloc, sides, committed, pairs)?;
     Ok(taken && held_of(&mut sides.keeper) == Some(left))
+}
+
+fn pass_run(alloc: Global, sides: &mut Sides, fate: Fate) -> Result<bool, AllocError> {
+    pass(alloc, sides, (&requests_of_run(0), &RUN), fate, 0)
+}
+
+fn pass_questions(alloc: Global, sides: &mut Sides, fate: Fate) -> Result<bool, AllocError> {
+    let part: (&[Request<'_>], &[Pair]) = (&first_questions(), &QUESTIONS[..4]);
+    pass(alloc, sides, part, fate, MESSAGES)
 }
 
 // The run on a new store, and what the tree is behind it.
@@ -230,18 +249,8 @@ fn passes(alloc: Global, fate: Fate) -> Result<bool, AllocError> {
         keeper: made(alloc),
         kernel: Kernel::new(alloc),
     };
-    let run = requests_of_run(0);
-    if !pass(alloc, &mut sides, (&run, &RUN), fate, 0)? {
-        return Ok(false);
-    }
-    let questions = first_questions();
-    pass(
-        alloc,
-        &mut sides,
-        (&questions, &QUESTIONS[..4]),
-        fate,
-        MESSAGES,
-    )
+    let right = pass_run(alloc, &mut sides, fate)?;
+    Ok(right && pass_questions(alloc, &mut sides, fate)?)
 }
 
 // Each request in a group of its own, and all in one group.

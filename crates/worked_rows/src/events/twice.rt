@@ -73,13 +73,16 @@ fn are_answers(
     Ok(outcomes.len() == list.len())
 }
 
-// The outcomes of both lists, where there is a keeper that hasn't failed.
+// The outcomes of both lists.
+type Both = Option<(Vec<Option<Outcome>>, Vec<Option<Outcome>>)>;
+
+// Runs both lists, where there is a keeper that hasn't failed.
 fn drive_both(
     alloc: Global,
     keeper: &mut Option<TreeKeeper>,
     events: &[Event],
     more: &[Event],
-) -> Option<(Vec<Option<Outcome>>, Vec<Option<Outcome>>)> {
+) -> Both {
     let going = match keeper {
         Some(inner) => !inner.failed(),
         None => false,
@@ -90,19 +93,24 @@ fn drive_both(
     drive_twice(alloc, keeper, events, more).ok()
 }
 
+fn are_right(alloc: Global, both: &Both) -> Result<bool, AllocError> {
+    match both {
+        Some((first, second)) => {
+            let right = are_answers(alloc, first.as_slice(), &FIRST)?;
+            Ok(right && are_answers(alloc, second.as_slice(), &SECOND)?)
+        }
+        None => Ok(false),
+    }
+}
+
 // Runs both over a new store: whether all answers are right, and what is held then.
 fn run(alloc: Global) -> Result<(bool, Option<Held>), StoreFault> {
     let events = asked_in(alloc, &FIRST)?;
     let more = asked_in(alloc, &SECOND)?;
-    let mut keeper = Some(new_keeper(alloc)?);
-    let right = match drive_both(alloc, &mut keeper, events.as_slice(), more.as_slice()) {
-        Some((first, second)) => {
-            are_answers(alloc, first.as_slice(), &FIRST)?
-                && are_answers(alloc, second.as_slice(), &SECOND)?
-        }
-        None => false,
-    };
-    Ok((right, held_of(&mut keeper)))
+    let mut keeper = new_keeper(alloc).ok();
+    let both = drive_both(alloc, &mut keeper, events.as_slice(), more.as_slice());
+    let held = held_of(&mut keeper);
+    Ok((are_right(alloc, &both)?, held))
 }
 
 // The root, `a`, `b` and `c`, and five records.
