@@ -15,10 +15,22 @@ use crate::look::TableLook;
 use fuse_answer::Answer;
 use fuse_keeper::StoreFault;
 use fuse_request::Request;
-use fuse_tree::plan;
+use fuse_tree::{PlanFault, plan};
 use fuse_wire::Moment;
 use sqlite::Alter;
 use std::alloc::Global;
+
+// Why nothing was planned.
+fn fault_of_plan(fault: PlanFault, looked: Option<StoreFault>) -> StoreFault {
+    match fault {
+        PlanFault::Memory => StoreFault::Memory,
+        PlanFault::NotATree => StoreFault::Damaged,
+        PlanFault::Look(_) => match looked {
+            Some(fault) => fault,
+            None => StoreFault::Damaged,
+        },
+    }
+}
 
 /// Does what a request asks for, in the transaction that is open.
 pub fn act<S: Alter>(
@@ -31,10 +43,13 @@ pub fn act<S: Alter>(
     ensures acts { IfOk result (λ answer. (s : State) → Tree s
         → ActsInside (state S.Store look.old.conn) (state S.Store look.new.conn) s
         (done s (asked request.now) now) answer) }
+    // Whether it went well or not, nothing is committed.
+    ensures keeps { Keeps (state S.Store look.old.conn) (state S.Store look.new.conn) }
+    ensures fault { look_fault look.new.fault ≡ None }
 {
     let planned = match plan(alloc, look, request, now) {
         Ok(planned) => planned,
-        Err(_) => return Err(StoreFault::Memory),
+        Err(fault) => return Err(fault_of_plan(fault, look.take_fault())),
     };
     let changes = planned.changes.as_slice();
     match make_all(&mut look.conn, alloc, changes) {

@@ -41,6 +41,26 @@ fn told_fault(fault: &StoreFault) -> LookFault
 }
 
 impl<S: Alter> TableLook<S> {
+    /// No memory is taken.
+    pub fn new(alloc: Global, conn: Connection<S>) -> TableLook<S>
+        ensures conn { result.conn ≡ conn }
+        ensures fault { look_fault result.fault ≡ None }
+    {
+        TableLook {
+            alloc,
+            conn,
+            fault: None,
+        }
+    }
+
+    /// The fault of a look, if there was one, which is forgotten.
+    pub(crate) fn take_fault(&mut self) -> Option<StoreFault>
+        ensures fault { look_fault self.new.fault ≡ None }
+        ensures conn { self.new.conn ≡ self.old.conn }
+    {
+        self.fault.take()
+    }
+
     // Keeps the fault.
     fn fail(&mut self, fault: StoreFault) -> LookFault
         ensures fault { look_fault self.new.fault ≡ Some result }
