@@ -1,0 +1,11 @@
+pub mod Looks
+pub mod Told
+pub mod Ranges
+pub mod ListingLemmas
+pub mod Orders
+pub mod Changes
+pub mod Parents
+pub mod BlockBytes
+pub mod Overlays
+pub mod Resting
+pub mod Cuts

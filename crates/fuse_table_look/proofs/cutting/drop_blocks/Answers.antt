@@ -1,0 +1,12 @@
+use Rattle.sqlite.specs.Held.{state}
+use Rattle.fuse_table_look.proofs.Changes.{bytes_keep}
+use Rattle.fuse_table_look.proofs.Cuts.{blocks_cut}
+use Rattle.fuse_table_look.proofs.cutting.drop_blocks.Goals as goal
+
+pub returns-in-Ok-clause-cut : goal.returns-in-Ok-clause-cut
+returns-in-Ok-clause-cut g c =
+    blocks_cut (state g.S.Store c.args.conn.now) (state g.S.Store c.delete_blocks_from.new.conn) c.in-Ok.field-0 c.args.node c.args.from c.in-Ok.ensures
+
+pub returns-in-Err-clause-fails : goal.returns-in-Err-clause-fails
+returns-in-Err-clause-fails g c =
+    bytes_keep (state g.S.Store c.args.conn.now) (state g.S.Store c.delete_blocks_from.new.conn) c.in-Err.ensures.stays

@@ -1,0 +1,11 @@
+use Rattle.std.proofs.Common.{sym, ap, subst, ◌∙◌}
+use Rattle.sqlite.specs.Held.{state}
+use Rattle.fuse_tree.specs.Rows.{Rows, IsRowed, entries_after}
+use Rattle.fuse_table_look.proofs.Told.{inside_of, after_told}
+use Rattle.fuse_table_look.proofs.look.TableLookLook.entries_after.Goals as goal
+
+pub returns-in-Ok-clause-rows : goal.returns-in-Ok-clause-rows
+returns-in-Ok-clause-rows g c clean rows rowed (x, at, is) =
+    c.in-Ok.ensures.value clean at.holds.0 (inside_of x (state g.S.Store c.args.self.now.conn) at) at.holds.2.fits
+    ∙ after_told x at.holds.0 (subst IsRowed (sym is) rowed) at.holds.2 c.args.dir c.args.cookie c.args.limit
+    ∙ ap (λ (r : Rows). entries_after r c.args.dir c.args.cookie c.args.limit) is

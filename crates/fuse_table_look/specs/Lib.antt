@@ -1,0 +1,6 @@
+pub mod Fits
+pub mod Store
+pub mod Looking
+pub mod Changing
+pub mod Acting
+pub mod Laws

@@ -1,0 +1,11 @@
+//! Tests of the tables of a store, over a connection in memory: each public function once.
+#![tactic(auto)]
+
+#[cfg(test)]
+mod looks;
+#[cfg(test)]
+mod shown;
+#[cfg(test)]
+mod statements;
+#[cfg(test)]
+mod stores;
