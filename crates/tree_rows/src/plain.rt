@@ -133,6 +133,16 @@ fn node_in(rows: &PlainRows, number: u64) -> Result<Option<NodeRow>, Fail> {
     Ok(copy.node(number)?)
 }
 
+fn up_in(rows: &PlainRows, number: u64) -> Result<u64, Fail> {
+    let row = node_in(rows, number)?.ok_or("a node")?;
+    Ok(row.up)
+}
+
+// Whether the node's row is this one.
+fn has_node(rows: &PlainRows, number: u64, wanted: Option<NodeRow>) -> Result<bool, Fail> {
+    Ok(node_in(rows, number)? == wanted)
+}
+
 fn handle_in(rows: &PlainRows, fh: u64) -> Result<Option<HandleRow>, Fail> {
     let mut copy = copy_of(rows)?;
     Ok(copy.handle(fh)?)
@@ -161,21 +171,17 @@ fn entries_in(rows: &PlainRows, cookie: u64, limit: usize) -> Result<Vec<EntryRo
     Ok(copy.entries_after(ROOT_ID, cookie, limit)?)
 }
 
-// How many nodes have a name: those that a mount leaves.
-fn named_in(rows: &PlainRows) -> Result<u64, Fail> {
-    let mut copy = copy_of(rows)?;
-    copy.begin_mount();
-    Ok(copy.counted().nodes)
+// The directory above node 2, how many entries the root has, and whether handle 1 is there.
+fn shown(rows: &PlainRows) -> Result<(u64, usize, bool), Fail> {
+    let up = up_in(rows, 2)?;
+    let entries = entries_in(rows, 0, 9)?;
+    Ok((up, entries.len(), handle_in(rows, 1)?.is_some()))
 }
 
-// How many nodes have a name and how many entries the root has, and whether handle 1 is there.
-fn shown(rows: &PlainRows) -> Result<(u64, usize, bool), Fail> {
-    let entries = entries_in(rows, 0, 9)?;
-    Ok((
-        named_in(rows)?,
-        entries.len(),
-        handle_in(rows, 1)?.is_some(),
-    ))
+// Whether these bytes of node 2 are those, and no look fails.
+fn holds(rows: &PlainRows, offset: u64, len: u32, wanted: &[u8]) -> Result<bool, Fail> {
+    let found = bytes_in(rows, offset, len)?;
+    Ok(found.1.is_none() && found.0.as_slice() == wanted)
 }
 
 fn each_change(alloc: Global) -> Result<Vec<Change>, AllocError> {
@@ -195,16 +201,16 @@ fn each_change(alloc: Global) -> Result<Vec<Change>, AllocError> {
 
 // What is shown after each, and what node 2 holds.
 const AFTER_EACH: [((u64, usize, bool), &[u8]); 10] = [
-    ((2, 0, false), b""),
     ((1, 0, false), b""),
-    ((1, 1, false), b""),
-    ((1, 1, true), b""),
-    ((1, 1, true), b"\0\0\0abc"),
-    ((1, 1, true), b"\0\0\0azc"),
-    ((1, 1, true), b"\0\0\0az"),
-    ((1, 1, true), b"\0\0\0az\0\0"),
-    ((1, 1, false), b"\0\0\0az\0\0"),
-    ((1, 0, false), b"\0\0\0az\0\0"),
+    ((0, 0, false), b""),
+    ((0, 1, false), b""),
+    ((0, 1, true), b""),
+    ((0, 1, true), b"\0\0\0abc"),
+    ((0, 1, true), b"\0\0\0azc"),
+    ((0, 1, true), b"\0\0\0az"),
+    ((0, 1, true), b"\0\0\0az\0\0"),
+    ((0, 1, false), b"\0\0\0az\0\0"),
+    ((0, 0, false), b"\0\0\0az\0\0"),
 ];
 
 #[test]
@@ -214,8 +220,7 @@ fn makes_each_change(rt: HostRuntime) -> Result<(), Fail> {
     for (change, (counts, content)) in changes.into_iter().zip(AFTER_EACH) {
         rows.apply(change)?;
         assert_eq!(rt; shown(&rows)?, counts);
-        let after = bytes_in(&rows, 0, 100)?;
-        assert_eq!(rt; after.0.as_slice(), content);
+        assert!(rt; holds(&rows, 0, 100, content)?);
     }
     Ok(())
 }
@@ -231,12 +236,10 @@ fn keeps_counters_and_settings(rt: HostRuntime) -> Result<(), Fail> {
 #[test]
 fn looks_at_nodes_and_handles(rt: HostRuntime) -> Result<(), Fail> {
     let rows = some_rows(rt.alloc())?;
-    assert_eq!(rt; node_in(&rows, 2)?, Some(file(2, ROOT_ID)));
-    assert_eq!(rt; node_in(&rows, 9)?, None);
+    assert!(rt; has_node(&rows, 2, Some(file(2, ROOT_ID)))?);
+    assert!(rt; has_node(&rows, 9, None)?);
     assert_eq!(rt; handle_in(&rows, 1)?, Some(HANDLE));
-    let found = bytes_in(&rows, 1, 9)?;
-    assert_eq!(rt; found.0.as_slice(), b"ne".as_slice());
-    assert_eq!(rt; found.1, None);
+    assert!(rt; holds(&rows, 1, 9, b"ne")?);
     Ok(())
 }
 
@@ -254,8 +257,8 @@ fn looks_at_entries(rt: HostRuntime) -> Result<(), Fail> {
 fn a_mount_leaves_named_nodes(rt: HostRuntime) -> Result<(), Fail> {
     let mut rows = some_rows(rt.alloc())?;
     rows.begin_mount();
-    assert_eq!(rt; node_in(&rows, 2)?, Some(file(2, ROOT_ID)));
-    assert_eq!(rt; node_in(&rows, 3)?, None);
+    assert!(rt; has_node(&rows, 2, Some(file(2, ROOT_ID)))?);
+    assert!(rt; has_node(&rows, 3, None)?);
     assert_eq!(rt; entries_in(&rows, 0, 9)?.len(), 2);
     assert_eq!(rt; handle_in(&rows, 1)?, None);
     assert_eq!(rt; rows.agreed(), None);

@@ -40,6 +40,61 @@ fn name_of(word: &[u8]) -> &[u8] {
     }
 }
 
+/// What a row may ask.
+#[derive(Clone, Copy)]
+enum Kind {
+    Lookup,
+    Mkdir,
+    Mknod,
+    Unlink,
+    Rmdir,
+    Rename,
+    Rename2,
+    OpenFile,
+    OpenDir,
+    Read,
+    ReadDir,
+    Write,
+    Release,
+    ReleaseDir,
+    Getattr,
+    Setattr,
+    Init,
+    Destroy,
+    Unsupported,
+}
+
+const KINDS: [(&[u8], Kind); 19] = [
+    (b"lookup", Kind::Lookup),
+    (b"mkdir", Kind::Mkdir),
+    (b"mknod", Kind::Mknod),
+    (b"unlink", Kind::Unlink),
+    (b"rmdir", Kind::Rmdir),
+    (b"rename", Kind::Rename),
+    (b"rename2", Kind::Rename2),
+    (b"open", Kind::OpenFile),
+    (b"opendir", Kind::OpenDir),
+    (b"read", Kind::Read),
+    (b"readdir", Kind::ReadDir),
+    (b"write", Kind::Write),
+    (b"release", Kind::Release),
+    (b"releasedir", Kind::ReleaseDir),
+    (b"getattr", Kind::Getattr),
+    (b"setattr", Kind::Setattr),
+    (b"init", Kind::Init),
+    (b"destroy", Kind::Destroy),
+    (b"unsupported", Kind::Unsupported),
+];
+
+fn kind_of(word: &[u8]) -> Option<Kind> {
+    for (name, kind) in KINDS {
+        if word == name {
+            return Some(kind);
+        }
+    }
+    None
+}
+
 impl<'a> Words<'a> {
     pub fn of(text: &'a [u8], gap: u8) -> Words<'a> {
         Words { rest: text, gap }
@@ -80,13 +135,9 @@ impl<'a> Words<'a> {
 
     // What is asked. It ends with the word `=`.
     pub fn op(&mut self) -> Result<Op<'a>, Fail> {
-        let word = self.next();
-        let op = match self.named_op(word) {
-            Some(op) => Some(op),
-            None => match self.handle_op(word) {
-                Some(op) => Some(op),
-                None => self.other_op(word),
-            },
+        let op = match kind_of(self.next()) {
+            Some(kind) => self.op_of(kind),
+            None => None,
         };
         match op {
             Some(op) if self.skips(b"=") => Ok(op),
@@ -94,29 +145,39 @@ impl<'a> Words<'a> {
         }
     }
 
+    fn op_of(&mut self, kind: Kind) -> Option<Op<'a>> {
+        if let Some(op) = self.named_op(kind) {
+            return Some(op);
+        }
+        if let Some(op) = self.handle_op(kind) {
+            return Some(op);
+        }
+        self.other_op(kind)
+    }
+
     // What is asked of names.
-    fn named_op(&mut self, word: &[u8]) -> Option<Op<'a>> {
-        match word {
-            b"lookup" => Some(Op::Lookup { name: self.name() }),
-            b"mkdir" => Some(Op::Mkdir {
+    fn named_op(&mut self, kind: Kind) -> Option<Op<'a>> {
+        match kind {
+            Kind::Lookup => Some(Op::Lookup { name: self.name() }),
+            Kind::Mkdir => Some(Op::Mkdir {
                 mode: self.small(),
                 umask: 0o022,
                 name: self.name(),
             }),
-            b"mknod" => Some(Op::Mknod {
+            Kind::Mknod => Some(Op::Mknod {
                 mode: self.small(),
                 rdev: self.small(),
                 umask: 0o022,
                 name: self.name(),
             }),
-            b"unlink" => Some(Op::Unlink { name: self.name() }),
-            b"rmdir" => Some(Op::Rmdir { name: self.name() }),
-            b"rename" => Some(Op::Rename {
+            Kind::Unlink => Some(Op::Unlink { name: self.name() }),
+            Kind::Rmdir => Some(Op::Rmdir { name: self.name() }),
+            Kind::Rename => Some(Op::Rename {
                 old_name: self.name(),
                 new_dir: self.number(),
                 new_name: self.name(),
             }),
-            b"rename2" => Some(Op::Rename2 {
+            Kind::Rename2 => Some(Op::Rename2 {
                 flags: self.small(),
                 old_name: self.name(),
                 new_dir: self.number(),
@@ -127,19 +188,19 @@ impl<'a> Words<'a> {
     }
 
     // What is asked of handles.
-    fn handle_op(&mut self, word: &[u8]) -> Option<Op<'a>> {
-        match word {
-            b"open" => Some(Op::OpenFile {
+    fn handle_op(&mut self, kind: Kind) -> Option<Op<'a>> {
+        match kind {
+            Kind::OpenFile => Some(Op::OpenFile {
                 flags: self.small(),
                 open_flags: 0,
             }),
-            b"opendir" => Some(Op::OpenDir {
+            Kind::OpenDir => Some(Op::OpenDir {
                 flags: 0,
                 open_flags: 0,
             }),
-            b"read" => Some(Op::Read(self.read_in())),
-            b"readdir" => Some(Op::ReadDir(self.read_in())),
-            b"write" => Some(Op::Write {
+            Kind::Read => Some(Op::Read(self.read_in())),
+            Kind::ReadDir => Some(Op::ReadDir(self.read_in())),
+            Kind::Write => Some(Op::Write {
                 fh: self.number(),
                 offset: self.number(),
                 write_flags: 0,
@@ -147,19 +208,19 @@ impl<'a> Words<'a> {
                 flags: 2,
                 payload: self.name(),
             }),
-            b"release" => Some(Op::Release(self.release_in())),
-            b"releasedir" => Some(Op::ReleaseDir(self.release_in())),
+            Kind::Release => Some(Op::Release(self.release_in())),
+            Kind::ReleaseDir => Some(Op::ReleaseDir(self.release_in())),
             _ => None,
         }
     }
 
-    fn other_op(&mut self, word: &[u8]) -> Option<Op<'a>> {
-        match word {
-            b"getattr" => Some(Op::Getattr { flags: 0, fh: 0 }),
-            b"setattr" => Some(Op::Setattr(self.setattr_in())),
-            b"init" => Some(Op::Init(self.init_in())),
-            b"destroy" => Some(Op::Destroy),
-            b"unsupported" => Some(Op::Unsupported {
+    fn other_op(&mut self, kind: Kind) -> Option<Op<'a>> {
+        match kind {
+            Kind::Getattr => Some(Op::Getattr { flags: 0, fh: 0 }),
+            Kind::Setattr => Some(Op::Setattr(self.setattr_in())),
+            Kind::Init => Some(Op::Init(self.init_in())),
+            Kind::Destroy => Some(Op::Destroy),
+            Kind::Unsupported => Some(Op::Unsupported {
                 opcode: self.small(),
                 body: b"",
             }),
