@@ -1,7 +1,7 @@
 //! The rows that events with their fates and a kernel make.
 use crate::hex::hex;
 use crate::keepers::{AT_1000, START, TreeKeeper, held_in, new_keeper};
-use crate::messages::{Ask, put_ask};
+use crate::messages::{Ask, asks};
 use crate::run::{Held, holding};
 use crate::texts::INIT_AGREED;
 use fuse_keeper::{Keeper, PlainKeeper, Restart, StoreFault};
@@ -16,6 +16,7 @@ mod kernels;
 mod rows;
 mod sending;
 mod settled;
+mod twice;
 
 fn event(bytes: Vec<u8>, fate: Fate) -> Event {
     Event {
@@ -25,28 +26,51 @@ fn event(bytes: Vec<u8>, fate: Fate) -> Event {
     }
 }
 
-// An event of this message.
-fn asking(alloc: Global, ask: Ask, fate: Fate) -> Result<Event, AllocError> {
-    let mut bytes = Vec::new(alloc);
-    put_ask(&mut bytes, ask)?;
-    Ok(event(bytes, fate))
-}
+// The messages of an event, one after another, and its fate.
+type Step<'a> = (&'a [Ask], Fate);
 
 // The INIT of row init-agreed, answered.
-fn init(alloc: Global) -> Result<Event, AllocError> {
-    asking(alloc, Ask::Text(INIT_AGREED), Fate::Answered)
+const INIT: Step<'static> = (&[Ask::Text(INIT_AGREED)], Fate::Answered);
+
+// Appends the events of these messages.
+fn push_steps(
+    alloc: Global,
+    events: &mut Vec<Event>,
+    steps: &[Step<'_>],
+) -> Result<(), AllocError> {
+    for (asked, fate) in steps {
+        let bytes = asks(alloc, asked)?;
+        events.push(event(bytes, *fate))?;
+    }
+    Ok(())
+}
+
+// Appends events of this fate.
+fn push_messages(
+    events: &mut Vec<Event>,
+    messages: Vec<Vec<u8>>,
+    fate: Fate,
+) -> Result<(), AllocError> {
+    for message in messages {
+        events.push(event(message, fate))?;
+    }
+    Ok(())
+}
+
+fn events_of(alloc: Global, steps: &[Step<'_>]) -> Result<Vec<Event>, AllocError> {
+    let mut events = Vec::new(alloc);
+    push_steps(alloc, &mut events, steps)?;
+    Ok(events)
 }
 
 fn held_of(keeper: &mut Option<TreeKeeper>) -> Option<Held> {
     held_in(keeper.as_mut()?)
 }
 
-// Runs events, where there is a keeper that hasn't failed.
-fn drive_on<K: Restart>(
-    alloc: Global,
-    keeper: &mut Option<K>,
-    events: &[Event],
-) -> Option<Result<Vec<Option<Outcome>>, DriveFault>> {
+// How a run of events ended, where there was a keeper that hadn't failed.
+type Ended = Option<Result<Vec<Option<Outcome>>, DriveFault>>;
+
+fn drive_on<K: Restart>(alloc: Global, keeper: &mut Option<K>, events: &[Event]) -> Ended {
     let going = match keeper {
         Some(inner) => !inner.failed(),
         None => false,
@@ -55,6 +79,26 @@ fn drive_on<K: Restart>(
         return None;
     }
     Some(drive(alloc, keeper, events))
+}
+
+// What came of events over a new store: their outcomes, where all of them were run, and what is
+// held then.
+#[derive(Drop)]
+struct Ran {
+    outcomes: Option<Vec<Option<Outcome>>>,
+    held: Option<Held>,
+}
+
+fn run_on_new(alloc: Global, events: &[Event]) -> Ran {
+    let mut keeper = new_keeper(alloc).ok();
+    let outcomes = match drive_on(alloc, &mut keeper, events) {
+        Some(ended) => ended.ok(),
+        None => None,
+    };
+    Ran {
+        outcomes,
+        held: held_of(&mut keeper),
+    }
 }
 
 // Whether an outcome's bytes are those. No bytes stand for no answer.

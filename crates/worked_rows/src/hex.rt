@@ -36,7 +36,7 @@ fn put_times(out: &mut Vec<u8>, byte: &str, times: &str) -> Result<(), AllocErro
 }
 
 /// Appends the bytes of a text, with spaces, and with `0*n` for n zero bytes.
-pub fn put_hex(out: &mut Vec<u8>, text: &str) -> Result<(), AllocError> {
+pub(crate) fn put_hex(out: &mut Vec<u8>, text: &str) -> Result<(), AllocError> {
     for word in text.split_whitespace() {
         match word.split_once('*') {
             Some((byte, times)) => put_times(out, byte, times)?,
@@ -47,20 +47,20 @@ pub fn put_hex(out: &mut Vec<u8>, text: &str) -> Result<(), AllocError> {
 }
 
 /// The bytes of a text.
-pub fn hex(alloc: Global, text: &str) -> Result<Vec<u8>, AllocError> {
+pub(crate) fn hex(alloc: Global, text: &str) -> Result<Vec<u8>, AllocError> {
     let mut out = Vec::new(alloc);
     put_hex(&mut out, text)?;
     Ok(out)
 }
 
 /// Sets the bit that marks a resend in the message or the answer that begins here.
-pub fn mark_resent(bytes: &mut [u8], begin: usize) {
+pub(crate) fn mark_resent(bytes: &mut [u8], begin: usize) {
     if let Some(highest) = bytes.get_mut(begin.saturating_add(15)) {
         *highest |= 0x80;
     }
 }
 
 /// The first bytes, so many of them as there are.
-pub fn front(bytes: &[u8], size: usize) -> &[u8] {
+pub(crate) fn front(bytes: &[u8], size: usize) -> &[u8] {
     bytes.get(..size).unwrap_or(bytes)
 }

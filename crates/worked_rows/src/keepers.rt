@@ -3,7 +3,8 @@ ghost use Rattle.std.specs.Prelude.{◌≡◌, ◌≢◌, ◌≤◌, true, lengt
 ghost use Rattle.fuse_wire.specs.Ids.{id_of};
 ghost use Rattle.fuse_request.specs.Act.{act, IsKept};
 ghost use Rattle.fuse_keeper.specs.Group.{entry_of, HasId, IsKept as IsKeptEntry};
-ghost use Rattle.fuse_keeper.specs.declared.keeper.TheConstants.{MAX_GROUP as MOST_OF_GROUP, MAX_SETTLED as MOST_SETTLED};
+ghost use Rattle.fuse_keeper.specs.declared.keeper.TheConstants.{MAX_GROUP as MOST_OF_GROUP};
+ghost use Rattle.fuse_keeper.specs.declared.keeper.TheConstants.{MAX_SETTLED as MOST_SETTLED};
 
 use crate::run::{Held, holding};
 use fuse_init::Settings;
@@ -36,12 +37,20 @@ pub const SETTINGS: Settings = Settings {
 };
 
 /// A new store, made at second 0.
-pub fn new_keeper(alloc: Global) -> Result<TreeKeeper, Memory> {
+pub(crate) fn new_keeper(alloc: Global) -> Result<TreeKeeper, Memory> {
     PlainKeeper::new(alloc, START)
 }
 
+/// A new store, at the second try where memory was refused at the first.
+pub(crate) fn made(alloc: Global) -> Option<TreeKeeper> {
+    match new_keeper(alloc) {
+        Ok(keeper) => Some(keeper),
+        Err(_) => new_keeper(alloc).ok(),
+    }
+}
+
 /// How much a keeper holds. None where it wants memory, or has a lot.
-pub fn held_in<K: Keeper>(keeper: &mut K) -> Option<Held> {
+pub(crate) fn held_in<K: Keeper>(keeper: &mut K) -> Option<Held> {
     let counts = keeper.counts().ok()?;
     if counts.lots != 0 {
         return None;
@@ -155,7 +164,8 @@ fn is_answered<K: Keeper>(keeper: &mut K, step: &Step) -> Result<bool, StoreFaul
     })
 }
 
-// Performs requests, each in a group of its own: which of them is the first that is answered otherwise.
+// Performs requests, each in a group of its own: which of them is the first that is answered
+// otherwise.
 fn first_wrong<K: Keeper>(keeper: &mut K, steps: &[Step]) -> Result<Option<usize>, StoreFault> {
     for (place, step) in steps.iter().enumerate() {
         if !is_answered(keeper, step)? {
@@ -163,6 +173,22 @@ fn first_wrong<K: Keeper>(keeper: &mut K, steps: &[Step]) -> Result<Option<usize
         }
     }
     Ok(None)
+}
+
+// Whether requests are answered so, what is held then, and what is agreed on.
+fn is_so<K: Keeper>(
+    keeper: &mut K,
+    steps: &[Step],
+    held: Held,
+    settings: Option<Settings>,
+) -> Result<bool, StoreFault> {
+    let wrong = first_wrong(keeper, steps)?;
+    let told = agreed(keeper)?;
+    Ok(wrong.is_none() && held_in(keeper) == Some(held) && told == settings)
+}
+
+fn begin_mount<K: Keeper>(keeper: &mut K) -> Result<(), StoreFault> {
+    keeper.begin_mount()
 }
 
 fn has_record<K: Keeper>(keeper: &mut K, id: u64) -> Result<bool, StoreFault> {

@@ -22,7 +22,7 @@ pub const ESTALE: u32 = 116;
 const TAIL: &str = "e8030000 e8030000 4d000000 00000000";
 
 /// The header of a message of this length.
-pub fn put_header(
+pub(crate) fn put_header(
     out: &mut Vec<u8>,
     len: u32,
     opcode: u32,
@@ -92,7 +92,7 @@ pub enum Ask {
     Of(Pair),
 }
 
-pub fn put_ask(out: &mut Vec<u8>, ask: Ask) -> Result<(), AllocError> {
+pub(crate) fn put_ask(out: &mut Vec<u8>, ask: Ask) -> Result<(), AllocError> {
     match ask {
         Ask::Mkdir(unique, name) => put_mkdir(out, unique, name),
         Ask::Lookup(unique) => put_lookup(out, unique),
@@ -106,7 +106,7 @@ pub fn put_ask(out: &mut Vec<u8>, ask: Ask) -> Result<(), AllocError> {
 }
 
 /// These messages, one after another.
-pub fn asks(alloc: Global, list: &[Ask]) -> Result<Vec<u8>, AllocError> {
+pub(crate) fn asks(alloc: Global, list: &[Ask]) -> Result<Vec<u8>, AllocError> {
     let mut out = Vec::new(alloc);
     for ask in list {
         put_ask(&mut out, *ask)?;
@@ -116,7 +116,7 @@ pub fn asks(alloc: Global, list: &[Ask]) -> Result<Vec<u8>, AllocError> {
 
 /// Requests that make nodes of distinct names, the first `from` of them left out, under the uniques
 /// 4, 6 and so on with this bit.
-pub fn makings(
+pub(crate) fn makings(
     alloc: Global,
     made: Made,
     from: u8,
@@ -191,7 +191,7 @@ pub enum Reply {
     Of(Pair),
 }
 
-pub fn put_reply(out: &mut Vec<u8>, reply: Reply) -> Result<(), AllocError> {
+pub(crate) fn put_reply(out: &mut Vec<u8>, reply: Reply) -> Result<(), AllocError> {
     match reply {
         Reply::Entry(unique, node) => put_entry(out, unique, Made::Directory, node),
         Reply::Attr(unique, node) => put_attr(out, unique, node),
@@ -202,7 +202,7 @@ pub fn put_reply(out: &mut Vec<u8>, reply: Reply) -> Result<(), AllocError> {
 }
 
 /// These answers, one after another.
-pub fn replies(alloc: Global, list: &[Reply]) -> Result<Vec<u8>, AllocError> {
+pub(crate) fn replies(alloc: Global, list: &[Reply]) -> Result<Vec<u8>, AllocError> {
     let mut out = Vec::new(alloc);
     for reply in list {
         put_reply(&mut out, *reply)?;
@@ -211,7 +211,7 @@ pub fn replies(alloc: Global, list: &[Reply]) -> Result<Vec<u8>, AllocError> {
 }
 
 /// Their answers, where they make the nodes from 2 on.
-pub fn entries(
+pub(crate) fn entries(
     alloc: Global,
     made: Made,
     from: u8,

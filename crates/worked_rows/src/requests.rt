@@ -2,7 +2,7 @@
 use fuse_request::{InHeader, InitIn, Op, ReadIn, ReleaseIn, Request};
 
 /// A request on a node, with the header's end of the rows.
-pub fn request(unique: u64, nodeid: u64, op: Op<'_>) -> Request<'_> {
+pub(crate) fn request(unique: u64, nodeid: u64, op: Op<'_>) -> Request<'_> {
     let header = InHeader {
         unique,
         nodeid,
@@ -18,7 +18,7 @@ pub fn request(unique: u64, nodeid: u64, op: Op<'_>) -> Request<'_> {
 }
 
 /// The INIT of row init-agreed.
-pub fn init(unique: u64) -> Request<'static> {
+pub(crate) fn init(unique: u64) -> Request<'static> {
     let header = InHeader {
         unique,
         nodeid: 0,
@@ -41,7 +41,7 @@ pub fn init(unique: u64) -> Request<'static> {
 }
 
 /// MKDIR, MKNOD of a regular file, LOOKUP, UNLINK and RMDIR of a name in the root.
-pub fn mkdir(unique: u64, name: &[u8]) -> Request<'_> {
+pub(crate) fn mkdir(unique: u64, name: &[u8]) -> Request<'_> {
     let op = Op::Mkdir {
         mode: 0o755,
         umask: 0o022,
@@ -50,7 +50,7 @@ pub fn mkdir(unique: u64, name: &[u8]) -> Request<'_> {
     request(unique, 1, op)
 }
 
-pub fn mknod(unique: u64, name: &[u8]) -> Request<'_> {
+pub(crate) fn mknod(unique: u64, name: &[u8]) -> Request<'_> {
     let op = Op::Mknod {
         mode: 0o100_644,
         rdev: 0,
@@ -60,24 +60,24 @@ pub fn mknod(unique: u64, name: &[u8]) -> Request<'_> {
     request(unique, 1, op)
 }
 
-pub fn lookup(unique: u64, name: &[u8]) -> Request<'_> {
+pub(crate) fn lookup(unique: u64, name: &[u8]) -> Request<'_> {
     request(unique, 1, Op::Lookup { name })
 }
 
-pub fn unlink(unique: u64, name: &[u8]) -> Request<'_> {
+pub(crate) fn unlink(unique: u64, name: &[u8]) -> Request<'_> {
     request(unique, 1, Op::Unlink { name })
 }
 
-pub fn rmdir(unique: u64, name: &[u8]) -> Request<'_> {
+pub(crate) fn rmdir(unique: u64, name: &[u8]) -> Request<'_> {
     request(unique, 1, Op::Rmdir { name })
 }
 
-pub fn getattr(unique: u64, nodeid: u64) -> Request<'static> {
+pub(crate) fn getattr(unique: u64, nodeid: u64) -> Request<'static> {
     request(unique, nodeid, Op::Getattr { flags: 0, fh: 0 })
 }
 
 /// OPEN of a file for reading and writing.
-pub fn open(unique: u64, nodeid: u64) -> Request<'static> {
+pub(crate) fn open(unique: u64, nodeid: u64) -> Request<'static> {
     let op = Op::OpenFile {
         flags: 2,
         open_flags: 0,
@@ -86,7 +86,7 @@ pub fn open(unique: u64, nodeid: u64) -> Request<'static> {
 }
 
 /// WRITE at the beginning of node 2, READ of 4,096 bytes there, and RELEASE, all by fh 1.
-pub fn write(unique: u64, payload: &[u8]) -> Request<'_> {
+pub(crate) fn write(unique: u64, payload: &[u8]) -> Request<'_> {
     let op = Op::Write {
         fh: 1,
         offset: 0,
@@ -98,11 +98,11 @@ pub fn write(unique: u64, payload: &[u8]) -> Request<'_> {
     request(unique, 2, op)
 }
 
-pub fn read(unique: u64) -> Request<'static> {
+pub(crate) fn read(unique: u64) -> Request<'static> {
     request(unique, 2, Op::Read(reading(4096)))
 }
 
-pub fn release(unique: u64) -> Request<'static> {
+pub(crate) fn release(unique: u64) -> Request<'static> {
     let op = Op::Release(ReleaseIn {
         fh: 1,
         flags: 2,
@@ -113,7 +113,7 @@ pub fn release(unique: u64) -> Request<'static> {
 }
 
 /// READDIR of 32 bytes of the root by fh 1.
-pub fn readdir(unique: u64) -> Request<'static> {
+pub(crate) fn readdir(unique: u64) -> Request<'static> {
     request(unique, 1, Op::ReadDir(reading(32)))
 }
 

@@ -143,7 +143,7 @@ const F_TO_G: Op<'static> = Op::Rename {
 };
 
 /// The requests of the run, under uniques with this bit.
-pub fn requests_of_run(bit: u64) -> [Request<'static>; MESSAGES] {
+pub(crate) fn requests_of_run(bit: u64) -> [Request<'static>; MESSAGES] {
     [
         init(bit | 2),
         mknod(bit | 4, b"f"),
@@ -157,7 +157,7 @@ pub fn requests_of_run(bit: u64) -> [Request<'static>; MESSAGES] {
 }
 
 /// The first four questions.
-pub fn first_questions() -> [Request<'static>; 4] {
+pub(crate) fn first_questions() -> [Request<'static>; 4] {
     [
         lookup(18, b"f"),
         lookup(20, b"a"),
@@ -174,7 +174,7 @@ pub struct Held {
     pub records: u64,
 }
 
-pub fn holding(nodes: u64, handles: u64, records: u64) -> Held {
+pub(crate) fn holding(nodes: u64, handles: u64, records: u64) -> Held {
     Held {
         nodes,
         handles,
@@ -184,7 +184,7 @@ pub fn holding(nodes: u64, handles: u64, records: u64) -> Held {
 
 /// What a store holds after so many messages of the run and then of the first four questions, where
 /// no id is settled.
-pub fn held_after(count: usize) -> Held {
+pub(crate) fn held_after(count: usize) -> Held {
     match count {
         0 => holding(1, 0, 0),
         1 => holding(1, 0, 1),

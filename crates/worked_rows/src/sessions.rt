@@ -63,8 +63,8 @@ fn plain_of(alloc: Global, asked: &[Ask], answered: &[Reply]) -> Result<Session,
     Ok(plain(alloc, input, wanted))
 }
 
-// How a session or the asking before it ended, with a store's fault told by whether it is want of
-// memory.
+// How a session or the asking before it ended. Of the faults of a store, want of memory and damage
+// are told.
 #[derive(Clone, Copy, Debug, PartialEq, Eq)]
 enum Told {
     End,
@@ -74,11 +74,20 @@ enum Told {
     ZeroUnique { at: u64 },
     PortFailed,
     StoreMemory,
+    StoreDamaged,
     Store,
     Memory,
     NotOffered,
     // The keeper had failed before.
     Failed,
+}
+
+fn told_of_store(fault: &StoreFault) -> Told {
+    match fault {
+        StoreFault::Memory => Told::StoreMemory,
+        StoreFault::Damaged => Told::StoreDamaged,
+        _ => Told::Store,
+    }
 }
 
 fn told_of(ended: &Ended) -> Told {
@@ -89,8 +98,7 @@ fn told_of(ended: &Ended) -> Told {
         Ended::Frame(fault) => Told::Frame(*fault),
         Ended::ZeroUnique { at } => Told::ZeroUnique { at: *at },
         Ended::PortFailed => Told::PortFailed,
-        Ended::Store(StoreFault::Memory) => Told::StoreMemory,
-        Ended::Store(_) => Told::Store,
+        Ended::Store(fault) => told_of_store(fault),
         Ended::Memory => Told::Memory,
     }
 }
@@ -99,8 +107,7 @@ fn told_of_resume(fault: &ResumeFault) -> Told {
     match fault {
         ResumeFault::NotOffered => Told::NotOffered,
         ResumeFault::PortFailed => Told::PortFailed,
-        ResumeFault::Store(StoreFault::Memory) => Told::StoreMemory,
-        ResumeFault::Store(_) => Told::Store,
+        ResumeFault::Store(fault) => told_of_store(fault),
     }
 }
 

@@ -2,18 +2,19 @@
 //!
 //! The test is run with each allocation refused in turn. Each call that was refused memory passes
 //! when it is tried again.
-use super::sending::{Unsent, resend, send};
+use super::sending::{Unsent, are_pending, resend, send};
 use super::*;
 use crate::hex::mark_resent;
+use crate::keepers::made;
 use crate::run::{MESSAGES, Pair, QUESTIONS, RUN, first_questions, held_after, requests_of_run};
 use fuse_request::Request;
 use fuse_sim::Kernel;
 
-// Requests, and their messages and answers.
-#[derive(Clone, Copy)]
-struct Part<'a> {
-    requests: &'a [Request<'static>],
-    pairs: &'a [Pair],
+// The kernel, and the keeper behind the server.
+#[derive(Drop)]
+struct Sides {
+    kernel: Kernel,
+    keeper: Option<TreeKeeper>,
 }
 
 // Copies of the messages that are pending.
@@ -23,15 +24,6 @@ fn pending_of(alloc: Global, kernel: &Kernel) -> Result<Vec<Vec<u8>>, AllocError
         copies.push(message.clone()?)?;
     }
     Ok(copies)
-}
-
-fn are_pending(kernel: &Kernel, messages: &[Vec<u8>]) -> bool {
-    let pending = kernel.pending();
-    pending.len() == messages.len()
-        && pending
-            .iter()
-            .zip(messages)
-            .all(|(one, other)| one.as_slice() == other.as_slice())
 }
 
 // Sends a request. Where it is refused memory, what is pending stays, and it is sent then.
@@ -67,7 +59,7 @@ fn resend_surely(alloc: Global, kernel: &mut Kernel) -> Result<Option<Vec<Vec<u8
 }
 
 // Sends these requests as events of this fate.
-fn events_of(
+fn sent_events(
     alloc: Global,
     kernel: &mut Kernel,
     requests: &[Request<'_>],
@@ -89,9 +81,7 @@ fn events_again(alloc: Global, kernel: &mut Kernel) -> Result<Option<Vec<Event>>
         return Ok(None);
     };
     let mut events = Vec::new(alloc);
-    for message in messages {
-        events.push(event(message, Fate::Answered))?;
-    }
+    push_messages(&mut events, messages, Fate::Answered)?;
     Ok(Some(events))
 }
 
@@ -133,7 +123,8 @@ fn run_events(alloc: Global, keeper: &mut Option<TreeKeeper>, events: &[Event]) 
     }
 }
 
-// Runs requests of which no answer is taken, behind so many others. How many of all are committed then.
+// Runs requests of which no answer is taken, behind so many others. How many of all are committed
+// then.
 fn commit(
     alloc: Global,
     keeper: &mut Option<TreeKeeper>,
@@ -178,57 +169,88 @@ fn take_all(
     Ok(right && kernel.pending().is_empty())
 }
 
+// Sends all that is pending again, runs it, and takes the answers: whether all went well. None where
+// memory was refused and what was committed is held.
+fn ask_again(
+    alloc: Global,
+    sides: &mut Sides,
+    committed: usize,
+    pairs: &[Pair],
+) -> Result<Option<bool>, AllocError> {
+    let Some(again) = events_again(alloc, &mut sides.kernel)? else {
+        return Ok(Some(false));
+    };
+    match run_events(alloc, &mut sides.keeper, again.as_slice()) {
+        Ran::Through(outcomes) => {
+            let taken = take_all(alloc, &mut sides.kernel, outcomes.as_slice(), pairs)?;
+            Ok(Some(taken))
+        }
+        Ran::WantedAt(0) if held_of(&mut sides.keeper) == Some(held_after(committed)) => Ok(None),
+        _ => Ok(Some(false)),
+    }
+}
+
+// The same, and once more where memory was refused.
+fn asks_surely(
+    alloc: Global,
+    sides: &mut Sides,
+    committed: usize,
+    pairs: &[Pair],
+) -> Result<bool, AllocError> {
+    if let Some(taken) = ask_again(alloc, sides, committed, pairs)? {
+        return Ok(taken);
+    }
+    Ok(ask_again(alloc, sides, committed, pairs)?.unwrap_or(false))
+}
+
+// Sends these requests and runs them. How many are committed then with those before.
+fn send_and_run(
+    alloc: Global,
+    sides: &mut Sides,
+    requests: &[Request<'_>],
+    fate: Fate,
+    before: usize,
+) -> Result<Option<usize>, AllocError> {
+    let Some(events) = sent_events(alloc, &mut sides.kernel, requests, fate)? else {
+        return Ok(None);
+    };
+    Ok(commit(alloc, &mut sides.keeper, events.as_slice(), before))
+}
+
 // Sends requests behind so many others, runs them, sends them again, and takes their answers.
 fn pass(
     alloc: Global,
-    kernel: &mut Kernel,
-    keeper: &mut Option<TreeKeeper>,
-    part: Part<'_>,
+    sides: &mut Sides,
+    part: (&[Request<'_>], &[Pair]),
     fate: Fate,
     before: usize,
 ) -> Result<bool, AllocError> {
-    let Some(events) = events_of(alloc, kernel, part.requests, fate)? else {
+    let (requests, pairs) = part;
+    let Some(committed) = send_and_run(alloc, sides, requests, fate, before)? else {
         return Ok(false);
     };
-    let Some(committed) = commit(alloc, keeper, events.as_slice(), before) else {
-        return Ok(false);
-    };
-    for _ in 0..2 {
-        let Some(again) = events_again(alloc, kernel)? else {
-            return Ok(false);
-        };
-        match run_events(alloc, keeper, again.as_slice()) {
-            Ran::Through(outcomes) => {
-                let taken = take_all(alloc, kernel, outcomes.as_slice(), part.pairs)?;
-                let left = held_after(before.saturating_add(part.requests.len()));
-                return Ok(taken && held_of(keeper) == Some(left));
-            }
-            Ran::WantedAt(0) if held_of(keeper) == Some(held_after(committed)) => {}
-            _ => return Ok(false),
-        }
-    }
-    Ok(false)
+    let left = held_after(before.saturating_add(requests.len()));
+    let taken = asks_surely(alloc, sides, committed, pairs)?;
+    Ok(taken && held_of(&mut sides.keeper) == Some(left))
+}
+
+fn pass_run(alloc: Global, sides: &mut Sides, fate: Fate) -> Result<bool, AllocError> {
+    pass(alloc, sides, (&requests_of_run(0), &RUN), fate, 0)
+}
+
+fn pass_questions(alloc: Global, sides: &mut Sides, fate: Fate) -> Result<bool, AllocError> {
+    let part: (&[Request<'_>], &[Pair]) = (&first_questions(), &QUESTIONS[..4]);
+    pass(alloc, sides, part, fate, MESSAGES)
 }
 
 // The run on a new store, and what the tree is behind it.
 fn passes(alloc: Global, fate: Fate) -> Result<bool, AllocError> {
-    let mut keeper = match new_keeper(alloc) {
-        Ok(made) => Some(made),
-        Err(_) => new_keeper(alloc).ok(),
+    let mut sides = Sides {
+        keeper: made(alloc),
+        kernel: Kernel::new(alloc),
     };
-    let mut kernel = Kernel::new(alloc);
-    let run = Part {
-        requests: &requests_of_run(0),
-        pairs: &RUN,
-    };
-    let questions = Part {
-        requests: &first_questions(),
-        pairs: &QUESTIONS[..4],
-    };
-    Ok(
-        pass(alloc, &mut kernel, &mut keeper, run, fate, 0)?
-            && pass(alloc, &mut kernel, &mut keeper, questions, fate, MESSAGES)?,
-    )
+    let right = pass_run(alloc, &mut sides, fate)?;
+    Ok(right && pass_questions(alloc, &mut sides, fate)?)
 }
 
 // Each request in a group of its own, and all in one group.

@@ -1,6 +1,5 @@
 //! Events that can't be run, and what is left of the keeper.
 use super::*;
-use crate::messages::asks;
 use fuse_answer::Answer;
 use fuse_init::Settings;
 use fuse_keeper::{Done, StoreCounts};
@@ -79,20 +78,26 @@ fn closed_keeper(alloc: Global) -> Result<Option<Closed>, StoreFault> {
 
 // INIT, and a MKDIR of this fate between others. How running them over such a keeper ends.
 fn ends_closed(alloc: Global, fate: Fate) -> Result<bool, StoreFault> {
-    let mut events = Vec::new(alloc);
-    events.push(init(alloc)?)?;
-    events.push(asking(alloc, Ask::Mkdir(4, b'a'), fate)?)?;
-    events.push(asking(alloc, Ask::Mkdir(6, b'b'), Fate::Answered)?)?;
+    let steps: [Step<'_>; 3] = [
+        INIT,
+        (&[Ask::Mkdir(4, b'a')], fate),
+        (&[Ask::Mkdir(6, b'b')], Fate::Answered),
+    ];
+    let events = events_of(alloc, &steps)?;
     let mut keeper = closed_keeper(alloc)?;
     let ended = drive_on(alloc, &mut keeper, events.as_slice());
-    let named = matches!(
+    Ok(is_not_a_store(&ended) && keeper.is_none())
+}
+
+// Whether a run ended at its second event, by a keeper that can't be opened again.
+fn is_not_a_store(ended: &Ended) -> bool {
+    matches!(
         ended,
         Some(Err(DriveFault::Store {
             event: 1,
             fault: StoreFault::NotAStore
         }))
-    );
-    Ok(named && keeper.is_none())
+    )
 }
 
 // Row restart-fault. A `drive` that never restarts is proved, and fails here.
@@ -104,27 +109,28 @@ fn restart_fault(rt: HostRuntime) -> Result<(), StoreFault> {
     Ok(())
 }
 
-#[derive(Clone, Copy, Debug, PartialEq, Eq)]
-enum Why {
-    NotAMessage,
-    ZeroUnique,
+// Runs INIT, MKDIR `a`, an event that can't be run and MKDIR `b`: it is named, and the events
+// before it stand.
+fn is_named(alloc: Global, asked: &[Ask], fate: Fate, zero: bool) -> Result<bool, StoreFault> {
+    let steps: [Step<'_>; 4] = [
+        INIT,
+        (&[Ask::Mkdir(4, b'a')], Fate::Answered),
+        (asked, fate),
+        (&[Ask::Mkdir(6, b'b')], Fate::Answered),
+    ];
+    let events = events_of(alloc, &steps)?;
+    let mut keeper = Some(new_keeper(alloc)?);
+    let ended = drive_on(alloc, &mut keeper, events.as_slice());
+    Ok(names_third(&ended, zero) && held_of(&mut keeper) == Some(holding(2, 0, 2)))
 }
 
-// Runs INIT, MKDIR `a`, an event that can't be run and MKDIR `b`: it is named, and the events before
-// it stand.
-fn is_named(alloc: Global, asked: &[Ask], fate: Fate, why: Why) -> Result<bool, StoreFault> {
-    let mut events = Vec::new(alloc);
-    events.push(init(alloc)?)?;
-    events.push(asking(alloc, Ask::Mkdir(4, b'a'), Fate::Answered)?)?;
-    events.push(event(asks(alloc, asked)?, fate))?;
-    events.push(asking(alloc, Ask::Mkdir(6, b'b'), Fate::Answered)?)?;
-    let mut keeper = Some(new_keeper(alloc)?);
-    let named = match drive_on(alloc, &mut keeper, events.as_slice()) {
-        Some(Err(DriveFault::NotAMessage { event })) => event == 2 && why == Why::NotAMessage,
-        Some(Err(DriveFault::ZeroUnique { event })) => event == 2 && why == Why::ZeroUnique,
+// Whether a run ended at its third event, by its unique or by its bytes.
+fn names_third(ended: &Ended, zero: bool) -> bool {
+    match ended {
+        Some(Err(DriveFault::NotAMessage { event })) => *event == 2 && !zero,
+        Some(Err(DriveFault::ZeroUnique { event })) => *event == 2 && zero,
         _ => false,
-    };
-    Ok(named && held_of(&mut keeper) == Some(holding(2, 0, 2)))
+    }
 }
 
 const FATES: [Fate; 4] = [
@@ -134,32 +140,37 @@ const FATES: [Fate; 4] = [
     Fate::DiedAfterCommit,
 ];
 
-// No byte, one byte more, two messages, a length that is none, and two messages under unique 0.
-const UNFIT: [(&[Ask], Why); 6] = [
-    (&[], Why::NotAMessage),
-    (&[Ask::Mkdir(8, b'c'), Ask::Text("00")], Why::NotAMessage),
-    (
-        &[Ask::Mkdir(8, b'c'), Ask::Mkdir(10, b'd')],
-        Why::NotAMessage,
-    ),
-    (&[Ask::Text("27000000")], Why::NotAMessage),
-    (&[Ask::Getattr(0, 1)], Why::ZeroUnique),
-    (&[Ask::Getattr(UNIQUE_RESEND, 1)], Why::ZeroUnique),
+// No byte, one byte more, two messages, a length that is none, and two messages under unique 0; and
+// whether it is the unique that doesn't fit.
+const UNFIT: [(&[Ask], bool); 6] = [
+    (&[], false),
+    (&[Ask::Mkdir(8, b'c'), Ask::Text("00")], false),
+    (&[Ask::Mkdir(8, b'c'), Ask::Mkdir(10, b'd')], false),
+    (&[Ask::Text("27000000")], false),
+    (&[Ask::Getattr(0, 1)], true),
+    (&[Ask::Getattr(UNIQUE_RESEND, 1)], true),
 ];
+
+// How many of them are named, from the first on, where they have this fate.
+fn named_in(alloc: Global, fate: Fate) -> Result<usize, StoreFault> {
+    for (place, (asked, zero)) in UNFIT.iter().enumerate() {
+        if !is_named(alloc, asked, fate, *zero)? {
+            return Ok(place);
+        }
+    }
+    Ok(UNFIT.len())
+}
 
 #[test]
 fn unfit_events(rt: HostRuntime) -> Result<(), StoreFault> {
     for fate in &FATES {
-        for (asked, why) in &UNFIT {
-            let named = is_named(rt.alloc(), asked, *fate, *why)?;
-            assert!(rt; named, "{why:?}, {fate:?}");
-        }
+        assert_eq!(rt; named_in(rt.alloc(), *fate)?, 6, "{fate:?}");
     }
     Ok(())
 }
 
 // Whether a run answered no outcome.
-fn is_empty_run(ended: &Option<Result<Vec<Option<Outcome>>, DriveFault>>) -> bool {
+fn is_empty_run(ended: &Ended) -> bool {
     match ended {
         Some(Ok(outcomes)) => outcomes.is_empty(),
         _ => false,

@@ -16,7 +16,11 @@ pub enum Unsent {
 }
 
 /// Sends a request, where it may be sent.
-pub fn send(alloc: Global, kernel: &mut Kernel, request: &Request<'_>) -> Result<Vec<u8>, Unsent> {
+pub(crate) fn send(
+    alloc: Global,
+    kernel: &mut Kernel,
+    request: &Request<'_>,
+) -> Result<Vec<u8>, Unsent> {
     let id = Id::of(request.header.unique);
     if !request.is_sayable() || id.0 == 0 || kernel.awaits(id) {
         return Err(Unsent::MayNotBe);
@@ -32,7 +36,7 @@ pub fn send(alloc: Global, kernel: &mut Kernel, request: &Request<'_>) -> Result
 }
 
 /// Sends the requests at these places again, where they are places.
-pub fn resend(kernel: &mut Kernel, order: &[usize]) -> Result<Vec<Vec<u8>>, Unsent> {
+pub(crate) fn resend(kernel: &mut Kernel, order: &[usize]) -> Result<Vec<Vec<u8>>, Unsent> {
     let count = kernel.pending().len();
     if !order.iter().all(|place| *place < count) {
         return Err(Unsent::MayNotBe);
@@ -41,4 +45,30 @@ pub fn resend(kernel: &mut Kernel, order: &[usize]) -> Result<Vec<Vec<u8>>, Unse
         Ok(messages) => Ok(messages),
         Err(_) => Err(Unsent::Memory),
     }
+}
+
+/// Sends requests, one after another.
+pub(crate) fn send_all(
+    alloc: Global,
+    kernel: &mut Kernel,
+    requests: &[Request<'_>],
+) -> Result<Vec<Vec<u8>>, Unsent> {
+    let mut messages = Vec::new(alloc);
+    for request in requests {
+        let message = send(alloc, kernel, request)?;
+        if messages.push(message).is_err() {
+            return Err(Unsent::Memory);
+        }
+    }
+    Ok(messages)
+}
+
+/// Whether these are the messages that are pending.
+pub(crate) fn are_pending(kernel: &Kernel, messages: &[Vec<u8>]) -> bool {
+    let pending = kernel.pending();
+    pending.len() == messages.len()
+        && pending
+            .iter()
+            .zip(messages)
+            .all(|(one, other)| one.as_slice() == other.as_slice())
 }

@@ -1,27 +1,27 @@
 //! Which records are left: those of a group's ids that were answered go with the next group.
 use super::*;
-use crate::messages::{EEXIST, Reply, put_reply};
+use crate::messages::{EEXIST, Reply, replies};
 
 // The INIT, and 20 MKDIRs of distinct names of which each has its fate but for the one of this
 // number.
 fn mkdirs(alloc: Global, fate: Fate, other: usize, its: Fate) -> Result<Vec<Event>, AllocError> {
-    let mut events = Vec::new(alloc);
-    events.push(init(alloc)?)?;
+    let mut events = events_of(alloc, &[INIT])?;
     for i in 0..20u8 {
         let ask = Ask::Mkdir(4 + 2 * u64::from(i), b'a' + i);
         let fate = if i as usize == other { its } else { fate };
-        events.push(asking(alloc, ask, fate)?)?;
+        push_steps(alloc, &mut events, &[(&[ask], fate)])?;
     }
     Ok(events)
 }
 
 // How many nodes and records events leave on a new store.
 fn held_after(alloc: Global, events: &[Event]) -> Result<Option<Held>, StoreFault> {
-    let mut keeper = Some(new_keeper(alloc)?);
-    match drive_on(alloc, &mut keeper, events) {
-        Some(Ok(_)) => Ok(held_of(&mut keeper)),
-        _ => Ok(None),
-    }
+    let ran = run_on_new(alloc, events);
+    Ok(if ran.outcomes.is_some() {
+        ran.held
+    } else {
+        None
+    })
 }
 
 // Groups of 16 and 5 kept messages, but where a crash comes.
@@ -48,30 +48,32 @@ fn settled_records(rt: HostRuntime) -> Result<(), StoreFault> {
     Ok(())
 }
 
-// Runs the first of these events, perhaps a crash, and the first MKDIR again: whether that is
-// answered so, and what is left.
+const AGAIN: Step<'static> = (&[Ask::Mkdir(4, b'a')], Fate::Answered);
+
+const CRASH: Step<'static> = (&[Ask::Mkdir(100, b'z')], Fate::DiedBeforeCommit);
+
+// Runs the first of these events and then more: whether the last one is answered so, and what is
+// left.
 fn asks_again(
     alloc: Global,
     count: usize,
-    crashes: bool,
+    more: &[Step<'_>],
     wanted: Reply,
 ) -> Result<(bool, Option<Held>), StoreFault> {
     let mut events = mkdirs(alloc, Fate::Answered, 20, Fate::Answered)?;
     events.truncate(count);
-    if crashes {
-        events.push(asking(alloc, Ask::Mkdir(100, b'z'), Fate::DiedBeforeCommit)?)?;
-    }
-    events.push(asking(alloc, Ask::Mkdir(4, b'a'), Fate::Answered)?)?;
-    let mut answer = Vec::new(alloc);
-    put_reply(&mut answer, wanted)?;
-    let mut keeper = Some(new_keeper(alloc)?);
-    match drive_on(alloc, &mut keeper, events.as_slice()) {
-        Some(Ok(outcomes)) => {
-            let right = matches!(outcomes.last(), Some(last) if is_answer(last, answer.as_slice()));
-            Ok((right, held_of(&mut keeper)))
-        }
-        _ => Ok((false, None)),
-    }
+    push_steps(alloc, &mut events, more)?;
+    let answer = replies(alloc, &[wanted])?;
+    let ran = run_on_new(alloc, events.as_slice());
+    let right = match &ran.outcomes {
+        Some(outcomes) => ends_with(outcomes.as_slice(), answer.as_slice()),
+        None => false,
+    };
+    Ok((right, ran.held))
+}
+
+fn ends_with(outcomes: &[Option<Outcome>], answer: &[u8]) -> bool {
+    matches!(outcomes.last(), Some(last) if is_answer(last, answer))
 }
 
 // An id whose answer the kernel took doesn't come again, by the headline's premise. Where it does,
@@ -79,17 +81,17 @@ fn asks_again(
 // so that there the request acts anew. A restart forgets which ids to hand on.
 #[test]
 fn answered_id_again(rt: HostRuntime) -> Result<(), StoreFault> {
-    let alloc = rt.alloc();
-    let cases = [
-        (15, false, Reply::Entry(4, 2), 15, 15),
-        (16, false, Reply::Error(4, EEXIST), 16, 1),
-        (16, true, Reply::Entry(4, 2), 16, 16),
+    let cases: [(usize, &[Step<'static>], Reply, u64, u64); 3] = [
+        (15, &[AGAIN], Reply::Entry(4, 2), 15, 15),
+        (16, &[AGAIN], Reply::Error(4, EEXIST), 16, 1),
+        (16, &[CRASH, AGAIN], Reply::Entry(4, 2), 16, 16),
     ];
-    for (count, crashes, answer, nodes, records) in &cases {
-        let seen = asks_again(alloc, *count, *crashes, *answer)?;
+    for (count, more, answer, nodes, records) in &cases {
+        let seen = asks_again(rt.alloc(), *count, more, *answer)?;
         assert!(rt;
             seen == (true, Some(holding(*nodes, 0, *records))),
-            "{count}, a crash: {crashes}"
+            "{count} and {} more",
+            more.len()
         );
     }
     Ok(())

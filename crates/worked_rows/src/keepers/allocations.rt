@@ -116,14 +116,6 @@ fn holds_all<K: Keeper>(slot: &mut Option<K>) -> bool {
     }
 }
 
-// A new keeper, at the second try where the first is refused.
-fn made(alloc: Global) -> Option<TreeKeeper> {
-    match new_keeper(alloc) {
-        Ok(keeper) => Some(keeper),
-        Err(_) => new_keeper(alloc).ok(),
-    }
-}
-
 fn is_right(alloc: Global, each: bool) -> bool {
     let mut slot = made(alloc);
     passes(&mut slot, each, false)

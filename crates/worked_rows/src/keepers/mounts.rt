@@ -37,15 +37,29 @@ fn in_the_next_mount() -> [Step; 5] {
     ]
 }
 
+// Whether all is as it should be before a mount, when it begins, and in it.
+fn around_a_mount(alloc: Global) -> Result<[bool; 3], StoreFault> {
+    let mut keeper = new_keeper(alloc)?;
+    let before = is_so(
+        &mut keeper,
+        &before_a_mount(),
+        holding(4, 1, 11),
+        Some(SETTINGS),
+    )?;
+    begin_mount(&mut keeper)?;
+    let begun = is_so(&mut keeper, &[], holding(2, 0, 0), None)?;
+    let next = is_so(
+        &mut keeper,
+        &in_the_next_mount(),
+        holding(3, 0, 5),
+        Some(SETTINGS),
+    )?;
+    Ok([before, begun, next])
+}
+
 #[test]
 fn a_mount_keeps_names_and_counters(rt: HostRuntime) -> Result<(), StoreFault> {
-    let mut keeper = new_keeper(rt.alloc())?;
-    assert_eq!(rt; first_wrong(&mut keeper, &before_a_mount())?, None);
-    assert_eq!(rt; held_in(&mut keeper), Some(holding(4, 1, 11)));
-    keeper.begin_mount()?;
-    assert_eq!(rt; held_in(&mut keeper), Some(holding(2, 0, 0)));
-    assert_eq!(rt; agreed(&mut keeper)?, None);
-    assert_eq!(rt; first_wrong(&mut keeper, &in_the_next_mount())?, None);
+    assert_eq!(rt; around_a_mount(rt.alloc())?, [true; 3]);
     Ok(())
 }
 
@@ -60,14 +74,28 @@ fn resent() -> [Step; 1] {
     [(mkdir(UNIQUE_RESEND | 6, b"a"), true, Want::Body(ENTRY_OF_A))]
 }
 
+fn opened<K: Restart>(keeper: K) -> Result<K, StoreFault> {
+    keeper.restart()
+}
+
+fn going<K: Keeper>(keeper: &K) -> bool {
+    !keeper.failed()
+}
+
+// Whether all is as it should be before an opening, and behind it.
+fn around_an_opening(alloc: Global) -> Result<[bool; 4], StoreFault> {
+    let mut keeper = new_keeper(alloc)?;
+    let held = holding(2, 0, 2);
+    let before = is_so(&mut keeper, &begins(), held, Some(SETTINGS))?;
+    let mut again = opened(keeper)?;
+    let going = going(&again);
+    let kept = is_so(&mut again, &[], held, Some(SETTINGS))?;
+    let repeats = is_so(&mut again, &resent(), held, Some(SETTINGS))?;
+    Ok([before, going, kept, repeats])
+}
+
 #[test]
 fn an_opening_keeps_all(rt: HostRuntime) -> Result<(), StoreFault> {
-    let mut keeper = new_keeper(rt.alloc())?;
-    assert_eq!(rt; first_wrong(&mut keeper, &begins())?, None);
-    let mut opened = keeper.restart()?;
-    assert!(rt; !opened.failed());
-    assert_eq!(rt; held_in(&mut opened), Some(holding(2, 0, 2)));
-    assert_eq!(rt; agreed(&mut opened)?, Some(SETTINGS));
-    assert_eq!(rt; first_wrong(&mut opened, &resent())?, None);
+    assert_eq!(rt; around_an_opening(rt.alloc())?, [true; 4]);
     Ok(())
 }

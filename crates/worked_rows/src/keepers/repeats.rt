@@ -16,15 +16,18 @@ fn first_run() -> [Step; 6] {
     ]
 }
 
+// Whether a new keeper is as it should be, and whether it answers so, and hasn't failed.
+fn answers(alloc: Global, steps: &[Step], held: Held) -> Result<[bool; 3], StoreFault> {
+    let mut keeper = new_keeper(alloc)?;
+    let new = is_so(&mut keeper, &[], holding(1, 0, 0), None)?;
+    let run = is_so(&mut keeper, steps, held, Some(SETTINGS))?;
+    Ok([new, run, !keeper.failed()])
+}
+
 #[test]
 fn repeats_are_answered_alike(rt: HostRuntime) -> Result<(), StoreFault> {
-    let mut keeper = new_keeper(rt.alloc())?;
-    assert_eq!(rt; held_in(&mut keeper), Some(holding(1, 0, 0)));
-    assert_eq!(rt; agreed(&mut keeper)?, None);
-    assert_eq!(rt; first_wrong(&mut keeper, &first_run())?, None);
-    assert_eq!(rt; held_in(&mut keeper), Some(holding(2, 0, 3)));
-    assert_eq!(rt; agreed(&mut keeper)?, Some(SETTINGS));
-    assert!(rt; !keeper.failed());
+    let right = answers(rt.alloc(), &first_run(), holding(2, 0, 3))?;
+    assert_eq!(rt; right, [true; 3]);
     Ok(())
 }
 
@@ -32,8 +35,8 @@ const FH_1: &[u8] = b"\x01\0\0\0\0\0\0\0\0\0\0\0\0\0\0\0";
 
 const FH_2: &[u8] = b"\x02\0\0\0\0\0\0\0\0\0\0\0\0\0\0\0";
 
-// A handle is given out once, also where it was closed. An UNLINK that comes again leaves what was made under the
-// name since.
+// A handle is given out once, also where it was closed. An UNLINK that comes again leaves what was
+// made under the name since.
 fn anew_or_again() -> [Step; 11] {
     [
         (init(2), false, Want::Body(INIT_OUT)),
@@ -52,9 +55,8 @@ fn anew_or_again() -> [Step; 11] {
 
 #[test]
 fn what_is_repeated_changes_nothing(rt: HostRuntime) -> Result<(), StoreFault> {
-    let mut keeper = new_keeper(rt.alloc())?;
-    assert_eq!(rt; first_wrong(&mut keeper, &anew_or_again())?, None);
-    assert_eq!(rt; held_in(&mut keeper), Some(holding(3, 1, 9)));
+    let right = answers(rt.alloc(), &anew_or_again(), holding(3, 1, 9))?;
+    assert_eq!(rt; right, [true; 3]);
     Ok(())
 }
 
@@ -72,15 +74,30 @@ fn ask_twice<K: Keeper>(keeper: &mut K) -> Result<Option<(bool, bool)>, StoreFau
     })
 }
 
+// What is settled with a GETATTR: whether ids 4 and 2 have records then, and what is held.
+fn settle<K: Keeper>(keeper: &mut K) -> Result<(bool, bool, Option<Held>), StoreFault> {
+    perform(keeper, &[(getattr(8, 2), AT_1000)], &[Id(4), Id(12)])?;
+    let fourth = has_record(keeper, 4)?;
+    let second = has_record(keeper, 2)?;
+    Ok((fourth, second, held_in(keeper)))
+}
+
+// Whether a group acts once, and what it settles goes.
+fn acts_and_settles(alloc: Global) -> Result<[bool; 3], StoreFault> {
+    let mut keeper = new_keeper(alloc)?;
+    let held = Some(holding(2, 0, 2));
+    let repeated = ask_twice(&mut keeper)?;
+    let left = held_in(&mut keeper);
+    let settled = settle(&mut keeper)?;
+    Ok([
+        repeated == Some((false, true)),
+        left == held,
+        settled == (false, true, held),
+    ])
+}
+
 #[test]
 fn a_group_acts_once_and_settles(rt: HostRuntime) -> Result<(), StoreFault> {
-    let mut keeper = new_keeper(rt.alloc())?;
-    assert_eq!(rt; ask_twice(&mut keeper)?, Some((false, true)));
-    assert_eq!(rt; held_in(&mut keeper), Some(holding(2, 0, 2)));
-    let looked = (getattr(8, 2), AT_1000);
-    perform(&mut keeper, &[looked], &[Id(4), Id(12)])?;
-    assert!(rt; !has_record(&mut keeper, 4)?);
-    assert!(rt; has_record(&mut keeper, 2)?);
-    assert_eq!(rt; held_in(&mut keeper), Some(holding(2, 0, 2)));
+    assert_eq!(rt; acts_and_settles(rt.alloc())?, [true; 3]);
     Ok(())
 }

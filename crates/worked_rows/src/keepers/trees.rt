@@ -23,7 +23,10 @@ fn act_on<F: FileSystem>(
 }
 
 fn is_agreed(answer: &Option<Answer>) -> bool {
-    matches!(answer, Some(answer) if answer.errno == Errno::NONE && answer.body.as_slice().len() == 64)
+    match answer {
+        Some(answer) => answer.errno == Errno::NONE && answer.body.as_slice().len() == 64,
+        None => false,
+    }
 }
 
 // A copy in which row init-agreed was answered and `a` was made.
@@ -38,48 +41,58 @@ fn with_a<F: FileSystem>(alloc: Global, files: &F) -> Result<Option<F>, StoreFau
 }
 
 // How many nodes and handles there are, and what was agreed on.
-fn told_of<F: FileSystem>(files: &F) -> ((u64, u64), Option<Settings>) {
+fn told_of<F: FileSystem>(files: &F) -> Told {
     (files.counted(), files.agreed())
 }
 
-fn after_a_mount<F: FileSystem>(files: &mut F) -> ((u64, u64), Option<Settings>) {
+fn after_a_mount<F: FileSystem>(files: &mut F) -> Told {
     files.begin_mount();
     told_of(files)
 }
 
-#[test]
-fn a_copy_acts_alone(rt: HostRuntime) -> Result<(), StoreFault> {
-    let alloc = rt.alloc();
+type Told = ((u64, u64), Option<Settings>);
+
+// What is told of a new tree after its copy acted, and of the copy.
+fn copy_of_new(alloc: Global) -> Result<(Told, Option<Told>), StoreFault> {
     let tree = PlainTree::start(alloc, START)?;
     let copy = with_a(alloc, &tree)?;
-    assert_eq!(rt; told_of(&tree), ((1, 0), None));
-    assert_eq!(rt; copy.as_ref().map(told_of), Some(((2, 0), Some(SETTINGS))));
+    Ok((told_of(&tree), copy.as_ref().map(told_of)))
+}
+
+#[test]
+fn a_copy_acts_alone(rt: HostRuntime) -> Result<(), StoreFault> {
+    let (tree, copy) = copy_of_new(rt.alloc())?;
+    assert_eq!(rt; tree, ((1, 0), None));
+    assert_eq!(rt; copy, Some(((2, 0), Some(SETTINGS))));
     Ok(())
 }
 
-const NODE_2: Want = Want::Node(2);
-
-#[test]
-fn a_keeper_over_a_tree(rt: HostRuntime) -> Result<(), StoreFault> {
-    let alloc = rt.alloc();
+// A keeper over a tree with `a`: whether it hasn't failed, whether it holds the tree, and whether
+// it finds `a`.
+fn keeper_over(alloc: Global) -> Result<[bool; 3], StoreFault> {
     let Some(tree) = with_a(alloc, &PlainTree::start(alloc, START)?)? else {
         return Err(StoreFault::Damaged);
     };
     let mut keeper = PlainKeeper::over(alloc, tree);
-    assert!(rt; !keeper.failed());
-    assert_eq!(rt; held_in(&mut keeper), Some(holding(2, 0, 0)));
-    assert_eq!(rt;
-        first_wrong(&mut keeper, &[(lookup(6, b"a"), false, NODE_2)])?,
-        None
-    );
+    let going = !keeper.failed();
+    let held = held_in(&mut keeper) == Some(holding(2, 0, 0));
+    let step = (lookup(6, b"a"), false, Want::Node(2));
+    Ok([going, held, is_answered(&mut keeper, &step)?])
+}
+
+#[test]
+fn a_keeper_over_a_tree(rt: HostRuntime) -> Result<(), StoreFault> {
+    assert_eq!(rt; keeper_over(rt.alloc())?, [true; 3]);
     Ok(())
+}
+
+fn mount_of_copy(alloc: Global) -> Result<Option<Told>, StoreFault> {
+    let tree = PlainTree::start(alloc, START)?;
+    Ok(with_a(alloc, &tree)?.map(|mut copy| after_a_mount(&mut copy)))
 }
 
 #[test]
 fn a_mount_of_a_tree(rt: HostRuntime) -> Result<(), StoreFault> {
-    let alloc = rt.alloc();
-    let tree = PlainTree::start(alloc, START)?;
-    let begun = with_a(alloc, &tree)?.map(|mut tree| after_a_mount(&mut tree));
-    assert_eq!(rt; begun, Some(((2, 0), None)));
+    assert_eq!(rt; mount_of_copy(rt.alloc())?, Some(((2, 0), None)));
     Ok(())
 }

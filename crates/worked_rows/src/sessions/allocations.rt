@@ -6,8 +6,8 @@ use fuse_keeper::Restart;
 use fuse_session::StreamPort;
 use std::io::{Cursor, empty};
 
-// Whether this may be held where so many answers were sent. Where the keeper wanted memory it is what
-// the groups before left; where the port did, the group is committed.
+// Whether this may be held where so many answers were sent. Where the keeper wanted memory it is
+// what the groups before left; where the port did, the group is committed.
 fn is_left(grouping: Grouping, told: Told, count: usize, found: Held) -> bool {
     let (before, after) = match grouping {
         Grouping::Each => (count, count.saturating_add(1)),
@@ -32,7 +32,8 @@ fn leaves(keeper: &mut TreeKeeper, grouping: Grouping, told: Told, count: usize)
     keeper.failed() == (told == Told::StoreMemory) && is_left(grouping, told, count, found)
 }
 
-// Asking for what is pending takes no memory: over a port that takes none it passes whatever is refused.
+// Asking for what is pending takes no memory: over a port that takes none it passes whatever is
+// refused.
 fn needs_no_memory(keeper: &mut TreeKeeper) -> bool {
     if keeper.failed() {
         return false;
@@ -59,8 +60,8 @@ fn ask_again(
     Ok(Some((seen, opened)))
 }
 
-// The answers and the tree are those of the run. Where memory is first refused here, that is said, and
-// asking once more is answered.
+// The answers and the tree are those of the run. Where memory is first refused here, that is said,
+// and asking once more is answered.
 fn ends_as_ever(alloc: Global, keeper: TreeKeeper, answered: usize) -> Result<bool, AllocError> {
     let Some((seen, keeper)) = ask_again(alloc, keeper, answered)? else {
         return Ok(false);

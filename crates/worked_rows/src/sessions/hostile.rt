@@ -5,7 +5,8 @@ use crate::messages::{EEXIST, EINVAL, ENOENT, ENOSYS, ESTALE, RESENT, put_reply}
 use crate::texts::AGREED;
 use std::ops::Range;
 
-// MKDIR, LOOKUP, GETATTR of the new directory, FORGET, and the MKDIR resent: where each begins, and its length.
+// MKDIR, LOOKUP, GETATTR of the new directory, FORGET, and the MKDIR resent: where each begins, and
+// its length.
 const PLACES: [(usize, u32); 5] = [(0, 50), (50, 46), (96, 56), (152, 48), (200, 50)];
 
 const WHOLE: usize = 250;
@@ -67,9 +68,9 @@ fn field_at(byte: usize) -> Field {
 }
 
 // What the five are answered where a field of one of them is another. An unknown opcode is
-// unsupported, also in place of FORGET's; no node has the number; the extensions are longer than the
-// message. Where the first MKDIR is refused without a record, the resent one makes the directory;
-// where the resent one has another id, it finds it there.
+// unsupported, also in place of FORGET's; no node has the number; the extensions are longer than
+// the message. Where the first MKDIR is refused without a record, the resent one makes the
+// directory; where the resent one has another id, it finds it there.
 fn said_with(message: usize, field: Field) -> [Said; 5] {
     let [mkdir, lookup, getattr, forget, again] = PLAIN;
     match (message, field) {
@@ -126,8 +127,8 @@ fn put_owner(answer: &mut [u8], stream: &[u8]) {
     }
 }
 
-// The answers to INIT and to the first messages of a stream. The new directory's owner is the one that
-// the first header names.
+// The answers to INIT and to the first messages of a stream. The new directory's owner is the one
+// that the first header names.
 fn answers(
     alloc: Global,
     stream: &[u8],
@@ -190,8 +191,8 @@ fn end_of(size: usize) -> (usize, Told) {
     (whole, Told::End)
 }
 
-// The same where this byte of a message's `len` is ff: above 255 it is longer than what is there, and
-// above 65,535 too long.
+// The same where this byte of a message's `len` is ff: above 255 it is longer than what is there,
+// and above 65,535 too long.
 fn end_with_length(size: usize, message: usize, byte: usize) -> (usize, Told) {
     let (at, len) = PLACES.get(message).copied().unwrap_or((0, 0));
     if size <= at.saturating_add(byte) {
@@ -233,7 +234,8 @@ fn ends_so(
     Ok(seen.ended == told && seen.sent == Some(seen.wanted))
 }
 
-// How the first bytes end where this byte of a message's header is ff, and what its messages are answered.
+// How the first bytes end where this byte of a message's header is ff, and what its messages are
+// answered.
 fn end_with(size: usize, message: usize, byte: usize) -> ((usize, Told), [Said; 5]) {
     if byte < 4 {
         (end_with_length(size, message, byte), PLAIN)
@@ -260,7 +262,8 @@ fn is_served(
     ends_so(alloc, front(changed.as_slice(), size), &said, end)
 }
 
-// Which bytes of the headers are changed in a prefix: one after another, and in the whole stream each.
+// Which bytes of the headers are changed in a prefix: one after another, and in the whole stream
+// each.
 fn changed_in(size: usize) -> Range<usize> {
     if size == WHOLE {
         return 0..HEADER;

@@ -26,15 +26,9 @@ impl Clock for Ticks {
 const UNKNOWN: &str = "28000000 c8000000 0600000000000000 0100000000000000
     e8030000 e8030000 4d000000 00000000";
 
-// How often the clock was asked, how much was sent, and the last bytes of `atime` of both answers to
-// MKDIR.
-#[derive(Clone, Copy, Debug, PartialEq, Eq)]
-struct Asked {
-    times: u64,
-    len: usize,
-    first: Option<u8>,
-    second: Option<u8>,
-}
+// How often the clock was asked, how much was sent, and the last bytes of `atime` of both answers
+// to MKDIR.
+type Asked = (u64, usize, Option<u8>, Option<u8>);
 
 fn serve_ticking(alloc: Global, keeper: &mut TreeKeeper, input: Vec<u8>) -> Option<Asked> {
     if keeper.failed() {
@@ -44,26 +38,21 @@ fn serve_ticking(alloc: Global, keeper: &mut TreeKeeper, input: Vec<u8>) -> Opti
     let mut port = MemoryPort::new(alloc, input, Vec::new(alloc), Vec::new(alloc), false);
     serve(alloc, keeper, &mut port, &mut clock, 10);
     let sent = port.sent();
-    Some(Asked {
-        times: clock.asked,
-        len: sent.len(),
-        first: sent.get(80).copied(),
-        second: sent.get(240).copied(),
-    })
+    let first = sent.get(80).copied();
+    let second = sent.get(240).copied();
+    Some((clock.asked, sent.len(), first, second))
+}
+
+fn asked_of_three(alloc: Global) -> Result<Option<Asked>, StoreFault> {
+    let three = [Ask::Mkdir(4, b'a'), Ask::Text(UNKNOWN), Ask::Mkdir(8, b'b')];
+    let input = asks(alloc, &three)?;
+    let mut keeper = begun(alloc, INIT_AGREED)?;
+    Ok(serve_ticking(alloc, &mut keeper, input))
 }
 
 #[test]
 fn one_moment_for_each_kept_message(rt: HostRuntime) -> Result<(), StoreFault> {
-    let alloc = rt.alloc();
-    let asked = [Ask::Mkdir(4, b'a'), Ask::Text(UNKNOWN), Ask::Mkdir(8, b'b')];
-    let input = asks(alloc, &asked)?;
-    let mut keeper = begun(alloc, INIT_AGREED)?;
-    let wanted = Asked {
-        times: 2,
-        len: 144 + 16 + 144,
-        first: Some(1),
-        second: Some(2),
-    };
-    assert_eq!(rt; serve_ticking(alloc, &mut keeper, input), Some(wanted));
+    let wanted = (2, 144 + 16 + 144, Some(1), Some(2));
+    assert_eq!(rt; asked_of_three(rt.alloc())?, Some(wanted));
     Ok(())
 }

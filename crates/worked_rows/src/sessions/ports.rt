@@ -121,16 +121,20 @@ const STOPS: Row = Row {
 };
 
 // Row send-stops: the session that stops, and the one behind it.
-#[test]
-fn send_stops(rt: HostRuntime) -> Result<(), StoreFault> {
-    let alloc = rt.alloc();
-    let mut keeper = begun(alloc, INIT_AGREED)?;
-    let stopped = serve_on(alloc, &mut keeper, session_of(alloc, &STOPS)?);
-    assert!(rt; stopped.is_cut(STOPS.ended, STOPS.sent, holding(1, 0, 2)));
+fn stopped_and_resumed(alloc: Global) -> Result<(Seen, Seen), StoreFault> {
+    let stopping = session_of(alloc, &STOPS)?;
     let asked = [Ask::Lookup(RESENT | 4)];
     let resent = resumed_of(alloc, &asked, &[Reply::Error(RESENT | 4, ENOENT)])?;
+    let mut keeper = begun(alloc, INIT_AGREED)?;
+    let stopped = serve_on(alloc, &mut keeper, stopping);
     let mut opened = keeper.restart()?;
-    let resumed = resume_on(alloc, &mut opened, resent, AT_1000);
+    Ok((stopped, resume_on(alloc, &mut opened, resent, AT_1000)))
+}
+
+#[test]
+fn send_stops(rt: HostRuntime) -> Result<(), StoreFault> {
+    let (stopped, resumed) = stopped_and_resumed(rt.alloc())?;
+    assert!(rt; stopped.is_cut(STOPS.ended, STOPS.sent, holding(1, 0, 2)));
     assert!(rt; resumed.is(Told::End, holding(1, 0, 2)));
     Ok(())
 }

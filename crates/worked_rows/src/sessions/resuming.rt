@@ -87,26 +87,8 @@ impl Keeper for Faulty {
     ghost counted = { record { none = λ k. tt; then = λ a b c m n before after. tt } };
 }
 
-// How asking ended.
-#[derive(Clone, Copy, Debug, PartialEq, Eq)]
-enum Asked {
-    Sent,
-    NotOffered,
-    PortFailed,
-    Damaged,
-    // The keeper had failed, or its fault is another one.
-    Other,
-}
-
-fn asked_of(answer: &Result<(), ResumeFault>) -> Asked {
-    match answer {
-        Ok(()) => Asked::Sent,
-        Err(ResumeFault::NotOffered) => Asked::NotOffered,
-        Err(ResumeFault::PortFailed) => Asked::PortFailed,
-        Err(ResumeFault::Store(StoreFault::Damaged)) => Asked::Damaged,
-        Err(ResumeFault::Store(_)) => Asked::Other,
-    }
-}
+// How asking ended, where the notice wasn't sent.
+type Asked = Option<Told>;
 
 // Asks over a port that answers so to each send: how it ended, and whether this was sent.
 fn ask<K: Keeper>(
@@ -116,10 +98,13 @@ fn ask<K: Keeper>(
     wanted: &[u8],
 ) -> (Asked, bool) {
     if keeper.failed() {
-        return (Asked::Other, false);
+        return (Some(Told::Failed), false);
     }
     let mut port = MemoryPort::new(alloc, Vec::new(alloc), Vec::new(alloc), outcomes, false);
-    let asked = asked_of(&resume(keeper, &mut port));
+    let asked = match resume(keeper, &mut port) {
+        Ok(()) => None,
+        Err(fault) => Some(told_of_resume(&fault)),
+    };
     (asked, port.sent() == wanted)
 }
 
@@ -152,13 +137,13 @@ fn ask_after(
 fn resume_notice(rt: HostRuntime) -> Result<(), StoreFault> {
     let alloc = rt.alloc();
     let passes: [(&[Outcome], usize); 2] = [(&[], 16), (&[Outcome::Take(10)], 16)];
-    assert!(rt; ask_after(alloc, INIT_AGREED, &passes, Asked::Sent)?);
+    assert!(rt; ask_after(alloc, INIT_AGREED, &passes, None)?);
     let stops: [(&[Outcome], usize); 2] = [
         (&[Outcome::Take(10), Outcome::Failed], 10),
         (&[Outcome::Take(0)], 0),
     ];
-    assert!(rt; ask_after(alloc, INIT_AGREED, &stops, Asked::PortFailed)?);
-    assert!(rt; ask_after(alloc, INIT_SHORT, &[(&[], 0)], Asked::NotOffered)?);
+    assert!(rt; ask_after(alloc, INIT_AGREED, &stops, Some(Told::PortFailed))?);
+    assert!(rt; ask_after(alloc, INIT_SHORT, &[(&[], 0)], Some(Told::NotOffered))?);
     Ok(())
 }
 
@@ -167,7 +152,7 @@ fn before_an_init(rt: HostRuntime) -> Result<(), StoreFault> {
     let alloc = rt.alloc();
     let mut keeper = new_keeper(alloc)?;
     let asked = ask(alloc, &mut keeper, Vec::new(alloc), NOTICE);
-    assert_eq!(rt; asked, (Asked::Sent, true));
+    assert_eq!(rt; asked, (None, true));
     Ok(())
 }
 
@@ -176,7 +161,7 @@ fn store_fault(rt: HostRuntime) {
     let alloc = rt.alloc();
     let mut keeper = Faulty { failed: false };
     let asked = ask(alloc, &mut keeper, Vec::new(alloc), b"");
-    assert_eq!(rt; asked, (Asked::Damaged, true));
+    assert_eq!(rt; asked, (Some(Told::StoreDamaged), true));
     assert!(rt; keeper.failed());
 }
 

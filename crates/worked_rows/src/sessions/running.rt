@@ -16,7 +16,7 @@ pub enum Grouping {
 }
 
 /// The first messages in pieces, so that they are grouped so.
-pub fn put_pieces(
+pub(crate) fn put_pieces(
     arrivals: &mut Vec<Arrival>,
     grouping: Grouping,
     count: usize,
@@ -44,17 +44,17 @@ fn size_of_first(lengths: &[usize], count: usize) -> usize {
 }
 
 /// How many bytes the first answers of the run have.
-pub fn size_of_answers(count: usize) -> usize {
+pub(crate) fn size_of_answers(count: usize) -> usize {
     size_of_first(&ANSWER_LENGTHS, count)
 }
 
 /// How many answers of the run these bytes are.
-pub fn answers_in(sent: usize) -> Option<usize> {
+pub(crate) fn answers_in(sent: usize) -> Option<usize> {
     (0..MESSAGES + 1).find(|count| size_of_answers(*count) == sent)
 }
 
 /// The run over this peer.
-pub fn run(alloc: Global, peer: Peer) -> Result<Session, AllocError> {
+pub(crate) fn run(alloc: Global, peer: Peer) -> Result<Session, AllocError> {
     let mut input = Vec::new(alloc);
     let mut wanted = Vec::new(alloc);
     for (asked, answer) in RUN {
@@ -85,8 +85,9 @@ fn put_questions(input: &mut Vec<u8>, wanted: &mut Vec<u8>) -> Result<(), AllocE
     Ok(())
 }
 
-/// What follows after the notice: what has no answer yet is resent, and then the tree is asked about.
-pub fn resent_run(alloc: Global, answered: usize) -> Result<Session, AllocError> {
+/// What follows after the notice: what has no answer yet is resent, and then the tree is asked
+/// about.
+pub(crate) fn resent_run(alloc: Global, answered: usize) -> Result<Session, AllocError> {
     let mut input = Vec::new(alloc);
     let mut wanted = NOTICE.to_vec(alloc)?;
     for (asked, answer) in RUN.iter().skip(answered) {

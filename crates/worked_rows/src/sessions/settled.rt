@@ -58,8 +58,8 @@ fn settled_counts(rt: HostRuntime) -> Result<(), StoreFault> {
     Ok(())
 }
 
-// Row settled-after-fault: the second group's first answer isn't taken. What has none is resent on a
-// port that confirms, perhaps with one request more behind the 16.
+// Row settled-after-fault: the second group's first answer isn't taken. What has none is resent on
+// a port that confirms, perhaps with one request more behind the 16.
 fn after_fault(alloc: Global, one_more: bool) -> Result<(Seen, Seen), StoreFault> {
     let mut keeper = new_keeper(alloc)?;
     let session = all_of(alloc, peer_of(alloc, true, Some(16))?)?;
