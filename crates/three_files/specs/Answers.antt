@@ -10,8 +10,8 @@ use Rattle.three_files.specs.declared.node.Node.{Node}
 use Rattle.three_files.specs.Nodes.{number_of, attr_of}
 
 -- Linux's generic number: the file system can't be written
-abbrev pub EROFS : Errno
-EROFS = record { 0 = 30 }
+abbrev pub erofs : Errno
+erofs = record { 0 = 30 }
 
 abbrev pub refuse : Errno → Said
 refuse errno = record { errno = errno.0; body = [] }

@@ -6,7 +6,7 @@ use Rattle.std.specs.Cmp.Lexicographic.{pointwise}
 use Rattle.fuse_wire.specs.declared.access_mode.AccessMode.{AccessMode}
 use Rattle.fuse_wire.specs.declared.access_mode.AccessMode.TheVariants.{ReadOnly, WriteOnly, ReadWrite}
 use Rattle.fuse_wire.specs.declared.errno.Errno.{Errno}
-use Rattle.fuse_wire.specs.declared.errno.TheConstants.Errno.{ENOENT, EBADF, ENOTDIR, EISDIR, EINVAL, ENAMETOOLONG, ENOSYS, EPROTO, ESTALE}
+use Rattle.fuse_wire.specs.Errnos.{enoent, ebadf, enotdir, eisdir, einval, enametoolong, enosys, eproto, estale}
 use Rattle.fuse_wire.specs.Flags.{access_of}
 use Rattle.fuse_request.specs.declared.request.InitIn.{InitIn}
 use Rattle.fuse_request.specs.declared.request.ReadIn.{ReadIn}
@@ -21,7 +21,7 @@ use Rattle.fuse_init.specs.declared.settings.Settings.{Settings}
 use Rattle.three_files.specs.declared.node.Node.{Node}
 use Rattle.three_files.specs.declared.node.Node.TheVariants.{Readme, Licence, Hours}
 use Rattle.three_files.specs.Nodes.{number_of, node_at, is_dir, name_of, content_of}
-use Rattle.three_files.specs.Answers.{EROFS, refuse, give, refuse_for, give_entry, give_attr, give_open}
+use Rattle.three_files.specs.Answers.{erofs, refuse, give, refuse_for, give_entry, give_attr, give_open}
 use Rattle.three_files.specs.Listing.{read_dir}
 
 -- ---- LOOKUP
@@ -32,8 +32,8 @@ is_odd_name name = (length name == 0) || pointwise nat_eq name (codes ".") || po
 
 abbrev pub name_fault : List ℕ → Option Errno
 name_fault name =
-    if nat_lt 255 (length name) then Some ENAMETOOLONG
-    else if is_odd_name name then Some EINVAL
+    if nat_lt 255 (length name) then Some enametoolong
+    else if is_odd_name name then Some einval
     else None
 
 abbrev pub file_named : List ℕ → Option Node
@@ -44,39 +44,39 @@ file_named name =
     else None
 
 abbrev pub found : Option Node → Said
-found None = refuse ENOENT
+found None = refuse enoent
 found (Some n) = give_entry n
 
 abbrev pub lookup : List ℕ → Node → Said
 lookup name n =
-    if not (is_dir n) then refuse ENOTDIR
+    if not (is_dir n) then refuse enotdir
     else refuse_for (name_fault name) (found (file_named name))
 
 -- ---- OPEN, OPENDIR, RELEASE, RELEASEDIR
 
 -- no file is opened for writing
 abbrev pub open_for : Option AccessMode → Node → Said
-open_for None n = refuse EINVAL
+open_for None n = refuse einval
 open_for (Some ReadOnly) n = give_open n
-open_for (Some WriteOnly) n = refuse EROFS
-open_for (Some ReadWrite) n = refuse EROFS
+open_for (Some WriteOnly) n = refuse erofs
+open_for (Some ReadWrite) n = refuse erofs
 
 abbrev pub open_file : ℕ → Node → Said
-open_file flags n = if is_dir n then refuse EISDIR else open_for (access_of flags) n
+open_file flags n = if is_dir n then refuse eisdir else open_for (access_of flags) n
 
 abbrev pub open_dir : Node → Said
-open_dir n = if not (is_dir n) then refuse ENOTDIR else give_open n
+open_dir n = if not (is_dir n) then refuse enotdir else give_open n
 
 abbrev pub release : ℕ → Node → Said
 release fh n =
-    if not (fh == number_of n) then refuse EBADF
-    else if is_dir n then refuse EISDIR
+    if not (fh == number_of n) then refuse ebadf
+    else if is_dir n then refuse eisdir
     else give []
 
 abbrev pub release_dir : ℕ → Node → Said
 release_dir fh n =
-    if not (fh == number_of n) then refuse EBADF
-    else if not (is_dir n) then refuse ENOTDIR
+    if not (fh == number_of n) then refuse ebadf
+    else if not (is_dir n) then refuse enotdir
     else give []
 
 -- ---- READ
@@ -84,9 +84,9 @@ release_dir fh n =
 -- the content from the offset on, at most so many bytes: none from the end on
 abbrev pub read : ReadIn → Node → Said
 read asked n =
-    if not (asked.fh == number_of n) then refuse EBADF
-    else if is_dir n then refuse EISDIR
-    else if nat_lt 1048576 asked.size then refuse EINVAL
+    if not (asked.fh == number_of n) then refuse ebadf
+    else if is_dir n then refuse eisdir
+    else if nat_lt 1048576 asked.size then refuse einval
     else give (take asked.size (drop asked.offset (content_of n)))
 
 -- ---- all requests
@@ -102,18 +102,18 @@ said_at (acts.Release x) n = release x.fh n
 said_at (acts.OpenDir flags open_flags) n = open_dir n
 said_at (acts.ReadDir asked) n = read_dir asked n
 said_at (acts.ReleaseDir x) n = release_dir x.fh n
-said_at (acts.Setattr set) n = refuse EROFS
-said_at (acts.Mknod mode rdev umask name) n = refuse EROFS
-said_at (acts.Mkdir mode umask name) n = refuse EROFS
-said_at (acts.Unlink name) n = refuse EROFS
-said_at (acts.Rmdir name) n = refuse EROFS
-said_at (acts.Rename new_dir old_name new_name) n = refuse EROFS
-said_at (acts.Write fh offset write_flags lock_owner flags payload) n = refuse EROFS
-said_at (acts.Rename2 new_dir flags old_name new_name) n = refuse EROFS
-said_at _ n = refuse ENOSYS
+said_at (acts.Setattr set) n = refuse erofs
+said_at (acts.Mknod mode rdev umask name) n = refuse erofs
+said_at (acts.Mkdir mode umask name) n = refuse erofs
+said_at (acts.Unlink name) n = refuse erofs
+said_at (acts.Rmdir name) n = refuse erofs
+said_at (acts.Rename new_dir old_name new_name) n = refuse erofs
+said_at (acts.Write fh offset write_flags lock_owner flags payload) n = refuse erofs
+said_at (acts.Rename2 new_dir flags old_name new_name) n = refuse erofs
+said_at _ n = refuse enosys
 
 abbrev pub said_for : Act → Option Node → Said
-said_for act None = refuse ESTALE
+said_for act None = refuse estale
 said_for act (Some n) = said_at act n
 
 -- of DESTROY no node is looked at
@@ -137,7 +137,7 @@ offer_of _ = None
 -- INIT is answered always, and all else where settings are agreed on
 abbrev pub said_offered : Option Settings → Asked → Option InitIn → Said
 said_offered agreed asked (Some offer) = said_init (agree offer)
-said_offered agreed asked None = if is_some agreed then said_agreed asked else refuse EPROTO
+said_offered agreed asked None = if is_some agreed then said_agreed asked else refuse eproto
 
 unfoldable pub said : Option Settings → Asked → Said
 said agreed asked = said_offered agreed asked (offer_of asked.act)

@@ -1,6 +1,6 @@
 -- What READDIR answers: the entries behind an offset, as many as fit.
 use Rattle.std.specs.Prelude.{◌-◌, ◌==◌, ℕ, Bool, true, not, nat_le, nat_lt, if◌then◌else◌, List, [], ◌∷◌, filter, codes}
-use Rattle.fuse_wire.specs.declared.errno.TheConstants.Errno.{EBADF, ENOTDIR, EINVAL}
+use Rattle.fuse_wire.specs.Errnos.{ebadf, enotdir, einval}
 use Rattle.fuse_request.specs.declared.request.ReadIn.{ReadIn}
 use Rattle.fuse_answer.specs.Said.{Said}
 use Rattle.fuse_answer.specs.Entries.{Entry, packed_len, entries_bytes}
@@ -37,11 +37,11 @@ first_fits [] size = true
 first_fits (e ∷ es) size = nat_le (packed_len e) size
 
 abbrev pub list : List Entry → ℕ → Said
-list es size = if not (first_fits es size) then refuse EINVAL else give (entries_bytes (fitting es size))
+list es size = if not (first_fits es size) then refuse einval else give (entries_bytes (fitting es size))
 
 abbrev pub read_dir : ReadIn → Node → Said
 read_dir asked n =
-    if not (asked.fh == number_of n) then refuse EBADF
-    else if not (is_dir n) then refuse ENOTDIR
-    else if nat_lt 1048576 asked.size then refuse EINVAL
+    if not (asked.fh == number_of n) then refuse ebadf
+    else if not (is_dir n) then refuse enotdir
+    else if nat_lt 1048576 asked.size then refuse einval
     else list (entries_behind asked.offset) asked.size
