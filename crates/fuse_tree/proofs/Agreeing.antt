@@ -43,7 +43,9 @@ child_agrees s tree (Some n) = record { answer = refl; rows = refl; tree = tree 
 
 entry_agrees : (s : State) → Tree s → (o : Option EntryRow) → Agrees s (plan_child (child_of (rows_of_state s) o)) (lookup_entry s o)
 entry_agrees s tree None = refused_agrees s tree enoent
-entry_agrees s tree (Some e) = subst (λ (r : Option NodeRow). Agrees s (plan_child r) (lookup_child s (node_at s e.child))) (sym (row_found s e.child)) (child_agrees s tree (node_at s e.child))
+entry_agrees s tree (Some e) =
+    subst (λ (r : Option NodeRow). Agrees s (plan_child r) (lookup_child s (node_at s e.child))) (sym (row_found s e.child))
+    (child_agrees s tree (node_at s e.child))
 
 lookup_agrees : (s : State) (name : List ℕ) (d : Node) → Tree s → Agrees s (plan_lookup name (row_of s d) (rows_of_state s)) (lookup s name d)
 lookup_agrees s name d tree =
@@ -52,7 +54,8 @@ lookup_agrees s name d tree =
     both s (not (is_named s d.number)) _ _ _ _ (λ _. refused_agrees s tree enoent) (λ _.
     entry_agrees s tree (entry_at s.entries d.number name))))
 
-act_agrees : (s : State) (header : InHeader) (a : Act) (now : Moment) (d : Node) → Tree s → node_at s d.number ≡ Some d → Agrees s (plan_act header a now (row_of s d) (rows_of_state s)) (do_act s header a now d)
+act_agrees : (s : State) (header : InHeader) (a : Act) (now : Moment) (d : Node) → Tree s → node_at s d.number ≡ Some d
+    → Agrees s (plan_act header a now (row_of s d) (rows_of_state s)) (do_act s header a now d)
 act_agrees s header (acts.Lookup name) now d tree e = lookup_agrees s name d tree
 act_agrees s header (acts.Getattr flags fh) now d tree e = record { answer = refl; rows = refl; tree = tree }
 act_agrees s header (acts.Setattr set) now d tree e = setattr_agrees s set now d tree e
@@ -77,34 +80,50 @@ at_agrees s request now None tree e = refused_agrees s tree estale
 at_agrees s request now (Some d) tree e =
     act_agrees s request.header request.act now d tree (subst (λ number. node_at s number ≡ Some d) (sym (node_found s request.header.nodeid d tree e).0) e)
 
-node_agrees : (s : State) (request : Asked) (now : Moment) → Tree s → Agrees s (plan_at request now (row_at (rows_of_state s) request.header.nodeid) (rows_of_state s)) (do_at s request now (node_at s request.header.nodeid))
+node_agrees : (s : State) (request : Asked) (now : Moment) → Tree s
+    → Agrees s (plan_at request now (row_at (rows_of_state s) request.header.nodeid) (rows_of_state s)) (do_at s request now (node_at s request.header.nodeid))
 node_agrees s request now tree =
-    subst (λ (o : Option NodeRow). Agrees s (plan_at request now o (rows_of_state s)) (do_at s request now (node_at s request.header.nodeid))) (sym (row_found s request.header.nodeid)) (at_agrees s request now (node_at s request.header.nodeid) tree refl)
+    subst (λ (o : Option NodeRow). Agrees s (plan_at request now o (rows_of_state s)) (do_at s request now (node_at s request.header.nodeid)))
+    (sym (row_found s request.header.nodeid)) (at_agrees s request now (node_at s request.header.nodeid) tree refl)
 
 agreed_agrees : (s : State) (request : Asked) (now : Moment) → Tree s → Agrees s (plan_agreed request now (rows_of_state s)) (do_agreed s request now)
-agreed_agrees s request now tree = both s (names_node request.act) _ _ _ _ (λ _. node_agrees s request now tree) (λ _. record { answer = refl; rows = refl; tree = tree })
+agreed_agrees s request now tree =
+    both s (names_node request.act) _ _ _ _ (λ _. node_agrees s request now tree) (λ _. record { answer = refl; rows = refl; tree = tree })
 
-plan_agrees : (s : State) (request : Asked) (now : Moment) (offer : Option InitIn) → Tree s → Agrees s (plan_offered request now offer (rows_of_state s)) (do_offered s request now offer)
+plan_agrees : (s : State) (request : Asked) (now : Moment) (offer : Option InitIn) → Tree s
+    → Agrees s (plan_offered request now offer (rows_of_state s)) (do_offered s request now offer)
 plan_agrees s request now (Some offer) tree = init_agrees s (agree offer) tree
 plan_agrees s request now None tree = both s (is_some s.settings) _ _ _ _ (λ _. agreed_agrees s request now tree) (λ _. refused_agrees s tree eproto)
 
 -- what a plan over the rows of a tree is
 pub plan_meets : (s : State) (request : Asked) (now : Moment) → Tree s → Meets s (plan_of request now (rowed s)) (done s request now)
 unfolding rowed done
-plan_meets s request now tree = let a = plan_agrees s request now (offer_of request.act) tree in record { answer = a.answer; rows = a.rows; order = plan_orders request now (rowed s); fits = plan_fits s request now tree; tree = a.tree }
+plan_meets s request now tree =
+    let a =
+    plan_agrees s request now
+    (offer_of request.act) tree in record {
+      answer = a.answer;
+      rows = a.rows;
+      order = plan_orders request now (rowed s);
+      fits = plan_fits s request now tree;
+      tree = a.tree;
+    }
 
 pub tree_kept : TreeKept
 tree_kept s request now tree = (plan_meets s request now tree).tree
 
-pub answered : (s : State) (request : Asked) (now : Moment) (result : Result Planned PlanFault) → Tree s → (look_fault result ≡ None → Tells result (plan_of request now (rowed s))) → IfOk result (λ p. Meets s p (done s request now))
+pub answered : (s : State) (request : Asked) (now : Moment) (result : Result Planned PlanFault) → Tree s
+    → (look_fault result ≡ None → Tells result (plan_of request now (rowed s))) → IfOk result (λ p. Meets s p (done s request now))
 answered s request now (Ok p) tree tells = subst (λ (q : Planned). Meets s q (done s request now)) (sym (tells refl).0) (plan_meets s request now tree)
 answered s request now (Err fault) tree tells = tt
 
-pub read : (s : State) (request : Asked) (now : Moment) (result : Result Planned PlanFault) → AnswersAreRead → Tree s → IfOk result (λ p. Meets s p (done s request now)) → IfOk result (λ p. IsRead (opcode_of request.act) p.answer)
+pub read : (s : State) (request : Asked) (now : Moment) (result : Result Planned PlanFault) → AnswersAreRead → Tree s
+    → IfOk result (λ p. Meets s p (done s request now)) → IfOk result (λ p. IsRead (opcode_of request.act) p.answer)
 read s request now (Ok p) law tree meets = subst (IsRead (opcode_of request.act)) (sym meets.answer) (law s request now tree)
 read s request now (Err fault) law tree meets = tt
 
-pub no_tree : (q : Planned) (result : Result Planned PlanFault) → IfErr result (λ fault. fault ≡ faults.NotATree → (look_fault result ≡ None → Tells result q) → ⊥)
+pub no_tree : (q : Planned) (result : Result Planned PlanFault)
+    → IfErr result (λ fault. fault ≡ faults.NotATree → (look_fault result ≡ None → Tells result q) → ⊥)
 no_tree q (Ok p) = tt
 no_tree q (Err (faults.Look f)) = λ is _. absurd cc
 no_tree q (Err faults.Memory) = λ is _. absurd cc

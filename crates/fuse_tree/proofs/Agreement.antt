@@ -21,7 +21,8 @@ pub both : (s : State) (b : Bool) (p q : Planned) (d e : Done) → (b ≡ true �
 both s true p q d e there other = there refl
 both s false p q d e there other = other refl
 
-pub both_for : (s : State) (fault : Option Errno) (p : Planned) (d : Done) → Tree s → (fault ≡ None → Agrees s p d) → Agrees s (refused_for fault p) (refuse_for s fault d)
+pub both_for : (s : State) (fault : Option Errno) (p : Planned) (d : Done) → Tree s → (fault ≡ None → Agrees s p d)
+    → Agrees s (refused_for fault p) (refuse_for s fault d)
 both_for s None p d tree other = other refl
 both_for s (Some errno) p d tree other = refused_agrees s tree errno
 

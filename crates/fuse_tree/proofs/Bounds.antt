@@ -1,5 +1,6 @@
 -- What the rows of a tree can't pass, so that a plan over them never gives up.
-use Rattle.std.proofs.Common.{◌≡◌, ◌==◌, ◌≤◌, ◌&&◌, ◌||◌, ℕ, true, false, cond, not, eqb, List, [], ◌∷◌, length, take, Option, Some, None, refl, sym, subst, ◌∙◌, arith}
+use Rattle.std.proofs.Common.{◌≡◌, ◌==◌, ◌≤◌, ◌&&◌, ◌||◌, ℕ, true, false, cond, not, eqb, List, [], ◌∷◌, length, take, Option, Some, None, refl, sym, subst}
+use Rattle.std.proofs.Common.{◌∙◌, arith}
 use Rattle.std.specs.Prelude.{filter, nat_lt}
 use Rattle.std.proofs.lemmas.Bool.{lt-ltb}
 use Rattle.std.specs.List.{AllByRecursion, list_any}
@@ -20,7 +21,8 @@ within s number row None tree e is = absurd cc
 within s number row (Some n) tree e is =
     let p = (found (IsNode s.next_node) (λ m. m.number == number) s.nodes n tree.nodes e).0 in
     let same : row_of s n ≡ row = cc in
-    let here : IsWithin (row_of s n) = record { size = p.size; subdirs = omega (arith, tree.limits.nodes, length_filtered (is_below s.entries n.number) s.nodes) } in
+    let here : IsWithin (row_of s n) =
+    record { size = p.size; subdirs = omega (arith, tree.limits.nodes, length_filtered (is_below s.entries n.number) s.nodes) } in
     subst IsWithin same here
 
 within_state : (s : State) (number : ℕ) (row : NodeRow) → Tree s → row_at (rows_of_state s) number ≡ Some row → IsWithin row
@@ -44,9 +46,11 @@ map_none f (Some x) e = absurd cc
 pub child_there : (s : State) (child : ℕ) → list_any (has_number child) s.nodes ≡ true → row_at (rows_of_state s) child ≡ None → ⊥
 child_there s child there none =
     let missing : node_at s child ≡ None = map_none (row_of s) (node_at s child) (sym (row_found s child) ∙ none) in
-    any_gives (λ n. (n.number == child) ≡ false) (has_number child) ⊥ s.nodes (none_found (λ n. n.number == child) s.nodes missing) there (λ n fails passes. absurd cc)
+    any_gives (λ n. (n.number == child) ≡ false) (has_number child) ⊥ s.nodes (none_found (λ n. n.number == child) s.nodes missing) there
+    (λ n fails passes. absurd cc)
 
-child_in_state : (s : State) (dir : ℕ) (name : List ℕ) (x : EntryRow) → Tree s → entry_at s.entries dir name ≡ Some x → row_at (rows_of_state s) x.child ≡ None → ⊥
+child_in_state : (s : State) (dir : ℕ) (name : List ℕ) (x : EntryRow) → Tree s → entry_at s.entries dir name ≡ Some x → row_at (rows_of_state s) x.child ≡ None
+    → ⊥
 child_in_state s dir name x tree e none =
     let p = (found (IsEntry s.nodes s.entries s.next_cookie) (is_entry dir name) s.entries x tree.entries e).0 in
     child_there s x.child p.child none
@@ -57,7 +61,8 @@ unfolding IsRowed
 child_row rows dir name x is e none =
     let s = is.0 in
     let same : rows ≡ rows_of_state s = is.2 ∙ rowed_is s in
-    child_in_state s dir name x is.1 (subst (λ (r : Rows). entry_at r.entries dir name ≡ Some x) same e) (subst (λ (r : Rows). row_at r x.child ≡ None) same none)
+    child_in_state s dir name x is.1 (subst (λ (r : Rows). entry_at r.entries dir name ≡ Some x) same e)
+    (subst (λ (r : Rows). row_at r x.child ≡ None) same none)
 
 open_counted : (handles : List HandleRow) (fh node : ℕ) → is_open handles fh node ≡ true → length handles ≡ 0 → ⊥
 open_counted [] fh node there none = absurd cc
@@ -77,13 +82,15 @@ unfolding IsRowed
 is_rowed s tree = (s, tree, refl)
 
 -- an entry of a tree has a cookie above 0, so the first entry of a directory is among those behind 0
-first_after : (es : List EntryRow) (dir : ℕ) → AllByRecursion (λ e. 3 ≤ e.cookie) es → not (eqb (length (take 1 (filter (is_after dir 0) es))) 0) ≡ has_entries es dir
+first_after : (es : List EntryRow) (dir : ℕ) → AllByRecursion (λ e. 3 ≤ e.cookie) es
+    → not (eqb (length (take 1 (filter (is_after dir 0) es))) 0) ≡ has_entries es dir
 first_after [] dir all = refl
 first_after (e ∷ es) dir all =
     let three : 3 ≤ e.cookie = all.0 in
     let above : nat_lt 0 e.cookie ≡ true = lt-ltb 0 e.cookie (omega arith) in
     let rest = first_after es dir all.1 in
-    rw above (elim (eqb e.dir dir) as (λ b. not (eqb (length (take 1 (cond (b && true) (e ∷ filter (is_after dir 0) es) (filter (is_after dir 0) es)))) 0) ≡ (b || has_entries es dir)) [
+    rw above (elim (eqb e.dir dir) as
+    (λ b. not (eqb (length (take 1 (cond (b && true) (e ∷ filter (is_after dir 0) es) (filter (is_after dir 0) es)))) 0) ≡ (b || has_entries es dir)) [
       | true ↦ refl
       | false ↦ rest
     ])
@@ -94,4 +101,5 @@ unfolding IsRowed
 entries_told rows dir is =
     let s = is.0 in
     let same : rows ≡ rows_of_state s = is.2 ∙ rowed_is s in
-    subst (λ (r : Rows). not (eqb (length (entries_after r dir 0 1)) 0) ≡ has_entries r.entries dir) (sym same) (first_after s.entries dir (all_more (IsEntry s.nodes s.entries s.next_cookie) (λ e. 3 ≤ e.cookie) s.entries (λ e p. p.from_three) is.1.entries))
+    subst (λ (r : Rows). not (eqb (length (entries_after r dir 0 1)) 0) ≡ has_entries r.entries dir) (sym same)
+    (first_after s.entries dir (all_more (IsEntry s.nodes s.entries s.next_cookie) (λ e. 3 ≤ e.cookie) s.entries (λ e p. p.from_three) is.1.entries))

@@ -1,5 +1,6 @@
 -- Requests that bring bytes leave a state of bytes one.
-use Rattle.std.proofs.Common.{◌<◌, ◌+◌, ◌-◌, ◌==◌, ◌&&◌, ◌||◌, ℕ, zero, suc, Bool, true, false, cond, eqb, not, List, [], ◌∷◌, ◌++◌, length, map, Option, Some, None, is_some, arith}
+use Rattle.std.proofs.Common.{◌<◌, ◌+◌, ◌-◌, ◌==◌, ◌&&◌, ◌||◌, ℕ, zero, suc, Bool, true, false, cond, eqb, not, List, [], ◌∷◌, ◌++◌, length, map, Option, Some}
+use Rattle.std.proofs.Common.{None, is_some, arith}
 use Rattle.std.specs.Prelude.{take, drop, replicate, nat_le, nat_lt}
 use Rattle.std.specs.List.{AllByRecursion}
 use Rattle.fuse_wire.specs.declared.access_mode.AccessMode.{AccessMode}
@@ -32,8 +33,10 @@ use Rattle.fuse_tree.specs.Making.{is_full, begun, new_node, new_entry, with_nod
 use Rattle.fuse_tree.specs.Init.{init}
 use Rattle.fuse_tree.specs.Listing.{first_fits, list_front, entries_behind, read_dir}
 use Rattle.fuse_tree.specs.Opening.{open_fault, opened, open_node, open_for, open_file, open_dir, closed, close, not_for_dirs, for_dirs_alone}
-use Rattle.fuse_tree.specs.Removing.{marked, mark, without, entry_gone, has_entries, unlink_child, unlink_entry, unlink_named, unlink, rmdir_child, rmdir_entry, rmdir_named, rmdir}
-use Rattle.fuse_tree.specs.Renaming.{Renaming, asking, is_exchange, is_no_replace, holds, is_same, asked_fault, place_fault, placed, replaced, both_touched, renamed, exchanged, rename_with_room, rename_entry, exchange_entry, rename_by, rename_from, rename_between, rename}
+use Rattle.fuse_tree.specs.Removing.{marked, mark, without, entry_gone, has_entries, unlink_child, unlink_entry, unlink_named, unlink, rmdir_child, rmdir_entry}
+use Rattle.fuse_tree.specs.Removing.{rmdir_named, rmdir}
+use Rattle.fuse_tree.specs.Renaming.{Renaming, asking, is_exchange, is_no_replace, holds, is_same, asked_fault, place_fault, placed, replaced, both_touched}
+use Rattle.fuse_tree.specs.Renaming.{renamed, exchanged, rename_with_room, rename_entry, exchange_entry, rename_by, rename_from, rename_between, rename}
 use Rattle.fuse_tree.specs.Do.{lookup_child, lookup_entry, lookup_named, lookup, do_act, do_at, names_node, done, do_offered, offer_of}
 use Rattle.fuse_tree.specs.Bytes.{AreBytes, AreNameBytes, HoldsBytes, BringsBytes, BytesKept}
 use Rattle.fuse_tree.proofs.Lists.{all_more, all_grown, all_mapped, all_kept}
@@ -84,7 +87,8 @@ placed_bytes dir name child s new h = record { contents = h.contents; names = al
 gone_bytes : (e : EntryRow) (now : Moment) (s : State) → HoldsBytes s → HoldsBytes (entry_gone e now s)
 gone_bytes e now s h = mark_bytes e.child now _ (touch_bytes e.dir now _ (without_bytes e.cookie s h))
 
-changed_bytes : (number : ℕ) (change : Node → Node) (s : State) → ((n : Node) → AreBytes n.content → AreBytes (change n).content) → HoldsBytes s → HoldsBytes (with_changed number change s)
+changed_bytes : (number : ℕ) (change : Node → Node) (s : State) → ((n : Node) → AreBytes n.content → AreBytes (change n).content) → HoldsBytes s
+    → HoldsBytes (with_changed number change s)
 changed_bytes number change s so h = record {
   contents = all_mapped (λ n. AreBytes n.content) (changed_at number change) s.nodes
       (all_more (λ n. AreBytes n.content) (λ n. AreBytes (changed_at number change n).content) s.nodes (λ n p. one n (eqb n.number number) p) h.contents);
@@ -150,7 +154,8 @@ module _ (s : State) (h : HoldsBytes s) where
       chosen (not (may_write (access_at s.handles fh n.number))) _ _ (stays s _ h)
       (chosen (length payload == 0) _ _ (leads s _ h)
       (chosen (nat_lt 16777216 (offset + length payload)) _ _ (stays s _ h)
-      (leads (with_bytes s offset payload now n.number) _ (changed_bytes n.number (wrote offset payload now) s (λ m p. written_bytes offset payload m.content new p) h))))
+      (leads (with_bytes s offset payload now n.number) _
+      (changed_bytes n.number (wrote offset payload now) s (λ m p. written_bytes offset payload m.content new p) h))))
 
   read_keeps : (asked : ReadIn) (n : Node) → Keeps (read s asked n)
   read_keeps asked n =
@@ -258,7 +263,8 @@ module _ (s : State) (h : HoldsBytes s) where
     exchanged_bytes : (dir : ℕ) (e other : EntryRow) → HoldsBytes (exchanged r dir e other s)
     exchanged_bytes dir e other =
         both_bytes dir _ (mark_bytes e.child r.now _ (mark_bytes other.child r.now _
-        (placed_bytes r.new_dir r.new_name e.child _ new (placed_bytes dir r.old_name other.child _ old (without_bytes other.cookie _ (without_bytes e.cookie s h))))))
+        (placed_bytes r.new_dir r.new_name e.child _ new
+        (placed_bytes dir r.old_name other.child _ old (without_bytes other.cookie _ (without_bytes e.cookie s h))))))
 
     room_keeps : (dir : ℕ) (e : EntryRow) (other : Option EntryRow) → Keeps (rename_with_room s r dir e other)
     room_keeps dir e other = chosen (nat_le number_end s.next_cookie) _ _ (stays s _ h) (leads (renamed r dir e other s) [] (renamed_bytes dir e other))

@@ -25,7 +25,8 @@ module _ (s : State) (change : Node → Node) (same : (n : Node) → SamePlace n
   places : (n : Node) → SamePlace n (changed_at d.number change n)
   places n = place n (eqb n.number d.number)
 
-  node_then : (n : Node) → IsNode s.next_node (change d) → IsNode s.next_node n → (n.number ≡ d.number → n ≡ d) → (b : Bool) → eqb n.number d.number ≡ b → IsNode s.next_node (cond b (change n) n)
+  node_then : (n : Node) → IsNode s.next_node (change d) → IsNode s.next_node n → (n.number ≡ d.number → n ≡ d) → (b : Bool) → eqb n.number d.number ≡ b
+      → IsNode s.next_node (cond b (change n) n)
   node_then n ok p one true is = subst (λ (m : Node). IsNode s.next_node (change m)) (sym (one (eqb-true n.number d.number is))) ok
   node_then n ok p one false is = p
 
@@ -45,7 +46,8 @@ module _ (s : State) (change : Node → Node) (same : (n : Node) → SamePlace n
     number : row.node ≡ d.number
     number = sym (ap (λ (x : Full). x.row.node) here) ∙ (same d).number
 
-    each_then : (n : Node) → (n.number ≡ d.number → n ≡ d) → (b : Bool) → eqb n.number d.number ≡ b → at_node d.number f (with_row row (full_of s n)) ≡ full_of s (cond b (change n) n)
+    each_then : (n : Node) → (n.number ≡ d.number → n ≡ d) → (b : Bool) → eqb n.number d.number ≡ b
+        → at_node d.number f (with_row row (full_of s n)) ≡ full_of s (cond b (change n) n)
     each_then n one true is =
         let n_is : n ≡ d = one (eqb-true n.number d.number is) in
         subst (λ (m : Node). at_node d.number f (with_row row (full_of s m)) ≡ full_of s (change m)) (sym n_is)
@@ -54,7 +56,8 @@ module _ (s : State) (change : Node → Node) (same : (n : Node) → SamePlace n
         let other : n.number ≢ row.node = λ e. eqb-false n.number d.number is (e ∙ number) in
         rw (ne_eqb n.number row.node other, is) refl
 
-    each : (ns : List Node) → AllByRecursion (λ n. n.number ≡ d.number → n ≡ d) ns → map (at_node d.number f) (map (with_row row) (map (full_of s) ns)) ≡ map (full_of after) (map (changed_at d.number change) ns)
+    each : (ns : List Node) → AllByRecursion (λ n. n.number ≡ d.number → n ≡ d) ns
+        → map (at_node d.number f) (map (with_row row) (map (full_of s) ns)) ≡ map (full_of after) (map (changed_at d.number change) ns)
     each [] one = refl
     each (n ∷ ns) one =
         let head : at_node d.number f (with_row row (full_of s n)) ≡ full_of after (changed_at d.number change n) =
@@ -67,4 +70,5 @@ module _ (s : State) (change : Node → Node) (same : (n : Node) → SamePlace n
         ap (map (at_node d.number f)) (put_there s row d (subst (λ (k : ℕ). node_at s k ≡ Some d) (sym number) e))
         ∙ each s.nodes (only_one d.number d s.nodes tree.nodes_rise e) in
         ap (λ (fs : List Full). record (rows_of_state s) { nodes = fs }) nodes
-        ∙ ap (λ (n : ℕ). record (rows_of_state after) { counters = record (counters_of s) { nodes = n } }) (sym (length-map s.nodes (changed_at d.number change)))
+        ∙ ap (λ (n : ℕ). record (rows_of_state after) { counters = record (counters_of s) { nodes = n } })
+        (sym (length-map s.nodes (changed_at d.number change)))

@@ -1,5 +1,6 @@
 -- The changes of each plan over the rows of a tree fit a table.
-use Rattle.std.proofs.Common.{◌≡◌, ◌+◌, ◌-◌, ◌<◌, ◌≤◌, ◌==◌, ◌&&◌, ◌||◌, ◌^◌, ℕ, Bool, true, false, cond, not, eqb, List, [], ◌∷◌, ◌++◌, length, map, Option, Some, None, is_some, refl, sym, subst, inl, inr, arith}
+use Rattle.std.proofs.Common.{◌≡◌, ◌+◌, ◌-◌, ◌<◌, ◌≤◌, ◌==◌, ◌&&◌, ◌||◌, ◌^◌, ℕ, Bool, true, false, cond, not, eqb, List, [], ◌∷◌, ◌++◌, length, map, Option}
+use Rattle.std.proofs.Common.{Some, None, is_some, refl, sym, subst, inl, inr, arith}
 use Rattle.std.specs.Prelude.{nat_eq, nat_lt, nat_le}
 use Rattle.std.specs.Cmp.Lexicographic.{pointwise}
 use Rattle.std.specs.List.{AllByRecursion, list_any}
@@ -53,139 +54,16 @@ use Rattle.fuse_tree.specs.PlanWriting.{plan_written, plan_write, plan_read}
 use Rattle.fuse_tree.specs.PlanListing.{rows_behind, plan_read_dir}
 use Rattle.fuse_tree.specs.PlanOpening.{plan_opened, plan_open_node, plan_open_for, plan_open, plan_open_dir, plan_closed, plan_close}
 use Rattle.fuse_tree.specs.PlanRemoving.{link_of, link_at, plan_gone, plan_unlink_link, plan_unlink, plan_rmdir_link, plan_rmdir}
-use Rattle.fuse_tree.specs.PlanRenaming.{is_same_link, row_holds, other_at, new_dir_at, link_fault, lost_changes, dir_row, dirs_changes, rename_changes, exchange_changes, is_dir_link, is_dir_other, plan_rename_link, plan_exchange_link, plan_rename_from, plan_rename_between, plan_rename}
+use Rattle.fuse_tree.specs.PlanRenaming.{is_same_link, row_holds, other_at, new_dir_at, link_fault, lost_changes, dir_row, dirs_changes, rename_changes}
+use Rattle.fuse_tree.specs.PlanRenaming.{exchange_changes, is_dir_link, is_dir_other, plan_rename_link, plan_exchange_link, plan_rename_from}
+use Rattle.fuse_tree.specs.PlanRenaming.{plan_rename_between, plan_rename}
 use Rattle.fuse_tree.specs.Renaming.{Renaming, is_exchange, is_no_replace, asking, asked_fault}
 use Rattle.fuse_tree.specs.Reading.{refused_for, child_at}
 use Rattle.fuse_tree.proofs.Lists.{and_true, any_gives, cond_found, found}
 use Rattle.fuse_tree.proofs.Trees.{nodes_below, children_below, dirs_below}
-
--- ---- the rows of a tree
-
-record SmallCounters (counters : CountersRow) : Type 0 where
-  next_node : counters.next_node ≤ number_end
-  next_fh : counters.next_fh ≤ number_end
-  next_cookie : counters.next_cookie ≤ number_end
-  nodes : counters.nodes ≤ node_limit
-  handles : counters.handles ≤ handle_limit
-
--- the rows fit, and each counter has room for one more
-record Small (rows : Rows) : Type 0 where
-  nodes : AllByRecursion (λ f. FitsNode f.row) rows.nodes
-  entries : AllByRecursion FitsEntry rows.entries
-  handles : AllByRecursion FitsHandle rows.handles
-  counters : SmallCounters rows.counters
-
--- where the numbers of the nodes end
-below : (s : State) (n : ℕ) → Tree s → n < s.next_node → n < 2 ^ 63
-below s n tree lt = omega (arith, tree.limits.next_node)
-
-up_small : (entries : List EntryRow) (number : ℕ) → AllByRecursion (λ e. e.dir < 2 ^ 63) entries → up_of entries number < 2 ^ 63
-up_small [] number all = omega arith
-up_small (e ∷ entries) number all =
-    let here : e.dir < 2 ^ 63 = all.0 in
-    let rest = up_small entries number all.1 in
-    elim (eqb e.child number) as (λ b. cond b e.dir (up_of entries number) < 2 ^ 63) [ true ↦ here | false ↦ rest ]
-
-dirs_small : (s : State) (es : List EntryRow) → Tree s → AllByRecursion (λ e. e.dir < s.next_node) es → AllByRecursion (λ e. e.dir < 2 ^ 63) es
-dirs_small s [] tree all = tt
-dirs_small s (e ∷ es) tree all = (below s e.dir tree all.0, dirs_small s es tree all.1)
-
-nodes_small : (s : State) (ns : List Node) → Tree s → AllByRecursion (IsNode s.next_node) ns → AllByRecursion (λ f. FitsNode f.row) (map (full_of s) ns)
-nodes_small s [] tree all = tt
-nodes_small s (n ∷ ns) tree all =
-    (record { node = below s n.number tree all.0.below; up = up_small s.entries n.number (dirs_small s s.entries tree (dirs_below s tree)); size = omega (arith, all.0.size) }, nodes_small s ns tree all.1)
-
-entries_small : (s : State) (es : List EntryRow) → Tree s → AllByRecursion (IsEntry s.nodes s.entries s.next_cookie) es
-    → AllByRecursion (λ e. e.child < s.next_node) es → AllByRecursion (λ e. e.dir < s.next_node) es → AllByRecursion FitsEntry es
-entries_small s [] tree all children dirs = tt
-entries_small s (e ∷ es) tree all children dirs =
-    (record { dir = below s e.dir tree dirs.0; child = below s e.child tree children.0; cookie = omega (arith, all.0.below, tree.limits.next_cookie) }, entries_small s es tree all.1 children.1 dirs.1)
-
-open_below : (s : State) (h : HandleRow) → Tree s → list_any (is_open_at h) s.nodes ≡ true → h.node < s.next_node
-open_below s h tree is =
-    any_gives (λ n. n.number < s.next_node) (is_open_at h) (h.node < s.next_node) s.nodes (nodes_below s tree) is
-    (λ n lt passes. let lt : n.number < s.next_node = lt in let same : n.number ≡ h.node = eqb-true n.number h.node (and_true _ _ passes).0 in omega arith)
-
-handles_small : (s : State) (hs : List HandleRow) → Tree s → AllByRecursion (IsHandle s.nodes s.next_fh) hs → AllByRecursion FitsHandle hs
-handles_small s [] tree all = tt
-handles_small s (h ∷ hs) tree all =
-    (record { fh = omega (arith, all.0.below, tree.limits.next_fh); node = below s h.node tree (open_below s h tree all.0.node) }, handles_small s hs tree all.1)
-
-small : (s : State) → Tree s → Small (rows_of_state s)
-small s tree = record {
-  nodes = nodes_small s s.nodes tree tree.nodes;
-  entries = entries_small s s.entries tree tree.entries (children_below s tree) (dirs_below s tree);
-  handles = handles_small s s.handles tree tree.handles;
-  counters = record {
-    next_node = tree.limits.next_node;
-    next_fh = tree.limits.next_fh;
-    next_cookie = tree.limits.next_cookie;
-    nodes = tree.limits.nodes;
-    handles = tree.limits.handles;
-  };
-}
-
--- ---- what is found among them
-
-row_small : (rows : Rows) (number : ℕ) (row : NodeRow) (o : Option Full) → Small rows → full_at rows number ≡ o → option_map (λ f. f.row) o ≡ Some row → FitsNode row × (row.node ≡ number)
-row_small rows number row None all e is = absurd cc
-row_small rows number row (Some f) all e is =
-    let p = found (λ g. FitsNode g.row) (λ g. g.row.node == number) rows.nodes f all.nodes e in
-    let same : f.row ≡ row = cc in
-    let number_is : f.row.node ≡ number = eqb-true f.row.node number p.1 in
-    subst (λ (r : NodeRow). FitsNode r × (r.node ≡ number)) same (p.0, number_is)
-
-found_small : (rows : Rows) (number : ℕ) (row : NodeRow) → Small rows → row_at rows number ≡ Some row → FitsNode row × (row.node ≡ number)
-found_small rows number row all e = row_small rows number row (full_at rows number) all refl e
-
-record FitsLink (link : Link) : Type 0 where
-  cookie : link.cookie < 2 ^ 63
-  child : FitsNode link.child
-
--- what is found leads to what fits
-abbrev FitsFound : Option Link → Type 0
-FitsFound None = Unit {0}
-FitsFound (Some link) = FitsLink link
-
-link_of_row : (rows : Rows) (e : EntryRow) (o : Option NodeRow) → Small rows → FitsEntry e → row_at rows e.child ≡ o → FitsFound (option_map (λ child. record { cookie = e.cookie; child = child }) o)
-link_of_row rows e None all p is = tt
-link_of_row rows e (Some row) all p is = record { cookie = p.cookie; child = (found_small rows e.child row all is).0 }
-
-link_of_entry : (rows : Rows) (dir : ℕ) (name : List ℕ) (o : Option EntryRow) → Small rows → entry_at rows.entries dir name ≡ o → FitsFound (link_of rows o)
-link_of_entry rows dir name None all is = tt
-link_of_entry rows dir name (Some e) all is = link_of_row rows e (row_at rows e.child) all (found FitsEntry (is_entry dir name) rows.entries e all.entries is).0 refl
-
-link_small : (rows : Rows) (dir : ℕ) (name : List ℕ) → Small rows → FitsFound (link_at rows dir name)
-link_small rows dir name all = link_of_entry rows dir name (entry_at rows.entries dir name) all refl
-
--- a handle that is open has a number that fits
-open_small : (rows : Rows) (fh node : ℕ) (o : Option HandleRow) → Small rows → handle_at rows.handles fh ≡ o → is_some (access_in node o) ≡ true → fh < 2 ^ 63
-open_small rows fh node None all is there = absurd cc
-open_small rows fh node (Some h) all is there =
-    let p = found FitsHandle (λ x. x.fh == fh) rows.handles h all.handles is in
-    let same : h.fh ≡ fh = eqb-true h.fh fh p.1 in
-    omega (arith, p.0.fh)
-
--- ---- what a plan is
-
-record Fit (p : Planned) : Type 0 where
-  columns : FitColumns p.changes
-
-nothing : (p : Planned) → p.changes ≡ [] → Fit p
-nothing p none = record { columns = subst FitColumns (sym none) tt }
-
--- behind a check that changes nothing
-past : (b : Bool) (p q : Planned) → p.changes ≡ [] → (b ≡ false → Fit q) → Fit (cond b p q)
-past true p q none so = nothing p none
-past false p q none so = so refl
-
-unless : (fault : Option Errno) (p : Planned) → (fault ≡ None → Fit p) → Fit (refused_for fault p)
-unless None p so = so refl
-unless (Some errno) p so = nothing _ refl
-
-joined : (xs ys : List Change) → FitColumns xs → FitColumns ys → FitColumns (xs ++ ys)
-joined [] ys all more = more
-joined (x ∷ xs) ys all more = (all.0, joined xs ys all.1 more)
+use Rattle.fuse_tree.proofs.SmallRows.{SmallCounters, Small, below, up_small, dirs_small, nodes_small, entries_small, open_below, handles_small, small}
+use Rattle.fuse_tree.proofs.SmallRows.{row_small, found_small, FitsLink, FitsFound, link_of_row, link_of_entry, link_small, open_small, Fit, nothing, past}
+use Rattle.fuse_tree.proofs.SmallRows.{unless, joined}
 
 -- ---- LOOKUP
 
@@ -194,11 +72,14 @@ child_fits None = nothing _ refl
 child_fits (Some child) = nothing _ refl
 
 lookup_fits : (name : List ℕ) (row : NodeRow) (rows : Rows) → Fit (plan_lookup name row rows)
-lookup_fits name row rows = past (not (is_dir row.mode)) _ _ refl (λ _. unless (name_fault name) _ (λ _. past (not (row_is_named row)) _ _ refl (λ _. child_fits (child_at rows row.node name))))
+lookup_fits name row rows =
+    past (not (is_dir row.mode)) _ _ refl
+    (λ _. unless (name_fault name) _ (λ _. past (not (row_is_named row)) _ _ refl (λ _. child_fits (child_at rows row.node name))))
 
 -- ---- MKNOD and MKDIR
 
-new_fits : (counters : CountersRow) (fresh : NewNode) (name : List ℕ) (row : NodeRow) → SmallCounters counters → FitsNode row → Fit (plan_new counters fresh name row)
+new_fits : (counters : CountersRow) (fresh : NewNode) (name : List ℕ) (row : NodeRow) → SmallCounters counters → FitsNode row
+    → Fit (plan_new counters fresh name row)
 new_fits counters fresh name row few fits =
     let node : counters.next_node + 1 < 2 ^ 63 = omega (arith, few.next_node) in
     let cookie : counters.next_cookie + 1 < 2 ^ 63 = omega (arith, few.next_cookie) in
@@ -209,7 +90,16 @@ new_fits counters fresh name row few fits =
           record { node = omega arith; up = fits.node; size = omega arith },
           (
             record { dir = fits.node; child = omega arith; cookie = omega arith },
-            (record { next_node = node; next_fh = omega (arith, few.next_fh); next_cookie = cookie; nodes = omega (arith, few.nodes); handles = omega (arith, few.handles) }, tt),
+            (
+              record {
+                next_node = node;
+                next_fh = omega (arith, few.next_fh);
+                next_cookie = cookie;
+                nodes = omega (arith, few.nodes);
+                handles = omega (arith, few.handles);
+              },
+              tt,
+            ),
           ),
         ),
       );
@@ -219,15 +109,20 @@ make_fits : (fresh : NewNode) (name : List ℕ) (row : NodeRow) (rows : Rows) �
 make_fits fresh name row rows all fits =
     past (not (row_is_named row)) _ _ refl
     (λ _. past (is_some (entry_at rows.entries row.node name)) _ _ refl
-    (λ _. past (is_full rows.counters.nodes rows.counters.next_node rows.counters.next_cookie) _ _ refl (λ _. new_fits rows.counters fresh name row all.counters fits)))
+    (λ _. past (is_full rows.counters.nodes rows.counters.next_node rows.counters.next_cookie) _ _ refl
+    (λ _. new_fits rows.counters fresh name row all.counters fits)))
 
-mkdir_fits : (header : InHeader) (mode : ℕ) (name : List ℕ) (now : Moment) (row : NodeRow) (rows : Rows) → Small rows → FitsNode row → Fit (plan_mkdir header mode name now row rows)
-mkdir_fits header mode name now row rows all fits = past (not (is_dir row.mode)) _ _ refl (λ _. unless (name_fault name) _ (λ _. make_fits (begun header (dir_mode mode) 0 now) name row rows all fits))
+mkdir_fits : (header : InHeader) (mode : ℕ) (name : List ℕ) (now : Moment) (row : NodeRow) (rows : Rows) → Small rows → FitsNode row
+    → Fit (plan_mkdir header mode name now row rows)
+mkdir_fits header mode name now row rows all fits =
+    past (not (is_dir row.mode)) _ _ refl (λ _. unless (name_fault name) _ (λ _. make_fits (begun header (dir_mode mode) 0 now) name row rows all fits))
 
-mknod_fits : (header : InHeader) (mode rdev : ℕ) (name : List ℕ) (now : Moment) (row : NodeRow) (rows : Rows) → Small rows → FitsNode row → Fit (plan_mknod header mode rdev name now row rows)
+mknod_fits : (header : InHeader) (mode rdev : ℕ) (name : List ℕ) (now : Moment) (row : NodeRow) (rows : Rows) → Small rows → FitsNode row
+    → Fit (plan_mknod header mode rdev name now row rows)
 mknod_fits header mode rdev name now row rows all fits =
     past (not (is_dir row.mode)) _ _ refl
-    (λ _. past (not (may_make (type_bits mode))) _ _ refl (λ _. unless (name_fault name) _ (λ _. make_fits (begun header (node_mode mode) (node_rdev mode rdev) now) name row rows all fits)))
+    (λ _. past (not (may_make (type_bits mode))) _ _ refl
+    (λ _. unless (name_fault name) _ (λ _. make_fits (begun header (node_mode mode) (node_rdev mode rdev) now) name row rows all fits)))
 
 -- ---- SETATTR, WRITE and READ
 
@@ -248,7 +143,8 @@ setattr_fits set now row fits = unless (set_fault set row.mode) _ (λ none. reco
     sizes true none = (record { node = fits.node; up = fits.up; size = size_is none }, ((fits.node, size_is none), tt))
     sizes false none = (record { node = fits.node; up = fits.up; size = fits.size }, tt)
 
-written_fits : (offset : ℕ) (payload : List ℕ) (now : Moment) (row : NodeRow) → FitsNode row → offset + length payload ≤ 16777216 → Fit (plan_written offset payload now row)
+written_fits : (offset : ℕ) (payload : List ℕ) (now : Moment) (row : NodeRow) → FitsNode row → offset + length payload ≤ 16777216
+    → Fit (plan_written offset payload now row)
 written_fits offset payload now row fits few =
     let size : row.size ≤ 16777216 = fits.size in
     record { columns = (record { node = fits.node; up = fits.up; size = omega arith }, ((fits.node, few), tt)) }
@@ -257,11 +153,13 @@ write_fits : (fh offset : ℕ) (payload : List ℕ) (now : Moment) (row : NodeRo
 write_fits fh offset payload now row rows fits =
     past (not (may_write (access_at rows.handles fh row.node))) _ _ refl
     (λ _. past (length payload == 0) _ _ refl
-    (λ _. past (nat_lt file_limit (offset + length payload)) _ _ refl (λ few. written_fits offset payload now row fits (ltb-false file_limit (offset + length payload) few))))
+    (λ _. past (nat_lt file_limit (offset + length payload)) _ _ refl
+    (λ few. written_fits offset payload now row fits (ltb-false file_limit (offset + length payload) few))))
 
 read_fits : (asked : ReadIn) (row : NodeRow) (rows : Rows) → Fit (plan_read asked row rows)
 read_fits asked row rows =
-    past (not (may_read (access_at rows.handles asked.fh row.node))) _ _ refl (λ _. past (is_dir row.mode) _ _ refl (λ _. past (nat_lt read_limit asked.size) _ _ refl (λ _. nothing _ refl)))
+    past (not (may_read (access_at rows.handles asked.fh row.node))) _ _ refl
+    (λ _. past (is_dir row.mode) _ _ refl (λ _. past (nat_lt read_limit asked.size) _ _ refl (λ _. nothing _ refl)))
 
 -- ---- READDIR
 
@@ -281,19 +179,30 @@ opened_fits counters access node few fits =
     record {
       columns = (
         record { fh = omega arith; node = fits },
-        (record { next_node = omega (arith, few.next_node); next_fh = fh; next_cookie = omega (arith, few.next_cookie); nodes = omega (arith, few.nodes); handles = omega (arith, few.handles) }, tt),
+        (
+          record {
+            next_node = omega (arith, few.next_node);
+            next_fh = fh;
+            next_cookie = omega (arith, few.next_cookie);
+            nodes = omega (arith, few.nodes);
+            handles = omega (arith, few.handles);
+          },
+          tt,
+        ),
       );
     }
 
 open_node_fits : (access : AccessMode) (node : ℕ) (rows : Rows) → Small rows → node < 2 ^ 63 → Fit (plan_open_node access node rows)
-open_node_fits access node rows all fits = unless (open_fault rows.counters.handles rows.counters.next_fh) _ (λ _. opened_fits rows.counters access node all.counters fits)
+open_node_fits access node rows all fits =
+    unless (open_fault rows.counters.handles rows.counters.next_fh) _ (λ _. opened_fits rows.counters access node all.counters fits)
 
 open_for_fits : (o : Option AccessMode) (row : NodeRow) (rows : Rows) → Small rows → FitsNode row → Fit (plan_open_for o row rows)
 open_for_fits None row rows all fits = nothing _ refl
 open_for_fits (Some access) row rows all fits = open_node_fits access row.node rows all fits.node
 
 open_fits : (flags : ℕ) (row : NodeRow) (rows : Rows) → Small rows → FitsNode row → Fit (plan_open flags row rows)
-open_fits flags row rows all fits = past (is_dir row.mode) _ _ refl (λ _. past (not (is_file row.mode)) _ _ refl (λ _. open_for_fits (access_of flags) row rows all fits))
+open_fits flags row rows all fits =
+    past (is_dir row.mode) _ _ refl (λ _. past (not (is_file row.mode)) _ _ refl (λ _. open_for_fits (access_of flags) row rows all fits))
 
 open_dir_fits : (row : NodeRow) (rows : Rows) → Small rows → FitsNode row → Fit (plan_open_dir row rows)
 open_dir_fits row rows all fits = past (not (is_dir row.mode)) _ _ refl (λ _. open_node_fits ReadOnly row.node rows all fits.node)
@@ -302,7 +211,16 @@ closed_fits : (counters : CountersRow) (fh : ℕ) → SmallCounters counters →
 closed_fits counters fh few fits = record {
   columns = (
     fits,
-    (record { next_node = omega (arith, few.next_node); next_fh = omega (arith, few.next_fh); next_cookie = omega (arith, few.next_cookie); nodes = omega (arith, few.nodes); handles = omega (arith, few.handles) }, tt),
+    (
+      record {
+        next_node = omega (arith, few.next_node);
+        next_fh = omega (arith, few.next_fh);
+        next_cookie = omega (arith, few.next_cookie);
+        nodes = omega (arith, few.nodes);
+        handles = omega (arith, few.handles);
+      },
+      tt,
+    ),
   );
 }
 
@@ -313,7 +231,9 @@ isnt_not false e = absurd cc
 close_fits : (fh : ℕ) (fault : Option Errno) (node : ℕ) (rows : Rows) → Small rows → Fit (plan_close fh fault node rows)
 close_fits fh fault node rows all =
     past (not (is_open rows.handles fh node)) _ _ refl
-    (λ there. unless fault _ (λ _. closed_fits rows.counters fh all.counters (open_small rows fh node (handle_at rows.handles fh) all refl (isnt_not (is_open rows.handles fh node) there))))
+    (λ there. unless fault _
+    (λ _. closed_fits rows.counters fh all.counters
+    (open_small rows fh node (handle_at rows.handles fh) all refl (isnt_not (is_open rows.handles fh node) there))))
 
 -- ---- UNLINK and RMDIR
 
@@ -335,16 +255,19 @@ unlink_link_fits now row (Some link) there fits = past (is_dir link.child.mode) 
 unlink_fits : (name : List ℕ) (now : Moment) (row : NodeRow) (rows : Rows) → Small rows → FitsNode row → Fit (plan_unlink name now row rows)
 unlink_fits name now row rows all fits =
     past (not (is_dir row.mode)) _ _ refl
-    (λ _. unless (name_fault name) _ (λ _. past (not (row_is_named row)) _ _ refl (λ _. unlink_link_fits now row (link_at rows row.node name) (link_small rows row.node name all) fits)))
+    (λ _. unless (name_fault name) _
+    (λ _. past (not (row_is_named row)) _ _ refl (λ _. unlink_link_fits now row (link_at rows row.node name) (link_small rows row.node name all) fits)))
 
 rmdir_link_fits : (now : Moment) (row : NodeRow) (rows : Rows) (o : Option Link) → FitsFound o → FitsNode row → Fit (plan_rmdir_link now row rows o)
 rmdir_link_fits now row rows None there fits = nothing _ refl
-rmdir_link_fits now row rows (Some link) there fits = past (not (is_dir link.child.mode)) _ _ refl (λ _. past (has_entries rows.entries link.child.node) _ _ refl (λ _. gone_fits now link row there fits))
+rmdir_link_fits now row rows (Some link) there fits =
+    past (not (is_dir link.child.mode)) _ _ refl (λ _. past (has_entries rows.entries link.child.node) _ _ refl (λ _. gone_fits now link row there fits))
 
 rmdir_fits : (name : List ℕ) (now : Moment) (row : NodeRow) (rows : Rows) → Small rows → FitsNode row → Fit (plan_rmdir name now row rows)
 rmdir_fits name now row rows all fits =
     past (not (is_dir row.mode)) _ _ refl
-    (λ _. unless (name_fault name) _ (λ _. past (not (row_is_named row)) _ _ refl (λ _. rmdir_link_fits now row rows (link_at rows row.node name) (link_small rows row.node name all) fits)))
+    (λ _. unless (name_fault name) _
+    (λ _. past (not (row_is_named row)) _ _ refl (λ _. rmdir_link_fits now row rows (link_at rows row.node name) (link_small rows row.node name all) fits)))
 
 -- ---- RENAME and RENAME2
 
@@ -354,7 +277,9 @@ dirs_fit r from to moves comes lost one two = step (from.node == r.new_dir)
     after : (leaves enters : Bool) → FitsNode from → FitsNode (dir_row r.now leaves enters from)
     after leaves enters fits = record { node = fits.node; up = fits.up; size = fits.size }
 
-    step : (b : Bool) → FitColumns (cond b (changes.Node (dir_row r.now lost comes from) ∷ []) (changes.Node (dir_row r.now moves comes from) ∷ changes.Node (dir_row r.now lost moves to) ∷ []))
+    step : (b : Bool)
+        → FitColumns (cond b (changes.Node (dir_row r.now lost comes from) ∷ [])
+        (changes.Node (dir_row r.now moves comes from) ∷ changes.Node (dir_row r.now lost moves to) ∷ []))
     step true = (after lost comes one, tt)
     step false = (after moves comes one, (record { node = two.node; up = two.up; size = two.size }, tt))
 
@@ -362,7 +287,8 @@ lost_fit : (now : Moment) (other : Option Link) → FitsFound other → FitColum
 lost_fit now None there = tt
 lost_fit now (Some other) there = (there.cookie, (record { node = there.child.node; up = omega arith; size = there.child.size }, tt))
 
-moved_fits : (r : Renaming) (counters : CountersRow) (from to : NodeRow) (source : Link) (other : Option Link) → SmallCounters counters → FitsNode from → FitsNode to → r.new_dir < 2 ^ 63 → FitsLink source → FitsFound other
+moved_fits : (r : Renaming) (counters : CountersRow) (from to : NodeRow) (source : Link) (other : Option Link) → SmallCounters counters → FitsNode from
+    → FitsNode to → r.new_dir < 2 ^ 63 → FitsLink source → FitsFound other
     → FitColumns (rename_changes r counters from to source other)
 moved_fits r counters from to source other few one two dir there given =
     let cookie : counters.next_cookie + 1 < 2 ^ 63 = omega (arith, few.next_cookie) in
@@ -371,11 +297,21 @@ moved_fits r counters from to source other few one two dir there given =
       record { node = there.child.node; up = dir; size = there.child.size },
       (
         record { dir = dir; child = there.child.node; cookie = omega arith },
-        (record { next_node = omega (arith, few.next_node); next_fh = omega (arith, few.next_fh); next_cookie = cookie; nodes = omega (arith, few.nodes); handles = omega (arith, few.handles) }, tt),
+        (
+          record {
+            next_node = omega (arith, few.next_node);
+            next_fh = omega (arith, few.next_fh);
+            next_cookie = cookie;
+            nodes = omega (arith, few.nodes);
+            handles = omega (arith, few.handles);
+          },
+          tt,
+        ),
       ),
     )
 
-exchanged_fits : (r : Renaming) (counters : CountersRow) (from to : NodeRow) (source other : Link) → SmallCounters counters → FitsNode from → FitsNode to → r.new_dir < 2 ^ 63 → FitsLink source → FitsLink other
+exchanged_fits : (r : Renaming) (counters : CountersRow) (from to : NodeRow) (source other : Link) → SmallCounters counters → FitsNode from → FitsNode to
+    → r.new_dir < 2 ^ 63 → FitsLink source → FitsLink other
     → FitColumns (exchange_changes r counters from to source other)
 exchanged_fits r counters from to source other few one two dir there given =
     let cookie : counters.next_cookie + 2 < 2 ^ 63 = omega (arith, few.next_cookie) in (
@@ -384,35 +320,49 @@ exchanged_fits r counters from to source other few one two dir there given =
         given.cookie,
         (
           record { node = given.child.node; up = one.node; size = given.child.size },
-          joined (dirs_changes r from to (is_dir_link source) (is_dir_link other) (is_dir_link other)) _ (dirs_fit r from to (is_dir_link source) (is_dir_link other) (is_dir_link other) one two) (
-            record { node = there.child.node; up = dir; size = there.child.size },
-            (
-              record { dir = one.node; child = given.child.node; cookie = omega arith },
-              (
-                record { dir = dir; child = there.child.node; cookie = omega arith },
-                (record { next_node = omega (arith, few.next_node); next_fh = omega (arith, few.next_fh); next_cookie = cookie; nodes = omega (arith, few.nodes); handles = omega (arith, few.handles) }, tt),
+          joined (dirs_changes r from to (is_dir_link source) (is_dir_link other) (is_dir_link other)) _
+              (dirs_fit r from to (is_dir_link source) (is_dir_link other) (is_dir_link other) one two) (
+                record { node = there.child.node; up = dir; size = there.child.size },
+                (
+                  record { dir = one.node; child = given.child.node; cookie = omega arith },
+                  (
+                    record { dir = dir; child = there.child.node; cookie = omega arith },
+                    (
+                      record {
+                        next_node = omega (arith, few.next_node);
+                        next_fh = omega (arith, few.next_fh);
+                        next_cookie = cookie;
+                        nodes = omega (arith, few.nodes);
+                        handles = omega (arith, few.handles);
+                      },
+                      tt,
+                    ),
+                  ),
+                ),
               ),
-            ),
-          ),
         ),
       ),
     )
 
-link_fits : (r : Renaming) (from to : NodeRow) (source : Link) (other : Option Link) (rows : Rows) → Small rows → FitsNode from → FitsNode to → r.new_dir < 2 ^ 63 → FitsLink source → FitsFound other
+link_fits : (r : Renaming) (from to : NodeRow) (source : Link) (other : Option Link) (rows : Rows) → Small rows → FitsNode from → FitsNode to
+    → r.new_dir < 2 ^ 63 → FitsLink source → FitsFound other
     → Fit (plan_rename_link r from to source other rows)
 link_fits r from to source other rows all one two dir there given =
     past (is_same_link source other) _ _ refl
     (λ _. past (row_holds rows source.child from.node r.new_dir) _ _ refl
     (λ _. unless (link_fault rows source other) _
-    (λ _. past (nat_le number_end rows.counters.next_cookie) _ _ refl (λ _. record { columns = moved_fits r rows.counters from to source other all.counters one two dir there given }))))
+    (λ _. past (nat_le number_end rows.counters.next_cookie) _ _ refl
+    (λ _. record { columns = moved_fits r rows.counters from to source other all.counters one two dir there given }))))
 
-exchange_fits : (r : Renaming) (from to : NodeRow) (source : Link) (other : Option Link) (rows : Rows) → Small rows → FitsNode from → FitsNode to → r.new_dir < 2 ^ 63 → FitsLink source → FitsFound other
+exchange_fits : (r : Renaming) (from to : NodeRow) (source : Link) (other : Option Link) (rows : Rows) → Small rows → FitsNode from → FitsNode to
+    → r.new_dir < 2 ^ 63 → FitsLink source → FitsFound other
     → Fit (plan_exchange_link r from to source other rows)
 exchange_fits r from to source None rows all one two dir there given = nothing _ refl
 exchange_fits r from to source (Some other) rows all one two dir there given =
     past (source.cookie == other.cookie) _ _ refl
     (λ _. past (row_holds rows source.child from.node r.new_dir || row_holds rows other.child r.new_dir from.node) _ _ refl
-    (λ _. past (nat_lt (number_end - 2) rows.counters.next_cookie) _ _ refl (λ _. record { columns = exchanged_fits r rows.counters from to source other all.counters one two dir there given })))
+    (λ _. past (nat_lt (number_end - 2) rows.counters.next_cookie) _ _ refl
+    (λ _. record { columns = exchanged_fits r rows.counters from to source other all.counters one two dir there given })))
 
 chosen : (b : Bool) (p q : Planned) → Fit p → Fit q → Fit (cond b p q)
 chosen true p q one two = one
@@ -422,22 +372,27 @@ either_found : (b : Bool) (o p : Option Link) → FitsFound o → FitsFound p �
 either_found true o p one two = one
 either_found false o p one two = two
 
-from_fits : (r : Renaming) (from to : NodeRow) (o : Option Link) (rows : Rows) → Small rows → FitsNode from → FitsNode to → r.new_dir < 2 ^ 63 → FitsFound o → Fit (plan_rename_from r from to o rows)
+from_fits : (r : Renaming) (from to : NodeRow) (o : Option Link) (rows : Rows) → Small rows → FitsNode from → FitsNode to → r.new_dir < 2 ^ 63 → FitsFound o
+    → Fit (plan_rename_from r from to o rows)
 from_fits r from to None rows all one two dir there = nothing _ refl
 from_fits r from to (Some source) rows all one two dir there =
     let other = other_at r from.node source rows in
-    let given = either_found ((from.node == r.new_dir) && pointwise nat_eq r.old_name r.new_name) (Some source) (link_at rows r.new_dir r.new_name) there (link_small rows r.new_dir r.new_name all) in
+    let given =
+    either_found ((from.node == r.new_dir) && pointwise nat_eq r.old_name r.new_name) (Some source) (link_at rows r.new_dir r.new_name) there
+    (link_small rows r.new_dir r.new_name all) in
     chosen (is_exchange r.mode) _ _ (exchange_fits r from to source other rows all one two dir there given)
     (past (is_no_replace r.mode && is_some other) _ _ refl (λ _. link_fits r from to source other rows all one two dir there given))
 
-new_dir_small : (new_dir : ℕ) (from to : NodeRow) (rows : Rows) → Small rows → FitsNode from → new_dir_at new_dir from rows ≡ Some to → FitsNode to × (to.node ≡ new_dir)
+new_dir_small : (new_dir : ℕ) (from to : NodeRow) (rows : Rows) → Small rows → FitsNode from → new_dir_at new_dir from rows ≡ Some to
+    → FitsNode to × (to.node ≡ new_dir)
 new_dir_small new_dir from to rows all one is =
     elim (cond_found (eqb from.node new_dir) from to (row_at rows new_dir) is) [
       | inl h ↦ subst (λ (row : NodeRow). FitsNode row × (row.node ≡ new_dir)) h.1 (one, eqb-true from.node new_dir h.0)
       | inr h ↦ found_small rows new_dir to all h.1
     ]
 
-between_fits : (r : Renaming) (from : NodeRow) (o : Option NodeRow) (rows : Rows) → Small rows → FitsNode from → new_dir_at r.new_dir from rows ≡ o → Fit (plan_rename_between r from o rows)
+between_fits : (r : Renaming) (from : NodeRow) (o : Option NodeRow) (rows : Rows) → Small rows → FitsNode from → new_dir_at r.new_dir from rows ≡ o
+    → Fit (plan_rename_between r from o rows)
 between_fits r from None rows all one is = nothing _ refl
 between_fits r from (Some to) rows all one is =
     let p = new_dir_small r.new_dir from to rows all one is in
@@ -465,10 +420,12 @@ act_fits header (acts.ReadDir x) now row rows all fits = read_dir_fits x row row
 act_fits header (acts.Release x) now row rows all fits = close_fits x.fh (not_for_dirs row.mode) row.node rows all
 act_fits header (acts.ReleaseDir x) now row rows all fits = close_fits x.fh (for_dirs_alone row.mode) row.node rows all
 act_fits header (acts.Rename new_dir old_name new_name) now row rows all fits = rename_fits (asking new_dir 0 old_name new_name now) row rows all fits
-act_fits header (acts.Rename2 new_dir flags old_name new_name) now row rows all fits = rename_fits (asking new_dir flags old_name new_name now) row rows all fits
+act_fits header (acts.Rename2 new_dir flags old_name new_name) now row rows all fits =
+    rename_fits (asking new_dir flags old_name new_name now) row rows all fits
 act_fits header _ now row rows all fits = nothing _ refl
 
-at_fits : (request : Asked) (now : Moment) (o : Option NodeRow) (rows : Rows) → Small rows → row_at rows request.header.nodeid ≡ o → Fit (plan_at request now o rows)
+at_fits : (request : Asked) (now : Moment) (o : Option NodeRow) (rows : Rows) → Small rows → row_at rows request.header.nodeid ≡ o
+    → Fit (plan_at request now o rows)
 at_fits request now None rows all is = nothing _ refl
 at_fits request now (Some row) rows all is = act_fits request.header request.act now row rows all (found_small rows request.header.nodeid row all is).0
 
@@ -495,7 +452,8 @@ init_fits (Refused errno) fits = nothing _ refl
 offered_fits : (request : Asked) (now : Moment) (offer : Option InitIn) (rows : Rows) → Small rows → Fit (plan_offered request now offer rows)
 offered_fits request now (Some offer) rows all = init_fits (agree offer) (agree_fits offer)
 offered_fits request now None rows all =
-    chosen (is_some rows.settings) _ _ (chosen (names_node request.act) _ _ (at_fits request now (row_at rows request.header.nodeid) rows all refl) (nothing _ refl)) (nothing _ refl)
+    chosen (is_some rows.settings) _ _
+    (chosen (names_node request.act) _ _ (at_fits request now (row_at rows request.header.nodeid) rows all refl) (nothing _ refl)) (nothing _ refl)
 
 pub plan_fits : (s : State) (request : Asked) (now : Moment) → Tree s → FitColumns (plan_of request now (rows_of_state s)).changes
 plan_fits s request now tree = (offered_fits request now (offer_of request.act) (rows_of_state s) (small s tree)).columns

@@ -1,5 +1,6 @@
 -- A listing is the same without entries that end past its size.
-use Rattle.std.proofs.Common.{◌≡◌, ◌<◌, ◌≤◌, ◌+◌, ◌-◌, ◌*◌, ℕ, zero, suc, Bool, true, false, cond, get_or, nat_lt, nat_le, List, [], ◌∷◌, ◌++◌, length, map, take, refl, sym, ap, ◌∙◌, arith}
+use Rattle.std.proofs.Common.{◌≡◌, ◌<◌, ◌≤◌, ◌+◌, ◌-◌, ◌*◌, ℕ, zero, suc, Bool, true, false, cond, get_or, nat_lt, nat_le, List, [], ◌∷◌, ◌++◌, length, map}
+use Rattle.std.proofs.Common.{take, refl, sym, ap, ◌∙◌, arith}
 use Rattle.std.specs.Prelude.{nat_eq, codes}
 use Rattle.std.specs.List.{sum_by, take-map}
 use Rattle.std.proofs.Math.Seq.{take-append-add}
@@ -23,7 +24,8 @@ use Rattle.fuse_tree.proofs.Fronts.{longest, front_upto, first_cut}
 one_len : (e : EntryRow) → sum_by row_len (e ∷ []) ≡ row_len e
 one_len e = let s = sum_by-cons row_len e [] in omega (arith, s)
 
-pub sum_more : (es : List EntryRow) (i : ℕ) (e : EntryRow) → i < length es → get_or es i e ≡ e → sum_by row_len (take (i + 1) es) ≡ sum_by row_len (take i es) + row_len e
+pub sum_more : (es : List EntryRow) (i : ℕ) (e : EntryRow) → i < length es → get_or es i e ≡ e
+    → sum_by row_len (take (i + 1) es) ≡ sum_by row_len (take i es) + row_len e
 sum_more es i e within is =
     ap (sum_by row_len) (take_more es i e within ∙ ap (λ (x : EntryRow). take i es ++ x ∷ []) is)
     ∙ sum_by-append row_len (take i es) (e ∷ []) ∙ ap (λ (n : ℕ). sum_by row_len (take i es) + n) (one_len e)
@@ -32,7 +34,8 @@ sum_grows : (es : List EntryRow) (n m : ℕ) → n ≤ m → sum_by row_len (tak
 sum_grows es zero m le = omega arith
 sum_grows es (suc n) zero le = absurd (omega (arith, le))
 sum_grows [] (suc n) (suc m) le = omega arith
-sum_grows (e ∷ es) (suc n) (suc m) le = let rest = sum_grows es n m (omega (arith, le)) in omega (arith, rest, sum_by-cons row_len e (take n es), sum_by-cons row_len e (take m es))
+sum_grows (e ∷ es) (suc n) (suc m) le =
+    let rest = sum_grows es n m (omega (arith, le)) in omega (arith, rest, sum_by-cons row_len e (take n es), sum_by-cons row_len e (take m es))
 
 sum_told : (rows : Rows) (es : List EntryRow) → sum_by packed_len (map (row_entry rows) es) ≡ sum_by row_len es
 sum_told rows [] = refl
@@ -51,7 +54,9 @@ dot ino off name = record { ino = ino; off = off; kind = type_of s_ifdir; name =
 pub dots_fit : (offset : ℕ) (row : NodeRow) → DotsFit (dots_behind offset row)
 dots_fit offset row = step (nat_lt offset 1) (nat_lt offset 2)
   where
-    step : (a b : Bool) → DotsFit (cond a (dot row.node 1 (codes ".") ∷ cond b (dot (row_above row) 2 (codes "..") ∷ []) []) (cond b (dot (row_above row) 2 (codes "..") ∷ []) []))
+    step : (a b : Bool)
+        → DotsFit (cond a (dot row.node 1 (codes ".") ∷ cond b (dot (row_above row) 2 (codes "..") ∷ []) [])
+        (cond b (dot (row_above row) 2 (codes "..") ∷ []) []))
     step true true = record { few = omega arith; sum = refl }
     step true false = record { few = omega arith; sum = refl }
     step false true = record { few = omega arith; sum = refl }
@@ -80,23 +85,31 @@ most_cut rows first es size left n room cut = step (nat_le m (length first + n))
         ∙ sum_by-append packed_len first (map (row_entry rows) (take j es))
         ∙ ap (λ (k : ℕ). sum_by packed_len first + k) (sum_told rows (take j es)) in
         let front = longest all size in
-        let count : length all ≡ length first + length es = length-append first (map (row_entry rows) es) ∙ ap (λ (k : ℕ). length first + k) (length-map es (row_entry rows)) in
+        let count : length all ≡ length first + length es =
+        length-append first (map (row_entry rows) es) ∙ ap (λ (k : ℕ). length first + k) (length-map es (row_entry rows)) in
         let over = cut.past (omega (arith, past, front.within, count)) in
         let grows = sum_grows es (n + 1) j (omega (arith, past)) in
         absurd (omega (arith, sums, over, grows, front.fits, room))
 
-cut_is : (rows : Rows) (first : List Entry) (es : List EntryRow) (n : ℕ) → first ++ map (row_entry rows) (take n es) ≡ take (length first + n) (first ++ map (row_entry rows) es)
+cut_is : (rows : Rows) (first : List Entry) (es : List EntryRow) (n : ℕ)
+    → first ++ map (row_entry rows) (take n es) ≡ take (length first + n) (first ++ map (row_entry rows) es)
 cut_is rows first es n = ap (λ (xs : List Entry). first ++ xs) (sym (take-map (row_entry rows) n es)) ∙ sym (take-append-add first (map (row_entry rows) es) n)
 
 -- where something is told, the rest may be left out
-pub same_told : (rows : Rows) (first : List Entry) (es : List EntryRow) (size left n : ℕ) → size ≤ sum_by packed_len first + left → 0 < length first + n → IsCut es left n
+pub same_told : (rows : Rows) (first : List Entry) (es : List EntryRow) (size left n : ℕ) → size ≤ sum_by packed_len first + left → 0 < length first + n
+    → IsCut es left n
     → plan_front (first ++ map (row_entry rows) (take n es)) size ≡ plan_front (first ++ map (row_entry rows) es) size
 same_told rows first es size left n room some cut =
     let all : List Entry = first ++ map (row_entry rows) es in
-    rw (cut_is rows first es n, first_cut all size (length first + n) some, front_upto all size (length first + n) (most_cut rows first es size left n room cut)) refl
+    rw (
+      cut_is rows first es n,
+      first_cut all size (length first + n) some,
+      front_upto all size (length first + n) (most_cut rows first es size left n room cut),
+    ) refl
 
 -- where nothing is
-pub none_told : (rows : Rows) (es : List EntryRow) (size : ℕ) → IsCut es size 0 → cond (nat_eq (length es) 0) (told []) (refused einval) ≡ plan_front (map (row_entry rows) es) size
+pub none_told : (rows : Rows) (es : List EntryRow) (size : ℕ) → IsCut es size 0
+    → cond (nat_eq (length es) 0) (told []) (refused einval) ≡ plan_front (map (row_entry rows) es) size
 none_told rows [] size cut = refl
 none_told rows (e ∷ es) size cut =
     let past : size < row_len e = let over = cut.past (omega arith) in omega (arith, over, one_len e) in

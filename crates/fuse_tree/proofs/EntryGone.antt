@@ -12,7 +12,8 @@ use Rattle.fuse_tree.proofs.Trees.{entry_moved}
 -- ---- going up
 
 -- without entries of node k, every other has the same directory above
-pub up_less : (test : EntryRow → Bool) (es : List EntryRow) (k j : ℕ) → AllByRecursion (λ e. test e ≡ false → e.child ≡ k) es → j ≢ k → up_of (filter test es) j ≡ up_of es j
+pub up_less : (test : EntryRow → Bool) (es : List EntryRow) (k j : ℕ) → AllByRecursion (λ e. test e ≡ false → e.child ≡ k) es → j ≢ k
+    → up_of (filter test es) j ≡ up_of es j
 up_less test [] k j only ne = refl
 up_less test (e ∷ es) k j only ne =
     let rest = up_less test es k j only.1 ne in
@@ -36,21 +37,24 @@ up_gone test (e ∷ es) k none =
     step (test e) refl
 
 -- each way up that begins elsewhere stays where the entry of a node without entries goes
-pub reaches_less : (test : EntryRow → Bool) (es : List EntryRow) (k : ℕ) → AllByRecursion (λ e. test e ≡ false → e.child ≡ k) es → AllByRecursion (λ e. e.dir ≢ k) es → 0 ≢ k → (j : ℕ) → j ≢ k → Reaches es j → Reaches (filter test es) j
+pub reaches_less : (test : EntryRow → Bool) (es : List EntryRow) (k : ℕ) → AllByRecursion (λ e. test e ≡ false → e.child ≡ k) es
+    → AllByRecursion (λ e. e.dir ≢ k) es → 0 ≢ k → (j : ℕ) → j ≢ k → Reaches es j → Reaches (filter test es) j
 reaches_less test es k only dirs pos =
     reaches_same (λ j. j ≢ k) es (filter test es) (λ j ne. (up_less test es k j only ne, up_in (λ i. i ≢ k) es j dirs pos))
 
 -- ---- the tree
 
 -- a tree stays one without the entry of a node in which no entry stands
-pub tree_less : (s : State) (test : EntryRow → Bool) (k : ℕ) → AllByRecursion (λ e. test e ≡ false → e.child ≡ k) s.entries → AllByRecursion (λ e. e.dir ≢ k) s.entries → 0 ≢ k → Tree s → Tree (record s { entries = filter test s.entries })
+pub tree_less : (s : State) (test : EntryRow → Bool) (k : ℕ) → AllByRecursion (λ e. test e ≡ false → e.child ≡ k) s.entries
+    → AllByRecursion (λ e. e.dir ≢ k) s.entries → 0 ≢ k → Tree s → Tree (record s { entries = filter test s.entries })
 tree_less s test k only dirs pos tree = record {
   root = tree.root;
   nodes = tree.nodes;
   nodes_rise = tree.nodes_rise;
   entries = all_kept (IsEntry s.nodes (filter test s.entries) s.next_cookie) test s.entries
       (all_both (IsEntry s.nodes s.entries s.next_cookie) (λ e. e.dir ≢ k) (IsEntry s.nodes (filter test s.entries) s.next_cookie) s.entries
-      (λ e p apart. entry_moved s.nodes s.nodes s.entries (filter test s.entries) s.next_cookie s.next_cookie e (λ is. is) (λ is. is) (reaches_less test s.entries k only dirs pos e.dir apart) (omega arith) p) tree.entries dirs);
+      (λ e p apart. entry_moved s.nodes s.nodes s.entries (filter test s.entries) s.next_cookie s.next_cookie e (λ is. is) (λ is. is)
+      (reaches_less test s.entries k only dirs pos e.dir apart) (omega arith) p) tree.entries dirs);
   entries_apart = apart_filtered AreApart test s.entries tree.entries_apart;
   handles = tree.handles;
   handles_rise = tree.handles_rise;
@@ -77,12 +81,16 @@ pub record Standing (s : State) (e : EntryRow) : Type 0 where
   pub up : up_of s.entries e.child ≡ e.dir
   pub only : AllByRecursion (IsOnly e) s.entries
 
-only_found : (test : EntryRow → Bool) (es : List EntryRow) (e : EntryRow) → Apart AreApart es → find test es ≡ Some e → AllByRecursion (IsOnly e) es × (up_of es e.child ≡ e.dir)
+only_found : (test : EntryRow → Bool) (es : List EntryRow) (e : EntryRow) → Apart AreApart es → find test es ≡ Some e
+    → AllByRecursion (IsOnly e) es × (up_of es e.child ≡ e.dir)
 only_found test [] e apart is = absurd cc
 only_found test (x ∷ es) e apart is =
     elim (cond_found (test x) x e (find test es) is) [
       | inl h ↦ (
-        (record { cookie = λ _. h.1; child = λ _. h.1 }, all_more (AreApart e) (IsOnly e) es (λ y p. behind y p) (subst (λ (z : EntryRow). AllByRecursion (AreApart z) es) h.1 apart.0)),
+        (
+          record { cookie = λ _. h.1; child = λ _. h.1 },
+          all_more (AreApart e) (IsOnly e) es (λ y p. behind y p) (subst (λ (z : EntryRow). AllByRecursion (AreApart z) es) h.1 apart.0),
+        ),
         subst (λ (z : EntryRow). cond (eqb x.child z.child) x.dir (up_of es z.child) ≡ z.dir) h.1 (rw (eq-eqb x.child x.child refl) refl),
       )
       | inr h ↦ (
@@ -106,17 +114,22 @@ standing s test e tree is =
 -- ---- the test for another cookie
 
 -- what fails it has the child of the entry
-pub gone_only : (e : EntryRow) (es : List EntryRow) → AllByRecursion (IsOnly e) es → AllByRecursion (λ x. not (x.cookie == e.cookie) ≡ false → x.child ≡ e.child) es
-gone_only e es only = all_more (IsOnly e) (λ x. not (x.cookie == e.cookie) ≡ false → x.child ≡ e.child) es (λ x p fails. ap (λ (y : EntryRow). y.child) (p.cookie (eqb-true x.cookie e.cookie (not_false _ fails)))) only
+pub gone_only : (e : EntryRow) (es : List EntryRow) → AllByRecursion (IsOnly e) es
+    → AllByRecursion (λ x. not (x.cookie == e.cookie) ≡ false → x.child ≡ e.child) es
+gone_only e es only =
+    all_more (IsOnly e) (λ x. not (x.cookie == e.cookie) ≡ false → x.child ≡ e.child) es
+    (λ x p fails. ap (λ (y : EntryRow). y.child) (p.cookie (eqb-true x.cookie e.cookie (not_false _ fails)))) only
   where
     not_false : (b : Bool) → not b ≡ false → b ≡ true
     not_false true is = refl
     not_false false is = absurd cc
 
 -- and what passes it has another child
-pub left_others : (e : EntryRow) (es : List EntryRow) → AllByRecursion (IsOnly e) es → AllByRecursion (λ x. not (x.cookie == e.cookie) ≡ true → x.child ≢ e.child) es
+pub left_others : (e : EntryRow) (es : List EntryRow) → AllByRecursion (IsOnly e) es
+    → AllByRecursion (λ x. not (x.cookie == e.cookie) ≡ true → x.child ≢ e.child) es
 left_others e es only =
-    all_more (IsOnly e) (λ x. not (x.cookie == e.cookie) ≡ true → x.child ≢ e.child) es (λ x p passes same. eqb-false x.cookie e.cookie (not_true _ passes) (ap (λ (y : EntryRow). y.cookie) (p.child same))) only
+    all_more (IsOnly e) (λ x. not (x.cookie == e.cookie) ≡ true → x.child ≢ e.child) es
+    (λ x p passes same. eqb-false x.cookie e.cookie (not_true _ passes) (ap (λ (y : EntryRow). y.cookie) (p.child same))) only
   where
     not_true : (b : Bool) → not b ≡ true → b ≡ false
     not_true true is = absurd cc

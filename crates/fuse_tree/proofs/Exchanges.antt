@@ -1,5 +1,6 @@
 -- Two children that change places: the rows, and the tree that goes on.
-use Rattle.std.proofs.Common.{◌≡◌, ◌≢◌, ◌≤◌, ◌+◌, ◌||◌, ◌==◌, ℕ, Bool, true, false, cond, eqb, List, [], ◌∷◌, ◌++◌, map, Some, refl, sym, ap, ◌∙◌, inl, inr, arith}
+use Rattle.std.proofs.Common.{◌≡◌, ◌≢◌, ◌≤◌, ◌+◌, ◌||◌, ◌==◌, ℕ, Bool, true, false, cond, eqb, List, [], ◌∷◌, ◌++◌, map, Some, refl, sym, ap, ◌∙◌, inl, inr}
+use Rattle.std.proofs.Common.{arith}
 use Rattle.std.specs.Prelude.{filter}
 use Rattle.std.specs.List.{AllByRecursion, list_any}
 use Rattle.std.proofs.lemmas.Bool.{ne_eqb, eq-eqb}
@@ -28,20 +29,27 @@ use Rattle.fuse_tree.proofs.RenameRows.{Shift, rows_shifted, dirs_rows, dirs_are
 
 -- the times of the directories and of both children, one after the other and at once
 times : (n : Node) (now : Moment) (a b c g : Bool)
-    → record n { mtime = cond a now (cond b now n.mtime); ctime = cond a now (cond b now (cond c now (cond g now n.ctime))) } ≡ record n { mtime = cond (a || b) now n.mtime; ctime = cond ((a || b) || (c || g)) now n.ctime }
+    → record n {
+      mtime = cond a now (cond b now n.mtime);
+      ctime = cond a now (cond b now (cond c now (cond g now n.ctime)));
+    } ≡ record n { mtime = cond (a || b) now n.mtime; ctime = cond ((a || b) || (c || g)) now n.ctime }
 times n now true b c g = refl
 times n now false true c g = refl
 times n now false false true g = refl
 times n now false false false true = refl
 times n now false false false false = refl
 
-each_timed : (dir to x y : ℕ) (now : Moment) (ns : List Node) → map (touched to now) (map (touched dir now) (map (marked x now) (map (marked y now) ns))) ≡ map (timed (λ k. (k == to) || (k == dir)) (λ k. (k == x) || (k == y)) now) ns
+each_timed : (dir to x y : ℕ) (now : Moment) (ns : List Node)
+    → map (touched to now) (map (touched dir now) (map (marked x now) (map (marked y now) ns))) ≡ map
+    (timed (λ k. (k == to) || (k == dir)) (λ k. (k == x) || (k == y)) now) ns
 each_timed dir to x y now [] = refl
 each_timed dir to x y now (n ∷ ns) = rw (times n now (eqb n.number to) (eqb n.number dir) (eqb n.number x) (eqb n.number y), each_timed dir to x y now ns) refl
 
 -- an entry e of directory d to node c and an entry f of directory t to node o
-module _ (s : State) (r : Renaming) (d t c o : Node) (e f : EntryRow) (tree : Tree s) (at_d : node_at s d.number ≡ Some d) (at_t : node_at s r.new_dir ≡ Some t) (at_c : node_at s e.child ≡ Some c) (at_o : node_at s f.child ≡ Some o)
-    (at_e : entry_at s.entries d.number r.old_name ≡ Some e) (at_f : entry_at s.entries r.new_dir r.new_name ≡ Some f) (e_dir : e.dir ≡ d.number) (f_dir : f.dir ≡ r.new_dir) (apart : e.cookie ≢ f.cookie)
+module _ (s : State) (r : Renaming) (d t c o : Node) (e f : EntryRow) (tree : Tree s) (at_d : node_at s d.number ≡ Some d) (at_t : node_at s r.new_dir ≡ Some t)
+    (at_c : node_at s e.child ≡ Some c) (at_o : node_at s f.child ≡ Some o)
+    (at_e : entry_at s.entries d.number r.old_name ≡ Some e) (at_f : entry_at s.entries r.new_dir r.new_name ≡ Some f) (e_dir : e.dir ≡ d.number)
+    (f_dir : f.dir ≡ r.new_dir) (apart : e.cookie ≢ f.cookie)
     (x_dir : e.child ≢ d.number) (x_to : e.child ≢ r.new_dir) (y_dir : f.child ≢ d.number) (y_to : f.child ≢ r.new_dir) where
   abbrev one : EntryRow → Bool
   one = is_entry d.number r.old_name
@@ -72,7 +80,8 @@ module _ (s : State) (r : Renaming) (d t c o : Node) (e f : EntryRow) (tree : Tr
 
   is_shifted : exchanged r d.number e f s ≡ shifted dirs children r.now fs next s
   is_shifted =
-      ap (λ (ns : List Node). record s { nodes = ns; entries = fs; next_cookie = s.next_cookie + 1 + 1 }) (each_timed d.number r.new_dir e.child f.child r.now s.nodes)
+      ap (λ (ns : List Node). record s { nodes = ns; entries = fs; next_cookie = s.next_cookie + 1 + 1 })
+      (each_timed d.number r.new_dir e.child f.child r.now s.nodes)
       ∙ ap (λ (k : ℕ). shifted dirs children r.now fs k s) (let same : s.next_cookie + 1 + 1 ≡ s.next_cookie + 2 = omega arith in same)
 
   differ : Differs e f
@@ -108,10 +117,13 @@ module _ (s : State) (r : Renaming) (d t c o : Node) (e f : EntryRow) (tree : Tr
 
   abbrev planned : Bool → ℕ → ℕ → List Change
   planned both k l =
-      changes.EntryGone e.cookie ∷ changes.EntryGone f.cookie ∷ changes.Node other_row ∷ cond both (changes.Node (dir_row r.now (is_dir o.mode) (is_dir o.mode) (row_of s d)) ∷ [])
-      (changes.Node (dir_row r.now (is_dir c.mode) (is_dir o.mode) (row_of s d)) ∷ changes.Node (dir_row r.now (is_dir o.mode) (is_dir c.mode) (row_of s t)) ∷ [])
+      changes.EntryGone e.cookie ∷ changes.EntryGone f.cookie ∷ changes.Node other_row ∷ cond both
+      (changes.Node (dir_row r.now (is_dir o.mode) (is_dir o.mode) (row_of s d)) ∷ [])
+      (changes.Node (dir_row r.now (is_dir c.mode) (is_dir o.mode) (row_of s d)) ∷ changes.Node
+      (dir_row r.now (is_dir o.mode) (is_dir c.mode) (row_of s t)) ∷ [])
       ++ changes.Node (moved_row r.now r.new_dir (row_of s c)) ∷ changes.Entry (record { dir = d.number; name = r.old_name; child = l; cookie = s.next_cookie })
-      ∷ changes.Entry (record { dir = r.new_dir; name = r.new_name; child = k; cookie = s.next_cookie + 1 }) ∷ changes.Counters (record (counters_of s) { next_cookie = next }) ∷ []
+      ∷ changes.Entry (record { dir = r.new_dir; name = r.new_name; child = k; cookie = s.next_cookie + 1 }) ∷ changes.Counters
+      (record (counters_of s) { next_cookie = next }) ∷ []
 
   c_is : c.number ≡ e.child
   c_is = (node_found s e.child c tree at_c).0
@@ -120,21 +132,41 @@ module _ (s : State) (r : Renaming) (d t c o : Node) (e f : EntryRow) (tree : Tr
   o_is = (node_found s f.child o tree at_o).0
 
   shift : Shift s fs d.number r.new_dir e.child Y d t c
-  shift = record { tree = tree; at_d = at_d; at_t = at_t; at_c = at_c; x_dir = x_dir; x_to = x_to; y_dir = y_not d.number y_dir; y_to = y_not r.new_dir y_to; ups = ups; up_x = up_x }
+  shift =
+      record {
+        tree = tree;
+        at_d = at_d;
+        at_t = at_t;
+        at_c = at_c;
+        x_dir = x_dir;
+        x_to = x_to;
+        y_dir = y_not d.number y_dir;
+        y_to = y_not r.new_dir y_to;
+        ups = ups;
+        up_x = up_x;
+      }
 
   abbrev listed : Bool → List NodeRow
   listed = dirs_rows r.now next shift recounted
 
-  others : (rows : List NodeRow) → ((n : Node) → 1 ≤ n.number → Y n.number ≡ false → list_any (λ row. n.number == row.node) rows ≡ false → full_of s n ≡ then_full s dirs children r.now fs next n)
-      → AllByRecursion (λ n. list_any (λ row. n.number == row.node) (other_row ∷ rows) ≡ false → full_of s n ≡ then_full s dirs children r.now fs next n) s.nodes
+  others : (rows : List NodeRow)
+      → ((n : Node) → 1 ≤ n.number → Y n.number ≡ false → list_any
+      (λ row. n.number == row.node) rows ≡ false → full_of s n ≡ then_full s dirs children r.now fs next n)
+      → AllByRecursion
+      (λ n. list_any (λ row. n.number == row.node) (other_row ∷ rows) ≡ false → full_of s n ≡ then_full s dirs children r.now fs next n) s.nodes
   others rows so =
-      all_more (IsNode s.next_node) (λ n. list_any (λ row. n.number == row.node) (other_row ∷ rows) ≡ false → full_of s n ≡ then_full s dirs children r.now fs next n) s.nodes
+      all_more (IsNode s.next_node)
+      (λ n. list_any (λ row. n.number == row.node) (other_row ∷ rows) ≡ false → full_of s n ≡ then_full s dirs children r.now fs next n) s.nodes
       (λ n p none. (
       let h = or_false (eqb n.number o.number) (list_any (λ row. n.number == row.node) rows) none in
       so n p.from_one (ap (eqb n.number) (sym o_is) ∙ h.0) h.1)) tree.nodes
 
   rows_then : (both : Bool) → eqb d.number r.new_dir ≡ both
-      → record (rows_of_state s) { nodes = puts (other_row ∷ listed both) (map (full_of s) s.nodes); entries = fs; counters = record (counters_of s) { next_cookie = next } } ≡ rows_of_state (exchanged r d.number e f s)
+      → record (rows_of_state s) {
+        nodes = puts (other_row ∷ listed both) (map (full_of s) s.nodes);
+        entries = fs;
+        counters = record (counters_of s) { next_cookie = next };
+      } ≡ rows_of_state (exchanged r d.number e f s)
   rows_then both is =
       rows_shifted s dirs children r.now fs next (other_row ∷ listed both) tree
       (lost_is r.now next shift recounted f.child d.number o at_o (eq-eqb f.child f.child refl) y_dir y_to up_y, dirs_are r.now next shift recounted both is)
@@ -145,7 +177,9 @@ module _ (s : State) (r : Renaming) (d t c o : Node) (e f : EntryRow) (tree : Tr
   each_way true is = rows_then true is
   each_way false is = rows_then false is
 
-  pub exchange_rows : apply (rows_of_state s) (exchange_changes r (counters_of s) (row_of s d) (row_of s t) (record { cookie = e.cookie; child = row_of s c }) (record { cookie = f.cookie; child = row_of s o })) ≡ rows_of_state (exchanged r d.number e f s)
+  pub exchange_rows : apply (rows_of_state s)
+      (exchange_changes r (counters_of s) (row_of s d) (row_of s t) (record { cookie = e.cookie; child = row_of s c })
+      (record { cookie = f.cookie; child = row_of s o })) ≡ rows_of_state (exchanged r d.number e f s)
   exchange_rows =
       ap (λ (k : ℕ). apply (rows_of_state s) (planned (eqb d.number r.new_dir) k o.number)) c_is
       ∙ ap (λ (k : ℕ). apply (rows_of_state s) (planned (eqb d.number r.new_dir) e.child k)) o_is
@@ -153,10 +187,12 @@ module _ (s : State) (r : Renaming) (d t c o : Node) (e f : EntryRow) (tree : Tr
 
   -- ---- the tree
 
-  pub exchange_tree : e.name ≡ r.old_name → f.name ≡ r.new_name → ((n : ℕ) → above s.entries n r.new_dir ≢ e.child) → ((n : ℕ) → above s.entries n d.number ≢ f.child) → s.next_cookie + 2 ≤ number_end → Tree (exchanged r d.number e f s)
+  pub exchange_tree : e.name ≡ r.old_name → f.name ≡ r.new_name → ((n : ℕ) → above s.entries n r.new_dir ≢ e.child)
+      → ((n : ℕ) → above s.entries n d.number ≢ f.child) → s.next_cookie + 2 ≤ number_end → Tree (exchanged r d.number e f s)
   exchange_tree e_name f_name never_e never_f room =
       let moved = tree_exchanged s one two e f d.number r.new_dir r.old_name r.new_name tree at_e at_f apart e_dir f_dir e_name f_name never_e never_f room in
       let s2 = placed r.new_dir r.new_name e.child (placed d.number r.old_name f.child (without f.cookie (without e.cookie s))) in
       let s3 = mark f.child r.now s2 in
       let s4 = mark e.child r.now s3 in
-      tree_touched (touch d.number r.now s4) r.new_dir r.now (tree_touched s4 d.number r.now (tree_marked s3 e.child r.now (tree_marked s2 f.child r.now moved)))
+      tree_touched (touch d.number r.now s4) r.new_dir r.now
+      (tree_touched s4 d.number r.now (tree_marked s3 e.child r.now (tree_marked s2 f.child r.now moved)))

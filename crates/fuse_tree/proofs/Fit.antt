@@ -1,5 +1,6 @@
 -- An answer fits and is read: what the operations' lemmas share.
-use Rattle.std.proofs.Common.{◌≡◌, ◌≤◌, ◌<◌, ◌&&◌, ℕ, Bool, true, false, inl, inr, if◌then◌else◌, nat_lt, List, [], length, Option, Some, None, refl, sym, arith}
+use Rattle.std.proofs.Common.{◌≡◌, ◌≤◌, ◌<◌, ◌&&◌, ℕ, Bool, true, false, inl, inr, if◌then◌else◌, nat_lt, List, [], length, Option, Some, None, refl, sym}
+use Rattle.std.proofs.Common.{arith}
 use Rattle.std.specs.Prelude.{nat_le}
 use Rattle.std.proofs.lemmas.Bool.{ltb-true, leb-true}
 use Rattle.std.proofs.lemmas.List.{append-nil}
@@ -57,7 +58,8 @@ pub chosen_reads : {kind : Kind} (b : Bool) (d e : Done) → Reads kind d → Re
 chosen_reads true d e one two = one
 chosen_reads false d e one two = two
 
-name_reads : {kind : Kind} (s : State) (long odd : Bool) (d : Done) → Reads kind d → Reads kind (refuse_for s (if long then Some enametoolong else if odd then Some einval else None) d)
+name_reads : {kind : Kind} (s : State) (long odd : Bool) (d : Done) → Reads kind d
+    → Reads kind (refuse_for s (if long then Some enametoolong else if odd then Some einval else None) d)
 name_reads s true odd d so = refused_reads s enametoolong refl
 name_reads s false true d so = refused_reads s einval refl
 name_reads s false false d so = so

@@ -90,7 +90,8 @@ at_fits sizes s request now None = refused s _
 at_fits sizes s request now (Some n) = act_fits sizes s request.header request.act now n
 
 agreed_fits : RecordSizes → (s : State) (request : Asked) (now : Moment) → Fits (do_agreed s request now)
-agreed_fits sizes s request now = chosen (names_node request.act) _ _ (at_fits sizes s request now (node_at s request.header.nodeid)) (answered s [] (omega arith))
+agreed_fits sizes s request now =
+    chosen (names_node request.act) _ _ (at_fits sizes s request now (node_at s request.header.nodeid)) (answered s [] (omega arith))
 
 offered_fits : RecordSizes → (s : State) (request : Asked) (now : Moment) (offer : Option InitIn) → Fits (do_offered s request now offer)
 offered_fits sizes s request now (Some offer) = init_fits sizes s (agree offer)
@@ -102,7 +103,8 @@ fits sizes s request now = offered_fits sizes s request now (offer_of request.ac
 
 -- ---- and it is read
 
-act_reads : ReadBack → (s : State) (header : InHeader) (act : Act) (now : Moment) (n : Node) → Tree s → Reads (kind_of (opcode_of act)) (do_act s header act now n)
+act_reads : ReadBack → (s : State) (header : InHeader) (act : Act) (now : Moment) (n : Node) → Tree s
+    → Reads (kind_of (opcode_of act)) (do_act s header act now n)
 act_reads back s header (acts.Lookup name) now n tree = lookup_reads back s name n
 act_reads back s header (acts.Getattr flags fh) now n tree = getattr_reads back s n
 act_reads back s header (acts.Setattr set) now n tree = setattr_reads back s set now n
@@ -130,7 +132,8 @@ agreed_reads : (s : State) (a : Act) (d : Done) → Reads (kind_of (opcode_of a)
 agreed_reads s acts.Destroy d so = answered_reads s [] no_body
 agreed_reads s _ d so = so
 
-offered_reads : ReadBack → (s : State) (request : Asked) (now : Moment) (a : Act) → Reads (kind_of (opcode_of a)) (do_agreed s request now) → Reads (kind_of (opcode_of a)) (do_offered s request now (offer_of a))
+offered_reads : ReadBack → (s : State) (request : Asked) (now : Moment) (a : Act) → Reads (kind_of (opcode_of a)) (do_agreed s request now)
+    → Reads (kind_of (opcode_of a)) (do_offered s request now (offer_of a))
 offered_reads back s request now (acts.Init offer) so = init_reads back s offer
 offered_reads back s request now _ so = chosen_reads (is_some s.settings) _ _ so (refused_reads s _ refl)
 

@@ -1,5 +1,6 @@
 -- The longest front of entries that fits.
-use Rattle.std.proofs.Common.{◌≡◌, ◌≢◌, ◌≤◌, ◌<◌, ◌*◌, ℕ, zero, suc, Bool, true, false, not, cond, nat_le, List, [], ◌∷◌, length, take, refl, sym, ap, subst, ◌∙◌, arith}
+use Rattle.std.proofs.Common.{◌≡◌, ◌≢◌, ◌≤◌, ◌<◌, ◌*◌, ℕ, zero, suc, Bool, true, false, not, cond, nat_le, List, [], ◌∷◌, length, take, refl, sym, ap, subst}
+use Rattle.std.proofs.Common.{◌∙◌, arith}
 use Rattle.std.specs.List.{AllByRecursion, sum_by}
 use Rattle.std.proofs.lemmas.Bool.{leb-true, leb-false}
 use Rattle.std.proofs.lemmas.List.{length-take, take-take}
@@ -13,7 +14,8 @@ most_within : (es : List Entry) (size n : ℕ) → most es size n ≤ n
 most_within es size zero = omega arith
 most_within es size (suc n) =
     let rest = most_within es size n in
-    elim (nat_le (sum_by packed_len (take (suc n) es)) size) as (λ b. cond b (suc n) (most es size n) ≤ suc n) [ true ↦ omega arith | false ↦ omega (arith, rest) ]
+    elim (nat_le (sum_by packed_len (take (suc n) es)) size) as
+    (λ b. cond b (suc n) (most es size n) ≤ suc n) [ true ↦ omega arith | false ↦ omega (arith, rest) ]
 
 most_fits : (es : List Entry) (size n : ℕ) → sum_by packed_len (take (most es size n) es) ≤ size
 most_fits es size zero = omega arith
@@ -35,7 +37,8 @@ most_most es size (suc n) m few fits =
     step (nat_le (sum_by packed_len (take (suc n) es)) size) refl
 
 pub longest : (es : List Entry) (size : ℕ) → IsLongest es size (most es size (length es))
-longest es size = record { within = most_within es size (length es); fits = most_fits es size (length es); longest = λ m few fits. most_most es size (length es) m few fits }
+longest es size =
+    record { within = most_within es size (length es); fits = most_fits es size (length es); longest = λ m few fits. most_most es size (length es) m few fits }
 
 one_longest : (es : List Entry) (size n m : ℕ) → IsLongest es size n → IsLongest es size m → n ≡ m
 one_longest es size n m a b = omega (arith, b.longest n a.within a.fits, a.longest m b.within b.fits)
@@ -51,7 +54,8 @@ first_that_fits (e ∷ es) size fits =
     step (nat_le (packed_len e) size) refl
 
 -- what is packed is what is planned
-pub front_planned : (es : List Entry) (size n : ℕ) (body : List ℕ) → (FirstIsTooBig es size → ⊥) → IsLongest es size n → body ≡ entries_bytes (take n es) → told body ≡ plan_front es size
+pub front_planned : (es : List Entry) (size n : ℕ) (body : List ℕ) → (FirstIsTooBig es size → ⊥) → IsLongest es size n → body ≡ entries_bytes (take n es)
+    → told body ≡ plan_front es size
 front_planned es size n body fits is e = rw (first_that_fits es size fits) (ap told (e ∙ ap entries_bytes (front_is es size n is)))
 
 -- ---- more entries than can fit
@@ -78,7 +82,9 @@ cut_longest es size k few =
     record {
       within = omega (arith, few, all.within, len);
       fits = subst (λ (fs : List Entry). sum_by packed_len fs ≤ size) (sym same) all.fits;
-      longest = λ m fewer fits. all.longest m (omega (arith, fewer, len)) (subst (λ (fs : List Entry). sum_by packed_len fs ≤ size) (take-take m k es (omega (arith, fewer, len))) fits);
+      longest =
+          λ m fewer fits. all.longest m (omega (arith, fewer, len))
+          (subst (λ (fs : List Entry). sum_by packed_len fs ≤ size) (take-take m k es (omega (arith, fewer, len))) fits);
     }
 
 -- the front is the same where entries are left out that are not of it

@@ -44,7 +44,8 @@ use Rattle.fuse_tree.specs.PlanWriting.{plan_write, plan_read}
 use Rattle.fuse_tree.specs.PlanListing.{rows_behind, plan_read_dir}
 use Rattle.fuse_tree.specs.PlanOpening.{plan_open_node, plan_open_for, plan_open, plan_open_dir, plan_close}
 use Rattle.fuse_tree.specs.PlanRemoving.{link_at, plan_unlink_link, plan_unlink, plan_rmdir_link, plan_rmdir}
-use Rattle.fuse_tree.specs.PlanRenaming.{is_same_link, row_holds, other_at, new_dir_at, link_fault, rename_changes, exchange_changes, plan_rename_link, plan_exchange_link, plan_rename_by, plan_rename_from, plan_rename_between, plan_rename}
+use Rattle.fuse_tree.specs.PlanRenaming.{is_same_link, row_holds, other_at, new_dir_at, link_fault, rename_changes, exchange_changes, plan_rename_link}
+use Rattle.fuse_tree.specs.PlanRenaming.{plan_exchange_link, plan_rename_by, plan_rename_from, plan_rename_between, plan_rename}
 use Rattle.fuse_tree.specs.Renaming.{Renaming, is_exchange, is_no_replace, asking, asked_fault}
 use Rattle.fuse_tree.specs.Reading.{refused_for, child_at}
 use Rattle.fuse_tree.proofs.Lists.{and_true}
@@ -63,7 +64,8 @@ or_not false c d e = (λ is. absurd cc, refl)
 or_not true false d e = (λ is. refl, e)
 or_not true true d e = absurd cc
 
-none_later : (change : Change) (later : List Change) → (not (makes_entry change) || not (list_any takes_entry later)) ≡ true → AllByRecursion (λ c. makes_entry change ≡ true → takes_entry c ≡ false) later
+none_later : (change : Change) (later : List Change) → (not (makes_entry change) || not (list_any takes_entry later)) ≡ true
+    → AllByRecursion (λ c. makes_entry change ≡ true → takes_entry c ≡ false) later
 none_later change [] e = tt
 none_later change (c ∷ later) e = let h = or_not (makes_entry change) (takes_entry c) (list_any takes_entry later) e in (h.0, none_later change later h.1)
 
@@ -91,22 +93,28 @@ child_orders None = by_test _ refl
 child_orders (Some child) = by_test _ refl
 
 lookup_orders : (name : List ℕ) (row : NodeRow) (rows : Rows) → Orders (plan_lookup name row rows)
-lookup_orders name row rows = chosen (not (is_dir row.mode)) _ _ (by_test _ refl) (unless (name_fault name) _ (chosen (not (row_is_named row)) _ _ (by_test _ refl) (child_orders (child_at rows row.node name))))
+lookup_orders name row rows =
+    chosen (not (is_dir row.mode)) _ _ (by_test _ refl)
+    (unless (name_fault name) _ (chosen (not (row_is_named row)) _ _ (by_test _ refl) (child_orders (child_at rows row.node name))))
 
 -- ---- MKNOD and MKDIR
 
 make_orders : (fresh : NewNode) (name : List ℕ) (row : NodeRow) (rows : Rows) → Orders (plan_make fresh name row rows)
 make_orders fresh name row rows =
     chosen (not (row_is_named row)) _ _ (by_test _ refl)
-    (chosen (is_some (entry_at rows.entries row.node name)) _ _ (by_test _ refl) (chosen (is_full rows.counters.nodes rows.counters.next_node rows.counters.next_cookie) _ _ (by_test _ refl) (by_test _ refl)))
+    (chosen (is_some (entry_at rows.entries row.node name)) _ _ (by_test _ refl)
+    (chosen (is_full rows.counters.nodes rows.counters.next_node rows.counters.next_cookie) _ _ (by_test _ refl) (by_test _ refl)))
 
 mkdir_orders : (header : InHeader) (mode : ℕ) (name : List ℕ) (now : Moment) (row : NodeRow) (rows : Rows) → Orders (plan_mkdir header mode name now row rows)
-mkdir_orders header mode name now row rows = chosen (not (is_dir row.mode)) _ _ (by_test _ refl) (unless (name_fault name) _ (make_orders (begun header (dir_mode mode) 0 now) name row rows))
+mkdir_orders header mode name now row rows =
+    chosen (not (is_dir row.mode)) _ _ (by_test _ refl) (unless (name_fault name) _ (make_orders (begun header (dir_mode mode) 0 now) name row rows))
 
-mknod_orders : (header : InHeader) (mode rdev : ℕ) (name : List ℕ) (now : Moment) (row : NodeRow) (rows : Rows) → Orders (plan_mknod header mode rdev name now row rows)
+mknod_orders : (header : InHeader) (mode rdev : ℕ) (name : List ℕ) (now : Moment) (row : NodeRow) (rows : Rows)
+    → Orders (plan_mknod header mode rdev name now row rows)
 mknod_orders header mode rdev name now row rows =
     chosen (not (is_dir row.mode)) _ _ (by_test _ refl)
-    (chosen (not (may_make (type_bits mode))) _ _ (by_test _ refl) (unless (name_fault name) _ (make_orders (begun header (node_mode mode) (node_rdev mode rdev) now) name row rows)))
+    (chosen (not (may_make (type_bits mode))) _ _ (by_test _ refl)
+    (unless (name_fault name) _ (make_orders (begun header (node_mode mode) (node_rdev mode rdev) now) name row rows)))
 
 -- ---- SETATTR, WRITE and READ
 
@@ -124,7 +132,8 @@ write_orders fh offset payload now row rows =
 
 read_orders : (asked : ReadIn) (row : NodeRow) (rows : Rows) → Orders (plan_read asked row rows)
 read_orders asked row rows =
-    chosen (not (may_read (access_at rows.handles asked.fh row.node))) _ _ (by_test _ refl) (chosen (is_dir row.mode) _ _ (by_test _ refl) (chosen (nat_lt read_limit asked.size) _ _ (by_test _ refl) (by_test _ refl)))
+    chosen (not (may_read (access_at rows.handles asked.fh row.node))) _ _ (by_test _ refl)
+    (chosen (is_dir row.mode) _ _ (by_test _ refl) (chosen (nat_lt read_limit asked.size) _ _ (by_test _ refl) (by_test _ refl)))
 
 -- ---- READDIR
 
@@ -146,7 +155,8 @@ open_for_orders None row rows = by_test _ refl
 open_for_orders (Some access) row rows = open_node_orders access row.node rows
 
 open_orders : (flags : ℕ) (row : NodeRow) (rows : Rows) → Orders (plan_open flags row rows)
-open_orders flags row rows = chosen (is_dir row.mode) _ _ (by_test _ refl) (chosen (not (is_file row.mode)) _ _ (by_test _ refl) (open_for_orders (access_of flags) row rows))
+open_orders flags row rows =
+    chosen (is_dir row.mode) _ _ (by_test _ refl) (chosen (not (is_file row.mode)) _ _ (by_test _ refl) (open_for_orders (access_of flags) row rows))
 
 open_dir_orders : (row : NodeRow) (rows : Rows) → Orders (plan_open_dir row rows)
 open_dir_orders row rows = chosen (not (is_dir row.mode)) _ _ (by_test _ refl) (open_node_orders ReadOnly row.node rows)
@@ -162,15 +172,18 @@ unlink_link_orders now row (Some link) = chosen (is_dir link.child.mode) _ _ (by
 
 unlink_orders : (name : List ℕ) (now : Moment) (row : NodeRow) (rows : Rows) → Orders (plan_unlink name now row rows)
 unlink_orders name now row rows =
-    chosen (not (is_dir row.mode)) _ _ (by_test _ refl) (unless (name_fault name) _ (chosen (not (row_is_named row)) _ _ (by_test _ refl) (unlink_link_orders now row (link_at rows row.node name))))
+    chosen (not (is_dir row.mode)) _ _ (by_test _ refl)
+    (unless (name_fault name) _ (chosen (not (row_is_named row)) _ _ (by_test _ refl) (unlink_link_orders now row (link_at rows row.node name))))
 
 rmdir_link_orders : (now : Moment) (row : NodeRow) (rows : Rows) (o : Option Link) → Orders (plan_rmdir_link now row rows o)
 rmdir_link_orders now row rows None = by_test _ refl
-rmdir_link_orders now row rows (Some link) = chosen (not (is_dir link.child.mode)) _ _ (by_test _ refl) (chosen (has_entries rows.entries link.child.node) _ _ (by_test _ refl) (by_test _ refl))
+rmdir_link_orders now row rows (Some link) =
+    chosen (not (is_dir link.child.mode)) _ _ (by_test _ refl) (chosen (has_entries rows.entries link.child.node) _ _ (by_test _ refl) (by_test _ refl))
 
 rmdir_orders : (name : List ℕ) (now : Moment) (row : NodeRow) (rows : Rows) → Orders (plan_rmdir name now row rows)
 rmdir_orders name now row rows =
-    chosen (not (is_dir row.mode)) _ _ (by_test _ refl) (unless (name_fault name) _ (chosen (not (row_is_named row)) _ _ (by_test _ refl) (rmdir_link_orders now row rows (link_at rows row.node name))))
+    chosen (not (is_dir row.mode)) _ _ (by_test _ refl)
+    (unless (name_fault name) _ (chosen (not (row_is_named row)) _ _ (by_test _ refl) (rmdir_link_orders now row rows (link_at rows row.node name))))
 
 -- ---- RENAME and RENAME2
 
@@ -179,20 +192,24 @@ either true xs ys later one two = one
 either false xs ys later one two = two
 
 -- whatever stood at the new place, and whether or not both directories are one
-moved_first : (r : Renaming) (counters : CountersRow) (from to : NodeRow) (source : Link) (other : Option Link) → goes_first (rename_changes r counters from to source other) ≡ true
+moved_first : (r : Renaming) (counters : CountersRow) (from to : NodeRow) (source : Link) (other : Option Link)
+    → goes_first (rename_changes r counters from to source other) ≡ true
 moved_first r counters from to source None = either (from.node == r.new_dir) _ _ _ refl refl
 moved_first r counters from to source (Some other) = either (from.node == r.new_dir) _ _ _ refl refl
 
-exchanged_first : (r : Renaming) (counters : CountersRow) (from to : NodeRow) (source other : Link) → goes_first (exchange_changes r counters from to source other) ≡ true
+exchanged_first : (r : Renaming) (counters : CountersRow) (from to : NodeRow) (source other : Link)
+    → goes_first (exchange_changes r counters from to source other) ≡ true
 exchanged_first r counters from to source other = either (from.node == r.new_dir) _ _ _ refl refl
 
 link_orders : (r : Renaming) (from to : NodeRow) (source : Link) (other : Option Link) (rows : Rows) → Orders (plan_rename_link r from to source other rows)
 link_orders r from to source other rows =
     chosen (is_same_link source other) _ _ (by_test _ refl)
     (chosen (row_holds rows source.child from.node r.new_dir) _ _ (by_test _ refl)
-    (unless (link_fault rows source other) _ (chosen (nat_le number_end rows.counters.next_cookie) _ _ (by_test _ refl) (by_test _ (moved_first r rows.counters from to source other)))))
+    (unless (link_fault rows source other) _
+    (chosen (nat_le number_end rows.counters.next_cookie) _ _ (by_test _ refl) (by_test _ (moved_first r rows.counters from to source other)))))
 
-exchange_orders : (r : Renaming) (from to : NodeRow) (source : Link) (other : Option Link) (rows : Rows) → Orders (plan_exchange_link r from to source other rows)
+exchange_orders : (r : Renaming) (from to : NodeRow) (source : Link) (other : Option Link) (rows : Rows)
+    → Orders (plan_exchange_link r from to source other rows)
 exchange_orders r from to source None rows = by_test _ refl
 exchange_orders r from to source (Some other) rows =
     chosen (source.cookie == other.cookie) _ _ (by_test _ refl)
@@ -201,7 +218,8 @@ exchange_orders r from to source (Some other) rows =
 
 by_orders : (r : Renaming) (from to : NodeRow) (source : Link) (other : Option Link) (rows : Rows) → Orders (plan_rename_by r from to source other rows)
 by_orders r from to source other rows =
-    chosen (is_exchange r.mode) _ _ (exchange_orders r from to source other rows) (chosen (is_no_replace r.mode && is_some other) _ _ (by_test _ refl) (link_orders r from to source other rows))
+    chosen (is_exchange r.mode) _ _ (exchange_orders r from to source other rows)
+    (chosen (is_no_replace r.mode && is_some other) _ _ (by_test _ refl) (link_orders r from to source other rows))
 
 from_orders : (r : Renaming) (from to : NodeRow) (o : Option Link) (rows : Rows) → Orders (plan_rename_from r from to o rows)
 from_orders r from to None rows = by_test _ refl
@@ -210,7 +228,8 @@ from_orders r from to (Some source) rows = by_orders r from to source (other_at 
 between_orders : (r : Renaming) (from : NodeRow) (o : Option NodeRow) (rows : Rows) → Orders (plan_rename_between r from o rows)
 between_orders r from None rows = by_test _ refl
 between_orders r from (Some to) rows =
-    unless (asked_fault r (is_dir from.mode && is_dir to.mode) (row_is_named from && row_is_named to)) _ (from_orders r from to (link_at rows from.node r.old_name) rows)
+    unless (asked_fault r (is_dir from.mode && is_dir to.mode) (row_is_named from && row_is_named to)) _
+    (from_orders r from to (link_at rows from.node r.old_name) rows)
 
 rename_orders : (r : Renaming) (from : NodeRow) (rows : Rows) → Orders (plan_rename r from rows)
 rename_orders r from rows = between_orders r from (new_dir_at r.new_dir from rows) rows
@@ -247,7 +266,9 @@ init_orders (Refused errno) = by_test _ refl
 
 offered_orders : (request : Asked) (now : Moment) (offer : Option InitIn) (rows : Rows) → Orders (plan_offered request now offer rows)
 offered_orders request now (Some offer) rows = init_orders (agree offer)
-offered_orders request now None rows = chosen (is_some rows.settings) _ _ (chosen (names_node request.act) _ _ (at_orders request now (row_at rows request.header.nodeid) rows) (by_test _ refl)) (by_test _ refl)
+offered_orders request now None rows =
+    chosen (is_some rows.settings) _ _ (chosen (names_node request.act) _ _ (at_orders request now (row_at rows request.header.nodeid) rows) (by_test _ refl))
+    (by_test _ refl)
 
 pub plan_orders : (request : Asked) (now : Moment) (rows : Rows) → GoneFirst (plan_of request now rows).changes
 plan_orders request now rows = (offered_orders request now (offer_of request.act) rows).order

@@ -1,5 +1,6 @@
 -- The rows of an entry gone are those of the state without it, and the tree goes on.
-use Rattle.std.proofs.Common.{◌≡◌, ◌≢◌, ◌≤◌, ◌<◌, ◌+◌, ◌-◌, ◌==◌, ◌&&◌, ℕ, suc, Bool, true, false, cond, not, eqb, List, [], ◌∷◌, length, map, Some, refl, sym, ap, subst, ◌∙◌, inl, inr, add-zero, arith}
+use Rattle.std.proofs.Common.{◌≡◌, ◌≢◌, ◌≤◌, ◌<◌, ◌+◌, ◌-◌, ◌==◌, ◌&&◌, ℕ, suc, Bool, true, false, cond, not, eqb, List, [], ◌∷◌, length, map, Some, refl, sym}
+use Rattle.std.proofs.Common.{ap, subst, ◌∙◌, inl, inr, add-zero, arith}
 use Rattle.std.specs.Prelude.{find, filter}
 use Rattle.std.specs.List.{AllByRecursion, list_any}
 use Rattle.std.proofs.lemmas.Bool.{ne_eqb, eq-eqb, eqb-true, eqb-false}
@@ -29,12 +30,14 @@ kept_number row f = step (eqb f.row.node row.node) refl
     step true is = sym (eqb-true f.row.node row.node is)
     step false is = refl
 
-number_there : (G : Node → Full) (k : ℕ) (ns : List Node) → ((n : Node) → (G n).row.node ≡ n.number) → list_any (λ f. f.row.node == k) (map G ns) ≡ list_any (has_number k) ns
+number_there : (G : Node → Full) (k : ℕ) (ns : List Node) → ((n : Node) → (G n).row.node ≡ n.number)
+    → list_any (λ f. f.row.node == k) (map G ns) ≡ list_any (has_number k) ns
 number_there G k [] numbers = refl
 number_there G k (n ∷ ns) numbers = rw (numbers n, number_there G k ns numbers) refl
 
 -- the rows that stand for nodes by G, and one of them in the place of its own
-pub put_over : (G : Node → Full) (row : NodeRow) (ns : List Node) → ((n : Node) → (G n).row.node ≡ n.number) → list_any (has_number row.node) ns ≡ true → put_node row (map G ns) ≡ map (λ n. with_row row (G n)) ns
+pub put_over : (G : Node → Full) (row : NodeRow) (ns : List Node) → ((n : Node) → (G n).row.node ≡ n.number) → list_any (has_number row.node) ns ≡ true
+    → put_node row (map G ns) ≡ map (λ n. with_row row (G n)) ns
 put_over G row ns numbers there = rw (number_there G row.node ns numbers ∙ there) (each ns)
   where
     each : (ms : List Node) → map (with_row row) (map G ms) ≡ map (λ n. with_row row (G n)) ms
@@ -57,7 +60,8 @@ one_more true l = omega arith
 one_more false l = sym (add-zero l)
 
 -- the node of this number is counted no more, and the others are counted as before
-pub count_less : (p q : Node → Bool) (f : Node → Node) (k : ℕ) (c : Node) (ns : List Node) → Apart (λ n m. n.number < m.number) ns → find (λ n. n.number == k) ns ≡ Some c
+pub count_less : (p q : Node → Bool) (f : Node → Node) (k : ℕ) (c : Node) (ns : List Node) → Apart (λ n m. n.number < m.number) ns
+    → find (λ n. n.number == k) ns ≡ Some c
     → AllByRecursion (λ n. n.number ≢ k → p (f n) ≡ q n) ns → p (f c) ≡ false → length (filter q ns) ≡ length (filter p (map f ns)) + cond (q c) 1 0
 count_less p q f k c [] rise e others here = absurd cc
 count_less p q f k c (n ∷ ns) rise e others here =
@@ -65,7 +69,9 @@ count_less p q f k c (n ∷ ns) rise e others here =
       | inl h ↦ (
           let at : n.number ≡ k = eqb-true n.number k h.0 in
           let gone : p (f n) ≡ false = subst (λ (m : Node). p (f m) ≡ false) (sym h.1) here in
-          let rest : AllByRecursion (λ m. p (f m) ≡ q m) ns = all_both (λ m. n.number < m.number) (λ m. m.number ≢ k → p (f m) ≡ q m) (λ m. p (f m) ≡ q m) ns (λ m lt same. same (let lt = lt in omega arith)) rise.0 others.1 in
+          let rest : AllByRecursion (λ m. p (f m) ≡ q m) ns =
+          all_both (λ m. n.number < m.number) (λ m. m.number ≢ k → p (f m) ≡ q m) (λ m. p (f m) ≡ q m) ns
+          (λ m lt same. same (let lt = lt in omega arith)) rise.0 others.1 in
           length_kept (q n) n (filter q ns)
           ∙ one_more (q n) (length (filter q ns))
           ∙ rw (gone, count_mapped p q f ns rest) (ap (λ (m : Node). length (filter q ns) + cond (q m) 1 0) h.1))
@@ -73,7 +79,9 @@ count_less p q f k c (n ∷ ns) rise e others here =
           let other : n.number ≢ k = eqb-false n.number k h.0 in
           length_kept (q n) n (filter q ns)
           ∙ larger (q n) (length (filter q ns)) (length (filter p (map f ns))) (cond (q c) 1 0) (count_less p q f k c ns rise.1 h.1 others.1 here)
-          ∙ ap (λ (m : ℕ). m + cond (q c) 1 0) (ap (λ (b : Bool). cond b (suc (length (filter p (map f ns)))) (length (filter p (map f ns)))) (sym (others.0 other)) ∙ sym (length_kept (p (f n)) (f n) (filter p (map f ns)))))
+          ∙ ap (λ (m : ℕ). m + cond (q c) 1 0)
+          (ap (λ (b : Bool). cond b (suc (length (filter p (map f ns)))) (length (filter p (map f ns)))) (sym (others.0 other))
+          ∙ sym (length_kept (p (f n)) (f n) (filter p (map f ns)))))
     ]
 
 -- ---- times
@@ -83,11 +91,14 @@ marked_same k now n = record { number = refl; kind = refl }
 
 pub tree_marked : (s : State) (k : ℕ) (now : Moment) → Tree s → Tree (mark k now s)
 tree_marked s k now tree =
-    tree_mapped s (marked k now) (marked_same k now) (all_more (IsNode s.next_node) (λ n. IsNode s.next_node (marked k now n)) s.nodes (λ n p. record { from_one = p.from_one; below = p.below; mode = p.mode; content = p.content; size = p.size }) tree.nodes) tree
+    tree_mapped s (marked k now) (marked_same k now)
+    (all_more (IsNode s.next_node) (λ n. IsNode s.next_node (marked k now n)) s.nodes
+    (λ n p. record { from_one = p.from_one; below = p.below; mode = p.mode; content = p.content; size = p.size }) tree.nodes) tree
 
 -- ---- the entry e of directory d leads to node c, in which no entry stands
 
-module _ (s : State) (e : EntryRow) (d c : Node) (now : Moment) (tree : Tree s) (stands : Standing s e) (at_d : node_at s e.dir ≡ Some d) (at_c : node_at s e.child ≡ Some c) (empty : AllByRecursion (λ x. x.dir ≢ e.child) s.entries) where
+module _ (s : State) (e : EntryRow) (d c : Node) (now : Moment) (tree : Tree s) (stands : Standing s e) (at_d : node_at s e.dir ≡ Some d)
+    (at_c : node_at s e.child ≡ Some c) (empty : AllByRecursion (λ x. x.dir ≢ e.child) s.entries) where
   abbrev after : State
   after = entry_gone e now s
 
@@ -123,7 +134,8 @@ module _ (s : State) (e : EntryRow) (d c : Node) (now : Moment) (tree : Tree s) 
   gone_tree =
       let one : 1 ≤ c.number = given in
       let is : c.number ≡ e.child = c_is in
-      tree_marked (touch e.dir now (without e.cookie s)) e.child now (tree_touched (without e.cookie s) e.dir now (tree_less s stays e.child (gone_only e s.entries stands.only) empty (omega arith) tree))
+      tree_marked (touch e.dir now (without e.cookie s)) e.child now
+      (tree_touched (without e.cookie s) e.dir now (tree_less s stays e.child (gone_only e s.entries stands.only) empty (omega arith) tree))
 
   up_other : (k : ℕ) → k ≢ e.child → up_of after.entries k ≡ up_of s.entries k
   up_other k ne = up_less stays s.entries e.child k (gone_only e s.entries stands.only) ne
@@ -139,7 +151,8 @@ module _ (s : State) (e : EntryRow) (d c : Node) (now : Moment) (tree : Tree s) 
   pub subdirs_then : (k : ℕ) → k ≢ 0 → subdirs_of s k ≡ subdirs_of after k + cond (is_dir c.mode && eqb e.dir k) 1 0
   subdirs_then k ne =
       let others : AllByRecursion (λ n. n.number ≢ e.child → is_below after.entries k (changed n) ≡ is_below s.entries k n) s.nodes =
-      all_more (IsNode s.next_node) (λ n. n.number ≢ e.child → is_below after.entries k (changed n) ≡ is_below s.entries k n) s.nodes (λ n p other. rw (up_other n.number other) refl) tree.nodes in
+      all_more (IsNode s.next_node) (λ n. n.number ≢ e.child → is_below after.entries k (changed n) ≡ is_below s.entries k n) s.nodes
+      (λ n p other. rw (up_other n.number other) refl) tree.nodes in
       let turned : 0 ≢ k = λ zero. ne (sym zero) in
       let here : is_below after.entries k (changed c) ≡ false = rw (c_is, up_child, ne_eqb 0 k turned) (and_false (is_dir c.mode)) in
       let was : is_below s.entries k c ≡ (is_dir c.mode && eqb e.dir k) = rw (c_is, stands.up) refl in
@@ -163,7 +176,8 @@ module _ (s : State) (e : EntryRow) (d c : Node) (now : Moment) (tree : Tree s) 
   subdirs_dir : subdirs_of after e.dir ≡ cond (is_dir c.mode) (subdirs_of s e.dir - 1) (subdirs_of s e.dir)
   subdirs_dir =
       let tested : eqb e.dir e.dir ≡ true = eq-eqb e.dir e.dir refl in
-      one_less (is_dir c.mode) (subdirs_of s e.dir) (subdirs_of after e.dir) (subst (λ (b : Bool). subdirs_of s e.dir ≡ subdirs_of after e.dir + cond (is_dir c.mode && b) 1 0) tested (subdirs_then e.dir dir_given))
+      one_less (is_dir c.mode) (subdirs_of s e.dir) (subdirs_of after e.dir)
+      (subst (λ (b : Bool). subdirs_of s e.dir ≡ subdirs_of after e.dir + cond (is_dir c.mode && b) 1 0) tested (subdirs_then e.dir dir_given))
 
   -- the rows of the two nodes, and those of the others
   pub child_then : full_of after (changed c) ≡ record { row = unnamed_row now (row_of s c); content = c.content }
@@ -200,7 +214,8 @@ module _ (s : State) (e : EntryRow) (d c : Node) (now : Moment) (tree : Tree s) 
 
   put_other : (n : Node) → 1 ≤ n.number → n.number ≢ d.number → n.number ≢ c.number → put n ≡ full_of after (changed n)
   put_other n one from_dir from_child =
-      rw (ne_eqb n.number d.number from_dir, ne_eqb n.number c.number from_child) (sym (other_then n one (λ is. from_dir (is ∙ sym d_is)) (λ is. from_child (is ∙ sym c_is))))
+      rw (ne_eqb n.number d.number from_dir, ne_eqb n.number c.number from_child)
+      (sym (other_then n one (λ is. from_dir (is ∙ sym d_is)) (λ is. from_child (is ∙ sym c_is))))
 
   put_each : (n : Node) → 1 ≤ n.number → (n.number ≡ e.dir → n ≡ d) → (n.number ≡ e.child → n ≡ c) → put n ≡ full_of after (changed n)
   put_each n one is_dir is_child =
@@ -220,7 +235,8 @@ module _ (s : State) (e : EntryRow) (d c : Node) (now : Moment) (tree : Tree s) 
   put_all =
       all_both (IsNode s.next_node) (λ n. (n.number ≡ e.dir → n ≡ d) × (n.number ≡ e.child → n ≡ c)) (λ n. put n ≡ full_of after (changed n)) s.nodes
       (λ n p one. put_each n p.from_one one.0 one.1) tree.nodes
-      (all_both (λ n. n.number ≡ e.dir → n ≡ d) (λ n. n.number ≡ e.child → n ≡ c) (λ n. (n.number ≡ e.dir → n ≡ d) × (n.number ≡ e.child → n ≡ c)) s.nodes (λ n p q. (p, q))
+      (all_both (λ n. n.number ≡ e.dir → n ≡ d) (λ n. n.number ≡ e.child → n ≡ c) (λ n. (n.number ≡ e.dir → n ≡ d) × (n.number ≡ e.child → n ≡ c)) s.nodes
+      (λ n p q. (p, q))
       (only_one e.dir d s.nodes tree.nodes_rise at_d) (only_one e.child c s.nodes tree.nodes_rise at_c))
 
   d_there : list_any (has_number d.number) s.nodes ≡ true
@@ -229,7 +245,8 @@ module _ (s : State) (e : EntryRow) (d c : Node) (now : Moment) (tree : Tree s) 
   c_there : list_any (has_number c.number) s.nodes ≡ true
   c_there = any_found (has_number c.number) s.nodes c (subst (λ (k : ℕ). node_at s k ≡ Some c) (sym c_is) at_c)
 
-  nodes_meet : put_node (unnamed_row now (row_of s c)) (put_node (left_row now (row_of s c) (row_of s d)) (map (full_of s) s.nodes)) ≡ map (full_of after) after.nodes
+  nodes_meet : put_node (unnamed_row now (row_of s c)) (put_node (left_row now (row_of s c) (row_of s d)) (map (full_of s) s.nodes))
+      ≡ map (full_of after) after.nodes
   nodes_meet =
       let first = left_row now (row_of s c) (row_of s d) in
       ap (put_node (unnamed_row now (row_of s c))) (put_over (full_of s) first s.nodes (λ n. refl) d_there)
@@ -241,7 +258,8 @@ module _ (s : State) (e : EntryRow) (d c : Node) (now : Moment) (tree : Tree s) 
   -- the changes make the rows of the state that is left
   pub gone_rows : apply (rows_of_state s) (gone_changes now (record { cookie = e.cookie; child = row_of s c }) (row_of s d)) ≡ rows_of_state after
   gone_rows =
-      let count : length s.nodes ≡ length after.nodes = sym (length-map s.nodes (touched e.dir now)) ∙ sym (length-map (map (touched e.dir now) s.nodes) (marked e.child now)) in
+      let count : length s.nodes ≡ length after.nodes =
+      sym (length-map s.nodes (touched e.dir now)) ∙ sym (length-map (map (touched e.dir now) s.nodes) (marked e.child now)) in
       ap (λ (fs : List Full). record (rows_of_state after) { nodes = fs; counters = record (counters_of after) { nodes = length s.nodes } }) nodes_meet
       ∙ ap (λ (n : ℕ). record (rows_of_state after) { counters = record (counters_of after) { nodes = n } }) count
 

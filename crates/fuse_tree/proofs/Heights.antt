@@ -1,5 +1,6 @@
 -- Ways up in a tree: each ends, within as many steps as there are nodes.
-use Rattle.std.proofs.Common.{◌≡◌, ◌≢◌, ◌<◌, ◌≤◌, ◌+◌, ◌-◌, ◌||◌, ℕ, zero, suc, Bool, true, false, not, cond, eqb, List, [], ◌∷◌, length, refl, sym, ap, subst, ◌∙◌, arith}
+use Rattle.std.proofs.Common.{◌≡◌, ◌≢◌, ◌<◌, ◌≤◌, ◌+◌, ◌-◌, ◌||◌, ℕ, zero, suc, Bool, true, false, not, cond, eqb, List, [], ◌∷◌, length, refl, sym, ap, subst}
+use Rattle.std.proofs.Common.{◌∙◌, arith}
 use Rattle.std.specs.Prelude.{filter}
 use Rattle.std.specs.List.{AllByRecursion, list_any}
 use Rattle.std.proofs.lemmas.Bool.{eqb-true, eqb-false, ne_eqb, eq-eqb}
@@ -60,11 +61,16 @@ one_height es root (suc i) zero k here there = absurd (let e = ap (above es (suc
 one_height es root (suc i) (suc j) k here there = let rest = one_height es root i j (up_of es k) here there in omega arith
 
 -- what a way up passes are nodes
-child_there : (ns : List Node) (es : List EntryRow) (k : ℕ) → AllByRecursion (λ e. list_any (has_number e.child) ns ≡ true) es → up_of es k ≢ 0 → list_any (has_number k) ns ≡ true
+child_there : (ns : List Node) (es : List EntryRow) (k : ℕ) → AllByRecursion (λ e. list_any (has_number e.child) ns ≡ true) es → up_of es k ≢ 0
+    → list_any (has_number k) ns ≡ true
 child_there ns [] k there up = absurd (up refl)
 child_there ns (e ∷ es) k there up =
     let step : (b : Bool) → eqb e.child k ≡ b → cond b e.dir (up_of es k) ≢ 0 → list_any (has_number k) ns ≡ true =
-    elim [ true ↦ λ is ne. subst (λ (i : ℕ). list_any (has_number i) ns ≡ true) (eqb-true e.child k is) there.0 | false ↦ λ is ne. child_there ns es k there.1 ne ] in
+    elim [
+      | true ↦ λ is ne. subst (λ (i : ℕ). list_any (has_number i) ns ≡ true)
+          (eqb-true e.child k is) there.0
+      | false ↦ λ is ne. child_there ns es k there.1 ne
+    ] in
     step (eqb e.child k) refl up
 
 any_more : {A : Type 0} (p q : A → Bool) (xs : List A) → ((x : A) → p x ≡ true → q x ≡ true) → list_any p xs ≡ true → list_any q xs ≡ true
@@ -80,9 +86,11 @@ any_more p q (x ∷ xs) more is =
 
 -- from where going up reaches the root, there is a node
 pub climber_there : (s : State) → Tree s → (i k : ℕ) → above s.entries i k ≡ 1 → list_any (has_number k) s.nodes ≡ true
-climber_there s tree zero k at = any_more (is_dir_of 1) (has_number k) s.nodes (λ n is. eq-eqb n.number k (eqb-true n.number 1 (and_true _ _ is).0 ∙ sym at)) tree.root
+climber_there s tree zero k at =
+    any_more (is_dir_of 1) (has_number k) s.nodes (λ n is. eq-eqb n.number k (eqb-true n.number 1 (and_true _ _ is).0 ∙ sym at)) tree.root
 climber_there s tree (suc i) k at =
-    child_there s.nodes s.entries k (all_more (IsEntry s.nodes s.entries s.next_cookie) (λ e. list_any (has_number e.child) s.nodes ≡ true) s.entries (λ e p. p.child) tree.entries)
+    child_there s.nodes s.entries k
+    (all_more (IsEntry s.nodes s.entries s.next_cookie) (λ e. list_any (has_number e.child) s.nodes ≡ true) s.entries (λ e p. p.child) tree.entries)
     (λ none. let e = ap (above s.entries i) none in let f = stays_none s.entries (rooted s tree).none i in absurd cc)
 
 -- ---- as many steps as there are nodes
@@ -90,7 +98,8 @@ climber_there s tree (suc i) k at =
 shorter : {A : Type 0} (test : A → Bool) (xs : List A) → list_any test xs ≡ true → length (filter (λ x. not (test x)) xs) < length xs
 shorter test [] is = absurd cc
 shorter test (x ∷ xs) is =
-    let step : (b : Bool) → (b || list_any test xs) ≡ true → length (cond (not b) (x ∷ filter (λ y. not (test y)) xs) (filter (λ y. not (test y)) xs)) < length (x ∷ xs) =
+    let step : (b : Bool) → (b || list_any test xs) ≡ true → length (cond (not b) (x ∷ filter (λ y. not (test y)) xs) (filter (λ y. not (test y)) xs)) < length
+    (x ∷ xs) =
     elim [
       | true ↦ λ here. let less = length_filtered (λ y. not (test y)) xs in omega arith
       | false ↦ λ there. let less = shorter test xs there in omega arith
@@ -98,7 +107,8 @@ shorter test (x ∷ xs) is =
     step (test x) is
 
 -- tests of which no element passes two, and each is passed: there are as many elements
-pigeons : {A : Type 0} (test : ℕ → A → Bool) → ((i j : ℕ) (x : A) → test i x ≡ true → test j x ≡ true → i ≡ j) → (n : ℕ) (xs : List A) → ((i : ℕ) → i < n → list_any (test i) xs ≡ true) → n ≤ length xs
+pigeons : {A : Type 0} (test : ℕ → A → Bool) → ((i j : ℕ) (x : A) → test i x ≡ true → test j x ≡ true → i ≡ j) → (n : ℕ) (xs : List A)
+    → ((i : ℕ) → i < n → list_any (test i) xs ≡ true) → n ≤ length xs
 pigeons test one zero xs all = omega arith
 pigeons test one (suc n) xs all =
     let last : n < suc n = omega arith in
@@ -119,7 +129,8 @@ few_steps s tree m k at =
     let each : (i : ℕ) → i < suc m → list_any (λ (n : Node). eqb (above s.entries i n.number) 1) s.nodes ≡ true =
     λ i lt. (
     let split : m ≡ (m - i) + i = omega arith in
-    let there : above s.entries i (above s.entries (m - i) k) ≡ 1 = sym (above_on s.entries (m - i) i k) ∙ ap (λ (n : ℕ). above s.entries n k) (sym split) ∙ at in
+    let there : above s.entries i (above s.entries (m - i) k) ≡ 1 =
+    sym (above_on s.entries (m - i) i k) ∙ ap (λ (n : ℕ). above s.entries n k) (sym split) ∙ at in
     any_more (has_number (above s.entries (m - i) k)) (λ n. eqb (above s.entries i n.number) 1) s.nodes
     (λ n is. eq-eqb _ 1 (ap (above s.entries i) (eqb-true n.number _ is) ∙ there)) (climber_there s tree i (above s.entries (m - i) k) there)) in
     let enough = pigeons (λ i n. eqb (above s.entries i n.number) 1) (λ i j n here there. (
@@ -141,13 +152,17 @@ ends_within s tree k = step (eqb (up_of s.entries k) 0) refl
     step : (b : Bool) → eqb (up_of s.entries k) 0 ≡ b → above s.entries (length s.nodes) k ≡ 0
     step true is =
         let split : length s.nodes ≡ suc (length s.nodes - 1) = omega (arith, some) in
-        ap (λ (n : ℕ). above s.entries n k) split ∙ ap (above s.entries (length s.nodes - 1)) (eqb-true _ 0 is) ∙ stays_none s.entries root.none (length s.nodes - 1)
+        ap (λ (n : ℕ). above s.entries n k) split ∙ ap (above s.entries (length s.nodes - 1)) (eqb-true _ 0 is)
+        ∙ stays_none s.entries root.none (length s.nodes - 1)
     step false is =
-        let climb = named_reaches s.entries k (all_more (IsEntry s.nodes s.entries s.next_cookie) (λ e. Reaches s.entries e.dir) s.entries (λ e p. p.reaches) tree.entries) (eqb-false _ 0 is) in
+        let climb =
+        named_reaches s.entries k (all_more (IsEntry s.nodes s.entries s.next_cookie) (λ e. Reaches s.entries e.dir) s.entries (λ e p. p.reaches) tree.entries)
+        (eqb-false _ 0 is) in
         let less = few_steps s tree climb.0 k climb.1 in
         let split : length s.nodes ≡ climb.0 + suc (length s.nodes - suc climb.0) = omega arith in
         let left = length s.nodes - suc climb.0 in
-        ap (λ (n : ℕ). above s.entries n k) split ∙ above_on s.entries climb.0 (suc left) k ∙ ap (above s.entries (suc left)) climb.1 ∙ past_top s.entries root left
+        ap (λ (n : ℕ). above s.entries n k) split ∙ above_on s.entries climb.0 (suc left) k ∙ ap (above s.entries (suc left)) climb.1
+        ∙ past_top s.entries root left
 
 -- no node lies under itself
 pub not_under_own : (es : List EntryRow) → IsRooted es → (k q : ℕ) → up_of es k ≡ q → Reaches es q → (n : ℕ) → above es n q ≢ k

@@ -21,7 +21,8 @@ init_fits sizes s (Refused errno) = refused s errno
 pub init_reads : ReadBack → (s : State) (offer : InitIn) → Reads AnInit (init s (agree offer))
 init_reads back s offer = either (is_older offer) (nat_lt 7 offer.major) _ _ _
   where
-    either : (older newer : Bool) (again out : InitOut) (settings : Settings) → Reads AnInit (init s (if older then Refused eproto else if newer then Again again else Agreed out settings))
+    either : (older newer : Bool) (again out : InitOut) (settings : Settings)
+        → Reads AnInit (init s (if older then Refused eproto else if newer then Again again else Agreed out settings))
     either true newer again out settings = refused_reads s eproto refl
     either false true again out settings = answered_reads s _ (back.init again)
     either false false again out settings = answered_reads (record s { settings = Some settings }) _ (back.init out)

@@ -5,7 +5,13 @@ use Rattle.std.proofs.lemmas.List.{length-append, length-take, length-drop, leng
 use Rattle.fuse_tree.specs.Rows.{sized, written}
 
 pub length_sized : (size : ℕ) (content : List ℕ) → length (sized size content) ≡ size
-length_sized size content = omega (arith, length-append (take size content) (replicate (size - length content) 0), length-take size content, length-replicate {A = ℕ} (size - length content) 0)
+length_sized size content =
+    omega (
+      arith,
+      length-append (take size content) (replicate (size - length content) 0),
+      length-take size content,
+      length-replicate {A = ℕ} (size - length content) 0,
+    )
 
 -- the written bytes end where they end, or what stood there before does
 pub length_written : (offset : ℕ) (bytes content : List ℕ) → length (written offset bytes content) ≡ max (length content) (offset + length bytes)

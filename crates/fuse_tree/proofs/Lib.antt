@@ -47,6 +47,7 @@ pub mod RenameRows
 mod SettingAgrees
 mod SettingFits
 mod Shown
+mod SmallRows
 pub mod Telling
 pub mod Trees
 mod Under

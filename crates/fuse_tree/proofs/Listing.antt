@@ -1,5 +1,6 @@
 -- The entries of a directory, of a state and of its rows.
-use Rattle.std.proofs.Common.{◌≡◌, ◌<◌, ◌≤◌, ◌+◌, ◌&&◌, ◌==◌, ◌*◌, ℕ, true, false, cond, eqb, nat_lt, List, [], ◌∷◌, ◌++◌, length, map, take, Option, Some, None, refl, sym, ap, ◌∙◌, arith}
+use Rattle.std.proofs.Common.{◌≡◌, ◌<◌, ◌≤◌, ◌+◌, ◌&&◌, ◌==◌, ◌*◌, ℕ, true, false, cond, eqb, nat_lt, List, [], ◌∷◌, ◌++◌, length, map, take, Option, Some}
+use Rattle.std.proofs.Common.{None, refl, sym, ap, ◌∙◌, arith}
 use Rattle.std.specs.Prelude.{filter}
 use Rattle.std.specs.List.{AllByRecursion}
 use Rattle.std.specs.Option.{option_map}
@@ -10,7 +11,8 @@ use Rattle.fuse_answer.specs.Entries.{Entry, IsNamed}
 use Rattle.fuse_tree.specs.declared.rows.EntryRow.{EntryRow}
 use Rattle.fuse_tree.specs.State.{State, Node, Tree, Apart, IsEntry, AreApart, node_at}
 use Rattle.fuse_tree.specs.Rows.{rows_of_state, row_of, is_after}
-use Rattle.fuse_tree.specs.Listing.{dots, above_or_root, kind_of, told_entry, entries_in, is_behind, entries_behind, longest_front, first_fits, ListingIsLongest}
+use Rattle.fuse_tree.specs.Listing.{dots, above_or_root, kind_of, told_entry, entries_in, is_behind, entries_behind, longest_front, first_fits}
+use Rattle.fuse_tree.specs.Listing.{ListingIsLongest}
 use Rattle.fuse_tree.specs.PlanListing.{row_kind, row_entry, enough, dots_behind, rows_behind}
 use Rattle.fuse_tree.proofs.Lists.{all_more, all_kept, apart_filtered}
 use Rattle.fuse_tree.proofs.Puts.{row_found}
@@ -19,7 +21,8 @@ use Rattle.fuse_tree.proofs.Fronts.{longest, front_cut, first_cut}
 
 -- ---- those behind an offset
 
-told_behind : (s : State) (dir offset : ℕ) (es : List EntryRow) → filter (is_behind offset) (map (told_entry s) (filter (λ e. e.dir == dir) es)) ≡ map (told_entry s) (filter (is_after dir offset) es)
+told_behind : (s : State) (dir offset : ℕ) (es : List EntryRow)
+    → filter (is_behind offset) (map (told_entry s) (filter (λ e. e.dir == dir) es)) ≡ map (told_entry s) (filter (is_after dir offset) es)
 told_behind s dir offset [] = refl
 told_behind s dir offset (e ∷ es) =
     let rest = told_behind s dir offset es in
@@ -27,15 +30,17 @@ told_behind s dir offset (e ∷ es) =
     let here : List EntryRow = filter (λ x. x.dir == dir) es in
     let after : List EntryRow = filter (is_after dir offset) es in
     elim (eqb e.dir dir) as (λ b. filter (is_behind offset) (told (cond b (e ∷ here) here)) ≡ told (cond (b && nat_lt offset e.cookie) (e ∷ after) after)) [
-      | true ↦ elim (nat_lt offset e.cookie) as (λ b. cond b (told_entry s e ∷ filter (is_behind offset) (told here)) (filter (is_behind offset) (told here)) ≡ told (cond b (e ∷ after) after)) [
-        | true ↦ ap (λ (xs : List Entry). told_entry s e ∷ xs) rest
-        | false ↦ rest
-      ]
+      | true ↦ elim (nat_lt offset e.cookie) as
+          (λ b. cond b (told_entry s e ∷ filter (is_behind offset) (told here)) (filter (is_behind offset) (told here)) ≡ told (cond b (e ∷ after) after)) [
+            | true ↦ ap (λ (xs : List Entry). told_entry s e ∷ xs) rest
+            | false ↦ rest
+          ]
       | false ↦ rest
     ]
 
 -- the dots and the entries behind the offset
-behind : (s : State) (dir offset : ℕ) → entries_behind s dir offset ≡ filter (is_behind offset) (dots dir (above_or_root s dir)) ++ map (told_entry s) (filter (is_after dir offset) s.entries)
+behind : (s : State) (dir offset : ℕ)
+    → entries_behind s dir offset ≡ filter (is_behind offset) (dots dir (above_or_root s dir)) ++ map (told_entry s) (filter (is_after dir offset) s.entries)
 behind s dir offset =
     filter-append (is_behind offset) (dots dir (above_or_root s dir)) (map (told_entry s) (filter (λ e. e.dir == dir) s.entries))
     ∙ ap (λ (xs : List Entry). filter (is_behind offset) (dots dir (above_or_root s dir)) ++ xs) (told_behind s dir offset s.entries)
@@ -48,7 +53,8 @@ same_kind s (Some n) = refl
 
 same_entry : (s : State) (e : EntryRow) → row_entry (rows_of_state s) e ≡ told_entry s e
 same_entry s e =
-    ap (λ (kind : ℕ). record { ino = e.child; off = e.cookie; kind = kind; name = e.name }) (ap row_kind (row_found s e.child) ∙ same_kind s (node_at s e.child))
+    ap (λ (kind : ℕ). record { ino = e.child; off = e.cookie; kind = kind; name = e.name })
+    (ap row_kind (row_found s e.child) ∙ same_kind s (node_at s e.child))
 
 same_entries : (s : State) (es : List EntryRow) → map (row_entry (rows_of_state s)) es ≡ map (told_entry s) es
 same_entries s [] = refl
@@ -74,7 +80,8 @@ all_told s (e ∷ es) all = (all.0, all_told s es all.1)
 pub all_named : (s : State) (dir offset : ℕ) → Tree s → AllByRecursion IsNamed (entries_behind s dir offset)
 all_named s dir offset tree =
     let each : AllByRecursion (λ e. IsNamed (told_entry s e)) s.entries =
-    all_more (IsEntry s.nodes s.entries s.next_cookie) (λ e. IsNamed (told_entry s e)) s.entries (λ e p. let fits = name_fits e.name p.name in (fits.some, fits.short)) tree.entries in
+    all_more (IsEntry s.nodes s.entries s.next_cookie) (λ e. IsNamed (told_entry s e)) s.entries
+    (λ e p. let fits = name_fits e.name p.name in (fits.some, fits.short)) tree.entries in
     all_kept IsNamed (is_behind offset) (entries_in s dir)
     ((omega arith, omega arith), ((omega arith, omega arith), all_told s _ (all_kept (λ e. IsNamed (told_entry s e)) (λ e. e.dir == dir) s.entries each)))
 
@@ -83,12 +90,14 @@ all_named s dir offset tree =
 past : (size n : ℕ) → size < 32 * (n + enough size)
 past size n = omega arith
 
-pub same_front : (s : State) (d : Node) (offset size : ℕ) → Tree s → longest_front (rows_behind offset size (row_of s d) (rows_of_state s)) size ≡ longest_front (entries_behind s d.number offset) size
+pub same_front : (s : State) (d : Node) (offset size : ℕ) → Tree s
+    → longest_front (rows_behind offset size (row_of s d) (rows_of_state s)) size ≡ longest_front (entries_behind s d.number offset) size
 same_front s d offset size tree =
     ap (λ (es : List Entry). longest_front es size) (rows_cut s d offset size)
     ∙ front_cut (entries_behind s d.number offset) size _ (all_named s d.number offset tree) (past size (length (dots_behind offset (row_of s d))))
 
-pub same_first : (s : State) (d : Node) (offset size : ℕ) → first_fits (rows_behind offset size (row_of s d) (rows_of_state s)) size ≡ first_fits (entries_behind s d.number offset) size
+pub same_first : (s : State) (d : Node) (offset size : ℕ)
+    → first_fits (rows_behind offset size (row_of s d) (rows_of_state s)) size ≡ first_fits (entries_behind s d.number offset) size
 same_first s d offset size =
     ap (λ (es : List Entry). first_fits es size) (rows_cut s d offset size)
     ∙ first_cut (entries_behind s d.number offset) size _ (omega arith)
@@ -112,8 +121,12 @@ pub listing_is_longest : ListingIsLongest
 listing_is_longest s dir offset size tree =
     let here : List EntryRow = filter (λ e. e.dir == dir) s.entries in
     let cookies : AllByRecursion (λ e. 3 ≤ e.cookie) here =
-    all_kept (λ e. 3 ≤ e.cookie) (λ e. e.dir == dir) s.entries (all_more (IsEntry s.nodes s.entries s.next_cookie) (λ e. 3 ≤ e.cookie) s.entries (λ e p. p.from_three) tree.entries) in
+    all_kept (λ e. 3 ≤ e.cookie) (λ e. e.dir == dir) s.entries
+    (all_more (IsEntry s.nodes s.entries s.next_cookie) (λ e. 3 ≤ e.cookie) s.entries (λ e p. p.from_three) tree.entries) in
     record {
-      rise = ((omega arith, all_above s 1 here (omega arith) cookies), (all_above s 2 here (omega arith) cookies, apart_told s here (apart_filtered AreApart (λ e. e.dir == dir) s.entries tree.entries_apart)));
+      rise = (
+        (omega arith, all_above s 1 here (omega arith) cookies),
+        (all_above s 2 here (omega arith) cookies, apart_told s here (apart_filtered AreApart (λ e. e.dir == dir) s.entries tree.entries_apart)),
+      );
       longest = longest (entries_behind s dir offset) size;
     }

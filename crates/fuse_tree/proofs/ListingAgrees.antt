@@ -12,7 +12,8 @@ use Rattle.fuse_tree.specs.PlanListing.{plan_list, plan_read_dir}
 use Rattle.fuse_tree.proofs.Agreement.{Agrees, refused_agrees, both}
 use Rattle.fuse_tree.proofs.Listing.{same_front, same_first}
 
-list_agrees : (s : State) (offset size : ℕ) (d : Node) → Tree s → Agrees s (plan_list offset size (row_of s d) (rows_of_state s)) (list_front s (entries_behind s d.number offset) size)
+list_agrees : (s : State) (offset size : ℕ) (d : Node) → Tree s
+    → Agrees s (plan_list offset size (row_of s d) (rows_of_state s)) (list_front s (entries_behind s d.number offset) size)
 list_agrees s offset size d tree =
     rw (same_first s d offset size)
     (both s (not (first_fits (entries_behind s d.number offset) size)) _ _ _ _ (λ _. refused_agrees s tree einval) (λ _. record {

@@ -32,7 +32,8 @@ read_dir_fits sizes s asked n =
 
 list_reads : ReadBack → (s : State) (es : List Entry) (size : ℕ) → AllByRecursion IsNamed es → Reads Directory (list_front s es size)
 list_reads back s es size named =
-    chosen_reads (not (first_fits es size)) _ _ (refused_reads s _ refl) (answered_reads s _ (back.listing (longest_front es size) (all_taken IsNamed _ es named)))
+    chosen_reads (not (first_fits es size)) _ _ (refused_reads s _ refl)
+    (answered_reads s _ (back.listing (longest_front es size) (all_taken IsNamed _ es named)))
 
 pub read_dir_reads : ReadBack → (s : State) (asked : ReadIn) (n : Node) → Tree s → Reads Directory (read_dir s asked n)
 read_dir_reads back s asked n tree =

@@ -1,5 +1,6 @@
 -- The rows of a new node are those of the state that has it, and the tree goes on.
-use Rattle.std.proofs.Common.{◌≡◌, ◌≢◌, ◌<◌, ◌+◌, ◌&&◌, ℕ, Bool, true, false, cond, eqb, List, [], ◌∷◌, ◌++◌, length, map, Some, None, refl, sym, ap, ◌∙◌, add-zero, arith}
+use Rattle.std.proofs.Common.{◌≡◌, ◌≢◌, ◌<◌, ◌+◌, ◌&&◌, ℕ, Bool, true, false, cond, eqb, List, [], ◌∷◌, ◌++◌, length, map, Some, None, refl, sym, ap, ◌∙◌}
+use Rattle.std.proofs.Common.{add-zero, arith}
 use Rattle.std.specs.Prelude.{nat_le}
 use Rattle.std.specs.List.{list_any}
 use Rattle.std.proofs.lemmas.Bool.{ne_eqb, eq-eqb, leb-false}
@@ -24,7 +25,9 @@ touched_same dir now n = record { number = refl; kind = refl }
 
 pub tree_touched : (s : State) (dir : ℕ) (now : Moment) → Tree s → Tree (touch dir now s)
 tree_touched s dir now tree =
-    tree_mapped s (touched dir now) (touched_same dir now) (all_more (IsNode s.next_node) (λ n. IsNode s.next_node (touched dir now n)) s.nodes (λ n p. record { from_one = p.from_one; below = p.below; mode = p.mode; content = p.content; size = p.size }) tree.nodes) tree
+    tree_mapped s (touched dir now) (touched_same dir now)
+    (all_more (IsNode s.next_node) (λ n. IsNode s.next_node (touched dir now n)) s.nodes
+    (λ n p. record { from_one = p.from_one; below = p.below; mode = p.mode; content = p.content; size = p.size }) tree.nodes) tree
 
 pub twice : (f : Node → Node) (g : Node → Full) (ns : List Node) → map g (map f ns) ≡ map (λ n. g (f n)) ns
 twice f g [] = refl
@@ -39,13 +42,21 @@ module _ (s : State) (fresh : NewNode) (name : List ℕ) (d : Node) (tree : Tree
   below = (node_found s d.number d tree e).1
 
   subdirs_then : (k : ℕ) → subdirs_of after k ≡ subdirs_of s k + cond (is_dir fresh.mode && eqb d.number k) 1 0
-  subdirs_then k = subdirs_grown s (touched d.number fresh.made) (new_node s fresh) (new_entry s d.number name) k tree (touched_same d.number fresh.made) refl refl
+  subdirs_then k =
+      subdirs_grown s (touched d.number fresh.made) (new_node s fresh) (new_entry s d.number name) k tree (touched_same d.number fresh.made) refl refl
 
   other_same : (n : Node) → n.number < s.next_node → n.number ≢ d.number → full_of after (touched d.number fresh.made n) ≡ full_of s n
   other_same n lt other =
       let apart : s.next_node ≢ n.number = omega arith in
       let turned : d.number ≢ n.number = omega arith in
-      rw (ne_eqb n.number d.number other, up_more s.entries (new_entry s d.number name) n.number apart, subdirs_then n.number, ne_eqb d.number n.number turned, and_false (is_dir fresh.mode), add-zero) refl
+      rw (
+        ne_eqb n.number d.number other,
+        up_more s.entries (new_entry s d.number name) n.number apart,
+        subdirs_then n.number,
+        ne_eqb d.number n.number turned,
+        and_false (is_dir fresh.mode),
+        add-zero,
+      ) refl
 
   one_below : (b : Bool) (m : ℕ) → m + cond (b && true) 1 0 ≡ cond b (m + 1) m
   one_below true m = refl
@@ -55,15 +66,28 @@ module _ (s : State) (fresh : NewNode) (name : List ℕ) (d : Node) (tree : Tree
   here_changed =
       let lt : d.number < s.next_node = below in
       let apart : s.next_node ≢ d.number = omega arith in
-      rw (eq-eqb d.number d.number refl, up_more s.entries (new_entry s d.number name) d.number apart, subdirs_then d.number, eq-eqb d.number d.number refl, one_below (is_dir fresh.mode) (subdirs_of s d.number)) refl
+      rw (
+        eq-eqb d.number d.number refl,
+        up_more s.entries (new_entry s d.number name) d.number apart,
+        subdirs_then d.number,
+        eq-eqb d.number d.number refl,
+        one_below (is_dir fresh.mode) (subdirs_of s d.number),
+      ) refl
 
   pub new_full : full_of after (new_node s fresh) ≡ record { row = new_row (counters_of s) fresh d.number; content = [] }
   new_full =
       let lt : d.number < s.next_node = below in
       let other : d.number ≢ s.next_node = omega arith in
-      rw (up_new s.entries (new_entry s d.number name) s.next_node (children_below s tree) refl, subdirs_then s.next_node, no_subdirs s tree, ne_eqb d.number s.next_node other, and_false (is_dir fresh.mode)) refl
+      rw (
+        up_new s.entries (new_entry s d.number name) s.next_node (children_below s tree) refl,
+        subdirs_then s.next_node,
+        no_subdirs s tree,
+        ne_eqb d.number s.next_node other,
+        and_false (is_dir fresh.mode),
+      ) refl
 
-  nodes_meet : put_node (new_row (counters_of s) fresh d.number) (put_node (dir_row fresh (row_of s d)) (map (full_of s) s.nodes)) ≡ map (full_of after) (map (touched d.number fresh.made) s.nodes ++ new_node s fresh ∷ [])
+  nodes_meet : put_node (new_row (counters_of s) fresh d.number) (put_node (dir_row fresh (row_of s d)) (map (full_of s) s.nodes))
+      ≡ map (full_of after) (map (touched d.number fresh.made) s.nodes ++ new_node s fresh ∷ [])
   nodes_meet =
       let G : Node → Full = λ n. full_of after (touched d.number fresh.made n) in
       let row = new_row (counters_of s) fresh d.number in
@@ -82,7 +106,8 @@ module _ (s : State) (fresh : NewNode) (name : List ℕ) (d : Node) (tree : Tree
       ∙ ap (λ (n : ℕ). record (rows_of_state after) { counters = record (counters_of after) { nodes = n } }) count
 
   -- the tree goes on
-  pub make_tree : is_dir d.mode ≡ true → name_fault name ≡ None → is_named s d.number ≡ true → entry_at s.entries d.number name ≡ None → is_full (length s.nodes) s.next_node s.next_cookie ≡ false
+  pub make_tree : is_dir d.mode ≡ true → name_fault name ≡ None → is_named s d.number ≡ true → entry_at s.entries d.number name ≡ None
+      → is_full (length s.nodes) s.next_node s.next_cookie ≡ false
       → HasMode fresh.mode fresh.rdev → Tree after
   make_tree dir name_ok named free room mode =
       let few : nat_le node_limit (length s.nodes) ≡ false = (or_false _ _ (or_false _ _ room).0).0 in

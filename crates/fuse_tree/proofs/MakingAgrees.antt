@@ -15,7 +15,8 @@ use Rattle.fuse_tree.proofs.Agreement.{Agrees, refused_agrees, both, both_for, n
 use Rattle.fuse_tree.proofs.Making.{new_full, make_rows, make_tree}
 use Rattle.fuse_tree.proofs.Modes.{made_dir, made_node}
 
-pub make_agrees : (s : State) (fresh : NewNode) (name : List ℕ) (d : Node) → Tree s → node_at s d.number ≡ Some d → is_dir d.mode ≡ true → name_fault name ≡ None
+pub make_agrees : (s : State) (fresh : NewNode) (name : List ℕ) (d : Node) → Tree s → node_at s d.number ≡ Some d → is_dir d.mode ≡ true
+    → name_fault name ≡ None
     → HasMode fresh.mode fresh.rdev → Agrees s (plan_make fresh name (row_of s d) (rows_of_state s)) (make s fresh name d)
 make_agrees s fresh name d tree e dir name_ok mode =
     both s (not (is_named s d.number)) _ _ _ _ (λ _. refused_agrees s tree enoent) (λ named.

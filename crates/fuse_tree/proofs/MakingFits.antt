@@ -23,7 +23,8 @@ mkdir_fits sizes s header mode name now n =
     chosen (not (is_dir n.mode)) _ _ (refused s _)
     (refused_for s (name_fault name) _ (make_fits sizes s (begun header (dir_mode mode) 0 now) name n))
 
-pub mknod_fits : RecordSizes → (s : State) (header : InHeader) (mode rdev : ℕ) (name : List ℕ) (now : Moment) (n : Node) → Fits (mknod s header mode rdev name now n)
+pub mknod_fits : RecordSizes → (s : State) (header : InHeader) (mode rdev : ℕ) (name : List ℕ) (now : Moment) (n : Node)
+    → Fits (mknod s header mode rdev name now n)
 mknod_fits sizes s header mode rdev name now n =
     chosen (not (is_dir n.mode)) _ _ (refused s _)
     (chosen (not (may_make (type_bits mode))) _ _ (refused s _)
@@ -36,12 +37,14 @@ make_reads back s fresh name n =
     (chosen_reads (is_full (length s.nodes) s.next_node s.next_cookie) _ _ (refused_reads s _ refl)
     (answered_reads (with_node s fresh n.number name) _ (back.entry (entry_of (attr_of (with_node s fresh n.number name) (new_node s fresh)))))))
 
-pub mkdir_reads : ReadBack → (s : State) (header : InHeader) (mode : ℕ) (name : List ℕ) (now : Moment) (n : Node) → Reads AnEntry (mkdir s header mode name now n)
+pub mkdir_reads : ReadBack → (s : State) (header : InHeader) (mode : ℕ) (name : List ℕ) (now : Moment) (n : Node)
+    → Reads AnEntry (mkdir s header mode name now n)
 mkdir_reads back s header mode name now n =
     chosen_reads (not (is_dir n.mode)) _ _ (refused_reads s _ refl)
     (refused_name_reads s name _ (make_reads back s (begun header (dir_mode mode) 0 now) name n))
 
-pub mknod_reads : ReadBack → (s : State) (header : InHeader) (mode rdev : ℕ) (name : List ℕ) (now : Moment) (n : Node) → Reads AnEntry (mknod s header mode rdev name now n)
+pub mknod_reads : ReadBack → (s : State) (header : InHeader) (mode rdev : ℕ) (name : List ℕ) (now : Moment) (n : Node)
+    → Reads AnEntry (mknod s header mode rdev name now n)
 mknod_reads back s header mode rdev name now n =
     chosen_reads (not (is_dir n.mode)) _ _ (refused_reads s _ refl)
     (chosen_reads (not (may_make (type_bits mode))) _ _ (refused_reads s _ refl)

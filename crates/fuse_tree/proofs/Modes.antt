@@ -20,7 +20,8 @@ made_dir mode =
     record { typed = ap (λ (k : ℕ). is_type (k * 4096)) is; no_more = omega arith; no_device = λ _. refl }
 
 -- what may be made and isn't 0 is a type
-of_type : (zero dir reg chr blk fifo sock : Bool) → zero ≡ false → (zero || reg || chr || blk || fifo || sock) ≡ true → (dir || reg || chr || blk || fifo || sock) ≡ true
+of_type : (zero dir reg chr blk fifo sock : Bool) → zero ≡ false → (zero || reg || chr || blk || fifo || sock) ≡ true
+    → (dir || reg || chr || blk || fifo || sock) ≡ true
 of_type true dir reg chr blk fifo sock none may = absurd cc
 of_type false true reg chr blk fifo sock none may = refl
 of_type false false reg chr blk fifo sock none may = may

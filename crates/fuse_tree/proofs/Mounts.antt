@@ -1,5 +1,6 @@
 -- What is left of a tree at a new mount.
-use Rattle.std.proofs.Common.{◌≡◌, ◌≢◌, ◌<◌, ◌≤◌, ◌||◌, ℕ, zero, suc, Bool, true, false, not, cond, eqb, List, [], ◌∷◌, length, map, refl, sym, ap, subst, ◌∙◌, arith}
+use Rattle.std.proofs.Common.{◌≡◌, ◌≢◌, ◌<◌, ◌≤◌, ◌||◌, ℕ, zero, suc, Bool, true, false, not, cond, eqb, List, [], ◌∷◌, length, map, refl, sym, ap, subst, ◌∙◌}
+use Rattle.std.proofs.Common.{arith}
 use Rattle.std.specs.Prelude.{filter}
 use Rattle.std.specs.List.{AllByRecursion, list_any}
 use Rattle.std.proofs.lemmas.Bool.{eqb-true, ne_eqb, eq-eqb}
@@ -18,7 +19,8 @@ filter_twice : {A : Type 0} (test kept : A → Bool) (xs : List A) → ((x : A) 
 filter_twice test kept [] keeps = refl
 filter_twice test kept (x ∷ xs) keeps =
     let rest = filter_twice test kept xs keeps in
-    let step : (b d : Bool) → test x ≡ b → kept x ≡ d → filter test (cond d (x ∷ filter kept xs) (filter kept xs)) ≡ cond b (x ∷ filter test xs) (filter test xs) =
+    let step : (b d : Bool) → test x ≡ b → kept x ≡ d
+    → filter test (cond d (x ∷ filter kept xs) (filter kept xs)) ≡ cond b (x ∷ filter test xs) (filter test xs) =
     elim [
       | true ↦ elim [
         | true ↦ λ here stays. rw (here, rest) refl
@@ -36,8 +38,11 @@ filter_twice test kept (x ∷ xs) keeps =
 -- each entry's child is the child of an entry
 each_child : (es : List EntryRow) → AllByRecursion (λ e. list_any (λ x. eqb x.child e.child) es ≡ true) es
 each_child [] = tt
-each_child (e ∷ es) =
-    (rw (eq-eqb e.child e.child refl) refl, all_more (λ f. list_any (λ x. eqb x.child f.child) es ≡ true) (λ f. (eqb e.child f.child || list_any (λ x. eqb x.child f.child) es) ≡ true) es (λ f is. rw is (or_true (eqb e.child f.child))) (each_child es))
+each_child (e ∷ es) = (
+  rw (eq-eqb e.child e.child refl) refl,
+  all_more (λ f. list_any (λ x. eqb x.child f.child) es ≡ true) (λ f. (eqb e.child f.child || list_any (λ x. eqb x.child f.child) es) ≡ true) es
+      (λ f is. rw is (or_true (eqb e.child f.child))) (each_child es),
+)
   where
     or_true : (b : Bool) → (b || true) ≡ true
     or_true true = refl
@@ -63,13 +68,19 @@ reaches_named s k none (suc steps, at) =
 
 -- ---- the tree that is left
 
-entry_left : (s : State) (e : EntryRow) → Tree s → IsEntry s.nodes s.entries s.next_cookie e → list_any (λ x. eqb x.child e.child) s.entries ≡ true → IsEntry (cleared s).nodes s.entries s.next_cookie e
+entry_left : (s : State) (e : EntryRow) → Tree s → IsEntry s.nodes s.entries s.next_cookie e → list_any (λ x. eqb x.child e.child) s.entries ≡ true
+    → IsEntry (cleared s).nodes s.entries s.next_cookie e
 entry_left s e tree p child =
     let named_dir : is_named s e.dir ≡ true = reaches_named s e.dir (rooted s tree).none p.reaches in
-    let named_child : is_named s e.child ≡ true = named_by_up (eqb e.child 1) (up_of s.entries e.child) (child_up s.entries e.child (dirs_given s tree) child) in
+    let named_child : is_named s e.child ≡ true =
+    named_by_up (eqb e.child 1) (up_of s.entries e.child) (child_up s.entries e.child (dirs_given s tree) child) in
     record {
-      dir = any_kept (is_dir_of e.dir) (λ n. is_named s n.number) s.nodes (λ n is. subst (λ (k : ℕ). is_named s k ≡ true) (sym (eqb-true n.number e.dir (and_true _ _ is).0)) named_dir) p.dir;
-      child = any_kept (has_number e.child) (λ n. is_named s n.number) s.nodes (λ n is. subst (λ (k : ℕ). is_named s k ≡ true) (sym (eqb-true n.number e.child is)) named_child) p.child;
+      dir =
+          any_kept (is_dir_of e.dir) (λ n. is_named s n.number) s.nodes
+          (λ n is. subst (λ (k : ℕ). is_named s k ≡ true) (sym (eqb-true n.number e.dir (and_true _ _ is).0)) named_dir) p.dir;
+      child =
+          any_kept (has_number e.child) (λ n. is_named s n.number) s.nodes
+          (λ n is. subst (λ (k : ℕ). is_named s k ≡ true) (sym (eqb-true n.number e.child is)) named_child) p.child;
       not_root = p.not_root;
       name = p.name;
       reaches = p.reaches;
@@ -82,7 +93,9 @@ tree_left s tree = record {
   root = any_kept (is_dir_of 1) (λ n. is_named s n.number) s.nodes (λ n is. rw ((and_true (eqb n.number 1) (is_dir n.mode) is).0) refl) tree.root;
   nodes = all_kept (IsNode s.next_node) (λ n. is_named s n.number) s.nodes tree.nodes;
   nodes_rise = apart_filtered (λ n later. n.number < later.number) (λ n. is_named s n.number) s.nodes tree.nodes_rise;
-  entries = all_both (IsEntry s.nodes s.entries s.next_cookie) (λ e. list_any (λ x. eqb x.child e.child) s.entries ≡ true) (IsEntry (cleared s).nodes s.entries s.next_cookie) s.entries
+  entries =
+      all_both (IsEntry s.nodes s.entries s.next_cookie) (λ e. list_any (λ x. eqb x.child e.child) s.entries ≡ true)
+      (IsEntry (cleared s).nodes s.entries s.next_cookie) s.entries
       (λ e p child. entry_left s e tree p child) tree.entries (each_child s.entries);
   entries_apart = tree.entries_apart;
   handles = tt;
@@ -112,11 +125,14 @@ full_left s n one =
     let given : n.number ≢ 0 = omega arith in
     rw (subdirs_left s n.number given) refl
 
-nodes_left : (s : State) (ns : List Node) → AllByRecursion (λ n. full_of (cleared s) n ≡ full_of s n) ns → map (full_of (cleared s)) (filter (λ n. is_named s n.number) ns) ≡ filter is_named_row (map (full_of s) ns)
+nodes_left : (s : State) (ns : List Node) → AllByRecursion (λ n. full_of (cleared s) n ≡ full_of s n) ns
+    → map (full_of (cleared s)) (filter (λ n. is_named s n.number) ns) ≡ filter is_named_row (map (full_of s) ns)
 nodes_left s [] same = refl
 nodes_left s (n ∷ ns) same =
     let rest = nodes_left s ns same.1 in
-    elim (is_named s n.number) as (λ b. map (full_of (cleared s)) (cond b (n ∷ filter (λ m. is_named s m.number) ns) (filter (λ m. is_named s m.number) ns)) ≡ cond b (full_of s n ∷ filter is_named_row (map (full_of s) ns)) (filter is_named_row (map (full_of s) ns))) [
+    elim (is_named s n.number) as
+    (λ b. map (full_of (cleared s)) (cond b (n ∷ filter (λ m. is_named s m.number) ns) (filter (λ m. is_named s m.number) ns)) ≡ cond b
+    (full_of s n ∷ filter is_named_row (map (full_of s) ns)) (filter is_named_row (map (full_of s) ns))) [
       | true ↦ rw (same.0, rest) refl
       | false ↦ rest
     ]
@@ -124,8 +140,10 @@ nodes_left s (n ∷ ns) same =
 rows_left : (s : State) → Tree s → rowed (cleared s) ≡ cleared_rows (rowed s)
 unfolding rowed
 rows_left s tree =
-    let nodes : map (full_of (cleared s)) (cleared s).nodes ≡ filter is_named_row (map (full_of s) s.nodes) = nodes_left s s.nodes (all_more (IsNode s.next_node) (λ n. full_of (cleared s) n ≡ full_of s n) s.nodes (λ n p. full_left s n p.from_one) tree.nodes) in
-    let count : length (cleared s).nodes ≡ length (filter is_named_row (map (full_of s) s.nodes)) = sym (length-map (cleared s).nodes (full_of (cleared s))) ∙ ap length nodes in
+    let nodes : map (full_of (cleared s)) (cleared s).nodes ≡ filter is_named_row (map (full_of s) s.nodes) =
+    nodes_left s s.nodes (all_more (IsNode s.next_node) (λ n. full_of (cleared s) n ≡ full_of s n) s.nodes (λ n p. full_left s n p.from_one) tree.nodes) in
+    let count : length (cleared s).nodes ≡ length (filter is_named_row (map (full_of s) s.nodes)) =
+    sym (length-map (cleared s).nodes (full_of (cleared s))) ∙ ap length nodes in
     cc
 
 pub clearing : Clearing

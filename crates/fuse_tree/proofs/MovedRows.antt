@@ -26,9 +26,12 @@ abbrev pub IsRowOf : State → (Node → Full) → NodeRow → Type 0
 IsRowOf s G row = (d : Node) × (node_at s row.node ≡ Some d) × (G d ≡ record { row = row; content = d.content })
 
 -- where each row is that of its node by G, and the other nodes' rows are those by G before
-pub puts_meet : (s : State) (G H : Node → Full) (rows : List NodeRow) → Tree s → ((n : Node) → (H n).row.node ≡ n.number) → ((n : Node) → (H n).content ≡ n.content)
-    → AllByRecursion (IsRowOf s G) rows → AllByRecursion (λ n. list_any (λ row. n.number == row.node) rows ≡ false → H n ≡ G n) s.nodes → puts rows (map H s.nodes) ≡ map G s.nodes
-puts_meet s G H [] tree numbers contents each others = same_rows H G s.nodes (all_more (λ n. false ≡ false → H n ≡ G n) (λ n. H n ≡ G n) s.nodes (λ n p. p refl) others)
+pub puts_meet : (s : State) (G H : Node → Full) (rows : List NodeRow) → Tree s → ((n : Node) → (H n).row.node ≡ n.number)
+    → ((n : Node) → (H n).content ≡ n.content)
+    → AllByRecursion (IsRowOf s G) rows → AllByRecursion (λ n. list_any (λ row. n.number == row.node) rows ≡ false → H n ≡ G n) s.nodes → puts rows
+    (map H s.nodes) ≡ map G s.nodes
+puts_meet s G H [] tree numbers contents each others =
+    same_rows H G s.nodes (all_more (λ n. false ≡ false → H n ≡ G n) (λ n. H n ≡ G n) s.nodes (λ n p. p refl) others)
 puts_meet s G H (row ∷ rows) tree numbers contents each others =
     let d = each.0.0 in
     let at : node_at s row.node ≡ Some d = each.0.1 in
@@ -36,7 +39,8 @@ puts_meet s G H (row ∷ rows) tree numbers contents each others =
     let there : list_any (has_number row.node) s.nodes ≡ true = any_found (has_number row.node) s.nodes d at in
     ap (puts rows) (put_over H row s.nodes numbers there)
     ∙ puts_meet s G (λ n. with_row row (H n)) rows tree (λ n. kept_number row (H n) ∙ numbers n) (λ n. kept_content n ∙ contents n) each.1
-    (all_both (λ n. n.number ≡ row.node → n ≡ d) (λ n. list_any (λ r. n.number == r.node) (row ∷ rows) ≡ false → H n ≡ G n) (λ n. list_any (λ r. n.number == r.node) rows ≡ false → with_row row (H n) ≡ G n) s.nodes
+    (all_both (λ n. n.number ≡ row.node → n ≡ d) (λ n. list_any (λ r. n.number == r.node) (row ∷ rows) ≡ false → H n ≡ G n)
+    (λ n. list_any (λ r. n.number == r.node) rows ≡ false → with_row row (H n) ≡ G n) s.nodes
     (λ n one other none. here n d is (one) (λ no. other (rw no none)) (eqb n.number row.node) refl)
     (only_one row.node d s.nodes tree.nodes_rise at) others)
   where
@@ -50,7 +54,8 @@ puts_meet s G H (row ∷ rows) tree numbers contents each others =
     tested : (n : Node) → eqb (H n).row.node row.node ≡ eqb n.number row.node
     tested n = ap (λ (i : ℕ). eqb i row.node) (numbers n)
 
-    here : (n d : Node) → G d ≡ record { row = row; content = d.content } → (n.number ≡ row.node → n ≡ d) → (eqb n.number row.node ≡ false → H n ≡ G n) → (b : Bool) → eqb n.number row.node ≡ b → with_row row (H n) ≡ G n
+    here : (n d : Node) → G d ≡ record { row = row; content = d.content } → (n.number ≡ row.node → n ≡ d) → (eqb n.number row.node ≡ false → H n ≡ G n)
+        → (b : Bool) → eqb n.number row.node ≡ b → with_row row (H n) ≡ G n
     here n d is one other true at =
         let same : n ≡ d = one (eqb-true n.number row.node at) in
         ap (λ (b : Bool). cond b (record (H n) { row = row }) (H n)) (tested n ∙ at)
@@ -78,11 +83,13 @@ module _ (s : State) (D C : ℕ → Bool) (now : Moment) (fs : List EntryRow) (n
       → then_full n ≡ record { row = record (row_of s n) { mtime = now; ctime = now; subdirs = m }; content = n.content }
   dir_then n m is up count = rw (is, up, count) refl
 
-  pub child_then : (n : Node) (k : ℕ) → D n.number ≡ false → C n.number ≡ true → up_of fs n.number ≡ k → subdirs_of (shifted D C now fs next s) n.number ≡ subdirs_of s n.number
+  pub child_then : (n : Node) (k : ℕ) → D n.number ≡ false → C n.number ≡ true → up_of fs n.number ≡ k
+      → subdirs_of (shifted D C now fs next s) n.number ≡ subdirs_of s n.number
       → then_full n ≡ record { row = record (row_of s n) { ctime = now; up = k }; content = n.content }
   child_then n k isnt is up count = rw (isnt, is, up, count) refl
 
-  pub other_then : (n : Node) → D n.number ≡ false → C n.number ≡ false → up_of fs n.number ≡ up_of s.entries n.number → subdirs_of (shifted D C now fs next s) n.number ≡ subdirs_of s n.number → then_full n ≡ full_of s n
+  pub other_then : (n : Node) → D n.number ≡ false → C n.number ≡ false → up_of fs n.number ≡ up_of s.entries n.number
+      → subdirs_of (shifted D C now fs next s) n.number ≡ subdirs_of s n.number → then_full n ≡ full_of s n
   other_then n isnt is_not up count = rw (isnt, is_not, up, count) refl
 
   -- ---- what is counted
@@ -95,7 +102,8 @@ module _ (s : State) (D C : ℕ → Bool) (now : Moment) (fs : List EntryRow) (n
       always (m ∷ ms) = (refl, always ms)
 
   -- where x alone comes to stand elsewhere
-  pub one_shifted : (x : ℕ) (c : Node) (was is k : ℕ) → Tree s → node_at s x ≡ Some c → up_of s.entries x ≡ was → up_of fs x ≡ is → ((j : ℕ) → j ≢ x → up_of fs j ≡ up_of s.entries j)
+  pub one_shifted : (x : ℕ) (c : Node) (was is k : ℕ) → Tree s → node_at s x ≡ Some c → up_of s.entries x ≡ was → up_of fs x ≡ is
+      → ((j : ℕ) → j ≢ x → up_of fs j ≡ up_of s.entries j)
       → subdirs_of (shifted D C now fs next s) k + one_if (is_dir c.mode && eqb was k) ≡ subdirs_of s k + one_if (is_dir c.mode && eqb is k)
   one_shifted x c was is k tree at up_was up_is others =
       let number : c.number ≡ x = (node_found s x c tree at).0 in
@@ -109,9 +117,11 @@ module _ (s : State) (D C : ℕ → Bool) (now : Moment) (fs : List EntryRow) (n
       differ (n ∷ ns) = (λ ne. rw (others n.number ne) refl, differ ns)
 
   -- where x and y come to stand elsewhere
-  pub two_shifted : (x y : ℕ) (c o : Node) (x_was x_is y_was y_is k : ℕ) → Tree s → node_at s x ≡ Some c → node_at s y ≡ Some o → x ≢ y → up_of s.entries x ≡ x_was → up_of fs x ≡ x_is → up_of s.entries y ≡ y_was → up_of fs y ≡ y_is
+  pub two_shifted : (x y : ℕ) (c o : Node) (x_was x_is y_was y_is k : ℕ) → Tree s → node_at s x ≡ Some c → node_at s y ≡ Some o → x ≢ y
+      → up_of s.entries x ≡ x_was → up_of fs x ≡ x_is → up_of s.entries y ≡ y_was → up_of fs y ≡ y_is
       → ((j : ℕ) → j ≢ x → j ≢ y → up_of fs j ≡ up_of s.entries j)
-      → subdirs_of (shifted D C now fs next s) k + one_if (is_dir c.mode && eqb x_was k) + one_if (is_dir o.mode && eqb y_was k) ≡ subdirs_of s k + one_if (is_dir c.mode && eqb x_is k) + one_if (is_dir o.mode && eqb y_is k)
+      → subdirs_of (shifted D C now fs next s) k + one_if (is_dir c.mode && eqb x_was k) + one_if (is_dir o.mode && eqb y_was k) ≡ subdirs_of s k + one_if
+      (is_dir c.mode && eqb x_is k) + one_if (is_dir o.mode && eqb y_is k)
   two_shifted x y c o x_was x_is y_was y_is k tree at_x at_y apart x_up x_then y_up y_then others =
       let p : Node → Bool = is_below fs k in
       let q : Node → Bool = is_below s.entries k in
@@ -123,12 +133,17 @@ module _ (s : State) (D C : ℕ → Bool) (now : Moment) (fs : List EntryRow) (n
       let second = count_at p mid y o s.nodes tree.nodes_rise at_y (from_mid s.nodes) in
       let whole = alike k s.nodes in
       let a : one_if (q c) ≡ one_if (is_dir c.mode && eqb x_was k) = ap (λ (m : ℕ). one_if (is_dir c.mode && eqb m k)) (ap (up_of s.entries) c_is ∙ x_up) in
-      let b : one_if (mid c) ≡ one_if (is_dir c.mode && eqb x_is k) = ap (λ (t : Bool). one_if (cond t (p c) (q c))) (eq-eqb c.number x c_is) ∙ ap (λ (m : ℕ). one_if (is_dir c.mode && eqb m k)) (ap (up_of fs) c_is ∙ x_then) in
-      let d : one_if (mid o) ≡ one_if (is_dir o.mode && eqb y_was k) = ap (λ (t : Bool). one_if (cond t (p o) (q o))) (ne_eqb o.number x o_other) ∙ ap (λ (m : ℕ). one_if (is_dir o.mode && eqb m k)) (ap (up_of s.entries) o_is ∙ y_up) in
+      let b : one_if (mid c) ≡ one_if (is_dir c.mode && eqb x_is k) =
+      ap (λ (t : Bool). one_if (cond t (p c) (q c))) (eq-eqb c.number x c_is)
+      ∙ ap (λ (m : ℕ). one_if (is_dir c.mode && eqb m k)) (ap (up_of fs) c_is ∙ x_then) in
+      let d : one_if (mid o) ≡ one_if (is_dir o.mode && eqb y_was k) =
+      ap (λ (t : Bool). one_if (cond t (p o) (q o))) (ne_eqb o.number x o_other)
+      ∙ ap (λ (m : ℕ). one_if (is_dir o.mode && eqb m k)) (ap (up_of s.entries) o_is ∙ y_up) in
       let e : one_if (p o) ≡ one_if (is_dir o.mode && eqb y_is k) = ap (λ (m : ℕ). one_if (is_dir o.mode && eqb m k)) (ap (up_of fs) o_is ∙ y_then) in
       summed _ _ (length (filter mid s.nodes)) _ _ _ _ _ _ _ _ _ whole first second a b d e
     where
-      to_mid : (ns : List Node) → AllByRecursion (λ n. n.number ≢ x → cond (eqb n.number x) (is_below fs k n) (is_below s.entries k n) ≡ is_below s.entries k n) ns
+      to_mid : (ns : List Node)
+          → AllByRecursion (λ n. n.number ≢ x → cond (eqb n.number x) (is_below fs k n) (is_below s.entries k n) ≡ is_below s.entries k n) ns
       to_mid [] = tt
       to_mid (n ∷ ns) = (λ ne. rw (ne_eqb n.number x ne) refl, to_mid ns)
 
@@ -140,5 +155,6 @@ module _ (s : State) (D C : ℕ → Bool) (now : Moment) (fs : List EntryRow) (n
           step m ne true at = refl
           step m ne false at = rw (others m.number (eqb-false m.number x at) ne) refl
 
-      summed : (t lp lm lq qc mc mo po a b d e : ℕ) → t ≡ lp → lm + qc ≡ lq + mc → lp + mo ≡ lm + po → qc ≡ a → mc ≡ b → mo ≡ d → po ≡ e → t + a + d ≡ lq + b + e
+      summed : (t lp lm lq qc mc mo po a b d e : ℕ) → t ≡ lp → lm + qc ≡ lq + mc → lp + mo ≡ lm + po → qc ≡ a → mc ≡ b → mo ≡ d → po ≡ e
+          → t + a + d ≡ lq + b + e
       summed t lp lm lq qc mc mo po a b d e whole first second is_a is_b is_d is_e = omega arith

@@ -15,7 +15,8 @@ use Rattle.fuse_tree.proofs.Trees.{entry_moved}
 use Rattle.fuse_tree.proofs.Moving.{Differs, others_differ, keeps, kept_differ, up_found, up_kept, up_last, reaches_on}
 
 -- the entries of a tree, in other places
-pub tree_entries : (s : State) (fs : List EntryRow) (next : ℕ) → AllByRecursion (IsEntry s.nodes fs next) fs → Apart AreApart fs → s.next_cookie ≤ next → next ≤ number_end → Tree s → Tree (record s { entries = fs; next_cookie = next })
+pub tree_entries : (s : State) (fs : List EntryRow) (next : ℕ) → AllByRecursion (IsEntry s.nodes fs next) fs → Apart AreApart fs → s.next_cookie ≤ next
+    → next ≤ number_end → Tree s → Tree (record s { entries = fs; next_cookie = next })
 tree_entries s fs next entries apart more few tree = record {
   root = tree.root;
   nodes = tree.nodes;
@@ -58,7 +59,8 @@ module _ (s : State) (test : EntryRow → Bool) (e : EntryRow) (to : ℕ) (name 
 
   climbs_to : Reaches s.entries to → ((n : ℕ) → above s.entries n to ≢ e.child) → Reaches (left ++ there ∷ []) to
   climbs_to climb apart =
-      reaches_same (λ j. (n : ℕ) → above s.entries n j ≢ e.child) s.entries (left ++ there ∷ []) (λ j never. (up_moved j (never 0), λ n. never (suc n))) to apart climb
+      reaches_same (λ j. (n : ℕ) → above s.entries n j ≢ e.child) s.entries (left ++ there ∷ [])
+      (λ j never. (up_moved j (never 0), λ n. never (suc n))) to apart climb
 
   climbs : Reaches s.entries to → ((n : ℕ) → above s.entries n to ≢ e.child) → (k : ℕ) → Reaches s.entries k → Reaches (left ++ there ∷ []) k
   climbs climb apart k before =
@@ -69,26 +71,39 @@ module _ (s : State) (test : EntryRow → Bool) (e : EntryRow) (to : ℕ) (name 
       ]) before.0 k tt before.1
 
   -- into a directory that isn't under its child
-  pub tree_moved : list_any (is_dir_of to) s.nodes ≡ true → Reaches s.entries to → ((n : ℕ) → above s.entries n to ≢ e.child) → name_fault name ≡ None → AllByRecursion (λ z. is_entry to name z ≡ false) left → s.next_cookie < number_end → Tree (placed to name e.child (without e.cookie s))
+  pub tree_moved : list_any (is_dir_of to) s.nodes ≡ true → Reaches s.entries to → ((n : ℕ) → above s.entries n to ≢ e.child) → name_fault name ≡ None
+      → AllByRecursion (λ z. is_entry to name z ≡ false) left → s.next_cookie < number_end → Tree (placed to name e.child (without e.cookie s))
   tree_moved dir climb apart name_ok free room =
       let was : IsEntry s.nodes s.entries s.next_cookie e = (found (IsEntry s.nodes s.entries s.next_cookie) test s.entries e tree.entries at).0 in
       let three : 3 ≤ s.next_cookie = tree.limits.cookie_from_three in
       let more : s.next_cookie ≤ s.next_cookie + 1 = omega arith in
-      let old : AllByRecursion (IsEntry s.nodes s.entries s.next_cookie) left = all_kept (IsEntry s.nodes s.entries s.next_cookie) (keeps e.cookie) s.entries tree.entries in
+      let old : AllByRecursion (IsEntry s.nodes s.entries s.next_cookie) left =
+      all_kept (IsEntry s.nodes s.entries s.next_cookie) (keeps e.cookie) s.entries tree.entries in
       tree_entries s (left ++ there ∷ []) (s.next_cookie + 1)
       (all_grown (IsEntry s.nodes (left ++ there ∷ []) (s.next_cookie + 1)) left there
       (all_more (IsEntry s.nodes s.entries s.next_cookie) (IsEntry s.nodes (left ++ there ∷ []) (s.next_cookie + 1)) left
-      (λ z p. entry_moved s.nodes s.nodes s.entries (left ++ there ∷ []) s.next_cookie (s.next_cookie + 1) z (λ is. is) (λ is. is) (climbs climb apart z.dir) more p) old)
-      (record { dir = dir; child = was.child; not_root = was.not_root; name = name_ok; reaches = climbs_to climb apart; from_three = three; below = omega arith }))
+      (λ z p. entry_moved s.nodes s.nodes s.entries (left ++ there ∷ []) s.next_cookie (s.next_cookie + 1) z (λ is. is) (λ is. is)
+      (climbs climb apart z.dir) more p) old)
+      (record {
+        dir = dir;
+        child = was.child;
+        not_root = was.not_root;
+        name = name_ok;
+        reaches = climbs_to climb apart;
+        from_three = three;
+        below = omega arith;
+      }))
       (apart_grown AreApart left there (apart_filtered AreApart (keeps e.cookie) s.entries tree.entries_apart)
       (all_both (λ z. IsEntry s.nodes s.entries s.next_cookie z × Differs e z) (λ z. is_entry to name z ≡ false) (λ z. AreApart z there) left
       (λ z p no. (let lt : z.cookie < s.next_cookie = p.0.below in record { cookie = lt; child = p.1.child; place = no }))
-      (all_both (IsEntry s.nodes s.entries s.next_cookie) (Differs e) (λ z. IsEntry s.nodes s.entries s.next_cookie z × Differs e z) left (λ z p q. (p, q)) old left_differ) free))
+      (all_both (IsEntry s.nodes s.entries s.next_cookie) (Differs e) (λ z. IsEntry s.nodes s.entries s.next_cookie z × Differs e z) left
+      (λ z p q. (p, q)) old left_differ) free))
       more (let lt : s.next_cookie < number_end = room in omega arith) tree
 
 -- ---- two children change places
 
-module _ (s : State) (one two : EntryRow → Bool) (e f : EntryRow) (dir to : ℕ) (old new : List ℕ) (tree : Tree s) (at_e : find one s.entries ≡ Some e) (at_f : find two s.entries ≡ Some f) (apart : e.cookie ≢ f.cookie) where
+module _ (s : State) (one two : EntryRow → Bool) (e f : EntryRow) (dir to : ℕ) (old new : List ℕ) (tree : Tree s) (at_e : find one s.entries ≡ Some e)
+    (at_f : find two s.entries ≡ Some f) (apart : e.cookie ≢ f.cookie) where
   others_e : AllByRecursion (λ z. (z ≡ e) ⊎ Differs e z) s.entries
   others_e = others_differ one s.entries e tree.entries_apart at_e
 
@@ -96,10 +111,20 @@ module _ (s : State) (one two : EntryRow → Bool) (e f : EntryRow) (dir to : �
   others_f = others_differ two s.entries f tree.entries_apart at_f
 
   pub f_differs : Differs e f
-  f_differs = elim (found (λ z. (z ≡ e) ⊎ Differs e z) two s.entries f others_e at_f).0 [ inl same ↦ absurd (apart (ap (λ (z : EntryRow). z.cookie) (sym same))) | inr other ↦ other ]
+  f_differs =
+      elim (found (λ z. (z ≡ e) ⊎ Differs e z) two s.entries f others_e at_f).0 [
+        | inl same ↦ absurd
+            (apart (ap (λ (z : EntryRow). z.cookie) (sym same)))
+        | inr other ↦ other
+      ]
 
   e_differs : Differs f e
-  e_differs = elim (found (λ z. (z ≡ f) ⊎ Differs f z) one s.entries e others_f at_e).0 [ inl same ↦ absurd (apart (ap (λ (z : EntryRow). z.cookie) same)) | inr other ↦ other ]
+  e_differs =
+      elim (found (λ z. (z ≡ f) ⊎ Differs f z) one s.entries e others_f at_e).0 [
+        | inl same ↦ absurd
+            (apart (ap (λ (z : EntryRow). z.cookie) same))
+        | inr other ↦ other
+      ]
 
   abbrev without_e : List EntryRow
   without_e = filter (keeps e.cookie) s.entries
@@ -131,10 +156,14 @@ module _ (s : State) (one two : EntryRow → Bool) (e f : EntryRow) (dir to : �
       ∙ up_kept without_e f rest_others_f j nf ∙ up_kept s.entries e others_e j ne
 
   pub up_e : up_of after e.child ≡ to
-  up_e = up_last (rest ++ there_f ∷ []) there_e (all_grown (λ z. z.child ≢ e.child) rest there_f (all_more (Differs e) (λ z. z.child ≢ e.child) rest (λ z p. p.child) rest_differ_e) f_differs.child)
+  up_e =
+      up_last (rest ++ there_f ∷ []) there_e
+      (all_grown (λ z. z.child ≢ e.child) rest there_f (all_more (Differs e) (λ z. z.child ≢ e.child) rest (λ z p. p.child) rest_differ_e) f_differs.child)
 
   pub up_f : up_of after f.child ≡ dir
-  up_f = up_more (rest ++ there_f ∷ []) there_e f.child e_differs.child ∙ up_last rest there_f (all_more (Differs f) (λ z. z.child ≢ f.child) rest (λ z p. p.child) rest_differ_f)
+  up_f =
+      up_more (rest ++ there_f ∷ []) there_e f.child e_differs.child
+      ∙ up_last rest there_f (all_more (Differs f) (λ z. z.child ≢ f.child) rest (λ z p. p.child) rest_differ_f)
 
   abbrev Never : ℕ → Type 0
   Never j = (n : ℕ) → (above s.entries n j ≢ e.child) × (above s.entries n j ≢ f.child)
@@ -154,7 +183,8 @@ module _ (s : State) (one two : EntryRow → Bool) (e f : EntryRow) (dir to : �
       ]) before.0 k tt before.1
 
   -- where neither directory is under the child that comes into it
-  pub tree_exchanged : e.dir ≡ dir → f.dir ≡ to → e.name ≡ old → f.name ≡ new → ((n : ℕ) → above s.entries n to ≢ e.child) → ((n : ℕ) → above s.entries n dir ≢ f.child) → s.next_cookie + 2 ≤ number_end
+  pub tree_exchanged : e.dir ≡ dir → f.dir ≡ to → e.name ≡ old → f.name ≡ new → ((n : ℕ) → above s.entries n to ≢ e.child)
+      → ((n : ℕ) → above s.entries n dir ≢ f.child) → s.next_cookie + 2 ≤ number_end
       → Tree (placed to new e.child (placed dir old f.child (without f.cookie (without e.cookie s))))
   tree_exchanged e_dir f_dir e_name f_name apart_e apart_f room =
       let P = IsEntry s.nodes s.entries s.next_cookie in
@@ -172,21 +202,46 @@ module _ (s : State) (one two : EntryRow → Bool) (e f : EntryRow) (dir to : �
       let more : s.next_cookie ≤ s.next_cookie + 2 = omega arith in
       let next : s.next_cookie + 2 ≡ s.next_cookie + 1 + 1 = omega arith in
       let old_ones : AllByRecursion P rest = all_kept P (keeps f.cookie) without_e (all_kept P (keeps e.cookie) s.entries tree.entries) in
-      let kept_ones : AllByRecursion Q rest = all_more P Q rest (λ z p. entry_moved s.nodes s.nodes s.entries after s.next_cookie (s.next_cookie + 2) z (λ is. is) (λ is. is) (climbs_both climb_to climb_dir z.dir) more p) old_ones in
+      let kept_ones : AllByRecursion Q rest =
+      all_more P Q rest
+      (λ z p. entry_moved s.nodes s.nodes s.entries after s.next_cookie (s.next_cookie + 2) z (λ is. is) (λ is. is)
+      (climbs_both climb_to climb_dir z.dir) more p) old_ones in
       let Both : EntryRow → Type 0 = λ z. Differs e z × Differs f z in
       let both : AllByRecursion Both rest = all_both (Differs e) (Differs f) Both rest (λ z p q. (p, q)) rest_differ_e rest_differ_f in
-      let first : Q there_f = record { dir = subst (λ (k : ℕ). list_any (is_dir_of k) s.nodes ≡ true) e_dir e_was.dir; child = f_was.child; not_root = f_was.not_root; name = subst (λ (n : List ℕ). name_fault n ≡ None) e_name e_was.name; reaches = climb_dir; from_three = three; below = omega arith } in
-      let second : Q there_e = record { dir = subst (λ (k : ℕ). list_any (is_dir_of k) s.nodes ≡ true) f_dir f_was.dir; child = e_was.child; not_root = e_was.not_root; name = subst (λ (n : List ℕ). name_fault n ≡ None) f_name f_was.name; reaches = climb_to; from_three = omega arith; below = omega arith } in
-      let place_e : (z : EntryRow) → is_entry e.dir e.name z ≡ false → is_entry dir old z ≡ false = λ z no. subst (λ (n : List ℕ). is_entry dir n z ≡ false) e_name (subst (λ (k : ℕ). is_entry k e.name z ≡ false) e_dir no) in
-      let place_f : (z : EntryRow) → is_entry f.dir f.name z ≡ false → is_entry to new z ≡ false = λ z no. subst (λ (n : List ℕ). is_entry to n z ≡ false) f_name (subst (λ (k : ℕ). is_entry k f.name z ≡ false) f_dir no) in
+      let first : Q there_f =
+      record {
+        dir = subst (λ (k : ℕ). list_any (is_dir_of k) s.nodes ≡ true) e_dir e_was.dir;
+        child = f_was.child;
+        not_root = f_was.not_root;
+        name = subst (λ (n : List ℕ). name_fault n ≡ None) e_name e_was.name;
+        reaches = climb_dir;
+        from_three = three;
+        below = omega arith;
+      } in
+      let second : Q there_e =
+      record {
+        dir = subst (λ (k : ℕ). list_any (is_dir_of k) s.nodes ≡ true) f_dir f_was.dir;
+        child = e_was.child;
+        not_root = e_was.not_root;
+        name = subst (λ (n : List ℕ). name_fault n ≡ None) f_name f_was.name;
+        reaches = climb_to;
+        from_three = omega arith;
+        below = omega arith;
+      } in
+      let place_e : (z : EntryRow) → is_entry e.dir e.name z ≡ false → is_entry dir old z ≡ false =
+      λ z no. subst (λ (n : List ℕ). is_entry dir n z ≡ false) e_name (subst (λ (k : ℕ). is_entry k e.name z ≡ false) e_dir no) in
+      let place_f : (z : EntryRow) → is_entry f.dir f.name z ≡ false → is_entry to new z ≡ false =
+      λ z no. subst (λ (n : List ℕ). is_entry to n z ≡ false) f_name (subst (λ (k : ℕ). is_entry k f.name z ≡ false) f_dir no) in
       let place_there : is_entry to new there_f ≡ false = rw (sym e_dir, sym e_name) (place_f e e_differs.place) in
       subst (λ (n : ℕ). Tree (record s { entries = after; next_cookie = n })) next
       (tree_entries s after (s.next_cookie + 2)
       (all_grown Q (rest ++ there_f ∷ []) there_e (all_grown Q rest there_f kept_ones first) second)
       (apart_grown AreApart (rest ++ there_f ∷ []) there_e
-      (apart_grown AreApart rest there_f (apart_filtered AreApart (keeps f.cookie) without_e (apart_filtered AreApart (keeps e.cookie) s.entries tree.entries_apart))
+      (apart_grown AreApart rest there_f
+      (apart_filtered AreApart (keeps f.cookie) without_e (apart_filtered AreApart (keeps e.cookie) s.entries tree.entries_apart))
       (all_both P Both (λ z. AreApart z there_f) rest (λ z p q. record { cookie = p.below; child = q.1.child; place = place_e z q.0.place }) old_ones both))
       (all_grown (λ z. AreApart z there_e) rest there_f
-      (all_both P Both (λ z. AreApart z there_e) rest (λ z p q. (let lt : z.cookie < s.next_cookie = p.below in record { cookie = omega arith; child = q.0.child; place = place_f z q.1.place })) old_ones both)
+      (all_both P Both (λ z. AreApart z there_e) rest
+      (λ z p q. (let lt : z.cookie < s.next_cookie = p.below in record { cookie = omega arith; child = q.0.child; place = place_f z q.1.place })) old_ones both)
       (record { cookie = omega arith; child = f_differs.child; place = place_there })))
       more room tree)

@@ -1,5 +1,6 @@
 -- Entries that go, move or change places: who stands above whom then.
-use Rattle.std.proofs.Common.{◌≡◌, ◌≢◌, ◌<◌, ◌==◌, ℕ, zero, suc, Bool, true, false, not, eqb, List, [], ◌∷◌, ◌++◌, Some, refl, sym, ap, subst, ◌∙◌, ◌⊎◌, inl, inr, arith}
+use Rattle.std.proofs.Common.{◌≡◌, ◌≢◌, ◌<◌, ◌==◌, ℕ, zero, suc, Bool, true, false, not, eqb, List, [], ◌∷◌, ◌++◌, Some, refl, sym, ap, subst, ◌∙◌, ◌⊎◌, inl}
+use Rattle.std.proofs.Common.{inr, arith}
 use Rattle.std.specs.Prelude.{find, filter, nat_eq}
 use Rattle.std.specs.List.{AllByRecursion}
 use Rattle.std.specs.Cmp.Lexicographic.{pointwise, same_text}
@@ -37,11 +38,15 @@ earlier_differs e z apart =
     record { cookie = omega arith; child = apart.child; place = apart.place }
 
 -- each entry is the one that is found, or differs from it
-pub others_differ : (test : EntryRow → Bool) (es : List EntryRow) (e : EntryRow) → Apart AreApart es → find test es ≡ Some e → AllByRecursion (λ z. (z ≡ e) ⊎ Differs e z) es
+pub others_differ : (test : EntryRow → Bool) (es : List EntryRow) (e : EntryRow) → Apart AreApart es → find test es ≡ Some e
+    → AllByRecursion (λ z. (z ≡ e) ⊎ Differs e z) es
 others_differ test [] e apart is = absurd cc
 others_differ test (x ∷ es) e apart is =
     elim (cond_found (test x) x e (find test es) is) [
-      | inl h ↦ (inl h.1, all_more (AreApart x) (λ z. (z ≡ e) ⊎ Differs e z) es (λ z p. inr (later_differs e z (subst (λ (y : EntryRow). AreApart y z) h.1 p))) apart.0)
+      | inl h ↦ (
+        inl h.1,
+        all_more (AreApart x) (λ z. (z ≡ e) ⊎ Differs e z) es (λ z p. inr (later_differs e z (subst (λ (y : EntryRow). AreApart y z) h.1 p))) apart.0,
+      )
       | inr h ↦ (inr (earlier_differs e x (found (AreApart x) test es e apart.0 h.1).0), others_differ test es e apart.1 h.1)
     ]
 
@@ -71,7 +76,8 @@ up_last (x ∷ es) e others = rw (ne_eqb x.child e.child others.0) (up_last es e
 
 -- where from each place of a kind one goes up as before to such a place, or to a place from where going up reaches
 -- the root, going up reaches the root as before
-pub reaches_on : (Q : ℕ → Type 0) (es fs : List EntryRow) → ((k : ℕ) → Q k → ((up_of fs k ≡ up_of es k) × Q (up_of es k)) ⊎ Reaches fs (up_of fs k)) → (n k : ℕ) → Q k → above es n k ≡ 1 → Reaches fs k
+pub reaches_on : (Q : ℕ → Type 0) (es fs : List EntryRow) → ((k : ℕ) → Q k → ((up_of fs k ≡ up_of es k) × Q (up_of es k)) ⊎ Reaches fs (up_of fs k)) → (n k : ℕ)
+    → Q k → above es n k ≡ 1 → Reaches fs k
 reaches_on Q es fs step zero k at is = (0, is)
 reaches_on Q es fs step (suc n) k at is =
     elim (step k at) [
@@ -88,7 +94,11 @@ module _ (es : List EntryRow) (e : EntryRow) (others : AllByRecursion (λ z. (z 
   pub kept_differ : AllByRecursion (Differs e) (filter (keeps e.cookie) es)
   kept_differ =
       all_more (λ z. ((z ≡ e) ⊎ Differs e z) × (keeps e.cookie z ≡ true)) (Differs e) (filter (keeps e.cookie) es)
-      (λ z p. elim p.0 [ inl same ↦ absurd (let is = eq-eqb z.cookie e.cookie (ap (λ (y : EntryRow). y.cookie) same) in let kept = p.1 in cc) | inr other ↦ other ])
+      (λ z p. elim p.0 [
+        | inl same ↦ absurd
+            (let is = eq-eqb z.cookie e.cookie (ap (λ (y : EntryRow). y.cookie) same) in let kept = p.1 in cc)
+        | inr other ↦ other
+      ])
       (all_filtered (λ z. (z ≡ e) ⊎ Differs e z) (keeps e.cookie) es others)
 
   pub gone_child : AllByRecursion (λ z. keeps e.cookie z ≡ false → z.child ≡ e.child) es

@@ -1,5 +1,6 @@
 -- A handle more and a handle less: the rows are those of the state that has it so, and the tree goes on.
-use Rattle.std.proofs.Common.{◌≡◌, ◌≢◌, ◌<◌, ◌≤◌, ◌+◌, ◌-◌, ◌==◌, ℕ, suc, Bool, true, false, not, cond, eqb, List, [], ◌∷◌, length, Option, Some, None, refl, sym, ap, subst, inl, inr, arith}
+use Rattle.std.proofs.Common.{◌≡◌, ◌≢◌, ◌<◌, ◌≤◌, ◌+◌, ◌-◌, ◌==◌, ℕ, suc, Bool, true, false, not, cond, eqb, List, [], ◌∷◌, length, Option, Some, None, refl}
+use Rattle.std.proofs.Common.{sym, ap, subst, inl, inr, arith}
 use Rattle.std.specs.Prelude.{find, filter, is_some}
 use Rattle.std.specs.List.{AllByRecursion, list_any}
 use Rattle.std.proofs.lemmas.Bool.{eqb-true, ne_eqb, leb-false}
@@ -37,14 +38,17 @@ any_there test k d (n ∷ ns) e is =
       | inr h ↦ rw (any_there test k d ns h.1 is) (or_true (test n))
     ]
 
-pub open_rows : (s : State) (access : AccessMode) (node : ℕ) → apply (rows_of_state s) (opened_changes (counters_of s) access node) ≡ rows_of_state (opened s node access)
+pub open_rows : (s : State) (access : AccessMode) (node : ℕ)
+    → apply (rows_of_state s) (opened_changes (counters_of s) access node) ≡ rows_of_state (opened s node access)
 open_rows s access node =
-    ap (λ (n : ℕ). record (rows_of_state (opened s node access)) { counters = record (counters_of (opened s node access)) { handles = n } }) (sym (length-append s.handles (new_handle s.next_fh node access ∷ [])))
+    ap (λ (n : ℕ). record (rows_of_state (opened s node access)) { counters = record (counters_of (opened s node access)) { handles = n } })
+    (sym (length-append s.handles (new_handle s.next_fh node access ∷ [])))
 
 one_more : (a b : ℕ) → a < b → a + 1 ≤ b
 one_more a b lt = omega arith
 
-pub tree_opened : (s : State) (node : ℕ) (access : AccessMode) → list_any (is_open_at (new_handle s.next_fh node access)) s.nodes ≡ true → Room s → Tree s → Tree (opened s node access)
+pub tree_opened : (s : State) (node : ℕ) (access : AccessMode) → list_any (is_open_at (new_handle s.next_fh node access)) s.nodes ≡ true → Room s → Tree s
+    → Tree (opened s node access)
 tree_opened s node access there left tree =
     let h = new_handle s.next_fh node access in
     let from_one : 1 ≤ s.next_fh = tree.limits.fh_from_one in
@@ -55,9 +59,12 @@ tree_opened s node access there left tree =
       entries = tree.entries;
       entries_apart = tree.entries_apart;
       handles = all_grown (IsHandle s.nodes (s.next_fh + 1)) s.handles h
-          (all_more (IsHandle s.nodes s.next_fh) (IsHandle s.nodes (s.next_fh + 1)) s.handles (λ i p. handle_moved s.nodes s.nodes s.next_fh (s.next_fh + 1) i (λ is. is) (omega arith) p) tree.handles)
+          (all_more (IsHandle s.nodes s.next_fh) (IsHandle s.nodes (s.next_fh + 1)) s.handles
+          (λ i p. handle_moved s.nodes s.nodes s.next_fh (s.next_fh + 1) i (λ is. is) (omega arith) p) tree.handles)
           (record { node = there; from_one = from_one; below = omega arith });
-      handles_rise = apart_grown (λ i j. i.fh < j.fh) s.handles h tree.handles_rise (all_more (IsHandle s.nodes s.next_fh) (λ i. i.fh < h.fh) s.handles (λ i p. p.below) tree.handles);
+      handles_rise =
+          apart_grown (λ i j. i.fh < j.fh) s.handles h tree.handles_rise
+          (all_more (IsHandle s.nodes s.next_fh) (λ i. i.fh < h.fh) s.handles (λ i p. p.below) tree.handles);
       limits = record {
         nodes = tree.limits.nodes;
         handles = omega (arith, left.few, length-append s.handles (h ∷ []));
@@ -101,12 +108,15 @@ all_stay fh (h ∷ hs) later =
     rw (ne_eqb h.fh fh ne, all_stay fh hs later.1) refl
 
 -- numbers rise, so one handle goes
-one_less : (fh : ℕ) (hs : List HandleRow) → Apart (λ i j. i.fh < j.fh) hs → is_some (handle_at hs fh) ≡ true → length (filter (λ h. not (h.fh == fh)) hs) + 1 ≡ length hs
+one_less : (fh : ℕ) (hs : List HandleRow) → Apart (λ i j. i.fh < j.fh) hs → is_some (handle_at hs fh) ≡ true
+    → length (filter (λ h. not (h.fh == fh)) hs) + 1 ≡ length hs
 one_less fh [] rise is = absurd cc
 one_less fh (h ∷ hs) rise is =
-    let step : (b : Bool) → eqb h.fh fh ≡ b → is_some (cond b (Some h) (handle_at hs fh)) ≡ true → length (cond (not b) (h ∷ filter (λ i. not (i.fh == fh)) hs) (filter (λ i. not (i.fh == fh)) hs)) + 1 ≡ suc (length hs) =
+    let step : (b : Bool) → eqb h.fh fh ≡ b → is_some (cond b (Some h) (handle_at hs fh)) ≡ true → length
+    (cond (not b) (h ∷ filter (λ i. not (i.fh == fh)) hs) (filter (λ i. not (i.fh == fh)) hs)) + 1 ≡ suc (length hs) =
     elim [
-      | true ↦ λ at there. let later : AllByRecursion (λ i. fh < i.fh) hs = subst (λ k. AllByRecursion (λ (i : HandleRow). k < i.fh) hs) (eqb-true h.fh fh at) rise.0 in omega (arith, ap length (all_stay fh hs later))
+      | true ↦ λ at there. let later : AllByRecursion (λ i. fh < i.fh) hs = subst (λ k. AllByRecursion (λ (i : HandleRow). k < i.fh) hs)
+          (eqb-true h.fh fh at) rise.0 in omega (arith, ap length (all_stay fh hs later))
       | false ↦ λ other there. omega (arith, one_less fh hs rise.1 there)
     ] in
     step (eqb h.fh fh) refl is
@@ -115,7 +125,8 @@ open_there : (node : ℕ) (o : Option HandleRow) → is_some (access_in node o) 
 open_there node None is = is
 open_there node (Some h) is = refl
 
-pub close_rows : (s : State) (fh node : ℕ) → Tree s → is_open s.handles fh node ≡ true → apply (rows_of_state s) (plan_closed (counters_of s) fh).changes ≡ rows_of_state (closed s fh)
+pub close_rows : (s : State) (fh node : ℕ) → Tree s → is_open s.handles fh node ≡ true
+    → apply (rows_of_state s) (plan_closed (counters_of s) fh).changes ≡ rows_of_state (closed s fh)
 close_rows s fh node tree is =
     let less = one_less fh s.handles tree.handles_rise (open_there node (handle_at s.handles fh) is) in
     let count : length s.handles - 1 ≡ length (closed s fh).handles = omega arith in

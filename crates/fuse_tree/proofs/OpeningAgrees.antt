@@ -15,7 +15,8 @@ use Rattle.fuse_tree.proofs.Agreement.{Agrees, refused_agrees, both, both_for, n
 use Rattle.fuse_tree.proofs.Lists.{or_true}
 use Rattle.fuse_tree.proofs.Opening.{room, any_there, open_rows, tree_opened, tree_closed, close_rows}
 
-open_node_agrees : (s : State) (access : AccessMode) (d : Node) → Tree s → node_at s d.number ≡ Some d → is_open_at (new_handle s.next_fh d.number access) d ≡ true
+open_node_agrees : (s : State) (access : AccessMode) (d : Node) → Tree s → node_at s d.number ≡ Some d
+    → is_open_at (new_handle s.next_fh d.number access) d ≡ true
     → Agrees s (plan_open_node access d.number (rows_of_state s)) (open_node s access d)
 open_node_agrees s access d tree e opens =
     both_for s (open_fault (length s.handles) s.next_fh) _ _ tree (λ left. record {
@@ -29,7 +30,8 @@ open_for_agrees : (s : State) (access : Option AccessMode) (d : Node) → Tree s
 open_for_agrees s None d tree e file = refused_agrees s tree einval
 open_for_agrees s (Some access) d tree e file = open_node_agrees s access d tree e (rw (eq-eqb d.number d.number refl, file) refl)
 
-pub open_agrees : (s : State) (flags : ℕ) (d : Node) → Tree s → node_at s d.number ≡ Some d → Agrees s (plan_open flags (row_of s d) (rows_of_state s)) (open_file s flags d)
+pub open_agrees : (s : State) (flags : ℕ) (d : Node) → Tree s → node_at s d.number ≡ Some d
+    → Agrees s (plan_open flags (row_of s d) (rows_of_state s)) (open_file s flags d)
 open_agrees s flags d tree e =
     both s (is_dir d.mode) _ _ _ _ (λ _. refused_agrees s tree eisdir) (λ _.
     both s (not (is_file d.mode)) _ _ _ _ (λ _. refused_agrees s tree einval) (λ file.
@@ -40,7 +42,8 @@ open_dir_agrees s d tree e =
     both s (not (is_dir d.mode)) _ _ _ _ (λ _. refused_agrees s tree enotdir) (λ dir.
     open_node_agrees s ReadOnly d tree e (rw (eq-eqb d.number d.number refl, not_false _ dir) (or_true (is_file d.mode))))
 
-close_agrees : (s : State) (fh : ℕ) (kind_fault : Option Errno) (d : Node) → Tree s → Agrees s (plan_close fh kind_fault d.number (rows_of_state s)) (close s fh kind_fault d)
+close_agrees : (s : State) (fh : ℕ) (kind_fault : Option Errno) (d : Node) → Tree s
+    → Agrees s (plan_close fh kind_fault d.number (rows_of_state s)) (close s fh kind_fault d)
 close_agrees s fh kind_fault d tree =
     both s (not (is_open s.handles fh d.number)) _ _ _ _ (λ _. refused_agrees s tree ebadf) (λ there.
     both_for s kind_fault _ _ tree (λ _. record { answer = refl; rows = close_rows s fh d.number tree (not_false _ there); tree = tree_closed s fh tree }))

@@ -12,7 +12,8 @@ use Rattle.fuse_tree.specs.Bounds.{handle_limit, number_end}
 use Rattle.fuse_tree.specs.State.{State, Node, is_dir, is_file}
 use Rattle.fuse_tree.specs.Handles.{is_open}
 use Rattle.fuse_tree.specs.Done.{Done, refuse_for, answer}
-use Rattle.fuse_tree.specs.Opening.{open_fault, opened, open_of, open_node, open_for, open_file, open_dir, closed, close, release, release_dir, not_for_dirs, for_dirs_alone}
+use Rattle.fuse_tree.specs.Opening.{open_fault, opened, open_of, open_node, open_for, open_file, open_dir, closed, close, release, release_dir, not_for_dirs}
+use Rattle.fuse_tree.specs.Opening.{for_dirs_alone}
 use Rattle.fuse_tree.proofs.Fit.{Fits, Reads, refused, answered, chosen, refused_for, refused_reads, answered_reads, chosen_reads, no_body}
 
 open_node_fits : RecordSizes → (s : State) (access : AccessMode) (n : Node) → Fits (open_node s access n)
@@ -44,14 +45,16 @@ release_dir_fits s fh n = close_fits s fh (for_dirs_alone n.mode) n
 
 -- ---- it is read
 
-open_fault_reads : (s : State) (many ended : Bool) (d : Done) → Reads AnOpen d → Reads AnOpen (refuse_for s (if many then Some enfile else if ended then Some enospc else None) d)
+open_fault_reads : (s : State) (many ended : Bool) (d : Done) → Reads AnOpen d
+    → Reads AnOpen (refuse_for s (if many then Some enfile else if ended then Some enospc else None) d)
 open_fault_reads s true ended d so = refused_reads s enfile refl
 open_fault_reads s false true d so = refused_reads s enospc refl
 open_fault_reads s false false d so = so
 
 open_node_reads : ReadBack → (s : State) (access : AccessMode) (n : Node) → Reads AnOpen (open_node s access n)
 open_node_reads back s access n =
-    open_fault_reads s (nat_le handle_limit (length s.handles)) (nat_le number_end s.next_fh) _ (answered_reads (opened s n.number access) _ (back.opened (open_of s.next_fh)))
+    open_fault_reads s (nat_le handle_limit (length s.handles)) (nat_le number_end s.next_fh) _
+    (answered_reads (opened s n.number access) _ (back.opened (open_of s.next_fh)))
 
 open_for_reads : ReadBack → (s : State) (access : Option AccessMode) (n : Node) → Reads AnOpen (open_for s access n)
 open_for_reads back s None n = refused_reads s _ refl
@@ -65,7 +68,8 @@ open_reads back s flags n =
 pub open_dir_reads : ReadBack → (s : State) (n : Node) → Reads AnOpen (open_dir s n)
 open_dir_reads back s n = chosen_reads (not (is_dir n.mode)) _ _ (refused_reads s _ refl) (open_node_reads back s ReadOnly n)
 
-close_reads : (s : State) (fh : ℕ) (n : Node) (kind_fault : Option Errno) → Reads Nothing (refuse_for s kind_fault (answer (closed s fh) [])) → Reads Nothing (close s fh kind_fault n)
+close_reads : (s : State) (fh : ℕ) (n : Node) (kind_fault : Option Errno) → Reads Nothing (refuse_for s kind_fault (answer (closed s fh) []))
+    → Reads Nothing (close s fh kind_fault n)
 close_reads s fh n kind_fault so = chosen_reads (not (is_open s.handles fh n.number)) _ _ (refused_reads s _ refl) so
 
 not_for_dirs_reads : (s : State) (dir : Bool) (d : Done) → Reads Nothing d → Reads Nothing (refuse_for s (if dir then Some eisdir else None) d)

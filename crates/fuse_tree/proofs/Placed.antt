@@ -1,5 +1,6 @@
 -- A list in which each node stands once: one node is changed in its place, or stands behind the others.
-use Rattle.std.proofs.Common.{◌≡◌, ◌≢◌, ◌<◌, ◌≤◌, ◌==◌, ℕ, zero, suc, Bool, true, false, not, cond, eqb, List, [], ◌∷◌, ◌++◌, length, map, get_or, set, Some, None, refl, sym, ap, subst, ◌∙◌, arith}
+use Rattle.std.proofs.Common.{◌≡◌, ◌≢◌, ◌<◌, ◌≤◌, ◌==◌, ℕ, zero, suc, Bool, true, false, not, cond, eqb, List, [], ◌∷◌, ◌++◌, length, map, get_or, set, Some}
+use Rattle.std.proofs.Common.{None, refl, sym, ap, subst, ◌∙◌, arith}
 use Rattle.std.specs.Prelude.{filter, position, nat_lt}
 use Rattle.std.specs.List.{list_any, position_or_len}
 use Rattle.std.proofs.lemmas.Bool.{ne_eqb, eq-eqb, eqb-true, eqb-false, ltb-false}
@@ -29,7 +30,8 @@ fails_at test xs i d none lt =
 pub no_place : {A : Type 0} (test : A → Bool) (xs : List A) → position test xs ≡ None → list_any test xs ≡ false
 no_place test xs e =
     list_any_none test xs (λ k d lt.
-    let all : length xs ≤ position_or_len test xs = ltb-false (position_or_len test xs) (length xs) (none (nat_lt (position_or_len test xs) (length xs)) (position_or_len test xs) e) in
+    let all : length xs ≤ position_or_len test xs =
+    ltb-false (position_or_len test xs) (length xs) (none (nat_lt (position_or_len test xs) (length xs)) (position_or_len test xs) e) in
     let at : k < position_or_len test xs = omega arith in
     not_true (test (get_or xs k d)) (prefix_len_passes (λ x. not (test x)) xs k d at))
   where
@@ -45,7 +47,8 @@ none_changed test change (f ∷ fs) none =
     let h = or_false (test f) (list_any test fs) none in
     rw (h.0, none_changed test change fs h.1) refl
 
-changed_at : (number : ℕ) (change : Full → Full) (fs : List Full) (i : ℕ) (d y : Full) → are_distinct fs ≡ true → i < length fs → (get_or fs i d).row.node ≡ number → y ≡ change (get_or fs i d)
+changed_at : (number : ℕ) (change : Full → Full) (fs : List Full) (i : ℕ) (d y : Full) → are_distinct fs ≡ true → i < length fs
+    → (get_or fs i d).row.node ≡ number → y ≡ change (get_or fs i d)
     → set fs i y ≡ map (λ f. cond (eqb f.row.node number) (change f) f) fs
 changed_at number change [] i d y once lt is e = absurd (omega arith)
 changed_at number change (f ∷ fs) zero d y once lt is e =
@@ -69,7 +72,8 @@ pub record Changed (number : ℕ) (change : Full → Full) (old new : List Full)
   pub once : are_distinct new ≡ true
 
 -- the node at the place that was found is changed, and keeps its number
-changed_in_place : (number : ℕ) (change : Full → Full) (fs : List Full) (i : ℕ) (d y : Full) → are_distinct fs ≡ true → position (λ f. f.row.node == number) fs ≡ Some i → d ≡ get_or fs i d
+changed_in_place : (number : ℕ) (change : Full → Full) (fs : List Full) (i : ℕ) (d y : Full) → are_distinct fs ≡ true
+    → position (λ f. f.row.node == number) fs ≡ Some i → d ≡ get_or fs i d
     → ((f : Full) → eqb f.row.node number ≡ true → (change f).row.node ≡ f.row.node) → y ≡ change d → Changed number change fs (set fs i y)
 changed_in_place number change fs i d y once at here keeps e =
     let p = position-Some (λ f. f.row.node == number) fs i d at in
@@ -84,27 +88,34 @@ changed_in_place number change fs i d y once at here keeps e =
     same f true is = keeps f is
     same f false is = refl
 
-pub row_in_place : (row : NodeRow) (fs : List Full) (i : ℕ) (d : Full) → are_distinct fs ≡ true → position (λ f. f.row.node == row.node) fs ≡ Some i → d ≡ get_or fs i d
+pub row_in_place : (row : NodeRow) (fs : List Full) (i : ℕ) (d : Full) → are_distinct fs ≡ true → position (λ f. f.row.node == row.node) fs ≡ Some i
+    → d ≡ get_or fs i d
     → Changed row.node (λ f. record f { row = row }) fs (set fs i (record d { row = row }))
-row_in_place row fs i d once at here = changed_in_place row.node (λ f. record f { row = row }) fs i d (record d { row = row }) once at here (λ f is. sym (eqb-true f.row.node row.node is)) refl
+row_in_place row fs i d once at here =
+    changed_in_place row.node (λ f. record f { row = row }) fs i d (record d { row = row }) once at here (λ f is. sym (eqb-true f.row.node row.node is)) refl
 
-pub row_there : (row : NodeRow) (fs : List Full) (i : ℕ) (d : Full) → position (λ f. f.row.node == row.node) fs ≡ Some i → put_node row fs ≡ map (λ f. cond (eqb f.row.node row.node) (record f { row = row }) f) fs
+pub row_there : (row : NodeRow) (fs : List Full) (i : ℕ) (d : Full) → position (λ f. f.row.node == row.node) fs ≡ Some i
+    → put_node row fs ≡ map (λ f. cond (eqb f.row.node row.node) (record f { row = row }) f) fs
 row_there row fs i d at =
     let p = position-Some (λ f. f.row.node == row.node) fs i d at in
     rw (list_any_at (λ f. f.row.node == row.node) fs i d p.0 p.1) refl
 
-pub content_in_place : (number : ℕ) (change : List ℕ → List ℕ) (fs : List Full) (i : ℕ) (d : Full) (made : List ℕ) → are_distinct fs ≡ true → position (λ f. f.row.node == number) fs ≡ Some i → d ≡ get_or fs i d → made ≡ change d.content
+pub content_in_place : (number : ℕ) (change : List ℕ → List ℕ) (fs : List Full) (i : ℕ) (d : Full) (made : List ℕ) → are_distinct fs ≡ true
+    → position (λ f. f.row.node == number) fs ≡ Some i → d ≡ get_or fs i d → made ≡ change d.content
     → Changed number (λ f. record f { content = change f.content }) fs (set fs i (record { row = d.row; content = made }))
 content_in_place number change fs i d made once at here e =
-    changed_in_place number (λ f. record f { content = change f.content }) fs i d (record { row = d.row; content = made }) once at here (λ f is. refl) (ap (λ (bytes : List ℕ). record { row = d.row; content = bytes }) e)
+    changed_in_place number (λ f. record f { content = change f.content }) fs i d (record { row = d.row; content = made }) once at here (λ f is. refl)
+    (ap (λ (bytes : List ℕ). record { row = d.row; content = bytes }) e)
 
 -- where no node has the number, none is changed
 pub no_content : (number : ℕ) (change : List ℕ → List ℕ) (fs : List Full) → position (λ f. f.row.node == number) fs ≡ None → fs ≡ map (at_node number change) fs
-no_content number change fs none = sym (none_changed (λ f. eqb f.row.node number) (λ f. record f { content = change f.content }) fs (no_place (λ f. f.row.node == number) fs none))
+no_content number change fs none =
+    sym (none_changed (λ f. eqb f.row.node number) (λ f. record f { content = change f.content }) fs (no_place (λ f. f.row.node == number) fs none))
 
 -- ---- a node behind the others, and nodes that go
 
-pub row_behind : (row : NodeRow) (fs : List Full) → position (λ f. f.row.node == row.node) fs ≡ None → fs ++ record { row = row; content = [] } ∷ [] ≡ put_node row fs
+pub row_behind : (row : NodeRow) (fs : List Full) → position (λ f. f.row.node == row.node) fs ≡ None
+    → fs ++ record { row = row; content = [] } ∷ [] ≡ put_node row fs
 row_behind row fs none = rw (no_place (λ f. f.row.node == row.node) fs none) refl
 
 none_behind : (test : Full → Bool) (fs : List Full) (x : Full) → list_any test fs ≡ false → test x ≡ false → list_any test (fs ++ x ∷ []) ≡ false
@@ -113,7 +124,8 @@ none_behind test (f ∷ fs) x none is =
     let h = or_false (test f) (list_any test fs) none in
     rw (h.0) (none_behind test fs x h.1 is)
 
-pub once_behind : (fs : List Full) (x : Full) → are_distinct fs ≡ true → list_any (λ f. f.row.node == x.row.node) fs ≡ false → are_distinct (fs ++ x ∷ []) ≡ true
+pub once_behind : (fs : List Full) (x : Full) → are_distinct fs ≡ true → list_any (λ f. f.row.node == x.row.node) fs ≡ false
+    → are_distinct (fs ++ x ∷ []) ≡ true
 once_behind [] x once none = refl
 once_behind (f ∷ fs) x once none =
     let h = and_true _ _ once in
@@ -133,4 +145,9 @@ once_kept kept [] once = refl
 once_kept kept (f ∷ fs) once =
     let h = and_true _ _ once in
     let rest = once_kept kept fs h.1 in
-    elim (kept f) as (λ b. are_distinct (cond b (f ∷ filter kept fs) (filter kept fs)) ≡ true) [ true ↦ rw (none_kept (λ g. eqb g.row.node f.row.node) kept fs (not_true _ h.0)) rest | false ↦ rest ]
+    elim (kept f) as
+    (λ b. are_distinct (cond b (f ∷ filter kept fs) (filter kept fs)) ≡ true) [
+      | true ↦ rw
+          (none_kept (λ g. eqb g.row.node f.row.node) kept fs (not_true _ h.0)) rest
+      | false ↦ rest
+    ]

@@ -1,5 +1,6 @@
 -- Rows that are put among those of a state.
-use Rattle.std.proofs.Common.{◌≡◌, ◌≢◌, ◌<◌, ◌==◌, ℕ, Bool, true, false, cond, eqb, List, [], ◌∷◌, ◌++◌, map, Option, Some, None, refl, sym, ap, subst, ◌∙◌, inl, inr, arith}
+use Rattle.std.proofs.Common.{◌≡◌, ◌≢◌, ◌<◌, ◌==◌, ℕ, Bool, true, false, cond, eqb, List, [], ◌∷◌, ◌++◌, map, Option, Some, None, refl, sym, ap, subst, ◌∙◌}
+use Rattle.std.proofs.Common.{inl, inr, arith}
 use Rattle.std.specs.Prelude.{find}
 use Rattle.std.specs.Option.{option_map}
 use Rattle.std.specs.List.{AllByRecursion, list_any}
@@ -14,7 +15,9 @@ use Rattle.fuse_tree.proofs.Trees.{nodes_below}
 pub find_full : (s : State) (k : ℕ) (ns : List Node) → find (λ f. f.row.node == k) (map (full_of s) ns) ≡ option_map (full_of s) (find (λ n. n.number == k) ns)
 find_full s k [] = refl
 find_full s k (n ∷ ns) =
-    elim (eqb n.number k) as (λ b. cond b (Some (full_of s n)) (find (λ f. f.row.node == k) (map (full_of s) ns)) ≡ option_map (full_of s) (cond b (Some n) (find (λ m. m.number == k) ns))) [
+    elim (eqb n.number k) as
+    (λ b. cond b (Some (full_of s n)) (find (λ f. f.row.node == k) (map (full_of s) ns)) ≡ option_map (full_of s)
+    (cond b (Some n) (find (λ m. m.number == k) ns))) [
       | true ↦ refl
       | false ↦ find_full s k ns
     ]
@@ -34,7 +37,8 @@ node_found s k d tree e =
     let is : d.number ≡ k = eqb-true d.number k q.1 in (is, omega arith)
 
 -- it is the only one with this number
-pub only_one : (k : ℕ) (d : Node) (ns : List Node) → Apart (λ n m. n.number < m.number) ns → find (λ n. n.number == k) ns ≡ Some d → AllByRecursion (λ n. n.number ≡ k → n ≡ d) ns
+pub only_one : (k : ℕ) (d : Node) (ns : List Node) → Apart (λ n m. n.number < m.number) ns → find (λ n. n.number == k) ns ≡ Some d
+    → AllByRecursion (λ n. n.number ≡ k → n ≡ d) ns
 only_one k d [] rise e = absurd cc
 only_one k d (n ∷ ns) rise e =
     elim (cond_found (eqb n.number k) n d (find (λ m. m.number == k) ns) e) [
@@ -46,29 +50,37 @@ only_one k d (n ∷ ns) rise e =
     later [] all = tt
     later (m ∷ ms) all = let lt : k < m.number = all.0 in (λ is. absurd (omega arith), later ms all.1)
 
-each_put : (s : State) (G : Node → Full) (row : NodeRow) (d : Node) (ns : List Node) → AllByRecursion (λ n. n.number ≡ row.node → n ≡ d) ns → AllByRecursion (λ n. n.number < s.next_node) ns
-    → ((n : Node) → n.number < s.next_node → n.number ≢ row.node → G n ≡ full_of s n) → G d ≡ record { row = row; content = d.content } → map G ns ≡ map (with_row row) (map (full_of s) ns)
+each_put : (s : State) (G : Node → Full) (row : NodeRow) (d : Node) (ns : List Node) → AllByRecursion (λ n. n.number ≡ row.node → n ≡ d) ns
+    → AllByRecursion (λ n. n.number < s.next_node) ns
+    → ((n : Node) → n.number < s.next_node → n.number ≢ row.node → G n ≡ full_of s n) → G d ≡ record { row = row; content = d.content }
+    → map G ns ≡ map (with_row row) (map (full_of s) ns)
 each_put s G row d [] one below other here = refl
 each_put s G row d (n ∷ ns) one below other here =
     let head : G n ≡ with_row row (full_of s n) = step (eqb n.number row.node) refl in
     rw (head, each_put s G row d ns one.1 below.1 other here) refl
   where
     step : (b : Bool) → eqb n.number row.node ≡ b → G n ≡ cond b (record { row = row; content = n.content }) (full_of s n)
-    step true is = let same : n ≡ d = one.0 (eqb-true n.number row.node is) in subst (λ (m : Node). G m ≡ record { row = row; content = m.content }) (sym same) here
+    step true is =
+        let same : n ≡ d = one.0 (eqb-true n.number row.node is) in subst (λ (m : Node). G m ≡ record { row = row; content = m.content }) (sym same) here
     step false is = other n below.0 (eqb-false n.number row.node is)
 
 -- a row of a node that is there takes the place of its own
-pub put_there : (s : State) (row : NodeRow) (d : Node) → node_at s row.node ≡ Some d → put_node row (map (full_of s) s.nodes) ≡ map (with_row row) (map (full_of s) s.nodes)
+pub put_there : (s : State) (row : NodeRow) (d : Node) → node_at s row.node ≡ Some d
+    → put_node row (map (full_of s) s.nodes) ≡ map (with_row row) (map (full_of s) s.nodes)
 put_there s row d e =
-    let there : list_any (λ f. f.row.node == row.node) (map (full_of s) s.nodes) ≡ true = any_found (λ f. f.row.node == row.node) (map (full_of s) s.nodes) (full_of s d) (find_full s row.node s.nodes ∙ ap (option_map (full_of s)) e) in
+    let there : list_any (λ f. f.row.node == row.node) (map (full_of s) s.nodes) ≡ true =
+    any_found (λ f. f.row.node == row.node) (map (full_of s) s.nodes) (full_of s d) (find_full s row.node s.nodes ∙ ap (option_map (full_of s)) e) in
     rw there refl
 
 -- a row in the place of a node's own: the rows are those by G, where G differs at this node alone
 pub put_changed : (s : State) (G : Node → Full) (row : NodeRow) (d : Node) → Tree s → node_at s row.node ≡ Some d
-    → ((n : Node) → n.number < s.next_node → n.number ≢ row.node → G n ≡ full_of s n) → G d ≡ record { row = row; content = d.content } → put_node row (map (full_of s) s.nodes) ≡ map G s.nodes
-put_changed s G row d tree e other here = put_there s row d e ∙ sym (each_put s G row d s.nodes (only_one row.node d s.nodes tree.nodes_rise e) (nodes_below s tree) other here)
+    → ((n : Node) → n.number < s.next_node → n.number ≢ row.node → G n ≡ full_of s n) → G d ≡ record { row = row; content = d.content }
+    → put_node row (map (full_of s) s.nodes) ≡ map G s.nodes
+put_changed s G row d tree e other here =
+    put_there s row d e ∙ sym (each_put s G row d s.nodes (only_one row.node d s.nodes tree.nodes_rise e) (nodes_below s tree) other here)
 
-none_there : (G : Node → Full) (row : NodeRow) (ns : List Node) → ((n : Node) → (G n).row.node ≡ n.number) → AllByRecursion (λ n. n.number < row.node) ns → list_any (λ f. f.row.node == row.node) (map G ns) ≡ false
+none_there : (G : Node → Full) (row : NodeRow) (ns : List Node) → ((n : Node) → (G n).row.node ≡ n.number) → AllByRecursion (λ n. n.number < row.node) ns
+    → list_any (λ f. f.row.node == row.node) (map G ns) ≡ false
 none_there G row [] numbers below = refl
 none_there G row (n ∷ ns) numbers below =
     let lt : n.number < row.node = below.0 in

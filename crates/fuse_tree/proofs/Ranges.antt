@@ -52,5 +52,6 @@ pieces_some at (suc m) some =
     ap (λ (ps : List Piece). first_piece at (suc m) ∷ ps) (same_by m (suc m - step) (at + step) (suc m - step) (omega arith) (omega arith))
 
 -- what `next` gives and leaves
-pub next_piece : (at left step : ℕ) (p : Piece) (now : List Piece) → left ≢ 0 → pieces_of at left ≡ now → p ≡ first_piece at left → step ≡ p.len → now ≡ p ∷ pieces_of (at + step) (left - p.len)
+pub next_piece : (at left step : ℕ) (p : Piece) (now : List Piece) → left ≢ 0 → pieces_of at left ≡ now → p ≡ first_piece at left → step ≡ p.len
+    → now ≡ p ∷ pieces_of (at + step) (left - p.len)
 next_piece at left step p now some view is len = rw (len, is) (sym view ∙ pieces_some at left some)

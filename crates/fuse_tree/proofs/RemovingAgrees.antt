@@ -24,8 +24,10 @@ abbrev linked : EntryRow → Option NodeRow → Option Link
 linked e row = option_map (λ child. record { cookie = e.cookie; child = child }) row
 
 -- an entry gone from directory d, where no entry stands in its child c
-gone_agrees : (s : State) (name : List ℕ) (now : Moment) (d : Node) (e : EntryRow) (c : Node) → Tree s → node_at s d.number ≡ Some d → entry_at s.entries d.number name ≡ Some e → node_at s e.child ≡ Some c
-    → AllByRecursion (λ x. x.dir ≢ e.child) s.entries → Agrees s (plan_gone now (record { cookie = e.cookie; child = row_of s c }) (row_of s d)) (answer (entry_gone e now s) [])
+gone_agrees : (s : State) (name : List ℕ) (now : Moment) (d : Node) (e : EntryRow) (c : Node) → Tree s → node_at s d.number ≡ Some d
+    → entry_at s.entries d.number name ≡ Some e → node_at s e.child ≡ Some c
+    → AllByRecursion (λ x. x.dir ≢ e.child) s.entries → Agrees s (plan_gone now (record { cookie = e.cookie; child = row_of s c }) (row_of s d))
+    (answer (entry_gone e now s) [])
 gone_agrees s name now d e c tree at_d at_e at_c empty =
     let stands = standing s (is_entry d.number name) e tree at_e in
     let test = (found (IsEntry s.nodes s.entries s.next_cookie) (is_entry d.number name) s.entries e tree.entries at_e).1 in
@@ -45,10 +47,12 @@ module _ (s : State) (name : List ℕ) (now : Moment) (d : Node) (tree : Tree s)
       both s (is_dir c.mode) _ _ _ _ (λ _. refused_agrees s tree eisdir) (λ file.
       gone_agrees s name now d e c tree at_d at_e at_c (none_in_file s e.child c tree at_c file))
 
-  unlink_entry_agrees : (o : Option EntryRow) → entry_at s.entries d.number name ≡ o → Agrees s (plan_unlink_link now (row_of s d) (link_of (rows_of_state s) o)) (unlink_entry s now o)
+  unlink_entry_agrees : (o : Option EntryRow) → entry_at s.entries d.number name ≡ o
+      → Agrees s (plan_unlink_link now (row_of s d) (link_of (rows_of_state s) o)) (unlink_entry s now o)
   unlink_entry_agrees None at_e = refused_agrees s tree enoent
   unlink_entry_agrees (Some e) at_e =
-      subst (λ (row : Option NodeRow). Agrees s (plan_unlink_link now (row_of s d) (linked e row)) (unlink_child s e now (node_at s e.child))) (sym (row_found s e.child)) (unlink_child_agrees e (node_at s e.child) at_e refl)
+      subst (λ (row : Option NodeRow). Agrees s (plan_unlink_link now (row_of s d) (linked e row)) (unlink_child s e now (node_at s e.child)))
+      (sym (row_found s e.child)) (unlink_child_agrees e (node_at s e.child) at_e refl)
 
   pub unlink_agrees : Agrees s (plan_unlink name now (row_of s d) (rows_of_state s)) (unlink s name now d)
   unlink_agrees =
@@ -65,12 +69,15 @@ module _ (s : State) (name : List ℕ) (now : Moment) (d : Node) (tree : Tree s)
   rmdir_child_agrees e (Some c) at_e at_c =
       both s (not (is_dir c.mode)) _ _ _ _ (λ _. refused_agrees s tree enotdir) (λ _.
       both s (has_entries s.entries c.number) _ _ _ _ (λ _. refused_agrees s tree enotempty) (λ none.
-      gone_agrees s name now d e c tree at_d at_e at_c (subst (λ (k : ℕ). AllByRecursion (λ x. x.dir ≢ k) s.entries) (node_found s e.child c tree at_c).0 (none_in_empty s.entries c.number none))))
+      gone_agrees s name now d e c tree at_d at_e at_c
+      (subst (λ (k : ℕ). AllByRecursion (λ x. x.dir ≢ k) s.entries) (node_found s e.child c tree at_c).0 (none_in_empty s.entries c.number none))))
 
-  rmdir_entry_agrees : (o : Option EntryRow) → entry_at s.entries d.number name ≡ o → Agrees s (plan_rmdir_link now (row_of s d) (rows_of_state s) (link_of (rows_of_state s) o)) (rmdir_entry s now o)
+  rmdir_entry_agrees : (o : Option EntryRow) → entry_at s.entries d.number name ≡ o
+      → Agrees s (plan_rmdir_link now (row_of s d) (rows_of_state s) (link_of (rows_of_state s) o)) (rmdir_entry s now o)
   rmdir_entry_agrees None at_e = refused_agrees s tree enoent
   rmdir_entry_agrees (Some e) at_e =
-      subst (λ (row : Option NodeRow). Agrees s (plan_rmdir_link now (row_of s d) (rows_of_state s) (linked e row)) (rmdir_child s e now (node_at s e.child))) (sym (row_found s e.child)) (rmdir_child_agrees e (node_at s e.child) at_e refl)
+      subst (λ (row : Option NodeRow). Agrees s (plan_rmdir_link now (row_of s d) (rows_of_state s) (linked e row)) (rmdir_child s e now (node_at s e.child)))
+      (sym (row_found s e.child)) (rmdir_child_agrees e (node_at s e.child) at_e refl)
 
   pub rmdir_agrees : Agrees s (plan_rmdir name now (row_of s d) (rows_of_state s)) (rmdir s name now d)
   rmdir_agrees =

@@ -1,5 +1,6 @@
 -- The plan of RENAME and RENAME2 agrees with what is done.
-use Rattle.std.proofs.Common.{◌≡◌, ◌≢◌, ◌≤◌, ◌-◌, ◌==◌, ◌&&◌, ◌||◌, ℕ, zero, suc, Bool, true, false, cond, not, eqb, List, [], ◌∷◌, length, Option, Some, None, refl, sym, ap, subst, ◌∙◌, arith}
+use Rattle.std.proofs.Common.{◌≡◌, ◌≢◌, ◌≤◌, ◌-◌, ◌==◌, ◌&&◌, ◌||◌, ℕ, zero, suc, Bool, true, false, cond, not, eqb, List, [], ◌∷◌, length, Option, Some, None}
+use Rattle.std.proofs.Common.{refl, sym, ap, subst, ◌∙◌, arith}
 use Rattle.std.specs.Prelude.{find, nat_eq, nat_le, nat_lt, is_some}
 use Rattle.std.specs.Option.{option_map}
 use Rattle.std.specs.List.{list_any}
@@ -17,9 +18,11 @@ use Rattle.fuse_tree.specs.Rows.{row_of, rows_of_state, row_at, entry_at}
 use Rattle.fuse_tree.specs.Done.{Done, refuse_for}
 use Rattle.fuse_tree.specs.Reading.{refused_for}
 use Rattle.fuse_tree.specs.Removing.{has_entries}
-use Rattle.fuse_tree.specs.Renaming.{Renaming, is_exchange, is_no_replace, leads_to, lies_in, is_dir_at, holds, asked_fault, earlier, kinds_fault, place_fault, rename_entry, exchange_entry, rename_by, rename_from, rename_between, rename}
+use Rattle.fuse_tree.specs.Renaming.{Renaming, is_exchange, is_no_replace, leads_to, lies_in, is_dir_at, holds, asked_fault, earlier, kinds_fault, place_fault}
+use Rattle.fuse_tree.specs.Renaming.{rename_entry, exchange_entry, rename_by, rename_from, rename_between, rename}
 use Rattle.fuse_tree.specs.PlanRemoving.{link_of}
-use Rattle.fuse_tree.specs.PlanRenaming.{row_holds, link_fault, other_at, new_dir_at, plan_rename_link, plan_exchange_link, plan_rename_by, plan_rename_from, plan_rename_between, plan_rename}
+use Rattle.fuse_tree.specs.PlanRenaming.{row_holds, link_fault, other_at, new_dir_at, plan_rename_link, plan_exchange_link, plan_rename_by, plan_rename_from}
+use Rattle.fuse_tree.specs.PlanRenaming.{plan_rename_between, plan_rename}
 use Rattle.fuse_tree.proofs.Agreement.{Agrees, refused_agrees, both, both_for}
 use Rattle.fuse_tree.proofs.Lists.{any_gives, found, and_true, and_false, or_false}
 use Rattle.fuse_tree.proofs.Puts.{row_found, node_found, only_one, dir_there}
@@ -34,11 +37,14 @@ use Rattle.fuse_tree.proofs.Exchanges.{exchange_rows, exchange_tree}
 
 -- ---- tests and faults that are told in two ways
 
-both_as : (s : State) (b b' : Bool) (p q : Planned) (d e : Done) → b' ≡ b → (b ≡ true → Agrees s p d) → (b ≡ false → Agrees s q e) → Agrees s (cond b' p q) (cond b d e)
+both_as : (s : State) (b b' : Bool) (p q : Planned) (d e : Done) → b' ≡ b → (b ≡ true → Agrees s p d) → (b ≡ false → Agrees s q e)
+    → Agrees s (cond b' p q) (cond b d e)
 both_as s b b' p q d e same there other = subst (λ (x : Bool). Agrees s (cond x p q) (cond b d e)) (sym same) (both s b p q d e there other)
 
-both_for_as : (s : State) (fault fault' : Option Errno) (p : Planned) (d : Done) → Tree s → fault' ≡ fault → (fault ≡ None → Agrees s p d) → Agrees s (refused_for fault' p) (refuse_for s fault d)
-both_for_as s fault fault' p d tree same other = subst (λ (x : Option Errno). Agrees s (refused_for x p) (refuse_for s fault d)) (sym same) (both_for s fault p d tree other)
+both_for_as : (s : State) (fault fault' : Option Errno) (p : Planned) (d : Done) → Tree s → fault' ≡ fault → (fault ≡ None → Agrees s p d)
+    → Agrees s (refused_for fault' p) (refuse_for s fault d)
+both_for_as s fault fault' p d tree same other =
+    subst (λ (x : Option Errno). Agrees s (refused_for x p) (refuse_for s fault d)) (sym same) (both_for s fault p d tree other)
 
 earlier_none : (one two : Option Errno) → earlier one two ≡ None → (one ≡ None) × (two ≡ None)
 earlier_none (Some errno) two is = absurd cc
@@ -156,7 +162,8 @@ dirs_alone s k n tree at =
 
 -- ---- from directory d to directory t
 
-module _ (s : State) (r : Renaming) (d t : Node) (tree : Tree s) (at_d : node_at s d.number ≡ Some d) (at_t : node_at s r.new_dir ≡ Some t) (dir_d : is_dir d.mode ≡ true) (dir_t : is_dir t.mode ≡ true)
+module _ (s : State) (r : Renaming) (d t : Node) (tree : Tree s) (at_d : node_at s d.number ≡ Some d) (at_t : node_at s r.new_dir ≡ Some t)
+    (dir_d : is_dir d.mode ≡ true) (dir_t : is_dir t.mode ≡ true)
     (named : is_named s r.new_dir ≡ true) (name_ok : name_fault r.new_name ≡ None) where
   abbrev link : EntryRow → Node → Link
   link e c = record { cookie = e.cookie; child = row_of s c }
@@ -168,32 +175,40 @@ module _ (s : State) (r : Renaming) (d t : Node) (tree : Tree s) (at_d : node_at
   from_there = dir_at s d.number d tree at_d ∙ dir_d
 
   -- no directory is under its own entry's child
-  never_above : (dir : ℕ) (name : List ℕ) (e : EntryRow) (c : Node) → Found s dir name e c → entry_at s.entries dir name ≡ Some e → (i : ℕ) → above s.entries i dir ≢ e.child
+  never_above : (dir : ℕ) (name : List ℕ) (e : EntryRow) (c : Node) → Found s dir name e c → entry_at s.entries dir name ≡ Some e → (i : ℕ)
+      → above s.entries i dir ≢ e.child
   never_above dir name e c p at =
-      not_under_own s.entries (rooted s tree) e.child dir (up_found (is_entry dir name) s.entries e tree.entries_apart at ∙ p.dir_is) (subst (λ (k : ℕ). Reaches s.entries k) p.dir_is p.entry.reaches)
+      not_under_own s.entries (rooted s tree) e.child dir (up_found (is_entry dir name) s.entries e tree.entries_apart at ∙ p.dir_is)
+      (subst (λ (k : ℕ). Reaches s.entries k) p.dir_is p.entry.reaches)
 
   not_own : (dir : ℕ) (name : List ℕ) (e : EntryRow) (c : Node) → Found s dir name e c → entry_at s.entries dir name ≡ Some e → e.child ≢ dir
   not_own dir name e c p at same = never_above dir name e c p at 0 (sym same)
 
   -- ---- RENAME
 
-  free_agrees : (e : EntryRow) (c : Node) → Found s d.number r.old_name e c → entry_at s.entries d.number r.old_name ≡ Some e → entry_at s.entries r.new_dir r.new_name ≡ None
+  free_agrees : (e : EntryRow) (c : Node) → Found s d.number r.old_name e c → entry_at s.entries d.number r.old_name ≡ Some e
+      → entry_at s.entries r.new_dir r.new_name ≡ None
       → Agrees s (plan_rename_link r (row_of s d) (row_of s t) (link e c) None (rows_of_state s)) (rename_entry s r d.number e None)
   free_agrees e c p at_e free =
-      both_as s (holds s e.child r.new_dir) _ _ _ _ _ (same_holds s e.child d.number r.new_dir c tree p.child (never_above d.number r.old_name e c p at_e)) (λ _. refused_agrees s tree einval) (λ apart.
+      both_as s (holds s e.child r.new_dir) _ _ _ _ _ (same_holds s e.child d.number r.new_dir c tree p.child (never_above d.number r.old_name e c p at_e))
+      (λ _. refused_agrees s tree einval) (λ apart.
       both s (nat_le number_end s.next_cookie) _ _ _ _ (λ _. refused_agrees s tree enospc) (λ room. (
       let never = never_held s e.child r.new_dir tree p.given to_there apart in
       record {
         answer = refl;
         rows = free_rows s r d t c e tree at_d at_t p.child at_e p.dir_is (not_own d.number r.old_name e c p at_e) (λ same. never 0 (sym same));
-        tree = free_tree s r d t c e tree at_d at_t p.child at_e p.dir_is (not_own d.number r.old_name e c p at_e) (λ same. never 0 (sym same)) dir_t named name_ok free never (leb-false _ _ room);
+        tree =
+            free_tree s r d t c e tree at_d at_t p.child at_e p.dir_is (not_own d.number r.old_name e c p at_e)
+            (λ same. never 0 (sym same)) dir_t named name_ok free never (leb-false _ _ room);
       })))
 
-  over_agrees : (e : EntryRow) (c : Node) (f : EntryRow) (o : Node) → Found s d.number r.old_name e c → entry_at s.entries d.number r.old_name ≡ Some e → Found s r.new_dir r.new_name f o → entry_at s.entries r.new_dir r.new_name ≡ Some f
+  over_agrees : (e : EntryRow) (c : Node) (f : EntryRow) (o : Node) → Found s d.number r.old_name e c → entry_at s.entries d.number r.old_name ≡ Some e
+      → Found s r.new_dir r.new_name f o → entry_at s.entries r.new_dir r.new_name ≡ Some f
       → Agrees s (plan_rename_link r (row_of s d) (row_of s t) (link e c) (Some (link f o)) (rows_of_state s)) (rename_entry s r d.number e (Some f))
   over_agrees e c f o p at_e q at_f =
       both s (eqb e.cookie f.cookie) _ _ _ _ (λ _. record { answer = refl; rows = refl; tree = tree }) (λ other.
-      both_as s (holds s e.child r.new_dir) _ _ _ _ _ (same_holds s e.child d.number r.new_dir c tree p.child (never_above d.number r.old_name e c p at_e)) (λ _. refused_agrees s tree einval) (λ apart.
+      both_as s (holds s e.child r.new_dir) _ _ _ _ _ (same_holds s e.child d.number r.new_dir c tree p.child (never_above d.number r.old_name e c p at_e))
+      (λ _. refused_agrees s tree einval) (λ apart.
       both_for_as s (place_fault s e.child (Some f)) (link_fault (rows_of_state s) (link e c) (Some (link f o))) _ _ tree
       (ap (λ (b : Bool). kinds_fault b (is_dir o.mode) (is_dir o.mode && has_entries s.entries o.number)) (sym (dir_at s e.child c tree p.child))
       ∙ ap (λ (b : Bool). kinds_fault (is_dir_at s e.child) b (is_dir o.mode && has_entries s.entries o.number)) (sym (dir_at s f.child o tree q.child))
@@ -202,30 +217,42 @@ module _ (s : State) (r : Renaming) (d t : Node) (tree : Tree s) (at_d : node_at
       let never = never_held s e.child r.new_dir tree p.given to_there apart in
       let empty = none_in_empty s.entries f.child (kinds_none _ _ _ fits) in
       let ne = eqb-false e.cookie f.cookie other in
-      let differ = f_differs s (is_entry r.new_dir r.new_name) (is_entry d.number r.old_name) f e r.new_dir d.number r.new_name r.old_name tree at_f at_e (λ same. ne (sym same)) in
+      let differ =
+      f_differs s (is_entry r.new_dir r.new_name) (is_entry d.number r.old_name) f e r.new_dir d.number r.new_name r.old_name tree at_f at_e
+      (λ same. ne (sym same)) in
       record {
         answer = refl;
-        rows = over_rows s r d t c o e f tree at_d at_t p.child q.child at_e at_f p.dir_is q.dir_is differ (not_own d.number r.old_name e c p at_e) (λ same. never 0 (sym same)) (not_own r.new_dir r.new_name f o q at_f) empty;
-        tree = over_tree s r d t c o e f tree at_d at_t p.child q.child at_e at_f p.dir_is q.dir_is differ (not_own d.number r.old_name e c p at_e) (λ same. never 0 (sym same)) (not_own r.new_dir r.new_name f o q at_f) empty dir_t named name_ok q.name_is never (leb-false _ _ room);
+        rows =
+            over_rows s r d t c o e f tree at_d at_t p.child q.child at_e at_f p.dir_is q.dir_is differ (not_own d.number r.old_name e c p at_e)
+            (λ same. never 0 (sym same)) (not_own r.new_dir r.new_name f o q at_f) empty;
+        tree =
+            over_tree s r d t c o e f tree at_d at_t p.child q.child at_e at_f p.dir_is q.dir_is differ (not_own d.number r.old_name e c p at_e)
+            (λ same. never 0 (sym same)) (not_own r.new_dir r.new_name f o q at_f) empty dir_t named name_ok q.name_is never (leb-false _ _ room);
       })))))
 
-  rename_agrees : (e : EntryRow) (c : Node) → Found s d.number r.old_name e c → entry_at s.entries d.number r.old_name ≡ Some e → (other : Option EntryRow) → entry_at s.entries r.new_dir r.new_name ≡ other
-      → Agrees s (plan_rename_link r (row_of s d) (row_of s t) (link e c) (link_of (rows_of_state s) other) (rows_of_state s)) (rename_entry s r d.number e other)
+  rename_agrees : (e : EntryRow) (c : Node) → Found s d.number r.old_name e c → entry_at s.entries d.number r.old_name ≡ Some e → (other : Option EntryRow)
+      → entry_at s.entries r.new_dir r.new_name ≡ other
+      → Agrees s (plan_rename_link r (row_of s d) (row_of s t) (link e c) (link_of (rows_of_state s) other) (rows_of_state s))
+      (rename_entry s r d.number e other)
   rename_agrees e c p at_e None at = free_agrees e c p at_e at
   rename_agrees e c p at_e (Some f) at =
       let o = found_entry s r.new_dir r.new_name f tree at in
-      subst (λ (l : Option Link). Agrees s (plan_rename_link r (row_of s d) (row_of s t) (link e c) l (rows_of_state s)) (rename_entry s r d.number e (Some f))) (sym o.1.link)
+      subst (λ (l : Option Link). Agrees s (plan_rename_link r (row_of s d) (row_of s t) (link e c) l (rows_of_state s)) (rename_entry s r d.number e (Some f)))
+      (sym o.1.link)
       (over_agrees e c f o.0 p at_e o.1 at)
 
   -- ---- EXCHANGE
 
-  swap_agrees : (e : EntryRow) (c : Node) (f : EntryRow) (o : Node) → Found s d.number r.old_name e c → entry_at s.entries d.number r.old_name ≡ Some e → Found s r.new_dir r.new_name f o → entry_at s.entries r.new_dir r.new_name ≡ Some f
+  swap_agrees : (e : EntryRow) (c : Node) (f : EntryRow) (o : Node) → Found s d.number r.old_name e c → entry_at s.entries d.number r.old_name ≡ Some e
+      → Found s r.new_dir r.new_name f o → entry_at s.entries r.new_dir r.new_name ≡ Some f
       → Agrees s (plan_exchange_link r (row_of s d) (row_of s t) (link e c) (Some (link f o)) (rows_of_state s)) (exchange_entry s r d.number e (Some f))
   swap_agrees e c f o p at_e q at_f =
       both s (eqb e.cookie f.cookie) _ _ _ _ (λ _. record { answer = refl; rows = refl; tree = tree }) (λ other.
       both_as s (holds s e.child r.new_dir || holds s f.child d.number) _ _ _ _ _
-      (ap (λ (b : Bool). b || row_holds (rows_of_state s) (row_of s o) r.new_dir d.number) (same_holds s e.child d.number r.new_dir c tree p.child (never_above d.number r.old_name e c p at_e))
-      ∙ ap (λ (b : Bool). holds s e.child r.new_dir || b) (same_holds s f.child r.new_dir d.number o tree q.child (never_above r.new_dir r.new_name f o q at_f)))
+      (ap (λ (b : Bool). b || row_holds (rows_of_state s) (row_of s o) r.new_dir d.number)
+      (same_holds s e.child d.number r.new_dir c tree p.child (never_above d.number r.old_name e c p at_e))
+      ∙ ap (λ (b : Bool). holds s e.child r.new_dir || b)
+      (same_holds s f.child r.new_dir d.number o tree q.child (never_above r.new_dir r.new_name f o q at_f)))
       (λ _. refused_agrees s tree einval) (λ apart.
       both s (nat_lt (number_end - 2) s.next_cookie) _ _ _ _ (λ _. refused_agrees s tree enospc) (λ room. (
       let parts = or_false (holds s e.child r.new_dir) (holds s f.child d.number) apart in
@@ -235,16 +262,24 @@ module _ (s : State) (r : Renaming) (d t : Node) (tree : Tree s) (at_d : node_at
       let few : s.next_cookie ≤ number_end - 2 = ltb-false (number_end - 2) s.next_cookie room in
       record {
         answer = refl;
-        rows = exchange_rows s r d t c o e f tree at_d at_t p.child q.child at_e at_f p.dir_is q.dir_is ne (not_own d.number r.old_name e c p at_e) (λ same. never_e 0 (sym same)) (λ same. never_f 0 (sym same)) (not_own r.new_dir r.new_name f o q at_f);
-        tree = exchange_tree s r d t c o e f tree at_d at_t p.child q.child at_e at_f p.dir_is q.dir_is ne (not_own d.number r.old_name e c p at_e) (λ same. never_e 0 (sym same)) (λ same. never_f 0 (sym same)) (not_own r.new_dir r.new_name f o q at_f) p.name_is q.name_is never_e never_f (omega arith);
+        rows =
+            exchange_rows s r d t c o e f tree at_d at_t p.child q.child at_e at_f p.dir_is q.dir_is ne (not_own d.number r.old_name e c p at_e)
+            (λ same. never_e 0 (sym same)) (λ same. never_f 0 (sym same)) (not_own r.new_dir r.new_name f o q at_f);
+        tree =
+            exchange_tree s r d t c o e f tree at_d at_t p.child q.child at_e at_f p.dir_is q.dir_is ne (not_own d.number r.old_name e c p at_e)
+            (λ same. never_e 0 (sym same)) (λ same. never_f 0 (sym same)) (not_own r.new_dir r.new_name f o q at_f) p.name_is q.name_is never_e never_f
+            (omega arith);
       }))))
 
-  exchange_agrees : (e : EntryRow) (c : Node) → Found s d.number r.old_name e c → entry_at s.entries d.number r.old_name ≡ Some e → (other : Option EntryRow) → entry_at s.entries r.new_dir r.new_name ≡ other
-      → Agrees s (plan_exchange_link r (row_of s d) (row_of s t) (link e c) (link_of (rows_of_state s) other) (rows_of_state s)) (exchange_entry s r d.number e other)
+  exchange_agrees : (e : EntryRow) (c : Node) → Found s d.number r.old_name e c → entry_at s.entries d.number r.old_name ≡ Some e → (other : Option EntryRow)
+      → entry_at s.entries r.new_dir r.new_name ≡ other
+      → Agrees s (plan_exchange_link r (row_of s d) (row_of s t) (link e c) (link_of (rows_of_state s) other) (rows_of_state s))
+      (exchange_entry s r d.number e other)
   exchange_agrees e c p at_e None at = refused_agrees s tree enoent
   exchange_agrees e c p at_e (Some f) at =
       let o = found_entry s r.new_dir r.new_name f tree at in
-      subst (λ (l : Option Link). Agrees s (plan_exchange_link r (row_of s d) (row_of s t) (link e c) l (rows_of_state s)) (exchange_entry s r d.number e (Some f))) (sym o.1.link)
+      subst (λ (l : Option Link). Agrees s (plan_exchange_link r (row_of s d) (row_of s t) (link e c) l (rows_of_state s))
+      (exchange_entry s r d.number e (Some f))) (sym o.1.link)
       (swap_agrees e c f o.0 p at_e o.1 at)
 
   -- ---- by the mode
@@ -253,7 +288,8 @@ module _ (s : State) (r : Renaming) (d t : Node) (tree : Tree s) (at_d : node_at
   same_some None at = refl
   same_some (Some f) at = ap is_some (found_entry s r.new_dir r.new_name f tree at).1.link
 
-  by_agrees : (e : EntryRow) (c : Node) → Found s d.number r.old_name e c → entry_at s.entries d.number r.old_name ≡ Some e → (other : Option EntryRow) → entry_at s.entries r.new_dir r.new_name ≡ other
+  by_agrees : (e : EntryRow) (c : Node) → Found s d.number r.old_name e c → entry_at s.entries d.number r.old_name ≡ Some e → (other : Option EntryRow)
+      → entry_at s.entries r.new_dir r.new_name ≡ other
       → Agrees s (plan_rename_by r (row_of s d) (row_of s t) (link e c) (link_of (rows_of_state s) other) (rows_of_state s)) (rename_by s r d.number e other)
   by_agrees e c p at_e other at =
       both s (is_exchange r.mode) _ _ _ _ (λ _. exchange_agrees e c p at_e other at) (λ _.
@@ -266,7 +302,8 @@ module _ (s : State) (r : Renaming) (d t : Node) (tree : Tree s) (at_d : node_at
   same_other e c p at_e = step ((d.number == r.new_dir) && pointwise nat_eq r.old_name r.new_name) refl
     where
       step : (b : Bool) → ((d.number == r.new_dir) && pointwise nat_eq r.old_name r.new_name) ≡ b
-          → cond b (Some (link e c)) (link_of (rows_of_state s) (entry_at s.entries r.new_dir r.new_name)) ≡ link_of (rows_of_state s) (entry_at s.entries r.new_dir r.new_name)
+          → cond b (Some (link e c)) (link_of (rows_of_state s) (entry_at s.entries r.new_dir r.new_name)) ≡ link_of (rows_of_state s)
+          (entry_at s.entries r.new_dir r.new_name)
       step true is =
           let parts = and_true (d.number == r.new_dir) _ is in
           let here = subst (λ (k : ℕ). entry_at s.entries k r.old_name ≡ Some e) (eqb-true d.number r.new_dir parts.0) at_e in
@@ -274,12 +311,15 @@ module _ (s : State) (r : Renaming) (d t : Node) (tree : Tree s) (at_d : node_at
           sym (ap (link_of (rows_of_state s)) there ∙ p.link)
       step false is = refl
 
-  pub from_agrees : (o : Option EntryRow) → entry_at s.entries d.number r.old_name ≡ o → Agrees s (plan_rename_from r (row_of s d) (row_of s t) (link_of (rows_of_state s) o) (rows_of_state s)) (rename_from s r d.number o)
+  pub from_agrees : (o : Option EntryRow) → entry_at s.entries d.number r.old_name ≡ o
+      → Agrees s (plan_rename_from r (row_of s d) (row_of s t) (link_of (rows_of_state s) o) (rows_of_state s)) (rename_from s r d.number o)
   from_agrees None at = refused_agrees s tree enoent
   from_agrees (Some e) at =
       let c = found_entry s d.number r.old_name e tree at in
-      subst (λ (l : Option Link). Agrees s (plan_rename_from r (row_of s d) (row_of s t) l (rows_of_state s)) (rename_from s r d.number (Some e))) (sym c.1.link)
-      (subst (λ (l : Option Link). Agrees s (plan_rename_by r (row_of s d) (row_of s t) (link e c.0) l (rows_of_state s)) (rename_from s r d.number (Some e))) (sym (same_other e c.0 c.1 at))
+      subst (λ (l : Option Link). Agrees s (plan_rename_from r (row_of s d) (row_of s t) l (rows_of_state s)) (rename_from s r d.number (Some e)))
+      (sym c.1.link)
+      (subst (λ (l : Option Link). Agrees s (plan_rename_by r (row_of s d) (row_of s t) (link e c.0) l (rows_of_state s)) (rename_from s r d.number (Some e)))
+      (sym (same_other e c.0 c.1 at))
       (by_agrees e c.0 c.1 at (entry_at s.entries r.new_dir r.new_name) refl))
 
 between_agrees : (s : State) (r : Renaming) (d : Node) → Tree s → node_at s d.number ≡ Some d → (o : Option Node) → node_at s r.new_dir ≡ o
@@ -289,11 +329,13 @@ between_agrees s r d tree at_d (Some t) at =
     both_for s (asked_fault r (is_dir d.mode && is_dir t.mode) (is_named s d.number && is_named s t.number)) _ _ tree (λ none. (
     let asks = asked_none r (is_dir d.mode && is_dir t.mode) (is_named s d.number && is_named s t.number) none in
     let dirs = and_true (is_dir d.mode) (is_dir t.mode) asks.dirs in
-    let named = subst (λ (k : ℕ). is_named s k ≡ true) (node_found s r.new_dir t tree at).0 (and_true (is_named s d.number) (is_named s t.number) asks.named).1 in
+    let named =
+    subst (λ (k : ℕ). is_named s k ≡ true) (node_found s r.new_dir t tree at).0 (and_true (is_named s d.number) (is_named s t.number) asks.named).1 in
     from_agrees s r d t tree at_d at dirs.0 dirs.1 named asks.new_name (entry_at s.entries d.number r.old_name) refl))
 
 -- the row of the new directory is that of the node, also where that is the old one
-same_new_dir : (s : State) (k : ℕ) (d : Node) → Tree s → node_at s d.number ≡ Some d → new_dir_at k (row_of s d) (rows_of_state s) ≡ option_map (row_of s) (node_at s k)
+same_new_dir : (s : State) (k : ℕ) (d : Node) → Tree s → node_at s d.number ≡ Some d
+    → new_dir_at k (row_of s d) (rows_of_state s) ≡ option_map (row_of s) (node_at s k)
 same_new_dir s k d tree at_d = step (d.number == k) refl
   where
     step : (b : Bool) → (d.number == k) ≡ b → cond b (Some (row_of s d)) (row_at (rows_of_state s) k) ≡ option_map (row_of s) (node_at s k)
@@ -301,6 +343,8 @@ same_new_dir s k d tree at_d = step (d.number == k) refl
     step false is = row_found s k
 
 -- RENAME2, and with flags 0 RENAME
-pub renaming_agrees : (s : State) (r : Renaming) (d : Node) → Tree s → node_at s d.number ≡ Some d → Agrees s (plan_rename r (row_of s d) (rows_of_state s)) (rename s r d)
+pub renaming_agrees : (s : State) (r : Renaming) (d : Node) → Tree s → node_at s d.number ≡ Some d
+    → Agrees s (plan_rename r (row_of s d) (rows_of_state s)) (rename s r d)
 renaming_agrees s r d tree at_d =
-    subst (λ (o : Option NodeRow). Agrees s (plan_rename_between r (row_of s d) o (rows_of_state s)) (rename s r d)) (sym (same_new_dir s r.new_dir d tree at_d)) (between_agrees s r d tree at_d (node_at s r.new_dir) refl)
+    subst (λ (o : Option NodeRow). Agrees s (plan_rename_between r (row_of s d) o (rows_of_state s)) (rename s r d))
+    (sym (same_new_dir s r.new_dir d tree at_d)) (between_agrees s r d tree at_d (node_at s r.new_dir) refl)

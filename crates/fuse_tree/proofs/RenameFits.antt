@@ -9,7 +9,8 @@ use Rattle.fuse_tree.specs.State.{State, Node, is_dir, is_named, is_odd_name, na
 use Rattle.fuse_tree.specs.Rows.{entry_at}
 use Rattle.fuse_tree.specs.Done.{Done, refuse_for}
 use Rattle.fuse_tree.specs.Removing.{has_entries}
-use Rattle.fuse_tree.specs.Renaming.{Renaming, is_exchange, is_no_replace, is_dir_at, holds, is_same, earlier, asked_fault, place_fault, renamed, exchanged, rename_with_room, rename_entry, exchange_entry, rename_by, rename_from, rename_between, rename}
+use Rattle.fuse_tree.specs.Renaming.{Renaming, is_exchange, is_no_replace, is_dir_at, holds, is_same, earlier, asked_fault, place_fault, renamed, exchanged}
+use Rattle.fuse_tree.specs.Renaming.{rename_with_room, rename_entry, exchange_entry, rename_by, rename_from, rename_between, rename}
 use Rattle.fuse_tree.proofs.Fit.{Fits, Reads, refused, answered, chosen, refused_for, is_error, refused_reads, answered_reads, chosen_reads, no_body}
 
 -- ---- fits
@@ -42,7 +43,8 @@ from_fits s r dir (Some e) = by_fits s r dir e (entry_at s.entries r.new_dir r.n
 between_fits : (s : State) (r : Renaming) (n : Node) (o : Option Node) → Fits (rename_between s r n o)
 between_fits s r n None = refused s _
 between_fits s r n (Some to) =
-    refused_for s (asked_fault r (is_dir n.mode && is_dir to.mode) (is_named s n.number && is_named s to.number)) _ (from_fits s r n.number (entry_at s.entries n.number r.old_name))
+    refused_for s (asked_fault r (is_dir n.mode && is_dir to.mode) (is_named s n.number && is_named s to.number)) _
+    (from_fits s r n.number (entry_at s.entries n.number r.old_name))
 
 pub rename_fits : (s : State) (r : Renaming) (n : Node) → Fits (rename s r n)
 rename_fits s r n = between_fits s r n (node_at s r.new_dir)
@@ -114,7 +116,8 @@ between_reads : (s : State) (r : Renaming) (n : Node) (o : Option Node) → Read
 between_reads s r n None = refused_reads s _ refl
 between_reads s r n (Some to) =
     refused_for_reads s (asked_fault r (is_dir n.mode && is_dir to.mode) (is_named s n.number && is_named s to.number)) _
-    (asked_error r (is_dir n.mode && is_dir to.mode) (is_named s n.number && is_named s to.number)) (from_reads s r n.number (entry_at s.entries n.number r.old_name))
+    (asked_error r (is_dir n.mode && is_dir to.mode) (is_named s n.number && is_named s to.number))
+    (from_reads s r n.number (entry_at s.entries n.number r.old_name))
 
 pub rename_reads : (s : State) (r : Renaming) (n : Node) → Reads Nothing (rename s r n)
 rename_reads s r n = between_reads s r n (node_at s r.new_dir)

@@ -29,18 +29,23 @@ nobody k = false
 
 -- the times of both directories and of the child, one after the other and at once
 times : (n : Node) (now : Moment) (a b c : Bool)
-    → record n { mtime = cond a now (cond b now n.mtime); ctime = cond a now (cond b now (cond c now n.ctime)) } ≡ record n { mtime = cond (a || b) now n.mtime; ctime = cond ((a || b) || (c || false)) now n.ctime }
+    → record n { mtime = cond a now (cond b now n.mtime); ctime = cond a now (cond b now (cond c now n.ctime)) } ≡ record n {
+      mtime = cond (a || b) now n.mtime;
+      ctime = cond ((a || b) || (c || false)) now n.ctime;
+    }
 times n now true b c = refl
 times n now false true c = refl
 times n now false false true = refl
 times n now false false false = refl
 
-each_timed : (dir to x : ℕ) (now : Moment) (ns : List Node) → map (touched to now) (map (touched dir now) (map (marked x now) ns)) ≡ map (timed (λ k. (k == to) || (k == dir)) (λ k. (k == x) || nobody k) now) ns
+each_timed : (dir to x : ℕ) (now : Moment) (ns : List Node)
+    → map (touched to now) (map (touched dir now) (map (marked x now) ns)) ≡ map (timed (λ k. (k == to) || (k == dir)) (λ k. (k == x) || nobody k) now) ns
 each_timed dir to x now [] = refl
 each_timed dir to x now (n ∷ ns) = rw (times n now (eqb n.number to) (eqb n.number dir) (eqb n.number x), each_timed dir to x now ns) refl
 
 -- an entry e of directory d to node c comes to stand in directory t
-module _ (s : State) (r : Renaming) (d t c : Node) (e : EntryRow) (tree : Tree s) (at_d : node_at s d.number ≡ Some d) (at_t : node_at s r.new_dir ≡ Some t) (at_c : node_at s e.child ≡ Some c)
+module _ (s : State) (r : Renaming) (d t c : Node) (e : EntryRow) (tree : Tree s) (at_d : node_at s d.number ≡ Some d) (at_t : node_at s r.new_dir ≡ Some t)
+    (at_c : node_at s e.child ≡ Some c)
     (at_e : entry_at s.entries d.number r.old_name ≡ Some e) (e_dir : e.dir ≡ d.number) (x_dir : e.child ≢ d.number) (x_to : e.child ≢ r.new_dir) where
   abbrev fs : List EntryRow
   fs = filter (keeps e.cookie) s.entries ++ record { dir = r.new_dir; name = r.new_name; child = e.child; cookie = s.next_cookie } ∷ []
@@ -70,7 +75,9 @@ module _ (s : State) (r : Renaming) (d t c : Node) (e : EntryRow) (tree : Tree s
   sums k = ap (λ (m : ℕ). m + 0) (one_shifted s dirs children r.now fs next e.child c d.number r.new_dir k tree at_c up_was up_x (λ j ne. ups j ne refl))
 
   recounted : Recounted (subdirs_of s) (subdirs_of (shifted dirs children r.now fs next s)) d.number r.new_dir (is_dir c.mode) false false
-  recounted = counts_gone (subdirs_of s) (subdirs_of (shifted dirs children r.now fs next s)) d.number r.new_dir (is_dir c.mode) false (given_at s d.number d tree at_d) (given_at s r.new_dir t tree at_t) sums
+  recounted =
+      counts_gone (subdirs_of s) (subdirs_of (shifted dirs children r.now fs next s)) d.number r.new_dir (is_dir c.mode) false (given_at s d.number d tree at_d)
+      (given_at s r.new_dir t tree at_t) sums
 
   abbrev child : ℕ → EntryRow
   child k = record { dir = r.new_dir; name = r.new_name; child = k; cookie = s.next_cookie }
@@ -88,7 +95,11 @@ module _ (s : State) (r : Renaming) (d t c : Node) (e : EntryRow) (tree : Tree s
   listed = dirs_rows r.now next shift recounted
 
   rows_then : (both : Bool) → eqb d.number r.new_dir ≡ both
-      → record (rows_of_state s) { nodes = puts (listed both) (map (full_of s) s.nodes); entries = fs; counters = record (counters_of s) { next_cookie = next } } ≡ rows_of_state (renamed r d.number e None s)
+      → record (rows_of_state s) {
+        nodes = puts (listed both) (map (full_of s) s.nodes);
+        entries = fs;
+        counters = record (counters_of s) { next_cookie = next };
+      } ≡ rows_of_state (renamed r d.number e None s)
   rows_then both is =
       rows_shifted s dirs children r.now fs next (listed both) tree (dirs_are r.now next shift recounted both is)
       (all_more (IsNode s.next_node) _ s.nodes (λ n p none. dirs_rest r.now next shift recounted both is n p.from_one refl none) tree.nodes)
@@ -98,13 +109,19 @@ module _ (s : State) (r : Renaming) (d t c : Node) (e : EntryRow) (tree : Tree s
   each_way true is = rows_then true is
   each_way false is = rows_then false is
 
-  pub free_rows : apply (rows_of_state s) (rename_changes r (counters_of s) (row_of s d) (row_of s t) (record { cookie = e.cookie; child = row_of s c }) None) ≡ rows_of_state (renamed r d.number e None s)
-  free_rows = ap (λ (k : ℕ). apply (rows_of_state s) (planned (eqb d.number r.new_dir) k)) (node_found s e.child c tree at_c).0 ∙ each_way (eqb d.number r.new_dir) refl
+  pub free_rows : apply (rows_of_state s) (rename_changes r (counters_of s) (row_of s d) (row_of s t) (record { cookie = e.cookie; child = row_of s c }) None)
+      ≡ rows_of_state (renamed r d.number e None s)
+  free_rows =
+      ap (λ (k : ℕ). apply (rows_of_state s) (planned (eqb d.number r.new_dir) k)) (node_found s e.child c tree at_c).0 ∙ each_way (eqb d.number r.new_dir) refl
 
   -- the tree goes on
-  pub free_tree : is_dir t.mode ≡ true → is_named s r.new_dir ≡ true → name_fault r.new_name ≡ None → entry_at s.entries r.new_dir r.new_name ≡ None → ((n : ℕ) → above s.entries n r.new_dir ≢ e.child) → s.next_cookie < number_end → Tree (renamed r d.number e None s)
+  pub free_tree : is_dir t.mode ≡ true → is_named s r.new_dir ≡ true → name_fault r.new_name ≡ None → entry_at s.entries r.new_dir r.new_name ≡ None
+      → ((n : ℕ) → above s.entries n r.new_dir ≢ e.child) → s.next_cookie < number_end → Tree (renamed r d.number e None s)
   free_tree dir named name_ok free never room =
-      let moved = tree_moved s (is_entry d.number r.old_name) e r.new_dir r.new_name tree at_e (dir_there r.new_dir t s.nodes at_t dir) (named_climbs s r.new_dir tree named) never name_ok
+      let moved =
+      tree_moved s (is_entry d.number r.old_name) e r.new_dir r.new_name tree at_e (dir_there r.new_dir t s.nodes at_t dir)
+      (named_climbs s r.new_dir tree named) never name_ok
       (all_kept (λ z. is_entry r.new_dir r.new_name z ≡ false) (keeps e.cookie) s.entries (none_found (is_entry r.new_dir r.new_name) s.entries free)) room in
       let s1 = placed r.new_dir r.new_name e.child (without e.cookie s) in
-      tree_touched (touch d.number r.now (mark e.child r.now s1)) r.new_dir r.now (tree_touched (mark e.child r.now s1) d.number r.now (tree_marked s1 e.child r.now moved))
+      tree_touched (touch d.number r.now (mark e.child r.now s1)) r.new_dir r.now
+      (tree_touched (mark e.child r.now s1) d.number r.now (tree_marked s1 e.child r.now moved))

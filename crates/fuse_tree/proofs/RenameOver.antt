@@ -1,5 +1,6 @@
 -- RENAME onto a name that is taken: its rows, and the tree that goes on.
-use Rattle.std.proofs.Common.{◌≡◌, ◌≢◌, ◌<◌, ◌≤◌, ◌+◌, ◌||◌, ◌==◌, ℕ, Bool, true, false, cond, not, eqb, List, [], ◌∷◌, ◌++◌, map, Some, None, refl, sym, ap, subst, ◌∙◌, ◌⊎◌, inl, inr, arith}
+use Rattle.std.proofs.Common.{◌≡◌, ◌≢◌, ◌<◌, ◌≤◌, ◌+◌, ◌||◌, ◌==◌, ℕ, Bool, true, false, cond, not, eqb, List, [], ◌∷◌, ◌++◌, map, Some, None, refl, sym, ap}
+use Rattle.std.proofs.Common.{subst, ◌∙◌, ◌⊎◌, inl, inr, arith}
 use Rattle.std.specs.Prelude.{filter, find}
 use Rattle.std.specs.List.{AllByRecursion, list_any}
 use Rattle.std.proofs.lemmas.Bool.{ne_eqb, eq-eqb}
@@ -41,7 +42,8 @@ times n now false false true g = refl
 times n now false false false true = refl
 times n now false false false false = refl
 
-each_timed : (dir to x y : ℕ) (now : Moment) (ns : List Node) → map (touched to now) (map (touched dir now) (map (marked x now) (map (marked y now) (map (touched to now) ns))))
+each_timed : (dir to x y : ℕ) (now : Moment) (ns : List Node)
+    → map (touched to now) (map (touched dir now) (map (marked x now) (map (marked y now) (map (touched to now) ns))))
     ≡ map (timed (λ k. (k == to) || (k == dir)) (λ k. (k == x) || (k == y)) now) ns
 each_timed dir to x y now [] = refl
 each_timed dir to x y now (n ∷ ns) = rw (times n now (eqb n.number to) (eqb n.number dir) (eqb n.number x) (eqb n.number y), each_timed dir to x y now ns) refl
@@ -58,8 +60,10 @@ find_kept test kept (x ∷ xs) e at stays =
     ]
 
 -- an entry e of directory d to node c comes to stand where the entry f of directory t stood, in whose child o no entry stands
-module _ (s : State) (r : Renaming) (d t c o : Node) (e f : EntryRow) (tree : Tree s) (at_d : node_at s d.number ≡ Some d) (at_t : node_at s r.new_dir ≡ Some t) (at_c : node_at s e.child ≡ Some c) (at_o : node_at s f.child ≡ Some o)
-    (at_e : entry_at s.entries d.number r.old_name ≡ Some e) (at_f : entry_at s.entries r.new_dir r.new_name ≡ Some f) (e_dir : e.dir ≡ d.number) (f_dir : f.dir ≡ r.new_dir) (differ : Differs f e)
+module _ (s : State) (r : Renaming) (d t c o : Node) (e f : EntryRow) (tree : Tree s) (at_d : node_at s d.number ≡ Some d) (at_t : node_at s r.new_dir ≡ Some t)
+    (at_c : node_at s e.child ≡ Some c) (at_o : node_at s f.child ≡ Some o)
+    (at_e : entry_at s.entries d.number r.old_name ≡ Some e) (at_f : entry_at s.entries r.new_dir r.new_name ≡ Some f) (e_dir : e.dir ≡ d.number)
+    (f_dir : f.dir ≡ r.new_dir) (differ : Differs f e)
     (x_dir : e.child ≢ d.number) (x_to : e.child ≢ r.new_dir) (y_to : f.child ≢ r.new_dir) (empty : AllByRecursion (λ z. z.dir ≢ f.child) s.entries) where
   abbrev one : EntryRow → Bool
   one = is_entry d.number r.old_name
@@ -93,7 +97,12 @@ module _ (s : State) (r : Renaming) (d t c o : Node) (e f : EntryRow) (tree : Tr
 
   is_shifted : renamed r d.number e (Some f) s ≡ shifted dirs children r.now fs next s
   is_shifted =
-      ap (λ (k : ℕ). record s { nodes = map (touched r.new_dir r.now) (map (touched d.number r.now) (map (marked e.child r.now) (map (marked f.child r.now) (map (touched k r.now) s.nodes)))); entries = fs; next_cookie = next }) f_dir
+      ap (λ (k : ℕ). record s {
+        nodes = map (touched r.new_dir r.now)
+            (map (touched d.number r.now) (map (marked e.child r.now) (map (marked f.child r.now) (map (touched k r.now) s.nodes))));
+        entries = fs;
+        next_cookie = next;
+      }) f_dir
       ∙ ap (λ (ns : List Node). record s { nodes = ns; entries = fs; next_cookie = next }) (each_timed d.number r.new_dir e.child f.child r.now s.nodes)
 
   others_e : AllByRecursion (λ z. (z ≡ e) ⊎ Differs e z) without_f
@@ -129,7 +138,9 @@ module _ (s : State) (r : Renaming) (d t c o : Node) (e f : EntryRow) (tree : Tr
       (up_found one s.entries e tree.entries_apart at_e ∙ e_dir) up_x (up_found two s.entries f tree.entries_apart at_f ∙ f_dir) up_y ups_both
 
   recounted : Recounted (subdirs_of s) (subdirs_of (shifted dirs children r.now fs next s)) d.number r.new_dir (is_dir c.mode) false (is_dir o.mode)
-  recounted = counts_gone (subdirs_of s) (subdirs_of (shifted dirs children r.now fs next s)) d.number r.new_dir (is_dir c.mode) (is_dir o.mode) (given_at s d.number d tree at_d) (given_at s r.new_dir t tree at_t) sums
+  recounted =
+      counts_gone (subdirs_of s) (subdirs_of (shifted dirs children r.now fs next s)) d.number r.new_dir (is_dir c.mode) (is_dir o.mode)
+      (given_at s d.number d tree at_d) (given_at s r.new_dir t tree at_t) sums
 
   -- ---- rows
 
@@ -141,7 +152,8 @@ module _ (s : State) (r : Renaming) (d t c o : Node) (e f : EntryRow) (tree : Tr
 
   abbrev planned : Bool → ℕ → List Change
   planned both k =
-      changes.EntryGone f.cookie ∷ changes.Node lost_row ∷ changes.EntryGone e.cookie ∷ cond both (changes.Node (dir_row r.now (is_dir o.mode) false (row_of s d)) ∷ [])
+      changes.EntryGone f.cookie ∷ changes.Node lost_row ∷ changes.EntryGone e.cookie ∷ cond both
+      (changes.Node (dir_row r.now (is_dir o.mode) false (row_of s d)) ∷ [])
       (changes.Node (dir_row r.now (is_dir c.mode) false (row_of s d)) ∷ changes.Node (dir_row r.now (is_dir o.mode) (is_dir c.mode) (row_of s t)) ∷ [])
       ++ changes.Node (moved_row r.now r.new_dir (row_of s c)) ∷ changes.Entry (child k) ∷ changes.Counters (record (counters_of s) { next_cookie = next }) ∷ []
 
@@ -152,21 +164,40 @@ module _ (s : State) (r : Renaming) (d t c o : Node) (e f : EntryRow) (tree : Tr
   o_is = (node_found s f.child o tree at_o).0
 
   shift : Shift s fs d.number r.new_dir e.child Y d t c
-  shift = record { tree = tree; at_d = at_d; at_t = at_t; at_c = at_c; x_dir = x_dir; x_to = x_to; y_dir = y_not d.number y_dir; y_to = y_not r.new_dir y_to; ups = ups; up_x = up_x }
+  shift =
+      record {
+        tree = tree;
+        at_d = at_d;
+        at_t = at_t;
+        at_c = at_c;
+        x_dir = x_dir;
+        x_to = x_to;
+        y_dir = y_not d.number y_dir;
+        y_to = y_not r.new_dir y_to;
+        ups = ups;
+        up_x = up_x;
+      }
 
   abbrev listed : Bool → List NodeRow
   listed = dirs_rows r.now next shift recounted
 
-  others : (rows : List NodeRow) → ((n : Node) → 1 ≤ n.number → Y n.number ≡ false → list_any (λ row. n.number == row.node) rows ≡ false → full_of s n ≡ then_full s dirs children r.now fs next n)
+  others : (rows : List NodeRow)
+      → ((n : Node) → 1 ≤ n.number → Y n.number ≡ false → list_any
+      (λ row. n.number == row.node) rows ≡ false → full_of s n ≡ then_full s dirs children r.now fs next n)
       → AllByRecursion (λ n. list_any (λ row. n.number == row.node) (lost_row ∷ rows) ≡ false → full_of s n ≡ then_full s dirs children r.now fs next n) s.nodes
   others rows so =
-      all_more (IsNode s.next_node) (λ n. list_any (λ row. n.number == row.node) (lost_row ∷ rows) ≡ false → full_of s n ≡ then_full s dirs children r.now fs next n) s.nodes
+      all_more (IsNode s.next_node)
+      (λ n. list_any (λ row. n.number == row.node) (lost_row ∷ rows) ≡ false → full_of s n ≡ then_full s dirs children r.now fs next n) s.nodes
       (λ n p none. (
       let h = or_false (eqb n.number o.number) (list_any (λ row. n.number == row.node) rows) none in
       so n p.from_one (ap (eqb n.number) (sym o_is) ∙ h.0) h.1)) tree.nodes
 
   rows_then : (both : Bool) → eqb d.number r.new_dir ≡ both
-      → record (rows_of_state s) { nodes = puts (lost_row ∷ listed both) (map (full_of s) s.nodes); entries = fs; counters = record (counters_of s) { next_cookie = next } } ≡ rows_of_state (renamed r d.number e (Some f) s)
+      → record (rows_of_state s) {
+        nodes = puts (lost_row ∷ listed both) (map (full_of s) s.nodes);
+        entries = fs;
+        counters = record (counters_of s) { next_cookie = next };
+      } ≡ rows_of_state (renamed r d.number e (Some f) s)
   rows_then both is =
       rows_shifted s dirs children r.now fs next (lost_row ∷ listed both) tree
       (lost_is r.now next shift recounted f.child 0 o at_o (eq-eqb f.child f.child refl) y_dir y_to up_y, dirs_are r.now next shift recounted both is)
@@ -177,7 +208,9 @@ module _ (s : State) (r : Renaming) (d t c o : Node) (e f : EntryRow) (tree : Tr
   each_way true is = rows_then true is
   each_way false is = rows_then false is
 
-  pub over_rows : apply (rows_of_state s) (rename_changes r (counters_of s) (row_of s d) (row_of s t) (record { cookie = e.cookie; child = row_of s c }) (Some (record { cookie = f.cookie; child = row_of s o }))) ≡ rows_of_state (renamed r d.number e (Some f) s)
+  pub over_rows : apply (rows_of_state s)
+      (rename_changes r (counters_of s) (row_of s d) (row_of s t) (record { cookie = e.cookie; child = row_of s c })
+      (Some (record { cookie = f.cookie; child = row_of s o }))) ≡ rows_of_state (renamed r d.number e (Some f) s)
   over_rows = ap (λ (k : ℕ). apply (rows_of_state s) (planned (eqb d.number r.new_dir) k)) c_is ∙ each_way (eqb d.number r.new_dir) refl
 
   -- ---- the tree
@@ -196,16 +229,23 @@ module _ (s : State) (r : Renaming) (d t c o : Node) (e f : EntryRow) (tree : Tr
 
   never_then : ((n : ℕ) → above s.entries n r.new_dir ≢ e.child) → (n : ℕ) → above without_f n r.new_dir ≢ e.child
   never_then never n at =
-      never n (sym (above_same (λ j. j ≢ f.child) s.entries without_f (λ j ne. (up_kept s.entries f others_f j ne, up_in (λ i. i ≢ f.child) s.entries j empty given)) n r.new_dir (λ same. y_to (sym same))) ∙ at)
+      never n (sym (above_same (λ j. j ≢ f.child) s.entries without_f
+      (λ j ne. (up_kept s.entries f others_f j ne, up_in (λ i. i ≢ f.child) s.entries j empty given)) n r.new_dir (λ same. y_to (sym same))) ∙ at)
 
-  pub over_tree : is_dir t.mode ≡ true → is_named s r.new_dir ≡ true → name_fault r.new_name ≡ None → f.name ≡ r.new_name → ((n : ℕ) → above s.entries n r.new_dir ≢ e.child) → s.next_cookie < number_end → Tree (renamed r d.number e (Some f) s)
+  pub over_tree : is_dir t.mode ≡ true → is_named s r.new_dir ≡ true → name_fault r.new_name ≡ None → f.name ≡ r.new_name
+      → ((n : ℕ) → above s.entries n r.new_dir ≢ e.child) → s.next_cookie < number_end → Tree (renamed r d.number e (Some f) s)
   over_tree dir named name_ok f_name never room =
-      let climb = reaches_less (keeps f.cookie) s.entries f.child (gone_child s.entries f others_f) empty given r.new_dir (λ same. y_to (sym same)) (named_climbs s r.new_dir tree named) in
+      let climb =
+      reaches_less (keeps f.cookie) s.entries f.child (gone_child s.entries f others_f) empty given r.new_dir (λ same. y_to (sym same))
+      (named_climbs s r.new_dir tree named) in
       let free = all_more (Differs f) (λ z. is_entry r.new_dir r.new_name z ≡ false) rest
       (λ z p. subst (λ (n : List ℕ). is_entry r.new_dir n z ≡ false) f_name (subst (λ (k : ℕ). is_entry k f.name z ≡ false) f_dir p.place)) rest_differ_f in
-      let moved = tree_moved s1 one e r.new_dir r.new_name gone_tree (find_kept one (keeps f.cookie) s.entries e at_e e_stays) (dir_there r.new_dir t s.nodes at_t dir) climb (never_then never) name_ok free room in
+      let moved =
+      tree_moved s1 one e r.new_dir r.new_name gone_tree (find_kept one (keeps f.cookie) s.entries e at_e e_stays)
+      (dir_there r.new_dir t s.nodes at_t dir) climb (never_then never) name_ok free room in
       let s2 = placed r.new_dir r.new_name e.child (without e.cookie s1) in
       let s3 = touch f.dir r.now s2 in
       let s4 = mark f.child r.now s3 in
       let s5 = mark e.child r.now s4 in
-      tree_touched (touch d.number r.now s5) r.new_dir r.now (tree_touched s5 d.number r.now (tree_marked s4 e.child r.now (tree_marked s3 f.child r.now (tree_touched s2 f.dir r.now moved))))
+      tree_touched (touch d.number r.now s5) r.new_dir r.now
+      (tree_touched s5 d.number r.now (tree_marked s4 e.child r.now (tree_marked s3 f.child r.now (tree_touched s2 f.dir r.now moved))))

@@ -21,9 +21,14 @@ or_true true = refl
 or_true false = refl
 
 -- rows put among those of a state, and its entries in other places, are the rows of the state in which it is so
-pub rows_shifted : (s : State) (D C : ℕ → Bool) (now : Moment) (fs : List EntryRow) (next : ℕ) (rows : List NodeRow) → Tree s → AllByRecursion (IsRowOf s (then_full s D C now fs next)) rows
+pub rows_shifted : (s : State) (D C : ℕ → Bool) (now : Moment) (fs : List EntryRow) (next : ℕ) (rows : List NodeRow) → Tree s
+    → AllByRecursion (IsRowOf s (then_full s D C now fs next)) rows
     → AllByRecursion (λ n. list_any (λ row. n.number == row.node) rows ≡ false → full_of s n ≡ then_full s D C now fs next n) s.nodes
-    → record (rows_of_state s) { nodes = puts rows (map (full_of s) s.nodes); entries = fs; counters = record (counters_of s) { next_cookie = next } } ≡ rows_of_state (shifted D C now fs next s)
+    → record (rows_of_state s) {
+      nodes = puts rows (map (full_of s) s.nodes);
+      entries = fs;
+      counters = record (counters_of s) { next_cookie = next };
+    } ≡ rows_of_state (shifted D C now fs next s)
 rows_shifted s D C now fs next rows tree each others =
     let after = shifted D C now fs next s in
     let nodes : puts rows (map (full_of s) s.nodes) ≡ map (full_of after) after.nodes =
@@ -82,24 +87,29 @@ module _ {s : State} {fs : List EntryRow} {dir to x : ℕ} {Y : ℕ → Bool} {d
   t_up : up_of fs t.number ≡ up_of s.entries t.number
   t_up = m.ups t.number (λ same. m.x_to (sym same ∙ t_is)) (ap Y t_is ∙ m.y_to)
 
-  dir_is : (leaves enters : Bool) → subdirs_of after dir ≡ fewer leaves (more enters (subdirs_of s dir)) → G d ≡ record { row = dir_row now leaves enters (row_of s d); content = d.content }
+  dir_is : (leaves enters : Bool) → subdirs_of after dir ≡ fewer leaves (more enters (subdirs_of s dir))
+      → G d ≡ record { row = dir_row now leaves enters (row_of s d); content = d.content }
   dir_is leaves enters count =
       dir_then s D C now fs next d _ (rw (eq-eqb d.number dir d_is) (or_true (eqb d.number to))) d_up
       (subst (λ (k : ℕ). subdirs_of after k ≡ fewer leaves (more enters (subdirs_of s k))) (sym d_is) count)
 
-  to_is : (leaves enters : Bool) → subdirs_of after to ≡ fewer leaves (more enters (subdirs_of s to)) → G t ≡ record { row = dir_row now leaves enters (row_of s t); content = t.content }
+  to_is : (leaves enters : Bool) → subdirs_of after to ≡ fewer leaves (more enters (subdirs_of s to))
+      → G t ≡ record { row = dir_row now leaves enters (row_of s t); content = t.content }
   to_is leaves enters count =
       dir_then s D C now fs next t _ (rw (eq-eqb t.number to t_is) refl) t_up
       (subst (λ (k : ℕ). subdirs_of after k ≡ fewer leaves (more enters (subdirs_of s k))) (sym t_is) count)
 
   child_is : subdirs_of after x ≡ subdirs_of s x → G c ≡ record { row = moved_row now to (row_of s c); content = c.content }
   child_is count =
-      child_then s D C now fs next c to (rw (c_is, ne_eqb x to m.x_to, ne_eqb x dir m.x_dir) refl) (rw (eq-eqb c.number x c_is) refl) (ap (up_of fs) c_is ∙ m.up_x)
+      child_then s D C now fs next c to (rw (c_is, ne_eqb x to m.x_to, ne_eqb x dir m.x_dir) refl) (rw (eq-eqb c.number x c_is) refl)
+      (ap (up_of fs) c_is ∙ m.up_x)
       (subst (λ (k : ℕ). subdirs_of after k ≡ subdirs_of s k) (sym c_is) count)
 
-  rest_is : (n : Node) → n.number ≢ dir → n.number ≢ to → n.number ≢ x → Y n.number ≡ false → subdirs_of after n.number ≡ subdirs_of s n.number → full_of s n ≡ G n
+  rest_is : (n : Node) → n.number ≢ dir → n.number ≢ to → n.number ≢ x → Y n.number ≡ false → subdirs_of after n.number ≡ subdirs_of s n.number
+      → full_of s n ≡ G n
   rest_is n from_dir from_to from_x isnt count =
-      sym (other_then s D C now fs next n (rw (ne_eqb n.number to from_to, ne_eqb n.number dir from_dir) refl) (rw (ne_eqb n.number x from_x, isnt) refl) (m.ups n.number from_x isnt) count)
+      sym (other_then s D C now fs next n (rw (ne_eqb n.number to from_to, ne_eqb n.number dir from_dir) refl) (rw (ne_eqb n.number x from_x, isnt) refl)
+      (m.ups n.number from_x isnt) count)
 
   module _ {moves comes lost : Bool} (recounted : Recounted (subdirs_of s) (subdirs_of after) dir to moves comes lost) where
     -- the rows of both directories, or of the one that both are, and that of x
@@ -130,19 +140,23 @@ module _ {s : State} {fs : List EntryRow} {dir to x : ℕ} {Y : ℕ → Bool} {d
         let count : subdirs_of after y ≡ subdirs_of s y = recounted.other y (given_at s y o m.tree at) apart_dir apart_to in (
           o,
           at_own s y o m.tree at,
-          child_then s D C now fs next o k (rw (o_is, ne_eqb y to apart_to, ne_eqb y dir apart_dir) refl) (rw (o_is, is) (or_true (eqb y x))) (ap (up_of fs) o_is ∙ up)
+          child_then s D C now fs next o k (rw (o_is, ne_eqb y to apart_to, ne_eqb y dir apart_dir) refl) (rw (o_is, is) (or_true (eqb y x)))
+              (ap (up_of fs) o_is ∙ up)
               (subst (λ (i : ℕ). subdirs_of after i ≡ subdirs_of s i) (sym o_is) count),
         )
 
-    rest_same : (n : Node) → 1 ≤ n.number → eqb n.number d.number ≡ false → n.number ≢ to → eqb n.number c.number ≡ false → Y n.number ≡ false → full_of s n ≡ G n
+    rest_same : (n : Node) → 1 ≤ n.number → eqb n.number d.number ≡ false → n.number ≢ to → eqb n.number c.number ≡ false → Y n.number ≡ false
+        → full_of s n ≡ G n
     rest_same n one not_d from_to not_c isnt =
         let from_dir : n.number ≢ dir = λ same. eqb-false n.number d.number not_d (same ∙ sym d_is) in
         rest_is n from_dir from_to (λ same. eqb-false n.number c.number not_c (same ∙ sym c_is)) isnt (recounted.other n.number one from_dir from_to)
 
-    pub dirs_rest : (both : Bool) → eqb d.number to ≡ both → (n : Node) → 1 ≤ n.number → Y n.number ≡ false → list_any (λ row. n.number == row.node) (dirs_rows both) ≡ false → full_of s n ≡ G n
+    pub dirs_rest : (both : Bool) → eqb d.number to ≡ both → (n : Node) → 1 ≤ n.number → Y n.number ≡ false
+        → list_any (λ row. n.number == row.node) (dirs_rows both) ≡ false → full_of s n ≡ G n
     dirs_rest true is n one isnt none =
         let first = or_false (eqb n.number d.number) _ none in
-        rest_same n one first.0 (λ same. eqb-false n.number d.number first.0 (same ∙ sym (eqb-true d.number to is))) (or_false (eqb n.number c.number) _ first.1).0 isnt
+        rest_same n one first.0 (λ same. eqb-false n.number d.number first.0 (same ∙ sym (eqb-true d.number to is)))
+        (or_false (eqb n.number c.number) _ first.1).0 isnt
     dirs_rest false is n one isnt none =
         let first = or_false (eqb n.number d.number) _ none in
         let second = or_false (eqb n.number t.number) _ first.1 in

@@ -38,7 +38,8 @@ record Holds (mode : ℕ) (bytes : List ℕ) : Type 0 where
   content : is_file mode ≡ false → bytes ≡ []
   size : length bytes ≤ 16777216
 
-content_then : (mode size : ℕ) (content : List ℕ) (b : Bool) → cond b (size_fault mode size) None ≡ None → Holds mode content → Holds mode (cond b (sized size content) content)
+content_then : (mode size : ℕ) (content : List ℕ) (b : Bool) → cond b (size_fault mode size) None ≡ None → Holds mode content
+    → Holds mode (cond b (sized size content) content)
 content_then mode size content true e p =
     let q = no_fault _ (is_file mode) (nat_lt 16777216 size) e in
     let is = q.0 in
@@ -49,7 +50,13 @@ set_is_node : (next : ℕ) (set : SetattrIn) (now : Moment) (d : Node) → set_f
 set_is_node next set now d e p =
     let q = content_then d.mode set.size d.content (has set fattr_size) e (record { content = p.content; size = p.size }) in
     let kind : is_file (mode_after set d.mode) ≡ is_file d.mode = ap (λ (k : ℕ). k == 8) (same_kind set d.mode) in
-    record { from_one = p.from_one; below = p.below; mode = mode_stays d.mode d.rdev set.mode (has set fattr_mode) p.mode; content = λ isnt. q.content (sym kind ∙ isnt); size = q.size }
+    record {
+      from_one = p.from_one;
+      below = p.below;
+      mode = mode_stays d.mode d.rdev set.mode (has set fattr_mode) p.mode;
+      content = λ isnt. q.content (sym kind ∙ isnt);
+      size = q.size;
+    }
 
 -- ---- its rows
 
@@ -66,7 +73,11 @@ stays node (f ∷ fs) = rw (one (eqb f.row.node node), stays node fs) refl
     one true = refl
     one false = refl
 
-resized : (rows : Rows) (node size : ℕ) (b : Bool) → apply rows (cond b (changes.Sized node size ∷ []) []) ≡ record rows { nodes = map (at_node node (λ content. cond b (sized size content) content)) rows.nodes }
+resized : (rows : Rows) (node size : ℕ) (b : Bool)
+    → apply rows (cond b (changes.Sized node size ∷ []) []) ≡ record rows {
+      nodes = map
+          (at_node node (λ content. cond b (sized size content) content)) rows.nodes;
+    }
 resized rows node size true = refl
 resized rows node size false = ap (λ (fs : List Full). record rows { nodes = fs }) (sym (stays node rows.nodes))
 
@@ -91,7 +102,9 @@ module _ (s : State) (set : SetattrIn) (now : Moment) (d : Node) (tree : Tree s)
   pub setattr_agrees : Agrees s (plan_setattr set now (row_of s d)) (setattr s set now d)
   setattr_agrees =
       both_for s (set_fault set d.mode) _ _ tree (λ none. record {
-        answer = ap (λ (f : Full). record { errno = 0; body = attr_body f.row }) (sym (full_then s (set_node set now) (set_same set now) d tree e (set_node set now d) ∙ set_full));
+        answer =
+            ap (λ (f : Full). record { errno = 0; body = attr_body f.row })
+            (sym (full_then s (set_node set now) (set_same set now) d tree e (set_node set now d) ∙ set_full));
         rows = set_rows;
         tree = set_tree none;
       })

@@ -38,9 +38,12 @@ all_taken P (suc n) (x ∷ xs) all = (all.0, all_taken P n xs all.1)
 
 shown_in : (s : State) (dir cookie limit : ℕ) → Tree s → AllByRecursion (IsShown (rows_of_state s)) (entries_after (rows_of_state s) dir cookie limit)
 shown_in s dir cookie limit tree =
-    all_taken _ limit _ (all_kept _ (is_after dir cookie) s.entries (all_more (IsEntry s.nodes s.entries s.next_cookie) (IsShown (rows_of_state s)) s.entries (λ e p. shown_of s e p) tree.entries))
+    all_taken _ limit _
+    (all_kept _ (is_after dir cookie) s.entries
+    (all_more (IsEntry s.nodes s.entries s.next_cookie) (IsShown (rows_of_state s)) s.entries (λ e p. shown_of s e p) tree.entries))
 
-pub all_shown : (rows : Rows) (dir cookie limit : ℕ) (es : List EntryRow) → IsRowed rows → es ≡ entries_after rows dir cookie limit → AllByRecursion (IsShown rows) es
+pub all_shown : (rows : Rows) (dir cookie limit : ℕ) (es : List EntryRow) → IsRowed rows → es ≡ entries_after rows dir cookie limit
+    → AllByRecursion (IsShown rows) es
 unfolding IsRowed
 all_shown rows dir cookie limit es is e =
     let s = is.0 in
@@ -54,8 +57,10 @@ all_at P [] i x all within is = absurd (omega arith)
 all_at P (y ∷ ys) zero x all within is = subst P is all.0
 all_at P (y ∷ ys) (suc i) x all within is = all_at P ys i x all.1 (omega arith) is
 
-pub one_more : (rows : Rows) (es : List EntryRow) (i : ℕ) (e : EntryRow) (old : List Entry) (ds new : List Dirent) (d : Dirent) → i < length es → get_or es i e ≡ e → new ≡ ds ++ d ∷ []
-    → map entry_of ds ≡ old ++ map (row_entry rows) (take i es) → entry_of d ≡ row_entry rows e → map entry_of new ≡ old ++ map (row_entry rows) (take (i + 1) es)
+pub one_more : (rows : Rows) (es : List EntryRow) (i : ℕ) (e : EntryRow) (old : List Entry) (ds new : List Dirent) (d : Dirent) → i < length es
+    → get_or es i e ≡ e → new ≡ ds ++ d ∷ []
+    → map entry_of ds ≡ old ++ map (row_entry rows) (take i es) → entry_of d ≡ row_entry rows e
+    → map entry_of new ≡ old ++ map (row_entry rows) (take (i + 1) es)
 one_more rows es i e old ds new d within is put before told =
     let more : take (i + 1) es ≡ take i es ++ e ∷ [] = take_more es i e within ∙ ap (λ (x : EntryRow). take i es ++ x ∷ []) is in
     ap (map entry_of) put ∙ map-append entry_of ds (d ∷ []) ∙ ap (λ (x : List Entry). x ++ entry_of d ∷ []) before

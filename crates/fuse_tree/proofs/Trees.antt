@@ -6,21 +6,25 @@ use Rattle.std.proofs.lemmas.List.{length-append, length-map}
 use Rattle.fuse_tree.specs.Bounds.{node_limit, number_end}
 use Rattle.fuse_tree.specs.declared.rows.EntryRow.{EntryRow}
 use Rattle.fuse_tree.specs.declared.rows.HandleRow.{HandleRow}
-use Rattle.fuse_tree.specs.State.{State, Node, Tree, HasMode, IsNode, IsEntry, IsHandle, AreApart, Reaches, type_of, is_dir_of, has_number, is_open_at, is_entry, name_fault, up_of, is_named}
+use Rattle.fuse_tree.specs.State.{State, Node, Tree, HasMode, IsNode, IsEntry, IsHandle, AreApart, Reaches, type_of, is_dir_of, has_number, is_open_at}
+use Rattle.fuse_tree.specs.State.{is_entry, name_fault, up_of, is_named}
 use Rattle.fuse_tree.specs.Rows.{entry_at}
 use Rattle.fuse_tree.specs.Making.{grow}
-use Rattle.fuse_tree.proofs.Lists.{all_more, all_both, all_grown, all_mapped, apart_grown, apart_mapped, any_mapped, any_grown, any_last, any_gives, and_true, none_found}
+use Rattle.fuse_tree.proofs.Lists.{all_more, all_both, all_grown, all_mapped, apart_grown, apart_mapped, any_mapped, any_grown, any_last, any_gives, and_true}
+use Rattle.fuse_tree.proofs.Lists.{none_found}
 use Rattle.fuse_tree.proofs.Ups.{reaches_more, named_reaches}
 
 -- ---- numbers that are given out
 
 number_below : (ns : List Node) (k next : ℕ) → AllByRecursion (IsNode next) ns → list_any (has_number k) ns ≡ true → k < next
 number_below ns k next all is =
-    any_gives (IsNode next) (has_number k) (k < next) ns all is (λ n p e. let i : n.number ≡ k = eqb-true n.number k e in let lt : n.number < next = p.below in omega arith)
+    any_gives (IsNode next) (has_number k) (k < next) ns all is
+    (λ n p e. let i : n.number ≡ k = eqb-true n.number k e in let lt : n.number < next = p.below in omega arith)
 
 dir_below : (ns : List Node) (k next : ℕ) → AllByRecursion (IsNode next) ns → list_any (is_dir_of k) ns ≡ true → k < next
 dir_below ns k next all is =
-    any_gives (IsNode next) (is_dir_of k) (k < next) ns all is (λ n p e. let i : n.number ≡ k = eqb-true n.number k (and_true _ _ e).0 in let lt : n.number < next = p.below in omega arith)
+    any_gives (IsNode next) (is_dir_of k) (k < next) ns all is
+    (λ n p e. let i : n.number ≡ k = eqb-true n.number k (and_true _ _ e).0 in let lt : n.number < next = p.below in omega arith)
 
 pub root_below : (s : State) → Tree s → 1 < s.next_node
 root_below s tree = dir_below s.nodes 1 s.next_node tree.nodes tree.root
@@ -29,10 +33,14 @@ pub nodes_below : (s : State) → Tree s → AllByRecursion (λ n. n.number < s.
 nodes_below s tree = all_more (IsNode s.next_node) (λ n. n.number < s.next_node) s.nodes (λ n p. p.below) tree.nodes
 
 pub children_below : (s : State) → Tree s → AllByRecursion (λ e. e.child < s.next_node) s.entries
-children_below s tree = all_more (IsEntry s.nodes s.entries s.next_cookie) (λ e. e.child < s.next_node) s.entries (λ e p. number_below s.nodes e.child s.next_node tree.nodes p.child) tree.entries
+children_below s tree =
+    all_more (IsEntry s.nodes s.entries s.next_cookie) (λ e. e.child < s.next_node) s.entries
+    (λ e p. number_below s.nodes e.child s.next_node tree.nodes p.child) tree.entries
 
 pub dirs_below : (s : State) → Tree s → AllByRecursion (λ e. e.dir < s.next_node) s.entries
-dirs_below s tree = all_more (IsEntry s.nodes s.entries s.next_cookie) (λ e. e.dir < s.next_node) s.entries (λ e p. dir_below s.nodes e.dir s.next_node tree.nodes p.dir) tree.entries
+dirs_below s tree =
+    all_more (IsEntry s.nodes s.entries s.next_cookie) (λ e. e.dir < s.next_node) s.entries
+    (λ e p. dir_below s.nodes e.dir s.next_node tree.nodes p.dir) tree.entries
 
 not_true : (b : Bool) → not b ≡ true → b ≡ false
 not_true true e = absurd cc
@@ -54,9 +62,18 @@ pub entry_moved : (ns ms : List Node) (es fs : List EntryRow) (m n : ℕ) (e : E
     → (Reaches es e.dir → Reaches fs e.dir) → m ≤ n → IsEntry ns es m e → IsEntry ms fs n e
 entry_moved ns ms es fs m n e dirs children climbs up p =
     let lt : e.cookie < m = p.below in
-    record { dir = dirs p.dir; child = children p.child; not_root = p.not_root; name = p.name; reaches = climbs p.reaches; from_three = p.from_three; below = omega arith }
+    record {
+      dir = dirs p.dir;
+      child = children p.child;
+      not_root = p.not_root;
+      name = p.name;
+      reaches = climbs p.reaches;
+      from_three = p.from_three;
+      below = omega arith;
+    }
 
-pub handle_moved : (ns ms : List Node) (m n : ℕ) (h : HandleRow) → (list_any (is_open_at h) ns ≡ true → list_any (is_open_at h) ms ≡ true) → m ≤ n → IsHandle ns m h → IsHandle ms n h
+pub handle_moved : (ns ms : List Node) (m n : ℕ) (h : HandleRow) → (list_any (is_open_at h) ns ≡ true → list_any (is_open_at h) ms ≡ true) → m ≤ n
+    → IsHandle ns m h → IsHandle ms n h
 handle_moved ns ms m n h nodes up p = let lt : h.fh < m = p.below in record { node = nodes p.node; from_one = p.from_one; below = omega arith }
 
 -- ---- nodes that change in their places
@@ -66,7 +83,8 @@ pub record SamePlace (n m : Node) : Type 0 where
   pub kind : type_of m.mode ≡ type_of n.mode
 
 -- a tree stays one where nodes keep their numbers and kinds
-pub tree_mapped : (s : State) (f : Node → Node) → ((n : Node) → SamePlace n (f n)) → AllByRecursion (λ n. IsNode s.next_node (f n)) s.nodes → Tree s → Tree (record s { nodes = map f s.nodes })
+pub tree_mapped : (s : State) (f : Node → Node) → ((n : Node) → SamePlace n (f n)) → AllByRecursion (λ n. IsNode s.next_node (f n)) s.nodes → Tree s
+    → Tree (record s { nodes = map f s.nodes })
 tree_mapped s f same ok tree =
     let numbers : (k : ℕ) → list_any (has_number k) (map f s.nodes) ≡ list_any (has_number k) s.nodes =
     λ k. any_mapped (has_number k) f s.nodes (λ n. ap (λ (i : ℕ). eqb i k) (same n).number) in
@@ -77,10 +95,16 @@ tree_mapped s f same ok tree =
     record {
       root = dirs 1 ∙ tree.root;
       nodes = all_mapped (IsNode s.next_node) f s.nodes ok;
-      nodes_rise = apart_mapped (λ n m. n.number < m.number) f s.nodes (λ n m lt. let a = (same n).number in let b = (same m).number in omega arith) tree.nodes_rise;
-      entries = all_more (IsEntry s.nodes s.entries s.next_cookie) (IsEntry (map f s.nodes) s.entries s.next_cookie) s.entries (λ e p. entry_moved s.nodes (map f s.nodes) s.entries s.entries s.next_cookie s.next_cookie e (λ is. dirs e.dir ∙ is) (λ is. numbers e.child ∙ is) (λ c. c) (omega arith) p) tree.entries;
+      nodes_rise =
+          apart_mapped (λ n m. n.number < m.number) f s.nodes (λ n m lt. let a = (same n).number in let b = (same m).number in omega arith) tree.nodes_rise;
+      entries =
+          all_more (IsEntry s.nodes s.entries s.next_cookie) (IsEntry (map f s.nodes) s.entries s.next_cookie) s.entries
+          (λ e p. entry_moved s.nodes (map f s.nodes) s.entries s.entries s.next_cookie s.next_cookie e (λ is. dirs e.dir ∙ is) (λ is. numbers e.child ∙ is)
+          (λ c. c) (omega arith) p) tree.entries;
       entries_apart = tree.entries_apart;
-      handles = all_more (IsHandle s.nodes s.next_fh) (IsHandle (map f s.nodes) s.next_fh) s.handles (λ h p. handle_moved s.nodes (map f s.nodes) s.next_fh s.next_fh h (λ is. opens h ∙ is) (omega arith) p) tree.handles;
+      handles =
+          all_more (IsHandle s.nodes s.next_fh) (IsHandle (map f s.nodes) s.next_fh) s.handles
+          (λ h p. handle_moved s.nodes (map f s.nodes) s.next_fh s.next_fh h (λ is. opens h ∙ is) (omega arith) p) tree.handles;
       handles_rise = tree.handles_rise;
       limits = record {
         nodes = omega (arith, tree.limits.nodes, length-map s.nodes f);
@@ -125,7 +149,8 @@ tree_grown s n e fits tree =
     let three : 3 ≤ s.next_cookie = tree.limits.cookie_from_three in
     let climbs : (k : ℕ) → k < s.next_node → Reaches s.entries k → Reaches (s.entries ++ e ∷ []) k = reaches_more s.entries e s.next_node dirs pos child in
     let old : (x : EntryRow) → IsEntry s.nodes s.entries s.next_cookie x → IsEntry (s.nodes ++ n ∷ []) (s.entries ++ e ∷ []) (s.next_cookie + 1) x =
-    λ x p. entry_moved s.nodes (s.nodes ++ n ∷ []) s.entries (s.entries ++ e ∷ []) s.next_cookie (s.next_cookie + 1) x (any_grown (is_dir_of x.dir) s.nodes n) (any_grown (has_number x.child) s.nodes n) (climbs x.dir (dir_below s.nodes x.dir s.next_node tree.nodes p.dir)) (omega arith) p in
+    λ x p. entry_moved s.nodes (s.nodes ++ n ∷ []) s.entries (s.entries ++ e ∷ []) s.next_cookie (s.next_cookie + 1) x (any_grown (is_dir_of x.dir) s.nodes n)
+    (any_grown (has_number x.child) s.nodes n) (climbs x.dir (dir_below s.nodes x.dir s.next_node tree.nodes p.dir)) (omega arith) p in
     let new : IsEntry (s.nodes ++ n ∷ []) (s.entries ++ e ∷ []) (s.next_cookie + 1) e = record {
       dir = any_grown (is_dir_of e.dir) s.nodes n fits.dir;
       child = any_last (has_number e.child) s.nodes n (eq-eqb n.number e.child (number ∙ sym child));
@@ -138,16 +163,29 @@ tree_grown s n e fits tree =
     record {
       root = any_grown (is_dir_of 1) s.nodes n tree.root;
       nodes = all_grown (IsNode (s.next_node + 1)) s.nodes n
-          (all_more (IsNode s.next_node) (IsNode (s.next_node + 1)) s.nodes (λ m p. let lt : m.number < s.next_node = p.below in record { from_one = p.from_one; below = omega arith; mode = p.mode; content = p.content; size = p.size }) tree.nodes)
+          (all_more (IsNode s.next_node) (IsNode (s.next_node + 1)) s.nodes
+          (λ m p. let lt : m.number < s.next_node = p.below in record {
+            from_one = p.from_one;
+            below = omega arith;
+            mode = p.mode;
+            content = p.content;
+            size = p.size;
+          }) tree.nodes)
           (record { from_one = omega arith; below = omega arith; mode = fits.mode; content = λ _. fits.empty; size = rw fits.empty (omega arith) });
-      nodes_rise = apart_grown (λ a b. a.number < b.number) s.nodes n tree.nodes_rise (all_more (IsNode s.next_node) (λ m. m.number < n.number) s.nodes (λ m p. let lt : m.number < s.next_node = p.below in omega arith) tree.nodes);
+      nodes_rise =
+          apart_grown (λ a b. a.number < b.number) s.nodes n tree.nodes_rise
+          (all_more (IsNode s.next_node) (λ m. m.number < n.number) s.nodes (λ m p. let lt : m.number < s.next_node = p.below in omega arith) tree.nodes);
       entries = all_grown (IsEntry (s.nodes ++ n ∷ []) (s.entries ++ e ∷ []) (s.next_cookie + 1)) s.entries e
-          (all_more (IsEntry s.nodes s.entries s.next_cookie) (IsEntry (s.nodes ++ n ∷ []) (s.entries ++ e ∷ []) (s.next_cookie + 1)) s.entries old tree.entries) new;
+          (all_more (IsEntry s.nodes s.entries s.next_cookie)
+          (IsEntry (s.nodes ++ n ∷ []) (s.entries ++ e ∷ []) (s.next_cookie + 1)) s.entries old tree.entries) new;
       entries_apart = apart_grown AreApart s.entries e tree.entries_apart
           (all_both (IsEntry s.nodes s.entries s.next_cookie) (λ x. is_entry e.dir e.name x ≡ false) (λ x. AreApart x e) s.entries
-          (λ x p free. let lt : x.cookie < s.next_cookie = p.below in let under : x.child < s.next_node = number_below s.nodes x.child s.next_node tree.nodes p.child in record { cookie = omega arith; child = omega arith; place = free })
+          (λ x p free. let lt : x.cookie < s.next_cookie = p.below in let under : x.child < s.next_node = number_below s.nodes x.child s.next_node tree.nodes
+          p.child in record { cookie = omega arith; child = omega arith; place = free })
           tree.entries (none_found (is_entry e.dir e.name) s.entries fits.free));
-      handles = all_more (IsHandle s.nodes s.next_fh) (IsHandle (s.nodes ++ n ∷ []) s.next_fh) s.handles (λ h p. handle_moved s.nodes (s.nodes ++ n ∷ []) s.next_fh s.next_fh h (any_grown (is_open_at h) s.nodes n) (omega arith) p) tree.handles;
+      handles =
+          all_more (IsHandle s.nodes s.next_fh) (IsHandle (s.nodes ++ n ∷ []) s.next_fh) s.handles
+          (λ h p. handle_moved s.nodes (s.nodes ++ n ∷ []) s.next_fh s.next_fh h (any_grown (is_open_at h) s.nodes n) (omega arith) p) tree.handles;
       handles_rise = tree.handles_rise;
       limits = record {
         nodes = omega (arith, fits.few, length-append s.nodes (n ∷ []));

@@ -14,7 +14,8 @@ has_entry : (es : List EntryRow) (k : ℕ) → up_of es k ≢ 0 → is_child es 
 has_entry [] k given = absurd (given refl)
 has_entry (e ∷ es) k given = step (has_entry es k) (eqb e.child k) refl given
   where
-    step : (up_of es k ≢ 0 → is_child es (up_of es k) k ≡ true) → (b : Bool) → eqb e.child k ≡ b → cond b e.dir (up_of es k) ≢ 0 → is_child (e ∷ es) (cond b e.dir (up_of es k)) k ≡ true
+    step : (up_of es k ≢ 0 → is_child es (up_of es k) k ≡ true) → (b : Bool) → eqb e.child k ≡ b → cond b e.dir (up_of es k) ≢ 0
+        → is_child (e ∷ es) (cond b e.dir (up_of es k)) k ≡ true
     step later true is named = rw (eq-eqb e.dir e.dir refl, is) refl
     step later false is named = rw (later named) (or_true (eqb e.dir (up_of es k) && eqb e.child k))
 
@@ -22,7 +23,8 @@ one_dir : (es : List EntryRow) (dir k : ℕ) → Apart AreApart es → is_child 
 one_dir [] dir k apart is = absurd cc
 one_dir (e ∷ es) dir k apart is = step (one_dir es dir k apart.1) (eqb e.child k) refl (eqb e.dir dir) refl is
   where
-    step : (is_child es dir k ≡ true → up_of es k ≡ dir) → (b : Bool) → eqb e.child k ≡ b → (c : Bool) → eqb e.dir dir ≡ c → ((c && b) || is_child es dir k) ≡ true → cond b e.dir (up_of es k) ≡ dir
+    step : (is_child es dir k ≡ true → up_of es k ≡ dir) → (b : Bool) → eqb e.child k ≡ b → (c : Bool) → eqb e.dir dir ≡ c
+        → ((c && b) || is_child es dir k) ≡ true → cond b e.dir (up_of es k) ≡ dir
     step later true at true there any = eqb-true e.dir dir there
     step later true at false there any =
         absurd (any_gives (AreApart e) (λ x. eqb x.dir dir && eqb x.child k) ⊥ es apart.0 any
@@ -46,7 +48,8 @@ place : (es : List EntryRow) (n node dir : ℕ) → leads_to es n node dir ≡ t
 place es zero node dir is = absurd cc
 place es (suc n) node dir is = step (place es n node dir) (leads_to es n node dir) refl is
   where
-    step : (leads_to es n node dir ≡ true → (i : ℕ) × (above es i dir ≡ node)) → (b : Bool) → leads_to es n node dir ≡ b → (b || eqb (above es n dir) node) ≡ true → (i : ℕ) × (above es i dir ≡ node)
+    step : (leads_to es n node dir ≡ true → (i : ℕ) × (above es i dir ≡ node)) → (b : Bool) → leads_to es n node dir ≡ b
+        → (b || eqb (above es n dir) node) ≡ true → (i : ℕ) × (above es i dir ≡ node)
     step sooner true is any = sooner is
     step sooner false is any = (n, eqb-true (above es n dir) node any)
 

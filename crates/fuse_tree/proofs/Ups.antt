@@ -23,15 +23,18 @@ up_in P [] k all none = none
 up_in P (x ∷ es) k all none = elim (eqb x.child k) as (λ b. P (cond b x.dir (up_of es k))) [ true ↦ all.0 | false ↦ up_in P es k all.1 none ]
 
 -- the same way up through other entries, where each place on it has the same directory above
-pub above_same : (P : ℕ → Type 0) (es fs : List EntryRow) → ((k : ℕ) → P k → (up_of fs k ≡ up_of es k) × P (up_of es k)) → (n k : ℕ) → P k → above fs n k ≡ above es n k
+pub above_same : (P : ℕ → Type 0) (es fs : List EntryRow) → ((k : ℕ) → P k → (up_of fs k ≡ up_of es k) × P (up_of es k)) → (n k : ℕ) → P k
+    → above fs n k ≡ above es n k
 above_same P es fs step zero k at = refl
 above_same P es fs step (suc n) k at = let q = step k at in ap (above fs n) q.0 ∙ above_same P es fs step n (up_of es k) q.1
 
-pub reaches_same : (P : ℕ → Type 0) (es fs : List EntryRow) → ((k : ℕ) → P k → (up_of fs k ≡ up_of es k) × P (up_of es k)) → (k : ℕ) → P k → Reaches es k → Reaches fs k
+pub reaches_same : (P : ℕ → Type 0) (es fs : List EntryRow) → ((k : ℕ) → P k → (up_of fs k ≡ up_of es k) × P (up_of es k)) → (k : ℕ) → P k → Reaches es k
+    → Reaches fs k
 reaches_same P es fs step k at climb = (climb.0, above_same P es fs step climb.0 k at ∙ climb.1)
 
 -- an entry of a new node leaves each way up
-pub reaches_more : (es : List EntryRow) (e : EntryRow) (n : ℕ) → AllByRecursion (λ x. x.dir < n) es → 0 < n → e.child ≡ n → (k : ℕ) → k < n → Reaches es k → Reaches (es ++ e ∷ []) k
+pub reaches_more : (es : List EntryRow) (e : EntryRow) (n : ℕ) → AllByRecursion (λ x. x.dir < n) es → 0 < n → e.child ≡ n → (k : ℕ) → k < n → Reaches es k
+    → Reaches (es ++ e ∷ []) k
 reaches_more es e n dirs pos is =
     reaches_same (λ k. k < n) es (es ++ e ∷ []) (λ k lt. let ne : e.child ≢ k = omega arith in (up_more es e k ne, up_in (λ i. i < n) es k dirs pos))
 

@@ -1,5 +1,6 @@
 -- What the walk upwards reads off the rows of a tree.
-use Rattle.std.proofs.Common.{◌≡◌, ◌==◌, ◌≤◌, ◌<◌, ◌≢◌, ◌+◌, ◌-◌, ◌&&◌, ◌||◌, ℕ, zero, suc, Bool, true, false, eqb, List, length, Option, Some, None, refl, sym, ap, subst, ◌∙◌, inl, inr, arith}
+use Rattle.std.proofs.Common.{◌≡◌, ◌==◌, ◌≤◌, ◌<◌, ◌≢◌, ◌+◌, ◌-◌, ◌&&◌, ◌||◌, ℕ, zero, suc, Bool, true, false, eqb, List, length, Option, Some, None, refl, sym}
+use Rattle.std.proofs.Common.{ap, subst, ◌∙◌, inl, inr, arith}
 use Rattle.std.specs.Option.{option_map}
 use Rattle.std.proofs.lemmas.Bool.{eqb-true, eqb-false, ne_eqb, eq-eqb, cases_lt}
 use Rattle.fuse_tree.specs.Bounds.{node_limit}
@@ -16,7 +17,8 @@ use Rattle.fuse_tree.proofs.Heights.{rooted, up_none, above_on, stays_none, ends
 
 -- ---- the directory above
 
-state_up : (s : State) (number : ℕ) (row : NodeRow) (o : Option Node) → Tree s → node_at s number ≡ o → option_map (row_of s) o ≡ Some row → up_of s.entries number ≡ row.up
+state_up : (s : State) (number : ℕ) (row : NodeRow) (o : Option Node) → Tree s → node_at s number ≡ o → option_map (row_of s) o ≡ Some row
+    → up_of s.entries number ≡ row.up
 state_up s number row None tree e is = absurd cc
 state_up s number row (Some n) tree e is =
     let same : row_of s n ≡ row = cc in
@@ -34,7 +36,8 @@ row_up rows number row is e =
 state_none : (s : State) (number : ℕ) → Tree s → node_at s number ≡ None → up_of s.entries number ≡ 0
 state_none s number tree none =
     up_none s.entries number (all_more (IsEntry s.nodes s.entries s.next_cookie) (λ e. e.child ≢ number) s.entries
-    (λ e p. any_gives (λ n. (n.number == number) ≡ false) (has_number e.child) (e.child ≢ number) s.nodes (none_found (λ n. n.number == number) s.nodes none) p.child
+    (λ e p. any_gives (λ n. (n.number == number) ≡ false) (has_number e.child) (e.child ≢ number) s.nodes
+    (none_found (λ n. n.number == number) s.nodes none) p.child
     (λ n fails passes same. eqb-false n.number number fails (eqb-true n.number e.child passes ∙ same)))
     tree.entries)
 
@@ -83,7 +86,8 @@ leads_later es (suc n) i node dir lt at =
 pub leads_at : (rows : Rows) (n i node dir place : ℕ) → i < n → above rows.entries i dir ≡ place → place ≡ node → leads_to rows.entries n node dir ≡ true
 leads_at rows n i node dir place lt at same = leads_later rows.entries n i node dir lt (at ∙ same)
 
-leads_not : (es : List EntryRow) (i d node dir : ℕ) → up_of es 0 ≡ 0 → 0 ≢ node → above es i dir ≡ 0 → leads_to es i node dir ≡ false → leads_to es (i + d) node dir ≡ false
+leads_not : (es : List EntryRow) (i d node dir : ℕ) → up_of es 0 ≡ 0 → 0 ≢ node → above es i dir ≡ 0 → leads_to es i node dir ≡ false
+    → leads_to es (i + d) node dir ≡ false
 leads_not es i zero node dir none other at none_yet = ap (λ (n : ℕ). leads_to es n node dir) (let e : i + 0 ≡ i = omega arith in e) ∙ none_yet
 leads_not es i (suc d) node dir none other at none_yet =
     let e : i + suc d ≡ suc (i + d) = omega arith in
@@ -91,17 +95,21 @@ leads_not es i (suc d) node dir none other at none_yet =
     ap (λ (n : ℕ). leads_to es n node dir) e ∙ rw (leads_not es i d node dir none other at none_yet, here, ne_eqb 0 node other) refl
 
 -- past the end of the way there is nothing
-pub leads_no_more : (rows : Rows) (n i node dir place : ℕ) → IsRowed rows → i ≤ n → above rows.entries i dir ≡ place → place ≡ 0 → place ≢ node → leads_to rows.entries i node dir ≡ false → leads_to rows.entries n node dir ≡ false
+pub leads_no_more : (rows : Rows) (n i node dir place : ℕ) → IsRowed rows → i ≤ n → above rows.entries i dir ≡ place → place ≡ 0 → place ≢ node
+    → leads_to rows.entries i node dir ≡ false → leads_to rows.entries n node dir ≡ false
 leads_no_more rows n i node dir place is le at end other none_yet =
     let e : n ≡ i + (n - i) = omega arith in
-    ap (λ (m : ℕ). leads_to rows.entries m node dir) e ∙ leads_not rows.entries i (n - i) node dir (rows_none rows is) (λ same. other (end ∙ same)) (at ∙ end) none_yet
+    ap (λ (m : ℕ). leads_to rows.entries m node dir) e
+    ∙ leads_not rows.entries i (n - i) node dir (rows_none rows is) (λ same. other (end ∙ same)) (at ∙ end) none_yet
 
 -- a step more
 pub above_next : (rows : Rows) (i dir place up : ℕ) → above rows.entries i dir ≡ place → up_of rows.entries place ≡ up → above rows.entries (i + 1) dir ≡ up
 above_next rows i dir place up at step = above_on rows.entries i 1 dir ∙ ap (up_of rows.entries) at ∙ step
 
-pub leads_next : (rows : Rows) (i node dir place : ℕ) → above rows.entries i dir ≡ place → place ≢ node → leads_to rows.entries i node dir ≡ false → leads_to rows.entries (i + 1) node dir ≡ false
-leads_next rows i node dir place at other none_yet = let e : i + 1 ≡ suc i = omega arith in ap (λ (n : ℕ). leads_to rows.entries n node dir) e ∙ rw (none_yet, at, ne_eqb place node other) refl
+pub leads_next : (rows : Rows) (i node dir place : ℕ) → above rows.entries i dir ≡ place → place ≢ node → leads_to rows.entries i node dir ≡ false
+    → leads_to rows.entries (i + 1) node dir ≡ false
+leads_next rows i node dir place at other none_yet =
+    let e : i + 1 ≡ suc i = omega arith in ap (λ (n : ℕ). leads_to rows.entries n node dir) e ∙ rw (none_yet, at, ne_eqb place node other) refl
 
 -- ---- what a directory doesn't lie in
 
@@ -116,7 +124,8 @@ never_leads s node dir tree given none n =
       | inr le ↦ λ at. given (
           let more = n - length s.nodes in
           let split : n ≡ length s.nodes + more = omega arith in
-          sym at ∙ ap (λ (i : ℕ). above s.entries i dir) split ∙ above_on s.entries (length s.nodes) more dir ∙ ap (above s.entries more) (ends_within s tree dir) ∙ stays_none s.entries (rooted s tree).none more)
+          sym at ∙ ap (λ (i : ℕ). above s.entries i dir) split ∙ above_on s.entries (length s.nodes) more dir
+          ∙ ap (above s.entries more) (ends_within s tree dir) ∙ stays_none s.entries (rooted s tree).none more)
     ]
 
 -- what lies above a directory is a directory
@@ -125,7 +134,8 @@ dirs_above s zero k tree dir given = dir
 dirs_above s (suc n) k tree dir given =
     dirs_above s n (up_of s.entries k) tree
     (up_in (λ i. i ≢ 0 → is_dir_at s i ≡ true) s.entries k
-    (all_more (IsEntry s.nodes s.entries s.next_cookie) (λ e. e.dir ≢ 0 → is_dir_at s e.dir ≡ true) s.entries (λ e p ne. p.dir) tree.entries) (λ ne. absurd (ne refl))
+    (all_more (IsEntry s.nodes s.entries s.next_cookie) (λ e. e.dir ≢ 0 → is_dir_at s e.dir ≡ true) s.entries (λ e p ne. p.dir) tree.entries)
+    (λ ne. absurd (ne refl))
     (λ none. given (ap (above s.entries n) none ∙ stays_none s.entries (rooted s tree).none n)))
     given
 

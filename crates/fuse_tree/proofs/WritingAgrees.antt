@@ -1,5 +1,6 @@
 -- The plans of WRITE and READ agree with what is done.
-use Rattle.std.proofs.Common.{◌≡◌, ◌≤◌, ◌+◌, ◌==◌, ◌&&◌, ◌||◌, ℕ, Bool, true, false, cond, not, List, length, take, drop, Option, Some, None, refl, ap, subst, ◌∙◌, arith}
+use Rattle.std.proofs.Common.{◌≡◌, ◌≤◌, ◌+◌, ◌==◌, ◌&&◌, ◌||◌, ℕ, Bool, true, false, cond, not, List, length, take, drop, Option, Some, None, refl, ap, subst}
+use Rattle.std.proofs.Common.{◌∙◌, arith}
 use Rattle.std.specs.Prelude.{nat_lt}
 use Rattle.std.specs.Option.{option_map}
 use Rattle.std.proofs.lemmas.Bool.{eqb-true, ltb-false}
@@ -39,7 +40,8 @@ or_left : (b c : Bool) → c ≡ false → (b || c) ≡ true → b ≡ true
 or_left true c none e = refl
 or_left false c none e = absurd cc
 
-writable_file : (s : State) (d : Node) (fh : ℕ) (o : Option HandleRow) → Tree s → node_at s d.number ≡ Some d → handle_at s.handles fh ≡ o → may_write (access_in d.number o) ≡ true → is_file d.mode ≡ true
+writable_file : (s : State) (d : Node) (fh : ℕ) (o : Option HandleRow) → Tree s → node_at s d.number ≡ Some d → handle_at s.handles fh ≡ o
+    → may_write (access_in d.number o) ≡ true → is_file d.mode ≡ true
 writable_file s d fh None tree e at may = absurd cc
 writable_file s d fh (Some h) tree e at may =
     let p = (found (IsHandle s.nodes s.next_fh) (λ i. i.fh == fh) s.handles h tree.handles at).0 in
@@ -57,18 +59,22 @@ writable_file s d fh (Some h) tree e at may =
 wrote_same : (offset : ℕ) (payload : List ℕ) (now : Moment) (n : Node) → SamePlace n (wrote offset payload now n)
 wrote_same offset payload now n = record { number = refl; kind = refl }
 
-wrote_is_node : (next offset : ℕ) (payload : List ℕ) (now : Moment) (d : Node) → is_file d.mode ≡ true → offset + length payload ≤ 16777216 → IsNode next d → IsNode next (wrote offset payload now d)
+wrote_is_node : (next offset : ℕ) (payload : List ℕ) (now : Moment) (d : Node) → is_file d.mode ≡ true → offset + length payload ≤ 16777216 → IsNode next d
+    → IsNode next (wrote offset payload now d)
 wrote_is_node next offset payload now d file low p =
     let size : length d.content ≤ 16777216 = p.size in
     record { from_one = p.from_one; below = p.below; mode = p.mode; content = λ isnt. absurd cc; size = omega (arith, length_written offset payload d.content) }
 
 -- in the node d
 module _ (s : State) (offset : ℕ) (payload : List ℕ) (now : Moment) (d : Node) (tree : Tree s) (e : node_at s d.number ≡ Some d) where
-  write_full : full_of s (wrote offset payload now d) ≡ record { row = written_row (offset + length payload) now (row_of s d); content = written offset payload d.content }
+  write_full : full_of s (wrote offset payload now d)
+      ≡ record { row = written_row (offset + length payload) now (row_of s d); content = written offset payload d.content }
   write_full = rw (length_written offset payload d.content) refl
 
   write_rows : apply (rows_of_state s) (write_changes offset payload now (row_of s d)) ≡ rows_of_state (with_bytes s offset payload now d.number)
-  write_rows = changed_rows s (wrote offset payload now) (wrote_same offset payload now) d tree e (written_row (offset + length payload) now (row_of s d)) (written offset payload) write_full
+  write_rows =
+      changed_rows s (wrote offset payload now) (wrote_same offset payload now) d tree e (written_row (offset + length payload) now (row_of s d))
+      (written offset payload) write_full
 
   write_tree : is_file d.mode ≡ true → offset + length payload ≤ 16777216 → Tree (with_bytes s offset payload now d.number)
   write_tree file low =
@@ -90,12 +96,14 @@ module _ (s : State) (offset : ℕ) (payload : List ℕ) (now : Moment) (d : Nod
 content_found : (s : State) (d : Node) → node_at s d.number ≡ Some d → content_of (option_map (full_of s) (node_at s d.number)) ≡ d.content
 content_found s d e = ap (λ (o : Option Node). content_of (option_map (full_of s) o)) e
 
-pub bytes_found : (s : State) (d : Node) (offset size : ℕ) → node_at s d.number ≡ Some d → bytes_at (rows_of_state s) d.number offset size ≡ take size (drop offset d.content)
+pub bytes_found : (s : State) (d : Node) (offset size : ℕ) → node_at s d.number ≡ Some d
+    → bytes_at (rows_of_state s) d.number offset size ≡ take size (drop offset d.content)
 bytes_found s d offset size e =
     ap (λ (o : Option Full). take size (drop offset (content_of o))) (find_full s d.number s.nodes)
     ∙ ap (λ (content : List ℕ). take size (drop offset content)) (content_found s d e)
 
-pub read_agrees : (s : State) (asked : ReadIn) (d : Node) → Tree s → node_at s d.number ≡ Some d → Agrees s (plan_read asked (row_of s d) (rows_of_state s)) (read s asked d)
+pub read_agrees : (s : State) (asked : ReadIn) (d : Node) → Tree s → node_at s d.number ≡ Some d
+    → Agrees s (plan_read asked (row_of s d) (rows_of_state s)) (read s asked d)
 read_agrees s asked d tree e =
     both s (not (may_read (access_at s.handles asked.fh d.number))) _ _ _ _ (λ _. refused_agrees s tree ebadf) (λ _.
     both s (is_dir d.mode) _ _ _ _ (λ _. refused_agrees s tree eisdir) (λ _.

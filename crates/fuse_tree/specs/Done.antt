@@ -51,7 +51,16 @@ attr_of s n = record {
 
 -- an entry's answer, valid for a second
 abbrev pub entry_of : Attr → EntryOut
-entry_of attr = record { nodeid = attr.ino; generation = 0; entry_valid = valid_seconds; attr_valid = valid_seconds; entry_valid_nsec = 0; attr_valid_nsec = 0; attr = attr }
+entry_of attr =
+    record {
+      nodeid = attr.ino;
+      generation = 0;
+      entry_valid = valid_seconds;
+      attr_valid = valid_seconds;
+      entry_valid_nsec = 0;
+      attr_valid_nsec = 0;
+      attr = attr;
+    }
 
 -- an attribute answer, valid for a second
 abbrev pub attr_out_of : Attr → AttrOut

@@ -1,5 +1,6 @@
 -- What READDIR does (own profile): the entries of a directory behind an offset, as many as fit.
-use Rattle.std.specs.Prelude.{◌<◌, ◌==◌, ℕ, zero, suc, Bool, true, not, nat_le, nat_lt, if◌then◌else◌, List, [], ◌∷◌, ◌++◌, length, map, take, filter, Option, Some, None, codes}
+use Rattle.std.specs.Prelude.{◌<◌, ◌==◌, ℕ, zero, suc, Bool, true, not, nat_le, nat_lt, if◌then◌else◌, List, [], ◌∷◌, ◌++◌, length, map, take, filter, Option}
+use Rattle.std.specs.Prelude.{Some, None, codes}
 use Rattle.std.specs.List.{sum_by}
 use Rattle.fuse_wire.specs.Errnos.{enoent, ebadf, enotdir, einval}
 use Rattle.fuse_request.specs.declared.request.ReadIn.{ReadIn}

@@ -1,6 +1,7 @@
 -- What the plan of READDIR reads off the rows (own profile), in the order of its checks.
 -- Not part of what is trusted: neither `done` nor the public clauses of `plan` speak of it.
-use Rattle.std.specs.Prelude.{◌≡◌, ◌≢◌, ◌<◌, ◌≤◌, ◌+◌, ◌/◌, ◌==◌, ℕ, not, nat_lt, if◌then◌else◌, List, ◌++◌, length, map, take, filter, Option, Some, None, Result, IfOk, IfErr}
+use Rattle.std.specs.Prelude.{◌≡◌, ◌≢◌, ◌<◌, ◌≤◌, ◌+◌, ◌/◌, ◌==◌, ℕ, not, nat_lt, if◌then◌else◌, List, ◌++◌, length, map, take, filter, Option, Some, None}
+use Rattle.std.specs.Prelude.{Result, IfOk, IfErr}
 use Rattle.std.specs.List.{sum_by}
 use Rattle.fuse_wire.specs.Errnos.{enoent, ebadf, enotdir, einval}
 use Rattle.fuse_request.specs.declared.request.ReadIn.{ReadIn}
@@ -70,7 +71,8 @@ plan_read_dir asked row rows =
 -- `Reads`, of what is seen of the answer
 abbrev pub ReadsBy : {X Y : Type 0} → (X → Y) → Type 0 → (Rows → Type 0) → Result X PlanFault → (Rows → Y) → Type 0
 ReadsBy view clean sees result told =
-    look_fault result ≡ None → clean → (rows : Rows) → IsRowed rows → sees rows → IfOk result (λ x. view x ≡ told rows) × IfErr result (λ fault. fault ≢ faults.NotATree)
+    look_fault result ≡ None → clean → (rows : Rows) → IsRowed rows → sees rows
+    → IfOk result (λ x. view x ≡ told rows) × IfErr result (λ fault. fault ≢ faults.NotATree)
 
 -- an entry has a name of 1 to 255 bytes, and leads to a row
 pub record IsShown (rows : Rows) (e : EntryRow) : Type 0 where

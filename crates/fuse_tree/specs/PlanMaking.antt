@@ -49,7 +49,8 @@ changes_of counters fresh name row =
     ∷ changes.Counters (counters_after counters) ∷ []
 
 abbrev pub plan_new : CountersRow → NewNode → List ℕ → NodeRow → Planned
-plan_new counters fresh name row = record { answer = record { errno = 0; body = entry_body (new_row counters fresh row.node) }; changes = changes_of counters fresh name row }
+plan_new counters fresh name row =
+    record { answer = record { errno = 0; body = entry_body (new_row counters fresh row.node) }; changes = changes_of counters fresh name row }
 
 abbrev pub plan_make_with_room : NewNode → List ℕ → NodeRow → Rows → Planned
 plan_make_with_room fresh name row rows =

@@ -27,7 +27,8 @@ abbrev pub opened_changes : CountersRow → AccessMode → ℕ → List Change
 opened_changes counters access node = changes.Handle (new_handle counters.next_fh node access) ∷ changes.Counters (counters_opened counters) ∷ []
 
 abbrev pub plan_opened : CountersRow → AccessMode → ℕ → Planned
-plan_opened counters access node = record { answer = record { errno = 0; body = open_bytes (open_of counters.next_fh) }; changes = opened_changes counters access node }
+plan_opened counters access node =
+    record { answer = record { errno = 0; body = open_bytes (open_of counters.next_fh) }; changes = opened_changes counters access node }
 
 abbrev pub plan_open_node : AccessMode → ℕ → Rows → Planned
 plan_open_node access node rows = refused_for (open_fault rows.counters.handles rows.counters.next_fh) (plan_opened rows.counters access node)
@@ -55,7 +56,8 @@ abbrev pub counters_closed : CountersRow → CountersRow
 counters_closed counters = record counters { handles = counters.handles - 1 }
 
 abbrev pub plan_closed : CountersRow → ℕ → Planned
-plan_closed counters fh = record { answer = record { errno = 0; body = [] }; changes = changes.HandleGone fh ∷ changes.Counters (counters_closed counters) ∷ [] }
+plan_closed counters fh =
+    record { answer = record { errno = 0; body = [] }; changes = changes.HandleGone fh ∷ changes.Counters (counters_closed counters) ∷ [] }
 
 abbrev pub plan_close : ℕ → Option Errno → ℕ → Rows → Planned
 plan_close fh kind_fault node rows =

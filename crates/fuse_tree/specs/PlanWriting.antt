@@ -26,7 +26,8 @@ write_changes offset payload now row =
     changes.Node (written_row (offset + length payload) now row) ∷ changes.Written row.node offset payload ∷ []
 
 abbrev pub plan_written : ℕ → List ℕ → Moment → NodeRow → Planned
-plan_written offset payload now row = record { answer = record { errno = 0; body = count_body (length payload) }; changes = write_changes offset payload now row }
+plan_written offset payload now row =
+    record { answer = record { errno = 0; body = count_body (length payload) }; changes = write_changes offset payload now row }
 
 abbrev pub plan_write : ℕ → ℕ → List ℕ → Moment → NodeRow → Rows → Planned
 plan_write fh offset payload now row rows =

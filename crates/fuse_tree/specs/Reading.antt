@@ -26,15 +26,15 @@ Tells result told = IfOk result (λ x. x ≡ told) × IfErr result (λ fault. fa
 abbrev pub Reads : {X : Type 0} → Type 0 → (Rows → Type 0) → Result X PlanFault → (Rows → X) → Type 0
 Reads clean sees result told = look_fault result ≡ None → clean → (rows : Rows) → IsRowed rows → sees rows → Tells result (told rows)
 
--- between the two lie looks alone, of which none failed but where its fault is answered
+-- nothing but looks lie between the two, and the fault of the last is the one that is answered
 pub record Looked {S X : Type 0} (fault_of : S → Option LookFault) (looking failing : S → S → Type 0) (old new : S) (result : Result X PlanFault) : Type 0 where
   pub fault : fault_of new ≡ look_fault result
   pub looks : look_fault result ≡ None → looking old new
   pub fails : OnErr result (failing old new)
 
--- what is looked up in the old is told by the result, and the new is what it is then
-pub record LooksUp {S X : Type 0} (clean : S → Type 0) (sees : S → Rows → Type 0) (fault_of : S → Option LookFault) (looking failing : S → S → Type 0) (old new : S)
-    (result : Result X PlanFault) (told : Rows → X) : Type 0 where
+-- what is answered is read off the rows behind the old, and nothing but looks lie between the two
+pub record LooksUp {S X : Type 0} (clean : S → Type 0) (sees : S → Rows → Type 0) (fault_of : S → Option LookFault)
+    (looking failing : S → S → Type 0) (old new : S) (result : Result X PlanFault) (told : Rows → X) : Type 0 where
   pub reads : Reads (clean new) (sees old) result told
   pub fault : fault_of new ≡ look_fault result
   pub looks : look_fault result ≡ None → looking old new

@@ -23,7 +23,8 @@ has set bit = bit_and (bit_and set.valid valid_bits) bit.0 == bit.0
 -- one of the attributes is set, CTIME apart
 abbrev pub sets_any : SetattrIn → Bool
 sets_any set =
-    has set fattr_mode || has set fattr_uid || has set fattr_gid || has set fattr_size || has set fattr_atime || has set fattr_mtime || has set fattr_atime_now || has set fattr_mtime_now
+    has set fattr_mode || has set fattr_uid || has set fattr_gid || has set fattr_size || has set fattr_atime || has set fattr_mtime || has set fattr_atime_now
+    || has set fattr_mtime_now
 
 -- ---- each attribute after it, from what it was
 

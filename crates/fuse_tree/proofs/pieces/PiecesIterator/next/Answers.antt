@@ -10,9 +10,12 @@ returns-then-self-eq0-clause-steps c =
 
 pub returns-clause-steps : goal.returns-clause-steps
 returns-clause-steps c =
-    next_piece c.self.inside.at c.self.inside.left c.from.result c.first_of-piece.result c.args.self.now c.if-self-eq0.false c.self.view_is c.first_of-piece.ensures c.from.ensures
+    next_piece c.self.inside.at c.self.inside.left c.from.result c.first_of-piece.result c.args.self.now c.if-self-eq0.false c.self.view_is
+    c.first_of-piece.ensures c.from.ensures
 
 pub returns-clause-goes : goal.returns-clause-goes
 returns-clause-goes c =
-    let some = next_piece c.self.inside.at c.self.inside.left c.from.result c.first_of-piece.result c.args.self.now c.if-self-eq0.false c.self.view_is c.first_of-piece.ensures c.from.ensures in
+    let some =
+    next_piece c.self.inside.at c.self.inside.left c.from.result c.first_of-piece.result c.args.self.now c.if-self-eq0.false c.self.view_is
+    c.first_of-piece.ensures c.from.ensures in
     record { on = λ _. (tt, tt, omega (arith, ap length some)); keeps = tt; rests = λ _. tt }

@@ -16,11 +16,13 @@ returns-clause-plan g c = λ well clean rows is sees shown.
     let len = c.args.dirents.ok in
     let some : 0 < length first + c.count_fitting-count.result =
     elim c.else-count-eq0.branch [
-      | else-count-eq0-via-then-count-eq0+else-is_empty w ↦ (let some = eqb-false c.args.dirents.len 0 (sym w.if-is_empty.ensures) in omega (arith, some, len, count))
+      | else-count-eq0-via-then-count-eq0+else-is_empty w ↦ (let some = eqb-false c.args.dirents.len 0 (sym w.if-is_empty.ensures) in omega
+          (arith, some, len, count))
       | else-count-eq0-via-else-count-eq0 w ↦ (let some = w.if-count-eq0.false in omega (arith, some))
     ] in
     let second = c.in_ok-push_entries.ensures in
-    let room : c.args.size ≤ sum_by packed_len first + c.saturating_sub.result = omega (arith, c.saturating_sub.ensures, c.len.ensures, c.requires.dots, len, count) in
+    let room : c.args.size ≤ sum_by packed_len first + c.saturating_sub.result =
+    omega (arith, c.saturating_sub.ensures, c.len.ensures, c.requires.dots, len, count) in
     let told = second.entries (refl {a = None}) clean rows is sees (all_taken _ _ c.args.entries.now shown) in (
       c.in_ok-list_front.ensures ∙ ap (λ (es : List Entry). plan_front es c.args.size) (ap (map entry_of) c.as_slice.ensures.value ∙ told.0)
           ∙ same_told rows first c.args.entries.now c.args.size c.saturating_sub.result c.count_fitting-count.result room some c.count_fitting-count.ensures,

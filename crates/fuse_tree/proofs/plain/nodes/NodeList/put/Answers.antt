@@ -7,21 +7,28 @@ use Rattle.fuse_tree.proofs.plain.nodes.NodeList.put.Goals as goal
 
 pub invariant_of-self : goal.invariant_of-self
 invariant_of-self c =
-    let at : position (λ f. f.row.node == c.args.row.node) c.self.inside.nodes.items ≡ Some c.in-Some.place = ap (position (λ f. f.row.node == c.args.row.node)) (sym c.as_slice.ensures.value) ∙ sym c.in-Some.ensures in
+    let at : position (λ f. f.row.node == c.args.row.node) c.self.inside.nodes.items ≡ Some c.in-Some.place =
+    ap (position (λ f. f.row.node == c.args.row.node)) (sym c.as_slice.ensures.value) ∙ sym c.in-Some.ensures in
     (row_in_place c.args.row c.self.inside.nodes.items c.in-Some.place c.index_mut-full.result.now c.self.invariant at c.index_mut-full.ensures.value).once
 
 pub returns-in-Some-clause-ok : goal.returns-in-Some-clause-ok
 returns-in-Some-clause-ok c =
-    let at : position (λ f. f.row.node == c.args.row.node) c.self.inside.nodes.items ≡ Some c.in-Some.place = ap (position (λ f. f.row.node == c.args.row.node)) (sym c.as_slice.ensures.value) ∙ sym c.in-Some.ensures in
+    let at : position (λ f. f.row.node == c.args.row.node) c.self.inside.nodes.items ≡ Some c.in-Some.place =
+    ap (position (λ f. f.row.node == c.args.row.node)) (sym c.as_slice.ensures.value) ∙ sym c.in-Some.ensures in
     (row_in_place c.args.row c.self.inside.nodes.items c.in-Some.place c.index_mut-full.result.now c.self.invariant at c.index_mut-full.ensures.value).changed
     ∙ sym (row_there c.args.row c.self.inside.nodes.items c.in-Some.place c.index_mut-full.result.now at) ∙ ap (put_node c.args.row) c.self.view_is
 
 pub invariant_of-self-2 : goal.invariant_of-self-2
 invariant_of-self-2 c =
-    let none : position (λ f. f.row.node == c.args.row.node) c.self.inside.nodes.items ≡ None = ap (position (λ f. f.row.node == c.args.row.node)) (sym c.as_slice.ensures.value) ∙ sym c.in_default.ensures in
-    ap are_distinct c.in_ok-push.ensures.items ∙ once_behind c.self.inside.nodes.items (record { row = c.args.row; content = _ }) c.self.invariant (no_place (λ f. f.row.node == c.args.row.node) c.self.inside.nodes.items none)
+    let none : position (λ f. f.row.node == c.args.row.node) c.self.inside.nodes.items ≡ None =
+    ap (position (λ f. f.row.node == c.args.row.node)) (sym c.as_slice.ensures.value) ∙ sym c.in_default.ensures in
+    ap are_distinct c.in_ok-push.ensures.items
+    ∙ once_behind c.self.inside.nodes.items (record { row = c.args.row; content = _ }) c.self.invariant
+    (no_place (λ f. f.row.node == c.args.row.node) c.self.inside.nodes.items none)
 
 pub returns-clause-ok : goal.returns-clause-ok
 returns-clause-ok c =
-    let none : position (λ f. f.row.node == c.args.row.node) c.self.inside.nodes.items ≡ None = ap (position (λ f. f.row.node == c.args.row.node)) (sym c.as_slice.ensures.value) ∙ sym c.in_default.ensures in
-    c.in_ok-push.ensures.items ∙ rw (c.from_vec-content.ensures, c.new.ensures.items) (row_behind c.args.row c.self.inside.nodes.items none ∙ ap (put_node c.args.row) c.self.view_is)
+    let none : position (λ f. f.row.node == c.args.row.node) c.self.inside.nodes.items ≡ None =
+    ap (position (λ f. f.row.node == c.args.row.node)) (sym c.as_slice.ensures.value) ∙ sym c.in_default.ensures in
+    c.in_ok-push.ensures.items
+    ∙ rw (c.from_vec-content.ensures, c.new.ensures.items) (row_behind c.args.row c.self.inside.nodes.items none ∙ ap (put_node c.args.row) c.self.view_is)

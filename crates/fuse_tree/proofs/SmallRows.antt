@@ -1,0 +1,205 @@
+-- The rows of a tree fit a table, and so does what is found among them.
+use Rattle.std.proofs.Common.{◌≡◌, ◌+◌, ◌-◌, ◌<◌, ◌≤◌, ◌==◌, ◌&&◌, ◌||◌, ◌^◌, ℕ, Bool, true, false, cond, not, eqb, List, [], ◌∷◌, ◌++◌, length, map, Option}
+use Rattle.std.proofs.Common.{Some, None, is_some, refl, sym, subst, inl, inr, arith}
+use Rattle.std.specs.Prelude.{nat_eq, nat_lt, nat_le}
+use Rattle.std.specs.Cmp.Lexicographic.{pointwise}
+use Rattle.std.specs.List.{AllByRecursion, list_any}
+use Rattle.std.specs.Option.{option_map}
+use Rattle.std.proofs.lemmas.Bool.{eqb-true, ltb-true, ltb-false}
+use Rattle.std.proofs.lemmas.Nat.{and_le_r}
+use Rattle.fuse_wire.specs.declared.access_mode.AccessMode.{AccessMode}
+use Rattle.fuse_wire.specs.declared.access_mode.AccessMode.TheVariants.{ReadOnly}
+use Rattle.fuse_wire.specs.declared.errno.Errno.{Errno}
+use Rattle.fuse_wire.specs.Errnos.{eisdir, einval, efbig}
+use Rattle.fuse_wire.specs.declared.moment.Moment.{Moment}
+use Rattle.fuse_wire.specs.Bits.{fattr_size}
+use Rattle.fuse_wire.specs.Flags.{access_of}
+use Rattle.fuse_request.specs.declared.request.InHeader.{InHeader}
+use Rattle.fuse_request.specs.declared.request.InitIn.{InitIn}
+use Rattle.fuse_request.specs.declared.request.ReadIn.{ReadIn}
+use Rattle.fuse_request.specs.declared.request.SetattrIn.{SetattrIn}
+use Rattle.fuse_request.specs.Act.{Act, Asked}
+use Rattle.fuse_request.specs.Act as acts
+use Rattle.fuse_init.specs.declared.negotiation.Negotiated.{Negotiated}
+use Rattle.fuse_init.specs.declared.negotiation.Negotiated.TheVariants.{Agreed, Again, Refused}
+use Rattle.fuse_init.specs.Agree.{agree, offered, taken, is_older}
+use Rattle.fuse_init.specs.Numbers.{kernel_version}
+use Rattle.fuse_tree.specs.Bounds.{number_end, file_limit, node_limit, handle_limit, read_limit}
+use Rattle.fuse_tree.specs.declared.planning.finding.Link.{Link}
+use Rattle.fuse_tree.specs.declared.new_node.NewNode.{NewNode}
+use Rattle.fuse_tree.specs.declared.rows.Change.{Change}
+use Rattle.fuse_tree.specs.declared.rows.Change.TheVariants as changes
+use Rattle.fuse_tree.specs.declared.rows.Counters.{Counters as CountersRow}
+use Rattle.fuse_tree.specs.declared.rows.EntryRow.{EntryRow}
+use Rattle.fuse_tree.specs.declared.rows.Full.{Full}
+use Rattle.fuse_tree.specs.declared.rows.HandleRow.{HandleRow}
+use Rattle.fuse_tree.specs.declared.rows.NodeRow.{NodeRow}
+use Rattle.fuse_tree.specs.declared.rows.Planned.{Planned}
+use Rattle.fuse_tree.specs.State.{State, Node, Tree, IsNode, IsEntry, IsHandle, is_open_at, is_dir, type_bits, is_file, is_entry, name_fault, up_of}
+use Rattle.fuse_tree.specs.Rows.{Rows, rows_of_state, full_of, full_at, row_at, entry_at, handle_at, row_is_named}
+use Rattle.fuse_tree.specs.Handles.{access_at, access_in, is_open}
+use Rattle.fuse_tree.specs.Do.{names_node, offer_of}
+use Rattle.fuse_tree.specs.Making.{is_full, begun, dir_mode, may_make, node_mode, node_rdev}
+use Rattle.fuse_tree.specs.Setting.{has, size_fault, set_fault}
+use Rattle.fuse_tree.specs.Writing.{may_write, may_read}
+use Rattle.fuse_tree.specs.Removing.{has_entries}
+use Rattle.fuse_tree.specs.Listing.{first_fits}
+use Rattle.fuse_tree.specs.Opening.{open_fault, not_for_dirs, for_dirs_alone}
+use Rattle.fuse_tree.specs.Columns.{FitsNode, FitsEntry, FitsHandle, FitColumns}
+use Rattle.fuse_tree.specs.Planning.{plan_child, plan_lookup, plan_act, plan_at, plan_offered, plan_of}
+use Rattle.fuse_tree.specs.PlanInit.{plan_init}
+use Rattle.fuse_tree.specs.PlanMaking.{plan_new, plan_make, plan_mkdir, plan_mknod}
+use Rattle.fuse_tree.specs.PlanSetting.{set_row, plan_setattr}
+use Rattle.fuse_tree.specs.PlanWriting.{plan_written, plan_write, plan_read}
+use Rattle.fuse_tree.specs.PlanListing.{rows_behind, plan_read_dir}
+use Rattle.fuse_tree.specs.PlanOpening.{plan_opened, plan_open_node, plan_open_for, plan_open, plan_open_dir, plan_closed, plan_close}
+use Rattle.fuse_tree.specs.PlanRemoving.{link_of, link_at, plan_gone, plan_unlink_link, plan_unlink, plan_rmdir_link, plan_rmdir}
+use Rattle.fuse_tree.specs.PlanRenaming.{is_same_link, row_holds, other_at, new_dir_at, link_fault, lost_changes, dir_row, dirs_changes, rename_changes}
+use Rattle.fuse_tree.specs.PlanRenaming.{exchange_changes, is_dir_link, is_dir_other, plan_rename_link, plan_exchange_link, plan_rename_from}
+use Rattle.fuse_tree.specs.PlanRenaming.{plan_rename_between, plan_rename}
+use Rattle.fuse_tree.specs.Renaming.{Renaming, is_exchange, is_no_replace, asking, asked_fault}
+use Rattle.fuse_tree.specs.Reading.{refused_for, child_at}
+use Rattle.fuse_tree.proofs.Lists.{and_true, any_gives, cond_found, found}
+use Rattle.fuse_tree.proofs.Trees.{nodes_below, children_below, dirs_below}
+
+-- ---- the rows of a tree
+
+pub record SmallCounters (counters : CountersRow) : Type 0 where
+  pub next_node : counters.next_node ≤ number_end
+  pub next_fh : counters.next_fh ≤ number_end
+  pub next_cookie : counters.next_cookie ≤ number_end
+  pub nodes : counters.nodes ≤ node_limit
+  pub handles : counters.handles ≤ handle_limit
+
+-- the rows fit, and each counter has room for one more
+pub record Small (rows : Rows) : Type 0 where
+  pub nodes : AllByRecursion (λ f. FitsNode f.row) rows.nodes
+  pub entries : AllByRecursion FitsEntry rows.entries
+  pub handles : AllByRecursion FitsHandle rows.handles
+  pub counters : SmallCounters rows.counters
+
+-- where the numbers of the nodes end
+pub below : (s : State) (n : ℕ) → Tree s → n < s.next_node → n < 2 ^ 63
+below s n tree lt = omega (arith, tree.limits.next_node)
+
+pub up_small : (entries : List EntryRow) (number : ℕ) → AllByRecursion (λ e. e.dir < 2 ^ 63) entries → up_of entries number < 2 ^ 63
+up_small [] number all = omega arith
+up_small (e ∷ entries) number all =
+    let here : e.dir < 2 ^ 63 = all.0 in
+    let rest = up_small entries number all.1 in
+    elim (eqb e.child number) as (λ b. cond b e.dir (up_of entries number) < 2 ^ 63) [ true ↦ here | false ↦ rest ]
+
+pub dirs_small : (s : State) (es : List EntryRow) → Tree s → AllByRecursion (λ e. e.dir < s.next_node) es → AllByRecursion (λ e. e.dir < 2 ^ 63) es
+dirs_small s [] tree all = tt
+dirs_small s (e ∷ es) tree all = (below s e.dir tree all.0, dirs_small s es tree all.1)
+
+pub nodes_small : (s : State) (ns : List Node) → Tree s → AllByRecursion (IsNode s.next_node) ns → AllByRecursion (λ f. FitsNode f.row) (map (full_of s) ns)
+nodes_small s [] tree all = tt
+nodes_small s (n ∷ ns) tree all = (
+  record {
+    node = below s n.number tree all.0.below;
+    up = up_small s.entries n.number (dirs_small s s.entries tree (dirs_below s tree));
+    size = omega (arith, all.0.size);
+  },
+  nodes_small s ns tree all.1,
+)
+
+pub entries_small : (s : State) (es : List EntryRow) → Tree s → AllByRecursion (IsEntry s.nodes s.entries s.next_cookie) es
+    → AllByRecursion (λ e. e.child < s.next_node) es → AllByRecursion (λ e. e.dir < s.next_node) es → AllByRecursion FitsEntry es
+entries_small s [] tree all children dirs = tt
+entries_small s (e ∷ es) tree all children dirs = (
+  record { dir = below s e.dir tree dirs.0; child = below s e.child tree children.0; cookie = omega (arith, all.0.below, tree.limits.next_cookie) },
+  entries_small s es tree all.1 children.1 dirs.1,
+)
+
+pub open_below : (s : State) (h : HandleRow) → Tree s → list_any (is_open_at h) s.nodes ≡ true → h.node < s.next_node
+open_below s h tree is =
+    any_gives (λ n. n.number < s.next_node) (is_open_at h) (h.node < s.next_node) s.nodes (nodes_below s tree) is
+    (λ n lt passes. let lt : n.number < s.next_node = lt in let same : n.number ≡ h.node = eqb-true n.number h.node (and_true _ _ passes).0 in omega arith)
+
+pub handles_small : (s : State) (hs : List HandleRow) → Tree s → AllByRecursion (IsHandle s.nodes s.next_fh) hs → AllByRecursion FitsHandle hs
+handles_small s [] tree all = tt
+handles_small s (h ∷ hs) tree all = (
+  record { fh = omega (arith, all.0.below, tree.limits.next_fh); node = below s h.node tree (open_below s h tree all.0.node) },
+  handles_small s hs tree all.1,
+)
+
+pub small : (s : State) → Tree s → Small (rows_of_state s)
+small s tree = record {
+  nodes = nodes_small s s.nodes tree tree.nodes;
+  entries = entries_small s s.entries tree tree.entries (children_below s tree) (dirs_below s tree);
+  handles = handles_small s s.handles tree tree.handles;
+  counters = record {
+    next_node = tree.limits.next_node;
+    next_fh = tree.limits.next_fh;
+    next_cookie = tree.limits.next_cookie;
+    nodes = tree.limits.nodes;
+    handles = tree.limits.handles;
+  };
+}
+
+-- ---- what is found among them
+
+pub row_small : (rows : Rows) (number : ℕ) (row : NodeRow) (o : Option Full) → Small rows → full_at rows number ≡ o → option_map (λ f. f.row) o ≡ Some row
+    → FitsNode row × (row.node ≡ number)
+row_small rows number row None all e is = absurd cc
+row_small rows number row (Some f) all e is =
+    let p = found (λ g. FitsNode g.row) (λ g. g.row.node == number) rows.nodes f all.nodes e in
+    let same : f.row ≡ row = cc in
+    let number_is : f.row.node ≡ number = eqb-true f.row.node number p.1 in
+    subst (λ (r : NodeRow). FitsNode r × (r.node ≡ number)) same (p.0, number_is)
+
+pub found_small : (rows : Rows) (number : ℕ) (row : NodeRow) → Small rows → row_at rows number ≡ Some row → FitsNode row × (row.node ≡ number)
+found_small rows number row all e = row_small rows number row (full_at rows number) all refl e
+
+pub record FitsLink (link : Link) : Type 0 where
+  pub cookie : link.cookie < 2 ^ 63
+  pub child : FitsNode link.child
+
+-- what is found leads to what fits
+abbrev pub FitsFound : Option Link → Type 0
+FitsFound None = Unit {0}
+FitsFound (Some link) = FitsLink link
+
+pub link_of_row : (rows : Rows) (e : EntryRow) (o : Option NodeRow) → Small rows → FitsEntry e → row_at rows e.child ≡ o
+    → FitsFound (option_map (λ child. record { cookie = e.cookie; child = child }) o)
+link_of_row rows e None all p is = tt
+link_of_row rows e (Some row) all p is = record { cookie = p.cookie; child = (found_small rows e.child row all is).0 }
+
+pub link_of_entry : (rows : Rows) (dir : ℕ) (name : List ℕ) (o : Option EntryRow) → Small rows → entry_at rows.entries dir name ≡ o → FitsFound (link_of rows o)
+link_of_entry rows dir name None all is = tt
+link_of_entry rows dir name (Some e) all is =
+    link_of_row rows e (row_at rows e.child) all (found FitsEntry (is_entry dir name) rows.entries e all.entries is).0 refl
+
+pub link_small : (rows : Rows) (dir : ℕ) (name : List ℕ) → Small rows → FitsFound (link_at rows dir name)
+link_small rows dir name all = link_of_entry rows dir name (entry_at rows.entries dir name) all refl
+
+-- a handle that is open has a number that fits
+pub open_small : (rows : Rows) (fh node : ℕ) (o : Option HandleRow) → Small rows → handle_at rows.handles fh ≡ o → is_some (access_in node o) ≡ true
+    → fh < 2 ^ 63
+open_small rows fh node None all is there = absurd cc
+open_small rows fh node (Some h) all is there =
+    let p = found FitsHandle (λ x. x.fh == fh) rows.handles h all.handles is in
+    let same : h.fh ≡ fh = eqb-true h.fh fh p.1 in
+    omega (arith, p.0.fh)
+
+-- ---- what a plan is
+
+pub record Fit (p : Planned) : Type 0 where
+  pub columns : FitColumns p.changes
+
+pub nothing : (p : Planned) → p.changes ≡ [] → Fit p
+nothing p none = record { columns = subst FitColumns (sym none) tt }
+
+-- behind a check that changes nothing
+pub past : (b : Bool) (p q : Planned) → p.changes ≡ [] → (b ≡ false → Fit q) → Fit (cond b p q)
+past true p q none so = nothing p none
+past false p q none so = so refl
+
+pub unless : (fault : Option Errno) (p : Planned) → (fault ≡ None → Fit p) → Fit (refused_for fault p)
+unless None p so = so refl
+unless (Some errno) p so = nothing _ refl
+
+pub joined : (xs ys : List Change) → FitColumns xs → FitColumns ys → FitColumns (xs ++ ys)
+joined [] ys all more = more
+joined (x ∷ xs) ys all more = (all.0, joined xs ys all.1 more)
