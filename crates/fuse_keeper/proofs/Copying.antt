@@ -30,7 +30,8 @@ copied_by true here old new rest a is found so none = is ∙ sym (found refl)
 copied_by false here old new rest a is found so none = is ∙ so none
 
 -- one entry more
-pub one_copied : (records : Records) (e : ℕ × Said) (left : List (ℕ × Said)) (old new : Records) → AreAmong records (e ∷ left) → AreCopied records (e ∷ left) old
+pub one_copied : (records : Records) (e : ℕ × Said) (left : List (ℕ × Said)) (old new : Records) → AreAmong records (e ∷ left)
+    → AreCopied records (e ∷ left) old
     → ((i : ℕ) → new i ≡ cond (nat_eq e.0 i) (Some e.1) (old i)) → AreCopied records left new
 one_copied records e left old new among so are i none =
     copied_by (nat_eq e.0 i) (records i) (old i) (new i) (lookup (nat_eq i) left) e.1 (are i)

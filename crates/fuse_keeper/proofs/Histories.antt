@@ -1,5 +1,6 @@
 -- How histories grow.
-use Rattle.std.proofs.Common.{◌≡◌, ℕ, Bool, true, false, ◌==◌, ◌||◌, ◌⊎◌, inl, inr, if◌then◌else◌, List, [], ◌∷◌, ◌++◌, map, Some, None, refl, ap, subst, ◌∙◌, arith}
+use Rattle.std.proofs.Common.{◌≡◌, ℕ, Bool, true, false, ◌==◌, ◌||◌, ◌⊎◌, inl, inr, if◌then◌else◌, List, [], ◌∷◌, ◌++◌, map, Some, None, refl, ap, subst, ◌∙◌}
+use Rattle.std.proofs.Common.{arith}
 use Rattle.fuse_answer.specs.Said.{Said, FitsAnswer}
 use Rattle.fuse_keeper.specs.Model.{Model, IsSoundModel}
 use Rattle.fuse_keeper.specs.History.{Entry, entry_id, History, next_state, answer_to, has, after, said, Distinct, add, grown, repeats}
@@ -33,14 +34,17 @@ pub said-append_old : (M : Model) → (s : M.State) (h : History) (e : Entry) (i
 unfolding has said
 said-append_old M s [] e i there = absurd (cc there)
 said-append_old M s (x ∷ h) e i there =
-    elim (entry_id x == i) as (λ b. (if b then true else has h i) ≡ true → (if b then Some (answer_to M s x) else said M (next_state M s x) (h ++ e ∷ []) i) ≡ (if b then Some (answer_to M s x) else said M (next_state M s x) h i))
+    elim (entry_id x == i) as (λ b. (if b then true else has h i) ≡ true → (if b then Some (answer_to M s x) else said M (next_state M s x) (h ++ e ∷ []) i) ≡
+        (if b then Some (answer_to M s x) else said M (next_state M s x) h i))
     [ true ↦ λ _. refl | false ↦ said-append_old M (next_state M s x) h e i ] there
 
-pub said-append_new : (M : Model) → (s : M.State) (h : History) (e : Entry) (i : ℕ) → has h i ≡ false → said M s (h ++ e ∷ []) i ≡ (if entry_id e == i then Some (answer_to M (after M s h) e) else None)
+pub said-append_new : (M : Model) → (s : M.State) (h : History) (e : Entry) (i : ℕ) → has h i ≡ false
+    → said M s (h ++ e ∷ []) i ≡ (if entry_id e == i then Some (answer_to M (after M s h) e) else None)
 unfolding has said after
 said-append_new M s [] e i none = refl
 said-append_new M s (x ∷ h) e i none =
-    elim (entry_id x == i) as (λ b. (if b then true else has h i) ≡ false → (if b then Some (answer_to M s x) else said M (next_state M s x) (h ++ e ∷ []) i) ≡ (if entry_id e == i then Some (answer_to M (after M (next_state M s x) h) e) else None))
+    elim (entry_id x == i) as (λ b. (if b then true else has h i) ≡ false → (if b then Some (answer_to M s x) else said M (next_state M s x) (h ++ e ∷ []) i) ≡
+        (if entry_id e == i then Some (answer_to M (after M (next_state M s x) h) e) else None))
     [ true ↦ λ isnt. absurd (cc isnt) | false ↦ said-append_new M (next_state M s x) h e i ] none
 
 other : (b : Bool) (c : Bool) → (if b then true else c) ≡ false → (b ≡ false) × (c ≡ false)

@@ -13,12 +13,15 @@ use Rattle.fuse_keeper.proofs.Standing.{Stands-same, Stands-rowed, Stands-start}
 use Rattle.fuse_keeper.proofs.Performing.{these_stand, stand_so}
 
 -- a crash leaves what is held now
-pub left_new : (M : Model) → (rows : M.Rows) (records : Records) (x : M.Rows) (r : Records) (s : M.State) (h : History) (t : List ℕ) → StandsBy M (AreThese M rows records) s h t → AreThese M rows records x r → Stands M x r s h t
+pub left_new : (M : Model) → (rows : M.Rows) (records : Records) (x : M.Rows) (r : Records) (s : M.State) (h : History) (t : List ℕ)
+    → StandsBy M (AreThese M rows records) s h t → AreThese M rows records x r → Stands M x r s h t
 left_new M rows records x r s h t so left = Stands-same M rows records x r s h t left (these_stand M rows records s h t so)
 
 -- and where nothing changed what was held before
-pub left_old : (M : Model) → (rows : M.Rows) (records : Records) (rows' : M.Rows) (records' : Records) (x : M.Rows) (r : Records) (s : M.State) (h : History) (t : List ℕ)
-    → StandsBy M (AreThese M rows records) s h t → KeepsHeldBy M (AreThese M rows records) (AreThese M rows' records') → AreThese M rows' records' x r → Stands M x r s h t
+pub left_old : (M : Model) → (rows : M.Rows) (records : Records) (rows' : M.Rows) (records' : Records) (x : M.Rows) (r : Records) (s : M.State) (h : History)
+    (t : List ℕ)
+    → StandsBy M (AreThese M rows records) s h t → KeepsHeldBy M (AreThese M rows records) (AreThese M rows' records') → AreThese M rows' records' x r
+        → Stands M x r s h t
 left_old M rows records rows' records' x r s h t so keeps left =
     let same = keeps rows records (refl, λ i. refl) in
     Stands-same M rows records x r s h t (left.0 ∙ sym same.0, λ i. left.1 i ∙ sym (same.1 i)) (these_stand M rows records s h t so)
@@ -26,11 +29,13 @@ left_old M rows records rows' records' x r s h t so keeps left =
 pub plain_firm : (M : Model) → (rows : M.Rows) (records : Records) → IsFirmBy M (AreThese M rows records) (Unit {0}) (AreThese M rows records)
 plain_firm M rows records = λ y q held. (tt, λ x r left. (left.0 ∙ sym held.0, λ i. left.1 i ∙ sym (held.1 i)))
 
-pub keeps_same : (M : Model) → (rows : M.Rows) (records : Records) (rows' : M.Rows) (records' : Records) → rows' ≡ rows → ((i : ℕ) → records' i ≡ records i) → KeepsHeldBy M (AreThese M rows records) (AreThese M rows' records')
+pub keeps_same : (M : Model) → (rows : M.Rows) (records : Records) (rows' : M.Rows) (records' : Records) → rows' ≡ rows → ((i : ℕ) → records' i ≡ records i)
+    → KeepsHeldBy M (AreThese M rows records) (AreThese M rows' records')
 keeps_same M rows records rows' records' is are = λ x r held. (held.0 ∙ sym is, λ i. held.1 i ∙ sym (are i))
 
 -- where it stands its rows are those of a tree
-pub rowed_where : (M : Model) → (rows : M.Rows) (records : Records) (s : M.State) (h : History) (t : List ℕ) → StandsBy M (AreThese M rows records) s h t → IsRowed M rows
+pub rowed_where : (M : Model) → (rows : M.Rows) (records : Records) (s : M.State) (h : History) (t : List ℕ) → StandsBy M (AreThese M rows records) s h t
+    → IsRowed M rows
 rowed_where M rows records s h t so = Stands-rowed M rows records s h t (these_stand M rows records s h t so)
 
 -- ---- starts
@@ -38,11 +43,13 @@ rowed_where M rows records s h t so = Stands-rowed M rows records s h t (these_s
 pub none_mapped : {S : Type 0} (m : HashMap ℕ Said S) → IsEmpty m → (i : ℕ) → mapped m i ≡ None
 none_mapped m empty i = ap (λ es. lookup (nat_eq i) es) empty
 
-pub starts : (M : Model) → (rows : M.Rows) (records : Records) (s : M.State) → M.IsGood s → rows ≡ M.held_for s → ((i : ℕ) → records i ≡ None) → StandsBy M (AreThese M rows records) s [] []
+pub starts : (M : Model) → (rows : M.Rows) (records : Records) (s : M.State) → M.IsGood s → rows ≡ M.held_for s → ((i : ℕ) → records i ≡ None)
+    → StandsBy M (AreThese M rows records) s [] []
 starts M rows records s tree is none = stand_so M rows records s [] [] (Stands-start M rows records s tree is none)
 
 -- a mount begins
-pub mount_begins : (M : Model) → (rows : M.Rows) (records : Records) (rows' : M.Rows) (records' : Records) (s : M.State) (h : History) (t : List ℕ) → Clears M rows rows' → ((i : ℕ) → records' i ≡ None)
+pub mount_begins : (M : Model) → (rows : M.Rows) (records : Records) (rows' : M.Rows) (records' : Records) (s : M.State) (h : History) (t : List ℕ)
+    → Clears M rows rows' → ((i : ℕ) → records' i ≡ None)
     → StandsBy M (AreThese M rows records) s h t → StandsBy M (AreThese M rows' records') (M.cleared (after M s h)) [] []
 mount_begins M rows records rows' records' s h t clears none so =
     let stands = these_stand M rows records s h t so in

@@ -1,5 +1,6 @@
 -- Records in a list, over others.
-use Rattle.std.proofs.Common.{◌≡◌, ℕ, Bool, true, false, ◌==◌, ◌⊎◌, inl, inr, if◌then◌else◌, List, [], ◌∷◌, ◌++◌, Option, Some, None, refl, sym, ap, subst, ◌∙◌, nat_eq, cond, arith, get_or}
+use Rattle.std.proofs.Common.{◌≡◌, ℕ, Bool, true, false, ◌==◌, ◌⊎◌, inl, inr, if◌then◌else◌, List, [], ◌∷◌, ◌++◌, Option, Some, None, refl, sym, ap, subst, ◌∙◌}
+use Rattle.std.proofs.Common.{nat_eq, cond, arith, get_or}
 use Rattle.fuse_wire.specs.declared.moment.Moment.{Moment}
 use Rattle.fuse_request.specs.declared.request.Request.{Request}
 use Rattle.fuse_answer.specs.Said.{Said}
@@ -50,7 +51,8 @@ absent_over true o p a none = ap (λ q. first_of q (Some a)) (none refl)
 absent_over false o p a none = refl
 
 -- one more at the end, of an id that has none
-pub one_more_over : (added : List Record) (r : Record) (records : Records) (i : ℕ) → over added records r.id ≡ None → over (added ++ r ∷ []) records i ≡ (if r.id == i then Some r.answer else over added records i)
+pub one_more_over : (added : List Record) (r : Record) (records : Records) (i : ℕ) → over added records r.id ≡ None
+    → over (added ++ r ∷ []) records i ≡ (if r.id == i then Some r.answer else over added records i)
 one_more_over added r records i none =
     over-append added (r ∷ []) records i ∙ ap (first_of (listed added i)) (one_over r records i)
     ∙ absent_over (r.id == i) (listed added i) (records i) r.answer
@@ -65,18 +67,22 @@ without-same settled records others i is = ap (λ (o : Option Said). if is_in se
 
 -- ---- an id that is known, and one that isn't
 
-pub took_known : (M : Model) → (rows : M.Rows) (records : Records) (e : Entry) (known : Said) (done : Done) → records (entry_id e) ≡ Some known → done.answer ≡ known → done.repeated ≡ true
+pub took_known : (M : Model) → (rows : M.Rows) (records : Records) (e : Entry) (known : Said) (done : Done) → records (entry_id e) ≡ Some known
+    → done.answer ≡ known → done.repeated ≡ true
     → Took M rows records e rows records done
 took_known M rows records e known done is answer repeated =
     rw is (refl, λ i. refl, answer, repeated)
 
-pub took_new : (M : Model) → (rows : M.Rows) (base : Records) (added : List Record) (e : Entry) (rows' : M.Rows) (r : Record) (added' : List Record) (done : Done)
-    → over added base (entry_id e) ≡ None → Acts M rows e rows' done.answer → added' ≡ added ++ r ∷ [] → r.id ≡ entry_id e → r.answer ≡ done.answer → done.repeated ≡ false
+pub took_new : (M : Model) → (rows : M.Rows) (base : Records) (added : List Record) (e : Entry) (rows' : M.Rows) (r : Record) (added' : List Record)
+    (done : Done)
+    → over added base (entry_id e) ≡ None → Acts M rows e rows' done.answer → added' ≡ added ++ r ∷ [] → r.id ≡ entry_id e → r.answer ≡ done.answer
+        → done.repeated ≡ false
     → Took M rows (over added base) e rows' (over added' base) done
 took_new M rows base added e rows' r added' done none acts is id answer repeated =
     rw none (acts, λ i. ap (λ l. over l base i) is ∙ one_more_over added r base i (ap (over added base) id ∙ none) ∙ rw (id, answer), repeated)
 
-took_rowed_by : (M : Model) → (o : Option Said) (rows : M.Rows) (records : Records) (e : Entry) (rows' : M.Rows) (records' : Records) (done : Done) → TookBy M o rows records e rows' records' done → IsRowed M rows → IsRowed M rows'
+took_rowed_by : (M : Model) → (o : Option Said) (rows : M.Rows) (records : Records) (e : Entry) (rows' : M.Rows) (records' : Records) (done : Done)
+    → TookBy M o rows records e rows' records' done → IsRowed M rows → IsRowed M rows'
 unfolding IsRowed
 took_rowed_by M (Some known) rows records e rows' records' done took (s, tree, is) = (s, tree, took.0 ∙ is)
 took_rowed_by M None rows records e rows' records' done took (s, tree, is) =
@@ -84,11 +90,13 @@ took_rowed_by M None rows records e rows' records' done took (s, tree, is) =
     (next_state M s e, acted.tree, acted.rows_are)
 
 -- the rows stay those of a tree
-pub took_rowed : (M : Model) → (rows : M.Rows) (records : Records) (e : Entry) (rows' : M.Rows) (records' : Records) (done : Done) → Took M rows records e rows' records' done → IsRowed M rows → IsRowed M rows'
+pub took_rowed : (M : Model) → (rows : M.Rows) (records : Records) (e : Entry) (rows' : M.Rows) (records' : Records) (done : Done)
+    → Took M rows records e rows' records' done → IsRowed M rows → IsRowed M rows'
 took_rowed M rows records e rows' records' done took so = took_rowed_by M (records (entry_id e)) rows records e rows' records' done took so
 
 -- of an entry of a group
-pub took_rowed_at : (M : Model) → (group : List (Request × Moment)) (i : ℕ) (d : Request × Moment) (rows : M.Rows) (records : Records) (rows' : M.Rows) (records' : Records) (done : Done)
+pub took_rowed_at : (M : Model) → (group : List (Request × Moment)) (i : ℕ) (d : Request × Moment) (rows : M.Rows) (records : Records) (rows' : M.Rows)
+    (records' : Records) (done : Done)
     → Took M rows records (entry_of (get_or group i d)) rows' records' done → IsRowed M rows → IsRowed M rows'
 took_rowed_at M group i d rows records rows' records' done took so = took_rowed M rows records (entry_of (get_or group i d)) rows' records' done took so
 
@@ -97,18 +105,21 @@ took_rowed_at M group i d rows records rows' records' done took so = took_rowed 
 pub known_added : (added : List Record) (base : Records) (id : ℕ) (a : Said) → Some a ≡ listed added id → Some a ≡ over added base id
 known_added added base id a is = ap (λ o. first_of o (base id)) is
 
-pub known_settled : (added : List Record) (settled : List ℕ) (records : Records) (id : ℕ) → None ≡ listed added id → is_in settled id ≡ true → None ≡ over added (without settled records) id
+pub known_settled : (added : List Record) (settled : List ℕ) (records : Records) (id : ℕ) → None ≡ listed added id → is_in settled id ≡ true
+    → None ≡ over added (without settled records) id
 known_settled added settled records id none is =
     sym (ap (λ (b : Bool). if b then None else records id) is) ∙ ap (λ o. first_of o (without settled records id)) none
 
-pub known_old : (added : List Record) (settled : List ℕ) (records : Records) (id : ℕ) (o : Option Said) → None ≡ listed added id → is_in settled id ≡ false → o ≡ records id → o ≡ over added (without settled records) id
+pub known_old : (added : List Record) (settled : List ℕ) (records : Records) (id : ℕ) (o : Option Said) → None ≡ listed added id → is_in settled id ≡ false
+    → o ≡ records id → o ≡ over added (without settled records) id
 known_old added settled records id o none isnt is =
     is ∙ sym (ap (λ (b : Bool). if b then None else records id) isnt) ∙ ap (λ p. first_of p (without settled records id)) none
 
 -- ---- steps
 
 -- nothing is taken yet
-pub begun : (M : Model) → (rows rows' : M.Rows) (records : Records) (added : List Record) (dones : List Done) (s : M.State) (h : History) (t : List ℕ) → rows' ≡ rows → added ≡ [] → dones ≡ []
+pub begun : (M : Model) → (rows rows' : M.Rows) (records : Records) (added : List Record) (dones : List Done) (s : M.State) (h : History) (t : List ℕ)
+    → rows' ≡ rows → added ≡ [] → dones ≡ []
     → Stands M rows records s h t → PerformedBy M (AreThese M rows' (over added records)) s h t [] dones
 begun M rows rows' records added dones s h t is none empty so =
     subst (λ (ds : List Done). PerformedBy M (AreThese M rows' (over added records)) s h t [] ds) (sym empty)
@@ -125,7 +136,8 @@ pub gone_step : (x : ℕ) (rest : List ℕ) (m m' : Records) (i : ℕ) → m' i 
 gone_step x rest m m' i is = gone_step_by (x == i) (is_in rest i) (m i) (m' i) is
 
 -- the last record of a list is put
-pub put_step : (front : List Record) (r : Record) (m m' : Records) (i : ℕ) → m' i ≡ (if r.id == i then Some r.answer else m i) → over front m' i ≡ over (front ++ r ∷ []) m i
+pub put_step : (front : List Record) (r : Record) (m m' : Records) (i : ℕ) → m' i ≡ (if r.id == i then Some r.answer else m i)
+    → over front m' i ≡ over (front ++ r ∷ []) m i
 put_step front r m m' i is = ap (first_of (listed front i)) (is ∙ sym (one_over r m i)) ∙ sym (over-append front (r ∷ []) m i)
 
 -- ---- the other ids
@@ -151,7 +163,8 @@ pushed_last true k i is there = sym (same_number k i is)
 pushed_last false k i is there = absurd (cc there)
 
 -- the ids of those added, with one more
-pub ids_pushed : (added new : List Record) (r : Record) (k i : ℕ) → r.id ≡ k → new ≡ added ++ r ∷ [] → is_in (record_ids new) i ≡ true → (is_in (record_ids added) i ≡ true) ⊎ (i ≡ k)
+pub ids_pushed : (added new : List Record) (r : Record) (k i : ℕ) → r.id ≡ k → new ≡ added ++ r ∷ [] → is_in (record_ids new) i ≡ true
+    → (is_in (record_ids added) i ≡ true) ⊎ (i ≡ k)
 ids_pushed added new r k i same is there = elim (tested (is_in (record_ids added) i)) [
   | inl before ↦ inl before
   | inr absent ↦ inr (pushed_last (r.id == i) r.id i refl
@@ -162,7 +175,8 @@ ids_pushed added new r k i same is there = elim (tested (is_in (record_ids added
 
 -- ---- a group over the records that aren't settled
 
-pub performed_settled : (M : Model) → (rows : M.Rows) (records : Records) (settled : List ℕ) (added : List Record) (rows' : M.Rows) (reserved records' : Records) (s : M.State) (h : History) (t : List ℕ) (es : List Entry) (dones : List Done)
+pub performed_settled : (M : Model) → (rows : M.Rows) (records : Records) (settled : List ℕ) (added : List Record) (rows' : M.Rows)
+    (reserved records' : Records) (s : M.State) (h : History) (t : List ℕ) (es : List Entry) (dones : List Done)
     → Includes t settled → StandsBy M (AreThese M rows records) s h t
     → (Stands M rows (without settled records) s h t → PerformedBy M (AreThese M rows' (over added (without settled records))) s h t es dones)
     → ((i : ℕ) → reserved i ≡ records i) → ((i : ℕ) → records' i ≡ over added (without settled reserved) i)

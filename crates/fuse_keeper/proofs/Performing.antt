@@ -1,5 +1,6 @@
 -- How a group is performed, one entry after another.
-use Rattle.std.proofs.Common.{◌≡◌, ℕ, ◌+◌, ◌<◌, zero, suc, Bool, true, false, ◌==◌, ◌||◌, ◌⊎◌, inl, inr, if◌then◌else◌, List, [], ◌∷◌, ◌++◌, length, map, take, get_or, All, Option, Some, refl, sym, ap, ◌∙◌, arith}
+use Rattle.std.proofs.Common.{◌≡◌, ℕ, ◌+◌, ◌<◌, zero, suc, Bool, true, false, ◌==◌, ◌||◌, ◌⊎◌, inl, inr, if◌then◌else◌, List, [], ◌∷◌, ◌++◌, length, map, take}
+use Rattle.std.proofs.Common.{get_or, All, Option, Some, refl, sym, ap, ◌∙◌, arith}
 use Rattle.std.proofs.lemmas.List.{take_more}
 use Rattle.fuse_wire.specs.declared.moment.Moment.{Moment}
 use Rattle.fuse_request.specs.declared.request.Request.{Request}
@@ -25,22 +26,27 @@ told_is M s h (e ∷ es) =
     let rest = told_is M s (add h e) es in
     cc
 
-pub told-append : (M : Model) → (s : M.State) (h : History) (es : List Entry) (e : Entry) → told M s h (es ++ e ∷ []) ≡ told M s h es ++ said M s (add (grown h es) e) (entry_id e) ∷ []
+pub told-append : (M : Model) → (s : M.State) (h : History) (es : List Entry) (e : Entry) → told M s h (es ++ e ∷ []) ≡ told M s h es
+    ++ said M s (add (grown h es) e) (entry_id e) ∷ []
 told-append M s h [] e = refl
 told-append M s h (x ∷ es) e = ap (λ r. said M s (add h x) (entry_id x) ∷ r) (told-append M s (add h x) es e)
 
 -- ---- these rows and records stand
 
-pub these_stand : (M : Model) → (rows : M.Rows) (records : Records) (s : M.State) (h : History) (t : List ℕ) → StandsBy M (AreThese M rows records) s h t → Stands M rows records s h t
+pub these_stand : (M : Model) → (rows : M.Rows) (records : Records) (s : M.State) (h : History) (t : List ℕ) → StandsBy M (AreThese M rows records) s h t
+    → Stands M rows records s h t
 these_stand M rows records s h t so = Stands-same M so.rows so.records rows records s h t (sym so.held.0, λ i. sym (so.held.1 i)) so.stands
 
-pub stand_so : (M : Model) → (rows : M.Rows) (records : Records) (s : M.State) (h : History) (t : List ℕ) → Stands M rows records s h t → StandsBy M (AreThese M rows records) s h t
+pub stand_so : (M : Model) → (rows : M.Rows) (records : Records) (s : M.State) (h : History) (t : List ℕ) → Stands M rows records s h t
+    → StandsBy M (AreThese M rows records) s h t
 stand_so M rows records s h t so = record { rows = rows; records = records; held = (refl, λ i. refl); stands = so }
 
-pub PerformedBy-same : (M : Model) → (rows : M.Rows) (records : Records) (rows' : M.Rows) (records' : Records) (s : M.State) (h : History) (t : List ℕ) (es : List Entry) (dones : List Done)
+pub PerformedBy-same : (M : Model) → (rows : M.Rows) (records : Records) (rows' : M.Rows) (records' : Records) (s : M.State) (h : History) (t : List ℕ)
+    (es : List Entry) (dones : List Done)
     → AreThese M rows records rows' records' → PerformedBy M (AreThese M rows records) s h t es dones → PerformedBy M (AreThese M rows' records') s h t es dones
 PerformedBy-same M rows records rows' records' s h t es dones same does = record {
-  stands = stand_so M rows' records' s (grown h es) t (Stands-same M rows records rows' records' s (grown h es) t same (these_stand M rows records s (grown h es) t does.stands));
+  stands = stand_so M rows' records' s (grown h es) t (Stands-same M rows records rows' records' s (grown h es) t same
+      (these_stand M rows records s (grown h es) t does.stands));
   answers = does.answers;
   repeated = does.repeated;
 }
@@ -48,35 +54,44 @@ PerformedBy-same M rows records rows' records' s h t es dones same does = record
 -- ---- one after another
 
 -- nothing performed yet
-pub none_yet : (M : Model) → (rows : M.Rows) (records : Records) (s : M.State) (h : History) (t : List ℕ) → Stands M rows records s h t → PerformedBy M (AreThese M rows records) s h t [] []
+pub none_yet : (M : Model) → (rows : M.Rows) (records : Records) (s : M.State) (h : History) (t : List ℕ) → Stands M rows records s h t
+    → PerformedBy M (AreThese M rows records) s h t [] []
 none_yet M rows records s h t so = record { stands = stand_so M rows records s h t so; answers = refl; repeated = refl }
 
 -- one more
-pub one_more : (M : Model) → (rows : M.Rows) (records : Records) (e : Entry) (rows' : M.Rows) (records' : Records) (done : Done) (s : M.State) (h : History) (t : List ℕ) (es : List Entry) (dones : List Done)
-    → is_in t (entry_id e) ≡ false → Took M rows records e rows' records' done → PerformedBy M (AreThese M rows records) s h t es dones → PerformedBy M (AreThese M rows' records') s h t (es ++ e ∷ []) (dones ++ done ∷ [])
+pub one_more : (M : Model) → (rows : M.Rows) (records : Records) (e : Entry) (rows' : M.Rows) (records' : Records) (done : Done) (s : M.State) (h : History)
+    (t : List ℕ) (es : List Entry) (dones : List Done)
+    → is_in t (entry_id e) ≡ false → Took M rows records e rows' records' done → PerformedBy M (AreThese M rows records) s h t es dones
+        → PerformedBy M (AreThese M rows' records') s h t (es ++ e ∷ []) (dones ++ done ∷ [])
 one_more M rows records e rows' records' done s h t es dones fresh took so_far =
     let step = advanced M rows records e rows' records' done s (grown h es) t fresh took (these_stand M rows records s (grown h es) t so_far.stands) in
     let grows = grown-append h es (e ∷ []) in
     record {
       stands = rw grows (stand_so M rows' records' s (add (grown h es) e) t step.stands);
-      answers = map-append (λ d. Some d.answer) dones (done ∷ []) ∙ ap (λ r. r ++ Some done.answer ∷ []) (so_far.answers ∙ told_is M s h es) ∙ ap (λ o. told M s h es ++ o ∷ []) (sym step.answer) ∙ sym (told-append M s h es e) ∙ sym (told_is M s h (es ++ e ∷ []));
-      repeated = map-append (λ d. d.repeated) dones (done ∷ []) ∙ ap (λ r. r ++ done.repeated ∷ []) so_far.repeated ∙ ap (λ b. repeats h es ++ b ∷ []) step.repeated ∙ sym (repeats-append h es e);
+      answers = map-append (λ d. Some d.answer) dones (done ∷ []) ∙ ap (λ r. r ++ Some done.answer ∷ []) (so_far.answers ∙ told_is M s h es)
+          ∙ ap (λ o. told M s h es ++ o ∷ []) (sym step.answer) ∙ sym (told-append M s h es e) ∙ sym (told_is M s h (es ++ e ∷ []));
+      repeated = map-append (λ d. d.repeated) dones (done ∷ []) ∙ ap (λ r. r ++ done.repeated ∷ []) so_far.repeated
+          ∙ ap (λ b. repeats h es ++ b ∷ []) step.repeated ∙ sym (repeats-append h es e);
     }
 
 -- what holds of each entry of a group holds at its place
-pub entry_at_place : (P : Entry → Type 0) (group : List (Request × Moment)) (i : ℕ) (d : Request × Moment) → i < length group → All P (entries_of group) → P (entry_of (get_or group i d))
+pub entry_at_place : (P : Entry → Type 0) (group : List (Request × Moment)) (i : ℕ) (d : Request × Moment) → i < length group → All P (entries_of group)
+    → P (entry_of (get_or group i d))
 entry_at_place P [] i d lt each = absurd (omega arith)
 entry_at_place P (x ∷ group) zero d lt each = each zero (entry_of x) (omega arith)
 entry_at_place P (x ∷ group) (suc i) d lt each = entry_at_place P group i d (omega arith) (λ k z below. each (suc k) z (omega (arith, below)))
 
 -- one more of a group
-pub one_more_of : (M : Model) → (group : List (Request × Moment)) (i : ℕ) (d : Request × Moment) (rows : M.Rows) (records : Records) (rows' : M.Rows) (records' : Records) (done : Done) (s : M.State) (h : History) (t : List ℕ) (dones dones' : List Done)
-    → i < length group → All (IsUnsettled t) (entries_of group) → Took M rows records (entry_of (get_or group i d)) rows' records' done → PerformedBy M (AreThese M rows records) s h t (entries_of (take i group)) dones
+pub one_more_of : (M : Model) → (group : List (Request × Moment)) (i : ℕ) (d : Request × Moment) (rows : M.Rows) (records : Records) (rows' : M.Rows)
+    (records' : Records) (done : Done) (s : M.State) (h : History) (t : List ℕ) (dones dones' : List Done)
+    → i < length group → All (IsUnsettled t) (entries_of group) → Took M rows records (entry_of (get_or group i d)) rows' records' done
+        → PerformedBy M (AreThese M rows records) s h t (entries_of (take i group)) dones
     → dones' ≡ dones ++ done ∷ [] → PerformedBy M (AreThese M rows' records') s h t (entries_of (take (i + 1) group)) dones'
 one_more_of M group i d rows records rows' records' done s h t dones dones' lt fresh took so_far is =
     let e = entry_of (get_or group i d) in
     let all = ap entries_of (take_more group i d lt) ∙ map-append entry_of (take i group) (get_or group i d ∷ []) in
-    rw (is, all) (one_more M rows records e rows' records' done s h t (entries_of (take i group)) dones (entry_at_place (IsUnsettled t) group i d lt fresh) took so_far)
+    rw (is, all) (one_more M rows records e rows' records' done s h t (entries_of (take i group)) dones (entry_at_place (IsUnsettled t) group i d lt fresh) took
+        so_far)
 
 -- ---- the ids of a group
 
@@ -104,8 +119,11 @@ pub ids_more : (group : List (Request × Moment)) (n : ℕ) (d : Request × Mome
     → Includes (ids_in (entries_of (take (n + 1) group))) new
 ids_more group n d old new lt within adds i there =
     let parts : ids_in (entries_of (take (n + 1) group)) ≡ ids_in (entries_of (take n group)) ++ entry_id (entry_of (get_or group n d)) ∷ [] =
-    ap ids_in (ap entries_of (take_more group n d lt) ∙ map-append entry_of (take n group) (get_or group n d ∷ [])) ∙ map-append entry_id (entries_of (take n group)) (entry_of (get_or group n d) ∷ []) in
+    ap ids_in (ap entries_of (take_more group n d lt) ∙ map-append entry_of (take n group) (get_or group n d ∷ []))
+        ∙ map-append entry_id (entries_of (take n group)) (entry_of (get_or group n d) ∷ []) in
     ap (λ l. is_in l i) parts ∙ elim (adds i there) [
       | inl before ↦ includes_left (ids_in (entries_of (take n group))) (entry_id (entry_of (get_or group n d)) ∷ []) i (within i before)
-      | inr is ↦ includes_right (ids_in (entries_of (take n group))) (entry_id (entry_of (get_or group n d)) ∷ []) i (ap (is_in (entry_id (entry_of (get_or group n d)) ∷ [])) is ∙ ap (λ (b : Bool). if b then true else false) (same_id (entry_id (entry_of (get_or group n d)))))
+      | inr is ↦ includes_right (ids_in (entries_of (take n group))) (entry_id (entry_of (get_or group n d)) ∷ []) i
+          (ap (is_in (entry_id (entry_of (get_or group n d)) ∷ [])) is ∙ ap (λ (b : Bool). if b then true else false)
+          (same_id (entry_id (entry_of (get_or group n d)))))
     ]

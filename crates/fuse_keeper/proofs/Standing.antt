@@ -1,18 +1,21 @@
 -- What stands for a history, and how one entry more is taken.
-use Rattle.std.proofs.Common.{◌≡◌, ℕ, Bool, true, false, ◌==◌, inl, inr, if◌then◌else◌, List, [], ◌∷◌, ◌++◌, Option, Some, None, refl, sym, ap, subst, ◌∙◌, arith}
+use Rattle.std.proofs.Common.{◌≡◌, ℕ, Bool, true, false, ◌==◌, inl, inr, if◌then◌else◌, List, [], ◌∷◌, ◌++◌, Option, Some, None, refl, sym, ap, subst, ◌∙◌}
+use Rattle.std.proofs.Common.{arith}
 use Rattle.fuse_answer.specs.Said.{Said}
 use Rattle.fuse_keeper.specs.Model.{Model, IsRowed}
 use Rattle.fuse_keeper.specs.declared.keeper.Done.{Done}
 use Rattle.fuse_keeper.specs.History.{Entry, entry_id, History, answer_to, has, after, said, add, is_in, Includes}
 use Rattle.fuse_keeper.specs.Stands.{Records, Stands, AreThese}
 use Rattle.fuse_keeper.specs.Taking.{ActedOn, TookBy, Took}
-use Rattle.fuse_keeper.proofs.Histories.{tested, after-append, said_none, said-append_old, said-append_new, Distinct-append, add_old, add_new, same_id, found, isnt_there, no_history, nothing_said, Distinct-none}
+use Rattle.fuse_keeper.proofs.Histories.{tested, after-append, said_none, said-append_old, said-append_new, Distinct-append, add_old, add_new, same_id, found}
+use Rattle.fuse_keeper.proofs.Histories.{isnt_there, no_history, nothing_said, Distinct-none}
 
 pub same_number : (k i : ℕ) → (k == i) ≡ true → k ≡ i
 same_number k i same = grind arith
 
 -- the rows and records once more
-pub Stands-same : (M : Model) → (rows : M.Rows) (records : Records) (x : M.Rows) (r : Records) (s : M.State) (h : History) (t : List ℕ) → AreThese M rows records x r → Stands M rows records s h t → Stands M x r s h t
+pub Stands-same : (M : Model) → (rows : M.Rows) (records : Records) (x : M.Rows) (r : Records) (s : M.State) (h : History) (t : List ℕ)
+    → AreThese M rows records x r → Stands M rows records s h t → Stands M x r s h t
 Stands-same M rows records x r s h t same so = record {
   tree = so.tree;
   distinct = so.distinct;
@@ -27,7 +30,8 @@ unfolding IsRowed
 Stands-rowed M rows records s h t so = (after M s h, so.tree, so.rows_are)
 
 -- a start stands for the empty history
-pub Stands-start : (M : Model) → (rows : M.Rows) (records : Records) (s : M.State) → M.IsGood s → rows ≡ M.held_for s → ((i : ℕ) → records i ≡ None) → Stands M rows records s [] []
+pub Stands-start : (M : Model) → (rows : M.Rows) (records : Records) (s : M.State) → M.IsGood s → rows ≡ M.held_for s → ((i : ℕ) → records i ≡ None)
+    → Stands M rows records s [] []
 Stands-start M rows records s tree is none = record {
   tree = subst M.IsGood (sym (no_history M s)) tree;
   distinct = Distinct-none;
@@ -45,7 +49,8 @@ apart h k i there none = elim (tested (k == i)) [
 ]
 
 -- the record of each id, with one more
-more_record : (M : Model) → (s : M.State) (h : History) (e : Entry) (i : ℕ) (o : Option Said) (a : Said) → has h (entry_id e) ≡ false → a ≡ answer_to M (after M s h) e
+more_record : (M : Model) → (s : M.State) (h : History) (e : Entry) (i : ℕ) (o : Option Said) (a : Said) → has h (entry_id e) ≡ false
+    → a ≡ answer_to M (after M s h) e
     → o ≡ said M s h i → (if entry_id e == i then Some a else o) ≡ said M s (h ++ e ∷ []) i
 more_record M s h e i o a none is so = elim (tested (has h i)) [
   | inl there ↦ ap (λ (b : Bool). if b then Some a else o) (apart h (entry_id e) i there none) ∙ so ∙ sym (said-append_old M s h e i there)
@@ -54,7 +59,8 @@ more_record M s h e i o a none is so = elim (tested (has h i)) [
       ∙ sym (said-append_new M s h e i isnt)
 ]
 
-more_right_by : (M : Model) → (b : Bool) (s : M.State) (h : History) (e : Entry) (i : ℕ) (o : Option Said) (a new : Said) → (entry_id e == i) ≡ b → has h (entry_id e) ≡ false → new ≡ answer_to M (after M s h) e
+more_right_by : (M : Model) → (b : Bool) (s : M.State) (h : History) (e : Entry) (i : ℕ) (o : Option Said) (a new : Said) → (entry_id e == i) ≡ b
+    → has h (entry_id e) ≡ false → new ≡ answer_to M (after M s h) e
     → (o ≡ Some a → said M s h i ≡ Some a)
     → (if b then Some new else o) ≡ Some a → said M s (h ++ e ∷ []) i ≡ Some a
 more_right_by M true s h e i o a new same none new_is so is =
@@ -64,13 +70,15 @@ more_right_by M false s h e i o a new same none new_is so is =
     said-append_old M s h e i (found M s h i a (so is)) ∙ so is
 
 -- each record is still what was said
-more_right : (M : Model) → (s : M.State) (h : History) (e : Entry) (i : ℕ) (o : Option Said) (a new : Said) → has h (entry_id e) ≡ false → new ≡ answer_to M (after M s h) e
+more_right : (M : Model) → (s : M.State) (h : History) (e : Entry) (i : ℕ) (o : Option Said) (a new : Said) → has h (entry_id e) ≡ false
+    → new ≡ answer_to M (after M s h) e
     → (o ≡ Some a → said M s h i ≡ Some a)
     → (if entry_id e == i then Some new else o) ≡ Some a → said M s (h ++ e ∷ []) i ≡ Some a
 more_right M s h e i o a new none new_is so is = more_right_by M (entry_id e == i) s h e i o a new refl none new_is so is
 
 -- an entry acts
-pub Stands-more : (M : Model) → (rows : M.Rows) (records : Records) (s : M.State) (h : History) (t : List ℕ) (e : Entry) (rows' : M.Rows) (records' : Records) (answer : Said)
+pub Stands-more : (M : Model) → (rows : M.Rows) (records : Records) (s : M.State) (h : History) (t : List ℕ) (e : Entry) (rows' : M.Rows) (records' : Records)
+    (answer : Said)
     → has h (entry_id e) ≡ false → Stands M rows records s h t → ActedOn M (after M s h) e rows' answer
     → ((i : ℕ) → records' i ≡ (if entry_id e == i then Some answer else records i))
     → Stands M rows' records' s (h ++ e ∷ []) t
@@ -95,7 +103,8 @@ unsettled_too all some i within isnt = elim (tested (is_in some i)) [
 ]
 
 -- the records of settled ids may go
-pub Stands-without : (M : Model) → (rows : M.Rows) (records : Records) (s : M.State) (h : History) (t settled : List ℕ) (records' : Records) → Includes t settled
+pub Stands-without : (M : Model) → (rows : M.Rows) (records : Records) (s : M.State) (h : History) (t settled : List ℕ) (records' : Records)
+    → Includes t settled
     → ((i : ℕ) → records' i ≡ (if is_in settled i then None else records i)) → Stands M rows records s h t → Stands M rows records' s h t
 Stands-without M rows records s h t settled records' within are so = record {
   tree = so.tree;
@@ -106,7 +115,8 @@ Stands-without M rows records s h t settled records' within are so = record {
 }
 
 -- more may be settled
-pub Stands-settled : (M : Model) → (rows : M.Rows) (records : Records) (s : M.State) (h : History) (t more : List ℕ) → Includes more t → Stands M rows records s h t → Stands M rows records s h more
+pub Stands-settled : (M : Model) → (rows : M.Rows) (records : Records) (s : M.State) (h : History) (t more : List ℕ) → Includes more t
+    → Stands M rows records s h t → Stands M rows records s h more
 Stands-settled M rows records s h t more within so = record {
   tree = so.tree;
   distinct = so.distinct;
@@ -123,8 +133,10 @@ pub record Advanced (M : Model) (rows' : M.Rows) (records' : Records) (s : M.Sta
   pub answer : said M s (add h e) (entry_id e) ≡ Some done.answer
   pub repeated : done.repeated ≡ has h (entry_id e)
 
-advanced_by : (M : Model) → (o : Option Said) (rows : M.Rows) (records : Records) (e : Entry) (rows' : M.Rows) (records' : Records) (done : Done) (s : M.State) (h : History) (t : List ℕ)
-    → is_in t (entry_id e) ≡ false → records (entry_id e) ≡ o → TookBy M o rows records e rows' records' done → Stands M rows records s h t → Advanced M rows' records' s h t e done
+advanced_by : (M : Model) → (o : Option Said) (rows : M.Rows) (records : Records) (e : Entry) (rows' : M.Rows) (records' : Records) (done : Done) (s : M.State)
+    (h : History) (t : List ℕ)
+    → is_in t (entry_id e) ≡ false → records (entry_id e) ≡ o → TookBy M o rows records e rows' records' done → Stands M rows records s h t
+        → Advanced M rows' records' s h t e done
 advanced_by M (Some known) rows records e rows' records' done s h t fresh is took so =
     let says = sym (so.kept (entry_id e) fresh) ∙ is in
     let there = found M s h (entry_id e) known says in
@@ -140,13 +152,16 @@ advanced_by M None rows records e rows' records' done s h t fresh is took so =
     let acted = took.0 (after M s h) so.tree so.rows_are in
     let stands = Stands-more M rows records s h t e rows' records' done.answer none so acted took.1 in
     let new : said M s (h ++ e ∷ []) (entry_id e) ≡ Some done.answer =
-    said-append_new M s h e (entry_id e) none ∙ ap (λ (b : Bool). if b then Some (answer_to M (after M s h) e) else None) (same_id (entry_id e)) ∙ ap Some (sym acted.answer_is) in
+    said-append_new M s h e (entry_id e) none ∙ ap (λ (b : Bool). if b then Some (answer_to M (after M s h) e) else None) (same_id (entry_id e))
+        ∙ ap Some (sym acted.answer_is) in
     record {
       stands = rw (add_new h e none) stands;
       answer = rw (add_new h e none) new;
       repeated = took.2 ∙ sym none;
     }
 
-pub advanced : (M : Model) → (rows : M.Rows) (records : Records) (e : Entry) (rows' : M.Rows) (records' : Records) (done : Done) (s : M.State) (h : History) (t : List ℕ)
+pub advanced : (M : Model) → (rows : M.Rows) (records : Records) (e : Entry) (rows' : M.Rows) (records' : Records) (done : Done) (s : M.State) (h : History)
+    (t : List ℕ)
     → is_in t (entry_id e) ≡ false → Took M rows records e rows' records' done → Stands M rows records s h t → Advanced M rows' records' s h t e done
-advanced M rows records e rows' records' done s h t fresh took so = advanced_by M (records (entry_id e)) rows records e rows' records' done s h t fresh refl took so
+advanced M rows records e rows' records' done s h t fresh took so =
+    advanced_by M (records (entry_id e)) rows records e rows' records' done s h t fresh refl took so

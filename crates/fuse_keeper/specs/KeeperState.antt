@@ -118,7 +118,8 @@ DropsLots old new = new.is_honest → WhereHeld old (AreGone new.lots)
 
 -- a crash leaves the mount of before, or the one that begins
 abbrev pub LeavesMount : {M : Model} → KeeperState M → KeeperState M → Type 0
-LeavesMount {M} old new = (s : M.State) (h : History) (t : List ℕ) → StandsFor old s h t → IsFirm old → Leaves new (StandsForEither M s h t (M.cleared (after M s h)) [] [])
+LeavesMount {M} old new = (s : M.State) (h : History) (t : List ℕ) → StandsFor old s h t → IsFirm old
+    → Leaves new (StandsForEither M s h t (M.cleared (after M s h)) [] [])
 
 -- a keeper that was opened again over what the old one stood on
 pub record Reopened {M : Model} (old new : KeeperState M) : Type 0 where

@@ -27,7 +27,8 @@ pub record StandsBy (M : Model) (holds : M.Rows → Records → Type 0) (s : M.S
   pub stands : Stands M rows records s h settled
 
 -- a group was performed: the history grew by it, and each answer is the one said in it
-pub record PerformedBy (M : Model) (holds : M.Rows → Records → Type 0) (s : M.State) (h : History) (settled : List ℕ) (group : List Entry) (dones : List Done) : Type 0 where
+pub record PerformedBy (M : Model) (holds : M.Rows → Records → Type 0) (s : M.State) (h : History) (settled : List ℕ) (group : List Entry)
+    (dones : List Done) : Type 0 where
   pub stands : StandsBy M holds s (grown h group) settled
   pub answers : map (λ d. Some d.answer) dones ≡ map (λ e. said M s (grown h group) (entry_id e)) group
   pub repeated : map (λ d. d.repeated) dones ≡ repeats h group

@@ -1,5 +1,6 @@
 -- Known bytes, one piece after another.
-use Rattle.std.proofs.Common.{◌≡◌, ◌<◌, ◌+◌, ◌-◌, ℕ, true, false, ◌==◌, if◌then◌else◌, List, [], ◌∷◌, ◌++◌, length, take, drop, Option, Some, None, refl, sym, ap, subst, ◌∙◌, append_assoc, arith}
+use Rattle.std.proofs.Common.{◌≡◌, ◌<◌, ◌+◌, ◌-◌, ℕ, true, false, ◌==◌, if◌then◌else◌, List, [], ◌∷◌, ◌++◌, length, take, drop, Option, Some, None, refl, sym}
+use Rattle.std.proofs.Common.{ap, subst, ◌∙◌, append_assoc, arith}
 use Rattle.std.proofs.lemmas.List.{append-nil, take-append-drop, take_all, length-drop}
 use Rattle.std.specs.Io.KnownBytes.{Keeps, Appends, Consumes}
 use Rattle.fuse_session.specs.declared.port.Sent.{Sent}
@@ -85,13 +86,15 @@ empty_behind [] ys is = is
 empty_behind (x ∷ xs) ys is = absurd (cc is)
 
 -- nobody waits for it
-pub front_gone : (old mid new : PortState) (bytes rest : List ℕ) → (rest ≡ [] → ⊥) → SentFront old mid bytes rest → Sends mid new Gone rest → SentWhole old new bytes true
+pub front_gone : (old mid new : PortState) (bytes rest : List ℕ) → (rest ≡ [] → ⊥) → SentFront old mid bytes rest → Sends mid new Gone rest
+    → SentWhole old new bytes true
 front_gone old mid new bytes rest some one two =
     let is : take two.count rest ≡ rest = take_all two.count rest (omega (arith, two.counts)) in
     let place = two.gone in
     record {
       some = λ none. absurd (some (empty_behind one.part rest (sym one.parts ∙ none)));
-      sent = subst (Appends old.sent new.sent) (sym one.parts) (appends_more old.sent mid.sent new.sent one.part rest one.sent (subst (Appends mid.sent new.sent) is two.sent));
+      sent = subst (Appends old.sent new.sent) (sym one.parts)
+          (appends_more old.sent mid.sent new.sent one.part rest one.sent (subst (Appends mid.sent new.sent) is two.sent));
       failures = two.failures ∙ omega (arith, one.failures);
       gone = (place.0, place.1 ∙ ap (λ (g : List ℕ). g ++ (place.0 ∷ [])) one.gone, place.2);
       quiet = quiet_more old mid new one.quiet two.quiet;
@@ -108,7 +111,8 @@ front_whole old new bytes rest none one = record {
 }
 
 -- the port failed
-pub front_failed : (old mid new : PortState) (bytes rest : List ℕ) (result : Sent) → mid.failures < new.failures → new.gone ≡ mid.gone → SentFront old mid bytes rest → Sends mid new result rest
+pub front_failed : (old mid new : PortState) (bytes rest : List ℕ) (result : Sent) → mid.failures < new.failures → new.gone ≡ mid.gone
+    → SentFront old mid bytes rest → Sends mid new result rest
     → SentPart old new bytes
 front_failed old mid new bytes rest result more same one two = record {
   part = one.part ++ take two.count rest;
@@ -120,6 +124,7 @@ front_failed old mid new bytes rest result more same one two = record {
   quiet = quiet_more old mid new one.quiet two.quiet;
 }
 
-pub took_nothing : (n : ℕ) (rest : List ℕ) (old new : ℕ) → n ≡ 0 → (rest ≡ [] → ⊥) → new ≡ old + (if n == 0 then (if length rest == 0 then 0 else 1) else 0) → old < new
+pub took_nothing : (n : ℕ) (rest : List ℕ) (old new : ℕ) → n ≡ 0 → (rest ≡ [] → ⊥) → new ≡ old + (if n == 0 then (if length rest == 0 then 0 else 1) else 0)
+    → old < new
 took_nothing n [] old new none some is = absurd (some refl)
 took_nothing n (x ∷ rest) old new none some is = grind arith

@@ -32,12 +32,14 @@ counted-append h (x ∷ xs) ys =
     ∙ ap (λ f. plus one (plus (counted g xs) (counted f ys))) (sym (grown-append h (entries_at x) (kept_in xs)))
     ∙ sym (plus_assoc one (counted g xs) (counted (grown h (entries_at x ++ kept_in xs)) ys))
 
-tally_one : (h : History) (e : Entry) (es : List Entry) (class : Class) (i : Bool) → counted_one class (head_repeat (repeats h (entry_if class e ++ es))) i ≡ counted_one class (has h (entry_id e)) i
+tally_one : (h : History) (e : Entry) (es : List Entry) (class : Class) (i : Bool)
+    → counted_one class (head_repeat (repeats h (entry_if class e ++ es))) i ≡ counted_one class (has h (entry_id e)) i
 tally_one h e es Silent i = refl
 tally_one h e es (Bare errno) i = refl
 tally_one h e es Kept i = refl
 
-tally_left : (h : History) (e : Entry) (es : List Entry) (class : Class) → left_by class (repeats h (entry_if class e ++ es)) ≡ repeats (grown h (entry_if class e)) es
+tally_left : (h : History) (e : Entry) (es : List Entry) (class : Class)
+    → left_by class (repeats h (entry_if class e ++ es)) ≡ repeats (grown h (entry_if class e)) es
 tally_left h e es Silent = refl
 tally_left h e es (Bare errno) = refl
 tally_left h e es Kept = refl
@@ -48,7 +50,8 @@ tallied_is [] h = refl
 tallied_is (t ∷ ts) h =
     let class = class_of t.bytes in
     let one = counted_one class (has h (entry_id (timed_entry t))) (is_interrupt t.bytes) in
-    ap (λ c. plus c (tallied (bytes_of ts) (left_by class (repeats h (entries_at t ++ kept_in ts))))) (tally_one h (timed_entry t) (kept_in ts) class (is_interrupt t.bytes))
+    ap (λ c. plus c (tallied (bytes_of ts) (left_by class (repeats h (entries_at t ++ kept_in ts)))))
+        (tally_one h (timed_entry t) (kept_in ts) class (is_interrupt t.bytes))
     ∙ ap (λ r. plus one (tallied (bytes_of ts) r)) (tally_left h (timed_entry t) (kept_in ts) class)
     ∙ ap (plus one) (tallied_is ts (grown h (entries_at t)))
 
@@ -57,9 +60,12 @@ one_if_below true = omega arith
 one_if_below false = omega arith
 
 one_below : (class : Class) (b i : Bool) → IsBelow (counted_one class b i) 1
-one_below Silent b i = record { messages = omega arith; kept = omega arith; repeated = omega arith; bare = omega arith; silent = omega arith; interrupts = one_if_below i }
-one_below (Bare errno) b i = record { messages = omega arith; kept = omega arith; repeated = omega arith; bare = omega arith; silent = omega arith; interrupts = omega arith }
-one_below Kept b i = record { messages = omega arith; kept = omega arith; repeated = one_if_below b; bare = omega arith; silent = omega arith; interrupts = omega arith }
+one_below Silent b i = record { messages = omega arith; kept = omega arith; repeated = omega arith; bare = omega arith; silent = omega arith; interrupts =
+    one_if_below i }
+one_below (Bare errno) b i = record { messages = omega arith; kept = omega arith; repeated = omega arith; bare = omega arith; silent = omega arith; interrupts =
+    omega arith }
+one_below Kept b i = record { messages = omega arith; kept = omega arith; repeated = one_if_below b; bare = omega arith; silent = omega arith; interrupts =
+    omega arith }
 
 pub plus_below : (a b : SessionCounts) (m n : ℕ) → IsBelow a m → IsBelow b n → IsBelow (plus a b) (m + n)
 plus_below a b m n x y = record {
@@ -85,8 +91,10 @@ pub one_counted_below : (c : SessionCounts) (class : Class) (b i : Bool) → c �
 one_counted_below c class b i is = subst (λ x. IsBelow x 1) (sym is) (one_below class b i)
 
 -- one message more
-pub tallied_more : (ms rest : List (List ℕ)) (repeated repeated' : List Bool) (m : List ℕ) (counts one counts' all : SessionCounts) → ms ≡ m ∷ rest → one ≡ counted_one (class_of m) (head_repeat repeated) (is_interrupt m)
-    → counts' ≡ plus counts one → repeated' ≡ left_by (class_of m) repeated → plus counts (tallied ms repeated) ≡ all → plus counts' (tallied rest repeated') ≡ all
+pub tallied_more : (ms rest : List (List ℕ)) (repeated repeated' : List Bool) (m : List ℕ) (counts one counts' all : SessionCounts) → ms ≡ m ∷ rest
+    → one ≡ counted_one (class_of m) (head_repeat repeated) (is_interrupt m)
+    → counts' ≡ plus counts one → repeated' ≡ left_by (class_of m) repeated → plus counts (tallied ms repeated) ≡ all
+        → plus counts' (tallied rest repeated') ≡ all
 tallied_more ms rest repeated repeated' m counts one counts' all is one_is now left so_far =
     ap (λ c. plus c (tallied rest repeated')) now
     ∙ ap (λ r. plus (plus counts one) (tallied rest r)) left
@@ -113,11 +121,13 @@ used_one [] n lt = absurd (omega arith)
 used_one (x ∷ xs) zero lt = refl
 used_one (x ∷ xs) (suc n) lt = used_one xs n (omega arith)
 
-pub used_kept : (class : Class) (dones : List Done) (n : ℕ) → Kept ≡ class → n < length dones → drop (n + 1) (repeats_in dones) ≡ left_by class (drop n (repeats_in dones))
+pub used_kept : (class : Class) (dones : List Done) (n : ℕ) → Kept ≡ class → n < length dones
+    → drop (n + 1) (repeats_in dones) ≡ left_by class (drop n (repeats_in dones))
 used_kept class dones n is lt = subst (λ k. drop (n + 1) (repeats_in dones) ≡ left_by k (drop n (repeats_in dones))) is (rw add-one (used_one dones n lt))
 
 -- ---- the class at a place
 
-pub class_at : (ms : List (List ℕ)) (classes : List Class) (i : ℕ) (m bytes : List ℕ) (d : Class) → classes ≡ classes_in ms → i < length ms → m ≡ get_or ms i m → bytes ≡ m
+pub class_at : (ms : List (List ℕ)) (classes : List Class) (i : ℕ) (m bytes : List ℕ) (d : Class) → classes ≡ classes_in ms → i < length ms → m ≡ get_or ms i m
+    → bytes ≡ m
     → get_or classes i d ≡ class_of bytes
 class_at ms classes i m bytes d are lt at is = ap (λ cs. get_or cs i d) are ∙ get_or-map class_of ms i m d lt ∙ ap class_of (sym (is ∙ at))

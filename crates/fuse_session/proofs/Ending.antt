@@ -23,7 +23,8 @@ goes_none M s h (t ∷ ts) named none = (named.0, λ ends. two_ways (destroys t.
 pub works_group : (M : Model) → (s : M.State) (h : History) (ts : List Timed) → NoZero ts → DestroyLast ts → Works M s h ts
 works_group M s h [] named only = tt
 works_group M s h (t ∷ ts) named only =
-    (named.0, elim only.0 [ inl empty ↦ inl empty | inr none ↦ inr (λ ends. two_ways (destroys t.bytes) ends.0 none) ], works_group M s (grown h (entries_at t)) ts named.1 only.1)
+    (named.0, elim only.0 [ inl empty ↦ inl empty | inr none ↦ inr (λ ends. two_ways (destroys t.bytes) ends.0 none) ], works_group M s
+        (grown h (entries_at t)) ts named.1 only.1)
 
 last_tail : (a : Said) (list : List Said) → last_zero (a ∷ list) ≡ false → last_zero list ≡ false
 last_tail a [] h = refl
@@ -35,15 +36,18 @@ pub record Following (M : Model) (s : M.State) (g : History) (ts : List Timed) :
   pub are : map (λ a. Some a) list ≡ told M s g (kept_in ts)
   pub last : last_zero list ≡ false
 
-following : (M : Model) → (s : M.State) (h : History) (t : Timed) (ts : List Timed) (class : Class) (list : List Said) → map (λ a. Some a) list ≡ told M s h (entry_if class (timed_entry t) ++ kept_in ts)
+following : (M : Model) → (s : M.State) (h : History) (t : Timed) (ts : List Timed) (class : Class) (list : List Said)
+    → map (λ a. Some a) list ≡ told M s h (entry_if class (timed_entry t) ++ kept_in ts)
     → last_zero list ≡ false → Following M s (grown h (entry_if class (timed_entry t))) ts
 following M s h t ts Silent list are last = record { list = list; are = are; last = last }
 following M s h t ts (Bare errno) list are last = record { list = list; are = are; last = last }
 following M s h t ts Kept [] are last = absurd (cc are)
 following M s h t ts Kept (a ∷ list) are last = record { list = list; are = cc are; last = last_tail a list last }
 
-not_ending : (M : Model) → (s : M.State) (h : History) (t : Timed) (class : Class) (list : List Said) → map (λ a. Some a) list ≡ told M s h (entry_if class (timed_entry t) ++ [])
-    → last_zero list ≡ false → destroys_by class (raw_of t.bytes).opcode ≡ true → says_zero (said M s (grown h (entry_if class (timed_entry t))) (message_id t.bytes)) ≡ true → ⊥
+not_ending : (M : Model) → (s : M.State) (h : History) (t : Timed) (class : Class) (list : List Said)
+    → map (λ a. Some a) list ≡ told M s h (entry_if class (timed_entry t) ++ [])
+    → last_zero list ≡ false → destroys_by class (raw_of t.bytes).opcode ≡ true
+        → says_zero (said M s (grown h (entry_if class (timed_entry t))) (message_id t.bytes)) ≡ true → ⊥
 not_ending M s h t Silent list are last d z = cc d
 not_ending M s h t (Bare errno) list are last d z = cc d
 not_ending M s h t Kept [] are last d z = cc are
@@ -52,14 +56,16 @@ not_ending M s h t Kept (a ∷ []) are last d z =
     two_ways (a.errno == 0) (sym (ap says_zero here) ∙ z) last
 not_ending M s h t Kept (a ∷ b ∷ list) are last d z = cc are
 
-pub goes_last : (M : Model) → (s : M.State) (h : History) (ts : List Timed) (list : List Said) → NoZero ts → DestroyLast ts → map (λ a. Some a) list ≡ told M s h (kept_in ts) → last_zero list ≡ false → GoesOn M s h ts
+pub goes_last : (M : Model) → (s : M.State) (h : History) (ts : List Timed) (list : List Said) → NoZero ts → DestroyLast ts
+    → map (λ a. Some a) list ≡ told M s h (kept_in ts) → last_zero list ≡ false → GoesOn M s h ts
 goes_last M s h [] list named only are last = tt
 goes_last M s h (t ∷ ts) list named only are last =
     let f = following M s h t ts (class_of t.bytes) list are last in
     let rest = goes_last M s (grown h (entries_at t)) ts f.list named.1 only.1 f.are f.last in (
       named.0,
       elim only.0 [
-        | inl empty ↦ λ ends. not_ending M s h t (class_of t.bytes) list (are ∙ ap (λ (r : List Timed). told M s h (entries_at t ++ kept_in r)) empty) last ends.0 ends.1
+        | inl empty ↦ λ ends. not_ending M s h t (class_of t.bytes) list (are ∙ ap (λ (r : List Timed). told M s h (entries_at t ++ kept_in r)) empty) last
+            ends.0 ends.1
         | inr none ↦ λ ends. two_ways (destroys t.bytes) ends.0 none
       ],
       rest,
@@ -79,13 +85,16 @@ kept_if Silent opcode is = absurd (cc is)
 kept_if (Bare errno) opcode is = absurd (cc is)
 kept_if Kept opcode is = refl
 
-pub ends_last : (M : Model) → (s : M.State) (h : History) (timed : List Timed) (list : List Said) → LastDestroys timed → map (λ a. Some a) list ≡ told M s h (kept_in timed) → last_zero list ≡ true → EndsLast M s h timed
+pub ends_last : (M : Model) → (s : M.State) (h : History) (timed : List Timed) (list : List Said) → LastDestroys timed
+    → map (λ a. Some a) list ≡ told M s h (kept_in timed) → last_zero list ≡ true → EndsLast M s h timed
 ends_last M s h timed list l are zero =
     let e = timed_entry l.one in
     let g = grown h (kept_in l.earlier) in
     let kept = kept_if (class_of l.one.bytes) (raw_of l.one.bytes).opcode l.destroy in
-    let entries : kept_in timed ≡ kept_in l.earlier ++ e ∷ [] = ap kept_in l.parts ∙ kept_in-append l.earlier (l.one ∷ []) ∙ ap (λ c. kept_in l.earlier ++ (entry_if c e ++ [])) kept in
-    let says = last_of list (told M s h (kept_in l.earlier)) (said M s (add g e) (entry_id e)) (are ∙ ap (told M s h) entries ∙ told-append M s h (kept_in l.earlier) e) in
+    let entries : kept_in timed ≡ kept_in l.earlier ++ e ∷ [] = ap kept_in l.parts ∙ kept_in-append l.earlier (l.one ∷ [])
+        ∙ ap (λ c. kept_in l.earlier ++ (entry_if c e ++ [])) kept in
+    let says = last_of list (told M s h (kept_in l.earlier)) (said M s (add g e) (entry_id e))
+        (are ∙ ap (told M s h) entries ∙ told-append M s h (kept_in l.earlier) e) in
     let last : grown h (kept_in timed) ≡ add g e = ap (grown h) entries ∙ grown-append h (kept_in l.earlier) (e ∷ []) in
     record {
       earlier = l.earlier;

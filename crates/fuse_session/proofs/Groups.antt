@@ -1,5 +1,6 @@
 -- A group performed, and its answers sent.
-use Rattle.std.proofs.Common.{◌≡◌, ◌⊎◌, inl, inr, ⊎_elim, ℕ, suc, ◌-◌, ◌≤◌, ◌<◌, Bool, true, false, ◌&&◌, ◌||◌, ◌==◌, List, [], ◌∷◌, ◌++◌, ◌+◌, length, map, take, drop, All, Some, slice_get, refl, sym, ap, subst, ◌∙◌, arith}
+use Rattle.std.proofs.Common.{◌≡◌, ◌⊎◌, inl, inr, ⊎_elim, ℕ, suc, ◌-◌, ◌≤◌, ◌<◌, Bool, true, false, ◌&&◌, ◌||◌, ◌==◌, List, [], ◌∷◌, ◌++◌, ◌+◌, length, map}
+use Rattle.std.proofs.Common.{take, drop, All, Some, slice_get, refl, sym, ap, subst, ◌∙◌, arith}
 use Rattle.std.proofs.lemmas.List.{append-nil, take-append-drop, length-map}
 use Rattle.fuse_wire.specs.declared.moment.Moment.{Moment}
 use Rattle.fuse_answer.specs.Said.{Said}
@@ -35,24 +36,30 @@ use Rattle.fuse_session.proofs.Counted.{tallied_is}
 
 -- ---- what stands, and what a crash leaves
 
-pub stands_later : (M : Model) → (holds : KeeperState M) (s : M.State) (h : History) (t u : List ℕ) → Includes u t → StandsFor holds s h t → StandsFor holds s h u
-stands_later M holds s h t u more so = record { rows = so.rows; records = so.records; held = so.held; stands = Stands-settled M so.rows so.records s h t u more so.stands }
+pub stands_later : (M : Model) → (holds : KeeperState M) (s : M.State) (h : History) (t u : List ℕ) → Includes u t → StandsFor holds s h t
+    → StandsFor holds s h u
+stands_later M holds s h t u more so = record { rows = so.rows; records = so.records; held = so.held; stands =
+    Stands-settled M so.rows so.records s h t u more so.stands }
 
-pub stands_kept : (M : Model) → (holds holds' : KeeperState M) (s : M.State) (h : History) (t : List ℕ) → KeepsHeld holds holds' → StandsFor holds s h t → StandsFor holds' s h t
+pub stands_kept : (M : Model) → (holds holds' : KeeperState M) (s : M.State) (h : History) (t : List ℕ) → KeepsHeld holds holds' → StandsFor holds s h t
+    → StandsFor holds' s h t
 stands_kept M holds holds' s h t keeps so = record { rows = so.rows; records = so.records; held = keeps so.rows so.records so.held; stands = so.stands }
 
-pub leaves_map : (M : Model) → (left : KeeperState M) (P Q : M.Rows → Records → Type 0) → ((x : M.Rows) (r : Records) → P x r → Q x r) → Leaves left P → Leaves left Q
+pub leaves_map : (M : Model) → (left : KeeperState M) (P Q : M.Rows → Records → Type 0) → ((x : M.Rows) (r : Records) → P x r → Q x r) → Leaves left P
+    → Leaves left Q
 leaves_map M left P Q f l = (l.0, λ x r is. f x r (l.1 x r is))
 
 pub firm_leaves : (M : Model) → (holds : KeeperState M) (s : M.State) (h : History) (t : List ℕ) → IsFirm holds → StandsFor holds s h t
     → Leaves holds (λ x r. Stands M x r s h t)
 firm_leaves M holds s h t firm so =
-    leaves_map M holds (AreThese M so.rows so.records) (λ x r. Stands M x r s h t) (λ x r same. Stands-same M so.rows so.records x r s h t same so.stands) (firm so.rows so.records so.held)
+    leaves_map M holds (AreThese M so.rows so.records) (λ x r. Stands M x r s h t) (λ x r same. Stands-same M so.rows so.records x r s h t same so.stands)
+        (firm so.rows so.records so.held)
 
 -- ---- lives
 
 -- nothing was worked off
-pub lived_none : (M : Model) → (stood : History → List ℕ → Type 0) (s : M.State) (h : History) (c : Bool) (t : List ℕ) (timed : List Timed) → stood h t → Lived M stood s h c t timed [] []
+pub lived_none : (M : Model) → (stood : History → List ℕ → Type 0) (s : M.State) (h : History) (c : Bool) (t : List ℕ) (timed : List Timed) → stood h t
+    → Lived M stood s h c t timed [] []
 lived_none M stood s h c t timed so = record {
   worked = [];
   unworked = timed;
@@ -67,8 +74,10 @@ lived_none M stood s h c t timed so = record {
 }
 
 -- all of it was
-pub lived_all : (M : Model) → (stood : History → List ℕ → Type 0) (s : M.State) (h : History) (c : Bool) (t : List ℕ) (timed : List Timed) (marks : List Mark) (part unsent : List ℕ) (later : List (List ℕ))
-    → Works M s h timed → stood (grown h (kept_in timed)) (t ++ settled_in c (bytes_of timed) marks) → answers M s (grown h (kept_in timed)) timed ≡ replies marks ++ later → joined later ≡ part ++ unsent → BeginsNext later part
+pub lived_all : (M : Model) → (stood : History → List ℕ → Type 0) (s : M.State) (h : History) (c : Bool) (t : List ℕ) (timed : List Timed) (marks : List Mark)
+    (part unsent : List ℕ) (later : List (List ℕ))
+    → Works M s h timed → stood (grown h (kept_in timed)) (t ++ settled_in c (bytes_of timed) marks)
+        → answers M s (grown h (kept_in timed)) timed ≡ replies marks ++ later → joined later ≡ part ++ unsent → BeginsNext later part
     → Lived M stood s h c t timed marks part
 lived_all M stood s h c t timed marks part unsent later works so sent begun next = record {
   worked = timed;
@@ -84,7 +93,8 @@ lived_all M stood s h c t timed marks part unsent later works so sent begun next
 }
 
 -- exactly nothing was sent
-pub exact_none : (M : Model) → (stood : History → List ℕ → Type 0) (s : M.State) (h : History) (c : Bool) (t : List ℕ) (timed : List Timed) → stood h t → Exact M stood s h c t timed []
+pub exact_none : (M : Model) → (stood : History → List ℕ → Type 0) (s : M.State) (h : History) (c : Bool) (t : List ℕ) (timed : List Timed) → stood h t
+    → Exact M stood s h c t timed []
 exact_none M stood s h c t timed so = record {
   worked = [];
   unworked = timed;
@@ -96,7 +106,8 @@ exact_none M stood s h c t timed so = record {
 
 -- exactly all of it was
 pub exact_all : (M : Model) → (stood : History → List ℕ → Type 0) (s : M.State) (h : History) (c : Bool) (t : List ℕ) (timed : List Timed) (marks : List Mark)
-    → Works M s h timed → stood (grown h (kept_in timed)) (t ++ settled_in c (bytes_of timed) marks) → replies marks ≡ answers M s (grown h (kept_in timed)) timed → Exact M stood s h c t timed marks
+    → Works M s h timed → stood (grown h (kept_in timed)) (t ++ settled_in c (bytes_of timed) marks)
+        → replies marks ≡ answers M s (grown h (kept_in timed)) timed → Exact M stood s h c t timed marks
 exact_all M stood s h c t timed marks works so sent = record {
   worked = timed;
   unworked = [];
@@ -107,7 +118,8 @@ exact_all M stood s h c t timed marks works so sent = record {
 }
 
 -- nothing was done at all
-pub broken_none : (M : Model) → (holds holds' : KeeperState M) (gave : List Moment → Type 0) (p q : PortState) (pending : List ℕ) (messages : List (List ℕ)) (exact whole : Bool) (faulted : Type 0) → exact ≡ false → (given : List Moment) × gave given → Replied p q [] []
+pub broken_none : (M : Model) → (holds holds' : KeeperState M) (gave : List Moment → Type 0) (p q : PortState) (pending : List ℕ) (messages : List (List ℕ))
+    (exact whole : Bool) (faulted : Type 0) → exact ≡ false → (given : List Moment) × gave given → Replied p q [] []
     → KeepsHeld holds holds' → ((IsFirm holds) → (s : M.State) (h : History) (t : List ℕ) → StandsFor holds s h t → Leaves holds' (λ x r. Stands M x r s h t))
     → Broken holds holds' gave p q pending messages exact whole faulted
 broken_none M holds holds' gave p q pending messages exact whole faulted inexact given replied keeps leaves = record {
@@ -119,7 +131,8 @@ broken_none M holds holds' gave p q pending messages exact whole faulted inexact
   moments = given;
   replied = replied;
   no_part = λ _. refl;
-  exactly = λ _ honest s h t so within again. exact_none M (λ g u. exact ≡ true → holds'.is_clean → StandsFor holds' s g u × faulted) s h p.confirms t [] (λ is clean. absurd (cc (is, inexact)));
+  exactly = λ _ honest s h t so within again. exact_none M (λ g u. exact ≡ true → holds'.is_clean → StandsFor holds' s g u × faulted) s h p.confirms t []
+      (λ is clean. absurd (cc (is, inexact)));
   life = λ clean s h t so within again. lived_none M (StandsFor holds' s) s h p.confirms t [] (stands_kept M holds holds' s h t keeps so);
   crash = λ honest is_firm s h t so within again. leaves_map M holds' (λ x r. Stands M x r s h t) (λ x r. Lived M (Stands M x r s) s h p.confirms t [] [] [])
       (λ x r left. lived_none M (Stands M x r s) s h p.confirms t [] left) (leaves is_firm s h t so);
@@ -128,18 +141,22 @@ broken_none M holds holds' gave p q pending messages exact whole faulted inexact
 
 -- ---- a group that wasn't performed
 
-stored : (M : Model) → (s : M.State) (h : History) (c : Bool) (t : List ℕ) (ts : List Timed) (es : List Entry) (x : M.Rows) (r : Records) → es ≡ kept_in ts → Works M s h ts → StandsForEither M s h t s (grown h es) t x r
+stored : (M : Model) → (s : M.State) (h : History) (c : Bool) (t : List ℕ) (ts : List Timed) (es : List Entry) (x : M.Rows) (r : Records) → es ≡ kept_in ts
+    → Works M s h ts → StandsForEither M s h t s (grown h es) t x r
     → Lived M (Stands M x r s) s h c t ts [] []
 stored M s h c t ts es x r is works either = ⊎_elim
     (λ before. lived_none M (Stands M x r s) s h c t ts before)
     (λ after. lived_all M (Stands M x r s) s h c t ts [] [] (joined (answers M s (grown h (kept_in ts)) ts)) (answers M s (grown h (kept_in ts)) ts) works
-    (subst (λ u. Stands M x r s (grown h (kept_in ts)) u) (sym (ap (λ (q : List ℕ). t ++ q) (settled_none c (bytes_of ts)) ∙ append-nil t)) (subst (λ l. Stands M x r s (grown h l) t) is after)) refl refl (begins_none (answers M s (grown h (kept_in ts)) ts)))
+    (subst (λ u. Stands M x r s (grown h (kept_in ts)) u) (sym (ap (λ (q : List ℕ). t ++ q) (settled_none c (bytes_of ts)) ∙ append-nil t))
+        (subst (λ l. Stands M x r s (grown h l) t) is after)) refl refl (begins_none (answers M s (grown h (kept_in ts)) ts)))
     either
 
 pub broken_store : (M : Model) → (holds holds' : KeeperState M) (gave : List Moment → Type 0) (p : PortState) (pending : List ℕ)
     (messages : List (List ℕ)) (count : ℕ) (taken : List (Request × Moment)) (ends : Bool) (group : List (Request × Moment)) (faulted : Type 0)
-    → Gathers gave (take count messages) taken ends → group ≡ taken → (holds'.is_clean → KeepsHeld holds holds') → (holds'.is_clean → (s : M.State) (h : History) (t : List ℕ) → StandsFor holds s h t → faulted)
-    → ((s : M.State) (h : History) (t : List ℕ) → StandsFor holds s h t → Includes t pending → All (IsUnsettled t) (entries_of group) → IsFirm holds → Leaves holds' (StandsForEither M s h t s (grown h (entries_of group)) t))
+    → Gathers gave (take count messages) taken ends → group ≡ taken → (holds'.is_clean → KeepsHeld holds holds')
+        → (holds'.is_clean → (s : M.State) (h : History) (t : List ℕ) → StandsFor holds s h t → faulted)
+    → ((s : M.State) (h : History) (t : List ℕ) → StandsFor holds s h t → Includes t pending → All (IsUnsettled t) (entries_of group) → IsFirm holds
+        → Leaves holds' (StandsForEither M s h t s (grown h (entries_of group)) t))
     → Broken holds holds' gave p p pending messages true false faulted
 broken_store M holds holds' gave p pending messages count taken ends group faulted gathers same keeps fault crash =
     let ts = gathers.timed in
@@ -153,7 +170,8 @@ broken_store M holds holds' gave p pending messages count taken ends group fault
       moments = gave_all gave gathers.timed gathers.moments;
       replied = replied_none p;
       no_part = λ _. refl;
-      exactly = λ _ honest s h t so within again. exact_none M (λ g u. true ≡ true → holds'.is_clean → StandsFor holds' s g u × faulted) s h p.confirms t ts (λ _ clean. (stands_kept M holds holds' s h t (keeps clean) so, fault clean s h t so));
+      exactly = λ _ honest s h t so within again. exact_none M (λ g u. true ≡ true → holds'.is_clean → StandsFor holds' s g u × faulted) s h p.confirms t ts
+          (λ _ clean. (stands_kept M holds holds' s h t (keeps clean) so, fault clean s h t so));
       life = λ clean s h t so within again. lived_none M (StandsFor holds' s) s h p.confirms t ts (stands_kept M holds holds' s h t (keeps clean) so);
       crash = λ honest firm s h t so within again.
           leaves_map M holds' (StandsForEither M s h t s (grown h (entries_of group)) t) (λ x r. Lived M (Stands M x r s) s h p.confirms t ts [] [])
@@ -168,33 +186,43 @@ same_answers : (dones : List Done) → map (λ a. Some a) (answers_in dones) ≡
 same_answers [] = refl
 same_answers (d ∷ dones) = ap (λ r. Some d.answer ∷ r) (same_answers dones)
 
-says_told : (M : Model) → HistoriesGrow M → (holds : KeeperState M) (s : M.State) (h : History) (t : List ℕ) (es : List Entry) (ts : List Timed) (dones : List Done) → Performed holds s h t es dones → es ≡ kept_in ts
+says_told : (M : Model) → HistoriesGrow M → (holds : KeeperState M) (s : M.State) (h : History) (t : List ℕ) (es : List Entry) (ts : List Timed)
+    (dones : List Done) → Performed holds s h t es dones → es ≡ kept_in ts
     → map (λ a. Some a) (answers_in dones) ≡ told M s h (kept_in ts)
 says_told M grows holds s h t es ts dones done is = same_answers dones ∙ done.answers ∙ told_is M grows s h es ∙ ap (told M s h) is
 
-sent_are : (M : Model) → HistoriesGrow M → (holds : KeeperState M) (s : M.State) (h : History) (t : List ℕ) (es : List Entry) (ts : List Timed) (front : List (List ℕ)) (dones : List Done) → Performed holds s h t es dones → es ≡ kept_in ts
+sent_are : (M : Model) → HistoriesGrow M → (holds : KeeperState M) (s : M.State) (h : History) (t : List ℕ) (es : List Entry) (ts : List Timed)
+    (front : List (List ℕ)) (dones : List Done) → Performed holds s h t es dones → es ≡ kept_in ts
     → front ≡ bytes_of ts → wires front (answers_in dones) ≡ answers M s (grown h (kept_in ts)) ts
-sent_are M grows holds s h t es ts front dones done is bytes = ap (λ f. wires f (answers_in dones)) bytes ∙ wires_are M grows s h ts (answers_in dones) (says_told M grows holds s h t es ts dones done is)
+sent_are M grows holds s h t es ts front dones done is bytes = ap (λ f. wires f (answers_in dones)) bytes ∙ wires_are M grows s h ts (answers_in dones)
+    (says_told M grows holds s h t es ts dones done is)
 
-now_stands : (M : Model) → (holds : KeeperState M) (s : M.State) (h : History) (t more : List ℕ) (es : List Entry) (ts : List Timed) (dones : List Done) → Performed holds s h t es dones → es ≡ kept_in ts
+now_stands : (M : Model) → (holds : KeeperState M) (s : M.State) (h : History) (t more : List ℕ) (es : List Entry) (ts : List Timed) (dones : List Done)
+    → Performed holds s h t es dones → es ≡ kept_in ts
     → StandsFor holds s (grown h (kept_in ts)) (t ++ more)
-now_stands M holds s h t more es ts dones done is = stands_later M holds s (grown h (kept_in ts)) t (t ++ more) (includes_left t more) (subst (λ l. StandsFor holds s (grown h l) t) is done.stands)
+now_stands M holds s h t more es ts dones done is = stands_later M holds s (grown h (kept_in ts)) t (t ++ more) (includes_left t more)
+    (subst (λ l. StandsFor holds s (grown h l) t) is done.stands)
 
 -- its answers weren't all sent
 pub broken_sent : (M : Model) → HistoriesGrow M → (holds holds' : KeeperState M) (gave : List Moment → Type 0) (p q : PortState) (pending mid : List ℕ)
-    (messages : List (List ℕ)) (count : ℕ) (taken : List (Request × Moment)) (ends : Bool) (group : List (Request × Moment)) (front : List (List ℕ)) (dones list : List Done) (fault : SendFault) (exact want : Bool) (faulted : Type 0)
+    (messages : List (List ℕ)) (count : ℕ) (taken : List (Request × Moment)) (ends : Bool) (group : List (Request × Moment)) (front : List (List ℕ))
+        (dones list : List Done) (fault : SendFault) (exact want : Bool) (faulted : Type 0)
     → Gathers gave (take count messages) taken ends → group ≡ taken → front ≡ take count messages → (holds'.is_clean → holds'.is_honest)
-    → (holds'.is_honest → (s : M.State) (h : History) (t : List ℕ) → StandsFor holds s h t → Includes t pending → All (IsUnsettled t) (entries_of group) → Performed holds' s h t (entries_of group) dones)
+    → (holds'.is_honest → (s : M.State) (h : History) (t : List ℕ) → StandsFor holds s h t → Includes t pending → All (IsUnsettled t) (entries_of group)
+        → Performed holds' s h t (entries_of group) dones)
     → (holds'.is_honest → IsFirm holds → IsFirm holds')
-    → (holds'.is_honest → (u : List ℕ) → All (IsUnsettled u) (entries_of group) → FewHave holds u pending → FewHave holds' u mid) → length mid + length (entries_of group) ≤ 16
+    → (holds'.is_honest → (u : List ℕ) → All (IsUnsettled u) (entries_of group) → FewHave holds u pending → FewHave holds' u mid)
+        → length mid + length (entries_of group) ≤ 16
     → list ≡ dones → SentSome p q (wires front (answers_in list)) fault → exact ≡ false → (want ≡ true → fault ≡ Memory)
     → Broken holds holds' gave p q pending messages exact want faulted
-broken_sent M grows holds holds' gave p q pending mid messages count taken ends group front dones list fault exact want faulted gathers same same_front clean_honest performed firm_still few size same_list sent inexact memory =
+broken_sent M grows holds holds' gave p q pending mid messages count taken ends group front dones list fault exact want faulted gathers same same_front
+    clean_honest performed firm_still few size same_list sent inexact memory =
     let some = subst (λ l. SentSome p q (wires front (answers_in l)) fault) same_list sent in
     let ts = gathers.timed in
     let es : entries_of group ≡ kept_in ts = ap entries_of same ∙ gathers.entries in
     let bytes : front ≡ bytes_of ts = same_front ∙ gathers.bytes in
-    let done = λ (honest : holds'.is_honest) (s : M.State) (h : History) (t : List ℕ) (so : StandsFor holds s h t) (within : Includes t pending) (again : NoneComesAgain p.confirms t (bytes_of ts) some.marks).
+    let done = λ (honest : holds'.is_honest) (s : M.State) (h : History) (t : List ℕ) (so : StandsFor holds s h t) (within : Includes t pending)
+        (again : NoneComesAgain p.confirms t (bytes_of ts) some.marks).
     performed honest s h t so within (subst (All (IsUnsettled t)) (sym es) (group_unsettled p.confirms t ts some.marks again)) in
     let works = λ (s : M.State) (h : History). works_group M s h ts gathers.no_zero gathers.only in
     record {
@@ -208,7 +236,8 @@ broken_sent M grows holds holds' gave p q pending mid messages count taken ends 
       no_part = λ is. some.memory (memory (ap (λ b. b || want) (sym inexact) ∙ is));
       exactly = λ _ honest s h t so within again.
           let d = done honest s h t so within again in
-          let f = outs_front M s h ts some.marks some.later (works s h) (sym (answers_are_outs M grows s h ts) ∙ sym (sent_are M grows holds' s h t (entries_of group) ts front dones d es bytes) ∙ some.whole) in
+          let f = outs_front M s h ts some.marks some.later (works s h) (sym (answers_are_outs M grows s h ts)
+              ∙ sym (sent_are M grows holds' s h t (entries_of group) ts front dones d es bytes) ∙ some.whole) in
           record {
             worked = f.first;
             unworked = f.others;
@@ -219,14 +248,17 @@ broken_sent M grows holds holds' gave p q pending mid messages count taken ends 
           };
       life = λ clean s h t so within again.
           let d = done (clean_honest clean) s h t so within again in
-          lived_all M (StandsFor holds' s) s h p.confirms t ts some.marks some.part some.unsent some.later (works s h) (now_stands M holds' s h t _ (entries_of group) ts dones d es)
+          lived_all M (StandsFor holds' s) s h p.confirms t ts some.marks some.part some.unsent some.later (works s h)
+              (now_stands M holds' s h t _ (entries_of group) ts dones d es)
           (sym (sent_are M grows holds' s h t (entries_of group) ts front dones d es bytes) ∙ some.whole) some.begun some.next;
       crash = λ honest firm s h t so within again.
           let d = done honest s h t so within again in
-          leaves_map M holds' (λ x r. Stands M x r s (grown h (kept_in ts)) (t ++ settled_in p.confirms (bytes_of ts) some.marks)) (λ x r. Lived M (Stands M x r s) s h p.confirms t ts some.marks some.part)
+          leaves_map M holds' (λ x r. Stands M x r s (grown h (kept_in ts)) (t ++ settled_in p.confirms (bytes_of ts) some.marks))
+              (λ x r. Lived M (Stands M x r s) s h p.confirms t ts some.marks some.part)
           (λ x r stands. lived_all M (Stands M x r s) s h p.confirms t ts some.marks some.part some.unsent some.later (works s h) stands
           (sym (sent_are M grows holds' s h t (entries_of group) ts front dones d es bytes) ∙ some.whole) some.begun some.next)
-          (firm_leaves M holds' s (grown h (kept_in ts)) _ (firm_still honest firm) (now_stands M holds' s h t (settled_in p.confirms (bytes_of ts) some.marks) (entries_of group) ts dones d es));
+          (firm_leaves M holds' s (grown h (kept_in ts)) _ (firm_still honest firm)
+              (now_stands M holds' s h t (settled_in p.confirms (bytes_of ts) some.marks) (entries_of group) ts dones d es));
       few = λ honest clean t again h. (
         mid ++ ids_in (entries_of group),
         few_unsent M holds' p.confirms t mid (entries_of group) ts some.marks es size
@@ -253,19 +285,25 @@ and_false : (a b : Bool) → (a && b) ≡ false → (a ≡ false) ⊎ ((a ≡ tr
 and_false true b is = inr (refl, is)
 and_false false b is = inl refl
 
-both_included : (t pending mid more pending' : List ℕ) → Includes t pending → ((u : List ℕ) → Includes u pending → Includes u mid) → pending' ≡ mid ++ more → Includes (t ++ more) pending'
+both_included : (t pending mid more pending' : List ℕ) → Includes t pending → ((u : List ℕ) → Includes u pending → Includes u mid) → pending' ≡ mid ++ more
+    → Includes (t ++ more) pending'
 both_included t pending mid more pending' within f is i there =
     ⊎_elim (λ old. includes_left t more i (f t within i old)) (λ new. includes_right t more i new) (in_either mid more i (sym (ap (λ x. is_in x i) is) ∙ there))
 
-pub turned : (M : Model) → HistoriesGrow M → (holds holds' : KeeperState M) (gave : List Moment → Type 0) (p q : PortState) (pending mid pending' : List ℕ) (messages : List (List ℕ)) (count : ℕ)
-    (taken : List (Request × Moment)) (ends : Bool) (group : List (Request × Moment)) (front : List (List ℕ)) (dones list : List Done) (stuck : Bool) (rest : Rest) (counts : SessionCounts)
+pub turned : (M : Model) → HistoriesGrow M → (holds holds' : KeeperState M) (gave : List Moment → Type 0) (p q : PortState) (pending mid pending' : List ℕ)
+    (messages : List (List ℕ)) (count : ℕ)
+    (taken : List (Request × Moment)) (ends : Bool) (group : List (Request × Moment)) (front : List (List ℕ)) (dones list : List Done) (stuck : Bool)
+        (rest : Rest) (counts : SessionCounts)
     → Gathers gave (take count messages) taken ends → group ≡ taken → front ≡ take count messages
-    → (holds'.is_honest → (s : M.State) (h : History) (t : List ℕ) → StandsFor holds s h t → Includes t pending → All (IsUnsettled t) (entries_of group) → Performed holds' s h t (entries_of group) dones)
+    → (holds'.is_honest → (s : M.State) (h : History) (t : List ℕ) → StandsFor holds s h t → Includes t pending → All (IsUnsettled t) (entries_of group)
+        → Performed holds' s h t (entries_of group) dones)
     → ((u : List ℕ) → Includes u pending → Includes u mid)
     → (holds'.is_honest → (u : List ℕ) → All (IsUnsettled u) (entries_of group) → FewHave holds u pending → FewHave holds' u mid) → length pending' ≤ 16
-    → SentAll p q front (wires front (answers_in list)) mid pending' → list ≡ dones → rest ≡ rest_by (ends && last_zero (answers_in list)) stuck → counts ≡ tallied front (repeats_in list)
+    → SentAll p q front (wires front (answers_in list)) mid pending' → list ≡ dones → rest ≡ rest_by (ends && last_zero (answers_in list)) stuck
+        → counts ≡ tallied front (repeats_in list)
     → Turned holds holds' gave p q pending pending' (take count messages) (lasts rest) counts
-turned M grows holds holds' gave p q pending mid pending' messages count taken ends group front dones list stuck rest counts gathers same same_front performed handed few size sent same_list is counts_are =
+turned M grows holds holds' gave p q pending mid pending' messages count taken ends group front dones list stuck rest counts gathers same same_front performed
+    handed few size sent same_list is counts_are =
     let all = subst (λ l. SentAll p q front (wires front (answers_in l)) mid pending') same_list sent in
     let ts = gathers.timed in
     let es : entries_of group ≡ kept_in ts = ap entries_of same ∙ gathers.entries in
@@ -277,13 +315,15 @@ turned M grows holds holds' gave p q pending mid pending' messages count taken e
       full = all.full ∙ ap length bytes ∙ length-map ts (λ (t : Timed). t.bytes);
       moments = gathers.moments;
       replied = all.replied;
-      handed = λ t within. both_included t pending mid (settled_in p.confirms (bytes_of ts) all.marks) pending' within handed (all.handed ∙ ap (λ f. mid ++ settled_in p.confirms f all.marks) bytes);
+      handed = λ t within. both_included t pending mid (settled_in p.confirms (bytes_of ts) all.marks) pending' within handed
+          (all.handed ∙ ap (λ f. mid ++ settled_in p.confirms f all.marks) bytes);
       all = λ honest s h t so within again.
           let d = performed honest s h t so within (subst (All (IsUnsettled t)) (sym es) (group_unsettled p.confirms t ts all.marks again)) in
           let says = says_told M grows holds' s h t (entries_of group) ts dones d es in
           record {
             works = works_group M s h ts gathers.no_zero gathers.only;
-            goes = λ going. elim (and_false ends (last_zero (answers_in list)) (lasts_not (ends && last_zero (answers_in list)) stuck (sym (ap lasts is) ∙ going))) [
+            goes = λ going. elim (and_false ends (last_zero (answers_in list))
+                (lasts_not (ends && last_zero (answers_in list)) stuck (sym (ap lasts is) ∙ going))) [
               | inl no_end ↦ goes_none M s h ts gathers.no_zero (gathers.none no_end)
               | inr both ↦ goes_last M s h ts (answers_in dones) gathers.no_zero gathers.only says (sym (ap (λ l. last_zero (answers_in l)) same_list) ∙ both.1)
             ];
@@ -292,10 +332,12 @@ turned M grows holds holds' gave p q pending mid pending' messages count taken e
                 ends_last M s h ts (answers_in dones) (gathers.ended both.0) says (sym (ap (λ l. last_zero (answers_in l)) same_list) ∙ both.1);
             stands = now_stands M holds' s h t _ (entries_of group) ts dones d es;
             sent = all.whole ∙ sent_are M grows holds' s h t (entries_of group) ts front dones d es bytes;
-            counts_are = counts_are ∙ ap (λ l. tallied front (repeats_in l)) same_list ∙ ap (λ f. tallied f (repeats_in dones)) bytes ∙ ap (tallied (bytes_of ts)) (d.repeated ∙ ap (repeats h) es) ∙ tallied_is ts h;
+            counts_are = counts_are ∙ ap (λ l. tallied front (repeats_in l)) same_list ∙ ap (λ f. tallied f (repeats_in dones)) bytes
+                ∙ ap (tallied (bytes_of ts)) (d.repeated ∙ ap (repeats h) es) ∙ tallied_is ts h;
           };
       few = λ honest t again h.
-          few_sent M holds' p.confirms t mid pending' front ts all.marks bytes all.handed size (few honest t (subst (All (IsUnsettled t)) (sym es) (group_unsettled p.confirms t ts all.marks again)) h);
+          few_sent M holds' p.confirms t mid pending' front ts all.marks bytes all.handed size
+              (few honest t (subst (All (IsUnsettled t)) (sym es) (group_unsettled p.confirms t ts all.marks again)) h);
     }
 
 pub stuck_zero : (ended stuck : Bool) → rest_by ended stuck ≡ ZeroUnique → stuck ≡ true
@@ -316,7 +358,8 @@ last_is (x ∷ y ∷ rest) d is = let e1 : length (x ∷ y ∷ rest) - 1 ≡ suc
 
 -- ---- each kept message has an answer
 
-enough_by : (class : Class) (e : Entry) (es : List Entry) (list : List Said) → length list ≡ length (entry_if class e ++ es) → (class ≡ Kept → 0 < length list) × (length (left_by class list) ≡ length es)
+enough_by : (class : Class) (e : Entry) (es : List Entry) (list : List Said) → length list ≡ length (entry_if class e ++ es) → (class ≡ Kept → 0 < length list)
+    × (length (left_by class list) ≡ length es)
 enough_by Silent e es list is = (λ isnt. absurd (cc isnt), is)
 enough_by (Bare errno) e es list is = (λ isnt. absurd (cc isnt), is)
 enough_by Kept e es [] is = absurd (omega arith)
@@ -328,11 +371,13 @@ enough (t ∷ ts) list is =
     let p = enough_by (class_of t.bytes) (timed_entry t) (kept_in ts) list is in
     (p.0, enough ts (left_by (class_of t.bytes) list) p.1)
 
-pub are_enough : (gave : List Moment → Type 0) (front : List (List ℕ)) (taken : List (Request × Moment)) (ends : Bool) (slice : List (List ℕ)) (group : List (Request × Moment)) (dones list : List Done)
+pub are_enough : (gave : List Moment → Type 0) (front : List (List ℕ)) (taken : List (Request × Moment)) (ends : Bool) (slice : List (List ℕ))
+    (group : List (Request × Moment)) (dones list : List Done)
     → Gathers gave front taken ends → slice ≡ front → group ≡ taken → length dones ≡ length group → list ≡ dones → AreEnough slice (answers_in list)
 are_enough gave front taken ends slice group dones list gathers same same_group count same_list =
     subst (λ f. AreEnough f (answers_in list)) (sym (same ∙ gathers.bytes))
-    (enough gathers.timed (answers_in list) (length-map list (λ (d : Done). d.answer) ∙ ap length same_list ∙ count ∙ ap length same_group ∙ sym (length-map taken entry_of) ∙ ap length gathers.entries))
+    (enough gathers.timed (answers_in list) (length-map list (λ (d : Done). d.answer) ∙ ap length same_list ∙ count ∙ ap length same_group
+        ∙ sym (length-map taken entry_of) ∙ ap length gathers.entries))
 
 -- a group was read off so many messages
 pub gathers_to : (gave : List Moment → Type 0) (messages : List (List ℕ)) (n count : ℕ) (taken : List (Request × Moment)) (ends : Bool) → count ≡ n

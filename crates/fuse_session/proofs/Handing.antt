@@ -1,5 +1,6 @@
 -- Which records stay, group after group, and which ids are to be handed on.
-use Rattle.std.proofs.Common.{◌≡◌, ◌⊎◌, inl, inr, ℕ, ◌≤◌, ◌+◌, Bool, true, false, if◌then◌else◌, List, [], ◌∷◌, ◌++◌, length, All, Option, None, refl, sym, ap, subst, ◌∙◌, arith, length-append}
+use Rattle.std.proofs.Common.{◌≡◌, ◌⊎◌, inl, inr, ℕ, ◌≤◌, ◌+◌, Bool, true, false, if◌then◌else◌, List, [], ◌∷◌, ◌++◌, length, All, Option, None, refl, sym, ap}
+use Rattle.std.proofs.Common.{subst, ◌∙◌, arith, length-append}
 use Rattle.std.proofs.lemmas.List.{append-nil, length-map}
 use Rattle.fuse_wire.specs.declared.moment.Moment.{Moment}
 use Rattle.fuse_answer.specs.Said.{Said}
@@ -24,7 +25,8 @@ left_of true o now base is so = inl is
 left_of false o now base is so = elim (so refl) [ inl none ↦ inl (is ∙ none) | inr same ↦ inr (is ∙ same) ]
 
 -- where all ids of the last group are handed on, the records are some of those of before and some of this group
-pub more_step : (before old new : Records) (last settled : List ℕ) (group : List Entry) → SomeAndMore before last old → Includes settled last → OthersStay old settled group new → SomeAndMore before (ids_in group) new
+pub more_step : (before old new : Records) (last settled : List ℕ) (group : List Entry) → SomeAndMore before last old → Includes settled last
+    → OthersStay old settled group new → SomeAndMore before (ids_in group) new
 more_step before old new last settled group some all others i isnt =
     left_of (is_in settled i) (old i) (new i) (before i) (others i isnt) (λ absent. some i (unsettled_too settled last i all absent))
 
@@ -44,18 +46,24 @@ hands_more M before holds holds' pending mid group few others h =
       all = includes_right mid (ids_in group);
     }
 
-pub hands_same : (M : Model) → (before : Records) (holds : KeeperState M) (pending more : List ℕ) → HandsOn before holds pending → HandsOn before holds (pending ++ more)
-hands_same M before holds pending more h = record { rows = h.rows; records = h.records; held = h.held; rowed = h.rowed; more = h.more; few = h.few; some = h.some; all = λ i there. includes_left pending more i (h.all i there) }
+pub hands_same : (M : Model) → (before : Records) (holds : KeeperState M) (pending more : List ℕ) → HandsOn before holds pending
+    → HandsOn before holds (pending ++ more)
+hands_same M before holds pending more h = record { rows = h.rows; records = h.records; held = h.held; rowed = h.rowed; more = h.more; few = h.few; some =
+    h.some; all = λ i there. includes_left pending more i (h.all i there) }
 
 pub at_most : (M : Model) → (before : Records) (holds : KeeperState M) (pending : List ℕ) → HandsOn before holds pending → AtMostMore before holds
 at_most M before holds pending h = record { rows = h.rows; records = h.records; held = h.held; more = h.more; few = h.few; some = h.some }
 
-pub at_most_kept : (M : Model) → (before : Records) (holds holds' : KeeperState M) (pending : List ℕ) → KeepsHeld holds holds' → HandsOn before holds pending → AtMostMore before holds'
-at_most_kept M before holds holds' pending keeps h = record { rows = h.rows; records = h.records; held = keeps h.rows h.records h.held; more = h.more; few = h.few; some = h.some }
+pub at_most_kept : (M : Model) → (before : Records) (holds holds' : KeeperState M) (pending : List ℕ) → KeepsHeld holds holds' → HandsOn before holds pending
+    → AtMostMore before holds'
+at_most_kept M before holds holds' pending keeps h = record { rows = h.rows; records = h.records; held = keeps h.rows h.records h.held; more = h.more; few =
+    h.few; some = h.some }
 
 -- where the port confirms, the answers to a group settle all its ids
-pub hands_group : (M : Model) → (before : Records) (holds : KeeperState M) (gave : List Moment → Type 0) (p q : PortState) (mid pending' : List ℕ) (messages : List (List ℕ)) (taken : List (Request × Moment)) (ends : Bool)
-    (group : List (Request × Moment)) (front answers' : List (List ℕ)) → Gathers gave messages taken ends → group ≡ taken → front ≡ messages → p.confirms ≡ true → SentAll p q front answers' mid pending'
+pub hands_group : (M : Model) → (before : Records) (holds : KeeperState M) (gave : List Moment → Type 0) (p q : PortState) (mid pending' : List ℕ)
+    (messages : List (List ℕ)) (taken : List (Request × Moment)) (ends : Bool)
+    (group : List (Request × Moment)) (front answers' : List (List ℕ)) → Gathers gave messages taken ends → group ≡ taken → front ≡ messages → p.confirms ≡ true
+        → SentAll p q front answers' mid pending'
     → HandsOn before holds (mid ++ ids_in (entries_of group)) → HandsOn before holds pending'
 hands_group M before holds gave p q mid pending' messages taken ends group front answers' gathers same same_front confirms all h =
     let bytes : front ≡ bytes_of gathers.timed = same_front ∙ gathers.bytes in
@@ -64,13 +72,16 @@ hands_group M before holds gave p q mid pending' messages taken ends group front
     ∙ ap (λ (x : List ℕ). mid ++ x) (all_settled gathers.timed all.marks full ∙ ap ids_in (sym gathers.entries ∙ sym (ap entries_of same))))) h
 
 -- at first nothing is to be handed on
-pub hands_start : (M : Model) → (holds : KeeperState M) (pending : List ℕ) (rows : M.Rows) (records : Records) → holds.holds rows records → IsRowed M rows → HandsOn records holds pending
-hands_start M holds pending rows records held rowed = record { rows = rows; records = records; held = held; rowed = rowed; more = []; few = omega arith; some = λ i _. inr refl; all = λ i there. absurd (cc there) }
+pub hands_start : (M : Model) → (holds : KeeperState M) (pending : List ℕ) (rows : M.Rows) (records : Records) → holds.holds rows records → IsRowed M rows
+    → HandsOn records holds pending
+hands_start M holds pending rows records held rowed = record { rows = rows; records = records; held = held; rowed = rowed; more = []; few = omega arith; some =
+    λ i _. inr refl; all = λ i there. absurd (cc there) }
 
 -- ---- of the settled ids few have a record
 
 pub few_kept : (M : Model) → (holds holds' : KeeperState M) (u pending : List ℕ) → KeepsHeld holds holds' → FewHave holds u pending → FewHave holds' u pending
-few_kept M holds holds' u pending keeps h = record { rows = h.rows; records = h.records; held = keeps h.rows h.records h.held; rowed = h.rowed; few = h.few; others = h.others }
+few_kept M holds holds' u pending keeps h = record { rows = h.rows; records = h.records; held = keeps h.rows h.records h.held; rowed = h.rowed; few = h.few;
+    others = h.others }
 
 none_left : (b : Bool) (o now : Option Said) → now ≡ (if b then None else o) → (b ≡ false → o ≡ None) → now ≡ None
 none_left true o now is none = is
@@ -88,11 +99,13 @@ few_performed M holds holds' u pending mid group few stay other h =
       held = o.held;
       rowed = o.rowed;
       few = few;
-      others = λ i there _. none_left (is_in pending i) (h.records i) (o.records i) (o.others i (none_again u group i other there)) (λ absent. h.others i there absent);
+      others = λ i there _. none_left (is_in pending i) (h.records i) (o.records i) (o.others i (none_again u group i other there))
+          (λ absent. h.others i there absent);
     }
 
 -- ids more are settled, and all of these are to be handed on
-pub few_more : (M : Model) → (holds : KeeperState M) (u mid new more : List ℕ) → length more ≤ 16 → Includes more mid → Includes more new → FewHave holds u mid → FewHave holds (u ++ new) more
+pub few_more : (M : Model) → (holds : KeeperState M) (u mid new more : List ℕ) → length more ≤ 16 → Includes more mid → Includes more new → FewHave holds u mid
+    → FewHave holds (u ++ new) more
 few_more M holds u mid new more few old_too new_too h = record {
   rows = h.rows;
   records = h.records;
@@ -106,26 +119,32 @@ few_more M holds u mid new more few old_too new_too h = record {
 }
 
 -- no ids more are
-pub few_same : (M : Model) → (holds : KeeperState M) (c : Bool) (u more : List ℕ) (ts : List Timed) → FewHave holds u more → FewHave holds (u ++ settled_in c (bytes_of ts) []) more
+pub few_same : (M : Model) → (holds : KeeperState M) (c : Bool) (u more : List ℕ) (ts : List Timed) → FewHave holds u more
+    → FewHave holds (u ++ settled_in c (bytes_of ts) []) more
 few_same M holds c u more ts h = subst (λ x. FewHave holds x more) (sym (ap (λ (q : List ℕ). u ++ q) (settled_none c (bytes_of ts)) ∙ append-nil u)) h
 
 -- the answers to a group were sent, all of them or some
-pub few_sent : (M : Model) → (holds : KeeperState M) (c : Bool) (u mid pending' : List ℕ) (front : List (List ℕ)) (ts : List Timed) (marks : List Mark) → front ≡ bytes_of ts → pending' ≡ mid ++ settled_in c front marks → length pending' ≤ 16
+pub few_sent : (M : Model) → (holds : KeeperState M) (c : Bool) (u mid pending' : List ℕ) (front : List (List ℕ)) (ts : List Timed) (marks : List Mark)
+    → front ≡ bytes_of ts → pending' ≡ mid ++ settled_in c front marks → length pending' ≤ 16
     → FewHave holds u mid → FewHave holds (u ++ settled_in c (bytes_of ts) marks) pending'
 few_sent M holds c u mid pending' front ts marks bytes handed few h =
     let new = settled_in c (bytes_of ts) marks in
     let is : pending' ≡ mid ++ new = handed ∙ ap (λ f. mid ++ settled_in c f marks) bytes in
-    subst (FewHave holds (u ++ new)) (sym is) (few_more M holds u mid new (mid ++ new) (subst (λ x. length x ≤ 16) is few) (includes_left mid new) (includes_right mid new) h)
+    subst (FewHave holds (u ++ new)) (sym is) (few_more M holds u mid new (mid ++ new) (subst (λ x. length x ≤ 16) is few) (includes_left mid new)
+        (includes_right mid new) h)
 
-pub few_unsent : (M : Model) → (holds : KeeperState M) (c : Bool) (u mid : List ℕ) (group : List Entry) (ts : List Timed) (marks : List Mark) → group ≡ kept_in ts → length mid + length group ≤ 16
+pub few_unsent : (M : Model) → (holds : KeeperState M) (c : Bool) (u mid : List ℕ) (group : List Entry) (ts : List Timed) (marks : List Mark)
+    → group ≡ kept_in ts → length mid + length group ≤ 16
     → FewHave holds u mid → FewHave holds (u ++ settled_in c (bytes_of ts) marks) (mid ++ ids_in group)
 few_unsent M holds c u mid group ts marks is few h =
-    few_more M holds u mid (settled_in c (bytes_of ts) marks) (mid ++ ids_in group) (omega (arith, length-append mid (ids_in group), length-map group entry_id, few)) (includes_left mid (ids_in group))
+    few_more M holds u mid (settled_in c (bytes_of ts) marks) (mid ++ ids_in group)
+        (omega (arith, length-append mid (ids_in group), length-map group entry_id, few)) (includes_left mid (ids_in group))
     (λ i there. includes_right mid (ids_in group) i (ap (λ g. is_in (ids_in g) i) is ∙ settled_within c ts marks i there)) h
 
 -- at first nothing was settled
 pub few_start : (M : Model) → (holds : KeeperState M) (rows : M.Rows) (records : Records) → holds.holds rows records → IsRowed M rows → FewHave holds [] []
-few_start M holds rows records held rowed = record { rows = rows; records = records; held = held; rowed = rowed; few = omega arith; others = λ i there. absurd (cc there) }
+few_start M holds rows records held rowed = record { rows = rows; records = records; held = held; rowed = rowed; few = omega arith; others =
+    λ i there. absurd (cc there) }
 
 -- ---- a group was performed, if there was one
 
@@ -179,6 +198,7 @@ few_left M holds holds' u pending left [] is few stay un h =
       held = o.held;
       rowed = o.rowed;
       few = few;
-      others = λ i there absent. none_left false (h.records i) (o.records i) (o.others i refl) (λ _. h.others i there (subst (λ l. is_in l i ≡ false) is absent));
+      others = λ i there absent. none_left false (h.records i) (o.records i) (o.others i refl)
+          (λ _. h.others i there (subst (λ l. is_in l i ≡ false) is absent));
     }
 few_left M holds holds' u pending left (e ∷ es) is few stay un h = few_performed M holds holds' u pending left (e ∷ es) few stay un h

@@ -7,7 +7,8 @@ use Rattle.fuse_request.specs.Classes.{class_of}
 use Rattle.fuse_keeper.specs.Model.{Model}
 use Rattle.fuse_keeper.specs.History.{Entry, entry_id, History, has, add, said, grown, HistoriesGrow}
 use Rattle.fuse_session.proofs.Standing.{grown-append}
-use Rattle.fuse_session.specs.Worked.{Timed, bytes_of, kept_in, entries_at, entry_if, timed_entry, message_id, unique_of, answered, answers, answer_by, GoesOn, Works}
+use Rattle.fuse_session.specs.Worked.{Timed, bytes_of, kept_in, entries_at, entry_if, timed_entry, message_id, unique_of, answered, answers, answer_by, GoesOn}
+use Rattle.fuse_session.specs.Worked.{Works}
 use Rattle.fuse_session.specs.Settling.{Mark, replies}
 use Rattle.fuse_session.specs.Group.{head_wire, left_by, wires, told}
 
@@ -23,21 +24,26 @@ abbrev pub outs : (M : Model) → M.State → History → List Timed → List (L
 outs M s h [] = []
 outs M s h (t ∷ ts) = answered M s (grown h (entries_at t)) t ∷ outs M s (grown h (entries_at t)) ts
 
-kept_there : (M : Model) → HistoriesGrow M → (h : History) (t : Timed) (class : Class) → class ≡ Kept → has (grown h (entry_if class (timed_entry t))) (message_id t.bytes) ≡ true
+kept_there : (M : Model) → HistoriesGrow M → (h : History) (t : Timed) (class : Class) → class ≡ Kept
+    → has (grown h (entry_if class (timed_entry t))) (message_id t.bytes) ≡ true
 kept_there M grows h t Silent kept = absurd (cc kept)
 kept_there M grows h t (Bare errno) kept = absurd (cc kept)
 kept_there M grows h t Kept kept = grows.added h (timed_entry t)
 
-answer_stays : (M : Model) → HistoriesGrow M → (s : M.State) (g : History) (es : List Entry) (id unique : ℕ) (class : Class) → (class ≡ Kept → has g id ≡ true) → answer_by class (said M s (grown g es) id) unique ≡ answer_by class (said M s g id) unique
+answer_stays : (M : Model) → HistoriesGrow M → (s : M.State) (g : History) (es : List Entry) (id unique : ℕ) (class : Class) → (class ≡ Kept → has g id ≡ true)
+    → answer_by class (said M s (grown g es) id) unique ≡ answer_by class (said M s g id) unique
 answer_stays M grows s g es id unique Silent there = refl
 answer_stays M grows s g es id unique (Bare errno) there = refl
 answer_stays M grows s g es id unique Kept there = ap (λ o. answer_by Kept o unique) (grows.stays s g es id (there refl))
 
-pub answered_stays : (M : Model) → HistoriesGrow M → (s : M.State) (h : History) (t : Timed) (es : List Entry) → answered M s (grown (grown h (entries_at t)) es) t ≡ answered M s (grown h (entries_at t)) t
-answered_stays M grows s h t es = answer_stays M grows s (grown h (entries_at t)) es (message_id t.bytes) (unique_of t.bytes) (class_of t.bytes) (kept_there M grows h t (class_of t.bytes))
+pub answered_stays : (M : Model) → HistoriesGrow M → (s : M.State) (h : History) (t : Timed) (es : List Entry)
+    → answered M s (grown (grown h (entries_at t)) es) t ≡ answered M s (grown h (entries_at t)) t
+answered_stays M grows s h t es = answer_stays M grows s (grown h (entries_at t)) es (message_id t.bytes) (unique_of t.bytes) (class_of t.bytes)
+    (kept_there M grows h t (class_of t.bytes))
 
 -- later entries change no answer
-pub answers_stay : (M : Model) → HistoriesGrow M → (s : M.State) (h : History) (ts : List Timed) (es : List Entry) → answers M s (grown (grown h (kept_in ts)) es) ts ≡ outs M s h ts
+pub answers_stay : (M : Model) → HistoriesGrow M → (s : M.State) (h : History) (ts : List Timed) (es : List Entry)
+    → answers M s (grown (grown h (kept_in ts)) es) ts ≡ outs M s h ts
 answers_stay M grows s h [] es = refl
 answers_stay M grows s h (t ∷ ts) es =
     let g = grown h (entries_at t) in
@@ -54,7 +60,8 @@ outs-append : (M : Model) → (s : M.State) (h : History) (xs ys : List Timed) �
 outs-append M s h [] ys = refl
 outs-append M s h (x ∷ xs) ys =
     ap (λ r. answered M s (grown h (entries_at x)) x ∷ r) (outs-append M s (grown h (entries_at x)) xs ys)
-    ∙ ap (λ g. answered M s (grown h (entries_at x)) x ∷ (outs M s (grown h (entries_at x)) xs ++ outs M s g ys)) (sym (grown-append h (entries_at x) (kept_in xs)))
+    ∙ ap (λ g. answered M s (grown h (entries_at x)) x ∷ (outs M s (grown h (entries_at x)) xs ++ outs M s g ys))
+        (sym (grown-append h (entries_at x) (kept_in xs)))
 
 front_none : (xs ys : List Timed) → xs ++ ys ≡ [] → xs ≡ []
 front_none [] ys is = refl
@@ -68,7 +75,8 @@ pub record Front (M : Model) (s : M.State) (h : History) (ts : List Timed) (ms :
   pub works : Works M s h first
   pub sent : replies ms ≡ outs M s h first
 
-front_more : (M : Model) → (s : M.State) (h : History) (t : Timed) (ts : List Timed) (m : Mark) (ms : List Mark) → Works M s h (t ∷ ts) → answered M s (grown h (entries_at t)) t ≡ m.reply → Front M s (grown h (entries_at t)) ts ms → Front M s h (t ∷ ts) (m ∷ ms)
+front_more : (M : Model) → (s : M.State) (h : History) (t : Timed) (ts : List Timed) (m : Mark) (ms : List Mark) → Works M s h (t ∷ ts)
+    → answered M s (grown h (entries_at t)) t ≡ m.reply → Front M s (grown h (entries_at t)) ts ms → Front M s h (t ∷ ts) (m ∷ ms)
 front_more M s h t ts m ms works is f = record {
   first = t ∷ f.first;
   others = f.others;
@@ -77,21 +85,29 @@ front_more M s h t ts m ms works is f = record {
   sent = ap (λ x. x ∷ replies ms) (sym is) ∙ ap (λ x. answered M s (grown h (entries_at t)) t ∷ x) f.sent;
 }
 
-pub outs_front : (M : Model) → (s : M.State) (h : History) (ts : List Timed) (ms : List Mark) (later : List (List ℕ)) → Works M s h ts → outs M s h ts ≡ replies ms ++ later → Front M s h ts ms
+pub outs_front : (M : Model) → (s : M.State) (h : History) (ts : List Timed) (ms : List Mark) (later : List (List ℕ)) → Works M s h ts
+    → outs M s h ts ≡ replies ms ++ later → Front M s h ts ms
 outs_front M s h ts [] later works is = record { first = []; others = ts; parts = refl; works = tt; sent = refl }
 outs_front M s h [] (m ∷ ms) later works is = absurd (cc is)
-outs_front M s h (t ∷ ts) (m ∷ ms) later works is = front_more M s h t ts m ms works (cc is) (outs_front M s (grown h (entries_at t)) ts ms later works.2 (cc is))
+outs_front M s h (t ∷ ts) (m ∷ ms) later works is = front_more M s h t ts m ms works (cc is)
+    (outs_front M s (grown h (entries_at t)) ts ms later works.2 (cc is))
 
-pub answers-append : (M : Model) → HistoriesGrow M → (s : M.State) (h : History) (xs ys : List Timed) → answers M s (grown h (kept_in (xs ++ ys))) (xs ++ ys) ≡ answers M s (grown h (kept_in xs)) xs ++ answers M s (grown (grown h (kept_in xs)) (kept_in ys)) ys
-answers-append M grows s h xs ys = answers_are_outs M grows s h (xs ++ ys) ∙ outs-append M s h xs ys ∙ ap (λ r. r ++ outs M s (grown h (kept_in xs)) ys) (sym (answers_are_outs M grows s h xs))
+pub answers-append : (M : Model) → HistoriesGrow M → (s : M.State) (h : History) (xs ys : List Timed)
+    → answers M s (grown h (kept_in (xs ++ ys))) (xs ++ ys) ≡ answers M s (grown h (kept_in xs)) xs
+    ++ answers M s (grown (grown h (kept_in xs)) (kept_in ys)) ys
+answers-append M grows s h xs ys = answers_are_outs M grows s h (xs ++ ys) ∙ outs-append M s h xs ys ∙ ap (λ r. r ++ outs M s (grown h (kept_in xs)) ys)
+    (sym (answers_are_outs M grows s h xs))
     ∙ ap (λ r. answers M s (grown h (kept_in xs)) xs ++ r) (sym (answers_are_outs M grows s (grown h (kept_in xs)) ys))
 
-pub Works-append : (M : Model) → (s : M.State) (h : History) (xs ys : List Timed) → GoesOn M s h xs → Works M s (grown h (kept_in xs)) ys → Works M s h (xs ++ ys)
+pub Works-append : (M : Model) → (s : M.State) (h : History) (xs ys : List Timed) → GoesOn M s h xs → Works M s (grown h (kept_in xs)) ys
+    → Works M s h (xs ++ ys)
 Works-append M s h [] ys goes works = works
 Works-append M s h (x ∷ xs) ys goes works =
-    (goes.0, inr goes.1, Works-append M s (grown h (entries_at x)) xs ys goes.2 (subst (λ g. Works M s g ys) (grown-append h (entries_at x) (kept_in xs)) works))
+    (goes.0, inr goes.1, Works-append M s (grown h (entries_at x)) xs ys goes.2
+        (subst (λ g. Works M s g ys) (grown-append h (entries_at x) (kept_in xs)) works))
 
-pub GoesOn-append : (M : Model) → (s : M.State) (h : History) (xs ys : List Timed) → GoesOn M s h xs → GoesOn M s (grown h (kept_in xs)) ys → GoesOn M s h (xs ++ ys)
+pub GoesOn-append : (M : Model) → (s : M.State) (h : History) (xs ys : List Timed) → GoesOn M s h xs → GoesOn M s (grown h (kept_in xs)) ys
+    → GoesOn M s h (xs ++ ys)
 GoesOn-append M s h [] ys goes more = more
 GoesOn-append M s h (x ∷ xs) ys goes more =
     (goes.0, goes.1, GoesOn-append M s (grown h (entries_at x)) xs ys goes.2 (subst (λ g. GoesOn M s g ys) (grown-append h (entries_at x) (kept_in xs)) more))
@@ -105,12 +121,15 @@ told_is M grows s h (e ∷ es) =
     let rest = told_is M grows s (add h e) es in
     ap (λ x. x ∷ map (λ (d : Entry). said M s (grown (add h e) es) (entry_id d)) es) first ∙ ap (λ r. said M s (add h e) (entry_id e) ∷ r) rest
 
-pub told-append : (M : Model) → (s : M.State) (h : History) (es : List Entry) (e : Entry) → told M s h (es ++ e ∷ []) ≡ told M s h es ++ said M s (add (grown h es) e) (entry_id e) ∷ []
+pub told-append : (M : Model) → (s : M.State) (h : History) (es : List Entry) (e : Entry) → told M s h (es ++ e ∷ []) ≡ told M s h es
+    ++ said M s (add (grown h es) e) (entry_id e) ∷ []
 told-append M s h [] e = refl
 told-append M s h (x ∷ es) e = ap (λ r. said M s (add h x) (entry_id x) ∷ r) (told-append M s (add h x) es e)
 
-head_is : (M : Model) → (s : M.State) (h : History) (t : Timed) (es : List Entry) (class : Class) (list : List Said) → map (λ a. Some a) list ≡ told M s h (entry_if class (timed_entry t) ++ es)
-    → (head_wire class (unique_of t.bytes) list ≡ answer_by class (said M s (grown h (entry_if class (timed_entry t))) (message_id t.bytes)) (unique_of t.bytes))
+head_is : (M : Model) → (s : M.State) (h : History) (t : Timed) (es : List Entry) (class : Class) (list : List Said)
+    → map (λ a. Some a) list ≡ told M s h (entry_if class (timed_entry t) ++ es)
+    → (head_wire class (unique_of t.bytes) list ≡ answer_by class (said M s (grown h (entry_if class (timed_entry t))) (message_id t.bytes))
+        (unique_of t.bytes))
     × (map (λ a. Some a) (left_by class list) ≡ told M s (grown h (entry_if class (timed_entry t))) es)
 head_is M s h t es Silent list are = (refl, are)
 head_is M s h t es (Bare errno) list are = (refl, are)
@@ -120,12 +139,14 @@ head_is M s h t es Kept (a ∷ list) are =
     let here : said M s (add h e) (entry_id e) ≡ Some a = cc are in
     (ap (λ o. answer_by Kept o (unique_of t.bytes)) (sym here), cc are)
 
-wires_outs : (M : Model) → (s : M.State) (ts : List Timed) (h : History) (list : List Said) → map (λ a. Some a) list ≡ told M s h (kept_in ts) → wires (bytes_of ts) list ≡ outs M s h ts
+wires_outs : (M : Model) → (s : M.State) (ts : List Timed) (h : History) (list : List Said) → map (λ a. Some a) list ≡ told M s h (kept_in ts)
+    → wires (bytes_of ts) list ≡ outs M s h ts
 wires_outs M s [] h list are = refl
 wires_outs M s (t ∷ ts) h list are =
     let p = head_is M s h t (kept_in ts) (class_of t.bytes) list are in
     ap (λ r. r ∷ wires (bytes_of ts) (left_by (class_of t.bytes) list)) p.0
     ∙ ap (λ r. answered M s (grown h (entries_at t)) t ∷ r) (wires_outs M s ts (grown h (entries_at t)) (left_by (class_of t.bytes) list) p.1)
 
-pub wires_are : (M : Model) → HistoriesGrow M → (s : M.State) (h : History) (ts : List Timed) (list : List Said) → map (λ a. Some a) list ≡ told M s h (kept_in ts) → wires (bytes_of ts) list ≡ answers M s (grown h (kept_in ts)) ts
+pub wires_are : (M : Model) → HistoriesGrow M → (s : M.State) (h : History) (ts : List Timed) (list : List Said)
+    → map (λ a. Some a) list ≡ told M s h (kept_in ts) → wires (bytes_of ts) list ≡ answers M s (grown h (kept_in ts)) ts
 wires_are M grows s h ts list are = wires_outs M s ts h list are ∙ sym (answers_are_outs M grows s h ts)

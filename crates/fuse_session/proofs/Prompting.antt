@@ -10,7 +10,8 @@ use Rattle.fuse_session.specs.Serving.{Whole}
 use Rattle.fuse_session.specs.Prompt.{CaughtUp, WasCaughtUp}
 
 -- all that came was worked off
-pub whole_caught_up : (M : Model) → (k new : KeeperState M) (gave : List Moment → Type 0) (p q : PortState) (ids rest : List ℕ) (at : ℕ) (counts : SessionCounts) → Whole k new gave p q [] ids [] rest 0 at counts → CaughtUp k new p q
+pub whole_caught_up : (M : Model) → (k new : KeeperState M) (gave : List Moment → Type 0) (p q : PortState) (ids rest : List ℕ) (at : ℕ)
+    (counts : SessionCounts) → Whole k new gave p q [] ids [] rest 0 at counts → CaughtUp k new p q
 whole_caught_up M k new gave p q ids rest at counts w = record {
   received = w.received;
   came = w.came;
@@ -22,7 +23,8 @@ whole_caught_up M k new gave p q ids rest at counts w = record {
 }
 
 -- and so it was, whatever comes later
-pub caught_later : {P : Type 0} → (M : Model) → (told : P → PortState) (became : P → P → Type 0) (k mid new : KeeperState M) (old now later : P) (n : ℕ) → IsPath became → became now later → (new.is_honest → mid.is_honest)
+pub caught_later : {P : Type 0} → (M : Model) → (told : P → PortState) (became : P → P → Type 0) (k mid new : KeeperState M) (old now later : P) (n : ℕ)
+    → IsPath became → became now later → (new.is_honest → mid.is_honest)
     → WasCaughtUp told became k mid old now n → WasCaughtUp told became k new old later n
 caught_later M told became k mid new old now later n path went honest_too w = record {
   port = w.port;
@@ -44,7 +46,8 @@ split : (n m : ℕ) → n ≤ m + 1 → (n ≤ m) ⊎ (n ≡ m + 1)
 split n m le = elim (cases_lt m n) [ inl above ↦ inr (omega (arith, above, le)) | inr within ↦ inl within ]
 
 -- a turn more
-pub caught_more : {P : Type 0} → (M : Model) → (told : P → PortState) (became : P → P → Type 0) (k mid new : KeeperState M) (old now later : P) (turn : ℕ) → IsPath became → became old now → became now later → (new.is_honest → mid.is_honest)
+pub caught_more : {P : Type 0} → (M : Model) → (told : P → PortState) (became : P → P → Type 0) (k mid new : KeeperState M) (old now later : P) (turn : ℕ)
+    → IsPath became → became old now → became now later → (new.is_honest → mid.is_honest)
     → (told later).receives ≡ (told old).receives + (turn + 1) → CaughtUp k new (told old) (told later)
     → ((n : ℕ) → 0 < n → n ≤ turn → WasCaughtUp told became k mid old now n) → (n : ℕ) → 0 < n → n ≤ turn + 1 → WasCaughtUp told became k new old later n
 caught_more M told became k mid new old now later turn path before went honest_too receives up so n some le = elim (split n turn le) [

@@ -1,5 +1,6 @@
 -- Turns, one after another.
-use Rattle.std.proofs.Common.{◌≡◌, ◌↔◌, inl, inr, ◌<◌, ◌+◌, ℕ, ◌||◌, Bool, true, false, List, [], ◌++◌, length, Option, None, refl, sym, ap, subst, ◌∙◌, append_assoc, arith, length-append}
+use Rattle.std.proofs.Common.{◌≡◌, ◌↔◌, inl, inr, ◌<◌, ◌+◌, ℕ, ◌||◌, Bool, true, false, List, [], ◌++◌, length, Option, None, refl, sym, ap, subst, ◌∙◌}
+use Rattle.std.proofs.Common.{append_assoc, arith, length-append}
 use Rattle.std.proofs.lemmas.List.{append-nil}
 use Rattle.std.specs.Io.KnownBytes.{Appends, Consumes}
 use Rattle.fuse_wire.specs.declared.moment.Moment.{Moment}
@@ -47,9 +48,11 @@ hearing_replied a b h = record {
 }
 
 -- what is held, and more bytes behind it
-cut_more : CutJoins → (held mid r1 r2 : List ℕ) → mid ≡ (cut (held ++ r1)).1 → cut (held ++ (r1 ++ r2)) ≡ ((cut (held ++ r1)).0 ++ (cut (mid ++ r2)).0, (cut (mid ++ r2)).1)
+cut_more : CutJoins → (held mid r1 r2 : List ℕ) → mid ≡ (cut (held ++ r1)).1
+    → cut (held ++ (r1 ++ r2)) ≡ ((cut (held ++ r1)).0 ++ (cut (mid ++ r2)).0, (cut (mid ++ r2)).1)
 cut_more joins held mid r1 r2 is =
-    ap cut (sym (append_assoc held r1 r2)) ∙ joins (held ++ r1) r2 ∙ ap (λ (w : List ℕ). ((cut (held ++ r1)).0 ++ (cut (w ++ r2)).0, (cut (w ++ r2)).1)) (sym is)
+    ap cut (sym (append_assoc held r1 r2)) ∙ joins (held ++ r1) r2 ∙ ap (λ (w : List ℕ). ((cut (held ++ r1)).0 ++ (cut (w ++ r2)).0, (cut (w ++ r2)).1))
+        (sym is)
 
 front_more : CutJoins → (held mid r1 r2 : List ℕ) → mid ≡ (cut (held ++ r1)).1 → (cut (held ++ r1)).0 ++ (cut (mid ++ r2)).0 ≡ (cut (held ++ (r1 ++ r2))).0
 front_more joins held mid r1 r2 is = sym (ap (λ (x : List (List ℕ) × List ℕ). x.0) (cut_more joins held mid r1 r2 is))
@@ -57,17 +60,21 @@ front_more joins held mid r1 r2 is = sym (ap (λ (x : List (List ℕ) × List �
 rest_more : CutJoins → (held mid r1 r2 : List ℕ) → mid ≡ (cut (held ++ r1)).1 → (cut (mid ++ r2)).1 ≡ (cut (held ++ (r1 ++ r2))).1
 rest_more joins held mid r1 r2 is = sym (ap (λ (x : List (List ℕ) × List ℕ). x.1) (cut_more joins held mid r1 r2 is))
 
-place_more : CutJoins → (held mid r1 r2 : List ℕ) (begin at place : ℕ) → mid ≡ (cut (held ++ r1)).1 → at ≡ begin + length (joined (cut (held ++ r1)).0) → place ≡ at + length (joined (cut (mid ++ r2)).0)
+place_more : CutJoins → (held mid r1 r2 : List ℕ) (begin at place : ℕ) → mid ≡ (cut (held ++ r1)).1 → at ≡ begin + length (joined (cut (held ++ r1)).0)
+    → place ≡ at + length (joined (cut (mid ++ r2)).0)
     → place ≡ begin + length (joined (cut (held ++ (r1 ++ r2))).0)
 place_more joins held mid r1 r2 begin at place is one two =
     let a = (cut (held ++ r1)).0 in
     let b = (cut (mid ++ r2)).0 in
-    omega (arith, one, two, ap (λ x. length (joined x)) (front_more joins held mid r1 r2 is), ap length (joined-append a b), length-append (joined a) (joined b))
+    omega (arith, one, two, ap (λ x. length (joined x)) (front_more joins held mid r1 r2 is), ap length (joined-append a b), length-append (joined a)
+        (joined b))
 
 -- ---- a turn more
 
-pub whole_more : (M : Model) → HistoriesGrow M → CutJoins → (holds mid new : KeeperState M) (gave gave' gave'' : List Moment → Type 0) (p q r : PortState) (ids ids' ids'' : List ℕ) (held left rest : List ℕ) (begin at place : ℕ) (counts counts' : SessionCounts)
-    → Whole holds mid gave p q ids ids' held left begin at counts → Whole mid new gave' q r ids' ids'' left rest at place counts' → (new.is_honest → mid.is_honest) → ((xs ys : List Moment) → gave xs → gave' ys → gave'' (xs ++ ys))
+pub whole_more : (M : Model) → HistoriesGrow M → CutJoins → (holds mid new : KeeperState M) (gave gave' gave'' : List Moment → Type 0) (p q r : PortState)
+    (ids ids' ids'' : List ℕ) (held left rest : List ℕ) (begin at place : ℕ) (counts counts' : SessionCounts)
+    → Whole holds mid gave p q ids ids' held left begin at counts → Whole mid new gave' q r ids' ids'' left rest at place counts'
+        → (new.is_honest → mid.is_honest) → ((xs ys : List Moment) → gave xs → gave' ys → gave'' (xs ++ ys))
     → Whole holds new gave'' p r ids ids'' held rest begin place (plus counts counts')
 whole_more M grows joins holds mid new gave gave' gave'' p q r ids ids' ids'' held left rest begin at place counts counts' one two honest_too moments = record {
   received = one.received ++ two.received;
@@ -75,11 +82,14 @@ whole_more M grows joins holds mid new gave gave' gave'' p q r ids ids' ids'' he
   rest_is = two.rest_is ∙ rest_more joins held left one.received two.received one.rest_is;
   at = place_more joins held left one.received two.received begin at place one.rest_is one.at two.at;
   turned = subst (λ f. Turned holds new gave'' p r ids ids'' f true (plus counts counts')) (front_more joins held left one.received two.received one.rest_is)
-      (turned_more M grows holds mid new gave gave' gave'' p q r ids ids' ids'' (cut (held ++ one.received)).0 (cut (left ++ two.received)).0 true counts counts' one.turned two.turned honest_too moments);
+      (turned_more M grows holds mid new gave gave' gave'' p q r ids ids' ids'' (cut (held ++ one.received)).0 (cut (left ++ two.received)).0 true counts
+          counts' one.turned two.turned honest_too moments);
 }
 
-pub stopped_more : (M : Model) → HistoriesGrow M → CutJoins → (holds mid new : KeeperState M) (gave gave' gave'' : List Moment → Type 0) (p q r : PortState) (ids ids' ids'' : List ℕ) (held left : List ℕ) (rest : Rest) (begin at place : ℕ) (counts counts' : SessionCounts)
-    → Whole holds mid gave p q ids ids' held left begin at counts → Stopped mid new gave' q r ids' ids'' left rest at place counts' → (new.is_honest → mid.is_honest) → ((xs ys : List Moment) → gave xs → gave' ys → gave'' (xs ++ ys))
+pub stopped_more : (M : Model) → HistoriesGrow M → CutJoins → (holds mid new : KeeperState M) (gave gave' gave'' : List Moment → Type 0) (p q r : PortState)
+    (ids ids' ids'' : List ℕ) (held left : List ℕ) (rest : Rest) (begin at place : ℕ) (counts counts' : SessionCounts)
+    → Whole holds mid gave p q ids ids' held left begin at counts → Stopped mid new gave' q r ids' ids'' left rest at place counts'
+        → (new.is_honest → mid.is_honest) → ((xs ys : List Moment) → gave xs → gave' ys → gave'' (xs ++ ys))
     → Stopped holds new gave'' p r ids ids'' held rest begin place (plus counts counts')
 stopped_more M grows joins holds mid new gave gave' gave'' p q r ids ids' ids'' held left rest begin at place counts counts' one two honest_too moments =
     let a = (cut (held ++ one.received)).0 in
@@ -94,30 +104,37 @@ stopped_more M grows joins holds mid new gave gave' gave'' p q r ids ids' ids'' 
         all = w.all;
         zero = w.zero;
         at = omega (arith, one.at, w.at, ap length (joined-append a w.front), length-append (joined a) (joined w.front));
-        turned = turned_more M grows holds mid new gave gave' gave'' p q r ids ids' ids'' a w.front (lasts rest) counts counts' one.turned w.turned honest_too moments;
+        turned = turned_more M grows holds mid new gave gave' gave'' p q r ids ids' ids'' a w.front (lasts rest) counts counts' one.turned w.turned honest_too
+            moments;
       };
     }
 
-pub life_more : (M : Model) → HistoriesGrow M → CutJoins → (holds mid new : KeeperState M) (gave gave' gave'' : List Moment → Type 0) (p q r : PortState) (ids ids' : List ℕ)
+pub life_more : (M : Model) → HistoriesGrow M → CutJoins → (holds mid new : KeeperState M) (gave gave' gave'' : List Moment → Type 0) (p q r : PortState)
+    (ids ids' : List ℕ)
     (held rest : List ℕ) (begin at : ℕ) (counts : SessionCounts) (exact want : Bool) (faulted faulted' : Type 0)
     → Whole holds mid gave p q ids ids' held rest begin at counts → Run mid new gave' q r ids' rest exact want faulted' → (faulted' → faulted)
-    → (new.is_clean → new.is_honest) → (new.is_honest → mid.is_honest) → (mid.is_honest → IsFirm holds → IsFirm mid) → ((xs ys : List Moment) → gave xs → gave' ys → gave'' (xs ++ ys))
+    → (new.is_clean → new.is_honest) → (new.is_honest → mid.is_honest) → (mid.is_honest → IsFirm holds → IsFirm mid)
+        → ((xs ys : List Moment) → gave xs → gave' ys → gave'' (xs ++ ys))
     → Run holds new gave'' p r ids held exact want faulted
-life_more M grows joins holds mid new gave gave' gave'' p q r ids ids' held rest begin at counts exact want faulted faulted' one two faulted_too clean_honest honest_too firm_too moments = record {
+life_more M grows joins holds mid new gave gave' gave'' p q r ids ids' held rest begin at counts exact want faulted faulted' one two faulted_too clean_honest
+    honest_too firm_too moments = record {
   received = one.received ++ two.received;
   came = consumes_more p.coming q.coming r.coming one.received two.received one.came two.came;
   broken = subst (λ f. Broken holds new gave'' p r ids f exact want faulted) (front_more joins held rest one.received two.received one.rest_is)
-      (turned_broken M grows holds mid new gave gave' gave'' p q r ids ids' (cut (held ++ one.received)).0 (cut (rest ++ two.received)).0 counts exact want faulted faulted' one.turned two.broken faulted_too clean_honest honest_too firm_too moments);
+      (turned_broken M grows holds mid new gave gave' gave'' p q r ids ids' (cut (held ++ one.received)).0 (cut (rest ++ two.received)).0 counts exact want
+          faulted faulted' one.turned two.broken faulted_too clean_honest honest_too firm_too moments);
 }
 
 -- all was worked off: a life too
-pub whole_life : (M : Model) → (holds new : KeeperState M) (gave : List Moment → Type 0) (p q : PortState) (ids ids' : List ℕ) (held rest : List ℕ) (begin at : ℕ) (counts : SessionCounts) (exact want : Bool) (faulted : Type 0) → exact ≡ false
+pub whole_life : (M : Model) → (holds new : KeeperState M) (gave : List Moment → Type 0) (p q : PortState) (ids ids' : List ℕ) (held rest : List ℕ)
+    (begin at : ℕ) (counts : SessionCounts) (exact want : Bool) (faulted : Type 0) → exact ≡ false
     → Whole holds new gave p q ids ids' held rest begin at counts → (new.is_clean → new.is_honest) → (new.is_honest → IsFirm holds → IsFirm new)
     → Run holds new gave p q ids held exact want faulted
 whole_life M holds new gave p q ids ids' held rest begin at counts exact want faulted inexact w clean_honest firm_still = record {
   received = w.received;
   came = w.came;
-  broken = turned_life M holds new gave p q ids ids' (cut (held ++ w.received)).0 [] (cut (held ++ w.received)).0 true counts exact want faulted inexact w.turned (sym (append-nil (cut (held ++ w.received)).0)) clean_honest firm_still;
+  broken = turned_life M holds new gave p q ids ids' (cut (held ++ w.received)).0 [] (cut (held ++ w.received)).0 true counts exact want faulted inexact
+      w.turned (sym (append-nil (cut (held ++ w.received)).0)) clean_honest firm_still;
 }
 
 cut_none : cut [] ≡ ([], [])
@@ -125,28 +142,36 @@ unfolding cut
 cut_none = refl
 
 -- nothing came yet
-pub whole_none : (M : Model) → (holds : KeeperState M) (gave : List Moment → Type 0) (p : PortState) (ids : List ℕ) → gave [] → Whole holds holds gave p p ids ids [] [] 0 0 none_counted
+pub whole_none : (M : Model) → (holds : KeeperState M) (gave : List Moment → Type 0) (p : PortState) (ids : List ℕ) → gave []
+    → Whole holds holds gave p p ids ids [] [] 0 0 none_counted
 whole_none M holds gave p ids none = record {
   received = [];
   came = consumes_none p.coming;
   rest_is = sym (ap (λ (x : List (List ℕ) × List ℕ). x.1) cut_none);
   at = omega (arith, ap (λ (x : List (List ℕ) × List ℕ). length (joined x.0)) cut_none);
-  turned = subst (λ f. Turned holds holds gave p p ids ids f true none_counted) (sym (ap (λ (x : List (List ℕ) × List ℕ). x.0) cut_none)) (turned_none M holds gave p ids none);
+  turned = subst (λ f. Turned holds holds gave p p ids ids f true none_counted) (sym (ap (λ (x : List (List ℕ) × List ℕ). x.0) cut_none))
+      (turned_none M holds gave p ids none);
 }
 
 -- ---- what came in a turn
 
-heard_turned : (M : Model) → HistoriesGrow M → (holds new : KeeperState M) → (new.is_honest → holds.is_honest) → (gave : List Moment → Type 0) (p q r : PortState) (ids ids' : List ℕ) (front : List (List ℕ)) (going : Bool) (counts : SessionCounts) → IsHearing p q
+heard_turned : (M : Model) → HistoriesGrow M → (holds new : KeeperState M) → (new.is_honest → holds.is_honest)
+    → (gave : List Moment → Type 0) (p q r : PortState) (ids ids' : List ℕ) (front : List (List ℕ)) (going : Bool) (counts : SessionCounts) → IsHearing p q
     → Turned holds new gave q r ids ids' front going counts → Turned holds new gave p r ids ids' front going counts
 heard_turned M grows holds new honest gave p q r ids ids' front going counts hearing t =
     subst (λ c. Turned holds new gave p r ids ids' front going c) (none_plus counts)
-    (turned_more M grows holds holds new (λ ts. ts ≡ []) gave gave p q r ids ids ids' [] front going none_counted counts (turned_quiet M holds (λ ts. ts ≡ []) p q ids refl (hearing_replied p q hearing)) t honest (gave_later gave))
+    (turned_more M grows holds holds new (λ ts. ts ≡ []) gave gave p q r ids ids ids' [] front going none_counted counts
+        (turned_quiet M holds (λ ts. ts ≡ []) p q ids refl (hearing_replied p q hearing)) t honest (gave_later gave))
 
-heard_came : (p q r : PortState) (before after : Held) (messages : List (List ℕ)) (fault : Option FrameFault) → (h : Heard p q before after messages fault) → IsQuiet q r → Consumes p.coming r.coming h.received
+heard_came : (p q r : PortState) (before after : Held) (messages : List (List ℕ)) (fault : Option FrameFault) → (h : Heard p q before after messages fault)
+    → IsQuiet q r → Consumes p.coming r.coming h.received
 heard_came p q r before after messages fault h quiet = subst (λ o. Consumes p.coming o h.received) (sym quiet.coming) h.came
 
-pub whole_heard : (M : Model) → HistoriesGrow M → (holds new : KeeperState M) → (new.is_honest → holds.is_honest) → (gave : List Moment → Type 0) (p q r : PortState) (ids ids' : List ℕ) (before after : Held) (messages slice : List (List ℕ)) (fault : Option FrameFault) (begin place : ℕ) (rest : Rest) (counts : SessionCounts)
-    → Heard p q before after messages fault → IsHearing p q → slice ≡ messages → rest ≡ GoesOnHere → WorkedOff holds new gave q r ids ids' slice rest begin place counts → IsQuiet q r
+pub whole_heard : (M : Model) → HistoriesGrow M → (holds new : KeeperState M) → (new.is_honest → holds.is_honest)
+    → (gave : List Moment → Type 0) (p q r : PortState) (ids ids' : List ℕ) (before after : Held) (messages slice : List (List ℕ)) (fault : Option FrameFault)
+    (begin place : ℕ) (rest : Rest) (counts : SessionCounts)
+    → Heard p q before after messages fault → IsHearing p q → slice ≡ messages → rest ≡ GoesOnHere
+        → WorkedOff holds new gave q r ids ids' slice rest begin place counts → IsQuiet q r
     → Whole holds new gave p r ids ids' before.bytes after.bytes before.at after.at counts
 whole_heard M grows holds new honest gave p q r ids ids' before after messages slice fault begin place rest counts h hearing same goes w quiet =
     let msgs : (cut (before.bytes ++ h.received)).0 ≡ messages = ap (λ (x : List (List ℕ) × List ℕ). x.0) h.took.cut_is in
@@ -157,13 +182,18 @@ whole_heard M grows holds new honest gave p q r ids ids' before after messages s
       rest_is = sym (ap (λ (x : List (List ℕ) × List ℕ). x.1) h.took.cut_is);
       at = h.took.at ∙ ap (λ x. before.at + length (joined x)) (sym msgs);
       turned = subst (λ f. Turned holds new gave p r ids ids' f true counts) (front ∙ sym msgs)
-          (subst (λ b. Turned holds new gave p r ids ids' w.front b counts) (ap lasts goes) (heard_turned M grows holds new honest gave p q r ids ids' w.front (lasts rest) counts hearing w.turned));
+          (subst (λ b. Turned holds new gave p r ids ids' w.front b counts) (ap lasts goes)
+              (heard_turned M grows holds new honest gave p q r ids ids' w.front (lasts rest) counts hearing w.turned));
     }
 
-pub stopped_heard : (M : Model) → HistoriesGrow M → (holds new : KeeperState M) → (new.is_honest → holds.is_honest) → (gave : List Moment → Type 0) (p q r : PortState) (ids ids' : List ℕ) (before after : Held) (messages slice : List (List ℕ)) (fault : Option FrameFault) (begin place : ℕ) (rest kind : Rest) (counts : SessionCounts)
-    → Heard p q before after messages fault → IsHearing p q → slice ≡ messages → rest ≡ kind → begin ≡ before.at → WorkedOff holds new gave q r ids ids' slice rest begin place counts → IsQuiet q r
+pub stopped_heard : (M : Model) → HistoriesGrow M → (holds new : KeeperState M) → (new.is_honest → holds.is_honest)
+    → (gave : List Moment → Type 0) (p q r : PortState) (ids ids' : List ℕ) (before after : Held) (messages slice : List (List ℕ)) (fault : Option FrameFault)
+    (begin place : ℕ) (rest kind : Rest) (counts : SessionCounts)
+    → Heard p q before after messages fault → IsHearing p q → slice ≡ messages → rest ≡ kind → begin ≡ before.at
+        → WorkedOff holds new gave q r ids ids' slice rest begin place counts → IsQuiet q r
     → Stopped holds new gave p r ids ids' before.bytes kind before.at place counts
-stopped_heard M grows holds new honest gave p q r ids ids' before after messages slice fault begin place rest kind counts h hearing same kind_is begin_is w quiet =
+stopped_heard M grows holds new honest gave p q r ids ids' before after messages slice fault begin place rest kind counts h hearing same kind_is begin_is w
+    quiet =
     subst (λ k. Stopped holds new gave p r ids ids' before.bytes k before.at place counts) kind_is
     (record {
       received = h.received;
@@ -179,10 +209,14 @@ stopped_heard M grows holds new honest gave p q r ids ids' before after messages
       };
     })
 
-pub life_heard : (M : Model) → HistoriesGrow M → (holds new : KeeperState M) → (new.is_honest → holds.is_honest) → (gave : List Moment → Type 0) (p q r : PortState) (ids : List ℕ) (before after : Held) (messages slice : List (List ℕ)) (fault : Option FrameFault) (exact want exact' want' : Bool) (faulted faulted' : Type 0)
-    → Heard p q before after messages fault → IsHearing p q → slice ≡ messages → exact' ≡ exact → want' ≡ want → Broken holds new gave q r ids slice exact want faulted' → (faulted' → faulted) → IsQuiet q r → (new.is_clean → new.is_honest)
+pub life_heard : (M : Model) → HistoriesGrow M → (holds new : KeeperState M) → (new.is_honest → holds.is_honest)
+    → (gave : List Moment → Type 0) (p q r : PortState) (ids : List ℕ) (before after : Held) (messages slice : List (List ℕ)) (fault : Option FrameFault)
+    (exact want exact' want' : Bool) (faulted faulted' : Type 0)
+    → Heard p q before after messages fault → IsHearing p q → slice ≡ messages → exact' ≡ exact → want' ≡ want
+        → Broken holds new gave q r ids slice exact want faulted' → (faulted' → faulted) → IsQuiet q r → (new.is_clean → new.is_honest)
     → Run holds new gave p r ids before.bytes exact' want' faulted
-life_heard M grows holds new honest gave p q r ids before after messages slice fault exact want exact' want' faulted faulted' h hearing same e w b faulted_too quiet clean_honest =
+life_heard M grows holds new honest gave p q r ids before after messages slice fault exact want exact' want' faulted faulted' h hearing same e w b faulted_too
+    quiet clean_honest =
     let msgs : slice ≡ (cut (before.bytes ++ h.received)).0 = same ∙ sym (ap (λ (x : List (List ℕ) × List ℕ). x.0) h.took.cut_is) in
     let broken = turned_broken M grows holds holds new (λ ts. ts ≡ []) gave gave p q r ids ids [] slice none_counted exact want faulted faulted'
     (turned_quiet M holds (λ ts. ts ≡ []) p q ids refl (hearing_replied p q hearing)) b faulted_too clean_honest honest (λ _ f. f) (gave_later gave) in
@@ -206,7 +240,8 @@ came_by Turns p q h n = absurd n
 came_by (ZeroUnique at) p q h n = absurd n
 came_by (Store fault) p q h n = absurd n
 
-pub life_unheard : (M : Model) → (holds : KeeperState M) (gave : List Moment → Type 0) (p q : PortState) (ids : List ℕ) (h : Held) (e : Ended) (exact want : Bool) (faulted : Type 0) → exact ≡ false → gave []
+pub life_unheard : (M : Model) → (holds : KeeperState M) (gave : List Moment → Type 0) (p q : PortState) (ids : List ℕ) (h : Held) (e : Ended)
+    (exact want : Bool) (faulted : Type 0) → exact ≡ false → gave []
     → NotHeard e p q h → IsHearing p q → Run holds holds gave p q ids h.bytes exact want faulted
 life_unheard M holds gave p q ids h e exact want faulted inexact none n hearing =
     let came = came_by e p q h n in
@@ -217,7 +252,8 @@ life_unheard M holds gave p q ids h e exact want faulted inexact none n hearing 
           (λ rows records held. held) (λ firm s g t so. firm_leaves M holds s g t firm so);
     }
 
-whole_unheard : (M : Model) → (holds : KeeperState M) (gave : List Moment → Type 0) (p q : PortState) (ids : List ℕ) (h : Held) → gave [] → IsOpen h → Consumes p.coming q.coming [] → IsHearing p q
+whole_unheard : (M : Model) → (holds : KeeperState M) (gave : List Moment → Type 0) (p q : PortState) (ids : List ℕ) (h : Held) → gave [] → IsOpen h
+    → Consumes p.coming q.coming [] → IsHearing p q
     → Whole holds holds gave p q ids ids h.bytes h.bytes h.at h.at none_counted
 whole_unheard M holds gave p q ids h none ready came hearing =
     let is : cut (h.bytes ++ []) ≡ ([], h.bytes) = ap cut (append-nil h.bytes) ∙ ready.none in
@@ -226,14 +262,21 @@ whole_unheard M holds gave p q ids h none ready came hearing =
       came = came;
       rest_is = sym (ap (λ (x : List (List ℕ) × List ℕ). x.1) is);
       at = omega (arith, ap (λ (x : List (List ℕ) × List ℕ). length (joined x.0)) is);
-      turned = subst (λ f. Turned holds holds gave p q ids ids f true none_counted) (sym (ap (λ (x : List (List ℕ) × List ℕ). x.0) is)) (turned_quiet M holds gave p q ids none (hearing_replied p q hearing));
+      turned = subst (λ f. Turned holds holds gave p q ids ids f true none_counted) (sym (ap (λ (x : List (List ℕ) × List ℕ). x.0) is))
+          (turned_quiet M holds gave p q ids none (hearing_replied p q hearing));
     }
 
-pub ends_unheard : (M : Model) → (holds : KeeperState M) (gave : List Moment → Type 0) (p q : PortState) (ids : List ℕ) (h : Held) (e : Ended) (turns : ℕ) → gave [] → IsOpen h → NotHeard e p q h → IsHearing p q
+pub ends_unheard : (M : Model) → (holds : KeeperState M) (gave : List Moment → Type 0) (p q : PortState) (ids : List ℕ) (h : Held) (e : Ended) (turns : ℕ)
+    → gave [] → IsOpen h → NotHeard e p q h → IsHearing p q
     → EndsAs holds holds gave p q ids h.bytes h.at turns e none_counted
-ends_unheard M holds gave p q ids h End turns none ready n hearing = (n.0, record { rest = h.bytes; place = h.at; pending' = ids; whole = whole_unheard M holds gave p q ids h none ready n.2 hearing; so = n.1 })
-ends_unheard M holds gave p q ids h (Frame f) turns none ready n hearing = record { rest = h.bytes; place = h.at; pending' = ids; whole = whole_unheard M holds gave p q ids h none ready n.2 hearing; so = inr (n.0, ready.good, n.1) }
-ends_unheard M holds gave p q ids h PortFailed turns none ready n hearing = λ _. (n.2, record { rest = h.bytes; place = h.at; pending' = ids; whole = whole_unheard M holds gave p q ids h none ready n.3 hearing; so = (ready.none, ready.good) })
+ends_unheard M holds gave p q ids h End turns none ready n hearing =
+    (n.0, record { rest = h.bytes; place = h.at; pending' = ids; whole = whole_unheard M holds gave p q ids h none ready n.2 hearing; so = n.1 })
+ends_unheard M holds gave p q ids h (Frame f) turns none ready n hearing =
+    record { rest = h.bytes; place = h.at; pending' = ids; whole = whole_unheard M holds gave p q ids h none ready n.2 hearing; so =
+    inr (n.0, ready.good, n.1) }
+ends_unheard M holds gave p q ids h PortFailed turns none ready n hearing =
+    λ _. (n.2, record { rest = h.bytes; place = h.at; pending' = ids; whole = whole_unheard M holds gave p q ids h none ready n.3 hearing; so =
+    (ready.none, ready.good) })
 ends_unheard M holds gave p q ids h Memory turns none ready n hearing = tt
 ends_unheard M holds gave p q ids h Destroyed turns none ready n hearing = absurd n
 ends_unheard M holds gave p q ids h Turns turns none ready n hearing = absurd n
@@ -242,67 +285,98 @@ ends_unheard M holds gave p q ids h (Store fault) turns none ready n hearing = a
 
 -- ---- turns, and then an end
 
-rested_more : (M : Model) → HistoriesGrow M → CutJoins → (holds mid new : KeeperState M) (gave gave' gave'' : List Moment → Type 0) (p q r : PortState) (ids ids' : List ℕ) (held left : List ℕ) (begin at : ℕ) (counts counts' : SessionCounts) (P : ℕ → List ℕ → Type 0)
-    → Whole holds mid gave p q ids ids' held left begin at counts → Rested mid new gave' q r ids' left at counts' P → (new.is_honest → mid.is_honest) → ((xs ys : List Moment) → gave xs → gave' ys → gave'' (xs ++ ys))
+rested_more : (M : Model) → HistoriesGrow M → CutJoins → (holds mid new : KeeperState M) (gave gave' gave'' : List Moment → Type 0) (p q r : PortState)
+    (ids ids' : List ℕ) (held left : List ℕ) (begin at : ℕ) (counts counts' : SessionCounts) (P : ℕ → List ℕ → Type 0)
+    → Whole holds mid gave p q ids ids' held left begin at counts → Rested mid new gave' q r ids' left at counts' P → (new.is_honest → mid.is_honest)
+        → ((xs ys : List Moment) → gave xs → gave' ys → gave'' (xs ++ ys))
     → Rested holds new gave'' p r ids held begin (plus counts counts') P
 rested_more M grows joins holds mid new gave gave' gave'' p q r ids ids' held left begin at counts counts' P one two honest_too moments = record {
   rest = two.rest;
   place = two.place;
   pending' = two.pending';
-  whole = whole_more M grows joins holds mid new gave gave' gave'' p q r ids ids' two.pending' held left two.rest begin at two.place counts counts' one two.whole honest_too moments;
+  whole = whole_more M grows joins holds mid new gave gave' gave'' p q r ids ids' two.pending' held left two.rest begin at two.place counts counts' one
+      two.whole honest_too moments;
   so = two.so;
 }
 
-halted_more : (M : Model) → HistoriesGrow M → CutJoins → (holds mid new : KeeperState M) (gave gave' gave'' : List Moment → Type 0) (p q r : PortState) (ids ids' : List ℕ) (held left : List ℕ) (rest : Rest) (begin at place : ℕ) (counts counts' : SessionCounts)
-    → Whole holds mid gave p q ids ids' held left begin at counts → Halted mid new gave' q r ids' left rest at place counts' → (new.is_honest → mid.is_honest) → ((xs ys : List Moment) → gave xs → gave' ys → gave'' (xs ++ ys))
+halted_more : (M : Model) → HistoriesGrow M → CutJoins → (holds mid new : KeeperState M) (gave gave' gave'' : List Moment → Type 0) (p q r : PortState)
+    (ids ids' : List ℕ) (held left : List ℕ) (rest : Rest) (begin at place : ℕ) (counts counts' : SessionCounts)
+    → Whole holds mid gave p q ids ids' held left begin at counts → Halted mid new gave' q r ids' left rest at place counts' → (new.is_honest → mid.is_honest)
+        → ((xs ys : List Moment) → gave xs → gave' ys → gave'' (xs ++ ys))
     → Halted holds new gave'' p r ids held rest begin place (plus counts counts')
 halted_more M grows joins holds mid new gave gave' gave'' p q r ids ids' held left rest begin at place counts counts' one two honest_too moments = record {
   pending' = two.pending';
-  stopped = stopped_more M grows joins holds mid new gave gave' gave'' p q r ids ids' two.pending' held left rest begin at place counts counts' one two.stopped honest_too moments;
+  stopped = stopped_more M grows joins holds mid new gave gave' gave'' p q r ids ids' two.pending' held left rest begin at place counts counts' one two.stopped
+      honest_too moments;
 }
 
-pub ends_more : (M : Model) → HistoriesGrow M → CutJoins → (holds mid new : KeeperState M) (gave gave' gave'' : List Moment → Type 0) (p q r : PortState) (ids ids' : List ℕ) (held left : List ℕ) (begin at turns turns' : ℕ) (e : Ended) (counts counts' : SessionCounts)
-    → Whole holds mid gave p q ids ids' held left begin at counts → EndsAs mid new gave' q r ids' left at turns e counts' → (e ≡ Turns → ⊥) → q.receive_failures ≡ p.receive_failures → q.has_ended ≡ p.has_ended → (new.is_honest → mid.is_honest) → ((xs ys : List Moment) → gave xs → gave' ys → gave'' (xs ++ ys))
+pub ends_more : (M : Model) → HistoriesGrow M → CutJoins → (holds mid new : KeeperState M) (gave gave' gave'' : List Moment → Type 0) (p q r : PortState)
+    (ids ids' : List ℕ) (held left : List ℕ) (begin at turns turns' : ℕ) (e : Ended) (counts counts' : SessionCounts)
+    → Whole holds mid gave p q ids ids' held left begin at counts → EndsAs mid new gave' q r ids' left at turns e counts' → (e ≡ Turns → ⊥)
+        → q.receive_failures ≡ p.receive_failures → q.has_ended ≡ p.has_ended → (new.is_honest → mid.is_honest)
+        → ((xs ys : List Moment) → gave xs → gave' ys → gave'' (xs ++ ys))
     → EndsAs holds new gave'' p r ids held begin turns' e (plus counts counts')
-ends_more M grows joins holds mid new gave gave' gave'' p q r ids ids' held left begin at turns turns' End counts counts' one two isnt same ended honest_too moments =
+ends_more M grows joins holds mid new gave gave' gave'' p q r ids ids' held left begin at turns turns' End counts counts' one two isnt same ended honest_too
+    moments =
     (two.0, rested_more M grows joins holds mid new gave gave' gave'' p q r ids ids' held left begin at counts counts' _ one two.1 honest_too moments)
-ends_more M grows joins holds mid new gave gave' gave'' p q r ids ids' held left begin at turns turns' (Frame f) counts counts' one two isnt same ended honest_too moments =
+ends_more M grows joins holds mid new gave gave' gave'' p q r ids ids' held left begin at turns turns' (Frame f) counts counts' one two isnt same ended
+    honest_too moments =
     rested_more M grows joins holds mid new gave gave' gave'' p q r ids ids' held left begin at counts counts' (FaultOf r f) one two honest_too moments
-ends_more M grows joins holds mid new gave gave' gave'' p q r ids ids' held left begin at turns turns' PortFailed counts counts' one two isnt same ended honest_too moments =
+ends_more M grows joins holds mid new gave gave' gave'' p q r ids ids' held left begin at turns turns' PortFailed counts counts' one two isnt same ended
+    honest_too moments =
     λ more.
     let failed = two (omega (arith, more, same)) in
-    (failed.0 ∙ ended, rested_more M grows joins holds mid new gave gave' gave'' p q r ids ids' held left begin at counts counts' IsGoodRest one failed.1 honest_too moments)
-ends_more M grows joins holds mid new gave gave' gave'' p q r ids ids' held left begin at turns turns' Memory counts counts' one two isnt same ended honest_too moments = tt
-ends_more M grows joins holds mid new gave gave' gave'' p q r ids ids' held left begin at turns turns' Destroyed counts counts' one two isnt same ended honest_too moments =
-    (two.0, halted_more M grows joins holds mid new gave gave' gave'' p q r ids ids' held left ByDestroy begin at two.0 counts counts' one two.1 honest_too moments)
-ends_more M grows joins holds mid new gave gave' gave'' p q r ids ids' held left begin at turns turns' Turns counts counts' one two isnt same ended honest_too moments = absurd (isnt refl)
-ends_more M grows joins holds mid new gave gave' gave'' p q r ids ids' held left begin at turns turns' (ZeroUnique place) counts counts' one two isnt same ended honest_too moments =
+    (failed.0 ∙ ended, rested_more M grows joins holds mid new gave gave' gave'' p q r ids ids' held left begin at counts counts' IsGoodRest one failed.1
+        honest_too moments)
+ends_more M grows joins holds mid new gave gave' gave'' p q r ids ids' held left begin at turns turns' Memory counts counts' one two isnt same ended honest_too
+    moments = tt
+ends_more M grows joins holds mid new gave gave' gave'' p q r ids ids' held left begin at turns turns' Destroyed counts counts' one two isnt same ended
+    honest_too moments =
+    (two.0, halted_more M grows joins holds mid new gave gave' gave'' p q r ids ids' held left ByDestroy begin at two.0 counts counts' one two.1 honest_too
+        moments)
+ends_more M grows joins holds mid new gave gave' gave'' p q r ids ids' held left begin at turns turns' Turns counts counts' one two isnt same ended honest_too
+    moments = absurd (isnt refl)
+ends_more M grows joins holds mid new gave gave' gave'' p q r ids ids' held left begin at turns turns' (ZeroUnique place) counts counts' one two isnt same ended
+    honest_too moments =
     halted_more M grows joins holds mid new gave gave' gave'' p q r ids ids' held left ByZero begin at place counts counts' one two honest_too moments
-ends_more M grows joins holds mid new gave gave' gave'' p q r ids ids' held left begin at turns turns' (Store fault) counts counts' one two isnt same ended honest_too moments = tt
+ends_more M grows joins holds mid new gave gave' gave'' p q r ids ids' held left begin at turns turns' (Store fault) counts counts' one two isnt same ended
+    honest_too moments = tt
 
 -- ---- a turn
 
 -- messages were worked off: a life
-pub life_worked : (M : Model) → HistoriesGrow M → (holds new : KeeperState M) → (new.is_honest → holds.is_honest) → (gave : List Moment → Type 0) (p q r : PortState) (ids ids' : List ℕ) (before after : Held) (messages slice : List (List ℕ))
+pub life_worked : (M : Model) → HistoriesGrow M → (holds new : KeeperState M) → (new.is_honest → holds.is_honest)
+    → (gave : List Moment → Type 0) (p q r : PortState) (ids ids' : List ℕ) (before after : Held) (messages slice : List (List ℕ))
     (fault : Option FrameFault) (begin place : ℕ) (rest : Rest) (counts : SessionCounts) (exact want : Bool) (faulted : Type 0) → exact ≡ false
-    → Heard p q before after messages fault → IsHearing p q → slice ≡ messages → WorkedOff holds new gave q r ids ids' slice rest begin place counts → IsQuiet q r → (new.is_clean → new.is_honest) → (new.is_honest → IsFirm holds → IsFirm new)
+    → Heard p q before after messages fault → IsHearing p q → slice ≡ messages → WorkedOff holds new gave q r ids ids' slice rest begin place counts
+        → IsQuiet q r → (new.is_clean → new.is_honest) → (new.is_honest → IsFirm holds → IsFirm new)
     → Run holds new gave p r ids before.bytes exact want faulted
-life_worked M grows holds new honest gave p q r ids ids' before after messages slice fault begin place rest counts exact want faulted inexact h hearing same w quiet clean_honest firm_still =
+life_worked M grows holds new honest gave p q r ids ids' before after messages slice fault begin place rest counts exact want faulted inexact h hearing same w
+    quiet clean_honest firm_still =
     life_heard M grows holds new honest gave p q r ids before after messages slice fault exact want exact want faulted faulted h hearing same refl refl
-    (turned_life M holds new gave q r ids ids' w.front w.others slice (lasts rest) counts exact want faulted inexact w.turned w.parts clean_honest firm_still) (λ x. x) quiet clean_honest
+    (turned_life M holds new gave q r ids ids' w.front w.others slice (lasts rest) counts exact want faulted inexact w.turned w.parts clean_honest firm_still)
+        (λ x. x) quiet clean_honest
 
-pub ends_finished : (M : Model) → HistoriesGrow M → (holds new : KeeperState M) → (new.is_honest → holds.is_honest) → (gave : List Moment → Type 0) (p q r : PortState) (ids ids' : List ℕ) (before after : Held) (messages slice : List (List ℕ)) (fault : Option FrameFault) (begin place : ℕ) (rest : Rest)
+pub ends_finished : (M : Model) → HistoriesGrow M → (holds new : KeeperState M) → (new.is_honest → holds.is_honest)
+    → (gave : List Moment → Type 0) (p q r : PortState) (ids ids' : List ℕ) (before after : Held) (messages slice : List (List ℕ)) (fault : Option FrameFault)
+    (begin place : ℕ) (rest : Rest)
     (counts counts' : SessionCounts) (turns : ℕ) (e : Ended) → FinishedBy e rest place fault → counts' ≡ counts
-    → Heard p q before after messages fault → IsHearing p q → slice ≡ messages → begin ≡ before.at → WorkedOff holds new gave q r ids ids' slice rest begin place counts → IsQuiet q r
+    → Heard p q before after messages fault → IsHearing p q → slice ≡ messages → begin ≡ before.at
+        → WorkedOff holds new gave q r ids ids' slice rest begin place counts → IsQuiet q r
     → EndsAs holds new gave p r ids before.bytes before.at turns e counts'
-ends_finished M grows holds new honest gave p q r ids ids' before after messages slice fault begin place rest counts counts' turns Destroyed by same_counts h hearing same begin_is w quiet =
+ends_finished M grows holds new honest gave p q r ids ids' before after messages slice fault begin place rest counts counts' turns Destroyed by same_counts h
+    hearing same begin_is w quiet =
     subst (λ c. EndsAs holds new gave p r ids before.bytes before.at turns Destroyed c) (sym same_counts)
-    (place, record { pending' = ids'; stopped = stopped_heard M grows holds new honest gave p q r ids ids' before after messages slice fault begin place rest ByDestroy counts h hearing same by begin_is w quiet })
-ends_finished M grows holds new honest gave p q r ids ids' before after messages slice fault begin place rest counts counts' turns (ZeroUnique at) by same_counts h hearing same begin_is w quiet =
+    (place, record { pending' = ids'; stopped = stopped_heard M grows holds new honest gave p q r ids ids' before after messages slice fault begin place rest
+        ByDestroy counts h hearing same by begin_is w quiet })
+ends_finished M grows holds new honest gave p q r ids ids' before after messages slice fault begin place rest counts counts' turns
+    (ZeroUnique at) by same_counts h hearing same begin_is w quiet =
     subst (λ c. EndsAs holds new gave p r ids before.bytes before.at turns (ZeroUnique at) c) (sym same_counts)
     (subst (λ x. Halted holds new gave p r ids before.bytes ByZero before.at x counts) (sym by.1)
-    (record { pending' = ids'; stopped = stopped_heard M grows holds new honest gave p q r ids ids' before after messages slice fault begin place rest ByZero counts h hearing same by.0 begin_is w quiet }))
-ends_finished M grows holds new honest gave p q r ids ids' before after messages slice fault begin place rest counts counts' turns (Frame f) by same_counts h hearing same begin_is w quiet =
+    (record { pending' = ids'; stopped = stopped_heard M grows holds new honest gave p q r ids ids' before after messages slice fault begin place rest ByZero
+        counts h hearing same by.0 begin_is w quiet }))
+ends_finished M grows holds new honest gave p q r ids ids' before after messages slice fault begin place rest counts counts' turns
+    (Frame f) by same_counts h hearing same begin_is w quiet =
     subst (λ c. EndsAs holds new gave p r ids before.bytes before.at turns (Frame f) c) (sym same_counts)
     (record {
       rest = after.bytes;
@@ -311,13 +385,19 @@ ends_finished M grows holds new honest gave p q r ids ids' before after messages
       whole = whole_heard M grows holds new honest gave p q r ids ids' before after messages slice fault begin place rest counts h hearing same by.0 w quiet;
       so = inl (h.took.bad ∙ by.1);
     })
-ends_finished M grows holds new honest gave p q r ids ids' before after messages slice fault begin place rest counts counts' turns End by same_counts h hearing same begin_is w quiet = absurd by
-ends_finished M grows holds new honest gave p q r ids ids' before after messages slice fault begin place rest counts counts' turns Turns by same_counts h hearing same begin_is w quiet = absurd by
-ends_finished M grows holds new honest gave p q r ids ids' before after messages slice fault begin place rest counts counts' turns PortFailed by same_counts h hearing same begin_is w quiet = absurd by
-ends_finished M grows holds new honest gave p q r ids ids' before after messages slice fault begin place rest counts counts' turns (Store x) by same_counts h hearing same begin_is w quiet = absurd by
-ends_finished M grows holds new honest gave p q r ids ids' before after messages slice fault begin place rest counts counts' turns Memory by same_counts h hearing same begin_is w quiet = absurd by
+ends_finished M grows holds new honest gave p q r ids ids' before after messages slice fault begin place rest counts counts' turns End by same_counts h hearing
+    same begin_is w quiet = absurd by
+ends_finished M grows holds new honest gave p q r ids ids' before after messages slice fault begin place rest counts counts' turns Turns by same_counts h
+    hearing same begin_is w quiet = absurd by
+ends_finished M grows holds new honest gave p q r ids ids' before after messages slice fault begin place rest counts counts' turns PortFailed by same_counts h
+    hearing same begin_is w quiet = absurd by
+ends_finished M grows holds new honest gave p q r ids ids' before after messages slice fault begin place rest counts counts' turns
+    (Store x) by same_counts h hearing same begin_is w quiet = absurd by
+ends_finished M grows holds new honest gave p q r ids ids' before after messages slice fault begin place rest counts counts' turns Memory by same_counts h
+    hearing same begin_is w quiet = absurd by
 
-pub finished_store : (e : Ended) (rest : Rest) (place : ℕ) (fault : Option FrameFault) → FinishedBy e rest place fault → (ended_store e ≡ false) × (ended_port e ≡ false) × (e ≡ Turns → ⊥)
+pub finished_store : (e : Ended) (rest : Rest) (place : ℕ) (fault : Option FrameFault) → FinishedBy e rest place fault → (ended_store e ≡ false)
+    × (ended_port e ≡ false) × (e ≡ Turns → ⊥)
 finished_store Destroyed rest place fault by = (refl, refl, (λ isnt. cc isnt))
 finished_store (ZeroUnique at) rest place fault by = (refl, refl, (λ isnt. cc isnt))
 finished_store (Frame f) rest place fault by = (refl, refl, (λ isnt. cc isnt))
@@ -327,7 +407,8 @@ finished_store PortFailed rest place fault by = absurd by
 finished_store (Store x) rest place fault by = absurd by
 finished_store Memory rest place fault by = absurd by
 
-pub unheard_store : (e : Ended) (p q : PortState) (h : Held) → NotHeard e p q h → (ended_store e ≡ false) × FailedBy (ended_port e) p.failures q.failures × (e ≡ Turns → ⊥)
+pub unheard_store : (e : Ended) (p q : PortState) (h : Held) → NotHeard e p q h → (ended_store e ≡ false) × FailedBy (ended_port e) p.failures q.failures
+    × (e ≡ Turns → ⊥)
 unheard_store End p q h n = (refl, n.3, (λ isnt. cc isnt))
 unheard_store (Frame f) p q h n = (refl, n.3, (λ isnt. cc isnt))
 unheard_store PortFailed p q h n = (refl, n.0, (λ isnt. cc isnt))
@@ -337,7 +418,8 @@ unheard_store Turns p q h n = absurd n
 unheard_store (ZeroUnique at) p q h n = absurd n
 unheard_store (Store fault) p q h n = absurd n
 
-pub fault_ends : (M : Model) → (holds new : KeeperState M) (gave : List Moment → Type 0) (p q r : PortState) (ids : List ℕ) (held : List ℕ) (begin turns : ℕ) (e : Ended) (counts : SessionCounts) → IsFault e → r.receive_failures ≡ p.receive_failures
+pub fault_ends : (M : Model) → (holds new : KeeperState M) (gave : List Moment → Type 0) (p q r : PortState) (ids : List ℕ) (held : List ℕ) (begin turns : ℕ)
+    (e : Ended) (counts : SessionCounts) → IsFault e → r.receive_failures ≡ p.receive_failures
     → EndsAs holds new gave p r ids held begin turns e counts
 fault_ends M holds new gave p q r ids held begin turns PortFailed counts is same = λ more. absurd (omega (arith, more, same))
 fault_ends M holds new gave p q r ids held begin turns (Store x) counts is same = tt
@@ -371,13 +453,15 @@ failed_both Memory old new by = ((λ isnt. absurd (cc isnt)), (λ more. absurd (
 
 -- ---- a session
 
-pub whole_start : (M : Model) → (holds : KeeperState M) (gave : List Moment → Type 0) (p : PortState) (ids : List ℕ) (h : Held) → gave [] → ids ≡ [] → h ≡ record { bytes = []; at = 0; fault = None } → Whole holds holds gave p p [] ids [] h.bytes 0 h.at none_counted
+pub whole_start : (M : Model) → (holds : KeeperState M) (gave : List Moment → Type 0) (p : PortState) (ids : List ℕ) (h : Held) → gave [] → ids ≡ []
+    → h ≡ record { bytes = []; at = 0; fault = None } → Whole holds holds gave p p [] ids [] h.bytes 0 h.at none_counted
 whole_start M holds gave p ids h given none new =
     subst (λ (x : Held). Whole holds holds gave p p [] ids [] x.bytes 0 x.at none_counted) (sym new)
     (subst (λ (x : List ℕ). Whole holds holds gave p p [] x [] [] 0 0 none_counted) (sym none) (whole_none M holds gave p [] given))
 
 -- nothing was done
-pub life_none : (M : Model) → (holds : KeeperState M) (gave : List Moment → Type 0) (p : PortState) (ids held : List ℕ) (exact want : Bool) (faulted : Type 0) → exact ≡ false → gave []
+pub life_none : (M : Model) → (holds : KeeperState M) (gave : List Moment → Type 0) (p : PortState) (ids held : List ℕ) (exact want : Bool) (faulted : Type 0)
+    → exact ≡ false → gave []
     → Run holds holds gave p p ids held exact want faulted
 life_none M holds gave p ids held exact want faulted inexact none = record {
   received = [];
@@ -387,19 +471,26 @@ life_none M holds gave p ids held exact want faulted inexact none = record {
 }
 
 -- a turn more, and its counts
-pub whole_step : (M : Model) → HistoriesGrow M → CutJoins → (holds mid new : KeeperState M) (gave gave' gave'' : List Moment → Type 0) (p q r : PortState) (ids ids' ids'' : List ℕ) (held left rest : List ℕ) (begin at place : ℕ) (counts counts' sum : SessionCounts) → sum ≡ plus counts counts'
-    → Whole holds mid gave p q ids ids' held left begin at counts → Whole mid new gave' q r ids' ids'' left rest at place counts' → (new.is_honest → mid.is_honest) → ((xs ys : List Moment) → gave xs → gave' ys → gave'' (xs ++ ys))
+pub whole_step : (M : Model) → HistoriesGrow M → CutJoins → (holds mid new : KeeperState M) (gave gave' gave'' : List Moment → Type 0) (p q r : PortState)
+    (ids ids' ids'' : List ℕ) (held left rest : List ℕ) (begin at place : ℕ) (counts counts' sum : SessionCounts) → sum ≡ plus counts counts'
+    → Whole holds mid gave p q ids ids' held left begin at counts → Whole mid new gave' q r ids' ids'' left rest at place counts'
+        → (new.is_honest → mid.is_honest) → ((xs ys : List Moment) → gave xs → gave' ys → gave'' (xs ++ ys))
     → Whole holds new gave'' p r ids ids'' held rest begin place sum
 whole_step M grows joins holds mid new gave gave' gave'' p q r ids ids' ids'' held left rest begin at place counts counts' sum is one two honest_too moments =
     subst (λ c. Whole holds new gave'' p r ids ids'' held rest begin place c) (sym is)
     (whole_more M grows joins holds mid new gave gave' gave'' p q r ids ids' ids'' held left rest begin at place counts counts' one two honest_too moments)
 
-pub ends_step : (M : Model) → HistoriesGrow M → CutJoins → (holds mid new : KeeperState M) (gave gave' gave'' : List Moment → Type 0) (p q r : PortState) (ids ids' : List ℕ) (held left : List ℕ) (begin at turns turns' : ℕ) (e : Ended) (counts counts' sum : SessionCounts) → sum ≡ plus counts counts'
-    → Whole holds mid gave p q ids ids' held left begin at counts → EndsAs mid new gave' q r ids' left at turns e counts' → (e ≡ Turns → ⊥) → q.receive_failures ≡ p.receive_failures → q.has_ended ≡ p.has_ended → (new.is_honest → mid.is_honest) → ((xs ys : List Moment) → gave xs → gave' ys → gave'' (xs ++ ys))
+pub ends_step : (M : Model) → HistoriesGrow M → CutJoins → (holds mid new : KeeperState M) (gave gave' gave'' : List Moment → Type 0) (p q r : PortState)
+    (ids ids' : List ℕ) (held left : List ℕ) (begin at turns turns' : ℕ) (e : Ended) (counts counts' sum : SessionCounts) → sum ≡ plus counts counts'
+    → Whole holds mid gave p q ids ids' held left begin at counts → EndsAs mid new gave' q r ids' left at turns e counts' → (e ≡ Turns → ⊥)
+        → q.receive_failures ≡ p.receive_failures → q.has_ended ≡ p.has_ended → (new.is_honest → mid.is_honest)
+        → ((xs ys : List Moment) → gave xs → gave' ys → gave'' (xs ++ ys))
     → EndsAs holds new gave'' p r ids held begin turns' e sum
-ends_step M grows joins holds mid new gave gave' gave'' p q r ids ids' held left begin at turns turns' e counts counts' sum is one two isnt same ended honest_too moments =
+ends_step M grows joins holds mid new gave gave' gave'' p q r ids ids' held left begin at turns turns' e counts counts' sum is one two isnt same ended
+    honest_too moments =
     subst (λ c. EndsAs holds new gave'' p r ids held begin turns' e c) (sym is)
-    (ends_more M grows joins holds mid new gave gave' gave'' p q r ids ids' held left begin at turns turns' e counts counts' one two isnt same ended honest_too moments)
+    (ends_more M grows joins holds mid new gave gave' gave'' p q r ids ids' held left begin at turns turns' e counts counts' one two isnt same ended honest_too
+        moments)
 
 -- ---- what is exact
 
@@ -423,7 +514,8 @@ stop_may_end may ByPort e is m = subst (MayEnd may) (sym is) tt
 stop_may_end may (ByStore fault) e is m = subst (MayEnd may) (sym is) m
 stop_may_end may ByMemory e is m = subst (MayEnd may) (sym is) tt
 
-exact_life : (M : Model) → (holds new : KeeperState M) (gave : List Moment → Type 0) (p q : PortState) (ids held : List ℕ) (store memory : Bool) (faulted : Type 0) (stood : M.State → History → List ℕ → Type 0)
+exact_life : (M : Model) → (holds new : KeeperState M) (gave : List Moment → Type 0) (p q : PortState) (ids held : List ℕ) (store memory : Bool)
+    (faulted : Type 0) (stood : M.State → History → List ℕ → Type 0)
     → (store || memory) ≡ true → ((s : M.State) (g : History) (u : List ℕ) → (store ≡ true → new.is_clean → StandsFor new s g u × faulted) → stood s g u)
     → Run holds new gave p q ids held store memory faulted → SentExactly holds new stood gave p q ids held
 exact_life M holds new gave p q ids held store memory faulted stood how f l =
@@ -451,13 +543,15 @@ exact_at M holds new gave p q ids held (Frame f) l = tt
 exact_at M holds new gave p q ids held (ZeroUnique at) l = tt
 exact_at M holds new gave p q ids held PortFailed l = tt
 exact_at M holds new gave p q ids held (Store fault) l =
-    exact_life M holds new gave p q ids held true false (holds.may_answer fault) (λ s g u. new.is_clean → StandsFor new s g u × holds.may_answer fault) refl (λ s g u stands clean. stands refl clean) l
+    exact_life M holds new gave p q ids held true false (holds.may_answer fault) (λ s g u. new.is_clean → StandsFor new s g u × holds.may_answer fault) refl
+        (λ s g u stands clean. stands refl clean) l
 exact_at M holds new gave p q ids held Memory l =
     exact_life M holds new gave p q ids held false true (Unit {0}) (λ s g u. Unit {0}) refl (λ s g u _. tt) l
 
 -- ---- few settled ids have a record
 
-pub lived_map : (M : Model) → (stood stood' : History → List ℕ → Type 0) (s : M.State) (h : History) (c : Bool) (t : List ℕ) (timed : List Timed) (marks : List Mark) (part : List ℕ) → ((g : History) (u : List ℕ) → stood g u → stood' g u)
+pub lived_map : (M : Model) → (stood stood' : History → List ℕ → Type 0) (s : M.State) (h : History) (c : Bool) (t : List ℕ) (timed : List Timed)
+    (marks : List Mark) (part : List ℕ) → ((g : History) (u : List ℕ) → stood g u → stood' g u)
     → Lived M stood s h c t timed marks part → Lived M stood' s h c t timed marks part
 lived_map M stood stood' s h c t timed marks part f l = record {
   worked = l.worked;
@@ -472,7 +566,8 @@ lived_map M stood stood' s h c t timed marks part f l = record {
   next = l.next;
 }
 
-pub few_settled : (M : Model) → (holds new : KeeperState M) (gave : List Moment → Type 0) (p q : PortState) (store memory : Bool) (faulted : Type 0) → (new.is_clean → new.is_honest) → new.is_clean
+pub few_settled : (M : Model) → (holds new : KeeperState M) (gave : List Moment → Type 0) (p q : PortState) (store memory : Bool) (faulted : Type 0)
+    → (new.is_clean → new.is_honest) → new.is_clean
     → Run holds new gave p q [] [] store memory faulted → FewSettled holds new gave p q
 few_settled M holds new gave p q store memory faulted clean_honest is l =
     let b = l.broken in
@@ -487,7 +582,9 @@ few_settled M holds new gave p q store memory faulted clean_honest is l =
       moments = b.moments;
       replied = b.replied;
       few = λ s h t so again.
-          let f = b.few (clean_honest is) (λ _. is) [] (again_fewer p.confirms t [] (bytes_of b.timed) b.marks (λ i there. absurd (cc there)) again) (few_start M holds so.rows so.records so.held (rowed_by M so.rows so.records s h t so.stands)) in
-          lived_map M (StandsFor new s) (λ g u. StandsFor new s g u × FewRecorded new (settled_in p.confirms (bytes_of b.timed) b.marks)) s h p.confirms t b.timed b.marks b.part (λ g u stands. (stands, f))
+          let f = b.few (clean_honest is) (λ _. is) [] (again_fewer p.confirms t [] (bytes_of b.timed) b.marks (λ i there. absurd (cc there)) again)
+              (few_start M holds so.rows so.records so.held (rowed_by M so.rows so.records s h t so.stands)) in
+          lived_map M (StandsFor new s) (λ g u. StandsFor new s g u × FewRecorded new (settled_in p.confirms (bytes_of b.timed) b.marks)) s h p.confirms t
+              b.timed b.marks b.part (λ g u stands. (stands, f))
           (b.life is s h t so (λ i there. absurd (cc there)) again);
     }

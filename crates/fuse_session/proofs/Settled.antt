@@ -1,5 +1,6 @@
 -- Which ids are settled, group after group.
-use Rattle.std.proofs.Common.{◌≡◌, ◌⊎◌, inl, inr, ℕ, Bool, true, false, ◌||◌, ◌==◌, if◌then◌else◌, List, [], ◌∷◌, ◌++◌, length, All, refl, sym, ap, subst, ◌∙◌, append_assoc, arith}
+use Rattle.std.proofs.Common.{◌≡◌, ◌⊎◌, inl, inr, ℕ, Bool, true, false, ◌||◌, ◌==◌, if◌then◌else◌, List, [], ◌∷◌, ◌++◌, length, All, refl, sym, ap, subst, ◌∙◌}
+use Rattle.std.proofs.Common.{append_assoc, arith}
 use Rattle.std.proofs.lemmas.List.{append-nil, map-append}
 use Rattle.std.proofs.lemmas.Bool.{eqb-true}
 use Rattle.std.proofs.lemmas.List.Elements.{All-append, All-nil, All-cons, All-head, All-tail}
@@ -25,7 +26,8 @@ either false b is = inr is
 
 is_in-append : (xs ys : List ℕ) (i : ℕ) → is_in (xs ++ ys) i ≡ (is_in xs i || is_in ys i)
 is_in-append [] ys i = refl
-is_in-append (x ∷ xs) ys i = elim (x == i) as (λ b. (if b then true else is_in (xs ++ ys) i) ≡ ((if b then true else is_in xs i) || is_in ys i)) [ true ↦ refl | false ↦ is_in-append xs ys i ]
+is_in-append (x ∷ xs) ys i = elim (x == i) as (λ b. (if b then true else is_in (xs ++ ys) i) ≡ ((if b then true else is_in xs i) || is_in ys i))
+    [ true ↦ refl | false ↦ is_in-append xs ys i ]
 
 pub in_either : (xs ys : List ℕ) (i : ℕ) → is_in (xs ++ ys) i ≡ true → (is_in xs i ≡ true) ⊎ (is_in ys i ≡ true)
 in_either xs ys i there = either (is_in xs i) (is_in ys i) (sym (is_in-append xs ys i) ∙ there)
@@ -40,12 +42,14 @@ includes_left t more i there = is_in-append t more i ∙ or_left (is_in t i) (is
 pub includes_right : (t more : List ℕ) → Includes (t ++ more) more
 includes_right t more i there = is_in-append t more i ∙ or_true (is_in t i) (is_in more i) there
 
-pub settled-append : (c : Bool) (xs ys : List (List ℕ)) (ms ns : List Mark) → length ms ≡ length xs → settled_in c (xs ++ ys) (ms ++ ns) ≡ settled_in c xs ms ++ settled_in c ys ns
+pub settled-append : (c : Bool) (xs ys : List (List ℕ)) (ms ns : List Mark) → length ms ≡ length xs → settled_in c (xs ++ ys) (ms ++ ns) ≡ settled_in c xs ms
+    ++ settled_in c ys ns
 settled-append c [] ys [] ns same = refl
 settled-append c [] ys (m ∷ ms) ns same = absurd (omega arith)
 settled-append c (x ∷ xs) ys [] ns same = absurd (omega arith)
 settled-append c (x ∷ xs) ys (m ∷ ms) ns same =
-    ap (λ (r : List ℕ). settles c x m ++ r) (settled-append c xs ys ms ns (omega arith)) ∙ sym (append_assoc (settles c x m) (settled_in c xs ms) (settled_in c ys ns))
+    ap (λ (r : List ℕ). settles c x m ++ r) (settled-append c xs ys ms ns (omega arith))
+        ∙ sym (append_assoc (settles c x m) (settled_in c xs ms) (settled_in c ys ns))
 
 pub settled_none : (c : Bool) (xs : List (List ℕ)) → settled_in c xs [] ≡ []
 settled_none c [] = refl
@@ -67,7 +71,8 @@ fewer t more es each k d lt = unsettled_too (t ++ more) t _ (includes_left t mor
 pub only_one : {A : Type 0} (P : A → Type 0) (x : A) → P x → All P (x ∷ [])
 only_one P x p = All-cons P x [] p (All-nil P)
 
-one_unsettled : (t : List ℕ) (m : Timed) (class : Class) → comes_again t class (message_id m.bytes) ≡ false → All (IsUnsettled t) (entry_if class (timed_entry m))
+one_unsettled : (t : List ℕ) (m : Timed) (class : Class) → comes_again t class (message_id m.bytes) ≡ false
+    → All (IsUnsettled t) (entry_if class (timed_entry m))
 one_unsettled t m Silent may = All-nil (IsUnsettled t)
 one_unsettled t m (Bare errno) may = All-nil (IsUnsettled t)
 one_unsettled t m Kept may = only_one (IsUnsettled t) (timed_entry m) may
@@ -100,7 +105,8 @@ all_settled (t ∷ ts) (m ∷ marks) same =
     ap (λ (r : List ℕ). r ++ settled_in true (bytes_of ts) marks) (kept_settled t m (class_of t.bytes))
     ∙ ap (λ (r : List ℕ). ids_in (entries_at t) ++ r) (all_settled ts marks (omega arith)) ∙ sym (ids-append (entries_at t) (kept_in ts))
 
-one_within : (b : Bool) (t : Timed) (class : Class) (i : ℕ) → is_in (settles_if b class (message_id t.bytes)) i ≡ true → is_in (ids_in (entry_if class (timed_entry t))) i ≡ true
+one_within : (b : Bool) (t : Timed) (class : Class) (i : ℕ) → is_in (settles_if b class (message_id t.bytes)) i ≡ true
+    → is_in (ids_in (entry_if class (timed_entry t))) i ≡ true
 one_within false t class i there = absurd (cc there)
 one_within true t Silent i there = there
 one_within true t (Bare errno) i there = there
@@ -143,4 +149,5 @@ pub again_fewer : (c : Bool) (t u : List ℕ) (xs : List (List ℕ)) (ms : List 
 again_fewer c t u [] ms within each = tt
 again_fewer c t u (x ∷ xs) [] within each = (comes_fewer t u (class_of x) (message_id x) within each.0, again_fewer c t u xs [] within each.1)
 again_fewer c t u (x ∷ xs) (m ∷ ms) within each =
-    (comes_fewer t u (class_of x) (message_id x) within each.0, again_fewer c (t ++ settles c x m) (u ++ settles c x m) xs ms (includes_more t u (settles c x m) within) each.1)
+    (comes_fewer t u (class_of x) (message_id x) within each.0, again_fewer c (t ++ settles c x m) (u ++ settles c x m) xs ms
+        (includes_more t u (settles c x m) within) each.1)

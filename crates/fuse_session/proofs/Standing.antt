@@ -20,7 +20,8 @@ unsettled_too all some i within isnt = elim (tested (is_in some i)) [
 ]
 
 -- the rows and records once more
-pub Stands-same : (M : Model) → (rows : M.Rows) (records : Records) (x : M.Rows) (r : Records) (s : M.State) (h : History) (t : List ℕ) → AreThese M rows records x r → Stands M rows records s h t → Stands M x r s h t
+pub Stands-same : (M : Model) → (rows : M.Rows) (records : Records) (x : M.Rows) (r : Records) (s : M.State) (h : History) (t : List ℕ)
+    → AreThese M rows records x r → Stands M rows records s h t → Stands M x r s h t
 Stands-same M rows records x r s h t same so = record {
   tree = so.tree;
   distinct = so.distinct;
@@ -34,7 +35,8 @@ pub rowed_by : (M : Model) → (rows : M.Rows) (records : Records) (s : M.State)
 rowed_by M rows records s h t so = unfold IsRowed in (after M s h, so.tree, so.rows_are)
 
 -- more may be settled
-pub Stands-settled : (M : Model) → (rows : M.Rows) (records : Records) (s : M.State) (h : History) (t more : List ℕ) → Includes more t → Stands M rows records s h t → Stands M rows records s h more
+pub Stands-settled : (M : Model) → (rows : M.Rows) (records : Records) (s : M.State) (h : History) (t more : List ℕ) → Includes more t
+    → Stands M rows records s h t → Stands M rows records s h more
 Stands-settled M rows records s h t more within so = record {
   tree = so.tree;
   distinct = so.distinct;
@@ -44,7 +46,8 @@ Stands-settled M rows records s h t more within so = record {
 }
 
 -- a keeper that only looked is firm if it was
-pub looked_firm : (M : Model) → (old new : KeeperState M) (rows : M.Rows) (records : Records) → IsSound new → KeepsHeld old new → WhereHeld old (old.leaves_whole → new.leaves_whole)
+pub looked_firm : (M : Model) → (old new : KeeperState M) (rows : M.Rows) (records : Records) → IsSound new → KeepsHeld old new
+    → WhereHeld old (old.leaves_whole → new.leaves_whole)
     → ((x : M.Rows) (r : Records) → WhereHeld old (new.may_leave x r → old.may_leave x r)) → old.holds rows records → IsFirm old → IsFirm new
 looked_firm M old new rows records sound keeps whole crash held firm x r holds =
     let left = firm rows records held in

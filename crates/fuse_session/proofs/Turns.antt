@@ -1,5 +1,6 @@
 -- Groups, one after another.
-use Rattle.std.proofs.Common.{◌≡◌, ℕ, ◌+◌, ◌-◌, ◌≤◌, Bool, true, false, not, List, [], ◌∷◌, ◌++◌, length, take, drop, get_or, ◌<◌, refl, sym, ap, subst, ◌∙◌, append_assoc, arith, length-append, length-drop}
+use Rattle.std.proofs.Common.{◌≡◌, ℕ, ◌+◌, ◌-◌, ◌≤◌, Bool, true, false, not, List, [], ◌∷◌, ◌++◌, length, take, drop, get_or, ◌<◌, refl, sym, ap, subst, ◌∙◌}
+use Rattle.std.proofs.Common.{append_assoc, arith, length-append, length-drop}
 use Rattle.std.proofs.lemmas.List.{append-nil, take-append-drop, take_all, take_more, drop-drop, map-append, length-map}
 use Rattle.std.proofs.Math.Seq.{take-add}
 use Rattle.fuse_wire.specs.declared.moment.Moment.{Moment}
@@ -27,7 +28,8 @@ bytes-append : (xs ys : List Timed) → bytes_of (xs ++ ys) ≡ bytes_of xs ++ b
 bytes-append xs ys = map-append (λ (t : Timed). t.bytes) xs ys
 
 -- nothing was worked off
-pub turned_quiet : (M : Model) → (holds : KeeperState M) (gave : List Moment → Type 0) (p q : PortState) (pending : List ℕ) → gave [] → Replied p q [] [] → Turned holds holds gave p q pending pending [] true none_counted
+pub turned_quiet : (M : Model) → (holds : KeeperState M) (gave : List Moment → Type 0) (p q : PortState) (pending : List ℕ) → gave [] → Replied p q [] []
+    → Turned holds holds gave p q pending pending [] true none_counted
 turned_quiet M holds gave p q pending none replied = record {
   timed = [];
   marks = [];
@@ -47,35 +49,44 @@ turned_quiet M holds gave p q pending none replied = record {
   few = λ honest t again h. subst (λ (u : List ℕ). FewHave holds u pending) (sym (append-nil t)) h;
 }
 
-pub turned_none : (M : Model) → (holds : KeeperState M) (gave : List Moment → Type 0) (p : PortState) (pending : List ℕ) → gave [] → Turned holds holds gave p p pending pending [] true none_counted
+pub turned_none : (M : Model) → (holds : KeeperState M) (gave : List Moment → Type 0) (p : PortState) (pending : List ℕ) → gave []
+    → Turned holds holds gave p p pending pending [] true none_counted
 turned_none M holds gave p pending none = turned_quiet M holds gave p p pending none (replied_none p)
 
 -- the settled ids of two rows of messages
-settled_both : (c c' : Bool) (t : List ℕ) (xs ys : List Timed) (ms ns : List Mark) → c' ≡ c → length ms ≡ length xs → (t ++ settled_in c (bytes_of xs) ms) ++ settled_in c' (bytes_of ys) ns ≡ t ++ settled_in c (bytes_of (xs ++ ys)) (ms ++ ns)
+settled_both : (c c' : Bool) (t : List ℕ) (xs ys : List Timed) (ms ns : List Mark) → c' ≡ c → length ms ≡ length xs
+    → (t ++ settled_in c (bytes_of xs) ms) ++ settled_in c' (bytes_of ys) ns ≡ t ++ settled_in c (bytes_of (xs ++ ys)) (ms ++ ns)
 settled_both c c' t xs ys ms ns same full =
     append_assoc t (settled_in c (bytes_of xs) ms) (settled_in c' (bytes_of ys) ns)
     ∙ ap (λ b. t ++ (settled_in c (bytes_of xs) ms ++ settled_in b (bytes_of ys) ns)) same
-    ∙ ap (λ (q : List ℕ). t ++ q) (sym (settled-append c (bytes_of xs) (bytes_of ys) ms ns (full ∙ sym (length-map xs (λ (t : Timed). t.bytes)))) ∙ ap (λ b. settled_in c b (ms ++ ns)) (sym (bytes-append xs ys)))
+    ∙ ap (λ (q : List ℕ). t ++ q) (sym (settled-append c (bytes_of xs) (bytes_of ys) ms ns (full ∙ sym (length-map xs (λ (t : Timed). t.bytes))))
+        ∙ ap (λ b. settled_in c b (ms ++ ns)) (sym (bytes-append xs ys)))
 
 -- none of two rows of messages comes again
-again_both : (c c' : Bool) (t : List ℕ) (xs ys : List Timed) (ms ns : List Mark) → c' ≡ c → length ms ≡ length xs → NoneComesAgain c t (bytes_of (xs ++ ys)) (ms ++ ns)
+again_both : (c c' : Bool) (t : List ℕ) (xs ys : List Timed) (ms ns : List Mark) → c' ≡ c → length ms ≡ length xs
+    → NoneComesAgain c t (bytes_of (xs ++ ys)) (ms ++ ns)
     → NoneComesAgain c t (bytes_of xs) ms × NoneComesAgain c' (t ++ settled_in c (bytes_of xs) ms) (bytes_of ys) ns
 again_both c c' t xs ys ms ns same full each =
-    let parts = again-parts c t (bytes_of xs) (bytes_of ys) ms ns (full ∙ sym (length-map xs (λ (t : Timed). t.bytes))) (subst (λ b. NoneComesAgain c t b (ms ++ ns)) (bytes-append xs ys) each) in
+    let parts = again-parts c t (bytes_of xs) (bytes_of ys) ms ns (full ∙ sym (length-map xs (λ (t : Timed). t.bytes)))
+        (subst (λ b. NoneComesAgain c t b (ms ++ ns)) (bytes-append xs ys) each) in
     (parts.0, subst (λ b. NoneComesAgain b (t ++ settled_in c (bytes_of xs) ms) (bytes_of ys) ns) (sym same) parts.1)
 
 -- messages, and then others
-pub turned_more : (M : Model) → HistoriesGrow M → (holds mid new : KeeperState M) (gave gave' gave'' : List Moment → Type 0) (p q r : PortState) (ids ids' ids'' : List ℕ) (front front' : List (List ℕ)) (going : Bool) (counts counts' : SessionCounts)
-    → Turned holds mid gave p q ids ids' front true counts → Turned mid new gave' q r ids' ids'' front' going counts' → (new.is_honest → mid.is_honest) → ((xs ys : List Moment) → gave xs → gave' ys → gave'' (xs ++ ys))
+pub turned_more : (M : Model) → HistoriesGrow M → (holds mid new : KeeperState M) (gave gave' gave'' : List Moment → Type 0) (p q r : PortState)
+    (ids ids' ids'' : List ℕ) (front front' : List (List ℕ)) (going : Bool) (counts counts' : SessionCounts)
+    → Turned holds mid gave p q ids ids' front true counts → Turned mid new gave' q r ids' ids'' front' going counts' → (new.is_honest → mid.is_honest)
+        → ((xs ys : List Moment) → gave xs → gave' ys → gave'' (xs ++ ys))
     → Turned holds new gave'' p r ids ids'' (front ++ front') going (plus counts counts')
 turned_more M grows holds mid new gave gave' gave'' p q r ids ids' ids'' front front' going counts counts' one two honest_too moments = record {
   timed = one.timed ++ two.timed;
   marks = one.marks ++ two.marks;
   bytes = ap (λ f. f ++ front') one.bytes ∙ ap (λ f. bytes_of one.timed ++ f) two.bytes ∙ sym (bytes-append one.timed two.timed);
-  full = length-append one.marks two.marks ∙ ap (λ n. n + length two.marks) one.full ∙ ap (λ n. length one.timed + n) two.full ∙ sym (length-append one.timed two.timed);
+  full = length-append one.marks two.marks ∙ ap (λ n. n + length two.marks) one.full ∙ ap (λ n. length one.timed + n) two.full
+      ∙ sym (length-append one.timed two.timed);
   moments = gave_more gave gave' gave'' one.timed two.timed moments one.moments two.moments;
   replied = replied_more p q r one.marks two.marks [] one.replied two.replied;
-  handed = λ t within. subst (λ (u : List ℕ). Includes u ids'') (settled_both p.confirms q.confirms t one.timed two.timed one.marks two.marks one.replied.confirms one.full)
+  handed = λ t within. subst (λ (u : List ℕ). Includes u ids'')
+      (settled_both p.confirms q.confirms t one.timed two.timed one.marks two.marks one.replied.confirms one.full)
       (two.handed (t ++ settled_in p.confirms (bytes_of one.timed) one.marks) (one.handed t within));
   all = λ is s h t so within again.
       let c = p.confirms in
@@ -95,9 +106,12 @@ turned_more M grows holds mid new gave gave' gave'' p q r ids ids' ids'' front f
               parts = ap (λ f. one.timed ++ f) l.parts ∙ sym (append_assoc one.timed l.earlier (l.one ∷ []));
               ends = (l.ends.0, ap (λ x. says_zero (said M s x (message_id l.one.bytes))) (grown_kept h one.timed two.timed) ∙ l.ends.1);
             };
-        stands = subst (λ x. StandsFor new s x (t ++ settled_in c (bytes_of (one.timed ++ two.timed)) (one.marks ++ two.marks))) (sym (grown_kept h one.timed two.timed))
-            (subst (StandsFor new s (grown g (kept_in two.timed))) (settled_both c q.confirms t one.timed two.timed one.marks two.marks one.replied.confirms one.full) b.stands);
-        sent = replies-append one.marks two.marks ∙ ap (λ x. x ++ replies two.marks) a.sent ∙ ap (λ x. answers M s g one.timed ++ x) b.sent ∙ sym (answers-append M grows s h one.timed two.timed);
+        stands = subst (λ x. StandsFor new s x (t ++ settled_in c (bytes_of (one.timed ++ two.timed)) (one.marks ++ two.marks)))
+            (sym (grown_kept h one.timed two.timed))
+            (subst (StandsFor new s (grown g (kept_in two.timed)))
+                (settled_both c q.confirms t one.timed two.timed one.marks two.marks one.replied.confirms one.full) b.stands);
+        sent = replies-append one.marks two.marks ∙ ap (λ x. x ++ replies two.marks) a.sent ∙ ap (λ x. answers M s g one.timed ++ x) b.sent
+            ∙ sym (answers-append M grows s h one.timed two.timed);
         counts_are = ap (λ x. plus x counts') a.counts_are ∙ ap (plus (counted h one.timed)) b.counts_are ∙ sym (counted-append h one.timed two.timed);
       };
   few = λ is t again h.
@@ -108,8 +122,10 @@ turned_more M grows holds mid new gave gave' gave'' p q r ids ids' ids'' front f
 }
 
 -- a life after messages that were answered
-lived_more : (M : Model) → HistoriesGrow M → (stood : History → List ℕ → Type 0) (s : M.State) (h : History) (c c' : Bool) (t : List ℕ) (xs ys : List Timed) (ms ns : List Mark) (part : List ℕ) → c' ≡ c → length ms ≡ length xs
-    → GoesOn M s h xs → replies ms ≡ answers M s (grown h (kept_in xs)) xs → Lived M stood s (grown h (kept_in xs)) c' (t ++ settled_in c (bytes_of xs) ms) ys ns part
+lived_more : (M : Model) → HistoriesGrow M → (stood : History → List ℕ → Type 0) (s : M.State) (h : History) (c c' : Bool) (t : List ℕ) (xs ys : List Timed)
+    (ms ns : List Mark) (part : List ℕ) → c' ≡ c → length ms ≡ length xs
+    → GoesOn M s h xs → replies ms ≡ answers M s (grown h (kept_in xs)) xs
+        → Lived M stood s (grown h (kept_in xs)) c' (t ++ settled_in c (bytes_of xs) ms) ys ns part
     → Lived M stood s h c t (xs ++ ys) (ms ++ ns) part
 lived_more M grows stood s h c c' t xs ys ms ns part same full goes sent l =
     let g = grown h (kept_in xs) in
@@ -121,15 +137,18 @@ lived_more M grows stood s h c c' t xs ys ms ns part same full goes sent l =
       stands = subst (λ x. stood x (t ++ settled_in c (bytes_of (xs ++ l.worked)) (ms ++ ns))) (sym (grown_kept h xs l.worked))
           (subst (stood (grown g (kept_in l.worked))) (settled_both c c' t xs l.worked ms ns same full) l.stands);
       later = l.later;
-      sent = answers-append M grows s h xs l.worked ∙ ap (λ x. x ++ answers M s (grown g (kept_in l.worked)) l.worked) (sym sent) ∙ ap (λ x. replies ms ++ x) l.sent
+      sent = answers-append M grows s h xs l.worked ∙ ap (λ x. x ++ answers M s (grown g (kept_in l.worked)) l.worked) (sym sent)
+          ∙ ap (λ x. replies ms ++ x) l.sent
           ∙ sym (append_assoc (replies ms) (replies ns) l.later) ∙ ap (λ x. x ++ l.later) (sym (replies-append ms ns));
       unsent = l.unsent;
       begun = l.begun;
       next = l.next;
     }
 
-exact_more : (M : Model) → HistoriesGrow M → (stood stood' : History → List ℕ → Type 0) (s : M.State) (h : History) (c c' : Bool) (t : List ℕ) (xs ys : List Timed) (ms ns : List Mark) → c' ≡ c → length ms ≡ length xs
-    → GoesOn M s h xs → replies ms ≡ answers M s (grown h (kept_in xs)) xs → ((g : History) (u : List ℕ) → stood g u → stood' g u) → Exact M stood s (grown h (kept_in xs)) c' (t ++ settled_in c (bytes_of xs) ms) ys ns
+exact_more : (M : Model) → HistoriesGrow M → (stood stood' : History → List ℕ → Type 0) (s : M.State) (h : History) (c c' : Bool) (t : List ℕ)
+    (xs ys : List Timed) (ms ns : List Mark) → c' ≡ c → length ms ≡ length xs
+    → GoesOn M s h xs → replies ms ≡ answers M s (grown h (kept_in xs)) xs → ((g : History) (u : List ℕ) → stood g u → stood' g u)
+        → Exact M stood s (grown h (kept_in xs)) c' (t ++ settled_in c (bytes_of xs) ms) ys ns
     → Exact M stood' s h c t (xs ++ ys) (ms ++ ns)
 exact_more M grows stood stood' s h c c' t xs ys ms ns same full goes sent f e =
     let g = grown h (kept_in xs) in
@@ -143,12 +162,15 @@ exact_more M grows stood stood' s h c c' t xs ys ms ns same full goes sent f e =
       sent = replies-append ms ns ∙ ap (λ x. x ++ replies ns) sent ∙ ap (λ x. answers M s g xs ++ x) e.sent ∙ sym (answers-append M grows s h xs e.worked);
     }
 
-pub turned_broken : (M : Model) → HistoriesGrow M → (holds mid new : KeeperState M) (gave gave' gave'' : List Moment → Type 0) (p q r : PortState) (ids ids' : List ℕ)
+pub turned_broken : (M : Model) → HistoriesGrow M → (holds mid new : KeeperState M) (gave gave' gave'' : List Moment → Type 0) (p q r : PortState)
+    (ids ids' : List ℕ)
     (front messages : List (List ℕ)) (counts : SessionCounts) (exact want : Bool) (faulted faulted' : Type 0)
     → Turned holds mid gave p q ids ids' front true counts → Broken mid new gave' q r ids' messages exact want faulted' → (faulted' → faulted)
-    → (new.is_clean → new.is_honest) → (new.is_honest → mid.is_honest) → (mid.is_honest → IsFirm holds → IsFirm mid) → ((xs ys : List Moment) → gave xs → gave' ys → gave'' (xs ++ ys))
+    → (new.is_clean → new.is_honest) → (new.is_honest → mid.is_honest) → (mid.is_honest → IsFirm holds → IsFirm mid)
+        → ((xs ys : List Moment) → gave xs → gave' ys → gave'' (xs ++ ys))
     → Broken holds new gave'' p r ids (front ++ messages) exact want faulted
-turned_broken M grows holds mid new gave gave' gave'' p q r ids ids' front messages counts exact want faulted faulted' one two faulted_too clean_honest honest_too firm_too moments =
+turned_broken M grows holds mid new gave gave' gave'' p q r ids ids' front messages counts exact want faulted faulted' one two faulted_too clean_honest
+    honest_too firm_too moments =
     let c = p.confirms in
     let ts = one.timed ++ two.timed in
     let marks = one.marks ++ two.marks in
@@ -157,7 +179,8 @@ turned_broken M grows holds mid new gave gave' gave'' p q r ids ids' front messa
       others = two.others;
       marks = marks;
       part = two.part;
-      front = ap (λ f. f ++ messages) one.bytes ∙ ap (λ f. bytes_of one.timed ++ f) two.front ∙ sym (append_assoc (bytes_of one.timed) (bytes_of two.timed) two.others)
+      front = ap (λ f. f ++ messages) one.bytes ∙ ap (λ f. bytes_of one.timed ++ f) two.front
+          ∙ sym (append_assoc (bytes_of one.timed) (bytes_of two.timed) two.others)
           ∙ ap (λ f. f ++ two.others) (sym (bytes-append one.timed two.timed));
       moments = gave_first gave gave' gave'' one.timed two.timed moments one.moments two.moments;
       replied = replied_more p q r one.marks two.marks two.part one.replied two.replied;
@@ -165,32 +188,39 @@ turned_broken M grows holds mid new gave gave' gave'' p q r ids ids' front messa
       exactly = λ how is s h t so within again.
           let parts = again_both c q.confirms t one.timed two.timed one.marks two.marks one.replied.confirms one.full again in
           let a = one.all (honest_too is) s h t so within parts.0 in
-          exact_more M grows (λ g u. exact ≡ true → new.is_clean → StandsFor new s g u × faulted') (λ g u. exact ≡ true → new.is_clean → StandsFor new s g u × faulted)
-          s h c q.confirms t one.timed two.timed one.marks two.marks one.replied.confirms one.full (a.goes refl) a.sent (λ g u stands store clean. ((stands store clean).0, faulted_too (stands store clean).1))
+          exact_more M grows (λ g u. exact ≡ true → new.is_clean → StandsFor new s g u × faulted') (λ g u. exact ≡ true → new.is_clean → StandsFor new s g u
+              × faulted)
+          s h c q.confirms t one.timed two.timed one.marks two.marks one.replied.confirms one.full (a.goes refl) a.sent
+              (λ g u stands store clean. ((stands store clean).0, faulted_too (stands store clean).1))
           (two.exactly how is s (grown h (kept_in one.timed)) (t ++ settled_in c (bytes_of one.timed) one.marks) a.stands (one.handed t within) parts.1);
       life = λ clean s h t so within again.
           let parts = again_both c q.confirms t one.timed two.timed one.marks two.marks one.replied.confirms one.full again in
           let a = one.all (honest_too (clean_honest clean)) s h t so within parts.0 in
-          lived_more M grows (StandsFor new s) s h c q.confirms t one.timed two.timed one.marks two.marks two.part one.replied.confirms one.full (a.goes refl) a.sent
+          lived_more M grows (StandsFor new s) s h c q.confirms t one.timed two.timed one.marks two.marks two.part one.replied.confirms one.full
+              (a.goes refl) a.sent
           (two.life clean s (grown h (kept_in one.timed)) (t ++ settled_in c (bytes_of one.timed) one.marks) a.stands (one.handed t within) parts.1);
       crash = λ is firm s h t so within again.
           let parts = again_both c q.confirms t one.timed two.timed one.marks two.marks one.replied.confirms one.full again in
           let g = grown h (kept_in one.timed) in
           let u = t ++ settled_in c (bytes_of one.timed) one.marks in
           let a = one.all (honest_too is) s h t so within parts.0 in
-          leaves_map M new (λ x r. Lived M (Stands M x r s) s g q.confirms u two.timed two.marks two.part) (λ x r. Lived M (Stands M x r s) s h c t ts marks two.part)
-          (λ x r l. lived_more M grows (Stands M x r s) s h c q.confirms t one.timed two.timed one.marks two.marks two.part one.replied.confirms one.full (a.goes refl) a.sent l)
+          leaves_map M new (λ x r. Lived M (Stands M x r s) s g q.confirms u two.timed two.marks two.part)
+              (λ x r. Lived M (Stands M x r s) s h c t ts marks two.part)
+          (λ x r l. lived_more M grows (Stands M x r s) s h c q.confirms t one.timed two.timed one.marks two.marks two.part one.replied.confirms one.full
+              (a.goes refl) a.sent l)
           (two.crash is (firm_too (honest_too is) firm) s g u a.stands (one.handed t within) parts.1);
       few = λ is clean t again h.
           let parts = again_both c q.confirms t one.timed two.timed one.marks two.marks one.replied.confirms one.full again in
           let f = two.few is clean (t ++ settled_in c (bytes_of one.timed) one.marks) parts.1 (one.few (honest_too is) t parts.0 h) in
-          (f.0, subst (λ (u : List ℕ). FewHave new u f.0) (settled_both c q.confirms t one.timed two.timed one.marks two.marks one.replied.confirms one.full) f.1);
+          (f.0, subst (λ (u : List ℕ). FewHave new u f.0) (settled_both c q.confirms t one.timed two.timed one.marks two.marks one.replied.confirms one.full)
+              f.1);
     }
 
 -- what was answered, as a life, with others behind
 pub turned_life : (M : Model) → (holds new : KeeperState M) (gave : List Moment → Type 0) (p q : PortState) (ids ids' : List ℕ)
     (front others messages : List (List ℕ)) (going : Bool) (counts : SessionCounts) (exact want : Bool) (faulted : Type 0) → exact ≡ false
-    → Turned holds new gave p q ids ids' front going counts → messages ≡ front ++ others → (new.is_clean → new.is_honest) → (new.is_honest → IsFirm holds → IsFirm new)
+    → Turned holds new gave p q ids ids' front going counts → messages ≡ front ++ others → (new.is_clean → new.is_honest)
+        → (new.is_honest → IsFirm holds → IsFirm new)
     → Broken holds new gave p q ids messages exact want faulted
 turned_life M holds new gave p q ids ids' front others messages going counts exact want faulted inexact one parts clean_honest firm_still = record {
   timed = one.timed;
@@ -203,14 +233,17 @@ turned_life M holds new gave p q ids ids' front others messages going counts exa
   no_part = λ _. refl;
   exactly = λ _ is s h t so within again.
       let a = one.all is s h t so within again in
-      exact_all M (λ g u. exact ≡ true → new.is_clean → StandsFor new s g u × faulted) s h p.confirms t one.timed one.marks a.works (λ store _. absurd (cc (store, inexact))) a.sent;
+      exact_all M (λ g u. exact ≡ true → new.is_clean → StandsFor new s g u × faulted) s h p.confirms t one.timed one.marks a.works
+          (λ store _. absurd (cc (store, inexact))) a.sent;
   life = λ is s h t so within again.
       let a = one.all (clean_honest is) s h t so within again in
       lived_all M (StandsFor new s) s h p.confirms t one.timed one.marks [] [] [] a.works a.stands (sym (append-nil (replies one.marks) ∙ a.sent)) refl refl;
   crash = λ is firm s h t so within again.
       let a = one.all is s h t so within again in
-      leaves_map M new (λ x r. Stands M x r s (grown h (kept_in one.timed)) (t ++ settled_in p.confirms (bytes_of one.timed) one.marks)) (λ x r. Lived M (Stands M x r s) s h p.confirms t one.timed one.marks [])
-      (λ x r stands. lived_all M (Stands M x r s) s h p.confirms t one.timed one.marks [] [] [] a.works stands (sym (append-nil (replies one.marks) ∙ a.sent)) refl refl)
+      leaves_map M new (λ x r. Stands M x r s (grown h (kept_in one.timed)) (t ++ settled_in p.confirms (bytes_of one.timed) one.marks))
+          (λ x r. Lived M (Stands M x r s) s h p.confirms t one.timed one.marks [])
+      (λ x r stands. lived_all M (Stands M x r s) s h p.confirms t one.timed one.marks [] [] [] a.works stands (sym (append-nil (replies one.marks) ∙ a.sent))
+          refl refl)
       (firm_leaves M new s (grown h (kept_in one.timed)) (t ++ settled_in p.confirms (bytes_of one.timed) one.marks) (firm_still is firm) a.stands);
   few = λ is clean t again h. (ids', one.few is t again h);
 }
@@ -226,12 +259,15 @@ parts_at messages i = ap (λ r. take i messages ++ r) (rest_slice messages i) �
 pub take_parts : (messages : List (List ℕ)) (i n : ℕ) → take i messages ++ take n (take (length messages - i) (drop i messages)) ≡ take (i + n) messages
 take_parts messages i n = ap (λ r. take i messages ++ take n r) (rest_slice messages i) ∙ sym (take-add i n messages)
 
-pub within_parts : (messages : List (List ℕ)) (i n : ℕ) → i ≤ length messages → n ≤ length (take (length messages - i) (drop i messages)) → i + n ≤ length messages
+pub within_parts : (messages : List (List ℕ)) (i n : ℕ) → i ≤ length messages → n ≤ length (take (length messages - i) (drop i messages))
+    → i + n ≤ length messages
 within_parts messages i n le le2 = omega (arith, ap length (rest_slice messages i), length-drop i messages, le, le2)
 
-pub joined_at : (ms : List (List ℕ)) (i : ℕ) (m : List ℕ) → i < length ms → length (joined (take (i + 1) ms)) ≡ length (joined (take i ms)) + length (get_or ms i m)
+pub joined_at : (ms : List (List ℕ)) (i : ℕ) (m : List ℕ) → i < length ms
+    → length (joined (take (i + 1) ms)) ≡ length (joined (take i ms)) + length (get_or ms i m)
 joined_at ms i m lt =
-    ap (λ x. length (joined x)) (take_more ms i m lt) ∙ ap length (joined-append (take i ms) (get_or ms i m ∷ []) ∙ ap (λ (x : List ℕ). joined (take i ms) ++ x) (append-nil (get_or ms i m)))
+    ap (λ x. length (joined x)) (take_more ms i m lt) ∙ ap length (joined-append (take i ms) (get_or ms i m ∷ []) ∙ ap (λ (x : List ℕ). joined (take i ms) ++ x)
+        (append-nil (get_or ms i m)))
     ∙ length-append (joined (take i ms)) (get_or ms i m)
 
 -- ---- messages worked off
@@ -242,29 +278,39 @@ lasts_on Destroyed is = absurd (cc is)
 lasts_on ZeroUnique is = absurd (cc is)
 
 -- a group more
-pub group_more : (M : Model) → HistoriesGrow M → (holds mid new : KeeperState M) (gave gave' gave'' : List Moment → Type 0) (p q r : PortState) (ids ids' ids'' : List ℕ) (messages slice : List (List ℕ)) (i n : ℕ) (going : Bool) (counts counts' sum : SessionCounts)
+pub group_more : (M : Model) → HistoriesGrow M → (holds mid new : KeeperState M) (gave gave' gave'' : List Moment → Type 0) (p q r : PortState)
+    (ids ids' ids'' : List ℕ) (messages slice : List (List ℕ)) (i n : ℕ) (going : Bool) (counts counts' sum : SessionCounts)
     → slice ≡ take (length messages - i) (drop i messages) → sum ≡ plus counts counts'
-    → Turned holds mid gave p q ids ids' (take i messages) true counts → Turned mid new gave' q r ids' ids'' (take n slice) going counts' → (new.is_honest → mid.is_honest) → ((xs ys : List Moment) → gave xs → gave' ys → gave'' (xs ++ ys))
+    → Turned holds mid gave p q ids ids' (take i messages) true counts → Turned mid new gave' q r ids' ids'' (take n slice) going counts'
+        → (new.is_honest → mid.is_honest) → ((xs ys : List Moment) → gave xs → gave' ys → gave'' (xs ++ ys))
     → Turned holds new gave'' p r ids ids'' (take (i + n) messages) going sum
 group_more M grows holds mid new gave gave' gave'' p q r ids ids' ids'' messages slice i n going counts counts' sum same sum_is one two honest_too moments =
     subst (λ f. Turned holds new gave'' p r ids ids'' f going sum) (take_parts messages i n)
     (subst (λ c. Turned holds new gave'' p r ids ids'' (take i messages ++ take n (take (length messages - i) (drop i messages))) going c) (sym sum_is)
-    (turned_more M grows holds mid new gave gave' gave'' p q r ids ids' ids'' (take i messages) (take n (take (length messages - i) (drop i messages))) going counts counts' one
+    (turned_more M grows holds mid new gave gave' gave'' p q r ids ids' ids'' (take i messages) (take n (take (length messages - i) (drop i messages))) going
+        counts counts' one
     (subst (λ x. Turned mid new gave' q r ids' ids'' (take n x) going counts') same two) honest_too moments))
 
 -- a fault in the next group
-pub group_broken : (M : Model) → HistoriesGrow M → (holds mid new : KeeperState M) (gave gave' gave'' : List Moment → Type 0) (p q r : PortState) (ids ids' : List ℕ)
-    (messages slice : List (List ℕ)) (i : ℕ) (counts : SessionCounts) (exact want : Bool) (faulted faulted' : Type 0) → slice ≡ take (length messages - i) (drop i messages)
+pub group_broken : (M : Model) → HistoriesGrow M → (holds mid new : KeeperState M) (gave gave' gave'' : List Moment → Type 0) (p q r : PortState)
+    (ids ids' : List ℕ)
+    (messages slice : List (List ℕ)) (i : ℕ) (counts : SessionCounts) (exact want : Bool) (faulted faulted' : Type 0)
+        → slice ≡ take (length messages - i) (drop i messages)
     → Turned holds mid gave p q ids ids' (take i messages) true counts → Broken mid new gave' q r ids' slice exact want faulted' → (faulted' → faulted)
-    → (new.is_clean → new.is_honest) → (new.is_honest → mid.is_honest) → (mid.is_honest → IsFirm holds → IsFirm mid) → ((xs ys : List Moment) → gave xs → gave' ys → gave'' (xs ++ ys))
+    → (new.is_clean → new.is_honest) → (new.is_honest → mid.is_honest) → (mid.is_honest → IsFirm holds → IsFirm mid)
+        → ((xs ys : List Moment) → gave xs → gave' ys → gave'' (xs ++ ys))
     → Broken holds new gave'' p r ids messages exact want faulted
-group_broken M grows holds mid new gave gave' gave'' p q r ids ids' messages slice i counts exact want faulted faulted' same one two faulted_too clean_honest honest_too firm_too moments =
+group_broken M grows holds mid new gave gave' gave'' p q r ids ids' messages slice i counts exact want faulted faulted' same one two faulted_too clean_honest
+    honest_too firm_too moments =
     subst (λ m. Broken holds new gave'' p r ids m exact want faulted) (ap (λ x. take i messages ++ x) same ∙ parts_at messages i)
-    (turned_broken M grows holds mid new gave gave' gave'' p q r ids ids' (take i messages) slice counts exact want faulted faulted' one two faulted_too clean_honest honest_too firm_too moments)
+    (turned_broken M grows holds mid new gave gave' gave'' p q r ids ids' (take i messages) slice counts exact want faulted faulted' one two faulted_too
+        clean_honest honest_too firm_too moments)
 
 -- the last group
-pub worked_off : (M : Model) → (holds new : KeeperState M) (gave : List Moment → Type 0) (p q : PortState) (ids ids' : List ℕ) (messages slice : List (List ℕ)) (i n : ℕ) (rest : Rest) (begin place : ℕ) (counts : SessionCounts)
-    → slice ≡ take (length messages - i) (drop i messages) → (goes_on rest ≡ false) → (rest ≡ ZeroUnique → StartsZero (drop n slice)) → place ≡ begin + length (joined (take (i + n) messages))
+pub worked_off : (M : Model) → (holds new : KeeperState M) (gave : List Moment → Type 0) (p q : PortState) (ids ids' : List ℕ) (messages slice : List (List ℕ))
+    (i n : ℕ) (rest : Rest) (begin place : ℕ) (counts : SessionCounts)
+    → slice ≡ take (length messages - i) (drop i messages) → (goes_on rest ≡ false) → (rest ≡ ZeroUnique → StartsZero (drop n slice))
+        → place ≡ begin + length (joined (take (i + n) messages))
     → Turned holds new gave p q ids ids' (take (i + n) messages) (lasts rest) counts → WorkedOff holds new gave p q ids ids' messages rest begin place counts
 worked_off M holds new gave p q ids ids' messages slice i n rest begin place counts same over zero place_is t = record {
   front = take (i + n) messages;
@@ -276,7 +322,8 @@ worked_off M holds new gave p q ids ids' messages slice i n rest begin place cou
   turned = t;
 }
 
-pub worked_all : (M : Model) → (holds new : KeeperState M) (gave : List Moment → Type 0) (p q : PortState) (ids ids' : List ℕ) (messages : List (List ℕ)) (i : ℕ) (begin place : ℕ) (counts : SessionCounts)
+pub worked_all : (M : Model) → (holds new : KeeperState M) (gave : List Moment → Type 0) (p q : PortState) (ids ids' : List ℕ) (messages : List (List ℕ))
+    (i : ℕ) (begin place : ℕ) (counts : SessionCounts)
     → length messages ≤ i → place ≡ begin + length (joined (take i messages))
     → Turned holds new gave p q ids ids' (take i messages) true counts → WorkedOff holds new gave p q ids ids' messages GoesOnHere begin place counts
 worked_all M holds new gave p q ids ids' messages i begin place counts past place_is t = record {
@@ -290,13 +337,16 @@ worked_all M holds new gave p q ids ids' messages i begin place counts past plac
 }
 
 -- the bytes of the messages at a place
-pub joined_more : (messages slice : List (List ℕ)) (i n : ℕ) → slice ≡ take n (drop i messages) → length (joined (take (i + n) messages)) ≡ length (joined (take i messages)) + length (joined slice)
+pub joined_more : (messages slice : List (List ℕ)) (i n : ℕ) → slice ≡ take n (drop i messages)
+    → length (joined (take (i + n) messages)) ≡ length (joined (take i messages)) + length (joined slice)
 joined_more messages slice i n is =
-    ap (λ x. length (joined x)) (take-add i n messages) ∙ ap length (joined-append (take i messages) (take n (drop i messages))) ∙ length-append (joined (take i messages)) (joined (take n (drop i messages)))
+    ap (λ x. length (joined x)) (take-add i n messages) ∙ ap length (joined-append (take i messages) (take n (drop i messages)))
+        ∙ length-append (joined (take i messages)) (joined (take n (drop i messages)))
     ∙ ap (λ x. length (joined (take i messages)) + length (joined x)) (sym is)
 
 pub joined_within : (messages : List (List ℕ)) (i : ℕ) → length (joined (take i messages)) ≤ length (joined messages)
-joined_within messages i = omega (arith, ap (λ x. length (joined x)) (take-append-drop i messages), ap length (joined-append (take i messages) (drop i messages)), length-append (joined (take i messages)) (joined (drop i messages)))
+joined_within messages i = omega (arith, ap (λ x. length (joined x)) (take-append-drop i messages), ap length
+    (joined-append (take i messages) (drop i messages)), length-append (joined (take i messages)) (joined (drop i messages)))
 
 pub worked_slice : (messages : List (List ℕ)) (i n : ℕ) → take (i + n - i) (drop i messages) ≡ take n (drop i messages)
 worked_slice messages i n = let e : i + n - i ≡ n = omega arith in ap (λ k. take k (drop i messages)) e

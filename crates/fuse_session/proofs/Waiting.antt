@@ -1,5 +1,6 @@
 -- Messages that are taken, one after another.
-use Rattle.std.proofs.Common.{◌≡◌, ◌<◌, ◌+◌, ◌-◌, ℕ, List, [], ◌∷◌, ◌++◌, length, take, Option, Some, None, Ok, Err, refl, sym, ap, subst, ◌∙◌, append_assoc, arith, length-append}
+use Rattle.std.proofs.Common.{◌≡◌, ◌<◌, ◌+◌, ◌-◌, ℕ, List, [], ◌∷◌, ◌++◌, length, take, Option, Some, None, Ok, Err, refl, sym, ap, subst, ◌∙◌, append_assoc}
+use Rattle.std.proofs.Common.{arith, length-append}
 use Rattle.std.specs.Option.{option_or}
 use Rattle.std.proofs.lemmas.List.{append-nil, length-take-le}
 use Rattle.std.proofs.lemmas.List.Elements.{All-append, All-nil}
@@ -24,7 +25,8 @@ took_none h messages none ready = subst (TookSome h h) (sym none) (record {
 
 pub took_more : (a b c : Held) (ms ms' : List (List ℕ)) (m : List ℕ) → ms' ≡ ms ++ m ∷ [] → TookSome a b ms → Gives b c m → TookSome a c ms'
 took_more a b c ms ms' m pushed one g =
-    let size : length (joined (ms ++ m ∷ [])) ≡ length (joined ms) + length m = ap length (joined-append ms (m ∷ []) ∙ ap (λ (x : List ℕ). joined ms ++ x) (append-nil m)) ∙ length-append (joined ms) m in
+    let size : length (joined (ms ++ m ∷ [])) ≡ length (joined ms) + length m =
+        ap length (joined-append ms (m ∷ []) ∙ ap (λ (x : List ℕ). joined ms ++ x) (append-nil m)) ∙ length-append (joined ms) m in
     let low = g.message.low in
     subst (TookSome a c) (sym pushed) (record {
       front = one.front ∙ ap (λ (x : List (List ℕ) × List ℕ). ms ++ x.0) g.first ∙ sym (append_assoc ms (m ∷ []) (cut c.bytes).0);
@@ -42,9 +44,11 @@ gives_less b c m g = let low = g.message.low in omega (arith, ap length g.rest, 
 both : {A B : Type 0} (p : A × B) (x : A) (y : B) → p.0 ≡ x → p.1 ≡ y → p ≡ (x, y)
 both (a, b) x y e f = cc
 
-took_all : (a b c : Held) (ms : List (List ℕ)) (fault : Option FrameFault) → TookSome a b ms → HasNone b.bytes → bad_length b.at b.bytes ≡ fault → c.bytes ≡ b.bytes → c.at ≡ b.at → (fault ≡ None → IsOpen c) → TookAll a c ms fault
+took_all : (a b c : Held) (ms : List (List ℕ)) (fault : Option FrameFault) → TookSome a b ms → HasNone b.bytes → bad_length b.at b.bytes ≡ fault
+    → c.bytes ≡ b.bytes → c.at ≡ b.at → (fault ≡ None → IsOpen c) → TookAll a c ms fault
 took_all a b c ms fault one none bad same same_at ready = record {
-  cut_is = both (cut a.bytes) ms c.bytes (one.front ∙ ap (λ (x : List (List ℕ) × List ℕ). ms ++ x.0) none ∙ append-nil ms) (one.rest ∙ ap (λ (x : List (List ℕ) × List ℕ). x.1) none ∙ sym same);
+  cut_is = both (cut a.bytes) ms c.bytes (one.front ∙ ap (λ (x : List (List ℕ) × List ℕ). ms ++ x.0) none ∙ append-nil ms)
+      (one.rest ∙ ap (λ (x : List (List ℕ) × List ℕ). x.1) none ∙ sym same);
   at = same_at ∙ one.at;
   each = one.each;
   few = one.few;
@@ -63,17 +67,20 @@ took_whole a b c ms one g room =
       short = room;
     })
 
-bad_next : (b c : Held) (f : FrameFault) → (f ≡ Memory → ⊥) → GivesNext b c (Err f) → HasNone b.bytes × (bad_length b.at b.bytes ≡ Some f) × (c ≡ record b { fault = Some f })
+bad_next : (b c : Held) (f : FrameFault) → (f ≡ Memory → ⊥) → GivesNext b c (Err f) → HasNone b.bytes × (bad_length b.at b.bytes ≡ Some f)
+    × (c ≡ record b { fault = Some f })
 bad_next b c (Short at len) isnt g = g
 bad_next b c (TooLong at len) isnt g = g
 bad_next b c (Cut at have need) isnt g = g
 bad_next b c Memory isnt g = absurd (isnt refl)
 
 -- a bad length follows
-pub took_bad : (a b c : Held) (ms ms' : List (List ℕ)) (f : FrameFault) (fault : Option FrameFault) → TookSome a b ms → GivesNext b c (Err f) → (f ≡ Memory → ⊥) → ms' ≡ ms → fault ≡ Some f → TookAll a c ms' fault
+pub took_bad : (a b c : Held) (ms ms' : List (List ℕ)) (f : FrameFault) (fault : Option FrameFault) → TookSome a b ms → GivesNext b c (Err f) → (f ≡ Memory → ⊥)
+    → ms' ≡ ms → fault ≡ Some f → TookAll a c ms' fault
 took_bad a b c ms ms' f fault one g isnt same is =
     let n = bad_next b c f isnt g in
-    subst (λ x. TookAll a c x fault) (sym same) (took_all a b c ms fault one n.0 (n.1 ∙ sym is) (ap (λ (h : Held). h.bytes) n.2) (ap (λ (h : Held). h.at) n.2) (λ none. absurd (cc (none, is))))
+    subst (λ x. TookAll a c x fault) (sym same) (took_all a b c ms fault one n.0 (n.1 ∙ sym is) (ap (λ (h : Held). h.bytes) n.2) (ap (λ (h : Held). h.at) n.2)
+        (λ none. absurd (cc (none, is))))
 
 -- ---- the end of a port
 

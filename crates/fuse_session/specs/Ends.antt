@@ -62,7 +62,8 @@ counts_at (Store fault) counts = None
 counts_at Memory counts = None
 
 -- all that came was worked off and answered, but for a rest that begins at a place
-pub record Rested {M : Model} (k k' : KeeperState M) (gave : List Moment → Type 0) (old new : PortState) (pending : List ℕ) (held : List ℕ) (begin : ℕ) (counts : SessionCounts) (P : ℕ → List ℕ → Type 0) : Type 0 where
+pub record Rested {M : Model} (k k' : KeeperState M) (gave : List Moment → Type 0) (old new : PortState) (pending : List ℕ) (held : List ℕ) (begin : ℕ)
+    (counts : SessionCounts) (P : ℕ → List ℕ → Type 0) : Type 0 where
   pub rest : List ℕ
   pub place : ℕ
   pub pending' : List ℕ
@@ -70,7 +71,8 @@ pub record Rested {M : Model} (k k' : KeeperState M) (gave : List Moment → Typ
   pub so : P place rest
 
 -- messages were worked off up to one that stops the session, and this one begins, or ended, at a place
-pub record Halted {M : Model} (k k' : KeeperState M) (gave : List Moment → Type 0) (old new : PortState) (pending : List ℕ) (held : List ℕ) (rest : Rest) (begin place : ℕ) (counts : SessionCounts) : Type 0 where
+pub record Halted {M : Model} (k k' : KeeperState M) (gave : List Moment → Type 0) (old new : PortState) (pending : List ℕ) (held : List ℕ) (rest : Rest)
+    (begin place : ℕ) (counts : SessionCounts) : Type 0 where
   pub pending' : List ℕ
   pub stopped : Stopped k k' gave old new pending pending' held rest begin place counts
 
@@ -83,7 +85,8 @@ abbrev pub FaultOf : PortState → FrameFault → ℕ → List ℕ → Type 0
 FaultOf port f place rest = (bad_length place rest ≡ Some f) ⊎ (HasEnded port × (bad_length place rest ≡ None) × (end_fault place rest ≡ Some f))
 
 -- at each of the ends; `begin` is the offset of the bytes held at first. What Store and Memory leave stands below
-abbrev pub EndsAs : {M : Model} → KeeperState M → KeeperState M → (List Moment → Type 0) → PortState → PortState → List ℕ → List ℕ → ℕ → ℕ → Ended → SessionCounts → Type 0
+abbrev pub EndsAs : {M : Model} → KeeperState M → KeeperState M → (List Moment → Type 0) → PortState → PortState → List ℕ → List ℕ → ℕ → ℕ → Ended
+    → SessionCounts → Type 0
 EndsAs k k' gave old new pending held begin turns End counts =
     HasEnded new × Rested k k' gave old new pending held begin counts (λ place rest. rest ≡ [])
 EndsAs k k' gave old new pending held begin turns Destroyed counts = (place : ℕ) × Halted k k' gave old new pending held ByDestroy begin place counts
@@ -97,7 +100,8 @@ EndsAs k k' gave old new pending held begin turns (Store fault) counts = Unit {0
 EndsAs k k' gave old new pending held begin turns Memory counts = Unit {0}
 
 -- bytes came, and exactly the answers to the first of their messages were sent
-pub record SentExactly {M : Model} (k k' : KeeperState M) (stood : M.State → History → List ℕ → Type 0) (gave : List Moment → Type 0) (old new : PortState) (pending : List ℕ) (held : List ℕ) : Type 0 where
+pub record SentExactly {M : Model} (k k' : KeeperState M) (stood : M.State → History → List ℕ → Type 0) (gave : List Moment → Type 0) (old new : PortState)
+    (pending : List ℕ) (held : List ℕ) : Type 0 where
   pub received : List ℕ
   pub came : Consumes old.coming new.coming received
   pub timed : List Timed
@@ -106,13 +110,15 @@ pub record SentExactly {M : Model} (k k' : KeeperState M) (stood : M.State → H
   pub front : (cut (held ++ received)).0 ≡ bytes_of timed ++ others
   pub moments : GaveFirst gave timed
   pub replied : Replied old new marks []
-  pub exactly : k'.is_honest → (s : M.State) (h : History) (t : List ℕ) → StandsFor k s h t → Includes t pending → NoneComesAgain old.confirms t (bytes_of timed) marks
+  pub exactly : k'.is_honest → (s : M.State) (h : History) (t : List ℕ) → StandsFor k s h t → Includes t pending
+      → NoneComesAgain old.confirms t (bytes_of timed) marks
       → Exact M (stood s) s h old.confirms t timed marks
 
 -- by a fault of the store, which is one that the keeper may answer; the keeper stands for those messages, where its
 -- store is clean. For want of memory
 abbrev pub ExactAt : {M : Model} → KeeperState M → KeeperState M → (List Moment → Type 0) → PortState → PortState → List ℕ → List ℕ → Ended → Type 0
-ExactAt k k' gave old new pending held (Store fault) = SentExactly k k' (λ s g t. k'.is_clean → StandsFor k' s g t × k.may_answer fault) gave old new pending held
+ExactAt k k' gave old new pending held (Store fault) = SentExactly k k' (λ s g t. k'.is_clean → StandsFor k' s g t
+    × k.may_answer fault) gave old new pending held
 ExactAt k k' gave old new pending held Memory = SentExactly k k' (λ s g t. Unit {0}) gave old new pending held
 ExactAt k k' gave old new pending held _ = Unit {0}
 
@@ -122,7 +128,8 @@ MayEnd may (Store fault) = may fault
 MayEnd may _ = Unit {0}
 
 -- a whole session: it ended so, and its counts are told where no fault ended it
-pub record SessionEnds {M : Model} (k k' : KeeperState M) (gave : List Moment → Type 0) (old new : PortState) (turns : ℕ) (ended : Ended) (told : Option SessionCounts) : Type 0 where
+pub record SessionEnds {M : Model} (k k' : KeeperState M) (gave : List Moment → Type 0) (old new : PortState) (turns : ℕ) (ended : Ended)
+    (told : Option SessionCounts) : Type 0 where
   pub counts : SessionCounts
   pub ends : EndsAs k k' gave old new [] [] 0 turns ended counts
   pub told_are : told ≡ counts_at ended counts

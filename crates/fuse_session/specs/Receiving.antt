@@ -54,7 +54,8 @@ pub record Heard (old new : PortState) (before after : Held) (messages : List (L
 abbrev pub NotHeard : Ended → PortState → PortState → Held → Type 0
 NotHeard End old new h = HasEnded new × (h.bytes ≡ []) × Consumes old.coming new.coming [] × (new.failures ≡ old.failures)
 NotHeard (Frame f) old new h = HasEnded new × (end_fault h.at h.bytes ≡ Some f) × Consumes old.coming new.coming [] × (new.failures ≡ old.failures)
-NotHeard PortFailed old new h = (old.failures < new.failures) × (old.receive_failures < new.receive_failures) × (new.has_ended ≡ old.has_ended) × Consumes old.coming new.coming []
+NotHeard PortFailed old new h = (old.failures < new.failures) × (old.receive_failures < new.receive_failures) × (new.has_ended ≡ old.has_ended)
+    × Consumes old.coming new.coming []
 NotHeard Memory old new h = (received : List ℕ) × Consumes old.coming new.coming received × (new.failures ≡ old.failures)
 NotHeard Destroyed old new h = ⊥
 NotHeard Turns old new h = ⊥

@@ -19,7 +19,8 @@ use Rattle.fuse_session.specs.Settling.{Mark, replies, settled_in, NoneComesAgai
 use Rattle.fuse_session.specs.Counting.{counted}
 
 -- all messages were worked off, and their answers sent
-pub record Answered (M : Model) (stood : History → List ℕ → Type 0) (s : M.State) (h : History) (confirms : Bool) (t : List ℕ) (timed : List Timed) (marks : List Mark) (going : Bool) (counts : SessionCounts) : Type 0 where
+pub record Answered (M : Model) (stood : History → List ℕ → Type 0) (s : M.State) (h : History) (confirms : Bool) (t : List ℕ) (timed : List Timed)
+    (marks : List Mark) (going : Bool) (counts : SessionCounts) : Type 0 where
   pub works : Works M s h timed
   pub goes : going ≡ true → GoesOn M s h timed
   pub last : going ≡ false → EndsLast M s h timed
@@ -29,7 +30,8 @@ pub record Answered (M : Model) (stood : History → List ℕ → Type 0) (s : M
 
 -- so it was, whatever the keeper stood for and whatever was settled, where no message comes again; and of what is settled
 -- few ids have a record, all of them to be handed on, if so it was before
-pub record Turned {M : Model} (k k' : KeeperState M) (gave : List Moment → Type 0) (old new : PortState) (pending pending' : List ℕ) (front : List (List ℕ)) (going : Bool) (counts : SessionCounts) : Type 0 where
+pub record Turned {M : Model} (k k' : KeeperState M) (gave : List Moment → Type 0) (old new : PortState) (pending pending' : List ℕ) (front : List (List ℕ))
+    (going : Bool) (counts : SessionCounts) : Type 0 where
   pub timed : List Timed
   pub marks : List Mark
   pub bytes : front ≡ bytes_of timed
@@ -37,13 +39,15 @@ pub record Turned {M : Model} (k k' : KeeperState M) (gave : List Moment → Typ
   pub moments : gave (moments_in timed)
   pub replied : Replied old new marks []
   pub handed : (t : List ℕ) → Includes t pending → Includes (t ++ settled_in old.confirms (bytes_of timed) marks) pending'
-  pub all : k'.is_honest → (s : M.State) (h : History) (t : List ℕ) → StandsFor k s h t → Includes t pending → NoneComesAgain old.confirms t (bytes_of timed) marks
+  pub all : k'.is_honest → (s : M.State) (h : History) (t : List ℕ) → StandsFor k s h t → Includes t pending
+      → NoneComesAgain old.confirms t (bytes_of timed) marks
       → Answered M (StandsFor k' s) s h old.confirms t timed marks going counts
   pub few : k'.is_honest → (t : List ℕ) → NoneComesAgain old.confirms t (bytes_of timed) marks → FewHave k t pending
       → FewHave k' (t ++ settled_in old.confirms (bytes_of timed) marks) pending'
 
 -- some of the messages were worked off, and a front of their answers was sent
-pub record Lived (M : Model) (stood : History → List ℕ → Type 0) (s : M.State) (h : History) (confirms : Bool) (t : List ℕ) (timed : List Timed) (marks : List Mark) (part : List ℕ) : Type 0 where
+pub record Lived (M : Model) (stood : History → List ℕ → Type 0) (s : M.State) (h : History) (confirms : Bool) (t : List ℕ) (timed : List Timed)
+    (marks : List Mark) (part : List ℕ) : Type 0 where
   pub worked : List Timed
   pub unworked : List Timed
   pub parts : timed ≡ worked ++ unworked
@@ -56,7 +60,8 @@ pub record Lived (M : Model) (stood : History → List ℕ → Type 0) (s : M.St
   pub next : BeginsNext later part
 
 -- some of the messages were worked off, and exactly their answers were sent
-pub record Exact (M : Model) (stood : History → List ℕ → Type 0) (s : M.State) (h : History) (confirms : Bool) (t : List ℕ) (timed : List Timed) (marks : List Mark) : Type 0 where
+pub record Exact (M : Model) (stood : History → List ℕ → Type 0) (s : M.State) (h : History) (confirms : Bool) (t : List ℕ) (timed : List Timed)
+    (marks : List Mark) : Type 0 where
   pub worked : List Timed
   pub unworked : List Timed
   pub parts : timed ≡ worked ++ unworked
@@ -68,7 +73,8 @@ pub record Exact (M : Model) (stood : History → List ℕ → Type 0) (s : M.St
 -- other end of a session too. What the keeper holds where its store is clean, and where it was firm whatever a crash leaves,
 -- stands for the messages worked off. Where the store or want of memory ended it, exactly their answers were sent. Of the
 -- ids that are settled few have a record, if so it was before
-pub record Broken {M : Model} (k k' : KeeperState M) (gave : List Moment → Type 0) (old new : PortState) (pending : List ℕ) (messages : List (List ℕ)) (store memory : Bool) (faulted : Type 0) : Type 0 where
+pub record Broken {M : Model} (k k' : KeeperState M) (gave : List Moment → Type 0) (old new : PortState) (pending : List ℕ) (messages : List (List ℕ))
+    (store memory : Bool) (faulted : Type 0) : Type 0 where
   pub timed : List Timed
   pub others : List (List ℕ)
   pub marks : List Mark
@@ -77,11 +83,14 @@ pub record Broken {M : Model} (k k' : KeeperState M) (gave : List Moment → Typ
   pub moments : GaveFirst gave timed
   pub replied : Replied old new marks part
   pub no_part : (store || memory) ≡ true → part ≡ []
-  pub exactly : (store || memory) ≡ true → k'.is_honest → (s : M.State) (h : History) (t : List ℕ) → StandsFor k s h t → Includes t pending → NoneComesAgain old.confirms t (bytes_of timed) marks
+  pub exactly : (store || memory) ≡ true → k'.is_honest → (s : M.State) (h : History) (t : List ℕ) → StandsFor k s h t → Includes t pending
+      → NoneComesAgain old.confirms t (bytes_of timed) marks
       → Exact M (λ g u. store ≡ true → k'.is_clean → StandsFor k' s g u × faulted) s h old.confirms t timed marks
-  pub life : k'.is_clean → (s : M.State) (h : History) (t : List ℕ) → StandsFor k s h t → Includes t pending → NoneComesAgain old.confirms t (bytes_of timed) marks
+  pub life : k'.is_clean → (s : M.State) (h : History) (t : List ℕ) → StandsFor k s h t → Includes t pending
+      → NoneComesAgain old.confirms t (bytes_of timed) marks
       → Lived M (StandsFor k' s) s h old.confirms t timed marks part
-  pub crash : k'.is_honest → IsFirm k → (s : M.State) (h : History) (t : List ℕ) → StandsFor k s h t → Includes t pending → NoneComesAgain old.confirms t (bytes_of timed) marks
+  pub crash : k'.is_honest → IsFirm k → (s : M.State) (h : History) (t : List ℕ) → StandsFor k s h t → Includes t pending
+      → NoneComesAgain old.confirms t (bytes_of timed) marks
       → Leaves k' (λ x r. Lived M (Stands M x r s) s h old.confirms t timed marks part)
   pub few : k'.is_honest → (store ≡ true → k'.is_clean) → (t : List ℕ) → NoneComesAgain old.confirms t (bytes_of timed) marks → FewHave k t pending
       → FewRecorded k' (t ++ settled_in old.confirms (bytes_of timed) marks)
@@ -98,7 +107,8 @@ goes_on Destroyed = false
 goes_on ZeroUnique = false
 
 -- messages were worked off, all of them where it goes on, and else up to one that stops it
-pub record WorkedOff {M : Model} (k k' : KeeperState M) (gave : List Moment → Type 0) (old new : PortState) (pending pending' : List ℕ) (messages : List (List ℕ)) (rest : Rest) (begin place : ℕ) (counts : SessionCounts) : Type 0 where
+pub record WorkedOff {M : Model} (k k' : KeeperState M) (gave : List Moment → Type 0) (old new : PortState) (pending pending' : List ℕ)
+    (messages : List (List ℕ)) (rest : Rest) (begin place : ℕ) (counts : SessionCounts) : Type 0 where
   pub front : List (List ℕ)
   pub others : List (List ℕ)
   pub parts : messages ≡ front ++ others
@@ -108,7 +118,8 @@ pub record WorkedOff {M : Model} (k k' : KeeperState M) (gave : List Moment → 
   pub turned : Turned k k' gave old new pending pending' front (lasts rest) counts
 
 -- bytes came, and all messages that they and those held before them have were worked off and answered; this is the rest
-pub record Whole {M : Model} (k k' : KeeperState M) (gave : List Moment → Type 0) (old new : PortState) (pending pending' : List ℕ) (held rest : List ℕ) (begin place : ℕ) (counts : SessionCounts) : Type 0 where
+pub record Whole {M : Model} (k k' : KeeperState M) (gave : List Moment → Type 0) (old new : PortState) (pending pending' : List ℕ) (held rest : List ℕ)
+    (begin place : ℕ) (counts : SessionCounts) : Type 0 where
   pub received : List ℕ
   pub came : Consumes old.coming new.coming received
   pub rest_is : rest ≡ (cut (held ++ received)).1
@@ -116,13 +127,15 @@ pub record Whole {M : Model} (k k' : KeeperState M) (gave : List Moment → Type
   pub turned : Turned k k' gave old new pending pending' (cut (held ++ received)).0 true counts
 
 -- bytes came, and their messages were worked off up to one that stops the session
-pub record Stopped {M : Model} (k k' : KeeperState M) (gave : List Moment → Type 0) (old new : PortState) (pending pending' : List ℕ) (held : List ℕ) (rest : Rest) (begin place : ℕ) (counts : SessionCounts) : Type 0 where
+pub record Stopped {M : Model} (k k' : KeeperState M) (gave : List Moment → Type 0) (old new : PortState) (pending pending' : List ℕ) (held : List ℕ)
+    (rest : Rest) (begin place : ℕ) (counts : SessionCounts) : Type 0 where
   pub received : List ℕ
   pub came : Consumes old.coming new.coming received
   pub worked : WorkedOff k k' gave old new pending pending' (cut (held ++ received)).0 rest begin place counts
 
 -- bytes came, and of their messages some were worked off and answered so, however it ended
-pub record Run {M : Model} (k k' : KeeperState M) (gave : List Moment → Type 0) (old new : PortState) (pending : List ℕ) (held : List ℕ) (store memory : Bool) (faulted : Type 0) : Type 0 where
+pub record Run {M : Model} (k k' : KeeperState M) (gave : List Moment → Type 0) (old new : PortState) (pending : List ℕ) (held : List ℕ) (store memory : Bool)
+    (faulted : Type 0) : Type 0 where
   pub received : List ℕ
   pub came : Consumes old.coming new.coming received
   pub broken : Broken k k' gave old new pending (cut (held ++ received)).0 store memory faulted

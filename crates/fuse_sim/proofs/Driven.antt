@@ -15,7 +15,8 @@ use Rattle.fuse_session.specs.Settling.{settles_if, comes_again, MayCome}
 use Rattle.fuse_sim.specs.declared.event.Fate.{Fate}
 use Rattle.fuse_sim.specs.declared.event.Fate.TheVariants.{Answered, AnswerLost, DiedBeforeCommit, DiedAfterCommit}
 use Rattle.fuse_sim.specs.declared.event.Event.{Event}
-use Rattle.fuse_sim.specs.Driving.{commits, commits_by, commits_in, committed, answer_in, outcome_of, is_taken, where_taken, settles, settled_by, NoneReused, dies}
+use Rattle.fuse_sim.specs.Driving.{commits, commits_by, commits_in, committed, answer_in, outcome_of, is_taken, where_taken, settles, settled_by, NoneReused}
+use Rattle.fuse_sim.specs.Driving.{dies}
 use Rattle.fuse_sim.specs.HandedOn.{Ledger, empty_ledger, after_one, handed_by, after_commit, handed_at, crashed_if, after_event, ledger_after, handed_on}
 use Rattle.fuse_sim.proofs.Gathered.{commits-append, only_one}
 use Rattle.fuse_sim.proofs.Settled.{includes_left, includes_right, includes_both, unsettled_too}
@@ -49,37 +50,45 @@ stays_by M grows s h DiedBeforeCommit class bytes moment es = refl
 stays_by M grows s h DiedAfterCommit class bytes moment es = refl
 
 -- what comes later changes no outcome
-outcome_stays : (M : Model) → HistoriesGrow M → (s : M.State) (h : History) (e : Event) (es : List Entry) → outcome_of M s (grown (grown h (commits e)) es) e ≡ outcome_of M s (grown h (commits e)) e
+outcome_stays : (M : Model) → HistoriesGrow M → (s : M.State) (h : History) (e : Event) (es : List Entry)
+    → outcome_of M s (grown (grown h (commits e)) es) e ≡ outcome_of M s (grown h (commits e)) e
 outcome_stays M grows s h e es = stays_by M grows s h e.fate (class_of e.bytes) e.bytes e.moment es
 
-outcomes_stay : (M : Model) → HistoriesGrow M → (s : M.State) (h : History) (events : List Event) (es : List Entry) → map (outcome_of M s (grown (committed h events) es)) events ≡ gives M s h events
+outcomes_stay : (M : Model) → HistoriesGrow M → (s : M.State) (h : History) (events : List Event) (es : List Entry)
+    → map (outcome_of M s (grown (committed h events) es)) events ≡ gives M s h events
 outcomes_stay M grows s h [] es = refl
 outcomes_stay M grows s h (e ∷ events) es =
     let g = grown h (commits e) in
-    let split : grown (committed h (e ∷ events)) es ≡ grown (grown g (commits_in events)) es = ap (λ x. grown x es) (grown-append h (commits e) (commits_in events)) in
+    let split : grown (committed h (e ∷ events)) es ≡ grown (grown g (commits_in events)) es =
+        ap (λ x. grown x es) (grown-append h (commits e) (commits_in events)) in
     let first : grown (grown g (commits_in events)) es ≡ grown g (commits_in events ++ es) = sym (grown-append g (commits_in events) es) in
     ap (λ x. outcome_of M s x e ∷ map (outcome_of M s x) events) split
     ∙ ap (λ x. outcome_of M s x e ∷ map (outcome_of M s (grown (grown g (commits_in events)) es)) events) first
     ∙ ap (λ o. o ∷ map (outcome_of M s (grown (grown g (commits_in events)) es)) events) (outcome_stays M grows s h e (commits_in events ++ es))
     ∙ ap (λ r. outcome_of M s g e ∷ r) (outcomes_stay M grows s g events es)
 
-outcomes_are : (M : Model) → HistoriesGrow M → (s : M.State) (h : History) (events : List Event) → map (outcome_of M s (committed h events)) events ≡ gives M s h events
+outcomes_are : (M : Model) → HistoriesGrow M → (s : M.State) (h : History) (events : List Event)
+    → map (outcome_of M s (committed h events)) events ≡ gives M s h events
 outcomes_are M grows s h events = outcomes_stay M grows s h events []
 
 gives-append : (M : Model) → (s : M.State) (h : History) (xs ys : List Event) → gives M s h (xs ++ ys) ≡ gives M s h xs ++ gives M s (committed h xs) ys
 gives-append M s h [] ys = refl
 gives-append M s h (x ∷ xs) ys =
     ap (λ r. outcome_of M s (grown h (commits x)) x ∷ r) (gives-append M s (grown h (commits x)) xs ys)
-    ∙ ap (λ g. outcome_of M s (grown h (commits x)) x ∷ (gives M s (grown h (commits x)) xs ++ gives M s g ys)) (sym (grown-append h (commits x) (commits_in xs)))
+    ∙ ap (λ g. outcome_of M s (grown h (commits x)) x ∷ (gives M s (grown h (commits x)) xs ++ gives M s g ys))
+        (sym (grown-append h (commits x) (commits_in xs)))
 
 pub outcomes-append : (M : Model) → HistoriesGrow M → (s : M.State) (h : History) (xs ys : List Event)
-    → map (outcome_of M s (committed h (xs ++ ys))) (xs ++ ys) ≡ map (outcome_of M s (committed h xs)) xs ++ map (outcome_of M s (committed (committed h xs) ys)) ys
-outcomes-append M grows s h xs ys = outcomes_are M grows s h (xs ++ ys) ∙ gives-append M s h xs ys ∙ ap (λ r. r ++ gives M s (committed h xs) ys) (sym (outcomes_are M grows s h xs))
+    → map (outcome_of M s (committed h (xs ++ ys))) (xs ++ ys) ≡ map (outcome_of M s (committed h xs)) xs
+        ++ map (outcome_of M s (committed (committed h xs) ys)) ys
+outcomes-append M grows s h xs ys = outcomes_are M grows s h (xs ++ ys) ∙ gives-append M s h xs ys ∙ ap (λ r. r ++ gives M s (committed h xs) ys)
+    (sym (outcomes_are M grows s h xs))
     ∙ ap (λ r. map (outcome_of M s (committed h xs)) xs ++ r) (sym (outcomes_are M grows s (committed h xs) ys))
 
 -- ---- settled ids
 
-unsettled_kept : (u : List ℕ) (class : Class) (bytes : List ℕ) (moment : Moment) → comes_again u class (message_id bytes) ≡ false → All (IsUnsettled u) (entry_if class (message_entry bytes moment))
+unsettled_kept : (u : List ℕ) (class : Class) (bytes : List ℕ) (moment : Moment) → comes_again u class (message_id bytes) ≡ false
+    → All (IsUnsettled u) (entry_if class (message_entry bytes moment))
 unsettled_kept u Silent bytes moment may = All-nil (IsUnsettled u)
 unsettled_kept u (Bare errno) bytes moment may = All-nil (IsUnsettled u)
 unsettled_kept u Kept bytes moment may = only_one (IsUnsettled u) (message_entry bytes moment) may
@@ -91,7 +100,8 @@ unsettled_by u DiedBeforeCommit es each = All-nil (IsUnsettled u)
 unsettled_by u DiedAfterCommit es each = each
 
 unsettled_one : (u : List ℕ) (e : Event) → MayCome u e.bytes → All (IsUnsettled u) (commits e)
-unsettled_one u e may = unsettled_by u e.fate (entry_if (class_of e.bytes) (message_entry e.bytes e.moment)) (unsettled_kept u (class_of e.bytes) e.bytes e.moment may)
+unsettled_one u e may = unsettled_by u e.fate (entry_if (class_of e.bytes) (message_entry e.bytes e.moment))
+    (unsettled_kept u (class_of e.bytes) e.bytes e.moment may)
 
 pub all_unsettled_too : (u t : List ℕ) (es : List Entry) → Includes u t → All (IsUnsettled u) es → All (IsUnsettled t) es
 all_unsettled_too u t es within each k d lt = unsettled_too u t _ within (each k d lt)
@@ -123,7 +133,8 @@ includes_none u i there = absurd (cc there)
 
 pending_joined : (u p settled : List ℕ) (room : ℕ) → Includes u p → Includes (u ++ settled) (after_one room p settled).pending
 pending_joined u p settled zero within = includes_right u settled
-pending_joined u p settled (suc room) within = includes_both (u ++ settled) p settled (λ i there. includes_left u settled i (within i there)) (includes_right u settled)
+pending_joined u p settled (suc room) within = includes_both (u ++ settled) p settled (λ i there. includes_left u settled i (within i there))
+    (includes_right u settled)
 
 pending_commit : (u settled : List ℕ) (l : Ledger) (cs : List Entry) → Includes u l.pending → Includes (u ++ settled) (after_commit cs l settled).pending
 pending_commit u settled l [] within = λ i there. includes_left u settled i (within i there)
@@ -134,7 +145,8 @@ pending_crash u l true within = includes_none u
 pending_crash u l false within = within
 
 pending_one : (u : List ℕ) (l : Ledger) (e : Event) → Includes u l.pending → Includes (u ++ settles e) (after_event l e).pending
-pending_one u l e within = pending_crash (u ++ settles e) (after_commit (commits e) l (settles e)) (dies e.fate) (pending_commit u (settles e) l (commits e) within)
+pending_one u l e within = pending_crash (u ++ settles e) (after_commit (commits e) l (settles e)) (dies e.fate)
+    (pending_commit u (settles e) l (commits e) within)
 
 handed_room : (u p : List ℕ) (room : ℕ) → Includes u p → Includes u (handed_by room p)
 handed_room u p zero within = within
@@ -155,7 +167,8 @@ handed_settled u l (e ∷ es) within = includes_both (settled_by u (e ∷ es)) (
     (handed_settled (u ++ settles e) (after_event l e) es (pending_one u l e within))
 
 pub settled_all : (u t : List ℕ) (l : Ledger) (es : List Event) → Includes u t → Includes u l.pending → Includes (settled_by u es) (t ++ handed_on l es)
-settled_all u t l es within pending = includes_both (settled_by u es) t (handed_on l es) (λ i there. settled_still u es i (within i there)) (handed_settled u l es pending)
+settled_all u t l es within pending = includes_both (settled_by u es) t (handed_on l es) (λ i there. settled_still u es i (within i there))
+    (handed_settled u l es pending)
 
 pub ledger-append : (l : Ledger) (xs ys : List Event) → ledger_after l (xs ++ ys) ≡ ledger_after (ledger_after l xs) ys
 ledger-append l [] ys = refl
@@ -167,7 +180,8 @@ handed-append l (x ∷ xs) ys = ap (λ (r : List ℕ). handed_at (commits x) l +
     ∙ sym (append_assoc (handed_at (commits x) l) (handed_on (after_event l x) xs) (handed_on (ledger_after (after_event l x) xs) ys))
 
 -- what is settled came
-settles_came_by : (fate : Fate) (class : Class) (bytes : List ℕ) (moment : Moment) → Includes (ids_in (commits_by fate (entry_if class (message_entry bytes moment)))) (settles_if (is_taken fate) class (message_id bytes))
+settles_came_by : (fate : Fate) (class : Class) (bytes : List ℕ) (moment : Moment)
+    → Includes (ids_in (commits_by fate (entry_if class (message_entry bytes moment)))) (settles_if (is_taken fate) class (message_id bytes))
 settles_came_by Answered Silent bytes moment = includes_none []
 settles_came_by Answered (Bare errno) bytes moment = includes_none []
 settles_came_by Answered Kept bytes moment = λ i there. there
@@ -180,9 +194,12 @@ settled_came u [] = includes_left u []
 settled_came u (e ∷ es) =
     let ids : ids_in (commits_in (e ∷ es)) ≡ ids_in (commits e) ++ ids_in (commits_in es) = map-append entry_id (commits e) (commits_in es) in
     let whole = u ++ ids_in (commits_in (e ∷ es)) in
-    let here : Includes whole (ids_in (commits e)) = λ i there. includes_right u (ids_in (commits_in (e ∷ es))) i (ap (λ x. is_in x i) ids ∙ includes_left (ids_in (commits e)) (ids_in (commits_in es)) i there) in
-    let later : Includes whole (ids_in (commits_in es)) = λ i there. includes_right u (ids_in (commits_in (e ∷ es))) i (ap (λ x. is_in x i) ids ∙ includes_right (ids_in (commits e)) (ids_in (commits_in es)) i there) in
-    let first : Includes whole (u ++ settles e) = includes_both whole u (settles e) (includes_left u (ids_in (commits_in (e ∷ es)))) (λ i there. here i (settles_came_by e.fate (class_of e.bytes) e.bytes e.moment i there)) in
+    let here : Includes whole (ids_in (commits e)) = λ i there. includes_right u (ids_in (commits_in (e ∷ es))) i
+        (ap (λ x. is_in x i) ids ∙ includes_left (ids_in (commits e)) (ids_in (commits_in es)) i there) in
+    let later : Includes whole (ids_in (commits_in es)) = λ i there. includes_right u (ids_in (commits_in (e ∷ es))) i
+        (ap (λ x. is_in x i) ids ∙ includes_right (ids_in (commits e)) (ids_in (commits_in es)) i there) in
+    let first : Includes whole (u ++ settles e) = includes_both whole u (settles e) (includes_left u (ids_in (commits_in (e ∷ es))))
+        (λ i there. here i (settles_came_by e.fate (class_of e.bytes) e.bytes e.moment i there)) in
     λ i there. includes_both whole (u ++ settles e) (ids_in (commits_in es)) first later i (settled_came (u ++ settles e) es i there)
 
 pub handed_came : (es : List Event) → Includes (ids_in (commits_in es)) (handed_on empty_ledger es)

@@ -1,5 +1,6 @@
 -- Which ids are handed on and pending, event after event.
-use Rattle.std.proofs.Common.{◌≡◌, ◌⊎◌, inl, inr, ℕ, zero, suc, ◌+◌, ◌≤◌, Bool, true, false, if◌then◌else◌, List, [], ◌∷◌, ◌++◌, length, refl, sym, ap, subst, ◌∙◌, append_assoc, length-append, arith}
+use Rattle.std.proofs.Common.{◌≡◌, ◌⊎◌, inl, inr, ℕ, zero, suc, ◌+◌, ◌≤◌, Bool, true, false, if◌then◌else◌, List, [], ◌∷◌, ◌++◌, length, refl, sym, ap, subst}
+use Rattle.std.proofs.Common.{◌∙◌, append_assoc, length-append, arith}
 use Rattle.std.proofs.lemmas.List.{append-nil}
 use Rattle.fuse_request.specs.declared.class.Class.{Class}
 use Rattle.fuse_request.specs.declared.class.Class.TheVariants.{Silent, Bare, Kept}
@@ -16,7 +17,8 @@ use Rattle.fuse_sim.specs.HandedOn.{Ledger, empty_ledger, after_one, handed_by, 
 use Rattle.fuse_sim.specs.Running.{IsRun, settles_in}
 
 -- an event commits nothing and settles nothing, or it commits one message
-one_by : (fate : Fate) (class : Class) (e : Entry) (i : ℕ) → ((commits_by fate (entry_if class e) ≡ []) × (settles_if (is_taken fate) class i ≡ [])) ⊎ ((x : Entry) × (commits_by fate (entry_if class e) ≡ x ∷ []))
+one_by : (fate : Fate) (class : Class) (e : Entry) (i : ℕ) → ((commits_by fate (entry_if class e) ≡ []) × (settles_if (is_taken fate) class i ≡ []))
+    ⊎ ((x : Entry) × (commits_by fate (entry_if class e) ≡ x ∷ []))
 one_by Answered Silent e i = inl (refl, refl)
 one_by Answered (Bare errno) e i = inl (refl, refl)
 one_by Answered Kept e i = inr (e, refl)
@@ -40,10 +42,12 @@ pub record RunLedger (died : Bool) (l : Ledger) (es : List Event) (handed pendin
   pub crashed : died ≡ true → (ledger_after l es).room ≡ 0
   pub full : died ≡ false → length (commits_in es) ≡ n → (ledger_after l es).room ≡ 0
 
-stepped : (died : Bool) (l l' : Ledger) (e : Event) (es : List Event) (here handed pending : List ℕ) (n m : ℕ) → after_event l e ≡ l' → handed_at (commits e) l ≡ here → length (commits e) + m ≡ n
+stepped : (died : Bool) (l l' : Ledger) (e : Event) (es : List Event) (here handed pending : List ℕ) (n m : ℕ) → after_event l e ≡ l'
+    → handed_at (commits e) l ≡ here → length (commits e) + m ≡ n
     → RunLedger died l' es handed pending m → RunLedger died l (e ∷ es) (here ++ handed) pending n
 stepped died l l' e es here handed pending n m step hands count run = record {
-  handed_is = ap (λ (x : List ℕ). x ++ handed_on (after_event l e) es) hands ∙ ap (λ x. here ++ handed_on x es) step ∙ ap (λ (x : List ℕ). here ++ x) run.handed_is;
+  handed_is = ap (λ (x : List ℕ). x ++ handed_on (after_event l e) es) hands ∙ ap (λ x. here ++ handed_on x es) step
+      ∙ ap (λ (x : List ℕ). here ++ x) run.handed_is;
   pending_is = ap (λ x. (ledger_after x es).pending) step ∙ run.pending_is;
   crashed = λ is. ap (λ x. (ledger_after x es).room) step ∙ run.crashed is;
   full = λ is all. ap (λ x. (ledger_after x es).room) step ∙ run.full is (omega (arith, all, count, length-append (commits e) (commits_in es)));
@@ -68,7 +72,8 @@ count_none e n none = omega (arith, ap length none)
 count_one : (e : Event) (x : Entry) (n : ℕ) → commits e ≡ x ∷ [] → length (commits e) + n ≡ suc n
 count_one e x n one = omega (arith, ap length one)
 
-run_end : (died : Bool) (l : Ledger) (handed pending : List ℕ) (n : ℕ) → died ≡ false → handed ≡ [] → pending ≡ l.pending → (0 ≡ n → l.room ≡ 0) → RunLedger died l [] handed pending n
+run_end : (died : Bool) (l : Ledger) (handed pending : List ℕ) (n : ℕ) → died ≡ false → handed ≡ [] → pending ≡ l.pending → (0 ≡ n → l.room ≡ 0)
+    → RunLedger died l [] handed pending n
 run_end died l handed pending n is none same room = record {
   handed_is = sym none;
   pending_is = sym same ∙ ap (λ b. if b then [] else pending) (sym is);
@@ -76,7 +81,8 @@ run_end died l handed pending n is none same room = record {
   full = λ _ count. room count;
 }
 
-run_crash : (died : Bool) (l : Ledger) (e : Event) (es : List Event) (handed pending : List ℕ) (n : ℕ) → died ≡ true → e.fate ≡ DiedAfterCommit → es ≡ [] → handed_at (commits e) l ≡ handed → RunLedger died l (e ∷ es) handed pending n
+run_crash : (died : Bool) (l : Ledger) (e : Event) (es : List Event) (handed pending : List ℕ) (n : ℕ) → died ≡ true → e.fate ≡ DiedAfterCommit → es ≡ []
+    → handed_at (commits e) l ≡ handed → RunLedger died l (e ∷ es) handed pending n
 run_crash died l e es handed pending n is fate end hands =
     let step : ledger_after l (e ∷ es) ≡ empty_ledger = ap (ledger_after (after_event l e)) end ∙ crash_step l e fate in
     record {
@@ -102,7 +108,8 @@ has_room e es zero p x one few = absurd (too_many e es x one few)
 has_room e es (suc room) p x one few = refl
 
 room_none : (died : Bool) (e : Event) (es : List Event) (room : ℕ) (p : List ℕ) → Calm e → commits e ≡ [] → settles e ≡ []
-    → RunLedger died (record { room = room; pending = p }) es [] (p ++ settles_in es) room → RunLedger died (record { room = room; pending = p }) (e ∷ es) [] (p ++ settles_in (e ∷ es)) room
+    → RunLedger died (record { room = room; pending = p }) es [] (p ++ settles_in es) room
+        → RunLedger died (record { room = room; pending = p }) (e ∷ es) [] (p ++ settles_in (e ∷ es)) room
 room_none died e es room p calm none settled more =
     let l : Ledger = record { room = room; pending = p } in
     subst (λ (x : List ℕ). RunLedger died l (e ∷ es) [] (p ++ (x ++ settles_in es)) room) (sym settled)
@@ -115,10 +122,12 @@ room_one died e es zero p x calm one few more = absurd (too_many e es x one few)
 room_one died e es (suc room) p x calm one few more =
     let l : Ledger = record { room = suc room; pending = p } in
     subst (λ (q : List ℕ). RunLedger died l (e ∷ es) [] q (suc room)) (append_assoc p (settles e) (settles_in es))
-    (stepped died l (record { room = room; pending = p ++ settles e }) e es [] [] ((p ++ settles e) ++ settles_in es) (suc room) room (one_step l e x calm one) (ap (λ cs. handed_at cs l) one) (count_one e x room one)
+    (stepped died l (record { room = room; pending = p ++ settles e }) e es [] [] ((p ++ settles e) ++ settles_in es) (suc room) room (one_step l e x calm one)
+        (ap (λ cs. handed_at cs l) one) (count_one e x room one)
     (more room (p ++ settles e) (fewer e es x room one few)))
 
-run_room : (died : Bool) (es : List Event) (room : ℕ) (p : List ℕ) → IsRun died es → length (commits_in es) ≤ room → RunLedger died (record { room = room; pending = p }) es [] (p ++ settles_in es) room
+run_room : (died : Bool) (es : List Event) (room : ℕ) (p : List ℕ) → IsRun died es → length (commits_in es) ≤ room
+    → RunLedger died (record { room = room; pending = p }) es [] (p ++ settles_in es) room
 run_room died [] room p so few = run_end died (record { room = room; pending = p }) [] (p ++ []) room so refl (append-nil p) (λ is. sym is)
 run_room died (e ∷ es) room p so few = elim so [
   | inl more ↦ elim (commits_one e) [
@@ -137,21 +146,27 @@ run_room died (e ∷ es) room p so few = elim so [
 
 begin_none : (died : Bool) (e : Event) (es : List Event) (p : List ℕ) → Calm e → commits e ≡ [] → settles e ≡ []
     → RunLedger died (record { room = 0; pending = p }) es (handed_to (commits_in es) p) (left_pending (commits_in es) p ++ settles_in es) 16
-    → RunLedger died (record { room = 0; pending = p }) (e ∷ es) (handed_to (commits_in (e ∷ es)) p) (left_pending (commits_in (e ∷ es)) p ++ settles_in (e ∷ es)) 16
+    → RunLedger died (record { room = 0; pending = p }) (e ∷ es) (handed_to (commits_in (e ∷ es)) p) (left_pending (commits_in (e ∷ es)) p
+        ++ settles_in (e ∷ es)) 16
 begin_none died e es p calm none settled more =
     let l : Ledger = record { room = 0; pending = p } in
-    subst (λ (cs : List Entry). RunLedger died l (e ∷ es) (handed_to (cs ++ commits_in es) p) (left_pending (cs ++ commits_in es) p ++ settles_in (e ∷ es)) 16) (sym none)
+    subst (λ (cs : List Entry). RunLedger died l (e ∷ es) (handed_to (cs ++ commits_in es) p) (left_pending (cs ++ commits_in es) p ++ settles_in (e ∷ es)) 16)
+        (sym none)
     (subst (λ (x : List ℕ). RunLedger died l (e ∷ es) (handed_to (commits_in es) p) (left_pending (commits_in es) p ++ (x ++ settles_in es)) 16) (sym settled)
-    (stepped died l l e es [] (handed_to (commits_in es) p) (left_pending (commits_in es) p ++ settles_in es) 16 16 (none_step l e calm none) (ap (λ cs. handed_at cs l) none) (count_none e 16 none) more))
+    (stepped died l l e es [] (handed_to (commits_in es) p) (left_pending (commits_in es) p ++ settles_in es) 16 16 (none_step l e calm none)
+        (ap (λ cs. handed_at cs l) none) (count_none e 16 none) more))
 
 begin_one : (died : Bool) (e : Event) (es : List Event) (p : List ℕ) (x : Entry) → Calm e → commits e ≡ x ∷ []
     → RunLedger died (record { room = 15; pending = settles e }) es [] (settles e ++ settles_in es) 15
-    → RunLedger died (record { room = 0; pending = p }) (e ∷ es) (handed_to (commits_in (e ∷ es)) p) (left_pending (commits_in (e ∷ es)) p ++ settles_in (e ∷ es)) 16
+    → RunLedger died (record { room = 0; pending = p }) (e ∷ es) (handed_to (commits_in (e ∷ es)) p) (left_pending (commits_in (e ∷ es)) p
+        ++ settles_in (e ∷ es)) 16
 begin_one died e es p x calm one more =
     let l : Ledger = record { room = 0; pending = p } in
-    subst (λ (cs : List Entry). RunLedger died l (e ∷ es) (handed_to (cs ++ commits_in es) p) (left_pending (cs ++ commits_in es) p ++ settles_in (e ∷ es)) 16) (sym one)
+    subst (λ (cs : List Entry). RunLedger died l (e ∷ es) (handed_to (cs ++ commits_in es) p) (left_pending (cs ++ commits_in es) p ++ settles_in (e ∷ es)) 16)
+        (sym one)
     (subst (λ (q : List ℕ). RunLedger died l (e ∷ es) q (settles e ++ settles_in es) 16) (append-nil p)
-    (stepped died l (record { room = 15; pending = settles e }) e es p [] (settles e ++ settles_in es) 16 15 (one_step l e x calm one) (ap (λ cs. handed_at cs l) one) (count_one e x 15 one) more))
+    (stepped died l (record { room = 15; pending = settles e }) e es p [] (settles e ++ settles_in es) 16 15 (one_step l e x calm one)
+        (ap (λ cs. handed_at cs l) one) (count_one e x 15 one) more))
 
 begin_hands : (e : Event) (p : List ℕ) → handed_at (commits e) (record { room = 0; pending = p }) ≡ handed_to (commits_in (e ∷ [])) p
 begin_hands e p = elim (commits_one e) [
@@ -167,7 +182,8 @@ run_begins died (e ∷ es) p so few = elim so [
     | inl none ↦ begin_none died e es p more.0 none.0 none.1 (run_begins died es p more.1 (fewer_too e es 16 few))
     | inr one ↦ begin_one died e es p one.0 more.0 one.1 (run_room died es 15 (settles e) more.1 (fewer e es one.0 15 one.1 few))
   ]
-  | inr last ↦ run_crash died (record { room = 0; pending = p }) e es (handed_to (commits_in (e ∷ es)) p) (left_pending (commits_in (e ∷ es)) p ++ settles_in (e ∷ es)) 16 last.0 last.1 last.2
+  | inr last ↦ run_crash died (record { room = 0; pending = p }) e es (handed_to (commits_in (e ∷ es)) p) (left_pending (commits_in (e ∷ es)) p
+      ++ settles_in (e ∷ es)) 16 last.0 last.1 last.2
       (begin_hands e p ∙ ap (λ x. handed_to (commits_in (e ∷ x)) p) (sym last.2))
 ]
 
@@ -189,12 +205,14 @@ settles_fewer_by DiedAfterCommit Kept e i = omega arith
 
 settles_fewer : (es : List Event) → length (settles_in es) ≤ length (commits_in es)
 settles_fewer [] = omega arith
-settles_fewer (e ∷ es) = omega (arith, settles_fewer es, settles_fewer_by e.fate (class_of e.bytes) (message_entry e.bytes e.moment) (message_id e.bytes), length-append (settles e) (settles_in es), length-append (commits e) (commits_in es))
+settles_fewer (e ∷ es) = omega (arith, settles_fewer es, settles_fewer_by e.fate (class_of e.bytes) (message_entry e.bytes e.moment)
+    (message_id e.bytes), length-append (settles e) (settles_in es), length-append (commits e) (commits_in es))
 
 few_by : (cs : List Entry) (p settled : List ℕ) (n : ℕ) → length p ≤ n → length cs ≤ n → length settled ≤ length cs → length (left_pending cs p ++ settled) ≤ n
 few_by [] p settled n few many within = omega (arith, few, within, length-append p settled)
 few_by (x ∷ cs) p settled n few many within = omega (arith, many, within)
 
 -- no more than 16 are pending after a group
-pub few_pending : (es : List Event) (p : List ℕ) (n : ℕ) → length p ≤ n → length (commits_in es) ≤ n → length (left_pending (commits_in es) p ++ settles_in es) ≤ n
+pub few_pending : (es : List Event) (p : List ℕ) (n : ℕ) → length p ≤ n → length (commits_in es) ≤ n
+    → length (left_pending (commits_in es) p ++ settles_in es) ≤ n
 few_pending es p n few many = few_by (commits_in es) p (settles_in es) n few many (settles_fewer es)

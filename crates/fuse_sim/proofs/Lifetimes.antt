@@ -1,5 +1,6 @@
 -- Lives, one after another, and how a run of a server is one.
-use Rattle.std.proofs.Common.{◌≡◌, ◌⊎◌, inl, inr, ℕ, Bool, true, false, ◌==◌, ◌||◌, if◌then◌else◌, List, [], ◌∷◌, ◌++◌, refl, sym, ap, subst, ◌∙◌, append_assoc, arith}
+use Rattle.std.proofs.Common.{◌≡◌, ◌⊎◌, inl, inr, ℕ, Bool, true, false, ◌==◌, ◌||◌, if◌then◌else◌, List, [], ◌∷◌, ◌++◌, refl, sym, ap, subst, ◌∙◌, append_assoc}
+use Rattle.std.proofs.Common.{arith}
 use Rattle.std.proofs.lemmas.List.{map-append}
 use Rattle.std.proofs.lemmas.List.Concat.{flat_map-append}
 use Rattle.std.specs.Io.KnownBytes.{Consumes}
@@ -13,7 +14,8 @@ use Rattle.fuse_keeper.specs.History.{Entry, entry_id, History, has, Distinct, a
 use Rattle.fuse_session.specs.Port.{PortState}
 use Rattle.fuse_session.specs.Serving.{Lived}
 use Rattle.fuse_session.specs.Settling.{Mark, replies, settled_in, Replied}
-use Rattle.fuse_session.specs.Worked.{Timed, bytes_of, kept_in, entries_at, entry_if, timed_entry, message_id, unique_of, answered, answers, answer_by, out, moment_if, moments_in, GaveFirst}
+use Rattle.fuse_session.specs.Worked.{Timed, bytes_of, kept_in, entries_at, entry_if, timed_entry, message_id, unique_of, answered, answers, answer_by, out}
+use Rattle.fuse_session.specs.Worked.{moment_if, moments_in, GaveFirst}
 use Rattle.fuse_sim.specs.Lives.{Lifetime, AreLives, after_lives, all_worked, AllSend, RanAsLife}
 
 tested : (b : Bool) → (b ≡ true) ⊎ (b ≡ false)
@@ -86,7 +88,8 @@ once_each ls = subst Distinct (sym (in_a_row ls)) (Distinct-grown [] (kept_in (a
 
 -- ---- later requests change no answer
 
-kept_there : (M : Model) → HistoriesGrow M → (h : History) (t : Timed) (class : Class) → class ≡ Kept → has (grown h (entry_if class (timed_entry t))) (message_id t.bytes) ≡ true
+kept_there : (M : Model) → HistoriesGrow M → (h : History) (t : Timed) (class : Class) → class ≡ Kept
+    → has (grown h (entry_if class (timed_entry t))) (message_id t.bytes) ≡ true
 kept_there M grows h t Silent kept = absurd (cc kept)
 kept_there M grows h t (Bare errno) kept = absurd (cc kept)
 kept_there M grows h t Kept kept = grows.added h (timed_entry t)
@@ -97,15 +100,19 @@ answer_stays M grows s g es id unique Silent there = refl
 answer_stays M grows s g es id unique (Bare errno) there = refl
 answer_stays M grows s g es id unique Kept there = ap (λ o. answer_by Kept o unique) (grows.stays s g es id (there refl))
 
-answered_stays : (M : Model) → HistoriesGrow M → (s : M.State) (h : History) (t : Timed) (es : List Entry) → answered M s (grown (grown h (entries_at t)) es) t ≡ answered M s (grown h (entries_at t)) t
-answered_stays M grows s h t es = answer_stays M grows s (grown h (entries_at t)) es (message_id t.bytes) (unique_of t.bytes) (class_of t.bytes) (kept_there M grows h t (class_of t.bytes))
+answered_stays : (M : Model) → HistoriesGrow M → (s : M.State) (h : History) (t : Timed) (es : List Entry)
+    → answered M s (grown (grown h (entries_at t)) es) t ≡ answered M s (grown h (entries_at t)) t
+answered_stays M grows s h t es = answer_stays M grows s (grown h (entries_at t)) es (message_id t.bytes) (unique_of t.bytes) (class_of t.bytes)
+    (kept_there M grows h t (class_of t.bytes))
 
 -- what is answered where two histories agree on what follows each message
-answers_stay : (M : Model) → HistoriesGrow M → (s : M.State) (h : History) (ts : List Timed) (es ds : List Entry) → answers M s (grown (grown h (kept_in ts)) es) ts ≡ answers M s (grown (grown h (kept_in ts)) ds) ts
+answers_stay : (M : Model) → HistoriesGrow M → (s : M.State) (h : History) (ts : List Timed) (es ds : List Entry)
+    → answers M s (grown (grown h (kept_in ts)) es) ts ≡ answers M s (grown (grown h (kept_in ts)) ds) ts
 answers_stay M grows s h [] es ds = refl
 answers_stay M grows s h (t ∷ ts) es ds =
     let g = grown h (entries_at t) in
-    let place : (xs : List Entry) → grown (grown h (kept_in (t ∷ ts))) xs ≡ grown (grown g (kept_in ts)) xs = λ xs. ap (λ x. grown x xs) (grown-append h (entries_at t) (kept_in ts)) in
+    let place : (xs : List Entry) → grown (grown h (kept_in (t ∷ ts))) xs ≡ grown (grown g (kept_in ts)) xs =
+        λ xs. ap (λ x. grown x xs) (grown-append h (entries_at t) (kept_in ts)) in
     let first : (xs : List Entry) → answered M s (grown (grown g (kept_in ts)) xs) t ≡ answered M s g t =
     λ xs. ap (λ x. answered M s x t) (sym (grown-append g (kept_in ts) xs)) ∙ answered_stays M grows s h t (kept_in ts ++ xs) in
     ap (λ x. answered M s x t ∷ answers M s x ts) (place es)
@@ -132,13 +139,16 @@ all_send M grows s ls lives = sends_by M grows s [] ls lives
 moments-append : (xs ys : List Timed) → moments_in (xs ++ ys) ≡ moments_in xs ++ moments_in ys
 moments-append [] ys = refl
 moments-append (x ∷ xs) ys =
-    ap (λ (r : List Moment). moment_if (class_of x.bytes) x.moment ++ r) (moments-append xs ys) ∙ sym (append_assoc (moment_if (class_of x.bytes) x.moment) (moments_in xs) (moments_in ys))
+    ap (λ (r : List Moment). moment_if (class_of x.bytes) x.moment ++ r) (moments-append xs ys)
+        ∙ sym (append_assoc (moment_if (class_of x.bytes) x.moment) (moments_in xs) (moments_in ys))
 
 gave_front : (gave : List Moment → Type 0) (xs ys : List Timed) → GaveFirst gave (xs ++ ys) → GaveFirst gave xs
 gave_front gave xs ys given =
-    (moments_in ys ++ given.0, subst gave (ap (λ (r : List Moment). r ++ given.0) (moments-append xs ys) ∙ append_assoc (moments_in xs) (moments_in ys) given.0) given.1)
+    (moments_in ys ++ given.0, subst gave (ap (λ (r : List Moment). r ++ given.0) (moments-append xs ys) ∙ append_assoc (moments_in xs) (moments_in ys) given.0)
+        given.1)
 
-pub run_lived : (M : Model) → (stood : History → List ℕ → Type 0) (gave : List Moment → Type 0) (s : M.State) (h : History) (t : List ℕ) (old new : PortState) (received : List ℕ) (timed : List Timed) (others : List (List ℕ)) (marks : List Mark) (part : List ℕ)
+pub run_lived : (M : Model) → (stood : History → List ℕ → Type 0) (gave : List Moment → Type 0) (s : M.State) (h : History) (t : List ℕ) (old new : PortState)
+    (received : List ℕ) (timed : List Timed) (others : List (List ℕ)) (marks : List Mark) (part : List ℕ)
     → Consumes old.coming new.coming received → (cut received).0 ≡ bytes_of timed ++ others → GaveFirst gave timed → Replied old new marks part
     → Lived M stood s h old.confirms t timed marks part → RanAsLife M stood gave s h t old new
 run_lived M stood gave s h t old new received timed others marks part came front moments replied l =
@@ -146,7 +156,8 @@ run_lived M stood gave s h t old new received timed others marks part came front
     let parts : bytes_of timed ++ others ≡ bytes_of l.worked ++ (bytes_of l.unworked ++ others) =
     ap (λ (x : List Timed). bytes_of x ++ others) l.parts ∙ ap (λ (x : List (List ℕ)). x ++ others) (map-append (λ (x : Timed). x.bytes) l.worked l.unworked)
     ∙ append_assoc (bytes_of l.worked) (bytes_of l.unworked) others in
-    let split : out M s h l.worked ≡ joined (replies marks) ++ joined l.later = ap joined l.sent ∙ flat_map-append (λ (m : List ℕ). m) (replies marks) l.later in
+    let split : out M s h l.worked ≡ joined (replies marks) ++ joined l.later =
+        ap joined l.sent ∙ flat_map-append (λ (m : List ℕ). m) (replies marks) l.later in
     let begun : joined (replies marks) ++ joined l.later ≡ sent ++ l.unsent =
     ap (λ (x : List ℕ). joined (replies marks) ++ x) l.begun ∙ sym (append_assoc (joined (replies marks)) part l.unsent) in
     record {

@@ -1,5 +1,6 @@
 -- Outcomes, one event after another.
-use Rattle.std.proofs.Common.{◌≡◌, ℕ, suc, ◌+◌, ◌≤◌, ◌<◌, Bool, true, false, List, [], ◌∷◌, ◌++◌, length, map, drop, get_or, Option, Some, refl, sym, ap, subst, ◌∙◌, append_assoc, length-append, drop-cons, arith}
+use Rattle.std.proofs.Common.{◌≡◌, ℕ, suc, ◌+◌, ◌≤◌, ◌<◌, Bool, true, false, List, [], ◌∷◌, ◌++◌, length, map, drop, get_or, Option, Some, refl, sym, ap, subst}
+use Rattle.std.proofs.Common.{◌∙◌, append_assoc, length-append, drop-cons, arith}
 use Rattle.std.proofs.lemmas.List.{append-nil, map-append, length-map}
 use Rattle.fuse_wire.specs.declared.id.Id.{Id}
 use Rattle.fuse_answer.specs.Said.{Said}
@@ -18,7 +19,8 @@ use Rattle.fuse_sim.specs.Driving.{bytes_given, settles, is_taken}
 use Rattle.fuse_sim.specs.Running.{answers_in, head_outcome, outcomes_by, HasAnswers, settles_in, Adds}
 
 -- a head and the body that it announces
-pub whole_answer : (a : Said) (unique : ℕ) (head body : List ℕ) → head ≡ wire_head a.errno (length a.body) unique → body ≡ a.body → Some (head ++ body) ≡ Some (wire a.errno a.body unique)
+pub whole_answer : (a : Said) (unique : ℕ) (head body : List ℕ) → head ≡ wire_head a.errno (length a.body) unique → body ≡ a.body
+    → Some (head ++ body) ≡ Some (wire a.errno a.body unique)
 unfolding wire
 whole_answer a unique head body is same = ap Some (ap (λ h. h ++ body) is ∙ ap (λ (b : List ℕ). wire_head a.errno (length a.body) unique ++ b) same)
 
@@ -36,8 +38,10 @@ pub record AddsFirst (old new : List (Option Outcome)) (others whole : List (Opt
 pub adds_none : (old new : List (Option Outcome)) (whole : List (Option (List ℕ))) → new ≡ old → AddsFirst old new whole whole
 adds_none old new whole is = record { added = []; items = is ∙ sym (append-nil old); are = refl }
 
-pub adds_one : (old new new' : List (Option Outcome)) (one : Option Outcome) (run : List Event) (i : ℕ) (e : Event) (answers answers' : List Said) (whole : List (Option (List ℕ))) → i < length run → e ≡ get_or run i e
-    → AddsFirst old new (outcomes_by (drop i run) answers) whole → bytes_given one ≡ head_outcome e answers → answers' ≡ left_by (class_of e.bytes) answers → new' ≡ new ++ one ∷ []
+pub adds_one : (old new new' : List (Option Outcome)) (one : Option Outcome) (run : List Event) (i : ℕ) (e : Event) (answers answers' : List Said)
+    (whole : List (Option (List ℕ))) → i < length run → e ≡ get_or run i e
+    → AddsFirst old new (outcomes_by (drop i run) answers) whole → bytes_given one ≡ head_outcome e answers → answers' ≡ left_by (class_of e.bytes) answers
+        → new' ≡ new ++ one ∷ []
     → AddsFirst old new' (outcomes_by (drop (i + 1) run) answers') whole
 adds_one old new new' one run i e answers answers' whole lt at so_far is left pushed =
     let parts : drop i run ≡ e ∷ drop (suc i) run = drop-cons run i e lt ∙ ap (λ x. x ∷ drop (suc i) run) (sym at) in
@@ -54,7 +58,8 @@ adds_one old new new' one run i e answers answers' whole lt at so_far is left pu
           ∙ so_far.are;
     }
 
-pub adds_all : (old new : List (Option Outcome)) (run : List Event) (i : ℕ) (answers : List Said) (whole : List (Option (List ℕ))) → drop i run ≡ [] → AddsFirst old new (outcomes_by (drop i run) answers) whole → Adds old new whole
+pub adds_all : (old new : List (Option Outcome)) (run : List Event) (i : ℕ) (answers : List Said) (whole : List (Option (List ℕ))) → drop i run ≡ []
+    → AddsFirst old new (outcomes_by (drop i run) answers) whole → Adds old new whole
 adds_all old new run i answers whole end so_far = record {
   added = so_far.added;
   items = so_far.items;
@@ -62,23 +67,27 @@ adds_all old new run i answers whole end so_far = record {
 }
 
 -- the ids that the events settle
-pub settled_one : (new new' whole : List ℕ) (run : List Event) (i : ℕ) (e : Event) → i < length run → e ≡ get_or run i e → new ++ settles_in (drop i run) ≡ whole → new' ≡ new ++ settles e → new' ++ settles_in (drop (i + 1) run) ≡ whole
+pub settled_one : (new new' whole : List ℕ) (run : List Event) (i : ℕ) (e : Event) → i < length run → e ≡ get_or run i e
+    → new ++ settles_in (drop i run) ≡ whole → new' ≡ new ++ settles e → new' ++ settles_in (drop (i + 1) run) ≡ whole
 settled_one new new' whole run i e lt at so_far is =
     let parts : drop i run ≡ e ∷ drop (suc i) run = drop-cons run i e lt ∙ ap (λ x. x ∷ drop (suc i) run) (sym at) in
     let next : drop (i + 1) run ≡ drop (suc i) run = next_place run i in
-    ap (λ (n : List ℕ). n ++ settles_in (drop (i + 1) run)) is ∙ append_assoc new (settles e) (settles_in (drop (i + 1) run)) ∙ ap (λ (r : List Event). new ++ (settles e ++ settles_in r)) next ∙ ap (λ (r : List Event). new ++ settles_in r) (sym parts) ∙ so_far
+    ap (λ (n : List ℕ). n ++ settles_in (drop (i + 1) run)) is ∙ append_assoc new (settles e) (settles_in (drop (i + 1) run))
+        ∙ ap (λ (r : List Event). new ++ (settles e ++ settles_in r)) next ∙ ap (λ (r : List Event). new ++ settles_in r) (sym parts) ∙ so_far
 
 pub settled_all : (new whole : List ℕ) (run : List Event) (i : ℕ) → drop i run ≡ [] → new ++ settles_in (drop i run) ≡ whole → new ≡ whole
 settled_all new whole run i end so_far = sym (append-nil new) ∙ ap (λ r. new ++ settles_in r) (sym end) ∙ so_far
 
 -- the answers that are left are enough
-pub answers_here : (run : List Event) (i : ℕ) (e : Event) (answers : List Said) → i < length run → e ≡ get_or run i e → HasAnswers (drop i run) answers → HasAnswers (e ∷ drop (i + 1) run) answers
+pub answers_here : (run : List Event) (i : ℕ) (e : Event) (answers : List Said) → i < length run → e ≡ get_or run i e → HasAnswers (drop i run) answers
+    → HasAnswers (e ∷ drop (i + 1) run) answers
 answers_here run i e answers lt at has =
     let parts : drop i run ≡ e ∷ drop (suc i) run = drop-cons run i e lt ∙ ap (λ x. x ∷ drop (suc i) run) (sym at) in
     let next : drop (suc i) run ≡ drop (i + 1) run = sym (next_place run i) in
     subst (λ r. HasAnswers r answers) (parts ∙ ap (λ r. e ∷ r) next) has
 
-fewer_by : (taken : Bool) (class : Class) (id : ℕ) (answers : List Said) → (class ≡ Kept → 0 < length answers) → length (settles_if taken class id) + length (left_by class answers) ≤ length answers
+fewer_by : (taken : Bool) (class : Class) (id : ℕ) (answers : List Said) → (class ≡ Kept → 0 < length answers)
+    → length (settles_if taken class id) + length (left_by class answers) ≤ length answers
 fewer_by true Silent id answers has = omega arith
 fewer_by true (Bare errno) id answers has = omega arith
 fewer_by true Kept id [] has = has refl
@@ -89,7 +98,8 @@ fewer_by false Kept id [] has = omega arith
 fewer_by false Kept id (a ∷ answers) has = omega arith
 
 -- an id takes the place of its answer
-pub places_left : (e : Event) (pending pending' : List Id) (answers answers' : List Done) (n : ℕ) → (class_of e.bytes ≡ Kept → 0 < length (answers_in answers)) → answers_in answers' ≡ left_by (class_of e.bytes) (answers_in answers)
+pub places_left : (e : Event) (pending pending' : List Id) (answers answers' : List Done) (n : ℕ) → (class_of e.bytes ≡ Kept → 0 < length (answers_in answers))
+    → answers_in answers' ≡ left_by (class_of e.bytes) (answers_in answers)
     → ids_of pending' ≡ ids_of pending ++ settles e → length pending + length answers ≤ n → length pending' + length answers' ≤ n
 places_left e pending pending' answers answers' n has left is few =
     omega (

@@ -1,5 +1,6 @@
 -- Which records go, and how the ledgers say it.
-use Rattle.std.proofs.Common.{◌≡◌, ◌⊎◌, inl, inr, ℕ, zero, suc, ◌≤◌, ◌<◌, ◌==◌, Bool, true, false, if◌then◌else◌, List, [], ◌∷◌, ◌++◌, length, All, refl, sym, ap, ◌∙◌, length-append, arith}
+use Rattle.std.proofs.Common.{◌≡◌, ◌⊎◌, inl, inr, ℕ, zero, suc, ◌≤◌, ◌<◌, ◌==◌, Bool, true, false, if◌then◌else◌, List, [], ◌∷◌, ◌++◌, length, All, refl, sym}
+use Rattle.std.proofs.Common.{ap, ◌∙◌, length-append, arith}
 use Rattle.std.proofs.lemmas.List.Elements.{All-nil, All-cons}
 use Rattle.fuse_request.specs.declared.class.Class.{Class}
 use Rattle.fuse_request.specs.declared.class.Class.TheVariants.{Silent, Bare, Kept}
@@ -59,7 +60,8 @@ room_crash false l few = few
 
 room_after : (l : Ledger) (es : List Event) → l.room ≤ 15 → (ledger_after l es).room ≤ 15
 room_after l [] few = few
-room_after l (e ∷ es) few = room_after (after_event l e) es (room_crash (dies e.fate) (after_commit (commits e) l (settles e)) (room_commit (commits e) l (settles e) few))
+room_after l (e ∷ es) few = room_after (after_event l e) es (room_crash (dies e.fate) (after_commit (commits e) l (settles e))
+    (room_commit (commits e) l (settles e) few))
 
 too_few : (e : Event) (es : List Event) (room : ℕ) → commits e ≡ [] → room < length (commits_in (e ∷ es)) → room < length (commits_in es)
 too_few e es room none many = omega (arith, many, ap length none, length-append (commits e) (commits_in es))
@@ -70,13 +72,15 @@ one_fewer e es x room one many = omega (arith, many, ap length one, length-appen
 none_behind : (room : ℕ) → room < length (commits_in []) → ⊥
 none_behind room many = omega (arith, many)
 
-last_one : (e : Event) (es : List Event) (x : Entry) (room : ℕ) (p : List ℕ) (i : ℕ) → commits e ≡ x ∷ [] → is_in p i ≡ true → room < length (commits_in (e ∷ [])) → is_in (handed_on (record { room = room; pending = p }) (e ∷ es)) i ≡ true
+last_one : (e : Event) (es : List Event) (x : Entry) (room : ℕ) (p : List ℕ) (i : ℕ) → commits e ≡ x ∷ [] → is_in p i ≡ true
+    → room < length (commits_in (e ∷ [])) → is_in (handed_on (record { room = room; pending = p }) (e ∷ es)) i ≡ true
 last_one e es x zero p i one there many =
     let l : Ledger = record { room = 0; pending = p } in
     includes_left (handed_at (commits e) l) (handed_on (after_event l e) es) i (ap (λ cs. is_in (handed_at cs l) i) one ∙ there)
 last_one e es x (suc room) p i one there many = absurd (let more = one_fewer e [] x room one many in omega (arith, more))
 
-then_one : (e : Event) (es front : List Event) (x : Entry) (room : ℕ) (p : List ℕ) (i : ℕ) → Calm e → commits e ≡ x ∷ [] → is_in p i ≡ true → room < length (commits_in (e ∷ front))
+then_one : (e : Event) (es front : List Event) (x : Entry) (room : ℕ) (p : List ℕ) (i : ℕ) → Calm e → commits e ≡ x ∷ [] → is_in p i ≡ true
+    → room < length (commits_in (e ∷ front))
     → ((r : ℕ) (q : List ℕ) → is_in q i ≡ true → r < length (commits_in front) → is_in (handed_on (record { room = r; pending = q }) es) i ≡ true)
     → is_in (handed_on (record { room = room; pending = p }) (e ∷ es)) i ≡ true
 then_one e es front x zero p i calm one there many more =
@@ -85,13 +89,17 @@ then_one e es front x zero p i calm one there many more =
 then_one e es front x (suc room) p i calm one there many more =
     let l : Ledger = record { room = suc room; pending = p } in
     includes_right (handed_at (commits e) l) (handed_on (after_event l e) es) i
-    (ap (λ k. is_in (handed_on k es) i) (one_step l e x calm one) ∙ more room (p ++ settles e) (includes_left p (settles e) i there) (one_fewer e front x room one many))
+    (ap (λ k. is_in (handed_on k es) i) (one_step l e x calm one) ∙ more room (p ++ settles e) (includes_left p (settles e) i there)
+        (one_fewer e front x room one many))
 
-then_none : (e : Event) (es : List Event) (l : Ledger) (i : ℕ) → Calm e → commits e ≡ [] → is_in (handed_on l es) i ≡ true → is_in (handed_on l (e ∷ es)) i ≡ true
-then_none e es l i calm none there = includes_right (handed_at (commits e) l) (handed_on (after_event l e) es) i (ap (λ k. is_in (handed_on k es) i) (none_step l e calm none) ∙ there)
+then_none : (e : Event) (es : List Event) (l : Ledger) (i : ℕ) → Calm e → commits e ≡ [] → is_in (handed_on l es) i ≡ true
+    → is_in (handed_on l (e ∷ es)) i ≡ true
+then_none e es l i calm none there = includes_right (handed_at (commits e) l) (handed_on (after_event l e) es) i
+    (ap (λ k. is_in (handed_on k es) i) (none_step l e calm none) ∙ there)
 
 -- what is pending is handed on once more requests are committed than the group has room for
-handed_then : (between : List Event) (last : Event) (later : List Event) (room : ℕ) (p : List ℕ) (i : ℕ) → All Calm between → is_in p i ≡ true → room < length (commits_in (between ++ last ∷ []))
+handed_then : (between : List Event) (last : Event) (later : List Event) (room : ℕ) (p : List ℕ) (i : ℕ) → All Calm between → is_in p i ≡ true
+    → room < length (commits_in (between ++ last ∷ []))
     → is_in (handed_on (record { room = room; pending = p }) (between ++ last ∷ later)) i ≡ true
 handed_then [] last later room p i calm there many = elim (commits_one last) [
   | inl none ↦ absurd (none_behind room (too_few last [] room none.0 many))
@@ -101,15 +109,18 @@ handed_then (e ∷ between) last later room p i calm there many =
     let first : Calm e = calm 0 e (omega arith) in
     let others : All Calm between = λ k d lt. calm (suc k) d (omega (arith, lt)) in
     elim (commits_one e) [
-      | inl none ↦ then_none e (between ++ last ∷ later) (record { room = room; pending = p }) i first none.0 (handed_then between last later room p i others there (too_few e (between ++ last ∷ []) room none.0 many))
-      | inr one ↦ then_one e (between ++ last ∷ later) (between ++ last ∷ []) one.0 room p i first one.1 there many (λ r q has enough. handed_then between last later r q i others has enough)
+      | inl none ↦ then_none e (between ++ last ∷ later) (record { room = room; pending = p }) i first none.0
+          (handed_then between last later room p i others there (too_few e (between ++ last ∷ []) room none.0 many))
+      | inr one ↦ then_one e (between ++ last ∷ later) (between ++ last ∷ []) one.0 room p i first one.1 there many
+          (λ r q has enough. handed_then between last later r q i others has enough)
     ]
 
 pending_one : (room : ℕ) (p : List ℕ) (i : ℕ) → is_in (after_one room p (i ∷ [])).pending i ≡ true
 pending_one zero p i = one_in i
 pending_one (suc room) p i = includes_right p (i ∷ []) i (one_in i)
 
-handed_soon : (l : Ledger) (one : Event) (later : List Event) (i : ℕ) → l.room ≤ 15 → settles one ≡ i ∷ [] → Follow 16 later → is_in (handed_on l (one ∷ later)) i ≡ true
+handed_soon : (l : Ledger) (one : Event) (later : List Event) (i : ℕ) → l.room ≤ 15 → settles one ≡ i ∷ [] → Follow 16 later
+    → is_in (handed_on l (one ∷ later)) i ≡ true
 handed_soon l one later i few settled follow = elim (commits_one one) [
   | inl none ↦ absurd (let isnt = sym settled ∙ none.1 in cc isnt)
   | inr x ↦
@@ -128,7 +139,8 @@ behind_handed es i behind =
     let l = ledger_after empty_ledger behind.earlier in
     let few : l.room ≤ 15 = room_after empty_ledger behind.earlier (omega arith) in
     ap (λ x. is_in (handed_on empty_ledger x) i) behind.parts ∙ ap (λ x. is_in x i) (handed-append empty_ledger behind.earlier (behind.one ∷ behind.later))
-    ∙ includes_right (handed_on empty_ledger behind.earlier) (handed_on l (behind.one ∷ behind.later)) i (handed_soon l behind.one behind.later i few behind.settled behind.follow)
+    ∙ includes_right (handed_on empty_ledger behind.earlier) (handed_on l (behind.one ∷ behind.later)) i
+        (handed_soon l behind.one behind.later i few behind.settled behind.follow)
 
 -- ---- none is handed on before the first that is committed behind it
 
@@ -154,10 +166,12 @@ follow_more e es calm follow = record {
 }
 
 follow_here : (e : Event) (es : List Event) (x : Entry) → commits e ≡ x ∷ [] → Follow 1 (e ∷ es)
-follow_here e es x one = record { between = []; last = e; later = es; parts = refl; calm = All-nil Calm; many = omega (arith, ap length one, length-append (commits e) []) }
+follow_here e es x one = record { between = []; last = e; later = es; parts = refl; calm = All-nil Calm; many =
+    omega (arith, ap length one, length-append (commits e) []) }
 
 behind_more : (e : Event) (es : List Event) (i : ℕ) → Behind 1 es i → Behind 1 (e ∷ es) i
-behind_more e es i behind = record { earlier = e ∷ behind.earlier; one = behind.one; later = behind.later; parts = ap (λ (x : List Event). e ∷ x) behind.parts; settled = behind.settled; follow = behind.follow }
+behind_more e es i behind = record { earlier = e ∷ behind.earlier; one = behind.one; later = behind.later; parts = ap (λ (x : List Event). e ∷ x) behind.parts;
+    settled = behind.settled; follow = behind.follow }
 
 behind_here : (e : Event) (es : List Event) (i : ℕ) → settles e ≡ i ∷ [] → Follow 1 es → Behind 1 (e ∷ es) i
 behind_here e es i settled follow = record { earlier = []; one = e; later = es; parts = refl; settled = settled; follow = follow }

@@ -1,5 +1,6 @@
 -- Which ids are settled, handed on, and left.
-use Rattle.std.proofs.Common.{◌≡◌, ◌⊎◌, inl, inr, ℕ, Bool, true, false, ◌||◌, ◌==◌, if◌then◌else◌, List, [], ◌∷◌, ◌++◌, ◌≤◌, length, All, refl, sym, ap, ◌∙◌, arith}
+use Rattle.std.proofs.Common.{◌≡◌, ◌⊎◌, inl, inr, ℕ, Bool, true, false, ◌||◌, ◌==◌, if◌then◌else◌, List, [], ◌∷◌, ◌++◌, ◌≤◌, length, All, refl, sym, ap, ◌∙◌}
+use Rattle.std.proofs.Common.{arith}
 use Rattle.fuse_keeper.specs.declared.keeper.Done.{Done}
 use Rattle.fuse_keeper.specs.History.{Entry, History, is_in, Includes, IsUnsettled}
 use Rattle.fuse_keeper.specs.Model.{Model}
@@ -27,7 +28,8 @@ either false b is = inr is
 
 pub is_in-append : (xs ys : List ℕ) (i : ℕ) → is_in (xs ++ ys) i ≡ (is_in xs i || is_in ys i)
 is_in-append [] ys i = refl
-is_in-append (x ∷ xs) ys i = elim (x == i) as (λ b. (if b then true else is_in (xs ++ ys) i) ≡ ((if b then true else is_in xs i) || is_in ys i)) [ true ↦ refl | false ↦ is_in-append xs ys i ]
+is_in-append (x ∷ xs) ys i = elim (x == i) as (λ b. (if b then true else is_in (xs ++ ys) i) ≡ ((if b then true else is_in xs i) || is_in ys i))
+    [ true ↦ refl | false ↦ is_in-append xs ys i ]
 
 pub includes_left : (t more : List ℕ) → Includes (t ++ more) t
 includes_left t more i there = is_in-append t more i ∙ or_left (is_in t i) (is_in more i) there
@@ -49,7 +51,8 @@ unsettled_too all some i within isnt = elim (tested (is_in some i)) [
 
 -- ---- what stands
 
-Stands-settled : (M : Model) → (rows : M.Rows) (records : Records) (s : M.State) (h : History) (t more : List ℕ) → Includes more t → Stands M rows records s h t → Stands M rows records s h more
+Stands-settled : (M : Model) → (rows : M.Rows) (records : Records) (s : M.State) (h : History) (t more : List ℕ) → Includes more t → Stands M rows records s h t
+    → Stands M rows records s h more
 Stands-settled M rows records s h t more within so = record {
   tree = so.tree;
   distinct = so.distinct;
@@ -59,15 +62,19 @@ Stands-settled M rows records s h t more within so = record {
 }
 
 -- more may be settled
-pub stands_later : (M : Model) → (holds : KeeperState M) (s : M.State) (h : History) (t u : List ℕ) → Includes u t → StandsFor holds s h t → StandsFor holds s h u
-stands_later M holds s h t u more so = record { rows = so.rows; records = so.records; held = so.held; stands = Stands-settled M so.rows so.records s h t u more so.stands }
+pub stands_later : (M : Model) → (holds : KeeperState M) (s : M.State) (h : History) (t u : List ℕ) → Includes u t → StandsFor holds s h t
+    → StandsFor holds s h u
+stands_later M holds s h t u more so = record { rows = so.rows; records = so.records; held = so.held; stands =
+    Stands-settled M so.rows so.records s h t u more so.stands }
 
 -- what stands is still held
-pub stands_kept : (M : Model) → (holds holds' : KeeperState M) (s : M.State) (h : History) (t : List ℕ) → KeepsHeld holds holds' → StandsFor holds s h t → StandsFor holds' s h t
+pub stands_kept : (M : Model) → (holds holds' : KeeperState M) (s : M.State) (h : History) (t : List ℕ) → KeepsHeld holds holds' → StandsFor holds s h t
+    → StandsFor holds' s h t
 stands_kept M holds holds' s h t keeps so = record { rows = so.rows; records = so.records; held = keeps so.rows so.records so.held; stands = so.stands }
 
 -- ids that are handed on with a group may be settled before it
-pub performs_later : (M : Model) → (holds holds' : KeeperState M) (handed : List ℕ) (es : List Entry) (dones : List Done) → Performs holds holds' handed es dones
+pub performs_later : (M : Model) → (holds holds' : KeeperState M) (handed : List ℕ) (es : List Entry) (dones : List Done)
+    → Performs holds holds' handed es dones
     → holds'.is_honest → (s : M.State) (h : History) (t : List ℕ) → StandsFor holds s h t → All (IsUnsettled (t ++ handed)) es
     → Performed holds' s h (t ++ handed) es dones
 performs_later M holds holds' handed es dones performs honest s h t so un =

@@ -14,7 +14,8 @@ use Rattle.fuse_store.specs.TheTree.{the_tree}
 use Rattle.fuse_store.specs.Causing.{CausedBy}
 
 -- over the rows of a tree a plan in lists wants nothing but memory
-pub caused : (fault : PlanFault) (f : StoreFault) (rows : Rows) → CausedBy fault f → (fault ≡ plans.NotATree → (s : State) → Tree s → rows ≡ rowed s → ⊥) → IsRowed the_tree rows → f ≡ Memory
+pub caused : (fault : PlanFault) (f : StoreFault) (rows : Rows) → CausedBy fault f → (fault ≡ plans.NotATree → (s : State) → Tree s → rows ≡ rowed s → ⊥)
+    → IsRowed the_tree rows → f ≡ Memory
 caused (plans.Look look) f rows is isnt of_tree = is
 caused plans.Memory f rows is isnt of_tree = is
 caused plans.NotATree f rows is isnt of_tree = unfold IsRowed in absurd (isnt refl of_tree.0 of_tree.1 of_tree.2)

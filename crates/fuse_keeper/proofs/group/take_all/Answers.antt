@@ -18,15 +18,19 @@ pub loop-one-preserved : goal.loop-one-preserved
 loop-one-preserved g c =
     let base = without (ids_of c.args.settled.now) (mapped c.args.records.now) in
     record {
-      performed = λ s h t so each. one_more_of g.F.FileSystem.model c.args.group.now c.loop-one.one-index _ _ _ _ _ c.in-Ok.done s h t c.loop-one.dones.items c.push.new.self.items c.loop-one-test.true each c.in-Ok.ensures.took (c.loop-one.invariant.performed s h t so each) c.in_ok-push.ensures.items;
+      performed = λ s h t so each. one_more_of g.F.FileSystem.model c.args.group.now c.loop-one.one-index _ _ _ _ _ c.in-Ok.done s h t c.loop-one.dones.items
+          c.push.new.self.items c.loop-one-test.true each c.in-Ok.ensures.took (c.loop-one.invariant.performed s h t so each) c.in_ok-push.ensures.items;
       count = grind (arith, common_steps);
       ready = c.in-Ok.ensures.ready;
-      rowed = λ rowed. took_rowed_at g.F.FileSystem.model c.args.group.now c.loop-one.one-index _ (g.F.FileSystem.held c.loop-one.draft.rows) (over c.loop-one.draft.added.items base) (g.F.FileSystem.held c.take_one.new.draft.rows) (over c.take_one.new.draft.added.items base) c.in-Ok.done c.in-Ok.ensures.took (c.loop-one.invariant.rowed rowed);
+      rowed = λ rowed. took_rowed_at g.F.FileSystem.model c.args.group.now c.loop-one.one-index _ (g.F.FileSystem.held c.loop-one.draft.rows)
+          (over c.loop-one.draft.added.items base) (g.F.FileSystem.held c.take_one.new.draft.rows) (over c.take_one.new.draft.added.items base) c.in-Ok.done
+          c.in-Ok.ensures.took (c.loop-one.invariant.rowed rowed);
       ids = ids_more c.args.group.now c.loop-one.one-index _ _ _ c.loop-one-test.true c.loop-one.invariant.ids c.in-Ok.ensures.ids;
     }
 
 pub returns-clause-performed : goal.returns-clause-performed
 returns-clause-performed g c = λ s h t so each.
     let past : length c.args.group.now ≤ c.loop-one.one-index = c.loop-one-test.false in
-    subst (λ group. PerformedBy g.F.FileSystem.model (AreThese g.F.FileSystem.model (g.F.FileSystem.held c.loop-one.draft.rows) (over c.loop-one.draft.added.items (without (ids_of c.args.settled.now) (mapped c.args.records.now)))) s h t (entries_of group) c.loop-one.dones.items)
+    subst (λ group. PerformedBy g.F.FileSystem.model (AreThese g.F.FileSystem.model (g.F.FileSystem.held c.loop-one.draft.rows)
+        (over c.loop-one.draft.added.items (without (ids_of c.args.settled.now) (mapped c.args.records.now)))) s h t (entries_of group) c.loop-one.dones.items)
     (take_all c.loop-one.one-index c.args.group.now past) (c.loop-one.invariant.performed s h t so each)

@@ -31,11 +31,13 @@ returns-in-Ok-clause-crash g c =
     let some : length c.args.group.now ≡ 0 → ⊥ = λ none. grind (arith, none, c.is_empty.ensures, c.if-is_empty.false) in
     let all : ids_of c.as_slice.result.now ≡ handed_to (entries_of c.args.group.now) (ids_of c.args.pending.now.items) =
     ap ids_of c.as_slice.ensures.value ∙ handed_all c.args.group.now (ids_of c.args.pending.now.items) some in
-    subst (λ x. LeavesGroup (g.K.Keeper.told c.args.keeper.now) (g.K.Keeper.told c.perform.new.self) x (entries_of c.args.group.now)) all c.perform.ensures.crash
+    subst (λ x. LeavesGroup (g.K.Keeper.told c.args.keeper.now) (g.K.Keeper.told c.perform.new.self) x (entries_of c.args.group.now)) all
+        c.perform.ensures.crash
 
 pub returns-in-Err-clause-crash : goal.returns-in-Err-clause-crash
 returns-in-Err-clause-crash g c =
     let some : length c.args.group.now ≡ 0 → ⊥ = λ none. grind (arith, none, c.is_empty.ensures, c.if-is_empty.false) in
     let all : ids_of c.as_slice.result.now ≡ handed_to (entries_of c.args.group.now) (ids_of c.args.pending.now.items) =
     ap ids_of c.as_slice.ensures.value ∙ handed_all c.args.group.now (ids_of c.args.pending.now.items) some in
-    subst (λ x. LeavesGroup (g.K.Keeper.told c.args.keeper.now) (g.K.Keeper.told c.perform.new.self) x (entries_of c.args.group.now)) all c.perform.ensures.crash
+    subst (λ x. LeavesGroup (g.K.Keeper.told c.args.keeper.now) (g.K.Keeper.told c.perform.new.self) x (entries_of c.args.group.now)) all
+        c.perform.ensures.crash

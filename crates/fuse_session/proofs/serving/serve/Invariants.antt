@@ -21,7 +21,8 @@ invariant-loop-turn g l = record {
   going : (g.K.Keeper.told l.keeper).has_failed ≡ false;
   firm : (g.K.Keeper.told l.keeper).is_honest → IsFirm (g.K.Keeper.told l.fn.keeper)
       → IsFirm (g.K.Keeper.told l.keeper);
-  more : (g.P.Port.told l.fn.port).confirms ≡ true → (g.K.Keeper.told l.keeper).is_honest → (before : Records) → HandsOn before (g.K.Keeper.told l.fn.keeper) [] → HandsOn before (g.K.Keeper.told l.keeper) (ids_of l.pending.items);
+  more : (g.P.Port.told l.fn.port).confirms ≡ true → (g.K.Keeper.told l.keeper).is_honest → (before : Records) → HandsOn before (g.K.Keeper.told l.fn.keeper) []
+      → HandsOn before (g.K.Keeper.told l.keeper) (ids_of l.pending.items);
   receives : (g.P.Port.told l.port).receives ≡ (g.P.Port.told l.fn.port).receives + l.turn;
   failures : (g.P.Port.told l.port).failures ≡ (g.P.Port.told l.fn.port).failures;
   receive_failures : (g.P.Port.told l.port).receive_failures ≡ (g.P.Port.told l.fn.port).receive_failures;

@@ -21,7 +21,8 @@ invariant-loop-at g l = record {
   going : (g.K.Keeper.told l.keeper).has_failed ≡ false;
   firm : (g.K.Keeper.told l.keeper).is_honest → IsFirm (g.K.Keeper.told l.fn.keeper)
       → IsFirm (g.K.Keeper.told l.keeper);
-  more : (g.P.Port.told l.fn.port).confirms ≡ true → (g.K.Keeper.told l.keeper).is_honest → (before : Records) → HandsOn before (g.K.Keeper.told l.fn.keeper) (ids_of l.fn.pending.items)
+  more : (g.P.Port.told l.fn.port).confirms ≡ true → (g.K.Keeper.told l.keeper).is_honest → (before : Records)
+      → HandsOn before (g.K.Keeper.told l.fn.keeper) (ids_of l.fn.pending.items)
       → HandsOn before (g.K.Keeper.told l.keeper) (ids_of l.pending.items);
   failures : (g.P.Port.told l.port).failures ≡ (g.P.Port.told l.fn.port).failures;
   honest : (g.K.Keeper.told l.keeper).is_honest → (g.K.Keeper.told l.fn.keeper).is_honest;

@@ -14,15 +14,18 @@ set_bit-requires c =
     omega arith
 
 -- the bytes of the message, once they were written back
-written : (m : Vec ℕ Global) (old new : List ℕ) → old ≡ m.items → length old ≡ m.len → length new ≡ length old → new ≡ marked old → (with_items m new).items ≡ marked m.items
+written : (m : Vec ℕ Global) (old new : List ℕ) → old ≡ m.items → length old ≡ m.len → length new ≡ length old → new ≡ marked old
+    → (with_items m new).items ≡ marked m.items
 written m old new before long same is = with_items_is m new (same ∙ long) ∙ is ∙ ap marked before
 
 pub returns-clause-owed : goal.returns-clause-owed
 returns-clause-owed c =
-    let is = written c.args.message.now _ c.set_bit.new.message c.as_mut_slice.ensures.value c.as_mut_slice.ensures.len c.set_bit.auto.message c.set_bit.ensures in
+    let is = written c.args.message.now _ c.set_bit.new.message c.as_mut_slice.ensures.value c.as_mut_slice.ensures.len c.set_bit.auto.message c.set_bit.ensures
+        in
     subst IsOwed (sym is) (marked_owed c.spelled_at.ensures _ c.requires).0
 
 pub returns-clause-says : goal.returns-clause-says
 returns-clause-says c =
-    let is = written c.args.message.now _ c.set_bit.new.message c.as_mut_slice.ensures.value c.as_mut_slice.ensures.len c.set_bit.auto.message c.set_bit.ensures in
+    let is = written c.args.message.now _ c.set_bit.new.message c.as_mut_slice.ensures.value c.as_mut_slice.ensures.len c.set_bit.auto.message c.set_bit.ensures
+        in
     ap asked_at is ∙ (marked_owed c.spelled_at.ensures _ c.requires).1

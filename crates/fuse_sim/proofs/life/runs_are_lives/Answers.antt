@@ -17,6 +17,7 @@ returns g c = record {
       let b = run.broken in
       let left = b.crash honest firm s h t stands (none_pending t) none in (
         left.0,
-        λ x r may. run_lived g.K.Keeper.model _ _ s h t old new run.received b.timed b.others b.marks b.part run.came b.front b.moments b.replied (left.1 x r may),
+        λ x r may. run_lived g.K.Keeper.model _ _ s h t old new run.received b.timed b.others b.marks b.part run.came b.front b.moments b.replied
+            (left.1 x r may),
       );
 }
