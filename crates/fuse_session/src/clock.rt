@@ -45,7 +45,10 @@ pub struct System<T: rt::Clock + Drop> {
 
 impl<T: rt::Clock + Drop> System<T> {
     /// Asks this runtime. Until it gives a moment, the last one is 0.
-    pub fn new(rt: T) -> System<T> {
+    pub fn new(rt: T) -> System<T>
+        ensures runtime { result.rt ≡ rt }
+        ensures last { result.last ≡ record { secs = 0; nanos = 0 } }
+    {
         System {
             rt,
             last: Moment { secs: 0, nanos: 0 },
