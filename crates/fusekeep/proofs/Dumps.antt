@@ -38,13 +38,16 @@ appends_none (Some a) = sym (append-nil a)
 pub none_dumped : (a : Option (List ℕ)) → Appends a a (dump_lines 0 [])
 none_dumped a = appends_none a
 
-pub some_dumped : (stream left left' old written written' : Option (List ℕ)) (at at' : ℕ) (p : Placed) → WentSoFar stream left at (λ ms. Appends old written (dump_lines 0 ms)) → GaveMessage left left' at at' p
-    → Appends written written' (line (dump_line p.at (raw_of p.bytes) (first_fault p.bytes))) → WentSoFar stream left' at' (λ ms. Appends old written' (dump_lines 0 ms))
+pub some_dumped : (stream left left' old written written' : Option (List ℕ)) (at at' : ℕ) (p : Placed)
+    → WentSoFar stream left at (λ ms. Appends old written (dump_lines 0 ms)) → GaveMessage left left' at at' p
+    → Appends written written' (line (dump_line p.at (raw_of p.bytes) (first_fault p.bytes)))
+    → WentSoFar stream left' at' (λ ms. Appends old written' (dump_lines 0 ms))
 some_dumped stream left left' old written written' at at' p some one more =
     let place : p.at ≡ 0 + length (joined some.messages) = omega (arith, one.here, some.gave.place) in
     record {
       messages = some.messages ++ p.bytes ∷ [];
       gave = gave_more stream left left' at at' some.messages p some.gave one;
       so = subst (λ (x : List ℕ). Appends old written' x) (sym (dump_lines-one 0 some.messages p.bytes))
-          (appends_then old written written' (dump_lines 0 some.messages) (line_at (0 + length (joined some.messages)) p.bytes) some.so (subst (λ n. Appends written written' (line_at n p.bytes)) place more));
+          (appends_then old written written' (dump_lines 0 some.messages)
+          (line_at (0 + length (joined some.messages)) p.bytes) some.so (subst (λ n. Appends written written' (line_at n p.bytes)) place more));
     }

@@ -55,18 +55,32 @@ bad_known held (Some r) at f steps e =
     let longer = longer_bad at held r f e in
     (none_front at (held ++ r) f steps longer, bad_end at (held ++ r) f longer)
 
-kept_known : (a b : Option (List ℕ)) (at : ℕ) (f : FrameFault) → Keeps a b → IfSome b (λ left. HasNone left × (end_fault at left ≡ Some f)) → IfSome a (λ left. HasNone left × (end_fault at left ≡ Some f))
+kept_known : (a b : Option (List ℕ)) (at : ℕ) (f : FrameFault) → Keeps a b → IfSome b (λ left. HasNone left × (end_fault at left ≡ Some f))
+    → IfSome a (λ left. HasNone left × (end_fault at left ≡ Some f))
 kept_known None b at f h g = tt
 kept_known (Some xs) None at f h g = absurd h
 kept_known (Some xs) (Some ys) at f h g = rw (sym h) g
 
 -- what the framer's fault says of the stream
-pub faulty : (a : Option (List ℕ)) (old new : Held) (rest : Option (List ℕ)) (at : ℕ) (f : FrameFault) (ending : Ending) → CutSteps → Keeps a (prepend_known old.bytes rest) → old.at ≡ at
+pub faulty : (a : Option (List ℕ)) (old new : Held) (rest : Option (List ℕ)) (at : ℕ) (f : FrameFault) (ending : Ending) → CutSteps
+    → Keeps a (prepend_known old.bytes rest) → old.at ≡ at
     → GivesNext old new (Err f) → ending ≡ stream_ending f → GaveOut ending ⊎ HasFault a at ending
 faulty a old new rest at Memory ending steps kept here g is = inl (rw is (omega arith))
 faulty a old new rest at (Short p n) ending steps kept here g is =
-    inr (record { fault = Short p n; same = is; here = kept_known a (prepend_known old.bytes rest) at (Short p n) kept (bad_known old.bytes rest at (Short p n) steps (rw (sym here) g.1)) })
+    inr (record {
+      fault = Short p n;
+      same = is;
+      here = kept_known a (prepend_known old.bytes rest) at (Short p n) kept (bad_known old.bytes rest at (Short p n) steps (rw (sym here) g.1));
+    })
 faulty a old new rest at (TooLong p n) ending steps kept here g is =
-    inr (record { fault = TooLong p n; same = is; here = kept_known a (prepend_known old.bytes rest) at (TooLong p n) kept (bad_known old.bytes rest at (TooLong p n) steps (rw (sym here) g.1)) })
+    inr (record {
+      fault = TooLong p n;
+      same = is;
+      here = kept_known a (prepend_known old.bytes rest) at (TooLong p n) kept (bad_known old.bytes rest at (TooLong p n) steps (rw (sym here) g.1));
+    })
 faulty a old new rest at (Cut p n k) ending steps kept here g is =
-    inr (record { fault = Cut p n k; same = is; here = kept_known a (prepend_known old.bytes rest) at (Cut p n k) kept (bad_known old.bytes rest at (Cut p n k) steps (rw (sym here) g.1)) })
+    inr (record {
+      fault = Cut p n k;
+      same = is;
+      here = kept_known a (prepend_known old.bytes rest) at (Cut p n k) kept (bad_known old.bytes rest at (Cut p n k) steps (rw (sym here) g.1));
+    })

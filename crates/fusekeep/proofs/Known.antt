@@ -32,7 +32,8 @@ gives_front held held' m None e = tt
 gives_front held held' m (Some r) e = ap (λ (x : List ℕ). x ++ r) e ∙ append_assoc m held' r
 
 -- what is read is held
-pub holds_piece : (held piece : List ℕ) (rest rest' : Option (List ℕ)) → Consumes rest rest' piece → Keeps (prepend_known held rest) (prepend_known (held ++ piece) rest')
+pub holds_piece : (held piece : List ℕ) (rest rest' : Option (List ℕ)) → Consumes rest rest' piece
+    → Keeps (prepend_known held rest) (prepend_known (held ++ piece) rest')
 holds_piece held piece None rest' e = tt
 holds_piece held piece (Some r) None e = absurd e
 holds_piece held piece (Some r) (Some r') e = append_assoc held piece r' ∙ ap (λ (x : List ℕ). held ++ x) (sym e)

@@ -1,5 +1,6 @@
 -- Answers one after another, and their lines.
-use Rattle.std.proofs.Common.{◌≡◌, true, false, ◌==◌, ◌<◌, ◌+◌, ◌^◌, ℕ, zero, suc, List, [], ◌∷◌, ◌++◌, length, take, drop, inl, inr, Option, refl, sym, ap, subst, ◌∙◌, append_assoc, arith, length-append, append-nil}
+use Rattle.std.proofs.Common.{◌≡◌, true, false, ◌==◌, ◌<◌, ◌+◌, ◌^◌, ℕ, zero, suc, List, [], ◌∷◌, ◌++◌, length, take, drop, inl, inr, Option, refl, sym, ap}
+use Rattle.std.proofs.Common.{subst, ◌∙◌, append_assoc, arith, length-append, append-nil}
 use Rattle.std.specs.Io.KnownBytes.{Appends}
 use Rattle.std.proofs.KnownBytes.{Appends-nil, Appends-trans}
 use Rattle.std.proofs.lemmas.Bool.{cases_lt}
@@ -50,16 +51,19 @@ len_bytes sent answer others begins parts =
     let whole : sent ≡ own ++ (begins.rest ++ others) = parts ∙ ap (λ (x : List ℕ). x ++ others) begins.parts ∙ append_assoc own begins.rest others in
     ap (take 4) whole ∙ take_front 4 own (begins.rest ++ others) four
 
-same_number : IsOneNumber → (w : ℕ) (bytes : List ℕ) (m n : ℕ) → length bytes ≡ w → IsBytes bytes → m < 256 ^ w → n < 256 ^ w → le w m ≡ bytes → le w n ≡ bytes → m ≡ n
+same_number : IsOneNumber → (w : ℕ) (bytes : List ℕ) (m n : ℕ) → length bytes ≡ w → IsBytes bytes → m < 256 ^ w → n < 256 ^ w → le w m ≡ bytes → le w n ≡ bytes
+    → m ≡ n
 same_number one w bytes m n len each fits fits' is is' = let k = one w bytes len each in k.3 m fits is ∙ sym (k.3 n fits' is')
 
 -- the number at the front of an answer is its length
-pub len_at_front : IsOneNumber → (sent rest answer others : List ℕ) (len : ℕ) → IsBytes (take 4 sent) → len < 256 ^ 4 → sent ≡ le 4 len ++ rest → length sent ≡ 4 + length rest
+pub len_at_front : IsOneNumber → (sent rest answer others : List ℕ) (len : ℕ) → IsBytes (take 4 sent) → len < 256 ^ 4 → sent ≡ le 4 len ++ rest
+    → length sent ≡ 4 + length rest
     → BeginsWithLen answer → sent ≡ answer ++ others → len ≡ length answer
 len_at_front one sent rest answer others len bytes small read size begins parts =
     let four : length (le 4 len) ≡ 4 = omega (arith, ap (length {A = ℕ}) read, length-append (le 4 len) rest, size) in
     let here : take 4 sent ≡ le 4 len = ap (take 4) read ∙ take_front 4 (le 4 len) rest four in
-    same_number one 4 (take 4 sent) len (length answer) (ap (length {A = ℕ}) here ∙ four) bytes small (omega (arith, begins.fits)) (sym here) (sym (len_bytes sent answer others begins parts))
+    same_number one 4 (take 4 sent) len (length answer) (ap (length {A = ℕ}) here ∙ four) bytes small (omega (arith, begins.fits)) (sym here)
+    (sym (len_bytes sent answer others begins parts))
 
 pub bytes_take : (n : ℕ) (bytes : List ℕ) → IsBytes bytes → IsBytes (take n bytes)
 bytes_take n bytes each i =
@@ -77,11 +81,13 @@ pub record Written (written written' : Option (List ℕ)) (answers : List (List 
   pub so_far : Appends written written' lines
   pub all : answer_lines answers ≡ lines ++ answer_lines left
 
-pub written_none : (w : Option (List ℕ)) (answers : List (List ℕ)) (sent : List ℕ) → AllByRecursion IsAnswer answers → sent ≡ joined answers → Written w w answers sent
+pub written_none : (w : Option (List ℕ)) (answers : List (List ℕ)) (sent : List ℕ) → AllByRecursion IsAnswer answers → sent ≡ joined answers
+    → Written w w answers sent
 written_none w answers sent each is = record { left = answers; each = each; bytes = is; lines = []; so_far = Appends-nil w; all = refl }
 
 -- one line more; `len` is what was read at the front
-pub written_more : (a b c : Option (List ℕ)) (answers : List (List ℕ)) (rest front back : List ℕ) (len : ℕ) → (rest ≡ [] → ⊥) → front ≡ take len rest → back ≡ drop len rest
+pub written_more : (a b c : Option (List ℕ)) (answers : List (List ℕ)) (rest front back : List ℕ) (len : ℕ) → (rest ≡ [] → ⊥) → front ≡ take len rest
+    → back ≡ drop len rest
     → ((answer others : List ℕ) → BeginsWithLen answer → rest ≡ answer ++ others → len ≡ length answer)
     → Written a b answers rest → Appends b c (line (encode_lower front)) → Written a c answers back
 written_more a b c answers rest front back len some front_is back_is reads w more =

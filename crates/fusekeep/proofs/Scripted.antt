@@ -1,5 +1,6 @@
 -- The lines of scripts.
-use Rattle.std.proofs.Common.{◌≡◌, ◌≢◌, inl, inr, ℕ, zero, suc, ◌+◌, ◌*◌, ◌^◌, ◌<◌, ◌≤◌, List, [], ◌∷◌, ◌++◌, length, take, drop, All, get_or, refl, sym, ap, subst, ◌∙◌, append_assoc, arith, lit≤, ◌==◌, ◌||◌, true, false}
+use Rattle.std.proofs.Common.{◌≡◌, ◌≢◌, inl, inr, ℕ, zero, suc, ◌+◌, ◌*◌, ◌^◌, ◌<◌, ◌≤◌, List, [], ◌∷◌, ◌++◌, length, take, drop, All, get_or, refl, sym, ap}
+use Rattle.std.proofs.Common.{subst, ◌∙◌, append_assoc, arith, lit≤, ◌==◌, ◌||◌, true, false}
 use Rattle.std.proofs.Math.Seq.{drop-cons}
 use Rattle.std.proofs.lemmas.List.{get_or-map, length-map, take_more, take_all, take-append-drop, length-take-le}
 use Rattle.std.specs.Borrow.{Bor}
@@ -47,10 +48,12 @@ too_large text i secs digit there value large so n s =
     let more = digits_value_more 10 text i there in
     let most = digits_value-take-le 10 text (i + 1) (lit≤ tt) in
     let whole = s.value in let fits = s.fits in
-    let sum : secs * 10 + digit ≡ digits_value 10 (take (i + 1) text) = ap (λ (x : ℕ). x * 10 + digit) so ∙ ap (λ (x : ℕ). digits_value 10 (take i text) * 10 + x) value ∙ sym more in
+    let sum : secs * 10 + digit ≡ digits_value 10 (take (i + 1) text) = ap (λ (x : ℕ). x * 10 + digit) so
+    ∙ ap (λ (x : ℕ). digits_value 10 (take i text) * 10 + x) value ∙ sym more in
     omega (arith, sum)
 
-pub all_read : (text : List ℕ) (i secs : ℕ) → length text ≤ i → (length text == 0) ≡ false → secs < 2 ^ 64 → AllDigits 10 (take i text) × (secs ≡ digits_value 10 (take i text)) → IsSeconds text secs
+pub all_read : (text : List ℕ) (i secs : ℕ) → length text ≤ i → (length text == 0) ≡ false → secs < 2 ^ 64
+    → AllDigits 10 (take i text) × (secs ≡ digits_value 10 (take i text)) → IsSeconds text secs
 all_read text i secs all some fits so =
     let whole = take_all i text all in record {
       some = grind arith;
@@ -85,13 +88,16 @@ word_lacks DiedAfterCommit = lacks (word_of DiedAfterCommit) refl
 
 digits_lack : (ds : List ℕ) → AllDigits 10 ds → AllByRecursion (λ x. x ≢ 32) ds
 digits_lack [] all = tt
-digits_lack (d ∷ ds) all = ((λ is. let low : digit_value d < 10 = all.0 in let space : digit_value d ≡ 36 = ap digit_value is in omega arith), digits_lack ds all.1)
+digits_lack (d ∷ ds) all =
+    ((λ is. let low : digit_value d < 10 = all.0 in let space : digit_value d ≡ 36 = ap digit_value is in omega arith), digits_lack ds all.1)
 
-pub first_space : (line : List ℕ) (fate : Fate) (secs : ℕ) (text a b : List ℕ) (p : HasParts line fate secs text) → line ≡ a ++ 32 ∷ b → Lacks 32 a → (a ≡ word_of fate) × (b ≡ p.digits ++ 32 ∷ text)
+pub first_space : (line : List ℕ) (fate : Fate) (secs : ℕ) (text a b : List ℕ) (p : HasParts line fate secs text) → line ≡ a ++ 32 ∷ b → Lacks 32 a
+    → (a ≡ word_of fate) × (b ≡ p.digits ++ 32 ∷ text)
 first_space line fate secs text a b p is none =
     split_by a b (word_of fate) (p.digits ++ 32 ∷ text) (recursion_from_All (λ x. x ≢ 32) a none) (word_lacks fate) (sym is ∙ p.parts)
 
-pub second_space : (line : List ℕ) (fate : Fate) (secs : ℕ) (text b c d : List ℕ) (p : HasParts line fate secs text) → b ≡ p.digits ++ 32 ∷ text → b ≡ c ++ 32 ∷ d → Lacks 32 c → (c ≡ p.digits) × (d ≡ text)
+pub second_space : (line : List ℕ) (fate : Fate) (secs : ℕ) (text b c d : List ℕ) (p : HasParts line fate secs text) → b ≡ p.digits ++ 32 ∷ text
+    → b ≡ c ++ 32 ∷ d → Lacks 32 c → (c ≡ p.digits) × (d ≡ text)
 second_space line fate secs text b c d p whole is none =
     split_by c d p.digits text (recursion_from_All (λ x. x ≢ 32) c none) (digits_lack p.digits p.seconds.digits) (sym is ∙ whole)
 
@@ -107,7 +113,8 @@ no_space line a b none is = lacks_by a b (recursion_from_All (λ x. x ≢ 32) (a
 pub no_event : (line : List ℕ) → ((fate : Fate) (secs : ℕ) (text : List ℕ) → HasParts line fate secs text → ⊥) → (e : Event) → Writes line e → ⊥
 no_event line none e w = none e.fate e.moment.secs w.text w.parts
 
-pub no_message : (line text : List ℕ) → ((fate : Fate) (secs : ℕ) (other : List ℕ) → HasParts line fate secs other → text ≡ other) → ((m : List ℕ) → IsHexOf text m → ⊥) → (e : Event) → Writes line e → ⊥
+pub no_message : (line text : List ℕ) → ((fate : Fate) (secs : ℕ) (other : List ℕ) → HasParts line fate secs other → text ≡ other)
+    → ((m : List ℕ) → IsHexOf text m → ⊥) → (e : Event) → Writes line e → ⊥
 no_message line text same none e w = none e.bytes (subst (λ x. IsHexOf x e.bytes) (sym (same e.fate e.moment.secs w.text w.parts)) w.message)
 
 -- ---- line after line
@@ -121,31 +128,47 @@ tells_more (l ∷ lines) line old new so took = elim so [
   | inl nothing ↦ inl (nothing.0, tells_more lines line old new nothing.1 took)
   | inr one ↦ elim took [
     | inl passed ↦ inr (one.0, one.1, passed.1 ∙ one.2, one.3, tells_more lines line one.1 one.1 one.4 (inl (passed.0, refl)))
-    | inr more ↦ inr (one.0, one.1 ++ more.0 ∷ [], more.2 ∙ ap (λ (es : List Event). es ++ more.0 ∷ []) one.2, one.3, tells_more lines line one.1 (one.1 ++ more.0 ∷ []) one.4 (inr (more.0, more.1, refl)))
+    | inr more ↦ inr (
+      one.0,
+      one.1 ++ more.0 ∷ [],
+      more.2 ∙ ap (λ (es : List Event). es ++ more.0 ∷ []) one.2,
+      one.3,
+      tells_more lines line one.1 (one.1 ++ more.0 ∷ []) one.4 (inr (more.0, more.1, refl)),
+    )
   ]
 ]
 
-pub line_taken : (lines : List (List ℕ)) (i : ℕ) (old new : List Event) → i < length lines → Tells (take i lines) old → TookLine (get_or lines i []) old new → Tells (take (i + 1) lines) new
-line_taken lines i old new there so took = subst (λ x. Tells x new) (sym (take_more lines i [] there)) (tells_more (take i lines) (get_or lines i []) old new so took)
+pub line_taken : (lines : List (List ℕ)) (i : ℕ) (old new : List Event) → i < length lines → Tells (take i lines) old → TookLine (get_or lines i []) old new
+    → Tells (take (i + 1) lines) new
+line_taken lines i old new there so took =
+    subst (λ x. Tells x new) (sym (take_more lines i [] there)) (tells_more (take i lines) (get_or lines i []) old new so took)
 
 pub all_taken : (lines : List (List ℕ)) (i : ℕ) (events : List Event) → length lines ≤ i → Tells (take i lines) events → Tells lines events
 all_taken lines i events all so = subst (λ x. Tells x events) (take_all i lines all) so
 
-bad_behind : (n : ℕ) (lines : List (List ℕ)) (bad : List ℕ) (more : List (List ℕ)) (events : List Event) → Tells lines events → IsBad bad → FirstBad n (lines ++ bad ∷ more) (n + length lines)
+bad_behind : (n : ℕ) (lines : List (List ℕ)) (bad : List ℕ) (more : List (List ℕ)) (events : List Event) → Tells lines events → IsBad bad
+    → FirstBad n (lines ++ bad ∷ more) (n + length lines)
 bad_behind n [] bad more events so is = inl (is, omega arith)
 bad_behind n (line ∷ lines) bad more events so is =
     let next : suc n + length lines ≡ n + suc (length lines) = omega arith in
     elim so [
-      | inl nothing ↦ inr ((λ wrong. wrong.0 nothing.0), subst (FirstBad (suc n) (lines ++ bad ∷ more)) next (bad_behind (suc n) lines bad more events nothing.1 is))
+      | inl nothing ↦ inr (
+        (λ wrong. wrong.0 nothing.0),
+        subst (FirstBad (suc n) (lines ++ bad ∷ more)) next (bad_behind (suc n) lines bad more events nothing.1 is),
+      )
       | inr one ↦ inr ((λ wrong. wrong.1 one.0 one.3), subst (FirstBad (suc n) (lines ++ bad ∷ more)) next (bad_behind (suc n) lines bad more one.1 one.4 is))
     ]
 
-pub first_bad : (lines : List (List ℕ)) (i : ℕ) (events : List Event) → i < length lines → Tells (take i lines) events → IsBad (get_or lines i []) → FirstBad 1 lines (i + 1)
+pub first_bad : (lines : List (List ℕ)) (i : ℕ) (events : List Event) → i < length lines → Tells (take i lines) events → IsBad (get_or lines i [])
+    → FirstBad 1 lines (i + 1)
 first_bad lines i events there so is =
-    let parts : take i lines ++ get_or lines i [] ∷ drop (suc i) lines ≡ lines = ap (λ x. take i lines ++ x) (sym (drop-cons lines i [] there)) ∙ take-append-drop i lines in
+    let parts : take i lines ++ get_or lines i [] ∷ drop (suc i) lines ≡ lines = ap (λ x. take i lines ++ x) (sym (drop-cons lines i [] there))
+    ∙ take-append-drop i lines in
     let long : length (take i lines) ≡ i = length-take-le i lines (omega arith) in
     let number : 1 + length (take i lines) ≡ i + 1 = omega arith in
-    subst (λ x. FirstBad 1 x (i + 1)) parts (subst (FirstBad 1 (take i lines ++ get_or lines i [] ∷ drop (suc i) lines)) number (bad_behind 1 (take i lines) (get_or lines i []) (drop (suc i) lines) events so is))
+    subst (λ x. FirstBad 1 x (i + 1)) parts
+    (subst (FirstBad 1 (take i lines ++ get_or lines i [] ∷ drop (suc i) lines)) number
+    (bad_behind 1 (take i lines) (get_or lines i []) (drop (suc i) lines) events so is))
 
 -- ---- how a script is cut into lines
 
@@ -156,7 +179,8 @@ no_feeds : (xs : List ℕ) → Lacks 10 xs → All (λ x. (x == 10) ≡ false) x
 no_feeds xs none k d there = apart (get_or xs k d) (none k d there)
 
 -- one line more was cut off
-pub line_cut : (lines : List (List ℕ)) (script rest line behind : List ℕ) → lines ++ lines_of rest ≡ lines_of script → rest ≡ line ++ 10 ∷ behind → Lacks 10 line → (lines ++ line ∷ []) ++ lines_of behind ≡ lines_of script
+pub line_cut : (lines : List (List ℕ)) (script rest line behind : List ℕ) → lines ++ lines_of rest ≡ lines_of script → rest ≡ line ++ 10 ∷ behind
+    → Lacks 10 line → (lines ++ line ∷ []) ++ lines_of behind ≡ lines_of script
 line_cut lines script rest line behind so is none =
     let cut : lines_of rest ≡ line ∷ lines_of behind = ap lines_of is ∙ slice_split_at (λ (b : ℕ). b == 10) line 10 behind (no_feeds line none) refl in
     append_assoc lines (line ∷ []) (lines_of behind) ∙ ap (λ (x : List (List ℕ)). lines ++ x) (sym cut) ∙ so
@@ -171,8 +195,11 @@ line_at parts i d there = get_or-map (λ (part : Bor (List ℕ)). part.now) part
 in_parts : (parts : List (Bor (List ℕ))) (i : ℕ) → i < length parts → i < length (parts_in parts)
 in_parts parts i there = omega (arith, length-map parts (λ (part : Bor (List ℕ)). part.now))
 
-pub part_taken : (parts : List (Bor (List ℕ))) (i : ℕ) (d : Bor (List ℕ)) (old new : List Event) → i < length parts → Tells (take i (parts_in parts)) old → TookLine (get_or parts i d).now old new → Tells (take (i + 1) (parts_in parts)) new
-part_taken parts i d old new there so took = line_taken (parts_in parts) i old new (in_parts parts i there) so (subst (λ x. TookLine x old new) (sym (line_at parts i d there)) took)
+pub part_taken : (parts : List (Bor (List ℕ))) (i : ℕ) (d : Bor (List ℕ)) (old new : List Event) → i < length parts → Tells (take i (parts_in parts)) old
+    → TookLine (get_or parts i d).now old new → Tells (take (i + 1) (parts_in parts)) new
+part_taken parts i d old new there so took =
+    line_taken (parts_in parts) i old new (in_parts parts i there) so (subst (λ x. TookLine x old new) (sym (line_at parts i d there)) took)
 
-pub part_bad : (parts : List (Bor (List ℕ))) (i : ℕ) (d : Bor (List ℕ)) (events : List Event) → i < length parts → Tells (take i (parts_in parts)) events → IsBad (get_or parts i d).now → FirstBad 1 (parts_in parts) (i + 1)
+pub part_bad : (parts : List (Bor (List ℕ))) (i : ℕ) (d : Bor (List ℕ)) (events : List Event) → i < length parts → Tells (take i (parts_in parts)) events
+    → IsBad (get_or parts i d).now → FirstBad 1 (parts_in parts) (i + 1)
 part_bad parts i d events there so is = first_bad (parts_in parts) i events (in_parts parts i there) so (subst IsBad (sym (line_at parts i d there)) is)

@@ -1,5 +1,6 @@
 -- Messages that were given out so far, and how they are counted.
-use Rattle.std.proofs.Common.{All, ◌≡◌, ◌≤◌, ◌+◌, ℕ, Bool, true, false, cond, List, [], ◌∷◌, ◌++◌, length, Option, Some, None, Err, inl, inr, refl, sym, ap, subst, ◌∙◌, append_assoc, arith, length-append}
+use Rattle.std.proofs.Common.{All, ◌≡◌, ◌≤◌, ◌+◌, ℕ, Bool, true, false, cond, List, [], ◌∷◌, ◌++◌, length, Option, Some, None, Err, inl, inr, refl, sym, ap}
+use Rattle.std.proofs.Common.{subst, ◌∙◌, append_assoc, arith, length-append}
 use Rattle.std.specs.List.{filter, AllByRecursion}
 use Rattle.std.specs.Option.{IfSome}
 use Rattle.std.specs.Io.KnownBytes.{Consumes, IsAtEnd}
@@ -23,9 +24,11 @@ joined-one : (ms : List (List ℕ)) (m : List ℕ) → joined (ms ++ m ∷ []) �
 joined-one [] m = append-nil m
 joined-one (n ∷ ms) m = ap (λ (x : List ℕ). n ++ x) (joined-one ms m) ∙ sym (append_assoc n (joined ms) m)
 
-pub gave_more : (stream left left' : Option (List ℕ)) (at at' : ℕ) (ms : List (List ℕ)) (p : Placed) → GaveSome stream left at ms → GaveMessage left left' at at' p → GaveSome stream left' at' (ms ++ p.bytes ∷ [])
+pub gave_more : (stream left left' : Option (List ℕ)) (at at' : ℕ) (ms : List (List ℕ)) (p : Placed) → GaveSome stream left at ms
+    → GaveMessage left left' at at' p → GaveSome stream left' at' (ms ++ p.bytes ∷ [])
 gave_more stream left left' at at' ms p some one = record {
-  left_is = subst (λ (x : List ℕ). Consumes stream left' x) (sym (joined-one ms p.bytes)) (consumes_then stream left left' (joined ms) p.bytes some.left_is one.left);
+  left_is =
+      subst (λ (x : List ℕ). Consumes stream left' x) (sym (joined-one ms p.bytes)) (consumes_then stream left left' (joined ms) p.bytes some.left_is one.left);
   each = All-append IsMessage ms (p.bytes ∷ []) some.each (all_one IsMessage p.bytes one.message);
   place = one.place ∙ ap (λ n. n + length p.bytes) some.place ∙ sym (length-append (joined ms) p.bytes) ∙ ap length (sym (joined-one ms p.bytes));
 }
@@ -72,7 +75,8 @@ went_whole (Some w) (Some rest) at P one steps some end =
     rw (e, end) (refl, some.so)
 
 -- what a fault of the stream leaves
-pub went_err : (stream left left' : Option (List ℕ)) (at at' : ℕ) (P : List (List ℕ) → Type 0) (ending : Ending) → IsOneCut → CutSteps → WentSoFar stream left at P
+pub went_err : (stream left left' : Option (List ℕ)) (at at' : ℕ) (P : List (List ℕ) → Type 0) (ending : Ending) → IsOneCut → CutSteps
+    → WentSoFar stream left at P
     → GivesPlaced left left' at at' (Err ending) → WentThrough stream P (Err ending)
 went_err stream left left' at at' P ending one steps some (inl h) = inl h
 went_err stream left left' at at' P ending one steps some (inr h) = inr (h.fault, h.same, went_faulty stream left at P h.fault one steps some h.here)
@@ -88,17 +92,28 @@ one_of true m = refl
 one_of false m = refl
 
 one_more : (p : List ℕ → Bool) (ms : List (List ℕ)) (m : List ℕ) → length (filter p (ms ++ m ∷ [])) ≡ length (filter p ms) + cond {A = ℕ} (p m) 1 0
-one_more p ms m = ap length (filter-append p ms (m ∷ [])) ∙ length-append (filter p ms) (filter p (m ∷ [])) ∙ ap (λ n. length (filter p ms) + n) (one_of (p m) m)
+one_more p ms m = ap length (filter-append p ms (m ∷ [])) ∙ length-append (filter p ms) (filter p (m ∷ []))
+    ∙ ap (λ n. length (filter p ms) + n) (one_of (p m) m)
 
-same_counts : (a b c a' b' c' : ℕ) → a ≡ a' → b ≡ b' → c ≡ c' → ◌≡◌ {A = MessageCounts} (record { messages = a; malformed = b; unsupported = c }) (record { messages = a'; malformed = b'; unsupported = c' })
+same_counts : (a b c a' b' c' : ℕ) → a ≡ a' → b ≡ b' → c ≡ c'
+    → ◌≡◌ {A = MessageCounts} (record { messages = a; malformed = b; unsupported = c }) (record { messages = a'; malformed = b'; unsupported = c' })
 same_counts a b c a' b' c' e f g = cc
 
 pub counted_more : (ms : List (List ℕ)) (m : List ℕ) → checked (ms ++ m ∷ [])
-    ≡ record { messages = (checked ms).messages + 1; malformed = (checked ms).malformed + cond {A = ℕ} (is_malformed m) 1 0; unsupported = (checked ms).unsupported + cond {A = ℕ} (is_unsupported m) 1 0 }
+    ≡ record {
+      messages = (checked ms).messages + 1;
+      malformed = (checked ms).malformed + cond {A = ℕ} (is_malformed m) 1 0;
+      unsupported = (checked ms).unsupported + cond {A = ℕ} (is_unsupported m) 1 0;
+    }
 counted_more ms m = same_counts _ _ _ _ _ _ (length-append ms (m ∷ [])) (one_more is_malformed ms m) (one_more is_unsupported ms m)
 
-pub some_counted : (stream left left' : Option (List ℕ)) (at at' : ℕ) (counts counts' : MessageCounts) (p : Placed) → WentSoFar stream left at (λ ms. counts ≡ checked ms) → GaveMessage left left' at at' p
-    → counts' ≡ record { messages = counts.messages + 1; malformed = counts.malformed + cond {A = ℕ} (is_malformed p.bytes) 1 0; unsupported = counts.unsupported + cond {A = ℕ} (is_unsupported p.bytes) 1 0 }
+pub some_counted : (stream left left' : Option (List ℕ)) (at at' : ℕ) (counts counts' : MessageCounts) (p : Placed)
+    → WentSoFar stream left at (λ ms. counts ≡ checked ms) → GaveMessage left left' at at' p
+    → counts' ≡ record {
+      messages = counts.messages + 1;
+      malformed = counts.malformed + cond {A = ℕ} (is_malformed p.bytes) 1 0;
+      unsupported = counts.unsupported + cond {A = ℕ} (is_unsupported p.bytes) 1 0;
+    }
     → WentSoFar stream left' at' (λ ms. counts' ≡ checked ms)
 some_counted stream left left' at at' counts counts' p some one is = record {
   messages = some.messages ++ p.bytes ∷ [];

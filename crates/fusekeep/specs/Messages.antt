@@ -1,8 +1,8 @@
 -- The messages of a stream, given out one after the other (own profile).
 use Rattle.std.specs.Prelude.{◌≡◌, ◌⊎◌, ◌+◌, ◌*◌, ℕ, List, [], length, All, Option, Some, None, IfSome, Result, Ok, Err}
 use Rattle.std.specs.Io.KnownBytes.{Consumes, prepend_known, IsAtEnd}
+use Rattle.fuse_wire.specs.Bounds.{max_message_len}
 use Rattle.fuse_request.specs.declared.framer.FrameFault.{FrameFault}
-use Rattle.fuse_request.specs.declared.header.TheConstants.{MAX_MESSAGE}
 use Rattle.fuse_request.specs.Stream.{cut, joined, IsMessage}
 use Rattle.fuse_request.specs.Framing.{end_fault, HasNone}
 use Rattle.fusekeep.specs.declared.ending.Ending.{Ending}
@@ -22,7 +22,7 @@ place_in m = m.framer.at
 
 -- how much can still come and be given out: a piece for each read that is left, and what is held
 abbrev pub work_in : {R : Type 0} → Messages R → ℕ
-work_in m = (MAX_MESSAGE + 1) * m.pieces.reads_left + length m.framer.bytes
+work_in m = (max_message_len + 1) * m.pieces.reads_left + length m.framer.bytes
 
 -- a message was given out, at the place where those before it end
 pub record GaveMessage (old new : Option (List ℕ)) (at at' : ℕ) (placed : Placed) : Type 0 where

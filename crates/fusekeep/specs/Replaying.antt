@@ -32,7 +32,8 @@ EndsAt M (ZeroUnique at) s h timed others place rest = GoesOn M s h timed × Sta
 EndsAt M _ s h timed others place rest = ⊥
 
 -- messages were worked off as far as the stream goes, and this is what their answers and counts gave
-pub record Replay (M : Model) (stood : History → Type 0) (s : M.State) (h : History) (timed : List Timed) (others : List (List ℕ)) (rest : List ℕ) (ending : Ending) (Gave : List (List ℕ) → SessionCounts → Type 0) : Type 0 where
+pub record Replay (M : Model) (stood : History → Type 0) (s : M.State) (h : History) (timed : List Timed) (others : List (List ℕ)) (rest : List ℕ)
+    (ending : Ending) (Gave : List (List ℕ) → SessionCounts → Type 0) : Type 0 where
   pub works : Works M s h timed
   pub ends : EndsAt M ending s h timed others (length (joined (bytes_of timed))) rest
   pub stands : stood (grown h (kept_in timed))
@@ -40,7 +41,8 @@ pub record Replay (M : Model) (stood : History → Type 0) (s : M.State) (h : Hi
 
 -- the first messages of the input were worked off, the kept ones at this moment, whatever the keeper stood for and
 -- whatever was settled, where no message comes again
-pub record Replayed {M : Model} (k k' : KeeperState M) (moment : Moment) (input : List ℕ) (ending : Ending) (Gave : List (List ℕ) → SessionCounts → Type 0) : Type 0 where
+pub record Replayed {M : Model} (k k' : KeeperState M) (moment : Moment) (input : List ℕ) (ending : Ending)
+    (Gave : List (List ℕ) → SessionCounts → Type 0) : Type 0 where
   pub timed : List Timed
   pub others : List (List ℕ)
   pub parts : (cut input).0 ≡ bytes_of timed ++ others

@@ -67,7 +67,8 @@ pub record AnsweredFault {M : Model} {K : Type 0} (told : K → KeeperState M) (
 
 -- a fault of the store ended it: one that the keeper that is left, if its store is clean, could answer, and where none
 -- is left one with which a keeper refused to be opened again
-abbrev pub StoreEnded : {M : Model} {K : Type 0} → (K → KeeperState M) → (K → K → ℕ → Type 0) → (K → StoreFault → Type 0) → Option K → Option K → Ending → Type 0
+abbrev pub StoreEnded : {M : Model} {K : Type 0} → (K → KeeperState M) → (K → K → ℕ → Type 0) → (K → StoreFault → Type 0) → Option K → Option K → Ending
+    → Type 0
 StoreEnded told became may_refuse old None ending = (k : _) × (f : StoreFault) × may_refuse k f × (ending ≡ store_ending f)
 StoreEnded told became may_refuse old (Some k') ending = (told k').is_clean → AnsweredFault told became old (Some k') ending
 

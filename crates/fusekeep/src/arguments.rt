@@ -132,8 +132,8 @@ fn told(alloc: Global, kind: ErrorKind, text: &str) -> Result<Error, AllocError>
     program_command(alloc)?.error(kind, text)
 }
 
-/// Reads the words of a command line, of which the first is the program's name. An `Err` is what is to be said of them: a mistake, the
-/// help that was asked for, or want of memory.
+/// Reads the words of a command line, of which the first is the program's name. An `Err` is what is
+/// to be said of them: a mistake, the help that was asked for, or want of memory.
 pub fn parse<'a, S: AsStr>(alloc: Global, words: &'a [S]) -> Result<Run<'a>, Error> {
     let matches = program_command(alloc)?.try_get_matches_from(words)?;
     match run_of(&matches) {

@@ -1,11 +1,13 @@
 //! How many messages of a stream spell a request.
-ghost use Rattle.std.specs.Prelude.{◌≡◌, ◌≢◌, ◌<◌, ◌≤◌, ◌+◌, ◌^◌, [], None, if◌then◌else◌, IfSome, IfErr, OnOk};
+ghost use Rattle.std.specs.Prelude.{◌≡◌, ◌≢◌, ◌<◌, ◌≤◌, ◌+◌, ◌^◌, [], None, if◌then◌else◌, IfSome};
+ghost use Rattle.std.specs.Prelude.{IfErr, OnOk};
 ghost use Rattle.std.specs.Io.KnownBytes.{Appends};
 ghost use Rattle.fuse_request.specs.Act.{act};
 ghost use Rattle.fusekeep.specs.Endings.{status_of, GaveOut};
 ghost use Rattle.fusekeep.specs.Messages.{left_in, place_in, WentThrough};
 ghost use Rattle.fusekeep.specs.Printing.{line};
-ghost use Rattle.fusekeep.specs.Checking.{is_malformed, is_unsupported, asks_unsupported, checked, check_line, check_ending, Checked};
+ghost use Rattle.fusekeep.specs.Checking.{is_malformed, is_unsupported, asks_unsupported, checked};
+ghost use Rattle.fusekeep.specs.Checking.{check_line, check_ending, Checked};
 
 use crate::ending::Ending;
 use crate::messages::Messages;
@@ -14,7 +16,8 @@ use std::alloc::Global;
 use std::fmt;
 use std::io::{Read, Write};
 
-/// How many messages were looked at, how many of them spell no request, and how many one outside the profile.
+/// How many messages were looked at, how many of them spell no request, and how many one outside
+/// the profile.
 #[derive(Clone, Copy, Debug, PartialEq, Eq, Drop)]
 pub struct MessageCounts {
     pub messages: u64,
@@ -92,7 +95,8 @@ fn count_all<R: Read + Drop>(
 ) -> Result<(), Ending>
     requires none { counts.old ≡ checked [] }
     requires place { place_in messages.old ≡ 0 }
-    ensures { WentThrough (left_in R.remaining messages.old) (λ ms. counts.new ≡ checked ms) result }
+    ensures { WentThrough (left_in R.remaining messages.old)
+        (λ ms. counts.new ≡ checked ms) result }
 {
     one_cut();
     cut_steps();
@@ -104,7 +108,8 @@ fn count_all<R: Read + Drop>(
 
 // Prints the counts.
 fn write_check<W: Write>(writer: &mut W, counts: MessageCounts) -> Result<(), Ending>
-    ensures ok { OnOk result (Appends (W.contents writer.old) (W.contents writer.new) (line (check_line counts))) }
+    ensures ok { OnOk result (Appends (W.contents writer.old) (W.contents writer.new)
+        (line (check_line counts))) }
     ensures err { IfErr result GaveOut }
 {
     writeln!(writer, "{counts}")?;
@@ -112,10 +117,11 @@ fn write_check<W: Write>(writer: &mut W, counts: MessageCounts) -> Result<(), En
     Ok(())
 }
 
-/// Counts the messages of the stream, and prints the counts. Where the stream has a fault, the messages before it are
-/// counted.
+/// Counts the messages of the stream, and prints the counts. Where the stream has a fault, the
+/// messages before it are counted.
 pub fn run_check<R: Read + Drop, W: Write>(alloc: Global, reader: R, writer: &mut W) -> Ending
-    ensures checked { IfSome (R.remaining reader) (λ stream. status_of result ≤ 1 → Checked (W.contents writer.old) (W.contents writer.new) stream result) }
+    ensures checked { IfSome (R.remaining reader) (λ stream. status_of result ≤ 1
+        → Checked (W.contents writer.old) (W.contents writer.new) stream result) }
     ensures usage { status_of result ≢ 2 }
     ensures store { status_of result ≢ 3 }
 {

@@ -18,7 +18,8 @@ use std::alloc::Global;
 use std::fmt;
 use std::io::{Read, Write};
 
-// An opcode, which is printed by its name in `fuse.h`, or by its number where it is outside the profile.
+// An opcode, which is printed by its name in `fuse.h`, or by its number where it is outside the
+// profile.
 #[derive(Clone, Copy)]
 struct Opcode(u32);
 
@@ -126,7 +127,8 @@ fn header_in(message: &[u8]) -> RawHeader
 // Prints the line of a message.
 fn write_line<W: Write>(writer: &mut W, placed: &Placed) -> Result<(), Ending>
     requires { IsMessage placed.now.bytes }
-    ensures ok { OnOk result (Appends (W.contents writer.old) (W.contents writer.new) (line (dump_line placed.now.at (raw_of placed.now.bytes) (first_fault placed.now.bytes)))) }
+    ensures ok { OnOk result (Appends (W.contents writer.old) (W.contents writer.new)
+        (line (dump_line placed.now.at (raw_of placed.now.bytes) (first_fault placed.now.bytes)))) }
     ensures err { IfErr result GaveOut }
 {
     let text = DumpLine {
@@ -144,7 +146,8 @@ fn write_lines<R: Read + Drop, W: Write>(
     writer: &mut W,
 ) -> Result<(), Ending>
     requires { place_in messages.old ≡ 0 }
-    ensures { WentThrough (left_in R.remaining messages.old) (λ ms. Appends (W.contents writer.old) (W.contents writer.new) (dump_lines 0 ms)) result }
+    ensures { WentThrough (left_in R.remaining messages.old) (λ ms.
+        Appends (W.contents writer.old) (W.contents writer.new) (dump_lines 0 ms)) result }
 {
     one_cut();
     cut_steps();
@@ -154,9 +157,11 @@ fn write_lines<R: Read + Drop, W: Write>(
     Ok(())
 }
 
-/// Prints a line for each message of the stream. Where the stream has a fault, the messages before it are printed.
+/// Prints a line for each message of the stream. Where the stream has a fault, the messages before
+/// it are printed.
 pub fn run_dump<R: Read + Drop, W: Write>(alloc: Global, reader: R, writer: &mut W) -> Ending
-    ensures dumped { IfSome (R.remaining reader) (λ stream. status_of result ≤ 1 → Dumped (W.contents writer.old) (W.contents writer.new) stream result) }
+    ensures dumped { IfSome (R.remaining reader) (λ stream. status_of result ≤ 1
+        → Dumped (W.contents writer.old) (W.contents writer.new) stream result) }
     ensures usage { status_of result ≢ 2 }
     ensures store { status_of result ≢ 3 }
 {

@@ -1,5 +1,6 @@
 ghost use Rattle.std.specs.Prelude.{◌≡◌, nat_le, option_map};
-ghost use Rattle.fusekeep.specs.Endings.{line_of, session_ending, status_of, store_ending, stream_ending};
+ghost use Rattle.fusekeep.specs.Endings.{line_of, session_ending, status_of, store_ending};
+ghost use Rattle.fusekeep.specs.Endings.{stream_ending};
 
 use fuse_keeper::StoreFault;
 use fuse_request::FrameFault;
@@ -109,7 +110,8 @@ impl Ending {
         }
     }
 
-    /// What standard error is told: nothing where all went well, where clap has said it, and where the counts say it.
+    /// What standard error is told: nothing where all went well, where clap has said it, and where
+    /// the counts say it.
     pub fn line(self) -> Option<FaultLine>
         ensures { result ≡ option_map (λ _. record { ending = self }) (line_of self) }
     {

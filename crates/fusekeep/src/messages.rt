@@ -2,7 +2,7 @@
 ghost use Rattle.std.specs.Prelude.{◌≡◌, ◌+◌, ◌*◌, ◌<◌, ◌≤◌, ◌^◌, None, false, IfOk, IfErr, OnOk};
 ghost use Rattle.std.specs.Io.KnownBytes.{Keeps, IsAtEnd};
 ghost use Rattle.fuse_request.specs.Framing.{fed_of};
-ghost use Rattle.fuse_request.specs.declared.header.TheConstants.{MAX_MESSAGE as max_message};
+ghost use Rattle.fuse_wire.specs.Bounds.{max_message_len};
 ghost use Rattle.fusekeep.specs.declared.reading.TheConstants.{MAX_READS as max_reads};
 ghost use Rattle.fusekeep.specs.Endings.{GaveOut};
 
@@ -20,13 +20,15 @@ pub struct Placed {
     pub bytes: Bytes,
 }
 
-/// The messages of what a reader gives. No more of the stream is held than a piece and a message that isn't whole yet.
+/// The messages of what a reader gives. No more of the stream is held than a piece and a message
+/// that isn't whole yet.
 #[derive(Drop)]
 pub struct Messages<R> {
     pieces: PieceReader<R>,
     framer: Framer,
 
-    ghost fed: { fed_of framer + max_message * pieces.reads_left ≤ max_message * max_reads },
+    ghost fed: { fed_of framer + max_message_len * pieces.reads_left
+        ≤ max_message_len * max_reads },
 }
 
 impl<R: Read + Drop> Messages<R> {
@@ -36,7 +38,8 @@ impl<R: Read + Drop> Messages<R> {
 
     /// An `Err` is want of memory.
     pub fn new(alloc: Global, reader: R) -> Result<Messages<R>, Ending>
-        ensures ok { IfOk result (λ messages. (left_in R.remaining messages ≡ R.remaining reader) × (place_in messages ≡ 0)) }
+        ensures ok { IfOk result (λ messages. (left_in R.remaining messages ≡ R.remaining reader)
+            × (place_in messages ≡ 0)) }
         ensures err { IfErr result (λ ending. ending ≡ Ending.Memory) }
     {
         Ok(Messages {
@@ -47,10 +50,13 @@ impl<R: Read + Drop> Messages<R> {
 
     // Reads a piece of the stream. Whether there was one.
     fn read(&mut self) -> Result<bool, Ending>
-        ensures left { OnOk result (Keeps (left_in R.remaining self.old) (left_in R.remaining self.new)) }
+        ensures left { OnOk result (Keeps (left_in R.remaining self.old)
+            (left_in R.remaining self.new)) }
         ensures place { OnOk result (place_in self.new ≡ place_in self.old) }
         ensures work { OnOk result (work_in self.new < work_in self.old) }
-        ensures end { IfOk result (λ some. some ≡ false → (self.new.framer.bytes ≡ self.old.framer.bytes) × IsAtEnd (left_to R.remaining self.new.pieces)) }
+        ensures end { IfOk result (λ some. some ≡ false
+            → (self.new.framer.bytes ≡ self.old.framer.bytes)
+            × IsAtEnd (left_to R.remaining self.new.pieces)) }
         ensures err { IfErr result GaveOut }
     {
         if !self.pieces.read()? {
@@ -73,11 +79,14 @@ impl<R: Read + Drop> Messages<R> {
         }
     }
 
-    /// The next message. `None` is the end of the stream, and an `Err` its fault, or that of reading it.
+    /// The next message. `None` is the end of the stream, and an `Err` its fault, or that of
+    /// reading it.
     pub fn next(&mut self) -> Result<Option<Placed>, Ending>
-        ensures next { GivesPlaced (left_in R.remaining self.old) (left_in R.remaining self.new) (place_in self.old) (place_in self.new) result }
+        ensures next { GivesPlaced (left_in R.remaining self.old) (left_in R.remaining self.new)
+            (place_in self.old) (place_in self.new) result }
         ensures few { place_in self.new < 2 ^ 60 }
-        ensures less { IfOk result (λ next. (next ≡ None → ⊥) → work_in self.new < work_in self.old) }
+        ensures less { IfOk result (λ next. (next ≡ None → ⊥)
+            → work_in self.new < work_in self.old) }
     {
         cut_steps();
         loop {

@@ -19,7 +19,8 @@ fn front_len(sent: &[u8]) -> usize
     requires { 0 < length sent.now }
     ensures some { 0 < result }
     ensures there { result ≤ length sent.now }
-    ensures first { (answer others : List ℕ) → BeginsWithLen answer → sent.now ≡ answer ++ others → result ≡ length answer }
+    ensures first { (answer others : List ℕ) → BeginsWithLen answer → sent.now ≡ answer ++ others
+        → result ≡ length answer }
 {
     one_number();
     match Fields::new(sent).u32() {
@@ -30,7 +31,8 @@ fn front_len(sent: &[u8]) -> usize
 
 /// Writes one answer in hexadecimal, on a line of its own.
 pub fn write_hex_line<W: Write>(alloc: Global, writer: &mut W, answer: &[u8]) -> Result<(), Ending>
-    ensures ok { OnOk result (Appends (W.contents writer.old) (W.contents writer.new) (line (encode_lower answer.now))) }
+    ensures ok { OnOk result (Appends (W.contents writer.old) (W.contents writer.new)
+        (line (encode_lower answer.now))) }
     ensures err { IfErr result (λ ending. (ending ≡ Ending.PortFailed) ⊎ (ending ≡ Ending.Memory)) }
 {
     let text = hex::encode(alloc, answer)?;
@@ -38,9 +40,11 @@ pub fn write_hex_line<W: Write>(alloc: Global, writer: &mut W, answer: &[u8]) ->
     Ok(())
 }
 
-/// Writes the answers, which follow one another in `sent`, in hexadecimal, each on a line of its own.
+/// Writes the answers, which follow one another in `sent`, in hexadecimal, each on a line of its
+/// own.
 pub fn write_answers<W: Write>(alloc: Global, writer: &mut W, sent: &[u8]) -> Result<(), Ending>
-    ensures ok { OnOk result ((answers : List (List ℕ)) → AllByRecursion IsAnswer answers → sent.now ≡ joined answers
+    ensures ok { OnOk result ((answers : List (List ℕ)) → AllByRecursion IsAnswer answers
+        → sent.now ≡ joined answers
         → Appends (W.contents writer.old) (W.contents writer.new) (answer_lines answers)) }
     ensures err { IfErr result (λ ending. (ending ≡ Ending.PortFailed) ⊎ (ending ≡ Ending.Memory)) }
 {
@@ -55,7 +59,8 @@ pub fn write_answers<W: Write>(alloc: Global, writer: &mut W, sent: &[u8]) -> Re
 
 /// Writes the line of counts.
 pub fn write_counts<W: Write>(writer: &mut W, counts: SessionCounts) -> Result<(), Ending>
-    ensures ok { OnOk result (Appends (W.contents writer.old) (W.contents writer.new) (line (count_line counts))) }
+    ensures ok { OnOk result (Appends (W.contents writer.old) (W.contents writer.new)
+        (line (count_line counts))) }
     ensures err { IfErr result (λ ending. ending ≡ Ending.PortFailed) }
 {
     writeln!(writer, "{}", CountLine(counts))?;
@@ -64,7 +69,8 @@ pub fn write_counts<W: Write>(writer: &mut W, counts: SessionCounts) -> Result<(
 
 /// Writes the line of what a store holds.
 pub fn write_store<W: Write>(writer: &mut W, counts: StoreCounts) -> Result<(), Ending>
-    ensures ok { OnOk result (Appends (W.contents writer.old) (W.contents writer.new) (line (store_line counts.nodes counts.handles))) }
+    ensures ok { OnOk result (Appends (W.contents writer.old) (W.contents writer.new)
+        (line (store_line counts.nodes counts.handles))) }
     ensures err { IfErr result (λ ending. ending ≡ Ending.PortFailed) }
 {
     writeln!(writer, "{}", StoreLine(counts))?;

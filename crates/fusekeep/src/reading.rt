@@ -1,7 +1,8 @@
 //! Reading an input piece by piece.
-ghost use Rattle.std.specs.Prelude.{◌≡◌, ◌<◌, ◌≤◌, [], false, length, take, IfSome, OnOk, IfOk, IfErr};
+ghost use Rattle.std.specs.Prelude.{◌≡◌, ◌<◌, ◌≤◌, [], false, length, take, IfSome, OnOk, IfOk};
+ghost use Rattle.std.specs.Prelude.{IfErr};
 ghost use Rattle.std.specs.Io.KnownBytes.{Consumes, IsAtEnd};
-ghost use Rattle.fuse_request.specs.declared.header.TheConstants.{MAX_MESSAGE as max_message};
+ghost use Rattle.fuse_wire.specs.Bounds.{max_message_len};
 ghost use Rattle.fusekeep.specs.Endings.{GaveOut};
 
 use crate::ending::Ending;
@@ -20,8 +21,8 @@ pub struct PieceReader<R> {
     len: usize,
     reads_left: u32,
 
-    ghost room: { length buffer.items ≡ max_message },
-    ghost within: { len ≤ max_message },
+    ghost room: { length buffer.items ≡ max_message_len },
+    ghost within: { len ≤ max_message_len },
 }
 
 // Reads into a buffer. How many bytes there were.
@@ -29,7 +30,8 @@ fn read_into<R: Read>(reader: &mut R, buffer: &mut Vec<u8>) -> Result<usize, End
     requires { 0 < length buffer.old.items }
     ensures room { length buffer.new.items ≡ length buffer.old.items }
     ensures within { IfOk result (λ n. n ≤ length buffer.new.items) }
-    ensures came { IfOk result (λ n. Consumes (R.remaining reader.old) (R.remaining reader.new) (take n buffer.new.items)) }
+    ensures came { IfOk result (λ n. Consumes (R.remaining reader.old) (R.remaining reader.new)
+        (take n buffer.new.items)) }
     ensures end { IfOk result (λ n. n ≡ 0 → IsAtEnd (R.remaining reader.new)) }
     ensures err { IfErr result GaveOut }
 {
@@ -54,8 +56,10 @@ impl<R: Read + Drop> PieceReader<R> {
 
     /// Reads the next piece. Whether there is one.
     pub fn read(&mut self) -> Result<bool, Ending>
-        ensures came { OnOk result (Consumes (left_to R.remaining self.old) (left_to R.remaining self.new) (piece_in self.new)) }
-        ensures end { IfOk result (λ some. some ≡ false → (piece_in self.new ≡ []) × IsAtEnd (left_to R.remaining self.new)) }
+        ensures came { OnOk result (Consumes (left_to R.remaining self.old)
+            (left_to R.remaining self.new) (piece_in self.new)) }
+        ensures end { IfOk result (λ some. some ≡ false → (piece_in self.new ≡ [])
+            × IsAtEnd (left_to R.remaining self.new)) }
         ensures less { OnOk result (self.new.reads_left < self.old.reads_left) }
         ensures bound { self.new.reads_left ≤ self.old.reads_left }
         ensures err { IfErr result GaveOut }
@@ -71,13 +75,14 @@ impl<R: Read + Drop> PieceReader<R> {
     /// The piece that was read last, of at most 135,168 bytes.
     pub fn piece(&self) -> &[u8]
         ensures piece { result.now ≡ piece_in self.now }
-        ensures short { length result.now ≤ max_message }
+        ensures short { length result.now ≤ max_message_len }
     {
         &self.buffer[..self.len]
     }
 }
 
-/// All that a reader gives. An `Err` is that it fails, that it goes on past the bound on reads, or want of memory.
+/// All that a reader gives. An `Err` is that it fails, that it goes on past the bound on reads, or
+/// want of memory.
 pub fn read_all<R: Read + Drop>(alloc: Global, reader: R) -> Result<Vec<u8>, Ending>
     ensures ok { IfOk result (λ input. IfSome (R.remaining reader) (λ known. input.items ≡ known)) }
     ensures err { IfErr result GaveOut }

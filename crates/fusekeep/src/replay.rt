@@ -1,4 +1,5 @@
-ghost use Rattle.std.specs.Prelude.{◌≡◌, ◌≢◌, ◌⊎◌, ◌≤◌, ℕ, true, false, List, Some, IfSome, IfErr, OnOk};
+ghost use Rattle.std.specs.Prelude.{◌≡◌, ◌≢◌, ◌⊎◌, ◌≤◌, ℕ, true, false, List, Some, IfSome, IfErr};
+ghost use Rattle.std.specs.Prelude.{OnOk};
 ghost use Rattle.std.specs.List.{AllByRecursion};
 ghost use Rattle.fuse_request.specs.Stream.{joined};
 ghost use Rattle.fusekeep.specs.Endings.{status_of, IsOfStream};
@@ -42,10 +43,14 @@ fn serve_stream<K: Keeper, R: Read>(
     moment: Moment,
 ) -> Session
     requires going { (K.told keeper.old).has_failed ≡ false }
-    ensures replayed { IsOfStream result.ending → (input : List ℕ) → R.remaining reader.old ≡ Some input
-        → Replayed (K.told keeper.old) (K.told keeper.new) moment input result.ending (Sends result.sent.items result.counts) }
-    ensures faulted { status_of result.ending ≡ 3 → (input : List ℕ) → R.remaining reader.old ≡ Some input
-        → Faulted (K.told keeper.old) (K.told keeper.new) moment input (λ answers. result.sent.items ≡ joined answers) }
+    ensures replayed { IsOfStream result.ending → (input : List ℕ)
+        → R.remaining reader.old ≡ Some input
+        → Replayed (K.told keeper.old) (K.told keeper.new) moment input result.ending
+        (Sends result.sent.items result.counts) }
+    ensures faulted { status_of result.ending ≡ 3 → (input : List ℕ)
+        → R.remaining reader.old ≡ Some input
+        → Faulted (K.told keeper.old) (K.told keeper.new) moment input
+        (λ answers. result.sent.items ≡ joined answers) }
     ensures store { status_of result.ending ≡ 3 → (K.told keeper.new).has_failed ≡ true }
     ensures failed { (K.told keeper.new).has_failed ≡ true → 3 ≤ status_of result.ending }
     ensures usage { status_of result.ending ≢ 2 }
@@ -63,9 +68,11 @@ fn serve_stream<K: Keeper, R: Read>(
 
 // Prints the answers, and the counts where the stream was served as far as it goes.
 fn print_session<W: Write>(alloc: Global, writer: &mut W, session: &Session) -> Result<(), Ending>
-    ensures fault { (IsOfStream session.now.ending → ⊥) → OnOk result ((answers : List (List ℕ)) → AllByRecursion IsAnswer answers → session.now.sent.items ≡ joined answers
+    ensures fault { (IsOfStream session.now.ending → ⊥) → OnOk result ((answers : List (List ℕ))
+        → AllByRecursion IsAnswer answers → session.now.sent.items ≡ joined answers
         → PrintsAnswers (W.contents writer.old) (W.contents writer.new) answers) }
-    ensures ok { IsOfStream session.now.ending → OnOk result ((answers : List (List ℕ)) → AllByRecursion IsAnswer answers → session.now.sent.items ≡ joined answers
+    ensures ok { IsOfStream session.now.ending → OnOk result ((answers : List (List ℕ))
+        → AllByRecursion IsAnswer answers → session.now.sent.items ≡ joined answers
         → Prints (W.contents writer.old) (W.contents writer.new) answers session.now.counts) }
     ensures err { IfErr result (λ ending. (ending ≡ Ending.PortFailed) ⊎ (ending ≡ Ending.Memory)) }
 {
@@ -77,8 +84,8 @@ fn print_session<W: Write>(alloc: Global, writer: &mut W, session: &Session) -> 
     Ok(())
 }
 
-/// Serves the stream that the reader gives, all at one moment, and then prints the answers and, where it was served as
-/// far as it goes, the counts.
+/// Serves the stream that the reader gives, all at one moment, and then prints the answers and,
+/// where it was served as far as it goes, the counts.
 pub fn run_replay<K: Keeper, R: Read + Drop, W: Write>(
     alloc: Global,
     keeper: &mut K,
@@ -87,13 +94,16 @@ pub fn run_replay<K: Keeper, R: Read + Drop, W: Write>(
     moment: Moment,
 ) -> Ending
     requires going { (K.told keeper.old).has_failed ≡ false }
-    // At status 0 or 1: what was worked off of the input, what is printed of it, and what the keeper then stands for.
+    // At status 0 or 1: what was worked off of the input, what is printed of it, and what the
+    // keeper then stands for.
     ensures replayed { IsOfStream result → (input : List ℕ) → R.remaining reader ≡ Some input
-        → Replayed (K.told keeper.old) (K.told keeper.new) moment input result (Prints (W.contents writer.old) (W.contents writer.new)) }
+        → Replayed (K.told keeper.old) (K.told keeper.new) moment input result
+        (Prints (W.contents writer.old) (W.contents writer.new)) }
 
     // At a fault of the store the answers before it are printed, and no counts.
     ensures faulted { status_of result ≡ 3 → (input : List ℕ) → R.remaining reader ≡ Some input
-        → Faulted (K.told keeper.old) (K.told keeper.new) moment input (PrintsAnswers (W.contents writer.old) (W.contents writer.new)) }
+        → Faulted (K.told keeper.old) (K.told keeper.new) moment input
+        (PrintsAnswers (W.contents writer.old) (W.contents writer.new)) }
     ensures store { status_of result ≡ 3 → (K.told keeper.new).has_failed ≡ true }
     ensures failed { (K.told keeper.new).has_failed ≡ true → 3 ≤ status_of result }
     ensures usage { status_of result ≢ 2 }

@@ -1,9 +1,13 @@
 //! Scripts: the events that the lines of a text tell.
-ghost use Rattle.std.specs.Prelude.{◌≡◌, ◌⊎◌, ◌≤◌, ◌<◌, ◌+◌, ◌*◌, ◌^◌, ◌++◌, ◌∷◌, [], ℕ, List, None, IsTrue, ◌↔◌, IfSome, IsSomeAnd, OnOk, IfOk, IfErr, MatchOption};
+ghost use Rattle.std.specs.Prelude.{◌≡◌, ◌⊎◌, ◌≤◌, ◌<◌, ◌+◌, ◌*◌, ◌^◌, ◌++◌, ◌∷◌, [], ℕ, List};
+ghost use Rattle.std.specs.Prelude.{None, IsTrue, ◌↔◌, IfSome, IsSomeAnd, OnOk, IfOk};
+ghost use Rattle.std.specs.Prelude.{IfErr, MatchOption};
 ghost use Rattle.std.specs.Char.{digit_value};
 ghost use Rattle.fuse_sim.specs.declared.event.Event.{Event as EventValue};
 ghost use Rattle.fuse_sim.specs.declared.event.Fate.{Fate as FateValue};
-ghost use Rattle.fusekeep.specs.Scripts.{lines_of, parts_in, word_of, Lacks, IsSeconds, HasParts, IsHexOf, Writes, TellsNothing, Tells, TookLine, IsBad, FirstBad};
+ghost use Rattle.fusekeep.specs.Scripts.{lines_of, parts_in, word_of, Lacks, IsSeconds, HasParts};
+ghost use Rattle.fusekeep.specs.Scripts.{IsHexOf, Writes, TellsNothing, Tells, TookLine, IsBad};
+ghost use Rattle.fusekeep.specs.Scripts.{FirstBad};
 
 use crate::ending::Ending;
 use fuse_request::{has_zero_unique, is_message};
@@ -22,7 +26,8 @@ enum LineFault {
 
 // What stands before the first of these bytes, and what stands behind it.
 fn split_at(text: &[u8], byte: u8) -> Option<(&[u8], &[u8])>
-    ensures some { IfSome result (λ parts. (text.now ≡ parts.0.now ++ byte ∷ parts.1.now) × Lacks byte parts.0.now) }
+    ensures some { IfSome result (λ parts. (text.now ≡ parts.0.now ++ byte ∷ parts.1.now)
+        × Lacks byte parts.0.now) }
     ensures none { result ≡ None → Lacks byte text.now }
 {
     let place = text.iter().position(|b| *b == byte)?;
@@ -82,7 +87,8 @@ fn seconds_of(text: &[u8]) -> Option<u64>
 // The fate, the seconds and the text of a line.
 fn parts_of(line: &[u8]) -> Option<(Fate, u64, &[u8])>
     ensures found { IfSome result (λ parts. HasParts line.now parts.0 parts.1 parts.2.now) }
-    ensures only { (fate : FateValue) (secs : ℕ) (text : List ℕ) → HasParts line.now fate secs text → IsSomeAnd result (λ parts. (parts.0 ≡ fate) × (parts.1 ≡ secs) × (parts.2.now ≡ text)) }
+    ensures only { (fate : FateValue) (secs : ℕ) (text : List ℕ) → HasParts line.now fate secs text
+        → IsSomeAnd result (λ parts. (parts.0 ≡ fate) × (parts.1 ≡ secs) × (parts.2.now ≡ text)) }
 {
     let (word, rest) = split_at(line, b' ')?;
     let (digits, text) = split_at(rest, b' ')?;
@@ -92,7 +98,8 @@ fn parts_of(line: &[u8]) -> Option<(Fate, u64, &[u8])>
 // The message that a text has in hexadecimal, where it is just one and can be answered.
 fn message_of(alloc: Global, text: &[u8]) -> Result<ByteList, LineFault>
     ensures found { IfOk result (λ m. IsHexOf text.now m) }
-    ensures form { IfErr result (λ fault. fault ≡ LineFault.Form → (m : List ℕ) → ¬ IsHexOf text.now m) }
+    ensures form { IfErr result (λ fault. fault ≡ LineFault.Form
+        → (m : List ℕ) → ¬ IsHexOf text.now m) }
 {
     let bytes = match hex::decode(alloc, text) {
         Ok(bytes) => bytes,
@@ -108,7 +115,8 @@ fn message_of(alloc: Global, text: &[u8]) -> Result<ByteList, LineFault>
 // The event that a line writes.
 fn event_of(alloc: Global, line: &[u8]) -> Result<Event, LineFault>
     ensures found { IfOk result (λ e. Writes line.now e) }
-    ensures form { IfErr result (λ fault. fault ≡ LineFault.Form → (e : EventValue) → ¬ Writes line.now e) }
+    ensures form { IfErr result (λ fault. fault ≡ LineFault.Form
+        → (e : EventValue) → ¬ Writes line.now e) }
 {
     let Some((fate, secs, text)) = parts_of(line) else {
         return Err(LineFault::Form);
@@ -132,7 +140,8 @@ fn tells_nothing(line: &[u8]) -> bool
 
 // The event that a line writes, where it isn't passed over.
 fn read_line(alloc: Global, line: &[u8]) -> Result<Option<Event>, LineFault>
-    ensures found { IfOk result (λ event. MatchOption event (TellsNothing line.now) (λ e. Writes line.now e)) }
+    ensures found { IfOk result (λ event. MatchOption event (TellsNothing line.now)
+        (λ e. Writes line.now e)) }
     ensures form { IfErr result (λ fault. fault ≡ LineFault.Form → IsBad line.now) }
 {
     if tells_nothing(line) {
@@ -166,10 +175,12 @@ fn split_lines(alloc: Global, script: &[u8]) -> Result<Vec<&[u8]>, AllocError>
     Ok(lines)
 }
 
-/// The events that the lines of a script tell. An `Err` is its first line of no right form, or want of memory.
+/// The events that the lines of a script tell. An `Err` is its first line of no right form, or want
+/// of memory.
 pub fn read_script(alloc: Global, script: &[u8]) -> Result<Vec<Event>, Ending>
     ensures found { IfOk result (λ events. Tells (lines_of script.now) events.items) }
-    ensures bad { IfErr result (λ ending. (ending ≡ Ending.Memory) ⊎ ((n : ℕ) × (ending ≡ Ending.ScriptLine n) × FirstBad 1 (lines_of script.now) n)) }
+    ensures bad { IfErr result (λ ending. (ending ≡ Ending.Memory)
+        ⊎ ((n : ℕ) × (ending ≡ Ending.ScriptLine n) × FirstBad 1 (lines_of script.now) n)) }
 {
     let lines = split_lines(alloc, script)?;
     let mut events = Vec::new(alloc);

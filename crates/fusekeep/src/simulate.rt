@@ -1,5 +1,6 @@
 //! Running the events of a script.
-ghost use Rattle.std.specs.Prelude.{◌≡◌, ◌≢◌, ◌≤◌, ◌++◌, [], false, map, All, IsSome, IsSomeAnd, IfSome, IfOk, IfErr, OnOk};
+ghost use Rattle.std.specs.Prelude.{◌≡◌, ◌≢◌, ◌≤◌, ◌++◌, [], false, map, All, IsSome, IsSomeAnd};
+ghost use Rattle.std.specs.Prelude.{IfSome, IfOk, IfErr, OnOk};
 ghost use Rattle.std.specs.Io.KnownBytes.{Appends};
 ghost use Rattle.fuse_tree.specs.State.{State};
 ghost use Rattle.fuse_keeper.specs.KeeperState.{StandsFor};
@@ -8,7 +9,8 @@ ghost use Rattle.fuse_store.specs.PlainTree.{tree_told};
 ghost use Rattle.fuse_sim.specs.Driving.{told_in, StandsIn, NoneReused, IsFit, bytes_given};
 ghost use Rattle.fusekeep.specs.Endings.{status_of, GaveOut};
 ghost use Rattle.fusekeep.specs.Printing.{line, store_line};
-ghost use Rattle.fusekeep.specs.Simulating.{Went, StoreEnded, Reuses, RanScript, NotRun, Simulated, outcome_line, outcome_lines};
+ghost use Rattle.fusekeep.specs.Simulating.{Went, StoreEnded, Reuses, RanScript, NotRun, Simulated};
+ghost use Rattle.fusekeep.specs.Simulating.{outcome_line, outcome_lines};
 
 use crate::ending::Ending;
 use crate::printing::{write_hex_line, write_store};
@@ -69,7 +71,8 @@ fn write_outcome<W: Write>(
     writer: &mut W,
     outcome: &Option<Outcome>,
 ) -> Result<(), Ending>
-    ensures ok { OnOk result (Appends (W.contents writer.old) (W.contents writer.new) (outcome_line (bytes_given outcome.now))) }
+    ensures ok { OnOk result (Appends (W.contents writer.old) (W.contents writer.new)
+        (outcome_line (bytes_given outcome.now))) }
     ensures err { IfErr result GaveOut }
 {
     let Some(outcome) = outcome else {
@@ -89,7 +92,8 @@ fn print_simulation<W: Write>(
     simulation: &Simulation,
 ) -> Result<(), Ending>
     ensures ok { OnOk result (Appends (W.contents writer.old) (W.contents writer.new)
-        (outcome_lines (map bytes_given simulation.now.outcomes.items) ++ line (store_line simulation.now.counts.nodes simulation.now.counts.handles))) }
+        (outcome_lines (map bytes_given simulation.now.outcomes.items)
+        ++ line (store_line simulation.now.counts.nodes simulation.now.counts.handles))) }
     ensures err { IfErr result GaveOut }
 {
     for outcome in simulation.outcomes.as_slice() {
@@ -121,10 +125,13 @@ fn run_in_memory(
 
 // Runs the events that a reader's script tells over a new store.
 fn simulate<R: Read + Drop>(alloc: Global, reader: R) -> Result<Simulation, Ending>
-    ensures ok { IfOk result (λ simulation. IfSome (R.remaining reader) (λ script. RanScript script simulation)) }
-    ensures err { IfErr result (λ ending. IfSome (R.remaining reader) (λ script. status_of ending ≤ 1 → NotRun script ending)) }
+    ensures ok { IfOk result (λ simulation. IfSome (R.remaining reader)
+        (λ script. RanScript script simulation)) }
+    ensures err { IfErr result (λ ending. IfSome (R.remaining reader) (λ script.
+        status_of ending ≤ 1 → NotRun script ending)) }
     ensures usage { IfErr result (λ ending. status_of ending ≢ 2) }
-    ensures store { IfErr result (λ ending. IfSome (R.remaining reader) (λ script. status_of ending ≡ 3 → Reuses script)) }
+    ensures store { IfErr result (λ ending. IfSome (R.remaining reader) (λ script.
+        status_of ending ≡ 3 → Reuses script)) }
 {
     let Ok(keeper) = PlainKeeper::<PlainTree>::new(alloc, START) else {
         return Err(Ending::Memory);
@@ -134,10 +141,11 @@ fn simulate<R: Read + Drop>(alloc: Global, reader: R) -> Result<Simulation, Endi
     run_in_memory(alloc, keeper, events.as_slice())
 }
 
-/// Runs the events of a script over a new store in memory, and then prints a line for each event and one for what the
-/// store holds. A script of which a line has no right form isn't run.
+/// Runs the events of a script over a new store in memory, and then prints a line for each event
+/// and one for what the store holds. A script of which a line has no right form isn't run.
 pub fn run_simulate<R: Read + Drop, W: Write>(alloc: Global, reader: R, writer: &mut W) -> Ending
-    ensures simulated { IfSome (R.remaining reader) (λ script. status_of result ≤ 1 → Simulated (W.contents writer.old) (W.contents writer.new) script result) }
+    ensures simulated { IfSome (R.remaining reader) (λ script. status_of result ≤ 1
+        → Simulated (W.contents writer.old) (W.contents writer.new) script result) }
     ensures usage { status_of result ≢ 2 }
     // A store in memory has no fault, where no message comes again whose answer was taken.
     ensures store { IfSome (R.remaining reader) (λ script. status_of result ≡ 3 → Reuses script) }

@@ -35,8 +35,11 @@ Resent =
 abbrev pub bare_and_silent : List Event
 bare_and_silent =
     record { bytes = hex (codes "28000000 23000000 0400000000000000 0100000000000000 e8030000 e8030000 4d000000 00000000"); moment = at 1000; fate = Answered }
-    ∷ record { bytes = hex (codes "30000000 02000000 0600000000000000 0100000000000000 e8030000 e8030000 4d000000 00000000 0100000000000000"); moment = at 1000;
-        fate = Answered }
+    ∷ record {
+      bytes = hex (codes "30000000 02000000 0600000000000000 0100000000000000 e8030000 e8030000 4d000000 00000000 0100000000000000");
+      moment = at 1000;
+      fate = Answered;
+    }
     ∷ []
 
 abbrev pub NotKept : Type 0

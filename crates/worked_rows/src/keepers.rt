@@ -128,7 +128,7 @@ fn perform<K: Keeper>(
 }
 
 // What a request is answered.
-#[derive(Clone, Copy, Debug)]
+#[derive(Clone, Copy)]
 enum Want {
     Body(&'static [u8]),
     // The entry of this node.
@@ -175,16 +175,16 @@ fn first_wrong<K: Keeper>(keeper: &mut K, steps: &[Step]) -> Result<Option<usize
     Ok(None)
 }
 
-// Whether requests are answered so, what is held then, and what is agreed on.
+// Whether requests are answered so, this is held then, and these settings are agreed on.
 fn is_so<K: Keeper>(
     keeper: &mut K,
     steps: &[Step],
     held: Held,
     settings: Option<Settings>,
-) -> Result<bool, StoreFault> {
-    let wrong = first_wrong(keeper, steps)?;
-    let told = agreed(keeper)?;
-    Ok(wrong.is_none() && held_in(keeper) == Some(held) && told == settings)
+) -> bool {
+    matches!(first_wrong(keeper, steps), Ok(None))
+        && held_in(keeper) == Some(held)
+        && matches!(agreed(keeper), Ok(told) if told == settings)
 }
 
 fn begin_mount<K: Keeper>(keeper: &mut K) -> Result<(), StoreFault> {

@@ -92,7 +92,9 @@ fn byte_by_byte(rt: HostRuntime) -> Result<(), Fail> {
     assert_eq!(rt; ending, Ending::Done);
     assert_eq!(rt;
         printed.as_slice(),
-        b"10000000feffffff0400000000000000\nserved messages=1 kept=1 repeated=0 bare=0 silent=0 interrupts=0\n".as_slice()
+        b"10000000feffffff0400000000000000\nserved messages=1 kept=1 repeated=0 bare=0 silent=0 \
+        interrupts=0\n"
+            .as_slice()
     );
     Ok(())
 }

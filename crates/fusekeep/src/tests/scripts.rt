@@ -5,17 +5,23 @@ use crate::simulate::run_simulate;
 
 /// Row first-run's MKDIR.
 const MKDIR_A: &str =
-    "320000000900000006000000000000000100000000000000e8030000e80300004d00000000000000ed010000120000006100";
+    "320000000900000006000000000000000100000000000000e8030000e80300004d00000000000000ed010000120000\
+    006100";
 
 const MKDIR_A_AGAIN: &str =
-    "32000000 09000000 0600000000000080 0100000000000000 e8030000 e8030000 4d000000 00000000 ed010000 12000000 6100";
+    "32000000 09000000 0600000000000080 0100000000000000 e8030000 e8030000 4d000000 00000000 \
+    ed010000 12000000 6100";
 
 const AGREED: &str =
-    "50000000 00000000 0200000000000000 07000000 28000000 00000200 21000040 0c000900 00000200 01000000 00000000 80000000 00000000 000000000000000000000000000000000000000000000000";
+    "50000000 00000000 0200000000000000 07000000 28000000 00000200 21000040 0c000900 00000200 \
+    01000000 00000000 80000000 00000000 000000000000000000000000000000000000000000000000";
 
 // The body of its answer.
 const MADE_A: &str =
-    "0200000000000000 0000000000000000 0100000000000000 0100000000000000 0000000000000000 0200000000000000 0000000000000000 0000000000000000 e803000000000000 e803000000000000 e803000000000000 000000000000000000000000 ed410000 02000000 e8030000 e8030000 00000000 00100000 00000000";
+    "0200000000000000 0000000000000000 0100000000000000 0100000000000000 0000000000000000 \
+    0200000000000000 0000000000000000 0000000000000000 e803000000000000 e803000000000000 \
+    e803000000000000 000000000000000000000000 ed410000 02000000 e8030000 e8030000 00000000 \
+    00100000 00000000";
 
 // What is printed of a script, and how the run ends.
 fn simulated<R: Read + Drop>(alloc: Global, reader: R) -> (Ending, Vec<u8>) {
@@ -175,7 +181,8 @@ fn scripts(rt: HostRuntime) -> Result<(), Fail> {
     Ok(())
 }
 
-// Row init-agreed and row first-run's MKDIR, answered, so many LOOKUPs whose answers are lost, and that MKDIR resent.
+// Row init-agreed and row first-run's MKDIR, answered, so many LOOKUPs whose answers are lost, and
+// that MKDIR resent.
 fn answered_again(alloc: Global, lookups: u8) -> Result<String, Fail> {
     let mut script = String::new(alloc);
     script.push_str("answered 1000 ")?;
@@ -207,8 +214,8 @@ fn answer_again(alloc: Global, lookups: u8) -> Result<String, Fail> {
     Ok(answer)
 }
 
-// An answered id that comes again. The 16th kept message is of the group of the first, and finds its record; the 17th is of
-// the next group, which removes that.
+// An answered id that comes again. The 16th kept message is of the group of the first, and finds
+// its record; the 17th is of the next group, which removes that.
 #[test]
 fn answered_ids_again(rt: HostRuntime) -> Result<(), Fail> {
     let alloc = rt.alloc();
@@ -219,13 +226,14 @@ fn answered_ids_again(rt: HostRuntime) -> Result<(), Fail> {
     Ok(())
 }
 
-// Upper case, zeros before the seconds, the largest ones, comments of any bytes, empty lines, a silent message of id 0,
-// and no line feed at the end.
+// Upper case, zeros before the seconds, the largest ones, comments of any bytes, empty lines, a
+// silent message of id 0, and no line feed at the end.
 #[test]
 fn good_lines(rt: HostRuntime) -> Result<(), Fail> {
     let alloc = rt.alloc();
     let script =
-        b"# \xff\r\n\n#answered\nanswered 00000000000000000000000000000018446744073709551615 2E000000010000000400000000000000\
+        b"# \xff\r\n\n#answered\nanswered 00000000000000000000000000000018446744073709551615 \
+        2E000000010000000400000000000000\
 0100000000000000E8030000E80300004D0000000000000068656C6C6F00\n\nanswered 0 \
 300000000200000000000000000000000100000000000000000000000000000000000000000000000100000000000000";
     let (ending, printed) = simulated(alloc, script.as_slice());
@@ -261,12 +269,13 @@ const BAD: [(&str, &str); 18] = [
     ("answered 1000 ", "00"),
     (
         "answered 1000 ",
-        "320000000900000006000000000000000100000000000000e8030000e80300004d00000000000000ed010000120000006100",
+        "320000000900000006000000000000000100000000000000e8030000e80300004d00000000000000ed01000012\
+        0000006100",
     ),
 ];
 
-// Lines without it: a space, a tab and a carriage return alone, a comment that begins late, no message, one of 39 bytes,
-// and one of unique 0 with the bit of a resend.
+// Lines without it: a space, a tab and a carriage return alone, a comment that begins late, no
+// message, one of 39 bytes, and one of unique 0 with the bit of a resend.
 const BAD_ALONE: [&str; 7] = [
     " ",
     "\t",
@@ -274,10 +283,12 @@ const BAD_ALONE: [&str; 7] = [
     " # answered",
     "answered 1000 ",
     "answered 1000 270000000300000006000000000000000100000000000000e8030000e80300004d000000000000",
-    "answered 1000 380000000300000000000000000000800200000000000000e8030000e80300004d0000000000000000000000000000000000000000000000",
+    "answered 1000 380000000300000000000000000000800200000000000000e8030000e80300004d00000000000000\
+    00000000000000000000000000000000",
 ];
 
-// How a script ends whose first line is good, whose second tells nothing, and whose third is this one.
+// How a script ends whose first line is good, whose second tells nothing, and whose third is this
+// one.
 fn ends_third(alloc: Global, before: &str, message: &str, after: &str) -> Result<bool, Fail> {
     let mut script = String::new(alloc);
     script.push_str("lost 1000 ")?;
@@ -310,7 +321,8 @@ fn bad_lines(rt: HostRuntime) -> Result<(), Fail> {
 fn extra_byte(rt: HostRuntime) -> Result<(), Fail> {
     let alloc = rt.alloc();
     let script =
-        b"answered 1000 320000000900000006000000000000000100000000000000e8030000e80300004d00000000000000ed01000012000000610000\n";
+        b"answered 1000 320000000900000006000000000000000100000000000000e8030000e80300004d000000000\
+        00000ed01000012000000610000\n";
     let (ending, printed) = simulated(alloc, script.as_slice());
     assert_eq!(rt; ending, Ending::ScriptLine { line: 1 });
     assert_eq!(rt; ending.status(), 1);

@@ -173,7 +173,8 @@ fn said(alloc: Global, words: &[&str]) -> Result<String, Fail> {
 fn usage(rt: HostRuntime) -> Result<(), Fail> {
     assert_eq!(rt;
         said(rt.alloc(), &["fusekeep", "replay", "-"])?.as_str(),
-        "error: the following required arguments were not provided:\n  --at <SECS>\n\nUsage: fusekeep replay --at <SECS> <STREAM>\n\nFor more information, try '--help'.\n"
+        "error: the following required arguments were not provided:\n  --at <SECS>\n\nUsage: \
+        fusekeep replay --at <SECS> <STREAM>\n\nFor more information, try '--help'.\n"
     );
     assert_eq!(rt; unreadable(rt.alloc()).kind(), ErrorKind::InvalidValue);
     Ok(())

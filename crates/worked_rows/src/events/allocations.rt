@@ -169,8 +169,8 @@ fn take_all(
     Ok(right && kernel.pending().is_empty())
 }
 
-// Sends all that is pending again, runs it, and takes the answers: whether all went well. None where
-// memory was refused and what was committed is held.
+// Sends all that is pending again, runs it, and takes the answers: whether all went well. None
+// where memory was refused and what was committed is held.
 fn ask_again(
     alloc: Global,
     sides: &mut Sides,

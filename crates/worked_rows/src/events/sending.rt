@@ -5,7 +5,7 @@ use fuse_sim::Kernel;
 use fuse_wire::Id;
 
 /// Why a request wasn't sent.
-#[derive(Clone, Copy, Debug, PartialEq, Eq)]
+#[derive(Clone, Copy, Debug)]
 pub enum Unsent {
     /// It may not be sent.
     MayNotBe,

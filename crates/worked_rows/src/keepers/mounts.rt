@@ -45,15 +45,15 @@ fn around_a_mount(alloc: Global) -> Result<[bool; 3], StoreFault> {
         &before_a_mount(),
         holding(4, 1, 11),
         Some(SETTINGS),
-    )?;
+    );
     begin_mount(&mut keeper)?;
-    let begun = is_so(&mut keeper, &[], holding(2, 0, 0), None)?;
+    let begun = is_so(&mut keeper, &[], holding(2, 0, 0), None);
     let next = is_so(
         &mut keeper,
         &in_the_next_mount(),
         holding(3, 0, 5),
         Some(SETTINGS),
-    )?;
+    );
     Ok([before, begun, next])
 }
 
@@ -86,11 +86,11 @@ fn going<K: Keeper>(keeper: &K) -> bool {
 fn around_an_opening(alloc: Global) -> Result<[bool; 4], StoreFault> {
     let mut keeper = new_keeper(alloc)?;
     let held = holding(2, 0, 2);
-    let before = is_so(&mut keeper, &begins(), held, Some(SETTINGS))?;
+    let before = is_so(&mut keeper, &begins(), held, Some(SETTINGS));
     let mut again = opened(keeper)?;
     let going = going(&again);
-    let kept = is_so(&mut again, &[], held, Some(SETTINGS))?;
-    let repeats = is_so(&mut again, &resent(), held, Some(SETTINGS))?;
+    let kept = is_so(&mut again, &[], held, Some(SETTINGS));
+    let repeats = is_so(&mut again, &resent(), held, Some(SETTINGS));
     Ok([before, going, kept, repeats])
 }
 

@@ -9,7 +9,7 @@ const LENGTHS: [usize; MESSAGES] = [104, 58, 48, 83, 80, 50, 52, 64];
 const ANSWER_LENGTHS: [usize; MESSAGES] = [80, 144, 32, 24, 19, 144, 16, 16];
 
 /// Each message in a group of its own, or all in one group.
-#[derive(Clone, Copy, Debug, PartialEq, Eq)]
+#[derive(Clone, Copy, Debug)]
 pub enum Grouping {
     Each,
     All,
@@ -28,8 +28,12 @@ pub(crate) fn put_pieces(
     Ok(())
 }
 
+fn first_of(lengths: &[usize], count: usize) -> &[usize] {
+    lengths.get(..count).unwrap_or(lengths)
+}
+
 fn put_each(arrivals: &mut Vec<Arrival>, count: usize) -> Result<(), AllocError> {
-    for len in LENGTHS.iter().take(count) {
+    for len in first_of(&LENGTHS, count) {
         arrivals.push(Arrival::Piece(*len))?;
     }
     Ok(())
@@ -37,7 +41,7 @@ fn put_each(arrivals: &mut Vec<Arrival>, count: usize) -> Result<(), AllocError>
 
 fn size_of_first(lengths: &[usize], count: usize) -> usize {
     let mut size: usize = 0;
-    for len in lengths.iter().take(count) {
+    for len in first_of(lengths, count) {
         size = size.saturating_add(*len);
     }
     size

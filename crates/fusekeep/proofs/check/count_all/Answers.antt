@@ -27,15 +27,21 @@ count-requires-clause-unsupported g c =
     omega (arith, few.unsupported, c.in_ok-placed.ensures.few, gives.place)
 
 pub loop-placed-preserved : goal.loop-placed-preserved
-loop-placed-preserved g c = some_counted _ _ _ _ _ c.loop-placed.counts c.count.new.self c.in-Some.placed c.loop-placed.invariant (rw c.in-Some.is at c.in_ok-placed.ensures.next) (rw c.deref.ensures at c.count.ensures)
+loop-placed-preserved g c =
+    some_counted _ _ _ _ _ c.loop-placed.counts c.count.new.self c.in-Some.placed c.loop-placed.invariant (rw c.in-Some.is at c.in_ok-placed.ensures.next)
+    (rw c.deref.ensures at c.count.ensures)
 
 pub loop-placed-preserved-in-Some : goal.loop-placed-preserved-in-Some
-loop-placed-preserved-in-Some g c = some_counted _ _ _ _ _ c.loop-placed.counts c.count.new.self c.in-Some.placed c.loop-placed.invariant (rw c.in-Some.is at c.in_ok-placed.ensures.next) (rw c.deref.ensures at c.count.ensures)
+loop-placed-preserved-in-Some g c =
+    some_counted _ _ _ _ _ c.loop-placed.counts c.count.new.self c.in-Some.placed c.loop-placed.invariant (rw c.in-Some.is at c.in_ok-placed.ensures.next)
+    (rw c.deref.ensures at c.count.ensures)
 
 pub returns-in_err-placed : goal.returns-in_err-placed
 returns-in_err-placed g c =
     let p = err_from_is_err_and c.from_residual.result c.from_residual.ensures.1 in
-    rw (p.1, p.2) (went_err (left_in g.R.Read.remaining c.args.messages.now) _ (left_in g.R.Read.remaining c.next.new.self) _ (place_in c.next.new.self) (λ ms. c.loop-placed.counts ≡ checked ms) _ c.one_cut.ensures c.cut_steps.ensures c.loop-placed.invariant c.in_err-placed.ensures.next)
+    rw (p.1, p.2)
+    (went_err (left_in g.R.Read.remaining c.args.messages.now) _ (left_in g.R.Read.remaining c.next.new.self) _ (place_in c.next.new.self)
+    (λ ms. c.loop-placed.counts ≡ checked ms) _ c.one_cut.ensures c.cut_steps.ensures c.loop-placed.invariant c.in_err-placed.ensures.next)
 
 pub returns : goal.returns
 returns g c = went_whole _ _ _ _ c.one_cut.ensures c.cut_steps.ensures c.loop-placed.invariant (rw c.in_default.is at c.in_ok-placed.ensures.next)

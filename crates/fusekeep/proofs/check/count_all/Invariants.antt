@@ -4,7 +4,8 @@ use Rattle.fusekeep.specs.Checking.{checked}
 use Rattle.fusekeep.proofs.check.count_all.Given as goal
 
 abbrev pub invariant-loop-placed : goal.invariant-loop-placed
-invariant-loop-placed g l = WentSoFar (left_in g.R.Read.remaining l.fn.messages) (left_in g.R.Read.remaining l.messages) (place_in l.messages) (λ ms. l.counts ≡ checked ms)
+invariant-loop-placed g l = WentSoFar (left_in g.R.Read.remaining l.fn.messages) (left_in g.R.Read.remaining l.messages) (place_in l.messages)
+    (λ ms. l.counts ≡ checked ms)
 
 abbrev pub decreases-loop-placed : goal.decreases-loop-placed
 decreases-loop-placed g l = work_in l.messages

@@ -6,7 +6,8 @@ use Rattle.fusekeep.proofs.reading.read_all.Goals as goal
 
 pub loop-input-init : goal.loop-input-init
 loop-input-init g c =
-    subst (λ o. Consumes o (left_to g.R.Read.remaining c.in_ok-pieces.pieces) c.new-input.result.items) c.in_ok-pieces.ensures.ok (read_none _ _ c.new-input.ensures.items)
+    subst (λ o. Consumes o (left_to g.R.Read.remaining c.in_ok-pieces.pieces) c.new-input.result.items) c.in_ok-pieces.ensures.ok
+    (read_none _ _ c.new-input.ensures.items)
 
 pub returns-clause-ok : goal.returns-clause-ok
 returns-clause-ok g c =
@@ -17,4 +18,5 @@ returns-clause-ok g c =
 
 pub loop-input-preserved : goal.loop-input-preserved
 loop-input-preserved g c =
-    read_more _ _ _ _ _ _ c.loop-input.invariant c.in_ok-read.ensures.came (c.in_ok-extend_from_slice.ensures.items ∙ ap (λ x. c.loop-input.input.items ++ x) c.piece.ensures.piece)
+    read_more _ _ _ _ _ _ c.loop-input.invariant c.in_ok-read.ensures.came
+    (c.in_ok-extend_from_slice.ensures.items ∙ ap (λ x. c.loop-input.input.items ++ x) c.piece.ensures.piece)

@@ -33,5 +33,6 @@ returns-clause-only c = λ fate secs text p.
     let first = first_space c.args.line.now fate secs text c.in_ok-word.word.now c.in_ok-word.rest.now p one.0 one.1 in
     let second = second_space c.args.line.now fate secs text c.in_ok-word.rest.now c.in_ok-digits.digits.now c.in_ok-digits.text.now p first.1 two.0 two.1 in
     let same_fate : ◌≡◌ (Some c.in_ok-fate_of.field-0) (Some fate) = sym c.in_ok-fate_of.was ∙ c.fate_of.ensures.only fate first.0 in
-    let same_secs : ◌≡◌ (Some c.in_ok-seconds_of.field-0) (Some secs) = sym c.in_ok-seconds_of.was ∙ c.seconds_of.ensures.only secs (subst (λ d. IsSeconds d secs) (sym second.0) p.seconds) in
+    let same_secs : ◌≡◌ (Some c.in_ok-seconds_of.field-0) (Some secs) =
+    sym c.in_ok-seconds_of.was ∙ c.seconds_of.ensures.only secs (subst (λ d. IsSeconds d secs) (sym second.0) p.seconds) in
     (cc same_fate, cc same_secs, second.1)

@@ -5,4 +5,5 @@ use Rattle.fusekeep.specs.Simulating.{outcome_lines}
 use Rattle.fusekeep.proofs.simulate.print_simulation.Given as goal
 
 abbrev pub invariant-loop-outcome : goal.invariant-loop-outcome
-invariant-loop-outcome g l = Appends (g.W.Write.contents l.fn.writer) (g.W.Write.contents l.writer) (outcome_lines (map bytes_given (take l.outcome-index l.outcome-items)))
+invariant-loop-outcome g l =
+    Appends (g.W.Write.contents l.fn.writer) (g.W.Write.contents l.writer) (outcome_lines (map bytes_given (take l.outcome-index l.outcome-items)))

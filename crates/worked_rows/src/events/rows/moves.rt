@@ -22,8 +22,8 @@ pub const EXCHANGED_AGAIN: &str =
       00000000 0100000000000000 02000000 00000000 6100 6200
     gives 10000000 00000000 0800000000000080;";
 
-/// OPENDIR of the root under id 10 and READDIR from offset 2 on: `a` is the file, with cookie 5, and
-/// `b` the directory, with cookie 6.
+/// OPENDIR of the root under id 10 and READDIR from offset 2 on: `a` is the file, with cookie 5,
+/// and `b` the directory, with cookie 6.
 pub const B_THEN_A: &str =
     "answered 1000 30000000 1b000000 0a00000000000000 0100000000000000 e8030000 e8030000 4d000000
       00000000 00000000 00000000

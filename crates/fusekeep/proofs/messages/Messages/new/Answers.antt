@@ -8,5 +8,8 @@ none_held None = refl
 none_held (Some r) = refl
 
 pub returns-clause-ok : goal.returns-clause-ok
-returns-clause-ok g c =
-    (ap (λ (h : Held). prepend_known h.bytes (g.R.Read.remaining c.in_ok-new.field-0.reader)) c.new-2.ensures ∙ none_held (g.R.Read.remaining c.in_ok-new.field-0.reader) ∙ c.in_ok-new.ensures.ok, ap (λ (h : Held). h.at) c.new-2.ensures)
+returns-clause-ok g c = (
+  ap (λ (h : Held). prepend_known h.bytes (g.R.Read.remaining c.in_ok-new.field-0.reader)) c.new-2.ensures
+      ∙ none_held (g.R.Read.remaining c.in_ok-new.field-0.reader) ∙ c.in_ok-new.ensures.ok,
+  ap (λ (h : Held). h.at) c.new-2.ensures,
+)

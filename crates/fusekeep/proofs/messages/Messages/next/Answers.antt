@@ -18,18 +18,23 @@ returns-in-Ok-Some-clause-next g c =
     let rest = g.R.Read.remaining c.loop-bytes.self.pieces.reader in
     record {
       message = gives.message;
-      left = keeps_consumes (left_in g.R.Read.remaining c.args.self.now) (left_in g.R.Read.remaining c.loop-bytes.self) _ _ c.loop-bytes.invariant.left (gives_front c.loop-bytes.self.framer.bytes c.next.new.self.bytes _ rest gives.rest);
+      left =
+          keeps_consumes (left_in g.R.Read.remaining c.args.self.now)
+          (left_in g.R.Read.remaining c.loop-bytes.self) _ _ c.loop-bytes.invariant.left
+          (gives_front c.loop-bytes.self.framer.bytes c.next.new.self.bytes _ rest gives.rest);
       here = omega (arith, c.fed.ensures, c.held.ensures, placed);
       place = omega (arith, gives.at, placed);
     }
 
 pub returns-in-Err-clause-next : goal.returns-in-Err-clause-next
 returns-in-Err-clause-next g c =
-    faulty (left_in g.R.Read.remaining c.args.self.now) c.loop-bytes.self.framer c.next.new.self (g.R.Read.remaining c.loop-bytes.self.pieces.reader) _ c.in-Err.fault c.of_stream.result
+    faulty (left_in g.R.Read.remaining c.args.self.now) c.loop-bytes.self.framer c.next.new.self (g.R.Read.remaining c.loop-bytes.self.pieces.reader) _
+    c.in-Err.fault c.of_stream.result
     c.cut_steps.ensures c.loop-bytes.invariant.left c.loop-bytes.invariant.place c.in-Err.ensures.next c.of_stream.ensures
 
 -- what follows at the end, where nothing more is read
-ends_here : (a new : Option (List ℕ)) (held : List ℕ) (rest : Option (List ℕ)) (at at' place : ℕ) (result : Result (Option Placed) Ending) → Keeps a (prepend_known held rest) → IsAtEnd rest → HasNone held → place ≡ at → EndsSo place held result → GivesPlaced a new at at' result
+ends_here : (a new : Option (List ℕ)) (held : List ℕ) (rest : Option (List ℕ)) (at at' place : ℕ) (result : Result (Option Placed) Ending)
+    → Keeps a (prepend_known held rest) → IsAtEnd rest → HasNone held → place ≡ at → EndsSo place held result → GivesPlaced a new at at' result
 ends_here a new held rest at at' place (Ok (Some placed)) kept end none here h = absurd (let e = h.0 in cc)
 ends_here None new held rest at at' place (Ok None) kept end none here h = tt
 ends_here (Some xs) new held rest at at' place (Ok None) kept end none here h = all_held (Some xs) held rest kept end ∙ h.1
@@ -43,15 +48,19 @@ returns-then-not-branch-clause-next g c =
     let read = c.in_ok-read.ensures in
     let stopped = read.end c.if-not-branch.true in
     let quiet = rw c.in-Ok-None.field-0-is at c.in-Ok-None.ensures.next in
-    let kept = keeps_then (left_in g.R.Read.remaining c.args.self.now) (left_in g.R.Read.remaining c.loop-bytes.self) (left_in g.R.Read.remaining c.read.new.self) c.loop-bytes.invariant.left (rw (ap (λ (h : Held). h.bytes) quiet.2) at read.left) in
-    ends_here (left_in g.R.Read.remaining c.args.self.now) _ c.read.new.self.framer.bytes (g.R.Read.remaining c.read.new.self.pieces.reader) _ _ c.read.new.self.framer.at c.end.result kept stopped.1 (subst HasNone (sym (stopped.0 ∙ ap (λ (h : Held). h.bytes) quiet.2)) quiet.0) (read.place ∙ ap (λ (h : Held). h.at) quiet.2 ∙ c.loop-bytes.invariant.place) c.end.ensures
+    let kept = keeps_then (left_in g.R.Read.remaining c.args.self.now) (left_in g.R.Read.remaining c.loop-bytes.self)
+    (left_in g.R.Read.remaining c.read.new.self) c.loop-bytes.invariant.left (rw (ap (λ (h : Held). h.bytes) quiet.2) at read.left) in
+    ends_here (left_in g.R.Read.remaining c.args.self.now) _ c.read.new.self.framer.bytes (g.R.Read.remaining c.read.new.self.pieces.reader) _ _
+    c.read.new.self.framer.at c.end.result kept stopped.1 (subst HasNone (sym (stopped.0 ∙ ap (λ (h : Held). h.bytes) quiet.2)) quiet.0)
+    (read.place ∙ ap (λ (h : Held). h.at) quiet.2 ∙ c.loop-bytes.invariant.place) c.end.ensures
 
 pub loop-bytes-preserved : goal.loop-bytes-preserved
 loop-bytes-preserved g c =
     let read = c.in_ok-read.ensures in
     let quiet = rw c.in-Ok-None.field-0-is at c.in-Ok-None.ensures.next in
     record {
-      left = keeps_then (left_in g.R.Read.remaining c.args.self.now) (left_in g.R.Read.remaining c.loop-bytes.self) (left_in g.R.Read.remaining c.read.new.self) c.loop-bytes.invariant.left (rw (ap (λ (h : Held). h.bytes) quiet.2) at read.left);
+      left = keeps_then (left_in g.R.Read.remaining c.args.self.now) (left_in g.R.Read.remaining c.loop-bytes.self)
+          (left_in g.R.Read.remaining c.read.new.self) c.loop-bytes.invariant.left (rw (ap (λ (h : Held). h.bytes) quiet.2) at read.left);
       place = read.place ∙ ap (λ (h : Held). h.at) quiet.2 ∙ c.loop-bytes.invariant.place;
       work = omega (arith, read.work, ap (λ (h : Held). length h.bytes) quiet.2, c.loop-bytes.invariant.work);
     }
