@@ -16,7 +16,7 @@ is_key [] i = refl
 is_key (e ∷ es) i =
     ap (λ (b : Bool). if b then true else is_in (keys_of es) i) (turned_test e.0 i)
     ∙ elim (nat_eq i e.0) as (λ b. (if b then true else is_in (keys_of es) i) ≡ is_some (cond b (Some e.1) (lookup (nat_eq i) es)))
-        [ true ↦ refl | false ↦ is_key es i ]
+    [ true ↦ refl | false ↦ is_key es i ]
 
 keys_number : (es : List (ℕ × Said)) → length (keys_of es) ≡ length es
 keys_number [] = refl

@@ -35,7 +35,7 @@ unfolding has said
 said-append_old M s [] e i there = absurd (cc there)
 said-append_old M s (x ∷ h) e i there =
     elim (entry_id x == i) as (λ b. (if b then true else has h i) ≡ true → (if b then Some (answer_to M s x) else said M (next_state M s x) (h ++ e ∷ []) i) ≡
-        (if b then Some (answer_to M s x) else said M (next_state M s x) h i))
+    (if b then Some (answer_to M s x) else said M (next_state M s x) h i))
     [ true ↦ λ _. refl | false ↦ said-append_old M (next_state M s x) h e i ] there
 
 pub said-append_new : (M : Model) → (s : M.State) (h : History) (e : Entry) (i : ℕ) → has h i ≡ false
@@ -44,7 +44,7 @@ unfolding has said after
 said-append_new M s [] e i none = refl
 said-append_new M s (x ∷ h) e i none =
     elim (entry_id x == i) as (λ b. (if b then true else has h i) ≡ false → (if b then Some (answer_to M s x) else said M (next_state M s x) (h ++ e ∷ []) i) ≡
-        (if entry_id e == i then Some (answer_to M (after M (next_state M s x) h) e) else None))
+    (if entry_id e == i then Some (answer_to M (after M (next_state M s x) h) e) else None))
     [ true ↦ λ isnt. absurd (cc isnt) | false ↦ said-append_new M (next_state M s x) h e i ] none
 
 other : (b : Bool) (c : Bool) → (if b then true else c) ≡ false → (b ≡ false) × (c ≡ false)

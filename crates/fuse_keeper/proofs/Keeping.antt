@@ -21,7 +21,7 @@ left_new M rows records x r s h t so left = Stands-same M rows records x r s h t
 pub left_old : (M : Model) → (rows : M.Rows) (records : Records) (rows' : M.Rows) (records' : Records) (x : M.Rows) (r : Records) (s : M.State) (h : History)
     (t : List ℕ)
     → StandsBy M (AreThese M rows records) s h t → KeepsHeldBy M (AreThese M rows records) (AreThese M rows' records') → AreThese M rows' records' x r
-        → Stands M x r s h t
+    → Stands M x r s h t
 left_old M rows records rows' records' x r s h t so keeps left =
     let same = keeps rows records (refl, λ i. refl) in
     Stands-same M rows records x r s h t (left.0 ∙ sym same.0, λ i. left.1 i ∙ sym (same.1 i)) (these_stand M rows records s h t so)

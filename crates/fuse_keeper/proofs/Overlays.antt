@@ -76,7 +76,7 @@ took_known M rows records e known done is answer repeated =
 pub took_new : (M : Model) → (rows : M.Rows) (base : Records) (added : List Record) (e : Entry) (rows' : M.Rows) (r : Record) (added' : List Record)
     (done : Done)
     → over added base (entry_id e) ≡ None → Acts M rows e rows' done.answer → added' ≡ added ++ r ∷ [] → r.id ≡ entry_id e → r.answer ≡ done.answer
-        → done.repeated ≡ false
+    → done.repeated ≡ false
     → Took M rows (over added base) e rows' (over added' base) done
 took_new M rows base added e rows' r added' done none acts is id answer repeated =
     rw none (acts, λ i. ap (λ l. over l base i) is ∙ one_more_over added r base i (ap (over added base) id ∙ none) ∙ rw (id, answer), repeated)

@@ -62,7 +62,7 @@ none_yet M rows records s h t so = record { stands = stand_so M rows records s h
 pub one_more : (M : Model) → (rows : M.Rows) (records : Records) (e : Entry) (rows' : M.Rows) (records' : Records) (done : Done) (s : M.State) (h : History)
     (t : List ℕ) (es : List Entry) (dones : List Done)
     → is_in t (entry_id e) ≡ false → Took M rows records e rows' records' done → PerformedBy M (AreThese M rows records) s h t es dones
-        → PerformedBy M (AreThese M rows' records') s h t (es ++ e ∷ []) (dones ++ done ∷ [])
+    → PerformedBy M (AreThese M rows' records') s h t (es ++ e ∷ []) (dones ++ done ∷ [])
 one_more M rows records e rows' records' done s h t es dones fresh took so_far =
     let step = advanced M rows records e rows' records' done s (grown h es) t fresh took (these_stand M rows records s (grown h es) t so_far.stands) in
     let grows = grown-append h es (e ∷ []) in
@@ -85,13 +85,13 @@ entry_at_place P (x ∷ group) (suc i) d lt each = entry_at_place P group i d (o
 pub one_more_of : (M : Model) → (group : List (Request × Moment)) (i : ℕ) (d : Request × Moment) (rows : M.Rows) (records : Records) (rows' : M.Rows)
     (records' : Records) (done : Done) (s : M.State) (h : History) (t : List ℕ) (dones dones' : List Done)
     → i < length group → All (IsUnsettled t) (entries_of group) → Took M rows records (entry_of (get_or group i d)) rows' records' done
-        → PerformedBy M (AreThese M rows records) s h t (entries_of (take i group)) dones
+    → PerformedBy M (AreThese M rows records) s h t (entries_of (take i group)) dones
     → dones' ≡ dones ++ done ∷ [] → PerformedBy M (AreThese M rows' records') s h t (entries_of (take (i + 1) group)) dones'
 one_more_of M group i d rows records rows' records' done s h t dones dones' lt fresh took so_far is =
     let e = entry_of (get_or group i d) in
     let all = ap entries_of (take_more group i d lt) ∙ map-append entry_of (take i group) (get_or group i d ∷ []) in
     rw (is, all) (one_more M rows records e rows' records' done s h t (entries_of (take i group)) dones (entry_at_place (IsUnsettled t) group i d lt fresh) took
-        so_far)
+    so_far)
 
 -- ---- the ids of a group
 
@@ -120,7 +120,7 @@ pub ids_more : (group : List (Request × Moment)) (n : ℕ) (d : Request × Mome
 ids_more group n d old new lt within adds i there =
     let parts : ids_in (entries_of (take (n + 1) group)) ≡ ids_in (entries_of (take n group)) ++ entry_id (entry_of (get_or group n d)) ∷ [] =
     ap ids_in (ap entries_of (take_more group n d lt) ∙ map-append entry_of (take n group) (get_or group n d ∷ []))
-        ∙ map-append entry_id (entries_of (take n group)) (entry_of (get_or group n d) ∷ []) in
+    ∙ map-append entry_id (entries_of (take n group)) (entry_of (get_or group n d) ∷ []) in
     ap (λ l. is_in l i) parts ∙ elim (adds i there) [
       | inl before ↦ includes_left (ids_in (entries_of (take n group))) (entry_id (entry_of (get_or group n d)) ∷ []) i (within i before)
       | inr is ↦ includes_right (ids_in (entries_of (take n group))) (entry_id (entry_of (get_or group n d)) ∷ []) i

@@ -136,7 +136,7 @@ pub record Advanced (M : Model) (rows' : M.Rows) (records' : Records) (s : M.Sta
 advanced_by : (M : Model) → (o : Option Said) (rows : M.Rows) (records : Records) (e : Entry) (rows' : M.Rows) (records' : Records) (done : Done) (s : M.State)
     (h : History) (t : List ℕ)
     → is_in t (entry_id e) ≡ false → records (entry_id e) ≡ o → TookBy M o rows records e rows' records' done → Stands M rows records s h t
-        → Advanced M rows' records' s h t e done
+    → Advanced M rows' records' s h t e done
 advanced_by M (Some known) rows records e rows' records' done s h t fresh is took so =
     let says = sym (so.kept (entry_id e) fresh) ∙ is in
     let there = found M s h (entry_id e) known says in
@@ -153,7 +153,7 @@ advanced_by M None rows records e rows' records' done s h t fresh is took so =
     let stands = Stands-more M rows records s h t e rows' records' done.answer none so acted took.1 in
     let new : said M s (h ++ e ∷ []) (entry_id e) ≡ Some done.answer =
     said-append_new M s h e (entry_id e) none ∙ ap (λ (b : Bool). if b then Some (answer_to M (after M s h) e) else None) (same_id (entry_id e))
-        ∙ ap Some (sym acted.answer_is) in
+    ∙ ap Some (sym acted.answer_is) in
     record {
       stands = rw (add_new h e none) stands;
       answer = rw (add_new h e none) new;

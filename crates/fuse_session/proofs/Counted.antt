@@ -51,7 +51,7 @@ tallied_is (t ∷ ts) h =
     let class = class_of t.bytes in
     let one = counted_one class (has h (entry_id (timed_entry t))) (is_interrupt t.bytes) in
     ap (λ c. plus c (tallied (bytes_of ts) (left_by class (repeats h (entries_at t ++ kept_in ts)))))
-        (tally_one h (timed_entry t) (kept_in ts) class (is_interrupt t.bytes))
+    (tally_one h (timed_entry t) (kept_in ts) class (is_interrupt t.bytes))
     ∙ ap (λ r. plus one (tallied (bytes_of ts) r)) (tally_left h (timed_entry t) (kept_in ts) class)
     ∙ ap (plus one) (tallied_is ts (grown h (entries_at t)))
 
@@ -60,12 +60,33 @@ one_if_below true = omega arith
 one_if_below false = omega arith
 
 one_below : (class : Class) (b i : Bool) → IsBelow (counted_one class b i) 1
-one_below Silent b i = record { messages = omega arith; kept = omega arith; repeated = omega arith; bare = omega arith; silent = omega arith; interrupts =
-    one_if_below i }
-one_below (Bare errno) b i = record { messages = omega arith; kept = omega arith; repeated = omega arith; bare = omega arith; silent = omega arith; interrupts =
-    omega arith }
-one_below Kept b i = record { messages = omega arith; kept = omega arith; repeated = one_if_below b; bare = omega arith; silent = omega arith; interrupts =
-    omega arith }
+one_below Silent b i = record {
+  messages = omega arith;
+  kept = omega arith;
+  repeated = omega arith;
+  bare = omega arith;
+  silent = omega arith;
+  interrupts =
+      one_if_below i;
+}
+one_below (Bare errno) b i = record {
+  messages = omega arith;
+  kept = omega arith;
+  repeated = omega arith;
+  bare = omega arith;
+  silent = omega arith;
+  interrupts =
+      omega arith;
+}
+one_below Kept b i = record {
+  messages = omega arith;
+  kept = omega arith;
+  repeated = one_if_below b;
+  bare = omega arith;
+  silent = omega arith;
+  interrupts =
+      omega arith;
+}
 
 pub plus_below : (a b : SessionCounts) (m n : ℕ) → IsBelow a m → IsBelow b n → IsBelow (plus a b) (m + n)
 plus_below a b m n x y = record {
@@ -94,7 +115,7 @@ one_counted_below c class b i is = subst (λ x. IsBelow x 1) (sym is) (one_below
 pub tallied_more : (ms rest : List (List ℕ)) (repeated repeated' : List Bool) (m : List ℕ) (counts one counts' all : SessionCounts) → ms ≡ m ∷ rest
     → one ≡ counted_one (class_of m) (head_repeat repeated) (is_interrupt m)
     → counts' ≡ plus counts one → repeated' ≡ left_by (class_of m) repeated → plus counts (tallied ms repeated) ≡ all
-        → plus counts' (tallied rest repeated') ≡ all
+    → plus counts' (tallied rest repeated') ≡ all
 tallied_more ms rest repeated repeated' m counts one counts' all is one_is now left so_far =
     ap (λ c. plus c (tallied rest repeated')) now
     ∙ ap (λ r. plus (plus counts one) (tallied rest r)) left

@@ -22,9 +22,12 @@ goes_none M s h (t ∷ ts) named none = (named.0, λ ends. two_ways (destroys t.
 
 pub works_group : (M : Model) → (s : M.State) (h : History) (ts : List Timed) → NoZero ts → DestroyLast ts → Works M s h ts
 works_group M s h [] named only = tt
-works_group M s h (t ∷ ts) named only =
-    (named.0, elim only.0 [ inl empty ↦ inl empty | inr none ↦ inr (λ ends. two_ways (destroys t.bytes) ends.0 none) ], works_group M s
-        (grown h (entries_at t)) ts named.1 only.1)
+works_group M s h (t ∷ ts) named only = (
+  named.0,
+  elim only.0 [ inl empty ↦ inl empty | inr none ↦ inr (λ ends. two_ways (destroys t.bytes) ends.0 none) ],
+  works_group M s
+      (grown h (entries_at t)) ts named.1 only.1,
+)
 
 last_tail : (a : Said) (list : List Said) → last_zero (a ∷ list) ≡ false → last_zero list ≡ false
 last_tail a [] h = refl
@@ -47,7 +50,7 @@ following M s h t ts Kept (a ∷ list) are last = record { list = list; are = cc
 not_ending : (M : Model) → (s : M.State) (h : History) (t : Timed) (class : Class) (list : List Said)
     → map (λ a. Some a) list ≡ told M s h (entry_if class (timed_entry t) ++ [])
     → last_zero list ≡ false → destroys_by class (raw_of t.bytes).opcode ≡ true
-        → says_zero (said M s (grown h (entry_if class (timed_entry t))) (message_id t.bytes)) ≡ true → ⊥
+    → says_zero (said M s (grown h (entry_if class (timed_entry t))) (message_id t.bytes)) ≡ true → ⊥
 not_ending M s h t Silent list are last d z = cc d
 not_ending M s h t (Bare errno) list are last d z = cc d
 not_ending M s h t Kept [] are last d z = cc are
@@ -92,9 +95,9 @@ ends_last M s h timed list l are zero =
     let g = grown h (kept_in l.earlier) in
     let kept = kept_if (class_of l.one.bytes) (raw_of l.one.bytes).opcode l.destroy in
     let entries : kept_in timed ≡ kept_in l.earlier ++ e ∷ [] = ap kept_in l.parts ∙ kept_in-append l.earlier (l.one ∷ [])
-        ∙ ap (λ c. kept_in l.earlier ++ (entry_if c e ++ [])) kept in
+    ∙ ap (λ c. kept_in l.earlier ++ (entry_if c e ++ [])) kept in
     let says = last_of list (told M s h (kept_in l.earlier)) (said M s (add g e) (entry_id e))
-        (are ∙ ap (told M s h) entries ∙ told-append M s h (kept_in l.earlier) e) in
+    (are ∙ ap (told M s h) entries ∙ told-append M s h (kept_in l.earlier) e) in
     let last : grown h (kept_in timed) ≡ add g e = ap (grown h) entries ∙ grown-append h (kept_in l.earlier) (e ∷ []) in
     record {
       earlier = l.earlier;

@@ -36,7 +36,7 @@ pub moments-append : (xs ys : List Timed) → moments_in (xs ++ ys) ≡ moments_
 moments-append [] ys = refl
 moments-append (x ∷ xs) ys =
     ap (λ (r : List Moment). moment_if (class_of x.bytes) x.moment ++ r) (moments-append xs ys)
-        ∙ sym (append_assoc (moment_if (class_of x.bytes) x.moment) (moments_in xs) (moments_in ys))
+    ∙ sym (append_assoc (moment_if (class_of x.bytes) x.moment) (moments_in xs) (moments_in ys))
 
 -- what was given for these messages, and joins for those
 pub gave_more : (gave gave' gave'' : List Moment → Type 0) (xs ys : List Timed) → ((one two : List Moment) → gave one → gave' two → gave'' (one ++ two))
@@ -45,9 +45,11 @@ gave_more gave gave' gave'' xs ys joins one two = subst gave'' (sym (moments-app
 
 pub gave_first : (gave gave' gave'' : List Moment → Type 0) (xs ys : List Timed) → ((one two : List Moment) → gave one → gave' two → gave'' (one ++ two))
     → gave (moments_in xs) → GaveFirst gave' ys → GaveFirst gave'' (xs ++ ys)
-gave_first gave gave' gave'' xs ys joins one two =
-    (two.0, subst gave'' (sym (append_assoc (moments_in xs) (moments_in ys) two.0) ∙ ap (λ (r : List Moment). r ++ two.0) (sym (moments-append xs ys)))
-        (joins (moments_in xs) (moments_in ys ++ two.0) one two.1))
+gave_first gave gave' gave'' xs ys joins one two = (
+  two.0,
+  subst gave'' (sym (append_assoc (moments_in xs) (moments_in ys) two.0) ∙ ap (λ (r : List Moment). r ++ two.0) (sym (moments-append xs ys)))
+      (joins (moments_in xs) (moments_in ys ++ two.0) one two.1),
+)
 
 -- all that was given
 pub gave_all : (gave : List Moment → Type 0) (xs : List Timed) → gave (moments_in xs) → GaveFirst gave xs
@@ -58,13 +60,21 @@ pub gave_later : (gave : List Moment → Type 0) (one two : List Moment) → one
 gave_later gave one two none given = subst gave (ap (λ (r : List Moment). r ++ two) (sym none)) given
 
 pub none_yet_gathered : (gave : List Moment → Type 0) (taken : List (Request × Moment)) → gave [] → taken ≡ [] → Gathers gave [] taken false
-none_yet_gathered gave taken none is = record { timed = []; bytes = refl; entries = ap entries_of is; moments = none; no_zero = tt; none = λ _. tt; only = tt;
-    ended = λ isnt. absurd (cc isnt) }
+none_yet_gathered gave taken none is = record {
+  timed = [];
+  bytes = refl;
+  entries = ap entries_of is;
+  moments = none;
+  no_zero = tt;
+  none = λ _. tt;
+  only = tt;
+  ended = λ isnt. absurd (cc isnt);
+}
 
 one_more_gathered : (gave gave' gave'' : List Moment → Type 0) → ((one two : List Moment) → gave one → gave' two → gave'' (one ++ two))
     → (front : List (List ℕ)) (taken taken' : List (Request × Moment)) (m : List ℕ) (t : Moment) (b : Bool) → Gathers gave front taken false → is_zero m ≡ false
     → entries_of taken' ≡ entries_of taken ++ entry_if (class_of m) (message_entry m t) → (b ≡ false → destroys m ≡ false) → (b ≡ true → destroys m ≡ true)
-        → gave' (moment_if (class_of m) t) → Gathers gave'' (front ++ m ∷ []) taken' b
+    → gave' (moment_if (class_of m) t) → Gathers gave'' (front ++ m ∷ []) taken' b
 one_more_gathered gave gave' gave'' joins front taken taken' m t b so_far named entries last it moment =
     let one : Timed = record { bytes = m; moment = t } in
     record {
@@ -94,10 +104,10 @@ pub gathers_none : (gave gave' gave'' : List Moment → Type 0) → ((one two : 
     → (ms : List (List ℕ)) (i : ℕ) (m bytes : List ℕ) (taken : List (Request × Moment)) (t : Moment) → i < length ms → m ≡ get_or ms i m → bytes ≡ m
     → Gathers gave (take i ms) taken false
     → is_zero bytes ≡ false → [] ≡ entry_if (class_of bytes) (message_entry bytes t) → gave' (moment_if (class_of bytes) t)
-        → Gathers gave'' (take (i + 1) ms) taken false
+    → Gathers gave'' (take (i + 1) ms) taken false
 gathers_none gave gave' gave'' joins ms i m bytes taken t lt at is so_far named none moment =
     let grown = one_more_gathered gave gave' gave'' joins (take i ms) taken taken bytes t false so_far named (sym (append-nil (entries_of taken))
-        ∙ ap (λ r. entries_of taken ++ r) none)
+    ∙ ap (λ r. entries_of taken ++ r) none)
     (λ _. not_kept (class_of bytes) (message_entry bytes t) (raw_of bytes).opcode none) (λ isnt. absurd (cc isnt)) moment in
     subst (λ front. Gathers gave'' front taken false) (ap (λ x. take i ms ++ x ∷ []) (is ∙ at) ∙ sym (take_more ms i m lt)) grown
 
@@ -106,11 +116,11 @@ pub gathers_some : (gave gave' gave'' : List Moment → Type 0) → ((one two : 
     → (ms : List (List ℕ)) (i : ℕ) (m bytes : List ℕ) (taken taken' : List (Request × Moment)) (one : Request × Moment) (t : Moment) (b : Bool) → i < length ms
     → m ≡ get_or ms i m → bytes ≡ m → Gathers gave (take i ms) taken false
     → is_zero bytes ≡ false → entry_of one ∷ [] ≡ entry_if (class_of bytes) (message_entry bytes t) → taken' ≡ taken ++ one ∷ []
-        → b ≡ ((raw_of bytes).opcode == DESTROY) → gave' (moment_if (class_of bytes) t) → Gathers gave'' (take (i + 1) ms) taken' b
+    → b ≡ ((raw_of bytes).opcode == DESTROY) → gave' (moment_if (class_of bytes) t) → Gathers gave'' (take (i + 1) ms) taken' b
 gathers_some gave gave' gave'' joins ms i m bytes taken taken' one t b lt at is so_far named some pushed last moment =
     let kept = is_kept (class_of bytes) (entry_of one) (message_entry bytes t) some in
     let grown = one_more_gathered gave gave' gave'' joins (take i ms) taken taken' bytes t b so_far named
-        (ap entries_of pushed ∙ map-append entry_of taken (one ∷ []) ∙ ap (λ r. entries_of taken ++ r) some)
+    (ap entries_of pushed ∙ map-append entry_of taken (one ∷ []) ∙ ap (λ r. entries_of taken ++ r) some)
     (λ isnt. subst (λ c. destroys_by c (raw_of bytes).opcode ≡ false) (sym kept.0) (sym last ∙ isnt))
     (λ is_so. subst (λ c. destroys_by c (raw_of bytes).opcode ≡ true) (sym kept.0) (sym last ∙ is_so)) moment in
     subst (λ front. Gathers gave'' front taken' b) (ap (λ x. take i ms ++ x ∷ []) (is ∙ at) ∙ sym (take_more ms i m lt)) grown
@@ -139,7 +149,7 @@ named_some bytes taken taken' one t each named some pushed =
     let kept = is_kept (class_of bytes) (entry_of one) (message_entry bytes t) some in
     let here : HasId (entry_of one) = subst HasId (sym kept.1) (has_id bytes t kept.0 named) in
     subst (All HasId) (sym (ap entries_of pushed ∙ map-append entry_of taken (one ∷ [])))
-        (All-append HasId (entries_of taken) (entry_of one ∷ []) each (only_one HasId (entry_of one) here))
+    (All-append HasId (entries_of taken) (entry_of one ∷ []) each (only_one HasId (entry_of one) here))
 
 pub kept_some : (taken taken' : List (Request × Moment)) (one : Request × Moment) → All IsKept (entries_of taken) → All IsKept (entry_of one ∷ [])
     → taken' ≡ taken ++ one ∷ [] → All IsKept (entries_of taken')

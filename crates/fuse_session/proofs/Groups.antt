@@ -38,8 +38,13 @@ use Rattle.fuse_session.proofs.Counted.{tallied_is}
 
 pub stands_later : (M : Model) → (holds : KeeperState M) (s : M.State) (h : History) (t u : List ℕ) → Includes u t → StandsFor holds s h t
     → StandsFor holds s h u
-stands_later M holds s h t u more so = record { rows = so.rows; records = so.records; held = so.held; stands =
-    Stands-settled M so.rows so.records s h t u more so.stands }
+stands_later M holds s h t u more so = record {
+  rows = so.rows;
+  records = so.records;
+  held = so.held;
+  stands =
+      Stands-settled M so.rows so.records s h t u more so.stands;
+}
 
 pub stands_kept : (M : Model) → (holds holds' : KeeperState M) (s : M.State) (h : History) (t : List ℕ) → KeepsHeld holds holds' → StandsFor holds s h t
     → StandsFor holds' s h t
@@ -53,7 +58,7 @@ pub firm_leaves : (M : Model) → (holds : KeeperState M) (s : M.State) (h : His
     → Leaves holds (λ x r. Stands M x r s h t)
 firm_leaves M holds s h t firm so =
     leaves_map M holds (AreThese M so.rows so.records) (λ x r. Stands M x r s h t) (λ x r same. Stands-same M so.rows so.records x r s h t same so.stands)
-        (firm so.rows so.records so.held)
+    (firm so.rows so.records so.held)
 
 -- ---- lives
 
@@ -77,7 +82,7 @@ lived_none M stood s h c t timed so = record {
 pub lived_all : (M : Model) → (stood : History → List ℕ → Type 0) (s : M.State) (h : History) (c : Bool) (t : List ℕ) (timed : List Timed) (marks : List Mark)
     (part unsent : List ℕ) (later : List (List ℕ))
     → Works M s h timed → stood (grown h (kept_in timed)) (t ++ settled_in c (bytes_of timed) marks)
-        → answers M s (grown h (kept_in timed)) timed ≡ replies marks ++ later → joined later ≡ part ++ unsent → BeginsNext later part
+    → answers M s (grown h (kept_in timed)) timed ≡ replies marks ++ later → joined later ≡ part ++ unsent → BeginsNext later part
     → Lived M stood s h c t timed marks part
 lived_all M stood s h c t timed marks part unsent later works so sent begun next = record {
   worked = timed;
@@ -107,7 +112,7 @@ exact_none M stood s h c t timed so = record {
 -- exactly all of it was
 pub exact_all : (M : Model) → (stood : History → List ℕ → Type 0) (s : M.State) (h : History) (c : Bool) (t : List ℕ) (timed : List Timed) (marks : List Mark)
     → Works M s h timed → stood (grown h (kept_in timed)) (t ++ settled_in c (bytes_of timed) marks)
-        → replies marks ≡ answers M s (grown h (kept_in timed)) timed → Exact M stood s h c t timed marks
+    → replies marks ≡ answers M s (grown h (kept_in timed)) timed → Exact M stood s h c t timed marks
 exact_all M stood s h c t timed marks works so sent = record {
   worked = timed;
   unworked = [];
@@ -148,15 +153,15 @@ stored M s h c t ts es x r is works either = ⊎_elim
     (λ before. lived_none M (Stands M x r s) s h c t ts before)
     (λ after. lived_all M (Stands M x r s) s h c t ts [] [] (joined (answers M s (grown h (kept_in ts)) ts)) (answers M s (grown h (kept_in ts)) ts) works
     (subst (λ u. Stands M x r s (grown h (kept_in ts)) u) (sym (ap (λ (q : List ℕ). t ++ q) (settled_none c (bytes_of ts)) ∙ append-nil t))
-        (subst (λ l. Stands M x r s (grown h l) t) is after)) refl refl (begins_none (answers M s (grown h (kept_in ts)) ts)))
+    (subst (λ l. Stands M x r s (grown h l) t) is after)) refl refl (begins_none (answers M s (grown h (kept_in ts)) ts)))
     either
 
 pub broken_store : (M : Model) → (holds holds' : KeeperState M) (gave : List Moment → Type 0) (p : PortState) (pending : List ℕ)
     (messages : List (List ℕ)) (count : ℕ) (taken : List (Request × Moment)) (ends : Bool) (group : List (Request × Moment)) (faulted : Type 0)
     → Gathers gave (take count messages) taken ends → group ≡ taken → (holds'.is_clean → KeepsHeld holds holds')
-        → (holds'.is_clean → (s : M.State) (h : History) (t : List ℕ) → StandsFor holds s h t → faulted)
+    → (holds'.is_clean → (s : M.State) (h : History) (t : List ℕ) → StandsFor holds s h t → faulted)
     → ((s : M.State) (h : History) (t : List ℕ) → StandsFor holds s h t → Includes t pending → All (IsUnsettled t) (entries_of group) → IsFirm holds
-        → Leaves holds' (StandsForEither M s h t s (grown h (entries_of group)) t))
+    → Leaves holds' (StandsForEither M s h t s (grown h (entries_of group)) t))
     → Broken holds holds' gave p p pending messages true false faulted
 broken_store M holds holds' gave p pending messages count taken ends group faulted gathers same keeps fault crash =
     let ts = gathers.timed in
@@ -206,13 +211,13 @@ now_stands M holds s h t more es ts dones done is = stands_later M holds s (grow
 -- its answers weren't all sent
 pub broken_sent : (M : Model) → HistoriesGrow M → (holds holds' : KeeperState M) (gave : List Moment → Type 0) (p q : PortState) (pending mid : List ℕ)
     (messages : List (List ℕ)) (count : ℕ) (taken : List (Request × Moment)) (ends : Bool) (group : List (Request × Moment)) (front : List (List ℕ))
-        (dones list : List Done) (fault : SendFault) (exact want : Bool) (faulted : Type 0)
+    (dones list : List Done) (fault : SendFault) (exact want : Bool) (faulted : Type 0)
     → Gathers gave (take count messages) taken ends → group ≡ taken → front ≡ take count messages → (holds'.is_clean → holds'.is_honest)
     → (holds'.is_honest → (s : M.State) (h : History) (t : List ℕ) → StandsFor holds s h t → Includes t pending → All (IsUnsettled t) (entries_of group)
-        → Performed holds' s h t (entries_of group) dones)
+    → Performed holds' s h t (entries_of group) dones)
     → (holds'.is_honest → IsFirm holds → IsFirm holds')
     → (holds'.is_honest → (u : List ℕ) → All (IsUnsettled u) (entries_of group) → FewHave holds u pending → FewHave holds' u mid)
-        → length mid + length (entries_of group) ≤ 16
+    → length mid + length (entries_of group) ≤ 16
     → list ≡ dones → SentSome p q (wires front (answers_in list)) fault → exact ≡ false → (want ≡ true → fault ≡ Memory)
     → Broken holds holds' gave p q pending messages exact want faulted
 broken_sent M grows holds holds' gave p q pending mid messages count taken ends group front dones list fault exact want faulted gathers same same_front
@@ -222,7 +227,7 @@ broken_sent M grows holds holds' gave p q pending mid messages count taken ends 
     let es : entries_of group ≡ kept_in ts = ap entries_of same ∙ gathers.entries in
     let bytes : front ≡ bytes_of ts = same_front ∙ gathers.bytes in
     let done = λ (honest : holds'.is_honest) (s : M.State) (h : History) (t : List ℕ) (so : StandsFor holds s h t) (within : Includes t pending)
-        (again : NoneComesAgain p.confirms t (bytes_of ts) some.marks).
+    (again : NoneComesAgain p.confirms t (bytes_of ts) some.marks).
     performed honest s h t so within (subst (All (IsUnsettled t)) (sym es) (group_unsettled p.confirms t ts some.marks again)) in
     let works = λ (s : M.State) (h : History). works_group M s h ts gathers.no_zero gathers.only in
     record {
@@ -237,7 +242,7 @@ broken_sent M grows holds holds' gave p q pending mid messages count taken ends 
       exactly = λ _ honest s h t so within again.
           let d = done honest s h t so within again in
           let f = outs_front M s h ts some.marks some.later (works s h) (sym (answers_are_outs M grows s h ts)
-              ∙ sym (sent_are M grows holds' s h t (entries_of group) ts front dones d es bytes) ∙ some.whole) in
+          ∙ sym (sent_are M grows holds' s h t (entries_of group) ts front dones d es bytes) ∙ some.whole) in
           record {
             worked = f.first;
             unworked = f.others;
@@ -249,16 +254,16 @@ broken_sent M grows holds holds' gave p q pending mid messages count taken ends 
       life = λ clean s h t so within again.
           let d = done (clean_honest clean) s h t so within again in
           lived_all M (StandsFor holds' s) s h p.confirms t ts some.marks some.part some.unsent some.later (works s h)
-              (now_stands M holds' s h t _ (entries_of group) ts dones d es)
+          (now_stands M holds' s h t _ (entries_of group) ts dones d es)
           (sym (sent_are M grows holds' s h t (entries_of group) ts front dones d es bytes) ∙ some.whole) some.begun some.next;
       crash = λ honest firm s h t so within again.
           let d = done honest s h t so within again in
           leaves_map M holds' (λ x r. Stands M x r s (grown h (kept_in ts)) (t ++ settled_in p.confirms (bytes_of ts) some.marks))
-              (λ x r. Lived M (Stands M x r s) s h p.confirms t ts some.marks some.part)
+          (λ x r. Lived M (Stands M x r s) s h p.confirms t ts some.marks some.part)
           (λ x r stands. lived_all M (Stands M x r s) s h p.confirms t ts some.marks some.part some.unsent some.later (works s h) stands
           (sym (sent_are M grows holds' s h t (entries_of group) ts front dones d es bytes) ∙ some.whole) some.begun some.next)
           (firm_leaves M holds' s (grown h (kept_in ts)) _ (firm_still honest firm)
-              (now_stands M holds' s h t (settled_in p.confirms (bytes_of ts) some.marks) (entries_of group) ts dones d es));
+          (now_stands M holds' s h t (settled_in p.confirms (bytes_of ts) some.marks) (entries_of group) ts dones d es));
       few = λ honest clean t again h. (
         mid ++ ids_in (entries_of group),
         few_unsent M holds' p.confirms t mid (entries_of group) ts some.marks es size
@@ -293,14 +298,14 @@ both_included t pending mid more pending' within f is i there =
 pub turned : (M : Model) → HistoriesGrow M → (holds holds' : KeeperState M) (gave : List Moment → Type 0) (p q : PortState) (pending mid pending' : List ℕ)
     (messages : List (List ℕ)) (count : ℕ)
     (taken : List (Request × Moment)) (ends : Bool) (group : List (Request × Moment)) (front : List (List ℕ)) (dones list : List Done) (stuck : Bool)
-        (rest : Rest) (counts : SessionCounts)
+    (rest : Rest) (counts : SessionCounts)
     → Gathers gave (take count messages) taken ends → group ≡ taken → front ≡ take count messages
     → (holds'.is_honest → (s : M.State) (h : History) (t : List ℕ) → StandsFor holds s h t → Includes t pending → All (IsUnsettled t) (entries_of group)
-        → Performed holds' s h t (entries_of group) dones)
+    → Performed holds' s h t (entries_of group) dones)
     → ((u : List ℕ) → Includes u pending → Includes u mid)
     → (holds'.is_honest → (u : List ℕ) → All (IsUnsettled u) (entries_of group) → FewHave holds u pending → FewHave holds' u mid) → length pending' ≤ 16
     → SentAll p q front (wires front (answers_in list)) mid pending' → list ≡ dones → rest ≡ rest_by (ends && last_zero (answers_in list)) stuck
-        → counts ≡ tallied front (repeats_in list)
+    → counts ≡ tallied front (repeats_in list)
     → Turned holds holds' gave p q pending pending' (take count messages) (lasts rest) counts
 turned M grows holds holds' gave p q pending mid pending' messages count taken ends group front dones list stuck rest counts gathers same same_front performed
     handed few size sent same_list is counts_are =
@@ -324,9 +329,9 @@ turned M grows holds holds' gave p q pending mid pending' messages count taken e
             works = works_group M s h ts gathers.no_zero gathers.only;
             goes = λ going. elim (and_false ends (last_zero (answers_in list))
                 (lasts_not (ends && last_zero (answers_in list)) stuck (sym (ap lasts is) ∙ going))) [
-              | inl no_end ↦ goes_none M s h ts gathers.no_zero (gathers.none no_end)
-              | inr both ↦ goes_last M s h ts (answers_in dones) gathers.no_zero gathers.only says (sym (ap (λ l. last_zero (answers_in l)) same_list) ∙ both.1)
-            ];
+                  | inl no_end ↦ goes_none M s h ts gathers.no_zero (gathers.none no_end)
+                  | inr both ↦ goes_last M s h ts (answers_in dones) gathers.no_zero gathers.only says (sym (ap (λ l. last_zero (answers_in l)) same_list) ∙ both.1)
+                ];
             last = λ over.
                 let both = and_true ends (last_zero (answers_in list)) (ended_so (ends && last_zero (answers_in list)) stuck (sym (ap lasts is) ∙ over)) in
                 ends_last M s h ts (answers_in dones) (gathers.ended both.0) says (sym (ap (λ l. last_zero (answers_in l)) same_list) ∙ both.1);
@@ -337,7 +342,7 @@ turned M grows holds holds' gave p q pending mid pending' messages count taken e
           };
       few = λ honest t again h.
           few_sent M holds' p.confirms t mid pending' front ts all.marks bytes all.handed size
-              (few honest t (subst (All (IsUnsettled t)) (sym es) (group_unsettled p.confirms t ts all.marks again)) h);
+          (few honest t (subst (All (IsUnsettled t)) (sym es) (group_unsettled p.confirms t ts all.marks again)) h);
     }
 
 pub stuck_zero : (ended stuck : Bool) → rest_by ended stuck ≡ ZeroUnique → stuck ≡ true
@@ -377,7 +382,7 @@ pub are_enough : (gave : List Moment → Type 0) (front : List (List ℕ)) (take
 are_enough gave front taken ends slice group dones list gathers same same_group count same_list =
     subst (λ f. AreEnough f (answers_in list)) (sym (same ∙ gathers.bytes))
     (enough gathers.timed (answers_in list) (length-map list (λ (d : Done). d.answer) ∙ ap length same_list ∙ count ∙ ap length same_group
-        ∙ sym (length-map taken entry_of) ∙ ap length gathers.entries))
+    ∙ sym (length-map taken entry_of) ∙ ap length gathers.entries))
 
 -- a group was read off so many messages
 pub gathers_to : (gave : List Moment → Type 0) (messages : List (List ℕ)) (n count : ℕ) (taken : List (Request × Moment)) (ends : Bool) → count ≡ n

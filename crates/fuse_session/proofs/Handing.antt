@@ -48,22 +48,38 @@ hands_more M before holds holds' pending mid group few others h =
 
 pub hands_same : (M : Model) → (before : Records) (holds : KeeperState M) (pending more : List ℕ) → HandsOn before holds pending
     → HandsOn before holds (pending ++ more)
-hands_same M before holds pending more h = record { rows = h.rows; records = h.records; held = h.held; rowed = h.rowed; more = h.more; few = h.few; some =
-    h.some; all = λ i there. includes_left pending more i (h.all i there) }
+hands_same M before holds pending more h = record {
+  rows = h.rows;
+  records = h.records;
+  held = h.held;
+  rowed = h.rowed;
+  more = h.more;
+  few = h.few;
+  some =
+      h.some;
+  all = λ i there. includes_left pending more i (h.all i there);
+}
 
 pub at_most : (M : Model) → (before : Records) (holds : KeeperState M) (pending : List ℕ) → HandsOn before holds pending → AtMostMore before holds
 at_most M before holds pending h = record { rows = h.rows; records = h.records; held = h.held; more = h.more; few = h.few; some = h.some }
 
 pub at_most_kept : (M : Model) → (before : Records) (holds holds' : KeeperState M) (pending : List ℕ) → KeepsHeld holds holds' → HandsOn before holds pending
     → AtMostMore before holds'
-at_most_kept M before holds holds' pending keeps h = record { rows = h.rows; records = h.records; held = keeps h.rows h.records h.held; more = h.more; few =
-    h.few; some = h.some }
+at_most_kept M before holds holds' pending keeps h = record {
+  rows = h.rows;
+  records = h.records;
+  held = keeps h.rows h.records h.held;
+  more = h.more;
+  few =
+      h.few;
+  some = h.some;
+}
 
 -- where the port confirms, the answers to a group settle all its ids
 pub hands_group : (M : Model) → (before : Records) (holds : KeeperState M) (gave : List Moment → Type 0) (p q : PortState) (mid pending' : List ℕ)
     (messages : List (List ℕ)) (taken : List (Request × Moment)) (ends : Bool)
     (group : List (Request × Moment)) (front answers' : List (List ℕ)) → Gathers gave messages taken ends → group ≡ taken → front ≡ messages → p.confirms ≡ true
-        → SentAll p q front answers' mid pending'
+    → SentAll p q front answers' mid pending'
     → HandsOn before holds (mid ++ ids_in (entries_of group)) → HandsOn before holds pending'
 hands_group M before holds gave p q mid pending' messages taken ends group front answers' gathers same same_front confirms all h =
     let bytes : front ≡ bytes_of gathers.timed = same_front ∙ gathers.bytes in
@@ -74,14 +90,29 @@ hands_group M before holds gave p q mid pending' messages taken ends group front
 -- at first nothing is to be handed on
 pub hands_start : (M : Model) → (holds : KeeperState M) (pending : List ℕ) (rows : M.Rows) (records : Records) → holds.holds rows records → IsRowed M rows
     → HandsOn records holds pending
-hands_start M holds pending rows records held rowed = record { rows = rows; records = records; held = held; rowed = rowed; more = []; few = omega arith; some =
-    λ i _. inr refl; all = λ i there. absurd (cc there) }
+hands_start M holds pending rows records held rowed = record {
+  rows = rows;
+  records = records;
+  held = held;
+  rowed = rowed;
+  more = [];
+  few = omega arith;
+  some =
+      λ i _. inr refl;
+  all = λ i there. absurd (cc there);
+}
 
 -- ---- of the settled ids few have a record
 
 pub few_kept : (M : Model) → (holds holds' : KeeperState M) (u pending : List ℕ) → KeepsHeld holds holds' → FewHave holds u pending → FewHave holds' u pending
-few_kept M holds holds' u pending keeps h = record { rows = h.rows; records = h.records; held = keeps h.rows h.records h.held; rowed = h.rowed; few = h.few;
-    others = h.others }
+few_kept M holds holds' u pending keeps h = record {
+  rows = h.rows;
+  records = h.records;
+  held = keeps h.rows h.records h.held;
+  rowed = h.rowed;
+  few = h.few;
+  others = h.others;
+}
 
 none_left : (b : Bool) (o now : Option Said) → now ≡ (if b then None else o) → (b ≡ false → o ≡ None) → now ≡ None
 none_left true o now is none = is
@@ -131,20 +162,27 @@ few_sent M holds c u mid pending' front ts marks bytes handed few h =
     let new = settled_in c (bytes_of ts) marks in
     let is : pending' ≡ mid ++ new = handed ∙ ap (λ f. mid ++ settled_in c f marks) bytes in
     subst (FewHave holds (u ++ new)) (sym is) (few_more M holds u mid new (mid ++ new) (subst (λ x. length x ≤ 16) is few) (includes_left mid new)
-        (includes_right mid new) h)
+    (includes_right mid new) h)
 
 pub few_unsent : (M : Model) → (holds : KeeperState M) (c : Bool) (u mid : List ℕ) (group : List Entry) (ts : List Timed) (marks : List Mark)
     → group ≡ kept_in ts → length mid + length group ≤ 16
     → FewHave holds u mid → FewHave holds (u ++ settled_in c (bytes_of ts) marks) (mid ++ ids_in group)
 few_unsent M holds c u mid group ts marks is few h =
     few_more M holds u mid (settled_in c (bytes_of ts) marks) (mid ++ ids_in group)
-        (omega (arith, length-append mid (ids_in group), length-map group entry_id, few)) (includes_left mid (ids_in group))
+    (omega (arith, length-append mid (ids_in group), length-map group entry_id, few)) (includes_left mid (ids_in group))
     (λ i there. includes_right mid (ids_in group) i (ap (λ g. is_in (ids_in g) i) is ∙ settled_within c ts marks i there)) h
 
 -- at first nothing was settled
 pub few_start : (M : Model) → (holds : KeeperState M) (rows : M.Rows) (records : Records) → holds.holds rows records → IsRowed M rows → FewHave holds [] []
-few_start M holds rows records held rowed = record { rows = rows; records = records; held = held; rowed = rowed; few = omega arith; others =
-    λ i there. absurd (cc there) }
+few_start M holds rows records held rowed = record {
+  rows = rows;
+  records = records;
+  held = held;
+  rowed = rowed;
+  few = omega arith;
+  others =
+      λ i there. absurd (cc there);
+}
 
 -- ---- a group was performed, if there was one
 

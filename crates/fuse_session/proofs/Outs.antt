@@ -61,7 +61,7 @@ outs-append M s h [] ys = refl
 outs-append M s h (x ∷ xs) ys =
     ap (λ r. answered M s (grown h (entries_at x)) x ∷ r) (outs-append M s (grown h (entries_at x)) xs ys)
     ∙ ap (λ g. answered M s (grown h (entries_at x)) x ∷ (outs M s (grown h (entries_at x)) xs ++ outs M s g ys))
-        (sym (grown-append h (entries_at x) (kept_in xs)))
+    (sym (grown-append h (entries_at x) (kept_in xs)))
 
 front_none : (xs ys : List Timed) → xs ++ ys ≡ [] → xs ≡ []
 front_none [] ys is = refl
@@ -102,9 +102,12 @@ answers-append M grows s h xs ys = answers_are_outs M grows s h (xs ++ ys) ∙ o
 pub Works-append : (M : Model) → (s : M.State) (h : History) (xs ys : List Timed) → GoesOn M s h xs → Works M s (grown h (kept_in xs)) ys
     → Works M s h (xs ++ ys)
 Works-append M s h [] ys goes works = works
-Works-append M s h (x ∷ xs) ys goes works =
-    (goes.0, inr goes.1, Works-append M s (grown h (entries_at x)) xs ys goes.2
-        (subst (λ g. Works M s g ys) (grown-append h (entries_at x) (kept_in xs)) works))
+Works-append M s h (x ∷ xs) ys goes works = (
+  goes.0,
+  inr goes.1,
+  Works-append M s (grown h (entries_at x)) xs ys goes.2
+      (subst (λ g. Works M s g ys) (grown-append h (entries_at x) (kept_in xs)) works),
+)
 
 pub GoesOn-append : (M : Model) → (s : M.State) (h : History) (xs ys : List Timed) → GoesOn M s h xs → GoesOn M s (grown h (kept_in xs)) ys
     → GoesOn M s h (xs ++ ys)
@@ -129,7 +132,7 @@ told-append M s h (x ∷ es) e = ap (λ r. said M s (add h x) (entry_id x) ∷ r
 head_is : (M : Model) → (s : M.State) (h : History) (t : Timed) (es : List Entry) (class : Class) (list : List Said)
     → map (λ a. Some a) list ≡ told M s h (entry_if class (timed_entry t) ++ es)
     → (head_wire class (unique_of t.bytes) list ≡ answer_by class (said M s (grown h (entry_if class (timed_entry t))) (message_id t.bytes))
-        (unique_of t.bytes))
+    (unique_of t.bytes))
     × (map (λ a. Some a) (left_by class list) ≡ told M s (grown h (entry_if class (timed_entry t))) es)
 head_is M s h t es Silent list are = (refl, are)
 head_is M s h t es (Bare errno) list are = (refl, are)

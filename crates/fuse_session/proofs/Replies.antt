@@ -77,7 +77,7 @@ pub replied_more : (a b c : PortState) (ms ns : List Mark) (part : List ℕ) →
 replied_more a b c ms ns part one two = record {
   sent = subst (Appends a.sent c.sent)
       (ap (λ (r : List ℕ). r ++ (joined (replies ns) ++ part)) (append-nil (joined (replies ms)))
-          ∙ sym (append_assoc (joined (replies ms)) (joined (replies ns)) part)
+      ∙ sym (append_assoc (joined (replies ms)) (joined (replies ns)) part)
       ∙ ap (λ (r : List ℕ). r ++ part) (sym (joined_replies ms ns)))
       (appends_more a.sent b.sent c.sent (joined (replies ms) ++ []) (joined (replies ns) ++ part) one.sent two.sent);
   some = gone-append ms ns one.some two.some;
@@ -108,5 +108,12 @@ replied_one old new mark s =
 
 -- a part of one
 pub replied_part : (old new : PortState) (bytes : List ℕ) → (s : SentPart old new bytes) → Replied old new [] s.part
-replied_part old new bytes s = record { sent = s.sent; some = tt; places = []; gone = s.gone ∙ sym (append-nil old.gone); placed = refl; confirms =
-    s.quiet.confirms }
+replied_part old new bytes s = record {
+  sent = s.sent;
+  some = tt;
+  places = [];
+  gone = s.gone ∙ sym (append-nil old.gone);
+  placed = refl;
+  confirms =
+      s.quiet.confirms;
+}

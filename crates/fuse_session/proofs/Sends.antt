@@ -35,8 +35,15 @@ sent_nothing p m pending none = record {
 }
 
 pub sent_first_none : (p : PortState) (messages answers : List (List ℕ)) (pending : List ℕ) → SentFirst p p [] answers answers pending pending
-sent_first_none p messages answers pending = record { marks = []; whole = refl; full = refl; replied = replied_none p; failures = refl; quiet = quiet_none p;
-    handed = sym (append-nil pending) }
+sent_first_none p messages answers pending = record {
+  marks = [];
+  whole = refl;
+  full = refl;
+  replied = replied_none p;
+  failures = refl;
+  quiet = quiet_none p;
+  handed = sym (append-nil pending);
+}
 
 pub sent_first_more : (a b c : PortState) (front answers left left' : List (List ℕ)) (m bytes : List ℕ) (p q r : List ℕ) → left ≡ bytes ∷ left'
     → SentFirst a b front answers left p q → SentNext b c m bytes q r
@@ -66,13 +73,13 @@ taken_at ms i m bytes lt at is = ap (λ x. take i ms ++ x ∷ []) (is ∙ at) �
 pub sent_more : (a b c : PortState) (ms : List (List ℕ)) (i : ℕ) (m bytes : List ℕ) (list list' : List Said) (all : List (List ℕ)) (p q r : List ℕ)
     → i < length ms → m ≡ get_or ms i m → bytes ≡ m
     → list' ≡ left_by (class_of bytes) list → SentFirst a b (take i ms) all (wires (drop i ms) list) p q
-        → SentNext b c bytes (head_wire (class_of bytes) (unique_of bytes) list) q r
+    → SentNext b c bytes (head_wire (class_of bytes) (unique_of bytes) list) q r
     → SentFirst a c (take (i + 1) ms) all (wires (drop (i + 1) ms) list') p r
 sent_more a b c ms i m bytes list list' all p q r lt at is left one two =
     let step = sent_first_more a b c (take i ms) all (wires (drop i ms) list) (wires (drop (i + 1) ms) list') bytes
-        (head_wire (class_of bytes) (unique_of bytes) list) p q r
+    (head_wire (class_of bytes) (unique_of bytes) list) p q r
     (ap (λ x. wires x list) (left_at ms i m bytes lt at is) ∙ ap (λ x. head_wire (class_of bytes) (unique_of bytes) list ∷ wires (drop (i + 1) ms) x)
-        (sym left)) one two in
+    (sym left)) one two in
     subst (λ f. SentFirst a c f all (wires (drop (i + 1) ms) list') p r) (taken_at ms i m bytes lt at is) step
 
 -- an answer wasn't sent whole
@@ -109,10 +116,10 @@ some_by PortFailed a b c front answers left left' bytes p q is one two = record 
 pub sent_some : (fault : SendFault) (a b c : PortState) (ms : List (List ℕ)) (i : ℕ) (m bytes : List ℕ) (list : List Said) (all : List (List ℕ)) (p q : List ℕ)
     → i < length ms → m ≡ get_or ms i m → bytes ≡ m
     → SentFirst a b (take i ms) all (wires (drop i ms) list) p q → SendFails fault b c (head_wire (class_of bytes) (unique_of bytes) list)
-        → SentSome a c all fault
+    → SentSome a c all fault
 sent_some fault a b c ms i m bytes list all p q lt at is one two =
     some_by fault a b c (take i ms) all (wires (drop i ms) list) (wires (drop (i + 1) ms) (left_by (class_of bytes) list))
-        (head_wire (class_of bytes) (unique_of bytes) list) p q
+    (head_wire (class_of bytes) (unique_of bytes) list) p q
     (ap (λ x. wires x list) (left_at ms i m bytes lt at is)) one two
 
 pub sent_all : (a b : PortState) (ms left all : List (List ℕ)) (front : List (List ℕ)) (p q : List ℕ) → left ≡ [] → front ≡ ms
@@ -187,7 +194,7 @@ pub next_bare : (a b : PortState) (m : List ℕ) (e : Errno) (gone : Bool) (list
     → SentNext a b m (head_wire (class_of m) (unique_of m) list) pending pending
 next_bare a b m e gone list pending is sent =
     let none : settles_if (a.confirms || gone) (class_of m) (message_id m) ≡ [] = subst (λ k. settles_if (a.confirms || gone) k (message_id m) ≡ []) is
-        (bare_settles (a.confirms || gone) e (message_id m)) in
+    (bare_settles (a.confirms || gone) e (message_id m)) in
     subst (λ k. SentNext a b m (head_wire k (unique_of m) list) pending pending) is
     (record {
       mark = record { reply = wire e.0 [] (unique_of m); gone = gone };
@@ -205,7 +212,7 @@ head_kept : (m : List ℕ) (dones : List Done) (n : ℕ) (d : Done) (a : Said) �
     → wire a.errno a.body (unique_of m) ≡ head_wire (class_of m) (unique_of m) (drop n (answers_in dones))
 head_kept m dones n d a is lt at same =
     ap (λ (x : Said). wire x.errno x.body (unique_of m)) same ∙ ap (head_wire Kept (unique_of m)) (sym (drop_answers dones n d lt at))
-        ∙ ap (λ k. head_wire k (unique_of m) (drop n (answers_in dones))) is
+    ∙ ap (λ k. head_wire k (unique_of m) (drop n (answers_in dones))) is
 
 pub next_kept : (a b : PortState) (m : List ℕ) (dones : List Done) (n : ℕ) (d : Done) (said : Said) (p q : List ℕ) → Kept ≡ class_of m → n < length dones
     → d ≡ get_or dones n d → said ≡ d.answer

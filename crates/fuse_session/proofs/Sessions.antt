@@ -52,7 +52,7 @@ cut_more : CutJoins → (held mid r1 r2 : List ℕ) → mid ≡ (cut (held ++ r1
     → cut (held ++ (r1 ++ r2)) ≡ ((cut (held ++ r1)).0 ++ (cut (mid ++ r2)).0, (cut (mid ++ r2)).1)
 cut_more joins held mid r1 r2 is =
     ap cut (sym (append_assoc held r1 r2)) ∙ joins (held ++ r1) r2 ∙ ap (λ (w : List ℕ). ((cut (held ++ r1)).0 ++ (cut (w ++ r2)).0, (cut (w ++ r2)).1))
-        (sym is)
+    (sym is)
 
 front_more : CutJoins → (held mid r1 r2 : List ℕ) → mid ≡ (cut (held ++ r1)).1 → (cut (held ++ r1)).0 ++ (cut (mid ++ r2)).0 ≡ (cut (held ++ (r1 ++ r2))).0
 front_more joins held mid r1 r2 is = sym (ap (λ (x : List (List ℕ) × List ℕ). x.0) (cut_more joins held mid r1 r2 is))
@@ -66,15 +66,22 @@ place_more : CutJoins → (held mid r1 r2 : List ℕ) (begin at place : ℕ) →
 place_more joins held mid r1 r2 begin at place is one two =
     let a = (cut (held ++ r1)).0 in
     let b = (cut (mid ++ r2)).0 in
-    omega (arith, one, two, ap (λ x. length (joined x)) (front_more joins held mid r1 r2 is), ap length (joined-append a b), length-append (joined a)
-        (joined b))
+    omega (
+      arith,
+      one,
+      two,
+      ap (λ x. length (joined x)) (front_more joins held mid r1 r2 is),
+      ap length (joined-append a b),
+      length-append (joined a)
+          (joined b),
+    )
 
 -- ---- a turn more
 
 pub whole_more : (M : Model) → HistoriesGrow M → CutJoins → (holds mid new : KeeperState M) (gave gave' gave'' : List Moment → Type 0) (p q r : PortState)
     (ids ids' ids'' : List ℕ) (held left rest : List ℕ) (begin at place : ℕ) (counts counts' : SessionCounts)
     → Whole holds mid gave p q ids ids' held left begin at counts → Whole mid new gave' q r ids' ids'' left rest at place counts'
-        → (new.is_honest → mid.is_honest) → ((xs ys : List Moment) → gave xs → gave' ys → gave'' (xs ++ ys))
+    → (new.is_honest → mid.is_honest) → ((xs ys : List Moment) → gave xs → gave' ys → gave'' (xs ++ ys))
     → Whole holds new gave'' p r ids ids'' held rest begin place (plus counts counts')
 whole_more M grows joins holds mid new gave gave' gave'' p q r ids ids' ids'' held left rest begin at place counts counts' one two honest_too moments = record {
   received = one.received ++ two.received;
@@ -83,13 +90,13 @@ whole_more M grows joins holds mid new gave gave' gave'' p q r ids ids' ids'' he
   at = place_more joins held left one.received two.received begin at place one.rest_is one.at two.at;
   turned = subst (λ f. Turned holds new gave'' p r ids ids'' f true (plus counts counts')) (front_more joins held left one.received two.received one.rest_is)
       (turned_more M grows holds mid new gave gave' gave'' p q r ids ids' ids'' (cut (held ++ one.received)).0 (cut (left ++ two.received)).0 true counts
-          counts' one.turned two.turned honest_too moments);
+      counts' one.turned two.turned honest_too moments);
 }
 
 pub stopped_more : (M : Model) → HistoriesGrow M → CutJoins → (holds mid new : KeeperState M) (gave gave' gave'' : List Moment → Type 0) (p q r : PortState)
     (ids ids' ids'' : List ℕ) (held left : List ℕ) (rest : Rest) (begin at place : ℕ) (counts counts' : SessionCounts)
     → Whole holds mid gave p q ids ids' held left begin at counts → Stopped mid new gave' q r ids' ids'' left rest at place counts'
-        → (new.is_honest → mid.is_honest) → ((xs ys : List Moment) → gave xs → gave' ys → gave'' (xs ++ ys))
+    → (new.is_honest → mid.is_honest) → ((xs ys : List Moment) → gave xs → gave' ys → gave'' (xs ++ ys))
     → Stopped holds new gave'' p r ids ids'' held rest begin place (plus counts counts')
 stopped_more M grows joins holds mid new gave gave' gave'' p q r ids ids' ids'' held left rest begin at place counts counts' one two honest_too moments =
     let a = (cut (held ++ one.received)).0 in
@@ -114,16 +121,16 @@ pub life_more : (M : Model) → HistoriesGrow M → CutJoins → (holds mid new 
     (held rest : List ℕ) (begin at : ℕ) (counts : SessionCounts) (exact want : Bool) (faulted faulted' : Type 0)
     → Whole holds mid gave p q ids ids' held rest begin at counts → Run mid new gave' q r ids' rest exact want faulted' → (faulted' → faulted)
     → (new.is_clean → new.is_honest) → (new.is_honest → mid.is_honest) → (mid.is_honest → IsFirm holds → IsFirm mid)
-        → ((xs ys : List Moment) → gave xs → gave' ys → gave'' (xs ++ ys))
+    → ((xs ys : List Moment) → gave xs → gave' ys → gave'' (xs ++ ys))
     → Run holds new gave'' p r ids held exact want faulted
 life_more M grows joins holds mid new gave gave' gave'' p q r ids ids' held rest begin at counts exact want faulted faulted' one two faulted_too clean_honest
     honest_too firm_too moments = record {
-  received = one.received ++ two.received;
-  came = consumes_more p.coming q.coming r.coming one.received two.received one.came two.came;
-  broken = subst (λ f. Broken holds new gave'' p r ids f exact want faulted) (front_more joins held rest one.received two.received one.rest_is)
-      (turned_broken M grows holds mid new gave gave' gave'' p q r ids ids' (cut (held ++ one.received)).0 (cut (rest ++ two.received)).0 counts exact want
+      received = one.received ++ two.received;
+      came = consumes_more p.coming q.coming r.coming one.received two.received one.came two.came;
+      broken = subst (λ f. Broken holds new gave'' p r ids f exact want faulted) (front_more joins held rest one.received two.received one.rest_is)
+          (turned_broken M grows holds mid new gave gave' gave'' p q r ids ids' (cut (held ++ one.received)).0 (cut (rest ++ two.received)).0 counts exact want
           faulted faulted' one.turned two.broken faulted_too clean_honest honest_too firm_too moments);
-}
+    }
 
 -- all was worked off: a life too
 pub whole_life : (M : Model) → (holds new : KeeperState M) (gave : List Moment → Type 0) (p q : PortState) (ids ids' : List ℕ) (held rest : List ℕ)
@@ -161,7 +168,7 @@ heard_turned : (M : Model) → HistoriesGrow M → (holds new : KeeperState M) �
 heard_turned M grows holds new honest gave p q r ids ids' front going counts hearing t =
     subst (λ c. Turned holds new gave p r ids ids' front going c) (none_plus counts)
     (turned_more M grows holds holds new (λ ts. ts ≡ []) gave gave p q r ids ids ids' [] front going none_counted counts
-        (turned_quiet M holds (λ ts. ts ≡ []) p q ids refl (hearing_replied p q hearing)) t honest (gave_later gave))
+    (turned_quiet M holds (λ ts. ts ≡ []) p q ids refl (hearing_replied p q hearing)) t honest (gave_later gave))
 
 heard_came : (p q r : PortState) (before after : Held) (messages : List (List ℕ)) (fault : Option FrameFault) → (h : Heard p q before after messages fault)
     → IsQuiet q r → Consumes p.coming r.coming h.received
@@ -171,7 +178,7 @@ pub whole_heard : (M : Model) → HistoriesGrow M → (holds new : KeeperState M
     → (gave : List Moment → Type 0) (p q r : PortState) (ids ids' : List ℕ) (before after : Held) (messages slice : List (List ℕ)) (fault : Option FrameFault)
     (begin place : ℕ) (rest : Rest) (counts : SessionCounts)
     → Heard p q before after messages fault → IsHearing p q → slice ≡ messages → rest ≡ GoesOnHere
-        → WorkedOff holds new gave q r ids ids' slice rest begin place counts → IsQuiet q r
+    → WorkedOff holds new gave q r ids ids' slice rest begin place counts → IsQuiet q r
     → Whole holds new gave p r ids ids' before.bytes after.bytes before.at after.at counts
 whole_heard M grows holds new honest gave p q r ids ids' before after messages slice fault begin place rest counts h hearing same goes w quiet =
     let msgs : (cut (before.bytes ++ h.received)).0 ≡ messages = ap (λ (x : List (List ℕ) × List ℕ). x.0) h.took.cut_is in
@@ -183,14 +190,14 @@ whole_heard M grows holds new honest gave p q r ids ids' before after messages s
       at = h.took.at ∙ ap (λ x. before.at + length (joined x)) (sym msgs);
       turned = subst (λ f. Turned holds new gave p r ids ids' f true counts) (front ∙ sym msgs)
           (subst (λ b. Turned holds new gave p r ids ids' w.front b counts) (ap lasts goes)
-              (heard_turned M grows holds new honest gave p q r ids ids' w.front (lasts rest) counts hearing w.turned));
+          (heard_turned M grows holds new honest gave p q r ids ids' w.front (lasts rest) counts hearing w.turned));
     }
 
 pub stopped_heard : (M : Model) → HistoriesGrow M → (holds new : KeeperState M) → (new.is_honest → holds.is_honest)
     → (gave : List Moment → Type 0) (p q r : PortState) (ids ids' : List ℕ) (before after : Held) (messages slice : List (List ℕ)) (fault : Option FrameFault)
     (begin place : ℕ) (rest kind : Rest) (counts : SessionCounts)
     → Heard p q before after messages fault → IsHearing p q → slice ≡ messages → rest ≡ kind → begin ≡ before.at
-        → WorkedOff holds new gave q r ids ids' slice rest begin place counts → IsQuiet q r
+    → WorkedOff holds new gave q r ids ids' slice rest begin place counts → IsQuiet q r
     → Stopped holds new gave p r ids ids' before.bytes kind before.at place counts
 stopped_heard M grows holds new honest gave p q r ids ids' before after messages slice fault begin place rest kind counts h hearing same kind_is begin_is w
     quiet =
@@ -213,7 +220,7 @@ pub life_heard : (M : Model) → HistoriesGrow M → (holds new : KeeperState M)
     → (gave : List Moment → Type 0) (p q r : PortState) (ids : List ℕ) (before after : Held) (messages slice : List (List ℕ)) (fault : Option FrameFault)
     (exact want exact' want' : Bool) (faulted faulted' : Type 0)
     → Heard p q before after messages fault → IsHearing p q → slice ≡ messages → exact' ≡ exact → want' ≡ want
-        → Broken holds new gave q r ids slice exact want faulted' → (faulted' → faulted) → IsQuiet q r → (new.is_clean → new.is_honest)
+    → Broken holds new gave q r ids slice exact want faulted' → (faulted' → faulted) → IsQuiet q r → (new.is_clean → new.is_honest)
     → Run holds new gave p r ids before.bytes exact' want' faulted
 life_heard M grows holds new honest gave p q r ids before after messages slice fault exact want exact' want' faulted faulted' h hearing same e w b faulted_too
     quiet clean_honest =
@@ -272,11 +279,26 @@ pub ends_unheard : (M : Model) → (holds : KeeperState M) (gave : List Moment �
 ends_unheard M holds gave p q ids h End turns none ready n hearing =
     (n.0, record { rest = h.bytes; place = h.at; pending' = ids; whole = whole_unheard M holds gave p q ids h none ready n.2 hearing; so = n.1 })
 ends_unheard M holds gave p q ids h (Frame f) turns none ready n hearing =
-    record { rest = h.bytes; place = h.at; pending' = ids; whole = whole_unheard M holds gave p q ids h none ready n.2 hearing; so =
-    inr (n.0, ready.good, n.1) }
+    record {
+      rest = h.bytes;
+      place = h.at;
+      pending' = ids;
+      whole = whole_unheard M holds gave p q ids h none ready n.2 hearing;
+      so =
+          inr (n.0, ready.good, n.1);
+    }
 ends_unheard M holds gave p q ids h PortFailed turns none ready n hearing =
-    λ _. (n.2, record { rest = h.bytes; place = h.at; pending' = ids; whole = whole_unheard M holds gave p q ids h none ready n.3 hearing; so =
-    (ready.none, ready.good) })
+    λ _. (
+      n.2,
+      record {
+        rest = h.bytes;
+        place = h.at;
+        pending' = ids;
+        whole = whole_unheard M holds gave p q ids h none ready n.3 hearing;
+        so =
+            (ready.none, ready.good);
+      },
+    )
 ends_unheard M holds gave p q ids h Memory turns none ready n hearing = tt
 ends_unheard M holds gave p q ids h Destroyed turns none ready n hearing = absurd n
 ends_unheard M holds gave p q ids h Turns turns none ready n hearing = absurd n
@@ -288,7 +310,7 @@ ends_unheard M holds gave p q ids h (Store fault) turns none ready n hearing = a
 rested_more : (M : Model) → HistoriesGrow M → CutJoins → (holds mid new : KeeperState M) (gave gave' gave'' : List Moment → Type 0) (p q r : PortState)
     (ids ids' : List ℕ) (held left : List ℕ) (begin at : ℕ) (counts counts' : SessionCounts) (P : ℕ → List ℕ → Type 0)
     → Whole holds mid gave p q ids ids' held left begin at counts → Rested mid new gave' q r ids' left at counts' P → (new.is_honest → mid.is_honest)
-        → ((xs ys : List Moment) → gave xs → gave' ys → gave'' (xs ++ ys))
+    → ((xs ys : List Moment) → gave xs → gave' ys → gave'' (xs ++ ys))
     → Rested holds new gave'' p r ids held begin (plus counts counts') P
 rested_more M grows joins holds mid new gave gave' gave'' p q r ids ids' held left begin at counts counts' P one two honest_too moments = record {
   rest = two.rest;
@@ -302,7 +324,7 @@ rested_more M grows joins holds mid new gave gave' gave'' p q r ids ids' held le
 halted_more : (M : Model) → HistoriesGrow M → CutJoins → (holds mid new : KeeperState M) (gave gave' gave'' : List Moment → Type 0) (p q r : PortState)
     (ids ids' : List ℕ) (held left : List ℕ) (rest : Rest) (begin at place : ℕ) (counts counts' : SessionCounts)
     → Whole holds mid gave p q ids ids' held left begin at counts → Halted mid new gave' q r ids' left rest at place counts' → (new.is_honest → mid.is_honest)
-        → ((xs ys : List Moment) → gave xs → gave' ys → gave'' (xs ++ ys))
+    → ((xs ys : List Moment) → gave xs → gave' ys → gave'' (xs ++ ys))
     → Halted holds new gave'' p r ids held rest begin place (plus counts counts')
 halted_more M grows joins holds mid new gave gave' gave'' p q r ids ids' held left rest begin at place counts counts' one two honest_too moments = record {
   pending' = two.pending';
@@ -313,8 +335,8 @@ halted_more M grows joins holds mid new gave gave' gave'' p q r ids ids' held le
 pub ends_more : (M : Model) → HistoriesGrow M → CutJoins → (holds mid new : KeeperState M) (gave gave' gave'' : List Moment → Type 0) (p q r : PortState)
     (ids ids' : List ℕ) (held left : List ℕ) (begin at turns turns' : ℕ) (e : Ended) (counts counts' : SessionCounts)
     → Whole holds mid gave p q ids ids' held left begin at counts → EndsAs mid new gave' q r ids' left at turns e counts' → (e ≡ Turns → ⊥)
-        → q.receive_failures ≡ p.receive_failures → q.has_ended ≡ p.has_ended → (new.is_honest → mid.is_honest)
-        → ((xs ys : List Moment) → gave xs → gave' ys → gave'' (xs ++ ys))
+    → q.receive_failures ≡ p.receive_failures → q.has_ended ≡ p.has_ended → (new.is_honest → mid.is_honest)
+    → ((xs ys : List Moment) → gave xs → gave' ys → gave'' (xs ++ ys))
     → EndsAs holds new gave'' p r ids held begin turns' e (plus counts counts')
 ends_more M grows joins holds mid new gave gave' gave'' p q r ids ids' held left begin at turns turns' End counts counts' one two isnt same ended honest_too
     moments =
@@ -325,15 +347,19 @@ ends_more M grows joins holds mid new gave gave' gave'' p q r ids ids' held left
 ends_more M grows joins holds mid new gave gave' gave'' p q r ids ids' held left begin at turns turns' PortFailed counts counts' one two isnt same ended
     honest_too moments =
     λ more.
-    let failed = two (omega (arith, more, same)) in
-    (failed.0 ∙ ended, rested_more M grows joins holds mid new gave gave' gave'' p q r ids ids' held left begin at counts counts' IsGoodRest one failed.1
-        honest_too moments)
+    let failed = two (omega (arith, more, same)) in (
+      failed.0 ∙ ended,
+      rested_more M grows joins holds mid new gave gave' gave'' p q r ids ids' held left begin at counts counts' IsGoodRest one failed.1
+          honest_too moments,
+    )
 ends_more M grows joins holds mid new gave gave' gave'' p q r ids ids' held left begin at turns turns' Memory counts counts' one two isnt same ended honest_too
     moments = tt
 ends_more M grows joins holds mid new gave gave' gave'' p q r ids ids' held left begin at turns turns' Destroyed counts counts' one two isnt same ended
-    honest_too moments =
-    (two.0, halted_more M grows joins holds mid new gave gave' gave'' p q r ids ids' held left ByDestroy begin at two.0 counts counts' one two.1 honest_too
-        moments)
+    honest_too moments = (
+      two.0,
+      halted_more M grows joins holds mid new gave gave' gave'' p q r ids ids' held left ByDestroy begin at two.0 counts counts' one two.1 honest_too
+          moments,
+    )
 ends_more M grows joins holds mid new gave gave' gave'' p q r ids ids' held left begin at turns turns' Turns counts counts' one two isnt same ended honest_too
     moments = absurd (isnt refl)
 ends_more M grows joins holds mid new gave gave' gave'' p q r ids ids' held left begin at turns turns' (ZeroUnique place) counts counts' one two isnt same ended
@@ -349,32 +375,40 @@ pub life_worked : (M : Model) → HistoriesGrow M → (holds new : KeeperState M
     → (gave : List Moment → Type 0) (p q r : PortState) (ids ids' : List ℕ) (before after : Held) (messages slice : List (List ℕ))
     (fault : Option FrameFault) (begin place : ℕ) (rest : Rest) (counts : SessionCounts) (exact want : Bool) (faulted : Type 0) → exact ≡ false
     → Heard p q before after messages fault → IsHearing p q → slice ≡ messages → WorkedOff holds new gave q r ids ids' slice rest begin place counts
-        → IsQuiet q r → (new.is_clean → new.is_honest) → (new.is_honest → IsFirm holds → IsFirm new)
+    → IsQuiet q r → (new.is_clean → new.is_honest) → (new.is_honest → IsFirm holds → IsFirm new)
     → Run holds new gave p r ids before.bytes exact want faulted
 life_worked M grows holds new honest gave p q r ids ids' before after messages slice fault begin place rest counts exact want faulted inexact h hearing same w
     quiet clean_honest firm_still =
     life_heard M grows holds new honest gave p q r ids before after messages slice fault exact want exact want faulted faulted h hearing same refl refl
     (turned_life M holds new gave q r ids ids' w.front w.others slice (lasts rest) counts exact want faulted inexact w.turned w.parts clean_honest firm_still)
-        (λ x. x) quiet clean_honest
+    (λ x. x) quiet clean_honest
 
 pub ends_finished : (M : Model) → HistoriesGrow M → (holds new : KeeperState M) → (new.is_honest → holds.is_honest)
     → (gave : List Moment → Type 0) (p q r : PortState) (ids ids' : List ℕ) (before after : Held) (messages slice : List (List ℕ)) (fault : Option FrameFault)
     (begin place : ℕ) (rest : Rest)
     (counts counts' : SessionCounts) (turns : ℕ) (e : Ended) → FinishedBy e rest place fault → counts' ≡ counts
     → Heard p q before after messages fault → IsHearing p q → slice ≡ messages → begin ≡ before.at
-        → WorkedOff holds new gave q r ids ids' slice rest begin place counts → IsQuiet q r
+    → WorkedOff holds new gave q r ids ids' slice rest begin place counts → IsQuiet q r
     → EndsAs holds new gave p r ids before.bytes before.at turns e counts'
 ends_finished M grows holds new honest gave p q r ids ids' before after messages slice fault begin place rest counts counts' turns Destroyed by same_counts h
     hearing same begin_is w quiet =
-    subst (λ c. EndsAs holds new gave p r ids before.bytes before.at turns Destroyed c) (sym same_counts)
-    (place, record { pending' = ids'; stopped = stopped_heard M grows holds new honest gave p q r ids ids' before after messages slice fault begin place rest
-        ByDestroy counts h hearing same by begin_is w quiet })
+    subst (λ c. EndsAs holds new gave p r ids before.bytes before.at turns Destroyed c) (sym same_counts) (
+      place,
+      record {
+        pending' = ids';
+        stopped = stopped_heard M grows holds new honest gave p q r ids ids' before after messages slice fault begin place rest
+            ByDestroy counts h hearing same by begin_is w quiet;
+      },
+    )
 ends_finished M grows holds new honest gave p q r ids ids' before after messages slice fault begin place rest counts counts' turns
     (ZeroUnique at) by same_counts h hearing same begin_is w quiet =
     subst (λ c. EndsAs holds new gave p r ids before.bytes before.at turns (ZeroUnique at) c) (sym same_counts)
     (subst (λ x. Halted holds new gave p r ids before.bytes ByZero before.at x counts) (sym by.1)
-    (record { pending' = ids'; stopped = stopped_heard M grows holds new honest gave p q r ids ids' before after messages slice fault begin place rest ByZero
-        counts h hearing same by.0 begin_is w quiet }))
+    (record {
+      pending' = ids';
+      stopped = stopped_heard M grows holds new honest gave p q r ids ids' before after messages slice fault begin place rest ByZero
+          counts h hearing same by.0 begin_is w quiet;
+    }))
 ends_finished M grows holds new honest gave p q r ids ids' before after messages slice fault begin place rest counts counts' turns
     (Frame f) by same_counts h hearing same begin_is w quiet =
     subst (λ c. EndsAs holds new gave p r ids before.bytes before.at turns (Frame f) c) (sym same_counts)
@@ -474,7 +508,7 @@ life_none M holds gave p ids held exact want faulted inexact none = record {
 pub whole_step : (M : Model) → HistoriesGrow M → CutJoins → (holds mid new : KeeperState M) (gave gave' gave'' : List Moment → Type 0) (p q r : PortState)
     (ids ids' ids'' : List ℕ) (held left rest : List ℕ) (begin at place : ℕ) (counts counts' sum : SessionCounts) → sum ≡ plus counts counts'
     → Whole holds mid gave p q ids ids' held left begin at counts → Whole mid new gave' q r ids' ids'' left rest at place counts'
-        → (new.is_honest → mid.is_honest) → ((xs ys : List Moment) → gave xs → gave' ys → gave'' (xs ++ ys))
+    → (new.is_honest → mid.is_honest) → ((xs ys : List Moment) → gave xs → gave' ys → gave'' (xs ++ ys))
     → Whole holds new gave'' p r ids ids'' held rest begin place sum
 whole_step M grows joins holds mid new gave gave' gave'' p q r ids ids' ids'' held left rest begin at place counts counts' sum is one two honest_too moments =
     subst (λ c. Whole holds new gave'' p r ids ids'' held rest begin place c) (sym is)
@@ -483,14 +517,14 @@ whole_step M grows joins holds mid new gave gave' gave'' p q r ids ids' ids'' he
 pub ends_step : (M : Model) → HistoriesGrow M → CutJoins → (holds mid new : KeeperState M) (gave gave' gave'' : List Moment → Type 0) (p q r : PortState)
     (ids ids' : List ℕ) (held left : List ℕ) (begin at turns turns' : ℕ) (e : Ended) (counts counts' sum : SessionCounts) → sum ≡ plus counts counts'
     → Whole holds mid gave p q ids ids' held left begin at counts → EndsAs mid new gave' q r ids' left at turns e counts' → (e ≡ Turns → ⊥)
-        → q.receive_failures ≡ p.receive_failures → q.has_ended ≡ p.has_ended → (new.is_honest → mid.is_honest)
-        → ((xs ys : List Moment) → gave xs → gave' ys → gave'' (xs ++ ys))
+    → q.receive_failures ≡ p.receive_failures → q.has_ended ≡ p.has_ended → (new.is_honest → mid.is_honest)
+    → ((xs ys : List Moment) → gave xs → gave' ys → gave'' (xs ++ ys))
     → EndsAs holds new gave'' p r ids held begin turns' e sum
 ends_step M grows joins holds mid new gave gave' gave'' p q r ids ids' held left begin at turns turns' e counts counts' sum is one two isnt same ended
     honest_too moments =
     subst (λ c. EndsAs holds new gave'' p r ids held begin turns' e c) (sym is)
     (ends_more M grows joins holds mid new gave gave' gave'' p q r ids ids' held left begin at turns turns' e counts counts' one two isnt same ended honest_too
-        moments)
+    moments)
 
 -- ---- what is exact
 
@@ -544,7 +578,7 @@ exact_at M holds new gave p q ids held (ZeroUnique at) l = tt
 exact_at M holds new gave p q ids held PortFailed l = tt
 exact_at M holds new gave p q ids held (Store fault) l =
     exact_life M holds new gave p q ids held true false (holds.may_answer fault) (λ s g u. new.is_clean → StandsFor new s g u × holds.may_answer fault) refl
-        (λ s g u stands clean. stands refl clean) l
+    (λ s g u stands clean. stands refl clean) l
 exact_at M holds new gave p q ids held Memory l =
     exact_life M holds new gave p q ids held false true (Unit {0}) (λ s g u. Unit {0}) refl (λ s g u _. tt) l
 
@@ -583,8 +617,8 @@ few_settled M holds new gave p q store memory faulted clean_honest is l =
       replied = b.replied;
       few = λ s h t so again.
           let f = b.few (clean_honest is) (λ _. is) [] (again_fewer p.confirms t [] (bytes_of b.timed) b.marks (λ i there. absurd (cc there)) again)
-              (few_start M holds so.rows so.records so.held (rowed_by M so.rows so.records s h t so.stands)) in
+          (few_start M holds so.rows so.records so.held (rowed_by M so.rows so.records s h t so.stands)) in
           lived_map M (StandsFor new s) (λ g u. StandsFor new s g u × FewRecorded new (settled_in p.confirms (bytes_of b.timed) b.marks)) s h p.confirms t
-              b.timed b.marks b.part (λ g u stands. (stands, f))
+          b.timed b.marks b.part (λ g u stands. (stands, f))
           (b.life is s h t so (λ i there. absurd (cc there)) again);
     }

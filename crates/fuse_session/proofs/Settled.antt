@@ -49,7 +49,7 @@ settled-append c [] ys (m ∷ ms) ns same = absurd (omega arith)
 settled-append c (x ∷ xs) ys [] ns same = absurd (omega arith)
 settled-append c (x ∷ xs) ys (m ∷ ms) ns same =
     ap (λ (r : List ℕ). settles c x m ++ r) (settled-append c xs ys ms ns (omega arith))
-        ∙ sym (append_assoc (settles c x m) (settled_in c xs ms) (settled_in c ys ns))
+    ∙ sym (append_assoc (settles c x m) (settled_in c xs ms) (settled_in c ys ns))
 
 pub settled_none : (c : Bool) (xs : List (List ℕ)) → settled_in c xs [] ≡ []
 settled_none c [] = refl
@@ -148,6 +148,8 @@ includes_more t u more within i there = elim (in_either u more i there) [
 pub again_fewer : (c : Bool) (t u : List ℕ) (xs : List (List ℕ)) (ms : List Mark) → Includes t u → NoneComesAgain c t xs ms → NoneComesAgain c u xs ms
 again_fewer c t u [] ms within each = tt
 again_fewer c t u (x ∷ xs) [] within each = (comes_fewer t u (class_of x) (message_id x) within each.0, again_fewer c t u xs [] within each.1)
-again_fewer c t u (x ∷ xs) (m ∷ ms) within each =
-    (comes_fewer t u (class_of x) (message_id x) within each.0, again_fewer c (t ++ settles c x m) (u ++ settles c x m) xs ms
-        (includes_more t u (settles c x m) within) each.1)
+again_fewer c t u (x ∷ xs) (m ∷ ms) within each = (
+  comes_fewer t u (class_of x) (message_id x) within each.0,
+  again_fewer c (t ++ settles c x m) (u ++ settles c x m) xs ms
+      (includes_more t u (settles c x m) within) each.1,
+)

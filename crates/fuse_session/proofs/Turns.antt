@@ -60,7 +60,7 @@ settled_both c c' t xs ys ms ns same full =
     append_assoc t (settled_in c (bytes_of xs) ms) (settled_in c' (bytes_of ys) ns)
     ∙ ap (λ b. t ++ (settled_in c (bytes_of xs) ms ++ settled_in b (bytes_of ys) ns)) same
     ∙ ap (λ (q : List ℕ). t ++ q) (sym (settled-append c (bytes_of xs) (bytes_of ys) ms ns (full ∙ sym (length-map xs (λ (t : Timed). t.bytes))))
-        ∙ ap (λ b. settled_in c b (ms ++ ns)) (sym (bytes-append xs ys)))
+    ∙ ap (λ b. settled_in c b (ms ++ ns)) (sym (bytes-append xs ys)))
 
 -- none of two rows of messages comes again
 again_both : (c c' : Bool) (t : List ℕ) (xs ys : List Timed) (ms ns : List Mark) → c' ≡ c → length ms ≡ length xs
@@ -68,14 +68,14 @@ again_both : (c c' : Bool) (t : List ℕ) (xs ys : List Timed) (ms ns : List Mar
     → NoneComesAgain c t (bytes_of xs) ms × NoneComesAgain c' (t ++ settled_in c (bytes_of xs) ms) (bytes_of ys) ns
 again_both c c' t xs ys ms ns same full each =
     let parts = again-parts c t (bytes_of xs) (bytes_of ys) ms ns (full ∙ sym (length-map xs (λ (t : Timed). t.bytes)))
-        (subst (λ b. NoneComesAgain c t b (ms ++ ns)) (bytes-append xs ys) each) in
+    (subst (λ b. NoneComesAgain c t b (ms ++ ns)) (bytes-append xs ys) each) in
     (parts.0, subst (λ b. NoneComesAgain b (t ++ settled_in c (bytes_of xs) ms) (bytes_of ys) ns) (sym same) parts.1)
 
 -- messages, and then others
 pub turned_more : (M : Model) → HistoriesGrow M → (holds mid new : KeeperState M) (gave gave' gave'' : List Moment → Type 0) (p q r : PortState)
     (ids ids' ids'' : List ℕ) (front front' : List (List ℕ)) (going : Bool) (counts counts' : SessionCounts)
     → Turned holds mid gave p q ids ids' front true counts → Turned mid new gave' q r ids' ids'' front' going counts' → (new.is_honest → mid.is_honest)
-        → ((xs ys : List Moment) → gave xs → gave' ys → gave'' (xs ++ ys))
+    → ((xs ys : List Moment) → gave xs → gave' ys → gave'' (xs ++ ys))
     → Turned holds new gave'' p r ids ids'' (front ++ front') going (plus counts counts')
 turned_more M grows holds mid new gave gave' gave'' p q r ids ids' ids'' front front' going counts counts' one two honest_too moments = record {
   timed = one.timed ++ two.timed;
@@ -109,7 +109,7 @@ turned_more M grows holds mid new gave gave' gave'' p q r ids ids' ids'' front f
         stands = subst (λ x. StandsFor new s x (t ++ settled_in c (bytes_of (one.timed ++ two.timed)) (one.marks ++ two.marks)))
             (sym (grown_kept h one.timed two.timed))
             (subst (StandsFor new s (grown g (kept_in two.timed)))
-                (settled_both c q.confirms t one.timed two.timed one.marks two.marks one.replied.confirms one.full) b.stands);
+            (settled_both c q.confirms t one.timed two.timed one.marks two.marks one.replied.confirms one.full) b.stands);
         sent = replies-append one.marks two.marks ∙ ap (λ x. x ++ replies two.marks) a.sent ∙ ap (λ x. answers M s g one.timed ++ x) b.sent
             ∙ sym (answers-append M grows s h one.timed two.timed);
         counts_are = ap (λ x. plus x counts') a.counts_are ∙ ap (plus (counted h one.timed)) b.counts_are ∙ sym (counted-append h one.timed two.timed);
@@ -125,7 +125,7 @@ turned_more M grows holds mid new gave gave' gave'' p q r ids ids' ids'' front f
 lived_more : (M : Model) → HistoriesGrow M → (stood : History → List ℕ → Type 0) (s : M.State) (h : History) (c c' : Bool) (t : List ℕ) (xs ys : List Timed)
     (ms ns : List Mark) (part : List ℕ) → c' ≡ c → length ms ≡ length xs
     → GoesOn M s h xs → replies ms ≡ answers M s (grown h (kept_in xs)) xs
-        → Lived M stood s (grown h (kept_in xs)) c' (t ++ settled_in c (bytes_of xs) ms) ys ns part
+    → Lived M stood s (grown h (kept_in xs)) c' (t ++ settled_in c (bytes_of xs) ms) ys ns part
     → Lived M stood s h c t (xs ++ ys) (ms ++ ns) part
 lived_more M grows stood s h c c' t xs ys ms ns part same full goes sent l =
     let g = grown h (kept_in xs) in
@@ -148,7 +148,7 @@ lived_more M grows stood s h c c' t xs ys ms ns part same full goes sent l =
 exact_more : (M : Model) → HistoriesGrow M → (stood stood' : History → List ℕ → Type 0) (s : M.State) (h : History) (c c' : Bool) (t : List ℕ)
     (xs ys : List Timed) (ms ns : List Mark) → c' ≡ c → length ms ≡ length xs
     → GoesOn M s h xs → replies ms ≡ answers M s (grown h (kept_in xs)) xs → ((g : History) (u : List ℕ) → stood g u → stood' g u)
-        → Exact M stood s (grown h (kept_in xs)) c' (t ++ settled_in c (bytes_of xs) ms) ys ns
+    → Exact M stood s (grown h (kept_in xs)) c' (t ++ settled_in c (bytes_of xs) ms) ys ns
     → Exact M stood' s h c t (xs ++ ys) (ms ++ ns)
 exact_more M grows stood stood' s h c c' t xs ys ms ns same full goes sent f e =
     let g = grown h (kept_in xs) in
@@ -167,7 +167,7 @@ pub turned_broken : (M : Model) → HistoriesGrow M → (holds mid new : KeeperS
     (front messages : List (List ℕ)) (counts : SessionCounts) (exact want : Bool) (faulted faulted' : Type 0)
     → Turned holds mid gave p q ids ids' front true counts → Broken mid new gave' q r ids' messages exact want faulted' → (faulted' → faulted)
     → (new.is_clean → new.is_honest) → (new.is_honest → mid.is_honest) → (mid.is_honest → IsFirm holds → IsFirm mid)
-        → ((xs ys : List Moment) → gave xs → gave' ys → gave'' (xs ++ ys))
+    → ((xs ys : List Moment) → gave xs → gave' ys → gave'' (xs ++ ys))
     → Broken holds new gave'' p r ids (front ++ messages) exact want faulted
 turned_broken M grows holds mid new gave gave' gave'' p q r ids ids' front messages counts exact want faulted faulted' one two faulted_too clean_honest
     honest_too firm_too moments =
@@ -189,15 +189,15 @@ turned_broken M grows holds mid new gave gave' gave'' p q r ids ids' front messa
           let parts = again_both c q.confirms t one.timed two.timed one.marks two.marks one.replied.confirms one.full again in
           let a = one.all (honest_too is) s h t so within parts.0 in
           exact_more M grows (λ g u. exact ≡ true → new.is_clean → StandsFor new s g u × faulted') (λ g u. exact ≡ true → new.is_clean → StandsFor new s g u
-              × faulted)
+          × faulted)
           s h c q.confirms t one.timed two.timed one.marks two.marks one.replied.confirms one.full (a.goes refl) a.sent
-              (λ g u stands store clean. ((stands store clean).0, faulted_too (stands store clean).1))
+          (λ g u stands store clean. ((stands store clean).0, faulted_too (stands store clean).1))
           (two.exactly how is s (grown h (kept_in one.timed)) (t ++ settled_in c (bytes_of one.timed) one.marks) a.stands (one.handed t within) parts.1);
       life = λ clean s h t so within again.
           let parts = again_both c q.confirms t one.timed two.timed one.marks two.marks one.replied.confirms one.full again in
           let a = one.all (honest_too (clean_honest clean)) s h t so within parts.0 in
           lived_more M grows (StandsFor new s) s h c q.confirms t one.timed two.timed one.marks two.marks two.part one.replied.confirms one.full
-              (a.goes refl) a.sent
+          (a.goes refl) a.sent
           (two.life clean s (grown h (kept_in one.timed)) (t ++ settled_in c (bytes_of one.timed) one.marks) a.stands (one.handed t within) parts.1);
       crash = λ is firm s h t so within again.
           let parts = again_both c q.confirms t one.timed two.timed one.marks two.marks one.replied.confirms one.full again in
@@ -205,22 +205,24 @@ turned_broken M grows holds mid new gave gave' gave'' p q r ids ids' front messa
           let u = t ++ settled_in c (bytes_of one.timed) one.marks in
           let a = one.all (honest_too is) s h t so within parts.0 in
           leaves_map M new (λ x r. Lived M (Stands M x r s) s g q.confirms u two.timed two.marks two.part)
-              (λ x r. Lived M (Stands M x r s) s h c t ts marks two.part)
+          (λ x r. Lived M (Stands M x r s) s h c t ts marks two.part)
           (λ x r l. lived_more M grows (Stands M x r s) s h c q.confirms t one.timed two.timed one.marks two.marks two.part one.replied.confirms one.full
-              (a.goes refl) a.sent l)
+          (a.goes refl) a.sent l)
           (two.crash is (firm_too (honest_too is) firm) s g u a.stands (one.handed t within) parts.1);
       few = λ is clean t again h.
           let parts = again_both c q.confirms t one.timed two.timed one.marks two.marks one.replied.confirms one.full again in
-          let f = two.few is clean (t ++ settled_in c (bytes_of one.timed) one.marks) parts.1 (one.few (honest_too is) t parts.0 h) in
-          (f.0, subst (λ (u : List ℕ). FewHave new u f.0) (settled_both c q.confirms t one.timed two.timed one.marks two.marks one.replied.confirms one.full)
-              f.1);
+          let f = two.few is clean (t ++ settled_in c (bytes_of one.timed) one.marks) parts.1 (one.few (honest_too is) t parts.0 h) in (
+            f.0,
+            subst (λ (u : List ℕ). FewHave new u f.0) (settled_both c q.confirms t one.timed two.timed one.marks two.marks one.replied.confirms one.full)
+                f.1,
+          );
     }
 
 -- what was answered, as a life, with others behind
 pub turned_life : (M : Model) → (holds new : KeeperState M) (gave : List Moment → Type 0) (p q : PortState) (ids ids' : List ℕ)
     (front others messages : List (List ℕ)) (going : Bool) (counts : SessionCounts) (exact want : Bool) (faulted : Type 0) → exact ≡ false
     → Turned holds new gave p q ids ids' front going counts → messages ≡ front ++ others → (new.is_clean → new.is_honest)
-        → (new.is_honest → IsFirm holds → IsFirm new)
+    → (new.is_honest → IsFirm holds → IsFirm new)
     → Broken holds new gave p q ids messages exact want faulted
 turned_life M holds new gave p q ids ids' front others messages going counts exact want faulted inexact one parts clean_honest firm_still = record {
   timed = one.timed;
@@ -234,16 +236,16 @@ turned_life M holds new gave p q ids ids' front others messages going counts exa
   exactly = λ _ is s h t so within again.
       let a = one.all is s h t so within again in
       exact_all M (λ g u. exact ≡ true → new.is_clean → StandsFor new s g u × faulted) s h p.confirms t one.timed one.marks a.works
-          (λ store _. absurd (cc (store, inexact))) a.sent;
+      (λ store _. absurd (cc (store, inexact))) a.sent;
   life = λ is s h t so within again.
       let a = one.all (clean_honest is) s h t so within again in
       lived_all M (StandsFor new s) s h p.confirms t one.timed one.marks [] [] [] a.works a.stands (sym (append-nil (replies one.marks) ∙ a.sent)) refl refl;
   crash = λ is firm s h t so within again.
       let a = one.all is s h t so within again in
       leaves_map M new (λ x r. Stands M x r s (grown h (kept_in one.timed)) (t ++ settled_in p.confirms (bytes_of one.timed) one.marks))
-          (λ x r. Lived M (Stands M x r s) s h p.confirms t one.timed one.marks [])
+      (λ x r. Lived M (Stands M x r s) s h p.confirms t one.timed one.marks [])
       (λ x r stands. lived_all M (Stands M x r s) s h p.confirms t one.timed one.marks [] [] [] a.works stands (sym (append-nil (replies one.marks) ∙ a.sent))
-          refl refl)
+      refl refl)
       (firm_leaves M new s (grown h (kept_in one.timed)) (t ++ settled_in p.confirms (bytes_of one.timed) one.marks) (firm_still is firm) a.stands);
   few = λ is clean t again h. (ids', one.few is t again h);
 }
@@ -267,7 +269,7 @@ pub joined_at : (ms : List (List ℕ)) (i : ℕ) (m : List ℕ) → i < length m
     → length (joined (take (i + 1) ms)) ≡ length (joined (take i ms)) + length (get_or ms i m)
 joined_at ms i m lt =
     ap (λ x. length (joined x)) (take_more ms i m lt) ∙ ap length (joined-append (take i ms) (get_or ms i m ∷ []) ∙ ap (λ (x : List ℕ). joined (take i ms) ++ x)
-        (append-nil (get_or ms i m)))
+    (append-nil (get_or ms i m)))
     ∙ length-append (joined (take i ms)) (get_or ms i m)
 
 -- ---- messages worked off
@@ -282,35 +284,35 @@ pub group_more : (M : Model) → HistoriesGrow M → (holds mid new : KeeperStat
     (ids ids' ids'' : List ℕ) (messages slice : List (List ℕ)) (i n : ℕ) (going : Bool) (counts counts' sum : SessionCounts)
     → slice ≡ take (length messages - i) (drop i messages) → sum ≡ plus counts counts'
     → Turned holds mid gave p q ids ids' (take i messages) true counts → Turned mid new gave' q r ids' ids'' (take n slice) going counts'
-        → (new.is_honest → mid.is_honest) → ((xs ys : List Moment) → gave xs → gave' ys → gave'' (xs ++ ys))
+    → (new.is_honest → mid.is_honest) → ((xs ys : List Moment) → gave xs → gave' ys → gave'' (xs ++ ys))
     → Turned holds new gave'' p r ids ids'' (take (i + n) messages) going sum
 group_more M grows holds mid new gave gave' gave'' p q r ids ids' ids'' messages slice i n going counts counts' sum same sum_is one two honest_too moments =
     subst (λ f. Turned holds new gave'' p r ids ids'' f going sum) (take_parts messages i n)
     (subst (λ c. Turned holds new gave'' p r ids ids'' (take i messages ++ take n (take (length messages - i) (drop i messages))) going c) (sym sum_is)
     (turned_more M grows holds mid new gave gave' gave'' p q r ids ids' ids'' (take i messages) (take n (take (length messages - i) (drop i messages))) going
-        counts counts' one
+    counts counts' one
     (subst (λ x. Turned mid new gave' q r ids' ids'' (take n x) going counts') same two) honest_too moments))
 
 -- a fault in the next group
 pub group_broken : (M : Model) → HistoriesGrow M → (holds mid new : KeeperState M) (gave gave' gave'' : List Moment → Type 0) (p q r : PortState)
     (ids ids' : List ℕ)
     (messages slice : List (List ℕ)) (i : ℕ) (counts : SessionCounts) (exact want : Bool) (faulted faulted' : Type 0)
-        → slice ≡ take (length messages - i) (drop i messages)
+    → slice ≡ take (length messages - i) (drop i messages)
     → Turned holds mid gave p q ids ids' (take i messages) true counts → Broken mid new gave' q r ids' slice exact want faulted' → (faulted' → faulted)
     → (new.is_clean → new.is_honest) → (new.is_honest → mid.is_honest) → (mid.is_honest → IsFirm holds → IsFirm mid)
-        → ((xs ys : List Moment) → gave xs → gave' ys → gave'' (xs ++ ys))
+    → ((xs ys : List Moment) → gave xs → gave' ys → gave'' (xs ++ ys))
     → Broken holds new gave'' p r ids messages exact want faulted
 group_broken M grows holds mid new gave gave' gave'' p q r ids ids' messages slice i counts exact want faulted faulted' same one two faulted_too clean_honest
     honest_too firm_too moments =
     subst (λ m. Broken holds new gave'' p r ids m exact want faulted) (ap (λ x. take i messages ++ x) same ∙ parts_at messages i)
     (turned_broken M grows holds mid new gave gave' gave'' p q r ids ids' (take i messages) slice counts exact want faulted faulted' one two faulted_too
-        clean_honest honest_too firm_too moments)
+    clean_honest honest_too firm_too moments)
 
 -- the last group
 pub worked_off : (M : Model) → (holds new : KeeperState M) (gave : List Moment → Type 0) (p q : PortState) (ids ids' : List ℕ) (messages slice : List (List ℕ))
     (i n : ℕ) (rest : Rest) (begin place : ℕ) (counts : SessionCounts)
     → slice ≡ take (length messages - i) (drop i messages) → (goes_on rest ≡ false) → (rest ≡ ZeroUnique → StartsZero (drop n slice))
-        → place ≡ begin + length (joined (take (i + n) messages))
+    → place ≡ begin + length (joined (take (i + n) messages))
     → Turned holds new gave p q ids ids' (take (i + n) messages) (lasts rest) counts → WorkedOff holds new gave p q ids ids' messages rest begin place counts
 worked_off M holds new gave p q ids ids' messages slice i n rest begin place counts same over zero place_is t = record {
   front = take (i + n) messages;
@@ -341,12 +343,17 @@ pub joined_more : (messages slice : List (List ℕ)) (i n : ℕ) → slice ≡ t
     → length (joined (take (i + n) messages)) ≡ length (joined (take i messages)) + length (joined slice)
 joined_more messages slice i n is =
     ap (λ x. length (joined x)) (take-add i n messages) ∙ ap length (joined-append (take i messages) (take n (drop i messages)))
-        ∙ length-append (joined (take i messages)) (joined (take n (drop i messages)))
+    ∙ length-append (joined (take i messages)) (joined (take n (drop i messages)))
     ∙ ap (λ x. length (joined (take i messages)) + length (joined x)) (sym is)
 
 pub joined_within : (messages : List (List ℕ)) (i : ℕ) → length (joined (take i messages)) ≤ length (joined messages)
-joined_within messages i = omega (arith, ap (λ x. length (joined x)) (take-append-drop i messages), ap length
-    (joined-append (take i messages) (drop i messages)), length-append (joined (take i messages)) (joined (drop i messages)))
+joined_within messages i = omega (
+  arith,
+  ap (λ x. length (joined x)) (take-append-drop i messages),
+  ap length
+      (joined-append (take i messages) (drop i messages)),
+  length-append (joined (take i messages)) (joined (drop i messages)),
+)
 
 pub worked_slice : (messages : List (List ℕ)) (i n : ℕ) → take (i + n - i) (drop i messages) ≡ take n (drop i messages)
 worked_slice messages i n = let e : i + n - i ≡ n = omega arith in ap (λ k. take k (drop i messages)) e

@@ -26,7 +26,7 @@ took_none h messages none ready = subst (TookSome h h) (sym none) (record {
 pub took_more : (a b c : Held) (ms ms' : List (List ℕ)) (m : List ℕ) → ms' ≡ ms ++ m ∷ [] → TookSome a b ms → Gives b c m → TookSome a c ms'
 took_more a b c ms ms' m pushed one g =
     let size : length (joined (ms ++ m ∷ [])) ≡ length (joined ms) + length m =
-        ap length (joined-append ms (m ∷ []) ∙ ap (λ (x : List ℕ). joined ms ++ x) (append-nil m)) ∙ length-append (joined ms) m in
+    ap length (joined-append ms (m ∷ []) ∙ ap (λ (x : List ℕ). joined ms ++ x) (append-nil m)) ∙ length-append (joined ms) m in
     let low = g.message.low in
     subst (TookSome a c) (sym pushed) (record {
       front = one.front ∙ ap (λ (x : List (List ℕ) × List ℕ). ms ++ x.0) g.first ∙ sym (append_assoc ms (m ∷ []) (cut c.bytes).0);
@@ -80,7 +80,7 @@ pub took_bad : (a b c : Held) (ms ms' : List (List ℕ)) (f : FrameFault) (fault
 took_bad a b c ms ms' f fault one g isnt same is =
     let n = bad_next b c f isnt g in
     subst (λ x. TookAll a c x fault) (sym same) (took_all a b c ms fault one n.0 (n.1 ∙ sym is) (ap (λ (h : Held). h.bytes) n.2) (ap (λ (h : Held). h.at) n.2)
-        (λ none. absurd (cc (none, is))))
+    (λ none. absurd (cc (none, is))))
 
 -- ---- the end of a port
 

@@ -14,8 +14,11 @@ each_more m n (x ∷ xs) ys same each more = (each.0, each_more m n xs ys same e
 pub fixed_logged : IsLog GaveFixed
 fixed_logged = record {
   none = λ c. record { still = refl; each = tt };
-  onward = λ a b c xs ys one two. record { still = two.still ∙ one.still; each =
-      each_more a.0 b.0 xs ys (ap (λ (f : Fixed). f.0) one.still) one.each two.each };
+  onward = λ a b c xs ys one two. record {
+    still = two.still ∙ one.still;
+    each =
+        each_more a.0 b.0 xs ys (ap (λ (f : Fixed). f.0) one.still) one.each two.each;
+  };
 }
 
 last_more : (m : Moment) (xs ys : List Moment) → last_of m (xs ++ ys) ≡ last_of (last_of m xs) ys

@@ -134,5 +134,13 @@ pub record IsPath {P : Type 0} (became : P → P → Type 0) : Type 0 where
 
 -- a port that wasn't used yet
 abbrev pub fresh : Option (List ℕ) → Option (List ℕ) → Bool → PortState
-fresh coming sent confirms = record { coming = coming; sent = sent; receives = 0; has_ended = false; failures = 0; receive_failures = 0; confirms = confirms;
-    gone = [] }
+fresh coming sent confirms = record {
+  coming = coming;
+  sent = sent;
+  receives = 0;
+  has_ended = false;
+  failures = 0;
+  receive_failures = 0;
+  confirms = confirms;
+  gone = [];
+}

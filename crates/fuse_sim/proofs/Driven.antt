@@ -60,7 +60,7 @@ outcomes_stay M grows s h [] es = refl
 outcomes_stay M grows s h (e ∷ events) es =
     let g = grown h (commits e) in
     let split : grown (committed h (e ∷ events)) es ≡ grown (grown g (commits_in events)) es =
-        ap (λ x. grown x es) (grown-append h (commits e) (commits_in events)) in
+    ap (λ x. grown x es) (grown-append h (commits e) (commits_in events)) in
     let first : grown (grown g (commits_in events)) es ≡ grown g (commits_in events ++ es) = sym (grown-append g (commits_in events) es) in
     ap (λ x. outcome_of M s x e ∷ map (outcome_of M s x) events) split
     ∙ ap (λ x. outcome_of M s x e ∷ map (outcome_of M s (grown (grown g (commits_in events)) es)) events) first
@@ -76,11 +76,11 @@ gives-append M s h [] ys = refl
 gives-append M s h (x ∷ xs) ys =
     ap (λ r. outcome_of M s (grown h (commits x)) x ∷ r) (gives-append M s (grown h (commits x)) xs ys)
     ∙ ap (λ g. outcome_of M s (grown h (commits x)) x ∷ (gives M s (grown h (commits x)) xs ++ gives M s g ys))
-        (sym (grown-append h (commits x) (commits_in xs)))
+    (sym (grown-append h (commits x) (commits_in xs)))
 
 pub outcomes-append : (M : Model) → HistoriesGrow M → (s : M.State) (h : History) (xs ys : List Event)
     → map (outcome_of M s (committed h (xs ++ ys))) (xs ++ ys) ≡ map (outcome_of M s (committed h xs)) xs
-        ++ map (outcome_of M s (committed (committed h xs) ys)) ys
+    ++ map (outcome_of M s (committed (committed h xs) ys)) ys
 outcomes-append M grows s h xs ys = outcomes_are M grows s h (xs ++ ys) ∙ gives-append M s h xs ys ∙ ap (λ r. r ++ gives M s (committed h xs) ys)
     (sym (outcomes_are M grows s h xs))
     ∙ ap (λ r. map (outcome_of M s (committed h xs)) xs ++ r) (sym (outcomes_are M grows s (committed h xs) ys))
@@ -195,11 +195,11 @@ settled_came u (e ∷ es) =
     let ids : ids_in (commits_in (e ∷ es)) ≡ ids_in (commits e) ++ ids_in (commits_in es) = map-append entry_id (commits e) (commits_in es) in
     let whole = u ++ ids_in (commits_in (e ∷ es)) in
     let here : Includes whole (ids_in (commits e)) = λ i there. includes_right u (ids_in (commits_in (e ∷ es))) i
-        (ap (λ x. is_in x i) ids ∙ includes_left (ids_in (commits e)) (ids_in (commits_in es)) i there) in
+    (ap (λ x. is_in x i) ids ∙ includes_left (ids_in (commits e)) (ids_in (commits_in es)) i there) in
     let later : Includes whole (ids_in (commits_in es)) = λ i there. includes_right u (ids_in (commits_in (e ∷ es))) i
-        (ap (λ x. is_in x i) ids ∙ includes_right (ids_in (commits e)) (ids_in (commits_in es)) i there) in
+    (ap (λ x. is_in x i) ids ∙ includes_right (ids_in (commits e)) (ids_in (commits_in es)) i there) in
     let first : Includes whole (u ++ settles e) = includes_both whole u (settles e) (includes_left u (ids_in (commits_in (e ∷ es))))
-        (λ i there. here i (settles_came_by e.fate (class_of e.bytes) e.bytes e.moment i there)) in
+    (λ i there. here i (settles_came_by e.fate (class_of e.bytes) e.bytes e.moment i there)) in
     λ i there. includes_both whole (u ++ settles e) (ids_in (commits_in es)) first later i (settled_came (u ++ settles e) es i there)
 
 pub handed_came : (es : List Event) → Includes (ids_in (commits_in es)) (handed_on empty_ledger es)

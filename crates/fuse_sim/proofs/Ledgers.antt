@@ -109,7 +109,7 @@ has_room e es (suc room) p x one few = refl
 
 room_none : (died : Bool) (e : Event) (es : List Event) (room : ℕ) (p : List ℕ) → Calm e → commits e ≡ [] → settles e ≡ []
     → RunLedger died (record { room = room; pending = p }) es [] (p ++ settles_in es) room
-        → RunLedger died (record { room = room; pending = p }) (e ∷ es) [] (p ++ settles_in (e ∷ es)) room
+    → RunLedger died (record { room = room; pending = p }) (e ∷ es) [] (p ++ settles_in (e ∷ es)) room
 room_none died e es room p calm none settled more =
     let l : Ledger = record { room = room; pending = p } in
     subst (λ (x : List ℕ). RunLedger died l (e ∷ es) [] (p ++ (x ++ settles_in es)) room) (sym settled)
@@ -123,7 +123,7 @@ room_one died e es (suc room) p x calm one few more =
     let l : Ledger = record { room = suc room; pending = p } in
     subst (λ (q : List ℕ). RunLedger died l (e ∷ es) [] q (suc room)) (append_assoc p (settles e) (settles_in es))
     (stepped died l (record { room = room; pending = p ++ settles e }) e es [] [] ((p ++ settles e) ++ settles_in es) (suc room) room (one_step l e x calm one)
-        (ap (λ cs. handed_at cs l) one) (count_one e x room one)
+    (ap (λ cs. handed_at cs l) one) (count_one e x room one)
     (more room (p ++ settles e) (fewer e es x room one few)))
 
 run_room : (died : Bool) (es : List Event) (room : ℕ) (p : List ℕ) → IsRun died es → length (commits_in es) ≤ room
@@ -147,26 +147,26 @@ run_room died (e ∷ es) room p so few = elim so [
 begin_none : (died : Bool) (e : Event) (es : List Event) (p : List ℕ) → Calm e → commits e ≡ [] → settles e ≡ []
     → RunLedger died (record { room = 0; pending = p }) es (handed_to (commits_in es) p) (left_pending (commits_in es) p ++ settles_in es) 16
     → RunLedger died (record { room = 0; pending = p }) (e ∷ es) (handed_to (commits_in (e ∷ es)) p) (left_pending (commits_in (e ∷ es)) p
-        ++ settles_in (e ∷ es)) 16
+    ++ settles_in (e ∷ es)) 16
 begin_none died e es p calm none settled more =
     let l : Ledger = record { room = 0; pending = p } in
     subst (λ (cs : List Entry). RunLedger died l (e ∷ es) (handed_to (cs ++ commits_in es) p) (left_pending (cs ++ commits_in es) p ++ settles_in (e ∷ es)) 16)
-        (sym none)
+    (sym none)
     (subst (λ (x : List ℕ). RunLedger died l (e ∷ es) (handed_to (commits_in es) p) (left_pending (commits_in es) p ++ (x ++ settles_in es)) 16) (sym settled)
     (stepped died l l e es [] (handed_to (commits_in es) p) (left_pending (commits_in es) p ++ settles_in es) 16 16 (none_step l e calm none)
-        (ap (λ cs. handed_at cs l) none) (count_none e 16 none) more))
+    (ap (λ cs. handed_at cs l) none) (count_none e 16 none) more))
 
 begin_one : (died : Bool) (e : Event) (es : List Event) (p : List ℕ) (x : Entry) → Calm e → commits e ≡ x ∷ []
     → RunLedger died (record { room = 15; pending = settles e }) es [] (settles e ++ settles_in es) 15
     → RunLedger died (record { room = 0; pending = p }) (e ∷ es) (handed_to (commits_in (e ∷ es)) p) (left_pending (commits_in (e ∷ es)) p
-        ++ settles_in (e ∷ es)) 16
+    ++ settles_in (e ∷ es)) 16
 begin_one died e es p x calm one more =
     let l : Ledger = record { room = 0; pending = p } in
     subst (λ (cs : List Entry). RunLedger died l (e ∷ es) (handed_to (cs ++ commits_in es) p) (left_pending (cs ++ commits_in es) p ++ settles_in (e ∷ es)) 16)
-        (sym one)
+    (sym one)
     (subst (λ (q : List ℕ). RunLedger died l (e ∷ es) q (settles e ++ settles_in es) 16) (append-nil p)
     (stepped died l (record { room = 15; pending = settles e }) e es p [] (settles e ++ settles_in es) 16 15 (one_step l e x calm one)
-        (ap (λ cs. handed_at cs l) one) (count_one e x 15 one) more))
+    (ap (λ cs. handed_at cs l) one) (count_one e x 15 one) more))
 
 begin_hands : (e : Event) (p : List ℕ) → handed_at (commits e) (record { room = 0; pending = p }) ≡ handed_to (commits_in (e ∷ [])) p
 begin_hands e p = elim (commits_one e) [
@@ -205,8 +205,14 @@ settles_fewer_by DiedAfterCommit Kept e i = omega arith
 
 settles_fewer : (es : List Event) → length (settles_in es) ≤ length (commits_in es)
 settles_fewer [] = omega arith
-settles_fewer (e ∷ es) = omega (arith, settles_fewer es, settles_fewer_by e.fate (class_of e.bytes) (message_entry e.bytes e.moment)
-    (message_id e.bytes), length-append (settles e) (settles_in es), length-append (commits e) (commits_in es))
+settles_fewer (e ∷ es) = omega (
+  arith,
+  settles_fewer es,
+  settles_fewer_by e.fate (class_of e.bytes) (message_entry e.bytes e.moment)
+      (message_id e.bytes),
+  length-append (settles e) (settles_in es),
+  length-append (commits e) (commits_in es),
+)
 
 few_by : (cs : List Entry) (p settled : List ℕ) (n : ℕ) → length p ≤ n → length cs ≤ n → length settled ≤ length cs → length (left_pending cs p ++ settled) ≤ n
 few_by [] p settled n few many within = omega (arith, few, within, length-append p settled)

@@ -112,7 +112,7 @@ answers_stay M grows s h [] es ds = refl
 answers_stay M grows s h (t ∷ ts) es ds =
     let g = grown h (entries_at t) in
     let place : (xs : List Entry) → grown (grown h (kept_in (t ∷ ts))) xs ≡ grown (grown g (kept_in ts)) xs =
-        λ xs. ap (λ x. grown x xs) (grown-append h (entries_at t) (kept_in ts)) in
+    λ xs. ap (λ x. grown x xs) (grown-append h (entries_at t) (kept_in ts)) in
     let first : (xs : List Entry) → answered M s (grown (grown g (kept_in ts)) xs) t ≡ answered M s g t =
     λ xs. ap (λ x. answered M s x t) (sym (grown-append g (kept_in ts) xs)) ∙ answered_stays M grows s h t (kept_in ts ++ xs) in
     ap (λ x. answered M s x t ∷ answers M s x ts) (place es)
@@ -140,12 +140,14 @@ moments-append : (xs ys : List Timed) → moments_in (xs ++ ys) ≡ moments_in x
 moments-append [] ys = refl
 moments-append (x ∷ xs) ys =
     ap (λ (r : List Moment). moment_if (class_of x.bytes) x.moment ++ r) (moments-append xs ys)
-        ∙ sym (append_assoc (moment_if (class_of x.bytes) x.moment) (moments_in xs) (moments_in ys))
+    ∙ sym (append_assoc (moment_if (class_of x.bytes) x.moment) (moments_in xs) (moments_in ys))
 
 gave_front : (gave : List Moment → Type 0) (xs ys : List Timed) → GaveFirst gave (xs ++ ys) → GaveFirst gave xs
-gave_front gave xs ys given =
-    (moments_in ys ++ given.0, subst gave (ap (λ (r : List Moment). r ++ given.0) (moments-append xs ys) ∙ append_assoc (moments_in xs) (moments_in ys) given.0)
-        given.1)
+gave_front gave xs ys given = (
+  moments_in ys ++ given.0,
+  subst gave (ap (λ (r : List Moment). r ++ given.0) (moments-append xs ys) ∙ append_assoc (moments_in xs) (moments_in ys) given.0)
+      given.1,
+)
 
 pub run_lived : (M : Model) → (stood : History → List ℕ → Type 0) (gave : List Moment → Type 0) (s : M.State) (h : History) (t : List ℕ) (old new : PortState)
     (received : List ℕ) (timed : List Timed) (others : List (List ℕ)) (marks : List Mark) (part : List ℕ)
@@ -157,7 +159,7 @@ run_lived M stood gave s h t old new received timed others marks part came front
     ap (λ (x : List Timed). bytes_of x ++ others) l.parts ∙ ap (λ (x : List (List ℕ)). x ++ others) (map-append (λ (x : Timed). x.bytes) l.worked l.unworked)
     ∙ append_assoc (bytes_of l.worked) (bytes_of l.unworked) others in
     let split : out M s h l.worked ≡ joined (replies marks) ++ joined l.later =
-        ap joined l.sent ∙ flat_map-append (λ (m : List ℕ). m) (replies marks) l.later in
+    ap joined l.sent ∙ flat_map-append (λ (m : List ℕ). m) (replies marks) l.later in
     let begun : joined (replies marks) ++ joined l.later ≡ sent ++ l.unsent =
     ap (λ (x : List ℕ). joined (replies marks) ++ x) l.begun ∙ sym (append_assoc (joined (replies marks)) part l.unsent) in
     record {

@@ -33,8 +33,17 @@ id_set id small = omega arith
 long : (a b r : List ℕ) (m n : ℕ) → length (a ++ (b ++ (le 8 m ++ r))) ≡ length (a ++ (b ++ (le 8 n ++ r)))
 long a b r m n =
     let eight : length (le 8 m) ≡ length (le 8 n) = length-le 8 m ∙ sym (length-le 8 n) in
-    omega (arith, eight, length-append a (b ++ (le 8 m ++ r)), length-append a (b ++ (le 8 n ++ r)), length-append b (le 8 m ++ r), length-append b
-        (le 8 n ++ r), length-append (le 8 m) r, length-append (le 8 n) r)
+    omega (
+      arith,
+      eight,
+      length-append a (b ++ (le 8 m ++ r)),
+      length-append a (b ++ (le 8 n ++ r)),
+      length-append b (le 8 m ++ r),
+      length-append b
+          (le 8 n ++ r),
+      length-append (le 8 m) r,
+      length-append (le 8 n) r,
+    )
 
 marked_at : (a b r : List ℕ) (unique : ℕ) → length a ≡ 4 → length b ≡ 4 → unique < 256 ^ 8 → marked (a ++ (b ++ (le 8 unique ++ r))) ≡ a
     ++ (b ++ (le 8 (bit_set unique) ++ r))
@@ -73,7 +82,7 @@ marked_canon v fits =
     let tail : List ℕ = form (drop 3 (header_parts (len_of v) (length v.ext / 8) v)) in
     let grouped : (u : ℕ) → (a ++ (b ++ (le 8 u ++ tail))) ++ more ≡ a ++ (b ++ (le 8 u ++ (tail ++ more))) =
     λ u. append_assoc a (b ++ (le 8 u ++ tail)) more ∙ ap (λ (x : List ℕ). a ++ x) (append_assoc b (le 8 u ++ tail) more)
-        ∙ ap (λ (x : List ℕ). a ++ (b ++ x)) (append_assoc (le 8 u) tail more) in
+    ∙ ap (λ (x : List ℕ). a ++ (b ++ x)) (append_assoc (le 8 u) tail more) in
     ap marked (grouped v.header.unique)
     ∙ marked_at a b (tail ++ more) v.header.unique (length-le 4 (len_of v)) (length-le 4 (opcode_of v.act)) fits
     ∙ sym (grouped (bit_set v.header.unique))
@@ -88,14 +97,17 @@ marked_spells v m s =
     let head_is : s.head ≡ head v.header.unique = h.2 ∙ ap (λ (x : List ℕ). a ++ x) h1.2 ∙ ap (λ (x : List ℕ). a ++ (b ++ x)) h2.2 in
     let grouped : (u : ℕ) → head u ++ tail ≡ a ++ (b ++ (le 8 u ++ (h2.0 ++ tail))) =
     λ u. append_assoc a (b ++ (le 8 u ++ h2.0)) tail ∙ ap (λ (x : List ℕ). a ++ x) (append_assoc b (le 8 u ++ h2.0) tail)
-        ∙ ap (λ (x : List ℕ). a ++ (b ++ x)) (append_assoc (le 8 u) h2.0 tail) in
+    ∙ ap (λ (x : List ℕ). a ++ (b ++ x)) (append_assoc (le 8 u) h2.0 tail) in
     let m_is : m ≡ a ++ (b ++ (le 8 v.header.unique ++ (h2.0 ++ tail))) = s.whole ∙ ap (λ (x : List ℕ). x ++ tail) head_is ∙ grouped v.header.unique in
     let n_is : marked m ≡ a ++ (b ++ (le 8 (bit_set v.header.unique) ++ (h2.0 ++ tail))) =
     ap marked m_is ∙ marked_at a b (h2.0 ++ tail) v.header.unique (length-le 4 (length m)) (length-le 4 (opcode_of v.act)) h2.1 in
     let same : length (marked m) ≡ length m = ap length n_is ∙ long a b (h2.0 ++ tail) (bit_set v.header.unique) v.header.unique ∙ sym (ap length m_is) in
-    let laid : Lays (header_parts (length m) s.units (again v)) (head (bit_set v.header.unique)) =
-    (b ++ (le 8 (bit_set v.header.unique) ++ h2.0), h.1, refl,
-        (le 8 (bit_set v.header.unique) ++ h2.0, h1.1, refl, (h2.0, id_fits v.header.unique, refl, h2.3))) in
+    let laid : Lays (header_parts (length m) s.units (again v)) (head (bit_set v.header.unique)) = (
+      b ++ (le 8 (bit_set v.header.unique) ++ h2.0),
+      h.1,
+      refl,
+      (le 8 (bit_set v.header.unique) ++ h2.0, h1.1, refl, (h2.0, id_fits v.header.unique, refl, h2.3)),
+    ) in
     record {
       head = head (bit_set v.header.unique);
       body = s.body;

@@ -41,7 +41,7 @@ adds_none old new whole is = record { added = []; items = is ∙ sym (append-nil
 pub adds_one : (old new new' : List (Option Outcome)) (one : Option Outcome) (run : List Event) (i : ℕ) (e : Event) (answers answers' : List Said)
     (whole : List (Option (List ℕ))) → i < length run → e ≡ get_or run i e
     → AddsFirst old new (outcomes_by (drop i run) answers) whole → bytes_given one ≡ head_outcome e answers → answers' ≡ left_by (class_of e.bytes) answers
-        → new' ≡ new ++ one ∷ []
+    → new' ≡ new ++ one ∷ []
     → AddsFirst old new' (outcomes_by (drop (i + 1) run) answers') whole
 adds_one old new new' one run i e answers answers' whole lt at so_far is left pushed =
     let parts : drop i run ≡ e ∷ drop (suc i) run = drop-cons run i e lt ∙ ap (λ x. x ∷ drop (suc i) run) (sym at) in
@@ -73,7 +73,7 @@ settled_one new new' whole run i e lt at so_far is =
     let parts : drop i run ≡ e ∷ drop (suc i) run = drop-cons run i e lt ∙ ap (λ x. x ∷ drop (suc i) run) (sym at) in
     let next : drop (i + 1) run ≡ drop (suc i) run = next_place run i in
     ap (λ (n : List ℕ). n ++ settles_in (drop (i + 1) run)) is ∙ append_assoc new (settles e) (settles_in (drop (i + 1) run))
-        ∙ ap (λ (r : List Event). new ++ (settles e ++ settles_in r)) next ∙ ap (λ (r : List Event). new ++ settles_in r) (sym parts) ∙ so_far
+    ∙ ap (λ (r : List Event). new ++ (settles e ++ settles_in r)) next ∙ ap (λ (r : List Event). new ++ settles_in r) (sym parts) ∙ so_far
 
 pub settled_all : (new whole : List ℕ) (run : List Event) (i : ℕ) → drop i run ≡ [] → new ++ settles_in (drop i run) ≡ whole → new ≡ whole
 settled_all new whole run i end so_far = sym (append-nil new) ∙ ap (λ r. new ++ settles_in r) (sym end) ∙ so_far

@@ -72,9 +72,12 @@ sent spelled old new v m p may spells is grown =
       | inl quiet ↦
           let test : silent (number_of 4 (drop 4 m)) ≡ true = ap silent at.opcode ∙ quiet in
           let same : messages_in new ≡ messages_in old = grown ∙ ap (λ (b : Bool). messages_in old ++ (if b then [] else m ∷ [])) test
-              ∙ append-nil (messages_in old) in (
-            record { each = subst (All IsOwed) (sym same) p.each; once = subst (λ (x : List (List ℕ)). NoneTwice (request_ids (map asked_at x)))
-                (sym same) p.once },
+          ∙ append-nil (messages_in old) in (
+            record {
+              each = subst (All IsOwed) (sym same) p.each;
+              once = subst (λ (x : List (List ℕ)). NoneTwice (request_ids (map asked_at x)))
+                  (sym same) p.once;
+            },
             ap (map asked_at) same ∙ sym (append-nil (requests_in old)) ∙ ap (λ (b : Bool). requests_in old ++ (if b then [] else v ∷ [])) (sym quiet),
           )
       | inr loud ↦
@@ -82,8 +85,12 @@ sent spelled old new v m p may spells is grown =
           let one : messages_in new ≡ messages_in old ++ m ∷ [] = grown ∙ ap (λ (b : Bool). messages_in old ++ (if b then [] else m ∷ [])) test in
           let requests : requests_in new ≡ requests_in old ++ v ∷ [] =
           ap (map asked_at) one ∙ map-append asked_at (messages_in old) (m ∷ []) ∙ ap (λ (r : Asked). requests_in old ++ r ∷ []) says in
-          let mine : IsOwed m = record { spells = subst (λ (r : Asked). Spells r m) (sym says) spells; canon_is = is ∙ ap canon (sym says); loud =
-              ap is_silent says ∙ loud } in
+          let mine : IsOwed m = record {
+            spells = subst (λ (r : Asked). Spells r m) (sym says) spells;
+            canon_is = is ∙ ap canon (sym says);
+            loud =
+                ap is_silent says ∙ loud;
+          } in
           let ids : request_ids (requests_in new) ≡ request_ids (requests_in old) ++ request_id v ∷ [] =
           ap request_ids requests ∙ map-append request_id (requests_in old) (v ∷ []) in (
             record {
@@ -112,7 +119,7 @@ again_past : (n m : ℕ) (places : List ℕ) (rs : List Asked) → m < n → aga
 again_past n m places [] less = refl
 again_past n m places (r ∷ rs) less =
     rw (is_in-other places m n (apart m n less)) (ap (λ (x : List Asked). (if is_in places n then again r else r) ∷ x)
-        (again_past (suc n) m places rs (omega arith)))
+    (again_past (suc n) m places rs (omega arith)))
 
 again_by : (b : Bool) (r : Asked) → again (if b then again r else r) ≡ again r
 again_by true r = again_twice r
@@ -149,7 +156,7 @@ pub ids_again : (n : ℕ) (places : List ℕ) (rs : List Asked) → request_ids 
 ids_again n places [] = refl
 ids_again n places (r ∷ rs) =
     ap (λ (i : ℕ). i ∷ request_ids (again_from (suc n) places rs)) (id_again (is_in places n) r)
-        ∙ ap (λ (x : List ℕ). request_id r ∷ x) (ids_again (suc n) places rs)
+    ∙ ap (λ (x : List ℕ). request_id r ∷ x) (ids_again (suc n) places rs)
 
 length-requests : (pending : List (Vec ℕ Global)) → length (requests_in pending) ≡ length pending
 length-requests pending = length-map (messages_in pending) asked_at ∙ length-map pending (λ (m : Vec ℕ Global). m.items)
@@ -207,7 +214,7 @@ sends_again pending place = option_map (λ r. canon (again r)) (slice_get (reque
 pub copied_more : (pending messages : List (Vec ℕ Global)) (places : List ℕ) (place : ℕ) (d m : Vec ℕ Global) → place < length pending → IsOwed m.items
     → asked_at m.items ≡ again (asked_at (get_or pending place d).items)
     → map (λ x. Some x) (messages_in messages) ≡ map (sends_again pending) places
-        → map (λ x. Some x) (messages_in (messages ++ m ∷ [])) ≡ map (sends_again pending) (places ++ place ∷ [])
+    → map (λ x. Some x) (messages_in (messages ++ m ∷ [])) ≡ map (sends_again pending) (places ++ place ∷ [])
 copied_more pending messages places place d m there owed says so =
     let one : ◌≡◌ {A = Option (List ℕ)} (Some m.items) (sends_again pending place) =
     ap (λ (x : List ℕ). Some x) (owed.canon_is ∙ ap canon says) ∙ sym (ap (option_map (λ r. canon (again r))) (found_at pending place d there)) in
@@ -261,12 +268,12 @@ remove_at : {A : Type 0} (before : List A) (one : A) (after : List A) (i : ℕ) 
 remove_at before one after i long =
     ap (λ x. x ++ drop (suc i) (before ++ one ∷ after)) (take_at before (one ∷ after) i long)
     ∙ ap (λ x. before ++ x) (ap (λ x. drop (suc i) x) (sym (append_assoc before (one ∷ []) after)) ∙ drop_at (before ++ one ∷ []) after (suc i)
-        (omega (arith, length-append before (one ∷ []), long)))
+    (omega (arith, length-append before (one ∷ []), long)))
 
 map-remove : {A B : Type 0} (f : A → B) (xs : List A) (i : ℕ) → map f (remove xs i) ≡ remove (map f xs) i
 map-remove f xs i =
     map-append f (take i xs) (drop (suc i) xs) ∙ ap (λ x. x ++ map f (drop (suc i) xs)) (sym (take-map f i xs))
-        ∙ ap (λ x. take i (map f xs) ++ x) (sym (drop-map f (suc i) xs))
+    ∙ ap (λ x. take i (map f xs) ++ x) (sym (drop-map f (suc i) xs))
 
 is_in-less : (xs : List ℕ) (y : ℕ) (ys : List ℕ) (i : ℕ) → is_in (xs ++ y ∷ ys) i ≡ false → is_in (xs ++ ys) i ≡ false
 is_in-less [] y ys i none = elim (y == i) as (λ b. (if b then true else is_in ys i) ≡ false
@@ -284,7 +291,7 @@ owner_of : (unique : ℕ) (before : List Asked) (one : Asked) (after : List Aske
 owner_of unique [] one after none is = rw is
 owner_of unique (x ∷ before) one after none is =
     elim (has_unique unique x) as (λ b. (if b then Some x else owner unique before) ≡ None
-        → (if b then Some x else owner unique (before ++ one ∷ after)) ≡ Some one)
+    → (if b then Some x else owner unique (before ++ one ∷ after)) ≡ Some one)
     [ true ↦ λ found. absurd (cc found) | false ↦ λ rest. owner_of unique before one after rest is ] none
 
 others_kept : (unique : ℕ) (r : Asked) (rs : List Asked) → has_unique unique r ≡ false → others unique rs ≡ rs → others unique (r ∷ rs) ≡ r ∷ rs
@@ -337,7 +344,7 @@ found spelled pending unique place m p f here =
     let says : asked_at m.items ≡ one =
     ap (λ (x : Vec ℕ Global). asked_at x.items) here ∙ sym (request_at pending place m there)
     ∙ ap (λ (x : List Asked). get_or x place (asked_at [])) f.3 ∙ ap (λ (n : ℕ). get_or (before ++ one ∷ after) n (asked_at [])) (sym f.4)
-        ∙ get_or_behind before one after (asked_at []) in
+    ∙ get_or_behind before one after (asked_at []) in
     let owed = subst (λ (x : Vec ℕ Global). IsOwed x.items) (sym here) (owed_at pending place m there p.each) in
     let at = spelled (asked_at m.items) m.items owed.spells in
     let ids : request_ids rs ≡ request_ids before ++ request_id one ∷ request_ids after = ap request_ids f.3 ∙ map-append request_id before (one ∷ after) in
@@ -360,7 +367,7 @@ found spelled pending unique place m p f here =
       others_pending = record {
         each = subst (All IsOwed) (sym (map-remove (λ (x : Vec ℕ Global). x.items) pending place))
             (All-append IsOwed (take place (messages_in pending)) (drop (suc place) (messages_in pending)) (All-take IsOwed place (messages_in pending) p.each)
-                (All-drop IsOwed (suc place) (messages_in pending) p.each));
+            (All-drop IsOwed (suc place) (messages_in pending) p.each));
         once = subst NoneTwice (sym (ap request_ids left ∙ map-append request_id before after)) less.0;
       };
     }
@@ -380,7 +387,7 @@ id_passed pending place id m there here before isnt =
     let one : get_or rs place (asked_at []) ≡ asked_at m.items = request_at pending place m there ∙ ap (λ (x : Vec ℕ Global). asked_at x.items) (sym here) in
     ap (λ (x : List ℕ). is_in x id)
     (ap request_ids (take_more rs place (asked_at []) within ∙ ap (λ (r : Asked). take place rs ++ r ∷ []) one)
-        ∙ map-append request_id (take place rs) (asked_at m.items ∷ []))
+    ∙ map-append request_id (take place rs) (asked_at m.items ∷ []))
     ∙ is_in-append (request_ids (take place rs)) (request_id (asked_at m.items)) id before isnt
 
 pub id_here : (pending : List (Vec ℕ Global)) (place id : ℕ) (m : Vec ℕ Global) → place < length pending → m ≡ get_or pending place m
@@ -389,7 +396,7 @@ pub id_here : (pending : List (Vec ℕ Global)) (place id : ℕ) (m : Vec ℕ Gl
 id_here pending place id m there here is =
     let rs : List Asked = requests_in pending in
     let split : rs ≡ take place rs ++ asked_at m.items ∷ drop (suc place) rs = parted pending place m there
-        ∙ ap (λ (x : Vec ℕ Global). take place rs ++ asked_at x.items ∷ drop (suc place) rs) (sym here) in
+    ∙ ap (λ (x : Vec ℕ Global). take place rs ++ asked_at x.items ∷ drop (suc place) rs) (sym here) in
     ap (λ (x : List Asked). is_in (request_ids x) id) split ∙ ap (λ (x : List ℕ). is_in x id)
-        (map-append request_id (take place rs) (asked_at m.items ∷ drop (suc place) rs))
+    (map-append request_id (take place rs) (asked_at m.items ∷ drop (suc place) rs))
     ∙ is_in-among (request_ids (take place rs)) (request_id (asked_at m.items)) (request_ids (drop (suc place) rs)) id is

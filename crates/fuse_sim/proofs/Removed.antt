@@ -90,7 +90,7 @@ then_one e es front x (suc room) p i calm one there many more =
     let l : Ledger = record { room = suc room; pending = p } in
     includes_right (handed_at (commits e) l) (handed_on (after_event l e) es) i
     (ap (λ k. is_in (handed_on k es) i) (one_step l e x calm one) ∙ more room (p ++ settles e) (includes_left p (settles e) i there)
-        (one_fewer e front x room one many))
+    (one_fewer e front x room one many))
 
 then_none : (e : Event) (es : List Event) (l : Ledger) (i : ℕ) → Calm e → commits e ≡ [] → is_in (handed_on l es) i ≡ true
     → is_in (handed_on l (e ∷ es)) i ≡ true
@@ -140,7 +140,7 @@ behind_handed es i behind =
     let few : l.room ≤ 15 = room_after empty_ledger behind.earlier (omega arith) in
     ap (λ x. is_in (handed_on empty_ledger x) i) behind.parts ∙ ap (λ x. is_in x i) (handed-append empty_ledger behind.earlier (behind.one ∷ behind.later))
     ∙ includes_right (handed_on empty_ledger behind.earlier) (handed_on l (behind.one ∷ behind.later)) i
-        (handed_soon l behind.one behind.later i few behind.settled behind.follow)
+    (handed_soon l behind.one behind.later i few behind.settled behind.follow)
 
 -- ---- none is handed on before the first that is committed behind it
 
@@ -166,12 +166,25 @@ follow_more e es calm follow = record {
 }
 
 follow_here : (e : Event) (es : List Event) (x : Entry) → commits e ≡ x ∷ [] → Follow 1 (e ∷ es)
-follow_here e es x one = record { between = []; last = e; later = es; parts = refl; calm = All-nil Calm; many =
-    omega (arith, ap length one, length-append (commits e) []) }
+follow_here e es x one = record {
+  between = [];
+  last = e;
+  later = es;
+  parts = refl;
+  calm = All-nil Calm;
+  many =
+      omega (arith, ap length one, length-append (commits e) []);
+}
 
 behind_more : (e : Event) (es : List Event) (i : ℕ) → Behind 1 es i → Behind 1 (e ∷ es) i
-behind_more e es i behind = record { earlier = e ∷ behind.earlier; one = behind.one; later = behind.later; parts = ap (λ (x : List Event). e ∷ x) behind.parts;
-    settled = behind.settled; follow = behind.follow }
+behind_more e es i behind = record {
+  earlier = e ∷ behind.earlier;
+  one = behind.one;
+  later = behind.later;
+  parts = ap (λ (x : List Event). e ∷ x) behind.parts;
+  settled = behind.settled;
+  follow = behind.follow;
+}
 
 behind_here : (e : Event) (es : List Event) (i : ℕ) → settles e ≡ i ∷ [] → Follow 1 es → Behind 1 (e ∷ es) i
 behind_here e es i settled follow = record { earlier = []; one = e; later = es; parts = refl; settled = settled; follow = follow }

@@ -64,8 +64,13 @@ Stands-settled M rows records s h t more within so = record {
 -- more may be settled
 pub stands_later : (M : Model) → (holds : KeeperState M) (s : M.State) (h : History) (t u : List ℕ) → Includes u t → StandsFor holds s h t
     → StandsFor holds s h u
-stands_later M holds s h t u more so = record { rows = so.rows; records = so.records; held = so.held; stands =
-    Stands-settled M so.rows so.records s h t u more so.stands }
+stands_later M holds s h t u more so = record {
+  rows = so.rows;
+  records = so.records;
+  held = so.held;
+  stands =
+      Stands-settled M so.rows so.records s h t u more so.stands;
+}
 
 -- what stands is still held
 pub stands_kept : (M : Model) → (holds holds' : KeeperState M) (s : M.State) (h : History) (t : List ℕ) → KeepsHeld holds holds' → StandsFor holds s h t

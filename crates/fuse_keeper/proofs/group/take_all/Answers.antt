@@ -32,5 +32,5 @@ pub returns-clause-performed : goal.returns-clause-performed
 returns-clause-performed g c = λ s h t so each.
     let past : length c.args.group.now ≤ c.loop-one.one-index = c.loop-one-test.false in
     subst (λ group. PerformedBy g.F.FileSystem.model (AreThese g.F.FileSystem.model (g.F.FileSystem.held c.loop-one.draft.rows)
-        (over c.loop-one.draft.added.items (without (ids_of c.args.settled.now) (mapped c.args.records.now)))) s h t (entries_of group) c.loop-one.dones.items)
+    (over c.loop-one.draft.added.items (without (ids_of c.args.settled.now) (mapped c.args.records.now)))) s h t (entries_of group) c.loop-one.dones.items)
     (take_all c.loop-one.one-index c.args.group.now past) (c.loop-one.invariant.performed s h t so each)

@@ -32,7 +32,7 @@ returns-in-Ok-clause-crash g c =
     let all : ids_of c.as_slice.result.now ≡ handed_to (entries_of c.args.group.now) (ids_of c.args.pending.now.items) =
     ap ids_of c.as_slice.ensures.value ∙ handed_all c.args.group.now (ids_of c.args.pending.now.items) some in
     subst (λ x. LeavesGroup (g.K.Keeper.told c.args.keeper.now) (g.K.Keeper.told c.perform.new.self) x (entries_of c.args.group.now)) all
-        c.perform.ensures.crash
+    c.perform.ensures.crash
 
 pub returns-in-Err-clause-crash : goal.returns-in-Err-clause-crash
 returns-in-Err-clause-crash g c =
@@ -40,4 +40,4 @@ returns-in-Err-clause-crash g c =
     let all : ids_of c.as_slice.result.now ≡ handed_to (entries_of c.args.group.now) (ids_of c.args.pending.now.items) =
     ap ids_of c.as_slice.ensures.value ∙ handed_all c.args.group.now (ids_of c.args.pending.now.items) some in
     subst (λ x. LeavesGroup (g.K.Keeper.told c.args.keeper.now) (g.K.Keeper.told c.perform.new.self) x (entries_of c.args.group.now)) all
-        c.perform.ensures.crash
+    c.perform.ensures.crash

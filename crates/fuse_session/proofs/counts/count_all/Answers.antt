@@ -22,15 +22,15 @@ loop-place-preserved c =
     let repeated = drop c.loop-place.next (repeats_in c.args.dones.now) in
     let bytes = c.as_slice.result.now in
     let class = class_at messages c.args.classes.now i c.index-messages-place.result bytes Silent c.requires.classes c.loop-place-test.true
-        c.index-messages-place.is c.as_slice.ensures in
+    c.index-messages-place.is c.as_slice.ensures in
     let one = c.count_one-one.ensures ∙ ap (λ k. counted_one k c.repeat_at.result (is_interrupt bytes)) class
-        ∙ ap (λ b. counted_one (class_of bytes) b (is_interrupt bytes)) c.repeat_at.ensures in
+    ∙ ap (λ b. counted_one (class_of bytes) b (is_interrupt bytes)) c.repeat_at.ensures in
     let lt = c.loop-place-test.true in
     record {
       next = c.used_after-next.ensures.within;
       so_far = tallied_more (drop i messages) (drop (i + 1) messages) repeated _ bytes c.loop-place.counts c.count_one-one.result c.sum_of-counts.result _
           (left_at messages i c.index-messages-place.result bytes lt c.index-messages-place.is c.as_slice.ensures) one c.sum_of-counts.ensures
-              (c.used_after-next.ensures.left ∙ ap (λ k. left_by k repeated) class) c.loop-place.invariant.so_far;
+          (c.used_after-next.ensures.left ∙ ap (λ k. left_by k repeated) class) c.loop-place.invariant.so_far;
       below = subst (λ x. IsBelow x (i + 1)) (sym c.sum_of-counts.ensures)
           (plus_below c.loop-place.counts c.count_one-one.result i 1 c.loop-place.invariant.below
           (one_counted_below c.count_one-one.result _ _ _ c.count_one-one.ensures));
@@ -49,7 +49,7 @@ returns-clause-tallied c =
     let messages = c.args.messages.now in
     let i = c.loop-place.place in
     sym (plus_none c.loop-place.counts) ∙ ap (λ x. plus c.loop-place.counts (tallied x (drop c.loop-place.next (repeats_in c.args.dones.now))))
-        (sym (drop_all i messages c.loop-place-test.false)) ∙ c.loop-place.invariant.so_far
+    (sym (drop_all i messages c.loop-place-test.false)) ∙ c.loop-place.invariant.so_far
 
 pub returns-clause-below : goal.returns-clause-below
 returns-clause-below c = below_more c.loop-place.counts c.loop-place.place (length c.args.messages.now) (omega arith) c.loop-place.invariant.below

@@ -21,21 +21,26 @@ pub returns-then-ends-clause-gathers : goal.returns-then-ends-clause-gathers
 returns-then-ends-clause-gathers g c =
     let some = c.in-Some.ensures.entry in
     subst (λ n. Gathers (g.C.Clock.gave c.args.clock.now c.read_one.new.clock) (take n c.args.messages.now) c.push-in-Some.new.self.items
-        c.has_opcode-ends.result)
-    (omega (arith, ap length c.in_ok-push.ensures.items, length-append c.loop-message.classes.items
-        (c.classify-class.result ∷ []), c.loop-message.invariant.count))
+    c.has_opcode-ends.result)
+    (omega (
+      arith,
+      ap length c.in_ok-push.ensures.items,
+      length-append c.loop-message.classes.items
+          (c.classify-class.result ∷ []),
+      c.loop-message.invariant.count,
+    ))
     (gathers_some (g.C.Clock.gave c.args.clock.now c.loop-message.clock) (g.C.Clock.gave c.loop-message.clock c.read_one.new.clock)
-        (g.C.Clock.gave c.args.clock.now c.read_one.new.clock) ((g.met.C.Clock.logged).onward c.args.clock.now c.loop-message.clock c.read_one.new.clock)
-        c.args.messages.now c.loop-message.message-index c.message-item.result c.as_slice-bytes.result.now c.loop-message.taken.items
-        c.push-in-Some.new.self.items c.in-Some.one some.0 c.has_opcode-ends.result
+    (g.C.Clock.gave c.args.clock.now c.read_one.new.clock) ((g.met.C.Clock.logged).onward c.args.clock.now c.loop-message.clock c.read_one.new.clock)
+    c.args.messages.now c.loop-message.message-index c.message-item.result c.as_slice-bytes.result.now c.loop-message.taken.items
+    c.push-in-Some.new.self.items c.in-Some.one some.0 c.has_opcode-ends.result
     c.loop-message-test.true c.message-item.is c.as_slice-bytes.ensures c.loop-message.invariant.gathers
-        (sym c.if-has_zero_unique.ensures) some.1 c.in_ok-push-2.ensures.items c.has_opcode-ends.ensures some.2)
+    (sym c.if-has_zero_unique.ensures) some.1 c.in_ok-push-2.ensures.items c.has_opcode-ends.ensures some.2)
 
 pub returns-then-ends-clause-named : goal.returns-then-ends-clause-named
 returns-then-ends-clause-named g c =
     let some = c.in-Some.ensures.entry in
     named_some c.as_slice-bytes.result.now c.loop-message.taken.items c.push-in-Some.new.self.items c.in-Some.one some.0 c.loop-message.invariant.named
-        (sym c.if-has_zero_unique.ensures) some.1 c.in_ok-push-2.ensures.items
+    (sym c.if-has_zero_unique.ensures) some.1 c.in_ok-push-2.ensures.items
 
 pub returns-then-ends-clause-kept : goal.returns-then-ends-clause-kept
 returns-then-ends-clause-kept g c = kept_some c.loop-message.taken.items c.push-in-Some.new.self.items c.in-Some.one c.loop-message.invariant.kept
@@ -47,20 +52,31 @@ loop-message-preserved g c = elim c.match-read_one.branch [
       let some = w.in-Some.ensures.entry in
       let pushed = ap (λ v. v.items) w.taken-is ∙ w.in_ok-push-2.ensures.items in
       record {
-        count = omega (arith, ap length c.in_ok-push.ensures.items, length-append c.loop-message.classes.items
-            (c.classify-class.result ∷ []), c.loop-message.invariant.count);
+        count = omega (
+          arith,
+          ap length c.in_ok-push.ensures.items,
+          length-append c.loop-message.classes.items
+              (c.classify-class.result ∷ []),
+          c.loop-message.invariant.count,
+        );
         classes = classes_more c.args.messages.now c.loop-message.message-index c.message-item.result c.as_slice-bytes.result.now c.loop-message.classes.items
             c.push.new.self.items
             c.classify-class.result c.loop-message-test.true c.message-item.is c.as_slice-bytes.ensures c.loop-message.invariant.classes
-                c.classify-class.ensures.class c.in_ok-push.ensures.items;
+            c.classify-class.ensures.class c.in_ok-push.ensures.items;
         gathers = gathers_some (g.C.Clock.gave c.args.clock.now c.loop-message.clock) (g.C.Clock.gave c.loop-message.clock c.read_one.new.clock)
             (g.C.Clock.gave c.args.clock.now c.read_one.new.clock) ((g.met.C.Clock.logged).onward c.args.clock.now c.loop-message.clock c.read_one.new.clock)
             c.args.messages.now c.loop-message.message-index c.message-item.result c.as_slice-bytes.result.now c.loop-message.taken.items
             c.match-read_one.taken.items w.in-Some.one some.0 false
             c.loop-message-test.true c.message-item.is c.as_slice-bytes.ensures c.loop-message.invariant.gathers
-                (sym c.if-has_zero_unique.ensures) some.1 pushed w.if-ends.ensures some.2;
-        few = omega (arith, ap length pushed, length-append c.loop-message.taken.items (w.in-Some.one ∷ []), c.len.ensures, c.loop-message.taken.ok.0,
-            c.if-len-ge-MAX_GROUP.false);
+            (sym c.if-has_zero_unique.ensures) some.1 pushed w.if-ends.ensures some.2;
+        few = omega (
+          arith,
+          ap length pushed,
+          length-append c.loop-message.taken.items (w.in-Some.one ∷ []),
+          c.len.ensures,
+          c.loop-message.taken.ok.0,
+          c.if-len-ge-MAX_GROUP.false,
+        );
         named = named_some c.as_slice-bytes.result.now c.loop-message.taken.items c.match-read_one.taken.items w.in-Some.one some.0
             c.loop-message.invariant.named (sym c.if-has_zero_unique.ensures) some.1 pushed;
         kept = kept_some c.loop-message.taken.items c.match-read_one.taken.items w.in-Some.one c.loop-message.invariant.kept w.in-Some.ensures.kept pushed;
@@ -69,18 +85,23 @@ loop-message-preserved g c = elim c.match-read_one.branch [
       let none = w.in_default.ensures.entry in
       let same = ap (λ v. v.items) w.taken-is in
       record {
-        count = omega (arith, ap length c.in_ok-push.ensures.items, length-append c.loop-message.classes.items
-            (c.classify-class.result ∷ []), c.loop-message.invariant.count);
+        count = omega (
+          arith,
+          ap length c.in_ok-push.ensures.items,
+          length-append c.loop-message.classes.items
+              (c.classify-class.result ∷ []),
+          c.loop-message.invariant.count,
+        );
         classes = classes_more c.args.messages.now c.loop-message.message-index c.message-item.result c.as_slice-bytes.result.now c.loop-message.classes.items
             c.push.new.self.items
             c.classify-class.result c.loop-message-test.true c.message-item.is c.as_slice-bytes.ensures c.loop-message.invariant.classes
-                c.classify-class.ensures.class c.in_ok-push.ensures.items;
+            c.classify-class.ensures.class c.in_ok-push.ensures.items;
         gathers = subst (λ xs. Gathers (g.C.Clock.gave c.args.clock.now c.read_one.new.clock) (take (c.loop-message.message-index + 1) c.args.messages.now) xs
             false) (sym same) (gathers_none (g.C.Clock.gave c.args.clock.now c.loop-message.clock) (g.C.Clock.gave c.loop-message.clock c.read_one.new.clock)
             (g.C.Clock.gave c.args.clock.now c.read_one.new.clock) ((g.met.C.Clock.logged).onward c.args.clock.now c.loop-message.clock c.read_one.new.clock)
             c.args.messages.now c.loop-message.message-index c.message-item.result c.as_slice-bytes.result.now c.loop-message.taken.items none.0
             c.loop-message-test.true c.message-item.is c.as_slice-bytes.ensures c.loop-message.invariant.gathers
-                (sym c.if-has_zero_unique.ensures) none.1 none.2);
+            (sym c.if-has_zero_unique.ensures) none.1 none.2);
         few = omega (arith, ap length same, c.loop-message.invariant.few);
         named = subst (λ xs. All HasId (entries_of xs)) (sym same) c.loop-message.invariant.named;
         kept = subst (λ xs. All IsKept (entries_of xs)) (sym same) c.loop-message.invariant.kept;
@@ -88,14 +109,18 @@ loop-message-preserved g c = elim c.match-read_one.branch [
 ]
 
 pub returns-in_err-push-2-clause-logged : goal.returns-in_err-push-2-clause-logged
-returns-in_err-push-2-clause-logged g c =
-    (_, (g.met.C.Clock.logged).onward c.args.clock.now c.loop-message.clock c.read_one.new.clock _ _ c.loop-message.invariant.gathers.moments
-        c.in-Some.ensures.entry.2)
+returns-in_err-push-2-clause-logged g c = (
+  _,
+  (g.met.C.Clock.logged).onward c.args.clock.now c.loop-message.clock c.read_one.new.clock _ _ c.loop-message.invariant.gathers.moments
+      c.in-Some.ensures.entry.2,
+)
 
 pub returns-then-ends-clause-logged : goal.returns-then-ends-clause-logged
-returns-then-ends-clause-logged g c =
-    (_, (g.met.C.Clock.logged).onward c.args.clock.now c.loop-message.clock c.read_one.new.clock _ _ c.loop-message.invariant.gathers.moments
-        c.in-Some.ensures.entry.2)
+returns-then-ends-clause-logged g c = (
+  _,
+  (g.met.C.Clock.logged).onward c.args.clock.now c.loop-message.clock c.read_one.new.clock _ _ c.loop-message.invariant.gathers.moments
+      c.in-Some.ensures.entry.2,
+)
 
 pub returns-in_err-push-clause-logged : goal.returns-in_err-push-clause-logged
 returns-in_err-push-clause-logged g c = (_, c.loop-message.invariant.gathers.moments)
@@ -103,9 +128,14 @@ returns-in_err-push-clause-logged g c = (_, c.loop-message.invariant.gathers.mom
 pub returns-then-ends-clause-classes : goal.returns-then-ends-clause-classes
 returns-then-ends-clause-classes g c =
     subst (λ n. c.push.new.self.items ≡ classes_in (take n c.args.messages.now))
-    (omega (arith, ap length c.in_ok-push.ensures.items, length-append c.loop-message.classes.items
-        (c.classify-class.result ∷ []), c.loop-message.invariant.count))
+    (omega (
+      arith,
+      ap length c.in_ok-push.ensures.items,
+      length-append c.loop-message.classes.items
+          (c.classify-class.result ∷ []),
+      c.loop-message.invariant.count,
+    ))
     (classes_more c.args.messages.now c.loop-message.message-index c.message-item.result c.as_slice-bytes.result.now c.loop-message.classes.items
-        c.push.new.self.items
+    c.push.new.self.items
     c.classify-class.result c.loop-message-test.true c.message-item.is c.as_slice-bytes.ensures c.loop-message.invariant.classes c.classify-class.ensures.class
-        c.in_ok-push.ensures.items)
+    c.in_ok-push.ensures.items)

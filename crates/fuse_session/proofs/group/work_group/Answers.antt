@@ -110,7 +110,7 @@ returns-in-Ok-send_answers-clause-more g c = λ confirms honest (before : Record
     (gathers_to gave c.args.messages.now (length group.classes.items) c.len-count.result group.taken.items group.ends len c.in-Ok.ensures.gathers)
     c.as_slice-group.ensures.value refl confirms c.in-Ok-send_answers.ensures.ok
     (hands_on M before k k' pending left es done.pending (omega
-        (arith, length-map c.as_slice-group.result.now entry_of, ap length c.as_slice-group.ensures.value, c.in-Ok.ensures.few)) (done.others honest) h)
+    (arith, length-map c.as_slice-group.result.now entry_of, ap length c.as_slice-group.ensures.value, c.in-Ok.ensures.few)) (done.others honest) h)
 
 pub returns-clause-err : goal.returns-clause-err
 returns-clause-err g c =

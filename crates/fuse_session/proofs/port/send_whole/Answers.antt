@@ -14,15 +14,15 @@ pub returns-then-n-eq0-clause-err : goal.returns-then-n-eq0-clause-err
 returns-then-n-eq0-clause-err g c =
     let some : c.loop-rest.rest.now ≡ [] → ⊥ = search rules in
     front_failed (g.P.Port.told c.args.port.now) (g.P.Port.told c.loop-rest.port) (g.P.Port.told c.send.new.self) c.args.bytes.now c.loop-rest.rest.now
-        (Took c.in-Took.n)
+    (Took c.in-Took.n)
     (took_nothing c.in-Took.n c.loop-rest.rest.now _ _ c.if-n-eq0.true some c.in-Took.ensures.sent.failures) c.in-Took.ensures.sent.gone
-        c.loop-rest.invariant.sent c.in-Took.ensures.sent
+    c.loop-rest.invariant.sent c.in-Took.ensures.sent
 
 pub returns-in-Gone-clause-ok : goal.returns-in-Gone-clause-ok
 returns-in-Gone-clause-ok g c =
     let some : c.loop-rest.rest.now ≡ [] → ⊥ = search rules in
     front_gone (g.P.Port.told c.args.port.now) (g.P.Port.told c.loop-rest.port) (g.P.Port.told c.send.new.self) c.args.bytes.now c.loop-rest.rest.now some
-        c.loop-rest.invariant.sent c.in-Gone.ensures.sent
+    c.loop-rest.invariant.sent c.in-Gone.ensures.sent
 
 pub returns-in-Failed-clause-err : goal.returns-in-Failed-clause-err
 returns-in-Failed-clause-err g c =

@@ -40,7 +40,7 @@ loop-place-preserved g c =
 pub returns-in-Err-clause-err : goal.returns-in-Err-clause-err
 returns-in-Err-clause-err g c =
     sent_some c.in-Err.fault _ _ _ c.args.messages.now c.loop-place.place c.index-messages-place.result c.as_slice-bytes.result.now
-        (drop c.loop-place.next (answers_in c.args.dones.now)) (wires c.args.messages.now (answers_in c.args.dones.now)) _ _
+    (drop c.loop-place.next (answers_in c.args.dones.now)) (wires c.args.messages.now (answers_in c.args.dones.now)) _ _
     c.loop-place-test.true c.index-messages-place.is c.as_slice-bytes.ensures c.loop-place.invariant.sent c.in-Err.ensures.err
 
 pub returns-clause-ok : goal.returns-clause-ok
@@ -49,4 +49,4 @@ returns-clause-ok g c =
     let i = c.loop-place.place in
     sent_all _ _ ms (wires (drop i ms) (drop c.loop-place.next (answers_in c.args.dones.now))) (wires ms (answers_in c.args.dones.now)) (take i ms) _ _
     (ap (λ x. wires x (drop c.loop-place.next (answers_in c.args.dones.now))) (drop_all i ms c.loop-place-test.false))
-        (take_all i ms c.loop-place-test.false) c.loop-place.invariant.sent
+    (take_all i ms c.loop-place-test.false) c.loop-place.invariant.sent

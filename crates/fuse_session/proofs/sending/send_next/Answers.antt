@@ -20,11 +20,11 @@ returns-in-Ok-send_kept-clause-left g c = left_kept c.args.message.now c.args.do
 pub returns-in-Ok-send_kept-clause-ok : goal.returns-in-Ok-send_kept-clause-ok
 returns-in-Ok-send_kept-clause-ok g c =
     next_kept _ _ c.args.message.now c.args.dones.now c.args.next c.index-dones-next.result _ _ _ (cc (c.in-Kept.is, c.requires.class))
-        (c.requires.enough (cc (c.in-Kept.is, c.requires.class))) c.index-dones-next.is
+    (c.requires.enough (cc (c.in-Kept.is, c.requires.class))) c.index-dones-next.is
     (ap (λ (x : Done). x.answer) (sym c.index-dones-next.is)) c.in-Ok-send_kept.ensures.ok
 
 pub returns-in-Err-send_kept-clause-err : goal.returns-in-Err-send_kept-clause-err
 returns-in-Err-send_kept-clause-err g c =
     fails_kept c.in-Err-send_kept.fault _ _ c.args.message.now c.args.dones.now c.args.next c.index-dones-next.result _ (cc (c.in-Kept.is, c.requires.class))
-        (c.requires.enough (cc (c.in-Kept.is, c.requires.class))) c.index-dones-next.is
+    (c.requires.enough (cc (c.in-Kept.is, c.requires.class))) c.index-dones-next.is
     (ap (λ (x : Done). x.answer) (sym c.index-dones-next.is)) c.in-Err-send_kept.ensures.err

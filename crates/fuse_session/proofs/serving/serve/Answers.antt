@@ -31,7 +31,7 @@ pub returns-in_default-clause-settled : goal.returns-in_default-clause-settled
 returns-in_default-clause-settled g c = λ clean.
     let k = c.args.keeper.now in
     few_settled g.K.Keeper.model (g.K.Keeper.told k) (g.K.Keeper.told k) _ _ _ _ _ _ (g.met.K.Keeper.sound k).clean_is_honest clean
-        (returns-in_default-clause-life g c)
+    (returns-in_default-clause-life g c)
 
 pub loop-turn-init : goal.loop-turn-init
 loop-turn-init g c = record {
@@ -64,10 +64,10 @@ loop-turn-preserved g c =
     let e = c.in-Ok-one_turn.ensures in
     let k' = c.one_turn.new.keeper in
     let whole = whole_step g.K.Keeper.model c.histories_grow.ensures c.cut_joins.ensures (g.K.Keeper.told c.args.keeper.now)
-        (g.K.Keeper.told c.loop-turn.keeper) (g.K.Keeper.told k') (g.C.Clock.gave c.args.clock.now c.loop-turn.clock)
-        (g.C.Clock.gave c.loop-turn.clock c.one_turn.new.clock) (g.C.Clock.gave c.args.clock.now c.one_turn.new.clock) _ _ _ []
-        (ids_of c.loop-turn.pending.items) (ids_of c.one_turn.new.pending.items) [] _ _ 0 _ _ c.loop-turn.counts c.in-Ok-one_turn.more c.sum_of-counts.result
-        c.sum_of-counts.ensures inv.whole e.ok e.honest ((g.met.C.Clock.logged).onward c.args.clock.now c.loop-turn.clock c.one_turn.new.clock) in
+    (g.K.Keeper.told c.loop-turn.keeper) (g.K.Keeper.told k') (g.C.Clock.gave c.args.clock.now c.loop-turn.clock)
+    (g.C.Clock.gave c.loop-turn.clock c.one_turn.new.clock) (g.C.Clock.gave c.args.clock.now c.one_turn.new.clock) _ _ _ []
+    (ids_of c.loop-turn.pending.items) (ids_of c.one_turn.new.pending.items) [] _ _ 0 _ _ c.loop-turn.counts c.in-Ok-one_turn.more c.sum_of-counts.result
+    c.sum_of-counts.ensures inv.whole e.ok e.honest ((g.met.C.Clock.logged).onward c.args.clock.now c.loop-turn.clock c.one_turn.new.clock) in
     record {
       whole = whole;
       ready = e.opened;
@@ -92,7 +92,7 @@ loop-turn-preserved g c =
       prompt = caught_more g.K.Keeper.model g.P.Port.told g.P.Port.became (g.K.Keeper.told c.args.keeper.now) (g.K.Keeper.told c.loop-turn.keeper)
           (g.K.Keeper.told k') c.args.port.now c.loop-turn.port c.one_turn.new.port c.loop-turn.turn
           g.met.P.Port.path inv.same e.same e.honest (omega (arith, e.receives, inv.receives)) (whole_caught_up g.K.Keeper.model _ _ _ _ _ _ _ _ _ whole)
-              inv.prompt;
+          inv.prompt;
     }
 
 pub returns-in-Err-clause-ends : goal.returns-in-Err-clause-ends
@@ -106,7 +106,7 @@ returns-in-Err-clause-ends g c =
           (g.C.Clock.gave c.args.clock.now c.one_turn.new.clock) _ _ _ [] (ids_of c.loop-turn.pending.items) [] _ 0 _ 0 c.args.turns c.in-Err.halt.ended
           c.loop-turn.counts c.in-Err.halt.counts c.sum_of-sum.result
           c.sum_of-sum.ensures inv.whole e.ends e.not_turns inv.receive_failures inv.has_ended e.honest
-              ((g.met.C.Clock.logged).onward c.args.clock.now c.loop-turn.clock c.one_turn.new.clock);
+          ((g.met.C.Clock.logged).onward c.args.clock.now c.loop-turn.clock c.one_turn.new.clock);
       told_are = c.counts_of-told.ensures;
     }
 
@@ -118,11 +118,11 @@ returns-in-Err-clause-life g c =
     let m = c.loop-turn.keeper in
     let k' = c.one_turn.new.keeper in
     life_more g.K.Keeper.model c.histories_grow.ensures c.cut_joins.ensures (g.K.Keeper.told k) (g.K.Keeper.told m) (g.K.Keeper.told k')
-        (g.C.Clock.gave c.args.clock.now c.loop-turn.clock) (g.C.Clock.gave c.loop-turn.clock c.one_turn.new.clock)
-        (g.C.Clock.gave c.args.clock.now c.one_turn.new.clock) _ _ _ []
+    (g.C.Clock.gave c.args.clock.now c.loop-turn.clock) (g.C.Clock.gave c.loop-turn.clock c.one_turn.new.clock)
+    (g.C.Clock.gave c.args.clock.now c.one_turn.new.clock) _ _ _ []
     (ids_of c.loop-turn.pending.items) [] _ 0 _ c.loop-turn.counts _ _ _ _ inv.whole e.life
-        (may_end (g.K.Keeper.told k).may_answer (g.K.Keeper.told m).may_answer c.in-Err.halt.ended inv.may) (g.met.K.Keeper.sound k').clean_is_honest e.honest
-        inv.firm ((g.met.C.Clock.logged).onward c.args.clock.now c.loop-turn.clock c.one_turn.new.clock)
+    (may_end (g.K.Keeper.told k).may_answer (g.K.Keeper.told m).may_answer c.in-Err.halt.ended inv.may) (g.met.K.Keeper.sound k').clean_is_honest e.honest
+    inv.firm ((g.met.C.Clock.logged).onward c.args.clock.now c.loop-turn.clock c.one_turn.new.clock)
 
 pub returns-in-Err-clause-exactly : goal.returns-in-Err-clause-exactly
 returns-in-Err-clause-exactly g c =
@@ -135,26 +135,26 @@ returns-in-Err-clause-at_most g c = λ confirms clean rows (records : Records) h
     let inv = c.loop-turn.invariant in
     let k' = c.one_turn.new.keeper in
     c.in-Err.ensures.at_most (inv.confirms ∙ confirms) clean records
-        (inv.more confirms (c.in-Err.ensures.honest ((g.met.K.Keeper.sound k').clean_is_honest clean)) records
-        (hands_start g.K.Keeper.model (g.K.Keeper.told c.args.keeper.now) [] rows records held rowed))
+    (inv.more confirms (c.in-Err.ensures.honest ((g.met.K.Keeper.sound k').clean_is_honest clean)) records
+    (hands_start g.K.Keeper.model (g.K.Keeper.told c.args.keeper.now) [] rows records held rowed))
 
 pub returns-in-Err-clause-settled : goal.returns-in-Err-clause-settled
 returns-in-Err-clause-settled g c = λ clean.
     let k = c.args.keeper.now in
     let k' = c.one_turn.new.keeper in
     few_settled g.K.Keeper.model (g.K.Keeper.told k) (g.K.Keeper.told k') _ _ _ _ _ _ (g.met.K.Keeper.sound k').clean_is_honest clean
-        (returns-in-Err-clause-life g c)
+    (returns-in-Err-clause-life g c)
 
 pub returns-in-Err-clause-failed : goal.returns-in-Err-clause-failed
 returns-in-Err-clause-failed g c =
     failed_both c.in-Err.halt.ended _ _ (subst (λ n. FailedBy (ended_port c.in-Err.halt.ended) n (g.P.Port.told c.one_turn.new.port).failures)
-        c.loop-turn.invariant.failures c.in-Err.ensures.failed)
+    c.loop-turn.invariant.failures c.in-Err.ensures.failed)
 
 pub returns-in-Err-clause-prompt : goal.returns-in-Err-clause-prompt
 returns-in-Err-clause-prompt g c = λ n some lt.
     let inv = c.loop-turn.invariant in
     caught_later g.K.Keeper.model g.P.Port.told g.P.Port.became (g.K.Keeper.told c.args.keeper.now) (g.K.Keeper.told c.loop-turn.keeper)
-        (g.K.Keeper.told c.one_turn.new.keeper) c.args.port.now c.loop-turn.port c.one_turn.new.port n
+    (g.K.Keeper.told c.one_turn.new.keeper) c.args.port.now c.loop-turn.port c.one_turn.new.port n
     g.met.P.Port.path c.in-Err.ensures.same c.in-Err.ensures.honest (inv.prompt n some (omega (arith, lt, c.in-Err.ensures.receives, inv.receives)))
 
 pub returns-clause-ends : goal.returns-clause-ends
@@ -162,8 +162,18 @@ returns-clause-ends g c =
     let inv = c.loop-turn.invariant in
     record {
       counts = c.loop-turn.counts;
-      ends = (omega (arith, inv.receives), inv.has_ended, record { rest = c.loop-turn.framer.bytes; place = c.loop-turn.framer.at; pending' =
-          ids_of c.loop-turn.pending.items; whole = inv.whole; so = (inv.ready.none, inv.ready.good) });
+      ends = (
+        omega (arith, inv.receives),
+        inv.has_ended,
+        record {
+          rest = c.loop-turn.framer.bytes;
+          place = c.loop-turn.framer.at;
+          pending' =
+              ids_of c.loop-turn.pending.items;
+          whole = inv.whole;
+          so = (inv.ready.none, inv.ready.good);
+        },
+      );
       told_are = refl;
     }
 
@@ -186,8 +196,8 @@ returns-clause-at_most g c = λ confirms clean rows (records : Records) held row
     let inv = c.loop-turn.invariant in
     let k' = c.loop-turn.keeper in
     at_most g.K.Keeper.model records (g.K.Keeper.told k') (ids_of c.loop-turn.pending.items)
-        (inv.more confirms ((g.met.K.Keeper.sound k').clean_is_honest clean) records
-        (hands_start g.K.Keeper.model (g.K.Keeper.told c.args.keeper.now) [] rows records held rowed))
+    (inv.more confirms ((g.met.K.Keeper.sound k').clean_is_honest clean) records
+    (hands_start g.K.Keeper.model (g.K.Keeper.told c.args.keeper.now) [] rows records held rowed))
 
 pub returns-clause-prompt : goal.returns-clause-prompt
 returns-clause-prompt g c = λ n some lt. c.loop-turn.invariant.prompt n some (omega (arith, lt, c.loop-turn.invariant.receives))

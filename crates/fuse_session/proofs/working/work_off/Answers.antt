@@ -32,11 +32,11 @@ pub returns-in-Err-clause-err : goal.returns-in-Err-clause-err
 returns-in-Err-clause-err g c =
     let inv = c.loop-at.invariant in
     group_broken g.K.Keeper.model c.histories_grow.ensures (g.K.Keeper.told c.args.keeper.now) (g.K.Keeper.told c.loop-at.keeper)
-        (g.K.Keeper.told c.work_group.new.keeper) (g.C.Clock.gave c.args.clock.now c.loop-at.clock) (g.C.Clock.gave c.loop-at.clock c.work_group.new.clock)
-        (g.C.Clock.gave c.args.clock.now c.work_group.new.clock) _ _ _ _ _ c.args.messages.now _ c.loop-at.at _ _ _ _ _
+    (g.K.Keeper.told c.work_group.new.keeper) (g.C.Clock.gave c.args.clock.now c.loop-at.clock) (g.C.Clock.gave c.loop-at.clock c.work_group.new.clock)
+    (g.C.Clock.gave c.args.clock.now c.work_group.new.clock) _ _ _ _ _ c.args.messages.now _ c.loop-at.at _ _ _ _ _
     refl inv.turned c.in-Err.ensures.err (may_stop (g.K.Keeper.told c.args.keeper.now).may_answer (g.K.Keeper.told c.loop-at.keeper).may_answer c.in-Err.stop
-        inv.may) (g.met.K.Keeper.sound c.work_group.new.keeper).clean_is_honest c.in-Err.ensures.honest inv.firm
-        ((g.met.C.Clock.logged).onward c.args.clock.now c.loop-at.clock c.work_group.new.clock)
+    inv.may) (g.met.K.Keeper.sound c.work_group.new.keeper).clean_is_honest c.in-Err.ensures.honest inv.firm
+    ((g.met.C.Clock.logged).onward c.args.clock.now c.loop-at.clock c.work_group.new.clock)
 
 pub length_of-size-requires : goal.length_of-size-requires
 length_of-size-requires g c =
@@ -52,16 +52,23 @@ sum_of-sum-requires-clause-a g c = below_more c.loop-at.counts c.loop-at.at (2 ^
 pub sum_of-sum-requires-clause-b : goal.sum_of-sum-requires-clause-b
 sum_of-sum-requires-clause-b g c =
     below_more c.in-Ok.turn.counts c.in-Ok.turn.count (2 ^ 63 - 1)
-        (omega (arith, within_parts c.args.messages.now c.loop-at.at c.in-Ok.turn.count c.loop-at.invariant.within c.in-Ok.ensures.within, c.requires.short))
-        c.in-Ok.ensures.below
+    (omega (arith, within_parts c.args.messages.now c.loop-at.at c.in-Ok.turn.count c.loop-at.invariant.within c.in-Ok.ensures.within, c.requires.short))
+    c.in-Ok.ensures.below
 
 pub overflow_add-place : goal.overflow_add-place
 overflow_add-place g c =
     let ms = c.args.messages.now in
     let i = c.loop-at.at in
     let n = c.in-Ok.turn.count in
-    omega (arith, c.loop-at.invariant.placed, c.length_of-size.ensures, joined_more ms (take (i + n - i) (drop i ms)) i n
-        (worked_slice ms i n), joined_within ms (i + n), c.requires.place)
+    omega (
+      arith,
+      c.loop-at.invariant.placed,
+      c.length_of-size.ensures,
+      joined_more ms (take (i + n - i) (drop i ms)) i n
+          (worked_slice ms i n),
+      joined_within ms (i + n),
+      c.requires.place,
+    )
 
 pub returns-then-over-clause-ok : goal.returns-then-over-clause-ok
 returns-then-over-clause-ok g c =
@@ -70,15 +77,15 @@ returns-then-over-clause-ok g c =
     let n = c.in-Ok.turn.count in
     let inv = c.loop-at.invariant in
     worked_off g.K.Keeper.model (g.K.Keeper.told c.args.keeper.now) (g.K.Keeper.told c.work_group.new.keeper) _ _ _ (ids_of c.args.pending.now.items)
-        (ids_of c.work_group.new.pending.items) ms (take (length ms - i) (drop i ms)) i n c.in-Ok.turn.rest c.args.begin _ c.sum_of-sum.result
+    (ids_of c.work_group.new.pending.items) ms (take (length ms - i) (drop i ms)) i n c.in-Ok.turn.rest c.args.begin _ c.sum_of-sum.result
     refl (is_over (goes_on c.in-Ok.turn.rest) (sym c.is_over-over.ensures ∙ c.if-over.true)) c.in-Ok.ensures.zero
     (omega (arith, inv.placed, c.length_of-size.ensures, joined_more ms (take (i + n - i) (drop i ms)) i n (worked_slice ms i n)))
     (group_more g.K.Keeper.model c.histories_grow.ensures (g.K.Keeper.told c.args.keeper.now) (g.K.Keeper.told c.loop-at.keeper)
-        (g.K.Keeper.told c.work_group.new.keeper) (g.C.Clock.gave c.args.clock.now c.loop-at.clock) (g.C.Clock.gave c.loop-at.clock c.work_group.new.clock)
-        (g.C.Clock.gave c.args.clock.now c.work_group.new.clock) _ _ _ _ _ _ ms (take (length ms - i) (drop i ms)) i n
-        (lasts c.in-Ok.turn.rest) c.loop-at.counts c.in-Ok.turn.counts c.sum_of-sum.result
+    (g.K.Keeper.told c.work_group.new.keeper) (g.C.Clock.gave c.args.clock.now c.loop-at.clock) (g.C.Clock.gave c.loop-at.clock c.work_group.new.clock)
+    (g.C.Clock.gave c.args.clock.now c.work_group.new.clock) _ _ _ _ _ _ ms (take (length ms - i) (drop i ms)) i n
+    (lasts c.in-Ok.turn.rest) c.loop-at.counts c.in-Ok.turn.counts c.sum_of-sum.result
     refl c.sum_of-sum.ensures inv.turned c.in-Ok.ensures.ok c.in-Ok.ensures.honest
-        ((g.met.C.Clock.logged).onward c.args.clock.now c.loop-at.clock c.work_group.new.clock))
+    ((g.met.C.Clock.logged).onward c.args.clock.now c.loop-at.clock c.work_group.new.clock))
 
 pub loop-at-preserved : goal.loop-at-preserved
 loop-at-preserved g c =
@@ -94,11 +101,11 @@ loop-at-preserved g c =
           (g.P.Port.told c.args.port.now) (g.P.Port.told c.work_group.new.port)
           (ids_of c.args.pending.now.items) (ids_of c.work_group.new.pending.items) (take (i + n) ms) b c.sum_of-sum.result) (lasts_on c.in-Ok.turn.rest on)
           (group_more g.K.Keeper.model c.histories_grow.ensures (g.K.Keeper.told c.args.keeper.now) (g.K.Keeper.told c.loop-at.keeper) (g.K.Keeper.told k')
-              (g.C.Clock.gave c.args.clock.now c.loop-at.clock) (g.C.Clock.gave c.loop-at.clock c.work_group.new.clock)
-              (g.C.Clock.gave c.args.clock.now c.work_group.new.clock) _ _ _ _ _ _ ms (take (length ms - i) (drop i ms)) i n
-              (lasts c.in-Ok.turn.rest) c.loop-at.counts c.in-Ok.turn.counts c.sum_of-sum.result
+          (g.C.Clock.gave c.args.clock.now c.loop-at.clock) (g.C.Clock.gave c.loop-at.clock c.work_group.new.clock)
+          (g.C.Clock.gave c.args.clock.now c.work_group.new.clock) _ _ _ _ _ _ ms (take (length ms - i) (drop i ms)) i n
+          (lasts c.in-Ok.turn.rest) c.loop-at.counts c.in-Ok.turn.counts c.sum_of-sum.result
           refl c.sum_of-sum.ensures inv.turned c.in-Ok.ensures.ok c.in-Ok.ensures.honest
-              ((g.met.C.Clock.logged).onward c.args.clock.now c.loop-at.clock c.work_group.new.clock));
+          ((g.met.C.Clock.logged).onward c.args.clock.now c.loop-at.clock c.work_group.new.clock));
       placed = omega (arith, inv.placed, c.length_of-size.ensures, joined_more ms (take (i + n - i) (drop i ms)) i n (worked_slice ms i n));
       below = subst (λ x. IsBelow x (i + n)) (sym c.sum_of-sum.ensures) (plus_below c.loop-at.counts c.in-Ok.turn.counts i n inv.below c.in-Ok.ensures.below);
       few = c.in-Ok.ensures.few;
@@ -118,7 +125,7 @@ pub returns-clause-ok : goal.returns-clause-ok
 returns-clause-ok g c =
     let inv = c.loop-at.invariant in
     worked_all g.K.Keeper.model (g.K.Keeper.told c.args.keeper.now) (g.K.Keeper.told c.loop-at.keeper) _ _ _ (ids_of c.args.pending.now.items)
-        (ids_of c.loop-at.pending.items) c.args.messages.now c.loop-at.at c.args.begin c.loop-at.place c.loop-at.counts
+    (ids_of c.loop-at.pending.items) c.args.messages.now c.loop-at.at c.args.begin c.loop-at.place c.loop-at.counts
     c.loop-at-test.false inv.placed inv.turned
 
 pub returns-in-Err-clause-unopened : goal.returns-in-Err-clause-unopened

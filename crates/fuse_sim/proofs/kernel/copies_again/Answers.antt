@@ -23,8 +23,8 @@ loop-place-preserved c =
     let copied = c.in_ok-message.ensures.items ∙ c.as_slice.ensures.value ∙ ap (λ (x : Vec ℕ Global). x.items) c.index-pending-place.is in
     let says = c.mark.ensures.says ∙ ap (λ (x : List ℕ). again (asked_at x)) copied in
     let more : take (c.loop-place.place-index + 1) c.args.places.now ≡ take c.loop-place.place-index c.args.places.now ++ place ∷ [] =
-        take_more c.args.places.now c.loop-place.place-index 0 c.loop-place-test.true in
+    take_more c.args.places.now c.loop-place.place-index 0 c.loop-place-test.true in
     ap (λ v. map (λ (m : List ℕ). Some m) (messages_in v)) c.in_ok-push.ensures.items
     ∙ copied_more c.args.pending.now c.loop-place.messages.items _ place c.index-pending-place.result c.mark.new.message there c.mark.ensures.owed says
-        c.loop-place.invariant
+    c.loop-place.invariant
     ∙ ap (map (λ (p : ℕ). option_map (λ r. canon (again r)) (slice_get (requests_in c.args.pending.now) p))) (sym more)

@@ -21,11 +21,11 @@ written m old new before long same is = with_items_is m new (same ∙ long) ∙ 
 pub returns-clause-owed : goal.returns-clause-owed
 returns-clause-owed c =
     let is = written c.args.message.now _ c.set_bit.new.message c.as_mut_slice.ensures.value c.as_mut_slice.ensures.len c.set_bit.auto.message c.set_bit.ensures
-        in
+    in
     subst IsOwed (sym is) (marked_owed c.spelled_at.ensures _ c.requires).0
 
 pub returns-clause-says : goal.returns-clause-says
 returns-clause-says c =
     let is = written c.args.message.now _ c.set_bit.new.message c.as_mut_slice.ensures.value c.as_mut_slice.ensures.len c.set_bit.auto.message c.set_bit.ensures
-        in
+    in
     ap asked_at is ∙ (marked_owed c.spelled_at.ensures _ c.requires).1

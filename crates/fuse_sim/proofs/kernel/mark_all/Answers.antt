@@ -20,7 +20,7 @@ loop-place-preserved c =
     let there : place < length c.args.pending.now = c.requires.there c.loop-place.place-index 0 c.loop-place-test.true in
     let within : place < length c.loop-place.pending = omega arith in
     let more : take (c.loop-place.place-index + 1) c.args.places.now ≡ take c.loop-place.place-index c.args.places.now ++ place ∷ [] =
-        take_more c.args.places.now c.loop-place.place-index 0 c.loop-place-test.true in (
+    take_more c.args.places.now c.loop-place.place-index 0 c.loop-place-test.true in (
       owed_set c.loop-place.pending place c.mark.new.message c.mark.ensures.owed c.loop-place.invariant.0,
       marked_more c.args.pending.now c.loop-place.pending _ place c.index-pending-place.result c.mark.new.message within c.loop-place.invariant.1
           c.mark.ensures.says

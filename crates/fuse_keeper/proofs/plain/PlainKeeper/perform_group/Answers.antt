@@ -7,9 +7,9 @@ use Rattle.fuse_keeper.proofs.plain.PlainKeeper.perform_group.Goals as goal
 pub returns-clause-ok : goal.returns-clause-ok
 returns-clause-ok g c = λ s h t so within fresh.
     performed_settled g.F.FileSystem.model (g.F.FileSystem.held c.args.self.now.rows) (mapped c.args.self.now.records)
-        (ids_of c.args.settled.now) c.in_ok-taken.taken.draft.added.items
+    (ids_of c.args.settled.now) c.in_ok-taken.taken.draft.added.items
     (g.F.FileSystem.held c.in_ok-taken.taken.draft.rows) (mapped c.reserve.new.self) (mapped c.settle.new.records) s h t
-        (entries_of c.args.group.now) c.in_ok-taken.taken.dones.items within so
+    (entries_of c.args.group.now) c.in_ok-taken.taken.dones.items within so
     (λ rest. c.in_ok-taken.ensures.performed s h t rest fresh) c.reserve.ensures.entries.2 c.settle.ensures
 
 pub returns-clause-others : goal.returns-clause-others
@@ -18,5 +18,5 @@ returns-clause-others g c = λ i isnt.
     let added = c.in_ok-taken.taken.draft.added.items in
     c.settle.ensures i
     ∙ over-same added (without settled (mapped c.reserve.new.self)) (without settled (mapped c.args.self.now.records)) i
-        (without-same settled (mapped c.reserve.new.self) (mapped c.args.self.now.records) i (c.reserve.ensures.entries.2 i))
+    (without-same settled (mapped c.reserve.new.self) (mapped c.args.self.now.records) i (c.reserve.ensures.entries.2 i))
     ∙ others_stay settled (mapped c.args.self.now.records) added (entries_of c.args.group.now) c.in_ok-taken.ensures.ids i isnt

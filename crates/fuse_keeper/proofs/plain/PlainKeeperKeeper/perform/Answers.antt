@@ -19,14 +19,18 @@ pub returns-in-Ok-clause-lots : goal.returns-in-Ok-clause-lots
 returns-in-Ok-clause-lots g c = λ honest rows records held rowed. no_lot records (ids_of c.args.settled.now) (entries_of c.args.group.now)
 
 pub returns-in-Ok-clause-crash : goal.returns-in-Ok-clause-crash
-returns-in-Ok-clause-crash g c = λ s h t so within fresh firm.
-    (tt, λ x r left. inr (left_new g.F.FileSystem.model (g.F.FileSystem.held c.perform_group.new.self.rows) (mapped c.perform_group.new.self.records) x r s _ t
-        (c.in-Ok.ensures.ok s h t so within fresh).stands left))
+returns-in-Ok-clause-crash g c = λ s h t so within fresh firm. (
+  tt,
+  λ x r left. inr (left_new g.F.FileSystem.model (g.F.FileSystem.held c.perform_group.new.self.rows) (mapped c.perform_group.new.self.records) x r s _ t
+      (c.in-Ok.ensures.ok s h t so within fresh).stands left),
+)
 
 pub returns-in-Err-clause-crash : goal.returns-in-Err-clause-crash
-returns-in-Err-clause-crash g c = λ s h t so within fresh firm.
-    (tt, λ x r left. inl (left_old g.F.FileSystem.model (g.F.FileSystem.held c.args.self.now.rows) (mapped c.args.self.now.records)
-        (g.F.FileSystem.held c.perform_group.new.self.rows) (mapped c.perform_group.new.self.records) x r s h t so c.in-Err.ensures.err left))
+returns-in-Err-clause-crash g c = λ s h t so within fresh firm. (
+  tt,
+  λ x r left. inl (left_old g.F.FileSystem.model (g.F.FileSystem.held c.args.self.now.rows) (mapped c.args.self.now.records)
+      (g.F.FileSystem.held c.perform_group.new.self.rows) (mapped c.perform_group.new.self.records) x r s h t so c.in-Err.ensures.err left),
+)
 
 pub returns-in-Err-clause-called : goal.returns-in-Err-clause-called
 returns-in-Err-clause-called g c = record {

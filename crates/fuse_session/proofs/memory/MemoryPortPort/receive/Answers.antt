@@ -12,8 +12,11 @@ returns-clause-received c =
     let fits : n ≤ length p.input.items - p.at = omega (arith, c.min.ensures, c.min-n.ensures, c.len.ensures, p.input.ok.0) in
     let len = copied_length p.input.items c.copy_from_slice.new.self p.at n copied fits in
     record {
-      bytes = (room c.copy_from_slice.new.self _ n len, piece_from _ p.input.items c.copy_from_slice.new.self _ p.at n
-          (ap (λ (t : PortState). t.coming) same) len copied);
+      bytes = (
+        room c.copy_from_slice.new.self _ n len,
+        piece_from _ p.input.items c.copy_from_slice.new.self _ p.at n
+            (ap (λ (t : PortState). t.coming) same) len copied,
+      );
       sent = ap (λ (t : PortState). t.sent) same;
       receives = ap (λ (t : PortState). t.receives) same;
       has_ended = ap (λ (t : PortState). t.has_ended) same;

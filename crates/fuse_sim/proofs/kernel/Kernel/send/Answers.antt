@@ -20,13 +20,13 @@ both c =
     let spells = well c.encode.result _ c.encode.ensures.spelled good in
     let is : c.as_slice.result.now ≡ canon (asked c.args.request.now) =
     c.as_slice.ensures.value ∙ well c.encode.result _ c.encode.ensures.ok good
-        ∙ ap (λ (x : List ℕ). x ++ canon (asked c.args.request.now)) c.new-message.ensures.items in
+    ∙ ap (λ (x : List ℕ). x ++ canon (asked c.args.request.now)) c.new-message.ensures.items in
     let may : MayBeSent (requests_in c.self.inside.pending.items) (asked c.args.request.now) =
-        subst (λ p. MayBeSent p (asked c.args.request.now)) (sym c.self.view_is) c.requires.free in
+    subst (λ p. MayBeSent p (asked c.args.request.now)) (sym c.self.view_is) c.requires.free in
     let kept = c.in_ok-keep.ensures.ok ∙ ap (λ (m : List ℕ). messages_in c.self.inside.pending.items
-        ++ (if silent (number_of 4 (drop 4 m)) then [] else m ∷ [])) is in
+    ++ (if silent (number_of 4 (drop 4 m)) then [] else m ∷ [])) is in
     sent c.spelled_at.ensures c.self.inside.pending.items c.keep.new.pending.items (asked c.args.request.now)
-        (canon (asked c.args.request.now)) c.self.invariant may spells refl kept
+    (canon (asked c.args.request.now)) c.self.invariant may spells refl kept
 
 pub invariant_of-self-2 : goal.invariant_of-self-2
 invariant_of-self-2 c = (both c).0

@@ -57,21 +57,24 @@ refused_by : (old new : List Asked) (answer : List ℕ) (one : Asked) (opcode : 
     → opcode ≡ opcode_of one.act → FirstFault opcode answer fault
     → ((told : Told) → Answers opcode told answer → ⊥) → TakenOf (owner (borne answer) old) old new answer (Err (Bad fault))
 refused_by old new answer one opcode fault is same first never =
-    subst (λ o. TakenOf o old new answer (Err (Bad fault))) (sym is) (subst (λ n. FirstFault n answer fault) same first, λ told answers. never told
-        (subst (λ n. Answers n told answer) (sym same) answers))
+    subst (λ o. TakenOf o old new answer (Err (Bad fault))) (sym is) (
+      subst (λ n. FirstFault n answer fault) same first,
+      λ told answers. never told
+          (subst (λ n. Answers n told answer) (sym same) answers),
+    )
 
 pub returns-in-Ok-clause-taken : goal.returns-in-Ok-clause-taken
 returns-in-Ok-clause-taken c = λ _.
     let f = found_in c.spelled_at.ensures _ _ _ _ c.index.result.now c.self.invariant c.as_slice.ensures.value c.in-Some.ensures c.index.ensures in
     let same = c.u32_at-opcode.ensures ∙ ap (λ (x : List ℕ). number_of 4 (drop 4 x)) c.as_slice-2.ensures.value ∙ f.opcode in
     let left = ap requests_in c.remove-taken.ensures.items ∙ f.left ∙ ap (λ (u : ℕ). others u (requests_in c.self.inside.pending.items)) c.u64_at.ensures
-        ∙ ap (others (borne c.args.answer.now)) c.self.view_is in
+    ∙ ap (others (borne c.args.answer.now)) c.self.view_is in
     taken_by c.args.self.now _ c.args.answer.now f.one c.u32_at-opcode.result _
-        (owner_of _ _ c.args.answer.now _ f.one c.self.view_is c.u64_at.ensures f.owner_is) same c.in-Ok.ensures.found left
+    (owner_of _ _ c.args.answer.now _ f.one c.self.view_is c.u64_at.ensures f.owner_is) same c.in-Ok.ensures.found left
 
 pub returns-in-Err-clause-taken : goal.returns-in-Err-clause-taken
 returns-in-Err-clause-taken c = λ _.
     let f = found_in c.spelled_at.ensures _ _ _ _ c.index.result.now c.self.invariant c.as_slice.ensures.value c.in-Some.ensures c.index.ensures in
     let same = c.u32_at-opcode.ensures ∙ ap (λ (x : List ℕ). number_of 4 (drop 4 x)) c.as_slice-2.ensures.value ∙ f.opcode in
     refused_by c.args.self.now c.args.self.now c.args.answer.now f.one c.u32_at-opcode.result c.in-Err.fault
-        (owner_of _ _ c.args.answer.now _ f.one c.self.view_is c.u64_at.ensures f.owner_is) same c.in-Err.ensures.fault c.in-Err.ensures.only
+    (owner_of _ _ c.args.answer.now _ f.one c.self.view_is c.u64_at.ensures f.owner_is) same c.in-Err.ensures.fault c.in-Err.ensures.only
