@@ -11,7 +11,7 @@ use Rattle.fuse_table_look.specs.Fits.{IsWhole}
 use Rattle.fuse_tables.specs.Content.{put_block}
 use Rattle.fuse_table_look.specs.Store.{HeldAs, overlay, spliced, whole_of, byte_in}
 use Rattle.fuse_table_look.specs.Changing.{Overlaid}
-use Rattle.fuse_tables.proofs.Ordered.{rises_from}
+use Rattle.fuse_table_look.proofs.Keys.{slots_rise}
 use Rattle.fuse_table_look.proofs.BlockBytes.{part_put}
 use Rattle.fuse_table_look.proofs.Overlays.{overlay_none, overlay_more, byte_written}
 use Rattle.fuse_table_look.proofs.Looks.{key_is, both_are}
@@ -52,7 +52,7 @@ use Rattle.fuse_tables.specs.Moves.{Inside, InsideAs, IsReady, Makes, Looked, St
 use Rattle.fuse_table_look.specs.Store.{Store, Tells, TellsAs, Held, with_change, in_order, byte_at, FitsSettings}
 use Rattle.fuse_table_look.specs.Changing.{Changed, Keeps, KeepsBytes}
 use Rattle.sqlite.proofs.StateLemmas.{survives_weaker}
-use Rattle.fuse_tables.proofs.Following.{earlier, stays_then}
+use Rattle.fuse_tables.specs.Following.{earlier, stays_then}
 use Rattle.fuse_table_look.proofs.Told.{Rises, inside_of, same_test, filter_same}
 use Rattle.fuse_table_look.proofs.Orders.{all_put, all_in_order, all_filter, one_more, one_gone, one_replaced, repl, rises_in_order, set_is_put}
 
@@ -359,7 +359,7 @@ same_overlay : (node at : ℕ) (part : List ℕ) (g h : ℕ → ℕ → ℕ) →
 same_overlay node at part g h same n i = ap (λ b. cond ((n == node) && (not (nat_lt i at) && nat_lt i (at + length part))) (byte_at part (i - at)) b) (same n i)
 
 blocks_rise : (c : Content) (d : Database) → Holds c d → Rises (λ b. b.slot) c.blocks
-blocks_rise c d at = rises_from (λ b. b.slot) block_row (λ _. refl) c.blocks (subst IsTable at.rows.1.1.1.0.0 at.rows.1.1.1.0.1)
+blocks_rise c d at = slots_rise c.blocks (subst IsTable at.rows.1.1.1.0.0 at.rows.1.1.1.0.1)
 
 spliced_length : (old part : List ℕ) (start : ℕ) → start + length part ≤ length old → length (spliced old start part) ≡ length old
 spliced_length old part start within =

@@ -14,7 +14,7 @@ use Rattle.fuse_tree.specs.declared.rows.Change.TheVariants as changes
 use Rattle.fuse_tables.specs.Blocks.{Block, block_at, is_at, is_from}
 use Rattle.fuse_tables.specs.Content.{Content, without_blocks_from, node_key}
 use Rattle.fuse_tables.specs.Moves.{Makes}
-use Rattle.fuse_tables.proofs.Following.{earlier}
+use Rattle.fuse_tables.specs.Following.{earlier}
 use Rattle.fuse_table_look.specs.Fits.{IsWhole}
 use Rattle.fuse_table_look.specs.Store.{Store, Tells, TellsAs, byte_at, bytes_of, byte_in, cut, overlay, rows_bytes, in_order, with_change}
 use Rattle.fuse_table_look.specs.Changing.{Changed, Cut, Overlaid, KeepsBytes}

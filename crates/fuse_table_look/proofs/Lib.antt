@@ -1,5 +1,6 @@
 pub mod Looks
 pub mod Told
+pub mod Keys
 pub mod Ranges
 pub mod ListingLemmas
 pub mod Orders

@@ -14,8 +14,7 @@ use Rattle.fuse_tree.specs.declared.rows.NodeRow.{NodeRow}
 use Rattle.fuse_tables.specs.Layout.{blocks, to_nodes, store_schema}
 use Rattle.fuse_tables.specs.Blocks.{Block, block_row}
 use Rattle.fuse_tables.specs.Content.{Content, Holds, node_row, node_key, has_by}
-use Rattle.fuse_tables.proofs.Keyed.{row_cmp_nat}
-use Rattle.fuse_tables.proofs.Reading.{truth_of}
+use Rattle.fuse_table_look.proofs.Keys.{number_order, truth_is}
 
 parent_is : parent_key store_schema.tables (to_nodes 1) ≡ Some (1, 0 ∷ [], plain)
 unfolding same_name joined
@@ -23,7 +22,7 @@ parent_is = refl
 
 agrees : (n : NodeRow) (b : Block) → agree plain (0 ∷ []) (node_row n) (1 ∷ []) (block_row b) ≡ has_by node_key b.node n
 unfolding binary first_key
-agrees n b = ap (λ o. is_true (from_truth (Some (is_eq o))) && true) (row_cmp_nat n.node b.node) ∙ truth_of (has_by node_key b.node n)
+agrees n b = ap (λ o. is_true (from_truth (Some (is_eq o))) && true) (number_order n.node b.node) ∙ truth_is (has_by node_key b.node n)
 
 among : (b : Block) (ns : List NodeRow) → list_any (λ parent. agree plain (0 ∷ []) parent (1 ∷ []) (block_row b)) (map node_row ns) ≡ list_any
     (has_by node_key b.node) ns

@@ -10,22 +10,9 @@ use Rattle.sqlite.proofs.StateLemmas.{survives_then}
 use Rattle.sqlite.proofs.InsideLemmas.{keeps_then}
 use Rattle.sqlite.specs.Effect.{Database}
 use Rattle.fuse_tree.specs.Rows.{Rows}
-use Rattle.fuse_tables.specs.Moves.{IsReady, StaysIn, Stays, Looked}
+use Rattle.fuse_tables.specs.Moves.{Stays, Looked}
+use Rattle.fuse_tables.specs.Following.{earlier, stays_then}
 use Rattle.fuse_table_look.specs.Looking.{sees_in}
-
-was_clean : (a b : State) (P : Trees → Type 0) → Survives a b P → HasCleanDisk b → HasCleanDisk a
-was_clean a b P s clean = le-zero (subst (λ n. doubt a.is_clean ≤ n) clean s.clean)
-
-follow : {C D : Type 0} (P : C → Database → Type 0) (Q : D → Database → Type 0) (a b d : State)
-    → StaysIn P a b → (HasCleanDisk b → IsReady P a → IsReady Q b) → StaysIn Q b d → StaysIn P a d
-follow P Q a b d p on q = record {
-  survives =
-      survives_then a b d _ _ _ (λ _ db none. none) (λ clean db none at. none (on (was_clean b d _ q.survives clean) at))
-      p.survives q.survives;
-  kept = λ clean at.
-      let mid = was_clean b d _ q.survives clean in
-      keeps_then a b d (p.kept mid at) (q.kept clean (on mid at));
-}
 
 -- ---- looks
 
@@ -50,15 +37,15 @@ looked_still a = record { stays = same_stays a; same = λ clean c at. at }
 
 pub looked_then : (a b d : State) → Looked a b → Looked b d → Looked a d
 looked_then a b d p q = record {
-  stays = follow _ _ a b d p.stays (λ clean at. (at.0, p.same clean at.0 at.1)) q.stays;
-  same = λ clean c at. q.same clean c (p.same (was_clean b d _ q.stays.survives clean) c at);
+  stays = stays_then _ _ a b d p.stays (λ clean at. (at.0, p.same clean at.0 at.1)) q.stays;
+  same = λ clean c at. q.same clean c (p.same (earlier b d _ q.stays.survives clean) c at);
 }
 
 pub looked_fails : (a b d : State) → Looked a b → Stays b d → Stays a d
-looked_fails a b d p q = follow _ _ a b d p.stays (λ clean at. (at.0, p.same clean at.0 at.1)) q
+looked_fails a b d p q = stays_then _ _ a b d p.stays (λ clean at. (at.0, p.same clean at.0 at.1)) q
 
 pub looked_clean : (a b : State) → Looked a b → HasCleanDisk b → HasCleanDisk a
-looked_clean a b p clean = was_clean a b _ p.stays.survives clean
+looked_clean a b p clean = earlier a b _ p.stays.survives clean
 
 pub looked_less : (a b : State) → Looked a b → Stays a b
 looked_less a b p = p.stays

@@ -5,7 +5,7 @@ use Rattle.sqlite.specs.Tree.{Trees}
 use Rattle.sqlite.specs.State.{State, HasCleanDisk, Survives}
 use Rattle.sqlite.proofs.StateLemmas.{survives_weaker}
 use Rattle.fuse_keeper.specs.declared.fault.StoreFault.{StoreFault}
-use Rattle.fuse_tables.proofs.Following.{earlier}
+use Rattle.fuse_tables.specs.Following.{earlier}
 use Rattle.fuse_tables.specs.Moves.{InsideAs, IsReady, StaysIn, Takes, IsSure}
 
 module _ {C : Type 0} (P R : C → Database → Type 0) where

@@ -6,7 +6,7 @@ use Rattle.sqlite.specs.State.{State, HasCleanDisk, Survives, KeepsCommit}
 use Rattle.sqlite.proofs.StateLemmas.{survives_weaker, survives_then}
 use Rattle.sqlite.proofs.InsideLemmas.{keeps_then}
 use Rattle.fuse_tables.specs.Content.{Content, Holds, LeftAs}
-use Rattle.fuse_tables.proofs.Following.{earlier, stays_then}
+pub use Rattle.fuse_tables.specs.Following.{earlier, stays_then, then_as, taken_from, makes_then}
 use Rattle.sqlite.specs.declared.error.Error.{Error}
 use Rattle.sqlite.specs.Tree.{Trees}
 use Rattle.fuse_keeper.specs.declared.fault.StoreFault.{StoreFault}
@@ -14,39 +14,6 @@ use Rattle.fuse_keeper.specs.declared.fault.StoreFault.TheVariants.{Memory, Sql}
 use Rattle.fuse_tables.specs.Faults.{IsOutside}
 use Rattle.fuse_keeper.specs.Faults.{fault_of, is_memory}
 use Rattle.fuse_tables.specs.Moves.{RestsAs, InsideAs, Takes, Makes, Begins, Ends, PerformsAs, Undoes, ServesAs, IsSure}
-
--- one step after another, where the second is ready for what the first makes
-pub then_as : {C X Y E F : Type 0} (P Q R : C → Database → Type 0) (a b d : State) (x : X) (r : Result Y F) → Takes {X = X} {E = E} P Q a b (Ok x)
-    → Takes Q R b d r → Takes P R a d r
-then_as P Q R a b d x (Ok y) p q = record {
-  stays = stays_then P Q a b d p.stays (λ clean at. (at.0, p.turns clean at.0 at.1)) q.stays;
-  turns = λ clean c at. q.turns clean c (p.turns (earlier b d _ q.stays.survives clean) c at);
-}
-then_as P Q R a b d x (Err e) p q = record { stays = stays_then P Q a b d p.stays (λ clean at. (at.0, p.turns clean at.0 at.1)) q.stays; turns = tt }
-
--- the same step, begun with the databases of another family
-pub taken_from : {C D X E : Type 0} (P Q : C → Database → Type 0) (f : D → C) (a b : State) (r : Result X E) → Takes P Q a b r
-    → Takes (λ d. P (f d)) (λ d. Q (f d)) a b r
-taken_from P Q f a b (Ok x) p = record {
-  stays = record {
-    survives = survives_weaker a b _ _ (λ _ db none at. none (f at.0, at.1)) p.stays.survives;
-    kept = λ clean at. p.stays.kept clean
-        (f at.0, at.1);
-  };
-  turns = λ clean d at. p.turns clean (f d) at;
-}
-taken_from P Q f a b (Err e) p = record {
-  stays = record {
-    survives = survives_weaker a b _ _ (λ _ db none at. none (f at.0, at.1)) p.stays.survives;
-    kept = λ clean at. p.stays.kept clean
-        (f at.0, at.1);
-  };
-  turns = tt;
-}
-
-pub makes_then : {X Y E F : Type 0} (f g : Content → Content) (a b d : State) (x : X) (r : Result Y F) → Makes {X = X} {E = E} f a b (Ok x) → Makes g b d r
-    → Makes (λ c. g (f c)) a d r
-makes_then f g a b d x r p q = then_as Holds (λ c. Holds (f c)) (λ c. Holds (g (f c))) a b d x r p (taken_from Holds (λ c. Holds (g c)) f b d r q)
 
 -- a call that failed makes nothing, so it may stand for any
 pub fails_as : {C X Y E F : Type 0} (P Q R : C → Database → Type 0) (a b : State) (e : E) (d : F) → Takes {X = X} P Q a b (Err e)

@@ -1,5 +1,4 @@
 pub mod Lifting
-pub mod Following
 pub mod Control
 pub mod Writing
 pub mod RowLemmas

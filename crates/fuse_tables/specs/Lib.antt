@@ -3,6 +3,7 @@ pub mod Blocks
 pub mod Content
 pub mod Rows
 pub mod Moves
+pub mod Following
 pub mod Faults
 pub mod Making
 pub mod Clearing

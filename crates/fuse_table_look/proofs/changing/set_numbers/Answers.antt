@@ -1,7 +1,7 @@
 use Rattle.std.specs.Prelude.{◌+◌}
 use Rattle.sqlite.specs.Held.{state}
 use Rattle.fuse_tables.specs.Content.{set_counter}
-use Rattle.fuse_tables.proofs.Joining.{makes_then}
+use Rattle.fuse_tables.specs.Following.{makes_then}
 use Rattle.fuse_table_look.proofs.changing.set_numbers.Goals as goal
 
 pub returns : goal.returns

@@ -1,7 +1,7 @@
 use Rattle.sqlite.specs.Held.{state}
 use Rattle.fuse_tables.specs.Layout.{no_schema}
 use Rattle.fuse_tables.specs.Making.{IsBare, IsNew}
-use Rattle.fuse_tables.proofs.Following.{earlier}
+use Rattle.fuse_tables.specs.Following.{earlier}
 use Rattle.fuse_tables.proofs.Joining.{undone}
 use Rattle.fuse_tables.proofs.making.make_store.Goals as goal
 
