@@ -330,7 +330,8 @@ turned M grows holds holds' gave p q pending mid pending' messages count taken e
             goes = λ going. elim (and_false ends (last_zero (answers_in list))
                 (lasts_not (ends && last_zero (answers_in list)) stuck (sym (ap lasts is) ∙ going))) [
                   | inl no_end ↦ goes_none M s h ts gathers.no_zero (gathers.none no_end)
-                  | inr both ↦ goes_last M s h ts (answers_in dones) gathers.no_zero gathers.only says (sym (ap (λ l. last_zero (answers_in l)) same_list) ∙ both.1)
+                  | inr both ↦ goes_last M s h ts (answers_in dones) gathers.no_zero gathers.only says
+                      (sym (ap (λ l. last_zero (answers_in l)) same_list) ∙ both.1)
                 ];
             last = λ over.
                 let both = and_true ends (last_zero (answers_in list)) (ended_so (ends && last_zero (answers_in list)) stuck (sym (ap lasts is) ∙ over)) in
