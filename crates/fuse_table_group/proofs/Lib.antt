@@ -1,0 +1,3 @@
+pub mod Turning
+pub mod Records
+pub mod Groups
