@@ -19,7 +19,8 @@ group_last : (lot : ℕ) (es : List Entry) (e : Entry) (y : Holding) → with_gr
 group_last lot [] e y = refl
 group_last lot (x ∷ es) e y = group_last lot es e (taken lot x y).holding
 
-dones_last : (lot : ℕ) (es : List Entry) (e : Entry) (y : Holding) → dones_of lot (es ++ e ∷ []) y ≡ dones_of lot es y ++ (taken lot e (with_group lot es y)).done ∷ []
+dones_last : (lot : ℕ) (es : List Entry) (e : Entry) (y : Holding) → dones_of lot (es ++ e ∷ []) y ≡ dones_of lot es y
+    ++ (taken lot e (with_group lot es y)).done ∷ []
 dones_last lot [] e y = refl
 dones_last lot (x ∷ es) e y = ap (λ l. (taken lot x y).done ∷ l) (dones_last lot es e (taken lot x y).holding)
 

@@ -1,3 +1,4 @@
 pub mod Turning
 pub mod Records
 pub mod Groups
+pub mod Whole

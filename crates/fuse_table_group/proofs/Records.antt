@@ -23,7 +23,8 @@ use Rattle.fuse_table_look.proofs.Changes.{made, made_known}
 use Rattle.fuse_table_look.proofs.Looks.{key_differs, all_map}
 use Rattle.fuse_table_look.proofs.Orders.{all_put, all_filter}
 use Rattle.fuse_table_group.specs.Holding.{Holding, InsideFor, Turned, AreBelow, store_of}
-use Rattle.fuse_table_group.specs.Group.{without_record, without_settled, with_record, with_new_lot, with_act, said_of, acted_on, taken, taken_by, answered, repeats}
+use Rattle.fuse_table_group.specs.Group.{without_record, without_settled, with_record, with_new_lot, with_act, said_of, acted_on, taken, taken_by, answered}
+use Rattle.fuse_table_group.specs.Group.{repeats}
 use Rattle.fuse_table_group.proofs.Turning.{lifted, looked_for, turned_known, turned_then, turned_same, keeps_for, told_in, content_in}
 
 -- ---- a record goes
@@ -60,7 +61,8 @@ none_goes id (k ∷ ks) high all = rw (key_differs k.id id (2 ^ 63) all.0.id hig
 pub none_forgot : (id : ℕ) (a : State) → 2 ^ 63 ≤ id → Turned (without_record id) a a
 none_forgot id a high = turned_known (λ y. y) (without_record id) a a (λ clean y at.
     let told = at.holds.held.2 in
-    ap (λ l. record y { kept = l }) (sym (none_goes id y.kept high (subst (AllByRecursion KeepsRecord) told.kept told.fits.kept)))) (looked_for a a (looked_still a))
+    ap (λ l. record y { kept = l }) (sym (none_goes id y.kept high (subst (AllByRecursion KeepsRecord) told.kept told.fits.kept))))
+    (looked_for a a (looked_still a))
 
 -- ---- a record comes
 

@@ -2,11 +2,11 @@
 use Rattle.std.specs.Prelude.{◌<◌, ℕ, List}
 use Rattle.std.specs.List.{AllByRecursion}
 use Rattle.sqlite.specs.Effect.{Database}
-use Rattle.sqlite.specs.State.{State}
+use Rattle.sqlite.specs.State.{State, HasCleanDisk}
 use Rattle.fuse_tree.specs.State.{State as TreeState, Tree}
 use Rattle.fuse_tree.specs.Rows.{rowed}
 use Rattle.fuse_tables.specs.Content.{Kept}
-use Rattle.fuse_tables.specs.Moves.{InsideAs, StaysIn, TurnsTo}
+use Rattle.fuse_tables.specs.Moves.{RestsAs, InsideAs, StaysIn, TurnsTo}
 use Rattle.fuse_table_look.specs.Store.{Store, Held}
 
 -- a tree, the records in rising order of their ids, the lots in rising order, and the number of the next lot
@@ -41,3 +41,7 @@ KeepsFor = StaysIn HeldFor
 pub record Turned (f : Holding → Holding) (old new : State) : Type 0 where
   pub stays : KeepsFor old new
   pub turns : TurnsTo HeldFor (λ y. HeldFor (f y)) old new
+
+-- of what was held before a whole transaction, where the store gave back what was written
+abbrev pub TellsAfter : State → State → (Holding → Type 0) → Type 0
+TellsAfter old new P = HasCleanDisk new → (y : Holding) → RestsAs (HeldFor y) old → P y

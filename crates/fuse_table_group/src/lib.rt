@@ -5,5 +5,7 @@ mod group;
 mod lots;
 mod settling;
 mod taking;
+mod transaction;
 
 pub use group::{Performed, perform_in};
+pub use transaction::perform;
