@@ -2,3 +2,5 @@ pub mod Turning
 pub mod Records
 pub mod Groups
 pub mod Whole
+pub mod Finds
+pub mod Took
