@@ -4,3 +4,5 @@ pub mod Groups
 pub mod Whole
 pub mod Finds
 pub mod Took
+pub mod Decoding
+pub mod Once
