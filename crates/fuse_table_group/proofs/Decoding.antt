@@ -4,7 +4,7 @@ use Rattle.std.specs.List.{AllByRecursion}
 use Rattle.std.specs.Int.{w64, cast_signed, cast_unsigned}
 use Rattle.std.proofs.lemmas.Int.{of_z-to_z}
 use Rattle.sqlite.specs.declared.types.Value.{Value}
-use Rattle.sqlite.specs.declared.types.Value.TheVariants.{Null, Int, Blob}
+use Rattle.sqlite.specs.declared.types.Value.TheVariants.{Int, Blob}
 use Rattle.sqlite.specs.Order.{Row, column}
 use Rattle.fuse_wire.specs.declared.access_mode.AccessMode.{AccessMode}
 use Rattle.fuse_wire.specs.declared.access_mode.AccessMode.TheVariants.{ReadOnly, WriteOnly, ReadWrite}
@@ -12,7 +12,7 @@ use Rattle.fuse_tree.specs.declared.rows.NodeRow.{NodeRow}
 use Rattle.fuse_tree.specs.declared.rows.EntryRow.{EntryRow}
 use Rattle.fuse_tree.specs.declared.rows.HandleRow.{HandleRow}
 use Rattle.fuse_tables.specs.Blocks.{Block, block_row}
-use Rattle.fuse_tables.specs.Content.{Counter, Kept, HasSeconds, counter_row, node_row, entry_row, handle_row, lot_row, kept_row, access_code}
+use Rattle.fuse_tables.specs.Content.{Counter, Kept, counter_row, node_row, entry_row, handle_row, lot_row, kept_row, access_code}
 use Rattle.fuse_table_look.specs.Fits.{KeepsNode}
 
 -- ---- columns

@@ -4,5 +4,7 @@ pub mod Groups
 pub mod Whole
 pub mod Finds
 pub mod Took
+pub mod Settled
+pub mod Under
 pub mod Decoding
 pub mod Once

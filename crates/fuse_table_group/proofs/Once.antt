@@ -10,12 +10,12 @@ use Rattle.fuse_tree.specs.declared.rows.Full.{Full}
 use Rattle.fuse_tree.specs.declared.rows.Counters.{Counters as CountersRow}
 use Rattle.fuse_tree.specs.State.{State, Tree}
 use Rattle.fuse_tree.specs.Bounds.{file_limit}
-use Rattle.fuse_tree.specs.Rows.{Rows, IsRowed, rowed, full_at, content_of}
+use Rattle.fuse_tree.specs.Rows.{Rows, IsRowed, rowed, content_of}
 use Rattle.fuse_tree.proofs.Telling.{rows_tell}
-use Rattle.fuse_tables.specs.Content.{Content, Holds, node_key, cookie_of, fh_of}
-use Rattle.fuse_table_look.specs.Store.{Tells, counters_of, counted_in, agreed_in, value_of, byte_at, byte_in, rows_bytes}
+use Rattle.fuse_tables.specs.Content.{Content, node_key, cookie_of, fh_of}
+use Rattle.fuse_table_look.specs.Store.{counters_of, counted_in, agreed_in, value_of, byte_at, byte_in}
 use Rattle.fuse_table_look.proofs.Told.{Rises, order_kept, rows_rise, rows_full}
-use Rattle.fuse_table_group.specs.Holding.{Holding, HeldFor, store_of}
+use Rattle.fuse_table_group.specs.Holding.{Holding, HeldFor}
 use Rattle.fuse_table_group.proofs.Decoding.{same_counters, same_nodes, same_entries, same_handles, same_blocks, same_lots, same_kept}
 
 -- ---- contents

@@ -74,7 +74,7 @@ neither : (a b : Bool) → cond a true b ≡ false → (a ≡ false) × (b ≡ f
 neither true b is = absurd cc
 neither false b is = (refl, is)
 
-other_by : (r : Option Said) (lot : ℕ) (e : Entry) (y : Holding) (i : ℕ) → (entry_id e == i) ≡ false
+pub other_by : (r : Option Said) (lot : ℕ) (e : Entry) (y : Holding) (i : ℕ) → (entry_id e == i) ≡ false
     → records_of (taken_by r lot e y).holding.kept i ≡ records_of y.kept i
 other_by (Some known) lot e y i off = refl
 other_by None lot e y i off =
@@ -89,7 +89,7 @@ group_others lot (e ∷ es) y i none =
     group_others lot es (taken lot e y).holding i two.1 ∙ other_by (records_of y.kept (entry_id e)) lot e y i two.0
 
 -- the records after a whole call
-kept_for : (lot : Option ℕ) (y : Holding) → (with_lot_for lot y).kept ≡ y.kept
+pub kept_for : (lot : Option ℕ) (y : Holding) → (with_lot_for lot y).kept ≡ y.kept
 kept_for None y = refl
 kept_for (Some n) y = refl
 

@@ -1,11 +1,12 @@
 -- What the tables tell where their rows are those of a tree.
-use Rattle.std.specs.Prelude.{◌<◌, ℕ, List}
+use Rattle.std.specs.Prelude.{◌<◌, ℕ, List, Option, option_map}
 use Rattle.std.specs.List.{AllByRecursion}
 use Rattle.sqlite.specs.Effect.{Database}
 use Rattle.sqlite.specs.State.{State, HasCleanDisk}
 use Rattle.fuse_tree.specs.State.{State as TreeState, Tree}
 use Rattle.fuse_tree.specs.Rows.{rowed}
-use Rattle.fuse_tables.specs.Content.{Kept}
+use Rattle.fuse_keeper.specs.Lots.{Lots}
+use Rattle.fuse_tables.specs.Content.{Kept, kept_key, at_by}
 use Rattle.fuse_tables.specs.Moves.{RestsAs, InsideAs, StaysIn, TurnsTo}
 use Rattle.fuse_table_look.specs.Store.{Store, Held}
 
@@ -45,3 +46,7 @@ pub record Turned (f : Holding → Holding) (old new : State) : Type 0 where
 -- of what was held before a whole transaction, where the store gave back what was written
 abbrev pub TellsAfter : State → State → (Holding → Type 0) → Type 0
 TellsAfter old new P = HasCleanDisk new → (y : Holding) → RestsAs (HeldFor y) old → P y
+
+-- the lots that the records are in, and the one of this start
+abbrev pub lots_of : Option ℕ → Holding → Lots
+lots_of current y = record { numbers = y.lots; current = current; under = λ i. option_map (λ k. k.lot) (at_by kept_key i y.kept) }
