@@ -1,0 +1,10 @@
+pub mod Turning
+pub mod Records
+pub mod Groups
+pub mod Whole
+pub mod Finds
+pub mod Took
+pub mod Settled
+pub mod Under
+pub mod Decoding
+pub mod Once
