@@ -10,3 +10,13 @@ pub mod BlockBytes
 pub mod Overlays
 pub mod Resting
 pub mod Cuts
+pub mod Turning
+pub mod Records
+pub mod Groups
+pub mod Whole
+pub mod Finds
+pub mod Took
+pub mod Settled
+pub mod Under
+pub mod Decoding
+pub mod Once

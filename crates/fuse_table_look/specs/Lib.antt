@@ -4,3 +4,5 @@ pub mod Looking
 pub mod Changing
 pub mod Acting
 pub mod Laws
+pub mod Holding
+pub mod Group

@@ -1,5 +1,5 @@
 //! The rows of a tree over the tables of a store: looks at them for `plan`, its changes made in
-//! them, and what a request does within a transaction.
+//! them, what a request does within a transaction, and a group of requests as a whole one.
 #![tactic(auto)]
 
 mod acting;
@@ -10,12 +10,19 @@ mod counting;
 mod cutting;
 mod finding;
 mod fitting;
+mod group;
 mod listing;
 mod look;
+mod lots;
+mod settling;
 mod storing;
+mod taking;
+mod transaction;
 
 pub use acting::act;
 pub use applying::{make_all, make_change};
 pub use counting::{find_counters, find_settings};
 pub use finding::find_answer;
+pub use group::{Performed, perform_in};
 pub use look::TableLook;
+pub use transaction::perform;

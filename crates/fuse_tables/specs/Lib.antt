@@ -4,6 +4,7 @@ pub mod Content
 pub mod Rows
 pub mod Moves
 pub mod Following
+pub mod Transaction
 pub mod Faults
 pub mod Making
 pub mod Clearing
