@@ -1,13 +1,12 @@
 -- A group, one request after another.
 use Rattle.std.proofs.Common.{◌≡◌, ◌<◌, ◌+◌, ℕ, List, [], ◌∷◌, ◌++◌, length, take, get_or, Option, Some, None, refl, sym, ap, subst, ◌∙◌}
-use Rattle.std.proofs.lemmas.List.{take_more}
+use Rattle.std.proofs.lemmas.List.{take_more, map-append}
 use Rattle.sqlite.specs.State.{State, HasCleanDisk}
 use Rattle.fuse_wire.specs.declared.moment.Moment.{Moment}
 use Rattle.fuse_request.specs.declared.request.Request.{Request}
 use Rattle.fuse_keeper.specs.History.{Entry}
 use Rattle.fuse_keeper.specs.Group.{entry_of, entries_of}
 use Rattle.fuse_keeper.specs.declared.keeper.Done.{Done}
-use Rattle.fuse_keeper.proofs.Histories.{map-append}
 use Rattle.fuse_tables.specs.Following.{earlier}
 use Rattle.fuse_table_look.specs.Holding.{Holding, InsideFor, KeepsFor, Turned}
 use Rattle.fuse_table_look.specs.Group.{without_record, without_settled, lot_for, taken, with_group, dones_of, prepared, performed, all_dones}

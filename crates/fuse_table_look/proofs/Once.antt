@@ -11,7 +11,7 @@ use Rattle.fuse_tree.specs.declared.rows.Counters.{Counters as CountersRow}
 use Rattle.fuse_tree.specs.State.{State, Tree}
 use Rattle.fuse_tree.specs.Bounds.{file_limit}
 use Rattle.fuse_tree.specs.Rows.{Rows, IsRowed, rowed, content_of}
-use Rattle.fuse_tree.proofs.Telling.{rows_tell}
+use Rattle.fuse_tree.specs.Plan.{RowsTellState}
 use Rattle.fuse_tables.specs.Content.{Content, node_key, cookie_of, fh_of}
 use Rattle.fuse_table_look.specs.Store.{counters_of, counted_in, agreed_in, value_of, byte_at, byte_in}
 use Rattle.fuse_table_look.proofs.Told.{Rises, order_kept, rows_rise, rows_full}
@@ -150,7 +150,7 @@ module _ (x y : Holding) (d : Database) (one : HeldFor x d) (two : HeldFor y d) 
       ∙ agreed_back (rowed y.tree).counters (rowed y.tree).settings y.next_lot)
 
   -- one database holds just one thing
-  pub one_holding : x ≡ y
-  one_holding =
+  pub one_holding : RowsTellState → x ≡ y
+  one_holding rows_tell =
       ap (λ s. record x { tree = s }) (rows_tell x.tree y.tree rows_same) ∙ ap (λ l. record x { tree = y.tree; kept = l }) kept_same
       ∙ ap (λ l. record y { lots = l; next_lot = x.next_lot }) lots_same ∙ ap (λ cs. record y { next_lot = value_of cs 10 }) all_counters

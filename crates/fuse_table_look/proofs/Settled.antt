@@ -11,7 +11,7 @@ use Rattle.fuse_table_look.specs.Holding.{Holding}
 use Rattle.fuse_store.specs.TheTree.{the_tree}
 use Rattle.fuse_table_look.specs.Group.{without_record, without_settled, with_lot_for, lot_for, performed, all_dones}
 use Rattle.fuse_table_look.proofs.Finds.{found_settled}
-use Rattle.fuse_table_look.proofs.Took.{HasPerformed, group_performed}
+use Rattle.fuse_table_look.proofs.Took.{Below, HasPerformed, group_performed}
 
 -- ---- settled ids
 
@@ -49,10 +49,10 @@ lotted_tree None y = refl
 lotted_tree (Some n) y = refl
 
 -- what a call makes stands for the history grown by the group, and each answer is the one said in it
-pub call_performed : (lot : Option ℕ) (ids : List ℕ) (es : List Entry) (y : Holding) (s : State) (h : History) (t : List ℕ) → Tree y.tree → Includes t ids
+pub call_performed : Below → (lot : Option ℕ) (ids : List ℕ) (es : List Entry) (y : Holding) (s : State) (h : History) (t : List ℕ) → Tree y.tree → Includes t ids
     → All (IsUnsettled t) es → Stands the_tree (rowed y.tree) (records_of y.kept) s h t
     → HasPerformed (performed lot ids es y) s h t es (all_dones lot ids es y)
-call_performed lot ids es y s h t tree within each so =
+call_performed g lot ids es y s h t tree within each so =
     let z = without_settled ids y in
-    group_performed (lot_for lot y) es (with_lot_for lot z) s h t (subst Tree (sym (lotted_tree lot z ∙ same_tree ids y)) tree) each
+    group_performed g (lot_for lot y) es (with_lot_for lot z) s h t (subst Tree (sym (lotted_tree lot z ∙ same_tree ids y)) tree) each
     (lotted_stand lot z s h t (settled_stand ids y s h t within so))

@@ -4,13 +4,12 @@ use Rattle.fuse_answer.specs.Said.{Said}
 use Rattle.fuse_tree.specs.State.{State, Tree}
 use Rattle.fuse_tree.specs.Rows.{rowed}
 use Rattle.fuse_tree.specs.Do.{done}
-use Rattle.fuse_tree.proofs.Agreeing.{tree_kept}
-use Rattle.fuse_tree.proofs.Telling.{rows_tell}
+use Rattle.fuse_tree.specs.Plan.{TreeKept, RowsTellState}
+use Rattle.fuse_tree.specs.Rows.{Rows}
 use Rattle.fuse_keeper.specs.History.{Entry, entry_id, History, IsUnsettled, is_in, ids_in}
-use Rattle.fuse_keeper.specs.Stands.{Stands, AreThese, PerformedBy, OthersStay}
+use Rattle.fuse_keeper.specs.Stands.{Records, Stands, AreThese, PerformedBy, OthersStay}
 use Rattle.fuse_keeper.specs.Taking.{Took, TookBy, Acts, ActedOn}
 use Rattle.fuse_keeper.specs.declared.keeper.Done.{Done}
-use Rattle.fuse_keeper.proofs.Performing.{none_yet, one_more}
 use Rattle.fuse_table_look.specs.Store.{records_of}
 use Rattle.fuse_table_look.proofs.Told.{grouped}
 use Rattle.fuse_table_look.specs.Holding.{Holding}
@@ -18,25 +17,36 @@ use Rattle.fuse_store.specs.TheTree.{the_tree}
 use Rattle.fuse_table_look.specs.Group.{said_of, taken, taken_by, with_group, dones_of, without_settled, with_lot_for, lot_for, performed}
 use Rattle.fuse_table_look.proofs.Finds.{found_put, found_settled}
 
+-- What the crates below say in public, or are to say: of trees, and of a group to which one more comes.
+pub record Below : Type 0 where
+  pub tree_kept : TreeKept
+  pub rows_tell : RowsTellState
+  pub none_yet : (rows : Rows) (records : Records) (s : State) (h : History) (t : List ℕ) → Stands the_tree rows records s h t
+      → PerformedBy the_tree (AreThese the_tree rows records) s h t [] []
+  pub one_more : (rows : Rows) (records : Records) (e : Entry) (rows' : Rows) (records' : Records) (done : Done) (s : State) (h : History) (t : List ℕ)
+      (es : List Entry) (dones : List Done)
+      → is_in t (entry_id e) ≡ false → Took the_tree rows records e rows' records' done → PerformedBy the_tree (AreThese the_tree rows records) s h t es dones
+      → PerformedBy the_tree (AreThese the_tree rows' records') s h t (es ++ e ∷ []) (dones ++ done ∷ [])
+
 -- ---- one request
 
-acts_so : (e : Entry) (y : Holding) → Tree y.tree → Acts the_tree (rowed y.tree) e (rowed (done y.tree e.asked e.moment).state) (said_of e y)
-acts_so e y tree s good is = subst (λ (z : State). ActedOn the_tree z e (rowed (done y.tree e.asked e.moment).state) (said_of e y)) (rows_tell y.tree s is)
-    (record { answer_is = refl; rows_are = refl; tree = tree_kept y.tree e.asked e.moment tree })
+acts_so : Below → (e : Entry) (y : Holding) → Tree y.tree → Acts the_tree (rowed y.tree) e (rowed (done y.tree e.asked e.moment).state) (said_of e y)
+acts_so g e y tree s good is = subst (λ (z : State). ActedOn the_tree z e (rowed (done y.tree e.asked e.moment).state) (said_of e y)) (g.rows_tell y.tree s is)
+    (record { answer_is = refl; rows_are = refl; tree = g.tree_kept y.tree e.asked e.moment tree })
 
-took_by : (r : Option Said) (lot : ℕ) (e : Entry) (y : Holding) → Tree y.tree
+took_by : Below → (r : Option Said) (lot : ℕ) (e : Entry) (y : Holding) → Tree y.tree
     → TookBy the_tree r (rowed y.tree) (records_of y.kept) e (rowed (taken_by r lot e y).holding.tree) (records_of (taken_by r lot e y).holding.kept)
     (taken_by r lot e y).done
-took_by (Some known) lot e y tree = (refl, λ i. refl, refl, refl)
-took_by None lot e y tree = (acts_so e y tree, λ i. found_put (λ k. k.said) (record { id = entry_id e; lot = lot; said = said_of e y }) y.kept i, refl)
+took_by g (Some known) lot e y tree = (refl, λ i. refl, refl, refl)
+took_by g None lot e y tree = (acts_so g e y tree, λ i. found_put (λ k. k.said) (record { id = entry_id e; lot = lot; said = said_of e y }) y.kept i, refl)
 
-pub took : (lot : ℕ) (e : Entry) (y : Holding) → Tree y.tree
+pub took : Below → (lot : ℕ) (e : Entry) (y : Holding) → Tree y.tree
     → Took the_tree (rowed y.tree) (records_of y.kept) e (rowed (taken lot e y).holding.tree) (records_of (taken lot e y).holding.kept) (taken lot e y).done
-took lot e y tree = took_by (records_of y.kept (entry_id e)) lot e y tree
+took g lot e y tree = took_by g (records_of y.kept (entry_id e)) lot e y tree
 
-tree_by : (r : Option Said) (lot : ℕ) (e : Entry) (y : Holding) → Tree y.tree → Tree (taken_by r lot e y).holding.tree
-tree_by (Some known) lot e y tree = tree
-tree_by None lot e y tree = tree_kept y.tree e.asked e.moment tree
+tree_by : Below → (r : Option Said) (lot : ℕ) (e : Entry) (y : Holding) → Tree y.tree → Tree (taken_by r lot e y).holding.tree
+tree_by g (Some known) lot e y tree = tree
+tree_by g None lot e y tree = g.tree_kept y.tree e.asked e.moment tree
 
 -- ---- a group
 
@@ -48,25 +58,25 @@ no_more (x ∷ xs) = ap (λ more. x ∷ more) (no_more xs)
 abbrev pub HasPerformed : Holding → State → History → List ℕ → List Entry → List Done → Type 0
 HasPerformed y s h t es dones = PerformedBy the_tree (AreThese the_tree (rowed y.tree) (records_of y.kept)) s h t es dones
 
-group_took : (lot : ℕ) (es : List Entry) (y : Holding) (s : State) (h : History) (t : List ℕ) (so_far : List Entry) (dones : List Done) → Tree y.tree
+group_took : Below → (lot : ℕ) (es : List Entry) (y : Holding) (s : State) (h : History) (t : List ℕ) (so_far : List Entry) (dones : List Done) → Tree y.tree
     → All (IsUnsettled t) es → HasPerformed y s h t so_far dones → HasPerformed (with_group lot es y) s h t (so_far ++ es) (dones ++ dones_of lot es y)
-group_took lot [] y s h t so_far dones tree each does =
+group_took g lot [] y s h t so_far dones tree each does =
     subst (λ l. HasPerformed y s h t l (dones ++ [])) (no_more so_far) (subst (λ l. HasPerformed y s h t so_far l) (no_more dones) does)
-group_took lot (e ∷ es) y s h t so_far dones tree each does =
+group_took g lot (e ∷ es) y s h t so_far dones tree each does =
     let z = (taken lot e y).holding in
     let d = (taken lot e y).done in
     let more : HasPerformed z s h t (so_far ++ e ∷ []) (dones ++ d ∷ []) =
-    one_more the_tree (rowed y.tree) (records_of y.kept) e (rowed z.tree) (records_of z.kept) d s h t so_far dones (each zero e (omega arith))
-    (took lot e y tree) does in
-    let all = group_took lot es z s h t (so_far ++ e ∷ []) (dones ++ d ∷ []) (tree_by (records_of y.kept (entry_id e)) lot e y tree)
+    g.one_more (rowed y.tree) (records_of y.kept) e (rowed z.tree) (records_of z.kept) d s h t so_far dones (each zero e (omega arith))
+    (took g lot e y tree) does in
+    let all = group_took g lot es z s h t (so_far ++ e ∷ []) (dones ++ d ∷ []) (tree_by g (records_of y.kept (entry_id e)) lot e y tree)
     (λ k x below. each (suc k) x (omega (arith, below))) more in
     subst (λ l. HasPerformed (with_group lot es z) s h t l (dones ++ d ∷ dones_of lot es z)) (grouped so_far (e ∷ []) es)
     (subst (λ l. HasPerformed (with_group lot es z) s h t ((so_far ++ e ∷ []) ++ es) l) (grouped dones (d ∷ []) (dones_of lot es z)) all)
 
-pub group_performed : (lot : ℕ) (es : List Entry) (y : Holding) (s : State) (h : History) (t : List ℕ) → Tree y.tree → All (IsUnsettled t) es
+pub group_performed : Below → (lot : ℕ) (es : List Entry) (y : Holding) (s : State) (h : History) (t : List ℕ) → Tree y.tree → All (IsUnsettled t) es
     → Stands the_tree (rowed y.tree) (records_of y.kept) s h t → HasPerformed (with_group lot es y) s h t es (dones_of lot es y)
-group_performed lot es y s h t tree each so =
-    group_took lot es y s h t [] [] tree each (none_yet the_tree (rowed y.tree) (records_of y.kept) s h t so)
+group_performed g lot es y s h t tree each so =
+    group_took g lot es y s h t [] [] tree each (g.none_yet (rowed y.tree) (records_of y.kept) s h t so)
 
 -- ---- the records of other ids
 

@@ -2,7 +2,11 @@
 use sqlite::{Connection, Error, MemStore, Row};
 
 /// Whether the statement shows these numbers, and nothing else.
-pub fn shows(conn: &mut Connection<MemStore>, text: &str, numbers: &[i64]) -> Result<bool, Error> {
+pub(crate) fn shows(
+    conn: &mut Connection<MemStore>,
+    text: &str,
+    numbers: &[i64],
+) -> Result<bool, Error> {
     let rows = conn.query_all(text, &[])?;
     are(rows.as_slice(), numbers)
 }
@@ -21,6 +25,6 @@ fn are(rows: &[Row], numbers: &[i64]) -> Result<bool, Error> {
 }
 
 /// Runs the statements of a text.
-pub fn run(conn: &mut Connection<MemStore>, text: &str) -> Result<(), Error> {
+pub(crate) fn run(conn: &mut Connection<MemStore>, text: &str) -> Result<(), Error> {
     conn.execute_batch(text)
 }

@@ -162,7 +162,7 @@ fn entries_of(alloc: Global, cookie: u64, count: usize) -> Result<Vec<EntryRow>,
 }
 
 // What is planned where these are the counters, and how often it was looked for that.
-pub fn planned_where(
+pub(crate) fn planned_where(
     alloc: Global,
     counters: Counters,
     nodeid: u64,

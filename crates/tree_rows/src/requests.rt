@@ -5,12 +5,12 @@ use fuse_wire::Moment;
 use std::alloc::Global;
 use std::test::Fail;
 
-pub fn at(secs: u64) -> Moment {
+pub(crate) fn at(secs: u64) -> Moment {
     Moment { secs, nanos: 0 }
 }
 
 // A request with the ids of the worked rows.
-pub fn request_of(nodeid: u64, op: Op<'_>) -> Request<'_> {
+pub(crate) fn request_of(nodeid: u64, op: Op<'_>) -> Request<'_> {
     let header = InHeader {
         unique: 6,
         nodeid,
@@ -26,7 +26,7 @@ pub fn request_of(nodeid: u64, op: Op<'_>) -> Request<'_> {
 }
 
 // What is planned, where the rows aren't said to be those of no tree.
-pub fn asked_at(
+pub(crate) fn asked_at(
     look: &mut PlainRows,
     alloc: Global,
     now: Moment,
@@ -44,7 +44,7 @@ pub fn asked_at(
 }
 
 // A row of a node without a name.
-pub fn nameless(node: u64, mode: u32, subdirs: u32) -> NodeRow {
+pub(crate) fn nameless(node: u64, mode: u32, subdirs: u32) -> NodeRow {
     NodeRow {
         node,
         mode,

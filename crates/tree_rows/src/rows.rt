@@ -23,7 +23,7 @@ use std::alloc::Global;
 use std::test::Fail;
 
 // How many rows come before the first that isn't so.
-pub fn failed_row(alloc: Global, setup: &[u8], rows: &[u8]) -> Result<Option<usize>, Fail> {
+pub(crate) fn failed_row(alloc: Global, setup: &[u8], rows: &[u8]) -> Result<Option<usize>, Fail> {
     let mut look = PlainRows::new(alloc, at(0))?;
     let mut lines = Words::of(rows, b'\n');
     for count in 0..rows.len() {
@@ -172,7 +172,7 @@ fn has_entry(look: &mut PlainRows, mut words: Words<'_>) -> Result<bool, Fail> {
     Ok(are_next(&found, words))
 }
 
-pub fn counters_of(words: &mut Words<'_>) -> Counters {
+pub(crate) fn counters_of(words: &mut Words<'_>) -> Counters {
     Counters {
         next_node: words.number(),
         next_fh: words.number(),

@@ -18,7 +18,7 @@ fn cut(text: &[u8], gap: u8) -> (&[u8], &[u8]) {
 }
 
 // A number that begins with 0 is octal.
-pub fn number(word: &[u8]) -> u64 {
+pub(crate) fn number(word: &[u8]) -> u64 {
     let base = if word.starts_with(b"0") { 8 } else { 10 };
     let mut n = 0u64;
     for digit in word {
@@ -96,23 +96,23 @@ fn kind_of(word: &[u8]) -> Option<Kind> {
 }
 
 impl<'a> Words<'a> {
-    pub fn of(text: &'a [u8], gap: u8) -> Words<'a> {
+    pub(crate) fn of(text: &'a [u8], gap: u8) -> Words<'a> {
         Words { rest: text, gap }
     }
 
-    pub fn is_empty(&self) -> bool {
+    pub(crate) fn is_empty(&self) -> bool {
         self.rest.is_empty()
     }
 
     // The next word, empty where there is none.
-    pub fn next(&mut self) -> &'a [u8] {
+    pub(crate) fn next(&mut self) -> &'a [u8] {
         let (word, rest) = cut(self.rest, self.gap);
         self.rest = rest;
         word
     }
 
     // Whether this is the next word, which is gone then.
-    pub fn skips(&mut self, wanted: &[u8]) -> bool {
+    pub(crate) fn skips(&mut self, wanted: &[u8]) -> bool {
         let (word, rest) = cut(self.rest, self.gap);
         let is_next = word == wanted;
         if is_next {
@@ -121,20 +121,20 @@ impl<'a> Words<'a> {
         is_next
     }
 
-    pub fn number(&mut self) -> u64 {
+    pub(crate) fn number(&mut self) -> u64 {
         number(self.next())
     }
 
-    pub fn small(&mut self) -> u32 {
+    pub(crate) fn small(&mut self) -> u32 {
         (self.number() % 0x1_0000_0000) as u32
     }
 
-    pub fn name(&mut self) -> &'a [u8] {
+    pub(crate) fn name(&mut self) -> &'a [u8] {
         name_of(self.next())
     }
 
     // What is asked. It ends with the word `=`.
-    pub fn op(&mut self) -> Result<Op<'a>, Fail> {
+    pub(crate) fn op(&mut self) -> Result<Op<'a>, Fail> {
         let op = match kind_of(self.next()) {
             Some(kind) => self.op_of(kind),
             None => None,
