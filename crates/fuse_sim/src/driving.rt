@@ -1,5 +1,5 @@
 // Running events to their end.
-ghost use Rattle.std.specs.Prelude.{◌≡◌, ◌≤◌, ◌<◌, ◌+◌, ◌++◌, ℕ, List, [], false, true};
+ghost use Rattle.std.specs.Prelude.{◌⊎◌, ◌≡◌, ◌≤◌, ◌<◌, ◌+◌, ◌++◌, ℕ, List, [], false, true};
 ghost use Rattle.std.specs.Prelude.{if◌then◌else◌, length, map, take, drop, All, vec_capacity};
 ghost use Rattle.std.specs.Prelude.{None, IsSome, IsSomeAnd, IfSome, is_err};
 ghost use Rattle.std.specs.Prelude.{IfOk, IfErr, OnOk, OnErr, MatchResult};
@@ -314,6 +314,8 @@ pub fn drive_twice<K: Restart>(
         (events.now ++ more.now)) }
     ensures opened { OnOk result
         (Opened K.told K.became keeper.old keeper.new (events.now ++ more.now)) }
+    ensures fault_causes { IfErr result
+        (λ fault. Names fault events.now ⊎ Names fault more.now) }
 {
     histories_grow::<K>();
     let first = drive(alloc, keeper, events)?;
