@@ -1,10 +1,10 @@
 -- How one request after another is taken.
-use Rattle.std.specs.Prelude.{◌≡◌, ℕ, true, false, ◌==◌, if◌then◌else◌, Option, Some, None}
+use Rattle.std.specs.Prelude.{◌≡◌, ℕ, true, false, ◌==◌, if◌then◌else◌, List, [], ◌∷◌, ◌++◌, Option, Some, None}
 use Rattle.fuse_answer.specs.Said.{Said}
 use Rattle.fuse_keeper.specs.Model.{Model}
 use Rattle.fuse_keeper.specs.declared.keeper.Done.{Done}
-use Rattle.fuse_keeper.specs.History.{Entry, entry_id, next_state, answer_to}
-use Rattle.fuse_keeper.specs.Stands.{Records}
+use Rattle.fuse_keeper.specs.History.{Entry, entry_id, History, is_in, next_state, answer_to}
+use Rattle.fuse_keeper.specs.Stands.{Records, Stands, AreThese, PerformedBy}
 
 -- an entry acted: on the rows of a tree the answer and the new rows are those of the tree
 pub record ActedOn (M : Model) (s : M.State) (e : Entry) (rows' : M.Rows) (answer : Said) : Type 0 where
@@ -31,3 +31,13 @@ TookBy M None rows records e rows' records' done =
 
 abbrev pub Took : (M : Model) → M.Rows → Records → Entry → M.Rows → Records → Done → Type 0
 Took M rows records e rows' records' done = TookBy M (records (entry_id e)) rows records e rows' records' done
+
+-- a group of no entries was performed on what stands for a history; and where one was performed, and one more entry was
+-- taken, a group of one more was
+pub record GroupsGrow (M : Model) : Type 0 where
+  pub none_yet : (rows : M.Rows) (records : Records) (s : M.State) (h : History) (t : List ℕ) → Stands M rows records s h t
+      → PerformedBy M (AreThese M rows records) s h t [] []
+  pub one_more : (rows : M.Rows) (records : Records) (e : Entry) (rows' : M.Rows) (records' : Records) (done : Done) (s : M.State) (h : History)
+      (t : List ℕ) (es : List Entry) (dones : List Done)
+      → is_in t (entry_id e) ≡ false → Took M rows records e rows' records' done → PerformedBy M (AreThese M rows records) s h t es dones
+      → PerformedBy M (AreThese M rows' records') s h t (es ++ e ∷ []) (dones ++ done ∷ [])

@@ -1,7 +1,9 @@
 ghost use Rattle.std.specs.Prelude.{◌≡◌};
 ghost use Rattle.fuse_keeper.specs.Bounds as bounds;
 ghost use Rattle.fuse_keeper.specs.History.{HistoriesGrow, SaidFits};
+ghost use Rattle.fuse_keeper.specs.Taking.{GroupsGrow};
 
+use crate::file_system::FileSystem;
 use crate::keeper::{Keeper, MAX_GROUP, MAX_SETTLED};
 
 /// What was said of an id fits.
@@ -14,6 +16,11 @@ pub fn said_fits<K: Keeper>()
 /// What is added to a history is there, and what was said of it stays.
 pub fn histories_grow<K: Keeper>()
     ensures { HistoriesGrow K.model }
+{}
+
+/// A group of one more entry was performed where that entry was taken after the others.
+pub fn groups_grow<F: FileSystem>()
+    ensures { GroupsGrow F.model }
 {}
 
 /// How many requests a group has at most, and how many settled ids a call is given.

@@ -14,7 +14,7 @@ mod restart;
 pub use fault::StoreFault;
 pub use file_system::FileSystem;
 pub use keeper::{Done, Keeper, MAX_GROUP, MAX_SETTLED, StoreCounts};
-pub use laws::{group_bounds, histories_grow, said_fits};
+pub use laws::{group_bounds, groups_grow, histories_grow, said_fits};
 pub use pending::perform_group;
 pub use plain::PlainKeeper;
 pub use restart::Restart;

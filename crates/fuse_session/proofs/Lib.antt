@@ -12,5 +12,6 @@ pub mod Handing
 pub mod Groups
 pub mod Turns
 pub mod Waiting
+pub mod Growing
 pub mod Sessions
 pub mod Prompting

@@ -1,8 +1,8 @@
--- Turns, one after another.
+-- Turns that end, and whole sessions.
 use Rattle.std.proofs.Common.{◌≡◌, ◌↔◌, inl, inr, ◌<◌, ◌+◌, ℕ, ◌||◌, Bool, true, false, List, [], ◌++◌, length, Option, None, refl, sym, ap, subst, ◌∙◌}
-use Rattle.std.proofs.Common.{append_assoc, arith, length-append}
+use Rattle.std.proofs.Common.{arith}
 use Rattle.std.proofs.lemmas.List.{append-nil}
-use Rattle.std.specs.Io.KnownBytes.{Appends, Consumes}
+use Rattle.std.specs.Io.KnownBytes.{Consumes}
 use Rattle.fuse_wire.specs.declared.moment.Moment.{Moment}
 use Rattle.fuse_request.specs.declared.framer.FrameFault.{FrameFault}
 use Rattle.fuse_request.specs.Stream.{cut, joined, CutJoins}
@@ -15,7 +15,7 @@ use Rattle.fuse_session.specs.declared.counts.SessionCounts.{SessionCounts}
 use Rattle.fuse_session.specs.declared.ended.Ended.{Ended}
 use Rattle.fuse_session.specs.declared.ended.Ended.TheVariants.{End, Destroyed, Turns, Frame, ZeroUnique, PortFailed, Store, Memory}
 use Rattle.fuse_session.specs.declared.group.Rest.{Rest}
-use Rattle.fuse_session.specs.declared.group.Rest.TheVariants.{GoesOn as GoesOnHere, Destroyed as ByDestroy, ZeroUnique as ByZero}
+use Rattle.fuse_session.specs.declared.group.Rest.TheVariants.{Destroyed as ByDestroy, ZeroUnique as ByZero}
 use Rattle.fuse_session.specs.declared.group.Stop.{Stop}
 use Rattle.fuse_session.specs.declared.group.Stop.TheVariants.{PortFailed as ByPort, Store as ByStore, Memory as ByMemory}
 use Rattle.fuse_session.specs.Port.{PortState, IsQuiet}
@@ -24,216 +24,17 @@ use Rattle.fuse_session.specs.Settling.{Mark, settled_in, Replied, FewRecorded}
 use Rattle.fuse_session.specs.Counting.{plus, none_counted}
 use Rattle.fuse_session.specs.Moves.{FailedBy}
 use Rattle.fuse_session.specs.Receiving.{IsOpen, IsHearing, Heard, NotHeard}
-use Rattle.fuse_session.specs.Serving.{Turned, Lived, Broken, WorkedOff, Whole, Stopped, Run, FewSettled, MayStop, lasts, goes_on}
+use Rattle.fuse_session.specs.Serving.{Turned, Lived, WorkedOff, Whole, Run, FewSettled, MayStop, lasts}
 use Rattle.fuse_session.specs.Ends.{Rested, Halted, EndsAs, IsGoodRest, FaultOf, ended_store, ended_memory, ended_port, SentExactly, ExactAt, MayEnd}
 use Rattle.fuse_session.specs.Finishing.{FinishedBy, IsFault, ended_at}
-use Rattle.fuse_session.proofs.Bytes.{appends_none, consumes_none, consumes_more}
-use Rattle.fuse_session.proofs.Replies.{joined-append, replied_none}
-use Rattle.fuse_session.proofs.Counted.{none_plus}
+use Rattle.fuse_session.proofs.Bytes.{consumes_none}
+use Rattle.fuse_session.proofs.Replies.{replied_none}
 use Rattle.fuse_session.proofs.Settled.{again_fewer}
 use Rattle.fuse_session.proofs.Standing.{rowed_by}
-use Rattle.fuse_session.proofs.Gathering.{gave_later}
 use Rattle.fuse_session.proofs.Handing.{few_start}
 use Rattle.fuse_session.proofs.Groups.{broken_none, firm_leaves}
-use Rattle.fuse_session.proofs.Turns.{turned_none, turned_quiet, turned_more, turned_broken, turned_life}
-
-pub hearing_replied : (a b : PortState) → IsHearing a b → Replied a b [] []
-hearing_replied a b h = record {
-  sent = subst (λ o. Appends a.sent o []) (sym h.sent) (appends_none a.sent);
-  some = tt;
-  places = [];
-  gone = h.gone ∙ sym (append-nil a.gone);
-  placed = refl;
-  confirms = h.confirms;
-}
-
--- what is held, and more bytes behind it
-cut_more : CutJoins → (held mid r1 r2 : List ℕ) → mid ≡ (cut (held ++ r1)).1
-    → cut (held ++ (r1 ++ r2)) ≡ ((cut (held ++ r1)).0 ++ (cut (mid ++ r2)).0, (cut (mid ++ r2)).1)
-cut_more joins held mid r1 r2 is =
-    ap cut (sym (append_assoc held r1 r2)) ∙ joins (held ++ r1) r2 ∙ ap (λ (w : List ℕ). ((cut (held ++ r1)).0 ++ (cut (w ++ r2)).0, (cut (w ++ r2)).1))
-    (sym is)
-
-front_more : CutJoins → (held mid r1 r2 : List ℕ) → mid ≡ (cut (held ++ r1)).1 → (cut (held ++ r1)).0 ++ (cut (mid ++ r2)).0 ≡ (cut (held ++ (r1 ++ r2))).0
-front_more joins held mid r1 r2 is = sym (ap (λ (x : List (List ℕ) × List ℕ). x.0) (cut_more joins held mid r1 r2 is))
-
-rest_more : CutJoins → (held mid r1 r2 : List ℕ) → mid ≡ (cut (held ++ r1)).1 → (cut (mid ++ r2)).1 ≡ (cut (held ++ (r1 ++ r2))).1
-rest_more joins held mid r1 r2 is = sym (ap (λ (x : List (List ℕ) × List ℕ). x.1) (cut_more joins held mid r1 r2 is))
-
-place_more : CutJoins → (held mid r1 r2 : List ℕ) (begin at place : ℕ) → mid ≡ (cut (held ++ r1)).1 → at ≡ begin + length (joined (cut (held ++ r1)).0)
-    → place ≡ at + length (joined (cut (mid ++ r2)).0)
-    → place ≡ begin + length (joined (cut (held ++ (r1 ++ r2))).0)
-place_more joins held mid r1 r2 begin at place is one two =
-    let a = (cut (held ++ r1)).0 in
-    let b = (cut (mid ++ r2)).0 in
-    omega (
-      arith,
-      one,
-      two,
-      ap (λ x. length (joined x)) (front_more joins held mid r1 r2 is),
-      ap length (joined-append a b),
-      length-append (joined a)
-          (joined b),
-    )
-
--- ---- a turn more
-
-pub whole_more : (M : Model) → HistoriesGrow M → CutJoins → (holds mid new : KeeperState M) (gave gave' gave'' : List Moment → Type 0) (p q r : PortState)
-    (ids ids' ids'' : List ℕ) (held left rest : List ℕ) (begin at place : ℕ) (counts counts' : SessionCounts)
-    → Whole holds mid gave p q ids ids' held left begin at counts → Whole mid new gave' q r ids' ids'' left rest at place counts'
-    → (new.is_honest → mid.is_honest) → ((xs ys : List Moment) → gave xs → gave' ys → gave'' (xs ++ ys))
-    → Whole holds new gave'' p r ids ids'' held rest begin place (plus counts counts')
-whole_more M grows joins holds mid new gave gave' gave'' p q r ids ids' ids'' held left rest begin at place counts counts' one two honest_too moments = record {
-  received = one.received ++ two.received;
-  came = consumes_more p.coming q.coming r.coming one.received two.received one.came two.came;
-  rest_is = two.rest_is ∙ rest_more joins held left one.received two.received one.rest_is;
-  at = place_more joins held left one.received two.received begin at place one.rest_is one.at two.at;
-  turned = subst (λ f. Turned holds new gave'' p r ids ids'' f true (plus counts counts')) (front_more joins held left one.received two.received one.rest_is)
-      (turned_more M grows holds mid new gave gave' gave'' p q r ids ids' ids'' (cut (held ++ one.received)).0 (cut (left ++ two.received)).0 true counts
-      counts' one.turned two.turned honest_too moments);
-}
-
-pub stopped_more : (M : Model) → HistoriesGrow M → CutJoins → (holds mid new : KeeperState M) (gave gave' gave'' : List Moment → Type 0) (p q r : PortState)
-    (ids ids' ids'' : List ℕ) (held left : List ℕ) (rest : Rest) (begin at place : ℕ) (counts counts' : SessionCounts)
-    → Whole holds mid gave p q ids ids' held left begin at counts → Stopped mid new gave' q r ids' ids'' left rest at place counts'
-    → (new.is_honest → mid.is_honest) → ((xs ys : List Moment) → gave xs → gave' ys → gave'' (xs ++ ys))
-    → Stopped holds new gave'' p r ids ids'' held rest begin place (plus counts counts')
-stopped_more M grows joins holds mid new gave gave' gave'' p q r ids ids' ids'' held left rest begin at place counts counts' one two honest_too moments =
-    let a = (cut (held ++ one.received)).0 in
-    let w = two.worked in
-    record {
-      received = one.received ++ two.received;
-      came = consumes_more p.coming q.coming r.coming one.received two.received one.came two.came;
-      worked = record {
-        front = a ++ w.front;
-        others = w.others;
-        parts = sym (front_more joins held left one.received two.received one.rest_is) ∙ ap (λ x. a ++ x) w.parts ∙ sym (append_assoc a w.front w.others);
-        all = w.all;
-        zero = w.zero;
-        at = omega (arith, one.at, w.at, ap length (joined-append a w.front), length-append (joined a) (joined w.front));
-        turned = turned_more M grows holds mid new gave gave' gave'' p q r ids ids' ids'' a w.front (lasts rest) counts counts' one.turned w.turned honest_too
-            moments;
-      };
-    }
-
-pub life_more : (M : Model) → HistoriesGrow M → CutJoins → (holds mid new : KeeperState M) (gave gave' gave'' : List Moment → Type 0) (p q r : PortState)
-    (ids ids' : List ℕ)
-    (held rest : List ℕ) (begin at : ℕ) (counts : SessionCounts) (exact want : Bool) (faulted faulted' : Type 0)
-    → Whole holds mid gave p q ids ids' held rest begin at counts → Run mid new gave' q r ids' rest exact want faulted' → (faulted' → faulted)
-    → (new.is_clean → new.is_honest) → (new.is_honest → mid.is_honest) → (mid.is_honest → IsFirm holds → IsFirm mid)
-    → ((xs ys : List Moment) → gave xs → gave' ys → gave'' (xs ++ ys))
-    → Run holds new gave'' p r ids held exact want faulted
-life_more M grows joins holds mid new gave gave' gave'' p q r ids ids' held rest begin at counts exact want faulted faulted' one two faulted_too clean_honest
-    honest_too firm_too moments = record {
-      received = one.received ++ two.received;
-      came = consumes_more p.coming q.coming r.coming one.received two.received one.came two.came;
-      broken = subst (λ f. Broken holds new gave'' p r ids f exact want faulted) (front_more joins held rest one.received two.received one.rest_is)
-          (turned_broken M grows holds mid new gave gave' gave'' p q r ids ids' (cut (held ++ one.received)).0 (cut (rest ++ two.received)).0 counts exact want
-          faulted faulted' one.turned two.broken faulted_too clean_honest honest_too firm_too moments);
-    }
-
--- all was worked off: a life too
-pub whole_life : (M : Model) → (holds new : KeeperState M) (gave : List Moment → Type 0) (p q : PortState) (ids ids' : List ℕ) (held rest : List ℕ)
-    (begin at : ℕ) (counts : SessionCounts) (exact want : Bool) (faulted : Type 0) → exact ≡ false
-    → Whole holds new gave p q ids ids' held rest begin at counts → (new.is_clean → new.is_honest) → (new.is_honest → IsFirm holds → IsFirm new)
-    → Run holds new gave p q ids held exact want faulted
-whole_life M holds new gave p q ids ids' held rest begin at counts exact want faulted inexact w clean_honest firm_still = record {
-  received = w.received;
-  came = w.came;
-  broken = turned_life M holds new gave p q ids ids' (cut (held ++ w.received)).0 [] (cut (held ++ w.received)).0 true counts exact want faulted inexact
-      w.turned (sym (append-nil (cut (held ++ w.received)).0)) clean_honest firm_still;
-}
-
-cut_none : cut [] ≡ ([], [])
-unfolding cut
-cut_none = refl
-
--- nothing came yet
-pub whole_none : (M : Model) → (holds : KeeperState M) (gave : List Moment → Type 0) (p : PortState) (ids : List ℕ) → gave []
-    → Whole holds holds gave p p ids ids [] [] 0 0 none_counted
-whole_none M holds gave p ids none = record {
-  received = [];
-  came = consumes_none p.coming;
-  rest_is = sym (ap (λ (x : List (List ℕ) × List ℕ). x.1) cut_none);
-  at = omega (arith, ap (λ (x : List (List ℕ) × List ℕ). length (joined x.0)) cut_none);
-  turned = subst (λ f. Turned holds holds gave p p ids ids f true none_counted) (sym (ap (λ (x : List (List ℕ) × List ℕ). x.0) cut_none))
-      (turned_none M holds gave p ids none);
-}
-
--- ---- what came in a turn
-
-heard_turned : (M : Model) → HistoriesGrow M → (holds new : KeeperState M) → (new.is_honest → holds.is_honest)
-    → (gave : List Moment → Type 0) (p q r : PortState) (ids ids' : List ℕ) (front : List (List ℕ)) (going : Bool) (counts : SessionCounts) → IsHearing p q
-    → Turned holds new gave q r ids ids' front going counts → Turned holds new gave p r ids ids' front going counts
-heard_turned M grows holds new honest gave p q r ids ids' front going counts hearing t =
-    subst (λ c. Turned holds new gave p r ids ids' front going c) (none_plus counts)
-    (turned_more M grows holds holds new (λ ts. ts ≡ []) gave gave p q r ids ids ids' [] front going none_counted counts
-    (turned_quiet M holds (λ ts. ts ≡ []) p q ids refl (hearing_replied p q hearing)) t honest (gave_later gave))
-
-heard_came : (p q r : PortState) (before after : Held) (messages : List (List ℕ)) (fault : Option FrameFault) → (h : Heard p q before after messages fault)
-    → IsQuiet q r → Consumes p.coming r.coming h.received
-heard_came p q r before after messages fault h quiet = subst (λ o. Consumes p.coming o h.received) (sym quiet.coming) h.came
-
-pub whole_heard : (M : Model) → HistoriesGrow M → (holds new : KeeperState M) → (new.is_honest → holds.is_honest)
-    → (gave : List Moment → Type 0) (p q r : PortState) (ids ids' : List ℕ) (before after : Held) (messages slice : List (List ℕ)) (fault : Option FrameFault)
-    (begin place : ℕ) (rest : Rest) (counts : SessionCounts)
-    → Heard p q before after messages fault → IsHearing p q → slice ≡ messages → rest ≡ GoesOnHere
-    → WorkedOff holds new gave q r ids ids' slice rest begin place counts → IsQuiet q r
-    → Whole holds new gave p r ids ids' before.bytes after.bytes before.at after.at counts
-whole_heard M grows holds new honest gave p q r ids ids' before after messages slice fault begin place rest counts h hearing same goes w quiet =
-    let msgs : (cut (before.bytes ++ h.received)).0 ≡ messages = ap (λ (x : List (List ℕ) × List ℕ). x.0) h.took.cut_is in
-    let front : w.front ≡ messages = sym (sym same ∙ w.parts ∙ ap (λ x. w.front ++ x) (w.all (ap goes_on goes)) ∙ append-nil w.front) in
-    record {
-      received = h.received;
-      came = heard_came p q r before after messages fault h quiet;
-      rest_is = sym (ap (λ (x : List (List ℕ) × List ℕ). x.1) h.took.cut_is);
-      at = h.took.at ∙ ap (λ x. before.at + length (joined x)) (sym msgs);
-      turned = subst (λ f. Turned holds new gave p r ids ids' f true counts) (front ∙ sym msgs)
-          (subst (λ b. Turned holds new gave p r ids ids' w.front b counts) (ap lasts goes)
-          (heard_turned M grows holds new honest gave p q r ids ids' w.front (lasts rest) counts hearing w.turned));
-    }
-
-pub stopped_heard : (M : Model) → HistoriesGrow M → (holds new : KeeperState M) → (new.is_honest → holds.is_honest)
-    → (gave : List Moment → Type 0) (p q r : PortState) (ids ids' : List ℕ) (before after : Held) (messages slice : List (List ℕ)) (fault : Option FrameFault)
-    (begin place : ℕ) (rest kind : Rest) (counts : SessionCounts)
-    → Heard p q before after messages fault → IsHearing p q → slice ≡ messages → rest ≡ kind → begin ≡ before.at
-    → WorkedOff holds new gave q r ids ids' slice rest begin place counts → IsQuiet q r
-    → Stopped holds new gave p r ids ids' before.bytes kind before.at place counts
-stopped_heard M grows holds new honest gave p q r ids ids' before after messages slice fault begin place rest kind counts h hearing same kind_is begin_is w
-    quiet =
-    subst (λ k. Stopped holds new gave p r ids ids' before.bytes k before.at place counts) kind_is
-    (record {
-      received = h.received;
-      came = heard_came p q r before after messages fault h quiet;
-      worked = record {
-        front = w.front;
-        others = w.others;
-        parts = ap (λ (x : List (List ℕ) × List ℕ). x.0) h.took.cut_is ∙ sym same ∙ w.parts;
-        all = w.all;
-        zero = w.zero;
-        at = w.at ∙ ap (λ n. n + length (joined w.front)) begin_is;
-        turned = heard_turned M grows holds new honest gave p q r ids ids' w.front (lasts rest) counts hearing w.turned;
-      };
-    })
-
-pub life_heard : (M : Model) → HistoriesGrow M → (holds new : KeeperState M) → (new.is_honest → holds.is_honest)
-    → (gave : List Moment → Type 0) (p q r : PortState) (ids : List ℕ) (before after : Held) (messages slice : List (List ℕ)) (fault : Option FrameFault)
-    (exact want exact' want' : Bool) (faulted faulted' : Type 0)
-    → Heard p q before after messages fault → IsHearing p q → slice ≡ messages → exact' ≡ exact → want' ≡ want
-    → Broken holds new gave q r ids slice exact want faulted' → (faulted' → faulted) → IsQuiet q r → (new.is_clean → new.is_honest)
-    → Run holds new gave p r ids before.bytes exact' want' faulted
-life_heard M grows holds new honest gave p q r ids before after messages slice fault exact want exact' want' faulted faulted' h hearing same e w b faulted_too
-    quiet clean_honest =
-    let msgs : slice ≡ (cut (before.bytes ++ h.received)).0 = same ∙ sym (ap (λ (x : List (List ℕ) × List ℕ). x.0) h.took.cut_is) in
-    let broken = turned_broken M grows holds holds new (λ ts. ts ≡ []) gave gave p q r ids ids [] slice none_counted exact want faulted faulted'
-    (turned_quiet M holds (λ ts. ts ≡ []) p q ids refl (hearing_replied p q hearing)) b faulted_too clean_honest honest (λ _ f. f) (gave_later gave) in
-    record {
-      received = h.received;
-      came = heard_came p q r before after messages fault h quiet;
-      broken = subst (λ x. Broken holds new gave p r ids (cut (before.bytes ++ h.received)).0 exact' x faulted) (sym w)
-          (subst (λ x. Broken holds new gave p r ids (cut (before.bytes ++ h.received)).0 x want faulted) (sym e)
-          (subst (λ m. Broken holds new gave p r ids m exact want faulted) msgs broken));
-    }
+use Rattle.fuse_session.proofs.Turns.{turned_quiet, turned_life}
+use Rattle.fuse_session.proofs.Growing.{hearing_replied, whole_more, stopped_more, whole_none, whole_heard, stopped_heard, life_heard}
 
 -- ---- nothing was heard
 

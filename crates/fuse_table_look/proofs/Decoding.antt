@@ -1,10 +1,8 @@
 -- A row of a table is that of one typed row alone: it can be read back.
-use Rattle.std.proofs.Common.{◌≡◌, ◌<◌, ◌^◌, ℕ, ℤ, pos, zero, suc, List, [], ◌∷◌, map, refl, sym, ap, ◌∙◌}
+use Rattle.std.proofs.Common.{◌≡◌, ◌<◌, ◌^◌, ℕ, zero, suc, List, [], ◌∷◌, map, refl, sym, ap, ◌∙◌}
 use Rattle.std.specs.List.{AllByRecursion}
 use Rattle.std.specs.Int.{w64, cast_signed, cast_unsigned}
 use Rattle.std.proofs.lemmas.Int.{of_z-to_z}
-use Rattle.sqlite.specs.declared.types.Value.{Value}
-use Rattle.sqlite.specs.declared.types.Value.TheVariants.{Int, Blob}
 use Rattle.sqlite.specs.Order.{Row, column}
 use Rattle.fuse_wire.specs.declared.access_mode.AccessMode.{AccessMode}
 use Rattle.fuse_wire.specs.declared.access_mode.AccessMode.TheVariants.{ReadOnly, WriteOnly, ReadWrite}
@@ -14,29 +12,12 @@ use Rattle.fuse_tree.specs.declared.rows.HandleRow.{HandleRow}
 use Rattle.fuse_tables.specs.Blocks.{Block, block_row}
 use Rattle.fuse_tables.specs.Content.{Counter, Kept, counter_row, node_row, entry_row, handle_row, lot_row, kept_row, access_code}
 use Rattle.fuse_table_look.specs.Fits.{KeepsNode}
+use Rattle.fuse_table_look.specs.Lots.{int_in, number, bytes, lot_in, kept_in}
 
 -- ---- columns
 
-abbrev number_in : ℤ → ℕ
-number_in (pos n) = n
-number_in _ = 0
-
-abbrev int_in : Value → ℤ
-int_in (Int z) = z
-int_in _ = pos 0
-
-abbrev bytes_in : Value → List ℕ
-bytes_in (Blob b) = b
-bytes_in _ = []
-
-abbrev number : Row → ℕ → ℕ
-number r at = number_in (int_in (column r at))
-
 abbrev bits : Row → ℕ → ℕ
 bits r at = cast_unsigned w64 (int_in (column r at))
-
-abbrev bytes : Row → ℕ → List ℕ
-bytes r at = bytes_in (column r at)
 
 abbrev mode_of : ℕ → AccessMode
 mode_of zero = ReadOnly
@@ -72,9 +53,6 @@ handle_in r = record { fh = number r 0; node = number r 2; access = mode_of (num
 abbrev block_in : Row → Block
 block_in r = record { slot = number r 0; node = number r 1; block = number r 2; bytes = bytes r 3 }
 
-abbrev kept_in : Row → Kept
-kept_in r = record { id = number r 0; lot = number r 2; said = record { errno = number r 3; body = bytes r 4 } }
-
 mode_back : (m : AccessMode) → mode_of (access_code m) ≡ m
 mode_back ReadOnly = refl
 mode_back WriteOnly = refl
@@ -109,6 +87,9 @@ module _ {X : Type 0} (row : X → Row) (back : Row → X) (told : (x : X) → b
   any [] = tt
   any (x ∷ xs) = (tt, any xs)
 
+  list_back : (xs : List X) → map back (map row xs) ≡ xs
+  list_back xs = all_back row back (λ x. Unit {0}) (λ x p. told x) xs (any xs)
+
   one_list : (xs ys : List X) → map row xs ≡ map row ys → xs ≡ ys
   one_list xs ys same = one_such row back (λ x. Unit {0}) (λ x p. told x) xs ys (any xs) (any ys) same
 
@@ -128,7 +109,13 @@ pub same_blocks : (xs ys : List Block) → map block_row xs ≡ map block_row ys
 same_blocks = one_list block_row block_in (λ x. refl)
 
 pub same_lots : (xs ys : List ℕ) → map lot_row xs ≡ map lot_row ys → xs ≡ ys
-same_lots = one_list lot_row (λ r. number r 0) (λ x. refl)
+same_lots = one_list lot_row lot_in (λ x. refl)
 
 pub same_kept : (xs ys : List Kept) → map kept_row xs ≡ map kept_row ys → xs ≡ ys
 same_kept = one_list kept_row kept_in (λ x. refl)
+
+pub lots_back : (xs : List ℕ) → map lot_in (map lot_row xs) ≡ xs
+lots_back = list_back lot_row lot_in (λ x. refl)
+
+pub kept_back : (xs : List Kept) → map kept_in (map kept_row xs) ≡ xs
+kept_back = list_back kept_row kept_in (λ x. refl)

@@ -1,5 +1,5 @@
 -- A group, one request after another.
-use Rattle.std.proofs.Common.{◌≡◌, ◌<◌, ◌+◌, ℕ, List, [], ◌∷◌, ◌++◌, length, take, get_or, Option, Some, None, refl, sym, ap, subst, ◌∙◌}
+use Rattle.std.proofs.Common.{◌≡◌, ◌<◌, ◌^◌, ◌+◌, ℕ, List, [], ◌∷◌, ◌++◌, length, take, get_or, Option, Some, None, refl, sym, ap, subst, ◌∙◌}
 use Rattle.std.proofs.lemmas.List.{take_more, map-append}
 use Rattle.sqlite.specs.State.{State, HasCleanDisk}
 use Rattle.fuse_wire.specs.declared.moment.Moment.{Moment}
@@ -9,7 +9,7 @@ use Rattle.fuse_keeper.specs.Group.{entry_of, entries_of}
 use Rattle.fuse_keeper.specs.declared.keeper.Done.{Done}
 use Rattle.fuse_tables.specs.Following.{earlier}
 use Rattle.fuse_table_look.specs.Holding.{Holding, InsideFor, KeepsFor, Turned}
-use Rattle.fuse_table_look.specs.Group.{without_record, without_settled, lot_for, taken, with_group, dones_of, prepared, performed, all_dones}
+use Rattle.fuse_table_look.specs.Group.{without_record, without_settled, lot_for, taken, with_group, dones_of, prepared, performed, all_dones, HasLotLeft}
 use Rattle.fuse_table_look.proofs.Turning.{turned_then, turned_same, turned_known}
 
 -- ---- one more request
@@ -63,6 +63,9 @@ same_next (id ∷ ids) y = same_next ids (without_record id y)
 pub lot_settled : (lot : Option ℕ) (ids : List ℕ) (y : Holding) → lot_for lot (without_settled ids y) ≡ lot_for lot y
 lot_settled None ids y = same_next ids y
 lot_settled (Some n) ids y = refl
+
+pub left_settled : (lot : Option ℕ) (ids : List ℕ) (y : Holding) → HasLotLeft lot y → HasLotLeft lot (without_settled ids y)
+left_settled lot ids y left none = subst (λ n. n < 2 ^ 62) (sym (same_next ids y)) (left none)
 
 -- a group behind it, which goes under the lot that was taken
 pub grouped : (lot : Option ℕ) (n : ℕ) (ids : List ℕ) (es : List Entry) (a b d : State) → Turned (prepared lot ids) a b

@@ -8,7 +8,6 @@ pub mod Changes
 pub mod Parents
 pub mod BlockBytes
 pub mod Overlays
-pub mod Resting
 pub mod Cuts
 pub mod Turning
 pub mod Records
@@ -17,6 +16,10 @@ pub mod Whole
 pub mod Finds
 pub mod Took
 pub mod Settled
+pub mod Sure
+pub mod Few
 pub mod Under
 pub mod Decoding
+pub mod LotsRead
 pub mod Once
+pub mod Rests

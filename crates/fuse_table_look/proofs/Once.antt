@@ -15,7 +15,7 @@ use Rattle.fuse_tree.specs.Plan.{RowsTellState}
 use Rattle.fuse_tables.specs.Content.{Content, node_key, cookie_of, fh_of}
 use Rattle.fuse_table_look.specs.Store.{counters_of, counted_in, agreed_in, value_of, byte_at, byte_in}
 use Rattle.fuse_table_look.proofs.Told.{Rises, order_kept, rows_rise, rows_full}
-use Rattle.fuse_table_look.specs.Holding.{Holding, HeldFor}
+use Rattle.fuse_table_look.specs.Holding.{Holding, HeldFor, TreesAreInOrder}
 use Rattle.fuse_table_look.proofs.Decoding.{same_counters, same_nodes, same_entries, same_handles, same_blocks, same_lots, same_kept}
 
 -- ---- contents
@@ -71,7 +71,7 @@ same_full (f ∷ fs) (g ∷ gs) rises sized fit same each =
 
 -- ---- settings
 
-agreed_back : (c : CountersRow) (s : Option Settings) (lot : ℕ) → agreed_in (counters_of c s lot) ≡ s
+pub agreed_back : (c : CountersRow) (s : Option Settings) (lot : ℕ) → agreed_in (counters_of c s lot) ≡ s
 agreed_back c None lot = refl
 agreed_back c (Some s) lot = refl
 
@@ -86,6 +86,12 @@ same_rows a b nodes entries handles counters settings =
 is_rowed : (s : State) → Tree s → IsRowed (rowed s)
 unfolding IsRowed
 is_rowed s tree = (s, tree, refl)
+
+-- the rows of a tree stand in order already
+pub tree_order : TreesAreInOrder
+tree_order s tree =
+    let rise = rows_rise (rowed s) (is_rowed s tree) in
+    record { nodes = order_kept node_key _ rise.0; entries = order_kept cookie_of _ rise.1; handles = order_kept fh_of _ rise.2 }
 
 sized_in : (fs : List Full) → AllByRecursion (λ f. (f.row.size ≡ length f.content) × (f.row.size ≤ file_limit)) fs → AllByRecursion IsSized fs
 sized_in [] all = tt

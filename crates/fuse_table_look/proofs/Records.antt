@@ -50,7 +50,8 @@ record_gone id x c at = record {
 }
 
 pub forgot : {X : Type 0} (id : ℕ) (a b : State) (x : X) → Makes {X = X} {E = Error} (without_kept id) a b (Ok x) → Turned (without_record id) a b
-forgot id a b x p = lifted (λ s. record s { kept = without_by kept_key id s.kept }) (without_record id) a b (λ y tree below. (refl, tree, below))
+forgot id a b x p = lifted (λ s. record s { kept = without_by kept_key id s.kept }) (without_record id) a b (λ clean y at.
+    (refl, at.holds.tree, at.holds.below, at.holds.next))
     (made (without_kept id) (λ s. record s { kept = without_by kept_key id s.kept }) a b x (record_gone id) p)
 
 -- no record has an id so high
@@ -86,12 +87,13 @@ record_comes k fits x c at = record {
   };
 }
 
-pub recorded : {X : Type 0} (id lot : ℕ) (said : Said) (a b : State) (x : X) → id < 2 ^ 63 → FitsAnswer said
+pub recorded : {X : Type 0} (id lot : ℕ) (said : Said) (a b : State) (x : X) → id < 2 ^ 63 → FitsAnswer said → said.errno < 2 ^ 32
     → Makes {X = X} {E = Error} (with_kept (record { id = id; lot = lot; said = said })) a b (Ok x) → Turned (with_record id lot said) a b
-recorded id lot said a b x low fits p =
+recorded id lot said a b x low fits small p =
     let k : Kept = record { id = id; lot = lot; said = said } in
-    lifted (λ s. record s { kept = put_by kept_key k s.kept }) (with_record id lot said) a b (λ y tree below. (refl, tree, below))
-    (made (with_kept k) (λ s. record s { kept = put_by kept_key k s.kept }) a b x (record_comes k (record { id = low; said = fits })) p)
+    lifted (λ s. record s { kept = put_by kept_key k s.kept }) (with_record id lot said) a b (λ clean y at.
+    (refl, at.holds.tree, at.holds.below, at.holds.next))
+    (made (with_kept k) (λ s. record s { kept = put_by kept_key k s.kept }) a b x (record_comes k (record { id = low; said = fits; errno = small })) p)
 
 -- ---- a request acts
 
@@ -104,7 +106,7 @@ acts e a b answer keeps acted = record {
       record {
         is_open = did.inside.is_open;
         in_transaction = did.inside.in_transaction;
-        holds = record { tree = did.tree; below = at.holds.below; held = did.inside.holds };
+        holds = record { tree = did.tree; below = at.holds.below; next = at.holds.next; held = did.inside.holds };
       };
 }
 
@@ -149,15 +151,24 @@ lot_comes n x c at is =
       fits = record { nodes = at.fits.nodes; entries = at.fits.entries; handles = at.fits.handles; blocks = at.fits.blocks; kept = at.fits.kept };
     }
 
-pub lot_taken : {X : Type 0} (n : ℕ) (a b d : State) (x : X) → Looked a b → (HasCleanDisk b → (c : Content) → Inside c a → n ≡ value_of c.counters 10)
-    → Makes {X = X} {E = Error} (λ c. set_counter 11 (n + 1) (with_lot n c)) b d (Ok x) → Turned with_new_lot a d
-lot_taken n a b d x looks value p =
-    let next : Store → Store = λ s. record s { lots = put_by (λ m. m) s.next_lot s.lots; next_lot = s.next_lot + 1 } in
-    lifted next with_new_lot a d (λ y tree below. (refl, tree, below_more y.next_lot y.lots below))
-    (made_known (λ c. set_counter 11 (n + 1) (with_lot n c)) next a b d x looks p (λ mid s c inside at. lot_comes n s c at (value mid c inside)))
-
 pub lot_is : (n : ℕ) (a : State) → ((c : Content) → Inside c a → n ≡ value_of c.counters 10) → (y : Holding) → InsideFor y a → n ≡ y.next_lot
 lot_is n a value y at = value at.holds.held.0 (content_in y a at) ∙ ap (λ cs. value_of cs 10) at.holds.held.2.counters
+
+one_more : (n m : ℕ) → n ≡ m → n < 2 ^ 62 → m + 1 ≤ 2 ^ 62
+one_more n m is low = omega (arith, is, low)
+
+pub lot_taken : {X : Type 0} (n : ℕ) (a b d : State) (x : X) → n < 2 ^ 62 → Looked a b
+    → (HasCleanDisk b → (c : Content) → Inside c a → n ≡ value_of c.counters 10)
+    → Makes {X = X} {E = Error} (λ c. set_counter 11 (n + 1) (with_lot n c)) b d (Ok x) → Turned with_new_lot a d
+lot_taken n a b d x low looks value p =
+    let next : Store → Store = λ s. record s { lots = put_by (λ m. m) s.next_lot s.lots; next_lot = s.next_lot + 1 } in
+    lifted next with_new_lot a d (λ clean y at. (
+      refl,
+      at.holds.tree,
+      below_more y.next_lot y.lots at.holds.below,
+      one_more n y.next_lot (lot_is n a (value (earlier b d _ p.stays.survives clean)) y at) low,
+    ))
+    (made_known (λ c. set_counter 11 (n + 1) (with_lot n c)) next a b d x looks p (λ mid s c inside at. lot_comes n s c at (value mid c inside)))
 
 -- ---- a request, whose id is looked up
 

@@ -11,7 +11,8 @@ use Rattle.fuse_table_look.specs.Holding.{Holding}
 use Rattle.fuse_store.specs.TheTree.{the_tree}
 use Rattle.fuse_table_look.specs.Group.{without_record, without_settled, with_lot_for, lot_for, performed, all_dones}
 use Rattle.fuse_table_look.proofs.Finds.{found_settled}
-use Rattle.fuse_table_look.proofs.Took.{Below, HasPerformed, group_performed}
+use Rattle.fuse_table_look.specs.Performing.{HasPerformed}
+use Rattle.fuse_table_look.proofs.Took.{Below, group_tree, group_performed}
 
 -- ---- settled ids
 
@@ -48,11 +49,19 @@ lotted_tree : (lot : Option ℕ) (y : Holding) → (with_lot_for lot y).tree ≡
 lotted_tree None y = refl
 lotted_tree (Some n) y = refl
 
+prepared_tree : (lot : Option ℕ) (ids : List ℕ) (y : Holding) → Tree y.tree → Tree (with_lot_for lot (without_settled ids y)).tree
+prepared_tree lot ids y tree = subst Tree (sym (lotted_tree lot (without_settled ids y) ∙ same_tree ids y)) tree
+
+-- what a call makes is a tree still
+pub call_tree : Below → (lot : Option ℕ) (ids : List ℕ) (es : List Entry) (y : Holding) → Tree y.tree → Tree (performed lot ids es y).tree
+call_tree g lot ids es y tree = group_tree g (lot_for lot y) es (with_lot_for lot (without_settled ids y)) (prepared_tree lot ids y tree)
+
 -- what a call makes stands for the history grown by the group, and each answer is the one said in it
-pub call_performed : Below → (lot : Option ℕ) (ids : List ℕ) (es : List Entry) (y : Holding) (s : State) (h : History) (t : List ℕ) → Tree y.tree → Includes t ids
+pub call_performed : Below → (lot : Option ℕ) (ids : List ℕ) (es : List Entry) (y : Holding) (s : State) (h : History) (t : List ℕ) → Tree y.tree
+    → Includes t ids
     → All (IsUnsettled t) es → Stands the_tree (rowed y.tree) (records_of y.kept) s h t
     → HasPerformed (performed lot ids es y) s h t es (all_dones lot ids es y)
 call_performed g lot ids es y s h t tree within each so =
     let z = without_settled ids y in
-    group_performed g (lot_for lot y) es (with_lot_for lot z) s h t (subst Tree (sym (lotted_tree lot z ∙ same_tree ids y)) tree) each
+    group_performed g (lot_for lot y) es (with_lot_for lot z) s h t (prepared_tree lot ids y tree) each
     (lotted_stand lot z s h t (settled_stand ids y s h t within so))

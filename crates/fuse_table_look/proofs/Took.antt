@@ -5,28 +5,23 @@ use Rattle.fuse_tree.specs.State.{State, Tree}
 use Rattle.fuse_tree.specs.Rows.{rowed}
 use Rattle.fuse_tree.specs.Do.{done}
 use Rattle.fuse_tree.specs.Plan.{TreeKept, RowsTellState}
-use Rattle.fuse_tree.specs.Rows.{Rows}
 use Rattle.fuse_keeper.specs.History.{Entry, entry_id, History, IsUnsettled, is_in, ids_in}
-use Rattle.fuse_keeper.specs.Stands.{Records, Stands, AreThese, PerformedBy, OthersStay}
-use Rattle.fuse_keeper.specs.Taking.{Took, TookBy, Acts, ActedOn}
+use Rattle.fuse_keeper.specs.Stands.{Stands, OthersStay}
+use Rattle.fuse_keeper.specs.Taking.{Took, TookBy, Acts, ActedOn, GroupsGrow}
 use Rattle.fuse_keeper.specs.declared.keeper.Done.{Done}
 use Rattle.fuse_table_look.specs.Store.{records_of}
 use Rattle.fuse_table_look.proofs.Told.{grouped}
 use Rattle.fuse_table_look.specs.Holding.{Holding}
 use Rattle.fuse_store.specs.TheTree.{the_tree}
+use Rattle.fuse_table_look.specs.Performing.{HasPerformed}
 use Rattle.fuse_table_look.specs.Group.{said_of, taken, taken_by, with_group, dones_of, without_settled, with_lot_for, lot_for, performed}
 use Rattle.fuse_table_look.proofs.Finds.{found_put, found_settled}
 
--- What the crates below say in public, or are to say: of trees, and of a group to which one more comes.
+-- what the crates below say of trees, and of a group to which one more comes
 pub record Below : Type 0 where
   pub tree_kept : TreeKept
   pub rows_tell : RowsTellState
-  pub none_yet : (rows : Rows) (records : Records) (s : State) (h : History) (t : List ℕ) → Stands the_tree rows records s h t
-      → PerformedBy the_tree (AreThese the_tree rows records) s h t [] []
-  pub one_more : (rows : Rows) (records : Records) (e : Entry) (rows' : Rows) (records' : Records) (done : Done) (s : State) (h : History) (t : List ℕ)
-      (es : List Entry) (dones : List Done)
-      → is_in t (entry_id e) ≡ false → Took the_tree rows records e rows' records' done → PerformedBy the_tree (AreThese the_tree rows records) s h t es dones
-      → PerformedBy the_tree (AreThese the_tree rows' records') s h t (es ++ e ∷ []) (dones ++ done ∷ [])
+  pub grow : GroupsGrow the_tree
 
 -- ---- one request
 
@@ -50,13 +45,13 @@ tree_by g None lot e y tree = g.tree_kept y.tree e.asked e.moment tree
 
 -- ---- a group
 
+pub group_tree : Below → (lot : ℕ) (es : List Entry) (y : Holding) → Tree y.tree → Tree (with_group lot es y).tree
+group_tree g lot [] y tree = tree
+group_tree g lot (e ∷ es) y tree = group_tree g lot es (taken lot e y).holding (tree_by g (records_of y.kept (entry_id e)) lot e y tree)
+
 no_more : {X : Type 0} (xs : List X) → xs ≡ xs ++ []
 no_more [] = refl
 no_more (x ∷ xs) = ap (λ more. x ∷ more) (no_more xs)
-
--- what is held stands for what was performed so far
-abbrev pub HasPerformed : Holding → State → History → List ℕ → List Entry → List Done → Type 0
-HasPerformed y s h t es dones = PerformedBy the_tree (AreThese the_tree (rowed y.tree) (records_of y.kept)) s h t es dones
 
 group_took : Below → (lot : ℕ) (es : List Entry) (y : Holding) (s : State) (h : History) (t : List ℕ) (so_far : List Entry) (dones : List Done) → Tree y.tree
     → All (IsUnsettled t) es → HasPerformed y s h t so_far dones → HasPerformed (with_group lot es y) s h t (so_far ++ es) (dones ++ dones_of lot es y)
@@ -66,7 +61,7 @@ group_took g lot (e ∷ es) y s h t so_far dones tree each does =
     let z = (taken lot e y).holding in
     let d = (taken lot e y).done in
     let more : HasPerformed z s h t (so_far ++ e ∷ []) (dones ++ d ∷ []) =
-    g.one_more (rowed y.tree) (records_of y.kept) e (rowed z.tree) (records_of z.kept) d s h t so_far dones (each zero e (omega arith))
+    (g.grow).one_more (rowed y.tree) (records_of y.kept) e (rowed z.tree) (records_of z.kept) d s h t so_far dones (each zero e (omega arith))
     (took g lot e y tree) does in
     let all = group_took g lot es z s h t (so_far ++ e ∷ []) (dones ++ d ∷ []) (tree_by g (records_of y.kept (entry_id e)) lot e y tree)
     (λ k x below. each (suc k) x (omega (arith, below))) more in
@@ -76,7 +71,7 @@ group_took g lot (e ∷ es) y s h t so_far dones tree each does =
 pub group_performed : Below → (lot : ℕ) (es : List Entry) (y : Holding) (s : State) (h : History) (t : List ℕ) → Tree y.tree → All (IsUnsettled t) es
     → Stands the_tree (rowed y.tree) (records_of y.kept) s h t → HasPerformed (with_group lot es y) s h t es (dones_of lot es y)
 group_performed g lot es y s h t tree each so =
-    group_took g lot es y s h t [] [] tree each (g.none_yet (rowed y.tree) (records_of y.kept) s h t so)
+    group_took g lot es y s h t [] [] tree each ((g.grow).none_yet (rowed y.tree) (records_of y.kept) s h t so)
 
 -- ---- the records of other ids
 

@@ -1,5 +1,5 @@
 -- Steps on what is held, one after another.
-use Rattle.std.proofs.Common.{◌≡◌, subst, Ok, Err, Result, OnOk, IfOk}
+use Rattle.std.proofs.Common.{◌≡◌, ◌≤◌, ◌^◌, subst, Ok, Err, Result, OnOk, IfOk}
 use Rattle.sqlite.specs.State.{State, HasCleanDisk}
 use Rattle.sqlite.proofs.StateLemmas.{survives_weaker}
 use Rattle.fuse_tree.specs.State.{Tree}
@@ -31,17 +31,18 @@ stays_for a b p = keeps_for a b (keeps_of a b p)
 
 -- what a step on what tables tell makes of what is held
 pub lifted : (f : Store → Store) (g : Holding → Holding) (a b : State)
-    → ((y : Holding) → Tree y.tree → AreBelow y.next_lot y.lots → (f (store_of y) ≡ store_of (g y)) × Tree (g y).tree × AreBelow (g y).next_lot (g y).lots)
+    → (HasCleanDisk b → (y : Holding) → InsideFor y a
+    → (f (store_of y) ≡ store_of (g y)) × Tree (g y).tree × AreBelow (g y).next_lot (g y).lots × ((g y).next_lot ≤ 2 ^ 62))
     → Changed f a b → Turned g a b
 lifted f g a b same p = record {
   stays = keeps_for a b p.stays;
   turns = λ clean y at.
       let now = p.turns clean (store_of y) (told_in y a at) in
-      let is = same y at.holds.tree at.holds.below in
+      let is = same clean y at in
       record {
         is_open = now.is_open;
         in_transaction = now.in_transaction;
-        holds = record { tree = is.1; below = is.2; held = subst (λ x. Held x b.now) is.0 now.holds };
+        holds = record { tree = is.1; below = is.2; next = is.3; held = subst (λ x. Held x b.now) is.0 now.holds };
       };
 }
 
@@ -72,7 +73,7 @@ looked_for a b p = record {
       record {
         is_open = now.is_open;
         in_transaction = now.in_transaction;
-        holds = record { tree = at.holds.tree; below = at.holds.below; held = (at.holds.held.0, now.holds, at.holds.held.2) };
+        holds = record { tree = at.holds.tree; below = at.holds.below; next = at.holds.next; held = (at.holds.held.0, now.holds, at.holds.held.2) };
       };
 }
 

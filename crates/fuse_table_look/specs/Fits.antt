@@ -16,6 +16,7 @@ pub record KeepsNode (n : NodeRow) : Type 0 where
 pub record KeepsRecord (k : Kept) : Type 0 where
   pub id : k.id < 2 ^ 63
   pub said : FitsAnswer k.said
+  pub errno : k.said.errno < 2 ^ 32
 
 -- a block is whole
 abbrev pub IsWhole : Block → Type 0

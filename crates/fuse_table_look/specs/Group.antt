@@ -1,12 +1,16 @@
 -- What a group makes of what is held, and what it is answered.
-use Rattle.std.specs.Prelude.{◌+◌, ℕ, true, false, List, [], ◌∷◌, Option, Some, None}
+use Rattle.std.specs.Prelude.{◌≡◌, ◌<◌, ◌^◌, ◌+◌, ℕ, true, false, List, [], ◌∷◌, Option, Some, None, Result, IfErr}
+use Rattle.sqlite.specs.State.{State, HasCleanDisk}
 use Rattle.fuse_answer.specs.Said.{Said}
 use Rattle.fuse_tree.specs.Do.{done}
 use Rattle.fuse_keeper.specs.History.{Entry, entry_id}
 use Rattle.fuse_keeper.specs.declared.keeper.Done.{Done}
+use Rattle.fuse_keeper.specs.declared.fault.StoreFault.{StoreFault}
 use Rattle.fuse_tables.specs.Content.{kept_key, put_by, without_by}
+use Rattle.fuse_tables.specs.Faults.{IsOutside}
+use Rattle.fuse_tables.specs.Moves.{RestsAs}
 use Rattle.fuse_table_look.specs.Store.{records_of}
-use Rattle.fuse_table_look.specs.Holding.{Holding}
+use Rattle.fuse_table_look.specs.Holding.{Holding, HeldFor, InsideFor}
 
 -- ---- settled ids
 
@@ -30,6 +34,18 @@ with_lot_for (Some lot) y = y
 abbrev pub lot_for : Option ℕ → Holding → ℕ
 lot_for None y = y.next_lot
 lot_for (Some lot) y = lot
+
+-- this start has one, or one is left for it
+abbrev pub HasLotLeft : Option ℕ → Holding → Type 0
+HasLotLeft lot y = lot ≡ None → y.next_lot < 2 ^ 62
+
+-- within a transaction: a fault says nothing of what is held, unless no lot is left
+abbrev pub IsSureFor : {X : Type 0} → Option ℕ → State → State → Result X StoreFault → Type 0
+IsSureFor lot old new r = HasCleanDisk new → IfErr r (λ f. (y : Holding) → InsideFor y old → HasLotLeft lot y → IsOutside f)
+
+-- the same of a whole one
+abbrev pub IsSafeFor : {X : Type 0} → Option ℕ → State → State → Result X StoreFault → Type 0
+IsSafeFor lot old new r = HasCleanDisk new → IfErr r (λ f. (y : Holding) → RestsAs (HeldFor y) old → HasLotLeft lot y → IsOutside f)
 
 -- ---- one request
 

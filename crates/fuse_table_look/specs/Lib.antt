@@ -6,3 +6,5 @@ pub mod Acting
 pub mod Laws
 pub mod Holding
 pub mod Group
+pub mod Lots
+pub mod Performing

@@ -1,14 +1,17 @@
 // What a request does within a transaction.
-ghost use Rattle.std.specs.Prelude.{◌≡◌, true, None, All, IfOk, OnErr};
+ghost use Rattle.std.specs.Prelude.{◌≡◌, true, None, All, IfOk, IfErr, OnErr};
 ghost use Rattle.sqlite.specs.State.{HasCleanDisk};
 ghost use Rattle.sqlite.specs.Held.{state};
 ghost use Rattle.fuse_request.specs.Act.{asked};
 ghost use Rattle.fuse_tree.specs.Do.{done};
 ghost use Rattle.fuse_tree.specs.Rows.{rowed};
 ghost use Rattle.fuse_tree.specs.State.{State, Tree};
+ghost use Rattle.fuse_tables.specs.Faults.{IsPlain};
+ghost use Rattle.fuse_tables.specs.Moves.{IsSure};
 ghost use Rattle.fuse_table_look.specs.Acting.{ActsInside};
 ghost use Rattle.fuse_table_look.specs.Changing.{Keeps};
-ghost use Rattle.fuse_table_look.specs.Looking.{look_fault};
+ghost use Rattle.fuse_table_look.specs.Holding.{HeldFor};
+ghost use Rattle.fuse_table_look.specs.Looking.{look_fault, why_no_plan};
 
 use crate::applying::make_all;
 use crate::look::TableLook;
@@ -21,7 +24,9 @@ use sqlite::Alter;
 use std::alloc::Global;
 
 // Why nothing was planned.
-fn fault_of_plan(fault: PlanFault, looked: Option<StoreFault>) -> StoreFault {
+fn fault_of_plan(fault: PlanFault, looked: Option<StoreFault>) -> StoreFault
+    ensures { result ≡ why_no_plan fault looked }
+{
     match fault {
         PlanFault::Memory => StoreFault::Memory,
         PlanFault::NotATree => StoreFault::Damaged,
@@ -46,6 +51,9 @@ pub fn act<S: Alter>(
     // Whether it went well or not, nothing is committed.
     ensures keeps { Keeps (state S.Store look.old.conn) (state S.Store look.new.conn) }
     ensures fault { look_fault look.new.fault ≡ None }
+    ensures sure { IsSure HeldFor (state S.Store look.old.conn) (state S.Store look.new.conn)
+        result }
+    ensures plain { IfErr result IsPlain }
 {
     let planned = match plan(alloc, look, request, now) {
         Ok(planned) => planned,

@@ -1,8 +1,11 @@
 // The changes of a plan, made in the tables.
-ghost use Rattle.std.specs.Prelude.{◌≡◌, All, OnOk, OnErr};
+ghost use Rattle.std.specs.Prelude.{◌≡◌, All, IfErr, OnOk, OnErr};
 ghost use Rattle.sqlite.specs.Held.{state};
+ghost use Rattle.fuse_tree.specs.Columns.{FitsChange, FitColumns};
+ghost use Rattle.fuse_tables.specs.Moves.{IsSure};
+ghost use Rattle.fuse_tables.specs.Faults.{IsPlain};
 ghost use Rattle.fuse_table_look.specs.Changing.{Changed, Keeps};
-ghost use Rattle.fuse_table_look.specs.Store.{with_change, with_changes};
+ghost use Rattle.fuse_table_look.specs.Store.{Held, with_change, with_changes};
 
 use crate::changing::{
     add_entry, add_handle, put_node, remove_entry, remove_handle, set_counters, set_settings,
@@ -24,6 +27,9 @@ pub fn make_change<S: Alter>(
     ensures changed { OnOk result (Changed (with_change change.now) (state S.Store conn.old)
         (state S.Store conn.new)) }
     ensures fails { OnErr result (Keeps (state S.Store conn.old) (state S.Store conn.new)) }
+    ensures fault { FitsChange change.now
+        → IsSure Held (state S.Store conn.old) (state S.Store conn.new) result }
+    ensures plain { IfErr result IsPlain }
 {
     if !change_fits(change) {
         return Err(StoreFault::Damaged);
@@ -54,6 +60,9 @@ pub fn make_all<S: Alter>(
     ensures changed { OnOk result (Changed (with_changes changes.now) (state S.Store conn.old)
         (state S.Store conn.new)) }
     ensures fails { OnErr result (Keeps (state S.Store conn.old) (state S.Store conn.new)) }
+    ensures fault { FitColumns changes.now
+        → IsSure Held (state S.Store conn.old) (state S.Store conn.new) result }
+    ensures plain { IfErr result IsPlain }
 {
     for change in changes {
         match make_change(conn, alloc, change) {

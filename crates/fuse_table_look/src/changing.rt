@@ -4,7 +4,7 @@ ghost use Rattle.std.specs.Prelude.{IfErr};
 ghost use Rattle.sqlite.specs.State.{HasCleanDisk};
 ghost use Rattle.sqlite.specs.Held.{state};
 ghost use Rattle.fuse_tree.specs.declared.rows.Change.TheVariants as changes;
-ghost use Rattle.fuse_tables.specs.Faults.{IsOutside};
+ghost use Rattle.fuse_tables.specs.Faults.{IsOutside, IsPlain};
 ghost use Rattle.fuse_table_look.specs.Changing.{Changed, Keeps};
 ghost use Rattle.fuse_tables.specs.Content.{Content, HasSeconds, set_counter};
 ghost use Rattle.fuse_tree.specs.Columns.{FitsNode, FitsEntry, FitsHandle, FitsCounters};
@@ -31,6 +31,7 @@ pub(crate) fn add_entry<S: Alter>(
         (state S.Store conn.old) (state S.Store conn.new)) }
     ensures fails { OnErr result (Keeps (state S.Store conn.old) (state S.Store conn.new)) }
     ensures fault { IfErr result (λ f. IsOutside f) }
+    ensures plain { IfErr result IsPlain }
 {
     match insert_entry(conn, row) {
         Ok(_) => Ok(()),
@@ -48,6 +49,7 @@ pub(crate) fn remove_entry<S: Alter>(
         (state S.Store conn.old) (state S.Store conn.new)) }
     ensures fails { OnErr result (Keeps (state S.Store conn.old) (state S.Store conn.new)) }
     ensures fault { IfErr result (λ f. IsOutside f) }
+    ensures plain { IfErr result IsPlain }
 {
     match delete_entry(conn, cookie) {
         Ok(_) => Ok(()),
@@ -65,6 +67,7 @@ pub(crate) fn add_handle<S: Alter>(
         (state S.Store conn.old) (state S.Store conn.new)) }
     ensures fails { OnErr result (Keeps (state S.Store conn.old) (state S.Store conn.new)) }
     ensures fault { IfErr result (λ f. IsOutside f) }
+    ensures plain { IfErr result IsPlain }
 {
     match insert_handle(conn, row) {
         Ok(_) => Ok(()),
@@ -79,6 +82,7 @@ pub(crate) fn remove_handle<S: Alter>(conn: &mut Connection<S>, fh: u64) -> Resu
         (state S.Store conn.old) (state S.Store conn.new)) }
     ensures fails { OnErr result (Keeps (state S.Store conn.old) (state S.Store conn.new)) }
     ensures fault { IfErr result (λ f. IsOutside f) }
+    ensures plain { IfErr result IsPlain }
 {
     match delete_handle(conn, fh) {
         Ok(_) => Ok(()),
@@ -161,6 +165,7 @@ pub(crate) fn set_counters<S: Alter>(
         (state S.Store conn.old) (state S.Store conn.new)) }
     ensures fails { OnErr result (Keeps (state S.Store conn.old) (state S.Store conn.new)) }
     ensures fault { IfErr result (λ f. IsOutside f) }
+    ensures plain { IfErr result IsPlain }
 {
     match set_numbers(conn, n) {
         Ok(_) => Ok(()),
@@ -178,6 +183,7 @@ pub(crate) fn set_settings<S: Alter>(
         (state S.Store conn.old) (state S.Store conn.new)) }
     ensures fails { OnErr result (Keeps (state S.Store conn.old) (state S.Store conn.new)) }
     ensures fault { IfErr result (λ f. IsOutside f) }
+    ensures plain { IfErr result IsPlain }
 {
     narrow(v.minor);
     narrow(v.max_readahead);
@@ -195,7 +201,7 @@ fn wide(number: u64)
 }
 
 // A number of 32 bits.
-fn narrow(number: u32)
+pub(crate) fn narrow(number: u32)
     ensures { number < 2 ^ 32 }
 {
     let _ = number;
@@ -218,6 +224,7 @@ pub(crate) fn put_node<S: Alter>(conn: &mut Connection<S>, row: &NodeRow) -> Res
     ensures fails { OnErr result (Keeps (state S.Store conn.old) (state S.Store conn.new)) }
     ensures fault { HasCleanDisk (state S.Store conn.new) → IfErr result (λ f. (c : Content)
         → Inside c (state S.Store conn.old) → IsOutside f) }
+    ensures plain { IfErr result IsPlain }
 {
     law_of_seconds(row);
     match find_node(conn, row.node) {

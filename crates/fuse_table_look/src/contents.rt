@@ -9,7 +9,7 @@ ghost use Rattle.fuse_tree.specs.Bounds.{block_bytes, file_limit};
 ghost use Rattle.fuse_tables.specs.Blocks.{Block, block_at, shown_block};
 ghost use Rattle.fuse_tables.specs.Content.{Content, node_key, at_by};
 ghost use Rattle.fuse_table_look.specs.Fits.{Fits, IsWhole};
-ghost use Rattle.fuse_tables.specs.Faults.{IsOutside};
+ghost use Rattle.fuse_tables.specs.Faults.{IsOutside, IsPlain};
 ghost use Rattle.fuse_tables.specs.Moves.{Inside, Looked, Stays};
 ghost use Rattle.fuse_table_look.specs.Store.{byte_in, range_of, whole_of, bytes_told};
 
@@ -26,6 +26,7 @@ fn zeros(alloc: Global) -> Result<Vec<u8>, StoreFault>
     ensures value { IfOk result (λ v. v.items ≡ replicate block_bytes 0) }
     ensures whole { IfOk result (λ v. length v.items ≡ block_bytes) }
     ensures fault { IfErr result (λ f. IsOutside f) }
+    ensures plain { IfErr result IsPlain }
 {
     let mut zeros = Vec::new(alloc);
     zeros.resize(BLOCK_SIZE as usize, 0)?;
@@ -39,6 +40,7 @@ fn read_block(alloc: Global, rows: &[Row]) -> Result<Vec<u8>, StoreFault>
     ensures whole { IfOk result (λ v. length v.items ≡ block_bytes) }
     ensures fault { IfErr result (λ f. (o : Option Block) → IfSome o IsWhole
         → rows.now ≡ map shown_block (option_to_list o) → IsOutside f) }
+    ensures plain { IfErr result IsPlain }
 {
     match rows.first() {
         None => { zeros(alloc) }
@@ -69,6 +71,7 @@ pub(crate) fn find_block<S: Alter>(
     ensures whole { IfOk result (λ v. length v.items ≡ block_bytes) }
     ensures fault { HasCleanDisk (state S.Store conn.new) → IfErr result (λ f. (c : Content)
         → Inside c (state S.Store conn.old) → Fits c → IsOutside f) }
+    ensures plain { IfErr result IsPlain }
 {
     let rows = select_block(conn, node, block)?;
     read_block(alloc, rows.as_slice())
@@ -85,6 +88,7 @@ fn append_part(
     ensures appended { OnOk result (out.new.items ≡ out.old.items
         ++ take count (drop start bytes.now)) }
     ensures fault { IfErr result (λ f. IsOutside f) }
+    ensures plain { IfErr result IsPlain }
 {
     let end = start + count;
     out.extend_from_slice(&bytes[start..end])?;
@@ -110,6 +114,7 @@ fn append_piece<S: Alter>(
         ++ range_of (byte_in c.blocks node) here count) }
     ensures fault { HasCleanDisk (state S.Store conn.new) → IfErr result (λ f. (c : Content)
         → Inside c (state S.Store conn.old) → Fits c → IsOutside f) }
+    ensures plain { IfErr result IsPlain }
 {
     let block = find_block(conn, alloc, node, here / u64::from(BLOCK_SIZE))?;
     let start = (here % u64::from(BLOCK_SIZE)) as usize;
@@ -143,6 +148,7 @@ pub(crate) fn find_range<S: Alter>(
         len) }
     ensures fault { HasCleanDisk (state S.Store conn.new) → IfErr result (λ f. (c : Content)
         → Inside c (state S.Store conn.old) → Fits c → IsOutside f) }
+    ensures plain { IfErr result IsPlain }
 {
     let mut out = Vec::new(alloc);
     let mut done = 0;
@@ -173,6 +179,7 @@ pub(crate) fn find_bytes<S: Alter>(
     ensures fault { HasCleanDisk (state S.Store conn.new) → IfErr result (λ f. (c : Content)
         → Inside c (state S.Store conn.old) → Fits c
         → IfSome (at_by node_key node c.nodes) (λ n. n.size ≤ file_limit) → IsOutside f) }
+    ensures plain { IfErr result IsPlain }
 {
     if node >= 1 << 63 {
         return Ok(ByteList::from_vec(Vec::new(alloc)));

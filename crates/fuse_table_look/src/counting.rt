@@ -5,7 +5,7 @@ ghost use Rattle.sqlite.specs.declared.types.Value.TheVariants.{Int};
 ghost use Rattle.sqlite.specs.State.{HasCleanDisk};
 ghost use Rattle.sqlite.specs.Held.{state};
 ghost use Rattle.fuse_tables.specs.Content.{Content, Counter, shown_counter};
-ghost use Rattle.fuse_tables.specs.Faults.{IsOutside};
+ghost use Rattle.fuse_tables.specs.Faults.{IsOutside, IsPlain};
 ghost use Rattle.fuse_tables.specs.Moves.{Inside, Looked, Stays};
 ghost use Rattle.fuse_table_look.specs.Store.{value_of, counted_in, agreed_in};
 
@@ -22,6 +22,7 @@ fn value_at(rows: &[Row], at: usize) -> Result<u64, StoreFault>
         → n ≡ value_of cs at) }
     ensures fault { IfErr result (λ f. (cs : List Counter) → rows.now ≡ map shown_counter cs
         → at < length cs → IsOutside f) }
+    ensures plain { IfErr result IsPlain }
 {
     match rows.get(at) {
         None => Err(StoreFault::Damaged),
@@ -35,6 +36,7 @@ fn word_at(rows: &[Row], at: usize) -> Result<u32, StoreFault>
         → n ≡ value_of cs at) }
     ensures fault { IfErr result (λ f. (cs : List Counter) → rows.now ≡ map shown_counter cs
         → at < length cs → value_of cs at < 2 ^ 32 → IsOutside f) }
+    ensures plain { IfErr result IsPlain }
 {
     let value = value_at(rows, at)?;
     if value >= 1 << 32 {
@@ -43,11 +45,12 @@ fn word_at(rows: &[Row], at: usize) -> Result<u32, StoreFault>
     Ok(value as u32)
 }
 
-fn read_counters(rows: &[Row]) -> Result<Counters, StoreFault>
+pub(crate) fn read_counters(rows: &[Row]) -> Result<Counters, StoreFault>
     ensures value { IfOk result (λ r. (cs : List Counter) → rows.now ≡ map shown_counter cs
         → r ≡ counted_in cs) }
     ensures fault { IfErr result (λ f. (cs : List Counter) → rows.now ≡ map shown_counter cs
         → 11 ≤ length cs → IsOutside f) }
+    ensures plain { IfErr result IsPlain }
 {
     let next_node = value_at(rows, 1)?;
     let next_fh = value_at(rows, 2)?;
@@ -63,11 +66,12 @@ fn read_counters(rows: &[Row]) -> Result<Counters, StoreFault>
     })
 }
 
-fn read_settings(rows: &[Row]) -> Result<Option<Settings>, StoreFault>
+pub(crate) fn read_settings(rows: &[Row]) -> Result<Option<Settings>, StoreFault>
     ensures value { IfOk result (λ r. (cs : List Counter) → rows.now ≡ map shown_counter cs
         → r ≡ agreed_in cs) }
     ensures fault { IfErr result (λ f. (cs : List Counter) → rows.now ≡ map shown_counter cs
         → 11 ≤ length cs → value_of cs 7 < 2 ^ 32 → value_of cs 8 < 2 ^ 32 → IsOutside f) }
+    ensures plain { IfErr result IsPlain }
 {
     let there = value_at(rows, 6)?;
     let minor = word_at(rows, 7)?;
@@ -91,6 +95,7 @@ pub fn find_counters<S: Alter>(conn: &mut Connection<S>) -> Result<Counters, Sto
         → Inside c (state S.Store conn.old) → r ≡ counted_in c.counters) }
     ensures fault { HasCleanDisk (state S.Store conn.new) → IfErr result (λ f. (c : Content)
         → Inside c (state S.Store conn.old) → 11 ≤ length c.counters → IsOutside f) }
+    ensures plain { IfErr result IsPlain }
 {
     let rows = select_counters(conn)?;
     read_counters(rows.as_slice())
@@ -105,6 +110,7 @@ pub fn find_settings<S: Alter>(conn: &mut Connection<S>) -> Result<Option<Settin
     ensures fault { HasCleanDisk (state S.Store conn.new) → IfErr result (λ f. (c : Content)
         → Inside c (state S.Store conn.old) → 11 ≤ length c.counters
         → value_of c.counters 7 < 2 ^ 32 → value_of c.counters 8 < 2 ^ 32 → IsOutside f) }
+    ensures plain { IfErr result IsPlain }
 {
     let rows = select_counters(conn)?;
     read_settings(rows.as_slice())

@@ -4,9 +4,10 @@ ghost use Rattle.std.specs.Prelude.{OnOk, OnErr, IfOk, IfErr};
 ghost use Rattle.sqlite.specs.Held.{state};
 ghost use Rattle.fuse_tree.specs.Bounds.{block_bytes, file_limit};
 ghost use Rattle.fuse_tree.specs.declared.rows.Change.TheVariants as changes;
-ghost use Rattle.fuse_tables.specs.Faults.{IsOutside};
+ghost use Rattle.fuse_tables.specs.Faults.{IsOutside, IsPlain};
+ghost use Rattle.fuse_tables.specs.Moves.{IsSure};
 ghost use Rattle.fuse_table_look.specs.Changing.{Changed, Cut, Keeps, KeepsBytes};
-ghost use Rattle.fuse_table_look.specs.Store.{with_change};
+ghost use Rattle.fuse_table_look.specs.Store.{Held, HeldAs, with_change};
 
 use crate::storing::write_piece;
 use fuse_keeper::StoreFault;
@@ -20,6 +21,7 @@ fn some_zeros(alloc: Global, count: u64) -> Result<Vec<u8>, StoreFault>
     requires { count ≤ block_bytes }
     ensures value { IfOk result (λ v. v.items ≡ replicate count 0) }
     ensures fault { IfErr result IsOutside }
+    ensures plain { IfErr result IsPlain }
 {
     let mut zeros = Vec::new(alloc);
     zeros.resize(count as usize, 0)?;
@@ -34,6 +36,7 @@ fn drop_blocks<S: Alter>(conn: &mut Connection<S>, node: u64, from: u64) -> Resu
         (state S.Store conn.new)) }
     ensures fails { OnErr result (KeepsBytes (state S.Store conn.old) (state S.Store conn.new)) }
     ensures fault { IfErr result IsOutside }
+    ensures plain { IfErr result IsPlain }
 {
     match delete_blocks_from(conn, node, from) {
         Ok(_) => Ok(()),
@@ -52,6 +55,8 @@ fn cut_within<S: Alter>(
     requires size { size ≤ file_limit }
     ensures cut { OnOk result (Cut node size (state S.Store conn.old) (state S.Store conn.new)) }
     ensures fails { OnErr result (KeepsBytes (state S.Store conn.old) (state S.Store conn.new)) }
+    ensures fault { IsSure HeldAs (state S.Store conn.old) (state S.Store conn.new) result }
+    ensures plain { IfErr result IsPlain }
 {
     let rest = u64::from(BLOCK_SIZE) - size % u64::from(BLOCK_SIZE);
     let zeros = match some_zeros(alloc, rest) {
@@ -75,6 +80,8 @@ fn cut_from<S: Alter>(
     requires size { size ≤ file_limit }
     ensures cut { OnOk result (Cut node size (state S.Store conn.old) (state S.Store conn.new)) }
     ensures fails { OnErr result (KeepsBytes (state S.Store conn.old) (state S.Store conn.new)) }
+    ensures fault { IsSure HeldAs (state S.Store conn.old) (state S.Store conn.new) result }
+    ensures plain { IfErr result IsPlain }
 {
     let start = size % u64::from(BLOCK_SIZE);
     if start == 0 {
@@ -96,6 +103,8 @@ pub(crate) fn set_size<S: Alter>(
     ensures changed { OnOk result (Changed (with_change (changes.Sized node size))
         (state S.Store conn.old) (state S.Store conn.new)) }
     ensures fails { OnErr result (Keeps (state S.Store conn.old) (state S.Store conn.new)) }
+    ensures fault { IsSure Held (state S.Store conn.old) (state S.Store conn.new) result }
+    ensures plain { IfErr result IsPlain }
 {
     cut_from(conn, alloc, node, size)
 }

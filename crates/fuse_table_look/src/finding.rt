@@ -15,7 +15,7 @@ ghost use Rattle.fuse_tables.specs.Content.{Content, Kept, node_columns, node_ke
 ghost use Rattle.fuse_tables.specs.Content.{shown_handle, shown_kept, shown_place, shown_entry};
 ghost use Rattle.fuse_tables.specs.Content.{has_name, stands_after, at_by, access_code};
 ghost use Rattle.fuse_table_look.specs.Fits.{Fits, KeepsNode, KeepsRecord};
-ghost use Rattle.fuse_tables.specs.Faults.{IsOutside};
+ghost use Rattle.fuse_tables.specs.Faults.{IsOutside, IsPlain};
 ghost use Rattle.fuse_tables.specs.Moves.{Inside, Looked, Stays};
 
 use fuse_answer::{Answer, MAX_BODY};
@@ -34,6 +34,7 @@ fn read_node(rows: &[Row], number: u64) -> Result<Option<NodeRow>, StoreFault>
         × (n.node ≡ number)) → rows.now ≡ map node_columns (option_to_list o) → r ≡ o) }
     ensures fault { IfErr result (λ f. (o : Option Node)
         → rows.now ≡ map node_columns (option_to_list o) → IsOutside f) }
+    ensures plain { IfErr result IsPlain }
 {
     match rows.first() {
         None => Ok(None),
@@ -50,6 +51,7 @@ fn access_at(row: &Row, at: usize) -> Result<AccessMode, StoreFault>
         → column row.now at ≡ Int (pos (access_code h.access)) → r ≡ h.access) }
     ensures fault { IfErr result (λ f. (h : Handle)
         → column row.now at ≡ Int (pos (access_code h.access)) → IsOutside f) }
+    ensures plain { IfErr result IsPlain }
 {
     match small_at(row, at)? {
         0 => Ok(AccessMode::ReadOnly),
@@ -65,6 +67,7 @@ fn read_handle(rows: &[Row], fh: u64) -> Result<Option<HandleRow>, StoreFault>
         → rows.now ≡ map shown_handle (option_to_list o) → r ≡ o) }
     ensures fault { IfErr result (λ f. (o : Option Handle)
         → rows.now ≡ map shown_handle (option_to_list o) → IsOutside f) }
+    ensures plain { IfErr result IsPlain }
 {
     match rows.first() {
         None => Ok(None),
@@ -80,6 +83,7 @@ fn read_handle(rows: &[Row], fh: u64) -> Result<Option<HandleRow>, StoreFault>
 fn answer_of(errno: u32, body: Vec<u8>) -> Result<Answer, StoreFault>
     ensures value { IfOk result (λ r. r ≡ record { errno = errno; body = body.items }) }
     ensures fault { IfErr result (λ _. ¬ FitsAnswer (record { errno = errno; body = body.items })) }
+    ensures plain { IfErr result IsPlain }
 {
     if body.len() > MAX_BODY {
         return Err(StoreFault::Damaged);
@@ -97,6 +101,7 @@ fn answer_at(row: &Row) -> Result<Answer, StoreFault>
     ensures value { IfOk result (λ r. (k : Kept) → row.now ≡ shown_kept k → r ≡ k.said) }
     ensures fault { IfErr result (λ f. (k : Kept) → KeepsRecord k → row.now ≡ shown_kept k
         → IsOutside f) }
+    ensures plain { IfErr result IsPlain }
 {
     let errno = small_at(row, 0)?;
     let body = bytes_at(row, 1)?;
@@ -104,11 +109,12 @@ fn answer_at(row: &Row) -> Result<Answer, StoreFault>
 }
 
 // The record that was found.
-fn read_answer(rows: &[Row]) -> Result<Option<Answer>, StoreFault>
+pub(crate) fn read_answer(rows: &[Row]) -> Result<Option<Answer>, StoreFault>
     ensures value { IfOk result (λ r. (o : Option Kept)
         → rows.now ≡ map shown_kept (option_to_list o) → r ≡ option_map (λ k. k.said) o) }
     ensures fault { IfErr result (λ f. (o : Option Kept) → IfSome o KeepsRecord
         → rows.now ≡ map shown_kept (option_to_list o) → IsOutside f) }
+    ensures plain { IfErr result IsPlain }
 {
     match rows.first() {
         None => Ok(None),
@@ -130,6 +136,7 @@ fn read_place(
         × (e.name ≡ name.now)) → rows.now ≡ map shown_place (option_to_list o) → r ≡ o) }
     ensures fault { IfErr result (λ f. (o : Option Entry)
         → rows.now ≡ map shown_place (option_to_list o) → IsOutside f) }
+    ensures plain { IfErr result IsPlain }
 {
     match rows.first() {
         None => Ok(None),
@@ -158,6 +165,7 @@ pub(crate) fn find_node<S: Alter>(
         → Inside c (state S.Store conn.old) → Fits c → r ≡ at_by node_key number c.nodes) }
     ensures fault { HasCleanDisk (state S.Store conn.new) → IfErr result (λ f. (c : Content)
         → Inside c (state S.Store conn.old) → IsOutside f) }
+    ensures plain { IfErr result IsPlain }
 {
     if number >= 1 << 63 {
         return Ok(None);
@@ -177,6 +185,7 @@ pub(crate) fn find_handle<S: Alter>(
         → Inside c (state S.Store conn.old) → Fits c → r ≡ at_by fh_of fh c.handles) }
     ensures fault { HasCleanDisk (state S.Store conn.new) → IfErr result (λ f. (c : Content)
         → Inside c (state S.Store conn.old) → IsOutside f) }
+    ensures plain { IfErr result IsPlain }
 {
     if fh >= 1 << 63 {
         return Ok(None);
@@ -198,6 +207,7 @@ pub fn find_answer<S: Alter>(
         → r ≡ option_map (λ k. k.said) (at_by kept_key id c.kept)) }
     ensures fault { HasCleanDisk (state S.Store conn.new) → IfErr result (λ f. (c : Content)
         → Inside c (state S.Store conn.old) → Fits c → IsOutside f) }
+    ensures plain { IfErr result IsPlain }
 {
     let rows = select_kept(conn, id)?;
     read_answer(rows.as_slice())
@@ -216,6 +226,7 @@ pub(crate) fn find_entry<S: Alter>(
         → Inside c (state S.Store conn.old) → Fits c → r ≡ find (has_name dir name.now) c.entries) }
     ensures fault { HasCleanDisk (state S.Store conn.new) → IfErr result (λ f. (c : Content)
         → Inside c (state S.Store conn.old) → IsOutside f) }
+    ensures plain { IfErr result IsPlain }
 {
     if dir >= 1 << 63 {
         return Ok(None);

@@ -1,12 +1,16 @@
 // A group of requests, within the transaction that is open.
-ghost use Rattle.std.specs.Prelude.{◌≡◌, ◌<◌, ◌^◌, None, length, IfOk, OnOk, OnErr, IfSome};
+ghost use Rattle.std.specs.Prelude.{◌≡◌, ◌<◌, ◌^◌, None, length, IfOk, IfErr, OnOk, OnErr};
+ghost use Rattle.std.specs.Prelude.{IfSome};
 ghost use Rattle.sqlite.specs.State.{HasCleanDisk};
 ghost use Rattle.sqlite.specs.Held.{state};
 ghost use Rattle.fuse_keeper.specs.Group.{entries_of, ids_of};
+ghost use Rattle.fuse_tables.specs.Moves.{IsSure};
+ghost use Rattle.fuse_tables.specs.Faults.{IsPlain};
 ghost use Rattle.fuse_table_look.specs.Looking.{look_fault};
-ghost use Rattle.fuse_table_look.specs.Holding.{Holding, InsideFor, KeepsFor, Turned};
+ghost use Rattle.fuse_table_look.specs.Holding.{Holding, HeldFor, InsideFor, KeepsFor};
+ghost use Rattle.fuse_table_look.specs.Holding.{Turned};
 ghost use Rattle.fuse_table_look.specs.Group.{with_group, dones_of, prepared, lot_for};
-ghost use Rattle.fuse_table_look.specs.Group.{performed, all_dones};
+ghost use Rattle.fuse_table_look.specs.Group.{performed, all_dones, IsSureFor};
 
 use crate::look::TableLook;
 use crate::lots::take_lot;
@@ -43,6 +47,9 @@ fn take_all<S: Alter>(
     ensures fails { OnErr result (KeepsFor (state S.Store look.old.conn)
         (state S.Store look.new.conn)) }
     ensures ready { look_fault look.new.fault ≡ None }
+    ensures fault { IsSure HeldFor (state S.Store look.old.conn) (state S.Store look.new.conn)
+        result }
+    ensures plain { IfErr result IsPlain }
 {
     let mut dones = Vec::new(alloc);
     for one in group {
@@ -68,6 +75,8 @@ fn prepare<S: Alter>(
         → InsideFor y (state S.Store conn.old) → n ≡ lot_for lot y) }
     ensures low { IfOk result (λ n. n < 2 ^ 62) }
     ensures fails { OnErr result (KeepsFor (state S.Store conn.old) (state S.Store conn.new)) }
+    ensures fault { IsSureFor lot (state S.Store conn.old) (state S.Store conn.new) result }
+    ensures plain { IfErr result IsPlain }
 {
     match settle(conn, settled) {
         Ok(()) => take_lot(conn, lot),
@@ -100,6 +109,10 @@ pub fn perform_in<S: Alter>(
     ensures fails { OnErr result (KeepsFor (state S.Store look.old.conn)
         (state S.Store look.new.conn)) }
     ensures ready { look_fault look.new.fault ≡ None }
+    // What is held stands: it is damaged only where no lot is left.
+    ensures fault { IsSureFor lot (state S.Store look.old.conn) (state S.Store look.new.conn)
+        result }
+    ensures plain { IfErr result IsPlain }
 {
     let lot = match prepare(&mut look.conn, lot, settled) {
         Ok(lot) => lot,

@@ -7,7 +7,7 @@ ghost use Rattle.sqlite.specs.Held.{state};
 ghost use Rattle.fuse_tree.specs.declared.rows.EntryRow.{EntryRow as Entry};
 ghost use Rattle.fuse_tables.specs.Content.{Content, shown_entry, stands_after};
 ghost use Rattle.fuse_table_look.specs.Fits.{Fits};
-ghost use Rattle.fuse_tables.specs.Faults.{IsOutside};
+ghost use Rattle.fuse_tables.specs.Faults.{IsOutside, IsPlain};
 ghost use Rattle.fuse_tables.specs.Moves.{Inside, Looked, Stays};
 
 use fuse_keeper::StoreFault;
@@ -23,6 +23,7 @@ const MOST: u64 = 0x4000_0000_0000_0000;
 fn entry_at(row: &Row, dir: u64) -> Result<EntryRow, StoreFault>
     ensures value { IfOk result (λ r. (e : Entry) → e.dir ≡ dir → row.now ≡ shown_entry e → r ≡ e) }
     ensures fault { IfErr result (λ f. (e : Entry) → row.now ≡ shown_entry e → IsOutside f) }
+    ensures plain { IfErr result IsPlain }
 {
     let cookie = number_at(row, 0)?;
     let name = ByteList::from_vec(bytes_at(row, 1)?);
@@ -40,6 +41,7 @@ fn read_entries(alloc: Global, rows: &[Row], dir: u64) -> Result<Vec<EntryRow>, 
         → rows.now ≡ map shown_entry es → v.items ≡ es) }
     ensures fault { IfErr result (λ f. (es : List Entry) → AllByRecursion (λ e. e.dir ≡ dir) es
         → rows.now ≡ map shown_entry es → IsOutside f) }
+    ensures plain { IfErr result IsPlain }
 {
     let mut entries = Vec::new(alloc);
     for row in rows {
@@ -83,6 +85,7 @@ pub(crate) fn find_after<S: Alter>(
         → v.items ≡ take limit (filter (stands_after dir cookie) c.entries)) }
     ensures fault { HasCleanDisk (state S.Store conn.new) → IfErr result (λ f. (c : Content)
         → Inside c (state S.Store conn.old) → length c.entries < MOST → IsOutside f) }
+    ensures plain { IfErr result IsPlain }
 {
     if dir >= 1 << 63 {
         return Ok(Vec::new(alloc));

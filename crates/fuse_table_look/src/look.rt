@@ -55,6 +55,7 @@ impl<S: Alter> TableLook<S> {
 
     /// The fault of a look, if there was one, which is forgotten.
     pub(crate) fn take_fault(&mut self) -> Option<StoreFault>
+        ensures was { result ≡ self.old.fault }
         ensures fault { look_fault self.new.fault ≡ None }
         ensures conn { self.new.conn ≡ self.old.conn }
     {
@@ -63,6 +64,7 @@ impl<S: Alter> TableLook<S> {
 
     // Keeps the fault.
     fn fail(&mut self, fault: StoreFault) -> LookFault
+        ensures kept { self.new.fault ≡ Some fault }
         ensures fault { look_fault self.new.fault ≡ Some result }
         ensures conn { self.new.conn ≡ self.old.conn }
     {
@@ -73,9 +75,9 @@ impl<S: Alter> TableLook<S> {
 }
 
 impl<S: Alter> Look for TableLook<S> {
-    ghost use Rattle.fuse_table_look.specs.Looking.{sees_in};
-    ghost use Rattle.fuse_table_look.specs.Laws.{looked_still, looked_then, looked_fails};
-    ghost use Rattle.fuse_table_look.specs.Laws.{looked_clean, looked_less, looked_kept};
+    ghost use Rattle.fuse_table_look.specs.Looking.{sees_in, WentWell, MayFail};
+    ghost use Rattle.fuse_table_look.specs.Laws.{well_still, well_then, well_fails, well_less};
+    ghost use Rattle.fuse_table_look.specs.Laws.{looked_clean, looked_kept};
 
     ghost sees = { λ k rows. sees_in (state S.Store k.conn) rows };
 
@@ -83,9 +85,9 @@ impl<S: Alter> Look for TableLook<S> {
 
     ghost is_clean = { λ k. HasCleanDisk (state S.Store k.conn) };
 
-    ghost looks = { λ a b. Looked (state S.Store a.conn) (state S.Store b.conn) };
+    ghost looks = { λ a b. WentWell (state S.Store a.conn) (state S.Store b.conn) a.fault b.fault };
 
-    ghost fails = { λ a b. Stays (state S.Store a.conn) (state S.Store b.conn) };
+    ghost fails = { λ a b. MayFail (state S.Store a.conn) (state S.Store b.conn) a.fault b.fault };
 
     fn node(&mut self, number: u64) -> Result<Option<NodeRow>, LookFault> {
         match find_node(&mut self.conn, number) {
@@ -148,15 +150,15 @@ impl<S: Alter> Look for TableLook<S> {
         }
     }
 
-    ghost still = { λ a. looked_still _ };
+    ghost still = { λ a. well_still _ _ };
 
-    ghost and_then = { λ a b d p q. looked_then _ _ _ p q };
+    ghost and_then = { λ a b d p q. well_then _ _ _ _ _ _ p q };
 
-    ghost and_fails = { λ a b d p q. looked_fails _ _ _ p q };
+    ghost and_fails = { λ a b d p q. well_fails _ _ _ _ _ _ p q };
 
-    ghost or_less = { λ a b p. looked_less _ _ p };
+    ghost or_less = { λ a b p. well_less _ _ _ _ p };
 
-    ghost was_clean = { λ a b p clean. looked_clean _ _ p clean };
+    ghost was_clean = { λ a b p clean. looked_clean _ _ p.looked clean };
 
-    ghost kept = { λ a b p clean rows sees. looked_kept _ _ p clean rows sees };
+    ghost kept = { λ a b p clean rows sees. looked_kept _ _ p.looked clean rows sees };
 }

@@ -1,14 +1,14 @@
 // The lot under which the records of this start stand.
 ghost use Rattle.std.specs.Prelude.{◌≡◌, ◌+◌, ◌<◌, ◌≤◌, ◌^◌, List, length, map, IfOk, IfErr};
-ghost use Rattle.std.specs.Prelude.{OnOk, OnErr, IfSome};
+ghost use Rattle.std.specs.Prelude.{OnOk, OnErr, IfSome, None};
 ghost use Rattle.sqlite.specs.State.{HasCleanDisk};
 ghost use Rattle.sqlite.specs.Held.{state};
 ghost use Rattle.fuse_tables.specs.Content.{Counter, shown_counter, set_counter, with_lot};
-ghost use Rattle.fuse_tables.specs.Faults.{IsOutside};
+ghost use Rattle.fuse_tables.specs.Faults.{IsOutside, IsPlain};
 ghost use Rattle.fuse_tables.specs.Moves.{Makes};
 ghost use Rattle.fuse_table_look.specs.Store.{value_of};
 ghost use Rattle.fuse_table_look.specs.Holding.{Holding, InsideFor, KeepsFor, Turned};
-ghost use Rattle.fuse_table_look.specs.Group.{with_new_lot, with_lot_for, lot_for};
+ghost use Rattle.fuse_table_look.specs.Group.{with_new_lot, with_lot_for, lot_for, IsSureFor};
 
 use fuse_keeper::StoreFault;
 use fuse_tables::{insert_lot, number_at, select_counters, update_counter};
@@ -23,6 +23,7 @@ fn next_lot_of(rows: &[Row]) -> Result<u64, StoreFault>
         → n ≡ value_of cs 10) }
     ensures fault { IfErr result (λ f. (cs : List Counter) → rows.now ≡ map shown_counter cs
         → 11 ≤ length cs → IsOutside f) }
+    ensures plain { IfErr result IsPlain }
 {
     match rows.get(10) {
         None => Err(StoreFault::Damaged),
@@ -48,6 +49,9 @@ fn take_next<S: Alter>(conn: &mut Connection<S>) -> Result<u64, StoreFault>
     ensures value { HasCleanDisk (state S.Store conn.new) → IfOk result (λ lot. (y : Holding)
         → InsideFor y (state S.Store conn.old) → lot ≡ y.next_lot) }
     ensures low { IfOk result (λ lot. lot < 2 ^ 62) }
+    // It is damaged only where no lot is left.
+    ensures fault { IsSureFor None (state S.Store conn.old) (state S.Store conn.new) result }
+    ensures plain { IfErr result IsPlain }
 {
     let rows = match select_counters(conn) {
         Ok(rows) => rows,
@@ -78,6 +82,8 @@ pub(crate) fn take_lot<S: Alter>(
     ensures value { HasCleanDisk (state S.Store conn.new) → IfOk result (λ n. (y : Holding)
         → InsideFor y (state S.Store conn.old) → n ≡ lot_for lot y) }
     ensures low { IfOk result (λ n. n < 2 ^ 62) }
+    ensures fault { IsSureFor lot (state S.Store conn.old) (state S.Store conn.new) result }
+    ensures plain { IfErr result IsPlain }
 {
     match lot {
         Some(lot) => Ok(lot),

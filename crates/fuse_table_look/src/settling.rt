@@ -2,7 +2,7 @@
 ghost use Rattle.std.specs.Prelude.{IfErr, OnOk, OnErr};
 ghost use Rattle.sqlite.specs.Held.{state};
 ghost use Rattle.fuse_keeper.specs.Group.{ids_of};
-ghost use Rattle.fuse_tables.specs.Faults.{IsOutside};
+ghost use Rattle.fuse_tables.specs.Faults.{IsOutside, IsPlain};
 ghost use Rattle.fuse_table_look.specs.Holding.{KeepsFor, Turned};
 ghost use Rattle.fuse_table_look.specs.Group.{without_record, without_settled};
 
@@ -20,6 +20,7 @@ fn forget<S: Alter>(conn: &mut Connection<S>, id: u64) -> Result<(), StoreFault>
         (state S.Store conn.new)) }
     ensures fails { OnErr result (KeepsFor (state S.Store conn.old) (state S.Store conn.new)) }
     ensures fault { IfErr result IsOutside }
+    ensures plain { IfErr result IsPlain }
 {
     if id >= END {
         return Ok(());
@@ -36,6 +37,7 @@ pub(crate) fn settle<S: Alter>(conn: &mut Connection<S>, ids: &[Id]) -> Result<(
         (state S.Store conn.old) (state S.Store conn.new)) }
     ensures fails { OnErr result (KeepsFor (state S.Store conn.old) (state S.Store conn.new)) }
     ensures fault { IfErr result IsOutside }
+    ensures plain { IfErr result IsPlain }
 {
     for id in ids {
         match forget(conn, id.0) {

@@ -4,13 +4,13 @@ ghost use Rattle.std.specs.Prelude.{IfErr, OnOk, OnErr};
 ghost use Rattle.sqlite.specs.State.{HasCleanDisk};
 ghost use Rattle.sqlite.specs.Held.{state};
 ghost use Rattle.fuse_tree.specs.Bounds.{block_bytes};
-ghost use Rattle.fuse_tables.specs.Faults.{IsOutside};
+ghost use Rattle.fuse_tables.specs.Faults.{IsOutside, IsPlain};
 ghost use Rattle.fuse_table_look.specs.Changing.{Changed, Keeps, KeepsBytes, Overlaid};
 ghost use Rattle.fuse_tree.specs.declared.rows.Change.TheVariants as changes;
 ghost use Rattle.fuse_tables.specs.Content.{Content};
 ghost use Rattle.fuse_table_look.specs.Fits.{Fits};
-ghost use Rattle.fuse_tables.specs.Moves.{Inside, Makes};
-ghost use Rattle.fuse_table_look.specs.Store.{spliced, with_change};
+ghost use Rattle.fuse_tables.specs.Moves.{Inside, IsSure, Makes};
+ghost use Rattle.fuse_table_look.specs.Store.{Held, HeldAs, spliced, with_change};
 
 use crate::contents::{find_block, first_count};
 use fuse_keeper::StoreFault;
@@ -24,6 +24,7 @@ fn splice(alloc: Global, old: &[u8], start: usize, part: &[u8]) -> Result<Vec<u8
     requires { start + length part.now ≤ length old.now }
     ensures value { IfOk result (λ v. v.items ≡ spliced old.now start part.now) }
     ensures fault { IfErr result (λ f. IsOutside f) }
+    ensures plain { IfErr result IsPlain }
 {
     let end = start + part.len();
     let mut made = Vec::from_slice(alloc, &old[..start])?;
@@ -48,6 +49,7 @@ pub(crate) fn write_piece<S: Alter>(
     ensures fails { OnErr result (KeepsBytes (state S.Store conn.old) (state S.Store conn.new)) }
     ensures fault { HasCleanDisk (state S.Store conn.new) → IfErr result (λ f. (c : Content)
         → Inside c (state S.Store conn.old) → Fits c → IsOutside f) }
+    ensures plain { IfErr result IsPlain }
 {
     let block = here / u64::from(BLOCK_SIZE);
     let old = match find_block(conn, alloc, node, block) {
@@ -78,6 +80,8 @@ pub(crate) fn write_range<S: Alter>(
     ensures overlaid { OnOk result (Overlaid node at bytes.now (state S.Store conn.old)
         (state S.Store conn.new)) }
     ensures fails { OnErr result (KeepsBytes (state S.Store conn.old) (state S.Store conn.new)) }
+    ensures fault { IsSure HeldAs (state S.Store conn.old) (state S.Store conn.new) result }
+    ensures plain { IfErr result IsPlain }
 {
     let mut done: usize = 0;
     'pieces: while done < bytes.len() {
@@ -105,6 +109,8 @@ pub(crate) fn write_content<S: Alter>(
     ensures changed { OnOk result (Changed (with_change (changes.Written node at bytes.now))
         (state S.Store conn.old) (state S.Store conn.new)) }
     ensures fails { OnErr result (Keeps (state S.Store conn.old) (state S.Store conn.new)) }
+    ensures fault { IsSure Held (state S.Store conn.old) (state S.Store conn.new) result }
+    ensures plain { IfErr result IsPlain }
 {
     write_range(conn, alloc, node, at, bytes)
 }

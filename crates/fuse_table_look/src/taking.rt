@@ -1,15 +1,19 @@
 // One request of a group, within the transaction that is open.
-ghost use Rattle.std.specs.Prelude.{◌≡◌, ◌<◌, ◌^◌, None, IfOk, OnOk, OnErr};
+ghost use Rattle.std.specs.Prelude.{◌≡◌, ◌<◌, ◌^◌, None, IfOk, IfErr, OnOk, OnErr};
 ghost use Rattle.sqlite.specs.State.{HasCleanDisk};
 ghost use Rattle.sqlite.specs.Held.{state};
 ghost use Rattle.fuse_answer.specs.Said.{FitsAnswer};
 ghost use Rattle.fuse_keeper.specs.Group.{entry_of};
+ghost use Rattle.fuse_tables.specs.Faults.{IsOutside, IsPlain};
+ghost use Rattle.fuse_tables.specs.Moves.{IsSure};
 ghost use Rattle.fuse_table_look.specs.Looking.{look_fault};
-ghost use Rattle.fuse_table_look.specs.Holding.{Holding, InsideFor, KeepsFor, Turned};
+ghost use Rattle.fuse_table_look.specs.Holding.{Holding, HeldFor, InsideFor, KeepsFor};
+ghost use Rattle.fuse_table_look.specs.Holding.{Turned};
 ghost use Rattle.fuse_table_look.specs.Group.{acted_on, answered, taken, with_record};
 ghost use Rattle.fuse_table_look.specs.Group.{said_of};
 
 use crate::acting::act;
+use crate::changing::narrow;
 use crate::finding::find_answer;
 use crate::look::TableLook;
 use fuse_answer::Answer;
@@ -19,6 +23,13 @@ use fuse_tables::insert_kept;
 use fuse_wire::{Id, Moment};
 use sqlite::{Alter, Connection};
 use std::alloc::Global;
+
+// The error number of an answer is of 32 bits.
+fn law_of_errno(answer: &Answer)
+    ensures { answer.now.errno < 2 ^ 32 }
+{
+    narrow(answer.errno.0);
+}
 
 // The record of an answer comes, under a lot.
 fn record<S: Alter>(
@@ -33,7 +44,10 @@ fn record<S: Alter>(
     ensures turned { OnOk result (Turned (with_record id lot answer.now) (state S.Store conn.old)
         (state S.Store conn.new)) }
     ensures fails { OnErr result (KeepsFor (state S.Store conn.old) (state S.Store conn.new)) }
+    ensures fault { IfErr result IsOutside }
+    ensures plain { IfErr result IsPlain }
 {
+    law_of_errno(answer);
     match insert_kept(conn, id, lot, answer) {
         Ok(_) => Ok(()),
         Err(error) => Err(StoreFault::from(error)),
@@ -58,6 +72,9 @@ fn act_and_record<S: Alter>(
     ensures fails { OnErr result (KeepsFor (state S.Store look.old.conn)
         (state S.Store look.new.conn)) }
     ensures ready { look_fault look.new.fault ≡ None }
+    ensures fault { IsSure HeldFor (state S.Store look.old.conn) (state S.Store look.new.conn)
+        result }
+    ensures plain { IfErr result IsPlain }
 {
     let answer = match act(alloc, look, request, now) {
         Ok(answer) => answer,
@@ -91,6 +108,9 @@ pub(crate) fn take_one<S: Alter>(
     ensures fails { OnErr result (KeepsFor (state S.Store look.old.conn)
         (state S.Store look.new.conn)) }
     ensures ready { look_fault look.new.fault ≡ None }
+    ensures fault { IsSure HeldFor (state S.Store look.old.conn) (state S.Store look.new.conn)
+        result }
+    ensures plain { IfErr result IsPlain }
 {
     let known = match find_answer(&mut look.conn, Id::of(request.header.unique).0) {
         Ok(known) => known,

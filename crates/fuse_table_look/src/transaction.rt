@@ -1,11 +1,12 @@
 // A group as a whole transaction.
-ghost use Rattle.std.specs.Prelude.{◌≡◌, ◌<◌, ◌^◌, None, length, IfOk, IfSome};
+ghost use Rattle.std.specs.Prelude.{◌≡◌, ◌<◌, ◌^◌, None, length, IfOk, IfErr, IfSome};
 ghost use Rattle.sqlite.specs.Held.{state};
 ghost use Rattle.fuse_keeper.specs.Group.{entries_of, ids_of};
 ghost use Rattle.fuse_tables.specs.Moves.{PerformsAs, ServesAs};
+ghost use Rattle.fuse_tables.specs.Faults.{IsPlain};
 ghost use Rattle.fuse_table_look.specs.Looking.{look_fault};
 ghost use Rattle.fuse_table_look.specs.Holding.{HeldFor, TellsAfter};
-ghost use Rattle.fuse_table_look.specs.Group.{performed, all_dones, lot_for};
+ghost use Rattle.fuse_table_look.specs.Group.{performed, all_dones, lot_for, IsSafeFor};
 
 use crate::group::{Performed, perform_in};
 use crate::look::TableLook;
@@ -37,6 +38,9 @@ fn transact<S: Alter>(
         (state S.Store look.new.conn) (λ y. p.dones.items
         ≡ all_dones lot (ids_of settled.now) (entries_of group.now) y)) }
     ensures ready { look_fault look.new.fault ≡ None }
+    ensures fault { IsSafeFor lot (state S.Store look.old.conn) (state S.Store look.new.conn)
+        result }
+    ensures plain { IfErr result IsPlain }
 {
     match begin(&mut look.conn) {
         Ok(_) => {}
@@ -74,6 +78,11 @@ pub fn perform<S: Alter>(
         (state S.Store look.new.conn) (λ y. p.dones.items
         ≡ all_dones lot (ids_of settled.now) (entries_of group.now) y)) }
     ensures ready { look_fault look.new.fault ≡ None }
+    // Where something is held, it is never damaged, but where no lot is left.
+    ensures fault { IsSafeFor lot (state S.Store look.old.conn) (state S.Store look.new.conn)
+        result }
+    // It never says that there is no store, or one of another version.
+    ensures plain { IfErr result IsPlain }
 {
     match transact(alloc, look, lot, group, settled) {
         Ok(performed) => Ok(performed),

@@ -22,12 +22,13 @@ use Rattle.sqlite.proofs.Callers.{IsPlain, command_of, statement_of}
 use Rattle.fuse_tables.specs.Layout.{meta, store_schema}
 use Rattle.fuse_tables.specs.Content.{Content, Counter, Holds, stored, has_by, counter_key, counter_row, shown_counter, valued}
 use Rattle.fuse_tables.specs.Content.{set_counter}
-use Rattle.fuse_tables.specs.Moves.{Inside, Makes}
+use Rattle.fuse_tables.specs.Moves.{Inside, Rests, Makes, Serves}
 use Rattle.fuse_tables.proofs.Writing.{makes}
 use Rattle.fuse_tables.proofs.Tables.{wrote, only_counters}
 use Rattle.fuse_tables.proofs.Keyed.{row_cmp_nat}
 use Rattle.fuse_tables.proofs.RowLemmas.{cast_int, cast_null}
-use Rattle.fuse_tables.proofs.Reading.{looks, read, truth_of}
+use Rattle.fuse_tables.proofs.Reading.{looks, read_held, truth_of}
+use Rattle.fuse_tables.proofs.Resting.{peeks}
 use Rattle.fuse_tables.proofs.Updating.{changing, changes}
 use Rattle.fuse_tables.proofs.Ordered.{ordered_query, answered_in_order, rises_from}
 
@@ -60,10 +61,10 @@ pub all_of : {X : Type 0} (xs : List X) → filter (λ _. true) xs ≡ xs
 all_of [] = refl
 all_of (x ∷ xs) = ap (λ more. x ∷ more) (all_of xs)
 
-finds : (c : Content) (old new : State) (rows : List Row) → Inside c old → Shown select_text [] old new rows → rows ≡ map shown_counter c.counters
+finds : (c : Content) (old new : State) (rows : List Row) → Holds c old.now → Shown select_text [] old new rows → rows ≡ map shown_counter c.counters
 finds c old new rows at h =
-    let was = at.holds.rows.0 in
-    let answer = (read Holds store_schema (λ c d h. h.schema) select_text [] _ select_is select_plain select_unlisted c old new rows at h).answer Null in
+    let was = at.rows.0 in
+    let answer = (read_held Holds store_schema (λ c d h. h.schema) select_text [] _ select_is select_plain select_unlisted c old new rows at h).answer Null in
     answered_in_order counter_key (λ c. Null ∷ Int (pos c.value) ∷ []) (λ _. true) Null (overlay old.now.trees []) [] [] (λ _. refl) (col 1 2
     ∷ []) (lit (Int (negsuc 0))) 0 c.counters rows was.0
     (rises_from counter_key counter_row (λ _. refl) c.counters (subst IsTable was.0 was.1)) answer ∙ ap (map shown_counter) (all_of c.counters)
@@ -76,8 +77,19 @@ look_makes items = looks Holds store_schema (λ c d h. h.schema) select_text [] 
 pub look_finds : {X : Type 0} (items : X → List Row) (old new : State) (r : Result X Error)
     → (HasCleanDisk new → IfOk r (λ x. Shown select_text [] old new (items x)))
     → HasCleanDisk new → IfOk r (λ x. (c : Content) → Inside c old → items x ≡ map shown_counter c.counters)
-look_finds items old new (Ok x) ok clean = λ c at. finds c old new (items x) at (ok clean)
+look_finds items old new (Ok x) ok clean = λ c at. finds c old new (items x) at.holds (ok clean)
 look_finds items old new (Err e) ok clean = tt
+
+pub peek_serves : {X : Type 0} (items : X → List Row) (old new : State) (r : Result X Error)
+    → (HasCleanDisk new → IfOk r (λ x. Shown select_text [] old new (items x)))
+    → (HasCleanDisk new → IfErr r (FailsToQuery select_text [] old new)) → Survives old new (CommitsShowing select_text [] old) → Serves (λ c. c) old new r
+peek_serves items = peeks Holds store_schema (λ c d h. h.schema) select_text [] select_plain items
+
+pub peek_finds : {X : Type 0} (items : X → List Row) (old new : State) (r : Result X Error)
+    → (HasCleanDisk new → IfOk r (λ x. Shown select_text [] old new (items x)))
+    → HasCleanDisk new → IfOk r (λ x. (c : Content) → Rests c old → items x ≡ map shown_counter c.counters)
+peek_finds items old new (Ok x) ok clean = λ c at. finds c old new (items x) at.holds (ok clean)
+peek_finds items old new (Err e) ok clean = tt
 
 -- ---- one changed
 

@@ -1,11 +1,9 @@
 -- Calls one after another.
-use Rattle.std.proofs.Common.{◌≡◌, Bool, true, false, cond, Ok, Err, Result, IfErr, sym, subst, ◌∙◌}
+use Rattle.std.proofs.Common.{◌≡◌, Bool, true, false, cond, Ok, Err, Result, IfErr, subst}
 use Rattle.std.specs.Result.{IsErr}
 use Rattle.sqlite.specs.Effect.{Database}
-use Rattle.sqlite.specs.State.{State, HasCleanDisk, Survives, KeepsCommit}
-use Rattle.sqlite.proofs.StateLemmas.{survives_weaker, survives_then}
-use Rattle.sqlite.proofs.InsideLemmas.{keeps_then}
-use Rattle.fuse_tables.specs.Content.{Content, Holds, LeftAs}
+use Rattle.sqlite.specs.State.{State, HasCleanDisk, Survives}
+use Rattle.fuse_tables.specs.Content.{Content, Holds}
 pub use Rattle.fuse_tables.specs.Following.{earlier, stays_then, then_as, taken_from, makes_then}
 pub use Rattle.fuse_tables.specs.Transaction.{failed_first, failed_inside, failed_commit, committed, served, undone}
 use Rattle.sqlite.specs.declared.error.Error.{Error}
@@ -14,7 +12,7 @@ use Rattle.fuse_keeper.specs.declared.fault.StoreFault.{StoreFault}
 use Rattle.fuse_keeper.specs.declared.fault.StoreFault.TheVariants.{Memory, Sql}
 use Rattle.fuse_tables.specs.Faults.{IsOutside}
 use Rattle.fuse_keeper.specs.Faults.{fault_of, is_memory}
-use Rattle.fuse_tables.specs.Moves.{RestsAs, InsideAs, Takes, Makes, Begins, Ends, PerformsAs, Undoes, ServesAs, IsSure}
+use Rattle.fuse_tables.specs.Moves.{InsideAs, Takes, Makes, IsSure}
 
 -- a call that failed makes nothing, so it may stand for any
 pub fails_as : {C X Y E F : Type 0} (P Q R : C → Database → Type 0) (a b : State) (e : E) (d : F) → Takes {X = X} P Q a b (Err e)

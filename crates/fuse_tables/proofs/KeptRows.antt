@@ -25,12 +25,13 @@ use Rattle.sqlite.specs.State.{State, HasCleanDisk, Survives, Executes, CommitsB
 use Rattle.sqlite.proofs.Callers.{IsPlain, command_of, statement_of}
 use Rattle.fuse_tables.specs.Layout.{kept, store_schema}
 use Rattle.fuse_tables.specs.Content.{Content, Kept, Holds, stored, put_by, has_by, at_by, kept_key, kept_row, shown_kept, with_kept, without_kept}
-use Rattle.fuse_tables.specs.Moves.{Inside, Makes}
+use Rattle.fuse_tables.specs.Moves.{Inside, Rests, Makes, Serves}
 use Rattle.fuse_tables.proofs.Writing.{makes}
 use Rattle.fuse_tables.proofs.Tables.{wrote, quiet, only_kept}
 use Rattle.fuse_tables.proofs.Keyed.{put_rows, row_cmp_nat, found_rows}
 use Rattle.fuse_tables.proofs.RowLemmas.{cast_int, cast_null, inserted}
-use Rattle.fuse_tables.proofs.Reading.{plain_query, answered, looks, read, only, truth_of}
+use Rattle.fuse_tables.proofs.Reading.{plain_query, answered, looks, read_held, only, truth_of}
+use Rattle.fuse_tables.proofs.Resting.{peeks}
 use Rattle.fuse_tables.proofs.Deletes.{picking, picks}
 
 -- ---- a new row
@@ -128,12 +129,13 @@ select_unlisted : reads_listing store_schema select_text ≡ false
 unfolding understood everything
 select_unlisted = refl
 
-finds : (k : ℕ) (c : Content) (old new : State) (rows : List Row) → Inside c old → Shown select_text (Int (pos k) ∷ []) old new rows
+finds : (k : ℕ) (c : Content) (old new : State) (rows : List Row) → Holds c old.now → Shown select_text (Int (pos k) ∷ []) old new rows
     → rows ≡ map shown_kept (option_to_list (at_by kept_key k c.kept))
 finds k c old new rows at h =
     let params = Int (pos k) ∷ [] in
-    let was = at.holds.rows.1.1.1.1.1.1.1.0 in
-    let answer = (read Holds store_schema (λ c d h. h.schema) select_text params _ select_is select_plain select_unlisted c old new rows at h).answer Null in
+    let was = at.rows.1.1.1.1.1.1.1.0 in
+    let answer = (read_held Holds store_schema (λ c d h. h.schema) select_text params _ select_is select_plain select_unlisted c old new rows at h).answer
+    Null in
     let same = answered kept_row (has_by kept_key k) Null (overlay old.now.trees []) key_terms params (key_tests k []) 10 select_terms c.kept rows was.0
     answer in
     only (at_by kept_key k c.kept) shown_kept rows (subst (λ xs. IsPermutation (map shown_kept xs) rows) (found_rows kept_key kept_row (λ _. refl) k c.kept
@@ -148,5 +150,17 @@ look_makes items k = looks Holds store_schema (λ c d h. h.schema) select_text (
 pub look_finds : {X : Type 0} (items : X → List Row) (k : ℕ) (old new : State) (r : Result X Error)
     → (HasCleanDisk new → IfOk r (λ x. Shown select_text (Int (pos k) ∷ []) old new (items x)))
     → HasCleanDisk new → IfOk r (λ x. (c : Content) → Inside c old → items x ≡ map shown_kept (option_to_list (at_by kept_key k c.kept)))
-look_finds items k old new (Ok x) ok clean = λ c at. finds k c old new (items x) at (ok clean)
+look_finds items k old new (Ok x) ok clean = λ c at. finds k c old new (items x) at.holds (ok clean)
 look_finds items k old new (Err e) ok clean = tt
+
+pub peek_serves : {X : Type 0} (items : X → List Row) (k : ℕ) (old new : State) (r : Result X Error)
+    → (HasCleanDisk new → IfOk r (λ x. Shown select_text (Int (pos k) ∷ []) old new (items x)))
+    → (HasCleanDisk new → IfErr r (FailsToQuery select_text (Int (pos k) ∷ []) old new)) → Survives old new (CommitsShowing select_text (Int (pos k) ∷ []) old)
+    → Serves (λ c. c) old new r
+peek_serves items k = peeks Holds store_schema (λ c d h. h.schema) select_text (Int (pos k) ∷ []) select_plain items
+
+pub peek_finds : {X : Type 0} (items : X → List Row) (k : ℕ) (old new : State) (r : Result X Error)
+    → (HasCleanDisk new → IfOk r (λ x. Shown select_text (Int (pos k) ∷ []) old new (items x)))
+    → HasCleanDisk new → IfOk r (λ x. (c : Content) → Rests c old → items x ≡ map shown_kept (option_to_list (at_by kept_key k c.kept)))
+peek_finds items k old new (Ok x) ok clean = λ c at. finds k c old new (items x) at.holds (ok clean)
+peek_finds items k old new (Err e) ok clean = tt

@@ -13,6 +13,7 @@ pub mod Deletes
 pub mod Updating
 pub mod Apart
 pub mod Looks
+pub mod Resting
 pub mod HandleRows
 pub mod KeptRows
 pub mod EntryRows
@@ -21,6 +22,7 @@ pub mod LotRows
 pub mod CounterRows
 pub mod BlockRows
 pub mod Counting
+pub mod RecordCounts
 pub mod Emptied
 pub mod Unnamed
 pub mod Refills

@@ -1,6 +1,8 @@
 -- The rows of `meta`.
-use Rattle.std.proofs.Common.{◌≡◌, ◌≤◌, ◌<◌, ◌+◌, inl, inr, ℕ, zero, suc, List, [], ◌∷◌, map, length, slice_index_or, true, cond, Less, refl, sym, ap, subst}
-use Rattle.std.proofs.Common.{arith}
+use Rattle.std.proofs.Common.{◌≡◌, ◌≤◌, ◌<◌, ◌+◌, inl, inr, ℕ, zero, suc, List, [], ◌∷◌, ◌++◌, map, take, length, slice_index_or, true, cond, Less}
+use Rattle.std.proofs.Common.{refl, sym, ap, subst}
+use Rattle.std.proofs.Common.{arith, ◌∙◌}
+use Rattle.std.proofs.lemmas.List.{take_more, length-map}
 use Rattle.std.specs.Ordering.{is_eq, nat_cmp, match_ordering}
 use Rattle.std.proofs.lemmas.Bool.{cases_Bool}
 use Rattle.std.proofs.lemmas.Bool.Decides.{nat_tests}
@@ -26,6 +28,38 @@ row_at k (suc n) (c ∷ cs) zero d meta low = (c, (refl, omega (arith, meta.0), 
 row_at k (suc n) (c ∷ cs) (suc at) d meta low =
     let more = row_at (k + 1) n cs at d meta.2 (omega (arith, low)) in
     (more.0, (more.1.0, omega (arith, more.1.1), more.1.2))
+
+-- the rows before this place are as they should be
+abbrev pub StartsWell : List Row → ℕ → Type 0
+StartsWell rows at = (cs : List Counter) → rows ≡ map shown_meta cs → IsMetaFrom 1 at (take at cs)
+
+no_counter : Counter
+no_counter = record { key = 0; value = 0 }
+
+shown_at : (cs : List Counter) (at : ℕ) (d : Row) → at < length (map shown_meta cs)
+    → slice_index_or (map shown_meta cs) at d ≡ shown_meta (slice_index_or cs at no_counter)
+shown_at [] at d low = absurd (omega (arith, low))
+shown_at (c ∷ cs) zero d low = refl
+shown_at (c ∷ cs) (suc at) d low = shown_at cs at d (omega (arith, low))
+
+meta_last : (k n : ℕ) (cs : List Counter) (c : Counter) → IsMetaFrom k n cs → c.key ≡ k + n → c.value ≤ most c.key → IsMetaFrom k (suc n) (cs ++ c ∷ [])
+meta_last k zero [] c meta is low = (omega (arith, is), low, tt)
+meta_last k zero (x ∷ cs) c meta is low = absurd meta
+meta_last k (suc n) [] c meta is low = absurd meta
+meta_last k (suc n) (x ∷ cs) c meta is low = (meta.0, meta.1, meta_last (k + 1) n cs c meta.2 (omega (arith, is)) low)
+
+one_above : (n : ℕ) → suc n ≡ n + 1
+one_above n = omega arith
+
+-- one row more
+pub starts_more : (rows : List Row) (at : ℕ) (row : Row) → at < length rows → row ≡ slice_index_or rows at row
+    → ((c : Counter) → row ≡ shown_meta c → (c.key ≡ at + 1) × (c.value ≤ most c.key)) → StartsWell rows at → StartsWell rows (at + 1)
+starts_more rows at row low is whole so_far cs same =
+    let below : at < length (map shown_meta cs) = subst (λ rs. at < length rs) same low in
+    let c = slice_index_or cs at no_counter in
+    let told = whole c (is ∙ ap (λ rs. slice_index_or rs at row) same ∙ shown_at cs at row below) in
+    subst (IsMetaFrom 1 (at + 1)) (sym (take_more cs at no_counter (subst (λ n. at < n) (length-map cs shown_meta) below)))
+    (subst (λ m. IsMetaFrom 1 m (take at cs ++ c ∷ [])) (one_above at) (meta_last 1 at (take at cs) c (so_far cs same) (omega (arith, told.0)) told.1))
 
 -- a row more behind the others
 lower : (a b k n : ℕ) → a ≡ k → b ≡ k + suc n → nat_cmp a b ≡ Less

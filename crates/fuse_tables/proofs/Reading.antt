@@ -70,9 +70,13 @@ module _ {C : Type 0} (P : C → Database → Type 0) (layout : Schema) (known :
   }
 
   -- what is read, of the tables as they are
+  pub read_held : reads_listing layout sql ≡ false → (c : C) (old new : State) (rows : List Row) → P c old.now → Shown sql params old new rows
+      → Reads command old.now params rows
+  read_held unlisted c old new rows at h = reads_as sql params old new layout (known c old.now at) command is plain unlisted rows h
+
   pub read : reads_listing layout sql ≡ false → (c : C) (old new : State) (rows : List Row) → InsideAs (P c) old → Shown sql params old new rows
       → Reads command old.now params rows
-  read unlisted c old new rows at h = reads_as sql params old new layout (known c old.now at.holds) command is plain unlisted rows h
+  read unlisted c old new rows at h = read_held unlisted c old new rows at.holds h
 
 -- ---- one table
 

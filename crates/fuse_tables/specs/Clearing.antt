@@ -42,8 +42,11 @@ abbrev pub without_settings : Content → Content
 without_settings c = set_counter 10 0 (set_counter 9 0 (set_counter 8 0 (set_counter 7 0 c)))
 
 -- `count` goes no further
+abbrev pub reached : ℕ → ℕ
+reached n = min n 9223372036854775807
+
 abbrev pub counted_to : {X : Type 0} → List X → ℕ
-counted_to xs = min (length xs) 9223372036854775807
+counted_to xs = reached (length xs)
 
 abbrev pub with_nodes_counted : Content → Content
 with_nodes_counted c = set_counter 5 (counted_to c.nodes) c

@@ -1,20 +1,27 @@
 -- What a store is when it is opened, and what the opening makes of it.
-use Rattle.std.specs.Prelude.{◌≡◌, ◌≤◌, ◌⊎◌, ◌<◌, ◌^◌, ◌+◌, ℕ, zero, suc, pos, IsTrue, false, List, [], ◌∷◌, map, fold, length, if◌then◌else◌, nat_lt, ⊤}
+use Rattle.std.specs.Prelude.{◌≡◌, ◌≤◌, ◌⊎◌, ◌<◌, ◌^◌, ◌+◌, ℕ, zero, suc, pos, IsTrue, false, List, [], ◌∷◌, map, fold, length, if◌then◌else◌}
+use Rattle.std.specs.Prelude.{nat_lt, ⊤, Result, OnOk}
 use Rattle.std.specs.List.{AllByRecursion}
 use Rattle.std.specs.Ordering.{is_eq, nat_cmp}
 use Rattle.sqlite.specs.declared.types.Value.TheVariants.{Int}
 use Rattle.sqlite.specs.Order.{Row}
 use Rattle.sqlite.specs.Effect.{Database}
 use Rattle.fuse_tables.specs.Layout.{with_answers, with_lots, with_kept}
-use Rattle.sqlite.specs.State.{State}
+use Rattle.sqlite.specs.State.{State, HasCleanDisk}
 use Rattle.fuse_tables.specs.Content.{Content, Counter, Answer, Kept, HoldsAs, Holds, LeftAs, stored, put_by, kept_key, value_at, set_counter, with_counter}
 use Rattle.fuse_tables.specs.Content.{with_lot, without_answers}
+use Rattle.fuse_tables.specs.Moves.{InsideAs}
 
 -- ---- the rows of `meta`
 
 -- the greatest value of the row with this key
 abbrev pub most : ℕ → ℕ
-most key = if nat_lt key 5 then 2 ^ 62 else (if nat_lt key 7 then 65536 else (if nat_lt key 8 then 1 else (if nat_lt key 10 then 4294967295 else 2 ^ 62)))
+most key =
+    if nat_lt key 5 then 2 ^ 62
+    else (if nat_lt key 7 then 65536
+    else (if nat_lt key 8 then 1
+    else (if nat_lt key 10 then 4294967295
+    else (if nat_lt key 11 then 9223372036854775807 else 2 ^ 62))))
 
 -- so many rows, whose keys follow each other from this one
 abbrev pub IsMetaFrom : ℕ → ℕ → List Counter → Type 0
@@ -57,6 +64,20 @@ pub record IsSecond (c : Content) (d : Database) : Type 0 where
 
 abbrev pub IsStored : Content → Database → Type 0
 IsStored c d = IsFirst c d ⊎ IsSecond c d
+
+-- ---- what an open tests
+
+-- the tables are those of one of the versions, whatever their rows
+abbrev pub IsLaid : Content → Database → Type 0
+IsLaid c d = HoldsAs with_answers (stored c) d ⊎ Holds c d
+
+-- the rows of `meta` are those of one of the versions
+abbrev pub HasMeta : Content → Type 0
+HasMeta c = ((value_at 1 c ≡ 1) × IsMeta 10 c) ⊎ ((value_at 1 c ≡ 2) × IsMeta 11 c)
+
+-- what went well says so of the rows of the tables that were there
+abbrev pub Tests : {X E : Type 0} → (Content → Type 0) → State → State → Result X E → Type 0
+Tests P old new r = HasCleanDisk new → OnOk r ((c : Content) → InsideAs (IsLaid c) old → P c)
 
 -- ---- the migration
 

@@ -2,7 +2,7 @@
 ghost use Rattle.std.specs.Prelude.{◌≡◌, ◌<◌, ◌^◌, map, IfOk, OnOk, OnErr};
 ghost use Rattle.sqlite.specs.State.{HasCleanDisk};
 ghost use Rattle.sqlite.specs.Held.{state};
-ghost use Rattle.fuse_tables.specs.Moves.{Inside, Makes, Looked, Stays};
+ghost use Rattle.fuse_tables.specs.Moves.{Inside, Rests, Makes, Looked, Stays, Serves};
 ghost use Rattle.fuse_tables.specs.Content.{Content, with_counter, set_counter, shown_counter};
 
 use crate::values::pair;
@@ -50,6 +50,10 @@ pub fn select_counters<S: Alter>(conn: &mut Connection<S>) -> Result<Vec<Row>, E
     ensures fails { OnErr result (Stays (state S.Store conn.old) (state S.Store conn.new)) }
     ensures found { HasCleanDisk (state S.Store conn.new) → IfOk result (λ rows. (c : Content)
         → Inside c (state S.Store conn.old) → rows.items ≡ map shown_counter c.counters) }
+    ensures rests { Serves (λ c. c) (state S.Store conn.old) (state S.Store conn.new) result }
+    ensures found_at_rest { HasCleanDisk (state S.Store conn.new) → IfOk result (λ rows.
+        (c : Content) → Rests c (state S.Store conn.old)
+        → rows.items ≡ map shown_counter c.counters) }
 {
     conn.query_all(SELECT, &[])
 }

@@ -28,7 +28,8 @@ pub use nodes::{
 };
 pub use opening::set_up;
 pub use records::{
-    delete_all_kept, delete_all_lots, delete_kept, insert_kept, insert_lot, select_kept,
+    count_kept, count_lots, delete_all_kept, delete_all_lots, delete_kept, insert_kept, insert_lot,
+    select_kept,
 };
 pub use statements::{begin, commit, undo};
 pub use typed::{bits_at, bytes_at, node_at, number_at, small_at};

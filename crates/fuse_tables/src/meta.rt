@@ -1,5 +1,5 @@
 // What the opening of a store reads of `meta`, of either version.
-ghost use Rattle.std.specs.Prelude.{◌≡◌, ◌≤◌, ◌∷◌, [], List, map, IfOk, IfErr};
+ghost use Rattle.std.specs.Prelude.{◌≡◌, ◌≤◌, ◌∷◌, [], List, map, IfOk, IfErr, OnOk};
 ghost use Rattle.std.specs.Option.{option_to_list};
 ghost use Rattle.sqlite.specs.State.{HasCleanDisk};
 ghost use Rattle.sqlite.specs.Held.{state};
@@ -9,7 +9,8 @@ ghost use Rattle.fuse_tables.specs.Content.{value_at};
 ghost use Rattle.fuse_tables.specs.Faults.{IsOutside, IsPlain};
 ghost use Rattle.fuse_tables.specs.Saying.{ShowsVersion, HasFirst, TellsVersion, Says};
 ghost use Rattle.fuse_tables.specs.Moves.{InsideAs, Takes, IsSure};
-ghost use Rattle.fuse_tables.specs.Opening.{IsStored, IsMetaFrom, most, shown_meta};
+ghost use Rattle.fuse_tables.specs.Opening.{IsStored, IsLaid, IsMetaFrom, IsMeta, Tests, most};
+ghost use Rattle.fuse_tables.specs.Opening.{shown_meta};
 
 use crate::typed::number_at;
 use fuse_keeper::StoreFault;
@@ -28,6 +29,10 @@ fn select_version<S: Alter>(conn: &mut Connection<S>) -> Result<Vec<Row>, Error>
         → rows.items ≡ map shown_counter (option_to_list (at_by counter_key 1 c.counters))) }
     ensures tells { HasCleanDisk (state S.Store conn.new)
         → IfOk result (λ rows. ShowsVersion (state S.Store conn.old).now rows.items) }
+    ensures laid { Takes IsLaid IsLaid (state S.Store conn.old) (state S.Store conn.new) result }
+    ensures shows { HasCleanDisk (state S.Store conn.new) → IfOk result (λ rows. (c : Content)
+        → InsideAs (IsLaid c) (state S.Store conn.old)
+        → rows.items ≡ map shown_counter (option_to_list (at_by counter_key 1 c.counters))) }
 {
     conn.query_all(SELECT_VERSION, &[])
 }
@@ -38,6 +43,9 @@ fn select_meta<S: Alter>(conn: &mut Connection<S>) -> Result<Vec<Row>, Error>
         result }
     ensures found { HasCleanDisk (state S.Store conn.new) → IfOk result (λ rows. (c : Content)
         → InsideAs (IsStored c) (state S.Store conn.old) → rows.items ≡ map shown_meta c.counters) }
+    ensures laid { Takes IsLaid IsLaid (state S.Store conn.old) (state S.Store conn.new) result }
+    ensures shows { HasCleanDisk (state S.Store conn.new) → IfOk result (λ rows. (c : Content)
+        → InsideAs (IsLaid c) (state S.Store conn.old) → rows.items ≡ map shown_meta c.counters) }
 {
     conn.query_all(SELECT_META, &[])
 }
@@ -69,6 +77,9 @@ pub(crate) fn find_version<S: Alter>(conn: &mut Connection<S>) -> Result<u64, St
         → IfOk result (TellsVersion (state S.Store conn.old).now) }
     ensures says { HasCleanDisk (state S.Store conn.new)
         → IfErr result (Says (state S.Store conn.old).now) }
+    ensures laid { Takes IsLaid IsLaid (state S.Store conn.old) (state S.Store conn.new) result }
+    ensures shows { HasCleanDisk (state S.Store conn.new) → IfOk result (λ n. (c : Content)
+        → InsideAs (IsLaid c) (state S.Store conn.old) → n ≡ value_at 1 c) }
 {
     let rows = select_version(conn)?;
     read_version(rows.as_slice())
@@ -86,6 +97,8 @@ fn most(key: u64) -> u64
         1
     } else if key < 10 {
         4294967295
+    } else if key < 11 {
+        9223372036854775807
     } else {
         1 << 62
     }
@@ -96,10 +109,15 @@ fn check_row(row: &Row, key: u64) -> Result<(), StoreFault>
     ensures plain { IfErr result IsPlain }
     ensures fault { IfErr result (λ f. (c : Counter) → row.now ≡ shown_meta c → c.key ≡ key
         → c.value ≤ most c.key → IsOutside f) }
+    ensures whole { OnOk result ((c : Counter) → row.now ≡ shown_meta c
+        → (c.key ≡ key) × (c.value ≤ most c.key)) }
 {
     let found = number_at(row, 0)?;
     let value = number_at(row, 1)?;
-    if found != key || value > most(key) {
+    if found != key {
+        return Err(StoreFault::Damaged);
+    }
+    if value > most(key) {
         return Err(StoreFault::Damaged);
     }
     Ok(())
@@ -110,6 +128,8 @@ fn check_rows(rows: &[Row], count: usize) -> Result<(), StoreFault>
     ensures plain { IfErr result IsPlain }
     ensures fault { IfErr result (λ f. (cs : List Counter) → rows.now ≡ map shown_meta cs
         → IsMetaFrom 1 count cs → IsOutside f) }
+    ensures whole { OnOk result ((cs : List Counter) → rows.now ≡ map shown_meta cs
+        → IsMetaFrom 1 count cs) }
 {
     if rows.len() != count {
         return Err(StoreFault::Damaged);
@@ -133,6 +153,7 @@ pub(crate) fn check_meta<S: Alter>(conn: &mut Connection<S>, count: usize) -> Re
         → InsideAs (IsStored c) (state S.Store conn.old) → IsMetaFrom 1 count c.counters
         → IsOutside f) }
     ensures plain { IfErr result IsPlain }
+    ensures whole { Tests (IsMeta count) (state S.Store conn.old) (state S.Store conn.new) result }
 {
     let rows = select_meta(conn)?;
     check_rows(rows.as_slice(), count)

@@ -4,8 +4,10 @@ ghost use Rattle.sqlite.specs.State.{HasCleanDisk};
 ghost use Rattle.sqlite.specs.Held.{state};
 ghost use Rattle.fuse_tables.specs.Faults.{IsPlain};
 ghost use Rattle.fuse_tables.specs.Saying.{Says};
-ghost use Rattle.fuse_tables.specs.Moves.{Takes, PerformsAs, ServesAs, IsSure, IsSafe};
-ghost use Rattle.fuse_tables.specs.Opening.{IsStored, IsFirst, IsSecond, IsOpened};
+ghost use Rattle.fuse_tables.specs.Content.{Content};
+ghost use Rattle.fuse_tables.specs.Moves.{RestsAs, Takes, PerformsAs, ServesAs, IsSure, IsSafe};
+ghost use Rattle.fuse_tables.specs.Opening.{IsStored, IsFirst, IsSecond, IsOpened, IsLaid};
+ghost use Rattle.fuse_tables.specs.Opening.{IsMeta, HasMeta, Tests};
 
 use crate::meta::{check_meta, find_version};
 use crate::migrating::migrate;
@@ -17,6 +19,7 @@ fn open_first<S: Alter>(conn: &mut Connection<S>) -> Result<usize, StoreFault>
     ensures made { Takes IsFirst IsOpened (state S.Store conn.old) (state S.Store conn.new) result }
     ensures fault { IsSure IsFirst (state S.Store conn.old) (state S.Store conn.new) result }
     ensures plain { IfErr result IsPlain }
+    ensures whole { Tests (IsMeta 10) (state S.Store conn.old) (state S.Store conn.new) result }
 {
     check_meta(conn, 10)?;
     Ok(migrate(conn)?)
@@ -27,6 +30,7 @@ fn open_second<S: Alter>(conn: &mut Connection<S>) -> Result<(), StoreFault>
         result }
     ensures fault { IsSure IsSecond (state S.Store conn.old) (state S.Store conn.new) result }
     ensures plain { IfErr result IsPlain }
+    ensures whole { Tests (IsMeta 11) (state S.Store conn.old) (state S.Store conn.new) result }
 {
     check_meta(conn, 11)
 }
@@ -37,6 +41,7 @@ fn work<S: Alter>(conn: &mut Connection<S>) -> Result<(), StoreFault>
     ensures fault { IsSure IsStored (state S.Store conn.old) (state S.Store conn.new) result }
     ensures says { HasCleanDisk (state S.Store conn.new)
         → IfErr result (Says (state S.Store conn.old).now) }
+    ensures whole { Tests HasMeta (state S.Store conn.old) (state S.Store conn.new) result }
 {
     let version = find_version(conn)?;
     if version == 1 {
@@ -58,6 +63,8 @@ fn transact<S: Alter>(conn: &mut Connection<S>) -> Result<(), StoreFault>
         → OnOk result (IsTrue (state S.Store conn.old).is_open) }
     ensures says { HasCleanDisk (state S.Store conn.new)
         → IfErr result (Says (state S.Store conn.old).now) }
+    ensures whole { HasCleanDisk (state S.Store conn.new) → OnOk result ((c : Content)
+        → RestsAs (IsLaid c) (state S.Store conn.old) → HasMeta c) }
 {
     begin(conn)?;
     work(conn)?;
@@ -75,6 +82,9 @@ pub fn set_up<S: Alter>(conn: &mut Connection<S>) -> Result<(), StoreFault>
         → OnOk result (IsTrue (state S.Store conn.old).is_open) }
     ensures says { HasCleanDisk (state S.Store conn.new)
         → IfErr result (Says (state S.Store conn.old).now) }
+    // Nothing is opened over a `meta` that is damaged.
+    ensures whole { HasCleanDisk (state S.Store conn.new) → OnOk result ((c : Content)
+        → RestsAs (IsLaid c) (state S.Store conn.old) → HasMeta c) }
 {
     match transact(conn) {
         Ok(()) => Ok(()),

@@ -1,18 +1,22 @@
 // The tables of records and of lots.
-ghost use Rattle.std.specs.Prelude.{◌≡◌, ◌<◌, ◌^◌, [], ◌∷◌, pos, map, IfOk, OnOk, OnErr};
+ghost use Rattle.std.specs.Prelude.{◌≡◌, ◌<◌, ◌^◌, [], ◌∷◌, pos, map, length, IfOk, OnOk, OnErr};
 ghost use Rattle.std.specs.Option.{option_to_list};
 ghost use Rattle.sqlite.specs.declared.types.Value.TheVariants.{Int, Blob};
 ghost use Rattle.sqlite.specs.State.{HasCleanDisk};
 ghost use Rattle.sqlite.specs.Held.{state};
 ghost use Rattle.sqlite.specs.Values.{bound};
-ghost use Rattle.fuse_tables.specs.Moves.{Inside, Makes, Looked, Stays};
-ghost use Rattle.fuse_tables.specs.Content.{Content, kept_key, at_by, with_kept, without_kept};
+ghost use Rattle.fuse_tables.specs.Moves.{Inside, Rests, Makes, Looked, Stays, Serves, IsSafe};
+ghost use Rattle.fuse_tables.specs.Clearing.{shown_number, counted_to};
+ghost use Rattle.fuse_tables.specs.Content.{Content, Holds, kept_key, at_by, with_kept};
+ghost use Rattle.fuse_tables.specs.Content.{without_kept};
 ghost use Rattle.fuse_tables.specs.Content.{without_all_kept, with_lot, without_lots};
 ghost use Rattle.fuse_tables.specs.Content.{without_answers, shown_kept};
 ghost use Rattle.fuse_tables.specs.Opening.{with_copies};
 
+use crate::typed::the_count;
 use crate::values::number;
 use fuse_answer::Answer;
+use fuse_keeper::StoreFault;
 use sqlite::types::{ToSql, ValueRef};
 use sqlite::{Alter, Connection, Error, Row};
 
@@ -27,6 +31,10 @@ const DELETE_ALL: &str = "DELETE FROM kept";
 const DELETE_LOTS: &str = "DELETE FROM lots";
 
 const SELECT: &str = "SELECT errno, body FROM kept WHERE id = ?1";
+
+const COUNT: &str = "SELECT count(*) FROM kept";
+
+const COUNT_LOTS: &str = "SELECT count(*) FROM lots";
 
 const COPY_ANSWERS: &str = "INSERT INTO kept SELECT id, 0, errno, body FROM answers ORDER BY id";
 
@@ -103,9 +111,53 @@ pub fn select_kept<S: Alter>(conn: &mut Connection<S>, id: u64) -> Result<Vec<Ro
     ensures found { HasCleanDisk (state S.Store conn.new) → IfOk result (λ rows. (c : Content)
         → Inside c (state S.Store conn.old)
         → rows.items ≡ map shown_kept (option_to_list (at_by kept_key id c.kept))) }
+    ensures rests { Serves (λ c. c) (state S.Store conn.old) (state S.Store conn.new) result }
+    ensures found_at_rest { HasCleanDisk (state S.Store conn.new) → IfOk result (λ rows.
+        (c : Content) → Rests c (state S.Store conn.old)
+        → rows.items ≡ map shown_kept (option_to_list (at_by kept_key id c.kept))) }
 {
     let values = number(id);
     conn.query_all(SELECT, &values)
+}
+
+// How many records there are: one row.
+fn select_count<S: Alter>(conn: &mut Connection<S>) -> Result<Vec<Row>, Error>
+    ensures rests { Serves (λ c. c) (state S.Store conn.old) (state S.Store conn.new) result }
+    ensures found { HasCleanDisk (state S.Store conn.new) → IfOk result (λ rows. (c : Content)
+        → Rests c (state S.Store conn.old) → rows.items ≡ shown_number (counted_to c.kept) ∷ []) }
+{
+    conn.query_all(COUNT, &[])
+}
+
+// How many lots there are: one row.
+fn select_lot_count<S: Alter>(conn: &mut Connection<S>) -> Result<Vec<Row>, Error>
+    ensures rests { Serves (λ c. c) (state S.Store conn.old) (state S.Store conn.new) result }
+    ensures found { HasCleanDisk (state S.Store conn.new) → IfOk result (λ rows. (c : Content)
+        → Rests c (state S.Store conn.old) → rows.items ≡ shown_number (counted_to c.lots) ∷ []) }
+{
+    conn.query_all(COUNT_LOTS, &[])
+}
+
+/// How many records there are, outside a transaction.
+pub fn count_kept<S: Alter>(conn: &mut Connection<S>) -> Result<u64, StoreFault>
+    ensures rests { Serves (λ c. c) (state S.Store conn.old) (state S.Store conn.new) result }
+    ensures value { HasCleanDisk (state S.Store conn.new) → IfOk result (λ n. (c : Content)
+        → Rests c (state S.Store conn.old) → n ≡ length c.kept) }
+    ensures fault { IsSafe Holds (state S.Store conn.old) (state S.Store conn.new) result }
+{
+    let rows = select_count(conn)?;
+    the_count(rows.as_slice())
+}
+
+/// How many lots there are, outside a transaction.
+pub fn count_lots<S: Alter>(conn: &mut Connection<S>) -> Result<u64, StoreFault>
+    ensures rests { Serves (λ c. c) (state S.Store conn.old) (state S.Store conn.new) result }
+    ensures value { HasCleanDisk (state S.Store conn.new) → IfOk result (λ n. (c : Content)
+        → Rests c (state S.Store conn.old) → n ≡ length c.lots) }
+    ensures fault { IsSafe Holds (state S.Store conn.old) (state S.Store conn.new) result }
+{
+    let rows = select_lot_count(conn)?;
+    the_count(rows.as_slice())
 }
 
 /// Puts the records of version 1 under lot 0.

@@ -8,7 +8,7 @@ ghost use Rattle.fuse_tree.specs.declared.rows.NodeRow.{NodeRow as Node};
 ghost use Rattle.fuse_keeper.specs.Faults.{is_memory};
 ghost use Rattle.fuse_tables.specs.Faults.{misread_as, IsOutside, IsPlain};
 ghost use Rattle.fuse_tables.specs.Content.{node_columns, HasSeconds};
-ghost use Rattle.fuse_tables.specs.Clearing.{shown_number};
+ghost use Rattle.fuse_tables.specs.Clearing.{shown_number, reached};
 
 use fuse_keeper::StoreFault;
 use fuse_tree::NodeRow;
@@ -66,10 +66,27 @@ pub(crate) fn the_number(rows: &[Row]) -> Result<u64, StoreFault>
     }
 }
 
+// A count of so many may have stopped there.
+const LAST_COUNT: u64 = i64::MAX as u64;
+
+/// How many rows there are where they were counted.
+pub(crate) fn the_count(rows: &[Row]) -> Result<u64, StoreFault>
+    ensures value { IfOk result (λ n. (m : ℕ) → rows.now ≡ shown_number (reached m) ∷ [] → n ≡ m) }
+    ensures fault { IfErr result (λ f. (m : ℕ) → rows.now ≡ shown_number m ∷ [] → IsOutside f) }
+{
+    let count = the_number(rows)?;
+    if count == LAST_COUNT {
+        let beyond = Error::SqliteFailure(ErrorCode::IntegerOverflow);
+        return Err(StoreFault::Sql(beyond));
+    }
+    Ok(count)
+}
+
 /// A number of 32 bits.
 pub fn small_at(row: &Row, at: usize) -> Result<u32, StoreFault>
     ensures value { IfOk result (λ n. (m : ℕ) → column row.now at ≡ Int (pos m) → n ≡ m) }
     ensures fault { IfErr result IsOutside }
+    ensures plain { IfErr result IsPlain }
 {
     let value: u32 = row.get(at)?;
     Ok(value)
@@ -80,6 +97,7 @@ pub fn bits_at(row: &Row, at: usize) -> Result<u64, StoreFault>
     ensures value { IfOk result (λ n. (m : ℕ) → m < 2 ^ 64
         → column row.now at ≡ Int (cast_signed w64 m) → n ≡ m) }
     ensures fault { IfErr result IsOutside }
+    ensures plain { IfErr result IsPlain }
 {
     let value: i64 = row.get(at)?;
     Ok(value.cast_unsigned())
@@ -89,6 +107,7 @@ pub fn bits_at(row: &Row, at: usize) -> Result<u64, StoreFault>
 pub fn bytes_at(row: &Row, at: usize) -> Result<Vec<u8>, StoreFault>
     ensures value { IfOk result (λ v. (l : List ℕ) → column row.now at ≡ Blob l → v.items ≡ l) }
     ensures fault { IfErr result IsOutside }
+    ensures plain { IfErr result IsPlain }
 {
     let value: Vec<u8> = row.get(at)?;
     Ok(value)
@@ -101,6 +120,7 @@ fn moment_at(row: &Row, at: usize) -> Result<Moment, StoreFault>
         → column row.now at ≡ Int (cast_signed w64 m.secs)
         → column row.now (at + 1) ≡ Int (pos m.nanos) → t ≡ m) }
     ensures fault { IfErr result IsOutside }
+    ensures plain { IfErr result IsPlain }
 {
     let secs = bits_at(row, at)?;
     let nanos = small_at(row, at + 1)?;
@@ -112,6 +132,7 @@ pub fn node_at(row: &Row, node: u64) -> Result<NodeRow, StoreFault>
     ensures value { IfOk result (λ r. (n : Node) → HasSeconds n → n.node ≡ node
         → row.now ≡ node_columns n → r ≡ n) }
     ensures fault { IfErr result (λ f. (n : Node) → row.now ≡ node_columns n → IsOutside f) }
+    ensures plain { IfErr result IsPlain }
 {
     let mode = small_at(row, 0)?;
     let uid = small_at(row, 1)?;

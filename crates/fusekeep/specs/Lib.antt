@@ -7,3 +7,4 @@ pub mod Messages
 pub mod Endings
 pub mod Printing
 pub mod Replaying
+pub mod Storing

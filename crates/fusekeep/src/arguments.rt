@@ -16,23 +16,38 @@ const SIMULATE: &str = "simulate";
 
 const AT: &str = "at";
 
+const DB: &str = "db";
+
 const FILE: &str = "file";
 
 const STREAM: &str = "stream";
 
 const SCRIPT: &str = "script";
 
+const STREAM_HELP: &str = "The file of the stream, or - for standard input";
+
 /// What the words of a command line ask for.
 #[derive(Clone, Copy, Debug, PartialEq, Eq)]
 pub enum Run<'a> {
     /// To print a line for each message of a stream.
-    Dump { file: &'a str },
+    Dump {
+        file: &'a str,
+    },
     /// To count the messages of a stream.
-    Check { file: &'a str },
-    /// To serve a recorded stream, each request at the same second.
-    Replay { at: u64, stream: &'a str },
+    Check {
+        file: &'a str,
+    },
+    /// To serve a recorded stream, each request at the same second, over the store of a file where
+    /// one is named.
+    Replay {
+        db: Option<&'a str>,
+        at: u64,
+        stream: &'a str,
+    },
     /// To run the events of a script.
-    Simulate { script: &'a str },
+    Simulate {
+        script: &'a str,
+    },
 }
 
 impl<'a> Run<'a> {
@@ -46,53 +61,59 @@ impl<'a> Run<'a> {
     }
 }
 
+// An argument that has to be there.
+fn needed_argument<'a>(
+    alloc: Global,
+    name: &'static str,
+    value: &'static str,
+    help: &'static str,
+) -> Arg<'a> {
+    Arg::new(alloc, name)
+        .value_name(value)
+        .required(true)
+        .help(help)
+}
+
 // A command that looks at the stream of one file.
 fn file_command<'a>(
     alloc: Global,
     name: &'static str,
     about: &'static str,
 ) -> Result<Command<'a>, AllocError> {
-    let file = Arg::new(alloc, FILE)
-        .value_name("FILE")
-        .required(true)
-        .help("The file of the stream, or - for standard input");
+    let file = needed_argument(alloc, FILE, "FILE", STREAM_HELP);
     Command::new(alloc, name).about(about).arg(file)
 }
 
 fn at_argument<'a>(alloc: Global) -> Arg<'a> {
-    Arg::new(alloc, AT)
-        .long(AT)
-        .value_name("SECS")
-        .value_parser(value_parser!(u64))
-        .required(true)
-        .help("The second at which all requests are served")
+    needed_argument(
+        alloc,
+        AT,
+        "SECS",
+        "The second at which all requests are served",
+    )
+    .long(AT)
+    .value_parser(value_parser!(u64))
 }
 
-fn stream_argument<'a>(alloc: Global) -> Arg<'a> {
-    Arg::new(alloc, STREAM)
-        .value_name("STREAM")
-        .required(true)
-        .help("The file of the stream, or - for standard input")
+fn db_argument<'a>(alloc: Global) -> Arg<'a> {
+    Arg::new(alloc, DB).long(DB).value_name("FILE").help(
+        "The file of the store, which is made where it is missing or empty",
+    )
 }
 
 fn replay_command<'a>(alloc: Global) -> Result<Command<'a>, AllocError> {
     Command::new(alloc, REPLAY)
-        .about("Serves a recorded stream over a new store in memory")
+        .about("Serves a recorded stream over a new store in memory, or over that of a file")
+        .arg(db_argument(alloc))?
         .arg(at_argument(alloc))?
-        .arg(stream_argument(alloc))
-}
-
-fn script_argument<'a>(alloc: Global) -> Arg<'a> {
-    Arg::new(alloc, SCRIPT)
-        .value_name("SCRIPT")
-        .required(true)
-        .help("The file of the script, or - for standard input")
+        .arg(needed_argument(alloc, STREAM, "STREAM", STREAM_HELP))
 }
 
 fn simulate_command<'a>(alloc: Global) -> Result<Command<'a>, AllocError> {
+    let help = "The file of the script, or - for standard input";
     Command::new(alloc, SIMULATE)
         .about("Runs the events of a script over a new store in memory")
-        .arg(script_argument(alloc))
+        .arg(needed_argument(alloc, SCRIPT, "SCRIPT", help))
 }
 
 fn program_command<'a>(alloc: Global) -> Result<Command<'a>, AllocError> {
@@ -106,9 +127,10 @@ fn program_command<'a>(alloc: Global) -> Result<Command<'a>, AllocError> {
 }
 
 fn replay_run<'a>(found: &ArgMatches<'a>) -> Option<Run<'a>> {
+    let db = found.get_str(DB);
     let at = found.get_one::<u64>(AT)?;
     let stream = found.get_str(STREAM)?;
-    Some(Run::Replay { at, stream })
+    Some(Run::Replay { db, at, stream })
 }
 
 fn run_of<'a>(matches: &ArgMatches<'a>) -> Option<Run<'a>> {

@@ -12,6 +12,7 @@ mod reading;
 mod replay;
 mod script;
 mod simulate;
+mod store;
 #[cfg(test)]
 mod tests;
 
@@ -26,11 +27,12 @@ use fuse_store::PlainTree;
 use fuse_wire::Moment;
 use replay::run_replay;
 use simulate::{START, run_simulate};
+use sqlite::{Alter, Connection};
 use std::alloc::Global;
 use std::io::{BufWriter, Read, Write};
 use std::process::ExitCode;
-use std::rt::{Env, Files};
 use std::{env, fs, io};
+use store::{open_file, open_or_create};
 
 fn main(rt: HostRuntime) -> ExitCode {
     let ending = run(&rt);
@@ -50,7 +52,7 @@ fn refuse<R: Eprint>(rt: &R, error: Error) -> Ending {
 }
 
 // Runs what the words ask for.
-fn run<R: Env + Files + Input + Print + Eprint + AllocGlobal>(rt: &R) -> Ending {
+fn run(rt: &HostRuntime) -> Ending {
     let Ok(words) = env::args(rt) else {
         return refuse(rt, unreadable(rt.alloc()));
     };
@@ -64,7 +66,7 @@ fn run<R: Env + Files + Input + Print + Eprint + AllocGlobal>(rt: &R) -> Ending 
 }
 
 // Opens the input, and runs on it.
-fn run_on_input<R: Files + Input + Print + AllocGlobal>(rt: &R, run: Run<'_>) -> Ending {
+fn run_on_input(rt: &HostRuntime, run: Run<'_>) -> Ending {
     if run.input() == STANDARD_INPUT {
         return run_on(rt, rt.reader(), run);
     }
@@ -75,7 +77,7 @@ fn run_on_input<R: Files + Input + Print + AllocGlobal>(rt: &R, run: Run<'_>) ->
 }
 
 // Runs on what a reader gives, and prints through a buffer.
-fn run_on<R: Print + AllocGlobal, S: Read + Drop>(rt: &R, reader: S, run: Run<'_>) -> Ending {
+fn run_on<R: Read + Drop>(rt: &HostRuntime, reader: R, run: Run<'_>) -> Ending {
     let alloc = rt.alloc();
     let Ok(mut writer) = BufWriter::new(alloc, io::writer(rt)) else {
         return Ending::Memory;
@@ -83,21 +85,63 @@ fn run_on<R: Print + AllocGlobal, S: Read + Drop>(rt: &R, reader: S, run: Run<'_
     match run {
         Run::Dump { .. } => run_dump(alloc, reader, &mut writer),
         Run::Check { .. } => run_check(alloc, reader, &mut writer),
-        Run::Replay { at, .. } => replay_from(alloc, reader, &mut writer, at),
+        Run::Replay { at, db, .. } => {
+            let moment = Moment { secs: at, nanos: 0 };
+            match db {
+                Some(file) => replay_on_file(rt, file, reader, &mut writer, moment),
+                None => replay_in_memory(alloc, reader, &mut writer, moment),
+            }
+        }
         Run::Simulate { .. } => run_simulate(alloc, reader, &mut writer),
     }
 }
 
-// Makes the store, and replays over it.
-fn replay_from<S: Read + Drop, W: Write>(
+// Makes a store in memory, and replays over it.
+fn replay_in_memory<R: Read + Drop, W: Write>(
     alloc: Global,
-    reader: S,
+    reader: R,
     writer: &mut W,
-    at: u64,
+    moment: Moment,
 ) -> Ending {
     let Ok(mut keeper) = PlainKeeper::<PlainTree>::new(alloc, START) else {
         return Ending::Memory;
     };
-    let moment = Moment { secs: at, nanos: 0 };
     run_replay(alloc, &mut keeper, reader, writer, moment)
+}
+
+// Opens the store of a database, or makes it, and replays over it. Where there is a store, the
+// connection comes back.
+fn replay_over<S: Alter + Drop, R: Read + Drop, W: Write>(
+    alloc: Global,
+    conn: Connection<S>,
+    reader: R,
+    writer: &mut W,
+    moment: Moment,
+) -> (Ending, Option<Connection<S>>) {
+    let mut keeper = match open_or_create(alloc, conn, START) {
+        Ok(keeper) => keeper,
+        Err(fault) => return (Ending::of(fault), None),
+    };
+    let ending = run_replay(alloc, &mut keeper, reader, writer, moment);
+    (ending, Some(keeper.into_connection()))
+}
+
+// Replays over the store of a file.
+fn replay_on_file<R: Read + Drop, W: Write>(
+    rt: &HostRuntime,
+    file: &str,
+    reader: R,
+    writer: &mut W,
+    moment: Moment,
+) -> Ending {
+    let conn = match open_file(rt, file) {
+        Ok(conn) => conn,
+        Err(fault) => return Ending::of(fault),
+    };
+    let (ending, conn) = replay_over(rt.alloc(), conn, reader, writer, moment);
+    // What was committed is in the file or in its log, whether this copies the log or not.
+    if let Some(conn) = conn {
+        let _ = conn.close();
+    }
+    ending
 }

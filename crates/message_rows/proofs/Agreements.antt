@@ -19,7 +19,7 @@ init_newer_major = (λ r f g. refl, refl)
 
 pub init_too_old : InitTooOld
 unfolding le wire wire_head
-init_too_old = (λ r f g. refl, refl)
+init_too_old = (λ r f g. refl, λ r f g. refl, λ r. refl, refl)
 
 pub newer_minor : NewerMinor
 unfolding le init_bytes

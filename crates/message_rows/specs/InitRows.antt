@@ -72,9 +72,12 @@ InitNewerMajor =
     ((max_readahead flags : ℕ) (flags2 : Option ℕ) → agree (offer 8 0 max_readahead flags flags2) ≡ Again bare)
     × (init_bytes bare ≡ hex (codes "07000000 28000000") ++ replicate 56 0)
 
+-- an older minor or major; 23 is the first minor that is served
 abbrev pub InitTooOld : Type 0
 InitTooOld =
     ((max_readahead flags : ℕ) (flags2 : Option ℕ) → agree (offer 7 22 max_readahead flags flags2) ≡ Refused eproto)
+    × ((max_readahead flags : ℕ) (flags2 : Option ℕ) → agree (offer 6 40 max_readahead flags flags2) ≡ Refused eproto)
+    × ((max_readahead : ℕ) → agree (offer 7 23 max_readahead 0x21 None) ≡ Agreed (out max_readahead 0x21 0) (settled 23 max_readahead 0x21))
     × (wire eproto.0 [] 2 ≡ hex (codes "10000000 b9ffffff 0200000000000000"))
 
 -- bit 39 stands in flags2, and INIT_EXT isn't offered

@@ -6,53 +6,31 @@ use std::alloc::Global;
 use std::test::*;
 
 // The answer to READDIR of the root, of 32 bytes.
-const FIRST: [u8; 48] = [
-    0x30, 0, 0, 0, 0, 0, 0, 0, 6, 0, 0, 0, 0, 0, 0, 0, 1, 0, 0, 0, 0, 0, 0, 0, 1, 0, 0, 0, 0, 0, 0,
-    0, 1, 0, 0, 0, 4, 0, 0, 0, 0x2e, 0, 0, 0, 0, 0, 0, 0,
-];
+const FIRST: &[u8; 48] = b"\x30\0\0\0\0\0\0\0\x06\0\0\0\0\0\0\0\
+    \x01\0\0\0\0\0\0\0\x01\0\0\0\0\0\0\0\x01\0\0\0\x04\0\0\0.\0\0\0\0\0\0\0";
+
+// What an answer to READDIR lists, where it is one entry whose name is one byte.
+fn only_in(bytes: &[u8]) -> Option<(u64, u64, u32, u8)> {
+    let Ok(reply) = read_answer(READDIR, bytes) else {
+        return None;
+    };
+    let ReplyBody::Directory(body) = reply.body else {
+        return None;
+    };
+    let mut entries = unpack(body);
+    let first = entries.next()?;
+    match (first.name, entries.next()) {
+        ([letter], None) => Some((first.ino, first.off, first.kind, *letter)),
+        _ => None,
+    }
+}
 
 #[test]
 fn first_entry(rt: HostRuntime) {
-    let Ok(reply) = read_answer(READDIR, &FIRST) else {
-        assert!(rt; false);
-        return;
-    };
-    let ReplyBody::Directory(body) = reply.body else {
-        assert!(rt; false);
-        return;
-    };
-    let mut entries = unpack(body);
-    let Some(dot) = entries.next() else {
-        assert!(rt; false);
-        return;
-    };
-    assert_eq!(rt; dot.ino, 1);
-    assert_eq!(rt; dot.off, 1);
-    assert_eq!(rt; dot.kind, 4);
-    assert_eq!(rt; dot.name, b".".as_slice());
-    assert!(rt; entries.next().is_none());
+    assert_eq!(rt; only_in(FIRST), Some((1, 1, 4, b'.')));
 }
 
-#[test]
-fn entries_that_are_not_whole(rt: HostRuntime) {
-    let mut cut = FIRST;
-    cut[0] = 0x2f;
-    assert_eq!(rt;
-        read_answer(READDIR, &cut[..47]).err(),
-        Some(BadAnswer::BadDirent)
-    );
-    let mut nameless = FIRST;
-    nameless[32] = 0;
-    assert_eq!(rt;
-        read_answer(READDIR, &nameless).err(),
-        Some(BadAnswer::BadDirent)
-    );
-    let mut padded = FIRST;
-    padded[47] = 1;
-    assert!(rt; read_answer(READDIR, &padded).is_ok());
-}
-
-// How many bytes an entry of this name takes.
+// How many bytes an entry of this name takes, and none where there is no room.
 fn packed_size(alloc: Global, name: &[u8], size: u32) -> Result<usize, PackFault>
     requires some { 1 ≤ length name.now }
     requires few { length name.now ≤ 255 }
@@ -70,43 +48,47 @@ fn packed_size(alloc: Global, name: &[u8], size: u32) -> Result<usize, PackFault
 #[test]
 fn sizes(rt: HostRuntime) -> Result<(), PackFault> {
     let name = [b'a'; 255];
-    assert_eq!(rt; packed_size(rt.alloc(), &name[..8], 1000)?, 32);
-    assert_eq!(rt; packed_size(rt.alloc(), &name[..9], 1000)?, 40);
-    assert_eq!(rt; packed_size(rt.alloc(), &name, 280)?, 280);
-    assert_eq!(rt;
-        packed_size(rt.alloc(), &name, 279),
-        Err(PackFault::FirstTooBig)
-    );
+    for (len, size) in [(8, 32), (9, 40), (255, 280)] {
+        let found = packed_size(rt.alloc(), &name[..len], 1000)?;
+        assert_eq!(rt; found, size);
+    }
+    let none = packed_size(rt.alloc(), &name, 279);
+    assert_eq!(rt; none, Err(PackFault::FirstTooBig));
     Ok(())
 }
 
-#[test]
-fn no_entries(rt: HostRuntime) -> Result<(), PackFault> {
-    let packed = pack(rt.alloc(), &[], 0)?;
-    assert_eq!(rt; packed.taken, 0);
-    assert!(rt; packed.body.as_slice().is_empty());
-    Ok(())
+const DOT: Dirent<'static> = Dirent {
+    ino: 1,
+    off: 1,
+    kind: 4,
+    name: b".",
+};
+
+const DOTS: Dirent<'static> = Dirent {
+    ino: 1,
+    off: 2,
+    kind: 4,
+    name: b"..",
+};
+
+// How many of the first two entries of the root fit, and how many bytes these are.
+fn packed_dots(alloc: Global, size: u32) -> Result<(usize, usize), PackFault> {
+    let packed = pack(alloc, &[DOT, DOTS], size)?;
+    Ok((packed.taken, packed.body.as_slice().len()))
+}
+
+fn packed_nothing(alloc: Global) -> Result<(usize, usize), PackFault> {
+    let packed = pack(alloc, &[], 0)?;
+    Ok((packed.taken, packed.body.as_slice().len()))
 }
 
 #[test]
 fn as_many_as_fit(rt: HostRuntime) -> Result<(), PackFault> {
-    let dot = Dirent {
-        ino: 1,
-        off: 1,
-        kind: 4,
-        name: b".",
-    };
-    let dots = Dirent {
-        ino: 1,
-        off: 2,
-        kind: 4,
-        name: b"..",
-    };
-    let one = pack(rt.alloc(), &[dot, dots], 63)?;
-    assert_eq!(rt; one.taken, 1);
-    assert_eq!(rt; one.body.as_slice(), &FIRST[16..]);
-    let both = pack(rt.alloc(), &[dot, dots], 64)?;
-    assert_eq!(rt; both.taken, 2);
-    assert_eq!(rt; unpack(both.body.as_slice()).count(), 2);
+    let found = [
+        packed_dots(rt.alloc(), 63)?,
+        packed_dots(rt.alloc(), 64)?,
+        packed_nothing(rt.alloc())?,
+    ];
+    assert_eq!(rt; found, [(1, 32), (2, 64), (0, 0)]);
     Ok(())
 }

@@ -40,28 +40,6 @@ fn read_again(alloc: Global, message: &[u8]) -> Result<Vec<u8>, Fail> {
     encoded(alloc, &request)
 }
 
-#[test]
-fn worked_bytes(rt: HostRuntime) -> Result<(), Fail> {
-    let rename = Request {
-        header: InHeader {
-            unique: 4,
-            nodeid: 1,
-            ..HEADER
-        },
-        op: Op::Rename {
-            new_dir: 1,
-            old_name: b"a",
-            new_name: b"b",
-        },
-        ext: b"",
-    };
-    let message = encoded(rt.alloc(), &rename)?;
-    assert_eq!(rt; message.as_slice(), RENAME_A.as_slice());
-    let message = encoded(rt.alloc(), &write(b"one"))?;
-    assert_eq!(rt; message.as_slice(), WRITE_ONE.as_slice());
-    Ok(())
-}
-
 fn write(payload: &[u8]) -> Request<'_> {
     Request {
         header: HEADER,
@@ -101,35 +79,10 @@ fn longest_write(rt: HostRuntime) -> Result<(), Fail> {
     Ok(())
 }
 
-#[test]
-fn ignored_padding(rt: HostRuntime) -> Result<(), Fail> {
-    let padded = b"\x53\0\0\0\x10\0\0\0\x08\0\0\0\0\0\0\0\
-        \x02\0\0\0\0\0\0\0\xe8\x03\0\0\xe8\x03\0\0\x4d\0\0\0\0\0\0\0\
-        \x01\0\0\0\0\0\0\0\0\0\0\0\0\0\0\0\x03\0\0\0\0\0\0\0\0\0\0\0\0\0\0\0\
-        \x02\0\0\0\xff\xff\xff\xffone";
-    assert_eq!(rt;
-        read_again(rt.alloc(), padded)?.as_slice(),
-        WRITE_ONE.as_slice()
-    );
-    let padded = b"\x53\0\0\0\x10\0\0\0\x08\0\0\0\0\0\0\0\
-        \x02\0\0\0\0\0\0\0\xe8\x03\0\0\xe8\x03\0\0\x4d\0\0\0\0\0\xff\xff\
-        \x01\0\0\0\0\0\0\0\0\0\0\0\0\0\0\0\x03\0\0\0\0\0\0\0\0\0\0\0\0\0\0\0\x02\0\0\0\0\0\0\0one";
-    assert_eq!(rt;
-        read_again(rt.alloc(), padded)?.as_slice(),
-        WRITE_ONE.as_slice()
-    );
-    let padded = b"\x34\0\0\0\x0c\0\0\0\x04\0\0\0\0\0\0\0\
-        \x01\0\0\0\0\0\0\0\xe8\x03\0\0\xe8\x03\0\0\x4d\0\0\0\0\0\xff\xff\
-        \x01\0\0\0\0\0\0\0a\0b\0";
-    assert_eq!(rt;
-        read_again(rt.alloc(), padded)?.as_slice(),
-        RENAME_A.as_slice()
-    );
-    Ok(())
-}
-
 // A message of each opcode, its fields with numbers of their own.
 const EACH_OPCODE: &[(&str, &[u8])] = &[
+    ("rename-bytes", RENAME_A),
+    ("write-bytes", WRITE_ONE),
     (
         "LOOKUP",
         b"\x2e\0\0\0\x01\0\0\0\x06\0\0\0\0\0\0\0\
@@ -275,7 +228,30 @@ const EACH_OPCODE: &[(&str, &[u8])] = &[
     ),
 ];
 
-// It is read, and written again as it was.
+// Row ignored-padding: messages whose padding isn't 0, and what they are written as again.
+const PADDED: [(&[u8], &[u8]); 3] = [
+    (
+        b"\x53\0\0\0\x10\0\0\0\x08\0\0\0\0\0\0\0\
+        \x02\0\0\0\0\0\0\0\xe8\x03\0\0\xe8\x03\0\0\x4d\0\0\0\0\0\0\0\
+        \x01\0\0\0\0\0\0\0\0\0\0\0\0\0\0\0\x03\0\0\0\0\0\0\0\0\0\0\0\0\0\0\0\
+        \x02\0\0\0\xff\xff\xff\xffone",
+        WRITE_ONE,
+    ),
+    (
+        b"\x53\0\0\0\x10\0\0\0\x08\0\0\0\0\0\0\0\
+        \x02\0\0\0\0\0\0\0\xe8\x03\0\0\xe8\x03\0\0\x4d\0\0\0\0\0\xff\xff\
+        \x01\0\0\0\0\0\0\0\0\0\0\0\0\0\0\0\x03\0\0\0\0\0\0\0\0\0\0\0\0\0\0\0\x02\0\0\0\0\0\0\0one",
+        WRITE_ONE,
+    ),
+    (
+        b"\x34\0\0\0\x0c\0\0\0\x04\0\0\0\0\0\0\0\
+        \x01\0\0\0\0\0\0\0\xe8\x03\0\0\xe8\x03\0\0\x4d\0\0\0\0\0\xff\xff\
+        \x01\0\0\0\0\0\0\0a\0b\0",
+        RENAME_A,
+    ),
+];
+
+// Each is read, and written again as it was.
 #[test]
 fn every_opcode(rt: HostRuntime) -> Result<(), Fail> {
     for (row, message) in EACH_OPCODE {
@@ -286,48 +262,11 @@ fn every_opcode(rt: HostRuntime) -> Result<(), Fail> {
 }
 
 #[test]
-fn fields_of_bodies(rt: HostRuntime) -> Result<(), Fail> {
-    let message = b"\x80\0\0\0\x04\0\0\0\x06\0\0\0\0\0\0\0\
-        \x01\0\0\0\0\0\0\0\xe8\x03\0\0\xe8\x03\0\0\x4d\0\0\0\0\0\0\0\
-        \xff\x0f\0\0\0\0\0\0\x08\x07\x06\x05\x04\x03\x02\x01\x05\0\0\0\0\0\0\0\x06\0\0\0\0\0\0\0\
-        \x07\0\0\0\0\0\0\0\x08\0\0\0\0\0\0\0\x09\0\0\0\0\0\0\0\x0a\0\0\0\x0b\0\0\0\
-        \x0c\0\0\0\x0d\0\0\0\0\0\0\0\x0e\0\0\0\x0f\0\0\0\0\0\0\0";
-    let request = decode(message).ok().ok_or("SETATTR is a request")?;
-    let Op::Setattr(setattr) = request.op else {
-        return Err("the request is SETATTR".into());
-    };
-    let expected = SetattrIn {
-        valid: 0xfff,
-        fh: 0x0102_0304_0506_0708,
-        size: 5,
-        lock_owner: 6,
-        atime: 7,
-        mtime: 8,
-        ctime: 9,
-        atimensec: 10,
-        mtimensec: 11,
-        ctimensec: 12,
-        mode: 13,
-        uid: 14,
-        gid: 15,
-    };
-    assert_eq!(rt; setattr, expected);
-    let message = b"h\0\0\0\x1a\0\0\0\x06\0\0\0\0\0\0\0\
-        \x01\0\0\0\0\0\0\0\xe8\x03\0\0\xe8\x03\0\0\x4d\0\0\0\0\0\0\0\
-        \x07\0\0\0\x28\0\0\0\0\0\x02\0\x21\x20\0\x40\x80\0\0\0\0\0\0\0\0\0\0\0\0\0\0\0\
-        \0\0\0\0\0\0\0\0\0\0\0\0\0\0\0\0\0\0\0\0\0\0\0\0\0\0\0\0\0\0\0\0";
-    let request = decode(message).ok().ok_or("INIT is a request")?;
-    let Op::Init(init) = request.op else {
-        return Err("the request is INIT".into());
-    };
-    let expected = InitIn {
-        major: 7,
-        minor: 40,
-        max_readahead: 131_072,
-        flags: 0x4000_2021,
-        flags2: Some(0x80),
-    };
-    assert_eq!(rt; init, expected);
+fn ignored_padding(rt: HostRuntime) -> Result<(), Fail> {
+    for (message, wanted) in PADDED {
+        let again = read_again(rt.alloc(), message)?;
+        assert_eq!(rt; again.as_slice(), wanted);
+    }
     Ok(())
 }
 
@@ -348,62 +287,4 @@ fn what_may_be_encoded(rt: HostRuntime) {
     assert!(rt; !is_sayable(Op::Destroy, b"1234567"));
     assert!(rt; is_sayable(Op::BatchForget { items: &[0; 32] }, b""));
     assert!(rt; !is_sayable(Op::BatchForget { items: &[0; 24] }, b""));
-}
-
-#[test]
-fn which_opcodes_are_unsupported(rt: HostRuntime) {
-    for (opcode, sayable) in [(35, true), (41, true), (opcode::RENAME2, false)] {
-        let op = Op::Unsupported { opcode, body: b"" };
-        assert_eq!(rt; is_sayable(op, b""), sayable);
-    }
-}
-
-#[test]
-fn names_of_a_rename(rt: HostRuntime) {
-    let rename = |old_name, new_name| Op::Rename {
-        new_dir: 1,
-        old_name,
-        new_name,
-    };
-    assert!(rt; is_sayable(rename(b"a", b"b"), b""));
-    assert!(rt; !is_sayable(rename(b"\0", b"b"), b""));
-    assert!(rt; !is_sayable(rename(b"a", b"\0"), b""));
-}
-
-#[test]
-fn names_of_opcodes(rt: HostRuntime) {
-    for (number, name) in [
-        (1, "LOOKUP"),
-        (2, "FORGET"),
-        (3, "GETATTR"),
-        (4, "SETATTR"),
-        (8, "MKNOD"),
-        (9, "MKDIR"),
-        (10, "UNLINK"),
-        (11, "RMDIR"),
-        (12, "RENAME"),
-        (14, "OPEN"),
-        (15, "READ"),
-        (16, "WRITE"),
-        (18, "RELEASE"),
-        (26, "INIT"),
-        (27, "OPENDIR"),
-        (28, "READDIR"),
-        (29, "RELEASEDIR"),
-        (36, "INTERRUPT"),
-        (38, "DESTROY"),
-        (42, "BATCH_FORGET"),
-        (45, "RENAME2"),
-    ] {
-        assert_eq!(rt; opcode::name_of(number), Some(name));
-        assert!(rt; opcode::is_in_profile(number));
-    }
-    for number in [0, 5, 35, 41, 46, 4096] {
-        assert_eq!(rt; opcode::name_of(number), None);
-        assert!(rt; !opcode::is_in_profile(number));
-    }
-    for number in 0..60 {
-        let silent = matches!(number, 2 | 36 | 41 | 42);
-        assert_eq!(rt; opcode::is_silent(number), silent);
-    }
 }

@@ -74,48 +74,6 @@ const MKDIR_A: &[u8; 50] = b"\x32\0\0\0\x09\0\0\0\x06\0\0\0\0\0\0\0\
     \x01\0\0\0\0\0\0\0\xe8\x03\0\0\xe8\x03\0\0\x4d\0\0\0\0\0\0\0\
     \xed\x01\0\0\x12\0\0\0a\0";
 
-#[test]
-fn requests(rt: HostRuntime) -> Result<(), Fail> {
-    let lookup = decode(LOOKUP_HELLO).ok().ok_or("LOOKUP is a request")?;
-    assert_eq!(rt;
-        lookup.header,
-        InHeader {
-            unique: 4,
-            nodeid: 1,
-            uid: 1000,
-            gid: 1000,
-            pid: 77
-        }
-    );
-    let Op::Lookup { name } = lookup.op else {
-        return Err("the request is LOOKUP".into());
-    };
-    assert_eq!(rt; name, b"hello".as_slice());
-    let mkdir = decode(MKDIR_A).ok().ok_or("MKDIR is a request")?;
-    let Op::Mkdir { mode, umask, name } = mkdir.op else {
-        return Err("the request is MKDIR".into());
-    };
-    assert_eq!(rt; (mode, umask), (0o755, 0o022));
-    assert_eq!(rt; name, b"a".as_slice());
-    Ok(())
-}
-
-// The unique of a message, as it was received.
-fn unique_in(message: &[u8]) -> Option<u64> {
-    if message.len() < MIN_MESSAGE {
-        return None;
-    }
-    Some(unique_of(message))
-}
-
-#[test]
-fn uniques(rt: HostRuntime) {
-    assert_eq!(rt; unique_in(LOOKUP_HELLO), Some(4));
-    let mut resent = *LOOKUP_HELLO;
-    resent[15] = 0x80;
-    assert_eq!(rt; unique_in(&resent), Some(0x8000_0000_0000_0004));
-}
-
 fn fault_in(message: &[u8]) -> Option<Malformed> {
     decode(message).err()
 }
@@ -478,10 +436,4 @@ fn messages(rt: HostRuntime) {
             whole.row
         );
     }
-}
-
-#[test]
-fn messages_cut_short(rt: HostRuntime) {
-    assert_eq!(rt; fault_in(&LOOKUP_HELLO[..45]), Some(Malformed::LenDiffers));
-    assert_eq!(rt; fault_in(&LOOKUP_HELLO[..39]), Some(Malformed::HeaderShort));
 }

@@ -25,7 +25,7 @@ fn made(alloc: Global) -> Result<TableLook<MemStore>, StoreFault> {
     Ok(TableLook::new(alloc, conn))
 }
 
-fn asked(unique: u64, op: Op<'_>) -> (Request<'_>, Moment) {
+pub(crate) fn asked(unique: u64, op: Op<'_>) -> (Request<'_>, Moment) {
     let header = InHeader {
         unique,
         nodeid: 1,
@@ -41,7 +41,7 @@ fn asked(unique: u64, op: Op<'_>) -> (Request<'_>, Moment) {
     (request, AT_1000)
 }
 
-fn init() -> Op<'static> {
+pub(crate) fn init() -> Op<'static> {
     Op::Init(InitIn {
         major: 7,
         minor: 40,
@@ -51,7 +51,7 @@ fn init() -> Op<'static> {
     })
 }
 
-fn mkdir(name: &[u8]) -> Op<'_> {
+pub(crate) fn mkdir(name: &[u8]) -> Op<'_> {
     Op::Mkdir {
         mode: 0o755,
         umask: 0o022,
@@ -86,7 +86,7 @@ fn is_told(done: &Done, errno: u32, repeated: bool) -> bool {
     done.answer.errno.0 == errno && done.repeated == repeated
 }
 
-fn are_told(dones: &[Done], told: &[(u32, bool)]) -> bool {
+pub(crate) fn are_told(dones: &[Done], told: &[(u32, bool)]) -> bool {
     dones.len() == told.len()
         && dones.iter().zip(told).all(|(done, (errno, repeated))| is_told(done, *errno, *repeated))
 }

@@ -4,7 +4,15 @@
 #[cfg(test)]
 mod groups;
 #[cfg(test)]
+mod keepers;
+#[cfg(test)]
+mod laws;
+#[cfg(test)]
 mod looks;
+#[cfg(test)]
+mod mounts;
+#[cfg(test)]
+mod resting;
 #[cfg(test)]
 mod shown;
 #[cfg(test)]

@@ -103,7 +103,6 @@ fn answer_agreed(alloc: Global, request: &Request<'_>) -> Result<Answer, Memory>
 
 // What a request is answered, and what it leaves agreed on. INIT is answered always, and all else
 // where settings are agreed on.
-#[tactic(auto, using(crate::proofs::Asked::offers_nothing), unfolding(crate::specs::Asking::said, crate::specs::Asking::agreed_after))]
 pub(crate) fn answer(
     alloc: Global,
     agreed: &mut Option<Settings>,

@@ -1,6 +1,6 @@
 //! Sessions over the three files, and mounts with crashes.
 
-use crate::{Node, ThreeFiles, never_changes, serve_files};
+use crate::{ThreeFiles, never_changes, serve_files};
 use fuse_keeper::{Keeper, PlainKeeper, StoreFault};
 use fuse_session::{Ended, Fixed, MemoryPort, SessionCounts};
 use fuse_wire::Moment;
@@ -117,57 +117,50 @@ fn held(keeper: &mut PlainKeeper<ThreeFiles>) -> Result<(u64, u64), StoreFault> 
     Ok((counts.nodes, counts.handles))
 }
 
+// What is seen of these over new files, and what is to be: so many messages, some of them repeated.
+fn compared(alloc: Global, pairs: &[Pair], kept: u64, repeated: u64) -> Result<bool, Fail> {
+    Ok(seen_of(alloc, pairs)? == Some(ended_well(kept, repeated)))
+}
+
+// Files are read, nothing is changed, what is refused, and before INIT. The last of those that
+// change something is a resend, and gets the same bytes with the bit of a resend.
 #[test]
-fn files_are_read(rt: HostRuntime) -> Result<(), Fail> {
-    let seen = seen_of(rt.alloc(), &READING)?;
-    assert_eq!(rt; seen, Some(ended_well(9, 0)));
+fn sessions(rt: HostRuntime) -> Result<(), Fail> {
+    let tables: [(&[Pair], u64, u64); 4] = [
+        (&READING, 9, 0),
+        (&CHANGING, 11, 1),
+        (&REFUSED, 16, 0),
+        (&BEFORE_INIT, 2, 0),
+    ];
+    for (pairs, kept, repeated) in tables {
+        assert!(rt;
+            compared(rt.alloc(), pairs, kept, repeated)?,
+            "{kept} messages"
+        );
+    }
     Ok(())
 }
 
-// The last one is a resend, and gets the same bytes with the bit of a resend.
-#[test]
-fn nothing_is_changed(rt: HostRuntime) -> Result<(), Fail> {
-    let seen = seen_of(rt.alloc(), &CHANGING)?;
-    assert_eq!(rt; seen, Some(ended_well(11, 1)));
-    Ok(())
-}
+// Two mounts: what is seen of each, and what is held then.
+type Mounts = (Option<Seen>, Option<Seen>, (u64, u64));
 
-#[test]
-fn refusals(rt: HostRuntime) -> Result<(), Fail> {
-    let seen = seen_of(rt.alloc(), &REFUSED)?;
-    assert_eq!(rt; seen, Some(ended_well(16, 0)));
-    Ok(())
-}
-
-#[test]
-fn before_init(rt: HostRuntime) -> Result<(), Fail> {
-    let seen = seen_of(rt.alloc(), &BEFORE_INIT)?;
-    assert_eq!(rt; seen, Some(ended_well(2, 0)));
-    Ok(())
+fn mounts_of(alloc: Global) -> Result<Mounts, Fail> {
+    let mut keeper: PlainKeeper<ThreeFiles> = PlainKeeper::new(alloc, NOW)?;
+    let first = serve_on(alloc, &mut keeper, &CHANGING)?;
+    keeper.begin_mount()?;
+    let again = serve_on(alloc, &mut keeper, &BEFORE_INIT)?;
+    Ok((first, again, held(&mut keeper)?))
 }
 
 // A new mount has agreed on nothing yet, and the files are those of before.
 #[test]
 fn mounted_again(rt: HostRuntime) -> Result<(), Fail> {
-    let alloc = rt.alloc();
-    let mut keeper: PlainKeeper<ThreeFiles> = PlainKeeper::new(alloc, NOW)?;
-    let first = serve_on(alloc, &mut keeper, &CHANGING)?;
-    keeper.begin_mount()?;
-    let again = serve_on(alloc, &mut keeper, &BEFORE_INIT)?;
-    assert_eq!(rt; first, Some(ended_well(11, 1)));
-    assert_eq!(rt; again, Some(ended_well(2, 0)));
-    assert_eq!(rt; held(&mut keeper)?, (4, 0));
+    let wanted = (Some(ended_well(11, 1)), Some(ended_well(2, 0)), (4, 0));
+    assert_eq!(rt; mounts_of(rt.alloc())?, wanted);
     Ok(())
 }
 
 #[test]
-fn nodes(rt: HostRuntime) {
+fn laws() {
     never_changes();
-    assert_eq!(rt; Node::at(4), Some(Node::Hours));
-    assert_eq!(rt; Node::at(5), None);
-    assert_eq!(rt; Node::Licence.number(), 3);
-    assert_eq!(rt; Node::Licence.name(), b"licence".as_slice());
-    assert_eq!(rt; Node::Hours.content(), b"9 to 5".as_slice());
-    assert_eq!(rt; Node::Directory.mode(), 0o040555);
-    assert!(rt; Node::Directory.is_directory());
 }

@@ -1,11 +1,8 @@
 //! WRITE and READ, over a file that holds `one`: rows `write-limits`, `last-byte`, `cut-and-grow`
 //! and `handles`.
-use crate::file::WITH_FILE;
-use crate::rows::failed_row;
-use std::test::*;
 
 // A gap is zero bytes, and no bytes make no gap.
-const WRITES: &[u8] = b"\
+pub const WRITES: &[u8] = b"\
     new 2000 2 write 3 0 two = 0 *2\n\
     2000 2 read 2 0 4096 = 0 text two\n\
     new 2000 2 write 3 1 x = 0\n\
@@ -31,7 +28,7 @@ const WRITES: &[u8] = b"\
     2000 2 read 1 0 4096 = 0 text abc\0\0\0";
 
 // The handle is looked at before the kind, and the kind before the size.
-const READS: &[u8] = b"\
+pub const READS: &[u8] = b"\
     new 3000 2 read 2 0 4096 = 0 text one *0\n\
     3000 2 read 2 0 0 = 0 *0 text\n\
     3000 2 read 2 1 1 = 0 text n\n\
@@ -59,26 +56,8 @@ const READS: &[u8] = b"\
     3000 2 write 3 18446744073709551615 a = 27\n\
     3000 6 write 1 0 a = 116";
 
-const LAST_BYTE: &[u8] = b"\
+pub const LAST_BYTE: &[u8] = b"\
     new 2000 2 write 3 16777215 z = 0 all 0100000000000000\n\
     3000 2 write 3 16777215 ab = 27\n\
     3000 2 getattr = 0 @24 00000001000000000080000000000000\n\
     3000 2 read 2 16777214 4096 = 0 text \0z";
-
-#[test]
-fn writes(rt: HostRuntime) -> Result<(), Fail> {
-    assert_eq!(rt; failed_row(rt.alloc(), WITH_FILE, WRITES)?, None);
-    Ok(())
-}
-
-#[test]
-fn reads(rt: HostRuntime) -> Result<(), Fail> {
-    assert_eq!(rt; failed_row(rt.alloc(), WITH_FILE, READS)?, None);
-    Ok(())
-}
-
-#[test]
-fn last_byte(rt: HostRuntime) -> Result<(), Fail> {
-    assert_eq!(rt; failed_row(rt.alloc(), WITH_FILE, LAST_BYTE)?, None);
-    Ok(())
-}

@@ -1,12 +1,10 @@
 //! The first run, the nodes that a request names, and names.
-use crate::rows::failed_row;
-use std::test::*;
 
 /// Row init-agreed.
 pub const BEGUN: &[u8] = b"\
     1000 0 init 7 40 1073750049 128 = 0";
 
-const FIRST: &[u8] = b"\
+pub const FIRST: &[u8] = b"\
     new\n\
     1000 1 mkdir 0755 a = 0 all 0200000000000000000000000000000001000000000000000100000000000000\
     0000000000000000020000000000000000000000000000000000000000000000e803000000000000e80300000000\
@@ -46,9 +44,3 @@ const FIRST: &[u8] = b"\
     1000 1 mkdir 0755 LONG = 36\n\
     1000 1 mkdir 0755 ... = 0\n\
     1000 1 mkdir 0755 LONGEST = 0";
-
-#[test]
-fn names_and_nodes(rt: HostRuntime) -> Result<(), Fail> {
-    assert_eq!(rt; failed_row(rt.alloc(), BEGUN, FIRST)?, None);
-    Ok(())
-}

@@ -1,10 +1,11 @@
 //! INIT: what it answers, what it settles, and that it comes first.
-use crate::rows::failed_row;
-use std::test::*;
 
-// Before one is agreed on, and after one is: another agreed one replaces the settings, no other
-// does.
-const INITS: &[u8] = b"\
+// A new store, before one is agreed on, and after one is: another agreed one replaces the
+// settings, no other does.
+pub const INITS: &[u8] = b"\
+    row 1 040755 0 0 0 0 0 0\n\
+    counters 2 1 3 1 0\n\
+    settings\n\
     1000 1 getattr = 71\n\
     1000 9 getattr = 71\n\
     1000 1 mkdir 0755 a = 71\n\
@@ -26,9 +27,3 @@ const INITS: &[u8] = b"\
     00000000000000000000000000000000000000000000000000000000000000000 *0\n\
     1000 0 init 7 22 33 - = 71\n\
     settings 40 550829555745";
-
-#[test]
-fn inits(rt: HostRuntime) -> Result<(), Fail> {
-    assert_eq!(rt; failed_row(rt.alloc(), b"", INITS)?, None);
-    Ok(())
-}

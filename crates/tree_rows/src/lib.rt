@@ -39,4 +39,6 @@ mod rows;
 #[cfg(test)]
 mod setattr;
 #[cfg(test)]
+mod tables;
+#[cfg(test)]
 mod words;

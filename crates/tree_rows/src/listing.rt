@@ -1,11 +1,7 @@
 //! READDIR: rows `readdir` and `rename-new-cookie`, entries of a directory, and its refusals.
-use crate::first::BEGUN;
-use crate::opening::OPENED;
-use crate::rows::failed_row;
-use std::test::*;
 
 // Entries that lead nowhere or have no name are those of no tree, and so are too many directories.
-const DOTS: &[u8] = b"\
+pub const DOTS: &[u8] = b"\
     new 1000 1 opendir = 0\n\
     1000 1 readdir 1 0 32 = 0 all 0100000000000000010000000000000001000000040000002e000000000000\
     00\n\
@@ -41,7 +37,7 @@ const DOTS: &[u8] = b"\
     put-node 2 040000 0 65537\n\
     1000 2 getattr = lost";
 
-const ENTRIES: &[u8] = b"\
+pub const ENTRIES: &[u8] = b"\
     new 1000 1 readdir 3 2 71 = 0 all 0200000000000000030000000000000001000000040000006100000000\
     000000\n\
     1000 1 readdir 3 2 72 = 0 all 02000000000000000300000000000000010000000400000061000000000000\
@@ -66,15 +62,3 @@ const ENTRIES: &[u8] = b"\
     1000 1 rmdir a = 0\n\
     1000 2 readdir 4 0 1048577 = 22\n\
     1000 2 readdir 4 0 31 = 2";
-
-#[test]
-fn readdir(rt: HostRuntime) -> Result<(), Fail> {
-    assert_eq!(rt; failed_row(rt.alloc(), BEGUN, DOTS)?, None);
-    Ok(())
-}
-
-#[test]
-fn lists_entries(rt: HostRuntime) -> Result<(), Fail> {
-    assert_eq!(rt; failed_row(rt.alloc(), OPENED, ENTRIES)?, None);
-    Ok(())
-}

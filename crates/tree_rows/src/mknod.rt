@@ -1,11 +1,8 @@
 //! MKNOD: row `mknod-modes`, what else it makes, and its refusals.
-use crate::first::BEGUN;
-use crate::rows::failed_row;
-use std::test::*;
 
 // Modes and devices that are asked for, and those of the new node. A directory, a symbolic link and
 // numbers that are no type aren't made. The last cookie is taken.
-const MODES: &[u8] = b"\
+pub const MODES: &[u8] = b"\
     new\n\
     1000 1 mknod 0644 0 f = 0 all 02000000000000000000000000000000010000000000000001000000000000\
     000000000000000000020000000000000000000000000000000000000000000000e803000000000000e803000000\
@@ -30,7 +27,7 @@ const MODES: &[u8] = b"\
     counters 3 1 4611686018427387904 2 0";
 
 // Nodes 2 and 3, a directory and a file, have no names: the first check that applies decides.
-const REFUSALS: &[u8] = b"\
+pub const REFUSALS: &[u8] = b"\
     new\n\
     1000 1 mkdir 0755 d = 0\n\
     1000 1 mknod 0644 0 g = 0\n\
@@ -45,15 +42,3 @@ const REFUSALS: &[u8] = b"\
     1000 1 mknod 0644 0 LONG = 36\n\
     1000 1 mknod 0644 0 LONGEST = 0\n\
     1000 1 mknod 0644 0 f = 0";
-
-#[test]
-fn mknod_modes(rt: HostRuntime) -> Result<(), Fail> {
-    assert_eq!(rt; failed_row(rt.alloc(), BEGUN, MODES)?, None);
-    Ok(())
-}
-
-#[test]
-fn refuses_in_order(rt: HostRuntime) -> Result<(), Fail> {
-    assert_eq!(rt; failed_row(rt.alloc(), BEGUN, REFUSALS)?, None);
-    Ok(())
-}

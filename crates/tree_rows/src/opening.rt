@@ -1,6 +1,4 @@
 //! OPEN, OPENDIR, RELEASE and RELEASEDIR: what they answer, and their refusals.
-use crate::rows::failed_row;
-use std::test::*;
 
 // Directory `a` (node 2, cookie 3), file `nine.text` (3, 4), and a FIFO (4), which has no name any
 // more. The file is open under 1 and 2, the root under 3, and the directory under 4.
@@ -16,7 +14,7 @@ pub const OPENED: &[u8] = b"\
     1000 1 unlink p = 0";
 
 // A number is never given out again. Handles that aren't counted are those of no tree.
-const HANDLES: &[u8] = b"\
+pub const HANDLES: &[u8] = b"\
     new\n\
     1000 3 open 3 = 22\n\
     1000 2 open 3 = 21\n\
@@ -44,9 +42,3 @@ const HANDLES: &[u8] = b"\
     put-handle 9 1\n\
     put-handles 0\n\
     1000 1 releasedir 9 = lost";
-
-#[test]
-fn handles(rt: HostRuntime) -> Result<(), Fail> {
-    assert_eq!(rt; failed_row(rt.alloc(), OPENED, HANDLES)?, None);
-    Ok(())
-}

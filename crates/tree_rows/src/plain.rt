@@ -91,36 +91,6 @@ fn some_rows(alloc: Global) -> Result<PlainRows, Fail> {
     Ok(rows)
 }
 
-// What a new store's looks tell.
-fn new_root(alloc: Global) -> Result<NodeRow, Fail> {
-    let mut rows = PlainRows::new(alloc, EARLY)?;
-    Ok(rows.node(ROOT_ID)?.ok_or("a root")?)
-}
-
-fn new_counters(alloc: Global) -> Result<Counters, Fail> {
-    let mut rows = PlainRows::new(alloc, EARLY)?;
-    Ok(rows.counters()?)
-}
-
-fn new_counted(alloc: Global) -> Result<Counters, Fail> {
-    let rows = PlainRows::new(alloc, EARLY)?;
-    Ok(rows.counted())
-}
-
-fn new_settings(alloc: Global) -> Result<Option<Settings>, Fail> {
-    let mut rows = PlainRows::new(alloc, EARLY)?;
-    Ok(rows.settings()?)
-}
-
-#[test]
-fn a_new_store_has_a_root(rt: HostRuntime) -> Result<(), Fail> {
-    assert_eq!(rt; new_root(rt.alloc())?.mode, 0o040755);
-    assert_eq!(rt; new_counters(rt.alloc())?.next_cookie, 3);
-    assert_eq!(rt; new_counted(rt.alloc())?.nodes, 1);
-    assert_eq!(rt; new_settings(rt.alloc())?, None);
-    Ok(())
-}
-
 // A copy of the rows.
 fn copy_of(rows: &PlainRows) -> Result<PlainRows, Fail>
     ensures { IfOk result (λ copy. fault_of copy ≡ None) }
@@ -157,13 +127,6 @@ fn bytes_in(
     let mut copy = copy_of(rows)?;
     let bytes = copy.bytes(2, offset, len)?;
     Ok((bytes, copy.failed()))
-}
-
-// The cookie of the root's entry of this name.
-fn cookie_in(rows: &PlainRows, name: &[u8]) -> Result<u64, Fail> {
-    let mut copy = copy_of(rows)?;
-    let found = copy.entry(ROOT_ID, name)?.ok_or("an entry")?;
-    Ok(found.cookie)
 }
 
 fn entries_in(rows: &PlainRows, cookie: u64, limit: usize) -> Result<Vec<EntryRow>, Fail> {
@@ -222,34 +185,6 @@ fn makes_each_change(rt: HostRuntime) -> Result<(), Fail> {
         assert_eq!(rt; shown(&rows)?, counts);
         assert!(rt; holds(&rows, 0, 100, content)?);
     }
-    Ok(())
-}
-
-#[test]
-fn keeps_counters_and_settings(rt: HostRuntime) -> Result<(), Fail> {
-    let rows = some_rows(rt.alloc())?;
-    assert_eq!(rt; rows.counted(), COUNTERS);
-    assert_eq!(rt; rows.agreed(), Some(SETTINGS));
-    Ok(())
-}
-
-#[test]
-fn looks_at_nodes_and_handles(rt: HostRuntime) -> Result<(), Fail> {
-    let rows = some_rows(rt.alloc())?;
-    assert!(rt; has_node(&rows, 2, Some(file(2, ROOT_ID)))?);
-    assert!(rt; has_node(&rows, 9, None)?);
-    assert_eq!(rt; handle_in(&rows, 1)?, Some(HANDLE));
-    assert!(rt; holds(&rows, 1, 9, b"ne")?);
-    Ok(())
-}
-
-#[test]
-fn looks_at_entries(rt: HostRuntime) -> Result<(), Fail> {
-    let rows = some_rows(rt.alloc())?;
-    assert_eq!(rt; cookie_in(&rows, b"b")?, 4);
-    let first = entries_in(&rows, 2, 1)?;
-    assert_eq!(rt; first.len(), 1);
-    assert_eq!(rt; first[0].cookie, 3);
     Ok(())
 }
 

@@ -1,10 +1,8 @@
 //! UNLINK and RMDIR: what they leave, and their refusals.
-use crate::rows::failed_row;
-use std::test::*;
 
 // Directory `a` (node 2, cookie 3), file `f` (3, 4), directory `a/b` (4, 5), file `a/b/g` (5, 6)
 // and directory `e` (6, 7), which has no name any more.
-const TREE: &[u8] = b"\
+pub const TREE: &[u8] = b"\
     1000 0 init 7 40 1073750049 128 = 0\n\
     1000 1 mkdir 0755 a = 0\n\
     1000 1 mknod 0644 0 f = 0\n\
@@ -14,7 +12,7 @@ const TREE: &[u8] = b"\
     1000 1 rmdir e = 0";
 
 // The first check that applies decides, and then what the child is.
-const REFUSALS: &[u8] = b"\
+pub const REFUSALS: &[u8] = b"\
     new\n\
     2000 9 unlink - = 116\n\
     2000 3 unlink - = 20\n\
@@ -41,7 +39,7 @@ const REFUSALS: &[u8] = b"\
     2000 6 mkdir 0755 a = 2";
 
 // A name goes once, and numbers are given out once.
-const LEFT: &[u8] = b"\
+pub const LEFT: &[u8] = b"\
     new 2000 1 unlink f = 0 *3 all\n\
     row 3 0100644 0 0 0 1000 1000 2000\n\
     row 1 040755 0 1 0 0 2000 2000\n\
@@ -60,15 +58,3 @@ const LEFT: &[u8] = b"\
     row 1 040755 0 1 0 0 1000 1000\n\
     2000 4 getattr = 0 @80 00000000\n\
     2000 2 getattr = 0 @80 02000000";
-
-#[test]
-fn refuses_in_order(rt: HostRuntime) -> Result<(), Fail> {
-    assert_eq!(rt; failed_row(rt.alloc(), TREE, REFUSALS)?, None);
-    Ok(())
-}
-
-#[test]
-fn leaves(rt: HostRuntime) -> Result<(), Fail> {
-    assert_eq!(rt; failed_row(rt.alloc(), TREE, LEFT)?, None);
-    Ok(())
-}

@@ -1,11 +1,9 @@
 //! RENAME and RENAME2: rows `rename-refusals`, `rename-new-cookie`, `exchange` and
 //! `rename2-refusals`, what they leave, and the order of their checks.
-use crate::rows::failed_row;
-use std::test::*;
 
 // Directory `a` (node 2, cookie 3), directory `a/b` (3, 4), file `f` (4, 5), empty directory `e`
 // (5, 6), and directory 6, which has no name any more.
-const FAMILY: &[u8] = b"\
+pub const FAMILY: &[u8] = b"\
     1000 0 init 7 40 1073750049 128 = 0\n\
     1000 1 mkdir 0755 a = 0\n\
     1000 2 mkdir 0755 b = 0\n\
@@ -15,7 +13,7 @@ const FAMILY: &[u8] = b"\
     1000 1 rmdir u = 0";
 
 // The first check that applies decides. One place stays as it is.
-const CHECKS: &[u8] = b"\
+pub const CHECKS: &[u8] = b"\
     new\n\
     2000 9 rename2 0 - 1 - = 116\n\
     2000 4 rename2 0 - 9 - = 116\n\
@@ -44,7 +42,7 @@ const CHECKS: &[u8] = b"\
     new 2000 1 rename f 1 g = 0 *5 all\n\
     new 2000 1 rename f 2 g = 0 *6 all";
 
-const MOVES: &[u8] = b"\
+pub const MOVES: &[u8] = b"\
     new 2000 1 rename e 2 b = 0\n\
     entry 2 b 5 8\n\
     entry 1 e 0 0\n\
@@ -67,12 +65,12 @@ const MOVES: &[u8] = b"\
     row 1 040755 0 3 0 0 2000 2000";
 
 // The tree of row `exchange` before it: directory `a` (node 2, cookie 3) and file `b` (3, 4).
-const PAIR: &[u8] = b"\
+pub const PAIR: &[u8] = b"\
     1000 0 init 7 40 1073750049 128 = 0\n\
     1000 1 mkdir 0755 a = 0\n\
     1000 1 mknod 0644 0 b = 0";
 
-const EXCHANGES: &[u8] = b"\
+pub const EXCHANGES: &[u8] = b"\
     new 1000 1 rename2 2 a 1 b = 0 *8 all\n\
     1000 1 opendir = 0\n\
     1000 1 readdir 1 2 64 = 0 all 03000000000000000500000000000000010000000800000061000000000000\
@@ -93,7 +91,7 @@ const EXCHANGES: &[u8] = b"\
     1000 1 rename2 0 b 2 y = 0";
 
 // The cookies end, and other refusals come before. A way up that doesn't end is that of no tree.
-const ENDS: &[u8] = b"\
+pub const ENDS: &[u8] = b"\
     new put-cookie 4611686018427387903\n\
     2000 1 rename e 2 x = 0\n\
     new put-cookie 4611686018427387904\n\
@@ -108,27 +106,3 @@ const ENDS: &[u8] = b"\
     2000 1 rename e 3 x = lost\n\
     put-nodes 18446744073709551615\n\
     2000 1 rename e 3 x = lost";
-
-#[test]
-fn rename_refusals(rt: HostRuntime) -> Result<(), Fail> {
-    assert_eq!(rt; failed_row(rt.alloc(), FAMILY, CHECKS)?, None);
-    Ok(())
-}
-
-#[test]
-fn renames(rt: HostRuntime) -> Result<(), Fail> {
-    assert_eq!(rt; failed_row(rt.alloc(), FAMILY, MOVES)?, None);
-    Ok(())
-}
-
-#[test]
-fn exchanges(rt: HostRuntime) -> Result<(), Fail> {
-    assert_eq!(rt; failed_row(rt.alloc(), PAIR, EXCHANGES)?, None);
-    Ok(())
-}
-
-#[test]
-fn ends(rt: HostRuntime) -> Result<(), Fail> {
-    assert_eq!(rt; failed_row(rt.alloc(), FAMILY, ENDS)?, None);
-    Ok(())
-}

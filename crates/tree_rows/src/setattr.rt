@@ -1,9 +1,6 @@
 //! SETATTR, over a file that holds `one`: rows `setattr-size-and-mode` and `setattr-size-kinds`.
-use crate::file::WITH_FILE;
-use crate::rows::failed_row;
-use std::test::*;
 
-const SIZES: &[u8] = b"\
+pub const SIZES: &[u8] = b"\
     new 2000 2 setattr 8 5 0 = 0 all 01000000000000000000000000000000020000000000000005000000000\
     000000100000000000000e803000000000000d007000000000000d00700000000000000000000000000000000000\
     0a481000001000000e8030000e8030000000000000010000000000000 *2\n\
@@ -29,7 +26,7 @@ const SIZES: &[u8] = b"\
 // What is set, and the three times after it: SIZE changes mtime too, unless that is set; ATIME_NOW
 // and MTIME_NOW come before ATIME and MTIME; FH, LOCKOWNER and KILL_SUIDGID have no effect, nor
 // have bits without names. Nanoseconds are kept as received.
-const TIMES: &[u8] = b"\
+pub const TIMES: &[u8] = b"\
     new 2000 2 setattr 0 5 0600 = 0\n\
     row 2 0100644 1 0 3 1000 1000 1000\n\
     2001 2 setattr 1 5 0170600 = 0\n\
@@ -65,15 +62,3 @@ const TIMES: &[u8] = b"\
     new 2000 2 setattr 1079 5 0170600 = 0 all 01000000000000000000000000000000020000000000000003\
     0000000000000001000000000000000b000000000000000c000000000000000d0000000000000015000000160000\
     00ffffffff80810000010000001f00000020000000000000000010000000000000";
-
-#[test]
-fn setattr_size_and_kinds(rt: HostRuntime) -> Result<(), Fail> {
-    assert_eq!(rt; failed_row(rt.alloc(), WITH_FILE, SIZES)?, None);
-    Ok(())
-}
-
-#[test]
-fn sets_times(rt: HostRuntime) -> Result<(), Fail> {
-    assert_eq!(rt; failed_row(rt.alloc(), WITH_FILE, TIMES)?, None);
-    Ok(())
-}

@@ -77,7 +77,7 @@ fn agreed(rt: HostRuntime) -> Result<(), Fail> {
     Ok(())
 }
 
-const NOT_AGREEING: [Row<'static>; 3] = [
+const NOT_AGREEING: [Row<'static>; 5] = [
     Row {
         name: "init-newer-major, and a GETATTR",
         stream: &[
@@ -133,6 +133,58 @@ const NOT_AGREEING: [Row<'static>; 3] = [
         counts: "served messages=3 kept=1 repeated=0 bare=2 silent=0 interrupts=0",
         ending: Ending::Done,
     },
+    Row {
+        name: "before-init",
+        stream: &[
+            "38000000 03000000 0400000000000000 0100000000000000",
+            TAIL,
+            PLAIN,
+            AGREED,
+            "38000000 03000000 0400000000000080 0100000000000000",
+            TAIL,
+            PLAIN,
+            "38000000 03000000 0600000000000000 0100000000000000",
+            TAIL,
+            PLAIN,
+        ],
+        lines: &[
+            &["10000000 b9ffffff 0400000000000000"],
+            &[ANSWER, "00000200 21000040", NUMBERS, "80000000", UNUSED],
+            &["10000000 b9ffffff 0400000000000080"],
+            &[
+                "78000000 00000000 0600000000000000 0100000000000000 0000000000000000",
+                "0100000000000000 0000000000000000 0000000000000000 0000000000000000 \
+                0000000000000000 0000000000000000",
+                "000000000000000000000000 ed410000 02000000 00000000 00000000 00000000 00100000 \
+                00000000",
+            ],
+        ],
+        counts: "served messages=4 kept=4 repeated=1 bare=0 silent=0 interrupts=0",
+        ending: Ending::Done,
+    },
+    // DESTROY is refused before INIT, and the session goes on; behind it, it ends the session.
+    Row {
+        name: "DESTROY before INIT and behind it",
+        stream: &[
+            "28000000 26000000 0400000000000000 0000000000000000",
+            TAIL,
+            AGREED,
+            "28000000 26000000 0400000000000080 0000000000000000",
+            TAIL,
+            "28000000 26000000 0600000000000000 0000000000000000",
+            TAIL,
+            "28000000 26000000 0800000000000000 0000000000000000",
+            TAIL,
+        ],
+        lines: &[
+            &["10000000 b9ffffff 0400000000000000"],
+            &[ANSWER, "00000200 21000040", NUMBERS, "80000000", UNUSED],
+            &["10000000 b9ffffff 0400000000000080"],
+            &["10000000 00000000 0600000000000000"],
+        ],
+        counts: "served messages=4 kept=4 repeated=1 bare=0 silent=0 interrupts=0",
+        ending: Ending::Done,
+    },
 ];
 
 #[test]
@@ -141,68 +193,4 @@ fn not_agreed(rt: HostRuntime) -> Result<(), Fail> {
         check_first(&rt, row)?;
     }
     Ok(())
-}
-
-const BEFORE_INIT: Row<'static> = Row {
-    name: "before-init",
-    stream: &[
-        "38000000 03000000 0400000000000000 0100000000000000",
-        TAIL,
-        PLAIN,
-        AGREED,
-        "38000000 03000000 0400000000000080 0100000000000000",
-        TAIL,
-        PLAIN,
-        "38000000 03000000 0600000000000000 0100000000000000",
-        TAIL,
-        PLAIN,
-    ],
-    lines: &[
-        &["10000000 b9ffffff 0400000000000000"],
-        &[ANSWER, "00000200 21000040", NUMBERS, "80000000", UNUSED],
-        &["10000000 b9ffffff 0400000000000080"],
-        &[
-            "78000000 00000000 0600000000000000 0100000000000000 0000000000000000",
-            "0100000000000000 0000000000000000 0000000000000000 0000000000000000 0000000000000000 \
-            0000000000000000",
-            "000000000000000000000000 ed410000 02000000 00000000 00000000 00000000 00100000 \
-            00000000",
-        ],
-    ],
-    counts: "served messages=4 kept=4 repeated=1 bare=0 silent=0 interrupts=0",
-    ending: Ending::Done,
-};
-
-#[test]
-fn before_init(rt: HostRuntime) -> Result<(), Fail> {
-    check_first(&rt, &BEFORE_INIT)
-}
-
-// DESTROY is refused before INIT, and the session goes on; behind it, it ends the session.
-const DESTROYS: Row<'static> = Row {
-    name: "DESTROY before INIT and behind it",
-    stream: &[
-        "28000000 26000000 0400000000000000 0000000000000000",
-        TAIL,
-        AGREED,
-        "28000000 26000000 0400000000000080 0000000000000000",
-        TAIL,
-        "28000000 26000000 0600000000000000 0000000000000000",
-        TAIL,
-        "28000000 26000000 0800000000000000 0000000000000000",
-        TAIL,
-    ],
-    lines: &[
-        &["10000000 b9ffffff 0400000000000000"],
-        &[ANSWER, "00000200 21000040", NUMBERS, "80000000", UNUSED],
-        &["10000000 b9ffffff 0400000000000080"],
-        &["10000000 00000000 0600000000000000"],
-    ],
-    counts: "served messages=4 kept=4 repeated=1 bare=0 silent=0 interrupts=0",
-    ending: Ending::Done,
-};
-
-#[test]
-fn destroys(rt: HostRuntime) -> Result<(), Fail> {
-    check_first(&rt, &DESTROYS)
 }

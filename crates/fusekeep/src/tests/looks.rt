@@ -45,7 +45,7 @@ fn compare(rt: &(impl Abort + AllocGlobal), row: &Look<'_>) -> Result<(), Fail> 
     Ok(())
 }
 
-const LOOKS: [Look<'static>; 5] = [
+const LOOKS: [Look<'static>; 8] = [
     Look {
         name: "dump-and-check",
         stream: &[rows::LOOKUP_HELLO, rows::LOOKUP_HELLO_AGAIN],
@@ -86,17 +86,6 @@ const LOOKS: [Look<'static>; 5] = [
         check: "messages=1 malformed=1 unsupported=0\n",
         check_ends: Ending::Malformed,
     },
-];
-
-#[test]
-fn looks(rt: HostRuntime) -> Result<(), Fail> {
-    for row in &LOOKS {
-        compare(&rt, row)?;
-    }
-    Ok(())
-}
-
-const FAULTY: [Look<'static>; 3] = [
     Look {
         name: "cut-stream",
         stream: &[rows::LOOKUP_HELLO, "010203"],
@@ -132,24 +121,10 @@ const FAULTY: [Look<'static>; 3] = [
 ];
 
 #[test]
-fn looks_at_faulty_streams(rt: HostRuntime) -> Result<(), Fail> {
-    for row in &FAULTY {
+fn looks(rt: HostRuntime) -> Result<(), Fail> {
+    for row in &LOOKS {
         compare(&rt, row)?;
     }
-    Ok(())
-}
-
-#[test]
-fn looks_byte_by_byte(rt: HostRuntime) -> Result<(), Fail> {
-    let alloc = rt.alloc();
-    let stream = bytes_of(alloc, &[rows::LOOKUP_HELLO, rows::LOOKUP_HELLO_AGAIN])?;
-    let mut printed = Vec::new(alloc);
-    let reader = fakes::ByteByByte { rest: &stream };
-    assert_eq!(rt; run_check(alloc, reader, &mut printed), Ending::Done);
-    assert_eq!(rt;
-        printed.as_slice(),
-        b"messages=2 malformed=0 unsupported=0\n".as_slice()
-    );
     Ok(())
 }
 

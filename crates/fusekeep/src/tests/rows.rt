@@ -16,8 +16,6 @@ pub const NO_ENTRY: &str = "10000000 feffffff 0400000000000000";
 
 pub const NO_ENTRY_AGAIN: &str = "10000000 feffffff 0400000000000080";
 
-const INVALID: &str = "10000000 eaffffff 0400000000000000";
-
 const MKDIR_A: &str =
     "32000000 09000000 0600000000000000 0100000000000000 e8030000 e8030000 4d000000 00000000 \
     ed010000 12000000 6100";
@@ -154,73 +152,6 @@ fn answers(rt: HostRuntime) -> Result<(), Fail> {
     Ok(())
 }
 
-// What is recorded is answered again, and what isn't leaves its id free.
-const MALFORMED: [Row<'static>; 3] = [
-    Row {
-        name: "name-ends",
-        stream: &[
-            "2d000000 01000000 0400000000000000 0100000000000000",
-            TAIL,
-            "68656c6c6f",
-            "2f000000 01000000 0400000000000000 0100000000000000",
-            TAIL,
-            "68656c6c6f0000",
-            LOOKUP_HELLO,
-            LOOKUP_HELLO_AGAIN,
-        ],
-        lines: &[&[INVALID], &[INVALID], &[NO_ENTRY], &[NO_ENTRY_AGAIN]],
-        counts: "served messages=4 kept=2 repeated=1 bare=2 silent=0 interrupts=0",
-        ending: Ending::Done,
-    },
-    Row {
-        name: "mkdir-bodies",
-        stream: &[
-            "2c000000 09000000 0400000000000000 0100000000000000",
-            TAIL,
-            "ed010000",
-            "30000000 09000000 0400000000000000 0100000000000000",
-            TAIL,
-            "ed010000 12000000",
-            "31000000 09000000 0400000000000000 0100000000000000",
-            TAIL,
-            "ed010000 12000000 00",
-            "31000000 09000000 0400000000000080 0100000000000000",
-            TAIL,
-            "ed010000 12000000 00",
-        ],
-        lines: &[
-            &[INVALID],
-            &[INVALID],
-            &[INVALID],
-            &["10000000 eaffffff 0400000000000080"],
-        ],
-        counts: "served messages=4 kept=2 repeated=1 bare=2 silent=0 interrupts=0",
-        ending: Ending::Done,
-    },
-    Row {
-        name: "extension",
-        stream: &[
-            "36000000 01000000 0400000000000000 0100000000000000 e8030000 e8030000 4d000000 \
-            01000000 68656c6c6f00 0000000000000000",
-            "2e000000 01000000 0400000000000000 0100000000000000 e8030000 e8030000 4d000000 \
-            01000000 68656c6c6f00",
-            "36000000 01000000 0400000000000080 0100000000000000 e8030000 e8030000 4d000000 \
-            01000000 68656c6c6f00 0000000000000000",
-        ],
-        lines: &[&[NO_ENTRY], &[INVALID], &[NO_ENTRY_AGAIN]],
-        counts: "served messages=3 kept=2 repeated=1 bare=1 silent=0 interrupts=0",
-        ending: Ending::Done,
-    },
-];
-
-#[test]
-fn malformed_messages(rt: HostRuntime) -> Result<(), Fail> {
-    for row in &MALFORMED {
-        check(&rt, row)?;
-    }
-    Ok(())
-}
-
 const NONE_SERVED: &str = "served messages=0 kept=0 repeated=0 bare=0 silent=0 interrupts=0";
 
 const LENGTHS: [Row<'static>; 4] = [
@@ -273,7 +204,7 @@ fn lengths(rt: HostRuntime) -> Result<(), Fail> {
     Ok(())
 }
 
-const ZERO_UNIQUE: [Row<'static>; 4] = [
+const ZERO_UNIQUE: [Row<'static>; 2] = [
     Row {
         name: "zero-unique, 0",
         stream: &[
@@ -285,29 +216,6 @@ const ZERO_UNIQUE: [Row<'static>; 4] = [
         lines: &[],
         counts: NONE_SERVED,
         ending: Ending::ZeroUnique { at: 0 },
-    },
-    Row {
-        name: "zero-unique, the bit of a resend alone",
-        stream: &[
-            "38000000 03000000 0000000000000080 0100000000000000",
-            TAIL,
-            PLAIN,
-        ],
-        lines: &[],
-        counts: NONE_SERVED,
-        ending: Ending::ZeroUnique { at: 0 },
-    },
-    Row {
-        name: "zero-unique, behind an answer",
-        stream: &[
-            LOOKUP_HELLO,
-            "38000000 03000000 0000000000000000 0100000000000000",
-            TAIL,
-            PLAIN,
-        ],
-        lines: &[&[NO_ENTRY]],
-        counts: "served messages=1 kept=1 repeated=0 bare=0 silent=0 interrupts=0",
-        ending: Ending::ZeroUnique { at: 46 },
     },
     Row {
         name: "zero-unique, FORGET and CREATE",
@@ -366,43 +274,4 @@ const SILENT: Row<'static> = Row {
 #[test]
 fn silent_messages(rt: HostRuntime) -> Result<(), Fail> {
     check(&rt, &SILENT)
-}
-
-// MKDIRs of distinct names in the root, under the uniques 4, 6 and so on.
-fn mkdirs(alloc: Global, count: u8) -> Result<Vec<u8>, Fail> {
-    let mut stream = Vec::new(alloc);
-    for i in 0..count {
-        stream.extend_from_slice(b"\x32\0\0\0\x09\0\0\0")?;
-        stream.extend_from_slice(&(4 + 2 * u64::from(i)).to_le_bytes())?;
-        stream.extend_from_slice(b"\x01\0\0\0\0\0\0\0\xe8\x03\0\0\xe8\x03\0\0\x4d\0\0\0\0\0\0\0")?;
-        stream.extend_from_slice(b"\xed\x01\0\0\x12\0\0\0")?;
-        stream.extend_from_slice(&[65 + i % 26, 0])?;
-    }
-    Ok(stream)
-}
-
-// How the line begins that answers the MKDIR of this place.
-fn made_line(alloc: Global, place: u8) -> Result<String, Fail> {
-    let (unique, node) = (4 + 2 * u32::from(place), 2 + u32::from(place));
-    Ok(format!(in alloc; "9000000000000000{unique:02x}00000000000000{node:02x}00000000000000")?)
-}
-
-#[test]
-fn seventeen(rt: HostRuntime) -> Result<(), Fail> {
-    let alloc = rt.alloc();
-    let stream = mkdirs(alloc, 17)?;
-    let (ending, printed) = replayed(alloc, stream.as_slice())?;
-    assert_eq!(rt; ending, Ending::Done);
-    let text = String::from_utf8(printed)?;
-    for (place, line) in (0..17u8).zip(text.lines()) {
-        assert_eq!(rt; line.len(), 288);
-        assert!(rt;
-            line.starts_with(made_line(alloc, place)?.as_str()),
-            "{place}"
-        );
-    }
-    assert_eq!(rt; text.lines().count(), 18);
-    let counts = "\nserved messages=17 kept=17 repeated=0 bare=0 silent=0 interrupts=0\n";
-    assert!(rt; text.ends_with(counts));
-    Ok(())
 }

@@ -52,34 +52,30 @@ fn endings(rt: HostRuntime) -> Result<(), Fail> {
 }
 
 #[test]
-fn endings_of_faults(rt: HostRuntime) {
-    for (fault, ending) in [
-        (StoreFault::NotAStore, Ending::NotAStore),
-        (StoreFault::Version(7), Ending::Version(7)),
-        (StoreFault::Damaged, Ending::Damaged),
-        (StoreFault::Memory, Ending::Memory),
-    ] {
-        assert_eq!(rt; Ending::of(fault), ending);
-    }
-    assert_eq!(rt; Ending::of_session(Ended::Turns), Ending::PortTurns);
-}
-
-#[test]
 fn good_words(rt: HostRuntime) -> Result<(), Fail> {
     let words = ["fusekeep", "replay", "--at", "18446744073709551615", "-"];
     let run = parse(rt.alloc(), words.as_slice())?;
     assert_eq!(rt;
         run,
         Run::Replay {
+            db: None,
             at: 18_446_744_073_709_551_615,
             stream: "-"
         }
     );
-    let words = ["fusekeep", "replay", "first.stream", "--at=0"];
+    let words = [
+        "fusekeep",
+        "replay",
+        "first.stream",
+        "--at=0",
+        "--db",
+        "a.store",
+    ];
     let run = parse(rt.alloc(), words.as_slice())?;
     assert_eq!(rt;
         run,
         Run::Replay {
+            db: Some("a.store"),
             at: 0,
             stream: "first.stream"
         }

@@ -83,41 +83,59 @@ fn serve_on(
     Ok(Some(told_of(&served)))
 }
 
+// How a session over an opened keeper ended, and whether it has so many records before and behind.
+fn served_again(
+    alloc: Global,
+    keeper: &mut TwoCopies<Lamp>,
+    uniques: &[u64],
+    told: &[(u64, bool)],
+) -> Result<(bool, Option<Told>, bool), StoreFault> {
+    let before = has_records(keeper, 1)?;
+    let ended = serve_on(alloc, keeper, uniques, told)?;
+    Ok((
+        before,
+        ended,
+        has_records(keeper, 2)? && keeper.openings() == 1,
+    ))
+}
+
+const AGAIN: (bool, Option<Told>, bool) = (true, Some(Told::End), true);
+
+type Twice = (Option<Told>, (bool, Option<Told>, bool));
+
 // The second group isn't committed: its answer isn't sent. When the keeper is opened again the
 // group is gone; resent, it is performed.
+fn loses(alloc: Global) -> Result<Twice, StoreFault> {
+    let mut keeper = begun(alloc, 1)?;
+    let first = serve_on(alloc, &mut keeper, &[4, 6], &[(4, false)])?;
+    let mut opened = reopened(keeper)?;
+    let again = UNIQUE_RESEND | 6;
+    Ok((
+        first,
+        served_again(alloc, &mut opened, &[again], &[(again, true)])?,
+    ))
+}
+
 #[test]
 fn a_session_loses_what_was_refused(rt: HostRuntime) -> Result<(), StoreFault> {
-    let alloc = rt.alloc();
-    let mut keeper = begun(&rt, 1)?;
-    let first = serve_on(alloc, &mut keeper, &[4, 6], &[(4, false)])?;
-    assert_eq!(rt; first, Some(Told::Damaged));
-
-    let mut opened = reopened(keeper)?;
-    assert!(rt; opened.counts()?.records == 1, "records");
-    let again = UNIQUE_RESEND | 6;
-    let last = serve_on(alloc, &mut opened, &[again], &[(again, true)])?;
-    assert_eq!(rt; last, Some(Told::End));
-    assert!(rt; opened.openings() == 1, "openings");
-    assert!(rt; opened.counts()?.records == 2, "both");
+    assert_eq!(rt; loses(rt.alloc())?, (Some(Told::Damaged), AGAIN));
     Ok(())
 }
 
 // The first group is committed though a fault is answered: its answer isn't sent. When the keeper
 // is opened again it is there; resent, it is a repeat.
-#[test]
-fn a_session_finds_what_was_committed(rt: HostRuntime) -> Result<(), StoreFault> {
-    let alloc = rt.alloc();
-    let mut keeper = begun(&rt, 8)?.with_a_fault();
+fn finds(alloc: Global) -> Result<Twice, StoreFault> {
+    let mut keeper = begun(alloc, 8)?.with_a_fault();
     let first = serve_on(alloc, &mut keeper, &[4, 6], &[])?;
-    assert_eq!(rt; first, Some(Told::Damaged));
-
     let mut opened = reopened(keeper)?;
-    assert!(rt; opened.counts()?.records == 1, "records");
     let again = [UNIQUE_RESEND | 4, UNIQUE_RESEND | 6];
     let answered = [(again[0], false), (again[1], true)];
-    let last = serve_on(alloc, &mut opened, &again, &answered)?;
-    assert_eq!(rt; last, Some(Told::End));
-    assert!(rt; opened.counts()?.records == 2, "both");
+    Ok((first, served_again(alloc, &mut opened, &again, &answered)?))
+}
+
+#[test]
+fn a_session_finds_what_was_committed(rt: HostRuntime) -> Result<(), StoreFault> {
+    assert_eq!(rt; finds(rt.alloc())?, (Some(Told::Damaged), AGAIN));
     Ok(())
 }
 
@@ -189,7 +207,7 @@ fn run_steps(alloc: Global, keeper: TwoCopies<Lamp>) -> Result<Option<(usize, u6
 // The keeper is opened again once for each death, and what comes again is answered as it was.
 #[test]
 fn events_open_it_again(rt: HostRuntime) -> Result<(), StoreFault> {
-    let keeper = begun(&rt, 8)?;
+    let keeper = begun(rt.alloc(), 8)?;
     assert_eq!(rt; run_steps(rt.alloc(), keeper)?, Some((6, 2)));
     Ok(())
 }

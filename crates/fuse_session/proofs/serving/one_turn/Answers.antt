@@ -7,8 +7,9 @@ use Rattle.fuse_session.specs.Moves.{FailedBy, stop_port}
 use Rattle.fuse_session.specs.Serving.{Whole}
 use Rattle.fuse_session.proofs.Counted.{below_more}
 use Rattle.fuse_session.proofs.Handing.{at_most}
-use Rattle.fuse_session.proofs.Sessions.{life_unheard, ends_unheard, unheard_store, life_heard, fault_ends, fault_not_turns, life_worked, ends_finished}
-use Rattle.fuse_session.proofs.Sessions.{finished_store, whole_heard, stop_may_end}
+use Rattle.fuse_session.proofs.Growing.{life_heard, whole_heard}
+use Rattle.fuse_session.proofs.Sessions.{life_unheard, ends_unheard, unheard_store, fault_ends, fault_not_turns, life_worked, ends_finished}
+use Rattle.fuse_session.proofs.Sessions.{finished_store, stop_may_end}
 use Rattle.fuse_session.proofs.serving.one_turn.Goals as goal
 
 -- ---- nothing was heard

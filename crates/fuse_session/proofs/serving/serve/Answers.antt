@@ -9,7 +9,8 @@ use Rattle.fuse_session.specs.Counting.{IsBelow}
 use Rattle.fuse_session.proofs.Counted.{plus_below, below_more}
 use Rattle.fuse_session.proofs.Handing.{at_most, hands_start}
 use Rattle.fuse_session.proofs.Waiting.{ready_new, room_still}
-use Rattle.fuse_session.proofs.Sessions.{whole_start, whole_step, whole_life, ends_step, life_more, life_none, may_end, exact_at, few_settled, failed_both}
+use Rattle.fuse_session.proofs.Growing.{whole_life, life_more}
+use Rattle.fuse_session.proofs.Sessions.{whole_start, whole_step, ends_step, life_none, may_end, exact_at, few_settled, failed_both}
 use Rattle.fuse_session.proofs.Prompting.{whole_caught_up, caught_later, caught_more}
 use Rattle.fuse_session.proofs.serving.serve.Goals as goal
 

@@ -4,6 +4,8 @@ use Rattle.fuse_tree.specs.Bounds.{block_bytes}
 use Rattle.fuse_table_look.specs.Changing.{Cut}
 use Rattle.fuse_table_look.proofs.Changes.{on_ok, on_error}
 use Rattle.fuse_table_look.proofs.Cuts.{cut_keeps, cut_then}
+use Rattle.fuse_table_look.specs.Store.{HeldAs, cut}
+use Rattle.fuse_table_look.proofs.Sure.{sure_next, sure_bytes}
 use Rattle.fuse_table_look.proofs.cutting.cut_within.Goals as goal
 
 pub returns-in-Ok-drop_blocks-clause-cut : goal.returns-in-Ok-drop_blocks-clause-cut
@@ -26,3 +28,12 @@ returns-in-Ok-drop_blocks-clause-fails g c =
     let b = state g.S.Store c.drop_blocks.new.conn in
     let d = state g.S.Store c.write_piece.new.conn in
     on_error c.write_piece.result _ _ (cut_keeps c.args.node _ a b d c.in-Ok-drop_blocks.ensures.cut) c.write_piece.ensures.fails
+
+pub returns-in-Ok-drop_blocks-clause-fault : goal.returns-in-Ok-drop_blocks-clause-fault
+returns-in-Ok-drop_blocks-clause-fault g c =
+    let a = state g.S.Store c.args.conn.now in
+    let b = state g.S.Store c.drop_blocks.new.conn in
+    let d = state g.S.Store c.write_piece.new.conn in
+    sure_next HeldAs HeldAs a b d c.write_piece.result c.write_piece.ensures.fails
+    (λ clean (w, at). ((w.0, cut c.args.node _ w.1), c.in-Ok-drop_blocks.ensures.cut.turns clean w at))
+    (sure_bytes b d c.write_piece.result c.write_piece.ensures.fault)

@@ -4,6 +4,8 @@ use Rattle.fuse_tables.specs.Following.{earlier}
 use Rattle.fuse_table_look.specs.Group.{prepared}
 use Rattle.fuse_table_look.proofs.Turning.{turned_keeps}
 use Rattle.fuse_table_look.proofs.Groups.{grouped, dones_are}
+use Rattle.fuse_table_look.specs.Holding.{HeldFor}
+use Rattle.fuse_table_look.proofs.Sure.{fault_next}
 use Rattle.fuse_table_look.proofs.group.perform_in.Goals as goal
 
 pub returns-in-Ok-take_all-clause-turned : goal.returns-in-Ok-take_all-clause-turned
@@ -27,3 +29,10 @@ pub returns-in-Err-take_all-clause-fails : goal.returns-in-Err-take_all-clause-f
 returns-in-Err-take_all-clause-fails g c =
     turned_keeps (prepared c.args.lot (ids_of c.args.settled.now)) (state g.S.Store c.args.look.now.conn) (state g.S.Store c.prepare.new.conn)
     (state g.S.Store c.take_all.new.look.conn) c.in-Ok.ensures.turned c.in-Err-take_all.ensures.fails
+
+pub returns-in-Err-take_all-clause-fault : goal.returns-in-Err-take_all-clause-fault
+returns-in-Err-take_all-clause-fault g c clean y at left =
+    let before = prepared c.args.lot (ids_of c.args.settled.now) in
+    fault_next HeldFor HeldFor (state g.S.Store c.args.look.now.conn) (state g.S.Store c.prepare.new.conn) (state g.S.Store c.take_all.new.look.conn)
+    c.in-Err-take_all.fault c.in-Err-take_all.ensures.fails (λ mid (z, there). (before z, c.in-Ok.ensures.turned.turns mid z there))
+    c.in-Err-take_all.ensures.fault clean (y, at)

@@ -6,6 +6,8 @@ use Rattle.fuse_table_look.proofs.Changes.{on_ok, on_error}
 use Rattle.fuse_table_look.specs.Group.{without_settled, with_lot_for}
 use Rattle.fuse_table_look.proofs.Turning.{turned_keeps, turned_then, ok_too}
 use Rattle.fuse_table_look.proofs.Groups.{lot_settled}
+use Rattle.fuse_table_look.proofs.Groups.{left_settled}
+use Rattle.fuse_table_look.proofs.Sure.{left_sure}
 use Rattle.fuse_table_look.proofs.group.prepare.Goals as goal
 
 pub returns-in-Ok-clause-turned : goal.returns-in-Ok-clause-turned
@@ -23,3 +25,9 @@ pub returns-in-Ok-clause-fails : goal.returns-in-Ok-clause-fails
 returns-in-Ok-clause-fails g c =
     on_error c.take_lot.result _ _ (turned_keeps (without_settled (ids_of c.args.settled.now)) (state g.S.Store c.args.conn.now)
     (state g.S.Store c.settle.new.conn) (state g.S.Store c.take_lot.new.conn) c.in-Ok.ensures.turned) c.take_lot.ensures.fails
+
+pub returns-in-Ok-clause-fault : goal.returns-in-Ok-clause-fault
+returns-in-Ok-clause-fault g c =
+    left_sure c.args.lot (without_settled (ids_of c.args.settled.now)) (state g.S.Store c.args.conn.now) (state g.S.Store c.settle.new.conn)
+    (state g.S.Store c.take_lot.new.conn) c.take_lot.result c.in-Ok.ensures.turned c.take_lot.ensures.fails
+    (left_settled c.args.lot (ids_of c.args.settled.now)) c.take_lot.ensures.fault

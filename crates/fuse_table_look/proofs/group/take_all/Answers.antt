@@ -8,6 +8,8 @@ use Rattle.fuse_table_look.specs.Holding.{Turned}
 use Rattle.fuse_table_look.specs.Group.{with_group}
 use Rattle.fuse_table_look.proofs.Turning.{turned_keeps}
 use Rattle.fuse_table_look.proofs.Groups.{AreDones, took_more, dones_more}
+use Rattle.fuse_table_look.specs.Holding.{HeldFor}
+use Rattle.fuse_table_look.proofs.Sure.{fault_next}
 use Rattle.fuse_table_look.proofs.group.take_all.Goals as goal
 
 pub returns-in-Err-clause-fails : goal.returns-in-Err-clause-fails
@@ -44,3 +46,9 @@ pub returns-clause-dones : goal.returns-clause-dones
 returns-clause-dones g c =
     subst (λ l. AreDones c.args.lot (entries_of l) (state g.S.Store c.args.look.now.conn) (state g.S.Store c.loop-one.look.conn) c.loop-one.dones.items)
     (take_all c.loop-one.one-index c.args.group.now c.loop-one-test.false) c.loop-one.invariant.dones
+
+pub returns-in-Err-clause-fault : goal.returns-in-Err-clause-fault
+returns-in-Err-clause-fault g c =
+    let before = with_group c.args.lot (entries_of (take c.loop-one.one-index c.args.group.now)) in
+    fault_next HeldFor HeldFor (state g.S.Store c.args.look.now.conn) (state g.S.Store c.loop-one.look.conn) (state g.S.Store c.take_one.new.look.conn)
+    c.in-Err.fault c.in-Err.ensures.fails (λ mid (z, there). (before z, c.loop-one.invariant.turned.turns mid z there)) c.in-Err.ensures.fault

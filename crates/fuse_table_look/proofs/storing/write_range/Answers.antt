@@ -4,6 +4,10 @@ use Rattle.sqlite.specs.Held.{state}
 use Rattle.fuse_table_look.specs.Changing.{Overlaid}
 use Rattle.fuse_table_look.proofs.Changes.{overlaid_keeps, overlaid_then, nothing_overlaid}
 use Rattle.fuse_table_look.proofs.Overlays.{take_plus}
+use Rattle.fuse_table_look.specs.Store.{HeldAs, overlay}
+use Rattle.std.proofs.Common.{Err, Result}
+use Rattle.fuse_keeper.specs.declared.fault.StoreFault.{StoreFault}
+use Rattle.fuse_table_look.proofs.Sure.{fault_next, sure_bytes}
 use Rattle.fuse_table_look.proofs.storing.write_range.Goals as goal
 
 pub returns-in-Err-clause-fails : goal.returns-in-Err-clause-fails
@@ -43,3 +47,14 @@ pieces-preserved g c =
       overlaid = subst (λ l. Overlaid c.args.node c.args.at l a d) (sym (take_plus done count bytes)) (overlaid_then c.args.node c.args.at p q a b d
           before.overlaid second);
     }
+
+pub returns-in-Err-clause-fault : goal.returns-in-Err-clause-fault
+returns-in-Err-clause-fault g c =
+    let a = state g.S.Store c.args.conn.now in
+    let b = state g.S.Store c.pieces.conn in
+    let d = state g.S.Store c.write_piece.new.conn in
+    let so_far = take c.pieces.done c.args.bytes.now in
+    let failed : Result (Unit {0}) StoreFault = Err c.in-Err.fault in
+    fault_next HeldAs HeldAs a b d c.in-Err.fault c.in-Err.ensures.fails
+    (λ clean (w, at). ((w.0, overlay c.args.node c.args.at so_far w.1), c.pieces.invariant.overlaid.turns clean w at))
+    (sure_bytes b d failed c.in-Err.ensures.fault)

@@ -3,6 +3,7 @@ use Rattle.fuse_keeper.specs.Group.{entry_of}
 use Rattle.fuse_table_look.proofs.Turning.{looked_for, turned_keeps, ok_too}
 use Rattle.fuse_table_look.proofs.Changes.{on_ok, on_error}
 use Rattle.fuse_table_look.proofs.Records.{took_known, took_new, done_known, done_new}
+use Rattle.fuse_table_look.proofs.Sure.{turned_sure}
 use Rattle.fuse_table_look.proofs.taking.take_one.Goals as goal
 
 pub returns-in-Some-clause-turned : goal.returns-in-Some-clause-turned
@@ -34,3 +35,10 @@ returns-in-None-clause-fails g c =
     on_error c.act_and_record.result _ _ (turned_keeps (λ y. y) (state g.S.Store c.args.look.now.conn) (state g.S.Store c.find_answer.new.conn)
     (state g.S.Store c.act_and_record.new.look.conn)
     (looked_for (state g.S.Store c.args.look.now.conn) (state g.S.Store c.find_answer.new.conn) c.in-Ok.ensures.looks)) c.act_and_record.ensures.fails
+
+pub returns-in-None-clause-fault : goal.returns-in-None-clause-fault
+returns-in-None-clause-fault g c =
+    let a = state g.S.Store c.args.look.now.conn in
+    let b = state g.S.Store c.find_answer.new.conn in
+    turned_sure (λ y. y) a b (state g.S.Store c.act_and_record.new.look.conn) c.act_and_record.result (looked_for a b c.in-Ok.ensures.looks)
+    c.act_and_record.ensures.fails c.act_and_record.ensures.fault

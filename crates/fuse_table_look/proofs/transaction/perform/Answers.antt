@@ -3,6 +3,7 @@ use Rattle.fuse_keeper.specs.Group.{ids_of, entries_of}
 use Rattle.fuse_tables.specs.Transaction.{served, undone}
 use Rattle.fuse_table_look.specs.Holding.{HeldFor}
 use Rattle.fuse_table_look.specs.Group.{performed}
+use Rattle.fuse_tables.specs.Following.{earlier}
 use Rattle.fuse_table_look.proofs.transaction.perform.Goals as goal
 
 pub returns-in-Ok-clause-serves : goal.returns-in-Ok-clause-serves
@@ -14,3 +15,7 @@ pub returns-in-Err-clause-serves : goal.returns-in-Err-clause-serves
 returns-in-Err-clause-serves g c =
     undone HeldFor (λ y. HeldFor (performed c.args.lot (ids_of c.args.settled.now) (entries_of c.args.group.now) y)) (state g.S.Store c.args.look.now.conn)
     (state g.S.Store c.transact.new.look.conn) (state g.S.Store c.undo.new.conn) c.in-Err.fault c.in-Err.fault c.in-Err.ensures.performs c.undo.ensures
+
+pub returns-in-Err-clause-fault : goal.returns-in-Err-clause-fault
+returns-in-Err-clause-fault g c clean =
+    c.in-Err.ensures.fault (earlier (state g.S.Store c.transact.new.look.conn) (state g.S.Store c.undo.new.conn) _ c.undo.ensures.survives clean)

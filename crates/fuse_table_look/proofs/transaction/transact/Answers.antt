@@ -5,6 +5,8 @@ use Rattle.fuse_tables.specs.Transaction.{failed_first, failed_inside, failed_co
 use Rattle.fuse_table_look.specs.Holding.{HeldFor}
 use Rattle.fuse_table_look.specs.Group.{performed, all_dones, lot_for}
 use Rattle.fuse_table_look.proofs.Whole.{takes_for, fails_for, told_after}
+use Rattle.fuse_tables.specs.Following.{earlier}
+use Rattle.fuse_table_look.proofs.Whole.{begun_for}
 use Rattle.fuse_table_look.proofs.transaction.transact.Goals as goal
 
 pub returns-in-Err-clause-performs : goal.returns-in-Err-clause-performs
@@ -51,3 +53,10 @@ returns-in-Ok-commit-clause-dones g c =
     (state g.S.Store c.args.look.now.conn) (state g.S.Store c.begin.new.conn) (state g.S.Store c.perform_in.new.look.conn)
     (state g.S.Store c.commit.new.conn) c.in-Ok.field-0 c.in-Ok-commit.field-0 c.in-Ok.ensures c.in-Ok-perform_in.ensures.turned.stays
     c.in-Ok-perform_in.ensures.dones c.in-Ok-commit.ensures
+
+pub returns-in-Err-perform_in-clause-fault : goal.returns-in-Err-perform_in-clause-fault
+returns-in-Err-perform_in-clause-fault g c clean y at left =
+    let b = state g.S.Store c.begin.new.conn in
+    let d = state g.S.Store c.perform_in.new.look.conn in
+    let mid = earlier b d _ c.in-Err-perform_in.ensures.fails.survives clean in
+    c.in-Err-perform_in.ensures.fault clean y (begun_for (state g.S.Store c.args.look.now.conn) b c.in-Ok.field-0 c.in-Ok.ensures mid y at) left

@@ -6,6 +6,7 @@ use Rattle.fuse_tables.specs.Moves.{Takes}
 use Rattle.fuse_tables.proofs.Joining.{then_as, fails_next}
 use Rattle.fuse_tables.proofs.Either.{narrowed}
 use Rattle.fuse_tables.proofs.Migration.{found_first, found_second}
+use Rattle.fuse_tables.proofs.OpenLemmas.{tested_second}
 use Rattle.fuse_tables.proofs.opening.work.Goals as goal
 
 pub returns-in_err-open_first-clause-opened : goal.returns-in_err-open_first-clause-opened
@@ -36,3 +37,9 @@ returns-then-version-eq2-clause-opened g c =
     let second : Takes {E = StoreFault} IsStored IsSecond a b (Ok v) = narrowed IsStored IsStored IsSecond a b v v c.in_ok-version.ensures.unchanged
     (λ clean k at on. found_second a b v c.if-version-eq2.true (c.in_ok-version.ensures.value clean) k at on) in
     then_as IsStored IsSecond IsOpened a b (state g.S.Store c.open_second.new.conn) v c.open_second.result second c.open_second.ensures.opened
+
+pub returns-then-version-eq2-clause-whole : goal.returns-then-version-eq2-clause-whole
+returns-then-version-eq2-clause-whole g c =
+    tested_second (state g.S.Store c.args.conn.now) (state g.S.Store c.find_version.new.conn) (state g.S.Store c.open_second.new.conn)
+    c.in_ok-version.version c.open_second.result c.in_ok-version.ensures.laid c.in_ok-version.ensures.shows c.if-version-eq2.true
+    c.open_second.ensures.opened.stays.survives c.open_second.ensures.whole

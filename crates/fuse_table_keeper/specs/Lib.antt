@@ -1,0 +1,6 @@
+pub mod Creating
+pub mod Mounting
+pub mod Opening
+pub mod Told
+pub mod TableKeeper
+pub mod Laws

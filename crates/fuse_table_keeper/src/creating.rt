@@ -1,0 +1,52 @@
+// A new store.
+ghost use Rattle.std.specs.Prelude.{◌≡◌, ◌<◌, ◌^◌, IsTrue, OnOk};
+ghost use Rattle.sqlite.specs.State.{HasCleanDisk, Survives};
+ghost use Rattle.sqlite.specs.Held.{state};
+ghost use Rattle.fuse_tables.specs.Content.{LeftAs};
+ghost use Rattle.fuse_tables.specs.Layout.{no_schema};
+ghost use Rattle.fuse_tables.specs.Making.{IsBare};
+ghost use Rattle.fuse_tables.specs.Moves.{RestsAs, ServesAs, IsSafe};
+ghost use Rattle.fuse_table_look.specs.Holding.{HeldFor};
+ghost use Rattle.fuse_table_keeper.specs.Creating.{new_holding};
+
+use fuse_keeper::StoreFault;
+use fuse_tables::make_store;
+use fuse_tree::new_store_is_tree;
+use fuse_wire::Moment;
+use sqlite::{Alter, Connection, Error};
+use sqlite_schema::schema::Schema;
+
+fn is_empty(schema: &Schema) -> bool
+    ensures { IsTrue result → schema.now ≡ no_schema }
+{
+    schema.tables.is_empty() && schema.indexes.is_empty() && schema.views.is_empty()
+}
+
+// A number of 64 bits.
+fn wide(number: u64)
+    ensures { number < 2 ^ 64 }
+{
+    let _ = number;
+}
+
+/// Makes a new store, whose tree is made at this moment, in a database without a table. The commit
+/// is its last call of the database.
+pub fn make_for<S: Alter>(conn: &mut Connection<S>, now: Moment) -> Result<(), StoreFault>
+    ensures serves { ServesAs (IsBare no_schema) (λ _. HeldFor (new_holding now))
+        (state S.Store conn.old) (state S.Store conn.new) result }
+    ensures empty { OnOk result ((state S.Store conn.old).now.schema ≡ no_schema) }
+    ensures done { HasCleanDisk (state S.Store conn.new) → OnOk result
+        (IsTrue (state S.Store conn.old).is_open
+        → RestsAs (HeldFor (new_holding now)) (state S.Store conn.new)) }
+    ensures crash { Survives (state S.Store conn.old) (state S.Store conn.new) (λ db.
+        IsTrue (state S.Store conn.old).is_open → LeftAs (HeldFor (new_holding now)) db) }
+    ensures fault { IsSafe (IsBare no_schema) (state S.Store conn.old) (state S.Store conn.new)
+        result }
+{
+    new_store_is_tree();
+    wide(now.secs);
+    if !conn.is_autocommit() || !is_empty(conn.schema()) {
+        return Err(StoreFault::Sql(Error::InvalidQuery));
+    }
+    make_store(conn, now)
+}

@@ -1,0 +1,19 @@
+-- A new store of version 2, made at second 0: the tables, the index and their first rows.
+CREATE TABLE meta (k INTEGER PRIMARY KEY, v INTEGER NOT NULL) STRICT;
+CREATE TABLE nodes (node INTEGER PRIMARY KEY, mode INTEGER NOT NULL, uid INTEGER NOT NULL, gid INTEGER NOT NULL,
+  rdev INTEGER NOT NULL, size INTEGER NOT NULL, atime INTEGER NOT NULL, atimensec INTEGER NOT NULL,
+  mtime INTEGER NOT NULL, mtimensec INTEGER NOT NULL, ctime INTEGER NOT NULL, ctimensec INTEGER NOT NULL,
+  up INTEGER NOT NULL, subdirs INTEGER NOT NULL) STRICT;
+CREATE TABLE entries (cookie INTEGER PRIMARY KEY, dir INTEGER NOT NULL REFERENCES nodes (node), name BLOB NOT NULL,
+  child INTEGER NOT NULL UNIQUE REFERENCES nodes (node), UNIQUE (dir, name)) STRICT;
+CREATE TABLE blocks (node INTEGER NOT NULL REFERENCES nodes (node), block INTEGER NOT NULL, bytes BLOB NOT NULL,
+  PRIMARY KEY (node, block)) STRICT;
+CREATE TABLE handles (fh INTEGER PRIMARY KEY, node INTEGER NOT NULL REFERENCES nodes (node),
+  access INTEGER NOT NULL) STRICT;
+CREATE TABLE answers (id INTEGER PRIMARY KEY, errno INTEGER NOT NULL, body BLOB NOT NULL) STRICT;
+CREATE TABLE lots (lot INTEGER PRIMARY KEY) STRICT;
+CREATE TABLE kept (id INTEGER PRIMARY KEY, lot INTEGER NOT NULL REFERENCES lots (lot), errno INTEGER NOT NULL,
+  body BLOB NOT NULL) STRICT;
+CREATE INDEX entries_in_order ON entries (dir, cookie);
+INSERT INTO meta VALUES (1, 2), (2, 2), (3, 1), (4, 3), (5, 1), (6, 0), (7, 0), (8, 0), (9, 0), (10, 0), (11, 1);
+INSERT INTO nodes VALUES (1, 16877, 0, 0, 0, 0, 0, 0, 0, 0, 0, 0, 0, 0);
