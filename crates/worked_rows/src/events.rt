@@ -13,7 +13,6 @@ use std::test::*;
 mod allocations;
 mod faults;
 mod kernels;
-mod rows;
 mod sending;
 mod settled;
 mod twice;

@@ -149,17 +149,17 @@ fn is_wanted(done: &Done, want: Want) -> bool {
     }
 }
 
-// A request, whether it is a repeat, and what it is answered.
-type Step = (Request<'static>, bool, Want);
+// A request that isn't a repeat, and what it is answered.
+type Step = (Request<'static>, Want);
 
 fn is_answered<K: Keeper>(keeper: &mut K, step: &Step) -> Result<bool, StoreFault> {
-    let (request, repeated, want) = *step;
+    let (request, want) = *step;
     let dones = perform(keeper, &[(request, AT_1000)], &[])?;
     Ok(match dones {
         Some(dones) => dones
             .as_slice()
             .iter()
-            .all(|done| done.repeated == repeated && is_wanted(done, want)),
+            .all(|done| !done.repeated && is_wanted(done, want)),
         None => false,
     })
 }

@@ -1,6 +1,5 @@
 //! Messages and answers as the rows have them, by what differs between them.
 use crate::hex::put_hex;
-use crate::run::Pair;
 use std::alloc::{AllocError, Global};
 
 /// The bit of `unique` that marks a resend.
@@ -9,14 +8,6 @@ pub const RESENT: u64 = 0x8000_0000_0000_0000;
 pub const ENOENT: u32 = 2;
 
 pub const EEXIST: u32 = 17;
-
-pub const EINVAL: u32 = 22;
-
-pub const ENOSYS: u32 = 38;
-
-pub const EPROTO: u32 = 71;
-
-pub const ESTALE: u32 = 116;
 
 /// The end of each header: uid and gid 1000, pid 77, no extensions.
 const TAIL: &str = "e8030000 e8030000 4d000000 00000000";
@@ -68,28 +59,15 @@ fn put_forget(out: &mut Vec<u8>, unique: u64) -> Result<(), AllocError> {
     put_hex(out, "0100000000000000")
 }
 
-// CREATE, of which the server knows nothing: 40 bytes.
-fn put_create(out: &mut Vec<u8>, unique: u64) -> Result<(), AllocError> {
-    put_header(out, 40, 35, unique, 1)
-}
-
-// DESTROY: 40 bytes.
-fn put_destroy(out: &mut Vec<u8>, unique: u64) -> Result<(), AllocError> {
-    put_header(out, 40, 38, unique, 0)
-}
-
-/// A message by its unique: MKDIR of a name, LOOKUP of `hello`, GETATTR of a node, FORGET, CREATE,
-/// DESTROY, its text, or the first of a pair.
+/// A message by its unique: MKDIR of a name, LOOKUP of `hello`, GETATTR of a node, FORGET, or its
+/// text.
 #[derive(Clone, Copy)]
 pub enum Ask {
     Mkdir(u64, u8),
     Lookup(u64),
     Getattr(u64, u64),
     Forget(u64),
-    Create(u64),
-    Destroy(u64),
     Text(&'static str),
-    Of(Pair),
 }
 
 pub(crate) fn put_ask(out: &mut Vec<u8>, ask: Ask) -> Result<(), AllocError> {
@@ -98,10 +76,7 @@ pub(crate) fn put_ask(out: &mut Vec<u8>, ask: Ask) -> Result<(), AllocError> {
         Ask::Lookup(unique) => put_lookup(out, unique),
         Ask::Getattr(unique, node) => put_getattr(out, unique, node),
         Ask::Forget(unique) => put_forget(out, unique),
-        Ask::Create(unique) => put_create(out, unique),
-        Ask::Destroy(unique) => put_destroy(out, unique),
         Ask::Text(text) => put_hex(out, text),
-        Ask::Of((asked, _)) => put_hex(out, asked),
     }
 }
 
@@ -165,14 +140,6 @@ fn put_entry(out: &mut Vec<u8>, unique: u64, made: Made, node: u64) -> Result<()
     put_attributes(out, made, node)
 }
 
-// The answer to a GETATTR of such a directory: 120 bytes.
-fn put_attr(out: &mut Vec<u8>, unique: u64, node: u64) -> Result<(), AllocError> {
-    put_hex(out, "78000000 00000000")?;
-    out.extend_from_slice(&unique.to_le_bytes())?;
-    put_hex(out, "0100000000000000 0*8")?;
-    put_attributes(out, Made::Directory, node)
-}
-
 // A refusal: 16 bytes.
 fn put_error(out: &mut Vec<u8>, unique: u64, errno: u32) -> Result<(), AllocError> {
     put_hex(out, "10000000")?;
@@ -180,24 +147,19 @@ fn put_error(out: &mut Vec<u8>, unique: u64, errno: u32) -> Result<(), AllocErro
     out.extend_from_slice(&unique.to_le_bytes())
 }
 
-/// An answer by its unique: the entry or the attributes of a directory, an error, its text, or the
-/// second of a pair.
+/// An answer by its unique: the entry of a directory, an error, or its text.
 #[derive(Clone, Copy)]
 pub enum Reply {
     Entry(u64, u64),
-    Attr(u64, u64),
     Error(u64, u32),
     Text(&'static str),
-    Of(Pair),
 }
 
 pub(crate) fn put_reply(out: &mut Vec<u8>, reply: Reply) -> Result<(), AllocError> {
     match reply {
         Reply::Entry(unique, node) => put_entry(out, unique, Made::Directory, node),
-        Reply::Attr(unique, node) => put_attr(out, unique, node),
         Reply::Error(unique, errno) => put_error(out, unique, errno),
         Reply::Text(text) => put_hex(out, text),
-        Reply::Of((_, answer)) => put_hex(out, answer),
     }
 }
 

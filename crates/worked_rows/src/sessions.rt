@@ -14,12 +14,9 @@ use std::alloc::{AllocError, Global};
 
 mod allocations;
 mod clocks;
-mod hostile;
 mod moments;
-mod pieces;
 mod ports;
 mod resuming;
-mod rows;
 mod running;
 mod settled;
 

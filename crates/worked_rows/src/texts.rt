@@ -1,6 +1,6 @@
 //! Messages and answers of the rows that several tests name.
 
-/// Rows init-agreed and init-short, and their answers.
+/// Rows init-agreed, with its answer, and init-short.
 pub const INIT_AGREED: &str = "68000000 1a000000 0200000000000000 0*8 0*16
     07000000 28000000 00000200 21200040 80000000 0*44";
 
@@ -9,9 +9,6 @@ pub const AGREED: &str = "50000000 00000000 0200000000000000
 
 pub const INIT_SHORT: &str = "38000000 1a000000 0200000000000000 0*8 0*16
     07000000 1f000000 00000200 21000000";
-
-pub const AGREED_SHORT: &str = "50000000 00000000 0200000000000000
-    07000000 28000000 00000200 21000000 0c000900 00000200 01000000 00000000 00000000 00000000 0*24";
 
 /// Row missing-lookup: LOOKUP `hello` under id 4, and its answer.
 pub const LOOKUP_HELLO: &str = "2e000000 01000000 0400000000000000 0100000000000000
@@ -42,14 +39,9 @@ pub const FIRST_ANSWERS: &str = "90000000 00000000 0600000000000000
     0200000000000000 0*8 0*8 e803000000000000 e803000000000000 e803000000000000 0*12
     ed410000 02000000 e8030000 e8030000 00000000 00100000 00000000";
 
-/// Row first-run: what MKDIR `a` is answered behind the 16 bytes of the header, and GETATTR of it.
+/// Row first-run: what MKDIR `a` is answered behind the 16 bytes of the header.
 pub const ENTRY_OF_A: &[u8] = b"\x02\0\0\0\0\0\0\0\0\0\0\0\0\0\0\0\
     \x01\0\0\0\0\0\0\0\x01\0\0\0\0\0\0\0\0\0\0\0\0\0\0\0\
-    \x02\0\0\0\0\0\0\0\0\0\0\0\0\0\0\0\0\0\0\0\0\0\0\0\
-    \xe8\x03\0\0\0\0\0\0\xe8\x03\0\0\0\0\0\0\xe8\x03\0\0\0\0\0\0\0\0\0\0\0\0\0\0\
-    \0\0\0\0\xed\x41\0\0\x02\0\0\0\xe8\x03\0\0\xe8\x03\0\0\0\0\0\0\0\x10\0\0\0\0\0\0";
-
-pub const ATTR_OF_A: &[u8] = b"\x01\0\0\0\0\0\0\0\0\0\0\0\0\0\0\0\
     \x02\0\0\0\0\0\0\0\0\0\0\0\0\0\0\0\0\0\0\0\0\0\0\0\
     \xe8\x03\0\0\0\0\0\0\xe8\x03\0\0\0\0\0\0\xe8\x03\0\0\0\0\0\0\0\0\0\0\0\0\0\0\
     \0\0\0\0\xed\x41\0\0\x02\0\0\0\xe8\x03\0\0\xe8\x03\0\0\0\0\0\0\0\x10\0\0\0\0\0\0";

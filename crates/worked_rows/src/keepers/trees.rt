@@ -76,7 +76,7 @@ fn keeper_over(alloc: Global) -> Result<[bool; 3], StoreFault> {
     let mut keeper = PlainKeeper::over(alloc, tree);
     let going = !keeper.failed();
     let held = held_in(&mut keeper) == Some(holding(2, 0, 0));
-    let step = (lookup(6, b"a"), false, Want::Node(2));
+    let step = (lookup(6, b"a"), Want::Node(2));
     Ok([going, held, is_answered(&mut keeper, &step)?])
 }
 
