@@ -1,14 +1,7 @@
 //! A keeper over the tables: each of its calls.
-ghost use Rattle.std.specs.Prelude.{◌≡◌, ◌≢◌, ◌≤◌, true, length, All};
-ghost use Rattle.fuse_wire.specs.Ids.{id_of};
-ghost use Rattle.fuse_request.specs.Act.{act, IsKept};
-ghost use Rattle.fuse_keeper.specs.Group.{entry_of, HasId, IsKept as IsKeptEntry};
-ghost use Rattle.fuse_keeper.specs.declared.keeper.TheConstants.{MAX_GROUP as MOST_OF_GROUP};
-ghost use Rattle.fuse_keeper.specs.declared.keeper.TheConstants.{MAX_SETTLED as MOST_SETTLED};
-
 use crate::groups::{are_told, asked, init, mkdir};
-use fuse_keeper::{Done, Keeper, MAX_GROUP, MAX_SETTLED, Restart, StoreCounts, StoreFault};
-use fuse_request::{Op, Request};
+use fuse_keeper::{Done, Keeper, Restart, StoreCounts, StoreFault};
+use fuse_request::Request;
 use fuse_table_keeper::TableKeeper;
 use fuse_wire::{Id, Moment};
 use sqlite::{Connection, MemStore};
@@ -30,57 +23,12 @@ fn made(alloc: Global) -> Result<MemKeeper, StoreFault> {
     }
 }
 
-// Whether a keeper can perform the request, of those that are asked here.
-fn is_kept(request: &Request<'_>) -> bool
-    ensures id { result ≡ true → id_of request.now.header.unique ≢ 0 }
-    ensures kept { result ≡ true → IsKept (act request.now.op) }
-{
-    if Id::of(request.header.unique).0 == 0 {
-        return false;
-    }
-    match request.op {
-        Op::Init(_) => true,
-        Op::Mkdir { .. } => true,
-        _ => false,
-    }
-}
-
-// Whether a keeper can perform these.
-fn are_kept(group: &[(Request<'_>, Moment)]) -> bool
-    ensures ids { result ≡ true → All (λ p. HasId (entry_of p)) group.now }
-    ensures kept { result ≡ true → All (λ p. IsKeptEntry (entry_of p)) group.now }
-{
-    for one in group {
-        if !is_kept(&one.0) {
-            return false;
-        }
-    }
-    true
-}
-
-fn ask_all(
-    keeper: &mut MemKeeper,
-    group: &[(Request<'_>, Moment)],
-    settled: &[Id],
-) -> Result<Vec<Done>, StoreFault>
-    requires short { length group.now ≤ MOST_OF_GROUP }
-    requires few { length settled.now ≤ MOST_SETTLED }
-    requires ids { All (λ p. HasId (entry_of p)) group.now }
-    requires kept { All (λ p. IsKeptEntry (entry_of p)) group.now }
-{
-    keeper.perform(group, settled)
-}
-
-// Performs a group, where the keeper can.
 fn perform(
     keeper: &mut MemKeeper,
     group: &[(Request<'_>, Moment)],
     settled: &[Id],
 ) -> Result<Vec<Done>, StoreFault> {
-    if group.len() > MAX_GROUP || settled.len() > MAX_SETTLED || !are_kept(group) {
-        return Err(StoreFault::Damaged);
-    }
-    ask_all(keeper, group, settled)
+    keeper.perform(group, settled)
 }
 
 // INIT, and a directory made, resent and made again.
