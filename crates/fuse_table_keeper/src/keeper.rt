@@ -39,11 +39,12 @@ impl<S: Alter> TableKeeper<S> {
     ghost use Rattle.fuse_keeper.specs.KeeperState.{IsFirm, StandsFor};
     ghost use Rattle.fuse_keeper.specs.Stands.{Records};
     ghost use Rattle.fuse_keeper.specs.Lots.{SameLots};
-    ghost use Rattle.fuse_tables.specs.Content.{LeftAs};
+    ghost use Rattle.fuse_tables.specs.Content.{Content, LeftAs};
     ghost use Rattle.fuse_tables.specs.Faults.{IsOutside};
     ghost use Rattle.fuse_tables.specs.Layout.{no_schema};
     ghost use Rattle.fuse_tables.specs.Making.{IsBare};
     ghost use Rattle.fuse_tables.specs.Moves.{RestsAs};
+    ghost use Rattle.fuse_tables.specs.Opening.{IsLaid, HasMeta};
     ghost use Rattle.fuse_tables.specs.Saying.{Says};
     ghost use Rattle.fuse_table_look.specs.Store.{records_of};
     ghost use Rattle.fuse_table_look.specs.Holding.{HeldFor, lots_of};
@@ -120,6 +121,9 @@ impl<S: Alter> TableKeeper<S> {
             → WasFor z (state S.Store conn) → IsOutside r.0) }
         ensures says { IfErr result (λ r. HasCleanDisk (state S.Store r.1)
             → Says (state S.Store conn).now r.0) }
+        // Nothing is opened over a `meta` that is damaged.
+        ensures whole { IfOk result (λ k. (keeper_told S.Store k).is_honest → (c : Content)
+            → IsLaid c (state S.Store conn).now → HasMeta c) }
     {
         one_holding();
         lots_are_read();
@@ -153,10 +157,15 @@ impl<S: Alter> TableKeeper<S> {
 impl<S: Alter + Drop> Keeper for TableKeeper<S> {
     ghost use Rattle.fuse_store.specs.TheTree.{the_tree};
     ghost use Rattle.std.specs.Prelude.{length, IfOk, OnOk};
-    ghost use Rattle.fuse_keeper.specs.KeeperState.{AnswersNoMore, Called, IsFirm, Performs};
+    ghost use Rattle.fuse_tree.specs.Rows.{Rows};
+    ghost use Rattle.fuse_keeper.specs.KeeperState.{AnswersNoMore, Called, Looked};
+    ghost use Rattle.fuse_keeper.specs.KeeperState.{IsFirm, Performs, Tells};
     ghost use Rattle.fuse_keeper.specs.KeeperState.{KeepsLots, KeepsOthers, LeavesGroup};
+    ghost use Rattle.fuse_keeper.specs.KeeperState.{BeginsMount, DropsLots, LeavesMount};
     ghost use Rattle.fuse_keeper.specs.Group.{entries_of, ids_of};
-    ghost use Rattle.fuse_table_keeper.specs.TableKeeper.{keeper_told, FaultsOutside};
+    ghost use Rattle.fuse_keeper.specs.Stands.{Records, CountsRecords};
+    ghost use Rattle.fuse_table_keeper.specs.TableKeeper.{keeper_told};
+    ghost use Rattle.fuse_table_keeper.specs.TableKeeper.{FaultsOutside, FaultsOutsideWithLot};
     ghost use Rattle.fuse_table_keeper.specs.Laws.{one_held};
 
     ghost model = { the_tree };
@@ -187,7 +196,7 @@ impl<S: Alter + Drop> Keeper for TableKeeper<S> {
         ensures firm { OnOk result ((keeper_told S.Store self.new).is_honest
             → IsFirm (keeper_told S.Store self.new)) }
         // Never `Damaged` of what it holds, but where no lot is left.
-        ensures fault { FaultsOutside S.Store self.old self.new result }
+        ensures fault { FaultsOutsideWithLot S.Store self.old self.new result }
     {
         one_holding();
         calls_perform();
@@ -204,7 +213,19 @@ impl<S: Alter + Drop> Keeper for TableKeeper<S> {
         }
     }
 
-    fn begin_mount(&mut self) -> Result<(), StoreFault> {
+    fn begin_mount(&mut self) -> Result<(), StoreFault>
+        ensures called { Called (keeper_told S.Store self.old) (keeper_told S.Store self.new)
+            result }
+        ensures ok { OnOk result (BeginsMount (keeper_told S.Store self.old)
+            (keeper_told S.Store self.new)) }
+        ensures lots { OnOk result (DropsLots (keeper_told S.Store self.old)
+            (keeper_told S.Store self.new)) }
+        ensures crash { LeavesMount (keeper_told S.Store self.old)
+            (keeper_told S.Store self.new) }
+        ensures firm { OnOk result ((keeper_told S.Store self.new).is_honest
+            → IsFirm (keeper_told S.Store self.new)) }
+        ensures fault { FaultsOutside S.Store self.old self.new result }
+    {
         one_holding();
         lots_are_read();
         rows_tell_state();
@@ -221,7 +242,14 @@ impl<S: Alter + Drop> Keeper for TableKeeper<S> {
         }
     }
 
-    fn answer_of(&mut self, id: Id) -> Result<Option<Answer>, StoreFault> {
+    fn answer_of(&mut self, id: Id) -> Result<Option<Answer>, StoreFault>
+        ensures looked { Looked (keeper_told S.Store self.old) (keeper_told S.Store self.new)
+            result }
+        ensures ok { IfOk result (λ answer. (keeper_told S.Store self.new).is_honest
+            → (rows : Rows) (records : Records)
+            → (keeper_told S.Store self.old).holds rows records → answer ≡ records id.0) }
+        ensures fault { FaultsOutside S.Store self.old self.new result }
+    {
         one_holding();
         lots_are_read();
         match answer_at_rest(&mut self.look.conn, id.0) {
@@ -233,7 +261,13 @@ impl<S: Alter + Drop> Keeper for TableKeeper<S> {
         }
     }
 
-    fn settings(&mut self) -> Result<Option<Settings>, StoreFault> {
+    fn settings(&mut self) -> Result<Option<Settings>, StoreFault>
+        ensures looked { Looked (keeper_told S.Store self.old) (keeper_told S.Store self.new)
+            result }
+        ensures ok { IfOk result (λ settings. Tells (keeper_told S.Store self.old)
+            (keeper_told S.Store self.new) (λ rows records. settings ≡ the_tree.settings rows)) }
+        ensures fault { FaultsOutside S.Store self.old self.new result }
+    {
         one_holding();
         lots_are_read();
         match settings_at_rest(&mut self.look.conn) {
@@ -245,7 +279,22 @@ impl<S: Alter + Drop> Keeper for TableKeeper<S> {
         }
     }
 
-    fn counts(&mut self) -> Result<StoreCounts, StoreFault> {
+    fn counts(&mut self) -> Result<StoreCounts, StoreFault>
+        ensures looked { Looked (keeper_told S.Store self.old) (keeper_told S.Store self.new)
+            result }
+        ensures nodes { IfOk result (λ counts. Tells (keeper_told S.Store self.old)
+            (keeper_told S.Store self.new) (λ rows records. counts.nodes ≡ the_tree.nodes rows)) }
+        ensures handles { IfOk result (λ counts. Tells (keeper_told S.Store self.old)
+            (keeper_told S.Store self.new)
+            (λ rows records. counts.handles ≡ the_tree.handles rows)) }
+        ensures records { IfOk result (λ counts. Tells (keeper_told S.Store self.old)
+            (keeper_told S.Store self.new)
+            (λ rows records. CountsRecords records counts.records)) }
+        ensures lots { IfOk result (λ counts. Tells (keeper_told S.Store self.old)
+            (keeper_told S.Store self.new)
+            (λ rows records. counts.lots ≡ length (keeper_told S.Store self.old).lots.numbers)) }
+        ensures fault { FaultsOutside S.Store self.old self.new result }
+    {
         one_holding();
         lots_are_read();
         match counts_at_rest(&mut self.look.conn) {
@@ -277,9 +326,11 @@ impl<S: Alter + Drop> Keeper for TableKeeper<S> {
 }
 
 impl<S: Alter + Drop> Restart for TableKeeper<S> {
-    ghost may_refuse = { λ _ _. Unit {0} };
+    ghost use Rattle.fuse_table_keeper.specs.TableKeeper.{Refuses};
 
-    /// Opens the same connection again, without a lot. Any fault of the database may come.
+    ghost may_refuse = { Refuses S.Store };
+
+    /// Opens the same connection again, without a lot.
     fn restart(self) -> Result<TableKeeper<S>, StoreFault> {
         one_holding();
         lots_are_read();

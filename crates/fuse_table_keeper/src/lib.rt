@@ -10,4 +10,4 @@ mod opening;
 pub use creating::make_for;
 pub use keeper::TableKeeper;
 pub use mounting::begin_mount;
-pub use opening::{held_is_stored, set_up_for};
+pub use opening::set_up_for;

@@ -2,7 +2,6 @@
 ghost use Rattle.std.specs.Prelude.{◌≡◌, false, None, codes, IsTrue, IfErr, IsErrAnd, OnOk, OnErr};
 ghost use Rattle.sqlite.specs.State.{HasCleanDisk, Survives};
 ghost use Rattle.sqlite.specs.Held.{state};
-ghost use Rattle.sqlite.specs.Effect.{Database};
 ghost use Rattle.sqlite_schema.specs.Names.{table_named};
 ghost use Rattle.fuse_keeper.specs.declared.fault.StoreFault.TheVariants.{NotAStore};
 ghost use Rattle.fuse_tables.specs.Content.{Content, LeftAs};
@@ -10,20 +9,12 @@ ghost use Rattle.fuse_tables.specs.Faults.{IsOutside};
 ghost use Rattle.fuse_tables.specs.Moves.{RestsAs, ServesAs, IsSafe};
 ghost use Rattle.fuse_tables.specs.Opening.{IsLaid, HasMeta};
 ghost use Rattle.fuse_tables.specs.Saying.{Says};
-ghost use Rattle.fuse_table_look.specs.Holding.{Holding, HeldFor};
-ghost use Rattle.fuse_table_keeper.specs.Opening.{Stored, Second, StoredFor};
-ghost use Rattle.fuse_table_keeper.specs.Opening.{OpenedFor, WasFor};
+ghost use Rattle.fuse_table_keeper.specs.Opening.{Stored, StoredFor, OpenedFor, WasFor};
 
 use fuse_keeper::StoreFault;
 use fuse_table_look::rows_in_order;
 use fuse_tables::set_up;
 use sqlite::{Alter, Connection, Error};
-
-/// A database that holds something in version 2 is opened as it stands.
-pub fn held_is_stored()
-    ensures { (y : Holding) (d : Database) → HeldFor y d → StoredFor (Second y) d
-        × ((e : Database) → OpenedFor (Second y) e → HeldFor y e) }
-{}
 
 /// Opens a store: tests that it is one, and makes one of version 1 one of version 2. The commit is
 /// its last call of the database.
