@@ -248,7 +248,8 @@ class Worker:
         with os.scandir(path) as entries:
             seen = [(entry.name, entry.is_dir(follow_symlinks=False)) for entry in entries]
         check(len(seen) == len(dict(seen)), f"{path}: a name is listed twice")
-        check(dict(seen) == self.model.children(path), f"{path}: lists {sorted(dict(seen).items() ^ self.model.children(path).items())}")
+        differing = dict(seen).items() ^ self.model.children(path).items()
+        check(not differing, f"{path}: another list, by {sorted(differing)}")
 
     def change_mode(self):
         path = self.a_file()
