@@ -36,7 +36,7 @@ struct keeper {
   int lock, device, signals, readiness;            /* descriptors; the last one tells that the mount is ready */
   sigset_t mask;                                   /* with which this process was called */
   pid_t server, probe, unmounter;                  /* 0 for none */
-  bool ready, told_to_stop;
+  bool ready, told_to_stop, is_unmounted;
   long long started, next_start;
   int short_lives, last_status;
 };
@@ -369,9 +369,10 @@ static bool leave_terminal(const struct keeper *k) {
   return write(k->readiness, "", 1) == 1 && close(k->readiness) == 0;
 }
 
+/* Unmounts, unless that was done: what is mounted there by then is another's. */
 static void stop(struct keeper *k) {
   if (k->probe > 0) kill(k->probe, SIGKILL);
-  if (k->unmounter == 0) k->unmounter = start_unmounting(k);
+  if (k->unmounter == 0 && !k->is_unmounted) k->unmounter = start_unmounting(k);
   if (k->unmounter < 0) k->unmounter = 0;
 }
 
@@ -386,6 +387,7 @@ static void probe_ended(struct keeper *k, int status) {
 
 static void unmounter_ended(struct keeper *k, int status) {
   k->unmounter = 0;
+  k->is_unmounted = status == 0;
   const char *why = geteuid() == 0 ? strerror(WEXITSTATUS(status)) : "fusermount3 failed";
   if (status != 0 && !has_ended(k)) say("%s can't be unmounted: %s", k->mountpoint, why);
 }
@@ -421,7 +423,7 @@ static int give_up(struct keeper *k) {
   const char *how = ending(k, k->last_status);
   say("gave up: %d servers in a row lived less than a second, the last one ended with %s", k->short_lives, how);
   close(k->device);
-  if (k->ready) return FAILED;
+  if (k->ready || k->is_unmounted) return FAILED;
   if (k->probe > 0) waitpid(k->probe, NULL, 0);
   pid_t child = start_unmounting(k);
   if (child > 0) waitpid(child, NULL, 0);
@@ -438,16 +440,17 @@ static int keep(struct keeper *k) {
     if (k->server == 0 && now() >= k->next_start) start_server(k);
     await_event(k);
   }
-  say("%s is unmounted", k->mountpoint);
+  say("the connection of %s has ended", k->mountpoint);
   return k->ready || k->told_to_stop ? 0 : FAILED;
 }
 
-/* From the mount on signals are taken up by `await_event` alone. */
+/* From the mount on signals are taken up by `await_event` alone. nohup(1) is heeded. */
 static bool take_signals(struct keeper *k) {
+  struct sigaction hangup;
   sigset_t awaited;
   sigemptyset(&awaited);
   sigaddset(&awaited, SIGCHLD);
-  sigaddset(&awaited, SIGHUP);
+  if (sigaction(SIGHUP, NULL, &hangup) == 0 && hangup.sa_handler != SIG_IGN) sigaddset(&awaited, SIGHUP);
   sigaddset(&awaited, SIGINT);
   sigaddset(&awaited, SIGTERM);
   k->signals = signalfd(-1, &awaited, SFD_CLOEXEC);
