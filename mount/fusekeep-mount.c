@@ -24,7 +24,7 @@
 
 enum { FAILED = 1, USAGE = 2, CANNOT_RUN = 127 };
 enum { SHORT_LIFE = 1000, FIRST_PAUSE = 50, LONGEST_PAUSE = 5000 }; /* milliseconds */
-enum { LOCK_PAUSE = 30, LOCK_TRIES = 10 }; /* for one that was unmounted just now */
+enum { LOCK_PAUSE = 50, LOCK_TRIES = 20 }; /* a second, for one that was unmounted just now */
 enum { MOST_SHORT_LIVES = 10, OPTIONS_SIZE = 1024, LINE_SIZE = 512, FIRST_OTHER = STDERR_FILENO + 1 };
 
 struct keeper {
@@ -477,6 +477,7 @@ static int await_readiness(pid_t child, int readiness) {
 int main(int argc, char **argv) {
   static struct keeper k = {.flags = MS_NOSUID | MS_NODEV};
   int ends[2], null;
+  close_range(FIRST_OTHER, ~0U, 0);
   do null = open("/dev/null", O_RDWR | O_CLOEXEC);
   while (null >= 0 && null < FIRST_OTHER);
   close(null);
