@@ -24,7 +24,7 @@
 
 enum { FAILED = 1, USAGE = 2, CANNOT_RUN = 127 };
 enum { SHORT_LIFE = 1000, FIRST_PAUSE = 50, LONGEST_PAUSE = 5000 }; /* milliseconds */
-enum { LOCK_PAUSE = 30, LOCK_TRIES = 10 }; /* for one that was unmounted just now */
+enum { LOCK_PAUSE = 50, LOCK_TRIES = 20 }; /* a second, for one that was unmounted just now */
 enum { MOST_SHORT_LIVES = 10, OPTIONS_SIZE = 1024, LINE_SIZE = 512, FIRST_OTHER = STDERR_FILENO + 1 };
 
 struct keeper {
@@ -36,7 +36,7 @@ struct keeper {
   int lock, device, signals, readiness;            /* descriptors; the last one tells that the mount is ready */
   sigset_t mask;                                   /* with which this process was called */
   pid_t server, probe, unmounter;                  /* 0 for none */
-  bool ready, told_to_stop;
+  bool ready, told_to_stop, is_unmounted;
   long long started, next_start;
   int short_lives, last_status;
 };
@@ -80,9 +80,9 @@ static const char *last_line(int lock) {
 static const char *ending(const struct keeper *k, int status) {
   static char text[LINE_SIZE + 64];
   const char *line = last_line(k->lock);
-  bool killed = WIFSIGNALED(status);
-  snprintf(text, sizeof text, "%s %d%s%s", killed ? "killed by signal" : "status", killed ? WTERMSIG(status) : WEXITSTATUS(status),
-           *line ? ": " : "", line);
+  int number = WIFSIGNALED(status) ? WTERMSIG(status) : WEXITSTATUS(status);
+  const char *kind = WIFSIGNALED(status) ? "killed by signal" : "status";
+  snprintf(text, sizeof text, "%s %d%s%s", kind, number, *line ? ": " : "", line);
   return text;
 }
 
@@ -100,8 +100,10 @@ static const struct { const char *word; unsigned long set, clear; } flag_words[]
 };
 
 /* Words of /etc/fstab that are for others; those that end in = or - are the begins of words. */
-static const char *const others_words[] = {"defaults", "auto", "noauto", "nofail", "_netdev", "user", "nouser", "users", "owner",
-                                           "group", "user=", "comment=", "x-", "X-"};
+static const char *const others_words[] = {
+  "defaults", "auto", "noauto", "nofail", "_netdev", "user", "nouser", "users", "owner", "group",
+  "user=", "comment=", "x-", "X-",
+};
 
 static bool is_for_others(const char *word) {
   for (size_t i = 0; i < sizeof others_words / sizeof *others_words; i++) {
@@ -113,13 +115,16 @@ static bool is_for_others(const char *word) {
 }
 
 static bool is_max_read(const char *word) {
+  if (strncmp(word, "max_read=", strlen("max_read=")) != 0) return false;
   const char *digits = word + strlen("max_read=");
-  return strncmp(word, "max_read=", strlen("max_read=")) == 0 && *digits && !digits[strspn(digits, "0123456789")];
+  return *digits && !digits[strspn(digits, "0123456789")];
 }
 
 static bool append(char *list, const char *word) {
   size_t used = strlen(list);
-  return snprintf(list + used, OPTIONS_SIZE - used, ",%s", word) < (int)(OPTIONS_SIZE - used);
+  if (snprintf(list + used, OPTIONS_SIZE - used, ",%s", word) < (int)(OPTIONS_SIZE - used)) return true;
+  say("too many options");
+  return false;
 }
 
 static bool take_option(struct keeper *k, const char *word) {
@@ -142,17 +147,17 @@ static bool take_options(struct keeper *k, char *words) {
 
 /* mount(8) hands options behind the operands, and `-f` of its own: to do all but the mount. */
 static bool read_arguments(struct keeper *k, int argc, char **argv) {
-  bool is_helper = strcmp(basename(argv[0]), "mount.fuse.fusekeep") == 0, is_read = true;
+  bool is_helper = strcmp(basename(argv[0]), "mount.fuse.fusekeep") == 0, is_known = true;
   unsetenv("POSIXLY_CORRECT");
   opterr = 0;
-  for (int letter; is_read && (letter = getopt(argc, argv, is_helper ? "sfnvo:" : "fo:")) != -1;) switch (letter) {
-    case 'f': *(is_helper ? &k->fake : &k->foreground) = true; break;
-    case 's': k->sloppy = true; break;
-    case 'o': is_read = take_options(k, optarg); break;
-    case '?': is_read = false; break;
+  for (int letter; (letter = getopt(argc, argv, is_helper ? "sfnvo:" : "fo:")) != -1;) {
+    if (letter == 'f') *(is_helper ? &k->fake : &k->foreground) = true;
+    if (letter == 's') k->sloppy = true;
+    if (letter == 'o' && !take_options(k, optarg)) return false;
+    if (letter == '?') is_known = false;
   }
-  if (is_read && argc - optind == 2) return true;
-  say(is_helper ? "usage: mount.fuse.fusekeep STORE MOUNTPOINT [-sfnv] [-o OPTIONS]" : "usage: [-f] [-o OPTIONS] STORE MOUNTPOINT");
+  if (is_known && argc - optind == 2) return true;
+  say("usage: %s", is_helper ? "STORE MOUNTPOINT [-sfnv] [-o OPTIONS]" : "[-f] [-o OPTIONS] STORE MOUNTPOINT");
   return false;
 }
 
@@ -203,25 +208,32 @@ static bool hold_store(struct keeper *k, const char *store) {
 
 /* Children. */
 
-/* A child that dies with this process, and has the signals as this process was called with. */
-static pid_t fork_child(const struct keeper *k) {
+/* A child that dies with this process. It is in a group of its own: what is typed at a terminal is for this process alone. Till
+ * it is there that may reach it too, so the signals stay blocked. */
+static pid_t fork_child(void) {
   pid_t parent = getpid(), child = fork();
   if (child < 0) refused("fork");
   if (child != 0) return child;
   if (prctl(PR_SET_PDEATHSIG, SIGKILL) != 0 || getppid() != parent) _exit(CANNOT_RUN);
-  signal(SIGPIPE, SIG_DFL);
-  sigprocmask(SIG_SETMASK, &k->mask, NULL);
+  setpgid(0, 0);
   return 0;
 }
 
-/* Runs `fusekeep serve`, in a group of its own: what is typed at a terminal is for this process. */
+/* Signals are as this process was called with, for another program. */
+static void give_back_signals(const struct keeper *k) {
+  signal(SIGPIPE, SIG_DFL);
+  sigprocmask(SIG_SETMASK, &k->mask, NULL);
+}
+
+/* Runs `fusekeep serve`. */
 static pid_t start_engine(const struct keeper *k, const char *mode, int device) {
   if (ftruncate(k->lock, 0) != 0) refused("lock");
-  pid_t child = fork_child(k);
+  pid_t child = fork_child();
   if (child != 0) return child;
-  setpgid(0, 0);
-  if (dup2(k->lock, STDERR_FILENO) < 0 || dup2(device, STDIN_FILENO) < 0 || dup2(device, STDOUT_FILENO) < 0) _exit(CANNOT_RUN);
+  if (dup2(k->lock, STDERR_FILENO) < 0) _exit(CANNOT_RUN);
+  if (dup2(device, STDIN_FILENO) < 0 || dup2(device, STDOUT_FILENO) < 0) _exit(CANNOT_RUN);
   close_range(FIRST_OTHER, ~0U, 0);
+  give_back_signals(k);
   execlp(k->engine, "fusekeep", "serve", "--db", k->store, mode, NULL);
   dprintf(STDERR_FILENO, "%s: %s\n", k->engine, strerror(errno));
   _exit(CANNOT_RUN);
@@ -243,7 +255,7 @@ static int begin_in_store(const struct keeper *k) {
 /* Looks at the root: that is answered once the first INIT is. */
 static pid_t start_probe(const struct keeper *k) {
   struct stat root;
-  pid_t child = fork_child(k);
+  pid_t child = fork_child();
   if (child != 0) return child;
   close_range(FIRST_OTHER, ~0U, 0);
   _exit(stat(k->mountpoint, &root) == 0 ? 0 : errno);
@@ -251,7 +263,7 @@ static pid_t start_probe(const struct keeper *k) {
 
 /* Unmounts, in a child: the servers have to go on meanwhile. A mount in use is detached, and ends with its last user. */
 static pid_t start_unmounting(const struct keeper *k) {
-  pid_t child = fork_child(k);
+  pid_t child = fork_child();
   if (child != 0) return child;
   close_range(FIRST_OTHER, ~0U, 0);
   if (geteuid() != 0) {
@@ -270,8 +282,8 @@ static bool mount_as_root(struct keeper *k) {
   char data[OPTIONS_SIZE + 128];
   k->device = open("/dev/fuse", O_RDWR | O_CLOEXEC);
   if (k->device < 0) return refused("/dev/fuse");
-  snprintf(data, sizeof data, "fd=%d,rootmode=40000,user_id=%u,group_id=%u,default_permissions%s", k->device, getuid(), getgid(),
-           k->data);
+  snprintf(data, sizeof data, "fd=%d,rootmode=40000,user_id=%u,group_id=%u,default_permissions%s",
+           k->device, getuid(), getgid(), k->data);
   return mount(k->store, k->mountpoint, "fuse.fusekeep", k->flags, data) == 0 || refused(k->mountpoint);
 }
 
@@ -300,8 +312,9 @@ static bool mount_by_fusermount(struct keeper *k) {
   char words[OPTIONS_SIZE + 2 * PATH_MAX + 64], number[16];
   int ends[2], status;
   if (socketpair(AF_UNIX, SOCK_STREAM | SOCK_CLOEXEC, 0, ends) != 0) return refused("socketpair");
-  pid_t child = fork_child(k);
+  pid_t child = fork_child();
   if (child == 0) {
+    give_back_signals(k);
     put_words(k, words);
     snprintf(number, sizeof number, "%d", dup(ends[1]));
     setenv("_FUSE_COMMFD", number, 1);
@@ -324,7 +337,7 @@ static bool has_ended(const struct keeper *k) {
 
 /* What keeps the mount alive. */
 
-/* A server ended, or there was no process for it. After a short life the next one waits, the longer the more there were in a row. */
+/* A server ended, or there was no process for it. After short lives the next one waits, the longer the more there were. */
 static void server_ended(struct keeper *k, int status) {
   bool is_short = now() - k->started < SHORT_LIFE;
   int pause = is_short ? FIRST_PAUSE << k->short_lives : 0;
@@ -332,10 +345,10 @@ static void server_ended(struct keeper *k, int status) {
   k->short_lives = is_short ? k->short_lives + 1 : 0;
   k->last_status = status;
   k->next_start = now() + pause;
-  pid_t server = k->server;
+  const char *how = ending(k, status);
+  if (has_ended(k)) say("server %d ended, %s", k->server, how);
+  else if (k->short_lives < MOST_SHORT_LIVES) say("server %d ended, %s; the next one runs in %d ms", k->server, how, pause);
   k->server = 0;
-  if (has_ended(k)) say("server %d ended, %s", server, ending(k, status));
-  else if (k->short_lives < MOST_SHORT_LIVES) say("server %d ended, %s; the next one runs in %d ms", server, ending(k, status), pause);
 }
 
 static void start_server(struct keeper *k) {
@@ -348,16 +361,18 @@ static void start_server(struct keeper *k) {
 static bool leave_terminal(const struct keeper *k) {
   int null = open("/dev/null", O_RDWR | O_CLOEXEC);
   if (null < 0 || setsid() < 0 || chdir("/") != 0) return refused("background");
-  if (dup2(null, STDIN_FILENO) < 0 || dup2(null, STDOUT_FILENO) < 0 || dup2(null, STDERR_FILENO) < 0) return refused("background");
+  for (int standard = STDIN_FILENO; standard <= STDERR_FILENO; standard++)
+    if (dup2(null, standard) < 0) return refused("background");
   close(null);
   openlog("fusekeep-mount", LOG_PID, LOG_DAEMON);
   in_background = true;
   return write(k->readiness, "", 1) == 1 && close(k->readiness) == 0;
 }
 
+/* Unmounts, unless that was done: what is mounted there by then is another's. */
 static void stop(struct keeper *k) {
   if (k->probe > 0) kill(k->probe, SIGKILL);
-  if (k->unmounter == 0) k->unmounter = start_unmounting(k);
+  if (k->unmounter == 0 && !k->is_unmounted) k->unmounter = start_unmounting(k);
   if (k->unmounter < 0) k->unmounter = 0;
 }
 
@@ -372,7 +387,9 @@ static void probe_ended(struct keeper *k, int status) {
 
 static void unmounter_ended(struct keeper *k, int status) {
   k->unmounter = 0;
-  if (status != 0 && !has_ended(k)) say("%s can't be unmounted: %s", k->mountpoint, strerror(WEXITSTATUS(status)));
+  k->is_unmounted = status == 0;
+  const char *why = geteuid() == 0 ? strerror(WEXITSTATUS(status)) : "fusermount3 failed";
+  if (status != 0 && !has_ended(k)) say("%s can't be unmounted: %s", k->mountpoint, why);
 }
 
 static void reap(struct keeper *k) {
@@ -403,9 +420,11 @@ static void await_event(struct keeper *k) {
 /* With its last descriptor the connection ends, so that nobody waits any more. A mount that once was ready stays in its place
  * and answers with errors: so nobody takes the directory under it for the store. */
 static int give_up(struct keeper *k) {
-  say("gave up: %d servers in a row lived less than a second, the last one ended with %s", k->short_lives, ending(k, k->last_status));
+  const char *how = ending(k, k->last_status);
+  say("gave up: %d servers in a row lived less than a second, the last one ended with %s", k->short_lives, how);
   close(k->device);
-  if (k->ready) return FAILED;
+  if (k->ready || k->is_unmounted) return FAILED;
+  if (k->probe > 0) waitpid(k->probe, NULL, 0);
   pid_t child = start_unmounting(k);
   if (child > 0) waitpid(child, NULL, 0);
   return FAILED;
@@ -421,16 +440,17 @@ static int keep(struct keeper *k) {
     if (k->server == 0 && now() >= k->next_start) start_server(k);
     await_event(k);
   }
-  say("%s is unmounted", k->mountpoint);
+  say("the connection of %s has ended", k->mountpoint);
   return k->ready || k->told_to_stop ? 0 : FAILED;
 }
 
-/* From the mount on signals are taken up by `await_event` alone. */
+/* From the mount on signals are taken up by `await_event` alone. nohup(1) is heeded. */
 static bool take_signals(struct keeper *k) {
+  struct sigaction hangup;
   sigset_t awaited;
   sigemptyset(&awaited);
   sigaddset(&awaited, SIGCHLD);
-  sigaddset(&awaited, SIGHUP);
+  if (sigaction(SIGHUP, NULL, &hangup) == 0 && hangup.sa_handler != SIG_IGN) sigaddset(&awaited, SIGHUP);
   sigaddset(&awaited, SIGINT);
   sigaddset(&awaited, SIGTERM);
   k->signals = signalfd(-1, &awaited, SFD_CLOEXEC);
@@ -457,6 +477,7 @@ static int await_readiness(pid_t child, int readiness) {
 int main(int argc, char **argv) {
   static struct keeper k = {.flags = MS_NOSUID | MS_NODEV};
   int ends[2], null;
+  close_range(FIRST_OTHER, ~0U, 0);
   do null = open("/dev/null", O_RDWR | O_CLOEXEC);
   while (null >= 0 && null < FIRST_OTHER);
   close(null);

@@ -16,7 +16,7 @@ import sys
 import time
 import traceback
 
-LONGEST_CALL = 30.0  # seconds: well above the longest pause between two servers
+LONGEST_STEP = 60.0  # seconds: a step is some calls, and servers are killed meanwhile
 MOST_FILES, MOST_DIRS, MOST_HELD = 120, 25, 6
 NOREPLACE, EXCHANGE = 1, 2
 AT_FDCWD = -100
@@ -108,6 +108,11 @@ class Worker:
         self.model.serial += 1
         return f"{self.a_dir()}/a.{self.number}-{self.model.serial}-{size}"
 
+    def free_path(self, directory, key):
+        """Another path for the file of this key, which no file has."""
+        letters = self.random.sample("bcdefgh", 7)
+        return next(path for letter in letters if (path := f"{directory}/{letter}.{key}") not in self.model.files)
+
     def a_size(self):
         return self.random.choice([0, 1, 100, 4095, 4096, 4097, 20000, self.random.randrange(200000)])
 
@@ -121,7 +126,7 @@ class Worker:
         at_end = self.random.random() < 0.3
         fd = os.open(path, os.O_RDWR | os.O_CREAT | os.O_EXCL | (os.O_APPEND if at_end else 0), 0o644)
         self.model.files[path] = 0o644
-        step = self.random.choice([1000, 5000, 70000, 200000])
+        step = max(self.random.choice([1000, 5000, 70000]), len(data) // 40)
         places = list(range(0, len(data), step))
         if not at_end:
             self.random.shuffle(places)
@@ -171,14 +176,14 @@ class Worker:
         path, other = self.a_file(), self.a_file()
         if not path or path == other:
             return
-        new = f"{self.a_dir()}/{self.random.choice('bcdefgh')}.{key_of(path)}"
+        new = self.free_path(self.a_dir(), key_of(path))
         way = self.random.randrange(5)
         files = self.model.files
         if way == 0:
             refused(errno.EEXIST, renameat2, path, other, NOREPLACE)
         elif way == 1:
             return self.exchange(path, other)
-        elif new not in files:
+        else:
             renameat2(path, new, NOREPLACE if way == 2 else 0)
             files[new] = files.pop(path)
 
@@ -186,9 +191,9 @@ class Worker:
         """Two files change places, and then get names that tell their bytes again."""
         files = self.model.files
         renameat2(path, other, EXCHANGE)
+        mine = self.free_path(os.path.dirname(other), key_of(path))
+        its = self.free_path(os.path.dirname(path), key_of(other))
         mode, other_mode = files.pop(path), files.pop(other)
-        mine = f"{os.path.dirname(other)}/x.{key_of(path)}"
-        its = f"{os.path.dirname(path)}/y.{key_of(other)}"
         os.rename(other, mine)
         os.rename(path, its)
         files[mine], files[its] = mode, other_mode
@@ -199,9 +204,9 @@ class Worker:
         if not path or path == other:
             return
         os.replace(path, other)
+        new = self.free_path(os.path.dirname(other), key_of(path))
         mode = self.model.files.pop(path)
         del self.model.files[other]
-        new = f"{os.path.dirname(other)}/r.{key_of(path)}"
         os.rename(other, new)
         self.model.files[new] = mode
 
@@ -248,7 +253,8 @@ class Worker:
         with os.scandir(path) as entries:
             seen = [(entry.name, entry.is_dir(follow_symlinks=False)) for entry in entries]
         check(len(seen) == len(dict(seen)), f"{path}: a name is listed twice")
-        check(dict(seen) == self.model.children(path), f"{path}: lists {sorted(dict(seen).items() ^ self.model.children(path).items())}")
+        listed, expected = dict(seen).items(), self.model.children(path).items()
+        check(listed == expected, f"{path}: lists {sorted(listed - expected)}, lacks {sorted(expected - listed)}")
 
     def change_mode(self):
         path = self.a_file()
@@ -298,7 +304,7 @@ class Worker:
         self.random.choices(ways, weights)[0]()
         self.calls += 1
         self.longest = max(self.longest, time.monotonic() - begin)
-        check(self.longest < LONGEST_CALL, f"a step took {self.longest:.1f} s")
+        check(self.longest < LONGEST_STEP, f"a step took {self.longest:.1f} s")
 
     def work(self, stop):
         while not os.path.exists(stop):
