@@ -14,6 +14,7 @@ use std::alloc::{AllocError, Global};
 
 mod allocations;
 mod clocks;
+mod devices;
 mod hostile;
 mod moments;
 mod pieces;
