@@ -137,7 +137,22 @@ const ROWS: [Row; 9] = [
     },
 ];
 
-fn port_of(alloc: Global, row: &Row) -> Result<DevicePort<Reader, Writer>, AllocError> {
+// How a session over this device ends, and what is written to it.
+fn serve_device(
+    alloc: Global,
+    keeper: &mut TreeKeeper,
+    reader: Reader,
+    writer: Writer,
+) -> (Told, Vec<u8>) {
+    if keeper.failed() {
+        return (Told::Failed, writer.written);
+    }
+    let mut port = DevicePort::new(reader, writer);
+    let served = serve(alloc, keeper, &mut port, &mut Fixed(AT_1000), 1000);
+    (told_of(&served.ended), port.into_writer().written)
+}
+
+fn is_right(alloc: Global, row: &Row) -> Result<bool, StoreFault> {
     let reader = Reader {
         refusals: Refusals { numbers: row.reads },
         message: hex(alloc, LOOKUP_HELLO)?,
@@ -146,20 +161,11 @@ fn port_of(alloc: Global, row: &Row) -> Result<DevicePort<Reader, Writer>, Alloc
         refusals: Refusals { numbers: row.writes },
         written: Vec::new(alloc),
     };
-    Ok(DevicePort::new(reader, writer))
-}
-
-fn is_right(alloc: Global, row: &Row) -> Result<bool, StoreFault> {
-    let mut port = port_of(alloc, row)?;
     let mut keeper = begun(alloc, INIT_AGREED)?;
-    if keeper.failed() {
-        return Ok(false);
-    }
-    let served = serve(alloc, &mut keeper, &mut port, &mut Fixed(AT_1000), 1000);
-    let answer = hex(alloc, NOT_THERE)?;
-    let wanted = if row.answered { answer.as_slice() } else { &[] };
-    Ok(told_of(&served.ended) == row.ended
-        && port.into_writer().written.as_slice() == wanted
+    let (ended, written) = serve_device(alloc, &mut keeper, reader, writer);
+    let answer = hex(alloc, if row.answered { NOT_THERE } else { "" })?;
+    Ok(ended == row.ended
+        && written.as_slice() == answer.as_slice()
         && held_in(&mut keeper) == Some(holding(1, 0, 2)))
 }
 
