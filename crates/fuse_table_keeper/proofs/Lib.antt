@@ -11,3 +11,4 @@ pub mod Beginning
 pub mod Peeking
 pub mod Numbering
 pub mod Restarting
+pub mod Blank

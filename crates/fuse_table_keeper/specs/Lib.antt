@@ -4,3 +4,5 @@ pub mod Opening
 pub mod Told
 pub mod TableKeeper
 pub mod Laws
+pub mod Starting
+pub mod Storing

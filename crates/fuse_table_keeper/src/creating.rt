@@ -1,5 +1,5 @@
 // A new store.
-ghost use Rattle.std.specs.Prelude.{◌≡◌, ◌<◌, ◌^◌, IsTrue, OnOk};
+ghost use Rattle.std.specs.Prelude.{◌≡◌, ◌<◌, ◌^◌, ◌↔◌, IsTrue, OnOk};
 ghost use Rattle.sqlite.specs.State.{HasCleanDisk, Survives};
 ghost use Rattle.sqlite.specs.Held.{state};
 ghost use Rattle.fuse_tables.specs.Content.{LeftAs};
@@ -16,8 +16,8 @@ use fuse_wire::Moment;
 use sqlite::{Alter, Connection, Error};
 use sqlite_schema::schema::Schema;
 
-fn is_empty(schema: &Schema) -> bool
-    ensures { IsTrue result → schema.now ≡ no_schema }
+pub(crate) fn is_empty(schema: &Schema) -> bool
+    ensures { IsTrue result ↔ schema.now ≡ no_schema }
 {
     schema.tables.is_empty() && schema.indexes.is_empty() && schema.views.is_empty()
 }

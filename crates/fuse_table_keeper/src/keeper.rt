@@ -67,6 +67,8 @@ impl<S: Alter> TableKeeper<S> {
         ensures firm { IfOk result (λ k. (keeper_told S.Store k).is_honest
             → IsFirm (keeper_told S.Store k)) }
         ensures empty { IfOk result (λ k. (state S.Store conn).now.schema ≡ no_schema) }
+        ensures honest { IfOk result (λ k. (keeper_told S.Store k).is_honest
+            → HasCleanDisk (state S.Store conn)) }
         ensures crash { IfErr result (λ r. Survives (state S.Store conn) (state S.Store r.1) (λ db.
             IsTrue (state S.Store conn).is_open → LeftAs (HeldFor (new_holding now)) db)) }
         ensures kept { IfErr result (λ r. HasCleanDisk (state S.Store r.1)

@@ -21,11 +21,11 @@ returns-clause-done g c =
     (returns-clause-serves g c)
     (was_bare (state g.S.Store c.args.conn.now) c.schema.result.now c.if-not-is_autocommit.ensures.value (c.if-not-is_autocommit.ensures.settled refl)
     c.schema.ensures.live c.schema.ensures.value
-    (c.if-not-is_empty.ensures refl))
+    (c.if-not-is_empty.ensures.0 refl))
 
 pub returns-clause-crash : goal.returns-clause-crash
 returns-clause-crash g c =
     survives_weaker (state g.S.Store c.args.conn.now) (state g.S.Store c.make_store.new.conn) _ _
     (λ _ db left is_open. left tt (was_bare (state g.S.Store c.args.conn.now) c.schema.result.now c.if-not-is_autocommit.ensures.value
     (c.if-not-is_autocommit.ensures.settled refl) c.schema.ensures.live c.schema.ensures.value
-    (c.if-not-is_empty.ensures refl) is_open)) (returns-clause-serves g c).survives
+    (c.if-not-is_empty.ensures.0 refl) is_open)) (returns-clause-serves g c).survives

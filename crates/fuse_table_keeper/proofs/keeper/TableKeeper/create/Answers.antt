@@ -2,6 +2,7 @@ use Rattle.std.proofs.Common.{[], None, false}
 use Rattle.sqlite.specs.Held.{state}
 use Rattle.fuse_tree.specs.State.{new_store}
 use Rattle.fuse_tree.specs.Rows.{rowed}
+use Rattle.fuse_tables.specs.Following.{earlier}
 use Rattle.fuse_table_look.specs.Store.{records_of}
 use Rattle.fuse_table_keeper.specs.Creating.{new_holding}
 use Rattle.fuse_table_keeper.proofs.Serving.{holds_at, firm}
@@ -19,6 +20,10 @@ returns-in-Ok-clause-stands g c = λ clean is_open.
           (its_own (new_holding c.args.now));
       stands = starts (new_store c.args.now) at.holds.tree;
     }
+
+pub returns-in-Ok-clause-honest : goal.returns-in-Ok-clause-honest
+returns-in-Ok-clause-honest g c = λ clean.
+    earlier (state g.S.Store c.args.conn) (state g.S.Store c.make_for.new.conn) _ c.in-Ok.ensures.crash clean
 
 pub returns-in-Ok-clause-firm : goal.returns-in-Ok-clause-firm
 returns-in-Ok-clause-firm g c = λ clean.
