@@ -1,10 +1,1 @@
-pub mod Reading
-pub mod Scripts
-pub mod Simulating
-pub mod Checking
-pub mod Dumping
-pub mod Messages
-pub mod Endings
-pub mod Printing
-pub mod Replaying
-pub mod Storing
+pub mod Starting

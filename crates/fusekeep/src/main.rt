@@ -1,38 +1,25 @@
 //! The program `fusekeep`: serves recorded streams of FUSE requests, and runs scripts of them.
 #![tactic(auto)]
 
-mod arguments;
-mod check;
-mod count_line;
-mod dump;
-mod ending;
-mod messages;
-mod printing;
-mod reading;
-mod replay;
-mod script;
 mod simulate;
 mod store;
-#[cfg(test)]
-mod tests;
 
-use arguments::{Run, STANDARD_INPUT, parse, unreadable};
-use check::run_check;
 use clap::Error;
 use clap::error::ErrorKind;
-use dump::run_dump;
-use ending::Ending;
+use fuse_commands::{
+    Ending, Run, STANDARD_INPUT, START, parse, run_check, run_dump, run_replay, unreadable,
+};
 use fuse_keeper::PlainKeeper;
 use fuse_store::PlainTree;
+use fuse_table_keeper::open_or_create;
 use fuse_wire::Moment;
-use replay::run_replay;
-use simulate::{START, run_simulate};
+use simulate::simulate_in_memory;
 use sqlite::{Alter, Connection};
 use std::alloc::Global;
 use std::io::{BufWriter, Read, Write};
 use std::process::ExitCode;
 use std::{env, fs, io};
-use store::{open_file, open_or_create};
+use store::open_file;
 
 fn main(rt: HostRuntime) -> ExitCode {
     let ending = run(&rt);
@@ -92,7 +79,7 @@ fn run_on<R: Read + Drop>(rt: &HostRuntime, reader: R, run: Run<'_>) -> Ending {
                 None => replay_in_memory(alloc, reader, &mut writer, moment),
             }
         }
-        Run::Simulate { .. } => run_simulate(alloc, reader, &mut writer),
+        Run::Simulate { .. } => simulate_in_memory(alloc, reader, &mut writer),
     }
 }
 
@@ -120,7 +107,7 @@ fn replay_over<S: Alter + Drop, R: Read + Drop, W: Write>(
 ) -> (Ending, Option<Connection<S>>) {
     let mut keeper = match open_or_create(alloc, conn, START) {
         Ok(keeper) => keeper,
-        Err(fault) => return (Ending::of(fault), None),
+        Err((fault, _)) => return (Ending::of(fault), None),
     };
     let ending = run_replay(alloc, &mut keeper, reader, writer, moment);
     (ending, Some(keeper.into_connection()))

@@ -1,0 +1,53 @@
+//! The table of endings.
+use fuse_commands::Ending;
+use std::test::Fail;
+
+const ENDINGS: [(Ending, u8, &str); 15] = [
+    (Ending::Done, 0, ""),
+    (
+        Ending::Short { at: 46, len: 39 },
+        1,
+        "stream: Short at 46: len 39",
+    ),
+    (
+        Ending::TooLong {
+            at: 0,
+            len: 135_169,
+        },
+        1,
+        "stream: TooLong at 0: len 135169",
+    ),
+    (
+        Ending::Cut {
+            at: 46,
+            have: 3,
+            need: 4,
+        },
+        1,
+        "stream: Cut at 46: have 3, need 4",
+    ),
+    (Ending::ZeroUnique { at: 7 }, 1, "stream: ZeroUnique at 7"),
+    (Ending::Malformed, 1, ""),
+    (Ending::ScriptLine { line: 3 }, 1, "script: line 3"),
+    (Ending::Usage, 2, ""),
+    (Ending::Sql, 3, "store: Sql"),
+    (Ending::NotAStore, 3, "store: NotAStore"),
+    (Ending::Version(7), 3, "store: Version(7)"),
+    (Ending::Damaged, 3, "store: Damaged"),
+    (Ending::PortFailed, 4, "port: failed"),
+    (Ending::PortTurns, 4, "port: turns"),
+    (Ending::Memory, 5, "memory"),
+];
+
+#[test]
+fn endings(rt: HostRuntime) -> Result<(), Fail> {
+    for (ending, status, line) in ENDINGS {
+        let said = match ending.line() {
+            Some(line) => format!(in rt.alloc(); "{line}")?,
+            None => String::new(rt.alloc()),
+        };
+        assert_eq!(rt; said.as_str(), line);
+        assert_eq!(rt; ending.status(), status, "{line}");
+    }
+    Ok(())
+}

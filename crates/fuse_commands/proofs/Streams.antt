@@ -1,0 +1,461 @@
+-- What a session worked off of a stream.
+use Rattle.std.proofs.Common.{◌≡◌, ◌⊎◌, inl, inr, ◌≤◌, ◌<◌, ◌+◌, ◌&&◌, nat_lt, nat_le, if◌then◌else◌, ℕ, Bool, true, false, List, [], ◌∷◌, ◌++◌, length, Option}
+use Rattle.std.proofs.Common.{Some, None, refl, sym, ap, subst, ◌∙◌, append_assoc, append-nil, arith, length-append}
+use Rattle.std.specs.Prelude.{IfSome}
+use Rattle.std.specs.List.{AllByRecursion}
+use Rattle.std.specs.Option.{option_or}
+use Rattle.std.specs.Io.KnownBytes.{Appends, Consumes, IsAtEnd, append_known}
+use Rattle.std.proofs.lemmas.Bool.{ltb-true, ltb-false, lt-leb, le-ltb}
+use Rattle.fuse_wire.specs.Bytes.{number_of}
+use Rattle.fuse_wire.specs.declared.moment.Moment.{Moment}
+use Rattle.fuse_request.specs.declared.framer.FrameFault.{FrameFault}
+use Rattle.fuse_request.specs.declared.framer.FrameFault.TheVariants as frame
+use Rattle.fuse_request.specs.declared.class.Class.{Class}
+use Rattle.fuse_request.specs.declared.class.Class.TheVariants.{Silent, Bare, Kept}
+use Rattle.fuse_request.specs.Stream.{cut, joined, is_whole, CutJoins, CutSteps}
+use Rattle.fuse_request.specs.Framing.{bad_length, end_fault, needed}
+use Rattle.fuse_request.specs.Classes.{class_of}
+use Rattle.fuse_keeper.specs.declared.fault.StoreFault.{StoreFault}
+use Rattle.fuse_keeper.specs.declared.fault.StoreFault.TheVariants as store
+use Rattle.fuse_answer.specs.Said.{Said, FitsAnswer}
+use Rattle.fuse_answer.specs.Laws.{BeginsWithLen, LenStandsFirst}
+use Rattle.fuse_keeper.specs.Model.{Model}
+use Rattle.fuse_keeper.specs.History.{History, grown, said, SaidFits}
+use Rattle.fuse_keeper.specs.KeeperState.{KeeperState, StandsFor}
+use Rattle.fuse_session.specs.declared.counts.SessionCounts.{SessionCounts}
+use Rattle.fuse_session.specs.declared.ended.Ended.{Ended}
+use Rattle.fuse_session.specs.declared.ended.Ended.TheVariants as session
+use Rattle.fuse_session.specs.Port.{PortState, fresh}
+use Rattle.fuse_session.specs.Worked.{Timed, bytes_of, kept_in, answers, answer_by, unique_of, GoesOn, Works, EndsLast, StartsZero, message_id, moments_in}
+use Rattle.fuse_session.specs.Settling.{Mark, replies, settles, settled_in, NoneComesAgain, MayCome, Places, PlaceFirst}
+use Rattle.fuse_session.specs.Counting.{counted}
+use Rattle.fuse_session.specs.Serving.{Turned, Whole}
+use Rattle.fuse_session.specs.Ends.{EndsAs, SentExactly, ExactAt, counts_at}
+use Rattle.fuse_commands.specs.declared.ending.Ending.{Ending}
+use Rattle.fuse_commands.specs.declared.ending.Ending.TheVariants.{Done, ZeroUnique}
+use Rattle.fuse_commands.specs.Endings.{session_ending, stream_ending, store_ending, status_of, IsOfStream}
+use Rattle.fuse_commands.specs.Printing.{IsAnswer}
+use Rattle.fuse_commands.specs.Replaying.{EndsAt, EndsFaulty, Replayed, Faulted, Sends, Prints, PrintsAnswers}
+
+-- ---- no answer was told to be awaited by nobody
+
+abbrev IsTaken : Mark → Type 0
+IsTaken mark = mark.gone ≡ false
+
+first_taken : (gone : Bool) (sent : Option (List ℕ)) (Later : List ℕ → Type 0) (places : List ℕ) → places ≡ [] → PlaceFirst gone sent Later places
+    → (gone ≡ false) × Later places
+first_taken true sent Later places none p = absurd (cc (none, p.2))
+first_taken false sent Later places none p = (refl, p)
+
+all_taken : (sent : Option (List ℕ)) (marks : List Mark) (places : List ℕ) → places ≡ [] → Places sent marks places → AllByRecursion IsTaken marks
+all_taken sent [] places none p = tt
+all_taken sent (m ∷ marks) places none p =
+    let one = first_taken m.gone (append_known sent m.reply) (Places (append_known sent m.reply) marks) places none p in
+    (one.0, all_taken _ marks places none one.1)
+
+settles_nothing : (m : List ℕ) (mark : Mark) → mark.gone ≡ false → settles false m mark ≡ []
+settles_nothing m mark is = rw is refl
+
+settled_nothing : (ms : List (List ℕ)) (marks : List Mark) → AllByRecursion IsTaken marks → settled_in false ms marks ≡ []
+settled_nothing [] marks each = refl
+settled_nothing (m ∷ ms) [] each = refl
+settled_nothing (m ∷ ms) (mark ∷ marks) each = rw (settles_nothing m mark each.0, settled_nothing ms marks each.1) refl
+
+none_again : (t : List ℕ) (ms : List (List ℕ)) (marks : List Mark) → AllByRecursion IsTaken marks → AllByRecursion (MayCome t) ms
+    → NoneComesAgain false t ms marks
+none_again t [] marks each may = tt
+none_again t (m ∷ ms) [] each may = (may.0, none_again t ms [] tt may.1)
+none_again t (m ∷ ms) (mark ∷ marks) each may =
+    let same : t ++ settles false m mark ≡ t = ap (λ (x : List ℕ). t ++ x) (settles_nothing m mark each.0) ∙ append-nil t in
+    (may.0, subst (λ (u : List ℕ). NoneComesAgain false u ms marks) (sym same) (none_again t ms marks each.1 may.1))
+
+-- ---- what was sent, by a port that began with nothing sent
+
+sent_is : (o : Option (List ℕ)) (sent all : List ℕ) → o ≡ Some sent → Appends (Some []) o all → sent ≡ all
+sent_is None sent all is more = absurd (cc is)
+sent_is (Some xs) sent all is more = let same : xs ≡ sent = cc is in sym same ∙ more
+
+-- what is known of messages that were worked off
+pub record Settled (M : Model) (stood : History → Type 0) (s : M.State) (h : History) (timed : List Timed) (going : Bool) (sent : List ℕ)
+    (counts : SessionCounts) : Type 0 where
+  pub works : Works M s h timed
+  pub goes : going ≡ true → GoesOn M s h timed
+  pub last : going ≡ false → EndsLast M s h timed
+  pub stands : stood (grown h (kept_in timed))
+  pub sends : Sends sent counts (answers M s (grown h (kept_in timed)) timed) (counted h timed)
+
+-- what is told of a port that is at its end
+pub record Told (p : PortState) (sent : List ℕ) : Type 0 where
+  pub gone : p.gone ≡ []
+  pub sent_is : p.sent ≡ Some sent
+
+settled : {M : Model} (k k' : KeeperState M) (gave : List Moment → Type 0) (coming : Option (List ℕ)) (p : PortState) (ids ids' : List ℕ)
+    (front : List (List ℕ)) (going : Bool) (counts : SessionCounts) (sent : List ℕ) → ids ≡ []
+    → Told p sent → (turned : Turned k k' gave (fresh coming (Some []) false) p ids ids' front going counts) → k'.is_honest
+    → (s : M.State) (h : History) (t : List ℕ) → StandsFor k s h t → AllByRecursion (MayCome t) (bytes_of turned.timed)
+    → Settled M (λ g. StandsFor k' s g t) s h turned.timed going sent counts
+settled k k' gave coming p ids ids' front going counts sent none told turned honest s h t so may_come =
+    let r = turned.replied in
+    let taken = all_taken (Some []) turned.marks r.places (sym r.gone ∙ told.gone) r.placed in
+    let a = turned.all honest s h t so (λ i there. absurd (cc (ap (λ (x : List ℕ). x) none, there)))
+    (none_again t (bytes_of turned.timed) turned.marks taken may_come) in
+    let same : t ++ settled_in false (bytes_of turned.timed) turned.marks ≡ t =
+    ap (λ (x : List ℕ). t ++ x) (settled_nothing (bytes_of turned.timed) turned.marks taken) ∙ append-nil t in
+    record {
+      works = a.works;
+      goes = a.goes;
+      last = a.last;
+      stands = subst (StandsFor k' s (grown h (kept_in turned.timed))) same a.stands;
+      sends = (
+        sent_is p.sent sent (joined (replies turned.marks) ++ []) told.sent_is r.sent ∙ append-nil (joined (replies turned.marks)) ∙ ap joined a.sent,
+        a.counts_are,
+      );
+    }
+
+-- ---- a bad length stays one
+
+bad_by : (few low high : Bool) (at n : ℕ) (f : FrameFault)
+    → (if few then None else if low then Some (frame.Short at n) else if high then Some (frame.TooLong at n) else None) ≡ Some f
+    → (few ≡ false) × ((low ≡ true) ⊎ (high ≡ true))
+bad_by true low high at n f e = absurd (cc e)
+bad_by false true high at n f e = (refl, inl refl)
+bad_by false false true at n f e = (refl, inr refl)
+bad_by false false false at n f e = absurd (cc e)
+
+bad : (at : ℕ) (w : List ℕ) (f : FrameFault) → bad_length at w ≡ Some f → (4 ≤ length w) × ((number_of 4 w < 40) ⊎ (135168 < number_of 4 w))
+bad at w f e =
+    let b = bad_by (nat_lt (length w) 4) (nat_lt (number_of 4 w) 40) (nat_lt 135168 (number_of 4 w)) at (number_of 4 w) f e in
+    (ltb-false _ _ b.0, elim b.1 [ inl low ↦ inl (ltb-true _ _ low) | inr high ↦ inr (ltb-true _ _ high) ])
+
+and_right : (a b : Bool) → b ≡ false → (a && b) ≡ false
+and_right true b is = is
+and_right false b is = refl
+
+and_left : (a b : Bool) → a ≡ false → (a && b) ≡ false
+and_left true b is = absurd (cc is)
+and_left false b is = refl
+
+-- so there is no whole message
+bad_not_whole : (w : List ℕ) → ((number_of 4 w < 40) ⊎ (135168 < number_of 4 w)) → is_whole w ≡ false
+bad_not_whole w (inl low) = and_right (nat_le 4 (length w)) _ (and_left (nat_le 40 (number_of 4 w)) _ (lt-leb 40 (number_of 4 w) low))
+bad_not_whole w (inr high) =
+    and_right (nat_le 4 (length w)) _
+    (and_right (nat_le 40 (number_of 4 w)) _ (and_left (nat_le (number_of 4 w) 135168) _ (lt-leb (number_of 4 w) 135168 high)))
+
+number_stays : (w later : List ℕ) → 4 ≤ length w → number_of 4 (w ++ later) ≡ number_of 4 w
+unfolding number_of
+number_stays [] later long = absurd (omega arith)
+number_stays (a ∷ []) later long = absurd (omega arith)
+number_stays (a ∷ b ∷ []) later long = absurd (omega arith)
+number_stays (a ∷ b ∷ c ∷ []) later long = absurd (omega arith)
+number_stays (a ∷ b ∷ c ∷ d ∷ w) later long = refl
+
+longer : (w later : List ℕ) → 4 ≤ length w → nat_lt (length (w ++ later)) 4 ≡ nat_lt (length w) 4
+longer w later long = le-ltb (length (w ++ later)) 4 (omega (arith, length-append w later)) ∙ sym (le-ltb (length w) 4 long)
+
+bad_stays : (at : ℕ) (w later : List ℕ) (f : FrameFault) → bad_length at w ≡ Some f → bad_length at (w ++ later) ≡ Some f
+bad_stays at w later f e = let long = (bad at w f e).0 in rw (longer w later long, number_stays w later long) e
+
+bad_ends : (at : ℕ) (w : List ℕ) (f : FrameFault) → bad_length at w ≡ Some f → end_fault at w ≡ Some f
+bad_ends at [] f e = absurd (cc e)
+bad_ends at (x ∷ w) f e = ap (λ o. option_or o (Some (frame.Cut at (length (x ∷ w)) (needed (x ∷ w))))) e
+
+-- ---- the input is what came, and what didn't come
+
+record Came (input received : List ℕ) (ended : Type 0) : Type 0 where
+  pub later : List ℕ
+  pub parts : input ≡ received ++ later
+  pub over : ended → later ≡ []
+
+came : (input : List ℕ) (now : Option (List ℕ)) (received : List ℕ) → Consumes (Some input) now received → Came input received (IsAtEnd now)
+came input None received c = absurd c
+came input (Some ys) received c = record { later = ys; parts = c; over = λ end. end }
+
+cut_came : CutJoins → (input received later : List ℕ) → input ≡ received ++ later
+    → cut input ≡ ((cut received).0 ++ (cut ((cut received).1 ++ later)).0, (cut ((cut received).1 ++ later)).1)
+cut_came joins input received later is = ap cut is ∙ joins received later
+
+-- all of it came
+all_came : (input received later : List ℕ) → input ≡ received ++ later → later ≡ [] → cut input ≡ cut received
+all_came input received later is none = ap cut (is ∙ ap (λ (x : List ℕ). received ++ x) none ∙ append-nil received)
+
+-- what came ends in a bad length
+bad_came : CutJoins → CutSteps → (input received later rest : List ℕ) (at : ℕ) (f : FrameFault) → input ≡ received ++ later → rest ≡ (cut received).1
+    → bad_length at rest ≡ Some f
+    → ((cut input).0 ≡ (cut received).0) × (end_fault at (cut input).1 ≡ Some f)
+bad_came joins steps input received later rest at f is rest_is e =
+    let w : List ℕ = (cut received).1 ++ later in
+    let here : bad_length at w ≡ Some f = bad_stays at (cut received).1 later f (subst (λ r. bad_length at r ≡ Some f) rest_is e) in
+    let none : cut w ≡ ([], w) = (steps w).1 (bad_not_whole w (bad at w f here).1) in
+    let all = cut_came joins input received later is in (
+      ap (λ (c : List (List ℕ) × List ℕ). c.0) all ∙ ap (λ (c : List (List ℕ) × List ℕ). (cut received).0 ++ c.0) none ∙ append-nil (cut received).0,
+      subst (λ r. end_fault at r ≡ Some f) (sym (ap (λ (c : List (List ℕ) × List ℕ). c.1) all ∙ ap (λ (c : List (List ℕ) × List ℕ). c.1) none))
+          (bad_ends at w f here),
+    )
+
+each_front : (P : Moment → Type 0) (xs ys : List Moment) → AllByRecursion P (xs ++ ys) → AllByRecursion P xs
+each_front P [] ys all = tt
+each_front P (x ∷ xs) ys all = (all.0, each_front P xs ys all.1)
+
+of_store : (f : StoreFault) → IsOfStream (store_ending f) → ⊥
+of_store store.Memory h = omega (arith, h)
+of_store (store.Sql e) h = omega (arith, h)
+of_store store.NotAStore h = omega (arith, h)
+of_store (store.Version n) h = omega (arith, h)
+of_store store.Damaged h = omega (arith, h)
+
+-- the counts that are told where the stream was served as far as it goes
+pub counts_told : (e : Ended) (counts n : SessionCounts) (told : Option SessionCounts) → IsOfStream (session_ending e) → told ≡ counts_at e counts
+    → IfSome told (λ c. n ≡ c) → n ≡ counts
+counts_told session.End counts n told of_stream is so = subst (λ o. IfSome o (λ c. n ≡ c)) is so
+counts_told session.Destroyed counts n told of_stream is so = subst (λ o. IfSome o (λ c. n ≡ c)) is so
+counts_told session.Turns counts n told of_stream is so = subst (λ o. IfSome o (λ c. n ≡ c)) is so
+counts_told (session.Frame f) counts n told of_stream is so = subst (λ o. IfSome o (λ c. n ≡ c)) is so
+counts_told (session.ZeroUnique at) counts n told of_stream is so = subst (λ o. IfSome o (λ c. n ≡ c)) is so
+counts_told session.PortFailed counts n told of_stream is so = absurd (omega (arith, of_stream))
+counts_told (session.Store f) counts n told of_stream is so = absurd (of_store f of_stream)
+counts_told session.Memory counts n told of_stream is so = absurd (omega (arith, of_stream))
+
+-- ---- each end
+
+-- all that came was worked off
+rested : {M : Model} (k k' : KeeperState M) (moment : Moment) (gave : List Moment → Type 0)
+    (each : (ts : List Moment) → gave ts → AllByRecursion (λ t. t ≡ moment) ts) (input sent : List ℕ) (p : PortState) (ids' rest : List ℕ) (place : ℕ)
+    (counts : SessionCounts) (ending : Ending) → Told p sent
+    → (w : Whole k k' gave (fresh (Some input) (Some []) false) p [] ids' [] rest 0 place counts) → (cut input).0 ≡ (cut w.received).0
+    → ((s : M.State) (h : History) (timed : List Timed) → GoesOn M s h timed → place ≡ length (joined (bytes_of timed))
+    → EndsAt M ending s h timed [] (length (joined (bytes_of timed))) (cut input).1)
+    → Replayed k k' moment input ending (Sends sent counts)
+rested k k' moment gave each input sent p ids' rest place counts ending told w same ends =
+    let at : place ≡ length (joined (bytes_of w.turned.timed)) = omega (arith, w.at, ap (λ ms. length (joined ms)) w.turned.bytes) in
+    record {
+      timed = w.turned.timed;
+      others = [];
+      parts = same ∙ w.turned.bytes ∙ sym (append-nil (bytes_of w.turned.timed));
+      moments = each (moments_in w.turned.timed) w.turned.moments;
+      all = λ honest s h t so may.
+          let d = settled k k' gave (Some input) p [] ids' (cut w.received).0 true counts sent refl told w.turned honest s h t so may in
+          record { works = d.works; ends = ends s h w.turned.timed (d.goes refl) at; stands = d.stands; gave = d.sends };
+    }
+
+zero_more : (ms more : List (List ℕ)) → StartsZero ms → StartsZero (ms ++ more)
+zero_more [] more zero = absurd zero
+zero_more (m ∷ ms) more zero = zero
+
+-- some of it was
+halted : CutJoins
+    → {M : Model} (k k' : KeeperState M) (moment : Moment) (gave : List Moment → Type 0)
+    (each : (ts : List Moment) → gave ts → AllByRecursion (λ t. t ≡ moment) ts) (input sent : List ℕ) (p : PortState) (ids' received : List ℕ)
+    (front others : List (List ℕ)) (going : Bool) (place : ℕ) (counts : SessionCounts) (ending : Ending)
+    → Told p sent → Consumes (Some input) p.coming received → (cut received).0 ≡ front ++ others → place ≡ 0 + length (joined front)
+    → Turned k k' gave (fresh (Some input) (Some []) false) p [] ids' front going counts
+    → ((s : M.State) (h : History) (timed : List Timed) (more : List (List ℕ)) → (going ≡ true → GoesOn M s h timed) → (going ≡ false → EndsLast M s h timed)
+    → place ≡ length (joined (bytes_of timed))
+    → EndsAt M ending s h timed (others ++ more) (length (joined (bytes_of timed))) (cut input).1)
+    → Replayed k k' moment input ending (Sends sent counts)
+halted joins k k' moment gave each input sent p ids' received front others going place counts ending told came_from parts place_is turned ends =
+    let c = came input p.coming received came_from in
+    let more = (cut ((cut received).1 ++ c.later)).0 in
+    let all = cut_came joins input received c.later c.parts in
+    let timed = turned.timed in
+    let at : place ≡ length (joined (bytes_of timed)) = omega (arith, place_is, ap (λ ms. length (joined ms)) turned.bytes) in
+    record {
+      timed = timed;
+      others = others ++ more;
+      parts = ap (λ (x : List (List ℕ) × List ℕ). x.0) all ∙ ap (λ ms. ms ++ more) (parts ∙ ap (λ ms. ms ++ others) turned.bytes)
+          ∙ append_assoc (bytes_of timed) others more;
+      moments = each (moments_in turned.timed) turned.moments;
+      all = λ honest s h t so may.
+          let d = settled k k' gave (Some input) p [] ids' front going counts sent refl told turned honest s h t so may in
+          record { works = d.works; ends = ends s h timed more d.goes d.last at; stands = d.stands; gave = d.sends };
+    }
+
+faulty : (M : Model) (f : FrameFault) (s : M.State) (h : History) (timed : List Timed) (others : List (List ℕ)) (place : ℕ) (rest : List ℕ)
+    → IsOfStream (stream_ending f) → EndsFaulty M s h timed others place rest f → EndsAt M (stream_ending f) s h timed others place rest
+faulty M (frame.Short at len) s h timed others place rest of_stream e = e
+faulty M (frame.TooLong at len) s h timed others place rest of_stream e = e
+faulty M (frame.Cut at have need) s h timed others place rest of_stream e = e
+faulty M frame.Memory s h timed others place rest of_stream e = absurd (omega (arith, of_stream))
+
+pub replayed : CutJoins → CutSteps
+    → {M : Model} (k k' : KeeperState M) (moment : Moment) (gave : List Moment → Type 0)
+    (each : (ts : List Moment) → gave ts → AllByRecursion (λ t. t ≡ moment) ts) (input sent : List ℕ) (p : PortState) (turns : ℕ) (e : Ended)
+    (counts : SessionCounts) → Told p sent
+    → EndsAs k k' gave (fresh (Some input) (Some []) false) p [] [] 0 turns e counts → IsOfStream (session_ending e)
+    → Replayed k k' moment input (session_ending e) (Sends sent counts)
+replayed joins steps k k' moment gave each input sent p turns session.End counts told e of_stream =
+    let r = e.1 in
+    let c = came input p.coming r.whole.received r.whole.came in
+    let same = all_came input r.whole.received c.later c.parts (c.over e.0.1) in
+    rested k k' moment gave each input sent p r.pending' r.rest r.place counts Done told r.whole (ap (λ (x : List (List ℕ) × List ℕ). x.0) same)
+    (λ s h timed goes at. inr (goes, refl, ap (λ (x : List (List ℕ) × List ℕ). x.1) same ∙ sym r.whole.rest_is ∙ r.so))
+replayed joins steps k k' moment gave each input sent p turns session.Destroyed counts told e of_stream =
+    let w = e.1.stopped.worked in
+    halted joins k k' moment gave each input sent p e.1.pending' e.1.stopped.received w.front w.others false e.0 counts Done told e.1.stopped.came w.parts w.at
+    w.turned (λ s h timed more goes last at. inl (last refl))
+replayed joins steps k k' moment gave each input sent p turns (session.Frame f) counts told r of_stream =
+    let c = came input p.coming r.whole.received r.whole.came in
+    elim r.so [
+      | inl length_bad ↦
+          let b = bad_came joins steps input r.whole.received c.later r.rest r.place f c.parts r.whole.rest_is length_bad in
+          rested k k' moment gave each input sent p r.pending' r.rest r.place counts (stream_ending f) told r.whole b.0
+          (λ s h timed goes at. faulty _ f s h timed [] (length (joined (bytes_of timed)))
+          (cut input).1 of_stream (goes, refl, subst (λ n. end_fault n (cut input).1 ≡ Some f) at b.1))
+      | inr cut_off ↦
+          let same = all_came input r.whole.received c.later c.parts (c.over cut_off.0.1) in
+          let fault : end_fault r.place (cut input).1 ≡ Some f =
+          subst (λ w. end_fault r.place w ≡ Some f) (r.whole.rest_is ∙ sym (ap (λ (x : List (List ℕ) × List ℕ). x.1) same)) cut_off.2 in
+          rested k k' moment gave each input sent p r.pending' r.rest r.place counts (stream_ending f) told r.whole
+          (ap (λ (x : List (List ℕ) × List ℕ). x.0) same)
+          (λ s h timed goes at. faulty _ f s h timed [] (length (joined (bytes_of timed)))
+          (cut input).1 of_stream (goes, refl, subst (λ n. end_fault n (cut input).1 ≡ Some f) at fault))
+    ]
+replayed joins steps k k' moment gave each input sent p turns (session.ZeroUnique at) counts told e of_stream =
+    let w = e.stopped.worked in
+    halted joins k k' moment gave each input sent p e.pending' e.stopped.received w.front w.others true at counts (ZeroUnique at) told e.stopped.came w.parts
+    w.at w.turned
+    (λ s h timed more goes last place. (goes refl, zero_more w.others more (w.zero refl), place))
+replayed joins steps k k' moment gave each input sent p turns session.Turns counts told e of_stream = absurd (omega (arith, of_stream))
+replayed joins steps k k' moment gave each input sent p turns session.PortFailed counts told e of_stream = absurd (omega (arith, of_stream))
+replayed joins steps k k' moment gave each input sent p turns (session.Store f) counts told e of_stream = absurd (of_store f of_stream)
+replayed joins steps k k' moment gave each input sent p turns session.Memory counts told e of_stream = absurd (omega (arith, of_stream))
+
+-- the same for a port that begins so, and an ending that is told so
+pub session_replayed : CutJoins → CutSteps
+    → {M : Model} (k k' : KeeperState M) (moment : Moment) (gave : List Moment → Type 0)
+    (each : (ts : List Moment) → gave ts → AllByRecursion (λ t. t ≡ moment) ts) (input sent : List ℕ) (q p : PortState) (turns : ℕ) (e : Ended)
+    (counts : SessionCounts) (ending : Ending)
+    → ending ≡ session_ending e → q ≡ fresh (Some input) (Some []) false → p.gone ≡ [] → p.sent ≡ Some sent → EndsAs k k' gave q p [] [] 0 turns e counts
+    → IsOfStream ending
+    → Replayed k k' moment input ending (Sends sent counts)
+session_replayed joins steps k k' moment gave each input sent q p turns e counts ending is start gone told ends of_stream =
+    subst (λ x. Replayed k k' moment input x (Sends sent counts)) (sym is)
+    (replayed joins steps k k' moment gave each input sent p turns e counts (record { gone = gone; sent_is = told })
+    (subst (λ x. EndsAs k k' gave x p [] [] 0 turns e counts) start ends) (subst IsOfStream is of_stream))
+
+-- ---- a fault of the store
+
+faulted : CutJoins → {M : Model} (k k' : KeeperState M) (may_fault : Type 0) (moment : Moment) (gave : List Moment → Type 0)
+    (each : (ts : List Moment) → gave ts → AllByRecursion (λ t. t ≡ moment) ts) (input sent : List ℕ) (p : PortState) → (k'.is_clean → k'.is_honest)
+    → Told p sent
+    → SentExactly k k' (λ s g t. k'.is_clean → StandsFor k' s g t × may_fault) gave (fresh (Some input) (Some []) false) p [] []
+    → Faulted k k' moment input (λ answers. sent ≡ joined answers)
+faulted joins k k' may_fault moment gave each input sent p clean_honest told life =
+    let r = life.replied in
+    let c = came input p.coming life.received life.came in
+    let more = (cut ((cut life.received).1 ++ c.later)).0 in
+    let taken = all_taken (Some []) life.marks r.places (sym r.gone ∙ told.gone) r.placed in
+    let sent_so = sent_is p.sent sent (joined (replies life.marks) ++ []) told.sent_is r.sent in
+    record {
+      timed = life.timed;
+      others = life.others ++ more;
+      parts = ap (λ (x : List (List ℕ) × List ℕ). x.0) (cut_came joins input life.received c.later c.parts) ∙ ap (λ ms. ms ++ more) life.front
+          ∙ append_assoc (bytes_of life.timed) life.others more;
+      moments = each_front (λ t. t ≡ moment) (moments_in life.timed) life.moments.0 (each _ life.moments.1);
+      all = λ clean s h t so may.
+          let l = life.exactly (clean_honest clean) s h t so (λ i there. absurd (cc there)) (none_again t (bytes_of life.timed) life.marks taken may) in
+          let g = grown h (kept_in l.worked) in
+          let same : t ++ settled_in false (bytes_of l.worked) life.marks ≡ t =
+          ap (λ (x : List ℕ). t ++ x) (settled_nothing (bytes_of l.worked) life.marks taken) ∙ append-nil t in
+          record {
+            worked = l.worked;
+            unworked = l.unworked;
+            parts = l.parts;
+            works = l.works;
+            stands = subst (StandsFor k' s g) same (l.stands clean).0;
+            gave = sent_so ∙ append-nil (joined (replies life.marks)) ∙ ap joined l.sent;
+          };
+    }
+
+-- status 3 comes by a fault of the store alone
+store_faulted : CutJoins
+    → {M : Model} (k k' : KeeperState M) (moment : Moment) (gave : List Moment → Type 0)
+    (each : (ts : List Moment) → gave ts → AllByRecursion (λ t. t ≡ moment) ts) (input sent : List ℕ) (p : PortState) (e : Ended) → (k'.is_clean → k'.is_honest)
+    → Told p sent
+    → status_of (session_ending e) ≡ 3 → ExactAt k k' gave (fresh (Some input) (Some []) false) p [] [] e
+    → Faulted k k' moment input (λ answers. sent ≡ joined answers)
+store_faulted joins k k' moment gave each input sent p (session.Store f) clean_honest told is life =
+    faulted joins k k' (k.may_answer f) moment gave each input sent p clean_honest told life
+store_faulted joins k k' moment gave each input sent p session.End clean_honest told is life = absurd (omega (arith, is))
+store_faulted joins k k' moment gave each input sent p session.Destroyed clean_honest told is life = absurd (omega (arith, is))
+store_faulted joins k k' moment gave each input sent p session.Turns clean_honest told is life = absurd (omega (arith, is))
+store_faulted joins k k' moment gave each input sent p (session.Frame (frame.Short at len)) clean_honest told is life = absurd (omega (arith, is))
+store_faulted joins k k' moment gave each input sent p (session.Frame (frame.TooLong at len)) clean_honest told is life = absurd (omega (arith, is))
+store_faulted joins k k' moment gave each input sent p (session.Frame (frame.Cut at have need)) clean_honest told is life = absurd (omega (arith, is))
+store_faulted joins k k' moment gave each input sent p (session.Frame frame.Memory) clean_honest told is life = absurd (omega (arith, is))
+store_faulted joins k k' moment gave each input sent p (session.ZeroUnique at) clean_honest told is life = absurd (omega (arith, is))
+store_faulted joins k k' moment gave each input sent p session.PortFailed clean_honest told is life = absurd (omega (arith, is))
+store_faulted joins k k' moment gave each input sent p session.Memory clean_honest told is life = absurd (omega (arith, is))
+
+pub session_faulted : CutJoins
+    → {M : Model} (k k' : KeeperState M) (moment : Moment) (gave : List Moment → Type 0)
+    (each : (ts : List Moment) → gave ts → AllByRecursion (λ t. t ≡ moment) ts) (input sent : List ℕ) (q p : PortState) (e : Ended) (ending : Ending)
+    → (k'.is_clean → k'.is_honest)
+    → ending ≡ session_ending e → q ≡ fresh (Some input) (Some []) false → p.gone ≡ [] → p.sent ≡ Some sent → ExactAt k k' gave q p [] [] e
+    → status_of ending ≡ 3
+    → Faulted k k' moment input (λ answers. sent ≡ joined answers)
+session_faulted joins k k' moment gave each input sent q p e ending clean_honest is start gone told life three =
+    store_faulted joins k k' moment gave each input sent p e clean_honest (record { gone = gone; sent_is = told }) (sym (ap status_of is) ∙ three)
+    (subst (λ x. ExactAt k k' gave x p [] [] e) start life)
+
+-- ---- what is printed of it
+
+begins_answer : (a : List ℕ) → BeginsWithLen a → IsAnswer a
+begins_answer [] b = tt
+begins_answer (x ∷ xs) b = b
+
+answer_begins : LenStandsFirst → (class : Class) (o : Option Said) (unique : ℕ) → ((a : Said) → o ≡ Some a → FitsAnswer a) → IsAnswer (answer_by class o unique)
+answer_begins len Silent o unique fits = tt
+answer_begins len (Bare errno) o unique fits = begins_answer _ (len errno.0 [] unique (omega arith))
+answer_begins len Kept None unique fits = tt
+answer_begins len Kept (Some a) unique fits = begins_answer _ (len a.errno a.body unique (fits a refl).short)
+
+answers_begin : (M : Model) → LenStandsFirst → SaidFits M → (s : M.State) (g : History) (timed : List Timed) → AllByRecursion IsAnswer (answers M s g timed)
+answers_begin M len fits s g [] = tt
+answers_begin M len fits s g (t ∷ timed) = (
+  answer_begins len (class_of t.bytes) (said M s g (message_id t.bytes)) (unique_of t.bytes) (fits s g (message_id t.bytes)),
+  answers_begin M len fits s g timed,
+)
+
+pub printed : {M : Model} → LenStandsFirst → SaidFits M
+    → (k k' : KeeperState M) (moment : Moment) (input sent : List ℕ) (counts : SessionCounts) (ending : Ending) (written written' : Option (List ℕ))
+    → ((answers : List (List ℕ)) → AllByRecursion IsAnswer answers → sent ≡ joined answers → Prints written written' answers counts)
+    → Replayed k k' moment input ending (Sends sent counts) → Replayed k k' moment input ending (Prints written written')
+printed {M} len fits k k' moment input sent counts ending written written' prints r = record {
+  timed = r.timed;
+  others = r.others;
+  parts = r.parts;
+  moments = r.moments;
+  all = λ honest s h t so may.
+      let d = r.all honest s h t so may in
+      let g = grown h (kept_in r.timed) in
+      record {
+        works = d.works;
+        ends = d.ends;
+        stands = d.stands;
+        gave =
+            subst (Prints written written' (answers M s g r.timed)) d.gave.1 (prints (answers M s g r.timed) (answers_begin M len fits s g r.timed) d.gave.0);
+      };
+}
+
+pub fault_printed : {M : Model} → LenStandsFirst → SaidFits M
+    → (k k' : KeeperState M) (moment : Moment) (input sent : List ℕ) (written written' : Option (List ℕ))
+    → ((answers : List (List ℕ)) → AllByRecursion IsAnswer answers → sent ≡ joined answers → PrintsAnswers written written' answers)
+    → Faulted k k' moment input (λ answers. sent ≡ joined answers) → Faulted k k' moment input (PrintsAnswers written written')
+fault_printed {M} len fits k k' moment input sent written written' prints f = record {
+  timed = f.timed;
+  others = f.others;
+  parts = f.parts;
+  moments = f.moments;
+  all = λ clean s h t so may.
+      let d = f.all clean s h t so may in
+      let g = grown h (kept_in d.worked) in
+      record {
+        worked = d.worked;
+        unworked = d.unworked;
+        parts = d.parts;
+        works = d.works;
+        stands = d.stands;
+        gave = prints (answers M s g d.worked) (answers_begin M len fits s g d.worked) d.gave;
+      };
+}

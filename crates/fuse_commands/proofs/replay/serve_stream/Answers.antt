@@ -1,0 +1,37 @@
+use Rattle.std.proofs.Common.{ℕ, List, Some, false, refl, ap, sym, subst, ◌∙◌}
+use Rattle.fuse_session.specs.Clock.{GaveFixed}
+use Rattle.fuse_commands.specs.Endings.{IsOfStream}
+use Rattle.fuse_commands.specs.Replaying.{Replayed, Sends}
+use Rattle.fuse_session.specs.Port.{fresh}
+use Rattle.fuse_session.specs.Stream.{stream_told}
+use Rattle.fuse_commands.proofs.Streams.{session_replayed, session_faulted, counts_told}
+use Rattle.fuse_commands.proofs.replay.serve_stream.Goals as goal
+
+pub returns-clause-replayed : goal.returns-clause-replayed
+returns-clause-replayed g c = λ of_stream input told.
+    let start = c.new-port.ensures ∙ ap (λ o. fresh o (Some c.new.result.items) false) told
+    ∙ ap (λ (x : List ℕ). fresh (Some input) (Some x) false) c.new.ensures.items in
+    let ends = c.serve-served.ensures.ends in
+    let n =
+    counts_told c.serve-served.result.ended ends.counts c.counts_of.result c.serve-served.result.counts (subst IsOfStream c.of_session.ensures of_stream)
+    ends.told_are c.counts_of.ensures in
+    subst
+    (λ m. Replayed (g.K.Keeper.told c.args.keeper.now) (g.K.Keeper.told c.serve-served.new.keeper) c.args.moment input c.of_session.result
+    (Sends c.into_writer.result.items m)) (sym n)
+    (session_replayed c.cut_joins.ensures c.cut_steps.ensures (g.K.Keeper.told c.args.keeper.now)
+    (g.K.Keeper.told c.serve-served.new.keeper) c.args.moment (λ ts. GaveFixed (record { 0 = c.args.moment }) c.serve-served.new.clock ts)
+    (λ ts given. given.each) input c.into_writer.result.items
+    (stream_told (λ r. g.R.Read.remaining r.now) (λ w. Some w.items) c.new-port.result)
+    (stream_told (λ r. g.R.Read.remaining r.now) (λ w. Some w.items) c.serve-served.new.port) _ c.serve-served.result.ended ends.counts c.of_session.result
+    c.of_session.ensures start refl c.into_writer.ensures ends.ends of_stream)
+
+pub returns-clause-faulted : goal.returns-clause-faulted
+returns-clause-faulted g c = λ three input told.
+    let start = c.new-port.ensures ∙ ap (λ o. fresh o (Some c.new.result.items) false) told
+    ∙ ap (λ (x : List ℕ). fresh (Some input) (Some x) false) c.new.ensures.items in
+    session_faulted c.cut_joins.ensures (g.K.Keeper.told c.args.keeper.now)
+    (g.K.Keeper.told c.serve-served.new.keeper) c.args.moment (λ ts. GaveFixed (record { 0 = c.args.moment }) c.serve-served.new.clock ts)
+    (λ ts given. given.each) input c.into_writer.result.items
+    (stream_told (λ r. g.R.Read.remaining r.now) (λ w. Some w.items) c.new-port.result)
+    (stream_told (λ r. g.R.Read.remaining r.now) (λ w. Some w.items) c.serve-served.new.port) c.serve-served.result.ended c.of_session.result
+    (g.met.K.Keeper.sound c.serve-served.new.keeper).clean_is_honest c.of_session.ensures start refl c.into_writer.ensures c.serve-served.ensures.exactly three

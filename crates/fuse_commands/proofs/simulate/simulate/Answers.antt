@@ -1,0 +1,17 @@
+use Rattle.std.proofs.Common.{subst, sym, All}
+use Rattle.fuse_sim.specs.Driving.{IsFit}
+use Rattle.fuse_commands.proofs.Simulations.{all_fit, ran, stopped}
+use Rattle.fuse_commands.proofs.simulate.simulate.Goals as goal
+
+pub run_events-requires-clause-fit : goal.run_events-requires-clause-fit
+run_events-requires-clause-fit g c = subst (All IsFit) (sym c.as_slice-2.ensures.value) (all_fit _ _ c.in_ok-events.ensures.found)
+
+pub returns-clause-ok : goal.returns-clause-ok
+returns-clause-ok g c =
+    ran g.K.Keeper.told c.args.keeper.now c.run_events.new.keeper _ _ _ _ _ _ c.run_events.ensures.ok c.in_ok-script.ensures.ok c.as_slice.ensures.value
+    c.in_ok-events.ensures.found c.as_slice-2.ensures.value
+
+pub returns-clause-store : goal.returns-clause-store
+returns-clause-store g c =
+    stopped g.K.Keeper.told g.K.Keeper.became g.K.Restart.may_refuse c.args.keeper.now c.run_events.new.keeper _ _ _ _ _ _ c.run_events.ensures.store
+    c.in_ok-script.ensures.ok c.as_slice.ensures.value c.in_ok-events.ensures.found c.as_slice-2.ensures.value

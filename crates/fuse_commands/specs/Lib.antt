@@ -1,0 +1,10 @@
+pub mod Reading
+pub mod Scripts
+pub mod Simulating
+pub mod Checking
+pub mod Dumping
+pub mod Messages
+pub mod Endings
+pub mod Printing
+pub mod Replaying
+pub mod Words

@@ -1,0 +1,81 @@
+-- What a replay works off, answers and leaves (own profile).
+use Rattle.std.specs.Prelude.{◌≡◌, ◌⊎◌, ℕ, List, [], ◌++◌, length, Option, Some}
+use Rattle.std.specs.List.{AllByRecursion}
+use Rattle.std.specs.Io.KnownBytes.{Appends}
+use Rattle.fuse_wire.specs.declared.moment.Moment.{Moment}
+use Rattle.fuse_request.specs.declared.framer.FrameFault.{FrameFault}
+use Rattle.fuse_request.specs.declared.framer.FrameFault.TheVariants as frame
+use Rattle.fuse_request.specs.Stream.{cut, joined}
+use Rattle.fuse_request.specs.Framing.{end_fault}
+use Rattle.fuse_keeper.specs.Model.{Model}
+use Rattle.fuse_keeper.specs.History.{History, grown}
+use Rattle.fuse_keeper.specs.KeeperState.{KeeperState, StandsFor}
+use Rattle.fuse_session.specs.declared.counts.SessionCounts.{SessionCounts}
+use Rattle.fuse_session.specs.Worked.{Timed, bytes_of, kept_in, answers, GoesOn, Works, EndsLast, StartsZero, moments_in}
+use Rattle.fuse_session.specs.Settling.{MayCome}
+use Rattle.fuse_session.specs.Counting.{counted}
+use Rattle.fuse_commands.specs.declared.ending.Ending.{Ending}
+use Rattle.fuse_commands.specs.declared.ending.Ending.TheVariants.{Done, Short, TooLong, Cut, ZeroUnique}
+use Rattle.fuse_commands.specs.Printing.{line, answer_lines, count_line}
+
+-- all messages were worked off, and what is behind them at this place has this fault
+abbrev pub EndsFaulty : (M : Model) → M.State → History → List Timed → List (List ℕ) → ℕ → List ℕ → FrameFault → Type 0
+EndsFaulty M s h timed others place rest fault = GoesOn M s h timed × (others ≡ []) × (end_fault place rest ≡ Some fault)
+
+-- why no more messages were worked off: these others are behind them, at this place, and then the rest of the stream
+abbrev pub EndsAt : (M : Model) → Ending → M.State → History → List Timed → List (List ℕ) → ℕ → List ℕ → Type 0
+EndsAt M Done s h timed others place rest = EndsLast M s h timed ⊎ (GoesOn M s h timed × (others ≡ []) × (rest ≡ []))
+EndsAt M (Short at len) s h timed others place rest = EndsFaulty M s h timed others place rest (frame.Short at len)
+EndsAt M (TooLong at len) s h timed others place rest = EndsFaulty M s h timed others place rest (frame.TooLong at len)
+EndsAt M (Cut at have need) s h timed others place rest = EndsFaulty M s h timed others place rest (frame.Cut at have need)
+EndsAt M (ZeroUnique at) s h timed others place rest = GoesOn M s h timed × StartsZero others × (at ≡ place)
+EndsAt M _ s h timed others place rest = ⊥
+
+-- messages were worked off as far as the stream goes, and this is what their answers and counts gave
+pub record Replay (M : Model) (stood : History → Type 0) (s : M.State) (h : History) (timed : List Timed) (others : List (List ℕ)) (rest : List ℕ)
+    (ending : Ending) (Gave : List (List ℕ) → SessionCounts → Type 0) : Type 0 where
+  pub works : Works M s h timed
+  pub ends : EndsAt M ending s h timed others (length (joined (bytes_of timed))) rest
+  pub stands : stood (grown h (kept_in timed))
+  pub gave : Gave (answers M s (grown h (kept_in timed)) timed) (counted h timed)
+
+-- the first messages of the input were worked off, the kept ones at this moment, whatever the keeper stood for and
+-- whatever was settled, where no message comes again
+pub record Replayed {M : Model} (k k' : KeeperState M) (moment : Moment) (input : List ℕ) (ending : Ending)
+    (Gave : List (List ℕ) → SessionCounts → Type 0) : Type 0 where
+  pub timed : List Timed
+  pub others : List (List ℕ)
+  pub parts : (cut input).0 ≡ bytes_of timed ++ others
+  pub moments : AllByRecursion (λ t. t ≡ moment) (moments_in timed)
+  pub all : k'.is_honest → (s : M.State) (h : History) (t : List ℕ) → StandsFor k s h t → AllByRecursion (MayCome t) (bytes_of timed)
+      → Replay M (λ g. StandsFor k' s g t) s h timed others (cut input).1 ending Gave
+
+-- some of these messages were worked off, and this is what their answers gave
+pub record Part (M : Model) (stood : History → Type 0) (s : M.State) (h : History) (timed : List Timed) (Gave : List (List ℕ) → Type 0) : Type 0 where
+  pub worked : List Timed
+  pub unworked : List Timed
+  pub parts : timed ≡ worked ++ unworked
+  pub works : Works M s h worked
+  pub stands : stood (grown h (kept_in worked))
+  pub gave : Gave (answers M s (grown h (kept_in worked)) worked)
+
+-- the store answered a fault: of the first messages of the input some were worked off, the kept ones at this moment
+pub record Faulted {M : Model} (k k' : KeeperState M) (moment : Moment) (input : List ℕ) (Gave : List (List ℕ) → Type 0) : Type 0 where
+  pub timed : List Timed
+  pub others : List (List ℕ)
+  pub parts : (cut input).0 ≡ bytes_of timed ++ others
+  pub moments : AllByRecursion (λ t. t ≡ moment) (moments_in timed)
+  pub all : k'.is_clean → (s : M.State) (h : History) (t : List ℕ) → StandsFor k s h t → AllByRecursion (MayCome t) (bytes_of timed)
+      → Part M (λ g. StandsFor k' s g t) s h timed Gave
+
+-- these answers were sent, and so it was counted
+abbrev pub Sends : List ℕ → SessionCounts → List (List ℕ) → SessionCounts → Type 0
+Sends sent counts answers counts' = (sent ≡ joined answers) × (counts ≡ counts')
+
+-- a line for each answer was written, and then the line of counts
+abbrev pub Prints : Option (List ℕ) → Option (List ℕ) → List (List ℕ) → SessionCounts → Type 0
+Prints written written' answers counts = Appends written written' (answer_lines answers ++ line (count_line counts))
+
+-- a line for each answer was written
+abbrev pub PrintsAnswers : Option (List ℕ) → Option (List ℕ) → List (List ℕ) → Type 0
+PrintsAnswers written written' answers = Appends written written' (answer_lines answers)

@@ -1,0 +1,188 @@
+//! The words of a command line.
+ghost use Rattle.std.specs.Prelude.{◌≡◌, ◌⊎◌, IfOk};
+ghost use Rattle.clap.specs.Values.{kind_of};
+ghost use Rattle.fuse_commands.specs.Words.{input_of};
+
+use clap::error::ErrorKind;
+use clap::{Arg, ArgMatches, Command, Error, value_parser};
+use std::alloc::{AllocError, Global};
+use std::convert::AsStr;
+
+/// The file name that means standard input.
+pub const STANDARD_INPUT: &str = "-";
+
+const DUMP: &str = "dump";
+
+const CHECK: &str = "check";
+
+const REPLAY: &str = "replay";
+
+const SIMULATE: &str = "simulate";
+
+const AT: &str = "at";
+
+const DB: &str = "db";
+
+const FILE: &str = "file";
+
+const STREAM: &str = "stream";
+
+const SCRIPT: &str = "script";
+
+const STREAM_HELP: &str = "The file of the stream, or - for standard input";
+
+/// What the words of a command line ask for.
+#[derive(Clone, Copy, Debug, PartialEq, Eq)]
+pub enum Run<'a> {
+    /// To print a line for each message of a stream.
+    Dump {
+        file: &'a str,
+    },
+    /// To count the messages of a stream.
+    Check {
+        file: &'a str,
+    },
+    /// To serve a recorded stream, each request at the same second, over the store of a file where
+    /// one is named.
+    Replay {
+        db: Option<&'a str>,
+        at: u64,
+        stream: &'a str,
+    },
+    /// To run the events of a script.
+    Simulate {
+        script: &'a str,
+    },
+}
+
+impl<'a> Run<'a> {
+    /// The file of the input, or `STANDARD_INPUT`.
+    pub fn input(&self) -> &'a str
+        ensures { result ≡ input_of self.now }
+    {
+        match *self {
+            Run::Dump { file } | Run::Check { file } => file,
+            Run::Replay { stream, .. } => stream,
+            Run::Simulate { script } => script,
+        }
+    }
+}
+
+// An argument that has to be there.
+fn needed_argument<'a>(
+    alloc: Global,
+    name: &'static str,
+    value: &'static str,
+    help: &'static str,
+) -> Arg<'a> {
+    Arg::new(alloc, name)
+        .value_name(value)
+        .required(true)
+        .help(help)
+}
+
+// A command that looks at the stream of one file.
+fn file_command<'a>(
+    alloc: Global,
+    name: &'static str,
+    about: &'static str,
+) -> Result<Command<'a>, AllocError> {
+    let file = needed_argument(alloc, FILE, "FILE", STREAM_HELP);
+    Command::new(alloc, name).about(about).arg(file)
+}
+
+fn at_argument<'a>(alloc: Global) -> Arg<'a> {
+    needed_argument(
+        alloc,
+        AT,
+        "SECS",
+        "The second at which all requests are served",
+    )
+    .long(AT)
+    .value_parser(value_parser!(u64))
+}
+
+fn db_argument<'a>(alloc: Global) -> Arg<'a> {
+    Arg::new(alloc, DB).long(DB).value_name("FILE").help(
+        "The file of the store, which is made where it is missing or empty",
+    )
+}
+
+fn replay_command<'a>(alloc: Global) -> Result<Command<'a>, AllocError> {
+    Command::new(alloc, REPLAY)
+        .about("Serves a recorded stream over a new store in memory, or over that of a file")
+        .arg(db_argument(alloc))?
+        .arg(at_argument(alloc))?
+        .arg(needed_argument(alloc, STREAM, "STREAM", STREAM_HELP))
+}
+
+fn simulate_command<'a>(alloc: Global) -> Result<Command<'a>, AllocError> {
+    let help = "The file of the script, or - for standard input";
+    Command::new(alloc, SIMULATE)
+        .about("Runs the events of a script over a new store in memory")
+        .arg(needed_argument(alloc, SCRIPT, "SCRIPT", help))
+}
+
+fn program_command<'a>(alloc: Global) -> Result<Command<'a>, AllocError> {
+    Command::new(alloc, "fusekeep")
+        .about("Serves FUSE requests, with recovery by resends")
+        .subcommand_required(true)
+        .subcommand(file_command(alloc, DUMP, "Prints a line for each message of a stream")?)?
+        .subcommand(file_command(alloc, CHECK, "Counts the messages of a stream")?)?
+        .subcommand(replay_command(alloc)?)?
+        .subcommand(simulate_command(alloc)?)
+}
+
+fn replay_run<'a>(found: &ArgMatches<'a>) -> Option<Run<'a>> {
+    let db = found.get_str(DB);
+    let at = found.get_one::<u64>(AT)?;
+    let stream = found.get_str(STREAM)?;
+    Some(Run::Replay { db, at, stream })
+}
+
+fn run_of<'a>(matches: &ArgMatches<'a>) -> Option<Run<'a>> {
+    match matches.subcommand()? {
+        (DUMP, found) => Some(Run::Dump {
+            file: found.get_str(FILE)?,
+        }),
+        (CHECK, found) => Some(Run::Check {
+            file: found.get_str(FILE)?,
+        }),
+        (REPLAY, found) => replay_run(found),
+        (SIMULATE, found) => Some(Run::Simulate {
+            script: found.get_str(SCRIPT)?,
+        }),
+        _ => None,
+    }
+}
+
+// A mistake that the program tells itself, with the usage.
+fn told(alloc: Global, kind: ErrorKind, text: &str) -> Result<Error, AllocError>
+    ensures { IfOk result (λ e. kind_of e ≡ kind) }
+{
+    program_command(alloc)?.error(kind, text)
+}
+
+/// Reads the words of a command line, of which the first is the program's name. An `Err` is what is
+/// to be said of them: a mistake, the help that was asked for, or want of memory.
+pub fn parse<'a, S: AsStr>(alloc: Global, words: &'a [S]) -> Result<Run<'a>, Error> {
+    let matches = program_command(alloc)?.try_get_matches_from(words)?;
+    match run_of(&matches) {
+        Some(run) => Ok(run),
+        None => Err(told(
+            alloc,
+            ErrorKind::MissingRequiredArgument,
+            "a word is missing",
+        )?),
+    }
+}
+
+/// What is to be said of words that are no text.
+pub fn unreadable(alloc: Global) -> Error
+    ensures { (kind_of result ≡ ErrorKind.InvalidValue) ⊎ (kind_of result ≡ ErrorKind.OutOfMemory) }
+{
+    match told(alloc, ErrorKind::InvalidValue, "a word is no text") {
+        Ok(error) => error,
+        Err(refused) => Error::from(refused),
+    }
+}

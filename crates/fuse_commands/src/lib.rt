@@ -1,0 +1,22 @@
+//! The commands of `fusekeep` over any reader, writer and keeper: what each prints, and how it
+//! ends.
+#![tactic(auto)]
+
+mod arguments;
+mod check;
+mod count_line;
+mod dump;
+mod ending;
+mod messages;
+mod printing;
+mod reading;
+mod replay;
+mod script;
+mod simulate;
+
+pub use arguments::{Run, STANDARD_INPUT, parse, unreadable};
+pub use check::run_check;
+pub use dump::run_dump;
+pub use ending::{Ending, FaultLine};
+pub use replay::run_replay;
+pub use simulate::{START, run_simulate};

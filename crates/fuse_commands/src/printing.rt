@@ -1,0 +1,87 @@
+ghost use Rattle.std.specs.Prelude.{◌≡◌, ◌⊎◌, ◌<◌, ◌≤◌, ◌++◌, ℕ, List, length, IfErr, OnOk};
+ghost use Rattle.std.specs.List.{AllByRecursion};
+ghost use Rattle.std.specs.Io.KnownBytes.{Appends};
+ghost use Rattle.hex.specs.Hex.{encode_lower};
+ghost use Rattle.fuse_request.specs.Stream.{joined};
+ghost use Rattle.fuse_answer.specs.Laws.{BeginsWithLen};
+ghost use Rattle.fuse_commands.specs.Printing.{line, answer_lines, IsAnswer, count_line};
+ghost use Rattle.fuse_commands.specs.Printing.{store_line};
+
+use crate::count_line::{CountLine, StoreLine};
+use crate::ending::Ending;
+use fuse_keeper::StoreCounts;
+use fuse_session::SessionCounts;
+use fuse_wire::{Fields, one_number};
+use std::alloc::Global;
+use std::io::Write;
+
+// The length of the answer at the front: what its `len` says, and all where that can't be.
+fn front_len(sent: &[u8]) -> usize
+    requires { 0 < length sent.now }
+    ensures some { 0 < result }
+    ensures there { result ≤ length sent.now }
+    ensures first { (answer others : List ℕ) → BeginsWithLen answer → sent.now ≡ answer ++ others
+        → result ≡ length answer }
+{
+    one_number();
+    match Fields::new(sent).u32() {
+        Some(len) => (len as usize).clamp(1, sent.len()),
+        None => sent.len(),
+    }
+}
+
+/// Writes one answer in hexadecimal, on a line of its own.
+pub(crate) fn write_hex_line<W: Write>(
+    alloc: Global,
+    writer: &mut W,
+    answer: &[u8],
+) -> Result<(), Ending>
+    ensures ok { OnOk result (Appends (W.contents writer.old) (W.contents writer.new)
+        (line (encode_lower answer.now))) }
+    ensures err { IfErr result (λ ending. (ending ≡ Ending.PortFailed) ⊎ (ending ≡ Ending.Memory)) }
+{
+    let text = hex::encode(alloc, answer)?;
+    writeln!(writer, "{text}")?;
+    Ok(())
+}
+
+/// Writes the answers, which follow one another in `sent`, in hexadecimal, each on a line of its
+/// own.
+pub(crate) fn write_answers<W: Write>(
+    alloc: Global,
+    writer: &mut W,
+    sent: &[u8],
+) -> Result<(), Ending>
+    ensures ok { OnOk result ((answers : List (List ℕ)) → AllByRecursion IsAnswer answers
+        → sent.now ≡ joined answers
+        → Appends (W.contents writer.old) (W.contents writer.new) (answer_lines answers)) }
+    ensures err { IfErr result (λ ending. (ending ≡ Ending.PortFailed) ⊎ (ending ≡ Ending.Memory)) }
+{
+    let mut rest = sent;
+    while !rest.is_empty() {
+        let (answer, others) = rest.split_at(front_len(rest));
+        write_hex_line(alloc, writer, answer)?;
+        rest = others;
+    }
+    Ok(())
+}
+
+/// Writes the line of counts.
+pub(crate) fn write_counts<W: Write>(writer: &mut W, counts: SessionCounts) -> Result<(), Ending>
+    ensures ok { OnOk result (Appends (W.contents writer.old) (W.contents writer.new)
+        (line (count_line counts))) }
+    ensures err { IfErr result (λ ending. ending ≡ Ending.PortFailed) }
+{
+    writeln!(writer, "{}", CountLine(counts))?;
+    Ok(())
+}
+
+/// Writes the line of what a store holds.
+pub(crate) fn write_store<W: Write>(writer: &mut W, counts: StoreCounts) -> Result<(), Ending>
+    ensures ok { OnOk result (Appends (W.contents writer.old) (W.contents writer.new)
+        (line (store_line counts.nodes counts.handles))) }
+    ensures err { IfErr result (λ ending. ending ≡ Ending.PortFailed) }
+{
+    writeln!(writer, "{}", StoreLine(counts))?;
+    Ok(())
+}

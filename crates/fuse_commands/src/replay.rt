@@ -1,0 +1,118 @@
+ghost use Rattle.std.specs.Prelude.{◌≡◌, ◌≢◌, ◌⊎◌, ◌≤◌, ℕ, true, false, List, Some, IfSome, IfErr};
+ghost use Rattle.std.specs.Prelude.{OnOk};
+ghost use Rattle.std.specs.List.{AllByRecursion};
+ghost use Rattle.fuse_request.specs.Stream.{joined};
+ghost use Rattle.fuse_commands.specs.Endings.{status_of, IsOfStream};
+ghost use Rattle.fuse_commands.specs.Printing.{IsAnswer};
+ghost use Rattle.fuse_commands.specs.Replaying.{Replayed, Faulted, Sends, Prints, PrintsAnswers};
+
+use crate::ending::Ending;
+use crate::printing::{write_answers, write_counts};
+use crate::reading::MAX_READS;
+use fuse_answer::len_stands_first;
+use fuse_keeper::{Keeper, said_fits};
+use fuse_request::{cut_joins, cut_steps};
+use fuse_session::{Fixed, SessionCounts, StreamPort, serve};
+use fuse_wire::Moment;
+use std::alloc::Global;
+use std::io::{Read, Write};
+
+// What was sent, how it was counted, and how it ended.
+#[derive(Drop)]
+struct Session {
+    sent: Vec<u8>,
+    counts: SessionCounts,
+    ending: Ending,
+}
+
+// The counts, where they are told.
+fn counts_of(told: Option<SessionCounts>) -> SessionCounts
+    ensures { IfSome told (λ counts. result ≡ counts) }
+{
+    match told {
+        Some(counts) => counts,
+        None => SessionCounts::NONE,
+    }
+}
+
+// Serves the stream that the reader gives, all at one moment.
+fn serve_stream<K: Keeper, R: Read>(
+    alloc: Global,
+    keeper: &mut K,
+    reader: &mut R,
+    moment: Moment,
+) -> Session
+    requires going { (K.told keeper.old).has_failed ≡ false }
+    ensures replayed { IsOfStream result.ending → (input : List ℕ)
+        → R.remaining reader.old ≡ Some input
+        → Replayed (K.told keeper.old) (K.told keeper.new) moment input result.ending
+        (Sends result.sent.items result.counts) }
+    ensures faulted { status_of result.ending ≡ 3 → (input : List ℕ)
+        → R.remaining reader.old ≡ Some input
+        → Faulted (K.told keeper.old) (K.told keeper.new) moment input
+        (λ answers. result.sent.items ≡ joined answers) }
+    ensures store { status_of result.ending ≡ 3 → (K.told keeper.new).has_failed ≡ true }
+    ensures failed { (K.told keeper.new).has_failed ≡ true → 3 ≤ status_of result.ending }
+    ensures usage { status_of result.ending ≢ 2 }
+{
+    cut_joins();
+    cut_steps();
+    let mut port = StreamPort::new(reader, Vec::new(alloc), false);
+    let served = serve(alloc, keeper, &mut port, &mut Fixed(moment), MAX_READS);
+    Session {
+        sent: port.into_writer(),
+        counts: counts_of(served.counts),
+        ending: Ending::of_session(served.ended),
+    }
+}
+
+// Prints the answers, and the counts where the stream was served as far as it goes.
+fn print_session<W: Write>(alloc: Global, writer: &mut W, session: &Session) -> Result<(), Ending>
+    ensures fault { (IsOfStream session.now.ending → ⊥) → OnOk result ((answers : List (List ℕ))
+        → AllByRecursion IsAnswer answers → session.now.sent.items ≡ joined answers
+        → PrintsAnswers (W.contents writer.old) (W.contents writer.new) answers) }
+    ensures ok { IsOfStream session.now.ending → OnOk result ((answers : List (List ℕ))
+        → AllByRecursion IsAnswer answers → session.now.sent.items ≡ joined answers
+        → Prints (W.contents writer.old) (W.contents writer.new) answers session.now.counts) }
+    ensures err { IfErr result (λ ending. (ending ≡ Ending.PortFailed) ⊎ (ending ≡ Ending.Memory)) }
+{
+    write_answers(alloc, writer, session.sent.as_slice())?;
+    if session.ending.is_of_stream() {
+        write_counts(writer, session.counts)?;
+    }
+    writer.flush()?;
+    Ok(())
+}
+
+/// Serves the stream that the reader gives, all at one moment, and then prints the answers and,
+/// where it was served as far as it goes, the counts.
+pub fn run_replay<K: Keeper, R: Read + Drop, W: Write>(
+    alloc: Global,
+    keeper: &mut K,
+    mut reader: R,
+    writer: &mut W,
+    moment: Moment,
+) -> Ending
+    requires going { (K.told keeper.old).has_failed ≡ false }
+    // At status 0 or 1: what was worked off of the input, what is printed of it, and what the
+    // keeper then stands for.
+    ensures replayed { IsOfStream result → (input : List ℕ) → R.remaining reader ≡ Some input
+        → Replayed (K.told keeper.old) (K.told keeper.new) moment input result
+        (Prints (W.contents writer.old) (W.contents writer.new)) }
+
+    // At a fault of the store the answers before it are printed, and no counts.
+    ensures faulted { status_of result ≡ 3 → (input : List ℕ) → R.remaining reader ≡ Some input
+        → Faulted (K.told keeper.old) (K.told keeper.new) moment input
+        (PrintsAnswers (W.contents writer.old) (W.contents writer.new)) }
+    ensures store { status_of result ≡ 3 → (K.told keeper.new).has_failed ≡ true }
+    ensures failed { (K.told keeper.new).has_failed ≡ true → 3 ≤ status_of result }
+    ensures usage { status_of result ≢ 2 }
+{
+    len_stands_first();
+    said_fits::<K>();
+    let session = serve_stream(alloc, keeper, &mut reader, moment);
+    match print_session(alloc, writer, &session) {
+        Ok(()) => session.ending,
+        Err(ending) => ending,
+    }
+}

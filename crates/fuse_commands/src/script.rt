@@ -1,0 +1,199 @@
+//! Scripts: the events that the lines of a text tell.
+ghost use Rattle.std.specs.Prelude.{◌≡◌, ◌⊎◌, ◌≤◌, ◌<◌, ◌+◌, ◌*◌, ◌^◌, ◌++◌, ◌∷◌, [], ℕ, List};
+ghost use Rattle.std.specs.Prelude.{None, IsTrue, ◌↔◌, IfSome, IsSomeAnd, OnOk, IfOk};
+ghost use Rattle.std.specs.Prelude.{IfErr, MatchOption};
+ghost use Rattle.std.specs.Char.{digit_value};
+ghost use Rattle.fuse_sim.specs.declared.event.Event.{Event as EventValue};
+ghost use Rattle.fuse_sim.specs.declared.event.Fate.{Fate as FateValue};
+ghost use Rattle.fuse_commands.specs.Scripts.{lines_of, parts_in, word_of, Lacks, IsSeconds};
+ghost use Rattle.fuse_commands.specs.Scripts.{HasParts, IsHexOf, Writes, TellsNothing, Tells};
+ghost use Rattle.fuse_commands.specs.Scripts.{TookLine, IsBad, FirstBad};
+
+use crate::ending::Ending;
+use fuse_request::{has_zero_unique, is_message};
+use fuse_sim::{Event, Fate};
+use fuse_wire::{ByteList, Moment};
+use hex::FromHexError;
+use std::alloc::{AllocError, Global};
+
+// Why a line gives no event.
+#[derive(Clone, Copy, Debug, PartialEq, Eq)]
+enum LineFault {
+    // It has another form.
+    Form,
+    Memory,
+}
+
+// What stands before the first of these bytes, and what stands behind it.
+fn split_at(text: &[u8], byte: u8) -> Option<(&[u8], &[u8])>
+    ensures some { IfSome result (λ parts. (text.now ≡ parts.0.now ++ byte ∷ parts.1.now)
+        × Lacks byte parts.0.now) }
+    ensures none { result ≡ None → Lacks byte text.now }
+{
+    let place = text.iter().position(|b| *b == byte)?;
+    Some((&text[..place], &text[place + 1..]))
+}
+
+// The fate of a word.
+fn fate_of(word: &[u8]) -> Option<Fate>
+    ensures found { IfSome result (λ fate. word.now ≡ word_of fate) }
+    ensures only { (fate : FateValue) → word.now ≡ word_of fate → result ≡ Some fate }
+{
+    match word {
+        b"answered" => Some(Fate::Answered),
+        b"lost" => Some(Fate::AnswerLost),
+        b"before" => Some(Fate::DiedBeforeCommit),
+        b"after" => Some(Fate::DiedAfterCommit),
+        _ => None,
+    }
+}
+
+// The value of a decimal digit.
+fn digit_of(b: u8) -> Option<u64>
+    ensures found { IfSome result (λ digit. (digit ≡ digit_value b) × (digit < 10)) }
+    ensures none { result ≡ None → 10 ≤ digit_value b }
+{
+    if b.is_ascii_digit() {
+        Some((b - b'0') as u64)
+    } else {
+        None
+    }
+}
+
+// The number that one digit more writes, where it fits.
+fn with_digit(number: u64, digit: u64) -> Option<u64>
+    requires { digit < 10 }
+    ensures found { IfSome result (λ more. (more ≡ number * 10 + digit) × (more < 2 ^ 64)) }
+    ensures none { result ≡ None → 2 ^ 64 ≤ number * 10 + digit }
+{
+    number.checked_mul(10)?.checked_add(digit)
+}
+
+// The number that decimal digits write, where it fits.
+fn seconds_of(text: &[u8]) -> Option<u64>
+    ensures found { IfSome result (λ secs. IsSeconds text.now secs) }
+    ensures only { (secs : ℕ) → IsSeconds text.now secs → result ≡ Some secs }
+{
+    if text.is_empty() {
+        return None;
+    }
+    let mut secs: u64 = 0;
+    for b in text {
+        secs = with_digit(secs, digit_of(*b)?)?;
+    }
+    Some(secs)
+}
+
+// The fate, the seconds and the text of a line.
+fn parts_of(line: &[u8]) -> Option<(Fate, u64, &[u8])>
+    ensures found { IfSome result (λ parts. HasParts line.now parts.0 parts.1 parts.2.now) }
+    ensures only { (fate : FateValue) (secs : ℕ) (text : List ℕ) → HasParts line.now fate secs text
+        → IsSomeAnd result (λ parts. (parts.0 ≡ fate) × (parts.1 ≡ secs) × (parts.2.now ≡ text)) }
+{
+    let (word, rest) = split_at(line, b' ')?;
+    let (digits, text) = split_at(rest, b' ')?;
+    Some((fate_of(word)?, seconds_of(digits)?, text))
+}
+
+// The message that a text has in hexadecimal, where it is just one and can be answered.
+fn message_of(alloc: Global, text: &[u8]) -> Result<ByteList, LineFault>
+    ensures found { IfOk result (λ m. IsHexOf text.now m) }
+    ensures form { IfErr result (λ fault. fault ≡ LineFault.Form
+        → (m : List ℕ) → ¬ IsHexOf text.now m) }
+{
+    let bytes = match hex::decode(alloc, text) {
+        Ok(bytes) => bytes,
+        Err(FromHexError::OutOfMemory) => return Err(LineFault::Memory),
+        Err(_) => return Err(LineFault::Form),
+    };
+    if !is_message(&bytes) || has_zero_unique(&bytes) {
+        return Err(LineFault::Form);
+    }
+    Ok(ByteList::from_vec(bytes))
+}
+
+// The event that a line writes.
+fn event_of(alloc: Global, line: &[u8]) -> Result<Event, LineFault>
+    ensures found { IfOk result (λ e. Writes line.now e) }
+    ensures form { IfErr result (λ fault. fault ≡ LineFault.Form
+        → (e : EventValue) → ¬ Writes line.now e) }
+{
+    let Some((fate, secs, text)) = parts_of(line) else {
+        return Err(LineFault::Form);
+    };
+    Ok(Event {
+        bytes: message_of(alloc, text)?,
+        moment: Moment { secs, nanos: 0 },
+        fate,
+    })
+}
+
+// Whether a line is passed over.
+fn tells_nothing(line: &[u8]) -> bool
+    ensures { IsTrue result ↔ TellsNothing line.now }
+{
+    match line {
+        [] => true,
+        [first, ..] => *first == b'#',
+    }
+}
+
+// The event that a line writes, where it isn't passed over.
+fn read_line(alloc: Global, line: &[u8]) -> Result<Option<Event>, LineFault>
+    ensures found { IfOk result (λ event. MatchOption event (TellsNothing line.now)
+        (λ e. Writes line.now e)) }
+    ensures form { IfErr result (λ fault. fault ≡ LineFault.Form → IsBad line.now) }
+{
+    if tells_nothing(line) {
+        return Ok(None);
+    }
+    Ok(Some(event_of(alloc, line)?))
+}
+
+// Reads a line, and puts its event behind those of the lines before it.
+fn take_line(alloc: Global, line: &[u8], events: &mut Vec<Event>) -> Result<(), LineFault>
+    ensures took { OnOk result (TookLine line.now events.old.items events.new.items) }
+    ensures form { IfErr result (λ fault. fault ≡ LineFault.Form → IsBad line.now) }
+{
+    if let Some(event) = read_line(alloc, line)? {
+        events.push(event).map_err(|_| LineFault::Memory)?;
+    }
+    Ok(())
+}
+
+// The lines of a script.
+fn split_lines(alloc: Global, script: &[u8]) -> Result<Vec<&[u8]>, AllocError>
+    ensures { IfOk result (λ lines. parts_in lines.items ≡ lines_of script.now) }
+{
+    let mut lines = Vec::new(alloc);
+    let mut rest = script;
+    while let Some((line, behind)) = split_at(rest, b'\n') {
+        lines.push(line)?;
+        rest = behind;
+    }
+    lines.push(rest)?;
+    Ok(lines)
+}
+
+/// The events that the lines of a script tell. An `Err` is its first line of no right form, or want
+/// of memory.
+pub(crate) fn read_script(alloc: Global, script: &[u8]) -> Result<Vec<Event>, Ending>
+    ensures found { IfOk result (λ events. Tells (lines_of script.now) events.items) }
+    ensures bad { IfErr result (λ ending. (ending ≡ Ending.Memory)
+        ⊎ ((n : ℕ) × (ending ≡ Ending.ScriptLine n) × FirstBad 1 (lines_of script.now) n)) }
+{
+    let lines = split_lines(alloc, script)?;
+    let mut events = Vec::new(alloc);
+    for (index, line) in lines.iter().enumerate() {
+        match take_line(alloc, line, &mut events) {
+            Ok(()) => {}
+            Err(LineFault::Form) => {
+                return Err(Ending::ScriptLine {
+                    line: index as u64 + 1,
+                });
+            }
+            Err(LineFault::Memory) => return Err(Ending::Memory),
+        }
+    }
+    Ok(events)
+}

@@ -1,0 +1,154 @@
+//! Running the events of a script.
+ghost use Rattle.std.specs.Prelude.{◌≡◌, ◌≢◌, ◌≤◌, ◌++◌, [], false, map, All, IsSomeAnd};
+ghost use Rattle.std.specs.Prelude.{IfSome, IfOk, IfErr, OnOk};
+ghost use Rattle.std.specs.Io.KnownBytes.{Appends};
+ghost use Rattle.fuse_sim.specs.Driving.{told_in, StandsIn, NoneReused, IsFit, bytes_given};
+ghost use Rattle.fuse_commands.specs.Endings.{status_of, GaveOut};
+ghost use Rattle.fuse_commands.specs.Printing.{line, store_line};
+ghost use Rattle.fuse_commands.specs.Simulating.{Went, StoreEnded, RanScript, NotRun, Simulated};
+ghost use Rattle.fuse_commands.specs.Simulating.{outcome_line, outcome_lines, StoppedIn};
+
+use crate::ending::Ending;
+use crate::printing::{write_hex_line, write_store};
+use crate::reading::read_all;
+use crate::script::read_script;
+use fuse_keeper::{Restart, StoreCounts};
+use fuse_sim::{DriveFault, Event, Outcome, drive};
+use fuse_wire::Moment;
+use std::alloc::Global;
+use std::io::{Read, Write};
+
+/// The moment at which a new store is made.
+pub const START: Moment = Moment { secs: 0, nanos: 0 };
+
+// What events were answered, and how much the store holds then.
+#[derive(Drop)]
+struct Simulation {
+    outcomes: Vec<Option<Outcome>>,
+    counts: StoreCounts,
+}
+
+// Runs events over a keeper.
+fn run_events<K: Restart>(
+    alloc: Global,
+    keeper: &mut Option<K>,
+    events: &[Event],
+) -> Result<Simulation, Ending>
+    requires going { IsSomeAnd keeper.old (λ k. (K.told k).has_failed ≡ false) }
+    requires fit { All IsFit events.now }
+    ensures ok { IfOk result (λ simulation. (told_in K.told keeper.new).is_honest
+        → (s : K.model.State) → StandsIn K.told keeper.old s [] [] → NoneReused [] events.now
+        → Went K.told keeper.new s events.now simulation) }
+    ensures left { OnOk result (IsSomeAnd keeper.new (λ k. (K.told k).has_failed ≡ false)) }
+    ensures err { IfErr result (λ ending. 3 ≤ status_of ending) }
+    ensures store { IfErr result (λ ending. status_of ending ≡ 3
+        → (s : K.model.State) → StandsIn K.told keeper.old s [] [] → NoneReused [] events.now
+        → StoreEnded K.told K.became K.may_refuse keeper.old keeper.new ending) }
+{
+    let outcomes = match drive(alloc, keeper, events) {
+        Ok(outcomes) => outcomes,
+        Err(DriveFault::Store { fault, .. }) => return Err(Ending::of(fault)),
+        Err(DriveFault::Memory { .. }) => return Err(Ending::Memory),
+        Err(DriveFault::NotAMessage { .. } | DriveFault::ZeroUnique { .. }) => unreachable!(),
+    };
+    let Some(keeper) = keeper else {
+        unreachable!();
+    };
+    match keeper.counts() {
+        Ok(counts) => Ok(Simulation { outcomes, counts }),
+        Err(fault) => Err(Ending::of(fault)),
+    }
+}
+
+// Prints what the kernel takes for an event.
+fn write_outcome<W: Write>(
+    alloc: Global,
+    writer: &mut W,
+    outcome: &Option<Outcome>,
+) -> Result<(), Ending>
+    ensures ok { OnOk result (Appends (W.contents writer.old) (W.contents writer.new)
+        (outcome_line (bytes_given outcome.now))) }
+    ensures err { IfErr result GaveOut }
+{
+    let Some(outcome) = outcome else {
+        writeln!(writer, "-")?;
+        return Ok(());
+    };
+    let mut answer = Vec::new(alloc);
+    answer.extend_from_slice(&outcome.head)?;
+    answer.extend_from_slice(outcome.body.as_slice())?;
+    write_hex_line(alloc, writer, answer.as_slice())
+}
+
+// Prints a line for each event, and then one for what the store holds.
+fn print_simulation<W: Write>(
+    alloc: Global,
+    writer: &mut W,
+    simulation: &Simulation,
+) -> Result<(), Ending>
+    ensures ok { OnOk result (Appends (W.contents writer.old) (W.contents writer.new)
+        (outcome_lines (map bytes_given simulation.now.outcomes.items)
+        ++ line (store_line simulation.now.counts.nodes simulation.now.counts.handles))) }
+    ensures err { IfErr result GaveOut }
+{
+    for outcome in simulation.outcomes.as_slice() {
+        write_outcome(alloc, writer, outcome)?;
+    }
+    write_store(writer, simulation.counts)?;
+    writer.flush()?;
+    Ok(())
+}
+
+// Reads a script, and runs its events over a keeper.
+fn simulate<K: Restart, R: Read + Drop>(
+    alloc: Global,
+    keeper: &mut Option<K>,
+    reader: R,
+) -> Result<Simulation, Ending>
+    requires going { IsSomeAnd keeper.old (λ k. (K.told k).has_failed ≡ false) }
+    ensures ok { IfOk result (λ simulation. IfSome (R.remaining reader)
+        (λ script. RanScript K.told keeper.old keeper.new script simulation)) }
+    ensures left { OnOk result (IsSomeAnd keeper.new (λ k. (K.told k).has_failed ≡ false)) }
+    ensures not_run { IfErr result (λ ending. status_of ending ≤ 1 → keeper.new ≡ keeper.old) }
+    ensures bad { IfErr result (λ ending. IfSome (R.remaining reader) (λ script.
+        status_of ending ≤ 1 → NotRun script ending)) }
+    ensures usage { IfErr result (λ ending. status_of ending ≢ 2) }
+    ensures store { IfErr result (λ ending. IfSome (R.remaining reader) (λ script.
+        status_of ending ≡ 3
+        → StoppedIn K.told K.became K.may_refuse keeper.old keeper.new script ending)) }
+{
+    let script = read_all(alloc, reader)?;
+    let events = read_script(alloc, script.as_slice())?;
+    run_events(alloc, keeper, events.as_slice())
+}
+
+/// Runs the events of a script over a keeper, and then prints a line for each event and one for
+/// what the store holds. A script of which a line has no right form isn't run.
+pub fn run_simulate<K: Restart, R: Read + Drop, W: Write>(
+    alloc: Global,
+    keeper: &mut Option<K>,
+    reader: R,
+    writer: &mut W,
+) -> Ending
+    requires going { IsSomeAnd keeper.old (λ k. (K.told k).has_failed ≡ false) }
+    // At status 0: what is printed, and what the keeper then stands for; at 1 nothing was done.
+    ensures simulated { IfSome (R.remaining reader) (λ script. status_of result ≤ 1
+        → Simulated K.told keeper.old keeper.new (W.contents writer.old) (W.contents writer.new)
+        script result) }
+    ensures left { status_of result ≤ 1
+        → IsSomeAnd keeper.new (λ k. (K.told k).has_failed ≡ false) }
+    ensures usage { status_of result ≢ 2 }
+    // A fault of the store is one that a keeper answered on the way, or with which it refused to
+    // be opened again.
+    ensures store { IfSome (R.remaining reader) (λ script. status_of result ≡ 3
+        → StoppedIn K.told K.became K.may_refuse keeper.old keeper.new script result) }
+{
+    let simulation = match simulate(alloc, keeper, reader) {
+        Ok(simulation) => simulation,
+        Err(ending) => return ending,
+    };
+    match print_simulation(alloc, writer, &simulation) {
+        Ok(()) => Ending::Done,
+        Err(ending) => ending,
+    }
+}

@@ -1,6 +1,0 @@
-use Rattle.std.proofs.Common.{take}
-use Rattle.fusekeep.specs.Scripts.{Tells, parts_in}
-use Rattle.fusekeep.proofs.script.read_script.Given as goal
-
-abbrev pub invariant-loop-index : goal.invariant-loop-index
-invariant-loop-index l = Tells (take l.index (parts_in l.line-items)) l.events.items

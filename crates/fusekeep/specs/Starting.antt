@@ -1,0 +1,5 @@
+-- What a run in memory begins at.
+use Rattle.fuse_tree.specs.State.{State, new_store}
+
+abbrev pub start : State
+start = new_store (record { secs = 0; nanos = 0 })
