@@ -8,7 +8,7 @@ use Rattle.fuse_session.specs.declared.ended.Ended.{Ended}
 use Rattle.fuse_session.specs.declared.ended.Ended.TheVariants as session
 use Rattle.fuse_commands.specs.declared.ending.Ending.{Ending}
 use Rattle.fuse_commands.specs.declared.ending.Ending.TheVariants.{Done, Short, TooLong, Cut, ZeroUnique, Malformed, ScriptLine, Usage, Sql, NotAStore, Version}
-use Rattle.fuse_commands.specs.declared.ending.Ending.TheVariants.{Damaged, PortFailed, PortTurns, Memory}
+use Rattle.fuse_commands.specs.declared.ending.Ending.TheVariants.{Modes, Damaged, NotOffered, PortFailed, PortTurns, Memory}
 
 abbrev pub status_of : Ending → ℕ
 status_of Done = 0
@@ -19,10 +19,12 @@ status_of (ZeroUnique _) = 1
 status_of Malformed = 1
 status_of (ScriptLine _) = 1
 status_of Usage = 2
+status_of Modes = 2
 status_of Sql = 3
 status_of NotAStore = 3
 status_of (Version _) = 3
 status_of Damaged = 3
+status_of NotOffered = 3
 status_of PortFailed = 4
 status_of PortTurns = 4
 status_of Memory = 5
@@ -46,10 +48,12 @@ line_of (ZeroUnique at) = Some (codes "stream: ZeroUnique at " ++ decimal at)
 line_of Malformed = None
 line_of (ScriptLine line) = Some (codes "script: line " ++ decimal line)
 line_of Usage = None
+line_of Modes = Some (codes "usage: one of --fresh and --resume")
 line_of Sql = Some (codes "store: Sql")
 line_of NotAStore = Some (codes "store: NotAStore")
 line_of (Version n) = Some (codes "store: Version(" ++ (decimal n ++ codes ")"))
 line_of Damaged = Some (codes "store: Damaged")
+line_of NotOffered = Some (codes "resume: NotOffered")
 line_of PortFailed = Some (codes "port: failed")
 line_of PortTurns = Some (codes "port: turns")
 line_of Memory = Some (codes "memory")

@@ -7,4 +7,5 @@ pub mod Messages
 pub mod Endings
 pub mod Printing
 pub mod Replaying
+pub mod ServingRuns
 pub mod Words

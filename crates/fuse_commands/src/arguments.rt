@@ -4,7 +4,7 @@ ghost use Rattle.clap.specs.Values.{kind_of};
 ghost use Rattle.fuse_commands.specs.Words.{input_of};
 
 use clap::error::ErrorKind;
-use clap::{Arg, ArgMatches, Command, Error, value_parser};
+use clap::{Arg, ArgAction, ArgMatches, Command, Error, value_parser};
 use std::alloc::{AllocError, Global};
 use std::convert::AsStr;
 
@@ -17,11 +17,17 @@ const CHECK: &str = "check";
 
 const REPLAY: &str = "replay";
 
+const SERVE: &str = "serve";
+
 const SIMULATE: &str = "simulate";
 
 const AT: &str = "at";
 
 const DB: &str = "db";
+
+const FRESH: &str = "fresh";
+
+const RESUME: &str = "resume";
 
 const FILE: &str = "file";
 
@@ -49,6 +55,14 @@ pub enum Run<'a> {
         at: u64,
         stream: &'a str,
     },
+    /// To serve requests as they come, over the store of a file: for a mount that begins, or for one
+    /// that goes on. Without a second the machine's clock is asked.
+    Serve {
+        db: &'a str,
+        fresh: bool,
+        resume: bool,
+        at: Option<u64>,
+    },
     /// To run the events of a script.
     Simulate {
         script: &'a str,
@@ -58,11 +72,12 @@ pub enum Run<'a> {
 impl<'a> Run<'a> {
     /// The file of the input, or `STANDARD_INPUT`.
     pub fn input(&self) -> &'a str
-        ensures { result ≡ input_of self.now }
+        ensures { result.now ≡ input_of self.now }
     {
         match *self {
             Run::Dump { file } | Run::Check { file } => file,
             Run::Replay { stream, .. } => stream,
+            Run::Serve { .. } => STANDARD_INPUT,
             Run::Simulate { script } => script,
         }
     }
@@ -116,6 +131,26 @@ fn replay_command<'a>(alloc: Global) -> Result<Command<'a>, AllocError> {
         .arg(needed_argument(alloc, STREAM, "STREAM", STREAM_HELP))
 }
 
+// A word that may be there.
+fn flag<'a>(alloc: Global, name: &'static str, help: &'static str) -> Arg<'a> {
+    Arg::new(alloc, name)
+        .long(name)
+        .action(ArgAction::SetTrue)
+        .help(help)
+}
+
+fn serve_command<'a>(alloc: Global) -> Result<Command<'a>, AllocError> {
+    let fresh = "Begins a mount, over a new store where the file is missing or empty";
+    let resume = "Goes on with a mount: asks the kernel to send its pending requests again";
+    let db = needed_argument(alloc, DB, "FILE", "The file of the store").long(DB);
+    Command::new(alloc, SERVE)
+        .about("Serves requests from standard input to standard output, as they come")
+        .arg(db)?
+        .arg(flag(alloc, FRESH, fresh))?
+        .arg(flag(alloc, RESUME, resume))?
+        .arg(at_argument(alloc).required(false))
+}
+
 fn simulate_command<'a>(alloc: Global) -> Result<Command<'a>, AllocError> {
     let help = "The file of the script, or - for standard input";
     Command::new(alloc, SIMULATE)
@@ -130,6 +165,7 @@ fn program_command<'a>(alloc: Global) -> Result<Command<'a>, AllocError> {
         .subcommand(file_command(alloc, DUMP, "Prints a line for each message of a stream")?)?
         .subcommand(file_command(alloc, CHECK, "Counts the messages of a stream")?)?
         .subcommand(replay_command(alloc)?)?
+        .subcommand(serve_command(alloc)?)?
         .subcommand(simulate_command(alloc)?)
 }
 
@@ -138,6 +174,15 @@ fn replay_run<'a>(found: &ArgMatches<'a>) -> Option<Run<'a>> {
     let at = found.get_one::<u64>(AT)?;
     let stream = found.get_str(STREAM)?;
     Some(Run::Replay { db, at, stream })
+}
+
+fn serve_run<'a>(found: &ArgMatches<'a>) -> Option<Run<'a>> {
+    Some(Run::Serve {
+        db: found.get_str(DB)?,
+        fresh: found.get_flag(FRESH),
+        resume: found.get_flag(RESUME),
+        at: found.get_one::<u64>(AT),
+    })
 }
 
 fn run_of<'a>(matches: &ArgMatches<'a>) -> Option<Run<'a>> {
@@ -149,6 +194,7 @@ fn run_of<'a>(matches: &ArgMatches<'a>) -> Option<Run<'a>> {
             file: found.get_str(FILE)?,
         }),
         (REPLAY, found) => replay_run(found),
+        (SERVE, found) => serve_run(found),
         (SIMULATE, found) => Some(Run::Simulate {
             script: found.get_str(SCRIPT)?,
         }),

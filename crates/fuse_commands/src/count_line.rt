@@ -4,7 +4,7 @@ use std::fmt;
 
 /// The line that tells how many messages a session worked off, by their class.
 #[derive(Clone, Copy, Debug, PartialEq, Eq)]
-pub(crate) struct CountLine(pub(crate) SessionCounts);
+pub struct CountLine(pub SessionCounts);
 
 impl fmt::Display for CountLine {
     ghost use Rattle.std.specs.Prelude.{Some};

@@ -27,6 +27,8 @@ pub enum Ending {
     ScriptLine { line: u64 },
     /// The words of the command line are no command, or ask for help.
     Usage,
+    /// The words ask to serve, and name neither way to begin, or both.
+    Modes,
     /// The database refused a statement.
     Sql,
     /// The database is no store.
@@ -35,6 +37,8 @@ pub enum Ending {
     Version(u64),
     /// The store doesn't hold what a store holds.
     Damaged,
+    /// By what INIT agreed on, the kernel doesn't know the notice that asks for a resend.
+    NotOffered,
     /// An input can't be read, or an output can't be written.
     PortFailed,
     /// The input goes on past the bound on reads.
@@ -85,7 +89,7 @@ impl Ending {
     }
 
     /// Whether the input was gone through as far as it goes.
-    pub(crate) fn is_of_stream(self) -> bool
+    pub fn is_of_stream(self) -> bool
         ensures { result ≡ nat_le (status_of self) 1 }
     {
         self.status() <= 1
@@ -103,8 +107,12 @@ impl Ending {
             | Ending::ZeroUnique { .. }
             | Ending::Malformed
             | Ending::ScriptLine { .. } => 1,
-            Ending::Usage => 2,
-            Ending::Sql | Ending::NotAStore | Ending::Version(_) | Ending::Damaged => 3,
+            Ending::Usage | Ending::Modes => 2,
+            Ending::Sql
+            | Ending::NotAStore
+            | Ending::Version(_)
+            | Ending::Damaged
+            | Ending::NotOffered => 3,
             Ending::PortFailed | Ending::PortTurns => 4,
             Ending::Memory => 5,
         }
@@ -165,10 +173,12 @@ impl fmt::Display for FaultLine {
             }
             Ending::ZeroUnique { at } => write!(f, "stream: ZeroUnique at {at}"),
             Ending::ScriptLine { line } => write!(f, "script: line {line}"),
+            Ending::Modes => f.write_str("usage: one of --fresh and --resume"),
             Ending::Sql => f.write_str("store: Sql"),
             Ending::NotAStore => f.write_str("store: NotAStore"),
             Ending::Version(version) => write!(f, "store: Version({version})"),
             Ending::Damaged => f.write_str("store: Damaged"),
+            Ending::NotOffered => f.write_str("resume: NotOffered"),
             Ending::PortFailed => f.write_str("port: failed"),
             Ending::PortTurns => f.write_str("port: turns"),
             Ending::Memory => f.write_str("memory"),

@@ -12,11 +12,14 @@ mod printing;
 mod reading;
 mod replay;
 mod script;
+mod serve;
 mod simulate;
 
 pub use arguments::{Run, STANDARD_INPUT, parse, unreadable};
 pub use check::run_check;
+pub use count_line::CountLine;
 pub use dump::run_dump;
 pub use ending::{Ending, FaultLine};
 pub use replay::run_replay;
+pub use serve::{run_serve, serve_port};
 pub use simulate::{START, run_simulate};

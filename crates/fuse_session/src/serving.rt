@@ -239,6 +239,7 @@ pub fn serve<K: Keeper, P: Port, C: Clock>(
 {
     cut_joins();
     histories_grow::<K>();
+    // Each byte is written, so that all its pages are there before a message is copied into them.
     let Ok(mut buffer) = vec![in alloc; 0; MAX_MESSAGE] else {
         return Served {
             ended: Ended::Memory,

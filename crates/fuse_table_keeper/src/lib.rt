@@ -12,4 +12,4 @@ pub use creating::make_for;
 pub use keeper::TableKeeper;
 pub use mounting::begin_mount;
 pub use opening::set_up_for;
-pub use starting::{open_or_create, opening_fault};
+pub use starting::{open_fresh, open_or_create, opening_fault};

@@ -14,13 +14,13 @@ ghost use Rattle.fuse_tables.specs.Saying.{Says};
 ghost use Rattle.fuse_table_look.specs.Store.{records_of};
 ghost use Rattle.fuse_table_look.specs.Holding.{lots_of};
 ghost use Rattle.fuse_table_keeper.specs.Opening.{Stored, StoredFor, WasFor, opened_for};
-ghost use Rattle.fuse_table_keeper.specs.Starting.{IsBlank, LeavesStarted};
+ghost use Rattle.fuse_table_keeper.specs.Starting.{IsBlank, LeavesStarted, BeginsAfter};
 ghost use Rattle.fuse_table_keeper.specs.Storing.{opening_fault};
 ghost use Rattle.fuse_table_keeper.specs.TableKeeper.{keeper_told};
 
 use crate::creating::is_empty;
 use crate::keeper::TableKeeper;
-use fuse_keeper::StoreFault;
+use fuse_keeper::{Keeper, StoreFault};
 use fuse_wire::Moment;
 use sqlite::{Alter, Connection, Error, ErrorCode};
 use std::alloc::Global;
@@ -78,6 +78,37 @@ pub fn open_or_create<S: Alter>(
         TableKeeper::create(alloc, conn, now)
     } else {
         TableKeeper::open(alloc, conn)
+    }
+}
+
+/// The keeper over a database, for a mount that begins. Where nothing was made in it yet, it gets a
+/// new store of this moment; else a mount begins of what is stored there. A fault gives the
+/// connection back.
+pub fn open_fresh<S: Alter + Drop>(
+    alloc: Global,
+    conn: Connection<S>,
+    now: Moment,
+) -> Result<TableKeeper<S>, (StoreFault, Connection<S>)>
+    ensures stands { IfOk result (λ k. (keeper_told S.Store k).is_honest
+        → IsBlank (state S.Store conn) → IsTrue (state S.Store conn).is_open
+        → StandsFor (keeper_told S.Store k) (new_store now) [] []) }
+    ensures begins { IfOk result (λ k. (keeper_told S.Store k).is_honest → (z : Stored)
+        → WasFor z (state S.Store conn) → BeginsAfter z (keeper_told S.Store k)) }
+    ensures firm { IfOk result (λ k. (keeper_told S.Store k).is_honest
+        → IsFirm (keeper_told S.Store k)) }
+    ensures going { IfOk result (λ k. (keeper_told S.Store k).has_failed ≡ false) }
+{
+    let blank = is_blank(&conn);
+    if blank {
+        return TableKeeper::create(alloc, conn, now);
+    }
+    let mut keeper = match TableKeeper::open(alloc, conn) {
+        Ok(keeper) => keeper,
+        Err(refused) => return Err(refused),
+    };
+    match keeper.begin_mount() {
+        Ok(()) => Ok(keeper),
+        Err(fault) => Err((fault, keeper.into_connection())),
     }
 }
 

@@ -14,6 +14,7 @@ use std::alloc::{AllocError, Global};
 
 mod allocations;
 mod clocks;
+mod devices;
 mod moments;
 mod ports;
 mod resuming;

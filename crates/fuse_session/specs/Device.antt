@@ -1,0 +1,48 @@
+-- What the reads and writes of a FUSE device tell, by their error numbers (fuse(4); Linux: fs/fuse/dev.c).
+use Rattle.std.specs.Prelude.{ℕ, ℤ, pos, int_lt, unsigned_abs, ◌||◌, ◌==◌, if◌then◌else◌, Option, Some, None, Result, Ok, Err}
+use Rattle.std.specs.IoError.{raw_os_error}
+use Rattle.std.specs.declared.io.Error.{Error}
+use Rattle.fuse_session.specs.declared.port.Received.{Received}
+use Rattle.fuse_session.specs.declared.port.Received.TheVariants.{Got, End, Failed as ReceiveFailed}
+use Rattle.fuse_session.specs.declared.port.Sent.{Sent}
+use Rattle.fuse_session.specs.declared.port.Sent.TheVariants.{Took, Gone, Failed}
+
+-- error numbers (Linux: asm-generic/errno-base.h)
+abbrev pub enoent : ℕ
+enoent = 2
+
+abbrev pub eintr : ℕ
+eintr = 4
+
+abbrev pub eagain : ℕ
+eagain = 11
+
+abbrev pub enodev : ℕ
+enodev = 19
+
+-- the number with which the system refused; 0, which is none, where it wasn't the system that did
+abbrev pub number_in : Option ℤ → ℕ
+number_in None = 0
+number_in (Some code) = if int_lt code (pos 0) then 0 else unsigned_abs code
+
+abbrev pub os_number : Error → ℕ
+os_number e = number_in (raw_os_error e)
+
+-- a read refused with a number: the file system is unmounted; or no request came, since it had ended before it was read,
+-- a signal came first, or none waits; or it failed
+abbrev pub read_refused : ℕ → Received
+read_refused n = if n == enodev then End else (if (n == enoent || n == eintr) || n == eagain then Got 0 else ReceiveFailed)
+
+-- a write refused with a number: nobody waits for this answer any more, or it failed
+abbrev pub write_refused : ℕ → Sent
+write_refused n = if n == enoent then Gone else Failed
+
+-- what is received by what a read answered
+abbrev pub read_told : Result ℕ Error → Received
+read_told (Ok n) = if n == 0 then End else Got n
+read_told (Err e) = read_refused (os_number e)
+
+-- what is sent by what a write answered
+abbrev pub write_told : Result ℕ Error → Sent
+write_told (Ok n) = Took n
+write_told (Err e) = write_refused (os_number e)

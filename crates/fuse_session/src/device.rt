@@ -1,0 +1,196 @@
+// A port over a FUSE device.
+ghost use Rattle.std.specs.Prelude.{◌≡◌, ◌≤◌, length};
+ghost use Rattle.fuse_session.specs.Device.{os_number, read_refused, write_refused};
+ghost use Rattle.fuse_session.specs.Device.{read_told, write_told};
+
+use crate::port::{Port, Received, Sent};
+use std::io;
+use std::io::{Read, Write};
+
+// The request has ended: before it was read, or before it was answered.
+const ENOENT: u32 = 2;
+
+// A signal came before a request.
+const EINTR: u32 = 4;
+
+// No request waits.
+const EAGAIN: u32 = 11;
+
+// The file system is unmounted.
+const ENODEV: u32 = 19;
+
+// The number with which the system refused, or 0 where it wasn't the system that did.
+fn number_of(error: io::Error) -> u32
+    ensures { result ≡ os_number error }
+{
+    match error.raw_os_error() {
+        Some(code) => {
+            if code < 0 {
+                0
+            } else {
+                code.unsigned_abs()
+            }
+        }
+        None => 0,
+    }
+}
+
+fn refused_read(number: u32) -> Received
+    ensures { result ≡ read_refused number }
+{
+    match number {
+        ENODEV => Received::End,
+        ENOENT | EINTR | EAGAIN => Received::Got(0),
+        _ => Received::Failed,
+    }
+}
+
+fn refused_write(number: u32) -> Sent
+    ensures { result ≡ write_refused number }
+{
+    match number {
+        ENOENT => Sent::Gone,
+        _ => Sent::Failed,
+    }
+}
+
+// What is received by what a read answered.
+fn received_by(read: io::Result<usize>) -> Received
+    ensures { result ≡ read_told read }
+{
+    match read {
+        Ok(0) => Received::End,
+        Ok(n) => Received::Got(n),
+        Err(error) => refused_read(number_of(error)),
+    }
+}
+
+// What is sent by what a write answered.
+fn sent_by(write: io::Result<usize>) -> Sent
+    ensures { result ≡ write_told write }
+{
+    match write {
+        Ok(n) => Sent::Took(n),
+        Err(error) => refused_write(number_of(error)),
+    }
+}
+
+/// Receives from a reader and sends to a writer of a FUSE device, of which one read is one whole
+/// message and one write one whole answer. What the system refuses tells, by its error number, what
+/// happened. An answer taken whole counts as taken by the kernel.
+///
+/// How many slices were answered `Gone` is told, and not where they end, since the bytes of a
+/// device aren't known.
+#[derive(Drop)]
+pub struct DevicePort<R, W> {
+    reader: R,
+    writer: W,
+    receives: u64,
+    failures: u64,
+    receive_failures: u64,
+    ended: bool,
+    gone: u64,
+
+    ghost fewer: { receive_failures ≤ failures },
+}
+
+impl<R: Read + Drop, W: Write + Drop> DevicePort<R, W> {
+    ghost use Rattle.std.specs.Prelude.{None, true};
+    ghost use Rattle.fuse_session.specs.DevicePort.{device_told};
+    ghost use Rattle.fuse_session.specs.Port.{fresh};
+
+    pub fn new(reader: R, writer: W) -> DevicePort<R, W>
+        ensures told { device_told result ≡ fresh None None true }
+        ensures reader { result.reader ≡ reader }
+        ensures writer { result.writer ≡ writer }
+    {
+        DevicePort {
+            reader,
+            writer,
+            receives: 0,
+            failures: 0,
+            receive_failures: 0,
+            ended: false,
+            gone: 0,
+        }
+    }
+
+    /// The writer, with what was written.
+    pub fn into_writer(self) -> W
+        ensures { result ≡ self.writer }
+    {
+        self.writer
+    }
+}
+
+impl<R: Read + Drop, W: Write + Drop> Port for DevicePort<R, W> {
+    ghost use Rattle.fuse_session.specs.DevicePort.{device_told, WasRead, WasWritten};
+    ghost use Rattle.fuse_session.specs.Port.{IsYoung, Receives, Sends};
+    ghost use Rattle.fuse_request.specs.declared.header.TheConstants.{MAX_MESSAGE as max_message};
+
+    ghost told = { device_told };
+
+    ghost became = { λ a b. Unit {0} };
+
+    // One read.
+    fn receive(&mut self, buffer: &mut [u8]) -> Received
+        requires young { IsYoung (device_told self.old) }
+        requires room { max_message ≤ length buffer.old }
+        ensures received { Receives (device_told self.old) (device_told self.new)
+            result buffer.new }
+        ensures same { Unit {0} }
+        // By what the read answered.
+        ensures read { WasRead (R.remaining self.old.reader) (R.remaining self.new.reader) result
+            buffer.new }
+    {
+        self.receives += 1;
+        let received = received_by(self.reader.read(buffer));
+        match received {
+            Received::Got(_) => {}
+            Received::End => self.ended = true,
+            Received::Failed => {
+                self.failures += 1;
+                self.receive_failures += 1;
+            }
+        }
+        received
+    }
+
+    // One write.
+    fn send(&mut self, bytes: &[u8]) -> Sent
+        requires young { IsYoung (device_told self.old) }
+        ensures sent { Sends (device_told self.old) (device_told self.new) result bytes.now }
+        ensures same { Unit {0} }
+        // By what the write answered.
+        ensures written { WasWritten (W.contents self.old.writer) (W.contents self.new.writer)
+            self.old.gone result bytes.now }
+    {
+        let sent = sent_by(self.writer.write(bytes));
+        match sent {
+            Sent::Took(n) => {
+                if n == 0 && !bytes.is_empty() {
+                    self.failures += 1;
+                }
+                sent
+            }
+            Sent::Gone if self.gone < u64::MAX => {
+                self.gone += 1;
+                sent
+            }
+            _ => {
+                self.failures += 1;
+                Sent::Failed
+            }
+        }
+    }
+
+    fn confirms(&self) -> bool {
+        true
+    }
+
+    fn tally(&self) -> (u64, u64) {
+        (self.receives, self.failures)
+    }
+
+    ghost path = { record { none = λ p. tt; onward = λ a b c before after. tt } };
+}
