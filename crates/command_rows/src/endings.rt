@@ -2,7 +2,7 @@
 use fuse_commands::Ending;
 use std::test::Fail;
 
-const ENDINGS: [(Ending, u8, &str); 15] = [
+const ENDINGS: [(Ending, u8, &str); 17] = [
     (Ending::Done, 0, ""),
     (
         Ending::Short { at: 46, len: 39 },
@@ -30,10 +30,12 @@ const ENDINGS: [(Ending, u8, &str); 15] = [
     (Ending::Malformed, 1, ""),
     (Ending::ScriptLine { line: 3 }, 1, "script: line 3"),
     (Ending::Usage, 2, ""),
+    (Ending::Modes, 2, "usage: one of --fresh and --resume"),
     (Ending::Sql, 3, "store: Sql"),
     (Ending::NotAStore, 3, "store: NotAStore"),
     (Ending::Version(7), 3, "store: Version(7)"),
     (Ending::Damaged, 3, "store: Damaged"),
+    (Ending::NotOffered, 3, "resume: NotOffered"),
     (Ending::PortFailed, 4, "port: failed"),
     (Ending::PortTurns, 4, "port: turns"),
     (Ending::Memory, 5, "memory"),

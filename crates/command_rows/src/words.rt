@@ -63,6 +63,35 @@ fn words_of_looks(rt: HostRuntime) -> Result<(), Fail> {
     Ok(())
 }
 
+#[test]
+fn words_of_serving(rt: HostRuntime) -> Result<(), Fail> {
+    let words = [
+        "fusekeep", "serve", "--db", "a.store", "--fresh", "--at", "7",
+    ];
+    let run = parse(rt.alloc(), words.as_slice())?;
+    assert_eq!(rt;
+        run,
+        Run::Serve {
+            db: "a.store",
+            fresh: true,
+            resume: false,
+            at: Some(7)
+        }
+    );
+    assert_eq!(rt; run.input(), "-");
+    let words = ["fusekeep", "serve", "--resume", "--db=a.store"];
+    assert_eq!(rt;
+        parse(rt.alloc(), words.as_slice())?,
+        Run::Serve {
+            db: "a.store",
+            fresh: false,
+            resume: true,
+            at: None
+        }
+    );
+    Ok(())
+}
+
 fn kind_of(alloc: Global, words: &[&str]) -> Option<ErrorKind> {
     match parse(alloc, words) {
         Ok(_) => None,
@@ -80,6 +109,7 @@ fn wrong_words(rt: HostRuntime) {
         missing
     );
     assert_eq!(rt; kind_of(alloc, &["fusekeep", "simulate"]), missing);
+    assert_eq!(rt; kind_of(alloc, &["fusekeep", "serve", "--fresh"]), missing);
     assert_eq!(rt;
         kind_of(alloc, &["fusekeep"]),
         Some(ErrorKind::MissingSubcommand)

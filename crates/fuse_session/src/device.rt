@@ -24,13 +24,7 @@ fn number_of(error: io::Error) -> u32
     ensures { result ≡ os_number error }
 {
     match error.raw_os_error() {
-        Some(code) => {
-            if code < 0 {
-                0
-            } else {
-                code.unsigned_abs()
-            }
-        }
+        Some(code) => { if code < 0 { 0 } else { code.unsigned_abs() } }
         None => 0,
     }
 }

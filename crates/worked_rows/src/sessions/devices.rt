@@ -158,15 +158,19 @@ fn is_right(alloc: Global, row: &Row) -> Result<bool, StoreFault> {
         message: hex(alloc, LOOKUP_HELLO)?,
     };
     let writer = Writer {
-        refusals: Refusals { numbers: row.writes },
+        refusals: Refusals {
+            numbers: row.writes,
+        },
         written: Vec::new(alloc),
     };
     let mut keeper = begun(alloc, INIT_AGREED)?;
     let (ended, written) = serve_device(alloc, &mut keeper, reader, writer);
     let answer = hex(alloc, if row.answered { NOT_THERE } else { "" })?;
-    Ok(ended == row.ended
-        && written.as_slice() == answer.as_slice()
-        && held_in(&mut keeper) == Some(holding(1, 0, 2)))
+    Ok(
+        ended == row.ended
+            && written.as_slice() == answer.as_slice()
+            && held_in(&mut keeper) == Some(holding(1, 0, 2)),
+    )
 }
 
 #[test]
