@@ -1,6 +1,7 @@
 //! The program `fusekeep`: serves recorded streams of FUSE requests, and runs scripts of them.
 #![tactic(auto)]
 
+mod serve;
 mod simulate;
 mod store;
 
@@ -13,6 +14,7 @@ use fuse_keeper::PlainKeeper;
 use fuse_store::PlainTree;
 use fuse_table_keeper::open_or_create;
 use fuse_wire::Moment;
+use serve::serve_as_asked;
 use simulate::simulate_in_memory;
 use sqlite::{Alter, Connection};
 use std::alloc::Global;
@@ -47,6 +49,14 @@ fn run(rt: &HostRuntime) -> Ending {
         return Ending::Memory;
     };
     match parse(rt.alloc(), words.as_slice()) {
+        Ok(
+            Run::Serve {
+                db,
+                fresh,
+                resume,
+                at,
+            },
+        ) => serve_as_asked(rt, db, (fresh, resume), at),
         Ok(run) => run_on_input(rt, run),
         Err(error) => refuse(rt, error),
     }
@@ -80,6 +90,7 @@ fn run_on<R: Read + Drop>(rt: &HostRuntime, reader: R, run: Run<'_>) -> Ending {
             }
         }
         Run::Simulate { .. } => simulate_in_memory(alloc, reader, &mut writer),
+        Run::Serve { .. } => Ending::Usage,
     }
 }
 
