@@ -1,8 +1,9 @@
 //! The table of endings.
 use fuse_commands::Ending;
+use std::alloc::Global;
 use std::test::Fail;
 
-const ENDINGS: [(Ending, u8, &str); 17] = [
+const OF_STREAMS: [(Ending, u8, &str); 7] = [
     (Ending::Done, 0, ""),
     (
         Ending::Short { at: 46, len: 39 },
@@ -29,6 +30,9 @@ const ENDINGS: [(Ending, u8, &str); 17] = [
     (Ending::ZeroUnique { at: 7 }, 1, "stream: ZeroUnique at 7"),
     (Ending::Malformed, 1, ""),
     (Ending::ScriptLine { line: 3 }, 1, "script: line 3"),
+];
+
+const OTHERS: [(Ending, u8, &str); 10] = [
     (Ending::Usage, 2, ""),
     (Ending::Modes, 2, "usage: one of --fresh and --resume"),
     (Ending::Sql, 3, "store: Sql"),
@@ -41,14 +45,27 @@ const ENDINGS: [(Ending, u8, &str); 17] = [
     (Ending::Memory, 5, "memory"),
 ];
 
+// What standard error is told.
+fn said(alloc: Global, ending: Ending) -> Result<String, Fail> {
+    match ending.line() {
+        Some(line) => Ok(format!(in alloc; "{line}")?),
+        None => Ok(String::new(alloc)),
+    }
+}
+
 #[test]
-fn endings(rt: HostRuntime) -> Result<(), Fail> {
-    for (ending, status, line) in ENDINGS {
-        let said = match ending.line() {
-            Some(line) => format!(in rt.alloc(); "{line}")?,
-            None => String::new(rt.alloc()),
-        };
-        assert_eq!(rt; said.as_str(), line);
+fn of_streams(rt: HostRuntime) -> Result<(), Fail> {
+    for (ending, status, line) in OF_STREAMS {
+        assert_eq!(rt; said(rt.alloc(), ending)?.as_str(), line);
+        assert_eq!(rt; ending.status(), status, "{line}");
+    }
+    Ok(())
+}
+
+#[test]
+fn others(rt: HostRuntime) -> Result<(), Fail> {
+    for (ending, status, line) in OTHERS {
+        assert_eq!(rt; said(rt.alloc(), ending)?.as_str(), line);
         assert_eq!(rt; ending.status(), status, "{line}");
     }
     Ok(())
