@@ -55,8 +55,8 @@ pub enum Run<'a> {
         at: u64,
         stream: &'a str,
     },
-    /// To serve requests as they come, over the store of a file: for a mount that begins, or for one
-    /// that goes on. Without a second the machine's clock is asked.
+    /// To serve requests as they come, over the store of a file: for a mount that begins, or for
+    /// one that goes on. Without a second the machine's clock is asked.
     Serve {
         db: &'a str,
         fresh: bool,
