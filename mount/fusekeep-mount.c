@@ -1,6 +1,7 @@
 /* Mounts a store, and keeps the mount alive whatever becomes of its server: it holds the descriptor of the device, and runs
  * `fusekeep serve` over it again whenever that ends, until the connection has ended. docs/RUNNING.md says how it is used. */
 #define _GNU_SOURCE
+#include "keeper.h"
 #include <errno.h>
 #include <fcntl.h>
 #include <limits.h>
@@ -17,6 +18,7 @@
 #include <sys/signalfd.h>
 #include <sys/socket.h>
 #include <sys/stat.h>
+#include <sys/statvfs.h>
 #include <sys/wait.h>
 #include <syslog.h>
 #include <time.h>
@@ -25,26 +27,13 @@
 enum { FAILED = 1, USAGE = 2, CANNOT_RUN = 127 };
 enum { SHORT_LIFE = 1000, FIRST_PAUSE = 50, LONGEST_PAUSE = 5000 }; /* milliseconds */
 enum { LOCK_PAUSE = 50, LOCK_TRIES = 20 }; /* a second, for one that was unmounted just now */
-enum { MOST_SHORT_LIVES = 10, OPTIONS_SIZE = 1024, LINE_SIZE = 512, FIRST_OTHER = STDERR_FILENO + 1 };
-
-struct keeper {
-  bool foreground, fake, sloppy;
-  const char *engine;
-  char store[PATH_MAX], mountpoint[PATH_MAX];
-  unsigned long flags;                             /* of mount(2) */
-  char data[OPTIONS_SIZE], options[OPTIONS_SIZE];  /* for mount(2) beside the flags; for fusermount3 */
-  int lock, device, signals, readiness;            /* descriptors; the last one tells that the mount is ready */
-  sigset_t mask;                                   /* with which this process was called */
-  pid_t server, probe, unmounter;                  /* 0 for none */
-  bool ready, told_to_stop, is_unmounted;
-  long long started, next_start;
-  int short_lives, last_status;
-};
+enum { MOST_SHORT_LIVES = 10, LINE_SIZE = 512, FIRST_OTHER = STDERR_FILENO + 1 };
+enum { LEAST_ROOM = 1 << 16 }; /* bytes, with less of which hardly a request can be written */
+enum { SQLITE_LOCKS = 1 << 30, SQLITE_LOCKS_SIZE = 512 }; /* the bytes by whose locks a database is held */
 
 static bool in_background;
 
-/* One line on standard error, or in the system's log once nobody reads the former. */
-__attribute__((format(printf, 1, 2))) static void say(const char *form, ...) {
+void say(const char *form, ...) {
   char line[LINE_SIZE + 2 * PATH_MAX];
   va_list words;
   va_start(words, form);
@@ -86,85 +75,12 @@ static const char *ending(const struct keeper *k, int status) {
   return text;
 }
 
-/* The command line. */
-
-static const struct { const char *word; unsigned long set, clear; } flag_words[] = {
-  {"rw", 0, MS_RDONLY}, {"ro", MS_RDONLY, 0},
-  {"suid", 0, MS_NOSUID}, {"nosuid", MS_NOSUID, 0},
-  {"dev", 0, MS_NODEV}, {"nodev", MS_NODEV, 0},
-  {"exec", 0, MS_NOEXEC}, {"noexec", MS_NOEXEC, 0},
-  {"async", 0, MS_SYNCHRONOUS}, {"sync", MS_SYNCHRONOUS, 0}, {"dirsync", MS_DIRSYNC, 0},
-  {"atime", 0, MS_NOATIME}, {"noatime", MS_NOATIME, 0},
-  {"diratime", 0, MS_NODIRATIME}, {"nodiratime", MS_NODIRATIME, 0},
-  {"relatime", MS_RELATIME, 0}, {"norelatime", 0, MS_RELATIME}, {"strictatime", MS_STRICTATIME, 0},
-};
-
-/* Words of /etc/fstab that are for others; those that end in = or - are the begins of words. */
-static const char *const others_words[] = {
-  "defaults", "auto", "noauto", "nofail", "_netdev", "user", "nouser", "users", "owner", "group",
-  "user=", "comment=", "x-", "X-",
-};
-
-static bool is_for_others(const char *word) {
-  for (size_t i = 0; i < sizeof others_words / sizeof *others_words; i++) {
-    size_t length = strlen(others_words[i]);
-    bool begins = strchr("=-", others_words[i][length - 1]);
-    if (begins ? strncmp(word, others_words[i], length) == 0 : strcmp(word, others_words[i]) == 0) return true;
-  }
-  return false;
-}
-
-static bool is_max_read(const char *word) {
-  if (strncmp(word, "max_read=", strlen("max_read=")) != 0) return false;
-  const char *digits = word + strlen("max_read=");
-  return *digits && !digits[strspn(digits, "0123456789")];
-}
-
-static bool append(char *list, const char *word) {
-  size_t used = strlen(list);
-  if (snprintf(list + used, OPTIONS_SIZE - used, ",%s", word) < (int)(OPTIONS_SIZE - used)) return true;
-  say("too many options");
-  return false;
-}
-
-static bool take_option(struct keeper *k, const char *word) {
-  for (size_t i = 0; i < sizeof flag_words / sizeof *flag_words; i++)
-    if (strcmp(word, flag_words[i].word) == 0) {
-      k->flags = (k->flags & ~flag_words[i].clear) | flag_words[i].set;
-      return append(k->options, word);
-    }
-  if (strcmp(word, "default_permissions") == 0 || is_for_others(word)) return true;
-  if (strcmp(word, "allow_other") == 0 || is_max_read(word)) return append(k->data, word) && append(k->options, word);
-  if (!k->sloppy) say("the option %s isn't known", word);
-  return k->sloppy;
-}
-
-static bool take_options(struct keeper *k, char *words) {
-  for (char *word = strtok(words, ","); word; word = strtok(NULL, ","))
-    if (!take_option(k, word)) return false;
-  return true;
-}
-
-/* mount(8) hands options behind the operands, and `-f` of its own: to do all but the mount. */
-static bool read_arguments(struct keeper *k, int argc, char **argv) {
-  bool is_helper = strcmp(basename(argv[0]), "mount.fuse.fusekeep") == 0, is_known = true;
-  unsetenv("POSIXLY_CORRECT");
-  opterr = 0;
-  for (int letter; (letter = getopt(argc, argv, is_helper ? "sfnvo:" : "fo:")) != -1;) {
-    if (letter == 'f') *(is_helper ? &k->fake : &k->foreground) = true;
-    if (letter == 's') k->sloppy = true;
-    if (letter == 'o' && !take_options(k, optarg)) return false;
-    if (letter == '?') is_known = false;
-  }
-  if (is_known && argc - optind == 2) return true;
-  say("usage: %s", is_helper ? "STORE MOUNTPOINT [-sfnv] [-o OPTIONS]" : "[-f] [-o OPTIONS] STORE MOUNTPOINT");
-  return false;
-}
-
 /* What has to be there before a mount begins. */
 
-/* The engine: what FUSEKEEP names, else what is built in the tree that this program is of, else what PATH leads to. */
+/* The engine: what FUSEKEEP names, else what is built in the tree that this program is of or stands beside it, else what PATH
+ * leads to, which mount(8) doesn't hand on. */
 static bool find_engine(struct keeper *k) {
+  static const char *const near[] = {"../../crates/fusekeep/out/fusekeep", "fusekeep"};
   static char path[PATH_MAX + 64];
   const char *named = getenv("FUSEKEEP");
   k->engine = named ? named : "fusekeep";
@@ -176,8 +92,10 @@ static bool find_engine(struct keeper *k) {
   ssize_t length = readlink("/proc/self/exe", path, PATH_MAX);
   while (length > 0 && path[length - 1] != '/') length--;
   if (length <= 0) return true;
-  strcpy(path + length, "../../crates/fusekeep/out/fusekeep");
-  if (access(path, X_OK) == 0) k->engine = path;
+  for (size_t i = 0; i < sizeof near / sizeof *near; i++) {
+    strcpy(path + length, near[i]);
+    if (access(path, X_OK) == 0) return k->engine = path, true;
+  }
   return true;
 }
 
@@ -188,22 +106,46 @@ static bool find_mountpoint(struct keeper *k, const char *mountpoint) {
   return S_ISDIR(found.st_mode);
 }
 
+static bool unwritable(const char *path) {
+  say("%s can't be written: %s", path, strerror(errno));
+  return false;
+}
+
+/* Whether another process holds a database, as a server does for as long as it runs. */
+static bool is_held(int file) {
+  struct flock held = {.l_type = F_WRLCK, .l_whence = SEEK_SET, .l_start = SQLITE_LOCKS, .l_len = SQLITE_LOCKS_SIZE};
+  return fcntl(file, F_OFD_GETLK, &held) == 0 && held.l_type != F_UNLCK;
+}
+
 /* Makes the store's file where it is missing (an empty one is as none), so that it has one real path, and takes the lock beside
  * it. The servers get the lock's file as their standard error: so one that outlives this process by a moment still holds it. */
 static bool hold_store(struct keeper *k, const char *store) {
   char path[PATH_MAX + 8];
   int file = open(store, O_RDWR | O_CREAT | O_CLOEXEC, 0644);
-  if (file < 0 || !realpath(store, k->store)) return refused(store);
-  close(file);
+  if (file < 0 || !realpath(store, k->store)) return unwritable(store);
   snprintf(path, sizeof path, "%s-mount", k->store);
   k->lock = open(path, O_RDWR | O_CREAT | O_APPEND | O_CLOEXEC, 0644);
-  if (k->lock < 0) return refused(path);
+  if (k->lock < 0) return unwritable(path);
   for (int left = LOCK_TRIES; flock(k->lock, LOCK_EX | LOCK_NB) != 0; left--) {
     if (errno != EWOULDBLOCK) return refused(path);
     if (left == 0) return say("%s is mounted already: another fusekeep-mount holds %s", store, path), false;
     poll(NULL, 0, LOCK_PAUSE);
   }
-  return true;
+  bool held = is_held(file);
+  if (held) say("%s is held by another server, or by a program that has it open", store);
+  close(file);
+  return !held;
+}
+
+/* Says why an engine could not write, where that can be seen: there is no room, or nothing can be made beside the store. */
+static void explain(const struct keeper *k) {
+  char folder[PATH_MAX];
+  struct statvfs room;
+  strcpy(folder, k->store);
+  char *end = strrchr(folder, '/');
+  end[end == folder] = '\0';
+  if (access(folder, W_OK) != 0) unwritable(folder);
+  else if (statvfs(folder, &room) == 0 && room.f_bavail * room.f_frsize < LEAST_ROOM) say("%s has no room left", folder);
 }
 
 /* Children. */
@@ -249,6 +191,7 @@ static int begin_in_store(const struct keeper *k) {
   const char *line = last_line(k->lock);
   if (WIFEXITED(status) && *line) dprintf(STDERR_FILENO, "%s\n", line);
   else say("the engine ended, %s", ending(k, status));
+  explain(k);
   return WIFEXITED(status) ? WEXITSTATUS(status) : FAILED;
 }
 
@@ -422,6 +365,7 @@ static void await_event(struct keeper *k) {
 static int give_up(struct keeper *k) {
   const char *how = ending(k, k->last_status);
   say("gave up: %d servers in a row lived less than a second, the last one ended with %s", k->short_lives, how);
+  explain(k);
   close(k->device);
   if (k->ready || k->is_unmounted) return FAILED;
   if (k->probe > 0) waitpid(k->probe, NULL, 0);

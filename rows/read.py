@@ -30,6 +30,7 @@ class Row:
     served: str = ""
     ends: str = ""
     left: str = ""
+    settled: str = ""
     settings: str = ""
     blocks: str = ""
 
@@ -92,7 +93,7 @@ def add_line(row, line):
         row.pieces = [int(size) for size in rest.split()]
     elif word in ("behind", "ends"):
         setattr(row, word, rest)
-    elif word in ("served", "left", "settings", "blocks"):
+    elif word in ("served", "left", "settled", "settings", "blocks"):
         setattr(row, word, line)
     else:
         raise ValueError(word)
@@ -148,6 +149,12 @@ def chain_of(rows, row):
     while chain[0].behind:
         chain.insert(0, rows[chain[0].behind])
     return chain
+
+
+def last_said(chain, word):
+    """The last line of this word that the rows have."""
+    said = [getattr(row, word) for row in chain if getattr(row, word)]
+    return said[-1:]
 
 
 def moved_end(ends, by):

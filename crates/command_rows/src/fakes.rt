@@ -1,5 +1,5 @@
 //! Readers and writers that give and take less than they are asked for.
-use crate::rows::LOOKUP_HELLO;
+use crate::messages::LOOKUP_HELLO;
 use crate::running::{bytes_of, printed_to, replayed};
 use fuse_commands::Ending;
 use std::io;

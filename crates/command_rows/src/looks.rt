@@ -1,6 +1,6 @@
 //! What `dump` and `check` print of the rows.
 use crate::fakes::{Failing, Full, Unflushed};
-use crate::rows::{LOOKUP_HELLO, LOOKUP_HELLO_AGAIN};
+use crate::messages::{LOOKUP_HELLO, LOOKUP_HELLO_AGAIN};
 use crate::running::bytes_of;
 use fuse_commands::{Ending, run_check, run_dump};
 use std::process::Abort;

@@ -1,5 +1,5 @@
 //! Streams in hexadecimal that are replayed over a tree in memory.
-use crate::inits::AGREED;
+use crate::messages::AGREED;
 use fuse_commands::{Ending, START, run_replay};
 use fuse_keeper::{Keeper, PlainKeeper};
 use fuse_store::PlainTree;
@@ -30,17 +30,6 @@ pub(crate) fn unspaced(alloc: Global, parts: &[&str]) -> Result<String, Fail> {
 /// The bytes of such parts.
 pub(crate) fn bytes_of(alloc: Global, parts: &[&str]) -> Result<Vec<u8>, Fail> {
     Ok(hex::decode(alloc, unspaced(alloc, parts)?)?)
-}
-
-/// What `replay --at 1000` prints of a stream over a new store, and how it ends.
-pub(crate) fn replayed_first<R: Read + Drop>(
-    alloc: Global,
-    reader: R,
-) -> Result<(Ending, Vec<u8>), Fail> {
-    let mut keeper = TreeKeeper::new(alloc, START)?;
-    let mut printed = Vec::new(alloc);
-    let ending = run_replay(alloc, &mut keeper, reader, &mut printed, AT_1000);
-    Ok((ending, printed))
 }
 
 // A new store in which row init-agreed was answered: what the other rows begin with.

@@ -1,13 +1,11 @@
 //! What `simulate` prints of scripts.
 use crate::fakes::{Failing, Full, Unflushed};
 use crate::lists::simulate_in_lists;
-use crate::rows::TAIL;
+use crate::messages::{AGREED, TAIL};
 use crate::running::unspaced;
-use crate::{inits, names, rows};
 use fuse_commands::Ending;
 use std::alloc::Global;
 use std::io::Read;
-use std::process::Abort;
 use std::test::Fail;
 
 /// Row first-run's MKDIR.
@@ -15,7 +13,7 @@ const MKDIR_A: &str =
     "320000000900000006000000000000000100000000000000e8030000e80300004d00000000000000ed010000120000\
     006100";
 
-const AGREED: &str =
+const AGREED_ON: &str =
     "50000000 00000000 0200000000000000 07000000 28000000 00000200 21000040 0c000900 00000200 \
     01000000 00000000 80000000 00000000 000000000000000000000000000000000000000000000000";
 
@@ -33,154 +31,54 @@ fn simulated<R: Read + Drop>(alloc: Global, reader: R) -> (Ending, Vec<u8>) {
     (ending, printed)
 }
 
-// The events of a row: what stands before the message, and the message; then the printed lines.
-struct Script<'a> {
-    name: &'a str,
-    events: &'a [(&'a str, &'a [&'a str])],
-    lines: &'a [&'a [&'a str]],
-    counts: &'a str,
-}
+// The events of row script-died-before: what stands before each message, and the message.
+const EVENTS: [(&str, &[&str]); 4] = [
+    ("answered 1000 ", &[AGREED]),
+    (
+        "before 1000 ",
+        &[
+            "32000000 09000000 0400000000000000 0100000000000000",
+            TAIL,
+            "ed010000 12000000 6100",
+        ],
+    ),
+    ("answered 1000 ", &[MKDIR_A]),
+    (
+        "answered 1000 ",
+        &[
+            "32000000 09000000 0400000000000080 0100000000000000",
+            TAIL,
+            "ed010000 12000000 6100",
+        ],
+    ),
+];
 
-fn check(rt: &(impl Abort + AllocGlobal), row: &Script<'_>) -> Result<(), Fail> {
+// What is printed of them.
+const LINES: [&[&str]; 4] = [
+    &[AGREED_ON],
+    &["-"],
+    &["90000000 00000000 0600000000000000", MADE_A],
+    &["10000000 efffffff 0400000000000080"],
+];
+
+#[test]
+fn died_before(rt: HostRuntime) -> Result<(), Fail> {
     let alloc = rt.alloc();
     let mut script = String::new(alloc);
-    for (head, message) in row.events {
+    for (head, message) in EVENTS {
         script.push_str(head)?;
         script.push_str(unspaced(alloc, message)?.as_str())?;
         script.push('\n')?;
     }
     let mut wanted = String::new(alloc);
-    for line in row.lines {
+    for line in LINES {
         wanted.push_str(unspaced(alloc, line)?.as_str())?;
         wanted.push('\n')?;
     }
-    wanted.push_str(row.counts)?;
+    wanted.push_str("nodes=2 handles=0\n")?;
     let (ending, printed) = simulated(alloc, script.as_bytes());
-    assert_eq!(rt; printed.as_slice(), wanted.as_bytes(), "{}", row.name);
-    assert_eq!(rt; ending, Ending::Done, "{}", row.name);
-    Ok(())
-}
-
-const SCRIPTS: [Script<'static>; 3] = [
-    Script {
-        name: "script-died-before",
-        events: &[
-            ("answered 1000 ", &[inits::AGREED]),
-            (
-                "before 1000 ",
-                &[
-                    "32000000 09000000 0400000000000000 0100000000000000",
-                    TAIL,
-                    "ed010000 12000000 6100",
-                ],
-            ),
-            ("answered 1000 ", &[MKDIR_A]),
-            (
-                "answered 1000 ",
-                &[
-                    "32000000 09000000 0400000000000080 0100000000000000",
-                    TAIL,
-                    "ed010000 12000000 6100",
-                ],
-            ),
-        ],
-        lines: &[
-            &[AGREED],
-            &["-"],
-            &["90000000 00000000 0600000000000000", MADE_A],
-            &["10000000 efffffff 0400000000000080"],
-        ],
-        counts: "nodes=2 handles=0\n",
-    },
-    Script {
-        name: "resent-lookup",
-        events: &[
-            ("answered 1000 ", &[inits::AGREED]),
-            ("lost 1000 ", &[rows::LOOKUP_HELLO]),
-            (
-                "answered 1000 ",
-                &[
-                    "3e000000 08000000 0600000000000000 0100000000000000",
-                    TAIL,
-                    names::FILE,
-                    "68656c6c6f00",
-                ],
-            ),
-            ("answered 1000 ", &[rows::LOOKUP_HELLO_AGAIN]),
-            (
-                "answered 1000 ",
-                &[
-                    "2e000000 01000000 0800000000000000 0100000000000000",
-                    TAIL,
-                    "68656c6c6f00",
-                ],
-            ),
-        ],
-        lines: &[
-            &[AGREED],
-            &["-"],
-            &[
-                "90000000 00000000 0600000000000000",
-                names::ENTRY,
-                names::NODE_2,
-                "01000000",
-                names::OWNER,
-            ],
-            &[rows::NO_ENTRY_AGAIN],
-            &[
-                "90000000 00000000 0800000000000000",
-                names::ENTRY,
-                names::NODE_2,
-                "01000000",
-                names::OWNER,
-            ],
-        ],
-        counts: "nodes=2 handles=0\n",
-    },
-    Script {
-        name: "an OPEN that died after its commit",
-        events: &[
-            ("answered 1000 ", &[inits::AGREED]),
-            (
-                "lost 1000 ",
-                &[
-                    "3a000000 08000000 0400000000000000 0100000000000000",
-                    TAIL,
-                    "a4810000 00000000 00000000 00000000 6600",
-                ],
-            ),
-            (
-                "after 1000 ",
-                &[
-                    "30000000 0e000000 0600000000000000 0200000000000000",
-                    TAIL,
-                    "02000000 00000000",
-                ],
-            ),
-            (
-                "answered 1000 ",
-                &[
-                    "30000000 0e000000 0600000000000080 0200000000000000",
-                    TAIL,
-                    "02000000 00000000",
-                ],
-            ),
-        ],
-        lines: &[
-            &[AGREED],
-            &["-"],
-            &["-"],
-            &["20000000 00000000 0600000000000080 0100000000000000 00000000 00000000"],
-        ],
-        counts: "nodes=2 handles=1\n",
-    },
-];
-
-#[test]
-fn scripts(rt: HostRuntime) -> Result<(), Fail> {
-    for row in &SCRIPTS {
-        check(&rt, row)?;
-    }
+    assert_eq!(rt; printed.as_slice(), wanted.as_bytes());
+    assert_eq!(rt; ending, Ending::Done);
     Ok(())
 }
 

@@ -1,6 +1,6 @@
 //! The words of a command line.
 use clap::error::ErrorKind;
-use fuse_commands::{Run, parse, unreadable};
+use fuse_commands::{Begin, Run, parse, unreadable};
 use std::alloc::Global;
 use std::test::Fail;
 
@@ -73,8 +73,7 @@ fn words_of_serving(rt: HostRuntime) -> Result<(), Fail> {
         run,
         Run::Serve {
             db: "a.store",
-            fresh: true,
-            resume: false,
+            begin: Some(Begin::Fresh),
             at: Some(7)
         }
     );
@@ -84,8 +83,7 @@ fn words_of_serving(rt: HostRuntime) -> Result<(), Fail> {
         parse(rt.alloc(), words.as_slice())?,
         Run::Serve {
             db: "a.store",
-            fresh: false,
-            resume: true,
+            begin: Some(Begin::Resume),
             at: None
         }
     );

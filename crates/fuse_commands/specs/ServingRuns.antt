@@ -1,5 +1,5 @@
--- What a run of serve does over a port: the notice first where it resumes, and then a session (own profile).
-use Rattle.std.specs.Prelude.{◌≡◌, ◌⊎◌, ℕ, Bool, true, false, List, [], Option, None, Ok, Err}
+-- What a run of serve does over a port: the notice first where a mount goes on, and then a session (own profile).
+use Rattle.std.specs.Prelude.{◌≡◌, ◌⊎◌, ℕ, true, List, [], Option, None, Ok, Err}
 use Rattle.fuse_wire.specs.declared.moment.Moment.{Moment}
 use Rattle.fuse_keeper.specs.Model.{Model}
 use Rattle.fuse_keeper.specs.KeeperState.{KeeperState, Looked, WhereHeld, OfHeld, IsFirm, AnswersNoMore}
@@ -16,6 +16,8 @@ use Rattle.fuse_session.specs.Ends.{SessionEnds, ExactAt, MayEnd, ended_store, e
 use Rattle.fuse_session.specs.Prompt.{AnswersFirst}
 use Rattle.fuse_session.specs.Resuming.{Resumed, NotResumed, of_store}
 use Rattle.fuse_commands.specs.declared.ending.Ending.{Ending}
+use Rattle.fuse_commands.specs.declared.serve.Begin.{Begin}
+use Rattle.fuse_commands.specs.declared.serve.Begin.TheVariants.{Fresh, Resume}
 use Rattle.fuse_commands.specs.declared.ending.Ending.TheVariants.{NotOffered, PortFailed}
 use Rattle.fuse_commands.specs.Endings.{session_ending, store_ending}
 
@@ -41,17 +43,17 @@ pub record Notified {M : Model} (k k' : KeeperState M) (old new : PortState) : T
   pub looked : Looked k k' (of_store (Ok tt))
   pub firm : k'.is_honest → WhereHeld k (IsFirm k → IsFirm k')
 
--- what stands before the session: the notice where it resumes, else nothing
-abbrev pub Begins : {M : Model} {K P : Type 0} → Bool → (K → KeeperState M) → (P → PortState) → K → K → P → P → Type 0
-Begins true keeps tells keeper begun port now = Notified (keeps keeper) (keeps begun) (tells port) (tells now)
-Begins false keeps tells keeper begun port now = (begun ≡ keeper) × (now ≡ port)
+-- what stands before the session: the notice where a mount goes on, else nothing
+abbrev pub Begins : {M : Model} {K P : Type 0} → Begin → (K → KeeperState M) → (P → PortState) → K → K → P → P → Type 0
+Begins Resume keeps tells keeper begun port now = Notified (keeps keeper) (keeps begun) (tells port) (tells now)
+Begins Fresh keeps tells keeper begun port now = (begun ≡ keeper) × (now ≡ port)
 
 -- a session was served, which each turn answers before it receives more
 pub record Served {M : Model} {K P : Type 0} (keeps : K → KeeperState M) (tells : P → PortState) (became : P → P → Type 0) (gave : List Moment → Type 0)
-    (keeper keeper' : K) (port port' : P) (resumes : Bool) (ending : Ending) (counts : Option SessionCounts) : Type 0 where
+    (keeper keeper' : K) (port port' : P) (begin : Begin) (ending : Ending) (counts : Option SessionCounts) : Type 0 where
   pub begun : K
   pub now : P
-  pub begins : Begins resumes keeps tells keeper begun port now
+  pub begins : Begins begin keeps tells keeper begun port now
   pub ended : Ended
   pub session : Session (keeps begun) (keeps keeper') gave (tells now) (tells port') ended counts
   pub prompt : AnswersFirst tells became (keeps begun) (keeps keeper') now port'
@@ -64,8 +66,8 @@ resume_ending resume.PortFailed = PortFailed
 resume_ending (resume.Store fault) = store_ending fault
 
 -- no session was served, since the notice couldn't be sent
-pub record NotServed {M : Model} (k k' : KeeperState M) (old new : PortState) (resumes : Bool) (ending : Ending) (counts : Option SessionCounts) : Type 0 where
-  pub asked : resumes ≡ true
+pub record NotServed {M : Model} (k k' : KeeperState M) (old new : PortState) (begin : Begin) (ending : Ending) (counts : Option SessionCounts) : Type 0 where
+  pub asked : begin ≡ Resume
   pub fault : ResumeFault
   pub not_resumed : NotResumed k k' old new fault
   pub looked : Looked k k' (of_store (Err fault))
@@ -73,17 +75,17 @@ pub record NotServed {M : Model} (k k' : KeeperState M) (old new : PortState) (r
   pub uncounted : counts ≡ None
 
 abbrev pub ServesPort : {M : Model} {K P : Type 0} → (K → KeeperState M) → (P → PortState) → (P → P → Type 0) → (List Moment → Type 0) → K → K → P → P
-    → Bool → Ending → Option SessionCounts → Type 0
-ServesPort keeps tells became gave keeper keeper' port port' resumes ending counts =
-    Served keeps tells became gave keeper keeper' port port' resumes ending counts
-    ⊎ NotServed (keeps keeper) (keeps keeper') (tells port) (tells port') resumes ending counts
+    → Begin → Ending → Option SessionCounts → Type 0
+ServesPort keeps tells became gave keeper keeper' port port' begin ending counts =
+    Served keeps tells became gave keeper keeper' port port' begin ending counts
+    ⊎ NotServed (keeps keeper) (keeps keeper') (tells port) (tells port') begin ending counts
 
 -- so over a new port of this reader and this writer, which are those of a FUSE device
 pub record ServesDevice {M : Model} {K R W : Type 0} (keeps : K → KeeperState M) (gave : List Moment → Type 0) (keeper keeper' : K) (reader : R) (writer : W)
-    (resumes : Bool) (ending : Ending) (counts : Option SessionCounts) : Type 0 where
+    (begin : Begin) (ending : Ending) (counts : Option SessionCounts) : Type 0 where
   pub port : DevicePort R W
   pub port' : DevicePort R W
   pub reads : port.reader ≡ reader
   pub writes : port.writer ≡ writer
   pub new : device_told port ≡ fresh None None true
-  pub served : ServesPort keeps device_told (λ a b. Unit {0}) gave keeper keeper' port port' resumes ending counts
+  pub served : ServesPort keeps device_told (λ a b. Unit {0}) gave keeper keeper' port port' begin ending counts

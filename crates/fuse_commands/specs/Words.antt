@@ -8,5 +8,5 @@ abbrev pub input_of : Run → List ℕ
 input_of (Dump file) = file.now
 input_of (Check file) = file.now
 input_of (Replay db at stream) = stream.now
-input_of (Serve db fresh resume at) = codes "-"
+input_of (Serve db begin at) = codes "-"
 input_of (Simulate script) = script.now

@@ -3,6 +3,7 @@ ghost use Rattle.std.specs.Prelude.{◌≡◌, ◌⊎◌, IfOk};
 ghost use Rattle.clap.specs.Values.{kind_of};
 ghost use Rattle.fuse_commands.specs.Words.{input_of};
 
+use crate::serve::Begin;
 use clap::error::ErrorKind;
 use clap::{Arg, ArgAction, ArgMatches, Command, Error, value_parser};
 use std::alloc::{AllocError, Global};
@@ -55,12 +56,11 @@ pub enum Run<'a> {
         at: u64,
         stream: &'a str,
     },
-    /// To serve requests as they come, over the store of a file: for a mount that begins, or for
-    /// one that goes on. Without a second the machine's clock is asked.
+    /// To serve requests as they come, over the store of a file. The words name no way to begin
+    /// where they name neither or both. Without a second the machine's clock is asked.
     Serve {
         db: &'a str,
-        fresh: bool,
-        resume: bool,
+        begin: Option<Begin>,
         at: Option<u64>,
     },
     /// To run the events of a script.
@@ -176,11 +176,19 @@ fn replay_run<'a>(found: &ArgMatches<'a>) -> Option<Run<'a>> {
     Some(Run::Replay { db, at, stream })
 }
 
+// The one way to begin that the words name.
+fn begin_of(found: &ArgMatches<'_>) -> Option<Begin> {
+    match (found.get_flag(FRESH), found.get_flag(RESUME)) {
+        (true, false) => Some(Begin::Fresh),
+        (false, true) => Some(Begin::Resume),
+        _ => None,
+    }
+}
+
 fn serve_run<'a>(found: &ArgMatches<'a>) -> Option<Run<'a>> {
     Some(Run::Serve {
         db: found.get_str(DB)?,
-        fresh: found.get_flag(FRESH),
-        resume: found.get_flag(RESUME),
+        begin: begin_of(found),
         at: found.get_one::<u64>(AT),
     })
 }

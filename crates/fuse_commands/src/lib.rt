@@ -21,5 +21,5 @@ pub use count_line::CountLine;
 pub use dump::run_dump;
 pub use ending::{Ending, FaultLine};
 pub use replay::run_replay;
-pub use serve::{run_serve, serve_port};
+pub use serve::{Begin, run_serve, serve_port};
 pub use simulate::{START, run_simulate};

@@ -11,6 +11,16 @@ use fuse_session::{Clock, DevicePort, Port, ResumeFault, SessionCounts, resume, 
 use std::alloc::Global;
 use std::io::{Read, Write};
 
+/// How a server begins.
+#[derive(Clone, Copy, Debug, PartialEq, Eq)]
+pub enum Begin {
+    /// A mount begins, of which nothing is recorded.
+    Fresh,
+    /// A mount goes on: the notice that asks the kernel to send its pending requests again comes
+    /// first.
+    Resume,
+}
+
 // The ending of a run whose notice couldn't be sent.
 fn ending_of_resume(fault: ResumeFault) -> Ending
     ensures { result ≡ resume_ending fault }
@@ -22,24 +32,24 @@ fn ending_of_resume(fault: ResumeFault) -> Ending
     }
 }
 
-// Sends the notice where it resumes.
-fn begin<K: Keeper, P: Port>(keeper: &mut K, port: &mut P, resumes: bool) -> Result<(), Ending>
+// Sends the notice where a mount goes on.
+fn send_notice<K: Keeper, P: Port>(keeper: &mut K, port: &mut P, begin: Begin) -> Result<(), Ending>
     requires going { (K.told keeper.old).has_failed ≡ false }
     requires receives { (P.told port.old).receives < 2 ^ 62 }
     requires failures { (P.told port.old).failures < 2 ^ 62 }
-    ensures ok { OnOk result (Begins resumes K.told P.told keeper.old keeper.new
+    ensures ok { OnOk result (Begins begin K.told P.told keeper.old keeper.new
         port.old port.new) }
     ensures still { OnOk result (((P.told port.new).receives ≡ (P.told port.old).receives)
         × ((P.told port.new).failures ≡ (P.told port.old).failures)) }
     ensures going { OnOk result ((K.told keeper.new).has_failed ≡ false) }
     ensures err { IfErr result (λ ending. NotServed (K.told keeper.old) (K.told keeper.new)
-        (P.told port.old) (P.told port.new) resumes ending None) }
+        (P.told port.old) (P.told port.new) begin ending None) }
     ensures store { IfErr result (λ ending. (K.told keeper.new).has_failed ≡ true
         → 3 ≤ status_of ending) }
     ensures usage { IfErr result (λ ending. status_of ending ≢ 2) }
     ensures same { K.became keeper.old keeper.new 0 }
 {
-    if !resumes {
+    if begin == Begin::Fresh {
         return Ok(());
     }
     match resume(keeper, port) {
@@ -48,25 +58,25 @@ fn begin<K: Keeper, P: Port>(keeper: &mut K, port: &mut P, resumes: bool) -> Res
     }
 }
 
-/// Serves what a port gives, behind the notice that asks for a resend where it resumes. Beside the
-/// ending stand the counts, where no fault ended the session.
+/// Serves what a port gives, behind the notice that asks for a resend where a mount goes on. Beside
+/// the ending stand the counts, where no fault ended the session.
 pub fn serve_port<K: Keeper, P: Port, C: Clock>(
     alloc: Global,
     keeper: &mut K,
     port: &mut P,
     clock: &mut C,
-    resumes: bool,
+    begin: Begin,
 ) -> (Ending, Option<SessionCounts>)
     requires going { (K.told keeper.old).has_failed ≡ false }
     requires receives { (P.told port.old).receives < 2 ^ 62 }
     requires failures { (P.told port.old).failures < 2 ^ 62 }
     ensures served { ServesPort K.told P.told P.became (C.gave clock.old clock.new)
-        keeper.old keeper.new port.old port.new resumes result.0 result.1 }
+        keeper.old keeper.new port.old port.new begin result.0 result.1 }
     ensures failed { (K.told keeper.new).has_failed ≡ true → 3 ≤ status_of result.0 }
     ensures usage { status_of result.0 ≢ 2 }
     ensures same { K.became keeper.old keeper.new 0 }
 {
-    if let Err(ending) = begin(keeper, port, resumes) {
+    if let Err(ending) = send_notice(keeper, port, begin) {
         return (ending, None);
     }
     let served = serve(alloc, keeper, port, clock, MAX_READS);
@@ -75,23 +85,23 @@ pub fn serve_port<K: Keeper, P: Port, C: Clock>(
 
 /// Serves the requests that a FUSE device gives: the reader and the writer are its two sides, of
 /// which one read is one message and one write one answer, so that neither may have a buffer. Where
-/// it resumes, it first asks the kernel to send its pending requests again. Beside the ending stand
-/// the counts, where no fault ended the session.
+/// a mount goes on, it first asks the kernel to send its pending requests again. Beside the ending
+/// stand the counts, where no fault ended the session.
 pub fn run_serve<K: Keeper, R: Read + Drop, W: Write + Drop, C: Clock>(
     alloc: Global,
     keeper: &mut K,
     reader: R,
     writer: W,
     clock: &mut C,
-    resumes: bool,
+    begin: Begin,
 ) -> (Ending, Option<SessionCounts>)
     requires going { (K.told keeper.old).has_failed ≡ false }
     ensures served { ServesDevice K.told (C.gave clock.old clock.new) keeper.old keeper.new
-        reader writer resumes result.0 result.1 }
+        reader writer begin result.0 result.1 }
     ensures failed { (K.told keeper.new).has_failed ≡ true → 3 ≤ status_of result.0 }
     ensures usage { status_of result.0 ≢ 2 }
     ensures same { K.became keeper.old keeper.new 0 }
 {
     let mut port = DevicePort::new(reader, writer);
-    serve_port(alloc, keeper, &mut port, clock, resumes)
+    serve_port(alloc, keeper, &mut port, clock, begin)
 }

@@ -8,7 +8,7 @@ use Rattle.fuse_tree.specs.Rows.{Rows, rowed}
 use Rattle.fuse_tree.specs.Plan.{RowsTellState}
 use Rattle.fuse_keeper.specs.History.{History, after, said, Distinct}
 use Rattle.fuse_keeper.specs.Stands.{Records, Stands}
-use Rattle.fuse_keeper.specs.KeeperState.{BeginsMount, DropsLots, LeavesMount}
+use Rattle.fuse_keeper.specs.KeeperState.{BeginsMount, DropsLots, LeavesMount, StandsFor}
 use Rattle.fuse_keeper.specs.declared.fault.StoreFault.{StoreFault}
 use Rattle.fuse_store.specs.TheTree.{the_tree}
 use Rattle.fuse_tables.specs.Moves.{RestsAs, ServesAs}
@@ -16,6 +16,7 @@ use Rattle.fuse_table_look.specs.Store.{records_of}
 use Rattle.fuse_table_look.specs.Holding.{Holding, HeldFor, lots_of}
 use Rattle.fuse_table_look.specs.Lots.{lots_in, LotsAreSame}
 use Rattle.fuse_table_look.specs.Performing.{OneHolding, HoldingStands}
+use Rattle.fuse_table_keeper.specs.Mounting.{cleared_for}
 use Rattle.fuse_table_keeper.specs.Told.{IsOf, HoldsIn, table_told}
 use Rattle.fuse_table_keeper.proofs.Serving.{Settled, stands_on, holds_at, leaves_either}
 use Rattle.fuse_table_keeper.proofs.Grouping.{its_own}
@@ -37,6 +38,9 @@ pub record Clears (g : Holding → Holding) : Type 0 where
   pub kept : (y : Holding) → (g y).kept ≡ []
   pub lots : (y : Holding) → (g y).lots ≡ []
 
+pub clears_all : Clears cleared_for
+clears_all = record { tree = λ y. refl; kept = λ y. refl; lots = λ y. refl }
+
 module _ (rows_tell : RowsTellState) (g : Holding → Holding) (clears : Clears g) where
   -- it stands for the mount that begins
   begun : (y : Holding) (rows : Rows) (records : Records) (s : TreeState) (h : History) (t : List ℕ) → IsOf y rows records → Stands the_tree rows records s h t
@@ -46,6 +50,17 @@ module _ (rows_tell : RowsTellState) (g : Holding → Holding) (clears : Clears 
       let new : (g y).tree ≡ cleared (after the_tree s h) = clears.tree y ∙ ap cleared same in
       subst (λ ks. Stands the_tree (rowed (g y).tree) (records_of ks) (cleared (after the_tree s h)) [] []) (sym (clears.kept y))
       (subst (λ u. Stands the_tree (rowed (g y).tree) (records_of []) u [] []) new (starts (g y).tree tree))
+
+  -- a store of which a mount began, where it stood for this
+  pub begun_after : OneHolding → (b : State) (y : Holding) → RestsAs (HeldFor (g y)) b → (s : TreeState) (h : History) (t : List ℕ)
+      → Stands the_tree (rowed y.tree) (records_of y.kept) s h t → (lot : Option ℕ) (failed : Bool)
+      → StandsFor (table_told b lot failed) (cleared (after the_tree s h)) [] []
+  begun_after one b y at s h t so lot failed = record {
+    rows = rowed (g y).tree;
+    records = records_of (g y).kept;
+    held = holds_at one b (g y) (rowed (g y).tree) (records_of (g y).kept) at (its_own (g y));
+    stands = begun y (rowed y.tree) (records_of y.kept) s h t (its_own y) so at.holds.tree;
+  }
 
   module _ (one : OneHolding) (a b : State) {X : Type 0} (x : X) (serves : ServesAs {E = StoreFault} HeldFor (λ y. HeldFor (g y)) a b (Ok x)) where
     pub begins_mount : (lot now : Option ℕ) (was is : Bool) → BeginsMount (table_told a lot was) (table_told b now is)

@@ -10,10 +10,9 @@ use Rattle.fuse_tables.specs.Content.{LeftAs}
 use Rattle.fuse_tables.specs.Layout.{no_schema}
 use Rattle.fuse_tables.specs.Making.{IsBare}
 use Rattle.fuse_tables.specs.Moves.{RestsAs}
-use Rattle.fuse_table_look.specs.Holding.{HeldFor}
-use Rattle.fuse_table_keeper.specs.Creating.{new_holding}
+use Rattle.fuse_table_keeper.specs.Creating.{IsBlank, LeavesNew}
 use Rattle.fuse_table_keeper.specs.Opening.{Stored, OpenedFor, WasFor}
-use Rattle.fuse_table_keeper.specs.Starting.{IsBlank, LeavesStarted}
+use Rattle.fuse_table_keeper.specs.Starting.{LeavesStarted}
 use Rattle.fuse_table_keeper.proofs.Reopening.{rests_was, has_meta, no_none}
 
 -- where nothing was made, nothing is stored
@@ -25,11 +24,10 @@ unstored s live settled empty z was =
 pub bare_is_blank : (s : State) → RestsAs (IsBare no_schema tt) s → IsBlank s
 bare_is_blank s bare = (bare.autocommit, bare.holds.schema)
 
-pub left_made : (now : Moment) (a b : State) → ((z : Stored) → WasFor z a → ⊥) → Survives a b (λ db. IsTrue a.is_open → LeftAs (HeldFor (new_holding now)) db)
-    → Survives a b (LeavesStarted now a)
+pub left_made : (now : Moment) (a b : State) → ((z : Stored) → WasFor z a → ⊥) → Survives a b (LeavesNew now a) → Survives a b (LeavesStarted now a)
 left_made now a b none one =
     survives_weaker a b _ (LeavesStarted now a)
-    (λ clean db left. record { made = λ blank is_open. left is_open; opened = λ z was. absurd (none z was) }) one
+    (λ clean db left. record { made = λ blank is_open. left.1 is_open; opened = λ z was. absurd (none z was) }) one
 
 pub left_opened : (now : Moment) (a b : State) → (IsBlank a → ⊥) → Survives a b (λ db. (z : Stored) → WasFor z a → LeftAs (OpenedFor z) db)
     → Survives a b (LeavesStarted now a)

@@ -12,3 +12,4 @@ pub mod Peeking
 pub mod Numbering
 pub mod Restarting
 pub mod Blank
+pub mod Begun

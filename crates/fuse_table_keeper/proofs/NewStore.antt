@@ -15,7 +15,7 @@ use Rattle.fuse_tables.specs.Making.{IsBare, IsNew, new_store}
 use Rattle.fuse_tables.specs.Moves.{RestsAs, ServesAs}
 use Rattle.fuse_table_look.specs.Store.{Tells, byte_at}
 use Rattle.fuse_table_look.specs.Holding.{HeldFor, store_of}
-use Rattle.fuse_table_keeper.specs.Creating.{new_holding}
+use Rattle.fuse_table_keeper.specs.Creating.{IsBlank, new_holding}
 use Rattle.fuse_table_keeper.proofs.Retelling.{Retold}
 
 no_bytes : (f : Full) (i j : ℕ) → f.content ≡ [] → (b : Bool) → byte_at [] i ≡ byte_at (content_of (cond b (Some f) None)) j
@@ -55,6 +55,14 @@ made_new is_tree now low z d at = record {
 pub no_transaction : (m : Bool) → true ≡ not m → m ≡ false
 no_transaction false value = refl
 no_transaction true value = absurd cc
+
+-- nothing was made in it
+pub is_blank : (s : State) (schema : Schema) → true ≡ not s.in_transaction → schema ≡ s.now.schema → schema ≡ no_schema → IsBlank s
+is_blank s schema outside is empty = (no_transaction s.in_transaction outside, sym is ∙ empty)
+
+pub known_ok : {X E P : Type 0} (r : Result X E) → P → OnOk r P
+known_ok (Ok x) known = known
+known_ok (Err e) known = tt
 
 -- an open database without a transaction, whose schema is empty
 pub was_bare : (s : State) (schema : Schema) → true ≡ not s.in_transaction → (IsTrue s.is_open → s.now ≡ s.committed) → IsLive s → schema ≡ s.now.schema

@@ -1,13 +1,13 @@
 // A new store.
-ghost use Rattle.std.specs.Prelude.{◌≡◌, ◌<◌, ◌^◌, ◌↔◌, IsTrue, OnOk};
+ghost use Rattle.std.specs.Prelude.{◌≡◌, ◌<◌, ◌^◌, ◌↔◌, IsTrue, IfErr, OnOk};
 ghost use Rattle.sqlite.specs.State.{HasCleanDisk, Survives};
 ghost use Rattle.sqlite.specs.Held.{state};
-ghost use Rattle.fuse_tables.specs.Content.{LeftAs};
+ghost use Rattle.fuse_tables.specs.Faults.{IsPlain};
 ghost use Rattle.fuse_tables.specs.Layout.{no_schema};
 ghost use Rattle.fuse_tables.specs.Making.{IsBare};
 ghost use Rattle.fuse_tables.specs.Moves.{RestsAs, ServesAs, IsSafe};
 ghost use Rattle.fuse_table_look.specs.Holding.{HeldFor};
-ghost use Rattle.fuse_table_keeper.specs.Creating.{new_holding};
+ghost use Rattle.fuse_table_keeper.specs.Creating.{new_holding, IsBlank, LeavesNew};
 
 use fuse_keeper::StoreFault;
 use fuse_tables::make_store;
@@ -34,14 +34,20 @@ fn wide(number: u64)
 pub fn make_for<S: Alter>(conn: &mut Connection<S>, now: Moment) -> Result<(), StoreFault>
     ensures serves { ServesAs (IsBare no_schema) (λ _. HeldFor (new_holding now))
         (state S.Store conn.old) (state S.Store conn.new) result }
-    ensures empty { OnOk result ((state S.Store conn.old).now.schema ≡ no_schema) }
+    ensures blank { OnOk result (IsBlank (state S.Store conn.old)) }
+    ensures was { HasCleanDisk (state S.Store conn.new)
+        → OnOk result (IsTrue (state S.Store conn.old).is_open) }
     ensures done { HasCleanDisk (state S.Store conn.new) → OnOk result
         (IsTrue (state S.Store conn.old).is_open
         → RestsAs (HeldFor (new_holding now)) (state S.Store conn.new)) }
-    ensures crash { Survives (state S.Store conn.old) (state S.Store conn.new) (λ db.
-        IsTrue (state S.Store conn.old).is_open → LeftAs (HeldFor (new_holding now)) db) }
+    ensures crash { Survives (state S.Store conn.old) (state S.Store conn.new)
+        (LeavesNew now (state S.Store conn.old)) }
     ensures fault { IsSafe (IsBare no_schema) (state S.Store conn.old) (state S.Store conn.new)
         result }
+    // It never says that there is no store, or one of another version.
+    ensures plain { IfErr result IsPlain }
+    // Where something was made, nothing is done.
+    ensures untouched { (IsBlank (state S.Store conn.old) → ⊥) → conn.new ≡ conn.old }
 {
     new_store_is_tree();
     wide(now.secs);

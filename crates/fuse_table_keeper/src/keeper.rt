@@ -5,7 +5,7 @@ ghost use Rattle.sqlite.specs.Held.{state};
 ghost use Rattle.fuse_table_look.specs.Looking.{look_fault};
 
 use crate::creating::make_for;
-use crate::mounting::begin_mount;
+use crate::mounting::{begin_mount, set_up_begun};
 use crate::opening::set_up_for;
 use fuse_answer::Answer;
 use fuse_init::Settings;
@@ -40,18 +40,21 @@ impl<S: Alter> TableKeeper<S> {
     ghost use Rattle.fuse_keeper.specs.Stands.{Records};
     ghost use Rattle.fuse_keeper.specs.Lots.{SameLots};
     ghost use Rattle.fuse_tables.specs.Content.{Content, LeftAs};
-    ghost use Rattle.fuse_tables.specs.Faults.{IsOutside};
+    ghost use Rattle.fuse_tables.specs.Faults.{IsOutside, IsPlain};
     ghost use Rattle.fuse_tables.specs.Layout.{no_schema};
     ghost use Rattle.fuse_tables.specs.Making.{IsBare};
     ghost use Rattle.fuse_tables.specs.Moves.{RestsAs};
     ghost use Rattle.fuse_tables.specs.Opening.{IsLaid, HasMeta};
-    ghost use Rattle.fuse_tables.specs.Saying.{Says};
+    ghost use Rattle.fuse_tables.specs.Saying.{Says, IsTabled};
     ghost use Rattle.fuse_table_look.specs.Store.{records_of};
-    ghost use Rattle.fuse_table_look.specs.Holding.{HeldFor, lots_of};
-    ghost use Rattle.fuse_table_keeper.specs.Creating.{new_holding};
+    ghost use Rattle.fuse_table_look.specs.Holding.{lots_of};
+    ghost use Rattle.fuse_table_look.specs.Lots.{lots_in};
+    ghost use Rattle.fuse_table_keeper.specs.Creating.{IsBlank, LeavesNew, new_holding};
     ghost use Rattle.fuse_table_keeper.specs.Opening.{Stored, StoredFor, OpenedFor, WasFor};
     ghost use Rattle.fuse_table_keeper.specs.Opening.{opened_for};
-    ghost use Rattle.fuse_table_keeper.specs.Told.{HoldsIn};
+    ghost use Rattle.fuse_table_keeper.specs.Starting.{LeavesBegun, IsLeftOrOpened, begun_for};
+    ghost use Rattle.fuse_table_keeper.specs.Starting.{BeginsAfter};
+    ghost use Rattle.fuse_table_keeper.specs.Told.{HoldsIn, MayLeave};
     ghost use Rattle.fuse_table_keeper.specs.TableKeeper.{keeper_told};
 
     /// A new store in a database without a table, made at this moment in one transaction. A fault
@@ -67,19 +70,29 @@ impl<S: Alter> TableKeeper<S> {
         ensures going { IfOk result (λ k. (keeper_told S.Store k).has_failed ≡ false) }
         ensures firm { IfOk result (λ k. (keeper_told S.Store k).is_honest
             → IsFirm (keeper_told S.Store k)) }
-        ensures empty { IfOk result (λ k. (state S.Store conn).now.schema ≡ no_schema) }
+        ensures lots { IfOk result (λ k. (keeper_told S.Store k).is_honest
+            → IsTrue (state S.Store conn).is_open
+            → SameLots (lots_of None (new_holding now)) (keeper_told S.Store k).lots) }
+        ensures blank { IfOk result (λ k. IsBlank (state S.Store conn)) }
+        ensures was { IfOk result (λ k. (keeper_told S.Store k).is_honest
+            → IsTrue (state S.Store conn).is_open) }
         ensures honest { IfOk result (λ k. (keeper_told S.Store k).is_honest
             → HasCleanDisk (state S.Store conn)) }
-        ensures crash { IfErr result (λ r. Survives (state S.Store conn) (state S.Store r.1) (λ db.
-            IsTrue (state S.Store conn).is_open → LeftAs (HeldFor (new_holding now)) db)) }
+        ensures crash { IfErr result (λ r. Survives (state S.Store conn) (state S.Store r.1)
+            (LeavesNew now (state S.Store conn))) }
         ensures kept { IfErr result (λ r. HasCleanDisk (state S.Store r.1)
             → IsTrue (state S.Store r.1).is_open
             → RestsAs (IsBare no_schema tt) (state S.Store conn)
             → RestsAs (IsBare no_schema tt) (state S.Store r.1)) }
         ensures fault { IfErr result (λ r. HasCleanDisk (state S.Store r.1)
             → RestsAs (IsBare no_schema tt) (state S.Store conn) → IsOutside r.0) }
+        // It never says that there is no store, or one of another version.
+        ensures plain { IfErr result (λ r. IsPlain r.0) }
+        // Where something was made, nothing is done.
+        ensures untouched { IfErr result (λ r. (IsBlank (state S.Store conn) → ⊥) → r.1 ≡ conn) }
     {
         one_holding();
+        lots_are_read();
         match make_for(&mut conn, now) {
             Ok(()) => Ok(TableKeeper {
                 look: TableLook {
@@ -95,7 +108,8 @@ impl<S: Alter> TableKeeper<S> {
     }
 
     /// The store of a database. One of version 1 is of version 2 afterwards, made so in one
-    /// transaction. A fault gives the connection back.
+    /// transaction. A fault gives the connection back: `NotAStore` where `meta` or its row of the
+    /// version isn't there, then `Version`, then `Damaged`, as where a table is missing or a view.
     pub fn open(
         alloc: Global,
         mut conn: Connection<S>,
@@ -123,13 +137,68 @@ impl<S: Alter> TableKeeper<S> {
             → WasFor z (state S.Store conn) → IsOutside r.0) }
         ensures says { IfErr result (λ r. HasCleanDisk (state S.Store r.1)
             → Says (state S.Store conn).now r.0) }
-        // Nothing is opened over a `meta` that is damaged.
+        // Nothing is opened over a `meta` that is damaged, or without a table of its version.
         ensures whole { IfOk result (λ k. (keeper_told S.Store k).is_honest → (c : Content)
             → IsLaid c (state S.Store conn).now → HasMeta c) }
+        ensures tabled { IfOk result (λ k. (keeper_told S.Store k).is_honest
+            → IsTabled (state S.Store conn).now) }
     {
         one_holding();
         lots_are_read();
         match set_up_for(&mut conn) {
+            Ok(()) => Ok(TableKeeper {
+                look: TableLook {
+                    alloc,
+                    conn,
+                    fault: None,
+                },
+                lot: None,
+                failed: false,
+            }),
+            Err(fault) => Err((fault, conn)),
+        }
+    }
+
+    // The store of a database, for a mount that begins. A fault gives the connection back.
+    pub(crate) fn open_begun(
+        alloc: Global,
+        mut conn: Connection<S>,
+    ) -> Result<TableKeeper<S>, (StoreFault, Connection<S>)>
+        ensures holds { IfOk result (λ k. (keeper_told S.Store k).is_honest → (z : Stored)
+            → WasFor z (state S.Store conn) → (keeper_told S.Store k).holds
+            (rowed (begun_for z).tree) (records_of (begun_for z).kept)) }
+        ensures begins { IfOk result (λ k. (keeper_told S.Store k).is_honest → (z : Stored)
+            → WasFor z (state S.Store conn) → BeginsAfter z (keeper_told S.Store k)) }
+        ensures lots { IfOk result (λ k. (keeper_told S.Store k).is_honest → (z : Stored)
+            → WasFor z (state S.Store conn)
+            → SameLots (lots_of None (begun_for z)) (keeper_told S.Store k).lots) }
+        ensures was { IfOk result (λ k. (keeper_told S.Store k).is_honest
+            → IsTrue (state S.Store conn).is_open
+            × ((state S.Store conn).in_transaction ≡ false)) }
+        ensures honest { IfOk result (λ k. (keeper_told S.Store k).is_honest
+            → HasCleanDisk (state S.Store conn)) }
+        ensures going { IfOk result (λ k. (keeper_told S.Store k).has_failed ≡ false) }
+        ensures firm { IfOk result (λ k. (keeper_told S.Store k).is_honest
+            → IsFirm (keeper_told S.Store k)) }
+        ensures crash { IfErr result (λ r. Survives (state S.Store conn) (state S.Store r.1)
+            (LeavesBegun (state S.Store conn))) }
+        ensures kept { IfErr result (λ r. HasCleanDisk (state S.Store r.1)
+            → IsTrue (state S.Store r.1).is_open → (z : Stored) → WasFor z (state S.Store conn)
+            → IsLeftOrOpened z (state S.Store r.1)) }
+        ensures fault { IfErr result (λ r. HasCleanDisk (state S.Store r.1) → (z : Stored)
+            → WasFor z (state S.Store conn) → IsOutside r.0) }
+        ensures says { IfErr result (λ r. HasCleanDisk (state S.Store r.1)
+            → Says (state S.Store conn).now r.0) }
+        // Nothing is opened over a `meta` that is damaged, or without a table of its version.
+        ensures whole { IfOk result (λ k. (keeper_told S.Store k).is_honest → (c : Content)
+            → IsLaid c (state S.Store conn).now → HasMeta c) }
+        ensures tabled { IfOk result (λ k. (keeper_told S.Store k).is_honest
+            → IsTabled (state S.Store conn).now) }
+    {
+        one_holding();
+        lots_are_read();
+        rows_tell_state();
+        match set_up_begun(&mut conn) {
             Ok(()) => Ok(TableKeeper {
                 look: TableLook {
                     alloc,
@@ -150,6 +219,14 @@ impl<S: Alter> TableKeeper<S> {
             → HoldsIn (state S.Store result) rows records }
         ensures honest { HasCleanDisk (state S.Store result)
             → (keeper_told S.Store self).is_honest }
+        ensures clean { (keeper_told S.Store self).is_honest
+            → HasCleanDisk (state S.Store result) }
+        ensures lots { SameLots (keeper_told S.Store self).lots
+            (lots_in (keeper_told S.Store self).lots.current (state S.Store result).now) }
+        // A crash may then leave what it could leave before.
+        ensures left { (rows : Rows) (records : Records)
+            → MayLeave (state S.Store result) rows records
+            → (keeper_told S.Store self).may_leave rows records }
     {
         let look = self.look;
         look.conn
@@ -158,7 +235,7 @@ impl<S: Alter> TableKeeper<S> {
 
 impl<S: Alter + Drop> Keeper for TableKeeper<S> {
     ghost use Rattle.fuse_store.specs.TheTree.{the_tree};
-    ghost use Rattle.std.specs.Prelude.{length, IfOk, OnOk};
+    ghost use Rattle.std.specs.Prelude.{length, IfOk, IfErr, OnOk};
     ghost use Rattle.fuse_tree.specs.Rows.{Rows};
     ghost use Rattle.fuse_keeper.specs.KeeperState.{AnswersNoMore, Called, Looked};
     ghost use Rattle.fuse_keeper.specs.KeeperState.{IsFirm, Performs, Tells};
@@ -166,6 +243,7 @@ impl<S: Alter + Drop> Keeper for TableKeeper<S> {
     ghost use Rattle.fuse_keeper.specs.KeeperState.{BeginsMount, DropsLots, LeavesMount};
     ghost use Rattle.fuse_keeper.specs.Group.{entries_of, ids_of};
     ghost use Rattle.fuse_keeper.specs.Stands.{Records, CountsRecords};
+    ghost use Rattle.fuse_tables.specs.Faults.{IsPlain};
     ghost use Rattle.fuse_table_keeper.specs.TableKeeper.{keeper_told};
     ghost use Rattle.fuse_table_keeper.specs.TableKeeper.{FaultsOutside, FaultsOutsideWithLot};
     ghost use Rattle.fuse_table_keeper.specs.Laws.{one_held};
@@ -199,6 +277,8 @@ impl<S: Alter + Drop> Keeper for TableKeeper<S> {
             → IsFirm (keeper_told S.Store self.new)) }
         // Never `Damaged` of what it holds, but where no lot is left.
         ensures fault { FaultsOutsideWithLot S.Store self.old self.new result }
+        // It never says that there is no store, or one of another version. No call does.
+        ensures plain { IfErr result IsPlain }
     {
         one_holding();
         calls_perform();
@@ -227,6 +307,7 @@ impl<S: Alter + Drop> Keeper for TableKeeper<S> {
         ensures firm { OnOk result ((keeper_told S.Store self.new).is_honest
             → IsFirm (keeper_told S.Store self.new)) }
         ensures fault { FaultsOutside S.Store self.old self.new result }
+        ensures plain { IfErr result IsPlain }
     {
         one_holding();
         lots_are_read();
@@ -251,6 +332,7 @@ impl<S: Alter + Drop> Keeper for TableKeeper<S> {
             → (rows : Rows) (records : Records)
             → (keeper_told S.Store self.old).holds rows records → answer ≡ records id.0) }
         ensures fault { FaultsOutside S.Store self.old self.new result }
+        ensures plain { IfErr result IsPlain }
     {
         one_holding();
         lots_are_read();
@@ -269,6 +351,7 @@ impl<S: Alter + Drop> Keeper for TableKeeper<S> {
         ensures ok { IfOk result (λ settings. Tells (keeper_told S.Store self.old)
             (keeper_told S.Store self.new) (λ rows records. settings ≡ the_tree.settings rows)) }
         ensures fault { FaultsOutside S.Store self.old self.new result }
+        ensures plain { IfErr result IsPlain }
     {
         one_holding();
         lots_are_read();
@@ -296,6 +379,7 @@ impl<S: Alter + Drop> Keeper for TableKeeper<S> {
             (keeper_told S.Store self.new)
             (λ rows records. counts.lots ≡ length (keeper_told S.Store self.old).lots.numbers)) }
         ensures fault { FaultsOutside S.Store self.old self.new result }
+        ensures plain { IfErr result IsPlain }
     {
         one_holding();
         lots_are_read();

@@ -8,7 +8,7 @@ ghost use Rattle.fuse_tables.specs.Content.{Content, LeftAs};
 ghost use Rattle.fuse_tables.specs.Faults.{IsOutside};
 ghost use Rattle.fuse_tables.specs.Moves.{RestsAs, ServesAs, IsSafe};
 ghost use Rattle.fuse_tables.specs.Opening.{IsLaid, HasMeta};
-ghost use Rattle.fuse_tables.specs.Saying.{Says};
+ghost use Rattle.fuse_tables.specs.Saying.{Says, IsTabled};
 ghost use Rattle.fuse_table_keeper.specs.Opening.{Stored, StoredFor, OpenedFor, WasFor};
 
 use fuse_keeper::StoreFault;
@@ -27,9 +27,12 @@ pub fn set_up_for<S: Alter>(conn: &mut Connection<S>) -> Result<(), StoreFault>
         × ((state S.Store conn.old).in_transaction ≡ false)) }
     ensures says { HasCleanDisk (state S.Store conn.new)
         → IfErr result (Says (state S.Store conn.old).now) }
-    // Nothing is opened over a `meta` that is damaged, and what isn't there isn't made.
+    // Nothing is opened over a `meta` that is damaged, or without a table of its version; and what
+    // isn't there isn't made.
     ensures whole { HasCleanDisk (state S.Store conn.new) → OnOk result ((c : Content)
         → IsLaid c (state S.Store conn.old).now → HasMeta c) }
+    ensures tabled { HasCleanDisk (state S.Store conn.new)
+        → OnOk result (IsTabled (state S.Store conn.old).now) }
     ensures absent { (state S.Store conn.old).in_transaction ≡ false
         → table_named (state S.Store conn.old).now.schema (codes "meta") ≡ None
         → IsErrAnd result (λ f. f ≡ NotAStore) }

@@ -13,14 +13,16 @@ ghost use Rattle.fuse_tables.specs.Moves.{RestsAs};
 ghost use Rattle.fuse_tables.specs.Saying.{Says};
 ghost use Rattle.fuse_table_look.specs.Store.{records_of};
 ghost use Rattle.fuse_table_look.specs.Holding.{lots_of};
+ghost use Rattle.fuse_table_keeper.specs.Creating.{IsBlank};
 ghost use Rattle.fuse_table_keeper.specs.Opening.{Stored, StoredFor, WasFor, opened_for};
-ghost use Rattle.fuse_table_keeper.specs.Starting.{IsBlank, LeavesStarted, BeginsAfter};
+ghost use Rattle.fuse_table_keeper.specs.Starting.{LeavesStarted, BeginsAfter};
+ghost use Rattle.fuse_table_keeper.specs.Starting.{LeavesFresh, IsLeftOrOpened, begun_for};
 ghost use Rattle.fuse_table_keeper.specs.Storing.{opening_fault};
 ghost use Rattle.fuse_table_keeper.specs.TableKeeper.{keeper_told};
 
 use crate::creating::is_empty;
 use crate::keeper::TableKeeper;
-use fuse_keeper::{Keeper, StoreFault};
+use fuse_keeper::StoreFault;
 use fuse_wire::Moment;
 use sqlite::{Alter, Connection, Error, ErrorCode};
 use std::alloc::Global;
@@ -84,7 +86,7 @@ pub fn open_or_create<S: Alter>(
 /// The keeper over a database, for a mount that begins. Where nothing was made in it yet, it gets a
 /// new store of this moment; else a mount begins of what is stored there. A fault gives the
 /// connection back.
-pub fn open_fresh<S: Alter + Drop>(
+pub fn open_fresh<S: Alter>(
     alloc: Global,
     conn: Connection<S>,
     now: Moment,
@@ -92,24 +94,45 @@ pub fn open_fresh<S: Alter + Drop>(
     ensures stands { IfOk result (λ k. (keeper_told S.Store k).is_honest
         → IsBlank (state S.Store conn) → IsTrue (state S.Store conn).is_open
         → StandsFor (keeper_told S.Store k) (new_store now) [] []) }
+    ensures holds { IfOk result (λ k. (keeper_told S.Store k).is_honest → (z : Stored)
+        → WasFor z (state S.Store conn) → (keeper_told S.Store k).holds
+        (rowed (begun_for z).tree) (records_of (begun_for z).kept)) }
     ensures begins { IfOk result (λ k. (keeper_told S.Store k).is_honest → (z : Stored)
         → WasFor z (state S.Store conn) → BeginsAfter z (keeper_told S.Store k)) }
+    ensures lots { IfOk result (λ k. (keeper_told S.Store k).is_honest → (z : Stored)
+        → WasFor z (state S.Store conn)
+        → SameLots (lots_of None (begun_for z)) (keeper_told S.Store k).lots) }
+    ensures was { IfOk result (λ k. (keeper_told S.Store k).is_honest
+        → (state S.Store conn).in_transaction ≡ false) }
+    ensures honest { IfOk result (λ k. (keeper_told S.Store k).is_honest
+        → HasCleanDisk (state S.Store conn)) }
     ensures firm { IfOk result (λ k. (keeper_told S.Store k).is_honest
         → IsFirm (keeper_told S.Store k)) }
     ensures going { IfOk result (λ k. (keeper_told S.Store k).has_failed ≡ false) }
+    ensures crash { IfErr result (λ r. Survives (state S.Store conn) (state S.Store r.1)
+        (LeavesFresh now (state S.Store conn))) }
+
+    // A fault leaves what was there, where it was opened maybe as version 2, and says nothing of it
+    // where it was right.
+    ensures bare { IfErr result (λ r. HasCleanDisk (state S.Store r.1)
+        → IsTrue (state S.Store r.1).is_open
+        → RestsAs (IsBare no_schema tt) (state S.Store conn)
+        → RestsAs (IsBare no_schema tt) (state S.Store r.1)) }
+    ensures kept { IfErr result (λ r. HasCleanDisk (state S.Store r.1)
+        → IsTrue (state S.Store r.1).is_open → (z : Stored) → WasFor z (state S.Store conn)
+        → IsLeftOrOpened z (state S.Store r.1)) }
+    ensures fault_bare { IfErr result (λ r. HasCleanDisk (state S.Store r.1)
+        → RestsAs (IsBare no_schema tt) (state S.Store conn) → IsOutside r.0) }
+    ensures fault { IfErr result (λ r. HasCleanDisk (state S.Store r.1) → (z : Stored)
+        → WasFor z (state S.Store conn) → IsOutside r.0) }
+    ensures says { IfErr result (λ r. HasCleanDisk (state S.Store r.1)
+        → (IsBlank (state S.Store conn) → ⊥) → Says (state S.Store conn).now r.0) }
 {
     let blank = is_blank(&conn);
     if blank {
         return TableKeeper::create(alloc, conn, now);
     }
-    let mut keeper = match TableKeeper::open(alloc, conn) {
-        Ok(keeper) => keeper,
-        Err(refused) => return Err(refused),
-    };
-    match keeper.begin_mount() {
-        Ok(()) => Ok(keeper),
-        Err(fault) => Err((fault, keeper.into_connection())),
-    }
+    TableKeeper::open_begun(alloc, conn)
 }
 
 /// The fault of a store whose file isn't opened: what is no database is no store.

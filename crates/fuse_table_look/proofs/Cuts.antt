@@ -21,8 +21,10 @@ use Rattle.fuse_table_look.specs.Changing.{Changed, Cut, Overlaid, KeepsBytes}
 use Rattle.fuse_table_look.proofs.Orders.{all_filter}
 use Rattle.fuse_table_look.proofs.BlockBytes.{lower, upper, others_left}
 use Rattle.fuse_table_look.proofs.Overlays.{byte_sized, sized_length, zero_at, beyond, low_test, high_test}
-use Rattle.fuse_table_look.proofs.Changes.{bytes_keep, bytes_then, tells_same, rows_same, content_other, content_here, none_changed, none_there, same_number}
-use Rattle.fuse_table_look.proofs.Changes.{held_of}
+use Rattle.fuse_table_look.proofs.Steps.{bytes_keep, bytes_then}
+use Rattle.fuse_table_look.proofs.Writes.{tells_same, rows_same, content_other, content_here, none_changed, none_there}
+use Rattle.fuse_table_look.proofs.RowChanges.{same_number}
+use Rattle.fuse_table_look.proofs.Steps.{held_of}
 
 -- ---- blocks taken out
 

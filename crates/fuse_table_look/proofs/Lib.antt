@@ -4,11 +4,15 @@ pub mod Keys
 pub mod Ranges
 pub mod ListingLemmas
 pub mod Orders
+pub mod Steps
+pub mod RowChanges
+pub mod Writes
 pub mod Changes
 pub mod Parents
 pub mod BlockBytes
 pub mod Overlays
 pub mod Cuts
+pub mod Zeros
 pub mod Turning
 pub mod Records
 pub mod Groups

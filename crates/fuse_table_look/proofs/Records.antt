@@ -19,7 +19,7 @@ use Rattle.fuse_table_look.specs.Store.{Store, Tells, records_of, counters_of, v
 use Rattle.fuse_table_look.specs.Acting.{ActsInside}
 use Rattle.fuse_table_look.specs.Changing.{Keeps}
 use Rattle.fuse_table_look.specs.Laws.{looked_still}
-use Rattle.fuse_table_look.proofs.Changes.{made, made_known}
+use Rattle.fuse_table_look.proofs.Steps.{made, made_known}
 use Rattle.fuse_table_look.proofs.Looks.{key_differs, all_map}
 use Rattle.fuse_table_look.proofs.Orders.{all_put, all_filter}
 use Rattle.fuse_table_look.specs.Holding.{Holding, InsideFor, Turned, AreBelow, store_of}

@@ -7,7 +7,7 @@ use Rattle.fuse_tables.specs.Moves.{Inside, InsideAs, IsReady, Looked, Stays}
 use Rattle.fuse_tables.specs.Following.{earlier, stays_then}
 use Rattle.fuse_table_look.specs.Store.{Store, Held}
 use Rattle.fuse_table_look.specs.Changing.{Changed, Keeps}
-use Rattle.fuse_table_look.proofs.Changes.{keeps_of}
+use Rattle.fuse_table_look.proofs.Steps.{keeps_of}
 use Rattle.fuse_table_look.specs.Holding.{Holding, HeldFor, InsideFor, KeepsFor, Turned, AreBelow, store_of}
 
 pub told_in : (y : Holding) (a : State) → InsideFor y a → InsideAs (Held (store_of y)) a

@@ -2,7 +2,7 @@
 ghost use Rattle.std.specs.Prelude.{◌≡◌, ◌≢◌, Some, ◌<◌, ◌≤◌, ◌^◌, ◌+◌, ◌%◌, ◌++◌, ℕ, List, map};
 ghost use Rattle.std.specs.Prelude.{length, take, drop, replicate, Option, IfSome, IfOk, IfErr};
 ghost use Rattle.std.specs.Prelude.{OnOk, OnErr};
-ghost use Rattle.std.specs.Option.{option_to_list};
+ghost use Rattle.std.specs.Option.{is_some, option_to_list};
 ghost use Rattle.sqlite.specs.State.{HasCleanDisk};
 ghost use Rattle.sqlite.specs.Held.{state};
 ghost use Rattle.fuse_tree.specs.Bounds.{block_bytes, file_limit};
@@ -51,6 +51,30 @@ fn read_block(alloc: Global, rows: &[Row]) -> Result<Vec<u8>, StoreFault>
             }
             Ok(bytes)
         }
+    }
+}
+
+/// Whether there is a block.
+pub(crate) fn has_block<S: Alter>(
+    conn: &mut Connection<S>,
+    node: u64,
+    block: u64,
+) -> Result<bool, StoreFault>
+    requires node { node < 2 ^ 63 }
+    requires block { block < 2 ^ 63 }
+    ensures looks { OnOk result (Looked (state S.Store conn.old) (state S.Store conn.new)) }
+    ensures fails { OnErr result (Stays (state S.Store conn.old) (state S.Store conn.new)) }
+    ensures value { HasCleanDisk (state S.Store conn.new) → IfOk result (λ r. (c : Content)
+        → Inside c (state S.Store conn.old)
+        → r ≡ is_some (block_at node block c.blocks)) }
+    ensures fault { IfErr result IsOutside }
+    ensures plain { IfErr result IsPlain }
+{
+    let rows = select_block(conn, node, block)?;
+    if rows.as_slice().is_empty() {
+        Ok(false)
+    } else {
+        Ok(true)
     }
 }
 

@@ -9,7 +9,7 @@ ghost use Rattle.fuse_tables.specs.Moves.{IsSure};
 ghost use Rattle.fuse_table_look.specs.Changing.{Changed, Cut, Keeps, KeepsBytes};
 ghost use Rattle.fuse_table_look.specs.Store.{Held, HeldAs, with_change};
 
-use crate::storing::write_piece;
+use crate::storing::write_zeros;
 use fuse_keeper::StoreFault;
 use fuse_tables::delete_blocks_from;
 use fuse_tree::BLOCK_SIZE;
@@ -64,7 +64,7 @@ fn cut_within<S: Alter>(
         Err(fault) => return Err(fault),
     };
     match drop_blocks(conn, node, size / u64::from(BLOCK_SIZE) + 1) {
-        Ok(()) => write_piece(conn, alloc, node, size, zeros.as_slice()),
+        Ok(()) => write_zeros(conn, alloc, node, size, zeros.as_slice()),
         Err(fault) => Err(fault),
     }
 }

@@ -1,7 +1,8 @@
 // Reads outside a transaction, which leave what is held and commit nothing.
-ghost use Rattle.std.specs.Prelude.{◌≡◌, length, IfOk};
+ghost use Rattle.std.specs.Prelude.{◌≡◌, length, IfOk, IfErr};
 ghost use Rattle.sqlite.specs.Held.{state};
 ghost use Rattle.fuse_tree.specs.Rows.{rowed};
+ghost use Rattle.fuse_tables.specs.Faults.{IsPlain};
 ghost use Rattle.fuse_tables.specs.Moves.{ServesAs, IsSafe};
 ghost use Rattle.fuse_table_look.specs.Store.{records_of};
 ghost use Rattle.fuse_table_look.specs.Holding.{HeldFor, TellsAfter};
@@ -25,6 +26,8 @@ pub fn answer_at_rest<S: Alter>(
     ensures value { IfOk result (λ r. TellsAfter (state S.Store conn.old)
         (state S.Store conn.new) (λ y. r ≡ records_of y.kept id)) }
     ensures fault { IsSafe HeldFor (state S.Store conn.old) (state S.Store conn.new) result }
+    // It never says that there is no store, or one of another version.
+    ensures plain { IfErr result IsPlain }
 {
     if id >= 1 << 63 {
         return Ok(None);
@@ -40,6 +43,7 @@ pub fn settings_at_rest<S: Alter>(conn: &mut Connection<S>) -> Result<Option<Set
     ensures value { IfOk result (λ r. TellsAfter (state S.Store conn.old)
         (state S.Store conn.new) (λ y. r ≡ (rowed y.tree).settings)) }
     ensures fault { IsSafe HeldFor (state S.Store conn.old) (state S.Store conn.new) result }
+    ensures plain { IfErr result IsPlain }
 {
     let rows = select_counters(conn)?;
     read_settings(rows.as_slice())
@@ -52,6 +56,7 @@ fn counters_at_rest<S: Alter>(conn: &mut Connection<S>) -> Result<Counters, Stor
     ensures value { IfOk result (λ r. TellsAfter (state S.Store conn.old)
         (state S.Store conn.new) (λ y. r ≡ (rowed y.tree).counters)) }
     ensures fault { IsSafe HeldFor (state S.Store conn.old) (state S.Store conn.new) result }
+    ensures plain { IfErr result IsPlain }
 {
     let rows = select_counters(conn)?;
     read_counters(rows.as_slice())
@@ -64,6 +69,7 @@ fn records_at_rest<S: Alter>(conn: &mut Connection<S>) -> Result<u64, StoreFault
     ensures value { IfOk result (λ n. TellsAfter (state S.Store conn.old)
         (state S.Store conn.new) (λ y. n ≡ length y.kept)) }
     ensures fault { IsSafe HeldFor (state S.Store conn.old) (state S.Store conn.new) result }
+    ensures plain { IfErr result IsPlain }
 {
     count_kept(conn)
 }
@@ -75,6 +81,7 @@ fn lots_at_rest<S: Alter>(conn: &mut Connection<S>) -> Result<u64, StoreFault>
     ensures value { IfOk result (λ n. TellsAfter (state S.Store conn.old)
         (state S.Store conn.new) (λ y. n ≡ length y.lots)) }
     ensures fault { IsSafe HeldFor (state S.Store conn.old) (state S.Store conn.new) result }
+    ensures plain { IfErr result IsPlain }
 {
     count_lots(conn)
 }
@@ -92,6 +99,7 @@ pub fn counts_at_rest<S: Alter>(conn: &mut Connection<S>) -> Result<StoreCounts,
     ensures lots { IfOk result (λ counts. TellsAfter (state S.Store conn.old)
         (state S.Store conn.new) (λ y. counts.lots ≡ length y.lots)) }
     ensures fault { IsSafe HeldFor (state S.Store conn.old) (state S.Store conn.new) result }
+    ensures plain { IfErr result IsPlain }
 {
     let counters = counters_at_rest(conn)?;
     let records = records_at_rest(conn)?;

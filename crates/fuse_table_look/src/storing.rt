@@ -1,6 +1,6 @@
 // Bytes of files, written over their blocks.
-ghost use Rattle.std.specs.Prelude.{◌≡◌, ◌≢◌, ◌<◌, ◌≤◌, ◌^◌, ◌+◌, ◌%◌, length, take, drop, IfOk};
-ghost use Rattle.std.specs.Prelude.{IfErr, OnOk, OnErr};
+ghost use Rattle.std.specs.Prelude.{◌≡◌, ◌≢◌, ◌<◌, ◌≤◌, ◌^◌, ◌+◌, ◌%◌, ℕ, length, take, drop};
+ghost use Rattle.std.specs.Prelude.{IfOk, IfErr, OnOk, OnErr};
 ghost use Rattle.sqlite.specs.State.{HasCleanDisk};
 ghost use Rattle.sqlite.specs.Held.{state};
 ghost use Rattle.fuse_tree.specs.Bounds.{block_bytes};
@@ -10,9 +10,10 @@ ghost use Rattle.fuse_tree.specs.declared.rows.Change.TheVariants as changes;
 ghost use Rattle.fuse_tables.specs.Content.{Content};
 ghost use Rattle.fuse_table_look.specs.Fits.{Fits};
 ghost use Rattle.fuse_tables.specs.Moves.{Inside, IsSure, Makes};
-ghost use Rattle.fuse_table_look.specs.Store.{Held, HeldAs, spliced, with_change};
+ghost use Rattle.fuse_table_look.specs.Store.{Held, HeldAs, byte_at, spliced};
+ghost use Rattle.fuse_table_look.specs.Store.{with_change};
 
-use crate::contents::{find_block, first_count};
+use crate::contents::{find_block, first_count, has_block};
 use fuse_keeper::StoreFault;
 use fuse_tables::write_block;
 use fuse_tree::BLOCK_SIZE;
@@ -64,6 +65,36 @@ pub(crate) fn write_piece<S: Alter>(
     match write_block(conn, node, block, made.as_slice()) {
         Ok(_) => Ok(()),
         Err(error) => Err(StoreFault::from(error)),
+    }
+}
+
+/// Writes zeros within one block. Where there is no block its bytes are zeros, and none is made.
+pub(crate) fn write_zeros<S: Alter>(
+    conn: &mut Connection<S>,
+    alloc: Global,
+    node: u64,
+    here: u64,
+    zeros: &[u8],
+) -> Result<(), StoreFault>
+    requires node { node < 2 ^ 63 }
+    requires here { here < 2 ^ 63 }
+    requires within { here % block_bytes + length zeros.now ≤ block_bytes }
+    requires zeros { (i : ℕ) → byte_at zeros.now i ≡ 0 }
+    ensures overlaid { OnOk result (Overlaid node here zeros.now (state S.Store conn.old)
+        (state S.Store conn.new)) }
+    ensures fails { OnErr result (KeepsBytes (state S.Store conn.old) (state S.Store conn.new)) }
+    ensures fault { HasCleanDisk (state S.Store conn.new) → IfErr result (λ f. (c : Content)
+        → Inside c (state S.Store conn.old) → Fits c → IsOutside f) }
+    ensures plain { IfErr result IsPlain }
+{
+    let found = match has_block(conn, node, here / u64::from(BLOCK_SIZE)) {
+        Ok(found) => found,
+        Err(fault) => return Err(fault),
+    };
+    if found {
+        write_piece(conn, alloc, node, here, zeros)
+    } else {
+        Ok(())
     }
 }
 

@@ -8,6 +8,7 @@ pub mod Sorting
 pub mod Ordered
 pub mod Removing
 pub mod Tables
+pub mod Tabled
 pub mod Joining
 pub mod Deletes
 pub mod Updating

@@ -1,7 +1,10 @@
--- Where the tables say that they are no store, or one of another version.
-use Rattle.std.specs.Prelude.{◌≡◌, ◌≢◌, ◌⊎◌, ℕ, pos, List, [], ◌∷◌, codes, None, Ok, ⊤}
+-- Where the tables say that they are no store, or one of another version, and where tables are missing.
+use Rattle.std.specs.Prelude.{◌≡◌, ◌≢◌, ◌⊎◌, ℕ, pos, List, [], ◌∷◌, codes, None, Ok, ⊤, Bool, IsTrue}
+use Rattle.std.specs.List.{list_all}
+use Rattle.std.specs.Option.{is_some}
 use Rattle.sqlite.specs.declared.types.Value.TheVariants.{Int}
 use Rattle.sqlite.specs.Order.{Row, column}
+use Rattle.sqlite.specs.Schema.{Schema}
 use Rattle.sqlite.specs.Effect.{Database, Reads}
 use Rattle.sqlite.specs.Clock.{timed}
 use Rattle.sqlite.specs.Listing.{understood, reads_listing, IsSourceOf}
@@ -32,3 +35,21 @@ abbrev pub Says : Database → StoreFault → Type 0
 Says d NotAStore = (table_named d.schema (codes "meta") ≡ None) ⊎ ShowsVersion d []
 Says d (Version n) = (n ≢ 1) × (n ≢ 2) × TellsVersion d n
 Says d _ = ⊤
+
+-- ---- the tables beside `meta`
+
+-- of version 1
+abbrev pub first_names : List (List ℕ)
+first_names = codes "nodes" ∷ codes "entries" ∷ codes "blocks" ∷ codes "handles" ∷ codes "answers" ∷ []
+
+-- of version 2
+abbrev pub second_names : List (List ℕ)
+second_names = codes "nodes" ∷ codes "entries" ∷ codes "blocks" ∷ codes "handles" ∷ codes "answers" ∷ codes "lots" ∷ codes "kept" ∷ []
+
+-- each of these is a table, and no view
+abbrev pub has_tables : List (List ℕ) → Schema → Bool
+has_tables names schema = list_all (λ name. is_some (table_named schema name)) names
+
+-- it tells one of the two versions, and has all tables of that one
+abbrev pub IsTabled : Database → Type 0
+IsTabled d = (TellsVersion d 1 × IsTrue (has_tables first_names d.schema)) ⊎ (TellsVersion d 2 × IsTrue (has_tables second_names d.schema))

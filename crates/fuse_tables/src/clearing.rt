@@ -2,7 +2,7 @@
 ghost use Rattle.std.specs.Prelude.{◌≡◌, map, List, ℕ, IfErr};
 ghost use Rattle.sqlite.specs.Held.{state};
 ghost use Rattle.fuse_tables.specs.Content.{Holds};
-ghost use Rattle.fuse_tables.specs.Faults.{IsOutside};
+ghost use Rattle.fuse_tables.specs.Faults.{IsOutside, IsPlain};
 ghost use Rattle.fuse_tables.specs.Clearing.{shown_number, number_of, without_blocks_of};
 ghost use Rattle.fuse_tables.specs.Clearing.{without_unnamed_blocks, without_settings};
 ghost use Rattle.fuse_tables.specs.Clearing.{with_nodes_counted, without_records};
@@ -27,6 +27,7 @@ fn delete_blocks_of<S: Alter>(conn: &mut Connection<S>, nodes: &[Row]) -> Result
         (state S.Store conn.new) result }
     ensures fault { IfErr result (λ f. (ns : List ℕ) → nodes.now ≡ map shown_number ns
         → IsOutside f) }
+    ensures plain { IfErr result IsPlain }
 {
     let mut at = 0;
     'nodes: while at < nodes.len() {
@@ -47,6 +48,7 @@ fn clear_blocks<S: Alter>(conn: &mut Connection<S>) -> Result<(), StoreFault>
     ensures made { Makes without_unnamed_blocks (state S.Store conn.old) (state S.Store conn.new)
         result }
     ensures fault { IsSure Holds (state S.Store conn.old) (state S.Store conn.new) result }
+    ensures plain { IfErr result IsPlain }
 {
     let nodes = select_unnamed(conn)?;
     delete_blocks_of(conn, nodes.as_slice())
@@ -57,6 +59,7 @@ fn recount<S: Alter>(conn: &mut Connection<S>) -> Result<usize, StoreFault>
     ensures counted { Makes with_nodes_counted (state S.Store conn.old) (state S.Store conn.new)
         result }
     ensures fault { IsSure Holds (state S.Store conn.old) (state S.Store conn.new) result }
+    ensures plain { IfErr result IsPlain }
 {
     let count = count_nodes(conn)?;
     Ok(update_counter(conn, 5, count)?)
@@ -93,6 +96,7 @@ fn clear_nodes<S: Alter>(conn: &mut Connection<S>) -> Result<usize, StoreFault>
     ensures made { Makes without_unnamed_nodes (state S.Store conn.old) (state S.Store conn.new)
         result }
     ensures fault { IsSure Holds (state S.Store conn.old) (state S.Store conn.new) result }
+    ensures plain { IfErr result IsPlain }
 {
     clear_blocks(conn)?;
     delete_unnamed(conn)?;
@@ -103,6 +107,7 @@ fn clear_nodes<S: Alter>(conn: &mut Connection<S>) -> Result<usize, StoreFault>
 fn clear<S: Alter>(conn: &mut Connection<S>) -> Result<usize, StoreFault>
     ensures made { Makes cleared (state S.Store conn.old) (state S.Store conn.new) result }
     ensures fault { IsSure Holds (state S.Store conn.old) (state S.Store conn.new) result }
+    ensures plain { IfErr result IsPlain }
 {
     clear_records(conn)?;
     clear_handles(conn)?;
@@ -114,6 +119,7 @@ fn clear<S: Alter>(conn: &mut Connection<S>) -> Result<usize, StoreFault>
 fn transact<S: Alter>(conn: &mut Connection<S>) -> Result<(), StoreFault>
     ensures performs { Performs cleared (state S.Store conn.old) (state S.Store conn.new) result }
     ensures fault { IsSafe Holds (state S.Store conn.old) (state S.Store conn.new) result }
+    ensures plain { IfErr result IsPlain }
 {
     begin(conn)?;
     clear(conn)?;
@@ -128,6 +134,8 @@ pub fn begin_mount<S: Alter>(conn: &mut Connection<S>) -> Result<(), StoreFault>
     ensures fit { ServesAs IsSecond (λ c. IsSecond (cleared c)) (state S.Store conn.old)
         (state S.Store conn.new) result }
     ensures fault { IsSafe Holds (state S.Store conn.old) (state S.Store conn.new) result }
+    // It never says that there is no store, or one of another version.
+    ensures plain { IfErr result IsPlain }
 {
     match transact(conn) {
         Ok(()) => Ok(()),

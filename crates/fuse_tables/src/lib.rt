@@ -13,6 +13,7 @@ mod migrating;
 mod nodes;
 mod opening;
 mod records;
+mod schema;
 mod statements;
 mod typed;
 mod values;

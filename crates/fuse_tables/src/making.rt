@@ -1,5 +1,8 @@
 // A new store, made in one transaction.
+ghost use Rattle.std.specs.Prelude.{IsTrue, IfErr, OnOk};
+ghost use Rattle.sqlite.specs.State.{HasCleanDisk};
 ghost use Rattle.sqlite.specs.Held.{state};
+ghost use Rattle.fuse_tables.specs.Faults.{IsPlain};
 ghost use Rattle.fuse_tables.specs.Layout.{no_schema, with_meta, with_nodes, with_entries};
 ghost use Rattle.fuse_tables.specs.Layout.{with_blocks, with_handles, with_answers, with_lots};
 ghost use Rattle.fuse_tables.specs.Layout.{with_kept, store_schema};
@@ -153,6 +156,9 @@ fn transact<S: Alter>(conn: &mut Connection<S>, now: Moment) -> Result<(), Store
         (state S.Store conn.new) result }
     ensures fault { IsSafe (IsBare no_schema) (state S.Store conn.old) (state S.Store conn.new)
         result }
+    ensures plain { IfErr result IsPlain }
+    ensures was { HasCleanDisk (state S.Store conn.new)
+        → OnOk result (IsTrue (state S.Store conn.old).is_open) }
 {
     begin(conn)?;
     make_all(conn, now)?;
@@ -166,6 +172,10 @@ pub fn make_store<S: Alter>(conn: &mut Connection<S>, now: Moment) -> Result<(),
         (state S.Store conn.new) result }
     ensures fault { IsSafe (IsBare no_schema) (state S.Store conn.old) (state S.Store conn.new)
         result }
+    // It never says that there is no store, or one of another version.
+    ensures plain { IfErr result IsPlain }
+    ensures was { HasCleanDisk (state S.Store conn.new)
+        → OnOk result (IsTrue (state S.Store conn.old).is_open) }
 {
     match transact(conn, now) {
         Ok(()) => Ok(()),

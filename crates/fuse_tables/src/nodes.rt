@@ -1,5 +1,5 @@
 // The table of nodes.
-ghost use Rattle.std.specs.Prelude.{◌≡◌, ◌<◌, ◌^◌, [], ◌∷◌, map, IfOk, OnOk, OnErr};
+ghost use Rattle.std.specs.Prelude.{◌≡◌, ◌<◌, ◌^◌, [], ◌∷◌, map, IfOk, IfErr, OnOk, OnErr};
 ghost use Rattle.std.specs.Option.{option_to_list};
 ghost use Rattle.sqlite.specs.State.{HasCleanDisk};
 ghost use Rattle.sqlite.specs.Held.{state};
@@ -9,6 +9,7 @@ ghost use Rattle.fuse_tables.specs.Moves.{Inside, Makes, Looked, Stays, IsSure};
 ghost use Rattle.fuse_tables.specs.Content.{Content, Holds, given_node, node_columns, node_key};
 ghost use Rattle.fuse_tables.specs.Content.{at_by, with_node, set_node, without_unnamed};
 ghost use Rattle.fuse_tables.specs.Clearing.{shown_number, counted_to, unnamed_numbers};
+ghost use Rattle.fuse_tables.specs.Faults.{IsPlain};
 
 use crate::typed::the_number;
 use crate::values::number;
@@ -120,6 +121,7 @@ pub fn count_nodes<S: Alter>(conn: &mut Connection<S>) -> Result<u64, StoreFault
         → Inside c (state S.Store conn.old) → n ≡ counted_to c.nodes) }
     ensures small { IfOk result (λ n. n < 2 ^ 63) }
     ensures fault { IsSure Holds (state S.Store conn.old) (state S.Store conn.new) result }
+    ensures plain { IfErr result IsPlain }
 {
     let rows = select_count(conn)?;
     the_number(rows.as_slice())

@@ -3,7 +3,7 @@ ghost use Rattle.std.specs.Prelude.{IsTrue, OnOk, IfErr};
 ghost use Rattle.sqlite.specs.State.{HasCleanDisk};
 ghost use Rattle.sqlite.specs.Held.{state};
 ghost use Rattle.fuse_tables.specs.Faults.{IsPlain};
-ghost use Rattle.fuse_tables.specs.Saying.{Says};
+ghost use Rattle.fuse_tables.specs.Saying.{Says, IsTabled};
 ghost use Rattle.fuse_tables.specs.Content.{Content};
 ghost use Rattle.fuse_tables.specs.Moves.{RestsAs, Takes, PerformsAs, ServesAs, IsSure, IsSafe};
 ghost use Rattle.fuse_tables.specs.Opening.{IsStored, IsFirst, IsSecond, IsOpened, IsLaid};
@@ -11,6 +11,7 @@ ghost use Rattle.fuse_tables.specs.Opening.{IsMeta, HasMeta, Tests};
 
 use crate::meta::{check_meta, find_version};
 use crate::migrating::migrate;
+use crate::schema::{has_first, has_second};
 use crate::statements::{begin, commit, undo};
 use fuse_keeper::StoreFault;
 use sqlite::{Alter, Connection};
@@ -42,12 +43,23 @@ fn work<S: Alter>(conn: &mut Connection<S>) -> Result<(), StoreFault>
     ensures says { HasCleanDisk (state S.Store conn.new)
         → IfErr result (Says (state S.Store conn.old).now) }
     ensures whole { Tests HasMeta (state S.Store conn.old) (state S.Store conn.new) result }
+    ensures tabled { HasCleanDisk (state S.Store conn.new)
+        → OnOk result (IsTabled (state S.Store conn.old).now) }
 {
+    let schema = conn.schema();
+    let first = has_first(schema);
+    let second = has_second(schema);
     let version = find_version(conn)?;
     if version == 1 {
+        if !first {
+            return Err(StoreFault::Damaged);
+        }
         open_first(conn)?;
         Ok(())
     } else if version == 2 {
+        if !second {
+            return Err(StoreFault::Damaged);
+        }
         open_second(conn)
     } else {
         Err(StoreFault::Version(version))
@@ -65,6 +77,8 @@ fn transact<S: Alter>(conn: &mut Connection<S>) -> Result<(), StoreFault>
         → IfErr result (Says (state S.Store conn.old).now) }
     ensures whole { HasCleanDisk (state S.Store conn.new) → OnOk result ((c : Content)
         → RestsAs (IsLaid c) (state S.Store conn.old) → HasMeta c) }
+    ensures tabled { HasCleanDisk (state S.Store conn.new)
+        → OnOk result (IsTabled (state S.Store conn.old).now) }
 {
     begin(conn)?;
     work(conn)?;
@@ -82,9 +96,11 @@ pub fn set_up<S: Alter>(conn: &mut Connection<S>) -> Result<(), StoreFault>
         → OnOk result (IsTrue (state S.Store conn.old).is_open) }
     ensures says { HasCleanDisk (state S.Store conn.new)
         → IfErr result (Says (state S.Store conn.old).now) }
-    // Nothing is opened over a `meta` that is damaged.
+    // Nothing is opened over a `meta` that is damaged, or without a table.
     ensures whole { HasCleanDisk (state S.Store conn.new) → OnOk result ((c : Content)
         → RestsAs (IsLaid c) (state S.Store conn.old) → HasMeta c) }
+    ensures tabled { HasCleanDisk (state S.Store conn.new)
+        → OnOk result (IsTabled (state S.Store conn.old).now) }
 {
     match transact(conn) {
         Ok(()) => Ok(()),

@@ -1,5 +1,6 @@
 // The tables of records and of lots.
-ghost use Rattle.std.specs.Prelude.{◌≡◌, ◌<◌, ◌^◌, [], ◌∷◌, pos, map, length, IfOk, OnOk, OnErr};
+ghost use Rattle.std.specs.Prelude.{◌≡◌, ◌<◌, ◌^◌, [], ◌∷◌, pos, map, length, IfOk, IfErr};
+ghost use Rattle.std.specs.Prelude.{OnOk, OnErr};
 ghost use Rattle.std.specs.Option.{option_to_list};
 ghost use Rattle.sqlite.specs.declared.types.Value.TheVariants.{Int, Blob};
 ghost use Rattle.sqlite.specs.State.{HasCleanDisk};
@@ -11,6 +12,7 @@ ghost use Rattle.fuse_tables.specs.Content.{Content, Holds, kept_key, at_by, wit
 ghost use Rattle.fuse_tables.specs.Content.{without_kept};
 ghost use Rattle.fuse_tables.specs.Content.{without_all_kept, with_lot, without_lots};
 ghost use Rattle.fuse_tables.specs.Content.{without_answers, shown_kept};
+ghost use Rattle.fuse_tables.specs.Faults.{IsPlain};
 ghost use Rattle.fuse_tables.specs.Opening.{with_copies};
 
 use crate::typed::the_count;
@@ -144,6 +146,7 @@ pub fn count_kept<S: Alter>(conn: &mut Connection<S>) -> Result<u64, StoreFault>
     ensures value { HasCleanDisk (state S.Store conn.new) → IfOk result (λ n. (c : Content)
         → Rests c (state S.Store conn.old) → n ≡ length c.kept) }
     ensures fault { IsSafe Holds (state S.Store conn.old) (state S.Store conn.new) result }
+    ensures plain { IfErr result IsPlain }
 {
     let rows = select_count(conn)?;
     the_count(rows.as_slice())
@@ -155,6 +158,7 @@ pub fn count_lots<S: Alter>(conn: &mut Connection<S>) -> Result<u64, StoreFault>
     ensures value { HasCleanDisk (state S.Store conn.new) → IfOk result (λ n. (c : Content)
         → Rests c (state S.Store conn.old) → n ≡ length c.lots) }
     ensures fault { IsSafe Holds (state S.Store conn.old) (state S.Store conn.new) result }
+    ensures plain { IfErr result IsPlain }
 {
     let rows = select_lot_count(conn)?;
     the_count(rows.as_slice())

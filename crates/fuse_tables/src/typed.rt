@@ -59,6 +59,7 @@ pub(crate) fn the_number(rows: &[Row]) -> Result<u64, StoreFault>
     ensures value { IfOk result (λ n. (m : ℕ) → rows.now ≡ shown_number m ∷ [] → n ≡ m) }
     ensures small { IfOk result (λ n. n < 2 ^ 63) }
     ensures fault { IfErr result (λ f. (m : ℕ) → rows.now ≡ shown_number m ∷ [] → IsOutside f) }
+    ensures plain { IfErr result IsPlain }
 {
     match rows.first() {
         None => Err(StoreFault::Damaged),
@@ -73,6 +74,7 @@ const LAST_COUNT: u64 = i64::MAX as u64;
 pub(crate) fn the_count(rows: &[Row]) -> Result<u64, StoreFault>
     ensures value { IfOk result (λ n. (m : ℕ) → rows.now ≡ shown_number (reached m) ∷ [] → n ≡ m) }
     ensures fault { IfErr result (λ f. (m : ℕ) → rows.now ≡ shown_number m ∷ [] → IsOutside f) }
+    ensures plain { IfErr result IsPlain }
 {
     let count = the_number(rows)?;
     if count == LAST_COUNT {

@@ -13,8 +13,8 @@ good : {M : Model} {K : Type 0} (told : K → KeeperState M) → ((k : K) → (t
 good told honest None none = absurd none
 good told honest (Some k) going = honest k
 
-pub simulated : {M : Model} {K : Type 0} (told : K → KeeperState M) (s : M.State) (keeper keeper' : Option K) (known old new : Option (List ℕ)) (ending : Ending)
-    → ((k : K) → (told k).is_honest) → StandsIn told keeper s [] []
+pub simulated : {M : Model} {K : Type 0} (told : K → KeeperState M) (s : M.State) (keeper keeper' : Option K) (known old new : Option (List ℕ))
+    (ending : Ending) → ((k : K) → (told k).is_honest) → StandsIn told keeper s [] []
     → (status_of ending ≤ 1 → IsSomeAnd keeper' (λ k. (told k).has_failed ≡ false))
     → IfSome known (λ script. status_of ending ≤ 1 → Simulated told keeper keeper' old new script ending)
     → IfSome known (λ script. status_of ending ≤ 1 → SimulatedFrom M s old new script ending)

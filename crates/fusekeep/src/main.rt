@@ -49,14 +49,7 @@ fn run(rt: &HostRuntime) -> Ending {
         return Ending::Memory;
     };
     match parse(rt.alloc(), words.as_slice()) {
-        Ok(
-            Run::Serve {
-                db,
-                fresh,
-                resume,
-                at,
-            },
-        ) => serve_as_asked(rt, db, (fresh, resume), at),
+        Ok(Run::Serve { db, begin, at }) => serve_as_asked(rt, db, begin, at),
         Ok(run) => run_on_input(rt, run),
         Err(error) => refuse(rt, error),
     }

@@ -10,6 +10,8 @@ mod laws;
 #[cfg(test)]
 mod looks;
 #[cfg(test)]
+mod missing;
+#[cfg(test)]
 mod mounts;
 #[cfg(test)]
 mod resting;

@@ -17,10 +17,9 @@ struct Sides {
     keeper: Option<TreeKeeper>,
 }
 
-// Copies of the messages that are pending.
-fn pending_of(alloc: Global, kernel: &Kernel) -> Result<Vec<Vec<u8>>, AllocError> {
+fn copies_of(alloc: Global, messages: &[Vec<u8>]) -> Result<Vec<Vec<u8>>, AllocError> {
     let mut copies = Vec::new(alloc);
-    for message in kernel.pending() {
+    for message in messages {
         copies.push(message.clone()?)?;
     }
     Ok(copies)
@@ -32,7 +31,7 @@ fn send_surely(
     kernel: &mut Kernel,
     request: &Request<'_>,
 ) -> Result<Option<Vec<u8>>, AllocError> {
-    let before = pending_of(alloc, kernel)?;
+    let before = copies_of(alloc, kernel.pending())?;
     match send(alloc, kernel, request) {
         Err(Unsent::Untested) => Err(AllocError),
         Err(Unsent::Memory) if are_pending(kernel, before.as_slice()) => {
@@ -43,19 +42,27 @@ fn send_surely(
     }
 }
 
-// Sends all that is pending again, in the same way.
+fn first_places(alloc: Global, count: usize) -> Result<Vec<usize>, AllocError> {
+    let mut places = Vec::new(alloc);
+    for place in 0..count {
+        places.push(place)?;
+    }
+    Ok(places)
+}
+
+// Sends what is pending again in this order. Where it is refused memory, what was pending before
+// stays, and it is sent then.
+fn resend_twice(kernel: &mut Kernel, order: &[usize], before: &[Vec<u8>]) -> Option<Vec<Vec<u8>>> {
+    match resend(kernel, order) {
+        Err(Unsent::Memory) if are_pending(kernel, before) => resend(kernel, order).ok(),
+        sent => sent.ok(),
+    }
+}
+
 fn resend_surely(alloc: Global, kernel: &mut Kernel) -> Result<Option<Vec<Vec<u8>>>, AllocError> {
-    let before = pending_of(alloc, kernel)?;
-    let mut order = Vec::new(alloc);
-    for place in 0..before.len() {
-        order.push(place)?;
-    }
-    match resend(kernel, order.as_slice()) {
-        Err(Unsent::Memory) if are_pending(kernel, before.as_slice()) => {
-            Ok(resend(kernel, order.as_slice()).ok())
-        }
-        sent => Ok(sent.ok()),
-    }
+    let before = copies_of(alloc, kernel.pending())?;
+    let order = first_places(alloc, before.len())?;
+    Ok(resend_twice(kernel, order.as_slice(), before.as_slice()))
 }
 
 // Sends these requests as events of this fate.
@@ -106,21 +113,25 @@ enum Ran {
     Wrong,
 }
 
-fn run_events(alloc: Global, keeper: &mut Option<TreeKeeper>, events: &[Event]) -> Ran {
-    let fault = match drive_on(alloc, keeper, events) {
-        Some(Ok(outcomes)) => return Ran::Through(outcomes),
-        Some(Err(fault)) => fault,
-        None => return Ran::Wrong,
-    };
-    let Some(inner) = keeper.take() else {
-        return Ran::Wrong;
-    };
-    let wanted = wanted_at(&fault, inner.failed());
+// Opens the keeper again: the event at which memory was wanted.
+fn opened_at(keeper: &mut Option<TreeKeeper>, fault: &DriveFault) -> Option<usize> {
+    let inner = keeper.take()?;
+    let wanted = wanted_at(fault, inner.failed());
     *keeper = inner.restart().ok();
-    match wanted {
-        Some(event) => Ran::WantedAt(event),
+    wanted
+}
+
+fn run_events(alloc: Global, keeper: &mut Option<TreeKeeper>, events: &[Event]) -> Ran {
+    match drive_on(alloc, keeper, events) {
+        Some(Ok(outcomes)) => Ran::Through(outcomes),
+        Some(Err(fault)) => opened_at(keeper, &fault).map_or(Ran::Wrong, Ran::WantedAt),
         None => Ran::Wrong,
     }
+}
+
+// Whether what so many of the requests lead to is held.
+fn holds(keeper: &mut Option<TreeKeeper>, committed: usize) -> bool {
+    held_of(keeper) == Some(held_after(committed))
 }
 
 // Runs requests of which no answer is taken, behind so many others. How many of all are committed
@@ -138,11 +149,7 @@ fn commit(
         Ran::WantedAt(event) => before.saturating_add(event),
         _ => return None,
     };
-    if held_of(keeper) == Some(held_after(committed)) {
-        Some(committed)
-    } else {
-        None
-    }
+    holds(keeper, committed).then_some(committed)
 }
 
 // An answer, as it is to a resend.
@@ -169,8 +176,25 @@ fn take_all(
     Ok(right && kernel.pending().is_empty())
 }
 
-// Sends all that is pending again, runs it, and takes the answers: whether all went well. None
-// where memory was refused and what was committed is held.
+// What came of the requests that were sent again: whether all went well. None where memory was
+// refused and what was committed is held.
+fn taken_of(
+    alloc: Global,
+    sides: &mut Sides,
+    ran: &Ran,
+    committed: usize,
+    pairs: &[Pair],
+) -> Result<Option<bool>, AllocError> {
+    match ran {
+        Ran::Through(outcomes) => {
+            take_all(alloc, &mut sides.kernel, outcomes.as_slice(), pairs).map(Some)
+        }
+        Ran::WantedAt(0) if holds(&mut sides.keeper, committed) => Ok(None),
+        _ => Ok(Some(false)),
+    }
+}
+
+// Sends all that is pending again, runs it, and takes the answers.
 fn ask_again(
     alloc: Global,
     sides: &mut Sides,
@@ -180,14 +204,8 @@ fn ask_again(
     let Some(again) = events_again(alloc, &mut sides.kernel)? else {
         return Ok(Some(false));
     };
-    match run_events(alloc, &mut sides.keeper, again.as_slice()) {
-        Ran::Through(outcomes) => {
-            let taken = take_all(alloc, &mut sides.kernel, outcomes.as_slice(), pairs)?;
-            Ok(Some(taken))
-        }
-        Ran::WantedAt(0) if held_of(&mut sides.keeper) == Some(held_after(committed)) => Ok(None),
-        _ => Ok(Some(false)),
-    }
+    let ran = run_events(alloc, &mut sides.keeper, again.as_slice());
+    taken_of(alloc, sides, &ran, committed, pairs)
 }
 
 // The same, and once more where memory was refused.
@@ -217,6 +235,18 @@ fn send_and_run(
     Ok(commit(alloc, &mut sides.keeper, events.as_slice(), before))
 }
 
+// Sends what is pending again. Whether what so many requests lead to is held then.
+fn ends_with(
+    alloc: Global,
+    sides: &mut Sides,
+    committed: usize,
+    pairs: &[Pair],
+    all: usize,
+) -> Result<bool, AllocError> {
+    let taken = asks_surely(alloc, sides, committed, pairs)?;
+    Ok(taken && holds(&mut sides.keeper, all))
+}
+
 // Sends requests behind so many others, runs them, sends them again, and takes their answers.
 fn pass(
     alloc: Global,
@@ -226,12 +256,11 @@ fn pass(
     before: usize,
 ) -> Result<bool, AllocError> {
     let (requests, pairs) = part;
-    let Some(committed) = send_and_run(alloc, sides, requests, fate, before)? else {
-        return Ok(false);
-    };
-    let left = held_after(before.saturating_add(requests.len()));
-    let taken = asks_surely(alloc, sides, committed, pairs)?;
-    Ok(taken && held_of(&mut sides.keeper) == Some(left))
+    let all = before.saturating_add(requests.len());
+    match send_and_run(alloc, sides, requests, fate, before)? {
+        Some(committed) => ends_with(alloc, sides, committed, pairs, all),
+        None => Ok(false),
+    }
 }
 
 fn pass_run(alloc: Global, sides: &mut Sides, fate: Fate) -> Result<bool, AllocError> {
@@ -243,14 +272,17 @@ fn pass_questions(alloc: Global, sides: &mut Sides, fate: Fate) -> Result<bool, 
     pass(alloc, sides, part, fate, MESSAGES)
 }
 
+fn pass_all(alloc: Global, sides: &mut Sides, fate: Fate) -> Result<bool, AllocError> {
+    Ok(pass_run(alloc, sides, fate)? && pass_questions(alloc, sides, fate)?)
+}
+
 // The run on a new store, and what the tree is behind it.
 fn passes(alloc: Global, fate: Fate) -> Result<bool, AllocError> {
     let mut sides = Sides {
         keeper: made(alloc),
         kernel: Kernel::new(alloc),
     };
-    let right = pass_run(alloc, &mut sides, fate)?;
-    Ok(right && pass_questions(alloc, &mut sides, fate)?)
+    pass_all(alloc, &mut sides, fate)
 }
 
 // Each request in a group of its own, and all in one group.

@@ -35,6 +35,16 @@ fn opened<K: Restart>(mut keeper: K, held: Held) -> Option<K> {
     keeper.restart().ok()
 }
 
+fn performed_again<K: Restart>(
+    slot: &mut Option<K>,
+    mut keeper: K,
+    group: &[(Request<'_>, Moment)],
+) -> Option<Vec<Done>> {
+    let dones = perform(&mut keeper, group, &[]).ok()?;
+    *slot = Some(keeper);
+    dones
+}
+
 // Performs a group. Where memory is refused, nothing is changed, and the group passes after the
 // keeper is opened again.
 fn performed<K: Restart>(
@@ -43,22 +53,35 @@ fn performed<K: Restart>(
     held: Held,
 ) -> Option<Vec<Done>> {
     let mut keeper = slot.take()?;
-    let dones = match perform(&mut keeper, group, &[]) {
-        Ok(dones) => dones,
-        Err(StoreFault::Memory) => {
-            keeper = opened(keeper, held)?;
-            perform(&mut keeper, group, &[]).ok()?
+    match perform(&mut keeper, group, &[]) {
+        Err(StoreFault::Memory) => performed_again(slot, opened(keeper, held)?, group),
+        dones => {
+            *slot = Some(keeper);
+            dones.ok()?
         }
-        Err(_) => None,
-    };
-    *slot = Some(keeper);
-    dones
+    }
 }
 
 // Whether these are the answers from this place of the run on.
 fn are_answered(first: usize, dones: &[Done], repeated: bool) -> bool {
     dones.iter().zip(first..MESSAGES).all(|(done, place)| done.repeated == repeated
         && is_answered_at(place, &done.answer))
+}
+
+// Performs the group of the run that begins at this place.
+fn passes_group<K: Restart>(
+    slot: &mut Option<K>,
+    group: &[(Request<'_>, Moment)],
+    first: usize,
+    repeated: bool,
+) -> bool {
+    let held = held_after(if repeated { MESSAGES } else { first });
+    match performed(slot, group, held) {
+        Some(dones) => {
+            dones.len() == group.len() && are_answered(first, dones.as_slice(), repeated)
+        }
+        None => false,
+    }
 }
 
 // Performs the run, or repeats it, each request in a group of its own or all in one.
@@ -68,15 +91,10 @@ fn passes<K: Restart>(slot: &mut Option<K>, each: bool, repeated: bool) -> bool 
     let timed = requests_of_run(bit).map(|request| (request, AT_1000));
     let mut first: usize = 0;
     for group in timed.chunks(size) {
-        let held = held_after(if repeated { MESSAGES } else { first });
-        match performed(slot, group, held) {
-            Some(dones)
-                if dones.len() == group.len() && are_answered(first, dones.as_slice(), repeated) =>
-                {
-                    first = first.saturating_add(group.len());
-                }
-            _ => return false,
+        if !passes_group(slot, group, first, repeated) {
+            return false;
         }
+        first = first.saturating_add(group.len());
     }
     first == MESSAGES
 }

@@ -63,15 +63,16 @@ fn ask_again(
 // The answers and the tree are those of the run. Where memory is first refused here, that is said,
 // and asking once more is answered.
 fn ends_as_ever(alloc: Global, keeper: TreeKeeper, answered: usize) -> Result<bool, AllocError> {
-    let Some((seen, keeper)) = ask_again(alloc, keeper, answered)? else {
-        return Ok(false);
-    };
-    if seen.is(Told::End, ALL_HELD) {
-        return Ok(true);
+    match ask_again(alloc, keeper, answered)? {
+        Some((seen, _)) if seen.is(Told::End, ALL_HELD) => Ok(true),
+        Some((seen, opened)) if answered >= MESSAGES && wants_memory(seen.ended) => {
+            ends_now(alloc, opened, answered)
+        }
+        _ => Ok(false),
     }
-    if answered < MESSAGES || !wants_memory(seen.ended) {
-        return Ok(false);
-    }
+}
+
+fn ends_now(alloc: Global, keeper: TreeKeeper, answered: usize) -> Result<bool, AllocError> {
     let again = ask_again(alloc, keeper, answered)?;
     Ok(matches!(again, Some((seen, _)) if seen.is(Told::End, ALL_HELD)))
 }

@@ -6,7 +6,7 @@ use Rattle.fuse_tables.specs.Making.{IsBare, IsNew}
 use Rattle.fuse_table_look.specs.Holding.{HeldFor}
 use Rattle.fuse_table_keeper.specs.Creating.{new_holding}
 use Rattle.fuse_table_keeper.proofs.Retelling.{served_so}
-use Rattle.fuse_table_keeper.proofs.NewStore.{made_new, made_open, was_bare}
+use Rattle.fuse_table_keeper.proofs.NewStore.{made_new, made_open, was_bare, is_blank, known_ok}
 use Rattle.fuse_table_keeper.proofs.creating.make_for.Goals as goal
 
 pub returns-clause-serves : goal.returns-clause-serves
@@ -26,6 +26,20 @@ returns-clause-done g c =
 pub returns-clause-crash : goal.returns-clause-crash
 returns-clause-crash g c =
     survives_weaker (state g.S.Store c.args.conn.now) (state g.S.Store c.make_store.new.conn) _ _
-    (λ _ db left is_open. left tt (was_bare (state g.S.Store c.args.conn.now) c.schema.result.now c.if-not-is_autocommit.ensures.value
-    (c.if-not-is_autocommit.ensures.settled refl) c.schema.ensures.live c.schema.ensures.value
-    (c.if-not-is_empty.ensures.0 refl) is_open)) (returns-clause-serves g c).survives
+    (λ _ db left. (
+      is_blank (state g.S.Store c.args.conn.now) c.schema.result.now c.if-not-is_autocommit.ensures.value c.schema.ensures.value
+          (c.if-not-is_empty.ensures.0 refl),
+      λ is_open. left tt (was_bare (state g.S.Store c.args.conn.now) c.schema.result.now c.if-not-is_autocommit.ensures.value
+          (c.if-not-is_autocommit.ensures.settled refl) c.schema.ensures.live c.schema.ensures.value
+          (c.if-not-is_empty.ensures.0 refl) is_open),
+    )) (returns-clause-serves g c).survives
+
+pub returns-clause-blank : goal.returns-clause-blank
+returns-clause-blank g c =
+    known_ok c.make_store.result (is_blank (state g.S.Store c.args.conn.now) c.schema.result.now c.if-not-is_autocommit.ensures.value
+    c.schema.ensures.value (c.if-not-is_empty.ensures.0 refl))
+
+pub returns-clause-untouched : goal.returns-clause-untouched
+returns-clause-untouched g c = λ made.
+    absurd (made (is_blank (state g.S.Store c.args.conn.now) c.schema.result.now c.if-not-is_autocommit.ensures.value
+    c.schema.ensures.value (c.if-not-is_empty.ensures.0 refl)))

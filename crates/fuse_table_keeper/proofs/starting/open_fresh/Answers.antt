@@ -1,19 +1,45 @@
-use Rattle.std.proofs.lemmas.Result.{IfOk-weaker}
+use Rattle.std.proofs.lemmas.Result.{IfOk-weaker, IfErr-weaker}
+use Rattle.sqlite.specs.Held.{state}
+use Rattle.fuse_table_keeper.proofs.Begun.{fresh_made, fresh_begun}
 use Rattle.fuse_table_keeper.proofs.starting.open_fresh.Goals as goal
+
+-- ---- nothing was made in it
 
 pub returns-then-blank-clause-stands : goal.returns-then-blank-clause-stands
 returns-then-blank-clause-stands g c =
     IfOk-weaker c.create.result _ _ (λ k stands clean blank is_open. stands clean is_open) c.create.ensures.stands
 
+pub returns-then-blank-clause-holds : goal.returns-then-blank-clause-holds
+returns-then-blank-clause-holds g c =
+    IfOk-weaker c.create.result _ _ (λ k going clean z was. absurd (c.is_blank-blank.ensures.none c.if-blank.true z was)) c.create.ensures.going
+
 pub returns-then-blank-clause-begins : goal.returns-then-blank-clause-begins
 returns-then-blank-clause-begins g c =
     IfOk-weaker c.create.result _ _ (λ k going clean z was. absurd (c.is_blank-blank.ensures.none c.if-blank.true z was)) c.create.ensures.going
 
-pub returns-in-Ok-begin_mount-clause-begins : goal.returns-in-Ok-begin_mount-clause-begins
-returns-in-Ok-begin_mount-clause-begins g c = λ clean z was s h t stands.
-    c.in-Ok-begin_mount.ensures.ok clean s h t (record {
-      rows = _;
-      records = _;
-      held = c.in-Ok.ensures.holds (c.begin_mount.ensures.called.honest clean) z was;
-      stands = stands;
-    })
+pub returns-then-blank-clause-lots : goal.returns-then-blank-clause-lots
+returns-then-blank-clause-lots g c =
+    IfOk-weaker c.create.result _ _ (λ k going clean z was. absurd (c.is_blank-blank.ensures.none c.if-blank.true z was)) c.create.ensures.going
+
+pub returns-then-blank-clause-crash : goal.returns-then-blank-clause-crash
+returns-then-blank-clause-crash g c =
+    IfErr-weaker c.create.result _ _
+    (λ r left. fresh_made c.args.now (state g.S.Store c.args.conn) (state g.S.Store r.1) (c.is_blank-blank.ensures.none c.if-blank.true) left)
+    c.create.ensures.crash
+
+pub returns-then-blank-clause-kept : goal.returns-then-blank-clause-kept
+returns-then-blank-clause-kept g c =
+    IfErr-weaker c.create.result _ _ (λ r left clean is_open z was. absurd (c.is_blank-blank.ensures.none c.if-blank.true z was)) c.create.ensures.crash
+
+pub returns-then-blank-clause-fault : goal.returns-then-blank-clause-fault
+returns-then-blank-clause-fault g c =
+    IfErr-weaker c.create.result _ _ (λ r left clean z was. absurd (c.is_blank-blank.ensures.none c.if-blank.true z was)) c.create.ensures.crash
+
+-- ---- something was
+
+pub returns-clause-crash : goal.returns-clause-crash
+returns-clause-crash g c =
+    IfErr-weaker c.open_begun.result _ _
+    (λ r left. fresh_begun c.args.now (state g.S.Store c.args.conn) (state g.S.Store r.1)
+    (λ blank. let e = c.is_blank-blank.ensures.blank.1 blank in let n = c.if-blank.false in cc) left)
+    c.open_begun.ensures.crash

@@ -2,7 +2,8 @@ use Rattle.std.proofs.Common.{refl, None}
 use Rattle.sqlite.specs.Held.{state}
 use Rattle.fuse_request.specs.Act.{asked}
 use Rattle.fuse_tree.specs.Do.{done}
-use Rattle.fuse_table_look.proofs.Changes.{acted, keeps_of, looked_keeps}
+use Rattle.fuse_table_look.proofs.Changes.{acted}
+use Rattle.fuse_table_look.proofs.Steps.{keeps_of, looked_keeps}
 use Rattle.fuse_tables.specs.Following.{earlier}
 use Rattle.fuse_table_look.specs.Laws.{looked_ready}
 use Rattle.fuse_table_look.specs.Holding.{store_of}

@@ -1,5 +1,6 @@
 use Rattle.sqlite.specs.Held.{state}
-use Rattle.fuse_table_look.proofs.Changes.{made, keeps_of, entry_comes}
+use Rattle.fuse_table_look.proofs.Steps.{made, keeps_of}
+use Rattle.fuse_table_look.proofs.RowChanges.{entry_comes}
 use Rattle.fuse_table_look.proofs.changing.add_entry.Goals as goal
 
 pub returns-in-Ok-clause-changed : goal.returns-in-Ok-clause-changed

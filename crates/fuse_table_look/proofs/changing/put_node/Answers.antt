@@ -1,6 +1,7 @@
 use Rattle.std.proofs.Common.{sym, ◌∙◌}
 use Rattle.sqlite.specs.Held.{state}
-use Rattle.fuse_table_look.proofs.Changes.{made_known, looked_keeps, keeps_of, node_put, node_set}
+use Rattle.fuse_table_look.proofs.Steps.{made_known, looked_keeps, keeps_of}
+use Rattle.fuse_table_look.proofs.RowChanges.{node_put, node_set}
 use Rattle.fuse_table_look.proofs.changing.put_node.Goals as goal
 
 pub returns-in-Ok-clause-changed : goal.returns-in-Ok-clause-changed

@@ -1,5 +1,6 @@
 use Rattle.sqlite.specs.Held.{state}
-use Rattle.fuse_table_look.proofs.Changes.{made, keeps_of, counters_change}
+use Rattle.fuse_table_look.proofs.Steps.{made, keeps_of}
+use Rattle.fuse_table_look.proofs.RowChanges.{counters_change}
 use Rattle.fuse_table_look.proofs.changing.set_counters.Goals as goal
 
 pub returns-in-Ok-clause-changed : goal.returns-in-Ok-clause-changed

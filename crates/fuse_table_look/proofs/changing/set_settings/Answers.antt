@@ -1,5 +1,6 @@
 use Rattle.sqlite.specs.Held.{state}
-use Rattle.fuse_table_look.proofs.Changes.{made, keeps_of, settings_change}
+use Rattle.fuse_table_look.proofs.Steps.{made, keeps_of}
+use Rattle.fuse_table_look.proofs.RowChanges.{settings_change}
 use Rattle.fuse_table_look.proofs.changing.set_settings.Goals as goal
 
 pub returns-in-Ok-clause-changed : goal.returns-in-Ok-clause-changed

@@ -2,7 +2,7 @@ use Rattle.std.proofs.Common.{◌≡◌, ◌*◌, ◌/◌, ◌%◌, subst, arith
 use Rattle.sqlite.specs.Held.{state}
 use Rattle.fuse_tree.specs.Bounds.{block_bytes}
 use Rattle.fuse_table_look.specs.Changing.{Cut}
-use Rattle.fuse_table_look.proofs.Changes.{on_ok}
+use Rattle.fuse_table_look.proofs.Steps.{on_ok}
 use Rattle.fuse_table_look.proofs.cutting.cut_from.Goals as goal
 
 pub returns-then-start-eq0-clause-cut : goal.returns-then-start-eq0-clause-cut

@@ -2,8 +2,9 @@ use Rattle.std.proofs.Common.{◌≡◌, ◌≤◌, ◌+◌, ◌-◌, ◌*◌, �
 use Rattle.sqlite.specs.Held.{state}
 use Rattle.fuse_tree.specs.Bounds.{block_bytes}
 use Rattle.fuse_table_look.specs.Changing.{Cut}
-use Rattle.fuse_table_look.proofs.Changes.{on_ok, on_error}
+use Rattle.fuse_table_look.proofs.Steps.{on_ok, on_error}
 use Rattle.fuse_table_look.proofs.Cuts.{cut_keeps, cut_then}
+use Rattle.fuse_table_look.proofs.Zeros.{all_zero}
 use Rattle.fuse_table_look.specs.Store.{HeldAs, cut}
 use Rattle.fuse_table_look.proofs.Sure.{sure_next, sure_bytes}
 use Rattle.fuse_table_look.proofs.cutting.cut_within.Goals as goal
@@ -12,7 +13,7 @@ pub returns-in-Ok-drop_blocks-clause-cut : goal.returns-in-Ok-drop_blocks-clause
 returns-in-Ok-drop_blocks-clause-cut g c =
     let a = state g.S.Store c.args.conn.now in
     let b = state g.S.Store c.drop_blocks.new.conn in
-    let d = state g.S.Store c.write_piece.new.conn in
+    let d = state g.S.Store c.write_zeros.new.conn in
     let size = c.args.size in
     let end = (size / block_bytes + 1) * block_bytes in
     let dropped : Cut c.args.node end a b = rw c.from-3.ensures at c.in-Ok-drop_blocks.ensures.cut in
@@ -20,20 +21,20 @@ returns-in-Ok-drop_blocks-clause-cut g c =
     let count : block_bytes - size % block_bytes ≡ end - size = omega arith in
     let are : c.as_slice.result.now ≡ replicate (end - size) 0 = c.as_slice.ensures.value ∙ zeros ∙ ap (λ n. replicate n 0) count in
     let high : size ≤ end = omega arith in
-    on_ok c.write_piece.result _ _ (cut_then c.args.node size end c.as_slice.result.now a b d dropped are high) c.write_piece.ensures.overlaid
+    on_ok c.write_zeros.result _ _ (cut_then c.args.node size end c.as_slice.result.now a b d dropped are high) c.write_zeros.ensures.overlaid
 
 pub returns-in-Ok-drop_blocks-clause-fails : goal.returns-in-Ok-drop_blocks-clause-fails
 returns-in-Ok-drop_blocks-clause-fails g c =
     let a = state g.S.Store c.args.conn.now in
     let b = state g.S.Store c.drop_blocks.new.conn in
-    let d = state g.S.Store c.write_piece.new.conn in
-    on_error c.write_piece.result _ _ (cut_keeps c.args.node _ a b d c.in-Ok-drop_blocks.ensures.cut) c.write_piece.ensures.fails
+    let d = state g.S.Store c.write_zeros.new.conn in
+    on_error c.write_zeros.result _ _ (cut_keeps c.args.node _ a b d c.in-Ok-drop_blocks.ensures.cut) c.write_zeros.ensures.fails
 
 pub returns-in-Ok-drop_blocks-clause-fault : goal.returns-in-Ok-drop_blocks-clause-fault
 returns-in-Ok-drop_blocks-clause-fault g c =
     let a = state g.S.Store c.args.conn.now in
     let b = state g.S.Store c.drop_blocks.new.conn in
-    let d = state g.S.Store c.write_piece.new.conn in
-    sure_next HeldAs HeldAs a b d c.write_piece.result c.write_piece.ensures.fails
+    let d = state g.S.Store c.write_zeros.new.conn in
+    sure_next HeldAs HeldAs a b d c.write_zeros.result c.write_zeros.ensures.fails
     (λ clean (w, at). ((w.0, cut c.args.node _ w.1), c.in-Ok-drop_blocks.ensures.cut.turns clean w at))
-    (sure_bytes b d c.write_piece.result c.write_piece.ensures.fault)
+    (sure_bytes b d c.write_zeros.result c.write_zeros.ensures.fault)

@@ -1,5 +1,5 @@
 use Rattle.sqlite.specs.Held.{state}
-use Rattle.fuse_table_look.proofs.Changes.{bytes_keep}
+use Rattle.fuse_table_look.proofs.Steps.{bytes_keep}
 use Rattle.fuse_table_look.proofs.Cuts.{blocks_cut}
 use Rattle.fuse_table_look.proofs.cutting.drop_blocks.Goals as goal
 

@@ -1,5 +1,5 @@
 use Rattle.sqlite.specs.Held.{state}
-use Rattle.fuse_table_look.proofs.Changes.{on_ok, on_error, held_of}
+use Rattle.fuse_table_look.proofs.Steps.{on_ok, on_error, held_of}
 use Rattle.fuse_table_look.proofs.Cuts.{sized_changed}
 use Rattle.fuse_table_look.proofs.cutting.set_size.Goals as goal
 

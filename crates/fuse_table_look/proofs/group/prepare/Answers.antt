@@ -2,7 +2,7 @@ use Rattle.std.proofs.Common.{◌∙◌}
 use Rattle.sqlite.specs.Held.{state}
 use Rattle.fuse_keeper.specs.Group.{ids_of}
 use Rattle.fuse_tables.specs.Following.{earlier}
-use Rattle.fuse_table_look.proofs.Changes.{on_ok, on_error}
+use Rattle.fuse_table_look.proofs.Steps.{on_ok, on_error}
 use Rattle.fuse_table_look.specs.Group.{without_settled, with_lot_for}
 use Rattle.fuse_table_look.proofs.Turning.{turned_keeps, turned_then, ok_too}
 use Rattle.fuse_table_look.proofs.Groups.{lot_settled}

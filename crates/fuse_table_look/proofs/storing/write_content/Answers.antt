@@ -1,5 +1,6 @@
 use Rattle.sqlite.specs.Held.{state}
-use Rattle.fuse_table_look.proofs.Changes.{on_ok, on_error, written_changed, held_of}
+use Rattle.fuse_table_look.proofs.Steps.{on_ok, on_error, held_of}
+use Rattle.fuse_table_look.proofs.Writes.{written_changed}
 use Rattle.fuse_table_look.proofs.storing.write_content.Goals as goal
 
 pub returns-clause-changed : goal.returns-clause-changed

@@ -1,5 +1,6 @@
 use Rattle.sqlite.specs.Held.{state}
-use Rattle.fuse_table_look.proofs.Changes.{piece_written, looked_bytes, bytes_keep}
+use Rattle.fuse_table_look.proofs.Writes.{piece_written}
+use Rattle.fuse_table_look.proofs.Steps.{looked_bytes, bytes_keep}
 use Rattle.fuse_table_look.proofs.storing.write_piece.Goals as goal
 
 pub returns-in-Ok-write_block-clause-overlaid : goal.returns-in-Ok-write_block-clause-overlaid

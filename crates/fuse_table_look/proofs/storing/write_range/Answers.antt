@@ -2,7 +2,7 @@ use Rattle.std.proofs.Common.{refl, ◌-◌, ◌+◌, ◌≡◌, sym, subst, ari
 use Rattle.std.proofs.lemmas.List.{length-take-le}
 use Rattle.sqlite.specs.Held.{state}
 use Rattle.fuse_table_look.specs.Changing.{Overlaid}
-use Rattle.fuse_table_look.proofs.Changes.{overlaid_keeps, overlaid_then, nothing_overlaid}
+use Rattle.fuse_table_look.proofs.Writes.{overlaid_keeps, overlaid_then, nothing_overlaid}
 use Rattle.fuse_table_look.proofs.Overlays.{take_plus}
 use Rattle.fuse_table_look.specs.Store.{HeldAs, overlay}
 use Rattle.std.proofs.Common.{Err, Result}

@@ -1,7 +1,7 @@
 use Rattle.sqlite.specs.Held.{state}
 use Rattle.fuse_keeper.specs.Group.{entry_of}
 use Rattle.fuse_table_look.proofs.Turning.{looked_for, turned_keeps, ok_too}
-use Rattle.fuse_table_look.proofs.Changes.{on_ok, on_error}
+use Rattle.fuse_table_look.proofs.Steps.{on_ok, on_error}
 use Rattle.fuse_table_look.proofs.Records.{took_known, took_new, done_known, done_new}
 use Rattle.fuse_table_look.proofs.Sure.{turned_sure}
 use Rattle.fuse_table_look.proofs.taking.take_one.Goals as goal

@@ -1,5 +1,8 @@
 use Rattle.sqlite.specs.Held.{state}
+use Rattle.std.proofs.Common.{subst}
+use Rattle.fuse_tables.specs.Following.{earlier}
 use Rattle.fuse_tables.specs.Opening.{IsStored, IsOpened}
+use Rattle.fuse_tables.specs.Saying.{IsTabled}
 use Rattle.fuse_tables.specs.Moves.{PerformsAs}
 use Rattle.fuse_tables.proofs.Joining.{failed_first, failed_inside, failed_commit, committed, on_err}
 use Rattle.fuse_tables.proofs.opening.transact.Goals as goal
@@ -23,3 +26,11 @@ returns-in_err-commit-clause-performs g c =
 
 pub returns-clause-performs : goal.returns-clause-performs
 returns-clause-performs g c = committed IsStored IsOpened _ _ _ _ _ _ _ _ c.in_ok-begin.ensures c.in_ok-work.ensures.opened c.in_ok-commit.ensures
+
+pub returns-clause-tabled : goal.returns-clause-tabled
+returns-clause-tabled g c = λ clean.
+    let b = state g.S.Store c.begin.new.conn in
+    let d = state g.S.Store c.work.new.conn in
+    let late = earlier d (state g.S.Store c.commit.new.conn) _ c.in_ok-commit.ensures.survives clean in
+    let mid = earlier b d _ c.in_ok-work.ensures.opened.stays.survives late in
+    subst IsTabled (c.in_ok-begin.ensures.begun mid).2 (c.in_ok-work.ensures.tabled late)

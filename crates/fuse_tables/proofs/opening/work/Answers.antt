@@ -1,4 +1,4 @@
-use Rattle.std.proofs.Common.{Ok}
+use Rattle.std.proofs.Common.{Ok, sym, ◌∙◌}
 use Rattle.sqlite.specs.Held.{state}
 use Rattle.fuse_keeper.specs.declared.fault.StoreFault.{StoreFault}
 use Rattle.fuse_tables.specs.Opening.{IsStored, IsFirst, IsSecond, IsOpened}
@@ -7,6 +7,7 @@ use Rattle.fuse_tables.proofs.Joining.{then_as, fails_next}
 use Rattle.fuse_tables.proofs.Either.{narrowed}
 use Rattle.fuse_tables.proofs.Migration.{found_first, found_second}
 use Rattle.fuse_tables.proofs.OpenLemmas.{tested_second}
+use Rattle.fuse_tables.proofs.Tabled.{refused_first, refused_second, tabled_first, tabled_second}
 use Rattle.fuse_tables.proofs.opening.work.Goals as goal
 
 pub returns-in_err-open_first-clause-opened : goal.returns-in_err-open_first-clause-opened
@@ -29,8 +30,8 @@ returns-in_ok-open_first-clause-opened g c =
     c.in_ok-open_first.ensures.made in
     record { stays = all.stays; turns = all.turns }
 
-pub returns-then-version-eq2-clause-opened : goal.returns-then-version-eq2-clause-opened
-returns-then-version-eq2-clause-opened g c =
+pub returns-else-not-second-clause-opened : goal.returns-else-not-second-clause-opened
+returns-else-not-second-clause-opened g c =
     let a = state g.S.Store c.args.conn.now in
     let b = state g.S.Store c.find_version.new.conn in
     let v = c.in_ok-version.version in
@@ -38,8 +39,32 @@ returns-then-version-eq2-clause-opened g c =
     (λ clean k at on. found_second a b v c.if-version-eq2.true (c.in_ok-version.ensures.value clean) k at on) in
     then_as IsStored IsSecond IsOpened a b (state g.S.Store c.open_second.new.conn) v c.open_second.result second c.open_second.ensures.opened
 
-pub returns-then-version-eq2-clause-whole : goal.returns-then-version-eq2-clause-whole
-returns-then-version-eq2-clause-whole g c =
+pub returns-else-not-second-clause-whole : goal.returns-else-not-second-clause-whole
+returns-else-not-second-clause-whole g c =
     tested_second (state g.S.Store c.args.conn.now) (state g.S.Store c.find_version.new.conn) (state g.S.Store c.open_second.new.conn)
     c.in_ok-version.version c.open_second.result c.in_ok-version.ensures.laid c.in_ok-version.ensures.shows c.if-version-eq2.true
     c.open_second.ensures.opened.stays.survives c.open_second.ensures.whole
+
+-- ---- the tables beside `meta`
+
+pub returns-then-not-first-clause-fault : goal.returns-then-not-first-clause-fault
+returns-then-not-first-clause-fault g c =
+    refused_first (state g.S.Store c.args.conn.now) (state g.S.Store c.find_version.new.conn) c.schema-schema.result.now c.schema-schema.ensures.value
+    (sym c.has_first-first.ensures ∙ c.if-not-first.true)
+
+pub returns-then-not-second-clause-fault : goal.returns-then-not-second-clause-fault
+returns-then-not-second-clause-fault g c =
+    refused_second (state g.S.Store c.args.conn.now) (state g.S.Store c.find_version.new.conn) c.schema-schema.result.now c.schema-schema.ensures.value
+    c.in_ok-version.version (sym c.has_second-second.ensures ∙ c.if-not-second.true) c.if-version-eq2.true c.in_ok-version.ensures.value
+
+pub returns-in_ok-open_first-clause-tabled : goal.returns-in_ok-open_first-clause-tabled
+returns-in_ok-open_first-clause-tabled g c =
+    tabled_first (state g.S.Store c.args.conn.now) (state g.S.Store c.find_version.new.conn) (state g.S.Store c.open_first.new.conn) c.schema-schema.result.now
+    c.schema-schema.ensures.value c.in_ok-version.version c.in_ok-version.ensures.tells c.in_ok-open_first.ensures.made.stays.survives c.if-version-eq1.true
+    (sym c.has_first-first.ensures ∙ c.if-not-first.false)
+
+pub returns-else-not-second-clause-tabled : goal.returns-else-not-second-clause-tabled
+returns-else-not-second-clause-tabled g c =
+    tabled_second (state g.S.Store c.args.conn.now) (state g.S.Store c.find_version.new.conn) (state g.S.Store c.open_second.new.conn) c.schema-schema.result.now
+    c.schema-schema.ensures.value c.in_ok-version.version c.in_ok-version.ensures.tells c.open_second.ensures.opened.stays.survives c.open_second.result
+    c.if-version-eq2.true (sym c.has_second-second.ensures ∙ c.if-not-second.false)

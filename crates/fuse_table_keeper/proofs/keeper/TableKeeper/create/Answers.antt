@@ -21,6 +21,10 @@ returns-in-Ok-clause-stands g c = λ clean is_open.
       stands = starts (new_store c.args.now) at.holds.tree;
     }
 
+pub returns-in-Ok-clause-lots : goal.returns-in-Ok-clause-lots
+returns-in-Ok-clause-lots g c = λ clean is_open.
+    c.lots_are_read.ensures.same None (new_holding c.args.now) (state g.S.Store c.make_for.new.conn).now (c.in-Ok.ensures.done clean is_open).holds
+
 pub returns-in-Ok-clause-honest : goal.returns-in-Ok-clause-honest
 returns-in-Ok-clause-honest g c = λ clean.
     earlier (state g.S.Store c.args.conn) (state g.S.Store c.make_for.new.conn) _ c.in-Ok.ensures.crash clean

@@ -2,12 +2,9 @@ use Rattle.std.proofs.Common.{true, refl, sym, ◌∙◌, None, Ok, Err}
 use Rattle.sqlite.specs.Held.{state}
 use Rattle.fuse_table_keeper.specs.Mounting.{cleared_for}
 use Rattle.fuse_table_keeper.proofs.Serving.{firm}
-use Rattle.fuse_table_keeper.proofs.Beginning.{Clears, begins_mount, drops_lots, leaves_mount}
+use Rattle.fuse_table_keeper.proofs.Beginning.{clears_all, begins_mount, drops_lots, leaves_mount}
 use Rattle.fuse_table_keeper.proofs.Peeking.{went_well, went_wrong, plain_where}
 use Rattle.fuse_table_keeper.proofs.keeper.TableKeeperKeeper.begin_mount.Goals as goal
-
-clears : Clears cleared_for
-clears = record { tree = λ y. refl; kept = λ y. refl; lots = λ y. refl }
 
 pub returns-in-Ok-clause-called : goal.returns-in-Ok-clause-called
 returns-in-Ok-clause-called g c =
@@ -16,18 +13,18 @@ returns-in-Ok-clause-called g c =
 
 pub returns-in-Ok-clause-ok : goal.returns-in-Ok-clause-ok
 returns-in-Ok-clause-ok g c =
-    begins_mount c.rows_tell_state.ensures cleared_for clears c.one_holding.ensures (state g.S.Store c.args.self.now.look.conn)
+    begins_mount c.rows_tell_state.ensures cleared_for clears_all c.one_holding.ensures (state g.S.Store c.args.self.now.look.conn)
     (state g.S.Store c.begin_mount.new.conn) tt c.in-Ok.ensures.serves c.args.self.now.lot None c.args.self.now.failed c.args.self.now.failed
 
 pub returns-in-Ok-clause-lots : goal.returns-in-Ok-clause-lots
 returns-in-Ok-clause-lots g c =
-    drops_lots c.rows_tell_state.ensures cleared_for clears c.one_holding.ensures (state g.S.Store c.args.self.now.look.conn)
+    drops_lots c.rows_tell_state.ensures cleared_for clears_all c.one_holding.ensures (state g.S.Store c.args.self.now.look.conn)
     (state g.S.Store c.begin_mount.new.conn) tt c.in-Ok.ensures.serves c.lots_are_read.ensures.same c.args.self.now.lot c.args.self.now.failed
     c.args.self.now.failed
 
 pub returns-in-Ok-clause-crash : goal.returns-in-Ok-clause-crash
 returns-in-Ok-clause-crash g c =
-    leaves_mount c.rows_tell_state.ensures cleared_for clears (λ s tree. (c.clearing.ensures s tree).0) c.one_holding.ensures (state g.S.Store
+    leaves_mount c.rows_tell_state.ensures cleared_for clears_all (λ s tree. (c.clearing.ensures s tree).0) c.one_holding.ensures (state g.S.Store
     c.args.self.now.look.conn)
     (state g.S.Store c.begin_mount.new.conn) (g.met.S.Store.settled c.args.self.now.look.conn.store) (Ok tt) c.in-Ok.ensures.serves
     c.args.self.now.lot None c.args.self.now.failed c.args.self.now.failed
@@ -45,7 +42,7 @@ returns-in-Err-clause-called g c =
 
 pub returns-in-Err-clause-crash : goal.returns-in-Err-clause-crash
 returns-in-Err-clause-crash g c =
-    leaves_mount c.rows_tell_state.ensures cleared_for clears (λ s tree. (c.clearing.ensures s tree).0) c.one_holding.ensures (state g.S.Store
+    leaves_mount c.rows_tell_state.ensures cleared_for clears_all (λ s tree. (c.clearing.ensures s tree).0) c.one_holding.ensures (state g.S.Store
     c.args.self.now.look.conn)
     (state g.S.Store c.begin_mount.new.conn) (g.met.S.Store.settled c.args.self.now.look.conn.store) (Err c.in-Err.fault) c.in-Err.ensures.serves
     c.args.self.now.lot c.args.self.now.lot c.args.self.now.failed true

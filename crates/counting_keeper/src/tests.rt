@@ -1,0 +1,160 @@
+//! What is counted in sessions, in a mount that begins, and in events at which the server dies.
+use crate::{CountingKeeper, Tally};
+use fuse_keeper::{Keeper, Restart, StoreFault};
+use fuse_session::{Arrival, Fixed, MemoryPort, serve};
+use fuse_sim::{Event, Fate, drive};
+use fuse_wire::{ByteList, Id, Memory, Moment, UNIQUE_RESEND};
+use std::alloc::{AllocError, Global};
+use three_files::ThreeFiles;
+use two_copies::TwoCopies;
+
+const NOW: Moment = Moment {
+    secs: 1000,
+    nanos: 0,
+};
+
+type Counted = CountingKeeper<TwoCopies<ThreeFiles>>;
+
+// So many commits go well between two that are refused.
+fn begun(alloc: Global, commits: u64) -> Result<Counted, Memory> {
+    Ok(CountingKeeper::new(TwoCopies::new(alloc, NOW, commits)?))
+}
+
+// A GETATTR of the directory has 56 bytes.
+const MESSAGE: usize = 56;
+
+fn put_message(out: &mut Vec<u8>, unique: u64) -> Result<(), AllocError> {
+    out.extend_from_slice(b"\x38\0\0\0\x03\0\0\0")?;
+    out.extend_from_slice(&unique.to_le_bytes())?;
+    out.extend_from_slice(b"\x01\0\0\0\0\0\0\0\xe8\x03\0\0\xe8\x03\0\0\x4d\0\0\0\0\0\0\0")?;
+    out.extend_from_slice(b"\0\0\0\0\0\0\0\0\0\0\0\0\0\0\0\0")
+}
+
+fn messages(alloc: Global, uniques: &[u64]) -> Result<Vec<u8>, AllocError> {
+    let mut out = Vec::new(alloc);
+    for unique in uniques {
+        put_message(&mut out, *unique)?;
+    }
+    Ok(out)
+}
+
+// Serves these messages, so many bytes at a time, where the keeper hasn't failed.
+fn serve_on(
+    alloc: Global,
+    keeper: &mut Counted,
+    uniques: &[u64],
+    piece: usize,
+) -> Result<(), StoreFault> {
+    let input = messages(alloc, uniques)?;
+    let mut arrivals = Vec::new(alloc);
+    for _ in uniques {
+        arrivals.push(Arrival::Piece(piece))?;
+    }
+    let mut port = MemoryPort::new(alloc, input, arrivals, Vec::new(alloc), false);
+    if !keeper.failed() {
+        serve(alloc, keeper, &mut port, &mut Fixed(NOW), 10);
+    }
+    Ok(())
+}
+
+fn reopened(keeper: Counted) -> Result<Counted, StoreFault> {
+    keeper.restart()
+}
+
+fn has_record(keeper: &mut Counted, id: u64) -> Result<bool, StoreFault> {
+    Ok(keeper.answer_of(Id(id))?.is_some())
+}
+
+// Each message in a group of its own, of which the third isn't committed.
+fn first(alloc: Global) -> Result<Counted, StoreFault> {
+    let mut keeper = begun(alloc, 2)?;
+    serve_on(alloc, &mut keeper, &[4, 6, 8], MESSAGE)?;
+    Ok(keeper)
+}
+
+// One group, in which one comes again and one is new. Then the next mount. What only looks isn't
+// counted.
+fn second(alloc: Global, keeper: &mut Counted) -> Result<[bool; 2], StoreFault> {
+    serve_on(alloc, keeper, &[UNIQUE_RESEND | 6, 8], 2 * MESSAGE)?;
+    let recorded = has_record(keeper, 8)?;
+    keeper.begin_mount()?;
+    Ok([recorded, !has_record(keeper, 8)?])
+}
+
+fn sessions(alloc: Global) -> Result<([Tally; 2], [bool; 2]), StoreFault> {
+    let keeper = first(alloc)?;
+    let before = keeper.tally();
+    let mut opened = reopened(keeper)?;
+    let looks = second(alloc, &mut opened)?;
+    Ok(([before, opened.tally()], looks))
+}
+
+#[test]
+fn sessions_are_counted(rt: HostRuntime) -> Result<(), StoreFault> {
+    let before = Tally {
+        groups: 2,
+        requests: 2,
+        faults: 1,
+        ..Tally::NONE
+    };
+    let behind = Tally {
+        groups: 3,
+        requests: 4,
+        repeated: 1,
+        mounts: 1,
+        faults: 1,
+        openings: 1,
+    };
+    assert_eq!(rt; sessions(rt.alloc())?, ([before, behind], [true; 2]));
+    Ok(())
+}
+
+// The server dies behind one commit and before another; both come again.
+const STEPS: [(u64, Fate); 5] = [
+    (4, Fate::Answered),
+    (6, Fate::DiedAfterCommit),
+    (UNIQUE_RESEND | 6, Fate::Answered),
+    (8, Fate::DiedBeforeCommit),
+    (UNIQUE_RESEND | 8, Fate::Answered),
+];
+
+fn events(alloc: Global) -> Result<Vec<Event>, AllocError> {
+    let mut events = Vec::new(alloc);
+    for (unique, fate) in STEPS {
+        let bytes = messages(alloc, &[unique])?;
+        events.push(Event {
+            bytes: ByteList::from_vec(bytes),
+            moment: NOW,
+            fate,
+        })?;
+    }
+    Ok(events)
+}
+
+// What was counted, and how often the keeper below was opened again.
+fn driven(alloc: Global) -> Result<Option<(Tally, u64)>, StoreFault> {
+    let events = events(alloc)?;
+    let keeper = begun(alloc, 8)?;
+    if keeper.failed() {
+        return Ok(None);
+    }
+    let mut slot = Some(keeper);
+    if drive(alloc, &mut slot, events.as_slice()).is_err() {
+        return Ok(None);
+    }
+    Ok(slot.map(|left| (left.tally(), left.into_inner().openings())))
+}
+
+// Three groups: 4 and 6, the repeat of 6, and 8.
+#[test]
+fn events_are_counted(rt: HostRuntime) -> Result<(), StoreFault> {
+    let wanted = Tally {
+        groups: 3,
+        requests: 4,
+        repeated: 1,
+        openings: 2,
+        ..Tally::NONE
+    };
+    assert_eq!(rt; driven(rt.alloc())?, Some((wanted, 2)));
+    Ok(())
+}

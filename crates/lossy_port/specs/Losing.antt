@@ -1,0 +1,52 @@
+-- Answers that are sent on a line, of which some are lost (own profile).
+use Rattle.std.specs.Prelude.{◌≡◌, ℕ, ◌-◌, ◌==◌, if◌then◌else◌, List, [], ◌∷◌, ◌++◌, length}
+use Rattle.fuse_request.specs.Stream.{joined}
+use Rattle.lossy_port.specs.declared.line.Line.{Line}
+
+-- an answer gets through, unless it is the next to be lost
+abbrev pub through_of : ℕ → List ℕ → List ℕ
+through_of left answer = if left == 1 then [] else answer
+
+-- which one is lost behind it
+abbrev pub lost_then : ℕ → ℕ → ℕ
+lost_then every left = if left == 1 then every else left - 1
+
+-- what gets through of several, and which one is lost behind them
+abbrev pub through : ℕ → ℕ → List (List ℕ) → List ℕ
+through every left [] = []
+through every left (answer ∷ more) = through_of left answer ++ through every (lost_then every left) more
+
+abbrev pub lost_after : ℕ → ℕ → List (List ℕ) → ℕ
+lost_after every left [] = left
+lost_after every left (answer ∷ more) = lost_after every (lost_then every left) more
+
+-- one answer was sent
+pub record Takes (old new : Line) (answer : List ℕ) : Type 0 where
+  pub sent : new.sent.items ≡ old.sent.items ++ answer
+  pub delivered : new.delivered.items ≡ old.delivered.items ++ through_of old.left answer
+  pub every : new.every ≡ old.every
+  pub left : new.left ≡ lost_then old.every old.left
+
+-- none was
+pub record Stays (old new : Line) : Type 0 where
+  pub sent : new.sent.items ≡ old.sent.items
+  pub delivered : new.delivered.items ≡ old.delivered.items
+  pub every : new.every ≡ old.every
+  pub left : new.left ≡ old.left
+
+-- these were, one after the other
+pub record Delivers (old new : Line) (answers : List (List ℕ)) : Type 0 where
+  pub sent : new.sent.items ≡ old.sent.items ++ joined answers
+  pub delivered : new.delivered.items ≡ old.delivered.items ++ through old.every old.left answers
+  pub every : new.every ≡ old.every
+  pub left : new.left ≡ lost_after old.every old.left answers
+
+-- none of them is empty
+abbrev pub HaveBytes : List (List ℕ) → Type 0
+HaveBytes [] = Unit {0}
+HaveBytes (answer ∷ more) = (¬ (length answer ≡ 0)) × HaveBytes more
+
+-- an empty slice is no answer
+abbrev pub answers_in : List ℕ → List (List ℕ)
+answers_in [] = []
+answers_in (b ∷ more) = (b ∷ more) ∷ []

@@ -1,0 +1,10 @@
+//! A port over lists of bytes that loses answers: an example of one.
+#![tactic(auto)]
+
+mod line;
+mod port;
+
+pub use port::LossyPort;
+
+#[cfg(test)]
+mod tests;

@@ -1,0 +1,61 @@
+// A line on which answers are lost.
+ghost use Rattle.std.specs.Prelude.{◌≡◌, [], OnOk, OnErr};
+ghost use Rattle.lossy_port.specs.Losing.{Takes, Stays};
+
+use std::alloc::{AllocError, Global};
+
+/// What was sent on a line, and what got through.
+#[derive(Drop)]
+pub(crate) struct Line {
+    sent: Vec<u8>,
+    delivered: Vec<u8>,
+    // Each answer of this number is lost; at 0 none is.
+    every: u32,
+    // Which of the next answers is lost: 1 is the very next, 0 none.
+    left: u32,
+}
+
+impl Line {
+    pub(crate) fn new(alloc: Global, every: u32) -> Line
+        ensures sent { result.sent.items ≡ [] }
+        ensures delivered { result.delivered.items ≡ [] }
+        ensures every { result.every ≡ every }
+        ensures left { result.left ≡ every }
+    {
+        Line {
+            sent: Vec::new(alloc),
+            delivered: Vec::new(alloc),
+            every,
+            left: every,
+        }
+    }
+
+    pub(crate) fn sent(&self) -> &[u8]
+        ensures { result.now ≡ self.now.sent.items }
+    {
+        self.sent.as_slice()
+    }
+
+    pub(crate) fn delivered(&self) -> &[u8]
+        ensures { result.now ≡ self.now.delivered.items }
+    {
+        self.delivered.as_slice()
+    }
+
+    /// Sends an answer, which gets through unless it is the next to be lost. Where memory is
+    /// wanting nothing of it is sent.
+    pub(crate) fn take(&mut self, answer: &[u8]) -> Result<(), AllocError>
+        ensures ok { OnOk result (Takes self.old self.new answer.now) }
+        ensures err { OnErr result (Stays self.old self.new) }
+    {
+        self.delivered.reserve(answer.len())?;
+        self.sent.extend_from_slice(answer)?;
+        if self.left == 1 {
+            self.left = self.every;
+            return Ok(());
+        }
+        self.delivered.extend_from_slice(answer).unwrap();
+        self.left = self.left.saturating_sub(1);
+        Ok(())
+    }
+}

@@ -1,0 +1,78 @@
+"""Edits of a store's file by SQL that its constraints don't stop."""
+import sqlite3
+from dataclasses import dataclass
+from typing import Callable
+
+# What makes a table refuse rows.
+CONSTRAINTS = (" STRICT", " NOT NULL")
+
+
+@dataclass
+class Hostile:
+    """A hostile file: its kind, what it is, what makes it of a copy of the good store, whether a sample has it always,
+    whether it has to be refused as a whole, and by which line, where just one is right."""
+    kind: str
+    name: str
+    make: Callable[[str], None]
+    always: bool = False
+    is_no_store: bool = False
+    wanted: str = ""
+
+
+def connect(path):
+    """A connection that writes the schema too, and looks at no reference or check."""
+    store = sqlite3.connect(path, isolation_level=None)
+    for pragma in ("writable_schema = ON", "ignore_check_constraints = ON", "foreign_keys = OFF", "synchronous = OFF"):
+        store.execute(f"PRAGMA {pragma}")
+    return store
+
+
+def schema_of(store):
+    """The texts of the schema by the places of its rows."""
+    return store.execute("SELECT rowid, sql FROM sqlite_master WHERE sql IS NOT NULL").fetchall()
+
+
+def without_constraints(text):
+    for constraint in CONSTRAINTS:
+        text = text.replace(constraint, "")
+    return text
+
+
+def set_schema(path, texts):
+    """Gives rows of the schema other texts."""
+    store = connect(path)
+    for rowid, text in texts:
+        store.execute("UPDATE sqlite_master SET sql = ? WHERE rowid = ?", (text, rowid))
+    store.close()
+
+
+def edit(path, *statements):
+    """Runs statements over tables that take any value, and puts the schema back as it was."""
+    store = connect(path)
+    texts = schema_of(store)
+    store.close()
+    set_schema(path, [(rowid, without_constraints(text)) for rowid, text in texts])
+    store = connect(path)
+    for statement in statements:
+        text, *values = (statement,) if isinstance(statement, str) else statement
+        store.execute(text, values)
+    store.close()
+    set_schema(path, texts)
+
+
+def edit_schema(path, *statements):
+    """Runs statements over the schema itself, as it is."""
+    store = connect(path)
+    for statement in statements:
+        store.execute(statement)
+    store.close()
+
+
+def by_sql(kind, name, *statements, always=True):
+    """What statements make of a store."""
+    return Hostile(kind, name, lambda path: edit(path, *statements), always)
+
+
+def by_schema(name, *statements, always=True, wanted=""):
+    """What statements make of a store's schema."""
+    return Hostile("schema", name, lambda path: edit_schema(path, *statements), always, wanted=wanted)

@@ -1,0 +1,81 @@
+"""The good store that hostile ones are made of, and a stream of every operation over all that is in one."""
+import os
+import signal
+import subprocess
+import sys
+
+HERE = os.path.dirname(os.path.realpath(__file__))
+sys.path.insert(0, f"{HERE}/../streams")
+
+import messages as m  # noqa: E402
+import program  # noqa: E402
+
+LONG = b"n" * 255
+# The first id of the requests that a hostile store gets; the store's own records have lower ones.
+FIRST_ID = 1000
+MANY = 40
+
+
+def numbered(parts, first=2):
+    """Messages of opcode, node and body, with even ids from the first on."""
+    return [m.message(opcode, first + 2 * at, node, body) for at, (opcode, node, body) in enumerate(parts)]
+
+
+def init():
+    return m.INIT, 0, m.init_body()
+
+
+def making():
+    """Requests that make a tree with something of everything, and leave a file without a name."""
+    parts = [
+        init(),
+        (m.MKDIR, 1, m.mkdir_body(b"a")),
+        (m.MKDIR, 2, m.mkdir_body(b"b")),
+        (m.MKNOD, 1, m.mknod_body(b"f")),
+        (m.MKNOD, 2, m.mknod_body(b"g")),
+        (m.MKNOD, 1, m.mknod_body(b"pipe", m.FIFO | 0o600)),
+        (m.MKNOD, 1, m.mknod_body(b"tty", m.CHARACTERS | 0o600, 0x501)),
+        (m.MKDIR, 1, m.mkdir_body(b"e")),
+        (m.MKNOD, 1, m.mknod_body(b"gone")),
+        (m.MKNOD, 3, m.mknod_body(LONG)),
+    ]
+    parts += [(m.MKNOD, 3, m.mknod_body(b"%02d" % number + b"x" * 60)) for number in range(MANY)]
+    parts += [(m.OPEN, 4, m.open_body(2)), (m.OPEN, 5, m.open_body(1)), (m.OPEN, 9, m.open_body(2))]
+    parts += [(m.OPENDIR, 1, m.open_body(0)), (m.OPENDIR, 3, m.open_body(0)), (m.OPEN, 4, m.open_body(0))]
+    parts += [(m.WRITE, 4, m.write_body(1, 0, b"s" * 9000)), (m.WRITE, 4, m.write_body(1, 60000, b"end"))]
+    parts += [(m.WRITE, 5, m.write_body(2, 100, b"g" * 50)), (m.WRITE, 9, m.write_body(3, 0, b"u" * 5000))]
+    return parts + [(m.UNLINK, 1, b"gone\0"), (m.READ, 4, m.read_body(1, 0, 12000)), (m.LOOKUP, 1, b"no\0")]
+
+
+def make(path):
+    """Makes the store, which the program closes."""
+    words = ["replay", "--db", path, "--at", "1000", "-"]
+    ran = program.run(words, b"".join(numbered(making())), 60)
+    if ran.status != 0:
+        raise SystemExit(f"hostile: FAILED, no good store could be made: {ran.err.decode()}")
+
+
+def make_killed(path, folder):
+    """Makes the store by a server that is killed, so that what it holds is in its log."""
+    with open(f"{folder}/stream", "wb") as stream:
+        stream.write(b"".join(numbered(making())))
+    begin, end = os.pipe()
+    with open(f"{folder}/stream", "rb") as stream, open(f"{folder}/out", "wb") as out:
+        os.write(end, stream.read(50000))
+        words = [program.BUILT, "serve", "--db", path, "--fresh", "--at", "1000"]
+        child = subprocess.Popen(words, stdin=begin, stdout=out, stderr=subprocess.DEVNULL)
+        wait_for_answers(child, f"{folder}/out", len(making()))
+        child.send_signal(signal.SIGKILL)
+        child.wait()
+    os.close(begin)
+    os.close(end)
+
+
+def wait_for_answers(child, path, wanted):
+    """Waits until so many answers are there."""
+    while child.poll() is None:
+        with open(path, "rb") as out:
+            answers = m.cut(out.read())
+        if answers is not None and len(answers) >= wanted:
+            return
+    raise SystemExit("hostile: FAILED, the server of the good store ended")

@@ -1,0 +1,307 @@
+"""Opens hostile files with the program and asks for everything in them: docs/HOSTILE.md says what has to come."""
+import argparse
+import collections
+import multiprocessing
+import os
+import re
+import shutil
+import signal
+import sqlite3
+import sys
+import tempfile
+import time
+
+from by_bytes import all_of_bytes, bytes_of
+from by_rows import all_of_rows
+from by_schema import all_of_schema
+from good import m, make, make_killed, program
+from asking import messages_of
+
+MEMORY = 1 << 30
+SECONDS = 10
+GROUP = 16
+# A log of fewer bytes holds no page.
+LOG = 32 + 24 + 512
+# How many faults of one file a sample goes on behind, and how many a whole run, and for how many seconds.
+FEW, MANY = 1, 3
+LONGEST = 20
+SAMPLE = 23
+
+REFUSALS = re.compile(r"store: NotAStore|store: Version\(\d+\)")
+FAULTS = re.compile(r"store: (Sql|Damaged|NotAStore|Version\(\d+\))|resume: NotOffered")
+COUNTS = re.compile(r"served messages=\d+ kept=\d+ repeated=\d+ bare=\d+ silent=\d+ interrupts=\d+")
+HEX = re.compile(rb"(?:[0-9a-f]{2})+")
+
+
+class Told:
+    """What came of one file: how it was opened, by which faults requests ended, what was wrong, and what it took."""
+
+    def __init__(self, hostile):
+        self.kind, self.name = hostile.kind, hostile.name
+        self.opened = None
+        self.faults = collections.Counter()
+        self.wrong = []
+        self.runs = 0
+        self.requests = 0
+        self.seconds = 0.0
+        self.kilobytes = 0
+
+
+def line_of(ran):
+    """The fault line of a run, without the line of counts."""
+    lines = [line for line in ran.err.decode(errors="replace").splitlines() if not COUNTS.fullmatch(line)]
+    return "\n".join(lines)
+
+
+def answers_of(ran, words):
+    """The answers that a run wrote, or None where what it wrote is something else."""
+    if words[0] == "serve":
+        return m.cut(ran.out)
+    lines = [line for line in ran.out.splitlines() if not line.startswith(b"served ")]
+    if not all(HEX.fullmatch(line) for line in lines):
+        return None
+    return [bytes.fromhex(line.decode()) for line in lines]
+
+
+def wrong_of(ran, words, wanted):
+    """What is wrong with a run of these words, which got so many messages, or None."""
+    line = line_of(ran)
+    if ran.status is None:
+        return f"didn't end within {SECONDS} seconds"
+    if ran.status == 0 and line == "":
+        answers = answers_of(ran, words)
+        notices = 1 if "--resume" in words else 0
+        if answers is None or len(answers) != wanted + notices:
+            return f"{wanted} messages, but {None if answers is None else len(answers)} answers"
+        return None
+    if ran.status == 3 and FAULTS.fullmatch(line):
+        return None
+    return f"status {ran.status}, '{line[:200]}'"
+
+
+def rows_of(folder):
+    """What sqlite3 reads from a copy of a store and its log: its schema and its rows, or why it doesn't."""
+    with tempfile.TemporaryDirectory(dir=program.quick_folder()) as there:
+        for name in os.listdir(folder):
+            shutil.copy(f"{folder}/{name}", there)
+        store = sqlite3.connect(f"{there}/store")
+        store.text_factory = bytes
+        try:
+            tables = store.execute("SELECT type, name, sql FROM sqlite_master").fetchall()
+            names = [name.decode() for kind, name, _ in tables if kind == b"table"]
+            return tables, [store.execute(f'SELECT * FROM "{name}"').fetchall() for name in names]
+        except sqlite3.Error as fault:
+            return repr(fault)
+        finally:
+            store.close()
+
+
+def snapshot(folder):
+    """The files of a folder with their bytes; what isn't a file by its kind."""
+    seen = {}
+    for name in sorted(os.listdir(folder)):
+        path = f"{folder}/{name}"
+        seen[name] = bytes_of(path) if os.path.isfile(path) and not os.path.islink(path) else os.lstat(path).st_mode
+    return seen
+
+
+def is_same(before, rows, folder):
+    """Whether the file is as it was, and the log beside it, if it is another, changes nothing of what is read."""
+    after = snapshot(folder)
+    if before.get("store") != after.get("store"):
+        return False
+    return before == after or len(after.get("store-wal", b"")) < LOG or rows == rows_of(folder)
+
+
+class Try:
+    """One hostile file, made anew for each way in which it is opened."""
+
+    def __init__(self, hostile, good, folder, rounds):
+        self.hostile, self.good, self.folder, self.rounds = hostile, good, folder, rounds
+        self.path = f"{folder}/store"
+        self.told = Told(hostile)
+
+    def place(self):
+        """Makes the file, with nothing else in its folder."""
+        shutil.rmtree(self.folder, ignore_errors=True)
+        os.mkdir(self.folder)
+        shutil.copyfile(self.good, self.path)
+        self.hostile.make(self.path)
+
+    def run(self, mode, messages, must_stay):
+        """Runs the program over the file. Where it is refused, or has to stay, nothing may change."""
+        before = snapshot(self.folder) if must_stay else None
+        rows = rows_of(self.folder) if must_stay and "store-wal" in before else None
+        words = {"replay": ["replay", "--db", self.path, "--at", "2000", "-"]}.get(
+            mode, ["serve", "--db", self.path, f"--{mode}", "--at", "2000"])
+        ran = program.run(words, b"".join(messages), SECONDS)
+        wrong = wrong_of(ran, words, len(messages))
+        line = line_of(ran)
+        if not wrong and must_stay and line and not is_same(before, rows, self.folder):
+            wrong = f"'{line}', but what is stored was changed"
+        self.note(mode, ran, wrong, messages)
+        return ran, line
+
+    def note(self, mode, ran, wrong, messages):
+        told = self.told
+        told.runs += 1
+        told.requests += len(messages)
+        told.seconds = max(told.seconds, ran.seconds)
+        told.kilobytes = max(told.kilobytes, ran.kilobytes)
+        if wrong:
+            told.wrong.append(f"{mode}, {len(messages)} messages: {wrong}")
+
+    def replay(self, messages):
+        """All messages; where a fault ends the run, those of its group alone, and then the ones behind it."""
+        at = 0
+        until = time.monotonic() + LONGEST
+        for _ in range(self.rounds):
+            ran, line = self.run("replay", messages[at:], False)
+            if not line or time.monotonic() > until:
+                return
+            self.told.faults[line] += 1
+            at += len(answers_of(ran, ["replay"]) or ())
+            for message in messages[at:at + GROUP]:
+                if time.monotonic() < until:
+                    self.run("replay", [message], False)
+            at += GROUP
+
+    def serve(self, mode, messages):
+        """A mount that begins, or one that goes on."""
+        self.place()
+        if mode == "fresh":
+            _, line = self.run(mode, [], True)
+            if line:
+                return
+        ran, line = self.run(mode, messages, not messages)
+        if line:
+            self.told.faults[f"{line} (--{mode})"] += 1
+
+    def go(self):
+        """Every way, and what came."""
+        self.place()
+        _, line = self.run("replay", [], True)
+        self.told.opened = line or "opened"
+        if self.hostile.is_no_store and not line:
+            self.told.wrong.append("it was taken for a store")
+        if self.hostile.wanted and line != self.hostile.wanted:
+            self.told.wrong.append(f"'{line}', where '{self.hostile.wanted}' is right")
+        if not line:
+            self.replay(messages_of(self.path, False))
+        self.place()
+        readable = os.path.isfile(self.path)
+        self.serve("fresh", messages_of(self.path, True) if readable else [])
+        self.serve("resume", messages_of(self.path, False) if readable and not line else [])
+        return self.told
+
+
+# ---- many of them
+
+ALL = []
+PLACES = {}
+
+
+def begin(folder, rounds):
+    """What each process of the pool does first."""
+    signal.signal(signal.SIGTERM, signal.SIG_DFL)
+    program.bound_memory(MEMORY)
+    PLACES.update(good=f"{folder}/good", rounds=rounds, work=f"{folder}/work{os.getpid()}")
+
+
+def try_one(at):
+    one = Try(ALL[at], PLACES["good"], PLACES["work"], PLACES["rounds"])
+    try:
+        return one.go()
+    except Exception as fault:  # what made the file failed: that is told too
+        one.told.wrong.append(f"the file couldn't be made or read: {fault!r}")
+        return one.told
+
+
+def collect(folder):
+    """All hostile files, of a good store that is made now, and of one whose server was killed."""
+    make(f"{folder}/good")
+    make_killed(f"{folder}/killed", folder)
+    log = f"{folder}/killed-wal"
+    held = bytes_of(log) if os.path.exists(log) else b""
+    ALL.extend(all_of_rows() + all_of_schema() + all_of_bytes(bytes_of(f"{folder}/good"), bytes_of(f"{folder}/killed"), held))
+
+
+def chosen(words):
+    """The places of those that are tried."""
+    if words.only:
+        return [at for at, one in enumerate(ALL) if re.search(words.only, f"{one.kind}: {one.name}")]
+    return [at for at, one in enumerate(ALL) if words.all or one.always or at % SAMPLE == 0]
+
+
+def counted(told, counts):
+    return ", ".join(f"{name} {number}" for name, number in counts.most_common())
+
+
+def table(tolds):
+    """A line for each kind: files, how they were opened, how requests ended."""
+    kinds = collections.defaultdict(list)
+    for told in tolds:
+        kinds[told.kind].append(told)
+    yield "| Kind | Files | Opening them | Files with a fault at a request | Runs | Wrong |"
+    yield "|---|---|---|---|---|---|"
+    for kind, some in kinds.items():
+        opened = collections.Counter(told.opened for told in some)
+        faults = collections.Counter(line.split(" (")[0] for told in some for line in {l.split(" (")[0] for l in told.faults})
+        runs = sum(told.runs for told in some)
+        wrong = sum(bool(told.wrong) for told in some)
+        cells = (kind, len(some), counted(some, opened), counted(some, faults) or "none", runs, wrong)
+        yield "| " + " | ".join(str(cell) for cell in cells) + " |"
+
+
+def told_at_once(told):
+    """Tells what was wrong with a file."""
+    for wrong in told.wrong[:3]:
+        print(f"hostile: {told.kind}: {told.name}: {wrong}", flush=True)
+    return told
+
+
+def tell(tolds, words, took):
+    """What came, and whether all is right."""
+    for told in tolds:
+        if words.only:
+            cost = f"{told.seconds:.2f} s, {told.kilobytes} KB"
+            print(f"hostile: {told.kind}: {told.name}: {told.opened}; {dict(told.faults)}; {cost}")
+    if words.table:
+        print(*table(tolds), sep="\n")
+    slowest = max(tolds, key=lambda told: told.seconds)
+    largest = max(tolds, key=lambda told: told.kilobytes)
+    print(f"hostile: the longest run took {slowest.seconds:.1f} s ({slowest.kind}: {slowest.name})")
+    print(f"hostile: the most memory was {largest.kilobytes // 1024} MiB ({largest.kind}: {largest.name})")
+    runs, requests = sum(told.runs for told in tolds), sum(told.requests for told in tolds)
+    wrong = sum(bool(told.wrong) for told in tolds)
+    print(f"hostile: {runs} runs with {requests} requests, {took:.0f} seconds")
+    print(f"hostile: {len(tolds)} of {len(ALL)} files tried, {wrong} wrong")
+    return 0 if tolds and not wrong else 1
+
+
+def words_of():
+    words = argparse.ArgumentParser(prog="hostile/try", description=__doc__)
+    words.add_argument("--all", action="store_true", help="all files, and not a sample")
+    words.add_argument("--only", help="those in whose kind and name this pattern is found, each told")
+    words.add_argument("--table", action="store_true", help="a table of what came, by kind")
+    words.add_argument("--jobs", type=int, default=2, help="so many at a time")
+    return words.parse_args()
+
+
+def main():
+    words = words_of()
+    if not program.is_built():
+        print("hostile: FAILED, the program isn't built (./fusekeep builds it)")
+        return 1
+    begun = time.monotonic()
+    signal.signal(signal.SIGTERM, lambda *_: sys.exit(1))
+    with tempfile.TemporaryDirectory(prefix="hostile-", dir=program.quick_folder()) as folder:
+        collect(folder)
+        rounds = MANY if words.all or words.only else FEW
+        with multiprocessing.Pool(words.jobs, begin, (folder, rounds)) as pool:
+            tolds = [told_at_once(told) for told in pool.imap(try_one, chosen(words))]
+    return tell(tolds, words, time.monotonic() - begun)
+
+
+if __name__ == "__main__":
+    sys.exit(main())

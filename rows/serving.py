@@ -1,0 +1,115 @@
+"""Rows by `fusekeep serve`: the lives of servers over one file, between pipes that stand for a device. README.md says how."""
+import os
+import re
+from dataclasses import replace
+
+from program import copy_store, look_into, make_store, run_on_device, store_of
+from read import chain_of, last_said
+from ways import bytes_in, lives_of
+
+NOTICE = "10000000070000000000000000000000"
+NOT_OFFERED = ["status 3", "resume: NotOffered"]
+HAS_RESEND = 1 << 39
+
+# How many requests a group has at most.
+GROUP = 16
+
+
+def lives_of_servers(chain):
+    """A server is gone behind an answer that is lost: else the next group would settle its id."""
+    return lives_of([event for row in chain for event in row.events], ("after", "lost")) or [[]]
+
+
+def serve(program, work, begin, events, secs=1000, whole=True, room=None):
+    """One life of a server over the store of this folder."""
+    words = [program, "serve", "--db", f"{work}/store", begin, "--at", str(secs)]
+    pieces = [bytes_in(events)] if whole else [event.message for event in events]
+    return run_on_device(words, pieces, work, room) if room else run_on_device(words, pieces, work)
+
+
+def serve_lives(program, lives, whole, work):
+    """The lives, one after the other, over one new store; then a server that resumes, and is given nothing."""
+    make_store(program, work)
+    ran = []
+    for life in lives:
+        secs = life[0].secs if life else 1000
+        ran.append(serve(program, work, "--resume" if ran else "--fresh", life, secs, whole))
+    return ran, serve(program, work, "--resume", [])
+
+
+def answers_of(events):
+    return [event.answer.hex() for event in events if event.answer]
+
+
+def is_offered(chain):
+    """Whether the notice is sent: where no INIT is agreed on, or it agreed on resends."""
+    flags = re.search(r"flags=0x([0-9a-f]+)", " ".join(last_said(chain, "settings")))
+    return flags is None or bool(int(flags.group(1), 16) & HAS_RESEND)
+
+
+def seen_of(served):
+    """What a server sent, and how it ended, without its counts."""
+    lines = [line for line in served.told if not line.startswith("served ")]
+    return [packet.hex() for packet in served.packets] + [f"status {served.status}", *lines]
+
+
+def wanted_of(chain, lives):
+    """The same of all lives, as the rows say it, and of the server that is given nothing."""
+    wanted = []
+    for number, life in enumerate(lives):
+        wanted += [NOTICE] * (number > 0) + answers_of(life) + ["status 0"]
+    return wanted + ([NOTICE, "status 0"] if is_offered(chain) else NOT_OFFERED)
+
+
+def counts_told(ran):
+    return [line for one in ran for line in one.told if line.startswith("served ")]
+
+
+# Row settled-after-fault, which goes on from row settled-counts.
+
+
+def again(event):
+    """The event as the kernel resends it, under a unique with bit 63."""
+    bit = bytes(15) + b"\x80"
+    message, answer = [bytes(a | b for a, b in zip(text, bit)) + text[16:] for text in (event.message, event.answer)]
+    return replace(event, message=message, answer=answer)
+
+
+def left_in(work):
+    return [line for line in look_into(work) if line.startswith(("lots=", "left "))]
+
+
+def settled_after_fault(program, rows, work, looks):
+    """What is wanted and what is seen where the second group's first answer can't be sent, and what resends then get."""
+    events = [event for row in chain_of(rows, rows["settled-counts"]) for event in row.events]
+    first, second, behind = events[:GROUP], events[GROUP:2 * GROUP], events[2 * GROUP]
+    make_store(program, work)
+    wanted = answers_of(first) + ["status 4", "port: failed"]
+    seen = seen_of(serve(program, work, "--fresh", events, room=GROUP))
+    if looks:
+        wanted += ["lots=1", "left nodes=32 handles=0 records=16"]
+        seen += left_in(work)
+    for more, left in (([], "left nodes=32 handles=0 records=16"), ([behind], "left nodes=33 handles=0 records=1")):
+        resent = [again(event) for event in second] + more
+        folder = copy_store(work, f"with-{len(more)}")
+        wanted += [NOTICE] + answers_of(resent) + ["status 0"]
+        seen += seen_of(serve(program, folder, "--resume", resent))
+        if looks:
+            wanted += ["lots=2", left]
+            seen += left_in(folder)
+    return wanted, seen
+
+
+# What is refused before anything is served.
+
+
+def refused(program, work):
+    """What is wanted and what is seen where words name neither or both ways to begin, and where there is no store to go on with."""
+    usage = ["status 2", "usage: one of --fresh and --resume", "nothing is made"]
+    no_store = ["status 3", "store: NotAStore", "nothing is made"]
+    seen = []
+    for ways in ([], ["--fresh", "--resume"], ["--resume"]):
+        store = store_of(work)
+        seen += seen_of(run_on_device([program, "serve", "--db", store, *ways], [], work))
+        seen += ["a file is made" if os.path.exists(store) else "nothing is made"]
+    return [*usage, *usage, *no_store], seen
