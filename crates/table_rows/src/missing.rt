@@ -1,6 +1,7 @@
 //! Stores in which a table is missing, or in whose place a view stands.
 use crate::shown::{run, shows};
 use fuse_keeper::StoreFault;
+use fuse_table_keeper::set_up_for;
 use fuse_tables::{make_store, set_up};
 use fuse_wire::Moment;
 use sqlite::{Connection, Error, MemStore};
@@ -85,6 +86,6 @@ fn what_comes_before(rt: HostRuntime) -> Result<(), Fail> {
         &mut conn,
         "DROP TABLE meta; CREATE VIEW meta AS SELECT 1 AS k, 2 AS v",
     )?;
-    assert!(rt; matches!(set_up(&mut conn), Err(StoreFault::NotAStore)));
+    assert!(rt; matches!(set_up_for(&mut conn), Err(StoreFault::NotAStore)));
     Ok(())
 }
