@@ -1,5 +1,6 @@
 //! How far a long stream is read, told on a terminal.
 ghost use Rattle.std.specs.Prelude.{◌≡◌};
+ghost use Rattle.fuse_commands.specs.Printing.{mebibytes};
 ghost use Rattle.fuse_commands.specs.Reading.{left_behind};
 
 use std::fmt;
@@ -18,7 +19,7 @@ pub struct ProgressLine {
 
 // Whole MiB.
 fn mebibytes(bytes: u64) -> u64
-    ensures { result ≡ Rattle.fuse_commands.specs.Printing.mebibytes bytes }
+    ensures { result ≡ mebibytes bytes }
 {
     bytes / 1_048_576
 }
@@ -122,10 +123,14 @@ impl<R: Read, T: Clock + Eprint> Read for ProgressReader<R, T> {
     }
 }
 
-impl<R, T: Clock + Eprint> Drop for ProgressReader<R, T> {
+impl<R: Drop, T: Clock + Eprint + Drop> Drop for ProgressReader<R, T> {
     fn drop(self) {
-        let ProgressReader {
-            terminal, is_shown, ..
+        let Self {
+            reader: _reader,
+            terminal,
+            line: _,
+            second: _,
+            is_shown,
         } = self;
         if is_shown {
             clear_line(&terminal);
