@@ -1,5 +1,5 @@
 -- What is printed (own profile).
-use Rattle.std.specs.Prelude.{ℕ, List, [], ◌∷◌, ◌++◌, codes, decimal}
+use Rattle.std.specs.Prelude.{◌/◌, ℕ, List, [], ◌∷◌, ◌++◌, Option, Some, None, codes, decimal}
 use Rattle.std.specs.List.{flat_map}
 use Rattle.hex.specs.Hex.{encode_lower}
 use Rattle.fuse_answer.specs.Laws.{BeginsWithLen}
@@ -35,3 +35,13 @@ count_line c =
 -- how much a store holds, without the line feed
 abbrev pub store_line : ℕ → ℕ → List ℕ
 store_line nodes handles = codes "nodes=" ++ (decimal nodes ++ (codes " handles=" ++ decimal handles))
+
+-- 2^20 bytes
+abbrev pub mebibytes : ℕ → ℕ
+mebibytes bytes = bytes / 1048576
+
+-- how far a stream is read, and of how much where that is known, without the line feed
+abbrev pub progress_line : ℕ → Option ℕ → List ℕ
+progress_line read (Some total) =
+    codes "read " ++ (decimal (mebibytes read) ++ (codes " of " ++ (decimal (mebibytes total) ++ codes " MiB")))
+progress_line read None = codes "read " ++ (decimal (mebibytes read) ++ codes " MiB")

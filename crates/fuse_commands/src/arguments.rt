@@ -101,9 +101,25 @@ fn file_command<'a>(
     alloc: Global,
     name: &'static str,
     about: &'static str,
+    example: &'static str,
 ) -> Result<Command<'a>, AllocError> {
     let file = needed_argument(alloc, FILE, "FILE", STREAM_HELP);
-    Command::new(alloc, name).about(about).arg(file)
+    Command::new(alloc, name)
+        .about(about)
+        .after_help(example)
+        .arg(file)
+}
+
+fn dump_command<'a>(alloc: Global) -> Result<Command<'a>, AllocError> {
+    let about = "Prints a line for each message of a stream";
+    let example = "Example:\n  fusekeep dump examples/first-run.stream";
+    file_command(alloc, DUMP, about, example)
+}
+
+fn check_command<'a>(alloc: Global) -> Result<Command<'a>, AllocError> {
+    let about = "Counts the messages of a stream";
+    let example = "Example:\n  fusekeep check examples/first-run.stream";
+    file_command(alloc, CHECK, about, example)
 }
 
 fn at_argument<'a>(alloc: Global) -> Arg<'a> {
@@ -124,8 +140,11 @@ fn db_argument<'a>(alloc: Global) -> Arg<'a> {
 }
 
 fn replay_command<'a>(alloc: Global) -> Result<Command<'a>, AllocError> {
+    let example =
+        "Example:\n  fusekeep replay --db notes.store --at 1000 examples/first-run.stream";
     Command::new(alloc, REPLAY)
         .about("Serves a recorded stream over a new store in memory, or over that of a file")
+        .after_help(example)
         .arg(db_argument(alloc))?
         .arg(at_argument(alloc))?
         .arg(needed_argument(alloc, STREAM, "STREAM", STREAM_HELP))
@@ -145,6 +164,7 @@ fn serve_command<'a>(alloc: Global) -> Result<Command<'a>, AllocError> {
     let db = needed_argument(alloc, DB, "FILE", "The file of the store").long(DB);
     Command::new(alloc, SERVE)
         .about("Serves requests from standard input to standard output, as they come")
+        .after_help("Example:\n  fusekeep serve --db notes.store --fresh <in >out")
         .arg(db)?
         .arg(flag(alloc, FRESH, fresh))?
         .arg(flag(alloc, RESUME, resume))?
@@ -155,15 +175,17 @@ fn simulate_command<'a>(alloc: Global) -> Result<Command<'a>, AllocError> {
     let help = "The file of the script, or - for standard input";
     Command::new(alloc, SIMULATE)
         .about("Runs the events of a script over a new store in memory")
+        .after_help("Example:\n  fusekeep simulate examples/died-after-commit.script")
         .arg(needed_argument(alloc, SCRIPT, "SCRIPT", help))
 }
 
 fn program_command<'a>(alloc: Global) -> Result<Command<'a>, AllocError> {
     Command::new(alloc, "fusekeep")
         .about("Serves FUSE requests, with recovery by resends")
+        .after_help("Example:\n  fusekeep check examples/first-run.stream")
         .subcommand_required(true)
-        .subcommand(file_command(alloc, DUMP, "Prints a line for each message of a stream")?)?
-        .subcommand(file_command(alloc, CHECK, "Counts the messages of a stream")?)?
+        .subcommand(dump_command(alloc)?)?
+        .subcommand(check_command(alloc)?)?
         .subcommand(replay_command(alloc)?)?
         .subcommand(serve_command(alloc)?)?
         .subcommand(simulate_command(alloc)?)

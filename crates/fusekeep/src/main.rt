@@ -8,7 +8,8 @@ mod store;
 use clap::Error;
 use clap::error::ErrorKind;
 use fuse_commands::{
-    Ending, Run, STANDARD_INPUT, START, parse, run_check, run_dump, run_replay, unreadable,
+    Ending, ProgressReader, Run, STANDARD_INPUT, START, parse, run_check, run_dump, run_replay,
+    unreadable,
 };
 use fuse_keeper::PlainKeeper;
 use fuse_store::PlainTree;
@@ -18,7 +19,7 @@ use serve::serve_as_asked;
 use simulate::simulate_in_memory;
 use sqlite::{Alter, Connection};
 use std::alloc::Global;
-use std::io::{BufWriter, Read, Write};
+use std::io::{BufWriter, IsTerminal, Read, Write};
 use std::process::ExitCode;
 use std::{env, fs, io};
 use store::open_file;
@@ -58,11 +59,46 @@ fn run(rt: &HostRuntime) -> Ending {
 // Opens the input, and runs on it.
 fn run_on_input(rt: &HostRuntime, run: Run<'_>) -> Ending {
     if run.input() == STANDARD_INPUT {
-        return run_on(rt, rt.reader(), run);
+        return run_told(rt, rt.reader(), None, run);
     }
     match fs::open(rt, run.input()) {
-        Ok(file) => run_on(rt, file, run),
+        Ok(file) => {
+            let total = size_of(&file);
+            run_told(rt, file, total, run)
+        }
         Err(_) => Ending::PortFailed,
+    }
+}
+
+// How many bytes a regular file has.
+fn size_of(file: &fs::File) -> Option<u64> {
+    match file.metadata() {
+        Ok(metadata) if metadata.is_file() => Some(metadata.len()),
+        _ => None,
+    }
+}
+
+// Whether a terminal shows how far a stream is read, with no line of the output between.
+fn is_watched(rt: &HostRuntime, run: &Run<'_>) -> bool {
+    let prints_apart = match run {
+        Run::Check { .. } => true,
+        Run::Dump { .. } | Run::Replay { .. } => !rt.stdout().is_terminal(),
+        Run::Serve { .. } | Run::Simulate { .. } => false,
+    };
+    prints_apart && rt.stderr().is_terminal()
+}
+
+// Runs on what a reader gives, and tells how far it is where somebody looks on.
+fn run_told<R: Read + Drop>(
+    rt: &HostRuntime,
+    reader: R,
+    total: Option<u64>,
+    run: Run<'_>,
+) -> Ending {
+    if is_watched(rt, &run) {
+        run_on(rt, ProgressReader::new(reader, rt, total), run)
+    } else {
+        run_on(rt, reader, run)
     }
 }
 
