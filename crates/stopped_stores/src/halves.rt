@@ -1,0 +1,85 @@
+//! Writes that are cut short: what a disk holds where half of a change arrived.
+use crate::disks::Held;
+use std::alloc::{AllocError, Global};
+
+// Where two contents differ first, and where no more behind their last difference.
+fn change_between(before: &[u8], after: &[u8]) -> Option<(usize, usize)> {
+    let mut change = None;
+    for (place, (one, other)) in before.iter().zip(after).enumerate() {
+        if one != other {
+            change = Some(widened(change, place, place.saturating_add(1)));
+        }
+    }
+    let (shorter, longer) = (before.len().min(after.len()), before.len().max(after.len()));
+    if shorter < longer {
+        change = Some(widened(change, shorter, longer));
+    }
+    change
+}
+
+fn widened(change: Option<(usize, usize)>, from: usize, behind: usize) -> (usize, usize) {
+    match change {
+        Some((first, _)) => (first, behind),
+        None => (from, behind),
+    }
+}
+
+// The front of what is there after a change up to this place, and then what was there before. What
+// a change cuts off is cut off from this place on.
+fn joined(alloc: Global, before: &[u8], after: &[u8], place: usize) -> Result<Vec<u8>, AllocError> {
+    if after.len() < before.len() {
+        return Vec::from_slice(alloc, before.get(..place).unwrap_or(before));
+    }
+    let mut half = Vec::from_slice(alloc, after.get(..place).unwrap_or(after))?;
+    half.extend_from_slice(before.get(place..).unwrap_or(&[]))?;
+    Ok(half)
+}
+
+fn half_of(alloc: Global, before: &[u8], after: &[u8]) -> Result<Vec<u8>, AllocError> {
+    match change_between(before, after) {
+        Some((first, behind)) => {
+            let place = first.saturating_add(behind.saturating_sub(first) / 2);
+            joined(alloc, before, after, place)
+        }
+        None => Vec::from_slice(alloc, before),
+    }
+}
+
+fn is_changed(before: &Held, after: &Held) -> bool {
+    before.log.as_slice() != after.log.as_slice() || before.file.as_slice() != after.file.as_slice()
+}
+
+/// What is there where half of what changed arrived, of both disks. None where nothing changed.
+pub(crate) fn half_way(
+    alloc: Global,
+    before: &Held,
+    after: &Held,
+) -> Result<Option<Held>, AllocError> {
+    if !is_changed(before, after) {
+        return Ok(None);
+    }
+    let log = half_of(alloc, before.log.as_slice(), after.log.as_slice())?;
+    let file = half_of(alloc, before.file.as_slice(), after.file.as_slice())?;
+    Ok(Some(Held { log, file }))
+}
+
+fn is_half(alloc: Global, before: &str, after: &str, half: &str) -> Result<bool, AllocError> {
+    let found = half_of(alloc, before.as_bytes(), after.as_bytes())?;
+    Ok(found.as_slice() == half.as_bytes())
+}
+
+// Writes within, over the end and behind the end, a cut, and no change.
+#[test]
+fn halves(rt: HostRuntime) -> Result<(), AllocError> {
+    let alloc = rt.alloc();
+    for (before, after, half) in [
+        ("abcdef", "aBCDEf", "aBCdef"),
+        ("abc", "abXYZ1", "abXY"),
+        ("abc", "abc12XY", "abc12"),
+        ("abcdef", "ab", "abcd"),
+        ("abc", "abc", "abc"),
+    ] {
+        assert!(rt; is_half(alloc, before, after, half)?);
+    }
+    Ok(())
+}
