@@ -13,6 +13,7 @@ use sqlite::Connection;
 use std::alloc::Global;
 use std::test::Fail;
 
+#[derive(Drop)]
 struct Creating;
 
 fn create(alloc: Global, conn: Connection<Store>) -> Result<Ran, StoreFault> {

@@ -13,6 +13,7 @@ use sqlite::{Alter, Connection, Error};
 use std::alloc::Global;
 use std::test::Fail;
 
+#[derive(Drop)]
 struct Migrating;
 
 // Makes a store of version 2 one of version 1: without what that has more, and with its records

@@ -9,6 +9,7 @@ use fuse_keeper::{Keeper, StoreFault};
 use std::alloc::Global;
 use std::test::Fail;
 
+#[derive(Drop)]
 struct Mounting;
 
 fn begin_mount<K: Keeper>(keeper: &mut K) -> Result<(), StoreFault> {

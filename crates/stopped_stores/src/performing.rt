@@ -15,6 +15,7 @@ enum Grouping {
 }
 
 // The messages of the run from one place up to another, each in a group of its own or all in one.
+#[derive(Drop)]
 struct Performing {
     grouping: Grouping,
     from: usize,
