@@ -40,6 +40,16 @@ pub(crate) struct Tally {
     whole: u64,
     neither: u64,
     ended: bool,
+    /// At which stop, and in which of its ways, neither was there first.
+    wrong: Option<(u64, Way)>,
+}
+
+/// What is opened behind a stop.
+#[derive(Clone, Copy, Debug)]
+enum Way {
+    Written,
+    Synced,
+    Half,
 }
 
 #[derive(Clone, Copy)]
@@ -57,13 +67,21 @@ impl Tally {
         whole: 0,
         neither: 0,
         ended: false,
+        wrong: None,
     };
 
-    fn count(&mut self, found: Found) {
+    fn count(&mut self, found: Found, way: Way) {
         match found {
             Found::Before => self.before = self.before.saturating_add(1),
             Found::Whole => self.whole = self.whole.saturating_add(1),
-            Found::Neither => self.neither = self.neither.saturating_add(1),
+            Found::Neither => self.note(way),
+        }
+    }
+
+    fn note(&mut self, way: Way) {
+        self.neither = self.neither.saturating_add(1);
+        if self.wrong.is_none() {
+            self.wrong = Some((self.stops, way));
         }
     }
 
@@ -87,13 +105,22 @@ struct Left {
 }
 
 fn find<W: Work>(alloc: Global, work: &W, held: &Held, steps: usize) -> Result<Found, StoreFault> {
-    if work.is_left(alloc, held, steps)? {
+    if holds(alloc, work, held, steps)? {
         return Ok(Found::Before);
     }
-    if work.is_left(alloc, held, steps.saturating_add(1))? {
+    if holds(alloc, work, held, steps.saturating_add(1))? {
         return Ok(Found::Whole);
     }
     Ok(Found::Neither)
+}
+
+// Files that can't be opened hold nothing.
+fn holds<W: Work>(alloc: Global, work: &W, held: &Held, steps: usize) -> Result<bool, StoreFault> {
+    match work.is_left(alloc, held, steps) {
+        Err(StoreFault::Memory) => Err(StoreFault::Memory),
+        Err(_) => Ok(false),
+        answer => answer,
+    }
 }
 
 // The last call but half of it, where it changed something.
@@ -106,7 +133,7 @@ fn judge_half<W: Work>(
 ) -> Result<(), StoreFault> {
     if let Some(half) = half_way(alloc, &last.held, now)? {
         tally.halves = tally.halves.saturating_add(1);
-        tally.count(find(alloc, work, &half, last.steps)?);
+        tally.count(find(alloc, work, &half, last.steps)?, Way::Half);
     }
     Ok(())
 }
@@ -120,9 +147,9 @@ fn judge<W: Work>(
 ) -> Result<Left, StoreFault> {
     let Ran { steps, disks } = ran;
     let held = written(alloc, &disks)?;
-    tally.count(find(alloc, work, &held, steps)?);
+    tally.count(find(alloc, work, &held, steps)?, Way::Written);
     let synced = synced(alloc, disks)?;
-    tally.count(find(alloc, work, &synced, steps)?);
+    tally.count(find(alloc, work, &synced, steps)?, Way::Synced);
     tally.stops = tally.stops.saturating_add(1);
     Ok(Left { steps, held })
 }
