@@ -1,5 +1,5 @@
 //! Writes that are cut short: what a disk holds where half of a change arrived.
-use crate::disks::Held;
+use crate::disks::{Held, Which};
 use std::alloc::{AllocError, Global};
 
 // Where two contents differ first, and where no more behind their last difference.
@@ -45,22 +45,52 @@ fn half_of(alloc: Global, before: &[u8], after: &[u8]) -> Result<Vec<u8>, AllocE
     }
 }
 
-fn is_changed(before: &Held, after: &Held) -> bool {
-    before.log.as_slice() != after.log.as_slice() || before.file.as_slice() != after.file.as_slice()
+// What is there where half of a change arrived. None where nothing changed.
+fn half_if_changed(
+    alloc: Global,
+    before: &[u8],
+    after: &[u8],
+) -> Result<Option<Vec<u8>>, AllocError> {
+    if before == after {
+        return Ok(None);
+    }
+    Ok(Some(half_of(alloc, before, after)?))
 }
 
-/// What is there where half of what changed arrived, of both disks. None where nothing changed.
+// The log's last call is cut short. The file is as it was before that call.
+fn half_of_log(alloc: Global, before: &Held, after: &Held) -> Result<Option<Held>, AllocError> {
+    match half_if_changed(alloc, before.log.as_slice(), after.log.as_slice())? {
+        Some(log) => Ok(Some(Held {
+            log,
+            file: Vec::from_slice(alloc, before.file.as_slice())?,
+        })),
+        None => Ok(None),
+    }
+}
+
+// The file's last call is cut short. The log is as it was before that call.
+fn half_of_file(alloc: Global, before: &Held, after: &Held) -> Result<Option<Held>, AllocError> {
+    match half_if_changed(alloc, before.file.as_slice(), after.file.as_slice())? {
+        Some(file) => Ok(Some(Held {
+            log: Vec::from_slice(alloc, before.log.as_slice())?,
+            file,
+        })),
+        None => Ok(None),
+    }
+}
+
+/// What is there where half of what the last call of this disk changed arrived, and the other disk
+/// is as it was before that call. None where the call changed nothing.
 pub(crate) fn half_way(
     alloc: Global,
+    which: Which,
     before: &Held,
     after: &Held,
 ) -> Result<Option<Held>, AllocError> {
-    if !is_changed(before, after) {
-        return Ok(None);
+    match which {
+        Which::Log => half_of_log(alloc, before, after),
+        Which::File => half_of_file(alloc, before, after),
     }
-    let log = half_of(alloc, before.log.as_slice(), after.log.as_slice())?;
-    let file = half_of(alloc, before.file.as_slice(), after.file.as_slice())?;
-    Ok(Some(Held { log, file }))
 }
 
 fn is_half(alloc: Global, before: &str, after: &str, half: &str) -> Result<bool, AllocError> {

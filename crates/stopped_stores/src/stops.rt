@@ -86,9 +86,9 @@ impl Tally {
     }
 
     /// Whether the work was stopped at least so often and then came to its end, and each time
-    /// nothing else was there; that of the steps before at least once.
+    /// nothing else was there; that of the steps before at least once, and a call cut short too.
     pub(crate) fn is_right(&self, least: u64) -> bool {
-        self.ended && self.neither == 0 && self.before > 0 && self.stops >= least
+        self.ended && self.neither == 0 && self.before > 0 && self.halves > 0 && self.stops >= least
     }
 
     /// Whether besides the whole stopped step was there at least once.
@@ -128,10 +128,11 @@ fn judge_half<W: Work>(
     alloc: Global,
     work: &W,
     tally: &mut Tally,
+    which: Which,
     last: &Left,
     now: &Held,
 ) -> Result<(), StoreFault> {
-    if let Some(half) = half_way(alloc, &last.held, now)? {
+    if let Some(half) = half_way(alloc, which, &last.held, now)? {
         tally.halves = tally.halves.saturating_add(1);
         tally.count(find(alloc, work, &half, last.steps)?, Way::Half);
     }
@@ -159,12 +160,13 @@ fn judge_all<W: Work>(
     alloc: Global,
     work: &W,
     tally: &mut Tally,
+    which: Which,
     last: Option<Left>,
     ran: Ran,
 ) -> Result<Left, StoreFault> {
     let now = judge(alloc, work, tally, ran)?;
     if let Some(last) = last {
-        judge_half(alloc, work, tally, &last, &now.held)?;
+        judge_half(alloc, work, tally, which, &last, &now.held)?;
     }
     Ok(now)
 }
@@ -180,7 +182,7 @@ fn stop_at_each<W: Work>(alloc: Global, work: &W, which: Which) -> Result<Tally,
             tally.ended = true;
             return Ok(tally);
         }
-        last = Some(judge_all(alloc, work, &mut tally, last, ran)?);
+        last = Some(judge_all(alloc, work, &mut tally, which, last, ran)?);
     }
     Ok(tally)
 }
