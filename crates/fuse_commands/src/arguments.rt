@@ -22,6 +22,12 @@ const SERVE: &str = "serve";
 
 const SIMULATE: &str = "simulate";
 
+const STORE: &str = "store";
+
+const LIST: &str = "ls";
+
+const CAT: &str = "cat";
+
 const AT: &str = "at";
 
 const DB: &str = "db";
@@ -35,6 +41,11 @@ const FILE: &str = "file";
 const STREAM: &str = "stream";
 
 const SCRIPT: &str = "script";
+
+const PATH: &str = "path";
+
+/// The path of the directory at the top of a store.
+const TOP: &str = "/";
 
 const STREAM_HELP: &str = "The file of the stream, or - for standard input";
 
@@ -67,10 +78,24 @@ pub enum Run<'a> {
     Simulate {
         script: &'a str,
     },
+    /// To tell what the store of a file holds.
+    Store {
+        file: &'a str,
+    },
+    /// To list a directory of the store of a file.
+    List {
+        file: &'a str,
+        path: &'a str,
+    },
+    /// To print a file of the store of a file.
+    Cat {
+        file: &'a str,
+        path: &'a str,
+    },
 }
 
 impl<'a> Run<'a> {
-    /// The file of the input, or `STANDARD_INPUT`.
+    /// The file of the input, or `STANDARD_INPUT`; of what only looks at a store the file of that.
     pub fn input(&self) -> &'a str
         ensures { result.now ≡ input_of self.now }
     {
@@ -79,6 +104,7 @@ impl<'a> Run<'a> {
             Run::Replay { stream, .. } => stream,
             Run::Serve { .. } => STANDARD_INPUT,
             Run::Simulate { script } => script,
+            Run::Store { file } | Run::List { file, .. } | Run::Cat { file, .. } => file,
         }
     }
 }
@@ -158,15 +184,45 @@ fn simulate_command<'a>(alloc: Global) -> Result<Command<'a>, AllocError> {
         .arg(needed_argument(alloc, SCRIPT, "SCRIPT", help))
 }
 
+// A command that only looks at the store of one file.
+fn look_command<'a>(
+    alloc: Global,
+    name: &'static str,
+    about: &'static str,
+) -> Result<Command<'a>, AllocError> {
+    let file = needed_argument(alloc, FILE, "FILE", "The file of the store");
+    Command::new(alloc, name).about(about).arg(file)
+}
+
+fn list_command<'a>(alloc: Global) -> Result<Command<'a>, AllocError> {
+    let help = "The path of the directory, without it that at the top";
+    let path = needed_argument(alloc, PATH, "PATH", help).required(false);
+    look_command(alloc, LIST, "Lists a directory of a store, without a mount")?.arg(path)
+}
+
+fn cat_command<'a>(alloc: Global) -> Result<Command<'a>, AllocError> {
+    let path = needed_argument(alloc, PATH, "PATH", "The path of the file");
+    look_command(alloc, CAT, "Prints a file of a store, without a mount")?.arg(path)
+}
+
+// The commands that only look at a store.
+fn with_looks<'a>(alloc: Global, command: Command<'a>) -> Result<Command<'a>, AllocError> {
+    command
+        .subcommand(look_command(alloc, STORE, "Tells what a store holds")?)?
+        .subcommand(list_command(alloc)?)?
+        .subcommand(cat_command(alloc)?)
+}
+
 fn program_command<'a>(alloc: Global) -> Result<Command<'a>, AllocError> {
-    Command::new(alloc, "fusekeep")
+    let command = Command::new(alloc, "fusekeep")
         .about("Serves FUSE requests, with recovery by resends")
         .subcommand_required(true)
         .subcommand(file_command(alloc, DUMP, "Prints a line for each message of a stream")?)?
         .subcommand(file_command(alloc, CHECK, "Counts the messages of a stream")?)?
         .subcommand(replay_command(alloc)?)?
         .subcommand(serve_command(alloc)?)?
-        .subcommand(simulate_command(alloc)?)
+        .subcommand(simulate_command(alloc)?)?;
+    with_looks(alloc, command)
 }
 
 fn replay_run<'a>(found: &ArgMatches<'a>) -> Option<Run<'a>> {
@@ -193,6 +249,20 @@ fn serve_run<'a>(found: &ArgMatches<'a>) -> Option<Run<'a>> {
     })
 }
 
+fn list_run<'a>(found: &ArgMatches<'a>) -> Option<Run<'a>> {
+    Some(Run::List {
+        file: found.get_str(FILE)?,
+        path: found.get_str(PATH).unwrap_or(TOP),
+    })
+}
+
+fn cat_run<'a>(found: &ArgMatches<'a>) -> Option<Run<'a>> {
+    Some(Run::Cat {
+        file: found.get_str(FILE)?,
+        path: found.get_str(PATH)?,
+    })
+}
+
 fn run_of<'a>(matches: &ArgMatches<'a>) -> Option<Run<'a>> {
     match matches.subcommand()? {
         (DUMP, found) => Some(Run::Dump {
@@ -206,6 +276,11 @@ fn run_of<'a>(matches: &ArgMatches<'a>) -> Option<Run<'a>> {
         (SIMULATE, found) => Some(Run::Simulate {
             script: found.get_str(SCRIPT)?,
         }),
+        (STORE, found) => Some(Run::Store {
+            file: found.get_str(FILE)?,
+        }),
+        (LIST, found) => list_run(found),
+        (CAT, found) => cat_run(found),
         _ => None,
     }
 }
