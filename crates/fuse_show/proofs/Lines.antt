@@ -1,5 +1,5 @@
 -- Texts that are written one after the other.
-use Rattle.std.proofs.Common.{◌≡◌, ◌<◌, ◌≤◌, ◌+◌, ℕ, zero, suc, List, [], ◌∷◌, ◌++◌, length, take, drop, get_or, Option, refl, sym, ap, subst, ◌∙◌, arith}
+use Rattle.std.proofs.Common.{◌≡◌, ◌<◌, ◌≤◌, ◌+◌, ℕ, zero, suc, List, [], ◌∷◌, ◌++◌, length, take, drop, get_or, Option, None, refl, sym, ap, subst, ◌∙◌, arith}
 use Rattle.std.specs.Prelude.{Result, Ok, Err}
 use Rattle.std.specs.List.{flat_map, AllByRecursion}
 use Rattle.std.specs.Io.KnownBytes.{Appends}
@@ -7,7 +7,7 @@ use Rattle.std.proofs.KnownBytes.{Appends-nil, Appends-trans}
 use Rattle.std.proofs.lemmas.List.{take_more, take_all, flat_map_more}
 use Rattle.fuse_show.specs.declared.fault.ShowFault.{ShowFault}
 use Rattle.fuse_show.specs.declared.fault.ShowFault.TheVariants.{Look, NotATree, NoSuchPath, NotDirectory, NotFile, Output}
-use Rattle.fuse_show.specs.Looks.{WritesOut}
+use Rattle.fuse_show.specs.Looks.{WritesOut, look_fault}
 
 -- the text of one element more was written
 pub text_more : {A : Type 0} (f : A → List ℕ) (xs : List A) (i : ℕ) (x : A) (a b c : Option (List ℕ)) → i < length xs → get_or xs i x ≡ x
@@ -44,10 +44,21 @@ pub none_written : (a : Option (List ℕ)) → Appends a a []
 none_written a = Appends-nil a
 
 -- what failed while one text was written has failed whatever the whole is
-pub fails_too : (a b c : Option (List ℕ)) (text all : List ℕ) (f : ShowFault) → WritesOut b c text (Err f) → WritesOut a c all (Err f)
-fails_too a b c text all (Look f) so = tt
-fails_too a b c text all NotATree so = so
-fails_too a b c text all NoSuchPath so = so
-fails_too a b c text all NotDirectory so = so
-fails_too a b c text all NotFile so = so
-fails_too a b c text all Output so = tt
+pub fails_if : (a b c : Option (List ℕ)) (text all : List ℕ) (f : ShowFault) → (look_fault {X = Unit {0}} (Err f) ≡ None → WritesOut b c text (Err f))
+    → WritesOut a c all (Err f)
+fails_if a b c text all (Look f) so = tt
+fails_if a b c text all NotATree so = so refl
+fails_if a b c text all NoSuchPath so = so refl
+fails_if a b c text all NotDirectory so = so refl
+fails_if a b c text all NotFile so = so refl
+fails_if a b c text all Output so = tt
+
+pub all_at : {A : Type 0} (P : A → Type 0) (xs : List A) (i : ℕ) (x : A) → AllByRecursion P xs → i < length xs → get_or xs i x ≡ x → P x
+all_at P [] i x all within is = absurd (omega arith)
+all_at P (y ∷ ys) zero x all within is = subst P is all.0
+all_at P (y ∷ ys) (suc i) x all within is = all_at P ys i x all.1 (omega arith) is
+
+-- what is so where no look failed is so
+pub writes_if : (a b : Option (List ℕ)) (text : List ℕ) (r : Result (Unit {0}) ShowFault) → (look_fault r ≡ None → WritesOut a b text r) → WritesOut a b text r
+writes_if a b text (Ok x) so = so refl
+writes_if a b text (Err f) so = fails_if a a b text text f so

@@ -6,7 +6,7 @@ use Rattle.fuse_tree.specs.declared.rows.NodeRow.{NodeRow}
 use Rattle.fuse_tree.specs.Rows.{Rows, IsRowed, row_at}
 use Rattle.fuse_show.specs.declared.fault.ShowFault.{ShowFault}
 use Rattle.fuse_show.specs.declared.fault.ShowFault.TheVariants.{Look, NotATree, NoSuchPath, NotDirectory, NotFile, Output}
-use Rattle.fuse_show.specs.Looks.{ReadOff}
+use Rattle.fuse_show.specs.Looks.{ReadOff, look_fault}
 use Rattle.fuse_show.specs.Paths.{names_of}
 use Rattle.fuse_show.specs.Finding.{LeadsBy, Lead, LeadTo, Stops, Steps, Finds, IsRoot}
 
@@ -53,13 +53,22 @@ went_more clean clean' sees sees' path rest name behind place next went cut was 
       leads_more rows went.front place name next (went.so (was is_clean) rows is at) (one is_clean rows is (kept (was is_clean) rows at));
 }
 
--- the next name leads nowhere
-pub went_wrong : (clean clean' : Type 0) (sees sees' : Rows → Type 0) (path rest name behind : List ℕ) (place : NodeRow) (f : ShowFault)
-    → Went clean sees path rest place → names_of rest ≡ name ∷ names_of behind → (clean' → clean) → (clean → (rows : Rows) → sees rows → sees' rows)
-    → ReadOff clean' sees' (λ rows. Steps rows place name (Err f)) → ReadOff clean' sees (λ rows. Finds rows (names_of path) (Err f))
-went_wrong clean clean' sees sees' path rest name behind place f went cut was kept one is_clean rows is at =
-    stop_at rows (names_of path) went.front name (names_of behind) place f
-    (went.parts ∙ ap (λ (x : List (List ℕ)). went.front ++ x) cut) (went.so (was is_clean) rows is at) (one is_clean rows is (kept (was is_clean) rows at))
+-- the next name leads nowhere, or a look failed
+pub stop_if : (clean : Type 0) (sees : Rows → Type 0) (path rest name behind : List ℕ) (place : NodeRow) (went : Went clean sees path rest place)
+    → names_of rest ≡ name ∷ names_of behind → (rows : Rows) (f : ShowFault)
+    → (look_fault {X = NodeRow} (Err f) ≡ None → LeadTo rows went.front place × Steps rows place name (Err f)) → Finds rows (names_of path) (Err f)
+stop_if clean sees path rest name behind place went cut rows f so = stop f so
+  where
+    parts : names_of path ≡ went.front ++ name ∷ names_of behind
+    parts = went.parts ∙ ap (λ (x : List (List ℕ)). went.front ++ x) cut
+    stop : (e : ShowFault) → (look_fault {X = NodeRow} (Err e) ≡ None → LeadTo rows went.front place × Steps rows place name (Err e))
+        → Finds rows (names_of path) (Err e)
+    stop (Look e) so = tt
+    stop NotATree so = let p = so refl in stop_at rows (names_of path) went.front name (names_of behind) place NotATree parts p.0 p.1
+    stop NoSuchPath so = let p = so refl in stop_at rows (names_of path) went.front name (names_of behind) place NoSuchPath parts p.0 p.1
+    stop NotDirectory so = let p = so refl in stop_at rows (names_of path) went.front name (names_of behind) place NotDirectory parts p.0 p.1
+    stop NotFile so = let p = so refl in stop_at rows (names_of path) went.front name (names_of behind) place NotFile parts p.0 p.1
+    stop Output so = let p = so refl in stop_at rows (names_of path) went.front name (names_of behind) place Output parts p.0 p.1
 
 -- all names were followed
 pub went_all : (clean : Type 0) (sees : Rows → Type 0) (path rest : List ℕ) (place : NodeRow) → Went clean sees path rest place → names_of rest ≡ []

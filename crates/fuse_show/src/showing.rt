@@ -33,8 +33,10 @@ pub fn show_listing<L: Look, W: Write>(
         Ok(()) => {}
         Err(fault) => return Err(fault),
     }
-    writer.flush()?;
-    Ok(())
+    match writer.flush() {
+        Ok(()) => Ok(()),
+        Err(_) => Err(ShowFault::Output),
+    }
 }
 
 /// Writes the bytes of the regular file that a path leads to.
@@ -59,6 +61,8 @@ pub fn show_content<L: Look, W: Write>(
         Ok(()) => {}
         Err(fault) => return Err(fault),
     }
-    writer.flush()?;
-    Ok(())
+    match writer.flush() {
+        Ok(()) => Ok(()),
+        Err(_) => Err(ShowFault::Output),
+    }
 }
