@@ -22,14 +22,21 @@ pub text_all : {A : Type 0} (f : A → List ℕ) (xs : List A) (i : ℕ) (a b : 
     → Appends a b (flat_map f xs)
 text_all f xs i a b all so = subst (λ y. Appends a b (flat_map f y)) (take_all i xs all) so
 
+abbrev nothing : List ℕ
+nothing = []
+
+take_nil : (n : ℕ) → take n nothing ≡ []
+take_nil zero = refl
+take_nil (suc n) = refl
+
 take_sum : (o len : ℕ) (xs : List ℕ) → take o xs ++ take len (drop o xs) ≡ take (o + len) xs
-take_sum zero len xs = refl
-take_sum (suc o) len [] = take_nil len
-  where
-    take_nil : (n : ℕ) → take n [] ≡ []
-    take_nil zero = refl
-    take_nil (suc n) = refl
-take_sum (suc o) len (x ∷ xs) = ap (λ (y : List ℕ). x ∷ y) (take_sum o len xs)
+take_sum zero len xs =
+    let same : len ≡ 0 + len = omega arith in
+    ap (λ n. take n xs) same
+take_sum (suc o) len [] = take_nil len ∙ sym (take_nil (suc o + len))
+take_sum (suc o) len (x ∷ xs) =
+    let same : suc (o + len) ≡ suc o + len = omega arith in
+    ap (λ (y : List ℕ). x ∷ y) (take_sum o len xs) ∙ ap (λ n. take n (x ∷ xs)) same
 
 -- a piece more was written
 pub piece_more : (xs : List ℕ) (o len : ℕ) (a b c : Option (List ℕ)) → Appends a b (take o xs) → Appends b c (take len (drop o xs))

@@ -32,15 +32,15 @@ named_cut path part behind is none some =
     cut path part behind is none ∙ ap (λ (b : Bool). cond (not b) (part ∷ names_of behind) (names_of behind)) some
 
 pub empty_cut : (path part behind : List ℕ) → path ≡ part ++ 47 ∷ behind → Lacks 47 part → (length part == 0) ≡ true → names_of path ≡ names_of behind
-empty_cut path part behind is none no =
-    cut path part behind is none ∙ ap (λ (b : Bool). cond (not b) (part ∷ names_of behind) (names_of behind)) no
+empty_cut path part behind is none empty =
+    cut path part behind is none ∙ ap (λ (b : Bool). cond (not b) (part ∷ names_of behind) (names_of behind)) empty
 
 -- no slash is left
 pub named_last : (path : List ℕ) → Lacks 47 path → (length path == 0) ≡ false → names_of path ≡ path ∷ []
 named_last path none some = last path none ∙ ap (λ (b : Bool). cond (not b) (path ∷ []) []) some
 
 pub empty_last : (path : List ℕ) → Lacks 47 path → (length path == 0) ≡ true → names_of path ≡ []
-empty_last path none no = last path none ∙ ap (λ (b : Bool). cond (not b) (path ∷ []) []) no
+empty_last path none empty = last path none ∙ ap (λ (b : Bool). cond (not b) (path ∷ []) []) empty
 
 pub none_named : names_of [] ≡ []
 unfolding names_of

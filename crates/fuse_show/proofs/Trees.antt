@@ -4,11 +4,12 @@ use Rattle.std.proofs.Common.{refl, sym, ap, subst, ◌∙◌, arith}
 use Rattle.std.specs.Prelude.{find, filter, nat_lt}
 use Rattle.std.specs.Option.{option_map}
 use Rattle.std.specs.List.{AllByRecursion, list_any}
-use Rattle.std.proofs.lemmas.Bool.{lt-ltb}
+use Rattle.std.proofs.lemmas.Bool.{lt-ltb, eqb-true}
 use Rattle.std.proofs.lemmas.List.{take_all, length-take}
 use Rattle.fuse_tree.specs.Bounds.{fuse_root_id, file_limit}
 use Rattle.fuse_tree.specs.declared.rows.EntryRow.{EntryRow}
 use Rattle.fuse_tree.specs.declared.rows.NodeRow.{NodeRow}
+use Rattle.fuse_tree.specs.declared.rows.Full.{Full}
 use Rattle.fuse_tree.specs.State.{State, Node, Tree, IsEntry, is_dir, is_dir_of, has_number, node_at}
 use Rattle.fuse_tree.specs.Rows.{Rows, IsRowed, row_of, full_of, rows_of_state, row_at, full_at, content_of, is_after, entries_after}
 use Rattle.fuse_tree.proofs.Bounds.{rowed_is, child_there, row_within}
@@ -124,3 +125,20 @@ unfolding IsRowed
 all_shown rows dir is =
     let s = is.0 in
     subst (λ (r : Rows). AllByRecursion (IsShown r) (entries_in r dir)) (sym (is.2 ∙ rowed_is s)) (shown_in_state s dir is.1)
+
+-- ---- numbers
+
+full_told : (fs : List Full) (number : ℕ) (row : NodeRow) → option_map (λ (f : Full). f.row) (find (λ f. f.row.node == number) fs) ≡ Some row → row.node ≡ number
+full_told [] number row is = absurd cc
+full_told (f ∷ fs) number row is =
+    let step : (b : Bool) → eqb f.row.node number ≡ b
+        → option_map (λ (x : Full). x.row) (cond b (Some f) (find (λ x. x.row.node == number) fs)) ≡ Some row → row.node ≡ number =
+    elim [
+      | true ↦ λ here e. (let same : f.row ≡ row = cc e in ap (λ (r : NodeRow). r.node) (sym same) ∙ eqb-true f.row.node number here)
+      | false ↦ λ _ e. full_told fs number row e
+    ] in
+    step (eqb f.row.node number) refl is
+
+-- the row that is found has the number
+pub row_told : (rows : Rows) (number : ℕ) (row : NodeRow) → row_at rows number ≡ Some row → row_at rows row.node ≡ Some row
+row_told rows number row is = ap (row_at rows) (full_told rows.nodes number row is) ∙ is

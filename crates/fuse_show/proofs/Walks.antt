@@ -9,6 +9,7 @@ use Rattle.fuse_show.specs.declared.fault.ShowFault.TheVariants.{Look, NotATree,
 use Rattle.fuse_show.specs.Looks.{ReadOff, look_fault}
 use Rattle.fuse_show.specs.Paths.{names_of}
 use Rattle.fuse_show.specs.Finding.{LeadsBy, Lead, LeadTo, Stops, Steps, Finds, IsRoot}
+use Rattle.fuse_show.proofs.Trees.{row_told}
 
 lead_more : (rows : Rows) (from : NodeRow) (names : List (List ℕ)) (to : NodeRow) (name : List ℕ) (next : NodeRow) → Lead rows from names to
     → LeadsBy rows to name next → Lead rows from (names ++ name ∷ []) next
@@ -85,3 +86,15 @@ no_root rows names NoSuchPath is = absurd is
 no_root rows names NotDirectory is = absurd is
 no_root rows names NotFile is = is
 no_root rows names Output is = is
+
+-- ---- what stands where names lead
+
+lead_there : (rows : Rows) (from : NodeRow) (names : List (List ℕ)) (to : NodeRow) → row_at rows from.node ≡ Some from → Lead rows from names to
+    → row_at rows to.node ≡ Some to
+lead_there rows from [] to here lead = subst (λ (x : NodeRow). row_at rows x.node ≡ Some x) (sym lead) here
+lead_there rows from (name ∷ names) to here lead =
+    lead_there rows lead.0 names to (row_told rows lead.1.entry.child lead.0 lead.1.child) lead.2
+
+-- the row of a node to which names lead is that of its number
+pub leads_there : (rows : Rows) (names : List (List ℕ)) (to : NodeRow) → LeadTo rows names to → row_at rows to.node ≡ Some to
+leads_there rows names to leads = lead_there rows leads.root names to (row_told rows fuse_root_id leads.root leads.is_root) leads.lead

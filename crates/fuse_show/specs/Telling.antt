@@ -9,16 +9,17 @@ settings_text None = codes "none"
 settings_text (Some s) =
     codes "minor=" ++ (decimal s.minor ++ (codes " max_readahead=" ++ (decimal s.max_readahead ++ (codes " flags=" ++ decimal s.flags.0))))
 
+-- a line for each of what is counted
+abbrev pub counts_text : StoreCounts → List ℕ
+counts_text c =
+    codes "nodes=" ++ (decimal c.nodes
+    ++ (codes "\nhandles=" ++ (decimal c.handles ++ (codes "\nrecords=" ++ (decimal c.records ++ (codes "\nlots=" ++ (decimal c.lots ++ codes "\n")))))))
+
 -- a line for each of these: the version, what is counted, the bytes of all contents, and what was agreed on
 abbrev pub store_text : ℕ → StoreCounts → ℕ → Option Settings → List ℕ
 store_text version c bytes agreed =
     codes "version=" ++ (decimal version
-    ++ (codes "\nnodes=" ++ (decimal c.nodes
-    ++ (codes "\nhandles=" ++ (decimal c.handles
-    ++ (codes "\nrecords=" ++ (decimal c.records
-    ++ (codes "\nlots=" ++ (decimal c.lots
-    ++ (codes "\nbytes=" ++ (decimal bytes
-    ++ (codes "\nsettings: " ++ (settings_text agreed ++ codes "\n"))))))))))))))
+    ++ (codes "\n" ++ (counts_text c ++ (codes "bytes=" ++ (decimal bytes ++ (codes "\nsettings: " ++ (settings_text agreed ++ codes "\n")))))))
 
 abbrev pub count_of : ℕ → ℕ → ℕ → ℕ → StoreCounts
 count_of nodes handles records lots = record { nodes = nodes; handles = handles; records = records; lots = lots }

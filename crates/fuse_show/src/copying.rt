@@ -36,7 +36,10 @@ pub fn copy<L: Look, W: Write>(
     while offset < row.size {
         let len = piece_of(row.size - offset);
         let bytes = look.bytes(row.node, offset, len)?;
-        writer.write_all(bytes.as_slice())?;
+        match writer.write_all(bytes.as_slice()) {
+            Ok(()) => {}
+            Err(_) => return Err(ShowFault::Output),
+        }
         offset += u64::from(len);
     }
     Ok(())

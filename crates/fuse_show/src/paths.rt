@@ -1,4 +1,4 @@
-ghost use Rattle.std.specs.Prelude.{◌≡◌, ◌×◌, ◌<◌, ◌++◌, ◌∷◌, [], None, All, length, IfSome, ◌≢◌};
+ghost use Rattle.std.specs.Prelude.{◌≡◌, ◌<◌, ◌++◌, ◌∷◌, [], None, All, length, IfSome, ◌≢◌};
 ghost use Rattle.fuse_show.specs.Paths.{names_of, Lacks};
 
 // What stands before the first slash, and what stands behind it.
@@ -27,6 +27,7 @@ pub(crate) fn next_name(path: &[u8]) -> Option<(&[u8], &[u8])>
     if rest.is_empty() {
         None
     } else {
-        Some((rest, &rest[rest.len()..]))
+        let (_, behind) = rest.split_at(rest.len());
+        Some((rest, behind))
     }
 }

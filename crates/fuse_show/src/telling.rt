@@ -1,4 +1,4 @@
-ghost use Rattle.std.specs.Prelude.{◌≡◌, ◌×◌, ℕ, OnOk, length};
+ghost use Rattle.std.specs.Prelude.{◌≡◌, ℕ, OnOk, length};
 ghost use Rattle.std.specs.Io.KnownBytes.{Appends};
 ghost use Rattle.fuse_keeper.specs.Stands.{CountsRecords};
 ghost use Rattle.fuse_keeper.specs.KeeperState.{Tells};
@@ -61,6 +61,28 @@ impl fmt::Display for Agreed {
     }
 }
 
+// The lines of what is counted.
+#[derive(Clone, Copy)]
+struct CountsText(StoreCounts);
+
+impl fmt::Display for CountsText {
+    ghost use Rattle.std.specs.Prelude.{Some};
+    ghost use Rattle.fuse_show.specs.Telling.{counts_text};
+
+    ghost output = { λ t. Some (counts_text t.0) };
+
+    fn fmt<W: fmt::Write>(&self, f: &mut fmt::Formatter<W>) -> fmt::Result {
+        write!(
+            f,
+            "nodes={}\nhandles={}\nrecords={}\nlots={}\n",
+            self.0.nodes,
+            self.0.handles,
+            self.0.records,
+            self.0.lots
+        )
+    }
+}
+
 // The lines that tell what a store holds.
 #[derive(Clone, Copy)]
 struct StoreText {
@@ -79,12 +101,9 @@ impl fmt::Display for StoreText {
     fn fmt<W: fmt::Write>(&self, f: &mut fmt::Formatter<W>) -> fmt::Result {
         write!(
             f,
-            "version={}\nnodes={}\nhandles={}\nrecords={}\nlots={}\nbytes={}\nsettings: {}\n",
+            "version={}\n{}bytes={}\nsettings: {}\n",
             self.version,
-            self.counts.nodes,
-            self.counts.handles,
-            self.counts.records,
-            self.counts.lots,
+            CountsText(self.counts),
             self.bytes,
             Agreed(self.agreed)
         )

@@ -10,12 +10,12 @@ loop-name-init g c =
 pub loop-name-preserved : goal.loop-name-preserved
 loop-name-preserved g c =
     let before = c.loop-name.invariant in
-    let one = c.in-Ok-2.ensures in
+    let one = c.in-Ok-step.ensures in
     let looks = one.looks refl in
     record {
       fault = one.fault;
       looks = g.met.L.Look.and_then _ _ _ before.looks looks;
-      went = went_more _ _ _ _ c.args.path.now c.loop-name.rest.now c.in-Some.name.now c.in-Some.behind.now c.loop-name.place c.in-Ok-2.row before.went
+      went = went_more _ _ _ _ c.args.path.now c.loop-name.rest.now c.in-Some.name.now c.in-Some.behind.now c.loop-name.place c.in-Ok-step.row before.went
           c.in-Some.ensures.some.0 (g.met.L.Look.was_clean _ _ looks) (g.met.L.Look.kept _ _ before.looks) one.reads;
     }
 
@@ -26,14 +26,14 @@ returns-in-Err g c = record {
   looks = c.in-Err.ensures.looks;
 }
 
-pub returns-in-Err-2 : goal.returns-in-Err-2
-returns-in-Err-2 g c =
+pub returns-in-Err-step : goal.returns-in-Err-step
+returns-in-Err-step g c =
     let before = c.loop-name.invariant in
-    let one = c.in-Err-2.ensures in
+    let one = c.in-Err-step.ensures in
     record {
       reads = λ clean rows is sees.
           stop_if _ _ c.args.path.now c.loop-name.rest.now c.in-Some.name.now c.in-Some.behind.now c.loop-name.place before.went c.in-Some.ensures.some.0 rows
-          c.in-Err-2.fault
+          c.in-Err-step.fault
           (λ none.
           let clean_before = g.met.L.Look.was_clean _ _ (one.looks none) clean in
           (before.went.so clean_before rows is sees, one.reads clean rows is (g.met.L.Look.kept _ _ before.looks clean_before rows sees)));

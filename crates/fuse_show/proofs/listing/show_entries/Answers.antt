@@ -1,4 +1,5 @@
 use Rattle.std.proofs.Common.{refl, sym}
+use Rattle.std.specs.List.{flat_map}
 use Rattle.fuse_show.specs.Listing.{IsShown, line_of}
 use Rattle.fuse_show.proofs.Lines.{text_more, text_all, none_written, fails_if, all_at}
 use Rattle.fuse_show.proofs.listing.show_entries.Goals as goal
@@ -30,7 +31,8 @@ returns-in-Err g c =
     let at = sym c.entry-item.is in
     record {
       lines = λ clean rows is sees shown.
-          fails_if _ _ _ (line_of rows c.entry-item.result) _ c.in-Err.fault
+          fails_if (g.W.Write.contents c.args.writer.now) (g.W.Write.contents c.loop-entry.writer) (g.W.Write.contents c.show_entry.new.writer)
+          (line_of rows c.entry-item.result) (flat_map (line_of rows) c.args.entries.now) c.in-Err.fault
           (λ none.
           let clean_before = g.met.L.Look.was_clean _ _ (one.looked.looks none) clean in
           one.line clean rows is (g.met.L.Look.kept _ _ before.looks clean_before rows sees)
