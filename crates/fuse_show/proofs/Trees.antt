@@ -132,7 +132,7 @@ full_told : (fs : List Full) (number : ℕ) (row : NodeRow) → option_map (λ (
 full_told [] number row is = absurd cc
 full_told (f ∷ fs) number row is =
     let step : (b : Bool) → eqb f.row.node number ≡ b
-        → option_map (λ (x : Full). x.row) (cond b (Some f) (find (λ x. x.row.node == number) fs)) ≡ Some row → row.node ≡ number =
+    → option_map (λ (x : Full). x.row) (cond b (Some f) (find (λ x. x.row.node == number) fs)) ≡ Some row → row.node ≡ number =
     elim [
       | true ↦ λ here e. (let same : f.row ≡ row = cc e in ap (λ (r : NodeRow). r.node) (sym same) ∙ eqb-true f.row.node number here)
       | false ↦ λ _ e. full_told fs number row e

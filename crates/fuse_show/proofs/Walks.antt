@@ -62,6 +62,7 @@ stop_if clean sees path rest name behind place went cut rows f so = stop f so
   where
     parts : names_of path ≡ went.front ++ name ∷ names_of behind
     parts = went.parts ∙ ap (λ (x : List (List ℕ)). went.front ++ x) cut
+
     stop : (e : ShowFault) → (look_fault {X = NodeRow} (Err e) ≡ None → LeadTo rows went.front place × Steps rows place name (Err e))
         → Finds rows (names_of path) (Err e)
     stop (Look e) so = tt

@@ -17,11 +17,7 @@ fn piece_of(left: u64) -> u32
 }
 
 /// Writes the bytes of the node of this row.
-pub fn copy<L: Look, W: Write>(
-    look: &mut L,
-    row: &NodeRow,
-    writer: &mut W,
-) -> Result<(), ShowFault>
+pub fn copy<L: Look, W: Write>(look: &mut L, row: &NodeRow, writer: &mut W) -> Result<(), ShowFault>
     requires { L.fault look.old ≡ None }
     ensures copied { ReadOff (L.is_clean look.new) (L.sees look.old) (λ rows.
         row_at rows row.now.node ≡ Some row.now

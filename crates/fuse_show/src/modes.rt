@@ -3,9 +3,7 @@ ghost use Rattle.fuse_tree.specs.State.{is_dir, is_file};
 ghost use Rattle.fuse_show.specs.Modes.{has_bit, kind_text, run_text, class_text};
 ghost use Rattle.fuse_show.specs.Modes.{owner_text, group_text, others_text};
 
-use fuse_tree::{
-    S_IFBLK, S_IFCHR, S_IFDIR, S_IFIFO, S_IFREG, S_IFSOCK, TYPE_UNIT, TYPES,
-};
+use fuse_tree::{S_IFBLK, S_IFCHR, S_IFDIR, S_IFIFO, S_IFREG, S_IFSOCK, TYPE_UNIT, TYPES};
 use std::fmt;
 
 /// Whether a mode is that of a directory.
@@ -58,12 +56,7 @@ fn letter(is_set: bool, letter: &'static str) -> &'static str
 }
 
 // The letter of who may run it, which tells a special bit too.
-fn run_letter(
-    runs: bool,
-    is_special: bool,
-    both: &'static str,
-    alone: &'static str,
-) -> &'static str
+fn run_letter(runs: bool, is_special: bool, both: &'static str, alone: &'static str) -> &'static str
     ensures { result.now ≡ run_text runs is_special both.now alone.now }
 {
     if is_special {

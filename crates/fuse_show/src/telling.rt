@@ -75,10 +75,7 @@ impl fmt::Display for CountsText {
         write!(
             f,
             "nodes={}\nhandles={}\nrecords={}\nlots={}\n",
-            self.0.nodes,
-            self.0.handles,
-            self.0.records,
-            self.0.lots
+            self.0.nodes, self.0.handles, self.0.records, self.0.lots
         )
     }
 }

@@ -8,12 +8,13 @@ use os::RangeLock;
 use sqlite::{Connection, FileStore, Files, Options};
 use sqlite_disk::{Disk, Memory};
 use std::alloc::Global;
+use std::fs;
 use std::io::{self, Read};
 use std::os::fd::AsRawFd;
-use std::fs;
 
 /// The bytes of a file that SQLite locks: those of the locks that are pending, reserved and shared.
 const LOCKED_FROM: u64 = 1 << 30;
+
 const LOCKED_BYTES: u64 = 512;
 
 // What is said of a file that can't be read.

@@ -23,7 +23,7 @@ returns-then-not-is_empty-clause-some c =
     let sum = length-append c.in-Some.part.now (47 ∷ c.in-Some.behind.now) in
     let before = c.loop-part.invariant.within in (
       c.loop-part.invariant.same
-      ∙ named_cut c.loop-part.rest.now c.in-Some.part.now c.in-Some.behind.now one.0 one.1 (sym c.is_empty.ensures ∙ c.if-not-is_empty.true),
+          ∙ named_cut c.loop-part.rest.now c.in-Some.part.now c.in-Some.behind.now one.0 one.1 (sym c.is_empty.ensures ∙ c.if-not-is_empty.true),
       omega (arith, size, sum, before),
     )
 

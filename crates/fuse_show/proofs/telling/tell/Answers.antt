@@ -10,6 +10,6 @@ returns g c = λ honest rows records held rowed.
       c.in_ok-counts.counts.records,
       counts.records honest_mid rows records held rowed,
       told _ _ _ c.args.version c.args.bytes c.in_ok-counts.counts _ _ _ _ _ (counts.nodes honest_mid rows records held rowed)
-      (counts.handles honest_mid rows records held rowed) (counts.lots honest_mid rows records held rowed)
-      (settings.ok honest rows records held_mid rowed) c.in_ok-write.ensures.bytes c.in_ok-flush.ensures.bytes,
+          (counts.handles honest_mid rows records held rowed) (counts.lots honest_mid rows records held rowed)
+          (settings.ok honest rows records held_mid rowed) c.in_ok-write.ensures.bytes c.in_ok-flush.ensures.bytes,
     )
