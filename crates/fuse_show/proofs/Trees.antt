@@ -1,6 +1,6 @@
 -- What the rows of a tree have.
-use Rattle.std.proofs.Common.{◌≡◌, ◌≢◌, ◌==◌, ◌&&◌, ◌||◌, ◌<◌, ◌≤◌, ℕ, zero, suc, Bool, true, false, cond, eqb, List, [], ◌∷◌, length, map, take, Option, Some, None}
-use Rattle.std.proofs.Common.{refl, sym, ap, subst, ◌∙◌, arith}
+use Rattle.std.proofs.Common.{◌≡◌, ◌≢◌, ◌==◌, ◌&&◌, ◌||◌, ◌<◌, ◌≤◌, ℕ, zero, suc, Bool, true, false, cond, eqb, List, [], ◌∷◌, length, map, take}
+use Rattle.std.proofs.Common.{Option, Some, None, refl, sym, ap, subst, ◌∙◌, arith}
 use Rattle.std.specs.Prelude.{find, filter, nat_lt}
 use Rattle.std.specs.Option.{option_map}
 use Rattle.std.specs.List.{AllByRecursion, list_any}
@@ -81,7 +81,8 @@ in_after (e ∷ es) dir all =
     let above : nat_lt 0 e.cookie ≡ true = lt-ltb 0 e.cookie (omega arith) in
     let rest = in_after es dir all.1 in
     rw above (elim (eqb e.dir dir) as
-    (λ b. cond (b && true) (e ∷ filter (is_after dir 0) es) (filter (is_after dir 0) es) ≡ cond b (e ∷ filter (λ x. x.dir == dir) es) (filter (λ x. x.dir == dir) es)) [
+    (λ b. cond (b && true) (e ∷ filter (is_after dir 0) es) (filter (is_after dir 0) es)
+    ≡ cond b (e ∷ filter (λ x. x.dir == dir) es) (filter (λ x. x.dir == dir) es)) [
       | true ↦ ap (λ (x : List EntryRow). e ∷ x) rest
       | false ↦ rest
     ])
@@ -128,7 +129,8 @@ all_shown rows dir is =
 
 -- ---- numbers
 
-full_told : (fs : List Full) (number : ℕ) (row : NodeRow) → option_map (λ (f : Full). f.row) (find (λ f. f.row.node == number) fs) ≡ Some row → row.node ≡ number
+full_told : (fs : List Full) (number : ℕ) (row : NodeRow)
+    → option_map (λ (f : Full). f.row) (find (λ f. f.row.node == number) fs) ≡ Some row → row.node ≡ number
 full_told [] number row is = absurd cc
 full_told (f ∷ fs) number row is =
     let step : (b : Bool) → eqb f.row.node number ≡ b

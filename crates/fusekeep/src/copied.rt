@@ -42,7 +42,7 @@ fn lock(file: &fs::File) -> Result<(), Ending> {
 }
 
 // A file in memory of what a reader gives.
-fn disk_of<R: Read>(alloc: Global, mut reader: R) -> Result<Memory, Ending>
+fn disk_of<R: Read + Drop>(alloc: Global, mut reader: R) -> Result<Memory, Ending>
     ensures { IfOk result (λ disk. IsTrue (memory_is_usable disk)) }
 {
     let mut bytes = Vec::new(alloc);

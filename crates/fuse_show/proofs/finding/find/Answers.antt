@@ -44,4 +44,8 @@ returns-in-Err-step g c =
 pub returns : goal.returns
 returns g c =
     let before = c.loop-name.invariant in
-    record { reads = went_all _ _ c.args.path.now c.loop-name.rest.now c.loop-name.place before.went (c.next_name.ensures.none c.in_default.is); fault = before.fault; looks = λ _. before.looks }
+    record {
+      reads = went_all _ _ c.args.path.now c.loop-name.rest.now c.loop-name.place before.went (c.next_name.ensures.none c.in_default.is);
+      fault = before.fault;
+      looks = λ _. before.looks;
+    }

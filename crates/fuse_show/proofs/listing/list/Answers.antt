@@ -17,8 +17,10 @@ returns g c =
           (λ none.
           let clean_before = g.met.L.Look.was_clean _ _ (second.looked.looks none) clean in
           let sees_before = g.met.L.Look.kept _ _ first.looks clean_before rows sees in
-          let all = entries_all rows c.args.dir 18446744073709551615 c.as_slice.result.now is (c.as_slice.ensures.value ∙ first.rows clean_before rows is sees) (omega arith) in
-          subst (λ (es : List EntryRow). WritesOut (g.W.Write.contents c.args.writer.now) (g.W.Write.contents c.show_entries.new.writer) (flat_map (line_of rows) es) c.show_entries.result)
+          let all = entries_all rows c.args.dir 18446744073709551615 c.as_slice.result.now is
+          (c.as_slice.ensures.value ∙ first.rows clean_before rows is sees) (omega arith) in
+          subst (λ (es : List EntryRow). WritesOut (g.W.Write.contents c.args.writer.now) (g.W.Write.contents c.show_entries.new.writer)
+          (flat_map (line_of rows) es) c.show_entries.result)
           all (second.lines clean rows is sees_before (subst (AllByRecursion (IsShown rows)) (sym all) (all_shown rows c.args.dir is))));
       looked = record { fault = second.looked.fault; looks = λ none. g.met.L.Look.and_then _ _ _ first.looks (second.looked.looks none) };
     }

@@ -44,6 +44,7 @@ pub returns : goal.returns
 returns g c =
     let before = c.loop-entry.invariant in
     record {
-      lines = λ clean rows is sees shown. text_all (line_of rows) c.args.entries.now c.loop-entry.entry-index _ _ c.loop-entry-test.false (before.lines clean rows is sees shown);
+      lines = λ clean rows is sees shown.
+          text_all (line_of rows) c.args.entries.now c.loop-entry.entry-index _ _ c.loop-entry-test.false (before.lines clean rows is sees shown);
       looked = record { fault = before.fault; looks = λ _. before.looks };
     }
