@@ -1,5 +1,5 @@
 -- What the rows of a tree have.
-use Rattle.std.proofs.Common.{◌≡◌, ◌≢◌, ◌==◌, ◌&&◌, ◌||◌, ◌<◌, ◌≤◌, ℕ, zero, suc, Bool, true, false, cond, eqb, List, [], ◌∷◌, length, map, take}
+use Rattle.std.proofs.Common.{◌≡◌, ◌==◌, ◌&&◌, ◌||◌, ◌<◌, ◌≤◌, ℕ, Bool, true, false, cond, eqb, List, [], ◌∷◌, length, take}
 use Rattle.std.proofs.Common.{Option, Some, None, refl, sym, ap, subst, ◌∙◌, arith}
 use Rattle.std.specs.Prelude.{find, filter, nat_lt}
 use Rattle.std.specs.Option.{option_map}
@@ -11,7 +11,7 @@ use Rattle.fuse_tree.specs.declared.rows.EntryRow.{EntryRow}
 use Rattle.fuse_tree.specs.declared.rows.NodeRow.{NodeRow}
 use Rattle.fuse_tree.specs.declared.rows.Full.{Full}
 use Rattle.fuse_tree.specs.State.{State, Node, Tree, IsEntry, is_dir, is_dir_of, has_number, node_at}
-use Rattle.fuse_tree.specs.Rows.{Rows, IsRowed, row_of, full_of, rows_of_state, row_at, full_at, content_of, is_after, entries_after}
+use Rattle.fuse_tree.specs.Rows.{Rows, IsRowed, row_of, full_of, rows_of_state, row_at, content_of, is_after, entries_after}
 use Rattle.fuse_tree.proofs.Bounds.{rowed_is, child_there, row_within}
 use Rattle.fuse_tree.proofs.Lists.{all_more}
 use Rattle.fuse_tree.proofs.Puts.{row_found, find_full}

@@ -1,14 +1,14 @@
 -- Names followed one after the other.
-use Rattle.std.proofs.Common.{◌≡◌, ℕ, List, [], ◌∷◌, ◌++◌, Option, Some, None, refl, sym, ap, subst, ◌∙◌, append_assoc, append-nil}
-use Rattle.std.specs.Prelude.{Result, Ok, Err}
+use Rattle.std.proofs.Common.{◌≡◌, ℕ, List, [], ◌∷◌, ◌++◌, Some, None, refl, sym, ap, subst, ◌∙◌, append_assoc, append-nil}
+use Rattle.std.specs.Prelude.{Ok, Err}
 use Rattle.fuse_tree.specs.Bounds.{fuse_root_id}
 use Rattle.fuse_tree.specs.declared.rows.NodeRow.{NodeRow}
-use Rattle.fuse_tree.specs.Rows.{Rows, IsRowed, row_at}
+use Rattle.fuse_tree.specs.Rows.{Rows, row_at}
 use Rattle.fuse_show.specs.declared.fault.ShowFault.{ShowFault}
 use Rattle.fuse_show.specs.declared.fault.ShowFault.TheVariants.{Look, NotATree, NoSuchPath, NotDirectory, NotFile, Output}
 use Rattle.fuse_show.specs.Looks.{ReadOff, look_fault}
 use Rattle.fuse_show.specs.Paths.{names_of}
-use Rattle.fuse_show.specs.Finding.{LeadsBy, Lead, LeadTo, Stops, Steps, Finds, IsRoot}
+use Rattle.fuse_show.specs.Finding.{LeadsBy, Lead, LeadTo, Steps, Finds, IsRoot}
 use Rattle.fuse_show.proofs.Trees.{row_told}
 
 lead_more : (rows : Rows) (from : NodeRow) (names : List (List ℕ)) (to : NodeRow) (name : List ℕ) (next : NodeRow) → Lead rows from names to

@@ -1,5 +1,5 @@
 -- The lines of a directory's entries (own profile, in the form of ls -l).
-use Rattle.std.specs.Prelude.{◌≡◌, ◌≢◌, ◌+◌, ◌==◌, ◌++◌, ℕ, if◌then◌else◌, List, [], ◌∷◌, filter, codes, decimal, Option, Some, None}
+use Rattle.std.specs.Prelude.{◌≢◌, ◌+◌, ◌==◌, ◌++◌, ℕ, if◌then◌else◌, List, [], ◌∷◌, filter, codes, decimal, Option, Some, None}
 use Rattle.std.specs.List.{flat_map}
 use Rattle.fuse_tree.specs.declared.rows.NodeRow.{NodeRow}
 use Rattle.fuse_tree.specs.declared.rows.EntryRow.{EntryRow}

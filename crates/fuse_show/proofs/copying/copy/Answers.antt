@@ -1,4 +1,4 @@
-use Rattle.std.proofs.Common.{◌+◌, take, refl, sym, subst, arith}
+use Rattle.std.proofs.Common.{◌+◌, take, sym, subst, arith}
 use Rattle.std.specs.Io.KnownBytes.{Appends}
 use Rattle.fuse_show.specs.Copying.{content_at}
 use Rattle.fuse_show.proofs.Lines.{piece_more, piece_all, none_written}

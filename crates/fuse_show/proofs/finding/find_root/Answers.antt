@@ -1,4 +1,4 @@
-use Rattle.std.proofs.Common.{rules, refl, sym, ◌∙◌}
+use Rattle.std.proofs.Common.{sym, ◌∙◌}
 use Rattle.fuse_show.proofs.Trees.{root_there}
 use Rattle.fuse_show.proofs.finding.find_root.Goals as goal
 

@@ -1,4 +1,4 @@
-use Rattle.std.proofs.Common.{rules, refl, sym, ◌∙◌}
+use Rattle.std.proofs.Common.{sym, ◌∙◌}
 use Rattle.fuse_tree.proofs.Bounds.{child_row}
 use Rattle.fuse_show.proofs.finding.step.Goals as goal
 
