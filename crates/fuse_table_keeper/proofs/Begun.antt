@@ -1,16 +1,16 @@
 -- An opening and then the begin of a mount.
-use Rattle.std.proofs.Common.{◌≡◌, inl, inr, Ok, Err, Result, OnOk, OnErr, IfErr, IsTrue}
+use Rattle.std.proofs.Common.{inl, inr, Ok, Err, Result, OnOk, OnErr, IfErr, IsTrue}
 use Rattle.sqlite.specs.Effect.{Database}
 use Rattle.sqlite.specs.State.{State, HasCleanDisk, Survives}
 use Rattle.sqlite.proofs.StateLemmas.{survives_then, survives_weaker}
 use Rattle.fuse_wire.specs.declared.moment.Moment.{Moment}
 use Rattle.fuse_keeper.specs.declared.fault.StoreFault.{StoreFault}
+use Rattle.fuse_keeper.specs.declared.fault.StoreFault.TheVariants.{Memory, Sql, NotAStore, Version, Damaged}
 use Rattle.fuse_tables.specs.Content.{LeftAs}
 use Rattle.fuse_tables.specs.Faults.{IsOutside, IsPlain}
 use Rattle.fuse_tables.specs.Following.{earlier}
 use Rattle.fuse_tables.specs.Moves.{RestsAs, ServesAs, IsSafe}
 use Rattle.fuse_tables.specs.Saying.{Says}
-use Rattle.fuse_tables.proofs.Sayings.{says_plain}
 use Rattle.fuse_table_look.specs.Holding.{HeldFor}
 use Rattle.fuse_table_keeper.specs.Creating.{IsBlank, LeavesNew}
 use Rattle.fuse_table_keeper.specs.Mounting.{cleared_for}
@@ -47,6 +47,13 @@ module _ {X : Type 0} (a b d : State) (ok : HasCleanDisk b → (z : Stored) → 
       → IfErr r (λ f. (z : Stored) → WasFor z a → IsOutside f)
   begun_sure (Ok x) p safe clean = tt
   begun_sure (Err e) p safe clean = λ z was. safe clean (opened_for z) (ok (earlier b d _ p.survives clean) z was)
+
+says_plain : (d : Database) (f : StoreFault) → IsPlain f → Says d f
+says_plain d Memory plain = tt
+says_plain d (Sql e) plain = tt
+says_plain d NotAStore plain = absurd plain
+says_plain d (Version n) plain = absurd plain
+says_plain d Damaged plain = tt
 
 pub plain_says : {X : Type 0} (d : Database) (r : Result X StoreFault) → IfErr r IsPlain → IfErr r (Says d)
 plain_says d (Ok x) plain = tt

@@ -8,11 +8,10 @@ use Rattle.sqlite.specs.declared.error.Error.{Error}
 use Rattle.sqlite.specs.Clock.{timed}
 use Rattle.sqlite.specs.State.{State, HasCleanDisk, Shown, ShowsRows}
 use Rattle.sqlite_schema.specs.declared.command.Returning.{Returning}
-use Rattle.fuse_keeper.specs.declared.fault.StoreFault.{StoreFault}
-use Rattle.fuse_keeper.specs.declared.fault.StoreFault.TheVariants.{Memory, Sql, Damaged, NotAStore, Version}
+use Rattle.fuse_keeper.specs.declared.fault.StoreFault.TheVariants.{Memory, Sql, Damaged}
 use Rattle.fuse_keeper.specs.Faults.{fault_of, is_memory}
 use Rattle.fuse_tables.specs.Faults.{misread_as, IsPlain}
-use Rattle.fuse_tables.specs.Saying.{version_text, ShowsVersion, Says}
+use Rattle.fuse_tables.specs.Saying.{version_text, ShowsVersion}
 
 pub plain_fault : (e : Error) → IsPlain (fault_of e)
 plain_fault e = told (is_memory e)
@@ -27,13 +26,6 @@ plain_misread e = told (is_memory e)
     told : (b : Bool) → IsPlain (cond b Memory Damaged)
     told true = tt
     told false = tt
-
-pub says_plain : (d : Database) (f : StoreFault) → IsPlain f → Says d f
-says_plain d Memory plain = tt
-says_plain d (Sql e) plain = tt
-says_plain d NotAStore plain = absurd plain
-says_plain d (Version n) plain = absurd plain
-says_plain d Damaged plain = tt
 
 abbrev Rest : State → Compiled → List Row → Type 0
 Rest old c rows = (c.returning ≢ None) ⊎ ((now : ℕ) × (source : Database) × IsSourceOf (reads_listing old.now.schema version_text) old.now source
