@@ -1,7 +1,9 @@
 //! How far a long stream is read, told on a terminal.
-ghost use Rattle.std.specs.Prelude.{◌≡◌};
+ghost use Rattle.std.specs.Prelude.{◌≡◌, IfOk};
+ghost use Rattle.std.specs.Io.{ReadsAtMost};
+ghost use Rattle.std.specs.Io.KnownBytes.{ReadConsumes};
 ghost use Rattle.fuse_commands.specs.Printing.{mebibytes};
-ghost use Rattle.fuse_commands.specs.Reading.{left_behind};
+ghost use Rattle.fuse_commands.specs.Reading.{left_behind, line_of, read_more};
 
 use std::fmt;
 use std::io::{self, Eprint, Read};
@@ -55,10 +57,11 @@ pub struct ProgressReader<R, T: Clock + Eprint> {
 }
 
 impl<R: Read, T: Clock + Eprint> ProgressReader<R, T> {
-    /// Nothing is told within the first second. `total` is how many bytes there are, where that is
-    /// known.
+    /// Nothing is told before the clock's next second begins. `total` is how many bytes there are,
+    /// where that is known.
     pub fn new(reader: R, terminal: T, total: Option<u64>) -> ProgressReader<R, T>
-        ensures { left_behind R.remaining result ≡ R.remaining reader }
+        ensures reader { left_behind R.remaining result ≡ R.remaining reader }
+        ensures line { line_of result ≡ record { read = 0; total = total } }
     {
         let second = second_of(&terminal);
         ProgressReader {
@@ -72,7 +75,8 @@ impl<R: Read, T: Clock + Eprint> ProgressReader<R, T> {
 
     // Tells how much was read, where a second began since that was told.
     fn tell(&mut self)
-        ensures { self.new.reader ≡ self.old.reader }
+        ensures reader { self.new.reader ≡ self.old.reader }
+        ensures line { self.new.line ≡ self.old.line }
     {
         let second = second_of(&self.terminal);
         if second == self.second {
@@ -86,7 +90,8 @@ impl<R: Read, T: Clock + Eprint> ProgressReader<R, T> {
 
     // Clears the line, where one is shown.
     fn clear(&mut self)
-        ensures { self.new.reader ≡ self.old.reader }
+        ensures reader { self.new.reader ≡ self.old.reader }
+        ensures line { self.new.line ≡ self.old.line }
     {
         if self.is_shown {
             self.is_shown = false;
@@ -111,12 +116,18 @@ fn second_of<C: Clock>(clock: &C) -> u64 {
 impl<R: Read, T: Clock + Eprint> Read for ProgressReader<R, T> {
     ghost remaining = { left_behind R.remaining };
 
-    fn read(&mut self, buf: &mut [u8]) -> io::Result<usize> {
+    fn read(&mut self, buf: &mut [u8]) -> io::Result<usize>
+        ensures bound { ReadsAtMost result buf.new }
+        ensures bytes { ReadConsumes (left_behind R.remaining self.old)
+            (left_behind R.remaining self.new) result buf.new }
+        // What the line tells from here on.
+        ensures line { IfOk result (λ n. line_of self.new ≡ read_more (line_of self.old) n) }
+    {
         let count = self.reader.read(buf)?;
+        self.line.read = self.line.read.saturating_add(count as u64);
         if count == 0 {
             self.clear();
         } else {
-            self.line.read = self.line.read.saturating_add(count as u64);
             self.tell();
         }
         Ok(count)
