@@ -44,6 +44,7 @@ mod RenameFits
 pub mod RenameFree
 pub mod RenameOver
 pub mod RenameRows
+mod RowsOfTrees
 mod SettingAgrees
 mod SettingFits
 mod Shown

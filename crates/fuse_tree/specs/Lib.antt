@@ -2,6 +2,7 @@ pub mod Bounds
 pub mod Modes
 pub mod State
 pub mod Rows
+pub mod RowsOfTrees
 pub mod Handles
 pub mod NumbersOnce
 pub mod PlainRows

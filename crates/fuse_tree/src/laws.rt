@@ -2,6 +2,7 @@ ghost use Rattle.fuse_tree.specs.Listing.{ListingIsLongest};
 ghost use Rattle.fuse_tree.specs.Renaming.{LiesInIsUnder};
 ghost use Rattle.fuse_tree.specs.Plan.{TreeKept, NewStoreIsTree, RowsTellState, AnswersFit};
 ghost use Rattle.fuse_tree.specs.Plan.{AnswersAreRead};
+ghost use Rattle.fuse_tree.specs.RowsOfTrees.{RowsOfTrees};
 ghost use Rattle.std.specs.Prelude.{◌≡◌};
 ghost use Rattle.fuse_tree.specs.Bytes.{BytesKept};
 ghost use Rattle.fuse_tree.specs.Bounds as bounds;
@@ -30,6 +31,12 @@ pub fn bytes_kept()
 /// The rows tell the whole state.
 pub fn rows_tell_state()
     ensures { RowsTellState }
+{}
+
+/// In the rows of a tree the root is there, each entry leads to a node, cookies rise, and sizes are
+/// those of contents.
+pub fn rows_of_trees()
+    ensures { RowsOfTrees }
 {}
 
 /// What is answered fits.

@@ -15,7 +15,7 @@ mod rows;
 
 pub use laws::{
     answers_are_read, answers_fit, bytes_kept, lies_in_is_under, limit_numbers, listing_is_longest,
-    mode_numbers, new_store_is_tree, rows_tell_state, tree_kept,
+    mode_numbers, new_store_is_tree, rows_of_trees, rows_tell_state, tree_kept,
 };
 pub use limits::{
     BLOCK_SIZE, COUNTER_END, MAX_FILE, MAX_HANDLES, MAX_NODES, MAX_READ, ROOT_ID, SECTOR_SIZE,

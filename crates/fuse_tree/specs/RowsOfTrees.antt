@@ -1,0 +1,28 @@
+-- What is true of the rows of each tree (own profile): what a reader of rows may rely on.
+use Rattle.std.specs.Prelude.{◌≡◌, ◌≢◌, ◌<◌, ◌≤◌, ℕ, length, Some, None}
+use Rattle.std.specs.List.{AllByRecursion}
+use Rattle.fuse_tree.specs.Bounds.{fuse_root_id, file_limit}
+use Rattle.fuse_tree.specs.declared.rows.NodeRow.{NodeRow}
+use Rattle.fuse_tree.specs.declared.rows.EntryRow.{EntryRow}
+use Rattle.fuse_tree.specs.State.{Apart}
+use Rattle.fuse_tree.specs.Rows.{Rows, IsRowed, row_at, full_at, content_of}
+
+-- the entry leads to a row
+abbrev pub LeadsToRow : Rows → EntryRow → Type 0
+LeadsToRow rows e = row_at rows e.child ≢ None
+
+-- the size that the row of a node tells is that of its content, which fits into a file
+pub record IsSized (rows : Rows) (number : ℕ) (row : NodeRow) : Type 0 where
+  pub told : row.size ≡ length (content_of (full_at rows number))
+  pub within : row.size ≤ file_limit
+
+-- the root is there, each entry leads to a row, cookies rise from 3 on, and sizes are told right
+pub record OfTree (rows : Rows) : Type 0 where
+  pub root : row_at rows fuse_root_id ≢ None
+  pub children : AllByRecursion (LeadsToRow rows) rows.entries
+  pub cookies : AllByRecursion (λ e. 3 ≤ e.cookie) rows.entries
+  pub rise : Apart (λ e later. e.cookie < later.cookie) rows.entries
+  pub sizes : (number : ℕ) (row : NodeRow) → row_at rows number ≡ Some row → IsSized rows number row
+
+abbrev pub RowsOfTrees : Type 0
+RowsOfTrees = (rows : Rows) → IsRowed rows → OfTree rows
