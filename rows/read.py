@@ -5,8 +5,9 @@ from dataclasses import dataclass, field
 # What becomes of a message and its answer, as in a script; a message behind the end of its session is never worked off.
 FATES = ("answered", "lost", "before", "after", "never")
 
-# The lines that each row has.
+# The lines that each row has, and those that one has which is run by a script alone.
 OWED = ("served", "ends", "left")
+OWED_BY_SCRIPT = ("left",)
 
 
 @dataclass
@@ -15,6 +16,7 @@ class Event:
     secs: int
     message: bytes = b""
     answer: bytes = b""
+    malformed: str = ""
 
 
 @dataclass
@@ -22,6 +24,8 @@ class Row:
     name: str
     behind: str = ""
     by_replay: bool = False
+    by_script: bool = False
+    mount: bool = False
     pieces: list = field(default_factory=list)
     cut_anywhere: bool = False
     fronts: bool = False
@@ -33,6 +37,8 @@ class Row:
     settled: str = ""
     settings: str = ""
     blocks: str = ""
+    dump: list = field(default_factory=list)
+    check: str = ""
 
 
 class BadRow(Exception):
@@ -81,8 +87,14 @@ def add_line(row, line):
         row.events.append(Event(word, int(rest.split()[0])))
     elif word in (">", "<"):
         add_bytes(row, word, rest)
+    elif word == "!":
+        row.events[-1].malformed = rest
     elif line == "by replay":
         row.by_replay = True
+    elif line == "by script":
+        row.by_script = True
+    elif line == "mount":
+        row.mount = True
     elif line == "cut anywhere":
         row.cut_anywhere = True
     elif line == "fronts":
@@ -91,7 +103,9 @@ def add_line(row, line):
         add_spoiled(row, rest)
     elif word == "pieces":
         row.pieces = [int(size) for size in rest.split()]
-    elif word in ("behind", "ends"):
+    elif word == "dump":
+        row.dump.append(rest)
+    elif word in ("behind", "ends", "check"):
         setattr(row, word, rest)
     elif word in ("served", "left", "settled", "settings", "blocks"):
         setattr(row, word, line)
@@ -101,7 +115,7 @@ def add_line(row, line):
 
 def owed(row):
     """The first thing that a row lacks or says without need, or None."""
-    for word in OWED:
+    for word in OWED_BY_SCRIPT if row.by_script else OWED:
         if not getattr(row, word):
             return f"no line `{word}`"
     if any(not event.message for event in row.events):

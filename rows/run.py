@@ -1,4 +1,4 @@
-"""Runs rows through the program: run.py PROGRAM FILE... README.md says in which ways.
+"""Runs rows through the program: run.py PROGRAM TREES FILE... README.md says in which ways.
 
 The last line tells how many rows were run and how many failed; the exit status is 1 where one did or none was run.
 """
@@ -12,6 +12,8 @@ import serving
 from fronts import fronts_of
 from program import knows_strict_tables, look_into, run_lives, run_program, store_of
 from read import BadRow, chain_of, last_said, moved_end, read_all
+from scripts import bad_lines, good_lines
+from trees import run_tables
 from ways import bytes_in, fed, ways_of
 
 # How much of what differs is shown.
@@ -78,6 +80,17 @@ def said_alone(found, chain, left):
     return [line for line in found if line.split(" ")[0] not in unsaid]
 
 
+def is_whole(message):
+    """Whether bytes are one message by their length."""
+    return len(message) == int.from_bytes(message[:4], "little")
+
+
+def told_by_dump(line):
+    """What a line of `dump` tells is wrong with a message."""
+    found = re.search(r"malformed=\w+$", line)
+    return found.group() if found else "well-formed"
+
+
 # ---- rows
 
 
@@ -89,7 +102,7 @@ class Rows:
         self.rows = rows
         self.work = work
         self.looks = knows_strict_tables()
-        self.runs = {"replay": 0, "replay --db": 0, "simulate": 0, "serve": 0}
+        self.runs = {"replay": 0, "replay --db": 0, "simulate": 0, "serve": 0, "dump": 0, "check": 0}
         self.reached = {kind: set() for kind in self.runs}
 
     def is_same(self, name, way, wanted, seen):
@@ -124,7 +137,7 @@ class Rows:
         ran = run_program([self.program, "simulate", "-"], script.encode(), [], self.work)
         self.count(row, "simulate", 1)
         wanted = [event.answer.hex() if event.fate == "answered" and event.answer else "-" for event in events]
-        wanted += [re.sub(r"left (.*) records=.*", r"\1", row.left), "status 0"]
+        wanted += [re.sub(r"^left | records=.*", "", row.left), "status 0"]
         return self.is_same(row.name, "simulate", wanted, [*ran.lines, f"status {ran.status}", *ran.told])
 
     def serves(self, chain, whole):
@@ -139,8 +152,41 @@ class Rows:
         if self.looks:
             left = left_by_serve(row) if whole else ""
             seen += said_alone(look_into(self.work), chain, left)
-            wanted += wanted_in_file(chain, sum(kept_in(line) > 0 for line in counts), left)
+            lots = sum(kept_in(line) > 0 for line in serving.counts_told(serving.since_last_mount(lives, ran)))
+            wanted += wanted_in_file(chain, lots, left)
         return self.is_same(row.name, "serve" if whole else "serve, each message in a piece", wanted, seen)
+
+    def looks_at(self, row, word):
+        """What `dump` or `check` prints of the row's own messages, and how it ends."""
+        ran = run_program([self.program, word, "-"], bytes_in(row.events), [], self.work)
+        self.count(row, word, 1)
+        return ran.lines, [f"status {ran.status}", *ran.told]
+
+    def dumps(self, row):
+        """Whether `dump` tells of each message what is wrong with it."""
+        lines, ended = self.looks_at(row, "dump")
+        wanted = [f"malformed={event.malformed}" if event.malformed else "well-formed" for event in row.events]
+        return self.is_same(row.name, "dump", [*wanted, "status 0"], [*map(told_by_dump, lines), *ended])
+
+    def is_looked_at(self, row):
+        """Whether `dump` and `check` print the row's lines, and end at the fault of its stream."""
+        fault = row.ends.partition(" ")[2] if re.search("Short|TooLong|Cut", row.ends) else ""
+        told = [fault] * bool(fault)
+        dumped, dump_ended = self.looks_at(row, "dump")
+        checked, check_ended = self.looks_at(row, "check")
+        malformed = any(event.malformed for event in row.events)
+        wanted = [*row.dump, f"status {int(bool(fault))}", *told, row.check, f"status {int(bool(fault) or malformed)}", *told]
+        return self.is_same(row.name, "dump and check", wanted, [*dumped, *dump_ended, *checked, *check_ended])
+
+    def reads_scripts(self):
+        """Whether `simulate` tells the bad line of a script, and takes odd ones that are good."""
+        seen, wanted = [], []
+        for script, lines in [*bad_lines(), *good_lines()]:
+            ran = run_program([self.program, "simulate", "-"], script, [], self.work)
+            self.runs["simulate"] += 1
+            seen += [repr(script[-40:]), *ran.lines, f"status {ran.status}", *ran.told]
+            wanted += [repr(script[-40:]), *lines]
+        return self.is_same("script-extra-byte and other lines", "simulate", wanted, seen)
 
     def settles_after_fault(self):
         """Whether row settled-after-fault is as it should be."""
@@ -164,18 +210,37 @@ class Rows:
         wanted += [moved_end(fault, len(bytes_in(before)))] if fault else []
         return self.is_same(chain[-1].name, f"{kind}, {name}", wanted, seen_of([ran])[0][:-1])
 
-    def passes(self, row):
-        """Whether a row is as it should be, in all its ways."""
-        chain = chain_of(self.rows, row)
+    def runs_all(self, chain):
+        """Whether a row is as it should be, in all its ways but `dump`."""
+        row = chain[-1]
+        if row.by_script:
+            return self.simulates(chain)
+        if row.mount:
+            return all([self.serves(chain, True), self.serves(chain, False)])
         right = all([self.replays(chain, way) for way in ways_of(chain)])
         for front in fronts_of(row) if row.fronts else ():
             right = all([self.ends_front(chain, front, in_file) for in_file in (False, True)]) and right
         if not any(one.by_replay for one in chain):
             right = all([self.simulates(chain), self.serves(chain, True), self.serves(chain, False)]) and right
-        if not any(row.name in self.reached[kind] for kind in ("replay", "simulate")):
+        return right
+
+    def passes(self, row):
+        """Whether a row is as it should be."""
+        right = self.runs_all(chain_of(self.rows, row))
+        if all(is_whole(event.message) for event in row.events):
+            right = self.dumps(row) and right
+        if row.check:
+            right = self.is_looked_at(row) and right
+        if not row.mount and not any(row.name in self.reached[kind] for kind in ("replay", "simulate")):
             print(f"rows: {row.name} isn't run over lists")
             return False
         return right
+
+    def grows(self, path):
+        """Whether each table of trees is as it should be, step by step: one answer for each."""
+        tables, runs, failed = run_tables(self.program, path, self.work)
+        print(f"rows: {len(tables)} tables of trees, in {runs} runs")
+        return [name not in failed for name in tables]
 
     def tell(self):
         """How many rows were run over what, and in how many runs of the program."""
@@ -186,7 +251,7 @@ class Rows:
 
 
 def main():
-    program, *files = sys.argv[1:]
+    program, trees, *files = sys.argv[1:]
     if not os.access(program, os.X_OK):
         print("rows: FAILED, the program isn't built (./fusekeep builds it)")
         return 1
@@ -197,7 +262,8 @@ def main():
         return 1
     with tempfile.TemporaryDirectory(prefix="rows-") as work:
         run = Rows(os.path.realpath(program), rows, work)
-        right = [run.passes(row) for row in rows.values()] + [run.settles_after_fault(), run.refuses()]
+        right = [run.passes(row) for row in rows.values()] + [run.settles_after_fault(), run.refuses(), run.reads_scripts()]
+        right += run.grows(trees)
         run.tell()
     print(f"rows: {len(right)} run, {right.count(False)} failed")
     return 0 if rows and all(right) else 1

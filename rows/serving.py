@@ -1,7 +1,7 @@
 """Rows by `fusekeep serve`: the lives of servers over one file, between pipes that stand for a device. README.md says how."""
 import os
 import re
-from dataclasses import replace
+from dataclasses import dataclass, replace
 
 from program import copy_store, look_into, make_store, run_on_device, store_of
 from read import chain_of, last_said
@@ -15,9 +15,36 @@ HAS_RESEND = 1 << 39
 GROUP = 16
 
 
+@dataclass
+class Life:
+    """What a server gets, and the word by which it begins."""
+    begin: str
+    events: list
+
+
+def mounts_of(chain):
+    """The events of each mount."""
+    mounts = [[]]
+    for row in chain:
+        if row.mount:
+            mounts.append([])
+        mounts[-1] += row.events
+    return mounts
+
+
 def lives_of_servers(chain):
-    """A server is gone behind an answer that is lost: else the next group would settle its id."""
-    return lives_of([event for row in chain for event in row.events], ("after", "lost")) or [[]]
+    """A server is gone behind an answer that is lost: else the next group would settle its id. The first one of a mount is
+    fresh."""
+    lives = []
+    for events in mounts_of(chain):
+        cut = lives_of(events, ("after", "lost")) or [[]]
+        lives += [Life("--resume" if number else "--fresh", life) for number, life in enumerate(cut)]
+    return lives
+
+
+def since_last_mount(lives, ran):
+    """The runs of the last mount's lives."""
+    return ran[max(number for number, life in enumerate(lives) if life.begin == "--fresh"):]
 
 
 def serve(program, work, begin, events, secs=1000, whole=True, room=None):
@@ -32,8 +59,8 @@ def serve_lives(program, lives, whole, work):
     make_store(program, work)
     ran = []
     for life in lives:
-        secs = life[0].secs if life else 1000
-        ran.append(serve(program, work, "--resume" if ran else "--fresh", life, secs, whole))
+        secs = life.events[0].secs if life.events else 1000
+        ran.append(serve(program, work, life.begin, life.events, secs, whole))
     return ran, serve(program, work, "--resume", [])
 
 
@@ -56,8 +83,8 @@ def seen_of(served):
 def wanted_of(chain, lives):
     """The same of all lives, as the rows say it, and of the server that is given nothing."""
     wanted = []
-    for number, life in enumerate(lives):
-        wanted += [NOTICE] * (number > 0) + answers_of(life) + ["status 0"]
+    for life in lives:
+        wanted += [NOTICE] * (life.begin == "--resume") + answers_of(life.events) + ["status 0"]
     return wanted + ([NOTICE, "status 0"] if is_offered(chain) else NOT_OFFERED)
 
 

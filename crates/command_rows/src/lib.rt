@@ -1,22 +1,18 @@
-//! Tests of the commands over a tree in memory: what is printed, with the readers, writers and
-//! words that end a run in other ways.
+//! A script over a new store in lists; and tests of the commands with the readers, writers and words
+//! that end a run in other ways.
 #![tactic(auto)]
 
 #[cfg(test)]
 mod endings;
 #[cfg(test)]
+mod failing;
+#[cfg(test)]
 mod fakes;
 mod lists;
-#[cfg(test)]
-mod looks;
 #[cfg(test)]
 mod messages;
 #[cfg(test)]
 mod running;
-#[cfg(test)]
-mod scripts;
-#[cfg(test)]
-mod serving;
 #[cfg(test)]
 mod words;
 

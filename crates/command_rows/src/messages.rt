@@ -1,8 +1,5 @@
 //! Messages of the worked rows, in hexadecimal.
 
-/// The end of each header: uid and gid 1000, pid 77, no extensions.
-pub const TAIL: &str = "e8030000 e8030000 4d000000 00000000";
-
 /// Row init-agreed.
 pub const AGREED: &str =
     "68000000 1a000000 0200000000000000 0000000000000000 00000000000000000000000000000000 07000000 \
@@ -11,8 +8,4 @@ pub const AGREED: &str =
 
 pub const LOOKUP_HELLO: &str =
     "2e000000 01000000 0400000000000000 0100000000000000 e8030000 e8030000 4d000000 00000000 \
-    68656c6c6f00";
-
-pub const LOOKUP_HELLO_AGAIN: &str =
-    "2e000000 01000000 0400000000000080 0100000000000000 e8030000 e8030000 4d000000 00000000 \
     68656c6c6f00";

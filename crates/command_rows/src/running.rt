@@ -53,13 +53,3 @@ pub(crate) fn printed_to<R: Read + Drop, W: Write>(
     }
     Ok(run_replay(alloc, &mut keeper, reader, writer, AT_1000))
 }
-
-/// What is printed there.
-pub(crate) fn replayed<R: Read + Drop>(
-    alloc: Global,
-    reader: R,
-) -> Result<(Ending, Vec<u8>), Fail> {
-    let mut printed = Vec::new(alloc);
-    let ending = printed_to(alloc, reader, &mut printed)?;
-    Ok((ending, printed))
-}

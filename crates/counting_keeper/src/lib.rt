@@ -6,6 +6,3 @@ mod tally;
 
 pub use keeper::CountingKeeper;
 pub use tally::Tally;
-
-#[cfg(test)]
-mod tests;

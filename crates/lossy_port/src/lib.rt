@@ -5,6 +5,3 @@ mod line;
 mod port;
 
 pub use port::LossyPort;
-
-#[cfg(test)]
-mod tests;

@@ -1,34 +1,8 @@
+//! The rows of `pack`.
 ghost use Rattle.std.specs.Prelude.{◌≤◌, length};
 
 use fuse_answer::*;
-use fuse_wire::opcode::READDIR;
 use std::alloc::Global;
-use std::test::*;
-
-// The answer to READDIR of the root, of 32 bytes.
-const FIRST: &[u8; 48] = b"\x30\0\0\0\0\0\0\0\x06\0\0\0\0\0\0\0\
-    \x01\0\0\0\0\0\0\0\x01\0\0\0\0\0\0\0\x01\0\0\0\x04\0\0\0.\0\0\0\0\0\0\0";
-
-// What an answer to READDIR lists, where it is one entry whose name is one byte.
-fn only_in(bytes: &[u8]) -> Option<(u64, u64, u32, u8)> {
-    let Ok(reply) = read_answer(READDIR, bytes) else {
-        return None;
-    };
-    let ReplyBody::Directory(body) = reply.body else {
-        return None;
-    };
-    let mut entries = unpack(body);
-    let first = entries.next()?;
-    match (first.name, entries.next()) {
-        ([letter], None) => Some((first.ino, first.off, first.kind, *letter)),
-        _ => None,
-    }
-}
-
-#[test]
-fn first_entry(rt: HostRuntime) {
-    assert_eq!(rt; only_in(FIRST), Some((1, 1, 4, b'.')));
-}
 
 // How many bytes an entry of this name takes, and none where there is no room.
 fn packed_size(alloc: Global, name: &[u8], size: u32) -> Result<usize, PackFault>
@@ -43,18 +17,6 @@ fn packed_size(alloc: Global, name: &[u8], size: u32) -> Result<usize, PackFault
     }];
     let packed = pack(alloc, &entries, size)?;
     Ok(packed.body.as_slice().len())
-}
-
-#[test]
-fn sizes(rt: HostRuntime) -> Result<(), PackFault> {
-    let name = [b'a'; 255];
-    for (len, size) in [(8, 32), (9, 40), (255, 280)] {
-        let found = packed_size(rt.alloc(), &name[..len], 1000)?;
-        assert_eq!(rt; found, size);
-    }
-    let none = packed_size(rt.alloc(), &name, 279);
-    assert_eq!(rt; none, Err(PackFault::FirstTooBig));
-    Ok(())
 }
 
 const DOT: Dirent<'static> = Dirent {
@@ -82,13 +44,26 @@ fn packed_nothing(alloc: Global) -> Result<(usize, usize), PackFault> {
     Ok((packed.taken, packed.body.as_slice().len()))
 }
 
+const LONGEST: &[u8] = &[b'a'; 255];
+
+// Names of 8, 9 and 255 bytes, and as many entries as fit.
 #[test]
-fn as_many_as_fit(rt: HostRuntime) -> Result<(), PackFault> {
-    let found = [
-        packed_dots(rt.alloc(), 63)?,
-        packed_dots(rt.alloc(), 64)?,
-        packed_nothing(rt.alloc())?,
+fn packed(rt: HostRuntime) -> Result<(), PackFault> {
+    let alloc = rt.alloc();
+    let sizes = [
+        packed_size(alloc, &LONGEST[..8], 1000)?,
+        packed_size(alloc, &LONGEST[..9], 1000)?,
+        packed_size(alloc, LONGEST, 280)?,
     ];
-    assert_eq!(rt; found, [(1, 32), (2, 64), (0, 0)]);
+    let fit = [
+        packed_dots(alloc, 63)?,
+        packed_dots(alloc, 64)?,
+        packed_nothing(alloc)?,
+    ];
+    let none = matches!(
+        packed_size(alloc, LONGEST, 279),
+        Err(PackFault::FirstTooBig)
+    );
+    assert!(rt; none && sizes == [32, 40, 280] && fit == [(1, 32), (2, 64), (0, 0)]);
     Ok(())
 }

@@ -1,5 +1,5 @@
-//! Tests of what messages and their answers are made of: worked rows of the specification, and each
-//! public function of the crates of the messages on its happy path.
+//! Tests of what messages and their answers are made of: vectors of the definitions, laws, and the
+//! worked rows that no run of the program shows.
 #![tactic(auto)]
 
 #[cfg(test)]

@@ -2,7 +2,7 @@ ghost use Rattle.message_rows.specs.AnswerRows.{ErrorFields, FirstRun, Headers, 
 ghost use Rattle.message_rows.specs.AnswerRows.{OpenAndWrite, Reads, Refusals};
 
 use fuse_answer::*;
-use fuse_wire::{ByteList, Errno, Memory};
+use fuse_wire::Memory;
 use std::test::*;
 
 #[tactic(auto, unfolding(fuse_wire::specs::Bytes::le))]
@@ -75,55 +75,26 @@ const DIRECTORY: Attr = Attr {
     flags: 0,
 };
 
-const DIRECTORY_BYTES: &[u8; 88] = b"\x02\0\0\0\0\0\0\0\0\0\0\0\0\0\0\0\0\0\0\0\0\0\0\0\
+const DIRECTORY_BYTES: &[u8] = b"\x02\0\0\0\0\0\0\0\0\0\0\0\0\0\0\0\0\0\0\0\0\0\0\0\
     \xe8\x03\0\0\0\0\0\0\xe8\x03\0\0\0\0\0\0\xe8\x03\0\0\0\0\0\0\
     \0\0\0\0\0\0\0\0\0\0\0\0\xed\x41\0\0\x02\0\0\0\xe8\x03\0\0\
     \xe8\x03\0\0\0\0\0\0\0\x10\0\0\0\0\0\0";
 
-#[test]
-fn attributes(rt: HostRuntime) -> Result<(), Memory> {
-    let body = DIRECTORY.body_of(rt.alloc())?;
-    assert_eq!(rt; body.as_slice(), DIRECTORY_BYTES.as_slice());
-    Ok(())
-}
+// The notice that asks for resends, and its bytes.
+const NOTICE: OutHeader = OutHeader {
+    len: 16,
+    error: 7,
+    unique: 0,
+};
 
-#[test]
-fn notice(rt: HostRuntime) -> Result<(), Memory> {
-    let notice = OutHeader {
-        len: 16,
-        error: 7,
-        unique: 0,
-    };
-    let want = [0x10, 0, 0, 0, 7, 0, 0, 0, 0, 0, 0, 0, 0, 0, 0, 0];
-    assert_eq!(rt; notice.body_of(rt.alloc())?.as_slice(), want.as_slice());
-    assert_eq!(rt; resend_notice(), want);
-    Ok(())
-}
+const NOTICE_BYTES: &[u8] = b"\x10\0\0\0\x07\0\0\0\0\0\0\0\0\0\0\0";
 
+// Records that no answer is by itself.
 #[test]
-fn missing_lookup(rt: HostRuntime) -> Result<(), Memory> {
-    let refusal = Answer::refusal(rt.alloc(), Errno::ENOENT);
-    let mut want = [
-        0x10, 0, 0, 0, 0xfe, 0xff, 0xff, 0xff, 4, 0, 0, 0, 0, 0, 0, 0,
-    ];
-    assert_eq!(rt; head_of(4, &refusal), want);
-    want[15] = 0x80;
-    let mut out = Vec::new(rt.alloc());
-    write_answer(
-        0x8000_0000_0000_0004,
-        &refusal.to_copy(rt.alloc())?,
-        &mut out,
-    )?;
-    assert_eq!(rt; out.as_slice(), want.as_slice());
-    Ok(())
-}
-
-#[test]
-fn resent_read(rt: HostRuntime) -> Result<(), Memory> {
-    let body = ByteList::from_vec(Vec::from_slice(rt.alloc(), b"one")?);
-    let mut out = Vec::from_slice(rt.alloc(), b"before")?;
-    write_answer(10, &Answer::success(body), &mut out)?;
-    let want = b"before\x13\0\0\0\0\0\0\0\x0a\0\0\0\0\0\0\0one";
-    assert_eq!(rt; out.as_slice(), want.as_slice());
+fn bodies(rt: HostRuntime) -> Result<(), Memory> {
+    let attributes = DIRECTORY.body_of(rt.alloc())?;
+    let header = NOTICE.body_of(rt.alloc())?;
+    let right = attributes.as_slice() == DIRECTORY_BYTES && header.as_slice() == NOTICE_BYTES;
+    assert!(rt; right);
     Ok(())
 }

@@ -1,23 +1,14 @@
-//! Tests of the tables of a store, over a connection in memory: each public function once.
+//! Tests of a store in tables, over a connection in memory: a store of version 1, what is no store,
+//! and each call of a keeper.
 #![tactic(auto)]
 
 #[cfg(test)]
-mod groups;
+mod blocks;
 #[cfg(test)]
 mod keepers;
 #[cfg(test)]
 mod laws;
 #[cfg(test)]
-mod looks;
-#[cfg(test)]
-mod missing;
-#[cfg(test)]
-mod mounts;
-#[cfg(test)]
-mod resting;
-#[cfg(test)]
 mod shown;
-#[cfg(test)]
-mod statements;
 #[cfg(test)]
 mod stores;

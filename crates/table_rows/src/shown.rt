@@ -2,26 +2,24 @@
 use sqlite::{Connection, Error, MemStore, Row};
 
 /// Whether the statement shows these numbers, and nothing else.
-pub(crate) fn shows(
-    conn: &mut Connection<MemStore>,
-    text: &str,
-    numbers: &[i64],
-) -> Result<bool, Error> {
-    let rows = conn.query_all(text, &[])?;
-    are(rows.as_slice(), numbers)
+pub(crate) fn shows(conn: &mut Connection<MemStore>, text: &str, numbers: &[i64]) -> bool {
+    match conn.query_all(text, &[]) {
+        Ok(rows) => are(rows.as_slice(), numbers),
+        Err(_) => false,
+    }
 }
 
-fn are(rows: &[Row], numbers: &[i64]) -> Result<bool, Error> {
-    if rows.len() != numbers.len() {
-        return Ok(false);
-    }
-    for (row, number) in rows.iter().zip(numbers) {
-        let shown: i64 = row.get(0)?;
-        if shown != *number {
-            return Ok(false);
-        }
-    }
-    Ok(true)
+fn is(row: &Row, number: i64) -> bool {
+    let shown: Result<i64, Error> = row.get(0);
+    matches!(shown, Ok(found) if found == number)
+}
+
+fn are(rows: &[Row], numbers: &[i64]) -> bool {
+    rows.len() == numbers.len()
+        && rows
+            .iter()
+            .zip(numbers)
+            .all(|(row, number)| is(row, *number))
 }
 
 /// Runs the statements of a text.

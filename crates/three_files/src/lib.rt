@@ -17,6 +17,3 @@ pub use laws::never_changes;
 pub use limits::{EROFS, MAX_READ};
 pub use node::Node;
 pub use serving::serve_files;
-
-#[cfg(test)]
-mod tests;

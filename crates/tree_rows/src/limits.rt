@@ -1,53 +1,70 @@
 //! Row `limits`, over a `Look` of the test.
-use crate::looks::planned_where;
-use crate::rows::counters_of;
-use crate::words::Words;
+use crate::looks::{counting, planned_where};
+use fuse_request::Op;
 use std::alloc::Global;
-use std::test::*;
+use std::test::Fail;
 
-// The counters of a store, what is asked of a node there, and the error number.
-const LIMITS: &[u8] = b"\
-    65537 1 65538 65535 0 1 mkdir 0755 a = 0\n\
-    65537 1 65538 65535 0 1 mknod 0644 0 f = 0\n\
-    65537 1 65538 65536 0 1 mkdir 0755 a = 28\n\
-    65537 1 65538 65536 0 1 mknod 0644 0 f = 28\n\
-    4611686018427387903 1 4 2 0 1 mkdir 0755 a = 0\n\
-    4611686018427387903 1 4 2 0 1 mknod 0644 0 f = 0\n\
-    4611686018427387904 1 4 2 0 1 mkdir 0755 a = 28\n\
-    4611686018427387904 1 4 2 0 1 mknod 0644 0 f = 28\n\
-    3 1 4611686018427387903 2 0 1 mkdir 0755 a = 0\n\
-    3 1 4611686018427387903 2 0 1 mknod 0644 0 f = 0\n\
-    3 1 4611686018427387904 2 0 1 mkdir 0755 a = 28\n\
-    3 1 4611686018427387904 2 0 1 mknod 0644 0 f = 28\n\
-    4611686018427387904 1 4611686018427387904 65536 0 1 mkdir 0755 a = 28\n\
-    4611686018427387904 1 4611686018427387904 65536 0 1 mknod 0644 0 f = 28\n\
-    3 4611686018427387903 4 2 65535 2 open 0 = 0\n\
-    3 65537 4 2 65536 2 opendir = 20\n\
-    3 65537 4 2 65536 2 open 0 = 23\n\
-    3 4611686018427387904 4 2 65536 2 open 0 = 23\n\
-    3 4611686018427387904 4 2 4 2 open 0 = 28";
+const MKDIR: Op<'static> = Op::Mkdir {
+    mode: 0o755,
+    umask: 0o022,
+    name: b"a",
+};
 
-// Whether the line is so.
-fn holds(alloc: Global, mut words: Words<'_>) -> Result<bool, Fail> {
-    let counters = counters_of(&mut words);
-    let nodeid = words.number();
-    let op = words.op()?;
-    let (planned, _) = planned_where(alloc, counters, nodeid, op)?;
-    Ok(planned.answer.errno.0 == words.small())
+const MKNOD: Op<'static> = Op::Mknod {
+    mode: 0o644,
+    rdev: 0,
+    umask: 0o022,
+    name: b"a",
+};
+
+const OPEN: Op<'static> = Op::OpenFile {
+    flags: 0,
+    open_flags: 0,
+};
+
+// The next node, fh and cookie, how many nodes and handles there are, and the error number.
+type Limit = ([u64; 5], u32);
+
+// Of MKDIR and MKNOD in the root.
+const MADE: [Limit; 6] = [
+    ([65_537, 1, 65_538, 65_535, 0], 0),
+    ([65_537, 1, 65_538, 65_536, 0], 28),
+    ([0x3fff_ffff_ffff_ffff, 1, 4, 2, 0], 0),
+    ([0x4000_0000_0000_0000, 1, 4, 2, 0], 28),
+    ([3, 1, 0x3fff_ffff_ffff_ffff, 2, 0], 0),
+    ([3, 1, 0x4000_0000_0000_0000, 2, 0], 28),
+];
+
+// Of OPEN of the file.
+const OPENED: [Limit; 4] = [
+    ([3, 0x3fff_ffff_ffff_ffff, 4, 2, 65_535], 0),
+    ([3, 65_537, 4, 2, 65_536], 23),
+    ([3, 0x4000_0000_0000_0000, 4, 2, 65_536], 23),
+    ([3, 0x4000_0000_0000_0000, 4, 2, 4], 28),
+];
+
+fn errno_where(alloc: Global, counters: [u64; 5], nodeid: u64, op: Op<'_>) -> Result<u32, Fail> {
+    let (planned, _) = planned_where(alloc, counting(counters), nodeid, op)?;
+    Ok(planned.answer.errno.0)
 }
 
-fn all_hold(alloc: Global) -> Result<bool, Fail> {
-    let mut lines = Words::of(LIMITS, b'\n');
-    for _line in 0..LIMITS.len() {
-        if !lines.is_empty() && !holds(alloc, Words::of(lines.next(), b' '))? {
+// Whether what is asked of a node is answered so at each of these limits.
+fn are_limits(alloc: Global, limits: &[Limit], nodeid: u64, op: Op<'_>) -> Result<bool, Fail> {
+    for (counters, errno) in limits {
+        if errno_where(alloc, *counters, nodeid, op)? != *errno {
             return Ok(false);
         }
     }
-    Ok(lines.is_empty())
+    Ok(true)
 }
 
 #[test]
 fn limits(rt: HostRuntime) -> Result<(), Fail> {
-    assert!(rt; all_hold(rt.alloc())?);
+    let right = [
+        are_limits(rt.alloc(), &MADE, 1, MKDIR)?,
+        are_limits(rt.alloc(), &MADE, 1, MKNOD)?,
+        are_limits(rt.alloc(), &OPENED, 2, OPEN)?,
+    ];
+    assert_eq!(rt; right, [true; 3]);
     Ok(())
 }

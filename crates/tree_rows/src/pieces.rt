@@ -1,39 +1,31 @@
+//! Row `pieces`, and as many as the largest file has blocks.
 ghost use Rattle.std.specs.Prelude.{◌≤◌, ◌+◌};
 ghost use Rattle.fuse_tree.specs.declared.limits.TheConstants.{MAX_FILE as max_file};
 
 use fuse_tree::{Piece, Pieces};
-use std::alloc::Global;
-use std::test::*;
+use std::alloc::{AllocError, Global};
 
-fn piece(block: u32, start: u32, len: u32) -> Piece {
-    Piece { block, start, len }
-}
-
-fn cut(alloc: Global, offset: u64, len: u32) -> Result<Vec<Piece>, Fail>
+fn cut(alloc: Global, offset: u64, len: u32) -> Result<Vec<Piece>, AllocError>
     requires { offset + len ≤ max_file }
 {
-    Ok(Pieces::new(offset, len).collect(alloc)?)
+    Pieces::new(offset, len).collect(alloc)
+}
+
+fn are(found: &[Piece], wanted: &[[u32; 3]]) -> bool {
+    found.len() == wanted.len()
+        && found.iter().zip(wanted).all(|(piece, numbers)| [piece.block, piece.start, piece.len]
+            == *numbers)
+}
+
+fn three(alloc: Global) -> Result<bool, AllocError> {
+    let found = cut(alloc, 4095, 4098)?;
+    Ok(are(found.as_slice(), &[[0, 4095, 1], [1, 0, 4096], [2, 0, 1]]))
 }
 
 #[test]
-fn pieces(rt: HostRuntime) -> Result<(), Fail> {
-    let alloc = rt.alloc();
-    let three = cut(alloc, 4095, 4098)?;
-    assert_eq!(rt;
-        three.as_slice(),
-        [piece(0, 4095, 1), piece(1, 0, 4096), piece(2, 0, 1)].as_slice()
-    );
-    assert!(rt; cut(alloc, 7, 0)?.is_empty());
-    let block = cut(alloc, 8192, 4096)?;
-    assert_eq!(rt; block.as_slice(), [piece(2, 0, 4096)].as_slice());
-    let last = cut(alloc, 16_777_215, 1)?;
-    assert_eq!(rt; last.as_slice(), [piece(4095, 4095, 1)].as_slice());
-    Ok(())
-}
-
-// As many as the largest file has blocks.
-#[test]
-fn covers_a_whole_file(rt: HostRuntime) -> Result<(), Fail> {
-    assert_eq!(rt; cut(rt.alloc(), 0, 16_777_216)?.len(), 4096);
+fn pieces(rt: HostRuntime) -> Result<(), AllocError> {
+    let none = cut(rt.alloc(), 7, 0)?.len();
+    let all = cut(rt.alloc(), 0, 16_777_216)?.len();
+    assert!(rt; three(rt.alloc())? && none == 0 && all == 4096);
     Ok(())
 }

@@ -1,2 +1,1 @@
 pub mod TwoCopies
-pub mod Lamp

@@ -4,6 +4,3 @@
 mod copies;
 
 pub use copies::TwoCopies;
-
-#[cfg(test)]
-mod tests;

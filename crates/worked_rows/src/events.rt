@@ -1,8 +1,7 @@
 //! The rows that events with their fates and a kernel make.
 use crate::hex::hex;
 use crate::keepers::{AT_1000, START, TreeKeeper, held_in, new_keeper};
-use crate::messages::{Ask, asks};
-use crate::run::{Held, holding};
+use crate::run::Held;
 use crate::texts::INIT_AGREED;
 use fuse_keeper::{Keeper, PlainKeeper, Restart, StoreFault};
 use fuse_sim::{DriveFault, Event, Fate, Outcome, drive};
@@ -14,7 +13,6 @@ mod allocations;
 mod faults;
 mod kernels;
 mod sending;
-mod settled;
 mod twice;
 
 fn event(bytes: Vec<u8>, fate: Fate) -> Event {
@@ -25,23 +23,16 @@ fn event(bytes: Vec<u8>, fate: Fate) -> Event {
     }
 }
 
-// The messages of an event, one after another, and its fate.
-type Step<'a> = (&'a [Ask], Fate);
+// The message of an event, its fate, and the answer that the kernel takes, if it takes one.
+type Step = (&'static str, Fate, &'static str);
 
-// The INIT of row init-agreed, answered.
-const INIT: Step<'static> = (&[Ask::Text(INIT_AGREED)], Fate::Answered);
-
-// Appends the events of these messages.
-fn push_steps(
-    alloc: Global,
-    events: &mut Vec<Event>,
-    steps: &[Step<'_>],
-) -> Result<(), AllocError> {
-    for (asked, fate) in steps {
-        let bytes = asks(alloc, asked)?;
+fn events_of(alloc: Global, steps: &[Step]) -> Result<Vec<Event>, AllocError> {
+    let mut events = Vec::new(alloc);
+    for (message, fate, _) in steps {
+        let bytes = hex(alloc, message)?;
         events.push(event(bytes, *fate))?;
     }
-    Ok(())
+    Ok(events)
 }
 
 // Appends events of this fate.
@@ -54,12 +45,6 @@ fn push_messages(
         events.push(event(message, fate))?;
     }
     Ok(())
-}
-
-fn events_of(alloc: Global, steps: &[Step<'_>]) -> Result<Vec<Event>, AllocError> {
-    let mut events = Vec::new(alloc);
-    push_steps(alloc, &mut events, steps)?;
-    Ok(events)
 }
 
 fn held_of(keeper: &mut Option<TreeKeeper>) -> Option<Held> {
@@ -80,26 +65,6 @@ fn drive_on<K: Restart>(alloc: Global, keeper: &mut Option<K>, events: &[Event])
     Some(drive(alloc, keeper, events))
 }
 
-// What came of events over a new store: their outcomes, where all of them were run, and what is
-// held then.
-#[derive(Drop)]
-struct Ran {
-    outcomes: Option<Vec<Option<Outcome>>>,
-    held: Option<Held>,
-}
-
-fn run_on_new(alloc: Global, events: &[Event]) -> Ran {
-    let mut keeper = new_keeper(alloc).ok();
-    let outcomes = match drive_on(alloc, &mut keeper, events) {
-        Some(ended) => ended.ok(),
-        None => None,
-    };
-    Ran {
-        outcomes,
-        held: held_of(&mut keeper),
-    }
-}
-
 // Whether an outcome's bytes are those. No bytes stand for no answer.
 fn is_answer(outcome: &Option<Outcome>, wanted: &[u8]) -> bool {
     match (outcome, wanted.split_at_checked(16)) {
@@ -109,4 +74,19 @@ fn is_answer(outcome: &Option<Outcome>, wanted: &[u8]) -> bool {
         (Some(_), None) => false,
         (None, _) => wanted.is_empty(),
     }
+}
+
+// Whether the outcomes of these steps are their answers.
+fn are_answered(
+    alloc: Global,
+    outcomes: &[Option<Outcome>],
+    steps: &[Step],
+) -> Result<bool, AllocError> {
+    for (outcome, (_, _, answer)) in outcomes.iter().zip(steps) {
+        let wanted = hex(alloc, answer)?;
+        if !is_answer(outcome, wanted.as_slice()) {
+            return Ok(false);
+        }
+    }
+    Ok(outcomes.len() == steps.len())
 }

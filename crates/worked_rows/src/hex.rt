@@ -26,11 +26,19 @@ fn put_digits(out: &mut Vec<u8>, digits: &[u8]) -> Result<(), AllocError> {
     Ok(())
 }
 
-// Appends a byte so many times.
-fn put_times(out: &mut Vec<u8>, byte: &str, times: &str) -> Result<(), AllocError> {
-    let value = u8::from_str_radix(byte, 16).unwrap_or(0);
-    for _ in 0..times.parse::<usize>().unwrap_or(0) {
-        out.push(value)?;
+fn number(digits: &str) -> usize {
+    let mut n: usize = 0;
+    for c in digits.as_bytes() {
+        n = n
+            .saturating_mul(10)
+            .saturating_add(c.wrapping_sub(b'0') as usize);
+    }
+    n
+}
+
+fn put_zeros(out: &mut Vec<u8>, count: usize) -> Result<(), AllocError> {
+    for _ in 0..count {
+        out.push(0)?;
     }
     Ok(())
 }
@@ -38,8 +46,8 @@ fn put_times(out: &mut Vec<u8>, byte: &str, times: &str) -> Result<(), AllocErro
 /// Appends the bytes of a text, with spaces, and with `0*n` for n zero bytes.
 pub(crate) fn put_hex(out: &mut Vec<u8>, text: &str) -> Result<(), AllocError> {
     for word in text.split_whitespace() {
-        match word.split_once('*') {
-            Some((byte, times)) => put_times(out, byte, times)?,
+        match word.strip_prefix("0*") {
+            Some(count) => put_zeros(out, number(count))?,
             None => put_digits(out, word.as_bytes())?,
         }
     }
@@ -58,9 +66,4 @@ pub(crate) fn mark_resent(bytes: &mut [u8], begin: usize) {
     if let Some(highest) = bytes.get_mut(begin.saturating_add(15)) {
         *highest |= 0x80;
     }
-}
-
-/// The first bytes, so many of them as there are.
-pub(crate) fn front(bytes: &[u8], size: usize) -> &[u8] {
-    bytes.get(..size).unwrap_or(bytes)
 }

@@ -15,9 +15,6 @@ use fuse_wire::{Errno, Id, InitFlags, Memory, Moment};
 use std::alloc::Global;
 
 mod allocations;
-mod mounts;
-mod repeats;
-mod trees;
 
 /// A keeper of the tree in memory.
 pub type TreeKeeper = PlainKeeper<PlainTree>;
@@ -58,7 +55,7 @@ pub(crate) fn held_in<K: Keeper>(keeper: &mut K) -> Option<Held> {
     Some(holding(counts.nodes, counts.handles, counts.records))
 }
 
-// Whether a keeper can perform the request.
+// Whether the request is one of those of the run, which a keeper can perform.
 fn is_kept(request: &Request<'_>) -> bool
     ensures id { result ≡ true → id_of request.now.header.unique ≢ 0 }
     ensures kept { result ≡ true → IsKept (act request.now.op) }
@@ -68,23 +65,13 @@ fn is_kept(request: &Request<'_>) -> bool
     }
     match request.op {
         Op::Init(_) => true,
-        Op::Destroy => true,
-        Op::Lookup { .. } => true,
-        Op::Getattr { .. } => true,
-        Op::Setattr(_) => true,
         Op::Mknod { .. } => true,
         Op::Mkdir { .. } => true,
-        Op::Unlink { .. } => true,
-        Op::Rmdir { .. } => true,
         Op::Rename { .. } => true,
-        Op::Rename2 { .. } => true,
         Op::OpenFile { .. } => true,
         Op::Read(_) => true,
         Op::Write { .. } => true,
         Op::Release(_) => true,
-        Op::OpenDir { .. } => true,
-        Op::ReadDir(_) => true,
-        Op::ReleaseDir(_) => true,
         _ => false,
     }
 }
@@ -125,76 +112,4 @@ fn perform<K: Keeper>(
         return Ok(None);
     }
     Ok(Some(ask_all(keeper, group, settled)?))
-}
-
-// What a request is answered.
-#[derive(Clone, Copy)]
-enum Want {
-    Body(&'static [u8]),
-    // The entry of this node.
-    Node(u8),
-    // The attributes of a node to which no name leads.
-    Nameless,
-    Refused(Errno),
-}
-
-fn is_wanted(done: &Done, want: Want) -> bool {
-    let errno = done.answer.errno;
-    let body = done.answer.body.as_slice();
-    match want {
-        Want::Body(wanted) => errno == Errno::NONE && body == wanted,
-        Want::Node(node) => body.len() == 128 && body.first() == Some(&node),
-        Want::Nameless => body.get(80..84) == Some(b"\0\0\0\0".as_slice()),
-        Want::Refused(wanted) => errno == wanted && body.is_empty(),
-    }
-}
-
-// A request that isn't a repeat, and what it is answered.
-type Step = (Request<'static>, Want);
-
-fn is_answered<K: Keeper>(keeper: &mut K, step: &Step) -> Result<bool, StoreFault> {
-    let (request, want) = *step;
-    let dones = perform(keeper, &[(request, AT_1000)], &[])?;
-    Ok(match dones {
-        Some(dones) => dones
-            .as_slice()
-            .iter()
-            .all(|done| !done.repeated && is_wanted(done, want)),
-        None => false,
-    })
-}
-
-// Performs requests, each in a group of its own: which of them is the first that is answered
-// otherwise.
-fn first_wrong<K: Keeper>(keeper: &mut K, steps: &[Step]) -> Result<Option<usize>, StoreFault> {
-    for (place, step) in steps.iter().enumerate() {
-        if !is_answered(keeper, step)? {
-            return Ok(Some(place));
-        }
-    }
-    Ok(None)
-}
-
-// Whether requests are answered so, this is held then, and these settings are agreed on.
-fn is_so<K: Keeper>(
-    keeper: &mut K,
-    steps: &[Step],
-    held: Held,
-    settings: Option<Settings>,
-) -> bool {
-    matches!(first_wrong(keeper, steps), Ok(None))
-        && held_in(keeper) == Some(held)
-        && matches!(agreed(keeper), Ok(told) if told == settings)
-}
-
-fn begin_mount<K: Keeper>(keeper: &mut K) -> Result<(), StoreFault> {
-    keeper.begin_mount()
-}
-
-fn has_record<K: Keeper>(keeper: &mut K, id: u64) -> Result<bool, StoreFault> {
-    Ok(keeper.answer_of(Id(id))?.is_some())
-}
-
-fn agreed<K: Keeper>(keeper: &mut K) -> Result<Option<Settings>, StoreFault> {
-    keeper.settings()
 }

@@ -9,8 +9,6 @@ mod hex;
 #[cfg(test)]
 mod keepers;
 #[cfg(test)]
-mod messages;
-#[cfg(test)]
 mod requests;
 #[cfg(test)]
 mod run;

@@ -40,7 +40,7 @@ pub(crate) fn init(unique: u64) -> Request<'static> {
     }
 }
 
-/// MKDIR, MKNOD of a regular file, LOOKUP, UNLINK and RMDIR of a name in the root.
+/// MKDIR, MKNOD of a regular file and LOOKUP of a name in the root.
 pub(crate) fn mkdir(unique: u64, name: &[u8]) -> Request<'_> {
     let op = Op::Mkdir {
         mode: 0o755,
@@ -62,14 +62,6 @@ pub(crate) fn mknod(unique: u64, name: &[u8]) -> Request<'_> {
 
 pub(crate) fn lookup(unique: u64, name: &[u8]) -> Request<'_> {
     request(unique, 1, Op::Lookup { name })
-}
-
-pub(crate) fn unlink(unique: u64, name: &[u8]) -> Request<'_> {
-    request(unique, 1, Op::Unlink { name })
-}
-
-pub(crate) fn rmdir(unique: u64, name: &[u8]) -> Request<'_> {
-    request(unique, 1, Op::Rmdir { name })
 }
 
 pub(crate) fn getattr(unique: u64, nodeid: u64) -> Request<'static> {
@@ -99,7 +91,15 @@ pub(crate) fn write(unique: u64, payload: &[u8]) -> Request<'_> {
 }
 
 pub(crate) fn read(unique: u64) -> Request<'static> {
-    request(unique, 2, Op::Read(reading(4096)))
+    let op = Op::Read(ReadIn {
+        fh: 1,
+        offset: 0,
+        size: 4096,
+        read_flags: 0,
+        lock_owner: 0,
+        flags: 0,
+    });
+    request(unique, 2, op)
 }
 
 pub(crate) fn release(unique: u64) -> Request<'static> {
@@ -110,20 +110,4 @@ pub(crate) fn release(unique: u64) -> Request<'static> {
         lock_owner: 0,
     });
     request(unique, 2, op)
-}
-
-/// READDIR of 32 bytes of the root by fh 1.
-pub(crate) fn readdir(unique: u64) -> Request<'static> {
-    request(unique, 1, Op::ReadDir(reading(32)))
-}
-
-fn reading(size: u32) -> ReadIn {
-    ReadIn {
-        fh: 1,
-        offset: 0,
-        size,
-        read_flags: 0,
-        lock_owner: 0,
-        flags: 0,
-    }
 }

@@ -7,8 +7,8 @@ use fuse_request::{Op, Request};
 /// A message and its answer.
 pub type Pair = (&'static str, &'static str);
 
-// MKNOD `f` under id 4, and its answer: node 2.
-const MKNOD: Pair = (
+/// MKNOD `f` under id 4, and its answer: node 2.
+pub const MKNOD: Pair = (
     "3a000000 08000000 0400000000000000 0100000000000000 e8030000 e8030000 4d000000 00000000
     a4810000 00000000 12000000 00000000 6600",
     "90000000 00000000 0400000000000000 0200000000000000 0*8 0100000000000000
@@ -16,15 +16,15 @@ const MKNOD: Pair = (
     e803000000000000 0*12 a4810000 01000000 e8030000 e8030000 00000000 00100000 00000000",
 );
 
-// OPEN of node 2 for reading and writing under id 6, and its answer: fh 1.
-const OPEN: Pair = (
+/// OPEN of node 2 for reading and writing under id 6, and its answer: fh 1.
+pub const OPEN: Pair = (
     "30000000 0e000000 0600000000000000 0200000000000000 e8030000 e8030000 4d000000 00000000
     02000000 00000000",
     "20000000 00000000 0600000000000000 0100000000000000 00000000 00000000",
 );
 
-// Row write-bytes: WRITE `one` at 0 under id 8, and its answer.
-const WRITE: Pair = (
+/// Row write-bytes: WRITE `one` at 0 under id 8, and its answer.
+pub const WRITE: Pair = (
     "53000000 10000000 0800000000000000 0200000000000000 e8030000 e8030000 4d000000 00000000
     0100000000000000 0*8 03000000 00000000 0*8 02000000 00000000 6f6e65",
     "18000000 00000000 0800000000000000 03000000 00000000",
@@ -167,7 +167,7 @@ pub(crate) fn first_questions() -> [Request<'static>; 4] {
 }
 
 /// How many nodes, handles and records a store holds.
-#[derive(Clone, Copy, PartialEq, Eq, Debug)]
+#[derive(Clone, Copy, PartialEq, Eq)]
 pub struct Held {
     pub nodes: u64,
     pub handles: u64,

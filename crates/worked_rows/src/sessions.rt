@@ -1,32 +1,25 @@
 //! The rows that a session over a keeper makes.
 use crate::hex::hex;
 use crate::keepers::{AT_1000, TreeKeeper, held_in, new_keeper};
-use crate::messages::{Ask, Reply, asks, replies};
 use crate::run::Held;
 use crate::texts::{INIT_AGREED, NOTICE};
 use fuse_keeper::{Keeper, StoreFault};
-use fuse_request::FrameFault;
-use fuse_session::{
-    Arrival, Ended, Fixed, MemoryPort, Outcome, ResumeFault, Served, SessionCounts, resume, serve,
-};
+use fuse_session::{Arrival, Ended, Fixed, MemoryPort, Outcome, ResumeFault, resume, serve};
 use fuse_wire::Moment;
 use std::alloc::{AllocError, Global};
 
 mod allocations;
 mod clocks;
 mod devices;
-mod moments;
+mod mounts;
 mod ports;
-mod resuming;
 mod running;
-mod settled;
 
-// The pieces in which bytes come, what the port answers to each send, and whether it confirms.
+// The pieces in which bytes come, and what the port answers to each send.
 #[derive(Drop)]
 struct Peer {
     arrivals: Vec<Arrival>,
     outcomes: Vec<Outcome>,
-    confirms: bool,
 }
 
 // A peer that sends all in one piece and takes all.
@@ -34,7 +27,6 @@ fn plain_peer(alloc: Global) -> Peer {
     Peer {
         arrivals: Vec::new(alloc),
         outcomes: Vec::new(alloc),
-        confirms: false,
     }
 }
 
@@ -55,76 +47,48 @@ fn plain(alloc: Global, input: Vec<u8>, wanted: Vec<u8>) -> Session {
     }
 }
 
-// A plain session of these messages, to which these answers are wanted.
-fn plain_of(alloc: Global, asked: &[Ask], answered: &[Reply]) -> Result<Session, AllocError> {
-    let input = asks(alloc, asked)?;
-    let wanted = replies(alloc, answered)?;
-    Ok(plain(alloc, input, wanted))
-}
-
-// How a session or the asking before it ended. Of the faults of a store, want of memory and damage
-// are told.
-#[derive(Clone, Copy, Debug, PartialEq, Eq)]
+// How a session or the asking before it ended, as far as it matters here.
+#[derive(Clone, Copy, PartialEq, Eq)]
 enum Told {
     End,
-    Destroyed,
-    Turns,
-    Frame(FrameFault),
-    ZeroUnique { at: u64 },
     PortFailed,
     StoreMemory,
-    StoreDamaged,
-    Store,
     Memory,
-    NotOffered,
     // The keeper had failed before.
     Failed,
+    Other,
 }
 
 fn told_of_store(fault: &StoreFault) -> Told {
     match fault {
         StoreFault::Memory => Told::StoreMemory,
-        StoreFault::Damaged => Told::StoreDamaged,
-        _ => Told::Store,
+        _ => Told::Other,
     }
 }
 
 fn told_of(ended: &Ended) -> Told {
     match ended {
         Ended::End => Told::End,
-        Ended::Destroyed => Told::Destroyed,
-        Ended::Turns => Told::Turns,
-        Ended::Frame(fault) => Told::Frame(*fault),
-        Ended::ZeroUnique { at } => Told::ZeroUnique { at: *at },
         Ended::PortFailed => Told::PortFailed,
         Ended::Store(fault) => told_of_store(fault),
         Ended::Memory => Told::Memory,
+        _ => Told::Other,
     }
 }
 
 fn told_of_resume(fault: &ResumeFault) -> Told {
     match fault {
-        ResumeFault::NotOffered => Told::NotOffered,
+        ResumeFault::NotOffered => Told::Other,
         ResumeFault::PortFailed => Told::PortFailed,
         ResumeFault::Store(fault) => told_of_store(fault),
     }
 }
 
-// The counts of a session, if they are told.
-fn counts_of(served: &Served) -> SessionCounts {
-    match served.counts {
-        Some(counts) => counts,
-        None => SessionCounts::NONE,
-    }
-}
-
-// What a session did: how it ended, its counts, how many bytes it sent, where these are a front of
-// what was wanted, and how much the keeper holds then. Of numbers alone, so that a test has nothing
-// to drop.
-#[derive(Clone, Copy, Debug, PartialEq, Eq)]
+// What a session did: how it ended, how many bytes it sent, where these are a front of what was
+// wanted, and how much the keeper holds then. Of numbers alone, so that a test has nothing to drop.
+#[derive(Clone, Copy)]
 struct Seen {
     ended: Told,
-    counts: SessionCounts,
     sent: Option<usize>,
     wanted: usize,
     held: Option<Held>,
@@ -133,7 +97,7 @@ struct Seen {
 impl Seen {
     // It ended so, just what was wanted was sent, and this is held.
     fn is(&self, ended: Told, held: Held) -> bool {
-        self.ended == ended && self.sent == Some(self.wanted) && self.held == Some(held)
+        self.is_cut(ended, self.wanted, held)
     }
 
     // It ended so, just so many bytes of what was wanted were sent, and this is held.
@@ -145,7 +109,6 @@ impl Seen {
 // Nothing was served, since the keeper had failed before.
 const FAILED: Seen = Seen {
     ended: Told::Failed,
-    counts: SessionCounts::NONE,
     sent: None,
     wanted: 0,
     held: None,
@@ -166,17 +129,10 @@ fn serve_on(alloc: Global, keeper: &mut TreeKeeper, session: Session) -> Seen {
         return FAILED;
     }
     let peer = session.peer;
-    let mut port = MemoryPort::new(
-        alloc,
-        session.input,
-        peer.arrivals,
-        peer.outcomes,
-        peer.confirms,
-    );
+    let mut port = MemoryPort::new(alloc, session.input, peer.arrivals, peer.outcomes, false);
     let served = serve(alloc, keeper, &mut port, &mut Fixed(AT_1000), 1000);
     Seen {
         ended: told_of(&served.ended),
-        counts: counts_of(&served),
         sent: sent_of(port.sent(), session.wanted.as_slice()),
         wanted: session.wanted.len(),
         held: held_in(keeper),
@@ -189,34 +145,17 @@ fn resume_on(alloc: Global, keeper: &mut TreeKeeper, session: Session, now: Mome
         return FAILED;
     }
     let peer = session.peer;
-    let mut port = MemoryPort::new(
-        alloc,
-        session.input,
-        peer.arrivals,
-        peer.outcomes,
-        peer.confirms,
-    );
-    let (ended, counts) = match resume(keeper, &mut port) {
-        Ok(()) => {
-            let served = serve(alloc, keeper, &mut port, &mut Fixed(now), 1000);
-            (told_of(&served.ended), counts_of(&served))
-        }
-        Err(fault) => (told_of_resume(&fault), SessionCounts::NONE),
+    let mut port = MemoryPort::new(alloc, session.input, peer.arrivals, peer.outcomes, false);
+    let ended = match resume(keeper, &mut port) {
+        Ok(()) => told_of(&serve(alloc, keeper, &mut port, &mut Fixed(now), 1000).ended),
+        Err(fault) => told_of_resume(&fault),
     };
     Seen {
         ended,
-        counts,
         sent: sent_of(port.sent(), session.wanted.as_slice()),
         wanted: session.wanted.len(),
         held: held_in(keeper),
     }
-}
-
-// What follows an opening: the notice is sent, and then these answers.
-fn resumed_of(alloc: Global, asked: &[Ask], answered: &[Reply]) -> Result<Session, AllocError> {
-    let mut wanted = NOTICE.to_vec(alloc)?;
-    wanted.extend_from_slice(replies(alloc, answered)?.as_slice())?;
-    Ok(plain(alloc, asks(alloc, asked)?, wanted))
 }
 
 // A new store in which this INIT was answered.
@@ -225,10 +164,4 @@ fn begun(alloc: Global, init: &str) -> Result<TreeKeeper, StoreFault> {
     let session = plain(alloc, hex(alloc, init)?, Vec::new(alloc));
     serve_on(alloc, &mut keeper, session);
     Ok(keeper)
-}
-
-// A session behind row init-agreed: what most rows begin with.
-fn serve_begun(alloc: Global, session: Session) -> Result<Seen, StoreFault> {
-    let mut keeper = begun(alloc, INIT_AGREED)?;
-    Ok(serve_on(alloc, &mut keeper, session))
 }

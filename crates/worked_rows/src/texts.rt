@@ -1,20 +1,23 @@
 //! Messages and answers of the rows that several tests name.
 
-/// Rows init-agreed, with its answer, and init-short.
+/// Row init-agreed, with its answer.
 pub const INIT_AGREED: &str = "68000000 1a000000 0200000000000000 0*8 0*16
     07000000 28000000 00000200 21200040 80000000 0*44";
 
 pub const AGREED: &str = "50000000 00000000 0200000000000000
     07000000 28000000 00000200 21000040 0c000900 00000200 01000000 00000000 80000000 00000000 0*24";
 
-pub const INIT_SHORT: &str = "38000000 1a000000 0200000000000000 0*8 0*16
-    07000000 1f000000 00000200 21000000";
-
 /// Row missing-lookup: LOOKUP `hello` under id 4, and its answer.
 pub const LOOKUP_HELLO: &str = "2e000000 01000000 0400000000000000 0100000000000000
     e8030000 e8030000 4d000000 00000000 68656c6c6f00";
 
 pub const NOT_THERE: &str = "10000000 feffffff 0400000000000000";
+
+/// The same sent again.
+pub const LOOKUP_RESENT: &str = "2e000000 01000000 0400000000000080 0100000000000000
+    e8030000 e8030000 4d000000 00000000 68656c6c6f00";
+
+pub const NOT_THERE_BEFORE: &str = "10000000 feffffff 0400000000000080";
 
 /// Row resume-notice.
 pub const NOTICE: &[u8; 16] = b"\x10\0\0\0\x07\0\0\0\0\0\0\0\0\0\0\0";
@@ -39,14 +42,9 @@ pub const FIRST_ANSWERS: &str = "90000000 00000000 0600000000000000
     0200000000000000 0*8 0*8 e803000000000000 e803000000000000 e803000000000000 0*12
     ed410000 02000000 e8030000 e8030000 00000000 00100000 00000000";
 
-/// Row first-run: what MKDIR `a` is answered behind the 16 bytes of the header.
-pub const ENTRY_OF_A: &[u8] = b"\x02\0\0\0\0\0\0\0\0\0\0\0\0\0\0\0\
-    \x01\0\0\0\0\0\0\0\x01\0\0\0\0\0\0\0\0\0\0\0\0\0\0\0\
-    \x02\0\0\0\0\0\0\0\0\0\0\0\0\0\0\0\0\0\0\0\0\0\0\0\
-    \xe8\x03\0\0\0\0\0\0\xe8\x03\0\0\0\0\0\0\xe8\x03\0\0\0\0\0\0\0\0\0\0\0\0\0\0\
-    \0\0\0\0\xed\x41\0\0\x02\0\0\0\xe8\x03\0\0\xe8\x03\0\0\0\0\0\0\0\x10\0\0\0\0\0\0";
+/// MKDIR `a` under id 4 and MKDIR `b` under id 6.
+pub const MKDIR_A: &str = "32000000 09000000 0400000000000000 0100000000000000
+    e8030000 e8030000 4d000000 00000000 ed010000 12000000 6100";
 
-/// Row init-agreed: what INIT is answered behind the header.
-pub const INIT_OUT: &[u8] = b"\x07\0\0\0\x28\0\0\0\0\0\x02\0\x21\0\0\x40\
-    \x0c\0\x09\0\0\0\x02\0\x01\0\0\0\0\0\0\0\x80\0\0\0\0\0\0\0\0\0\0\0\0\0\0\0\
-    \0\0\0\0\0\0\0\0\0\0\0\0\0\0\0\0";
+pub const MKDIR_B: &str = "32000000 09000000 0600000000000000 0100000000000000
+    e8030000 e8030000 4d000000 00000000 ed010000 12000000 6200";

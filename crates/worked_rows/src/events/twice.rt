@@ -1,77 +1,42 @@
 //! Two lists of events in a row, in each of which the server dies.
 use super::*;
-use crate::messages::{ENOENT, RESENT, Reply, replies};
-use crate::texts::AGREED;
+use crate::run::holding;
+use crate::texts::{AGREED, MKDIR_A, MKDIR_B};
 use fuse_sim::drive_twice;
 
-// A message, its fate, and the answer that the kernel takes, if it takes one.
-type Answered = (Ask, Fate, Option<Reply>);
-
 // MKDIR `a` is committed before the server dies, and the answer to MKDIR `b` is lost.
-const FIRST: [Answered; 4] = [
-    (
-        Ask::Text(INIT_AGREED),
-        Fate::Answered,
-        Some(Reply::Text(AGREED)),
-    ),
-    (Ask::Mkdir(4, b'a'), Fate::DiedAfterCommit, None),
-    (
-        Ask::Mkdir(RESENT | 4, b'a'),
-        Fate::Answered,
-        Some(Reply::Entry(RESENT | 4, 2)),
-    ),
-    (Ask::Mkdir(6, b'b'), Fate::AnswerLost, None),
+const FIRST: [Step; 3] = [
+    (INIT_AGREED, Fate::Answered, AGREED),
+    (MKDIR_A, Fate::DiedAfterCommit, ""),
+    (MKDIR_B, Fate::AnswerLost, ""),
 ];
 
-// MKDIR `c` isn't committed before the server dies.
-const SECOND: [Answered; 4] = [
+// Both are sent again, so that `a` is node 2 and `b` node 3. MKDIR `c` under id 8 isn't committed
+// before the server dies.
+const SECOND: [Step; 3] = [
     (
-        Ask::Mkdir(RESENT | 6, b'b'),
+        "32000000 09000000 0400000000000080 0100000000000000 e8030000 e8030000 4d000000 00000000
+        ed010000 12000000 6100",
         Fate::Answered,
-        Some(Reply::Entry(RESENT | 6, 3)),
-    ),
-    (Ask::Mkdir(8, b'c'), Fate::DiedBeforeCommit, None),
-    (
-        Ask::Mkdir(RESENT | 8, b'c'),
-        Fate::Answered,
-        Some(Reply::Entry(RESENT | 8, 4)),
+        "90000000 00000000 0400000000000080 0200000000000000 0*8 0100000000000000 0100000000000000
+        0*8 0200000000000000 0*8 0*8 e803000000000000 e803000000000000 e803000000000000 0*12
+        ed410000 02000000 e8030000 e8030000 00000000 00100000 00000000",
     ),
     (
-        Ask::Lookup(10),
+        "32000000 09000000 0800000000000000 0100000000000000 e8030000 e8030000 4d000000 00000000
+        ed010000 12000000 6300",
+        Fate::DiedBeforeCommit,
+        "",
+    ),
+    (
+        "32000000 09000000 0600000000000080 0100000000000000 e8030000 e8030000 4d000000 00000000
+        ed010000 12000000 6200",
         Fate::Answered,
-        Some(Reply::Error(10, ENOENT)),
+        "90000000 00000000 0600000000000080 0300000000000000 0*8 0100000000000000 0100000000000000
+        0*8 0300000000000000 0*8 0*8 e803000000000000 e803000000000000 e803000000000000 0*12
+        ed410000 02000000 e8030000 e8030000 00000000 00100000 00000000",
     ),
 ];
-
-fn asked_in(alloc: Global, list: &[Answered]) -> Result<Vec<Event>, AllocError> {
-    let mut events = Vec::new(alloc);
-    for (ask, fate, _) in list {
-        push_steps(alloc, &mut events, &[(&[*ask], *fate)])?;
-    }
-    Ok(events)
-}
-
-fn wanted_of(alloc: Global, answer: &Option<Reply>) -> Result<Vec<u8>, AllocError> {
-    match answer {
-        Some(reply) => replies(alloc, &[*reply]),
-        None => Ok(Vec::new(alloc)),
-    }
-}
-
-// Whether these are the answers.
-fn are_answers(
-    alloc: Global,
-    outcomes: &[Option<Outcome>],
-    list: &[Answered],
-) -> Result<bool, AllocError> {
-    for (outcome, (_, _, answer)) in outcomes.iter().zip(list) {
-        let wanted = wanted_of(alloc, answer)?;
-        if !is_answer(outcome, wanted.as_slice()) {
-            return Ok(false);
-        }
-    }
-    Ok(outcomes.len() == list.len())
-}
 
 // The outcomes of both lists.
 type Both = Option<(Vec<Option<Outcome>>, Vec<Option<Outcome>>)>;
@@ -96,22 +61,22 @@ fn drive_both(
 fn are_right(alloc: Global, both: &Both) -> Result<bool, AllocError> {
     match both {
         Some((first, second)) => {
-            let right = are_answers(alloc, first.as_slice(), &FIRST)?;
-            Ok(right && are_answers(alloc, second.as_slice(), &SECOND)?)
+            let right = are_answered(alloc, first.as_slice(), &FIRST)?;
+            Ok(right && are_answered(alloc, second.as_slice(), &SECOND)?)
         }
         None => Ok(false),
     }
 }
 
-// Runs both over a new store: whether all answers are right, and whether the root, `a`, `b` and `c`
-// and five records are held then.
+// Runs both over a new store: whether all answers are right, and whether the root, `a` and `b` and
+// three records are held then.
 fn run(alloc: Global) -> Result<[bool; 2], StoreFault> {
-    let events = asked_in(alloc, &FIRST)?;
-    let more = asked_in(alloc, &SECOND)?;
+    let events = events_of(alloc, &FIRST)?;
+    let more = events_of(alloc, &SECOND)?;
     let mut keeper = new_keeper(alloc).ok();
     let both = drive_both(alloc, &mut keeper, events.as_slice(), more.as_slice());
     let held = held_of(&mut keeper);
-    Ok([are_right(alloc, &both)?, held == Some(holding(4, 0, 5))])
+    Ok([are_right(alloc, &both)?, held == Some(holding(3, 0, 3))])
 }
 
 #[test]

@@ -1,9 +1,11 @@
 //! Ports that fail, take a part, or tell that nobody waits.
 use super::running::{Grouping, put_pieces, resent_run, run, size_of_answers};
 use super::*;
-use crate::messages::{ENOENT, RESENT};
+use crate::hex::put_hex;
 use crate::run::{ALL_HELD, MESSAGES, held_after, holding};
-use crate::texts::{FIRST_ANSWERS, FIRST_RUN, LOOKUP_HELLO, NOT_THERE};
+use crate::texts::{
+    FIRST_ANSWERS, FIRST_RUN, LOOKUP_HELLO, LOOKUP_RESENT, NOT_THERE, NOT_THERE_BEFORE,
+};
 use fuse_keeper::Restart;
 
 // A row: its messages in one piece behind these arrivals, what is answered to each send, how many
@@ -89,14 +91,14 @@ fn session_of(alloc: Global, row: &Row) -> Result<Session, AllocError> {
         peer: Peer {
             arrivals: row.arrivals.to_vec(alloc)?,
             outcomes: row.outcomes.to_vec(alloc)?,
-            confirms: false,
         },
         wanted: hex(alloc, row.answers)?,
     })
 }
 
 fn is_right(alloc: Global, row: &Row) -> Result<bool, StoreFault> {
-    let seen = serve_begun(alloc, session_of(alloc, row)?)?;
+    let mut keeper = begun(alloc, INIT_AGREED)?;
+    let seen = serve_on(alloc, &mut keeper, session_of(alloc, row)?);
     let (nodes, records) = row.left;
     Ok(seen.is_cut(row.ended, row.sent, holding(nodes, 0, records)))
 }
@@ -120,22 +122,37 @@ const STOPS: Row = Row {
     left: (1, 2),
 };
 
-// Row send-stops: the session that stops, and the one behind it.
-fn stopped_and_resumed(alloc: Global) -> Result<(Seen, Seen), StoreFault> {
+// What follows an opening: the notice is sent, and then the answer to what is resent.
+fn resent_lookup(alloc: Global) -> Result<Session, AllocError> {
+    let mut wanted = NOTICE.to_vec(alloc)?;
+    put_hex(&mut wanted, NOT_THERE_BEFORE)?;
+    Ok(plain(alloc, hex(alloc, LOOKUP_RESENT)?, wanted))
+}
+
+// Whether the keeper, opened again, is asked for what is pending, serves this and holds that.
+fn resumes(alloc: Global, keeper: TreeKeeper, session: Session, held: Held) -> bool {
+    match keeper.restart() {
+        Ok(mut opened) => resume_on(alloc, &mut opened, session, AT_1000).is(Told::End, held),
+        Err(_) => false,
+    }
+}
+
+// Row send-stops: whether the session that stops is as it should be, and the one behind it.
+fn stopped_and_resumed(alloc: Global) -> Result<[bool; 2], StoreFault> {
     let stopping = session_of(alloc, &STOPS)?;
-    let asked = [Ask::Lookup(RESENT | 4)];
-    let resent = resumed_of(alloc, &asked, &[Reply::Error(RESENT | 4, ENOENT)])?;
+    let resent = resent_lookup(alloc)?;
     let mut keeper = begun(alloc, INIT_AGREED)?;
+    let held = holding(1, 0, 2);
     let stopped = serve_on(alloc, &mut keeper, stopping);
-    let mut opened = keeper.restart()?;
-    Ok((stopped, resume_on(alloc, &mut opened, resent, AT_1000)))
+    Ok([
+        stopped.is_cut(STOPS.ended, STOPS.sent, held),
+        resumes(alloc, keeper, resent, held),
+    ])
 }
 
 #[test]
 fn send_stops(rt: HostRuntime) -> Result<(), StoreFault> {
-    let (stopped, resumed) = stopped_and_resumed(rt.alloc())?;
-    assert!(rt; stopped.is_cut(STOPS.ended, STOPS.sent, holding(1, 0, 2)));
-    assert!(rt; resumed.is(Told::End, holding(1, 0, 2)));
+    assert_eq!(rt; stopped_and_resumed(rt.alloc())?, [true; 2]);
     Ok(())
 }
 
@@ -143,14 +160,12 @@ fn send_stops(rt: HostRuntime) -> Result<(), StoreFault> {
 // then. The store is opened again, what has no answer is resent, and the answers and the tree are
 // the same.
 fn is_served(alloc: Global, peer: Peer, sent: usize, done: usize) -> Result<bool, StoreFault> {
+    let session = run(alloc, peer)?;
+    let resent = resent_run(alloc, sent)?;
     let mut keeper = new_keeper(alloc)?;
-    let first = serve_on(alloc, &mut keeper, run(alloc, peer)?);
-    let mut opened = keeper.restart()?;
-    let again = resume_on(alloc, &mut opened, resent_run(alloc, sent)?, AT_1000);
-    Ok(
-        first.is_cut(Told::PortFailed, size_of_answers(sent), held_after(done))
-            && again.is(Told::End, ALL_HELD),
-    )
+    let first = serve_on(alloc, &mut keeper, session);
+    let cut = first.is_cut(Told::PortFailed, size_of_answers(sent), held_after(done));
+    Ok(cut && resumes(alloc, keeper, resent, ALL_HELD))
 }
 
 // So many messages come, and then a failure.
@@ -172,20 +187,29 @@ fn sends(alloc: Global, grouping: Grouping, before: usize) -> Result<Peer, Alloc
     Ok(peer)
 }
 
+// Whether all is well where the port fails behind so many messages received, and where it fails
+// behind so many answers sent.
+fn fails_behind(alloc: Global, grouping: Grouping, before: usize) -> Result<[bool; 2], StoreFault> {
+    let receives = receives(alloc, grouping, before)?;
+    let received = is_served(alloc, receives, before, before)?;
+    if before >= MESSAGES {
+        return Ok([received, true]);
+    }
+    let done = match grouping {
+        Grouping::Each => before + 1,
+        Grouping::All => MESSAGES,
+    };
+    let sends = sends(alloc, grouping, before)?;
+    Ok([received, is_served(alloc, sends, before, done)?])
+}
+
 // Row each-port-call: each receive in turn fails, and each send.
 #[test]
 fn each_port_call(rt: HostRuntime) -> Result<(), StoreFault> {
-    let alloc = rt.alloc();
     for before in 0..MESSAGES + 1 {
-        for (grouping, done) in [(Grouping::Each, before + 1), (Grouping::All, MESSAGES)] {
-            let receives = receives(alloc, grouping, before)?;
-            let right = is_served(alloc, receives, before, before)?;
-            assert!(rt; right, "receive behind {before}, {grouping:?}");
-            if before < MESSAGES {
-                let sends = sends(alloc, grouping, before)?;
-                let right = is_served(alloc, sends, before, done)?;
-                assert!(rt; right, "send behind {before}, {grouping:?}");
-            }
+        for grouping in [Grouping::Each, Grouping::All] {
+            let right = fails_behind(rt.alloc(), grouping, before)?;
+            assert_eq!(rt; right, [true; 2], "behind {before}, {grouping:?}");
         }
     }
     Ok(())

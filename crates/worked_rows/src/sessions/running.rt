@@ -1,7 +1,7 @@
 //! Sessions of the run.
 use super::*;
 use crate::hex::{mark_resent, put_hex};
-use crate::run::{MESSAGES, QUESTIONS, RUN};
+use crate::run::{MESSAGES, Pair, QUESTIONS, RUN};
 
 // How many bytes each message of the run has, and each answer.
 const LENGTHS: [usize; MESSAGES] = [104, 58, 48, 83, 80, 50, 52, 64];
@@ -61,10 +61,7 @@ pub(crate) fn answers_in(sent: usize) -> Option<usize> {
 pub(crate) fn run(alloc: Global, peer: Peer) -> Result<Session, AllocError> {
     let mut input = Vec::new(alloc);
     let mut wanted = Vec::new(alloc);
-    for (asked, answer) in RUN {
-        put_hex(&mut input, asked)?;
-        put_hex(&mut wanted, answer)?;
-    }
+    put_pairs(&mut input, &mut wanted, &RUN)?;
     Ok(Session {
         input,
         peer,
@@ -80,9 +77,13 @@ fn put_resent(out: &mut Vec<u8>, text: &str) -> Result<(), AllocError> {
     Ok(())
 }
 
-// Appends the questions and their answers.
-fn put_questions(input: &mut Vec<u8>, wanted: &mut Vec<u8>) -> Result<(), AllocError> {
-    for (asked, answer) in QUESTIONS {
+/// Appends messages and their answers.
+pub(crate) fn put_pairs(
+    input: &mut Vec<u8>,
+    wanted: &mut Vec<u8>,
+    pairs: &[Pair],
+) -> Result<(), AllocError> {
+    for (asked, answer) in pairs {
         put_hex(input, asked)?;
         put_hex(wanted, answer)?;
     }
@@ -98,6 +99,6 @@ pub(crate) fn resent_run(alloc: Global, answered: usize) -> Result<Session, Allo
         put_resent(&mut input, asked)?;
         put_resent(&mut wanted, answer)?;
     }
-    put_questions(&mut input, &mut wanted)?;
+    put_pairs(&mut input, &mut wanted, &QUESTIONS)?;
     Ok(plain(alloc, input, wanted))
 }

@@ -1,5 +1,5 @@
 //! What is counted in sessions, in a mount that begins, and in events at which the server dies.
-use crate::{CountingKeeper, Tally};
+use counting_keeper::{CountingKeeper, Tally};
 use fuse_keeper::{Keeper, Restart, StoreFault};
 use fuse_session::{Arrival, Fixed, MemoryPort, serve};
 use fuse_sim::{Event, Fate, drive};
@@ -61,8 +61,12 @@ fn reopened(keeper: Counted) -> Result<Counted, StoreFault> {
     keeper.restart()
 }
 
-fn has_record(keeper: &mut Counted, id: u64) -> Result<bool, StoreFault> {
-    Ok(keeper.answer_of(Id(id))?.is_some())
+fn has_record(keeper: &mut Counted, id: u64) -> bool {
+    matches!(keeper.answer_of(Id(id)), Ok(Some(_)))
+}
+
+fn begins_mount(keeper: &mut Counted) -> bool {
+    keeper.begin_mount().is_ok()
 }
 
 // Each message in a group of its own, of which the third isn't committed.
@@ -74,38 +78,38 @@ fn first(alloc: Global) -> Result<Counted, StoreFault> {
 
 // One group, in which one comes again and one is new. Then the next mount. What only looks isn't
 // counted.
-fn second(alloc: Global, keeper: &mut Counted) -> Result<[bool; 2], StoreFault> {
+fn second(alloc: Global, keeper: &mut Counted) -> Result<bool, StoreFault> {
     serve_on(alloc, keeper, &[UNIQUE_RESEND | 6, 8], 2 * MESSAGE)?;
-    let recorded = has_record(keeper, 8)?;
-    keeper.begin_mount()?;
-    Ok([recorded, !has_record(keeper, 8)?])
+    Ok(has_record(keeper, 8) && begins_mount(keeper) && !has_record(keeper, 8))
 }
 
-fn sessions(alloc: Global) -> Result<([Tally; 2], [bool; 2]), StoreFault> {
+const BEFORE: Tally = Tally {
+    groups: 2,
+    requests: 2,
+    faults: 1,
+    ..Tally::NONE
+};
+
+const BEHIND: Tally = Tally {
+    groups: 3,
+    requests: 4,
+    repeated: 1,
+    mounts: 1,
+    faults: 1,
+    openings: 1,
+};
+
+fn sessions(alloc: Global) -> Result<[bool; 3], StoreFault> {
     let keeper = first(alloc)?;
-    let before = keeper.tally();
+    let before = keeper.tally() == BEFORE;
     let mut opened = reopened(keeper)?;
     let looks = second(alloc, &mut opened)?;
-    Ok(([before, opened.tally()], looks))
+    Ok([before, looks, opened.tally() == BEHIND])
 }
 
 #[test]
 fn sessions_are_counted(rt: HostRuntime) -> Result<(), StoreFault> {
-    let before = Tally {
-        groups: 2,
-        requests: 2,
-        faults: 1,
-        ..Tally::NONE
-    };
-    let behind = Tally {
-        groups: 3,
-        requests: 4,
-        repeated: 1,
-        mounts: 1,
-        faults: 1,
-        openings: 1,
-    };
-    assert_eq!(rt; sessions(rt.alloc())?, ([before, behind], [true; 2]));
+    assert_eq!(rt; sessions(rt.alloc())?, [true; 3]);
     Ok(())
 }
 
@@ -131,30 +135,37 @@ fn events(alloc: Global) -> Result<Vec<Event>, AllocError> {
     Ok(events)
 }
 
-// What was counted, and how often the keeper below was opened again.
-fn driven(alloc: Global) -> Result<Option<(Tally, u64)>, StoreFault> {
-    let events = events(alloc)?;
-    let keeper = begun(alloc, 8)?;
-    if keeper.failed() {
-        return Ok(None);
-    }
-    let mut slot = Some(keeper);
-    if drive(alloc, &mut slot, events.as_slice()).is_err() {
-        return Ok(None);
-    }
-    Ok(slot.map(|left| (left.tally(), left.into_inner().openings())))
+fn is_driven(alloc: Global, keeper: &mut Option<Counted>, events: &[Event]) -> bool {
+    let going = match keeper {
+        Some(inner) => !inner.failed(),
+        None => false,
+    };
+    going && drive(alloc, keeper, events).is_ok()
 }
 
 // Three groups: 4 and 6, the repeat of 6, and 8.
+const DRIVEN: Tally = Tally {
+    groups: 3,
+    requests: 4,
+    repeated: 1,
+    openings: 2,
+    ..Tally::NONE
+};
+
+// Whether this was counted, and the keeper below was opened again so often.
+fn is_counted(keeper: Counted) -> bool {
+    keeper.tally() == DRIVEN && keeper.into_inner().openings() == 2
+}
+
+fn driven(alloc: Global) -> Result<bool, StoreFault> {
+    let events = events(alloc)?;
+    let mut keeper = Some(begun(alloc, 8)?);
+    let run = is_driven(alloc, &mut keeper, events.as_slice());
+    Ok(run && keeper.is_some_and(is_counted))
+}
+
 #[test]
 fn events_are_counted(rt: HostRuntime) -> Result<(), StoreFault> {
-    let wanted = Tally {
-        groups: 3,
-        requests: 4,
-        repeated: 1,
-        openings: 2,
-        ..Tally::NONE
-    };
-    assert_eq!(rt; driven(rt.alloc())?, Some((wanted, 2)));
+    assert!(rt; driven(rt.alloc())?);
     Ok(())
 }

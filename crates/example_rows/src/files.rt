@@ -1,0 +1,117 @@
+//! Sessions over the three files, and mounts with crashes.
+
+use crate::hex::put_hex;
+use fuse_keeper::{Keeper, PlainKeeper};
+use fuse_session::{Ended, Fixed, MemoryPort, SessionCounts};
+use fuse_wire::Moment;
+use std::alloc::{AllocError, Global};
+use std::test::*;
+use texts::*;
+use three_files::{ThreeFiles, never_changes, serve_files};
+
+mod mounts;
+mod texts;
+
+const NOW: Moment = Moment {
+    secs: 1000,
+    nanos: 0,
+};
+
+// What comes in one session, and what is to be sent for it.
+#[derive(Drop)]
+struct Session {
+    input: Vec<u8>,
+    wanted: Vec<u8>,
+}
+
+fn session_of(alloc: Global, pairs: &[Pair]) -> Result<Session, AllocError> {
+    let mut session = Session {
+        input: Vec::new(alloc),
+        wanted: Vec::new(alloc),
+    };
+    for (asked, answer) in pairs {
+        put_hex(&mut session.input, asked)?;
+        put_hex(&mut session.wanted, answer)?;
+    }
+    Ok(session)
+}
+
+// What is counted of so many messages, some of them repeated, all of them kept.
+fn counts_of(kept: u64, repeated: u64) -> SessionCounts {
+    SessionCounts {
+        messages: kept,
+        kept,
+        repeated,
+        ..SessionCounts::NONE
+    }
+}
+
+// A session of these, in one piece: whether it ended where its bytes do, just what was wanted was
+// sent, and just this was counted.
+fn serves(
+    alloc: Global,
+    keeper: &mut PlainKeeper<ThreeFiles>,
+    pairs: &[Pair],
+    counts: SessionCounts,
+) -> Result<bool, AllocError> {
+    let session = session_of(alloc, pairs)?;
+    if keeper.failed() {
+        return Ok(false);
+    }
+    let arrivals = Vec::new(alloc);
+    let outcomes = Vec::new(alloc);
+    let mut port = MemoryPort::new(alloc, session.input, arrivals, outcomes, false);
+    let served = serve_files(alloc, keeper, &mut port, &mut Fixed(NOW), 1000);
+    let is_end = matches!(served.ended, Ended::End);
+    Ok(is_end && port.sent() == session.wanted.as_slice() && served.counts == Some(counts))
+}
+
+// The same over new files.
+fn serves_new(alloc: Global, pairs: &[Pair], counts: SessionCounts) -> Result<bool, Fail> {
+    let mut keeper: PlainKeeper<ThreeFiles> = PlainKeeper::new(alloc, NOW)?;
+    Ok(serves(alloc, &mut keeper, pairs, counts)?)
+}
+
+// Files are read, nothing is changed, what is refused, and before INIT. The last of those that
+// change something is a resend, and gets the same bytes with the bit of a resend.
+#[test]
+fn sessions(rt: HostRuntime) -> Result<(), Fail> {
+    let alloc = rt.alloc();
+    let right = [
+        serves_new(alloc, &READING, counts_of(9, 0))?,
+        serves_new(alloc, &CHANGING, counts_of(11, 1))?,
+        serves_new(alloc, &REFUSED, counts_of(16, 0))?,
+        serves_new(alloc, &BEFORE_INIT, counts_of(2, 0))?,
+    ];
+    assert_eq!(rt; right, [true; 4]);
+    Ok(())
+}
+
+fn begin_mount(keeper: &mut PlainKeeper<ThreeFiles>) -> bool {
+    keeper.begin_mount().is_ok()
+}
+
+// Whether there are four nodes and no handle.
+fn holds_files(keeper: &mut PlainKeeper<ThreeFiles>) -> bool {
+    matches!(keeper.counts(), Ok(counts) if counts.nodes == 4 && counts.handles == 0)
+}
+
+// A new mount has agreed on nothing yet, and the files are those of before.
+fn two_mounts(alloc: Global) -> Result<[bool; 4], Fail> {
+    let mut keeper: PlainKeeper<ThreeFiles> = PlainKeeper::new(alloc, NOW)?;
+    let first = serves(alloc, &mut keeper, &CHANGING, counts_of(11, 1))?;
+    let begun = begin_mount(&mut keeper);
+    let again = serves(alloc, &mut keeper, &BEFORE_INIT, counts_of(2, 0))?;
+    Ok([first, begun, again, holds_files(&mut keeper)])
+}
+
+#[test]
+fn mounted_again(rt: HostRuntime) -> Result<(), Fail> {
+    assert_eq!(rt; two_mounts(rt.alloc())?, [true; 4]);
+    Ok(())
+}
+
+#[test]
+fn laws() {
+    never_changes();
+}
