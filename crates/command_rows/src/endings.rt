@@ -32,14 +32,18 @@ const OF_STREAMS: [(Ending, u8, &str); 7] = [
     (Ending::ScriptLine { line: 3 }, 1, "script: line 3"),
 ];
 
-const OTHERS: [(Ending, u8, &str); 10] = [
+const OTHERS: [(Ending, u8, &str); 14] = [
     (Ending::Usage, 2, ""),
     (Ending::Modes, 2, "usage: one of --fresh and --resume"),
     (Ending::Sql, 3, "store: Sql"),
     (Ending::NotAStore, 3, "store: NotAStore"),
     (Ending::Version(7), 3, "store: Version(7)"),
     (Ending::Damaged, 3, "store: Damaged"),
+    (Ending::Busy, 3, "store: Busy"),
     (Ending::NotOffered, 3, "resume: NotOffered"),
+    (Ending::NoSuchPath, 3, "path: NoSuchPath"),
+    (Ending::NotDirectory, 3, "path: NotDirectory"),
+    (Ending::NotFile, 3, "path: NotFile"),
     (Ending::PortFailed, 4, "port: failed"),
     (Ending::PortTurns, 4, "port: turns"),
     (Ending::Memory, 5, "memory"),
