@@ -29,6 +29,7 @@ SAMPLE = 23
 
 REFUSALS = re.compile(r"store: NotAStore|store: Version\(\d+\)")
 FAULTS = re.compile(r"store: (Sql|Damaged|NotAStore|Version\(\d+\))|resume: NotOffered")
+NONE_THERE = re.compile(r"path: (NoSuchPath|NotDirectory|NotFile)")
 COUNTS = re.compile(r"served messages=\d+ kept=\d+ repeated=\d+ bare=\d+ silent=\d+ interrupts=\d+")
 HEX = re.compile(rb"(?:[0-9a-f]{2})+")
 
@@ -77,6 +78,17 @@ def wrong_of(ran, words, wanted):
     if ran.status == 3 and FAULTS.fullmatch(line):
         return None
     return f"status {ran.status}, '{line[:200]}'"
+
+
+def wrong_look(ran, found, refused):
+    """What is wrong with a look that ended by this line, at a file that is refused by that one, or None."""
+    if ran.status is None:
+        return f"didn't end within {SECONDS} seconds"
+    if refused and refused != found:
+        return f"'{found[:200]}', where opening says '{refused}'"
+    if (ran.status, found) == (0, "") or ran.status == 3 and (FAULTS.fullmatch(found) or NONE_THERE.fullmatch(found)):
+        return None
+    return f"status {ran.status}, '{found[:200]}'"
 
 
 def rows_of(folder):
@@ -166,6 +178,18 @@ class Try:
                     self.run("replay", [message], False)
             at += GROUP
 
+    def look(self, line):
+        """Looks at what is stored: what opening refuses by this line, looking refuses by the same, and no byte changes."""
+        self.place()
+        before = snapshot(self.folder)
+        for words in (["store", self.path], ["ls", self.path, "a/b"], ["cat", self.path, "f"]):
+            ran = program.run(words, b"", SECONDS)
+            found = line_of(ran)
+            wrong = wrong_look(ran, found, line)
+            if not wrong and before != snapshot(self.folder):
+                wrong = "looking changed the file"
+            self.note(" ".join(words[:1] + words[2:]), ran, wrong, [])
+
     def serve(self, mode, messages):
         """A mount that begins, or one that goes on."""
         self.place()
@@ -188,6 +212,7 @@ class Try:
             self.told.wrong.append(f"'{line}', where '{self.hostile.wanted}' is right")
         if not line:
             self.replay(messages_of(self.path, False))
+        self.look("store: NotAStore" if self.hostile.kind == "empty" else line)
         self.place()
         readable = os.path.isfile(self.path)
         self.serve("fresh", messages_of(self.path, True) if readable else [])

@@ -37,7 +37,7 @@ fn of_streams() -> [Row; 7] {
     ]
 }
 
-fn others() -> [Row; 10] {
+fn others() -> [Row; 14] {
     [
         (Ending::Usage, 2, ""),
         (Ending::Modes, 2, "usage: one of --fresh and --resume"),
@@ -45,7 +45,11 @@ fn others() -> [Row; 10] {
         (Ending::NotAStore, 3, "store: NotAStore"),
         (Ending::Version(7), 3, "store: Version(7)"),
         (Ending::Damaged, 3, "store: Damaged"),
+        (Ending::Busy, 3, "store: Busy"),
         (Ending::NotOffered, 3, "resume: NotOffered"),
+        (Ending::NoSuchPath, 3, "path: NoSuchPath"),
+        (Ending::NotDirectory, 3, "path: NotDirectory"),
+        (Ending::NotFile, 3, "path: NotFile"),
         (Ending::PortFailed, 4, "port: failed"),
         (Ending::PortTurns, 4, "port: turns"),
         (Ending::Memory, 5, "memory"),

@@ -64,6 +64,43 @@ fn words_of_looks(rt: HostRuntime) -> Result<(), Fail> {
 }
 
 #[test]
+fn words_of_stores(rt: HostRuntime) -> Result<(), Fail> {
+    let words = ["fusekeep", "store", "a.store"];
+    let run = parse(rt.alloc(), words.as_slice())?;
+    assert_eq!(rt; run, Run::Store { file: "a.store" });
+    assert_eq!(rt; run.input(), "a.store");
+    let words = ["fusekeep", "ls", "a.store"];
+    let run = parse(rt.alloc(), words.as_slice())?;
+    let top = Run::List {
+        file: "a.store",
+        path: "/",
+    };
+    assert_eq!(rt; run, top);
+    let words = ["fusekeep", "ls", "a.store", "a/b"];
+    let run = parse(rt.alloc(), words.as_slice())?;
+    let below = Run::List {
+        file: "a.store",
+        path: "a/b",
+    };
+    assert_eq!(rt; run, below);
+    Ok(())
+}
+
+#[test]
+fn words_of_cat(rt: HostRuntime) -> Result<(), Fail> {
+    let words = ["fusekeep", "cat", "a.store", "a/f"];
+    let run = parse(rt.alloc(), words.as_slice())?;
+    let file = Run::Cat {
+        file: "a.store",
+        path: "a/f",
+    };
+    assert_eq!(rt; run, file);
+    let words = ["fusekeep", "cat", "a.store"];
+    assert!(rt; parse(rt.alloc(), words.as_slice()).is_err());
+    Ok(())
+}
+
+#[test]
 fn words_of_serving(rt: HostRuntime) -> Result<(), Fail> {
     let words = [
         "fusekeep", "serve", "--db", "a.store", "--fresh", "--at", "7",

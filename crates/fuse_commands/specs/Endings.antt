@@ -8,7 +8,8 @@ use Rattle.fuse_session.specs.declared.ended.Ended.{Ended}
 use Rattle.fuse_session.specs.declared.ended.Ended.TheVariants as session
 use Rattle.fuse_commands.specs.declared.ending.Ending.{Ending}
 use Rattle.fuse_commands.specs.declared.ending.Ending.TheVariants.{Done, Short, TooLong, Cut, ZeroUnique, Malformed, ScriptLine, Usage, Sql, NotAStore, Version}
-use Rattle.fuse_commands.specs.declared.ending.Ending.TheVariants.{Modes, Damaged, NotOffered, PortFailed, PortTurns, Memory}
+use Rattle.fuse_commands.specs.declared.ending.Ending.TheVariants.{Modes, Damaged, Busy, NotOffered, PortFailed, PortTurns, Memory}
+use Rattle.fuse_commands.specs.declared.ending.Ending.TheVariants.{NoSuchPath, NotDirectory, NotFile}
 
 abbrev pub status_of : Ending → ℕ
 status_of Done = 0
@@ -24,7 +25,11 @@ status_of Sql = 3
 status_of NotAStore = 3
 status_of (Version _) = 3
 status_of Damaged = 3
+status_of Busy = 3
 status_of NotOffered = 3
+status_of NoSuchPath = 3
+status_of NotDirectory = 3
+status_of NotFile = 3
 status_of PortFailed = 4
 status_of PortTurns = 4
 status_of Memory = 5
@@ -53,7 +58,11 @@ line_of Sql = Some (codes "store: Sql")
 line_of NotAStore = Some (codes "store: NotAStore")
 line_of (Version n) = Some (codes "store: Version(" ++ (decimal n ++ codes ")"))
 line_of Damaged = Some (codes "store: Damaged")
+line_of Busy = Some (codes "store: Busy")
 line_of NotOffered = Some (codes "resume: NotOffered")
+line_of NoSuchPath = Some (codes "path: NoSuchPath")
+line_of NotDirectory = Some (codes "path: NotDirectory")
+line_of NotFile = Some (codes "path: NotFile")
 line_of PortFailed = Some (codes "port: failed")
 line_of PortTurns = Some (codes "port: turns")
 line_of Memory = Some (codes "memory")

@@ -22,6 +22,12 @@ const SERVE: &str = "serve";
 
 const SIMULATE: &str = "simulate";
 
+const STORE: &str = "store";
+
+const LIST: &str = "ls";
+
+const CAT: &str = "cat";
+
 const AT: &str = "at";
 
 const DB: &str = "db";
@@ -35,6 +41,11 @@ const FILE: &str = "file";
 const STREAM: &str = "stream";
 
 const SCRIPT: &str = "script";
+
+const PATH: &str = "path";
+
+/// The path of the directory at the top of a store.
+const TOP: &str = "/";
 
 const STREAM_HELP: &str = "The file of the stream, or - for standard input";
 
@@ -67,10 +78,24 @@ pub enum Run<'a> {
     Simulate {
         script: &'a str,
     },
+    /// To tell what the store of a file holds.
+    Store {
+        file: &'a str,
+    },
+    /// To list a directory of the store of a file.
+    List {
+        file: &'a str,
+        path: &'a str,
+    },
+    /// To print a file of the store of a file.
+    Cat {
+        file: &'a str,
+        path: &'a str,
+    },
 }
 
 impl<'a> Run<'a> {
-    /// The file of the input, or `STANDARD_INPUT`.
+    /// The file of the input, or `STANDARD_INPUT`; of what only looks at a store the file of that.
     pub fn input(&self) -> &'a str
         ensures { result.now ≡ input_of self.now }
     {
@@ -79,6 +104,7 @@ impl<'a> Run<'a> {
             Run::Replay { stream, .. } => stream,
             Run::Serve { .. } => STANDARD_INPUT,
             Run::Simulate { script } => script,
+            Run::Store { file } | Run::List { file, .. } | Run::Cat { file, .. } => file,
         }
     }
 }
@@ -179,8 +205,49 @@ fn simulate_command<'a>(alloc: Global) -> Result<Command<'a>, AllocError> {
         .arg(needed_argument(alloc, SCRIPT, "SCRIPT", help))
 }
 
+// A command that only looks at the store of one file.
+fn look_command<'a>(
+    alloc: Global,
+    name: &'static str,
+    about: &'static str,
+    example: &'static str,
+) -> Result<Command<'a>, AllocError> {
+    let file = needed_argument(alloc, FILE, "FILE", "The file of the store");
+    Command::new(alloc, name)
+        .about(about)
+        .after_help(example)
+        .arg(file)
+}
+
+fn store_command<'a>(alloc: Global) -> Result<Command<'a>, AllocError> {
+    let about = "Tells what a store holds, without a mount";
+    look_command(alloc, STORE, about, "Example:\n  fusekeep store notes.store")
+}
+
+fn list_command<'a>(alloc: Global) -> Result<Command<'a>, AllocError> {
+    let about = "Lists a directory of a store, without a mount";
+    let help = "The path of the directory, without it that at the top";
+    let path = needed_argument(alloc, PATH, "PATH", help).required(false);
+    look_command(alloc, LIST, about, "Example:\n  fusekeep ls notes.store a")?.arg(path)
+}
+
+fn cat_command<'a>(alloc: Global) -> Result<Command<'a>, AllocError> {
+    let about = "Prints a file of a store, without a mount";
+    let example = "Example:\n  fusekeep cat notes.store a/readme.txt >readme.txt";
+    let path = needed_argument(alloc, PATH, "PATH", "The path of the file");
+    look_command(alloc, CAT, about, example)?.arg(path)
+}
+
+// The commands that only look at a store.
+fn with_looks<'a>(alloc: Global, command: Command<'a>) -> Result<Command<'a>, AllocError> {
+    command
+        .subcommand(store_command(alloc)?)?
+        .subcommand(list_command(alloc)?)?
+        .subcommand(cat_command(alloc)?)
+}
+
 fn program_command<'a>(alloc: Global) -> Result<Command<'a>, AllocError> {
-    Command::new(alloc, "fusekeep")
+    let command = Command::new(alloc, "fusekeep")
         .about("Serves FUSE requests, with recovery by resends")
         .after_help("Example:\n  fusekeep check examples/first-run.stream")
         .subcommand_required(true)
@@ -188,7 +255,8 @@ fn program_command<'a>(alloc: Global) -> Result<Command<'a>, AllocError> {
         .subcommand(check_command(alloc)?)?
         .subcommand(replay_command(alloc)?)?
         .subcommand(serve_command(alloc)?)?
-        .subcommand(simulate_command(alloc)?)
+        .subcommand(simulate_command(alloc)?)?;
+    with_looks(alloc, command)
 }
 
 fn replay_run<'a>(found: &ArgMatches<'a>) -> Option<Run<'a>> {
@@ -215,6 +283,20 @@ fn serve_run<'a>(found: &ArgMatches<'a>) -> Option<Run<'a>> {
     })
 }
 
+fn list_run<'a>(found: &ArgMatches<'a>) -> Option<Run<'a>> {
+    Some(Run::List {
+        file: found.get_str(FILE)?,
+        path: found.get_str(PATH).unwrap_or(TOP),
+    })
+}
+
+fn cat_run<'a>(found: &ArgMatches<'a>) -> Option<Run<'a>> {
+    Some(Run::Cat {
+        file: found.get_str(FILE)?,
+        path: found.get_str(PATH)?,
+    })
+}
+
 fn run_of<'a>(matches: &ArgMatches<'a>) -> Option<Run<'a>> {
     match matches.subcommand()? {
         (DUMP, found) => Some(Run::Dump {
@@ -228,6 +310,11 @@ fn run_of<'a>(matches: &ArgMatches<'a>) -> Option<Run<'a>> {
         (SIMULATE, found) => Some(Run::Simulate {
             script: found.get_str(SCRIPT)?,
         }),
+        (STORE, found) => Some(Run::Store {
+            file: found.get_str(FILE)?,
+        }),
+        (LIST, found) => list_run(found),
+        (CAT, found) => cat_run(found),
         _ => None,
     }
 }

@@ -37,8 +37,16 @@ pub enum Ending {
     Version(u64),
     /// The store doesn't hold what a store holds.
     Damaged,
+    /// Another process has the store open.
+    Busy,
     /// By what INIT agreed on, the kernel doesn't know the notice that asks for a resend.
     NotOffered,
+    /// A directory of the store has no entry of a name of the path.
+    NoSuchPath,
+    /// What the path takes for a directory is none.
+    NotDirectory,
+    /// What the path leads to is no regular file.
+    NotFile,
     /// An input can't be read, or an output can't be written.
     PortFailed,
     /// The input goes on past the bound on reads.
@@ -112,7 +120,11 @@ impl Ending {
             | Ending::NotAStore
             | Ending::Version(_)
             | Ending::Damaged
-            | Ending::NotOffered => 3,
+            | Ending::Busy
+            | Ending::NotOffered
+            | Ending::NoSuchPath
+            | Ending::NotDirectory
+            | Ending::NotFile => 3,
             Ending::PortFailed | Ending::PortTurns => 4,
             Ending::Memory => 5,
         }
@@ -178,7 +190,11 @@ impl fmt::Display for FaultLine {
             Ending::NotAStore => f.write_str("store: NotAStore"),
             Ending::Version(version) => write!(f, "store: Version({version})"),
             Ending::Damaged => f.write_str("store: Damaged"),
+            Ending::Busy => f.write_str("store: Busy"),
             Ending::NotOffered => f.write_str("resume: NotOffered"),
+            Ending::NoSuchPath => f.write_str("path: NoSuchPath"),
+            Ending::NotDirectory => f.write_str("path: NotDirectory"),
+            Ending::NotFile => f.write_str("path: NotFile"),
             Ending::PortFailed => f.write_str("port: failed"),
             Ending::PortTurns => f.write_str("port: turns"),
             Ending::Memory => f.write_str("memory"),

@@ -1,7 +1,9 @@
 //! The program `fusekeep`: serves recorded streams of FUSE requests, and runs scripts of them.
 #![tactic(auto)]
 
+mod copied;
 mod serve;
+mod show;
 mod simulate;
 mod store;
 
@@ -16,6 +18,7 @@ use fuse_store::PlainTree;
 use fuse_table_keeper::open_or_create;
 use fuse_wire::Moment;
 use serve::serve_as_asked;
+use show::{show_directory, show_file, show_store};
 use simulate::simulate_in_memory;
 use sqlite::{Alter, Connection};
 use std::alloc::Global;
@@ -51,8 +54,19 @@ fn run(rt: &HostRuntime) -> Ending {
     };
     match parse(rt.alloc(), words.as_slice()) {
         Ok(Run::Serve { db, begin, at }) => serve_as_asked(rt, db, begin, at),
+        Ok(Run::Store { file }) => ended(show_store(rt, file)),
+        Ok(Run::List { file, path }) => ended(show_directory(rt, file, path)),
+        Ok(Run::Cat { file, path }) => ended(show_file(rt, file, path)),
         Ok(run) => run_on_input(rt, run),
         Err(error) => refuse(rt, error),
+    }
+}
+
+// How a run ends that only looked.
+fn ended(shown: Result<(), Ending>) -> Ending {
+    match shown {
+        Ok(()) => Ending::Done,
+        Err(ending) => ending,
     }
 }
 
@@ -83,7 +97,11 @@ fn is_watched(rt: &HostRuntime, run: &Run<'_>) -> bool {
     let prints_apart = match run {
         Run::Check { .. } => true,
         Run::Dump { .. } | Run::Replay { .. } => !rt.stdout().is_terminal(),
-        Run::Serve { .. } | Run::Simulate { .. } => false,
+        Run::Serve { .. }
+        | Run::Simulate { .. }
+        | Run::Store { .. }
+        | Run::List { .. }
+        | Run::Cat { .. } => false,
     };
     prints_apart && rt.stderr().is_terminal()
 }
@@ -119,7 +137,10 @@ fn run_on<R: Read + Drop>(rt: &HostRuntime, reader: R, run: Run<'_>) -> Ending {
             }
         }
         Run::Simulate { .. } => simulate_in_memory(alloc, reader, &mut writer),
-        Run::Serve { .. } => Ending::Usage,
+        // These have no input.
+        Run::Serve { .. } | Run::Store { .. } | Run::List { .. } | Run::Cat { .. } => {
+            Ending::Usage
+        }
     }
 }
 

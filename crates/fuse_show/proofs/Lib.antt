@@ -1,0 +1,8 @@
+pub mod Lines
+pub mod Once
+pub mod Pages
+pub mod Shows
+pub mod Splits
+pub mod Tellings
+pub mod Trees
+pub mod Walks

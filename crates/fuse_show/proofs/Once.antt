@@ -1,0 +1,133 @@
+-- Just one thing is found by names.
+use Rattle.std.proofs.Common.{◌≡◌, ℕ, true, false, List, [], ◌∷◌, ◌++◌, Option, Some, None, refl, sym, ap, subst, ◌∙◌}
+use Rattle.std.specs.Prelude.{Result, Ok, Err}
+use Rattle.fuse_tree.specs.declared.rows.NodeRow.{NodeRow}
+use Rattle.fuse_tree.specs.declared.rows.EntryRow.{EntryRow}
+use Rattle.fuse_tree.specs.State.{is_dir}
+use Rattle.fuse_tree.specs.Rows.{Rows, row_at, entry_at}
+use Rattle.fuse_show.specs.declared.fault.ShowFault.{ShowFault}
+use Rattle.fuse_show.specs.declared.fault.ShowFault.TheVariants.{Look, NotATree, NoSuchPath, NotDirectory, NotFile, Output}
+use Rattle.fuse_show.specs.Finding.{LeadsBy, Lead, LeadTo, Stops, HasNone, IsNoDirectory, Finds, IsTold, FoundOnce}
+
+some_once : {A : Type 0} (x y : A) (o : Option A) → o ≡ Some x → o ≡ Some y → x ≡ y
+some_once x y o p q = cc
+
+leads_once : (rows : Rows) (from : NodeRow) (name : List ℕ) (a b : NodeRow) → LeadsBy rows from name a → LeadsBy rows from name b → a ≡ b
+leads_once rows from name a b p q =
+    let entry : p.entry ≡ q.entry = some_once p.entry q.entry (entry_at rows.entries from.node name) p.found q.found in
+    let child : row_at rows q.entry.child ≡ Some a = subst (λ (e : EntryRow). row_at rows e.child ≡ Some a) entry p.child in
+    some_once a b (row_at rows q.entry.child) child q.child
+
+lead_once : (rows : Rows) (from : NodeRow) (names : List (List ℕ)) (a b : NodeRow) → Lead rows from names a → Lead rows from names b → a ≡ b
+lead_once rows from [] a b p q = p ∙ sym q
+lead_once rows from (name ∷ names) a b p q =
+    let same : p.0 ≡ q.0 = leads_once rows from name p.0 q.0 p.1 q.1 in
+    lead_once rows q.0 names a b (subst (λ (x : NodeRow). Lead rows x names a) same p.2) q.2
+
+-- no node follows by this name
+abbrev EndsHere : Rows → NodeRow → List ℕ → Type 0
+EndsHere rows last name = (next : NodeRow) → LeadsBy rows last name next → ⊥
+
+none_ends : (rows : Rows) (last : NodeRow) (name : List ℕ) → HasNone rows last name → EndsHere rows last name
+none_ends rows last name why next one =
+    let found : entry_at rows.entries last.node name ≡ Some one.entry = one.found in
+    let none : entry_at rows.entries last.node name ≡ None = why.1 in
+    absurd cc
+
+no_directory_ends : (rows : Rows) (last : NodeRow) (name : List ℕ) → IsNoDirectory last name → EndsHere rows last name
+no_directory_ends rows last name why next one =
+    let dir : is_dir last.mode ≡ true = one.dir in
+    let none : is_dir last.mode ≡ false = why in
+    absurd cc
+
+-- names that lead somewhere stop nowhere
+on_and_stop : (rows : Rows) (from : NodeRow) (front : List (List ℕ)) (name : List ℕ) (behind : List (List ℕ)) (to last : NodeRow)
+    → Lead rows from (front ++ name ∷ behind) to → Lead rows from front last → EndsHere rows last name → ⊥
+on_and_stop rows from [] name behind to last on stop ends = ends on.0 (subst (λ (x : NodeRow). LeadsBy rows x name on.0) (sym stop) on.1)
+on_and_stop rows from (n ∷ front) name behind to last on stop ends =
+    let same : on.0 ≡ stop.0 = leads_once rows from n on.0 stop.0 on.1 stop.1 in
+    on_and_stop rows stop.0 front name behind to last (subst (λ (x : NodeRow). Lead rows x (front ++ name ∷ behind) to) same on.2) stop.2 ends
+
+-- where names stop twice, they stop at one node
+both_stop : (rows : Rows) (from : NodeRow) (f g : List (List ℕ)) (m n : List ℕ) (p q : List (List ℕ)) (a b : NodeRow) → f ++ m ∷ p ≡ g ++ n ∷ q
+    → Lead rows from f a → Lead rows from g b → EndsHere rows a m → EndsHere rows b n → a ≡ b
+both_stop rows from [] [] m n p q a b same on stop ends ends' = on ∙ sym stop
+both_stop rows from [] (y ∷ g) m n p q a b same on stop ends ends' =
+    let first : m ≡ y = cc same in
+    let one : LeadsBy rows a m stop.0 =
+    subst (λ (x : NodeRow). LeadsBy rows x m stop.0) (sym on) (subst (λ (x : List ℕ). LeadsBy rows from x stop.0) (sym first) stop.1) in
+    absurd (ends stop.0 one)
+both_stop rows from (x ∷ f) [] m n p q a b same on stop ends ends' =
+    let first : n ≡ x = cc same in
+    let one : LeadsBy rows b n on.0 =
+    subst (λ (y : NodeRow). LeadsBy rows y n on.0) (sym stop) (subst (λ (y : List ℕ). LeadsBy rows from y on.0) (sym first) on.1) in
+    absurd (ends' on.0 one)
+both_stop rows from (x ∷ f) (y ∷ g) m n p q a b same on stop ends ends' =
+    let first : x ≡ y = cc same in
+    let rest : f ++ m ∷ p ≡ g ++ n ∷ q = cc same in
+    let here : LeadsBy rows from y on.0 = subst (λ (z : List ℕ). LeadsBy rows from z on.0) first on.1 in
+    let place : on.0 ≡ stop.0 = leads_once rows from y on.0 stop.0 here stop.1 in
+    both_stop rows stop.0 f g m n p q a b rest (subst (λ (z : NodeRow). Lead rows z f a) place on.2) stop.2 ends ends'
+
+root_once : (rows : Rows) (f g : List (List ℕ)) (a b : NodeRow) (p : LeadTo rows f a) (q : LeadTo rows g b) → p.root ≡ q.root
+root_once rows f g a b p q = some_once p.root q.root (row_at rows 1) p.is_root q.is_root
+
+places_once : (rows : Rows) (names : List (List ℕ)) (a b : NodeRow) → LeadTo rows names a → LeadTo rows names b → a ≡ b
+places_once rows names a b p q =
+    lead_once rows q.root names a b (subst (λ (x : NodeRow). Lead rows x names a) (root_once rows names names a b p q) p.lead) q.lead
+
+leads_or_stops : (rows : Rows) (names : List (List ℕ)) (a : NodeRow) (Why : NodeRow → List ℕ → Type 0)
+    → ((last : NodeRow) (name : List ℕ) → Why last name → EndsHere rows last name) → LeadTo rows names a → Stops rows names Why → ⊥
+leads_or_stops rows names a Why ends p s =
+    let root = root_once rows s.front names s.last a s.leads p in
+    on_and_stop rows p.root s.front s.name s.behind a s.last (subst (λ (x : List (List ℕ)). Lead rows p.root x a) s.parts p.lead)
+    (subst (λ (x : NodeRow). Lead rows x s.front s.last) root s.leads.lead) (ends s.last s.name s.why)
+
+stops_or : (rows : Rows) (names : List (List ℕ)) → Stops rows names (HasNone rows) → Stops rows names IsNoDirectory → ⊥
+stops_or rows names p q =
+    let root = root_once rows p.front q.front p.last q.last p.leads q.leads in
+    let last : p.last ≡ q.last =
+    both_stop rows q.leads.root p.front q.front p.name q.name p.behind q.behind p.last q.last (sym p.parts ∙ q.parts)
+    (subst (λ (x : NodeRow). Lead rows x p.front p.last) root p.leads.lead) q.leads.lead
+    (none_ends rows p.last p.name p.why) (no_directory_ends rows q.last q.name q.why) in
+    let dir : is_dir q.last.mode ≡ true = subst (λ (x : NodeRow). is_dir x.mode ≡ true) last p.why.0 in
+    let none : is_dir q.last.mode ≡ false = q.why in
+    absurd cc
+
+place_or : (rows : Rows) (names : List (List ℕ)) (a : NodeRow) (b : Result NodeRow ShowFault) → IsTold b → LeadTo rows names a → Finds rows names b → Ok a ≡ b
+place_or rows names a (Ok b) told p q = ap Ok (places_once rows names a b p q)
+place_or rows names a (Err (Look f)) told p q = absurd told
+place_or rows names a (Err NotATree) told p q = absurd q
+place_or rows names a (Err NoSuchPath) told p q = absurd (leads_or_stops rows names a (HasNone rows) (none_ends rows) p q)
+place_or rows names a (Err NotDirectory) told p q = absurd (leads_or_stops rows names a IsNoDirectory (no_directory_ends rows) p q)
+place_or rows names a (Err NotFile) told p q = absurd q
+place_or rows names a (Err Output) told p q = absurd q
+
+none_or : (rows : Rows) (names : List (List ℕ)) (b : Result NodeRow ShowFault) → IsTold b → Stops rows names (HasNone rows) → Finds rows names b
+    → Err NoSuchPath ≡ b
+none_or rows names (Ok b) told p q = absurd (leads_or_stops rows names b (HasNone rows) (none_ends rows) q p)
+none_or rows names (Err (Look f)) told p q = absurd told
+none_or rows names (Err NotATree) told p q = absurd q
+none_or rows names (Err NoSuchPath) told p q = refl
+none_or rows names (Err NotDirectory) told p q = absurd (stops_or rows names p q)
+none_or rows names (Err NotFile) told p q = absurd q
+none_or rows names (Err Output) told p q = absurd q
+
+no_directory_or : (rows : Rows) (names : List (List ℕ)) (b : Result NodeRow ShowFault) → IsTold b → Stops rows names IsNoDirectory → Finds rows names b
+    → Err NotDirectory ≡ b
+no_directory_or rows names (Ok b) told p q = absurd (leads_or_stops rows names b IsNoDirectory (no_directory_ends rows) q p)
+no_directory_or rows names (Err (Look f)) told p q = absurd told
+no_directory_or rows names (Err NotATree) told p q = absurd q
+no_directory_or rows names (Err NoSuchPath) told p q = absurd (stops_or rows names q p)
+no_directory_or rows names (Err NotDirectory) told p q = refl
+no_directory_or rows names (Err NotFile) told p q = absurd q
+no_directory_or rows names (Err Output) told p q = absurd q
+
+pub found_once : FoundOnce
+found_once rows names (Ok a) b told told' p q = place_or rows names a b told' p q
+found_once rows names (Err (Look f)) b told told' p q = absurd told
+found_once rows names (Err NotATree) b told told' p q = absurd p
+found_once rows names (Err NoSuchPath) b told told' p q = none_or rows names b told' p q
+found_once rows names (Err NotDirectory) b told told' p q = no_directory_or rows names b told' p q
+found_once rows names (Err NotFile) b told told' p q = absurd p
+found_once rows names (Err Output) b told told' p q = absurd p

@@ -1,0 +1,219 @@
+-- The entries of a directory, page by page.
+use Rattle.std.proofs.Common.{◌≡◌, ◌==◌, ◌&&◌, ◌<◌, ◌≤◌, ◌-◌, ℕ, Bool, true, false, cond, eqb, zero, suc, List, [], ◌∷◌, ◌++◌, take, drop}
+use Rattle.std.proofs.Common.{Option, Some, None, refl, sym, ap, subst, ◌∙◌, arith, append_assoc, append-nil}
+use Rattle.std.specs.Prelude.{filter, nat_lt, Err}
+use Rattle.std.specs.Option.{option_map}
+use Rattle.std.specs.List.{AllByRecursion, flat_map, slice_get}
+use Rattle.std.specs.Io.KnownBytes.{Appends}
+use Rattle.std.proofs.KnownBytes.{Appends-trans}
+use Rattle.std.proofs.lemmas.Bool.{lt-ltb, le-ltb, ltb-true}
+use Rattle.std.proofs.lemmas.List.{take-append-drop}
+use Rattle.std.proofs.lemmas.Grind.{flat_map-append}
+use Rattle.fuse_tree.specs.declared.rows.EntryRow.{EntryRow}
+use Rattle.fuse_tree.specs.State.{Apart}
+use Rattle.fuse_tree.specs.Rows.{Rows, IsRowed, is_after, entries_after}
+use Rattle.fuse_tree.specs.RowsOfTrees.{RowsOfTrees}
+use Rattle.fuse_show.specs.declared.fault.ShowFault.{ShowFault}
+use Rattle.fuse_show.specs.declared.fault.ShowFault.TheVariants.{Look, NotATree, NoSuchPath, NotDirectory, NotFile, Output}
+use Rattle.fuse_show.specs.Looks.{WritesOut, look_fault}
+use Rattle.fuse_show.specs.Listing.{line_of, listing}
+use Rattle.fuse_show.specs.Pages.{entries_behind, lines_behind, lines_left, cookie_at, is_higher, WritesFront, WritesPage}
+use Rattle.fuse_show.proofs.Trees.{filtered}
+
+-- ---- on lists
+
+filter_all : {A : Type 0} (test : A → Bool) (xs : List A) → AllByRecursion (λ x. test x ≡ true) xs → filter test xs ≡ xs
+filter_all test [] all = refl
+filter_all {A = A} test (x ∷ xs) all =
+    subst (λ (b : Bool). cond b (x ∷ filter test xs) (filter test xs) ≡ x ∷ xs) (sym all.0) (ap (λ (ys : List A). x ∷ ys) (filter_all test xs all.1))
+
+passes : {A : Type 0} (test : A → Bool) (xs : List A) → AllByRecursion (λ x. test x ≡ true) (filter test xs)
+passes test [] = tt
+passes test (x ∷ xs) =
+    let step : (b : Bool) → test x ≡ b → AllByRecursion (λ y. test y ≡ true) (cond b (x ∷ filter test xs) (filter test xs)) =
+    elim [
+      | true ↦ λ here. (here, passes test xs)
+      | false ↦ λ _. passes test xs
+    ] in
+    step (test x) refl
+
+all_got : {A : Type 0} (P : A → Type 0) (xs : List A) (i : ℕ) (x : A) → AllByRecursion P xs → slice_get xs i ≡ Some x → P x
+all_got P [] i x all is = absurd cc
+all_got P (y ∷ ys) zero x all is = let same : y ≡ x = cc in subst P same all.0
+all_got P (y ∷ ys) (suc i) x all is = all_got P ys i x all.1 is
+
+all_more : {A : Type 0} (P Q : A → Type 0) (xs : List A) → ((x : A) → P x → Q x) → AllByRecursion P xs → AllByRecursion Q xs
+all_more P Q [] more all = tt
+all_more P Q (x ∷ xs) more all = (more x all.0, all_more P Q xs more all.1)
+
+apart_filtered : {A : Type 0} (R : A → A → Type 0) (test : A → Bool) (xs : List A) → Apart R xs → Apart R (filter test xs)
+apart_filtered R test [] apart = tt
+apart_filtered R test (x ∷ xs) apart =
+    elim (test x) as (λ b. Apart R (cond b (x ∷ filter test xs) (filter test xs))) [
+      | true ↦ (filtered (R x) test xs apart.0, apart_filtered R test xs apart.1)
+      | false ↦ apart_filtered R test xs apart.1
+    ]
+
+-- fewer than were asked for are all
+short_page : {A : Type 0} (xs : List A) (i : ℕ) → slice_get (take (suc i) xs) i ≡ None → take (suc i) xs ≡ xs
+short_page [] i is = refl
+short_page (x ∷ xs) zero is = absurd cc
+short_page {A = A} (x ∷ xs) (suc i) is = ap (λ (ys : List A). x ∷ ys) (short_page xs i is)
+
+full_page : {A : Type 0} (xs : List A) (i : ℕ) (x : A) → slice_get (take (suc i) xs) i ≡ Some x → slice_get xs i ≡ Some x
+full_page [] i x is = absurd cc
+full_page (y ∷ ys) zero x is = is
+full_page (y ∷ ys) (suc i) x is = full_page ys i x is
+
+-- ---- entries that rise
+
+abbrev Rise : EntryRow → EntryRow → Type 0
+Rise e later = e.cookie < later.cookie
+
+abbrev above : ℕ → EntryRow → Bool
+above cookie e = nat_lt cookie e.cookie
+
+-- those above one of them are those behind it
+above_one : (ys : List EntryRow) (i : ℕ) (x : EntryRow) → Apart Rise ys → slice_get ys i ≡ Some x → filter (above x.cookie) ys ≡ drop (suc i) ys
+above_one [] i x rise is = absurd cc
+above_one (y ∷ ys) zero x rise is =
+    let same : y ≡ x = cc in
+    let all : AllByRecursion (λ e. above y.cookie e ≡ true) ys =
+    all_more (Rise y) (λ e. above y.cookie e ≡ true) ys (λ e p. lt-ltb y.cookie e.cookie p) rise.0 in
+    let rest : filter (above y.cookie) ys ≡ ys = filter_all (above y.cookie) ys all in
+    let here : filter (above y.cookie) (y ∷ ys) ≡ ys =
+    subst (λ (b : Bool). cond b (y ∷ filter (above y.cookie) ys) (filter (above y.cookie) ys) ≡ ys) (sym (le-ltb y.cookie y.cookie (omega arith))) rest in
+    subst (λ (z : EntryRow). filter (above z.cookie) (y ∷ ys) ≡ ys) same here
+above_one (y ∷ ys) (suc i) x rise is =
+    let later : y.cookie < x.cookie = all_got (Rise y) ys i x rise.0 is in
+    subst (λ (b : Bool). cond b (y ∷ filter (above x.cookie) ys) (filter (above x.cookie) ys) ≡ drop (suc i) ys)
+    (sym (le-ltb x.cookie y.cookie (omega arith))) (above_one ys i x rise.1 is)
+
+one_behind : (e : EntryRow) (near far : List EntryRow) (cookie : ℕ) (d p q : Bool) → filter (above cookie) near ≡ far → above cookie e ≡ q
+    → (q ≡ true → p ≡ true) → filter (above cookie) (cond (d && p) (e ∷ near) near) ≡ cond (d && q) (e ∷ far) far
+one_behind e near far cookie false p q rest is fewer = rest
+one_behind e near far cookie true true q rest is fewer =
+    subst (λ (b : Bool). cond b (e ∷ filter (above cookie) near) (filter (above cookie) near) ≡ cond q (e ∷ far) far) (sym is)
+    (ap (λ (ys : List EntryRow). cond q (e ∷ ys) ys) rest)
+one_behind e near far cookie true false true rest is fewer = let no : false ≡ true = fewer refl in absurd cc
+one_behind e near far cookie true false false rest is fewer = rest
+
+-- of those behind a cookie, those above a higher one are those behind that
+still_behind : (es : List EntryRow) (dir after cookie : ℕ) → after ≤ cookie
+    → filter (above cookie) (filter (is_after dir after) es) ≡ filter (is_after dir cookie) es
+still_behind [] dir after cookie less = refl
+still_behind (e ∷ es) dir after cookie less =
+    let rest = still_behind es dir after cookie less in
+    let fewer : nat_lt cookie e.cookie ≡ true → nat_lt after e.cookie ≡ true =
+    λ is. (let far : cookie < e.cookie = ltb-true cookie e.cookie is in lt-ltb after e.cookie (omega arith)) in
+    one_behind e (filter (is_after dir after) es) (filter (is_after dir cookie) es) cookie (e.dir == dir) (nat_lt after e.cookie) (nat_lt cookie e.cookie)
+    rest refl fewer
+
+-- ---- a page
+
+second : (b c : Bool) → (b && c) ≡ true → c ≡ true
+second true c is = is
+second false c is = absurd cc
+
+-- what is behind a cookie has a higher one
+higher_behind : (rows : Rows) (dir after i : ℕ) (x : EntryRow) → slice_get (entries_behind rows dir after) i ≡ Some x → nat_lt after x.cookie ≡ true
+higher_behind rows dir after i x there =
+    second (x.dir == dir) (nat_lt after x.cookie)
+    (all_got (λ e. is_after dir after e ≡ true) (entries_behind rows dir after) i x (passes (is_after dir after) rows.entries) there)
+
+-- behind the last entry of a page stands what is behind the page
+behind_page : RowsOfTrees → (rows : Rows) (dir after i : ℕ) (x : EntryRow) → IsRowed rows → slice_get (entries_behind rows dir after) i ≡ Some x
+    → entries_behind rows dir x.cookie ≡ drop (suc i) (entries_behind rows dir after)
+behind_page law rows dir after i x is there =
+    let higher : after < x.cookie = ltb-true after x.cookie (higher_behind rows dir after i x there) in
+    sym (still_behind rows.entries dir after x.cookie (omega arith))
+    ∙ above_one (entries_behind rows dir after) i x (apart_filtered Rise (is_after dir after) rows.entries (law rows is).rise) there
+
+abbrev text_of : Rows → List EntryRow → List ℕ
+text_of rows es = flat_map (line_of rows) es
+
+-- the lines of a page, and those that are left behind it, are those that were left before it
+pub page_lines : RowsOfTrees → (rows : Rows) (dir after i : ℕ) (es : List EntryRow) → IsRowed rows → es ≡ entries_after rows dir after (suc i)
+    → lines_behind rows dir after ≡ flat_map (line_of rows) es ++ lines_left rows dir (cookie_at i es)
+page_lines law rows dir after i es is same = step (slice_get es i) refl
+  where
+    whole : slice_get es i ≡ None → es ≡ entries_behind rows dir after
+    whole got = same ∙ short_page (entries_behind rows dir after) i (subst (λ (ys : List EntryRow). slice_get ys i ≡ None) same got)
+
+    there : (x : EntryRow) → slice_get es i ≡ Some x → entries_behind rows dir x.cookie ≡ drop (suc i) (entries_behind rows dir after)
+    there x got =
+        behind_page law rows dir after i x is
+        (full_page (entries_behind rows dir after) i x (subst (λ (ys : List EntryRow). slice_get ys i ≡ Some x) same got))
+
+    step : (o : Option EntryRow) → slice_get es i ≡ o
+        → lines_behind rows dir after ≡ text_of rows es ++ lines_left rows dir (option_map (λ (e : EntryRow). e.cookie) o)
+    step None got = ap (text_of rows) (sym (whole got)) ∙ sym (append-nil (text_of rows es))
+    step (Some x) got =
+        ap (text_of rows) (sym (take-append-drop (suc i) (entries_behind rows dir after)))
+        ∙ flat_map-append (line_of rows) (take (suc i) (entries_behind rows dir after)) (drop (suc i) (entries_behind rows dir after))
+        ∙ ap (λ (ys : List EntryRow). text_of rows ys ++ text_of rows (drop (suc i) (entries_behind rows dir after))) (sym same)
+        ∙ ap (λ (ys : List EntryRow). text_of rows es ++ text_of rows ys) (sym (there x got))
+
+-- a page ends with a higher cookie than those before it
+pub page_higher : (rows : Rows) (dir after i : ℕ) (es : List EntryRow) → es ≡ entries_after rows dir after (suc i) → is_higher (cookie_at i es) after ≡ true
+page_higher rows dir after i es same = step (slice_get es i) refl
+  where
+    step : (o : Option EntryRow) → slice_get es i ≡ o → is_higher (option_map (λ (e : EntryRow). e.cookie) o) after ≡ true
+    step None got = refl
+    step (Some x) got =
+        higher_behind rows dir after i x
+        (full_page (entries_behind rows dir after) i x (subst (λ (ys : List EntryRow). slice_get ys i ≡ Some x) same got))
+
+-- ---- pages one after the other
+
+in_after : (es : List EntryRow) (dir : ℕ) → AllByRecursion (λ e. 3 ≤ e.cookie) es → filter (is_after dir 0) es ≡ filter (λ e. e.dir == dir) es
+in_after [] dir all = refl
+in_after (e ∷ es) dir all =
+    let three : 3 ≤ e.cookie = all.0 in
+    let higher : nat_lt 0 e.cookie ≡ true = lt-ltb 0 e.cookie (omega arith) in
+    let rest = in_after es dir all.1 in
+    rw higher (elim (eqb e.dir dir) as
+    (λ b. cond (b && true) (e ∷ filter (is_after dir 0) es) (filter (is_after dir 0) es)
+    ≡ cond b (e ∷ filter (λ x. x.dir == dir) es) (filter (λ x. x.dir == dir) es)) [
+      | true ↦ ap (λ (x : List EntryRow). e ∷ x) rest
+      | false ↦ rest
+    ])
+
+-- before the first page all is left
+pub all_left : RowsOfTrees → (rows : Rows) (dir : ℕ) → IsRowed rows → listing rows dir ≡ lines_behind rows dir 0
+all_left law rows dir is = ap (flat_map (line_of rows)) (sym (in_after rows.entries dir (law rows is).cookies))
+
+pub front_more : (a b c : Option (List ℕ)) (text mid rest : List ℕ) → WritesFront a b text mid → WritesFront b c mid rest → WritesFront a c text rest
+front_more a b c text mid rest p q = record {
+  front = p.front ++ q.front;
+  written = Appends-trans a b c p.front q.front p.written q.written;
+  parts = p.parts ∙ ap (λ (x : List ℕ). p.front ++ x) q.parts ∙ sym (append_assoc p.front q.front rest);
+}
+
+-- nothing is left
+pub front_all : (a b : Option (List ℕ)) (text : List ℕ) → WritesFront a b text [] → Appends a b text
+front_all a b text p = subst (Appends a b) (sym (p.parts ∙ append-nil p.front)) p.written
+
+-- a page that couldn't be written
+pub page_fails : (rows : Rows) (dir after : ℕ) (a b c : Option (List ℕ)) (text : List ℕ) (f : ShowFault)
+    → (look_fault {X = Option ℕ} (Err f) ≡ None → WritesPage rows dir after b c (Err f)) → WritesOut a c text (Err f)
+page_fails rows dir after a b c text (Look f) so = tt
+page_fails rows dir after a b c text NotATree so = so refl
+page_fails rows dir after a b c text NoSuchPath so = so refl
+page_fails rows dir after a b c text NotDirectory so = so refl
+page_fails rows dir after a b c text NotFile so = so refl
+page_fails rows dir after a b c text Output so = tt
+
+pub fails_page : (rows : Rows) (dir after : ℕ) (a b : Option (List ℕ)) (text : List ℕ) (f : ShowFault)
+    → (look_fault {X = Unit {0}} (Err f) ≡ None → WritesOut a b text (Err f)) → WritesPage rows dir after a b (Err f)
+fails_page rows dir after a b text (Look f) so = tt
+fails_page rows dir after a b text NotATree so = so refl
+fails_page rows dir after a b text NoSuchPath so = so refl
+fails_page rows dir after a b text NotDirectory so = so refl
+fails_page rows dir after a b text NotFile so = so refl
+fails_page rows dir after a b text Output so = tt
+
+-- how many cookies may come
+abbrev pub cookies_left : Option ℕ → ℕ
+cookies_left None = 0
+cookies_left (Some cookie) = 18446744073709551616 - cookie

@@ -1,0 +1,10 @@
+pub mod Copying
+pub mod Finding
+pub mod Listing
+pub mod Looks
+pub mod Modes
+pub mod Names
+pub mod Pages
+pub mod Paths
+pub mod Showing
+pub mod Telling

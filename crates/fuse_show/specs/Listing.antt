@@ -1,0 +1,43 @@
+-- The lines of a directory's entries (own profile, in the form of ls -l).
+use Rattle.std.specs.Prelude.{◌+◌, ◌==◌, ◌++◌, ℕ, if◌then◌else◌, List, [], ◌∷◌, filter, codes, decimal, Option, Some, None}
+use Rattle.std.specs.List.{flat_map}
+use Rattle.fuse_tree.specs.declared.rows.NodeRow.{NodeRow}
+use Rattle.fuse_tree.specs.declared.rows.EntryRow.{EntryRow}
+use Rattle.fuse_tree.specs.State.{is_dir}
+use Rattle.fuse_tree.specs.Rows.{Rows, row_at}
+use Rattle.fuse_show.specs.Modes.{mode_text}
+use Rattle.fuse_show.specs.Names.{name_text}
+
+-- how many links lead to a node that has a name
+abbrev pub links_of_row : NodeRow → ℕ
+links_of_row row = if is_dir row.mode then 2 + row.subdirs else 1
+
+-- what is told of a node before its name: type and permissions, links, owner, group, size, number
+abbrev pub row_text : NodeRow → List ℕ
+row_text row =
+    mode_text row.mode
+    ++ (codes " " ++ (decimal (links_of_row row)
+    ++ (codes " " ++ (decimal row.uid
+    ++ (codes " " ++ (decimal row.gid
+    ++ (codes " " ++ (decimal row.size
+    ++ (codes " " ++ (decimal row.node ++ codes " "))))))))))
+
+-- the line of an entry of this name
+abbrev pub entry_line : List ℕ → NodeRow → List ℕ
+entry_line name row = row_text row ++ (name_text name ++ 10 ∷ [])
+
+abbrev pub line_for : List ℕ → Option NodeRow → List ℕ
+line_for name None = []
+line_for name (Some row) = entry_line name row
+
+-- the line of an entry, which leads to a node
+abbrev pub line_of : Rows → EntryRow → List ℕ
+line_of rows e = line_for e.name (row_at rows e.child)
+
+-- the entries of a directory, in its order
+abbrev pub entries_in : Rows → ℕ → List EntryRow
+entries_in rows dir = filter (λ e. e.dir == dir) rows.entries
+
+-- a line for each entry of a directory
+abbrev pub listing : Rows → ℕ → List ℕ
+listing rows dir = flat_map (line_of rows) (entries_in rows dir)

@@ -1,0 +1,43 @@
+-- What is said of the rows behind a look, how a look's fault is told, and what is written (own profile).
+use Rattle.std.specs.Prelude.{◌≡◌, List, ℕ, Option, Some, None, Result, Ok, Err}
+use Rattle.std.specs.Io.KnownBytes.{Appends}
+use Rattle.fuse_tree.specs.declared.look.LookFault.{LookFault}
+use Rattle.fuse_tree.specs.Rows.{Rows, IsRowed}
+use Rattle.fuse_show.specs.declared.fault.ShowFault.{ShowFault}
+use Rattle.fuse_show.specs.declared.fault.ShowFault.TheVariants.{Look, NotATree, NoSuchPath, NotDirectory, NotFile, Output}
+
+-- the fault of a look, where that is why no more is shown
+abbrev pub look_fault : {X : Type 0} → Result X ShowFault → Option LookFault
+look_fault (Ok x) = None
+look_fault (Err (Look f)) = Some f
+look_fault (Err NotATree) = None
+look_fault (Err NoSuchPath) = None
+look_fault (Err NotDirectory) = None
+look_fault (Err NotFile) = None
+look_fault (Err Output) = None
+
+-- where nothing wrong was taken, this is so of the rows of a tree that lie behind
+abbrev pub ReadOff : Type 0 → (Rows → Type 0) → (Rows → Type 0) → Type 0
+ReadOff clean sees P = clean → (rows : Rows) → IsRowed rows → sees rows → P rows
+
+-- nothing but looks that went well lie between the two, or the fault of the last is told
+pub record OnlyLooked {S X : Type 0} (fault_of : S → Option LookFault) (looking : S → S → Type 0) (old new : S) (result : Result X ShowFault) : Type 0 where
+  pub fault : fault_of new ≡ look_fault result
+  pub looks : look_fault result ≡ None → looking old new
+
+-- this is so of the rows behind the old, and nothing but looks lie between the two
+pub record LooksUp {S X : Type 0} (clean : S → Type 0) (sees : S → Rows → Type 0) (fault_of : S → Option LookFault) (looking : S → S → Type 0) (old new : S)
+    (result : Result X ShowFault) (P : Rows → Type 0) : Type 0 where
+  pub reads : ReadOff (clean new) (sees old) P
+  pub fault : fault_of new ≡ look_fault result
+  pub looks : look_fault result ≡ None → looking old new
+
+-- a text was written; else a look or the output failed
+abbrev pub WritesOut : Option (List ℕ) → Option (List ℕ) → List ℕ → Result (Unit {0}) ShowFault → Type 0
+WritesOut old new text (Ok _) = Appends old new text
+WritesOut old new text (Err (Look f)) = Unit {0}
+WritesOut old new text (Err NotATree) = ⊥
+WritesOut old new text (Err NoSuchPath) = ⊥
+WritesOut old new text (Err NotDirectory) = ⊥
+WritesOut old new text (Err NotFile) = ⊥
+WritesOut old new text (Err Output) = Unit {0}

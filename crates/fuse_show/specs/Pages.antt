@@ -1,0 +1,48 @@
+-- The lines of a directory's entries, page by page (own profile).
+use Rattle.std.specs.Prelude.{◌≡◌, ◌++◌, ℕ, Bool, true, nat_lt, List, [], filter, Option, Some, None, Result, Ok, Err}
+use Rattle.std.specs.List.{flat_map, slice_get}
+use Rattle.std.specs.Option.{option_map}
+use Rattle.std.specs.Io.KnownBytes.{Appends}
+use Rattle.fuse_tree.specs.declared.rows.EntryRow.{EntryRow}
+use Rattle.fuse_tree.specs.Rows.{Rows, is_after}
+use Rattle.fuse_show.specs.declared.fault.ShowFault.{ShowFault}
+use Rattle.fuse_show.specs.declared.fault.ShowFault.TheVariants.{Look, NotATree, NoSuchPath, NotDirectory, NotFile, Output}
+use Rattle.fuse_show.specs.Listing.{line_of}
+
+-- the entries of a directory with a higher cookie than this one
+abbrev pub entries_behind : Rows → ℕ → ℕ → List EntryRow
+entries_behind rows dir cookie = filter (is_after dir cookie) rows.entries
+
+-- their lines
+abbrev pub lines_behind : Rows → ℕ → ℕ → List ℕ
+lines_behind rows dir cookie = flat_map (line_of rows) (entries_behind rows dir cookie)
+
+-- the lines behind the cookie that a page ends with, or none where it was the last
+abbrev pub lines_left : Rows → ℕ → Option ℕ → List ℕ
+lines_left rows dir None = []
+lines_left rows dir (Some cookie) = lines_behind rows dir cookie
+
+-- the cookie of the entry of a page that has so many before it
+abbrev pub cookie_at : ℕ → List EntryRow → Option ℕ
+cookie_at i es = option_map (λ e. e.cookie) (slice_get es i)
+
+-- where there is a cookie, it is higher than this one
+abbrev pub is_higher : Option ℕ → ℕ → Bool
+is_higher None after = true
+is_higher (Some cookie) after = nat_lt after cookie
+
+-- a front of a text was written, and this rest of it is left
+pub record WritesFront (old new : Option (List ℕ)) (text rest : List ℕ) : Type 0 where
+  pub front : List ℕ
+  pub written : Appends old new front
+  pub parts : text ≡ front ++ rest
+
+-- a page was written; else a look or the output failed
+abbrev pub WritesPage : Rows → ℕ → ℕ → Option (List ℕ) → Option (List ℕ) → Result (Option ℕ) ShowFault → Type 0
+WritesPage rows dir after old new (Ok left) = WritesFront old new (lines_behind rows dir after) (lines_left rows dir left)
+WritesPage rows dir after old new (Err (Look f)) = Unit {0}
+WritesPage rows dir after old new (Err NotATree) = ⊥
+WritesPage rows dir after old new (Err NoSuchPath) = ⊥
+WritesPage rows dir after old new (Err NotDirectory) = ⊥
+WritesPage rows dir after old new (Err NotFile) = ⊥
+WritesPage rows dir after old new (Err Output) = Unit {0}

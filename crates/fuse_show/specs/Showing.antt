@@ -1,0 +1,44 @@
+-- What is shown of what a path leads to, and why nothing is (own profile).
+use Rattle.std.specs.Prelude.{◌≡◌, ◌⊎◌, ℕ, Bool, true, false, List, Option, Result, Ok, Err}
+use Rattle.std.specs.Io.KnownBytes.{Appends}
+use Rattle.fuse_tree.specs.declared.rows.NodeRow.{NodeRow}
+use Rattle.fuse_tree.specs.State.{is_dir, is_file}
+use Rattle.fuse_tree.specs.Rows.{Rows}
+use Rattle.fuse_show.specs.declared.fault.ShowFault.{ShowFault}
+use Rattle.fuse_show.specs.declared.fault.ShowFault.TheVariants.{Look, NotATree, NoSuchPath, NotDirectory, NotFile, Output}
+use Rattle.fuse_show.specs.Finding.{LeadTo, Stops, HasNone, IsNoDirectory}
+use Rattle.fuse_show.specs.Listing.{listing}
+use Rattle.fuse_show.specs.Copying.{content_at}
+
+-- the names lead to a node whose mode passes this test, and its text was written
+pub record ShowsOf (rows : Rows) (names : List (List ℕ)) (test : ℕ → Bool) (text : ℕ → List ℕ) (old new : Option (List ℕ)) : Type 0 where
+  pub place : NodeRow
+  pub leads : LeadTo rows names place
+  pub is : test place.mode ≡ true
+  pub written : Appends old new (text place.node)
+
+-- the names lead to a node whose mode doesn't pass this test
+pub record IsOther (rows : Rows) (names : List (List ℕ)) (test : ℕ → Bool) : Type 0 where
+  pub place : NodeRow
+  pub leads : LeadTo rows names place
+  pub isnt : test place.mode ≡ false
+
+-- the lines of the directory to which the names lead, or why there are none
+abbrev pub ShowsListing : Rows → List (List ℕ) → Option (List ℕ) → Option (List ℕ) → Result (Unit {0}) ShowFault → Type 0
+ShowsListing rows names old new (Ok _) = ShowsOf rows names is_dir (listing rows) old new
+ShowsListing rows names old new (Err (Look f)) = Unit {0}
+ShowsListing rows names old new (Err NotATree) = ⊥
+ShowsListing rows names old new (Err NoSuchPath) = Stops rows names (HasNone rows) × (new ≡ old)
+ShowsListing rows names old new (Err NotDirectory) = (Stops rows names IsNoDirectory ⊎ IsOther rows names is_dir) × (new ≡ old)
+ShowsListing rows names old new (Err NotFile) = ⊥
+ShowsListing rows names old new (Err Output) = Unit {0}
+
+-- the bytes of the regular file to which the names lead, or why there are none
+abbrev pub ShowsContent : Rows → List (List ℕ) → Option (List ℕ) → Option (List ℕ) → Result (Unit {0}) ShowFault → Type 0
+ShowsContent rows names old new (Ok _) = ShowsOf rows names is_file (content_at rows) old new
+ShowsContent rows names old new (Err (Look f)) = Unit {0}
+ShowsContent rows names old new (Err NotATree) = ⊥
+ShowsContent rows names old new (Err NoSuchPath) = Stops rows names (HasNone rows) × (new ≡ old)
+ShowsContent rows names old new (Err NotDirectory) = Stops rows names IsNoDirectory × (new ≡ old)
+ShowsContent rows names old new (Err NotFile) = IsOther rows names is_file × (new ≡ old)
+ShowsContent rows names old new (Err Output) = Unit {0}

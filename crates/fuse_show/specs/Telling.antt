@@ -1,0 +1,25 @@
+-- The lines that tell what a store holds (own profile).
+use Rattle.std.specs.Prelude.{ℕ, List, ◌++◌, codes, decimal, Option, Some, None}
+use Rattle.fuse_init.specs.declared.settings.Settings.{Settings}
+use Rattle.fuse_keeper.specs.declared.keeper.StoreCounts.{StoreCounts}
+
+-- what was agreed on by INIT
+abbrev pub settings_text : Option Settings → List ℕ
+settings_text None = codes "none"
+settings_text (Some s) =
+    codes "minor=" ++ (decimal s.minor ++ (codes " max_readahead=" ++ (decimal s.max_readahead ++ (codes " flags=" ++ decimal s.flags.0))))
+
+-- a line for each of what is counted
+abbrev pub counts_text : StoreCounts → List ℕ
+counts_text c =
+    codes "nodes=" ++ (decimal c.nodes
+    ++ (codes "\nhandles=" ++ (decimal c.handles ++ (codes "\nrecords=" ++ (decimal c.records ++ (codes "\nlots=" ++ (decimal c.lots ++ codes "\n")))))))
+
+-- a line for each of these: the version, what is counted, the bytes of all contents, and what was agreed on
+abbrev pub store_text : ℕ → StoreCounts → ℕ → Option Settings → List ℕ
+store_text version c bytes agreed =
+    codes "version=" ++ (decimal version
+    ++ (codes "\n" ++ (counts_text c ++ (codes "bytes=" ++ (decimal bytes ++ (codes "\nsettings: " ++ (settings_text agreed ++ codes "\n")))))))
+
+abbrev pub count_of : ℕ → ℕ → ℕ → ℕ → StoreCounts
+count_of nodes handles records lots = record { nodes = nodes; handles = handles; records = records; lots = lots }

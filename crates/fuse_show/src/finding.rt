@@ -1,0 +1,64 @@
+ghost use Rattle.std.specs.Prelude.{◌≡◌, None};
+ghost use Rattle.fuse_show.specs.Looks.{LooksUp};
+ghost use Rattle.fuse_show.specs.Paths.{names_of};
+ghost use Rattle.fuse_show.specs.Finding.{IsRoot, Steps, Finds};
+
+use crate::fault::ShowFault;
+use crate::modes::is_directory;
+use crate::paths::next_name;
+use fuse_tree::{Look, NodeRow, ROOT_ID, rows_of_trees};
+
+// The row of the root.
+fn find_root<L: Look>(look: &mut L) -> Result<NodeRow, ShowFault>
+    requires { L.fault look.old ≡ None }
+    ensures { LooksUp L.is_clean L.sees L.fault L.looks look.old look.new result
+        (λ rows. IsRoot rows result) }
+{
+    rows_of_trees();
+    let Some(row) = look.node(ROOT_ID)? else {
+        return Err(ShowFault::NotATree);
+    };
+    Ok(row)
+}
+
+// The row of what a name leads to, from a node.
+fn step<L: Look>(look: &mut L, from: &NodeRow, name: &[u8]) -> Result<NodeRow, ShowFault>
+    requires { L.fault look.old ≡ None }
+    ensures { LooksUp L.is_clean L.sees L.fault L.looks look.old look.new result
+        (λ rows. Steps rows from.now name.now result) }
+{
+    rows_of_trees();
+    if !is_directory(from.mode) {
+        return Err(ShowFault::NotDirectory);
+    }
+    let Some(entry) = look.entry(from.node, name)? else {
+        return Err(ShowFault::NoSuchPath);
+    };
+    let Some(row) = look.node(entry.child)? else {
+        return Err(ShowFault::NotATree);
+    };
+    Ok(row)
+}
+
+/// The row of the node that a path leads to from the root. Slashes stand between its names, before
+/// them and behind them, any number of them; no name is that of the directory itself or of the one
+/// above.
+pub fn find<L: Look>(look: &mut L, path: &[u8]) -> Result<NodeRow, ShowFault>
+    requires { L.fault look.old ≡ None }
+    ensures { LooksUp L.is_clean L.sees L.fault L.looks look.old look.new result
+        (λ rows. Finds rows (names_of path.now) result) }
+{
+    let mut place = match find_root(look) {
+        Ok(root) => root,
+        Err(fault) => return Err(fault),
+    };
+    let mut rest = path;
+    while let Some((name, behind)) = next_name(rest) {
+        match step(look, &place, name) {
+            Ok(row) => place = row,
+            Err(fault) => return Err(fault),
+        }
+        rest = behind;
+    }
+    Ok(place)
+}

@@ -1,0 +1,171 @@
+ghost use Rattle.std.specs.Prelude.{◌≡◌, ◌++◌, ◌∷◌, [], if◌then◌else◌, ◌+◌, None};
+ghost use Rattle.std.specs.Prelude.{IfErr, IfOk, OnOk, IsTrue};
+ghost use Rattle.std.specs.List.{AllByRecursion, flat_map};
+ghost use Rattle.std.specs.Io.KnownBytes.{Appends};
+ghost use Rattle.fuse_tree.specs.State.{is_dir};
+ghost use Rattle.fuse_show.specs.Looks.{ReadOff, OnlyLooked, WritesOut};
+ghost use Rattle.fuse_tree.specs.RowsOfTrees.{LeadsToRow};
+ghost use Rattle.fuse_show.specs.Listing.{links_of_row, entry_line, line_of, listing};
+ghost use Rattle.fuse_show.specs.Pages.{cookie_at, is_higher, WritesPage};
+
+use crate::fault::ShowFault;
+use crate::modes::{Mode, is_directory};
+use crate::names::write_name;
+use fuse_tree::{EntryRow, Look, NodeRow, rows_of_trees};
+use std::fmt;
+use std::io::Write;
+
+// How many entries of a directory are looked up at once.
+const PAGE: usize = 1024;
+
+// How many links lead to a node that has a name.
+fn links_of(row: &NodeRow) -> u64
+    ensures { result ≡ links_of_row row.now }
+{
+    if is_directory(row.mode) {
+        2 + u64::from(row.subdirs)
+    } else {
+        1
+    }
+}
+
+// What is told of a node, before its name.
+#[derive(Clone, Copy)]
+struct Told(NodeRow);
+
+impl fmt::Display for Told {
+    ghost use Rattle.std.specs.Prelude.{Some};
+    ghost use Rattle.fuse_show.specs.Listing.{row_text};
+
+    ghost output = { λ t. Some (row_text t.0) };
+
+    fn fmt<W: fmt::Write>(&self, f: &mut fmt::Formatter<W>) -> fmt::Result {
+        write!(
+            f,
+            "{} {} {} {} {} {} ",
+            Mode(self.0.mode),
+            links_of(&self.0),
+            self.0.uid,
+            self.0.gid,
+            self.0.size,
+            self.0.node
+        )
+    }
+}
+
+// Writes the line of an entry that leads to the node of this row.
+fn write_entry<W: Write>(writer: &mut W, row: &NodeRow, name: &[u8]) -> Result<(), ShowFault>
+    ensures ok { OnOk result (Appends (W.contents writer.old) (W.contents writer.new)
+        (entry_line name.now row.now)) }
+    ensures err { IfErr result (λ fault. fault ≡ ShowFault.Output) }
+{
+    write!(writer, "{}", Told(*row))?;
+    write_name(writer, name)?;
+    writer.write_all(b"\n")?;
+    Ok(())
+}
+
+// Looks up what an entry leads to, and writes its line.
+fn show_entry<L: Look, W: Write>(
+    look: &mut L,
+    entry: &EntryRow,
+    writer: &mut W,
+) -> Result<(), ShowFault>
+    requires { L.fault look.old ≡ None }
+    ensures line { ReadOff (L.is_clean look.new) (L.sees look.old) (λ rows.
+        LeadsToRow rows entry.now → WritesOut (W.contents writer.old) (W.contents writer.new)
+        (line_of rows entry.now) result) }
+    ensures looked { OnlyLooked L.fault L.looks look.old look.new result }
+{
+    let Some(row) = look.node(entry.child)? else {
+        return Err(ShowFault::NotATree);
+    };
+    write_entry(writer, &row, entry.name.as_slice())
+}
+
+// Writes the lines of entries, in order.
+fn show_entries<L: Look, W: Write>(
+    look: &mut L,
+    entries: &[EntryRow],
+    writer: &mut W,
+) -> Result<(), ShowFault>
+    requires { L.fault look.old ≡ None }
+    ensures lines { ReadOff (L.is_clean look.new) (L.sees look.old) (λ rows.
+        AllByRecursion (LeadsToRow rows) entries.now
+        → WritesOut (W.contents writer.old) (W.contents writer.new)
+        (flat_map (line_of rows) entries.now) result) }
+    ensures looked { OnlyLooked L.fault L.looks look.old look.new result }
+{
+    for entry in entries {
+        match show_entry(look, entry, writer) {
+            Ok(()) => {}
+            Err(fault) => return Err(fault),
+        }
+    }
+    Ok(())
+}
+
+// The cookie of the last entry of a page, where it is full.
+fn last_cookie(page: &[EntryRow]) -> Option<u64>
+    ensures { result ≡ cookie_at 1023 page.now }
+{
+    match page.get(PAGE - 1) {
+        Some(entry) => Some(entry.cookie),
+        None => None,
+    }
+}
+
+// Whether a cookie, if there is one, is higher than another.
+fn is_higher(cookie: Option<u64>, after: u64) -> bool
+    ensures { result ≡ is_higher cookie after }
+{
+    match cookie {
+        Some(cookie) => cookie > after,
+        None => true,
+    }
+}
+
+// Writes the lines of as many entries as a page has, behind this cookie, and tells the last one's
+// cookie where there may be more.
+fn list_page<L: Look, W: Write>(
+    look: &mut L,
+    dir: u64,
+    after: u64,
+    writer: &mut W,
+) -> Result<Option<u64>, ShowFault>
+    requires { L.fault look.old ≡ None }
+    ensures page { ReadOff (L.is_clean look.new) (L.sees look.old) (λ rows.
+        WritesPage rows dir after (W.contents writer.old) (W.contents writer.new) result) }
+    ensures higher { IfOk result (λ left. IsTrue (is_higher left after)) }
+    ensures looked { OnlyLooked L.fault L.looks look.old look.new result }
+{
+    rows_of_trees();
+    let entries = look.entries_after(dir, after, PAGE)?;
+    let last = last_cookie(entries.as_slice());
+    if !is_higher(last, after) {
+        return Err(ShowFault::NotATree);
+    }
+    match show_entries(look, entries.as_slice(), writer) {
+        Ok(()) => Ok(last),
+        Err(fault) => Err(fault),
+    }
+}
+
+/// Writes a line for each entry of a directory, in the order of the directory. It looks up some at
+/// a time.
+pub fn list<L: Look, W: Write>(look: &mut L, dir: u64, writer: &mut W) -> Result<(), ShowFault>
+    requires { L.fault look.old ≡ None }
+    ensures listed { ReadOff (L.is_clean look.new) (L.sees look.old) (λ rows.
+        WritesOut (W.contents writer.old) (W.contents writer.new) (listing rows dir) result) }
+    ensures looked { OnlyLooked L.fault L.looks look.old look.new result }
+{
+    rows_of_trees();
+    let mut left = Some(0);
+    while let Some(after) = left {
+        match list_page(look, dir, after, writer) {
+            Ok(rest) => left = rest,
+            Err(fault) => return Err(fault),
+        }
+    }
+    Ok(())
+}

@@ -1,0 +1,138 @@
+ghost use Rattle.std.specs.Prelude.{◌≡◌, ◌<◌, if◌then◌else◌, codes};
+ghost use Rattle.fuse_tree.specs.State.{is_dir, is_file};
+ghost use Rattle.fuse_show.specs.Modes.{has_bit, kind_text, run_text, class_text};
+ghost use Rattle.fuse_show.specs.Modes.{owner_text, group_text, others_text};
+
+use fuse_tree::{S_IFBLK, S_IFCHR, S_IFDIR, S_IFIFO, S_IFREG, S_IFSOCK, TYPE_UNIT, TYPES};
+use std::fmt;
+
+/// Whether a mode is that of a directory.
+pub(crate) fn is_directory(mode: u32) -> bool
+    ensures { result ≡ is_dir mode }
+{
+    mode / TYPE_UNIT % TYPES == S_IFDIR / TYPE_UNIT
+}
+
+/// Whether a mode is that of a regular file.
+pub(crate) fn is_regular_file(mode: u32) -> bool
+    ensures { result ≡ is_file mode }
+{
+    mode / TYPE_UNIT % TYPES == S_IFREG / TYPE_UNIT
+}
+
+// The letter of a type.
+fn kind_of(mode: u32) -> &'static str
+    ensures { result.now ≡ kind_text mode }
+{
+    let kind = mode / TYPE_UNIT % TYPES * TYPE_UNIT;
+    if kind == S_IFDIR {
+        "d"
+    } else if kind == S_IFCHR {
+        "c"
+    } else if kind == S_IFBLK {
+        "b"
+    } else if kind == S_IFIFO {
+        "p"
+    } else if kind == S_IFSOCK {
+        "s"
+    } else {
+        "-"
+    }
+}
+
+// Whether a mode has the bit of this value.
+fn has(mode: u32, unit: u32) -> bool
+    requires { 0 < unit }
+    ensures { result ≡ has_bit mode unit }
+{
+    mode / unit % 2 == 1
+}
+
+// The letter where the bit is set.
+fn letter(is_set: bool, letter: &'static str) -> &'static str
+    ensures { result.now ≡ (if is_set then letter.now else codes "-") }
+{
+    if is_set { letter } else { "-" }
+}
+
+// The letter of who may run it, which tells a special bit too.
+fn run_letter(runs: bool, is_special: bool, both: &'static str, alone: &'static str) -> &'static str
+    ensures { result.now ≡ run_text runs is_special both.now alone.now }
+{
+    if is_special {
+        if runs { both } else { alone }
+    } else {
+        letter(runs, "x")
+    }
+}
+
+// What a class of users may do.
+#[derive(Clone, Copy)]
+struct Class {
+    read: &'static str,
+    write: &'static str,
+    run: &'static str,
+}
+
+impl fmt::Display for Class {
+    ghost use Rattle.std.specs.Prelude.{Some};
+    ghost use Rattle.fuse_show.specs.Modes.{class_text};
+
+    ghost output = { λ c. Some (class_text c) };
+
+    fn fmt<W: fmt::Write>(&self, f: &mut fmt::Formatter<W>) -> fmt::Result {
+        write!(f, "{}{}{}", self.read, self.write, self.run)
+    }
+}
+
+fn owner_class(mode: u32) -> Class
+    ensures { class_text result ≡ owner_text mode }
+{
+    Class {
+        read: letter(has(mode, 0o400), "r"),
+        write: letter(has(mode, 0o200), "w"),
+        run: run_letter(has(mode, 0o100), has(mode, 0o4000), "s", "S"),
+    }
+}
+
+fn group_class(mode: u32) -> Class
+    ensures { class_text result ≡ group_text mode }
+{
+    Class {
+        read: letter(has(mode, 0o40), "r"),
+        write: letter(has(mode, 0o20), "w"),
+        run: run_letter(has(mode, 0o10), has(mode, 0o2000), "s", "S"),
+    }
+}
+
+fn others_class(mode: u32) -> Class
+    ensures { class_text result ≡ others_text mode }
+{
+    Class {
+        read: letter(has(mode, 0o4), "r"),
+        write: letter(has(mode, 0o2), "w"),
+        run: run_letter(has(mode, 0o1), has(mode, 0o1000), "t", "T"),
+    }
+}
+
+/// The type and the permissions of a node, in the ten letters of ls(1).
+#[derive(Clone, Copy)]
+pub(crate) struct Mode(pub(crate) u32);
+
+impl fmt::Display for Mode {
+    ghost use Rattle.std.specs.Prelude.{Some};
+    ghost use Rattle.fuse_show.specs.Modes.{mode_text};
+
+    ghost output = { λ m. Some (mode_text m.0) };
+
+    fn fmt<W: fmt::Write>(&self, f: &mut fmt::Formatter<W>) -> fmt::Result {
+        write!(
+            f,
+            "{}{}{}{}",
+            kind_of(self.0),
+            owner_class(self.0),
+            group_class(self.0),
+            others_class(self.0)
+        )
+    }
+}

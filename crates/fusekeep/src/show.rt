@@ -1,0 +1,137 @@
+// What a store holds, its directories and its files, without a mount.
+ghost use Rattle.std.specs.Prelude.{◌≡◌, None, IfOk, List, map};
+ghost use Rattle.sqlite.specs.State.{HasCleanDisk};
+ghost use Rattle.sqlite.specs.Held.{state};
+ghost use Rattle.fuse_tables.specs.Content.{Content, Counter, shown_counter};
+ghost use Rattle.fuse_tables.specs.Moves.{Rests};
+ghost use Rattle.fuse_table_look.specs.Looking.{look_fault};
+ghost use Rattle.fuse_table_look.specs.Store.{value_of};
+
+use crate::copied::open_copy;
+use fuse_commands::Ending;
+use fuse_keeper::StoreFault;
+use fuse_show::{ShowFault, TellFault, show_content, show_listing, tell};
+use fuse_table_keeper::TableKeeper;
+use fuse_table_look::TableLook;
+use fuse_tables::{begin, number_at, select_counters};
+use sqlite::{Alter, Connection, Row};
+use std::alloc::Global;
+use std::io::{self, BufWriter, Write};
+
+const SIZES: &str = "SELECT sum(size) FROM nodes";
+
+// The first of the counters that these rows show.
+fn first_counter(rows: &[Row]) -> Result<u64, StoreFault>
+    ensures { IfOk result (λ n. (cs : List Counter) → rows.now ≡ map shown_counter cs
+        → n ≡ value_of cs 0) }
+{
+    match rows.get(0) {
+        None => Err(StoreFault::NotAStore),
+        Some(row) => number_at(row, 0),
+    }
+}
+
+// The version of a store, which stands first in its `meta`. The clause speaks of the tables of
+// version 2.
+fn version_of<S: Alter>(conn: &mut Connection<S>) -> Result<u64, StoreFault>
+    ensures { HasCleanDisk (state S.Store conn.new) → IfOk result (λ n. (c : Content)
+        → Rests c (state S.Store conn.old) → n ≡ value_of c.counters 0) }
+{
+    let rows = select_counters(conn)?;
+    first_counter(rows.as_slice())
+}
+
+// How many bytes the contents of a store have.
+fn bytes_of<S: Alter>(conn: &mut Connection<S>) -> Result<u64, StoreFault> {
+    let row = conn.query_row(SIZES, &[])?;
+    number_at(&row, 0)
+}
+
+fn open_keeper<S: Alter + Drop>(
+    alloc: Global,
+    conn: Connection<S>,
+) -> Result<TableKeeper<S>, Ending> {
+    match TableKeeper::open(alloc, conn) {
+        Ok(keeper) => Ok(keeper),
+        Err((fault, _)) => Err(Ending::of(fault)),
+    }
+}
+
+// A look at the store of a database.
+fn look_at<S: Alter + Drop>(alloc: Global, conn: Connection<S>) -> Result<TableLook<S>, Ending>
+    ensures { IfOk result (λ look. look_fault look.fault ≡ None) }
+{
+    let keeper = open_keeper(alloc, conn)?;
+    let mut conn = keeper.into_connection();
+    match begin(&mut conn) {
+        Ok(_) => Ok(TableLook::new(alloc, conn)),
+        Err(error) => Err(Ending::of(StoreFault::from(error))),
+    }
+}
+
+// Tells what the store of a database holds. Its version is that before it is opened, which makes a
+// store of version 1 one of version 2.
+fn tell_of<S: Alter + Drop, W: Write>(
+    alloc: Global,
+    mut conn: Connection<S>,
+    writer: &mut W,
+) -> Result<(), Ending> {
+    let version = version_of(&mut conn);
+    let bytes = bytes_of(&mut conn);
+    let mut keeper = open_keeper(alloc, conn)?;
+    let version = version.map_err(Ending::of)?;
+    let bytes = bytes.map_err(Ending::of)?;
+    match tell(&mut keeper, version, bytes, writer) {
+        Ok(()) => Ok(()),
+        Err(TellFault::Store(fault)) => Err(Ending::of(fault)),
+        Err(TellFault::Output) => Err(Ending::PortFailed),
+    }
+}
+
+// How a run ends whose look met this fault.
+fn ending_of<S: Alter + Drop>(fault: ShowFault, look: TableLook<S>) -> Ending {
+    match fault {
+        ShowFault::Look(_) => {
+            let TableLook { fault, .. } = look;
+            fault.map_or(Ending::Damaged, Ending::of)
+        }
+        ShowFault::NotATree => Ending::Damaged,
+        ShowFault::NoSuchPath => Ending::NoSuchPath,
+        ShowFault::NotDirectory => Ending::NotDirectory,
+        ShowFault::NotFile => Ending::NotFile,
+        ShowFault::Output => Ending::PortFailed,
+    }
+}
+
+/// Tells what the store of a file holds.
+pub(crate) fn show_store(rt: &HostRuntime, file: &str) -> Result<(), Ending> {
+    let conn = open_copy(rt, file)?;
+    let Ok(mut writer) = BufWriter::new(rt.alloc(), io::writer(rt)) else {
+        return Err(Ending::Memory);
+    };
+    tell_of(rt.alloc(), conn, &mut writer)
+}
+
+/// Lists a directory of the store of a file.
+pub(crate) fn show_directory(rt: &HostRuntime, file: &str, path: &str) -> Result<(), Ending> {
+    let mut look = look_at(rt.alloc(), open_copy(rt, file)?)?;
+    let Ok(mut writer) = BufWriter::new(rt.alloc(), io::writer(rt)) else {
+        return Err(Ending::Memory);
+    };
+    match show_listing(&mut look, path.as_bytes(), &mut writer) {
+        Ok(()) => Ok(()),
+        Err(fault) => Err(ending_of(fault, look)),
+    }
+}
+
+/// Prints a file of the store of a file.
+pub(crate) fn show_file(rt: &HostRuntime, file: &str, path: &str) -> Result<(), Ending> {
+    let mut look = look_at(rt.alloc(), open_copy(rt, file)?)?;
+    let Ok(mut writer) = BufWriter::new(rt.alloc(), io::writer(rt)) else {
+        return Err(Ending::Memory);
+    };
+    match show_content(&mut look, path.as_bytes(), &mut writer) {
+        Ok(()) => Ok(()),
+        Err(fault) => Err(ending_of(fault, look)),
+    }
+}

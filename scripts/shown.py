@@ -1,0 +1,145 @@
+"""What `store`, `ls` and `cat` have to print of a store, read from a copy of its file and log by Python's own SQLite, beside what the
+program prints: each directory and each file of the tree. The bytes of all contents have to be the sum of the sizes that the program
+answers to a GETATTR of each node, too. A line for each difference; the last line counts what was compared.
+
+Usage: shown.py PROGRAM STORE"""
+import shutil
+import sqlite3
+import stat
+import struct
+import subprocess
+import sys
+import tempfile
+from pathlib import Path
+
+sys.dont_write_bytecode = True
+sys.path.insert(0, str(Path(__file__).resolve().parent.parent / "streams"))
+import messages as m  # noqa: E402
+
+BLOCK = 4096
+# An id that no record of a store has, and where an answer to GETATTR has the size.
+FREE_ID = 1 << 40
+SIZE_AT = 40
+
+NODE = "SELECT mode, subdirs, uid, gid, size, node FROM nodes WHERE node = ?"
+ENTRIES = "SELECT name, child FROM entries WHERE dir = ? ORDER BY cookie"
+META = "SELECT v FROM meta WHERE k = ?"
+
+
+def letters(mode):
+    """The ten letters of a mode."""
+    text = stat.filemode(mode)
+    return "s" + text[1:] if stat.S_ISSOCK(mode) else text
+
+
+def escaped(name):
+    """A name with its bytes that can't be printed, and backslashes, in hexadecimal."""
+    return "".join(chr(b) if 32 <= b < 127 and b != 92 else f"\\x{b:02x}" for b in name)
+
+
+def is_word(name):
+    """Whether a name can stand in a command line."""
+    try:
+        return "\0" not in name.decode()
+    except UnicodeDecodeError:
+        return False
+
+
+class Store:
+    """A copy of a store, and what has to be shown of it."""
+
+    def __init__(self, folder, file):
+        for end in ("", "-wal"):
+            if Path(file + end).exists():
+                shutil.copy(file + end, folder / f"copy{end}")
+        self.db = sqlite3.connect(folder / "copy")
+
+    def one(self, query, *values):
+        """The first value that a query finds."""
+        found = self.db.execute(query, values).fetchone()
+        return found[0] if found else None
+
+    def settings(self):
+        """What was agreed on by INIT."""
+        if not self.one(META, 7):
+            return "none"
+        minor, readahead, flags = (self.one(META, key) for key in (8, 9, 10))
+        return f"minor={minor} max_readahead={readahead} flags={flags}"
+
+    def count(self, table):
+        """How many rows a table has."""
+        return self.one(f"SELECT count(*) FROM {table}")
+
+    def told(self):
+        """The lines of the whole. The records of version 1 are one lot."""
+        version = self.one(META, 1)
+        records, lots = (self.count("answers"), 1) if version == 1 else (self.count("kept"), self.count("lots"))
+        counts = {"version": version, "nodes": self.count("nodes"), "handles": self.count("handles"), "records": records, "lots": lots,
+                  "bytes": self.one("SELECT sum(size) FROM nodes")}
+        return "".join(f"{name}={count}\n" for name, count in counts.items()) + f"settings: {self.settings()}\n"
+
+    def line(self, name, child):
+        """The line of an entry."""
+        mode, subdirs, uid, gid, size, node = self.db.execute(NODE, (child,)).fetchone()
+        links = 2 + subdirs if stat.S_ISDIR(mode) else 1
+        return f"{letters(mode)} {links} {uid} {gid} {size} {node} {escaped(name)}\n"
+
+    def content(self, node):
+        """The bytes of a file."""
+        blocks = dict(self.db.execute("SELECT block, bytes FROM blocks WHERE node = ?", (node,)))
+        size = self.one("SELECT size FROM nodes WHERE node = ?", node)
+        whole = b"".join(blocks.get(place, bytes(BLOCK)) for place in range((size + BLOCK - 1) // BLOCK))
+        return whole[:size]
+
+    def wanted(self, node=1, path=""):
+        """The words of each run over the tree under a directory, and what it has to print."""
+        entries = self.db.execute(ENTRIES, (node,)).fetchall()
+        yield ["ls", path or "/"], "".join(self.line(*entry) for entry in entries).encode()
+        for name, child in entries:
+            if is_word(name):
+                below = f"{path}/{name.decode()}"
+                mode = self.one("SELECT mode FROM nodes WHERE node = ?", child)
+                if stat.S_ISDIR(mode):
+                    yield from self.wanted(child, below)
+                elif stat.S_ISREG(mode):
+                    yield ["cat", below], self.content(child)
+
+
+def answered_bytes(program, folder, nodes):
+    """The sum of the sizes that the program answers to a GETATTR of each of these nodes, over a copy of a store."""
+    asked = b"".join(m.message(m.GETATTR, FREE_ID + 2 * at, node, bytes(16)) for at, node in enumerate(nodes))
+    words = [program, "replay", "--db", str(folder / "copy"), "--at", "1000", "-"]
+    lines = subprocess.run(words, input=asked, capture_output=True, check=False, timeout=60).stdout.splitlines()
+    answers = [bytes.fromhex(line.decode()) for line in lines if not line.startswith(b"served ")]
+    return sum(struct.unpack_from("<Q", answer, SIZE_AT)[0] for answer in answers)
+
+
+def lost_bytes(program, folder, store):
+    """How many differences there are between the sum of the sizes that are answered and the bytes that the store tells."""
+    told = store.one("SELECT sum(size) FROM nodes")
+    nodes = [node for node, in store.db.execute("SELECT node FROM nodes ORDER BY node")]
+    store.db.close()
+    answered = answered_bytes(program, folder, nodes)
+    if answered != told:
+        print(f"the nodes of {folder} have {answered} bytes together, and not {told}")
+    return int(answered != told)
+
+
+def compare(program, file):
+    """Runs the program on a store as often as there is something to be shown."""
+    lost = compared = 0
+    with tempfile.TemporaryDirectory() as folder:
+        store = Store(Path(folder), file)
+        for words, wanted in [(["store"], store.told().encode()), *store.wanted()]:
+            done = subprocess.run([program, words[0], file, *words[1:]], capture_output=True, check=False, timeout=60)
+            compared += 1
+            if (done.returncode, done.stdout, done.stderr) != (0, wanted, b""):
+                lost += 1
+                print(f"{words} of {file}: status {done.returncode}, {done.stderr!r}, {done.stdout[:200]!r} for {wanted[:200]!r}")
+        if store.settings() != "none":
+            lost += lost_bytes(program, Path(folder), store)
+    print(f"shown: {compared} compared, {lost} differ")
+    return lost
+
+
+sys.exit(1 if compare(*sys.argv[1:3]) else 0)
