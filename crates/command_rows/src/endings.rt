@@ -78,6 +78,6 @@ fn right_in(alloc: Global, rows: &[Row]) -> Result<usize, Fail> {
 fn endings(rt: HostRuntime) -> Result<(), Fail> {
     let streams = right_in(rt.alloc(), &of_streams())?;
     let others = right_in(rt.alloc(), &others())?;
-    assert_eq!(rt; [streams, others], [7, 10]);
+    assert_eq!(rt; [streams, others], [7, 14]);
     Ok(())
 }
