@@ -1,6 +1,6 @@
 use Rattle.std.proofs.Common.{All, take}
 use Rattle.fuse_keeper.specs.Group.{entry_of, HasId, IsKept}
-use Rattle.worked_rows.proofs.keepers.are_kept.Given as goal
+use Rattle.stopped_stores.proofs.groups.are_kept.Given as goal
 
 abbrev pub invariant-loop-one : goal.invariant-loop-one
 invariant-loop-one l = record {

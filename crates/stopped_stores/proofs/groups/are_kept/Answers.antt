@@ -2,7 +2,7 @@ use Rattle.std.proofs.Common.{All, subst}
 use Rattle.std.proofs.lemmas.List.{take_all}
 use Rattle.std.proofs.lemmas.List.Elements.{All-nil, All-more}
 use Rattle.fuse_keeper.specs.Group.{entry_of, HasId, IsKept}
-use Rattle.worked_rows.proofs.keepers.are_kept.Goals as goal
+use Rattle.stopped_stores.proofs.groups.are_kept.Goals as goal
 
 pub loop-one-init : goal.loop-one-init
 loop-one-init c = record { ids = All-nil (λ p. HasId (entry_of p)); kept = All-nil (λ p. IsKept (entry_of p)) }
