@@ -4,19 +4,15 @@ ghost use Rattle.sqlite_disk.specs.Memory.{memory_is_usable};
 
 use fuse_commands::Ending;
 use fuse_table_keeper::opening_fault;
-use os::RangeLock;
 use sqlite::{Connection, FileStore, Files, Options};
 use sqlite_disk::{Disk, Memory};
 use std::alloc::Global;
 use std::fs;
 use std::io::{self, Read};
-use std::os::fd::AsRawFd;
 use std::os::unix::fs::MetadataExt;
 
-/// The bytes of a file that SQLite locks: those of the locks that are pending, reserved and shared.
-const LOCKED_FROM: u64 = 1 << 30;
-
-const LOCKED_BYTES: u64 = 512;
+// How often a store is read, where a server writes it meanwhile.
+const TRIES: usize = 8;
 
 // What is said of a file that can't be read.
 fn refusal(error: &io::Error) -> Ending {
@@ -27,31 +23,21 @@ fn refusal(error: &io::Error) -> Ending {
     }
 }
 
-// Keeps others from writing the file as long as it is open here. A server that has it open keeps
-// this from it.
-fn lock(file: &fs::File) -> Result<(), Ending> {
-    let kind = RangeLock::Shared;
-    if os::try_lock_range(file.as_raw_fd(), kind, LOCKED_FROM, LOCKED_BYTES) == 0 {
-        return Ok(());
-    }
-    let error = io::Error::from_raw_os_error(os::errno());
-    if error.kind() == io::ErrorKind::WouldBlock {
-        Err(Ending::Busy)
-    } else {
-        Err(Ending::Sql)
+// What a reader gives.
+fn read_all<R: Read + Drop>(alloc: Global, mut reader: R) -> Result<Vec<u8>, Ending> {
+    let mut bytes = Vec::new(alloc);
+    match reader.read_to_end(&mut bytes) {
+        Ok(_) => Ok(bytes),
+        Err(error) => Err(refusal(&error)),
     }
 }
 
-// A file in memory of what a reader gives.
-fn disk_of<R: Read + Drop>(alloc: Global, mut reader: R) -> Result<Memory, Ending>
+// A file in memory that holds these bytes.
+fn disk_of(alloc: Global, bytes: &[u8]) -> Result<Memory, Ending>
     ensures { IfOk result (λ disk. IsTrue (memory_is_usable disk)) }
 {
-    let mut bytes = Vec::new(alloc);
-    if let Err(error) = reader.read_to_end(&mut bytes) {
-        return Err(refusal(&error));
-    }
     let mut disk = Memory::new(alloc);
-    match disk.write_at(0, bytes.as_slice()) {
+    match disk.write_at(0, bytes) {
         Ok(()) => Ok(disk),
         Err(_) => Err(Ending::Memory),
     }
@@ -71,14 +57,11 @@ fn find_file(rt: &HostRuntime, path: &str) -> Result<Option<fs::File>, Ending> {
     }
 }
 
-// A file in memory of the log of this path, which may be missing.
-fn log_of(rt: &HostRuntime, path: &str) -> Result<Memory, Ending>
-    ensures { IfOk result (λ disk. IsTrue (memory_is_usable disk)) }
-{
-    match find_file(rt, path) {
-        Ok(Some(file)) => disk_of(rt.alloc(), file),
-        Ok(None) => Ok(Memory::new(rt.alloc())),
-        Err(ending) => Err(ending),
+// What the log of this path holds, which may be missing.
+fn read_log(rt: &HostRuntime, path: &str) -> Result<Vec<u8>, Ending> {
+    match find_file(rt, path)? {
+        Some(file) => read_all(rt.alloc(), file),
+        None => Ok(Vec::new(rt.alloc())),
     }
 }
 
@@ -103,22 +86,47 @@ fn begins_a_journal(rt: &HostRuntime, path: &str) -> bool {
     }
 }
 
-// The files of a database in memory, copied while nobody writes them.
+// What the file of this path holds.
+fn read_file(rt: &HostRuntime, path: &str) -> Result<Vec<u8>, Ending> {
+    match find_file(rt, path)? {
+        Some(file) => read_all(rt.alloc(), file),
+        None => Err(Ending::NotAStore),
+    }
+}
+
+// The files of a database in memory. What is written goes to the log first, and what goes from there
+// into the file is in the log still: where that is the same before and behind the reading of the
+// file, both together are what was committed then.
 fn files_of(rt: &HostRuntime, file: &str) -> Result<Files<Memory>, Ending>
     ensures log { IfOk result (λ files. IsTrue (memory_is_usable files.log)) }
     ensures db { IfOk result (λ files. IsTrue (memory_is_usable files.db)) }
 {
-    let found = find_file(rt, file)?;
-    let Some(found) = found else {
-        return Err(Ending::NotAStore);
-    };
-    lock(&found)?;
     if has_journal(rt, format!(in rt.alloc(); "{file}-journal")?.as_str()) {
         return Err(Ending::Sql);
     }
-    let log = log_of(rt, format!(in rt.alloc(); "{file}-wal")?.as_str())?;
-    let db = disk_of(rt.alloc(), found)?;
+    let path = format!(in rt.alloc(); "{file}-wal")?;
+    let before = read_log(rt, path.as_str())?;
+    let found = read_file(rt, file)?;
+    if read_log(rt, path.as_str())?.as_slice() != before.as_slice() {
+        return Err(Ending::Busy);
+    }
+    let log = disk_of(rt.alloc(), before.as_slice())?;
+    let db = disk_of(rt.alloc(), found.as_slice())?;
     Ok(Files { log, db })
+}
+
+// The same, read again where a server wrote it meanwhile.
+fn files_at_rest(rt: &HostRuntime, file: &str) -> Result<Files<Memory>, Ending>
+    ensures log { IfOk result (λ files. IsTrue (memory_is_usable files.log)) }
+    ensures db { IfOk result (λ files. IsTrue (memory_is_usable files.db)) }
+{
+    for _ in 0..TRIES {
+        match files_of(rt, file) {
+            Err(Ending::Busy) => {}
+            read => return read,
+        }
+    }
+    Err(Ending::Busy)
 }
 
 // Names that SQLite takes for something else than a file.
@@ -140,7 +148,7 @@ pub(crate) fn open_copy(
     if is_no_file_name(file) {
         return Err(Ending::Sql);
     }
-    let files = files_of(rt, real.as_str())?;
+    let files = files_at_rest(rt, real.as_str())?;
     match Connection::open_files(rt.alloc(), files, Options::new(0)) {
         Ok(conn) => Ok(conn),
         Err((error, _)) => Err(Ending::of(opening_fault(error))),
