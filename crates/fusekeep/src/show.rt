@@ -31,8 +31,8 @@ fn first_counter(rows: &[Row]) -> Result<u64, StoreFault>
     }
 }
 
-// The version of a store, which stands first in its `meta`. A view in its place may have no end. The
-// clause speaks of the tables of version 2.
+// The version of a store, which stands first in its `meta`. A view in its place may have no end.
+// The clause speaks of the tables of version 2.
 fn version_of<S: Alter>(conn: &mut Connection<S>) -> Result<u64, StoreFault>
     ensures { HasCleanDisk (state S.Store conn.new) → IfOk result (λ n. (c : Content)
         → Rests c (state S.Store conn.old) → n ≡ value_of c.counters 0) }
