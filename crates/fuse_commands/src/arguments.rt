@@ -221,7 +221,12 @@ fn look_command<'a>(
 
 fn store_command<'a>(alloc: Global) -> Result<Command<'a>, AllocError> {
     let about = "Tells what a store holds, without a mount";
-    look_command(alloc, STORE, about, "Example:\n  fusekeep store notes.store")
+    look_command(
+        alloc,
+        STORE,
+        about,
+        "Example:\n  fusekeep store notes.store",
+    )
 }
 
 fn list_command<'a>(alloc: Global) -> Result<Command<'a>, AllocError> {

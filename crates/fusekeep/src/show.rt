@@ -31,17 +31,20 @@ fn first_counter(rows: &[Row]) -> Result<u64, StoreFault>
     }
 }
 
-// The version of a store, which stands first in its `meta`. The clause speaks of the tables of
-// version 2.
+// The version of a store, which stands first in its `meta`. A view in its place may have no end.
+// The clause speaks of the tables of version 2.
 fn version_of<S: Alter>(conn: &mut Connection<S>) -> Result<u64, StoreFault>
     ensures { HasCleanDisk (state S.Store conn.new) → IfOk result (λ n. (c : Content)
         → Rests c (state S.Store conn.old) → n ≡ value_of c.counters 0) }
 {
+    if conn.schema().table_named(b"meta").is_none() {
+        return Err(StoreFault::NotAStore);
+    }
     let rows = select_counters(conn)?;
     first_counter(rows.as_slice())
 }
 
-// How many bytes the contents of a store have.
+// How many bytes the contents of a store have that was opened, so that its tables are tables.
 fn bytes_of<S: Alter>(conn: &mut Connection<S>) -> Result<u64, StoreFault> {
     let row = conn.query_row(SIZES, &[])?;
     number_at(&row, 0)
@@ -77,10 +80,10 @@ fn tell_of<S: Alter + Drop, W: Write>(
     writer: &mut W,
 ) -> Result<(), Ending> {
     let version = version_of(&mut conn);
-    let bytes = bytes_of(&mut conn);
-    let mut keeper = open_keeper(alloc, conn)?;
+    let mut conn = open_keeper(alloc, conn)?.into_connection();
     let version = version.map_err(Ending::of)?;
-    let bytes = bytes.map_err(Ending::of)?;
+    let bytes = bytes_of(&mut conn).map_err(Ending::of)?;
+    let mut keeper = open_keeper(alloc, conn)?;
     match tell(&mut keeper, version, bytes, writer) {
         Ok(()) => Ok(()),
         Err(TellFault::Store(fault)) => Err(Ending::of(fault)),
