@@ -37,7 +37,7 @@ pub enum Ending {
     Version(u64),
     /// The store doesn't hold what a store holds.
     Damaged,
-    /// Another process has the store open.
+    /// A server wrote the store each time that it was read.
     Busy,
     /// By what INIT agreed on, the kernel doesn't know the notice that asks for a resend.
     NotOffered,
