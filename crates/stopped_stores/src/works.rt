@@ -22,7 +22,7 @@ fn is_right(tally: &Tally, least: [u64; 3]) -> bool {
     let [stops, halves, whole] = least;
     tally.ended
         && tally.neither == 0
-        && tally.before >= tally.stops / 2
+        && tally.before > 0
         && tally.stops >= stops
         && tally.halves >= halves
         && tally.whole >= whole
@@ -40,41 +40,41 @@ fn stopped(rt: &HostRuntime, work: Work, log: [u64; 3], file: [u64; 3]) -> Resul
 #[test]
 fn a_store_is_made(rt: HostRuntime) -> Result<(), Fail> {
     let work = Work::at_once(State::NOTHING, State::second(0));
-    assert!(rt; stopped(&rt, work, [40, 20, 1], [12, 3, 0])?);
+    assert!(rt; stopped(&rt, work, [40, 20, 1], [15, 4, 0])?);
     Ok(())
 }
 
 #[test]
 fn a_mount_begins(rt: HostRuntime) -> Result<(), Fail> {
     let work = Work::at_once(State::second(MORE), MOUNTED);
-    assert!(rt; stopped(&rt, work, [40, 5, 1], [12, 3, 0])?);
+    assert!(rt; stopped(&rt, work, [80, 8, 1], [60, 6, 0])?);
     Ok(())
 }
 
 #[test]
 fn a_store_is_migrated(rt: HostRuntime) -> Result<(), Fail> {
     let work = Work::at_once(FIRST, State::second(MESSAGES));
-    assert!(rt; stopped(&rt, work, [40, 5, 1], [12, 3, 0])?);
+    assert!(rt; stopped(&rt, work, [80, 10, 1], [50, 4, 0])?);
     Ok(())
 }
 
 #[test]
 fn the_run_in_one_group(rt: HostRuntime) -> Result<(), Fail> {
     let work = Work::at_once(State::second(0), State::second(MESSAGES));
-    assert!(rt; stopped(&rt, work, [40, 5, 1], [12, 3, 0])?);
+    assert!(rt; stopped(&rt, work, [250, 20, 1], [30, 12, 0])?);
     Ok(())
 }
 
 #[test]
 fn the_first_groups(rt: HostRuntime) -> Result<(), Fail> {
     let work = Work::in_groups(State::second(0), State::second(4));
-    assert!(rt; stopped(&rt, work, [40, 5, 4], [12, 3, 0])?);
+    assert!(rt; stopped(&rt, work, [250, 20, 4], [60, 25, 0])?);
     Ok(())
 }
 
 #[test]
 fn the_last_groups(rt: HostRuntime) -> Result<(), Fail> {
     let work = Work::in_groups(State::second(4), State::second(MESSAGES));
-    assert!(rt; stopped(&rt, work, [40, 5, 4], [12, 3, 0])?);
+    assert!(rt; stopped(&rt, work, [140, 20, 4], [90, 20, 0])?);
     Ok(())
 }
