@@ -44,13 +44,20 @@ fn refuse<R: Eprint>(rt: &R, error: Error) -> Ending {
     Ending::Usage
 }
 
+// The words that the program is called with.
+fn words_of(rt: &HostRuntime) -> Result<Vec<String>, Ending> {
+    match env::args(rt) {
+        Ok(words) => Ok(words.collect::<Vec<String>>(rt.alloc())?),
+        Err(error) if error.kind() == io::ErrorKind::OutOfMemory => Err(Ending::Memory),
+        Err(_) => Err(refuse(rt, unreadable(rt.alloc()))),
+    }
+}
+
 // Runs what the words ask for.
 fn run(rt: &HostRuntime) -> Ending {
-    let Ok(words) = env::args(rt) else {
-        return refuse(rt, unreadable(rt.alloc()));
-    };
-    let Ok(words) = words.collect::<Vec<String>>(rt.alloc()) else {
-        return Ending::Memory;
+    let words = match words_of(rt) {
+        Ok(words) => words,
+        Err(ending) => return ending,
     };
     match parse(rt.alloc(), words.as_slice()) {
         Ok(Run::Serve { db, begin, at }) => serve_as_asked(rt, db, begin, at),
