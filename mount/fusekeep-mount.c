@@ -77,26 +77,53 @@ static const char *ending(const struct keeper *k, int status) {
 
 /* What has to be there before a mount begins. */
 
-/* The engine: what FUSEKEEP names, else what is built in the tree that this program is of or stands beside it, else what PATH
- * leads to, which mount(8) doesn't hand on. */
-static bool find_engine(struct keeper *k) {
+static bool is_program(const char *path) {
+  struct stat found;
+  if (stat(path, &found) != 0) return false;
+  if (!S_ISREG(found.st_mode)) return errno = EACCES, false;
+  return access(path, X_OK) == 0;
+}
+
+/* Whether PATH leads to a program of this name. */
+static bool is_on_path(const char *name) {
+  char path[2 * PATH_MAX];
+  const char *folder = getenv("PATH");
+  if (!folder) folder = "/bin:/usr/bin";
+  for (;;) {
+    size_t length = strcspn(folder, ":");
+    snprintf(path, sizeof path, "%.*s/%s", (int)length, length > 0 ? folder : ".", name);
+    if (is_program(path)) return true;
+    if (!folder[length]) return false;
+    folder += length + 1;
+  }
+}
+
+/* The engine beside this program: what is built in the tree that it is of, or stands in its folder. */
+static bool find_near(struct keeper *k) {
   static const char *const near[] = {"../../crates/fusekeep/out/fusekeep", "fusekeep"};
   static char path[PATH_MAX + 64];
-  const char *named = getenv("FUSEKEEP");
-  k->engine = named ? named : "fusekeep";
-  if (named && strchr(named, '/')) {
-    if (!realpath(named, path)) return refused(named);
-    k->engine = path;
-  }
-  if (named) return true;
   ssize_t length = readlink("/proc/self/exe", path, PATH_MAX);
   while (length > 0 && path[length - 1] != '/') length--;
-  if (length <= 0) return true;
-  for (size_t i = 0; i < sizeof near / sizeof *near; i++) {
+  for (size_t i = 0; length > 0 && i < sizeof near / sizeof *near; i++) {
     strcpy(path + length, near[i]);
-    if (access(path, X_OK) == 0) return k->engine = path, true;
+    if (is_program(path)) return k->engine = path, true;
   }
-  return true;
+  return false;
+}
+
+/* The engine: what FUSEKEEP names, else the one beside this program, else what PATH leads to, which mount(8) doesn't hand on. */
+static bool find_engine(struct keeper *k) {
+  static char path[PATH_MAX];
+  const char *named = getenv("FUSEKEEP");
+  if (!named && find_near(k)) return true;
+  k->engine = named ? named : "fusekeep";
+  if (strchr(k->engine, '/')) {
+    if (!realpath(named, path) || !is_program(path)) return refused(named);
+    return k->engine = path, true;
+  }
+  if (is_on_path(k->engine)) return true;
+  say("the engine, %s, is neither beside this program nor on PATH", k->engine);
+  return false;
 }
 
 static bool find_mountpoint(struct keeper *k, const char *mountpoint) {
@@ -402,7 +429,7 @@ static bool take_signals(struct keeper *k) {
 }
 
 static int run(struct keeper *k, const char *store, const char *mountpoint) {
-  if (!find_engine(k) || !hold_store(k, store) || !find_mountpoint(k, mountpoint)) return FAILED;
+  if (!find_engine(k) || !find_mountpoint(k, mountpoint) || !hold_store(k, store)) return FAILED;
   int status = begin_in_store(k);
   if (status != 0) return status;
   if (!take_signals(k) || !(geteuid() == 0 ? mount_as_root(k) : mount_by_fusermount(k))) return FAILED;

@@ -18,6 +18,11 @@ refusals() {
   refuses 2 ".*the option no_such_option isn't known" "$program" -o no_such_option store || return 1
   "$program" store missing 2>line
   expect "no mountpoint has status 1" [ $? -eq 1 ] || return 1
+  mkdir alone && cp "$program" alone
+  refuses 1 ".*the engine, fusekeep, is neither .*" env -u FUSEKEEP PATH="$PWD/mnt" "$PWD/alone/fusekeep-mount" store || return 1
+  refuses 1 ".*: ./mnt: Permission denied" env FUSEKEEP=./mnt "$program" store || return 1
+  expect "no store is made" [ ! -e store ] || return 1
+  expect "no lock is made" [ ! -e store-mount ] || return 1
   printf 'this is no store, and was never one' >junk
   refuses 3 "store: NotAStore" "$program" junk || return 1
   mkdir first
