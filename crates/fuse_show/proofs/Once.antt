@@ -1,13 +1,16 @@
 -- Just one thing is found by names.
-use Rattle.std.proofs.Common.{◌≡◌, ℕ, true, false, List, [], ◌∷◌, ◌++◌, Option, Some, None, refl, sym, ap, subst, ◌∙◌}
+use Rattle.std.proofs.Common.{◌≡◌, ◌⊎◌, ℕ, Bool, true, false, List, [], ◌∷◌, ◌++◌, Option, Some, None, inl, inr, refl, sym, ap, subst, ◌∙◌}
 use Rattle.std.specs.Prelude.{Result, Ok, Err}
 use Rattle.fuse_tree.specs.declared.rows.NodeRow.{NodeRow}
 use Rattle.fuse_tree.specs.declared.rows.EntryRow.{EntryRow}
 use Rattle.fuse_tree.specs.State.{is_dir}
-use Rattle.fuse_tree.specs.Rows.{Rows, row_at, entry_at}
+use Rattle.fuse_tree.specs.Bounds.{fuse_root_id}
+use Rattle.fuse_tree.specs.Rows.{Rows, IsRowed, row_at, entry_at}
+use Rattle.fuse_tree.specs.RowsOfTrees.{RowsOfTrees}
 use Rattle.fuse_show.specs.declared.fault.ShowFault.{ShowFault}
 use Rattle.fuse_show.specs.declared.fault.ShowFault.TheVariants.{Look, NotATree, NoSuchPath, NotDirectory, NotFile, Output}
-use Rattle.fuse_show.specs.Finding.{LeadsBy, Lead, LeadTo, Stops, HasNone, IsNoDirectory, Finds, IsTold, FoundOnce}
+use Rattle.fuse_show.specs.Finding.{LeadsBy, Lead, LeadTo, Stops, HasNone, IsNoDirectory, Finds, IsTold, FindsSomething, FoundOnce}
+use Rattle.fuse_show.proofs.Trees.{root_there, child_row}
 
 some_once : {A : Type 0} (x y : A) (o : Option A) → o ≡ Some x → o ≡ Some y → x ≡ y
 some_once x y o p q = cc
@@ -131,3 +134,78 @@ found_once rows names (Err NoSuchPath) b told told' p q = none_or rows names b t
 found_once rows names (Err NotDirectory) b told told' p q = no_directory_or rows names b told' p q
 found_once rows names (Err NotFile) b told told' p q = absurd p
 found_once rows names (Err Output) b told told' p q = absurd p
+
+-- ---- something is found
+
+-- names stop on their way from a node
+record StopsFrom (rows : Rows) (from : NodeRow) (names : List (List ℕ)) : Type 0 where
+  pub front : List (List ℕ)
+  pub name : List ℕ
+  pub behind : List (List ℕ)
+  pub parts : names ≡ front ++ name ∷ behind
+  pub last : NodeRow
+  pub lead : Lead rows from front last
+  pub why : HasNone rows last name ⊎ IsNoDirectory last name
+
+abbrev GoesFrom : Rows → NodeRow → List (List ℕ) → Type 0
+GoesFrom rows from names = ((to : NodeRow) × Lead rows from names to) ⊎ StopsFrom rows from names
+
+-- it goes on from the next node as from there
+goes_on : (rows : Rows) (from next : NodeRow) (name : List ℕ) (names : List (List ℕ)) → LeadsBy rows from name next → GoesFrom rows next names
+    → GoesFrom rows from (name ∷ names)
+goes_on rows from next name names one (inl p) = inl (p.0, (next, one, p.1))
+goes_on rows from next name names one (inr s) = inr (record {
+  front = name ∷ s.front;
+  name = s.name;
+  behind = s.behind;
+  parts = ap (λ (x : List (List ℕ)). name ∷ x) s.parts;
+  last = s.last;
+  lead = (next, one, s.lead);
+  why = s.why;
+})
+
+stops_here : (rows : Rows) (from : NodeRow) (name : List ℕ) (names : List (List ℕ)) → HasNone rows from name ⊎ IsNoDirectory from name
+    → GoesFrom rows from (name ∷ names)
+stops_here rows from name names why =
+    inr (record { front = []; name = name; behind = names; parts = refl; last = from; lead = refl; why = why })
+
+goes_from : RowsOfTrees → (rows : Rows) → IsRowed rows → (names : List (List ℕ)) (from : NodeRow) → GoesFrom rows from names
+goes_from law rows is [] from = inl (from, refl)
+goes_from law rows is (name ∷ names) from = of_dir (λ next. goes_from law rows is names next) (is_dir from.mode) refl
+  where
+    of_child : ((next : NodeRow) → GoesFrom rows next names) → (entry : EntryRow) → is_dir from.mode ≡ true
+        → entry_at rows.entries from.node name ≡ Some entry → (o : Option NodeRow) → row_at rows entry.child ≡ o → GoesFrom rows from (name ∷ names)
+    of_child more entry dir found None child = absurd (child_row law rows from.node name entry is found child)
+    of_child more entry dir found (Some next) child =
+        goes_on rows from next name names (record { entry = entry; dir = dir; found = found; child = child }) (more next)
+
+    of_entry : ((next : NodeRow) → GoesFrom rows next names) → is_dir from.mode ≡ true → (o : Option EntryRow)
+        → entry_at rows.entries from.node name ≡ o → GoesFrom rows from (name ∷ names)
+    of_entry more dir None found = stops_here rows from name names (inl (dir, found))
+    of_entry more dir (Some entry) found = of_child more entry dir found (row_at rows entry.child) refl
+
+    of_dir : ((next : NodeRow) → GoesFrom rows next names) → (b : Bool) → is_dir from.mode ≡ b → GoesFrom rows from (name ∷ names)
+    of_dir more true dir = of_entry more dir (entry_at rows.entries from.node name) refl
+    of_dir more false dir = stops_here rows from name names (inr dir)
+
+-- what is found where it went so
+found_so : (rows : Rows) (names : List (List ℕ)) (root : NodeRow) → row_at rows fuse_root_id ≡ Some root → GoesFrom rows root names
+    → (found : Result NodeRow ShowFault) × IsTold found × Finds rows names found
+found_so rows names root here (inl p) = (Ok p.0, tt, record { root = root; is_root = here; lead = p.1 })
+found_so rows names root here (inr s) = of_why s.why
+  where
+    leads : LeadTo rows s.front s.last
+    leads = record { root = root; is_root = here; lead = s.lead }
+
+    of_why : HasNone rows s.last s.name ⊎ IsNoDirectory s.last s.name → (found : Result NodeRow ShowFault) × IsTold found × Finds rows names found
+    of_why (inl why) =
+        (Err NoSuchPath, tt, record { front = s.front; name = s.name; behind = s.behind; parts = s.parts; last = s.last; leads = leads; why = why })
+    of_why (inr why) =
+        (Err NotDirectory, tt, record { front = s.front; name = s.name; behind = s.behind; parts = s.parts; last = s.last; leads = leads; why = why })
+
+pub finds_something : RowsOfTrees → FindsSomething
+finds_something law rows names is = of_root (row_at rows fuse_root_id) refl
+  where
+    of_root : (o : Option NodeRow) → row_at rows fuse_root_id ≡ o → (found : Result NodeRow ShowFault) × IsTold found × Finds rows names found
+    of_root None root = absurd (root_there law rows is root)
+    of_root (Some root) here = found_so rows names root here (goes_from law rows is names root)

@@ -6,7 +6,8 @@ use Rattle.fuse_show.specs.declared.fault.ShowFault.{ShowFault}
 use Rattle.fuse_show.specs.declared.fault.ShowFault.TheVariants.{Look, NotATree, NoSuchPath, NotDirectory, NotFile, Output}
 use Rattle.fuse_show.specs.Looks.{WritesOut, look_fault}
 use Rattle.fuse_show.specs.Finding.{Finds}
-use Rattle.fuse_show.specs.Showing.{ShowsListing, ShowsContent}
+use Rattle.fuse_tree.specs.State.{is_dir, is_file}
+use Rattle.fuse_show.specs.Showing.{ShowsListing, ShowsContent, IsOne}
 
 -- nothing is found
 pub lists_none : (rows : Rows) (names : List (List ℕ)) (w : Option (List ℕ)) (f : ShowFault) → Finds rows names (Err f) → ShowsListing rows names w w (Err f)
@@ -15,7 +16,7 @@ lists_none rows names w NotATree so = so
 lists_none rows names w NoSuchPath so = (so, refl)
 lists_none rows names w NotDirectory so = (inl so, refl)
 lists_none rows names w NotFile so = so
-lists_none rows names w Output so = tt
+lists_none rows names w Output so = absurd so
 
 pub prints_none : (rows : Rows) (names : List (List ℕ)) (w : Option (List ℕ)) (f : ShowFault) → Finds rows names (Err f) → ShowsContent rows names w w (Err f)
 prints_none rows names w (Look f) so = tt
@@ -23,23 +24,25 @@ prints_none rows names w NotATree so = so
 prints_none rows names w NoSuchPath so = (so, refl)
 prints_none rows names w NotDirectory so = (so, refl)
 prints_none rows names w NotFile so = absurd so
-prints_none rows names w Output so = tt
+prints_none rows names w Output so = absurd so
 
 -- what is found can't be looked at or written
 pub listing_fails : (rows : Rows) (names : List (List ℕ)) (old a b : Option (List ℕ)) (text : List ℕ) (f : ShowFault)
-    → (look_fault {X = Unit {0}} (Err f) ≡ None → WritesOut a b text (Err f)) → ShowsListing rows names old b (Err f)
-listing_fails rows names old a b text (Look f) so = tt
-listing_fails rows names old a b text NotATree so = so refl
-listing_fails rows names old a b text NoSuchPath so = absurd (so refl)
-listing_fails rows names old a b text NotDirectory so = absurd (so refl)
-listing_fails rows names old a b text NotFile so = so refl
-listing_fails rows names old a b text Output so = tt
+    → (look_fault {X = Unit {0}} (Err f) ≡ None → WritesOut a b text (Err f)) → (look_fault {X = Unit {0}} (Err f) ≡ None → IsOne rows names is_dir)
+    → ShowsListing rows names old b (Err f)
+listing_fails rows names old a b text (Look f) so one = tt
+listing_fails rows names old a b text NotATree so one = so refl
+listing_fails rows names old a b text NoSuchPath so one = absurd (so refl)
+listing_fails rows names old a b text NotDirectory so one = absurd (so refl)
+listing_fails rows names old a b text NotFile so one = so refl
+listing_fails rows names old a b text Output so one = one refl
 
 pub content_fails : (rows : Rows) (names : List (List ℕ)) (old a b : Option (List ℕ)) (text : List ℕ) (f : ShowFault)
-    → (look_fault {X = Unit {0}} (Err f) ≡ None → WritesOut a b text (Err f)) → ShowsContent rows names old b (Err f)
-content_fails rows names old a b text (Look f) so = tt
-content_fails rows names old a b text NotATree so = so refl
-content_fails rows names old a b text NoSuchPath so = absurd (so refl)
-content_fails rows names old a b text NotDirectory so = absurd (so refl)
-content_fails rows names old a b text NotFile so = absurd (so refl)
-content_fails rows names old a b text Output so = tt
+    → (look_fault {X = Unit {0}} (Err f) ≡ None → WritesOut a b text (Err f)) → (look_fault {X = Unit {0}} (Err f) ≡ None → IsOne rows names is_file)
+    → ShowsContent rows names old b (Err f)
+content_fails rows names old a b text (Look f) so one = tt
+content_fails rows names old a b text NotATree so one = so refl
+content_fails rows names old a b text NoSuchPath so one = absurd (so refl)
+content_fails rows names old a b text NotDirectory so one = absurd (so refl)
+content_fails rows names old a b text NotFile so one = absurd (so refl)
+content_fails rows names old a b text Output so one = one refl

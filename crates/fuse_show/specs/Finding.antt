@@ -4,7 +4,7 @@ use Rattle.fuse_tree.specs.Bounds.{fuse_root_id}
 use Rattle.fuse_tree.specs.declared.rows.NodeRow.{NodeRow}
 use Rattle.fuse_tree.specs.declared.rows.EntryRow.{EntryRow}
 use Rattle.fuse_tree.specs.State.{is_dir}
-use Rattle.fuse_tree.specs.Rows.{Rows, row_at, entry_at}
+use Rattle.fuse_tree.specs.Rows.{Rows, IsRowed, row_at, entry_at}
 use Rattle.fuse_show.specs.declared.fault.ShowFault.{ShowFault}
 use Rattle.fuse_show.specs.declared.fault.ShowFault.TheVariants.{Look, NotATree, NoSuchPath, NotDirectory, NotFile, Output}
 
@@ -84,7 +84,11 @@ IsTold (Err NotDirectory) = Unit {0}
 IsTold (Err NotFile) = Unit {0}
 IsTold (Err Output) = Unit {0}
 
--- ---- a law
+-- ---- laws
+
+-- in a tree something is found by any names, and not by the fault of a look
+abbrev pub FindsSomething : Type 0
+FindsSomething = (rows : Rows) (names : List (List ℕ)) → IsRowed rows → (found : Result NodeRow ShowFault) × IsTold found × Finds rows names found
 
 -- just one of all that may be found is so
 abbrev pub FoundOnce : Type 0

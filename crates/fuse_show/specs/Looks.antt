@@ -1,5 +1,5 @@
 -- What is said of the rows behind a look, how a look's fault is told, and what is written (own profile).
-use Rattle.std.specs.Prelude.{◌≡◌, List, ℕ, Option, Some, None, Result, Ok, Err}
+use Rattle.std.specs.Prelude.{◌≡◌, List, ℕ, Bool, true, false, Option, Some, None, Result, Ok, Err}
 use Rattle.std.specs.Io.KnownBytes.{Appends}
 use Rattle.fuse_tree.specs.declared.look.LookFault.{LookFault}
 use Rattle.fuse_tree.specs.Rows.{Rows, IsRowed}
@@ -15,6 +15,24 @@ look_fault (Err NoSuchPath) = None
 look_fault (Err NotDirectory) = None
 look_fault (Err NotFile) = None
 look_fault (Err Output) = None
+
+-- the path is why nothing is shown
+abbrev pub is_of_path : ShowFault → Bool
+is_of_path (Look f) = false
+is_of_path NotATree = false
+is_of_path NoSuchPath = true
+is_of_path NotDirectory = true
+is_of_path NotFile = true
+is_of_path Output = false
+
+-- why nothing may be found
+abbrev pub is_of_finding : ShowFault → Bool
+is_of_finding (Look f) = true
+is_of_finding NotATree = true
+is_of_finding NoSuchPath = true
+is_of_finding NotDirectory = true
+is_of_finding NotFile = false
+is_of_finding Output = false
 
 -- where nothing wrong was taken, this is so of the rows of a tree that lie behind
 abbrev pub ReadOff : Type 0 → (Rows → Type 0) → (Rows → Type 0) → Type 0

@@ -17,6 +17,12 @@ pub record ShowsOf (rows : Rows) (names : List (List ℕ)) (test : ℕ → Bool)
   pub is : test place.mode ≡ true
   pub written : Appends old new (text place.node)
 
+-- the names lead to a node whose mode passes this test
+pub record IsOne (rows : Rows) (names : List (List ℕ)) (test : ℕ → Bool) : Type 0 where
+  pub place : NodeRow
+  pub leads : LeadTo rows names place
+  pub is : test place.mode ≡ true
+
 -- the names lead to a node whose mode doesn't pass this test
 pub record IsOther (rows : Rows) (names : List (List ℕ)) (test : ℕ → Bool) : Type 0 where
   pub place : NodeRow
@@ -31,7 +37,7 @@ ShowsListing rows names old new (Err NotATree) = ⊥
 ShowsListing rows names old new (Err NoSuchPath) = Stops rows names (HasNone rows) × (new ≡ old)
 ShowsListing rows names old new (Err NotDirectory) = (Stops rows names IsNoDirectory ⊎ IsOther rows names is_dir) × (new ≡ old)
 ShowsListing rows names old new (Err NotFile) = ⊥
-ShowsListing rows names old new (Err Output) = Unit {0}
+ShowsListing rows names old new (Err Output) = IsOne rows names is_dir
 
 -- the bytes of the regular file to which the names lead, or why there are none
 abbrev pub ShowsContent : Rows → List (List ℕ) → Option (List ℕ) → Option (List ℕ) → Result (Unit {0}) ShowFault → Type 0
@@ -41,4 +47,4 @@ ShowsContent rows names old new (Err NotATree) = ⊥
 ShowsContent rows names old new (Err NoSuchPath) = Stops rows names (HasNone rows) × (new ≡ old)
 ShowsContent rows names old new (Err NotDirectory) = Stops rows names IsNoDirectory × (new ≡ old)
 ShowsContent rows names old new (Err NotFile) = IsOther rows names is_file × (new ≡ old)
-ShowsContent rows names old new (Err Output) = Unit {0}
+ShowsContent rows names old new (Err Output) = IsOne rows names is_file

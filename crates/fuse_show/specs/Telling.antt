@@ -1,7 +1,14 @@
 -- The lines that tell what a store holds (own profile).
-use Rattle.std.specs.Prelude.{ℕ, List, ◌++◌, codes, decimal, Option, Some, None}
+use Rattle.std.specs.Prelude.{ℕ, List, ◌++◌, codes, decimal, Option, Some, None, Result, Ok, Err, OnOk}
 use Rattle.fuse_init.specs.declared.settings.Settings.{Settings}
+use Rattle.fuse_keeper.specs.declared.fault.StoreFault.{StoreFault}
 use Rattle.fuse_keeper.specs.declared.keeper.StoreCounts.{StoreCounts}
+use Rattle.fuse_keeper.specs.Lots.{SameLots}
+use Rattle.fuse_keeper.specs.Model.{Model}
+use Rattle.fuse_keeper.specs.Stands.{Records}
+use Rattle.fuse_keeper.specs.KeeperState.{KeeperState, AnswersNoMore, Called, KeepsHeld, WhereHeld}
+use Rattle.fuse_show.specs.declared.telling.TellFault.{TellFault}
+use Rattle.fuse_show.specs.declared.telling.TellFault.TheVariants.{Store, Output}
 
 -- what was agreed on by INIT
 abbrev pub settings_text : Option Settings → List ℕ
@@ -23,3 +30,19 @@ store_text version c bytes agreed =
 
 abbrev pub count_of : ℕ → ℕ → ℕ → ℕ → StoreCounts
 count_of nodes handles records lots = record { nodes = nodes; handles = handles; records = records; lots = lots }
+
+-- what the keeper had to do with it: its fault, or none
+abbrev pub of_keeper : Result (Unit {0}) TellFault → Result (Unit {0}) StoreFault
+of_keeper (Ok done) = Ok done
+of_keeper (Err (Store fault)) = Err fault
+of_keeper (Err Output) = Ok tt
+
+-- nothing but looks lie between the two: where what it stands on gave back what was written, all that was held is held, and a
+-- crash may leave no more than before
+pub record OnlyAsked {M : Model} (old new : KeeperState M) (result : Result (Unit {0}) StoreFault) : Type 0 where
+  pub called : Called old new result
+  pub may : AnswersNoMore old new
+  pub held : OnOk result (new.is_honest → KeepsHeld old new)
+  pub lots : OnOk result (new.is_honest → WhereHeld old (SameLots old.lots new.lots))
+  pub whole : new.is_honest → WhereHeld old (old.leaves_whole → new.leaves_whole)
+  pub crash : new.is_honest → (x : M.Rows) (r : Records) → WhereHeld old (new.may_leave x r → old.may_leave x r)

@@ -1,6 +1,8 @@
-ghost use Rattle.std.specs.Prelude.{◌≡◌, ◌<◌, ◌≤◌, None, Some};
+ghost use Rattle.std.specs.Prelude.{◌≡◌, ◌<◌, ◌≤◌, false, None, Some, Err, IfErr};
 ghost use Rattle.fuse_tree.specs.Rows.{row_at};
-ghost use Rattle.fuse_show.specs.Looks.{ReadOff, OnlyLooked, WritesOut};
+ghost use Rattle.fuse_tree.specs.Bounds.{file_limit, read_limit};
+ghost use Rattle.fuse_show.specs.declared.fault.ShowFault.TheVariants.{NotATree};
+ghost use Rattle.fuse_show.specs.Looks.{ReadOff, OnlyLooked, WritesOut, is_of_path};
 ghost use Rattle.fuse_show.specs.Copying.{content_at};
 
 use crate::fault::ShowFault;
@@ -12,6 +14,7 @@ fn piece_of(left: u64) -> u32
     requires { 0 < left }
     ensures some { 0 < result }
     ensures within { result ≤ left }
+    ensures few { result ≤ read_limit }
 {
     left.min(u64::from(MAX_READ)) as u32
 }
@@ -24,6 +27,10 @@ pub fn copy<L: Look, W: Write>(look: &mut L, row: &NodeRow, writer: &mut W) -> R
         → WritesOut (W.contents writer.old) (W.contents writer.new)
         (content_at rows row.now.node) result) }
     ensures looked { OnlyLooked L.fault L.looks look.old look.new result }
+    // A size that no file has is damage, and not looked for.
+    ensures large { file_limit < row.now.size
+        → (result ≡ Err NotATree) × (W.contents writer.new ≡ W.contents writer.old) }
+    ensures reasons { IfErr result (λ fault. is_of_path fault ≡ false) }
 {
     rows_of_trees();
     if row.size > MAX_FILE {

@@ -1,5 +1,5 @@
-ghost use Rattle.std.specs.Prelude.{◌≡◌, None};
-ghost use Rattle.fuse_show.specs.Looks.{LooksUp};
+ghost use Rattle.std.specs.Prelude.{◌≡◌, true, None, IfErr};
+ghost use Rattle.fuse_show.specs.Looks.{LooksUp, is_of_finding};
 ghost use Rattle.fuse_show.specs.Paths.{names_of};
 ghost use Rattle.fuse_show.specs.Finding.{IsRoot, Steps, Finds};
 
@@ -11,8 +11,9 @@ use fuse_tree::{Look, NodeRow, ROOT_ID, rows_of_trees};
 // The row of the root.
 fn find_root<L: Look>(look: &mut L) -> Result<NodeRow, ShowFault>
     requires { L.fault look.old ≡ None }
-    ensures { LooksUp L.is_clean L.sees L.fault L.looks look.old look.new result
+    ensures found { LooksUp L.is_clean L.sees L.fault L.looks look.old look.new result
         (λ rows. IsRoot rows result) }
+    ensures reasons { IfErr result (λ fault. is_of_finding fault ≡ true) }
 {
     rows_of_trees();
     let Some(row) = look.node(ROOT_ID)? else {
@@ -24,8 +25,9 @@ fn find_root<L: Look>(look: &mut L) -> Result<NodeRow, ShowFault>
 // The row of what a name leads to, from a node.
 fn step<L: Look>(look: &mut L, from: &NodeRow, name: &[u8]) -> Result<NodeRow, ShowFault>
     requires { L.fault look.old ≡ None }
-    ensures { LooksUp L.is_clean L.sees L.fault L.looks look.old look.new result
+    ensures found { LooksUp L.is_clean L.sees L.fault L.looks look.old look.new result
         (λ rows. Steps rows from.now name.now result) }
+    ensures reasons { IfErr result (λ fault. is_of_finding fault ≡ true) }
 {
     rows_of_trees();
     if !is_directory(from.mode) {
@@ -45,8 +47,9 @@ fn step<L: Look>(look: &mut L, from: &NodeRow, name: &[u8]) -> Result<NodeRow, S
 /// above.
 pub fn find<L: Look>(look: &mut L, path: &[u8]) -> Result<NodeRow, ShowFault>
     requires { L.fault look.old ≡ None }
-    ensures { LooksUp L.is_clean L.sees L.fault L.looks look.old look.new result
+    ensures found { LooksUp L.is_clean L.sees L.fault L.looks look.old look.new result
         (λ rows. Finds rows (names_of path.now) result) }
+    ensures reasons { IfErr result (λ fault. is_of_finding fault ≡ true) }
 {
     let mut place = match find_root(look) {
         Ok(root) => root,

@@ -1,6 +1,11 @@
-ghost use Rattle.fuse_show.specs.Finding.{FoundOnce};
+ghost use Rattle.fuse_show.specs.Finding.{FindsSomething, FoundOnce};
 
-/// Just one thing is found by the names of a path.
+use fuse_tree::rows_of_trees;
+
+/// Just one thing is found in a tree by the names of a path.
 pub fn found_once()
-    ensures { FoundOnce }
-{}
+    ensures some { FindsSomething }
+    ensures once { FoundOnce }
+{
+    rows_of_trees();
+}

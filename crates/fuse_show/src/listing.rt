@@ -1,9 +1,9 @@
-ghost use Rattle.std.specs.Prelude.{◌≡◌, ◌++◌, ◌∷◌, [], if◌then◌else◌, ◌+◌, None};
+ghost use Rattle.std.specs.Prelude.{◌≡◌, ◌++◌, ◌∷◌, [], if◌then◌else◌, ◌+◌, false, None};
 ghost use Rattle.std.specs.Prelude.{IfErr, IfOk, OnOk, IsTrue};
 ghost use Rattle.std.specs.List.{AllByRecursion, flat_map};
 ghost use Rattle.std.specs.Io.KnownBytes.{Appends};
 ghost use Rattle.fuse_tree.specs.State.{is_dir};
-ghost use Rattle.fuse_show.specs.Looks.{ReadOff, OnlyLooked, WritesOut};
+ghost use Rattle.fuse_show.specs.Looks.{ReadOff, OnlyLooked, WritesOut, is_of_path};
 ghost use Rattle.fuse_tree.specs.RowsOfTrees.{LeadsToRow};
 ghost use Rattle.fuse_show.specs.Listing.{links_of_row, entry_line, line_of, listing};
 ghost use Rattle.fuse_show.specs.Pages.{cookie_at, is_higher, WritesPage};
@@ -76,6 +76,7 @@ fn show_entry<L: Look, W: Write>(
         LeadsToRow rows entry.now → WritesOut (W.contents writer.old) (W.contents writer.new)
         (line_of rows entry.now) result) }
     ensures looked { OnlyLooked L.fault L.looks look.old look.new result }
+    ensures reasons { IfErr result (λ fault. is_of_path fault ≡ false) }
 {
     let Some(row) = look.node(entry.child)? else {
         return Err(ShowFault::NotATree);
@@ -95,6 +96,7 @@ fn show_entries<L: Look, W: Write>(
         → WritesOut (W.contents writer.old) (W.contents writer.new)
         (flat_map (line_of rows) entries.now) result) }
     ensures looked { OnlyLooked L.fault L.looks look.old look.new result }
+    ensures reasons { IfErr result (λ fault. is_of_path fault ≡ false) }
 {
     for entry in entries {
         match show_entry(look, entry, writer) {
@@ -138,6 +140,7 @@ fn list_page<L: Look, W: Write>(
         WritesPage rows dir after (W.contents writer.old) (W.contents writer.new) result) }
     ensures higher { IfOk result (λ left. IsTrue (is_higher left after)) }
     ensures looked { OnlyLooked L.fault L.looks look.old look.new result }
+    ensures reasons { IfErr result (λ fault. is_of_path fault ≡ false) }
 {
     rows_of_trees();
     let entries = look.entries_after(dir, after, PAGE)?;
@@ -158,6 +161,7 @@ pub fn list<L: Look, W: Write>(look: &mut L, dir: u64, writer: &mut W) -> Result
     ensures listed { ReadOff (L.is_clean look.new) (L.sees look.old) (λ rows.
         WritesOut (W.contents writer.old) (W.contents writer.new) (listing rows dir) result) }
     ensures looked { OnlyLooked L.fault L.looks look.old look.new result }
+    ensures reasons { IfErr result (λ fault. is_of_path fault ≡ false) }
 {
     rows_of_trees();
     let mut left = Some(0);

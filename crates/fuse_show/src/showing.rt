@@ -1,5 +1,5 @@
-ghost use Rattle.std.specs.Prelude.{◌≡◌, None};
-ghost use Rattle.fuse_show.specs.Looks.{ReadOff};
+ghost use Rattle.std.specs.Prelude.{◌≡◌, true, None, IfErr};
+ghost use Rattle.fuse_show.specs.Looks.{ReadOff, OnlyLooked, is_of_path};
 ghost use Rattle.fuse_show.specs.Paths.{names_of};
 ghost use Rattle.fuse_show.specs.Showing.{ShowsListing, ShowsContent};
 
@@ -18,9 +18,13 @@ pub fn show_listing<L: Look, W: Write>(
     writer: &mut W,
 ) -> Result<(), ShowFault>
     requires { L.fault look.old ≡ None }
-    ensures { ReadOff (L.is_clean look.new) (L.sees look.old) (λ rows.
+    ensures shown { ReadOff (L.is_clean look.new) (L.sees look.old) (λ rows.
         ShowsListing rows (names_of path.now) (W.contents writer.old) (W.contents writer.new)
         result) }
+    ensures looked { OnlyLooked L.fault L.looks look.old look.new result }
+    // Nothing is written where the path is why nothing is shown.
+    ensures silent { IfErr result (λ fault. is_of_path fault ≡ true
+        → W.contents writer.new ≡ W.contents writer.old) }
 {
     let place = match find(look, path) {
         Ok(place) => place,
@@ -46,9 +50,13 @@ pub fn show_content<L: Look, W: Write>(
     writer: &mut W,
 ) -> Result<(), ShowFault>
     requires { L.fault look.old ≡ None }
-    ensures { ReadOff (L.is_clean look.new) (L.sees look.old) (λ rows.
+    ensures shown { ReadOff (L.is_clean look.new) (L.sees look.old) (λ rows.
         ShowsContent rows (names_of path.now) (W.contents writer.old) (W.contents writer.new)
         result) }
+    ensures looked { OnlyLooked L.fault L.looks look.old look.new result }
+    // Nothing is written where the path is why nothing is shown.
+    ensures silent { IfErr result (λ fault. is_of_path fault ≡ true
+        → W.contents writer.new ≡ W.contents writer.old) }
 {
     let place = match find(look, path) {
         Ok(place) => place,

@@ -1,8 +1,8 @@
-ghost use Rattle.std.specs.Prelude.{◌≡◌, ℕ, OnOk, length};
+ghost use Rattle.std.specs.Prelude.{◌≡◌, ℕ, OnOk, OnErr, length};
 ghost use Rattle.std.specs.Io.KnownBytes.{Appends};
 ghost use Rattle.fuse_keeper.specs.Stands.{CountsRecords};
 ghost use Rattle.fuse_keeper.specs.KeeperState.{Tells};
-ghost use Rattle.fuse_show.specs.Telling.{store_text, count_of};
+ghost use Rattle.fuse_show.specs.Telling.{store_text, count_of, of_keeper, OnlyAsked};
 
 use fuse_init::Settings;
 use fuse_keeper::{Keeper, StoreCounts, StoreFault};
@@ -114,11 +114,16 @@ pub fn tell<K: Keeper, W: Write>(
     bytes: u64,
     writer: &mut W,
 ) -> Result<(), TellFault>
-    ensures { OnOk result (Tells (K.told keeper.old) (K.told keeper.new) (λ rows records.
+    ensures told { OnOk result (Tells (K.told keeper.old) (K.told keeper.new) (λ rows records.
         (n : ℕ) × CountsRecords records n
         × Appends (W.contents writer.old) (W.contents writer.new)
         (store_text version (count_of (K.model.nodes rows) (K.model.handles rows) n
         (length (K.told keeper.old).lots.numbers)) bytes (K.model.settings rows)))) }
+    // What it holds stays, and so does what a crash may leave of it.
+    ensures asked { OnlyAsked (K.told keeper.old) (K.told keeper.new) (of_keeper result) }
+    ensures same { K.became keeper.old keeper.new 0 }
+    // Nothing is written before all is known.
+    ensures silent { OnErr (of_keeper result) (W.contents writer.new ≡ W.contents writer.old) }
 {
     let counts = keeper.counts()?;
     let agreed = keeper.settings()?;

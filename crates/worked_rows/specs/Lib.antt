@@ -1,1 +1,5 @@
+pub mod AnswerRows
+pub mod InitRows
+pub mod RequestRows
 pub mod Vectors
+pub mod WireRows

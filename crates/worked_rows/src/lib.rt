@@ -1,5 +1,5 @@
-//! The worked rows of the specification that several crates make together: tests over a tree in
-//! memory.
+//! The worked rows of the specification: those of messages and of the tree by itself that no run of
+//! the program shows, and those that several crates make together, over a tree in memory.
 #![tactic(auto)]
 
 #[cfg(test)]
@@ -9,6 +9,8 @@ mod hex;
 #[cfg(test)]
 mod keepers;
 #[cfg(test)]
+mod messages;
+#[cfg(test)]
 mod requests;
 #[cfg(test)]
 mod run;
@@ -16,3 +18,5 @@ mod run;
 mod sessions;
 #[cfg(test)]
 mod texts;
+#[cfg(test)]
+mod tree;

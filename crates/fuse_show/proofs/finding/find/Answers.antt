@@ -5,12 +5,12 @@ use Rattle.fuse_show.proofs.finding.find.Goals as goal
 
 pub loop-name-init : goal.loop-name-init
 loop-name-init g c =
-    record { fault = c.in-Ok.ensures.fault; looks = c.in-Ok.ensures.looks refl; went = went_none _ _ c.args.path.now c.in-Ok.root c.in-Ok.ensures.reads }
+    let root = c.in-Ok.ensures.found in record { fault = root.fault; looks = root.looks refl; went = went_none _ _ c.args.path.now c.in-Ok.root root.reads }
 
 pub loop-name-preserved : goal.loop-name-preserved
 loop-name-preserved g c =
     let before = c.loop-name.invariant in
-    let one = c.in-Ok-step.ensures in
+    let one = c.in-Ok-step.ensures.found in
     let looks = one.looks refl in
     record {
       fault = one.fault;
@@ -19,17 +19,17 @@ loop-name-preserved g c =
           c.in-Some.ensures.some.0 (g.met.L.Look.was_clean _ _ looks) (g.met.L.Look.kept _ _ before.looks) one.reads;
     }
 
-pub returns-in-Err : goal.returns-in-Err
-returns-in-Err g c = record {
-  reads = λ clean rows is sees. no_root rows (names_of c.args.path.now) c.in-Err.fault (c.in-Err.ensures.reads clean rows is sees);
-  fault = c.in-Err.ensures.fault;
-  looks = c.in-Err.ensures.looks;
+pub returns-in-Err-clause-found : goal.returns-in-Err-clause-found
+returns-in-Err-clause-found g c = record {
+  reads = λ clean rows is sees. no_root rows (names_of c.args.path.now) c.in-Err.fault (c.in-Err.ensures.found.reads clean rows is sees);
+  fault = c.in-Err.ensures.found.fault;
+  looks = c.in-Err.ensures.found.looks;
 }
 
-pub returns-in-Err-step : goal.returns-in-Err-step
-returns-in-Err-step g c =
+pub returns-in-Err-step-clause-found : goal.returns-in-Err-step-clause-found
+returns-in-Err-step-clause-found g c =
     let before = c.loop-name.invariant in
-    let one = c.in-Err-step.ensures in
+    let one = c.in-Err-step.ensures.found in
     record {
       reads = λ clean rows is sees.
           stop_if _ _ c.args.path.now c.loop-name.rest.now c.in-Some.name.now c.in-Some.behind.now c.loop-name.place before.went c.in-Some.ensures.some.0 rows
@@ -41,8 +41,8 @@ returns-in-Err-step g c =
       looks = λ none. g.met.L.Look.and_then _ _ _ before.looks (one.looks none);
     }
 
-pub returns : goal.returns
-returns g c =
+pub returns-clause-found : goal.returns-clause-found
+returns-clause-found g c =
     let before = c.loop-name.invariant in
     record {
       reads = went_all _ _ c.args.path.now c.loop-name.rest.now c.loop-name.place before.went (c.next_name.ensures.none c.in_default.is);

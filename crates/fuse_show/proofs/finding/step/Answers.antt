@@ -2,8 +2,8 @@ use Rattle.std.proofs.Common.{sym, ◌∙◌}
 use Rattle.fuse_show.proofs.Trees.{child_row}
 use Rattle.fuse_show.proofs.finding.step.Goals as goal
 
-pub returns-in_default-2 : goal.returns-in_default-2
-returns-in_default-2 g c =
+pub returns-in_default-2-clause-found : goal.returns-in_default-2-clause-found
+returns-in_default-2-clause-found g c =
     let first = c.in_ok-entry.ensures in
     let second = c.in_ok-row.ensures in
     record {

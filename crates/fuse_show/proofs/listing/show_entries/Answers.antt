@@ -39,6 +39,7 @@ returns-in-Err g c =
           one.line clean rows is (g.met.L.Look.kept _ _ before.looks clean_before rows sees)
           (all_at (LeadsToRow rows) c.args.entries.now c.loop-entry.entry-index c.entry-item.result shown c.loop-entry-test.true at));
       looked = record { fault = one.looked.fault; looks = λ none. g.met.L.Look.and_then _ _ _ before.looks (one.looked.looks none) };
+      reasons = one.reasons;
     }
 
 pub returns : goal.returns
@@ -48,4 +49,5 @@ returns g c =
       lines = λ clean rows is sees shown.
           text_all (line_of rows) c.args.entries.now c.loop-entry.entry-index _ _ c.loop-entry-test.false (before.lines clean rows is sees shown);
       looked = record { fault = before.fault; looks = λ _. before.looks };
+      reasons = tt;
     }

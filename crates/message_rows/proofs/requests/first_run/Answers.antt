@@ -1,5 +1,0 @@
-use Rattle.message_rows.proofs.Spellings as rows
-use Rattle.message_rows.proofs.requests.first_run.Goals as goal
-
-pub returns : goal.returns
-returns c = rows.first_run c.canon_spells.ensures

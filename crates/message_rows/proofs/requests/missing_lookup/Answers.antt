@@ -1,5 +1,0 @@
-use Rattle.message_rows.proofs.Spellings as rows
-use Rattle.message_rows.proofs.requests.missing_lookup.Goals as goal
-
-pub returns : goal.returns
-returns c = rows.missing_lookup c.canon_spells.ensures

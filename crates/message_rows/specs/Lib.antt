@@ -1,4 +1,0 @@
-pub mod WireRows
-pub mod RequestRows
-pub mod AnswerRows
-pub mod InitRows

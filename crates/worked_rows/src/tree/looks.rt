@@ -1,0 +1,264 @@
+//! A `Look` of the tests, which counts how often it is asked. Contracts say nothing of it.
+use crate::tree::requests::request_of;
+use fuse_init::Settings;
+use fuse_request::{Op, ReadIn};
+use fuse_tree::{
+    Counters, EntryRow, HandleRow, Look, LookFault, NodeRow, Planned, ROOT_ID, S_IFDIR, S_IFREG,
+    plan,
+};
+use fuse_wire::{AccessMode, ByteList, InitFlags, Memory, Moment};
+use std::alloc::Global;
+use std::test::*;
+
+/// How often nodes, entries, listings and counters were looked at.
+pub type Looks = [u64; 4];
+
+/// As many nodes and handles as the counters say, which are kept nowhere. Node 1 is the root, and
+/// the others stand in it: those of an even number are files, the others empty directories. A name
+/// `n2` is that of node 2, and no other name is found. The root lists as many entries as are asked
+/// for, all of node 2 and under a name of nine bytes. The handles of an even number are of file 2,
+/// the others of the root.
+#[derive(Drop)]
+pub struct Many {
+    pub alloc: Global,
+    pub counters: Counters,
+    pub looks: Looks,
+    pub fault: Option<LookFault>,
+}
+
+impl Look for Many {
+    ghost sees = { λ _ _. ⊥ };
+
+    ghost fault = { λ m. m.fault };
+
+    ghost is_clean = { λ _. ⊥ };
+
+    ghost looks = { λ _ _. Unit {0} };
+
+    ghost fails = { λ _ _. Unit {0} };
+
+    fn node(&mut self, number: u64) -> Result<Option<NodeRow>, LookFault> {
+        self.looks[0] = self.looks[0].wrapping_add(1);
+        if number == 0 || number > self.counters.nodes {
+            return Ok(None);
+        }
+        Ok(Some(row_of(number)))
+    }
+
+    fn entry(&mut self, _dir: u64, name: &[u8]) -> Result<Option<EntryRow>, LookFault> {
+        self.looks[1] = self.looks[1].wrapping_add(1);
+        let [b'n', digit @ b'2'..=b'9'] = name else {
+            return Ok(None);
+        };
+        let child = u64::from(*digit - b'0');
+        match entry_of(self.alloc, b"", child, child) {
+            Ok(entry) => Ok(Some(entry)),
+            Err(_) => Err(self.fails()),
+        }
+    }
+
+    fn entries_after(
+        &mut self,
+        dir: u64,
+        cookie: u64,
+        limit: usize,
+    ) -> Result<Vec<EntryRow>, LookFault> {
+        self.looks[2] = self.looks[2].wrapping_add(1);
+        let count = if dir == ROOT_ID { limit } else { 0 };
+        match entries_of(self.alloc, cookie, count) {
+            Ok(entries) => Ok(entries),
+            Err(_) => Err(self.fails()),
+        }
+    }
+
+    fn handle(&mut self, fh: u64) -> Result<Option<HandleRow>, LookFault> {
+        if fh == 0 || fh > self.counters.handles {
+            return Ok(None);
+        }
+        Ok(Some(HandleRow {
+            fh,
+            node: if fh % 2 == 0 { 2 } else { ROOT_ID },
+            access: AccessMode::ReadOnly,
+        }))
+    }
+
+    fn bytes(&mut self, _node: u64, _offset: u64, _len: u32) -> Result<ByteList, LookFault> {
+        Ok(ByteList::from_vec(Vec::new(self.alloc)))
+    }
+
+    fn counters(&mut self) -> Result<Counters, LookFault> {
+        self.looks[3] = self.looks[3].wrapping_add(1);
+        Ok(self.counters)
+    }
+
+    fn settings(&mut self) -> Result<Option<Settings>, LookFault> {
+        Ok(Some(Settings {
+            minor: 40,
+            max_readahead: 131_072,
+            flags: InitFlags(0),
+        }))
+    }
+
+    fn failed(&self) -> Option<LookFault> {
+        self.fault
+    }
+
+    ghost still = { λ a. tt };
+
+    ghost and_then = { λ a b d p q. tt };
+
+    ghost and_fails = { λ a b d p q. tt };
+
+    ghost or_less = { λ a b p. tt };
+
+    ghost was_clean = { λ a b p clean. clean };
+
+    ghost kept = { λ a b p clean rows e. e };
+}
+
+const START: Moment = Moment { secs: 0, nanos: 0 };
+
+fn row_of(number: u64) -> NodeRow {
+    let mode = if number % 2 == 0 {
+        S_IFREG + 0o644
+    } else {
+        S_IFDIR + 0o755
+    };
+    NodeRow {
+        node: number,
+        mode,
+        uid: 0,
+        gid: 0,
+        rdev: 0,
+        size: 0,
+        atime: START,
+        mtime: START,
+        ctime: START,
+        up: if number == ROOT_ID { 0 } else { ROOT_ID },
+        subdirs: 0,
+    }
+}
+
+impl Many {
+    ghost use Rattle.std.specs.Prelude.{◌≡◌, Some};
+
+    fn fails(&mut self) -> LookFault
+        ensures { self.new.fault ≡ Some result }
+    {
+        self.fault = Some(LookFault::Memory);
+        LookFault::Memory
+    }
+}
+
+fn entry_of(alloc: Global, name: &[u8], child: u64, cookie: u64) -> Result<EntryRow, Memory> {
+    Ok(EntryRow {
+        dir: ROOT_ID,
+        name: ByteList::from_vec(Vec::from_slice(alloc, name)?),
+        child,
+        cookie,
+    })
+}
+
+fn entries_of(alloc: Global, cookie: u64, count: usize) -> Result<Vec<EntryRow>, Memory> {
+    let mut entries = Vec::new(alloc);
+    let mut next = cookie;
+    for _entry in 0..count {
+        next = next.wrapping_add(1);
+        entries.push(entry_of(alloc, b"nine.text", 2, next)?)?;
+    }
+    Ok(entries)
+}
+
+/// The next node, fh and cookie, and how many nodes and handles there are.
+pub(crate) fn counting(numbers: [u64; 5]) -> Counters {
+    let [next_node, next_fh, next_cookie, nodes, handles] = numbers;
+    Counters {
+        next_node,
+        next_fh,
+        next_cookie,
+        nodes,
+        handles,
+    }
+}
+
+/// What is planned where these are the counters, and how often it was looked for that.
+pub(crate) fn planned_where(
+    alloc: Global,
+    counters: Counters,
+    nodeid: u64,
+    op: Op<'_>,
+) -> Result<(Planned, Looks), Fail> {
+    let mut look = Many {
+        alloc,
+        counters,
+        looks: [0; 4],
+        fault: None,
+    };
+    match plan(alloc, &mut look, &request_of(nodeid, op), START) {
+        Ok(planned) => Ok((planned, look.looks)),
+        Err(_) => Err("a plan".into()),
+    }
+}
+
+// How often is looked for what is asked of the root among nine nodes. None where it is refused.
+fn looks_of(alloc: Global, op: Op<'_>) -> Result<Option<Looks>, Fail> {
+    let (planned, looks) = planned_where(alloc, counting([10, 2, 10, 9, 1]), ROOT_ID, op)?;
+    Ok((planned.answer.errno.0 == 0).then_some(looks))
+}
+
+fn rename(old_name: &'static [u8], new_name: &'static [u8]) -> Op<'static> {
+    Op::Rename {
+        new_dir: 1,
+        old_name,
+        new_name,
+    }
+}
+
+const EXCHANGE: Op<'static> = Op::Rename2 {
+    new_dir: 1,
+    flags: 2,
+    old_name: b"n3",
+    new_name: b"n2",
+};
+
+fn readdir(offset: u64, size: u32) -> Op<'static> {
+    Op::ReadDir(ReadIn {
+        fh: 1,
+        offset,
+        size,
+        read_flags: 0,
+        lock_owner: 0,
+        flags: 0,
+    })
+}
+
+// Within one directory no node is looked up twice, no file is asked for its entries, and the
+// counters are read once. A listing looks up the children that fit: 102 entries of 40 bytes.
+fn all_looks() -> [(Op<'static>, Looks); 8] {
+    [
+        (rename(b"n2", b"x"), [2, 2, 0, 1]),
+        (rename(b"n3", b"x"), [2, 2, 0, 1]),
+        (rename(b"n2", b"n4"), [3, 2, 0, 1]),
+        (rename(b"n3", b"n5"), [3, 2, 1, 1]),
+        (rename(b"n2", b"n2"), [2, 1, 0, 0]),
+        (EXCHANGE, [3, 2, 0, 1]),
+        (readdir(2, 4096), [103, 0, 1, 0]),
+        (readdir(0, 64), [1, 0, 1, 0]),
+    ]
+}
+
+// How many of them are so, from the first on.
+fn looked(alloc: Global) -> Result<usize, Fail> {
+    for (place, (op, looks)) in all_looks().iter().enumerate() {
+        if looks_of(alloc, *op)? != Some(*looks) {
+            return Ok(place);
+        }
+    }
+    Ok(all_looks().len())
+}
+
+#[test]
+fn looks_are_few(rt: HostRuntime) -> Result<(), Fail> {
+    assert_eq!(rt; looked(rt.alloc())?, 8);
+    Ok(())
+}
