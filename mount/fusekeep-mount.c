@@ -115,14 +115,15 @@ static bool find_near(struct keeper *k) {
 static bool find_engine(struct keeper *k) {
   static char path[PATH_MAX];
   const char *named = getenv("FUSEKEEP");
-  if (!named && find_near(k)) return true;
-  k->engine = named ? named : "fusekeep";
-  if (strchr(k->engine, '/')) {
+  bool is_named = named && *named;
+  if (!is_named && find_near(k)) return true;
+  k->engine = is_named ? named : "fusekeep";
+  if (is_named && strchr(named, '/')) {
     if (!realpath(named, path) || !is_program(path)) return refused(named);
     return k->engine = path, true;
   }
   if (is_on_path(k->engine)) return true;
-  say("the engine, %s, is neither beside this program nor on PATH", k->engine);
+  say("the engine, %s, is %son PATH", k->engine, is_named ? "not " : "neither beside this program nor ");
   return false;
 }
 

@@ -20,6 +20,7 @@ refusals() {
   expect "no mountpoint has status 1" [ $? -eq 1 ] || return 1
   mkdir alone && cp "$program" alone
   refuses 1 ".*the engine, fusekeep, is neither .*" env -u FUSEKEEP PATH="$PWD/mnt" "$PWD/alone/fusekeep-mount" store || return 1
+  refuses 1 ".*the engine, no-such-engine, is not on PATH" env FUSEKEEP=no-such-engine "$program" store || return 1
   refuses 1 ".*: ./mnt: Permission denied" env FUSEKEEP=./mnt "$program" store || return 1
   expect "no store is made" [ ! -e store ] || return 1
   expect "no lock is made" [ ! -e store-mount ] || return 1
