@@ -34,7 +34,7 @@ pub(crate) fn add_entry<S: Alter>(
     ensures plain { IfErr result IsPlain }
 {
     match insert_entry(conn, row) {
-        Ok(_) => Ok(()),
+        Ok(()) => Ok(()),
         Err(error) => Err(StoreFault::from(error)),
     }
 }
@@ -52,7 +52,7 @@ pub(crate) fn remove_entry<S: Alter>(
     ensures plain { IfErr result IsPlain }
 {
     match delete_entry(conn, cookie) {
-        Ok(_) => Ok(()),
+        Ok(()) => Ok(()),
         Err(error) => Err(StoreFault::from(error)),
     }
 }
@@ -70,7 +70,7 @@ pub(crate) fn add_handle<S: Alter>(
     ensures plain { IfErr result IsPlain }
 {
     match insert_handle(conn, row) {
-        Ok(_) => Ok(()),
+        Ok(()) => Ok(()),
         Err(error) => Err(StoreFault::from(error)),
     }
 }
@@ -85,7 +85,7 @@ pub(crate) fn remove_handle<S: Alter>(conn: &mut Connection<S>, fh: u64) -> Resu
     ensures plain { IfErr result IsPlain }
 {
     match delete_handle(conn, fh) {
-        Ok(_) => Ok(()),
+        Ok(()) => Ok(()),
         Err(error) => Err(StoreFault::from(error)),
     }
 }
@@ -96,7 +96,7 @@ fn set_two<S: Alter>(
     key: u64,
     first: u64,
     second: u64,
-) -> Result<usize, Error>
+) -> Result<(), Error>
     requires key { key < 32 }
     requires first { first < 2 ^ 63 }
     requires second { second < 2 ^ 63 }
@@ -114,7 +114,7 @@ fn set_four<S: Alter>(
     second: u64,
     third: u64,
     fourth: u64,
-) -> Result<usize, Error>
+) -> Result<(), Error>
     requires key { key < 16 }
     requires first { first < 2 ^ 63 }
     requires second { second < 2 ^ 63 }
@@ -128,7 +128,7 @@ fn set_four<S: Alter>(
     set_two(conn, key + 2, third, fourth)
 }
 
-fn set_numbers<S: Alter>(conn: &mut Connection<S>, n: &Counters) -> Result<usize, Error>
+fn set_numbers<S: Alter>(conn: &mut Connection<S>, n: &Counters) -> Result<(), Error>
     requires { FitsCounters n.now }
     ensures { Makes (λ c. set_counter 6 n.now.handles (set_counter (2 + 2 + 1) n.now.nodes
         (set_counter (2 + 2) n.now.next_cookie (set_counter (2 + 1) n.now.next_fh
@@ -139,7 +139,7 @@ fn set_numbers<S: Alter>(conn: &mut Connection<S>, n: &Counters) -> Result<usize
     update_counter(conn, 6, n.handles)
 }
 
-fn set_agreed<S: Alter>(conn: &mut Connection<S>, v: Settings) -> Result<usize, Error>
+fn set_agreed<S: Alter>(conn: &mut Connection<S>, v: Settings) -> Result<(), Error>
     requires { v.flags.0 < 2 ^ 63 }
     ensures { Makes (λ c. set_counter (7 + 2 + 1) v.flags.0 (set_counter (7 + 2) v.max_readahead
         (set_counter (7 + 1) v.minor (set_counter 7 1 c)))) (state S.Store conn.old)
@@ -168,7 +168,7 @@ pub(crate) fn set_counters<S: Alter>(
     ensures plain { IfErr result IsPlain }
 {
     match set_numbers(conn, n) {
-        Ok(_) => Ok(()),
+        Ok(()) => Ok(()),
         Err(error) => Err(StoreFault::from(error)),
     }
 }
@@ -188,7 +188,7 @@ pub(crate) fn set_settings<S: Alter>(
     narrow(v.minor);
     narrow(v.max_readahead);
     match set_agreed(conn, v) {
-        Ok(_) => Ok(()),
+        Ok(()) => Ok(()),
         Err(error) => Err(StoreFault::from(error)),
     }
 }
@@ -229,11 +229,11 @@ pub(crate) fn put_node<S: Alter>(conn: &mut Connection<S>, row: &NodeRow) -> Res
     law_of_seconds(row);
     match find_node(conn, row.node) {
         Ok(Some(_)) => match update_node(conn, row) {
-            Ok(_) => Ok(()),
+            Ok(()) => Ok(()),
             Err(error) => Err(StoreFault::from(error)),
         },
         Ok(None) => match insert_node(conn, row) {
-            Ok(_) => Ok(()),
+            Ok(()) => Ok(()),
             Err(error) => Err(StoreFault::from(error)),
         },
         Err(fault) => Err(fault),

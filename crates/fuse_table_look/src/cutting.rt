@@ -39,7 +39,7 @@ fn drop_blocks<S: Alter>(conn: &mut Connection<S>, node: u64, from: u64) -> Resu
     ensures plain { IfErr result IsPlain }
 {
     match delete_blocks_from(conn, node, from) {
-        Ok(_) => Ok(()),
+        Ok(()) => Ok(()),
         Err(error) => Err(StoreFault::from(error)),
     }
 }

@@ -22,8 +22,10 @@ use std::alloc::Global;
 /// The tables within a transaction.
 #[derive(Drop)]
 pub struct TableLook<S: Alter> {
+    /// Where what is looked up is made.
     pub alloc: Global,
     pub conn: Connection<S>,
+    /// The fault of a look, once there was one.
     pub fault: Option<StoreFault>,
 }
 

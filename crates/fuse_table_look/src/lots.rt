@@ -32,7 +32,7 @@ fn next_lot_of(rows: &[Row]) -> Result<u64, StoreFault>
 }
 
 // A lot comes, and the next one is behind it.
-fn add_lot<S: Alter>(conn: &mut Connection<S>, lot: u64) -> Result<usize, Error>
+fn add_lot<S: Alter>(conn: &mut Connection<S>, lot: u64) -> Result<(), Error>
     requires { lot < 2 ^ 62 }
     ensures { Makes (λ c. set_counter 11 (lot + 1) (with_lot lot c)) (state S.Store conn.old)
         (state S.Store conn.new) result }
@@ -65,7 +65,7 @@ fn take_next<S: Alter>(conn: &mut Connection<S>) -> Result<u64, StoreFault>
         return Err(StoreFault::Damaged);
     }
     match add_lot(conn, lot) {
-        Ok(_) => Ok(lot),
+        Ok(()) => Ok(lot),
         Err(error) => Err(StoreFault::from(error)),
     }
 }

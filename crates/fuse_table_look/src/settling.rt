@@ -26,7 +26,7 @@ fn forget<S: Alter>(conn: &mut Connection<S>, id: u64) -> Result<(), StoreFault>
         return Ok(());
     }
     match delete_kept(conn, id) {
-        Ok(_) => Ok(()),
+        Ok(()) => Ok(()),
         Err(error) => Err(StoreFault::from(error)),
     }
 }

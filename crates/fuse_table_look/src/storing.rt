@@ -63,7 +63,7 @@ pub(crate) fn write_piece<S: Alter>(
         Err(fault) => return Err(fault),
     };
     match write_block(conn, node, block, made.as_slice()) {
-        Ok(_) => Ok(()),
+        Ok(()) => Ok(()),
         Err(error) => Err(StoreFault::from(error)),
     }
 }

@@ -49,7 +49,7 @@ fn record<S: Alter>(
 {
     law_of_errno(answer);
     match insert_kept(conn, id, lot, answer) {
-        Ok(_) => Ok(()),
+        Ok(()) => Ok(()),
         Err(error) => Err(StoreFault::from(error)),
     }
 }

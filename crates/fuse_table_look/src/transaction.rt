@@ -43,7 +43,7 @@ fn transact<S: Alter>(
     ensures plain { IfErr result IsPlain }
 {
     match begin(&mut look.conn) {
-        Ok(_) => {}
+        Ok(()) => {}
         Err(error) => return Err(StoreFault::from(error)),
     }
     let performed = match perform_in(alloc, look, lot, group, settled) {
@@ -51,7 +51,7 @@ fn transact<S: Alter>(
         Err(fault) => return Err(fault),
     };
     match commit(&mut look.conn) {
-        Ok(_) => Ok(performed),
+        Ok(()) => Ok(performed),
         Err(error) => Err(StoreFault::from(error)),
     }
 }

@@ -26,12 +26,12 @@ use Rattle.sqlite.specs.Rowids.TheVariants.{Chosen}
 use Rattle.sqlite_tied.specs.Compute.{everything}
 use Rattle.sqlite.specs.declared.error.Error.{Error}
 use Rattle.sqlite.specs.Listing.{understood, reads_listing}
-use Rattle.sqlite.specs.State.{State, HasCleanDisk, Survives, Executes, CommitsBy, Writes, Shown, FailsToQuery, CommitsShowing}
+use Rattle.sqlite.specs.State.{State, HasCleanDisk, Survives, CommitsBy, Writes, Shown, FailsToQuery, CommitsShowing}
 use Rattle.sqlite.proofs.Callers.{IsPlain, command_of, statement_of}
 use Rattle.fuse_tables.specs.Layout.{blocks, store_schema}
 use Rattle.fuse_tables.specs.Blocks.{Block, block_row, is_at, is_from, block_at, AreApart, new_block, shown_block}
 use Rattle.fuse_tables.specs.Content.{Content, Holds, stored, put_by, with_block, without_block, without_blocks_from}
-use Rattle.fuse_tables.specs.Moves.{Inside, Makes}
+use Rattle.fuse_tables.specs.Moves.{Inside, Makes, Ran}
 use Rattle.fuse_tables.proofs.Writing.{makes}
 use Rattle.fuse_tables.proofs.Tables.{wrote, quiet, only_blocks}
 use Rattle.fuse_tables.proofs.Keyed.{put_rows, row_cmp_nat}
@@ -88,8 +88,8 @@ inserts node block bytes c old new n at w =
     (rows ∙ ap (put_row (block_row b)) was.0 ∙ put_rows (λ x. x.slot) block_row (λ _. refl) b c.blocks)
     (subst IsTable (sym rows) (IsTable-put_row (block_row b) (old.now.trees 5) was.1))
 
-pub adds : (node block : ℕ) (bytes : List ℕ) (old new : State) (r : Result ℕ Error) → (HasCleanDisk new → Executes insert_text (given_block node block bytes)
-    old new r)
+pub adds : (node block : ℕ) (bytes : List ℕ) (old new : State) (r : Result (Unit {0}) Error)
+    → (HasCleanDisk new → Ran insert_text (given_block node block bytes) old new r)
     → Survives old new (CommitsBy insert_text (given_block node block bytes) old) → Makes (with_block node block bytes) old new r
 adds node block bytes = makes Holds store_schema (λ c d h. h.schema) insert_text (given_block node block bytes) (Insert 3 (Values terms 4)) insert_is
     insert_plain refl (λ c. Holds (with_block node block bytes c))
@@ -128,7 +128,7 @@ blocks_gone node from c old new n at w =
     ∷ []) (tests_blocks node from) (λ _. refl) c.blocks old new _ n at.schema was.0 was.1 w in
     wrote store_schema (stored c) (stored (without_blocks_from node from c)) blocks old.now new.now at now.2 w.sound (only_blocks c _) now.0 now.1
 
-pub removes_blocks : (node from : ℕ) (old new : State) (r : Result ℕ Error) → (HasCleanDisk new → Executes blocks_text (Int (pos node) ∷ Int (pos from)
+pub removes_blocks : (node from : ℕ) (old new : State) (r : Result (Unit {0}) Error) → (HasCleanDisk new → Ran blocks_text (Int (pos node) ∷ Int (pos from)
     ∷ []) old new r)
     → Survives old new (CommitsBy blocks_text (Int (pos node) ∷ Int (pos from) ∷ []) old) → Makes (without_blocks_from node from) old new r
 removes_blocks node from = makes Holds store_schema (λ c d h. h.schema) blocks_text (Int (pos node) ∷ Int (pos from) ∷ []) (Delete 3 (picking 5 blocks_terms))
@@ -168,7 +168,7 @@ block_gone node block c old new n at w =
     ∷ []) (tests_block node block) (λ _. refl) c.blocks old new _ n at.schema was.0 was.1 w in
     wrote store_schema (stored c) (stored (without_block node block c)) blocks old.now new.now at now.2 w.sound (only_blocks c _) now.0 now.1
 
-pub removes_block : (node block : ℕ) (old new : State) (r : Result ℕ Error) → (HasCleanDisk new → Executes block_text (Int (pos node) ∷ Int (pos block)
+pub removes_block : (node block : ℕ) (old new : State) (r : Result (Unit {0}) Error) → (HasCleanDisk new → Ran block_text (Int (pos node) ∷ Int (pos block)
     ∷ []) old new r)
     → Survives old new (CommitsBy block_text (Int (pos node) ∷ Int (pos block) ∷ []) old) → Makes (without_block node block) old new r
 removes_block node block = makes Holds store_schema (λ c d h. h.schema) block_text (Int (pos node) ∷ Int (pos block) ∷ []) (Delete 3 (picking 5 block_terms))

@@ -18,7 +18,7 @@ use Rattle.sqlite_resolve.specs.declared.error.CompileError.{CompileError}
 use Rattle.sqlite_schema.specs.declared.command.Returning.{Returning}
 use Rattle.sqlite.proofs.StateLemmas.{survives_weaker}
 use Rattle.sqlite.proofs.Callers.{IsPlain, command_of, runs_as}
-use Rattle.fuse_tables.specs.Moves.{Begins, Ends, Undoes}
+use Rattle.fuse_tables.specs.Moves.{Begins, Ends, Undoes, Ran}
 
 abbrev pub begin_text : List ℕ
 begin_text = codes "BEGIN"
@@ -135,12 +135,12 @@ rollback_none s returning text params db (inl (inl same, at)) = absurd cc
 rollback_none s returning text params db (inl (inr named, at)) = let e = named.2 in absurd cc
 rollback_none s returning text params db (inr wrote) = rollback_writes_none s returning text params db wrote
 
-pub begins : (old new : State) (r : Result ℕ Error) → (HasCleanDisk new → Executes begin_text [] old new r) → Survives old new (CommitsBy begin_text [] old)
+pub begins : (old new : State) (r : Result (Unit {0}) Error) → (HasCleanDisk new → Ran begin_text [] old new r) → Survives old new (CommitsBy begin_text [] old)
     → Begins old new r
-begins old new (Ok n) runs survives = record {
+begins old new (Ok x) runs survives = record {
   survives = survives_weaker old new _ _ (λ _ db. begin_commits_none old db) survives;
-  kept = λ clean. begins_keeps old new n (runs clean);
-  begun = λ clean. begins_ok old new n (runs clean);
+  kept = λ clean. begins_keeps old new (runs clean).0 (runs clean).1;
+  begun = λ clean. begins_ok old new (runs clean).0 (runs clean).1;
 }
 begins old new (Err e) runs survives = record {
   survives = survives_weaker old new _ _ (λ _ db. begin_commits_none old db) survives;
@@ -148,12 +148,12 @@ begins old new (Err e) runs survives = record {
   begun = tt;
 }
 
-pub ends : (old new : State) (r : Result ℕ Error) → (HasCleanDisk new → Executes commit_text [] old new r) → Survives old new (CommitsBy commit_text [] old)
+pub ends : (old new : State) (r : Result (Unit {0}) Error) → (HasCleanDisk new → Ran commit_text [] old new r) → Survives old new (CommitsBy commit_text [] old)
     → Ends old new r
-ends old new (Ok n) runs survives = record {
+ends old new (Ok x) runs survives = record {
   survives = survives_weaker old new _ _ (λ _ db. commit_commits old db) survives;
   kept = tt;
-  ended = λ clean. commits_ok old new n (runs clean);
+  ended = λ clean. commits_ok old new (runs clean).0 (runs clean).1;
 }
 ends old new (Err e) runs survives = record {
   survives = survives_weaker old new _ _ (λ _ db. commit_commits old db) survives;

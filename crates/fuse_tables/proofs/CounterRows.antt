@@ -17,12 +17,12 @@ use Rattle.sqlite_rules.specs.Cast.{cast_row}
 use Rattle.sqlite_tied.specs.Compute.{everything}
 use Rattle.sqlite.specs.declared.error.Error.{Error}
 use Rattle.sqlite.specs.Listing.{understood, reads_listing}
-use Rattle.sqlite.specs.State.{State, HasCleanDisk, Survives, Executes, CommitsBy, Writes, Shown, FailsToQuery, CommitsShowing}
+use Rattle.sqlite.specs.State.{State, HasCleanDisk, Survives, CommitsBy, Writes, Shown, FailsToQuery, CommitsShowing}
 use Rattle.sqlite.proofs.Callers.{IsPlain, command_of, statement_of}
 use Rattle.fuse_tables.specs.Layout.{meta, store_schema}
 use Rattle.fuse_tables.specs.Content.{Content, Counter, Holds, stored, has_by, counter_key, counter_row, shown_counter, valued}
 use Rattle.fuse_tables.specs.Content.{set_counter}
-use Rattle.fuse_tables.specs.Moves.{Inside, Rests, Makes, Serves}
+use Rattle.fuse_tables.specs.Moves.{Inside, Rests, Makes, Serves, Ran}
 use Rattle.fuse_tables.proofs.Writing.{makes}
 use Rattle.fuse_tables.proofs.Tables.{wrote, only_counters}
 use Rattle.fuse_tables.proofs.Keyed.{row_cmp_nat}
@@ -120,7 +120,7 @@ changed k value c old new n at w =
     (key_tests k (Int (pos value) ∷ [])) (λ y. refl) (λ _. refl) c.counters old new _ n at.schema was.0 was.1 w in
     wrote store_schema (stored c) (stored (set_counter k value c)) meta old.now new.now at now.2 w.sound (only_counters c _) now.0 now.1
 
-pub sets : (k value : ℕ) (old new : State) (r : Result ℕ Error) → (HasCleanDisk new → Executes update_text (Int (pos k) ∷ Int (pos value) ∷ []) old new r)
+pub sets : (k value : ℕ) (old new : State) (r : Result (Unit {0}) Error) → (HasCleanDisk new → Ran update_text (Int (pos k) ∷ Int (pos value) ∷ []) old new r)
     → Survives old new (CommitsBy update_text (Int (pos k) ∷ Int (pos value) ∷ []) old) → Makes (set_counter k value) old new r
 sets k value = makes Holds store_schema (λ c d h. h.schema) update_text (Int (pos k) ∷ Int (pos value) ∷ []) (Update 0 (changing 0 key_terms update_terms))
     update_is update_plain refl (λ c. Holds (set_counter k value c)) (changed k value)

@@ -4,12 +4,12 @@ use Rattle.sqlite.specs.Command.TheVariants.{Delete}
 use Rattle.sqlite_tied.specs.Compute.{everything}
 use Rattle.sqlite.specs.declared.error.Error.{Error}
 use Rattle.sqlite.specs.Listing.{understood}
-use Rattle.sqlite.specs.State.{State, HasCleanDisk, Survives, Executes, CommitsBy, Writes}
+use Rattle.sqlite.specs.State.{State, HasCleanDisk, Survives, CommitsBy, Writes}
 use Rattle.sqlite.proofs.Callers.{IsPlain, command_of, statement_of}
 use Rattle.fuse_tables.specs.Layout.{handles, answers, lots, kept, store_schema}
 use Rattle.fuse_tables.specs.Content.{Content, Answer, Holds, stored, fh_of, handle_row, answer_row, lot_row, kept_row, without_handles}
 use Rattle.fuse_tables.specs.Content.{without_answers, without_lots, without_all_kept}
-use Rattle.fuse_tables.specs.Moves.{Makes}
+use Rattle.fuse_tables.specs.Moves.{Makes, Ran}
 use Rattle.fuse_tables.proofs.Writing.{makes}
 use Rattle.fuse_tables.proofs.Tables.{wrote, only_handles, only_answers, only_lots, only_kept}
 use Rattle.fuse_tables.proofs.Deletes.{picking, picks}
@@ -39,7 +39,7 @@ all_kept_gone c old new n at w =
     wrote store_schema (stored c) (stored (without_all_kept c)) kept old.now new.now at now.2 w.sound (only_kept c []) (now.0
     ∙ ap (map kept_row) (none_left c.kept)) now.1
 
-pub removes_all_kept : (old new : State) (r : Result ℕ Error) → (HasCleanDisk new → Executes all_kept_text [] old new r)
+pub removes_all_kept : (old new : State) (r : Result (Unit {0}) Error) → (HasCleanDisk new → Ran all_kept_text [] old new r)
     → Survives old new (CommitsBy all_kept_text [] old) → Makes without_all_kept old new r
 removes_all_kept = makes Holds store_schema (λ c d h. h.schema) all_kept_text [] (Delete 7 (picking 10 [])) all_kept_is all_kept_plain refl
     (λ c. Holds (without_all_kept c)) all_kept_gone
@@ -65,7 +65,7 @@ lots_gone c old new n at w =
     wrote store_schema (stored c) (stored (without_lots c)) lots old.now new.now at now.2 w.sound (only_lots c []) (now.0 ∙ ap (map lot_row) (none_left c.lots))
     now.1
 
-pub removes_all_lots : (old new : State) (r : Result ℕ Error) → (HasCleanDisk new → Executes lots_text [] old new r)
+pub removes_all_lots : (old new : State) (r : Result (Unit {0}) Error) → (HasCleanDisk new → Ran lots_text [] old new r)
     → Survives old new (CommitsBy lots_text [] old) → Makes without_lots old new r
 removes_all_lots = makes Holds store_schema (λ c d h. h.schema) lots_text [] (Delete 6 (picking 9 [])) lots_is lots_plain refl (λ c. Holds (without_lots c))
     lots_gone
@@ -91,7 +91,7 @@ handles_gone c old new n at w =
     wrote store_schema (stored c) (stored (without_handles c)) handles old.now new.now at now.2 w.sound (only_handles c []) (now.0
     ∙ ap (map handle_row) (none_left c.handles)) now.1
 
-pub removes_all_handles : (old new : State) (r : Result ℕ Error) → (HasCleanDisk new → Executes handles_text [] old new r)
+pub removes_all_handles : (old new : State) (r : Result (Unit {0}) Error) → (HasCleanDisk new → Ran handles_text [] old new r)
     → Survives old new (CommitsBy handles_text [] old) → Makes without_handles old new r
 removes_all_handles = makes Holds store_schema (λ c d h. h.schema) handles_text [] (Delete 4 (picking 7 [])) handles_is handles_plain refl
     (λ c. Holds (without_handles c)) handles_gone
@@ -118,7 +118,7 @@ answers_gone c old new n at w =
     wrote store_schema (stored c) (stored (without_answers c)) answers old.now new.now at now.2 w.sound (only_answers c []) (now.0
     ∙ ap (map answer_row) (none_left c.answers)) now.1
 
-pub removes_answers : (old new : State) (r : Result ℕ Error) → (HasCleanDisk new → Executes answers_text [] old new r)
+pub removes_answers : (old new : State) (r : Result (Unit {0}) Error) → (HasCleanDisk new → Ran answers_text [] old new r)
     → Survives old new (CommitsBy answers_text [] old) → Makes without_answers old new r
 removes_answers = makes Holds store_schema (λ c d h. h.schema) answers_text [] (Delete 5 (picking 8 [])) answers_is answers_plain refl
     (λ c. Holds (without_answers c)) answers_gone

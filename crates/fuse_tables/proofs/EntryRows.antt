@@ -20,12 +20,12 @@ use Rattle.sqlite_rules.specs.Cast.{cast_row}
 use Rattle.sqlite_tied.specs.Compute.{everything}
 use Rattle.sqlite.specs.declared.error.Error.{Error}
 use Rattle.sqlite.specs.Listing.{understood, reads_listing}
-use Rattle.sqlite.specs.State.{State, HasCleanDisk, Survives, Executes, CommitsBy, Writes, Shown, FailsToQuery, CommitsShowing}
+use Rattle.sqlite.specs.State.{State, HasCleanDisk, Survives, CommitsBy, Writes, Shown, FailsToQuery, CommitsShowing}
 use Rattle.sqlite.proofs.Callers.{IsPlain, command_of, statement_of}
 use Rattle.fuse_tables.specs.Layout.{entries, store_schema}
 use Rattle.fuse_tables.specs.Content.{Content, Holds, stored, put_by, has_by, cookie_of, entry_row, with_entry, with_entry_gone, has_name}
 use Rattle.fuse_tables.specs.Content.{stands_after, shown_entry, shown_place}
-use Rattle.fuse_tables.specs.Moves.{Inside, Makes}
+use Rattle.fuse_tables.specs.Moves.{Inside, Makes, Ran}
 use Rattle.fuse_tables.proofs.Writing.{makes}
 use Rattle.fuse_tables.proofs.Tables.{wrote, quiet, only_entries}
 use Rattle.fuse_tables.proofs.Keyed.{put_rows, row_cmp_nat}
@@ -70,7 +70,7 @@ inserts x c old new n at w =
     (put.rows ∙ ap (put_row (entry_row x)) was.0 ∙ put_rows cookie_of entry_row (λ _. refl) x c.entries)
     (subst IsTable (sym put.rows) (IsTable-put_row (entry_row x) (old.now.trees 2) was.1))
 
-pub adds : (x : EntryRow) (old new : State) (r : Result ℕ Error) → (HasCleanDisk new → Executes insert_text (given x) old new r)
+pub adds : (x : EntryRow) (old new : State) (r : Result (Unit {0}) Error) → (HasCleanDisk new → Ran insert_text (given x) old new r)
     → Survives old new (CommitsBy insert_text (given x) old) → Makes (with_entry x) old new r
 adds x = makes Holds store_schema (λ c d h. h.schema) insert_text (given x) (Insert 2 (Values insert_terms 5)) insert_is insert_plain refl
     (λ c. Holds (with_entry x c)) (inserts x)
@@ -106,7 +106,7 @@ gone k c old new n at w =
     new _ n at.schema was.0 was.1 w in
     wrote store_schema (stored c) (stored (with_entry_gone k c)) entries old.now new.now at now.2 w.sound (only_entries c _) now.0 now.1
 
-pub removes : (k : ℕ) (old new : State) (r : Result ℕ Error) → (HasCleanDisk new → Executes delete_text (Int (pos k) ∷ []) old new r)
+pub removes : (k : ℕ) (old new : State) (r : Result (Unit {0}) Error) → (HasCleanDisk new → Ran delete_text (Int (pos k) ∷ []) old new r)
     → Survives old new (CommitsBy delete_text (Int (pos k) ∷ []) old) → Makes (with_entry_gone k) old new r
 removes k = makes Holds store_schema (λ c d h. h.schema) delete_text (Int (pos k) ∷ []) (Delete 2 (picking 2 key_terms)) delete_is delete_plain refl
     (λ c. Holds (with_entry_gone k c)) (gone k)

@@ -21,12 +21,12 @@ use Rattle.sqlite_rules.specs.Cast.{cast_row}
 use Rattle.sqlite_tied.specs.Compute.{everything}
 use Rattle.sqlite.specs.declared.error.Error.{Error}
 use Rattle.sqlite.specs.Listing.{understood, reads_listing}
-use Rattle.sqlite.specs.State.{State, HasCleanDisk, Survives, Executes, CommitsBy, Writes, Shown, FailsToQuery, CommitsShowing}
+use Rattle.sqlite.specs.State.{State, HasCleanDisk, Survives, CommitsBy, Writes, Shown, FailsToQuery, CommitsShowing}
 use Rattle.sqlite.proofs.Callers.{IsPlain, command_of, statement_of}
 use Rattle.fuse_tables.specs.Layout.{handles, store_schema}
 use Rattle.fuse_tables.specs.Content.{Content, Holds, stored, put_by, has_by, at_by, fh_of, access_code, handle_row, shown_handle, with_handle}
 use Rattle.fuse_tables.specs.Content.{without_handle}
-use Rattle.fuse_tables.specs.Moves.{Inside, Makes}
+use Rattle.fuse_tables.specs.Moves.{Inside, Makes, Ran}
 use Rattle.fuse_tables.proofs.Writing.{makes}
 use Rattle.fuse_tables.proofs.Tables.{wrote, quiet, only_handles}
 use Rattle.fuse_tables.proofs.Keyed.{put_rows, row_cmp_nat, found_rows}
@@ -68,7 +68,7 @@ inserts x c old new n at w =
     (put.rows ∙ ap (put_row (handle_row x)) was.0 ∙ put_rows fh_of handle_row (λ _. refl) x c.handles)
     (subst IsTable (sym put.rows) (IsTable-put_row (handle_row x) (old.now.trees 7) was.1))
 
-pub adds : (x : HandleRow) (old new : State) (r : Result ℕ Error) → (HasCleanDisk new → Executes insert_text (given x) old new r)
+pub adds : (x : HandleRow) (old new : State) (r : Result (Unit {0}) Error) → (HasCleanDisk new → Ran insert_text (given x) old new r)
     → Survives old new (CommitsBy insert_text (given x) old) → Makes (with_handle x) old new r
 adds x = makes Holds store_schema (λ c d h. h.schema) insert_text (given x) (Insert 4 (Values insert_terms 4)) insert_is insert_plain refl
     (λ c. Holds (with_handle x c)) (inserts x)
@@ -104,7 +104,7 @@ gone k c old new n at w =
     at.schema was.0 was.1 w in
     wrote store_schema (stored c) (stored (without_handle k c)) handles old.now new.now at now.2 w.sound (only_handles c _) now.0 now.1
 
-pub removes : (k : ℕ) (old new : State) (r : Result ℕ Error) → (HasCleanDisk new → Executes delete_text (Int (pos k) ∷ []) old new r)
+pub removes : (k : ℕ) (old new : State) (r : Result (Unit {0}) Error) → (HasCleanDisk new → Ran delete_text (Int (pos k) ∷ []) old new r)
     → Survives old new (CommitsBy delete_text (Int (pos k) ∷ []) old) → Makes (without_handle k) old new r
 removes k = makes Holds store_schema (λ c d h. h.schema) delete_text (Int (pos k) ∷ []) (Delete 4 (picking 7 key_terms)) delete_is delete_plain refl
     (λ c. Holds (without_handle k c)) (gone k)

@@ -21,11 +21,11 @@ use Rattle.sqlite_rules.specs.Cast.{cast_row}
 use Rattle.sqlite_tied.specs.Compute.{everything}
 use Rattle.sqlite.specs.declared.error.Error.{Error}
 use Rattle.sqlite.specs.Listing.{understood, reads_listing}
-use Rattle.sqlite.specs.State.{State, HasCleanDisk, Survives, Executes, CommitsBy, Writes, Shown, FailsToQuery, CommitsShowing}
+use Rattle.sqlite.specs.State.{State, HasCleanDisk, Survives, CommitsBy, Writes, Shown, FailsToQuery, CommitsShowing}
 use Rattle.sqlite.proofs.Callers.{IsPlain, command_of, statement_of}
 use Rattle.fuse_tables.specs.Layout.{kept, store_schema}
 use Rattle.fuse_tables.specs.Content.{Content, Kept, Holds, stored, put_by, has_by, at_by, kept_key, kept_row, shown_kept, with_kept, without_kept}
-use Rattle.fuse_tables.specs.Moves.{Inside, Rests, Makes, Serves}
+use Rattle.fuse_tables.specs.Moves.{Inside, Rests, Makes, Serves, Ran}
 use Rattle.fuse_tables.proofs.Writing.{makes}
 use Rattle.fuse_tables.proofs.Tables.{wrote, quiet, only_kept}
 use Rattle.fuse_tables.proofs.Keyed.{put_rows, row_cmp_nat, found_rows}
@@ -67,7 +67,7 @@ inserts x c old new n at w =
     (put.rows ∙ ap (put_row (kept_row x)) was.0 ∙ put_rows kept_key kept_row (λ _. refl) x c.kept)
     (subst IsTable (sym put.rows) (IsTable-put_row (kept_row x) (old.now.trees 10) was.1))
 
-pub adds : (x : Kept) (old new : State) (r : Result ℕ Error) → (HasCleanDisk new → Executes insert_text (given x) old new r)
+pub adds : (x : Kept) (old new : State) (r : Result (Unit {0}) Error) → (HasCleanDisk new → Ran insert_text (given x) old new r)
     → Survives old new (CommitsBy insert_text (given x) old) → Makes (with_kept x) old new r
 adds x = makes Holds store_schema (λ c d h. h.schema) insert_text (given x) (Insert 7 (Values insert_terms 5)) insert_is insert_plain refl
     (λ c. Holds (with_kept x c)) (inserts x)
@@ -103,7 +103,7 @@ gone k c old new n at w =
     at.schema was.0 was.1 w in
     wrote store_schema (stored c) (stored (without_kept k c)) kept old.now new.now at now.2 w.sound (only_kept c _) now.0 now.1
 
-pub removes : (k : ℕ) (old new : State) (r : Result ℕ Error) → (HasCleanDisk new → Executes delete_text (Int (pos k) ∷ []) old new r)
+pub removes : (k : ℕ) (old new : State) (r : Result (Unit {0}) Error) → (HasCleanDisk new → Ran delete_text (Int (pos k) ∷ []) old new r)
     → Survives old new (CommitsBy delete_text (Int (pos k) ∷ []) old) → Makes (without_kept k) old new r
 removes k = makes Holds store_schema (λ c d h. h.schema) delete_text (Int (pos k) ∷ []) (Delete 7 (picking 10 key_terms)) delete_is delete_plain refl
     (λ c. Holds (without_kept k c)) (gone k)

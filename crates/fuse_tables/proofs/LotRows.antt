@@ -12,11 +12,11 @@ use Rattle.sqlite_rules.specs.Cast.{cast_row}
 use Rattle.sqlite_tied.specs.Compute.{everything}
 use Rattle.sqlite.specs.declared.error.Error.{Error}
 use Rattle.sqlite.specs.Listing.{understood}
-use Rattle.sqlite.specs.State.{State, HasCleanDisk, Survives, Executes, CommitsBy, Writes}
+use Rattle.sqlite.specs.State.{State, HasCleanDisk, Survives, CommitsBy, Writes}
 use Rattle.sqlite.proofs.Callers.{IsPlain, command_of, statement_of}
 use Rattle.fuse_tables.specs.Layout.{lots, store_schema}
 use Rattle.fuse_tables.specs.Content.{Content, Holds, stored, put_by, lot_row, with_lot}
-use Rattle.fuse_tables.specs.Moves.{Makes}
+use Rattle.fuse_tables.specs.Moves.{Makes, Ran}
 use Rattle.fuse_tables.proofs.Writing.{makes}
 use Rattle.fuse_tables.proofs.Tables.{wrote, quiet, only_lots}
 use Rattle.fuse_tables.proofs.Keyed.{put_rows}
@@ -55,7 +55,7 @@ inserts x c old new n at w =
     (put.rows ∙ ap (put_row (lot_row x)) was.0 ∙ put_rows (λ n. n) lot_row (λ _. refl) x c.lots)
     (subst IsTable (sym put.rows) (IsTable-put_row (lot_row x) (old.now.trees 9) was.1))
 
-pub adds : (x : ℕ) (old new : State) (r : Result ℕ Error) → (HasCleanDisk new → Executes insert_text (given x) old new r)
+pub adds : (x : ℕ) (old new : State) (r : Result (Unit {0}) Error) → (HasCleanDisk new → Ran insert_text (given x) old new r)
     → Survives old new (CommitsBy insert_text (given x) old) → Makes (with_lot x) old new r
 adds x = makes Holds store_schema (λ c d h. h.schema) insert_text (given x) (Insert 6 (Values insert_terms 2)) insert_is insert_plain refl
     (λ c. Holds (with_lot x c)) (inserts x)

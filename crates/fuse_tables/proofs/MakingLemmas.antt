@@ -13,12 +13,12 @@ use Rattle.sqlite.specs.Rowids.TheVariants.{Chosen}
 use Rattle.sqlite_tied.specs.Compute.{everything}
 use Rattle.sqlite.specs.declared.error.Error.{Error}
 use Rattle.sqlite.specs.Listing.{understood}
-use Rattle.sqlite.specs.State.{State, HasCleanDisk, Survives, Executes, CommitsBy, Writes}
+use Rattle.sqlite.specs.State.{State, HasCleanDisk, Survives, CommitsBy, Writes}
 use Rattle.sqlite.proofs.Callers.{IsPlain, command_of, statement_of}
 use Rattle.fuse_tables.specs.Layout.{meta, store_schema}
 use Rattle.fuse_tables.specs.Content.{Counter, stored, counter_row}
 use Rattle.fuse_tables.specs.Making.{IsBare, HasCounters, first_counters, counters_alone}
-use Rattle.fuse_tables.specs.Moves.{Takes}
+use Rattle.fuse_tables.specs.Moves.{Takes, Ran}
 use Rattle.fuse_tables.proofs.Writing.{makes}
 use Rattle.fuse_tables.proofs.Tables.{wrote, quiet}
 use Rattle.fuse_tables.proofs.Keyed.{put_all_rows, numbered_rows, IsTable-put_all}
@@ -65,6 +65,6 @@ fills c old new n at w =
     (rows ∙ put_all_rows (λ x. x.key) counter_row (λ _. refl) [] first_counters)
     (subst IsTable (sym rows) (IsTable-put_all [] (map counter_row first_counters) tt))
 
-pub fill : (old new : State) (r : Result ℕ Error) → (HasCleanDisk new → Executes fill_text [] old new r) → Survives old new (CommitsBy fill_text [] old)
+pub fill : (old new : State) (r : Result (Unit {0}) Error) → (HasCleanDisk new → Ran fill_text [] old new r) → Survives old new (CommitsBy fill_text [] old)
     → Takes (IsBare store_schema) HasCounters old new r
 fill = makes (IsBare store_schema) store_schema (λ c d h. h.schema) fill_text [] (Insert 0 (Values terms 3)) fill_is fill_plain refl HasCounters fills

@@ -9,12 +9,12 @@ use Rattle.sqlite.specs.Command.TheVariants.{CreateTable, CreateIndex}
 use Rattle.sqlite.specs.Effect.{Database}
 use Rattle.sqlite.specs.Listing.{understood}
 use Rattle.sqlite.specs.declared.error.Error.{Error}
-use Rattle.sqlite.specs.State.{State, HasCleanDisk, Survives, Executes, CommitsBy, Writes}
+use Rattle.sqlite.specs.State.{State, HasCleanDisk, Survives, CommitsBy, Writes}
 use Rattle.sqlite.proofs.Callers.{statement_of}
 use Rattle.fuse_tables.specs.Layout.{with_answers, with_lots, with_kept, lots, kept, entries, entries_in_order}
 use Rattle.fuse_tables.specs.Content.{Content, Answer, Kept, Holds, stored, lot_row, kept_row, answer_row, kept_key, value_at, put_by}
 use Rattle.fuse_tables.specs.Opening.{IsOld, IsFit, IsFirst, IsSecond, IsStored, HasLots, HasKept, HasTables, IsOpened, under, moved, marked, migrated, opened}
-use Rattle.fuse_tables.specs.Moves.{InsideAs, Takes}
+use Rattle.fuse_tables.specs.Moves.{InsideAs, Takes, Ran}
 use Rattle.fuse_tables.proofs.Writing.{makes}
 use Rattle.fuse_tables.proofs.Sorting.{Rises}
 use Rattle.fuse_tables.proofs.Ordered.{rises_from}
@@ -31,8 +31,8 @@ lots_more c old new n h w = record {
   old = h.old;
 }
 
-pub adds_lots : (old new : State) (r : Result ℕ Error) → (HasCleanDisk new → Executes lots_text [] old new r) → Survives old new (CommitsBy lots_text [] old)
-    → Takes IsFirst HasLots old new r
+pub adds_lots : (old new : State) (r : Result (Unit {0}) Error) → (HasCleanDisk new → Ran lots_text [] old new r)
+    → Survives old new (CommitsBy lots_text [] old) → Takes IsFirst HasLots old new r
 adds_lots = makes IsFirst with_answers (λ c d h. h.holds.schema) lots_text [] CreateTable lots_made.command lots_made.plain refl HasLots lots_more
 
 kept_more : (c : Content) (old new : State) (n : ℕ) → HasLots c old.now
@@ -42,7 +42,7 @@ kept_more c old new n h w = record {
   old = h.old;
 }
 
-pub adds_kept_table : (old new : State) (r : Result ℕ Error) → (HasCleanDisk new → Executes kept_text [] old new r)
+pub adds_kept_table : (old new : State) (r : Result (Unit {0}) Error) → (HasCleanDisk new → Ran kept_text [] old new r)
     → Survives old new (CommitsBy kept_text [] old) → Takes HasLots HasKept old new r
 adds_kept_table = makes HasLots with_lots (λ c d h. h.holds.schema) kept_text [] CreateTable kept_made.command kept_made.plain refl HasKept kept_more
 
@@ -53,7 +53,7 @@ index_made c old new n h w = record {
   old = h.old;
 }
 
-pub adds_index : (old new : State) (r : Result ℕ Error) → (HasCleanDisk new → Executes entries_in_order_text [] old new r)
+pub adds_index : (old new : State) (r : Result (Unit {0}) Error) → (HasCleanDisk new → Ran entries_in_order_text [] old new r)
     → Survives old new (CommitsBy entries_in_order_text [] old) → Takes HasKept HasTables old new r
 adds_index =
     makes HasKept with_kept (λ c d h. h.holds.schema) entries_in_order_text [] (CreateIndex 2) entries_in_order_made.command entries_in_order_made.plain refl

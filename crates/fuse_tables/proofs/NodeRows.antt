@@ -21,12 +21,12 @@ use Rattle.sqlite_rules.specs.Cast.{cast_row}
 use Rattle.sqlite_tied.specs.Compute.{everything}
 use Rattle.sqlite.specs.declared.error.Error.{Error}
 use Rattle.sqlite.specs.Listing.{understood, reads_listing}
-use Rattle.sqlite.specs.State.{State, HasCleanDisk, Survives, Executes, CommitsBy, Writes, Shown, FailsToQuery, CommitsShowing}
+use Rattle.sqlite.specs.State.{State, HasCleanDisk, Survives, CommitsBy, Writes, Shown, FailsToQuery, CommitsShowing}
 use Rattle.sqlite.proofs.Callers.{IsPlain, command_of, statement_of}
 use Rattle.fuse_tables.specs.Layout.{nodes, store_schema}
 use Rattle.fuse_tables.specs.Content.{Content, Holds, stored, put_by, has_by, at_by, node_key, node_row, given_node, node_columns, renumbered}
 use Rattle.fuse_tables.specs.Content.{with_node, set_node}
-use Rattle.fuse_tables.specs.Moves.{Inside, Makes}
+use Rattle.fuse_tables.specs.Moves.{Inside, Makes, Ran}
 use Rattle.fuse_tables.proofs.Writing.{makes}
 use Rattle.fuse_tables.proofs.Tables.{wrote, quiet, only_nodes}
 use Rattle.fuse_tables.proofs.Keyed.{put_rows, row_cmp_nat, found_rows}
@@ -88,7 +88,7 @@ inserts x c old new n at w =
     (put.rows ∙ ap (put_row (node_row x)) was.0 ∙ put_rows node_key node_row (λ _. refl) x c.nodes)
     (subst IsTable (sym put.rows) (IsTable-put_row (node_row x) (old.now.trees 1) was.1))
 
-pub adds : (x : NodeRow) (old new : State) (r : Result ℕ Error) → (HasCleanDisk new → Executes insert_text (given x) old new r)
+pub adds : (x : NodeRow) (old new : State) (r : Result (Unit {0}) Error) → (HasCleanDisk new → Ran insert_text (given x) old new r)
     → Survives old new (CommitsBy insert_text (given x) old) → Makes (with_node x) old new r
 adds x = makes Holds store_schema (λ c d h. h.schema) insert_text (given x) (Insert 1 (Values insert_terms 15)) insert_is insert_plain refl
     (λ c. Holds (with_node x c)) (inserts x)
@@ -176,7 +176,7 @@ changed x c old new n at w =
     c.nodes old new _ n at.schema was.0 was.1 w in
     wrote store_schema (stored c) (stored (set_node x c)) nodes old.now new.now at now.2 w.sound (only_nodes c _) now.0 now.1
 
-pub sets : (x : NodeRow) (old new : State) (r : Result ℕ Error) → (HasCleanDisk new → Executes update_text (given x) old new r)
+pub sets : (x : NodeRow) (old new : State) (r : Result (Unit {0}) Error) → (HasCleanDisk new → Ran update_text (given x) old new r)
     → Survives old new (CommitsBy update_text (given x) old) → Makes (set_node x) old new r
 sets x = makes Holds store_schema (λ c d h. h.schema) update_text (given x) (Update 1 (changing 1 key_terms update_terms)) update_is update_plain refl
     (λ c. Holds (set_node x c)) (changed x)

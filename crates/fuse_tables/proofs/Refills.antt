@@ -17,12 +17,12 @@ use Rattle.sqlite_tied.specs.Compute.{everything}
 use Rattle.sqlite.specs.Effect.{Answers}
 use Rattle.sqlite.specs.declared.error.Error.{Error}
 use Rattle.sqlite.specs.Listing.{understood}
-use Rattle.sqlite.specs.State.{State, HasCleanDisk, Survives, Executes, CommitsBy, Writes}
+use Rattle.sqlite.specs.State.{State, HasCleanDisk, Survives, CommitsBy, Writes}
 use Rattle.sqlite.proofs.Callers.{IsPlain, command_of, statement_of}
 use Rattle.fuse_tables.specs.Layout.{meta, kept, store_schema}
 use Rattle.fuse_tables.specs.Content.{Content, Counter, Answer, Holds, stored, counter_row, answer_row, kept_row, kept_key, put_by, with_counter}
 use Rattle.fuse_tables.specs.Opening.{under, with_copies}
-use Rattle.fuse_tables.specs.Moves.{Makes}
+use Rattle.fuse_tables.specs.Moves.{Makes, Ran}
 use Rattle.fuse_tables.proofs.Writing.{makes}
 use Rattle.fuse_tables.proofs.Tables.{wrote, quiet, only_counters, only_kept}
 use Rattle.fuse_tables.proofs.Keyed.{put_rows, put_all_rows, numbered_rows, IsTable-put_all}
@@ -69,7 +69,7 @@ counter_in key value c old new n at w =
     (put.rows ∙ ap (put_row (counter_row a)) was.0 ∙ put_rows (λ x. x.key) counter_row (λ _. refl) a c.counters)
     (subst IsTable (sym put.rows) (IsTable-put_row (counter_row a) (old.now.trees 0) was.1))
 
-pub adds_counter : (key value : ℕ) (old new : State) (r : Result ℕ Error) → (HasCleanDisk new → Executes counter_text (given_counter key value) old new r)
+pub adds_counter : (key value : ℕ) (old new : State) (r : Result (Unit {0}) Error) → (HasCleanDisk new → Ran counter_text (given_counter key value) old new r)
     → Survives old new (CommitsBy counter_text (given_counter key value) old)
     → Makes (with_counter key value) old new r
 adds_counter key value = makes Holds store_schema (λ c d h. h.schema) counter_text (given_counter key value) (Insert 0 (Values counter_terms 3)) counter_is
@@ -139,6 +139,6 @@ copies c old new n at w =
     (rows ∙ ap (λ all. put_all all (map kept_row news)) was.0 ∙ put_all_rows (λ k. k.id) kept_row (λ _. refl) c.kept news)
     (subst IsTable (sym rows) (IsTable-put_all (old.now.trees 10) (map kept_row news) was.1))
 
-pub copies_all : (old new : State) (r : Result ℕ Error) → (HasCleanDisk new → Executes copy_text [] old new r) → Survives old new (CommitsBy copy_text [] old)
-    → Makes with_copies old new r
+pub copies_all : (old new : State) (r : Result (Unit {0}) Error) → (HasCleanDisk new → Ran copy_text [] old new r)
+    → Survives old new (CommitsBy copy_text [] old) → Makes with_copies old new r
 copies_all = makes Holds store_schema (λ c d h. h.schema) copy_text [] (Insert 7 (Query copy_query)) copy_is copy_plain refl (λ c. Holds (with_copies c)) copies

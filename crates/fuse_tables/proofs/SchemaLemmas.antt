@@ -13,7 +13,7 @@ use Rattle.sqlite.specs.Does.{Tally, Does, Defines, MakesIndex, lacks_sequence}
 use Rattle.sqlite_tied.specs.Compute.{everything}
 use Rattle.sqlite.specs.Listing.{understood}
 use Rattle.sqlite.specs.Effect.{Database}
-use Rattle.sqlite.specs.State.{State, HasCleanDisk, Survives, Executes, CommitsBy, Writes, mode_of}
+use Rattle.sqlite.specs.State.{State, HasCleanDisk, Survives, CommitsBy, Writes, mode_of}
 use Rattle.sqlite.proofs.Callers.{IsPlain, command_of, statement_of}
 use Rattle.fuse_tables.specs.Layout.{no_schema, with_meta, with_nodes, with_entries, with_blocks, with_handles, with_answers, with_lots, with_kept, meta, nodes}
 use Rattle.fuse_tables.specs.Layout.{entries, blocks, handles, answers, lots, kept, entries_in_order, store_schema}
@@ -22,7 +22,7 @@ use Rattle.sqlite.specs.declared.error.Error.{Error}
 use Rattle.sqlite.specs.Tree.{Trees}
 use Rattle.fuse_tables.specs.Content.{HasRows, HoldsAs}
 use Rattle.fuse_tables.specs.Making.{IsBare}
-use Rattle.fuse_tables.specs.Moves.{Takes}
+use Rattle.fuse_tables.specs.Moves.{Takes, Ran}
 use Rattle.fuse_tables.proofs.RowLemmas.{went, same_value}
 use Rattle.fuse_tables.proofs.Writing.{makes}
 
@@ -112,8 +112,8 @@ table_more s table text made held empty old new n at w =
       rows = more_rows held new.now.trees s.tables _ others (all.1 ∙ sym empty, subst IsTable (sym all.1) tt);
     }
 
-pub creates : (s : Schema) (table : Table) (text : List ℕ) → IsTextOf s table text → (old new : State) (r : Result ℕ Error)
-    → (HasCleanDisk new → Executes text [] old new r) → Survives old new (CommitsBy text [] old)
+pub creates : (s : Schema) (table : Table) (text : List ℕ) → IsTextOf s table text → (old new : State) (r : Result (Unit {0}) Error)
+    → (HasCleanDisk new → Ran text [] old new r) → Survives old new (CommitsBy text [] old)
     → Takes (IsBare s) (IsBare (created s table)) old new r
 creates s table text made =
     makes (IsBare s) s (λ c d h. h.schema) text [] CreateTable made.command made.plain refl (IsBare (created s table))
@@ -195,7 +195,7 @@ unfolding understood everything
 entries_in_order_made = record { listed = refl; defines = refl; statement = refl; command = refl; plain = (refl, refl) }
 
 -- the index, in a store without a row
-pub orders : (old new : State) (r : Result ℕ Error) → (HasCleanDisk new → Executes entries_in_order_text [] old new r)
+pub orders : (old new : State) (r : Result (Unit {0}) Error) → (HasCleanDisk new → Ran entries_in_order_text [] old new r)
     → Survives old new (CommitsBy entries_in_order_text [] old) → Takes (IsBare with_kept) (IsBare store_schema) old new r
 orders =
     makes (IsBare with_kept) with_kept (λ c d h. h.schema) entries_in_order_text [] (CreateIndex 2) entries_in_order_made.command entries_in_order_made.plain

@@ -17,13 +17,13 @@ use Rattle.sqlite.specs.Command.TheVariants.{Delete, Select}
 use Rattle.sqlite_tied.specs.Compute.{everything}
 use Rattle.sqlite.specs.declared.error.Error.{Error}
 use Rattle.sqlite.specs.Listing.{understood, reads_listing}
-use Rattle.sqlite.specs.State.{State, HasCleanDisk, Survives, Executes, CommitsBy, Writes, Shown, FailsToQuery, CommitsShowing}
+use Rattle.sqlite.specs.State.{State, HasCleanDisk, Survives, CommitsBy, Writes, Shown, FailsToQuery, CommitsShowing}
 use Rattle.sqlite.proofs.Callers.{IsPlain, command_of, statement_of}
 use Rattle.fuse_tree.specs.declared.rows.NodeRow.{NodeRow}
 use Rattle.fuse_tables.specs.Layout.{nodes, store_schema}
 use Rattle.fuse_tables.specs.Content.{Content, Holds, stored, node_row, node_columns, is_unnamed, without_unnamed}
 use Rattle.fuse_tables.specs.Clearing.{shown_number, counted_to, unnamed_numbers}
-use Rattle.fuse_tables.specs.Moves.{Inside, Makes}
+use Rattle.fuse_tables.specs.Moves.{Inside, Makes, Ran}
 use Rattle.fuse_tables.proofs.Writing.{makes}
 use Rattle.fuse_tables.proofs.Tables.{wrote, only_nodes}
 use Rattle.fuse_tables.proofs.Keyed.{row_cmp_nat}
@@ -65,7 +65,7 @@ unnamed_gone c old new n at w =
     was.1 w in
     wrote store_schema (stored c) (stored (without_unnamed c)) nodes old.now new.now at now.2 w.sound (only_nodes c _) now.0 now.1
 
-pub removes_unnamed : (old new : State) (r : Result ℕ Error) → (HasCleanDisk new → Executes gone_text [] old new r)
+pub removes_unnamed : (old new : State) (r : Result (Unit {0}) Error) → (HasCleanDisk new → Ran gone_text [] old new r)
     → Survives old new (CommitsBy gone_text [] old) → Makes without_unnamed old new r
 removes_unnamed = makes Holds store_schema (λ c d h. h.schema) gone_text [] (Delete 1 (picking 1 unnamed_terms)) gone_is gone_plain refl
     (λ c. Holds (without_unnamed c)) unnamed_gone

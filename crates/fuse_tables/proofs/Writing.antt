@@ -13,7 +13,7 @@ use Rattle.sqlite.specs.State.{State, HasCleanDisk, Survives, KeepsCommit, Execu
 use Rattle.sqlite.specs.Clock.{timed}
 use Rattle.sqlite.proofs.StateLemmas.{survives_weaker}
 use Rattle.sqlite.proofs.Callers.{IsPlain, command_of, statement_of, runs_as}
-use Rattle.fuse_tables.specs.Moves.{IsReady, StaysIn, Takes}
+use Rattle.fuse_tables.specs.Moves.{IsReady, StaysIn, Takes, Ran}
 use Rattle.fuse_tables.proofs.Control.{keeps_failed}
 
 abbrev pub writes : Command → Bool
@@ -65,11 +65,11 @@ module _ {C : Type 0} (P : C → Database → Type 0) (layout : Schema) (known :
       let w = written old new n at h in
       record { was_open = λ _. w.shown.was_open; committed = λ _. w.shown.committed_is ∙ ap (λ b. cond b old.committed new.now) at.1.in_transaction }
 
-  stays : (old new : State) (r : Result ℕ Error) → (HasCleanDisk new → Executes sql params old new r) → Survives old new (CommitsBy sql params old)
+  stays : (old new : State) (r : Result (Unit {0}) Error) → (HasCleanDisk new → Ran sql params old new r) → Survives old new (CommitsBy sql params old)
       → StaysIn P old new
-  stays old new (Ok n) runs survives = record {
+  stays old new (Ok x) runs survives = record {
     survives = survives_weaker old new _ _ (λ _ db. ready_commits old db) survives;
-    kept = λ clean at. keeps_written old new n at (runs clean);
+    kept = λ clean at. keeps_written old new (runs clean).0 at (runs clean).1;
   }
   stays old new (Err e) runs survives = record {
     survives = survives_weaker old new _ _ (λ _ db. ready_commits old db) survives;
@@ -79,12 +79,13 @@ module _ {C : Type 0} (P : C → Database → Type 0) (layout : Schema) (known :
   -- what is left to show of a statement: what it makes of the database
   pub makes : (Q : C → Database → Type 0) → ((c : C) (old new : State) (n : ℕ) → P c old.now
       → Writes old new None command (statement_of sql (understood layout sql)) params n → Q c new.now)
-      → (old new : State) (r : Result ℕ Error) → (HasCleanDisk new → Executes sql params old new r) → Survives old new (CommitsBy sql params old)
+      → (old new : State) (r : Result (Unit {0}) Error) → (HasCleanDisk new → Ran sql params old new r) → Survives old new (CommitsBy sql params old)
       → Takes P Q old new r
-  makes Q does old new (Ok n) runs survives = record {
-    stays = stays old new (Ok n) runs survives;
+  makes Q does old new (Ok x) runs survives = record {
+    stays = stays old new (Ok x) runs survives;
     turns = λ clean c at.
-        let w = written old new n (c, at) (runs clean) in
+        let n = (runs clean).0 in
+        let w = written old new n (c, at) (runs clean).1 in
         record { is_open = w.shown.is_open; in_transaction = w.shown.mode ∙ at.in_transaction; holds = does c old new n at.holds w };
   }
   makes Q does old new (Err e) runs survives = record { stays = stays old new (Err e) runs survives; turns = tt }

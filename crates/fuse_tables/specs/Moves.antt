@@ -1,10 +1,17 @@
 -- What a call does to a store of the tables.
-use Rattle.std.specs.Prelude.{◌≡◌, true, false, IsTrue, Result, OnOk, OnErr, IfErr}
+use Rattle.std.specs.Prelude.{◌≡◌, ℕ, List, true, false, IsTrue, Result, Ok, Err, OnOk, OnErr, IfErr}
+use Rattle.sqlite.specs.Order.{Row}
 use Rattle.sqlite.specs.Effect.{Database}
-use Rattle.sqlite.specs.State.{State, HasCleanDisk, Survives, KeepsCommit}
+use Rattle.sqlite.specs.declared.error.Error.{Error}
+use Rattle.sqlite.specs.State.{State, HasCleanDisk, Survives, KeepsCommit, Executes}
 use Rattle.fuse_tables.specs.Content.{Content, Holds, LeftAs}
 use Rattle.fuse_keeper.specs.declared.fault.StoreFault.{StoreFault}
 use Rattle.fuse_tables.specs.Faults.{IsOutside}
+
+-- the statement was run with these values; how many rows it changed isn't told
+abbrev pub Ran : List ℕ → Row → State → State → Result (Unit {0}) Error → Type 0
+Ran sql values old new (Ok _) = (changed : ℕ) × Executes sql values old new (Ok changed)
+Ran sql values old new (Err e) = Executes sql values old new (Err e)
 
 -- no transaction is open
 pub record RestsAs (P : Database → Type 0) (s : State) : Type 0 where

@@ -10,6 +10,7 @@ ghost use Rattle.fuse_tables.specs.Blocks.{block_at, shown_block};
 ghost use Rattle.fuse_tables.specs.Content.{Content, with_block, without_block, put_block};
 ghost use Rattle.fuse_tables.specs.Content.{without_blocks_from};
 
+use crate::statements::run;
 use crate::values::pair;
 use sqlite::types::{ToSql, ValueRef};
 use sqlite::{Alter, Connection, Error, Row};
@@ -41,29 +42,25 @@ pub fn insert_block<S: Alter>(
     node: u64,
     block: u64,
     bytes: &[u8],
-) -> Result<usize, Error>
+) -> Result<(), Error>
     requires node { node < 2 ^ 63 }
     requires block { block < 2 ^ 63 }
     ensures { Makes (with_block node block bytes.now) (state S.Store conn.old)
         (state S.Store conn.new) result }
 {
     let values = block_values(node, block, bytes);
-    conn.execute(INSERT, &values)
+    run(conn, INSERT, &values)
 }
 
 /// Takes out a block, if it is there.
-pub fn delete_block<S: Alter>(
-    conn: &mut Connection<S>,
-    node: u64,
-    block: u64,
-) -> Result<usize, Error>
+pub fn delete_block<S: Alter>(conn: &mut Connection<S>, node: u64, block: u64) -> Result<(), Error>
     requires node { node < 2 ^ 63 }
     requires block { block < 2 ^ 63 }
     ensures { Makes (without_block node block) (state S.Store conn.old) (state S.Store conn.new)
         result }
 {
     let values = pair(node, block);
-    conn.execute(DELETE, &values)
+    run(conn, DELETE, &values)
 }
 
 /// Gives a block these bytes, whether it is there or not.
@@ -72,7 +69,7 @@ pub fn write_block<S: Alter>(
     node: u64,
     block: u64,
     bytes: &[u8],
-) -> Result<usize, Error>
+) -> Result<(), Error>
     requires node { node < 2 ^ 63 }
     requires block { block < 2 ^ 63 }
     ensures { Makes (put_block node block bytes.now) (state S.Store conn.old)
@@ -87,14 +84,14 @@ pub fn delete_blocks_from<S: Alter>(
     conn: &mut Connection<S>,
     node: u64,
     from: u64,
-) -> Result<usize, Error>
+) -> Result<(), Error>
     requires node { node < 2 ^ 63 }
     requires from { from < 2 ^ 63 }
     ensures { Makes (without_blocks_from node from) (state S.Store conn.old)
         (state S.Store conn.new) result }
 {
     let values = pair(node, from);
-    conn.execute(DELETE_FROM, &values)
+    run(conn, DELETE_FROM, &values)
 }
 
 /// The blocks at this place: one or none.

@@ -33,7 +33,7 @@ fn delete_blocks_of<S: Alter>(conn: &mut Connection<S>, nodes: &[Row]) -> Result
     'nodes: while at < nodes.len() {
         match number_at(&nodes[at], 0) {
             Ok(node) => match delete_blocks_from(conn, node, 0) {
-                Ok(_) => {}
+                Ok(()) => {}
                 Err(error) => return Err(error.into()),
             },
             Err(fault) => return Err(fault),
@@ -55,7 +55,7 @@ fn clear_blocks<S: Alter>(conn: &mut Connection<S>) -> Result<(), StoreFault>
 }
 
 // Counts the nodes anew.
-fn recount<S: Alter>(conn: &mut Connection<S>) -> Result<usize, StoreFault>
+fn recount<S: Alter>(conn: &mut Connection<S>) -> Result<(), StoreFault>
     ensures counted { Makes with_nodes_counted (state S.Store conn.old) (state S.Store conn.new)
         result }
     ensures fault { IsSure Holds (state S.Store conn.old) (state S.Store conn.new) result }
@@ -66,7 +66,7 @@ fn recount<S: Alter>(conn: &mut Connection<S>) -> Result<usize, StoreFault>
 }
 
 // No INIT is agreed on.
-fn clear_settings<S: Alter>(conn: &mut Connection<S>) -> Result<usize, Error>
+fn clear_settings<S: Alter>(conn: &mut Connection<S>) -> Result<(), Error>
     ensures { Makes without_settings (state S.Store conn.old) (state S.Store conn.new) result }
 {
     update_counter(conn, 7, 0)?;
@@ -76,7 +76,7 @@ fn clear_settings<S: Alter>(conn: &mut Connection<S>) -> Result<usize, Error>
 }
 
 // Takes out all records and lots.
-fn clear_records<S: Alter>(conn: &mut Connection<S>) -> Result<usize, Error>
+fn clear_records<S: Alter>(conn: &mut Connection<S>) -> Result<(), Error>
     ensures { Makes without_records (state S.Store conn.old) (state S.Store conn.new) result }
 {
     delete_all_kept(conn)?;
@@ -84,7 +84,7 @@ fn clear_records<S: Alter>(conn: &mut Connection<S>) -> Result<usize, Error>
 }
 
 // Takes out all handles.
-fn clear_handles<S: Alter>(conn: &mut Connection<S>) -> Result<usize, Error>
+fn clear_handles<S: Alter>(conn: &mut Connection<S>) -> Result<(), Error>
     ensures { Makes without_all_handles (state S.Store conn.old) (state S.Store conn.new) result }
 {
     delete_all_handles(conn)?;
@@ -92,7 +92,7 @@ fn clear_handles<S: Alter>(conn: &mut Connection<S>) -> Result<usize, Error>
 }
 
 // Takes out all nodes without a name.
-fn clear_nodes<S: Alter>(conn: &mut Connection<S>) -> Result<usize, StoreFault>
+fn clear_nodes<S: Alter>(conn: &mut Connection<S>) -> Result<(), StoreFault>
     ensures made { Makes without_unnamed_nodes (state S.Store conn.old) (state S.Store conn.new)
         result }
     ensures fault { IsSure Holds (state S.Store conn.old) (state S.Store conn.new) result }
@@ -104,7 +104,7 @@ fn clear_nodes<S: Alter>(conn: &mut Connection<S>) -> Result<usize, StoreFault>
 }
 
 // All that goes.
-fn clear<S: Alter>(conn: &mut Connection<S>) -> Result<usize, StoreFault>
+fn clear<S: Alter>(conn: &mut Connection<S>) -> Result<(), StoreFault>
     ensures made { Makes cleared (state S.Store conn.old) (state S.Store conn.new) result }
     ensures fault { IsSure Holds (state S.Store conn.old) (state S.Store conn.new) result }
     ensures plain { IfErr result IsPlain }

@@ -5,6 +5,7 @@ ghost use Rattle.sqlite.specs.Held.{state};
 ghost use Rattle.fuse_tables.specs.Moves.{Inside, Rests, Makes, Looked, Stays, Serves};
 ghost use Rattle.fuse_tables.specs.Content.{Content, with_counter, set_counter, shown_counter};
 
+use crate::statements::run;
 use crate::values::pair;
 use sqlite::{Alter, Connection, Error, Row};
 
@@ -15,18 +16,14 @@ const UPDATE: &str = "UPDATE meta SET v = ?2 WHERE k = ?1";
 const SELECT: &str = "SELECT v FROM meta ORDER BY k";
 
 /// Adds a counter, whose key no other has.
-pub fn insert_counter<S: Alter>(
-    conn: &mut Connection<S>,
-    key: u64,
-    value: u64,
-) -> Result<usize, Error>
+pub fn insert_counter<S: Alter>(conn: &mut Connection<S>, key: u64, value: u64) -> Result<(), Error>
     requires key { key < 2 ^ 63 }
     requires value { value < 2 ^ 63 }
     ensures { Makes (with_counter key value) (state S.Store conn.old) (state S.Store conn.new)
         result }
 {
     let values = pair(key, value);
-    conn.execute(INSERT, &values)
+    run(conn, INSERT, &values)
 }
 
 /// Gives the counter with this key another value.
@@ -34,14 +31,14 @@ pub fn update_counter<S: Alter>(
     conn: &mut Connection<S>,
     key: u64,
     number: u64,
-) -> Result<usize, Error>
+) -> Result<(), Error>
     requires key { key < 2 ^ 63 }
     requires number { number < 2 ^ 63 }
     ensures { Makes (set_counter key number) (state S.Store conn.old) (state S.Store conn.new)
         result }
 {
     let values = pair(key, number);
-    conn.execute(UPDATE, &values)
+    run(conn, UPDATE, &values)
 }
 
 /// The values of all counters, in the order of their keys.

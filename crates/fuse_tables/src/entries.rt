@@ -10,6 +10,7 @@ ghost use Rattle.fuse_tables.specs.Moves.{Inside, Makes, Looked, Stays};
 ghost use Rattle.fuse_tables.specs.Content.{Content, with_entry, with_entry_gone, has_name};
 ghost use Rattle.fuse_tables.specs.Content.{stands_after, shown_place, shown_entry};
 
+use crate::statements::run;
 use crate::values::{number, triple};
 use fuse_tree::EntryRow;
 use sqlite::types::{ToSql, ValueRef};
@@ -48,22 +49,22 @@ fn place_values<'a>(dir: u64, name: &'a [u8]) -> [ValueRef<'a>; 2]
 }
 
 /// Adds an entry, whose cookie, child and name in its directory no other has.
-pub fn insert_entry<S: Alter>(conn: &mut Connection<S>, row: &EntryRow) -> Result<usize, Error>
+pub fn insert_entry<S: Alter>(conn: &mut Connection<S>, row: &EntryRow) -> Result<(), Error>
     requires { FitsEntry row.now }
     ensures { Makes (with_entry row.now) (state S.Store conn.old) (state S.Store conn.new) result }
 {
     let values = entry_values(row);
-    conn.execute(INSERT, &values)
+    run(conn, INSERT, &values)
 }
 
 /// Takes out the entry of this cookie, if it is there.
-pub fn delete_entry<S: Alter>(conn: &mut Connection<S>, cookie: u64) -> Result<usize, Error>
+pub fn delete_entry<S: Alter>(conn: &mut Connection<S>, cookie: u64) -> Result<(), Error>
     requires { cookie < 2 ^ 63 }
     ensures { Makes (with_entry_gone cookie) (state S.Store conn.old) (state S.Store conn.new)
         result }
 {
     let values = number(cookie);
-    conn.execute(DELETE, &values)
+    run(conn, DELETE, &values)
 }
 
 /// The first entry of this name: one or none.

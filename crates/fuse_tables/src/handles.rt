@@ -10,6 +10,7 @@ ghost use Rattle.fuse_tables.specs.Moves.{Inside, Makes, Looked, Stays};
 ghost use Rattle.fuse_tables.specs.Content.{Content, access_code, fh_of, at_by, with_handle};
 ghost use Rattle.fuse_tables.specs.Content.{without_handle, without_handles, shown_handle};
 
+use crate::statements::run;
 use crate::values::number;
 use fuse_tree::HandleRow;
 use fuse_wire::AccessMode;
@@ -49,28 +50,28 @@ fn handle_values(row: &HandleRow) -> [ValueRef<'static>; 3]
 }
 
 /// Adds a handle, whose number no other has.
-pub fn insert_handle<S: Alter>(conn: &mut Connection<S>, row: &HandleRow) -> Result<usize, Error>
+pub fn insert_handle<S: Alter>(conn: &mut Connection<S>, row: &HandleRow) -> Result<(), Error>
     requires { FitsHandle row.now }
     ensures { Makes (with_handle row.now) (state S.Store conn.old) (state S.Store conn.new) result }
 {
     let values = handle_values(row);
-    conn.execute(INSERT, &values)
+    run(conn, INSERT, &values)
 }
 
 /// Takes out the handle of this number, if it is there.
-pub fn delete_handle<S: Alter>(conn: &mut Connection<S>, fh: u64) -> Result<usize, Error>
+pub fn delete_handle<S: Alter>(conn: &mut Connection<S>, fh: u64) -> Result<(), Error>
     requires { fh < 2 ^ 63 }
     ensures { Makes (without_handle fh) (state S.Store conn.old) (state S.Store conn.new) result }
 {
     let values = number(fh);
-    conn.execute(DELETE, &values)
+    run(conn, DELETE, &values)
 }
 
 /// Takes out every handle.
-pub fn delete_all_handles<S: Alter>(conn: &mut Connection<S>) -> Result<usize, Error>
+pub fn delete_all_handles<S: Alter>(conn: &mut Connection<S>) -> Result<(), Error>
     ensures { Makes without_handles (state S.Store conn.old) (state S.Store conn.new) result }
 {
-    conn.execute(DELETE_ALL, &[])
+    run(conn, DELETE_ALL, &[])
 }
 
 /// The handles of this number: one or none.

@@ -10,7 +10,7 @@ ghost use Rattle.fuse_tables.specs.Making.{IsBare, HasCounters, IsNew};
 ghost use Rattle.fuse_tables.specs.Moves.{Takes, PerformsAs, ServesAs, IsSafe};
 
 use crate::nodes::insert_node;
-use crate::statements::{begin, commit, undo};
+use crate::statements::{begin, commit, run, undo};
 use fuse_keeper::StoreFault;
 use fuse_tree::NodeRow;
 use fuse_wire::Moment;
@@ -48,88 +48,88 @@ pub(crate) const ENTRIES_IN_ORDER: &str = "CREATE INDEX entries_in_order ON entr
 const FILL: &str = "INSERT INTO meta VALUES (1, 2), (2, 2), (3, 1), (4, 3), (5, 1), (6, 0), \
     (7, 0), (8, 0), (9, 0), (10, 0), (11, 1)";
 
-fn make_meta<S: Alter>(conn: &mut Connection<S>) -> Result<usize, Error>
+fn make_meta<S: Alter>(conn: &mut Connection<S>) -> Result<(), Error>
     ensures { Takes (IsBare no_schema) (IsBare with_meta) (state S.Store conn.old)
         (state S.Store conn.new) result }
 {
-    conn.execute(META, &[])
+    run(conn, META, &[])
 }
 
-fn make_nodes<S: Alter>(conn: &mut Connection<S>) -> Result<usize, Error>
+fn make_nodes<S: Alter>(conn: &mut Connection<S>) -> Result<(), Error>
     ensures { Takes (IsBare no_schema) (IsBare with_nodes) (state S.Store conn.old)
         (state S.Store conn.new) result }
 {
     make_meta(conn)?;
-    conn.execute(NODES, &[])
+    run(conn, NODES, &[])
 }
 
-fn make_entries<S: Alter>(conn: &mut Connection<S>) -> Result<usize, Error>
+fn make_entries<S: Alter>(conn: &mut Connection<S>) -> Result<(), Error>
     ensures { Takes (IsBare no_schema) (IsBare with_entries) (state S.Store conn.old)
         (state S.Store conn.new) result }
 {
     make_nodes(conn)?;
-    conn.execute(ENTRIES, &[])
+    run(conn, ENTRIES, &[])
 }
 
-fn make_blocks<S: Alter>(conn: &mut Connection<S>) -> Result<usize, Error>
+fn make_blocks<S: Alter>(conn: &mut Connection<S>) -> Result<(), Error>
     ensures { Takes (IsBare no_schema) (IsBare with_blocks) (state S.Store conn.old)
         (state S.Store conn.new) result }
 {
     make_entries(conn)?;
-    conn.execute(BLOCKS, &[])
+    run(conn, BLOCKS, &[])
 }
 
-fn make_handles<S: Alter>(conn: &mut Connection<S>) -> Result<usize, Error>
+fn make_handles<S: Alter>(conn: &mut Connection<S>) -> Result<(), Error>
     ensures { Takes (IsBare no_schema) (IsBare with_handles) (state S.Store conn.old)
         (state S.Store conn.new) result }
 {
     make_blocks(conn)?;
-    conn.execute(HANDLES, &[])
+    run(conn, HANDLES, &[])
 }
 
-fn make_answers<S: Alter>(conn: &mut Connection<S>) -> Result<usize, Error>
+fn make_answers<S: Alter>(conn: &mut Connection<S>) -> Result<(), Error>
     ensures { Takes (IsBare no_schema) (IsBare with_answers) (state S.Store conn.old)
         (state S.Store conn.new) result }
 {
     make_handles(conn)?;
-    conn.execute(ANSWERS, &[])
+    run(conn, ANSWERS, &[])
 }
 
-fn make_lots<S: Alter>(conn: &mut Connection<S>) -> Result<usize, Error>
+fn make_lots<S: Alter>(conn: &mut Connection<S>) -> Result<(), Error>
     ensures { Takes (IsBare no_schema) (IsBare with_lots) (state S.Store conn.old)
         (state S.Store conn.new) result }
 {
     make_answers(conn)?;
-    conn.execute(LOTS, &[])
+    run(conn, LOTS, &[])
 }
 
-fn make_kept<S: Alter>(conn: &mut Connection<S>) -> Result<usize, Error>
+fn make_kept<S: Alter>(conn: &mut Connection<S>) -> Result<(), Error>
     ensures { Takes (IsBare no_schema) (IsBare with_kept) (state S.Store conn.old)
         (state S.Store conn.new) result }
 {
     make_lots(conn)?;
-    conn.execute(KEPT, &[])
+    run(conn, KEPT, &[])
 }
 
 // Last, so that its tree comes after those of all tables.
-fn make_entries_in_order<S: Alter>(conn: &mut Connection<S>) -> Result<usize, Error>
+fn make_entries_in_order<S: Alter>(conn: &mut Connection<S>) -> Result<(), Error>
     ensures { Takes (IsBare no_schema) (IsBare store_schema) (state S.Store conn.old)
         (state S.Store conn.new) result }
 {
     make_kept(conn)?;
-    conn.execute(ENTRIES_IN_ORDER, &[])
+    run(conn, ENTRIES_IN_ORDER, &[])
 }
 
-fn fill_meta<S: Alter>(conn: &mut Connection<S>) -> Result<usize, Error>
+fn fill_meta<S: Alter>(conn: &mut Connection<S>) -> Result<(), Error>
     ensures { Takes (IsBare no_schema) HasCounters (state S.Store conn.old) (state S.Store conn.new)
         result }
 {
     make_entries_in_order(conn)?;
-    conn.execute(FILL, &[])
+    run(conn, FILL, &[])
 }
 
 // The tables and their first rows.
-fn make_all<S: Alter>(conn: &mut Connection<S>, now: Moment) -> Result<usize, Error>
+fn make_all<S: Alter>(conn: &mut Connection<S>, now: Moment) -> Result<(), Error>
     ensures { Takes (IsBare no_schema) (IsNew now) (state S.Store conn.old) (state S.Store conn.new)
         result }
 {

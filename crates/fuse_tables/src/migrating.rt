@@ -7,31 +7,32 @@ ghost use Rattle.fuse_tables.specs.Opening.{marked};
 use crate::counters::{insert_counter, update_counter};
 use crate::making::{ENTRIES_IN_ORDER, KEPT, LOTS};
 use crate::records::{copy_answers, delete_answers, insert_lot};
+use crate::statements::run;
 use sqlite::{Alter, Connection, Error};
 
-fn add_lots<S: Alter>(conn: &mut Connection<S>) -> Result<usize, Error>
+fn add_lots<S: Alter>(conn: &mut Connection<S>) -> Result<(), Error>
     ensures { Takes IsFirst HasLots (state S.Store conn.old) (state S.Store conn.new) result }
 {
-    conn.execute(LOTS, &[])
+    run(conn, LOTS, &[])
 }
 
-fn add_kept<S: Alter>(conn: &mut Connection<S>) -> Result<usize, Error>
+fn add_kept<S: Alter>(conn: &mut Connection<S>) -> Result<(), Error>
     ensures { Takes IsFirst HasKept (state S.Store conn.old) (state S.Store conn.new) result }
 {
     add_lots(conn)?;
-    conn.execute(KEPT, &[])
+    run(conn, KEPT, &[])
 }
 
 // The index comes after all tables, as in a new store.
-fn add_tables<S: Alter>(conn: &mut Connection<S>) -> Result<usize, Error>
+fn add_tables<S: Alter>(conn: &mut Connection<S>) -> Result<(), Error>
     ensures { Takes IsFirst HasTables (state S.Store conn.old) (state S.Store conn.new) result }
 {
     add_kept(conn)?;
-    conn.execute(ENTRIES_IN_ORDER, &[])
+    run(conn, ENTRIES_IN_ORDER, &[])
 }
 
 // Puts the records under lot 0.
-fn move_records<S: Alter>(conn: &mut Connection<S>) -> Result<usize, Error>
+fn move_records<S: Alter>(conn: &mut Connection<S>) -> Result<(), Error>
     ensures { Makes moved (state S.Store conn.old) (state S.Store conn.new) result }
 {
     insert_lot(conn, 0)?;
@@ -40,7 +41,7 @@ fn move_records<S: Alter>(conn: &mut Connection<S>) -> Result<usize, Error>
 }
 
 // Sets the next lot and the version.
-fn mark<S: Alter>(conn: &mut Connection<S>) -> Result<usize, Error>
+fn mark<S: Alter>(conn: &mut Connection<S>) -> Result<(), Error>
     ensures { Makes marked (state S.Store conn.old) (state S.Store conn.new) result }
 {
     insert_counter(conn, 11, 1)?;
@@ -48,7 +49,7 @@ fn mark<S: Alter>(conn: &mut Connection<S>) -> Result<usize, Error>
 }
 
 /// All of it, within a transaction.
-pub(crate) fn migrate<S: Alter>(conn: &mut Connection<S>) -> Result<usize, Error>
+pub(crate) fn migrate<S: Alter>(conn: &mut Connection<S>) -> Result<(), Error>
     ensures { Takes IsFirst IsOpened (state S.Store conn.old) (state S.Store conn.new) result }
 {
     add_tables(conn)?;

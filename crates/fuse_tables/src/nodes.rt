@@ -11,6 +11,7 @@ ghost use Rattle.fuse_tables.specs.Content.{at_by, with_node, set_node, without_
 ghost use Rattle.fuse_tables.specs.Clearing.{shown_number, counted_to, unnamed_numbers};
 ghost use Rattle.fuse_tables.specs.Faults.{IsPlain};
 
+use crate::statements::run;
 use crate::typed::the_number;
 use crate::values::number;
 use fuse_keeper::StoreFault;
@@ -58,21 +59,21 @@ fn node_values(row: &NodeRow) -> [ValueRef<'static>; 14]
 }
 
 /// Adds a node, whose number no other has.
-pub fn insert_node<S: Alter>(conn: &mut Connection<S>, row: &NodeRow) -> Result<usize, Error>
+pub fn insert_node<S: Alter>(conn: &mut Connection<S>, row: &NodeRow) -> Result<(), Error>
     requires { FitsNode row.now }
     ensures { Makes (with_node row.now) (state S.Store conn.old) (state S.Store conn.new) result }
 {
     let values = node_values(row);
-    conn.execute(INSERT, &values)
+    run(conn, INSERT, &values)
 }
 
 /// Changes the node of this number, if it is there.
-pub fn update_node<S: Alter>(conn: &mut Connection<S>, row: &NodeRow) -> Result<usize, Error>
+pub fn update_node<S: Alter>(conn: &mut Connection<S>, row: &NodeRow) -> Result<(), Error>
     requires { FitsNode row.now }
     ensures { Makes (set_node row.now) (state S.Store conn.old) (state S.Store conn.new) result }
 {
     let values = node_values(row);
-    conn.execute(UPDATE, &values)
+    run(conn, UPDATE, &values)
 }
 
 /// The nodes of this number: one or none.
@@ -99,10 +100,10 @@ pub fn select_unnamed<S: Alter>(conn: &mut Connection<S>) -> Result<Vec<Row>, Er
 }
 
 /// Takes out the nodes without a name, but never the root.
-pub fn delete_unnamed<S: Alter>(conn: &mut Connection<S>) -> Result<usize, Error>
+pub fn delete_unnamed<S: Alter>(conn: &mut Connection<S>) -> Result<(), Error>
     ensures { Makes without_unnamed (state S.Store conn.old) (state S.Store conn.new) result }
 {
-    conn.execute(DELETE_UNNAMED, &[])
+    run(conn, DELETE_UNNAMED, &[])
 }
 
 // How many nodes there are: one row.

@@ -16,7 +16,7 @@ use crate::statements::{begin, commit, undo};
 use fuse_keeper::StoreFault;
 use sqlite::{Alter, Connection};
 
-fn open_first<S: Alter>(conn: &mut Connection<S>) -> Result<usize, StoreFault>
+fn open_first<S: Alter>(conn: &mut Connection<S>) -> Result<(), StoreFault>
     ensures made { Takes IsFirst IsOpened (state S.Store conn.old) (state S.Store conn.new) result }
     ensures fault { IsSure IsFirst (state S.Store conn.old) (state S.Store conn.new) result }
     ensures plain { IfErr result IsPlain }

@@ -15,6 +15,7 @@ ghost use Rattle.fuse_tables.specs.Content.{without_answers, shown_kept};
 ghost use Rattle.fuse_tables.specs.Faults.{IsPlain};
 ghost use Rattle.fuse_tables.specs.Opening.{with_copies};
 
+use crate::statements::run;
 use crate::typed::the_count;
 use crate::values::number;
 use fuse_answer::Answer;
@@ -63,46 +64,46 @@ pub fn insert_kept<S: Alter>(
     id: u64,
     lot: u64,
     answer: &Answer,
-) -> Result<usize, Error>
+) -> Result<(), Error>
     requires id { id < 2 ^ 63 }
     requires lot { lot < 2 ^ 63 }
     ensures { Makes (with_kept (record { id = id; lot = lot; said = answer.now }))
         (state S.Store conn.old) (state S.Store conn.new) result }
 {
     let values = kept_values(id, lot, answer);
-    conn.execute(INSERT, &values)
+    run(conn, INSERT, &values)
 }
 
 /// Adds a lot, which isn't there.
-pub fn insert_lot<S: Alter>(conn: &mut Connection<S>, lot: u64) -> Result<usize, Error>
+pub fn insert_lot<S: Alter>(conn: &mut Connection<S>, lot: u64) -> Result<(), Error>
     requires { lot < 2 ^ 63 }
     ensures { Makes (with_lot lot) (state S.Store conn.old) (state S.Store conn.new) result }
 {
     let values = number(lot);
-    conn.execute(INSERT_LOT, &values)
+    run(conn, INSERT_LOT, &values)
 }
 
 /// Takes out the record of this id, if it is there.
-pub fn delete_kept<S: Alter>(conn: &mut Connection<S>, id: u64) -> Result<usize, Error>
+pub fn delete_kept<S: Alter>(conn: &mut Connection<S>, id: u64) -> Result<(), Error>
     requires { id < 2 ^ 63 }
     ensures { Makes (without_kept id) (state S.Store conn.old) (state S.Store conn.new) result }
 {
     let values = number(id);
-    conn.execute(DELETE, &values)
+    run(conn, DELETE, &values)
 }
 
 /// Takes out every record.
-pub fn delete_all_kept<S: Alter>(conn: &mut Connection<S>) -> Result<usize, Error>
+pub fn delete_all_kept<S: Alter>(conn: &mut Connection<S>) -> Result<(), Error>
     ensures { Makes without_all_kept (state S.Store conn.old) (state S.Store conn.new) result }
 {
-    conn.execute(DELETE_ALL, &[])
+    run(conn, DELETE_ALL, &[])
 }
 
 /// Takes out every lot.
-pub fn delete_all_lots<S: Alter>(conn: &mut Connection<S>) -> Result<usize, Error>
+pub fn delete_all_lots<S: Alter>(conn: &mut Connection<S>) -> Result<(), Error>
     ensures { Makes without_lots (state S.Store conn.old) (state S.Store conn.new) result }
 {
-    conn.execute(DELETE_LOTS, &[])
+    run(conn, DELETE_LOTS, &[])
 }
 
 /// The records of this id: one or none.
@@ -165,15 +166,15 @@ pub fn count_lots<S: Alter>(conn: &mut Connection<S>) -> Result<u64, StoreFault>
 }
 
 /// Puts the records of version 1 under lot 0.
-pub(crate) fn copy_answers<S: Alter>(conn: &mut Connection<S>) -> Result<usize, Error>
+pub(crate) fn copy_answers<S: Alter>(conn: &mut Connection<S>) -> Result<(), Error>
     ensures { Makes with_copies (state S.Store conn.old) (state S.Store conn.new) result }
 {
-    conn.execute(COPY_ANSWERS, &[])
+    run(conn, COPY_ANSWERS, &[])
 }
 
 /// Takes out the records of version 1.
-pub(crate) fn delete_answers<S: Alter>(conn: &mut Connection<S>) -> Result<usize, Error>
+pub(crate) fn delete_answers<S: Alter>(conn: &mut Connection<S>) -> Result<(), Error>
     ensures { Makes without_answers (state S.Store conn.old) (state S.Store conn.new) result }
 {
-    conn.execute(DELETE_ANSWERS, &[])
+    run(conn, DELETE_ANSWERS, &[])
 }

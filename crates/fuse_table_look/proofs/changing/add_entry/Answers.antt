@@ -4,7 +4,7 @@ use Rattle.fuse_table_look.proofs.RowChanges.{entry_comes}
 use Rattle.fuse_table_look.proofs.changing.add_entry.Goals as goal
 
 pub returns-in-Ok-clause-changed : goal.returns-in-Ok-clause-changed
-returns-in-Ok-clause-changed g c = made _ _ (state g.S.Store c.args.conn.now) (state g.S.Store c.insert_entry.new.conn) c.in-Ok.field-0
+returns-in-Ok-clause-changed g c = made _ _ (state g.S.Store c.args.conn.now) (state g.S.Store c.insert_entry.new.conn) _
     (entry_comes c.args.row.now c.requires) c.in-Ok.ensures
 
 pub returns-in-Err-clause-fails : goal.returns-in-Err-clause-fails

@@ -4,7 +4,7 @@ use Rattle.fuse_table_look.proofs.RowChanges.{counters_change}
 use Rattle.fuse_table_look.proofs.changing.set_counters.Goals as goal
 
 pub returns-in-Ok-clause-changed : goal.returns-in-Ok-clause-changed
-returns-in-Ok-clause-changed g c = made _ _ (state g.S.Store c.args.conn.now) (state g.S.Store c.set_numbers.new.conn) c.in-Ok.field-0
+returns-in-Ok-clause-changed g c = made _ _ (state g.S.Store c.args.conn.now) (state g.S.Store c.set_numbers.new.conn) _
     (counters_change c.args.n.now) c.in-Ok.ensures
 
 pub returns-in-Err-clause-fails : goal.returns-in-Err-clause-fails

@@ -4,7 +4,7 @@ use Rattle.fuse_table_look.proofs.RowChanges.{settings_change}
 use Rattle.fuse_table_look.proofs.changing.set_settings.Goals as goal
 
 pub returns-in-Ok-clause-changed : goal.returns-in-Ok-clause-changed
-returns-in-Ok-clause-changed g c = made _ _ (state g.S.Store c.args.conn.now) (state g.S.Store c.set_agreed.new.conn) c.in-Ok.field-0 (settings_change c.args.v
+returns-in-Ok-clause-changed g c = made _ _ (state g.S.Store c.args.conn.now) (state g.S.Store c.set_agreed.new.conn) _ (settings_change c.args.v
     (record { minor = c.narrow.ensures; readahead = c.narrow-2.ensures; flags = c.requires })) c.in-Ok.ensures
 
 pub returns-in-Err-clause-fails : goal.returns-in-Err-clause-fails

@@ -7,5 +7,5 @@ use Rattle.fuse_table_look.proofs.changing.set_two.Goals as goal
 pub returns : goal.returns
 returns g c =
     makes_then (set_counter c.args.key c.args.first) (set_counter (c.args.key + 1) c.args.second) (state g.S.Store c.args.conn.now)
-    (state g.S.Store c.update_counter.new.conn) (state g.S.Store c.update_counter-2.new.conn) c.in_ok-update_counter.field-0 c.update_counter-2.result
+    (state g.S.Store c.update_counter.new.conn) (state g.S.Store c.update_counter-2.new.conn) _ c.update_counter-2.result
     c.in_ok-update_counter.ensures c.update_counter-2.ensures

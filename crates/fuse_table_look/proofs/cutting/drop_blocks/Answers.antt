@@ -5,7 +5,7 @@ use Rattle.fuse_table_look.proofs.cutting.drop_blocks.Goals as goal
 
 pub returns-in-Ok-clause-cut : goal.returns-in-Ok-clause-cut
 returns-in-Ok-clause-cut g c =
-    blocks_cut (state g.S.Store c.args.conn.now) (state g.S.Store c.delete_blocks_from.new.conn) c.in-Ok.field-0 c.args.node c.args.from c.in-Ok.ensures
+    blocks_cut (state g.S.Store c.args.conn.now) (state g.S.Store c.delete_blocks_from.new.conn) _ c.args.node c.args.from c.in-Ok.ensures
 
 pub returns-in-Err-clause-fails : goal.returns-in-Err-clause-fails
 returns-in-Err-clause-fails g c =

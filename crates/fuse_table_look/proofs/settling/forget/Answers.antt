@@ -8,7 +8,7 @@ returns-then-id-ge-END-clause-turned g c = none_forgot c.args.id (state g.S.Stor
 
 pub returns-in-Ok-clause-turned : goal.returns-in-Ok-clause-turned
 returns-in-Ok-clause-turned g c =
-    forgot c.args.id (state g.S.Store c.args.conn.now) (state g.S.Store c.delete_kept.new.conn) c.in-Ok.field-0 c.in-Ok.ensures
+    forgot c.args.id (state g.S.Store c.args.conn.now) (state g.S.Store c.delete_kept.new.conn) _ c.in-Ok.ensures
 
 pub returns-in-Err-clause-fails : goal.returns-in-Err-clause-fails
 returns-in-Err-clause-fails g c = stays_for (state g.S.Store c.args.conn.now) (state g.S.Store c.delete_kept.new.conn) c.in-Err.ensures.stays

@@ -5,7 +5,7 @@ use Rattle.fuse_table_look.proofs.storing.write_piece.Goals as goal
 
 pub returns-in-Ok-write_block-clause-overlaid : goal.returns-in-Ok-write_block-clause-overlaid
 returns-in-Ok-write_block-clause-overlaid g c =
-    piece_written (state g.S.Store c.args.conn.now) (state g.S.Store c.find_block.new.conn) (state g.S.Store c.write_block.new.conn) c.in-Ok-write_block.field-0
+    piece_written (state g.S.Store c.args.conn.now) (state g.S.Store c.find_block.new.conn) (state g.S.Store c.write_block.new.conn) _
     c.args.node c.args.here c.args.part.now c.in-Ok.old.items
     c.in-Ok-splice.made.items c.in-Ok.ensures.looks (rw (c.from.ensures, c.as_slice-2.ensures.value) at c.in-Ok-write_block.ensures)
     (rw c.from.ensures at c.in-Ok.ensures.value) c.in-Ok.ensures.whole

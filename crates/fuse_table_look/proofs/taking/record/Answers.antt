@@ -5,7 +5,7 @@ use Rattle.fuse_table_look.proofs.taking.record.Goals as goal
 
 pub returns-in-Ok-clause-turned : goal.returns-in-Ok-clause-turned
 returns-in-Ok-clause-turned g c =
-    recorded c.args.id c.args.lot c.args.answer.now (state g.S.Store c.args.conn.now) (state g.S.Store c.insert_kept.new.conn) c.in-Ok.field-0 c.requires.id
+    recorded c.args.id c.args.lot c.args.answer.now (state g.S.Store c.args.conn.now) (state g.S.Store c.insert_kept.new.conn) _ c.requires.id
     c.requires.fits c.law_of_errno.ensures
     c.in-Ok.ensures
 

@@ -20,7 +20,7 @@ returns-in-Err-perform_in-clause-performs g c =
     let b = state g.S.Store c.begin.new.conn in
     let d = state g.S.Store c.perform_in.new.look.conn in
     let fault = c.in-Err-perform_in.fault in
-    failed_inside HeldFor (λ y. HeldFor (all y)) (λ y. HeldFor (all y)) (state g.S.Store c.args.look.now.conn) b d c.in-Ok.field-0 fault fault c.in-Ok.ensures
+    failed_inside HeldFor (λ y. HeldFor (all y)) (λ y. HeldFor (all y)) (state g.S.Store c.args.look.now.conn) b d _ fault fault c.in-Ok.ensures
     (fails_for {X = Unit {0}} all b d fault c.in-Err-perform_in.ensures.fails)
 
 pub returns-in-Err-commit-clause-performs : goal.returns-in-Err-commit-clause-performs
@@ -28,7 +28,7 @@ returns-in-Err-commit-clause-performs g c =
     let all = performed c.args.lot (ids_of c.args.settled.now) (entries_of c.args.group.now) in
     let b = state g.S.Store c.begin.new.conn in
     let d = state g.S.Store c.perform_in.new.look.conn in
-    failed_commit HeldFor (λ y. HeldFor (all y)) (state g.S.Store c.args.look.now.conn) b d (state g.S.Store c.commit.new.conn) c.in-Ok.field-0
+    failed_commit HeldFor (λ y. HeldFor (all y)) (state g.S.Store c.args.look.now.conn) b d (state g.S.Store c.commit.new.conn) _
     c.in-Ok-perform_in.performed c.in-Err-commit.error c.from-in-Err-commit.result c.in-Ok.ensures
     (takes_for all b d c.in-Ok-perform_in.performed c.in-Ok-perform_in.ensures.turned) c.in-Err-commit.ensures
 
@@ -37,21 +37,21 @@ returns-in-Ok-commit-clause-performs g c =
     let all = performed c.args.lot (ids_of c.args.settled.now) (entries_of c.args.group.now) in
     let b = state g.S.Store c.begin.new.conn in
     let d = state g.S.Store c.perform_in.new.look.conn in
-    committed HeldFor (λ y. HeldFor (all y)) (state g.S.Store c.args.look.now.conn) b d (state g.S.Store c.commit.new.conn) c.in-Ok.field-0
-    c.in-Ok-perform_in.performed c.in-Ok-commit.field-0 c.in-Ok-perform_in.performed c.in-Ok.ensures
+    committed HeldFor (λ y. HeldFor (all y)) (state g.S.Store c.args.look.now.conn) b d (state g.S.Store c.commit.new.conn) _
+    c.in-Ok-perform_in.performed _ c.in-Ok-perform_in.performed c.in-Ok.ensures
     (takes_for all b d c.in-Ok-perform_in.performed c.in-Ok-perform_in.ensures.turned) c.in-Ok-commit.ensures
 
 pub returns-in-Ok-commit-clause-lot : goal.returns-in-Ok-commit-clause-lot
 returns-in-Ok-commit-clause-lot g c =
     told_after (λ y. c.in-Ok-perform_in.performed.lot ≡ lot_for c.args.lot y) (state g.S.Store c.args.look.now.conn) (state g.S.Store c.begin.new.conn)
-    (state g.S.Store c.perform_in.new.look.conn) (state g.S.Store c.commit.new.conn) c.in-Ok.field-0 c.in-Ok-commit.field-0 c.in-Ok.ensures
+    (state g.S.Store c.perform_in.new.look.conn) (state g.S.Store c.commit.new.conn) _ _ c.in-Ok.ensures
     c.in-Ok-perform_in.ensures.turned.stays c.in-Ok-perform_in.ensures.lot c.in-Ok-commit.ensures
 
 pub returns-in-Ok-commit-clause-dones : goal.returns-in-Ok-commit-clause-dones
 returns-in-Ok-commit-clause-dones g c =
     told_after (λ y. c.in-Ok-perform_in.performed.dones.items ≡ all_dones c.args.lot (ids_of c.args.settled.now) (entries_of c.args.group.now) y)
     (state g.S.Store c.args.look.now.conn) (state g.S.Store c.begin.new.conn) (state g.S.Store c.perform_in.new.look.conn)
-    (state g.S.Store c.commit.new.conn) c.in-Ok.field-0 c.in-Ok-commit.field-0 c.in-Ok.ensures c.in-Ok-perform_in.ensures.turned.stays
+    (state g.S.Store c.commit.new.conn) _ _ c.in-Ok.ensures c.in-Ok-perform_in.ensures.turned.stays
     c.in-Ok-perform_in.ensures.dones c.in-Ok-commit.ensures
 
 pub returns-in-Err-perform_in-clause-fault : goal.returns-in-Err-perform_in-clause-fault
@@ -59,4 +59,4 @@ returns-in-Err-perform_in-clause-fault g c clean y at left =
     let b = state g.S.Store c.begin.new.conn in
     let d = state g.S.Store c.perform_in.new.look.conn in
     let mid = earlier b d _ c.in-Err-perform_in.ensures.fails.survives clean in
-    c.in-Err-perform_in.ensures.fault clean y (begun_for (state g.S.Store c.args.look.now.conn) b c.in-Ok.field-0 c.in-Ok.ensures mid y at) left
+    c.in-Err-perform_in.ensures.fault clean y (begun_for (state g.S.Store c.args.look.now.conn) b _ c.in-Ok.ensures mid y at) left

@@ -7,4 +7,4 @@ pub returns : goal.returns
 returns g c =
     makes_then (without_block c.args.node c.args.block) (with_block c.args.node c.args.block c.args.bytes.now) (state g.S.Store c.args.conn.now)
     (state g.S.Store c.delete_block.new.conn)
-    (state g.S.Store c.insert_block.new.conn) c.in_ok-delete_block.field-0 c.insert_block.result c.in_ok-delete_block.ensures c.insert_block.ensures
+    (state g.S.Store c.insert_block.new.conn) _ c.insert_block.result c.in_ok-delete_block.ensures c.insert_block.ensures

@@ -7,5 +7,5 @@ use Rattle.fuse_tables.proofs.clearing.clear_records.Goals as goal
 pub returns : goal.returns
 returns g c =
     makes_then without_all_kept without_lots (state g.S.Store c.args.conn.now) (state g.S.Store c.delete_all_kept.new.conn)
-    (state g.S.Store c.delete_all_lots.new.conn) c.in_ok-delete_all_kept.field-0 c.delete_all_lots.result
+    (state g.S.Store c.delete_all_lots.new.conn) _ c.delete_all_lots.result
     c.in_ok-delete_all_kept.ensures c.delete_all_lots.ensures

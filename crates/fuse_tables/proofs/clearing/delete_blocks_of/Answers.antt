@@ -30,11 +30,11 @@ nodes-preserved g c =
     let last = without_blocks_from c.in-Ok.node 0 in
     let a = state g.S.Store c.args.conn.now in
     let d = state g.S.Store c.delete_blocks_from.new.conn in
-    let both = makes_then so_far last a (state g.S.Store c.nodes.conn) d c.nodes.at (Ok c.in-Ok-delete_blocks_from.field-0) c.nodes.invariant.2
+    let both = makes_then so_far last a (state g.S.Store c.nodes.conn) d c.nodes.at (Ok _) c.nodes.invariant.2
     c.in-Ok-delete_blocks_from.ensures in (
       refl,
       omega (arith, c.nodes-test.true),
-      makes_same (λ k. last (so_far k)) (without_blocks_of (map number_of (take (c.nodes.at + 1) nodes))) a d c.in-Ok-delete_blocks_from.field-0
+      makes_same (λ k. last (so_far k)) (without_blocks_of (map number_of (take (c.nodes.at + 1) nodes))) a d _
           (c.nodes.at + 1)
           (λ k. rw add-one (ap (λ n. without_blocks_from n 0 (so_far k)) (sym (ap number_in c.in-Ok.ensures.value))
           ∙ ap (λ r. without_blocks_from (number_of r) 0 (so_far k)) (c.index-nodes-at.is)

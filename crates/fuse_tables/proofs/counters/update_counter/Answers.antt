@@ -4,6 +4,6 @@ use Rattle.fuse_tables.proofs.counters.update_counter.Goals as goal
 
 pub returns : goal.returns
 returns g c =
-    sets c.args.key c.args.number (state g.S.Store c.args.conn.now) (state g.S.Store c.execute.new.self) c.execute.result (rw c.pair-values.ensures at
-    c.execute.ensures.runs)
-    (rw c.pair-values.ensures at c.execute.ensures.survives)
+    sets c.args.key c.args.number (state g.S.Store c.args.conn.now) (state g.S.Store c.run.new.conn) c.run.result (rw c.pair-values.ensures at
+    c.run.ensures.runs)
+    (rw c.pair-values.ensures at c.run.ensures.survives)

@@ -4,6 +4,6 @@ use Rattle.fuse_tables.proofs.handles.delete_handle.Goals as goal
 
 pub returns : goal.returns
 returns g c =
-    removes c.args.fh (state g.S.Store c.args.conn.now) (state g.S.Store c.execute.new.self) c.execute.result (rw c.number-values.ensures at
-    c.execute.ensures.runs)
-    (rw c.number-values.ensures at c.execute.ensures.survives)
+    removes c.args.fh (state g.S.Store c.args.conn.now) (state g.S.Store c.run.new.conn) c.run.result (rw c.number-values.ensures at
+    c.run.ensures.runs)
+    (rw c.number-values.ensures at c.run.ensures.survives)

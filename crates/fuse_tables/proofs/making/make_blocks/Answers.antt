@@ -8,6 +8,6 @@ use Rattle.fuse_tables.proofs.making.make_blocks.Goals as goal
 pub returns : goal.returns
 returns g c =
     then_as (IsBare no_schema) (IsBare with_entries) (IsBare with_blocks) (state g.S.Store c.args.conn.now) (state g.S.Store c.make_entries.new.conn)
-    (state g.S.Store c.execute.new.self) _ c.execute.result c.in_ok-make_entries.ensures
-    (creates with_entries blocks blocks_text blocks_made (state g.S.Store c.make_entries.new.conn) (state g.S.Store c.execute.new.self) c.execute.result
-    c.execute.ensures.runs c.execute.ensures.survives)
+    (state g.S.Store c.run.new.conn) _ c.run.result c.in_ok-make_entries.ensures
+    (creates with_entries blocks blocks_text blocks_made (state g.S.Store c.make_entries.new.conn) (state g.S.Store c.run.new.conn) c.run.result
+    c.run.ensures.runs c.run.ensures.survives)

@@ -8,5 +8,5 @@ use Rattle.fuse_tables.proofs.making.make_entries_in_order.Goals as goal
 pub returns : goal.returns
 returns g c =
     then_as (IsBare no_schema) (IsBare with_kept) (IsBare store_schema) (state g.S.Store c.args.conn.now) (state g.S.Store c.make_kept.new.conn)
-    (state g.S.Store c.execute.new.self) _ c.execute.result c.in_ok-make_kept.ensures
-    (orders (state g.S.Store c.make_kept.new.conn) (state g.S.Store c.execute.new.self) c.execute.result c.execute.ensures.runs c.execute.ensures.survives)
+    (state g.S.Store c.run.new.conn) _ c.run.result c.in_ok-make_kept.ensures
+    (orders (state g.S.Store c.make_kept.new.conn) (state g.S.Store c.run.new.conn) c.run.result c.run.ensures.runs c.run.ensures.survives)

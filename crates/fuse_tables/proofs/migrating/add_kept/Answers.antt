@@ -6,7 +6,7 @@ use Rattle.fuse_tables.proofs.migrating.add_kept.Goals as goal
 
 pub returns : goal.returns
 returns g c =
-    then_as IsFirst HasLots HasKept (state g.S.Store c.args.conn.now) (state g.S.Store c.add_lots.new.conn) (state g.S.Store c.execute.new.self) _
-    c.execute.result c.in_ok-add_lots.ensures
-    (adds_kept_table (state g.S.Store c.add_lots.new.conn) (state g.S.Store c.execute.new.self) c.execute.result c.execute.ensures.runs
-    c.execute.ensures.survives)
+    then_as IsFirst HasLots HasKept (state g.S.Store c.args.conn.now) (state g.S.Store c.add_lots.new.conn) (state g.S.Store c.run.new.conn) _
+    c.run.result c.in_ok-add_lots.ensures
+    (adds_kept_table (state g.S.Store c.add_lots.new.conn) (state g.S.Store c.run.new.conn) c.run.result c.run.ensures.runs
+    c.run.ensures.survives)

@@ -6,6 +6,6 @@ use Rattle.fuse_tables.proofs.migrating.add_tables.Goals as goal
 
 pub returns : goal.returns
 returns g c =
-    then_as IsFirst HasKept HasTables (state g.S.Store c.args.conn.now) (state g.S.Store c.add_kept.new.conn) (state g.S.Store c.execute.new.self) _
-    c.execute.result c.in_ok-add_kept.ensures
-    (adds_index (state g.S.Store c.add_kept.new.conn) (state g.S.Store c.execute.new.self) c.execute.result c.execute.ensures.runs c.execute.ensures.survives)
+    then_as IsFirst HasKept HasTables (state g.S.Store c.args.conn.now) (state g.S.Store c.add_kept.new.conn) (state g.S.Store c.run.new.conn) _
+    c.run.result c.in_ok-add_kept.ensures
+    (adds_index (state g.S.Store c.add_kept.new.conn) (state g.S.Store c.run.new.conn) c.run.result c.run.ensures.runs c.run.ensures.survives)

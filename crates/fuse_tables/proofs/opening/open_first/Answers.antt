@@ -14,6 +14,6 @@ pub returns-clause-made : goal.returns-clause-made
 returns-clause-made g c =
     let all =
     then_as IsFirst IsFirst IsOpened (state g.S.Store c.args.conn.now) (state g.S.Store c.check_meta.new.conn) (state g.S.Store c.migrate.new.conn) _
-    (Ok c.in_ok-migrate.field-0) (first_looks _ _ _ c.in_ok-check_meta.ensures.unchanged)
+    (Ok _) (first_looks _ _ _ c.in_ok-check_meta.ensures.unchanged)
     c.in_ok-migrate.ensures in
     record { stays = all.stays; turns = all.turns }

@@ -26,7 +26,7 @@ returns-in_ok-open_first-clause-opened g c =
     let v = c.in_ok-version.version in
     let first : Takes {E = StoreFault} IsStored IsFirst a b (Ok v) = narrowed IsStored IsStored IsFirst a b v v c.in_ok-version.ensures.unchanged
     (λ clean k at on. found_first a b v c.if-version-eq1.true (c.in_ok-version.ensures.value clean) k at on) in
-    let all = then_as IsStored IsFirst IsOpened a b (state g.S.Store c.open_first.new.conn) v (Ok c.in_ok-open_first.field-0) first
+    let all = then_as IsStored IsFirst IsOpened a b (state g.S.Store c.open_first.new.conn) v (Ok _) first
     c.in_ok-open_first.ensures.made in
     record { stays = all.stays; turns = all.turns }
 
@@ -65,6 +65,7 @@ returns-in_ok-open_first-clause-tabled g c =
 
 pub returns-else-not-second-clause-tabled : goal.returns-else-not-second-clause-tabled
 returns-else-not-second-clause-tabled g c =
-    tabled_second (state g.S.Store c.args.conn.now) (state g.S.Store c.find_version.new.conn) (state g.S.Store c.open_second.new.conn) c.schema-schema.result.now
-    c.schema-schema.ensures.value c.in_ok-version.version c.in_ok-version.ensures.tells c.open_second.ensures.opened.stays.survives c.open_second.result
+    tabled_second (state g.S.Store c.args.conn.now) (state g.S.Store c.find_version.new.conn) (state g.S.Store c.open_second.new.conn)
+    c.schema-schema.result.now c.schema-schema.ensures.value
+    c.in_ok-version.version c.in_ok-version.ensures.tells c.open_second.ensures.opened.stays.survives c.open_second.result
     c.if-version-eq2.true (sym c.has_second-second.ensures ∙ c.if-not-second.false)

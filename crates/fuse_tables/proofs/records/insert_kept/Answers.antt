@@ -4,6 +4,6 @@ use Rattle.fuse_tables.proofs.records.insert_kept.Goals as goal
 
 pub returns : goal.returns
 returns g c =
-    adds (record { id = c.args.id; lot = c.args.lot; said = c.args.answer.now }) (state g.S.Store c.args.conn.now) (state g.S.Store c.execute.new.self)
-    c.execute.result (rw c.kept_values-values.ensures at c.execute.ensures.runs)
-    (rw c.kept_values-values.ensures at c.execute.ensures.survives)
+    adds (record { id = c.args.id; lot = c.args.lot; said = c.args.answer.now }) (state g.S.Store c.args.conn.now) (state g.S.Store c.run.new.conn)
+    c.run.result (rw c.kept_values-values.ensures at c.run.ensures.runs)
+    (rw c.kept_values-values.ensures at c.run.ensures.survives)
