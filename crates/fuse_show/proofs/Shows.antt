@@ -1,5 +1,5 @@
 -- What is shown of what a path leads to.
-use Rattle.std.proofs.Common.{◌≡◌, ℕ, List, Option, None, refl, inl}
+use Rattle.std.proofs.Common.{◌≡◌, ℕ, List, Option, None, true, refl, inl}
 use Rattle.std.specs.Prelude.{Err}
 use Rattle.fuse_tree.specs.Rows.{Rows}
 use Rattle.fuse_show.specs.declared.fault.ShowFault.{ShowFault}
@@ -7,7 +7,7 @@ use Rattle.fuse_show.specs.declared.fault.ShowFault.TheVariants.{Look, NotATree,
 use Rattle.fuse_show.specs.Looks.{WritesOut, look_fault}
 use Rattle.fuse_show.specs.Finding.{Finds}
 use Rattle.fuse_tree.specs.State.{is_dir, is_file}
-use Rattle.fuse_show.specs.Showing.{ShowsListing, ShowsContent, IsOne}
+use Rattle.fuse_show.specs.Showing.{ShowsListing, ShowsContent, LeadsToOne}
 
 -- nothing is found
 pub lists_none : (rows : Rows) (names : List (List ℕ)) (w : Option (List ℕ)) (f : ShowFault) → Finds rows names (Err f) → ShowsListing rows names w w (Err f)
@@ -28,7 +28,7 @@ prints_none rows names w Output so = absurd so
 
 -- what is found can't be looked at or written
 pub listing_fails : (rows : Rows) (names : List (List ℕ)) (old a b : Option (List ℕ)) (text : List ℕ) (f : ShowFault)
-    → (look_fault {X = Unit {0}} (Err f) ≡ None → WritesOut a b text (Err f)) → (look_fault {X = Unit {0}} (Err f) ≡ None → IsOne rows names is_dir)
+    → (look_fault {X = Unit {0}} (Err f) ≡ None → WritesOut a b text (Err f)) → (look_fault {X = Unit {0}} (Err f) ≡ None → LeadsToOne rows names is_dir true)
     → ShowsListing rows names old b (Err f)
 listing_fails rows names old a b text (Look f) so one = tt
 listing_fails rows names old a b text NotATree so one = so refl
@@ -38,7 +38,7 @@ listing_fails rows names old a b text NotFile so one = so refl
 listing_fails rows names old a b text Output so one = one refl
 
 pub content_fails : (rows : Rows) (names : List (List ℕ)) (old a b : Option (List ℕ)) (text : List ℕ) (f : ShowFault)
-    → (look_fault {X = Unit {0}} (Err f) ≡ None → WritesOut a b text (Err f)) → (look_fault {X = Unit {0}} (Err f) ≡ None → IsOne rows names is_file)
+    → (look_fault {X = Unit {0}} (Err f) ≡ None → WritesOut a b text (Err f)) → (look_fault {X = Unit {0}} (Err f) ≡ None → LeadsToOne rows names is_file true)
     → ShowsContent rows names old b (Err f)
 content_fails rows names old a b text (Look f) so one = tt
 content_fails rows names old a b text NotATree so one = so refl

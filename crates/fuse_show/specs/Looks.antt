@@ -1,5 +1,5 @@
 -- What is said of the rows behind a look, how a look's fault is told, and what is written (own profile).
-use Rattle.std.specs.Prelude.{◌≡◌, List, ℕ, Bool, true, false, Option, Some, None, Result, Ok, Err}
+use Rattle.std.specs.Prelude.{◌≡◌, List, ℕ, Bool, true, false, Option, Some, None, Result, Ok, Err, OnErr}
 use Rattle.std.specs.Io.KnownBytes.{Appends}
 use Rattle.fuse_tree.specs.declared.look.LookFault.{LookFault}
 use Rattle.fuse_tree.specs.Rows.{Rows, IsRowed}
@@ -38,17 +38,12 @@ is_of_finding Output = false
 abbrev pub ReadOff : Type 0 → (Rows → Type 0) → (Rows → Type 0) → Type 0
 ReadOff clean sees P = clean → (rows : Rows) → IsRowed rows → sees rows → P rows
 
--- nothing but looks that went well lie between the two, or the fault of the last is told
-pub record OnlyLooked {S X : Type 0} (fault_of : S → Option LookFault) (looking : S → S → Type 0) (old new : S) (result : Result X ShowFault) : Type 0 where
+-- nothing but looks lie between the two, and where the last of them failed its fault is told
+pub record OnlyLooked {S X : Type 0} (fault_of : S → Option LookFault) (looking failing : S → S → Type 0) (old new : S)
+    (result : Result X ShowFault) : Type 0 where
   pub fault : fault_of new ≡ look_fault result
   pub looks : look_fault result ≡ None → looking old new
-
--- this is so of the rows behind the old, and nothing but looks lie between the two
-pub record LooksUp {S X : Type 0} (clean : S → Type 0) (sees : S → Rows → Type 0) (fault_of : S → Option LookFault) (looking : S → S → Type 0) (old new : S)
-    (result : Result X ShowFault) (P : Rows → Type 0) : Type 0 where
-  pub reads : ReadOff (clean new) (sees old) P
-  pub fault : fault_of new ≡ look_fault result
-  pub looks : look_fault result ≡ None → looking old new
+  pub fails : OnErr result (failing old new)
 
 -- a text was written; else a look or the output failed
 abbrev pub WritesOut : Option (List ℕ) → Option (List ℕ) → List ℕ → Result (Unit {0}) ShowFault → Type 0

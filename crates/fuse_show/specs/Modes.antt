@@ -2,7 +2,6 @@
 use Rattle.std.specs.Prelude.{◌/◌, ◌%◌, ◌==◌, ◌++◌, ℕ, Bool, if◌then◌else◌, List, codes}
 use Rattle.fuse_tree.specs.Modes.{s_ifdir, s_ifchr, s_ifblk, s_ififo, s_ifsock}
 use Rattle.fuse_tree.specs.State.{type_bits}
-use Rattle.fuse_show.specs.declared.modes.Class.{Class}
 
 -- the letter of a type; that of a regular file is a dash
 abbrev pub kind_text : ℕ → List ℕ
@@ -25,8 +24,9 @@ letter_text is_set letter = if is_set then letter else codes "-"
 abbrev pub run_text : Bool → Bool → List ℕ → List ℕ → List ℕ
 run_text runs is_special both alone = if is_special then (if runs then both else alone) else letter_text runs (codes "x")
 
-abbrev pub class_text : Class → List ℕ
-class_text c = c.read.now ++ (c.write.now ++ c.run.now)
+-- whether a class of users may read, write and run it
+abbrev pub class_text : List ℕ → List ℕ → List ℕ → List ℕ
+class_text read write run = read ++ (write ++ run)
 
 abbrev pub owner_text : ℕ → List ℕ
 owner_text mode =

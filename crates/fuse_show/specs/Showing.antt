@@ -10,41 +10,28 @@ use Rattle.fuse_show.specs.Finding.{LeadTo, Stops, HasNone, IsNoDirectory}
 use Rattle.fuse_show.specs.Listing.{listing}
 use Rattle.fuse_show.specs.Copying.{content_at}
 
--- the names lead to a node whose mode passes this test, and its text was written
-pub record ShowsOf (rows : Rows) (names : List (List ℕ)) (test : ℕ → Bool) (text : ℕ → List ℕ) (old new : Option (List ℕ)) : Type 0 where
+-- the names lead to a node of whose mode the test says this
+pub record LeadsToOne (rows : Rows) (names : List (List ℕ)) (test : ℕ → Bool) (said : Bool) : Type 0 where
   pub place : NodeRow
   pub leads : LeadTo rows names place
-  pub is : test place.mode ≡ true
-  pub written : Appends old new (text place.node)
-
--- the names lead to a node whose mode passes this test
-pub record IsOne (rows : Rows) (names : List (List ℕ)) (test : ℕ → Bool) : Type 0 where
-  pub place : NodeRow
-  pub leads : LeadTo rows names place
-  pub is : test place.mode ≡ true
-
--- the names lead to a node whose mode doesn't pass this test
-pub record IsOther (rows : Rows) (names : List (List ℕ)) (test : ℕ → Bool) : Type 0 where
-  pub place : NodeRow
-  pub leads : LeadTo rows names place
-  pub isnt : test place.mode ≡ false
+  pub told : test place.mode ≡ said
 
 -- the lines of the directory to which the names lead, or why there are none
 abbrev pub ShowsListing : Rows → List (List ℕ) → Option (List ℕ) → Option (List ℕ) → Result (Unit {0}) ShowFault → Type 0
-ShowsListing rows names old new (Ok _) = ShowsOf rows names is_dir (listing rows) old new
+ShowsListing rows names old new (Ok _) = (one : LeadsToOne rows names is_dir true) × Appends old new (listing rows one.place.node)
 ShowsListing rows names old new (Err (Look f)) = Unit {0}
 ShowsListing rows names old new (Err NotATree) = ⊥
 ShowsListing rows names old new (Err NoSuchPath) = Stops rows names (HasNone rows) × (new ≡ old)
-ShowsListing rows names old new (Err NotDirectory) = (Stops rows names IsNoDirectory ⊎ IsOther rows names is_dir) × (new ≡ old)
+ShowsListing rows names old new (Err NotDirectory) = (Stops rows names IsNoDirectory ⊎ LeadsToOne rows names is_dir false) × (new ≡ old)
 ShowsListing rows names old new (Err NotFile) = ⊥
-ShowsListing rows names old new (Err Output) = IsOne rows names is_dir
+ShowsListing rows names old new (Err Output) = LeadsToOne rows names is_dir true
 
 -- the bytes of the regular file to which the names lead, or why there are none
 abbrev pub ShowsContent : Rows → List (List ℕ) → Option (List ℕ) → Option (List ℕ) → Result (Unit {0}) ShowFault → Type 0
-ShowsContent rows names old new (Ok _) = ShowsOf rows names is_file (content_at rows) old new
+ShowsContent rows names old new (Ok _) = (one : LeadsToOne rows names is_file true) × Appends old new (content_at rows one.place.node)
 ShowsContent rows names old new (Err (Look f)) = Unit {0}
 ShowsContent rows names old new (Err NotATree) = ⊥
 ShowsContent rows names old new (Err NoSuchPath) = Stops rows names (HasNone rows) × (new ≡ old)
 ShowsContent rows names old new (Err NotDirectory) = Stops rows names IsNoDirectory × (new ≡ old)
-ShowsContent rows names old new (Err NotFile) = IsOther rows names is_file × (new ≡ old)
-ShowsContent rows names old new (Err Output) = IsOne rows names is_file
+ShowsContent rows names old new (Err NotFile) = LeadsToOne rows names is_file false × (new ≡ old)
+ShowsContent rows names old new (Err Output) = LeadsToOne rows names is_file true

@@ -26,7 +26,7 @@ pub fn copy<L: Look, W: Write>(look: &mut L, row: &NodeRow, writer: &mut W) -> R
         row_at rows row.now.node ≡ Some row.now
         → WritesOut (W.contents writer.old) (W.contents writer.new)
         (content_at rows row.now.node) result) }
-    ensures looked { OnlyLooked L.fault L.looks look.old look.new result }
+    ensures looked { OnlyLooked L.fault L.looks L.fails look.old look.new result }
     // A size that no file has is damage, and not looked for.
     ensures large { file_limit < row.now.size
         → (result ≡ Err NotATree) × (W.contents writer.new ≡ W.contents writer.old) }

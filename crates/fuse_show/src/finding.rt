@@ -1,5 +1,5 @@
 ghost use Rattle.std.specs.Prelude.{◌≡◌, true, None, IfErr};
-ghost use Rattle.fuse_show.specs.Looks.{LooksUp, is_of_finding};
+ghost use Rattle.fuse_show.specs.Looks.{ReadOff, OnlyLooked, is_of_finding};
 ghost use Rattle.fuse_show.specs.Paths.{names_of};
 ghost use Rattle.fuse_show.specs.Finding.{IsRoot, Steps, Finds};
 
@@ -11,8 +11,8 @@ use fuse_tree::{Look, NodeRow, ROOT_ID, rows_of_trees};
 // The row of the root.
 fn find_root<L: Look>(look: &mut L) -> Result<NodeRow, ShowFault>
     requires { L.fault look.old ≡ None }
-    ensures found { LooksUp L.is_clean L.sees L.fault L.looks look.old look.new result
-        (λ rows. IsRoot rows result) }
+    ensures found { ReadOff (L.is_clean look.new) (L.sees look.old) (λ rows. IsRoot rows result) }
+    ensures looked { OnlyLooked L.fault L.looks L.fails look.old look.new result }
     ensures reasons { IfErr result (λ fault. is_of_finding fault ≡ true) }
 {
     rows_of_trees();
@@ -25,8 +25,9 @@ fn find_root<L: Look>(look: &mut L) -> Result<NodeRow, ShowFault>
 // The row of what a name leads to, from a node.
 fn step<L: Look>(look: &mut L, from: &NodeRow, name: &[u8]) -> Result<NodeRow, ShowFault>
     requires { L.fault look.old ≡ None }
-    ensures found { LooksUp L.is_clean L.sees L.fault L.looks look.old look.new result
-        (λ rows. Steps rows from.now name.now result) }
+    ensures found { ReadOff (L.is_clean look.new) (L.sees look.old) (λ rows.
+        Steps rows from.now name.now result) }
+    ensures looked { OnlyLooked L.fault L.looks L.fails look.old look.new result }
     ensures reasons { IfErr result (λ fault. is_of_finding fault ≡ true) }
 {
     rows_of_trees();
@@ -47,8 +48,9 @@ fn step<L: Look>(look: &mut L, from: &NodeRow, name: &[u8]) -> Result<NodeRow, S
 /// above.
 pub fn find<L: Look>(look: &mut L, path: &[u8]) -> Result<NodeRow, ShowFault>
     requires { L.fault look.old ≡ None }
-    ensures found { LooksUp L.is_clean L.sees L.fault L.looks look.old look.new result
-        (λ rows. Finds rows (names_of path.now) result) }
+    ensures found { ReadOff (L.is_clean look.new) (L.sees look.old) (λ rows.
+        Finds rows (names_of path.now) result) }
+    ensures looked { OnlyLooked L.fault L.looks L.fails look.old look.new result }
     ensures reasons { IfErr result (λ fault. is_of_finding fault ≡ true) }
 {
     let mut place = match find_root(look) {

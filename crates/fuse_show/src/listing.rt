@@ -75,7 +75,7 @@ fn show_entry<L: Look, W: Write>(
     ensures line { ReadOff (L.is_clean look.new) (L.sees look.old) (λ rows.
         LeadsToRow rows entry.now → WritesOut (W.contents writer.old) (W.contents writer.new)
         (line_of rows entry.now) result) }
-    ensures looked { OnlyLooked L.fault L.looks look.old look.new result }
+    ensures looked { OnlyLooked L.fault L.looks L.fails look.old look.new result }
     ensures reasons { IfErr result (λ fault. is_of_path fault ≡ false) }
 {
     let Some(row) = look.node(entry.child)? else {
@@ -95,7 +95,7 @@ fn show_entries<L: Look, W: Write>(
         AllByRecursion (LeadsToRow rows) entries.now
         → WritesOut (W.contents writer.old) (W.contents writer.new)
         (flat_map (line_of rows) entries.now) result) }
-    ensures looked { OnlyLooked L.fault L.looks look.old look.new result }
+    ensures looked { OnlyLooked L.fault L.looks L.fails look.old look.new result }
     ensures reasons { IfErr result (λ fault. is_of_path fault ≡ false) }
 {
     for entry in entries {
@@ -139,7 +139,7 @@ fn list_page<L: Look, W: Write>(
     ensures page { ReadOff (L.is_clean look.new) (L.sees look.old) (λ rows.
         WritesPage rows dir after (W.contents writer.old) (W.contents writer.new) result) }
     ensures higher { IfOk result (λ left. IsTrue (is_higher left after)) }
-    ensures looked { OnlyLooked L.fault L.looks look.old look.new result }
+    ensures looked { OnlyLooked L.fault L.looks L.fails look.old look.new result }
     ensures reasons { IfErr result (λ fault. is_of_path fault ≡ false) }
 {
     rows_of_trees();
@@ -160,7 +160,7 @@ pub fn list<L: Look, W: Write>(look: &mut L, dir: u64, writer: &mut W) -> Result
     requires { L.fault look.old ≡ None }
     ensures listed { ReadOff (L.is_clean look.new) (L.sees look.old) (λ rows.
         WritesOut (W.contents writer.old) (W.contents writer.new) (listing rows dir) result) }
-    ensures looked { OnlyLooked L.fault L.looks look.old look.new result }
+    ensures looked { OnlyLooked L.fault L.looks L.fails look.old look.new result }
     ensures reasons { IfErr result (λ fault. is_of_path fault ≡ false) }
 {
     rows_of_trees();

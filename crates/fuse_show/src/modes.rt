@@ -78,7 +78,7 @@ impl fmt::Display for Class {
     ghost use Rattle.std.specs.Prelude.{Some};
     ghost use Rattle.fuse_show.specs.Modes.{class_text};
 
-    ghost output = { λ c. Some (class_text c) };
+    ghost output = { λ c. Some (class_text c.read.now c.write.now c.run.now) };
 
     fn fmt<W: fmt::Write>(&self, f: &mut fmt::Formatter<W>) -> fmt::Result {
         write!(f, "{}{}{}", self.read, self.write, self.run)
@@ -86,7 +86,7 @@ impl fmt::Display for Class {
 }
 
 fn owner_class(mode: u32) -> Class
-    ensures { class_text result ≡ owner_text mode }
+    ensures { class_text result.read.now result.write.now result.run.now ≡ owner_text mode }
 {
     Class {
         read: letter(has(mode, 0o400), "r"),
@@ -96,7 +96,7 @@ fn owner_class(mode: u32) -> Class
 }
 
 fn group_class(mode: u32) -> Class
-    ensures { class_text result ≡ group_text mode }
+    ensures { class_text result.read.now result.write.now result.run.now ≡ group_text mode }
 {
     Class {
         read: letter(has(mode, 0o40), "r"),
@@ -106,7 +106,7 @@ fn group_class(mode: u32) -> Class
 }
 
 fn others_class(mode: u32) -> Class
-    ensures { class_text result ≡ others_text mode }
+    ensures { class_text result.read.now result.write.now result.run.now ≡ others_text mode }
 {
     Class {
         read: letter(has(mode, 0o4), "r"),

@@ -21,7 +21,7 @@ pub fn show_listing<L: Look, W: Write>(
     ensures shown { ReadOff (L.is_clean look.new) (L.sees look.old) (λ rows.
         ShowsListing rows (names_of path.now) (W.contents writer.old) (W.contents writer.new)
         result) }
-    ensures looked { OnlyLooked L.fault L.looks look.old look.new result }
+    ensures looked { OnlyLooked L.fault L.looks L.fails look.old look.new result }
     // Nothing is written where the path is why nothing is shown.
     ensures silent { IfErr result (λ fault. is_of_path fault ≡ true
         → W.contents writer.new ≡ W.contents writer.old) }
@@ -53,7 +53,7 @@ pub fn show_content<L: Look, W: Write>(
     ensures shown { ReadOff (L.is_clean look.new) (L.sees look.old) (λ rows.
         ShowsContent rows (names_of path.now) (W.contents writer.old) (W.contents writer.new)
         result) }
-    ensures looked { OnlyLooked L.fault L.looks look.old look.new result }
+    ensures looked { OnlyLooked L.fault L.looks L.fails look.old look.new result }
     // Nothing is written where the path is why nothing is shown.
     ensures silent { IfErr result (λ fault. is_of_path fault ≡ true
         → W.contents writer.new ≡ W.contents writer.old) }

@@ -34,7 +34,7 @@ returns g c =
       copied = λ clean rows is sees found.
           let size = sized_right c.rows_of_trees.ensures rows c.args.row.now.node c.args.row.now is found in
           piece_all (content_at rows c.args.row.now.node) c.loop-offset.offset _ _ (omega arith) (before.bytes clean rows is sees found);
-      looked = record { fault = before.fault; looks = λ _. before.looks };
+      looked = record { fault = before.fault; looks = λ _. before.looks; fails = tt };
       large = λ more. absurd (omega (arith, more, c.if-row-gt-MAX_FILE.false));
       reasons = tt;
     }

@@ -3,8 +3,5 @@ use Rattle.fuse_show.proofs.Trees.{root_there}
 use Rattle.fuse_show.proofs.finding.find_root.Goals as goal
 
 pub returns-in_default-clause-found : goal.returns-in_default-clause-found
-returns-in_default-clause-found g c = record {
-  reads = λ clean rows is sees. root_there c.rows_of_trees.ensures rows is (sym (c.in_ok-row.ensures.row clean rows is sees) ∙ c.in_default.is);
-  fault = c.in_ok-row.ensures.fault;
-  looks = λ _. c.in_ok-row.ensures.looks;
-}
+returns-in_default-clause-found g c = λ clean rows is sees.
+    root_there c.rows_of_trees.ensures rows is (sym (c.in_ok-row.ensures.row clean rows is sees) ∙ c.in_default.is)

@@ -43,7 +43,11 @@ returns-in-Err g c =
           (λ none.
           let clean_before = g.met.L.Look.was_clean _ _ (one.looked.looks none) clean in
           one.page clean rows is (g.met.L.Look.kept _ _ before.looks clean_before rows sees));
-      looked = record { fault = one.looked.fault; looks = λ none. g.met.L.Look.and_then _ _ _ before.looks (one.looked.looks none) };
+      looked = record {
+        fault = one.looked.fault;
+        looks = λ none. g.met.L.Look.and_then _ _ _ before.looks (one.looked.looks none);
+        fails = g.met.L.Look.and_fails _ _ _ before.looks one.looked.fails;
+      };
       reasons = one.reasons;
     }
 
@@ -57,6 +61,6 @@ returns g c =
           (λ (o : Option ℕ).
           WritesFront (g.W.Write.contents c.args.writer.now) (g.W.Write.contents c.loop-left.writer) (listing rows c.args.dir) (lines_left rows c.args.dir o))
           c.in_default.is (before.lines clean rows is sees));
-      looked = record { fault = before.fault; looks = λ _. before.looks };
+      looked = record { fault = before.fault; looks = λ _. before.looks; fails = tt };
       reasons = tt;
     }

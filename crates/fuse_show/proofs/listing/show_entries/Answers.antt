@@ -38,7 +38,11 @@ returns-in-Err g c =
           let clean_before = g.met.L.Look.was_clean _ _ (one.looked.looks none) clean in
           one.line clean rows is (g.met.L.Look.kept _ _ before.looks clean_before rows sees)
           (all_at (LeadsToRow rows) c.args.entries.now c.loop-entry.entry-index c.entry-item.result shown c.loop-entry-test.true at));
-      looked = record { fault = one.looked.fault; looks = λ none. g.met.L.Look.and_then _ _ _ before.looks (one.looked.looks none) };
+      looked = record {
+        fault = one.looked.fault;
+        looks = λ none. g.met.L.Look.and_then _ _ _ before.looks (one.looked.looks none);
+        fails = g.met.L.Look.and_fails _ _ _ before.looks one.looked.fails;
+      };
       reasons = one.reasons;
     }
 
@@ -48,6 +52,6 @@ returns g c =
     record {
       lines = λ clean rows is sees shown.
           text_all (line_of rows) c.args.entries.now c.loop-entry.entry-index _ _ c.loop-entry-test.false (before.lines clean rows is sees shown);
-      looked = record { fault = before.fault; looks = λ _. before.looks };
+      looked = record { fault = before.fault; looks = λ _. before.looks; fails = tt };
       reasons = tt;
     }

@@ -7,14 +7,15 @@ use Rattle.fuse_show.proofs.Walks.{leads_there}
 use Rattle.fuse_show.proofs.showing.show_content.Goals as goal
 
 pub returns-in-Err-clause-shown : goal.returns-in-Err-clause-shown
-returns-in-Err-clause-shown g c = λ clean rows is sees. prints_none rows (names_of c.args.path.now) _ c.in-Err.fault (c.in-Err.ensures.found.reads clean rows is sees)
+returns-in-Err-clause-shown g c = λ clean rows is sees.
+    prints_none rows (names_of c.args.path.now) _ c.in-Err.fault (c.in-Err.ensures.found clean rows is sees)
 
 pub returns-then-not-is_regular_file-clause-shown : goal.returns-then-not-is_regular_file-clause-shown
 returns-then-not-is_regular_file-clause-shown g c = λ clean rows is sees. (
   record {
     place = c.in-Ok.place;
-    leads = c.in-Ok.ensures.found.reads clean rows is sees;
-    isnt = sym c.is_regular_file.ensures ∙ c.if-not-is_regular_file.true;
+    leads = c.in-Ok.ensures.found clean rows is sees;
+    told = sym c.is_regular_file.ensures ∙ c.if-not-is_regular_file.true;
   },
   refl,
 )
@@ -25,34 +26,35 @@ returns-in-Err-copy-clause-shown g c = λ clean rows is sees.
     (content_at rows c.in-Ok.place.node) c.in-Err-copy.fault
     (λ none.
     let clean_before = g.met.L.Look.was_clean _ _ (c.in-Err-copy.ensures.looked.looks none) clean in
-    c.in-Err-copy.ensures.copied clean rows is (g.met.L.Look.kept _ _ (c.in-Ok.ensures.found.looks refl) clean_before rows sees)
-    (leads_there rows _ _ (c.in-Ok.ensures.found.reads clean_before rows is sees)))
+    c.in-Err-copy.ensures.copied clean rows is (g.met.L.Look.kept _ _ (c.in-Ok.ensures.looked.looks refl) clean_before rows sees)
+    (leads_there rows _ _ (c.in-Ok.ensures.found clean_before rows is sees)))
     (λ none.
     let clean_before = g.met.L.Look.was_clean _ _ (c.in-Err-copy.ensures.looked.looks none) clean in
     record {
       place = c.in-Ok.place;
-      leads = c.in-Ok.ensures.found.reads clean_before rows is sees;
-      is = sym c.is_regular_file.ensures ∙ c.if-not-is_regular_file.false;
+      leads = c.in-Ok.ensures.found clean_before rows is sees;
+      told = sym c.is_regular_file.ensures ∙ c.if-not-is_regular_file.false;
     })
 
 pub returns-in-Ok-flush-clause-shown : goal.returns-in-Ok-flush-clause-shown
 returns-in-Ok-flush-clause-shown g c = λ clean rows is sees.
     let clean_before = g.met.L.Look.was_clean _ _ (c.in-Ok-copy.ensures.looked.looks refl) clean in
-    let sees_before = g.met.L.Look.kept _ _ (c.in-Ok.ensures.found.looks refl) clean_before rows sees in
-    record {
-      place = c.in-Ok.place;
-      leads = c.in-Ok.ensures.found.reads clean_before rows is sees;
-      is = sym c.is_regular_file.ensures ∙ c.if-not-is_regular_file.false;
-      written = Appends-kept _ _ _ _
-          (c.in-Ok-copy.ensures.copied clean rows is sees_before (leads_there rows _ _ (c.in-Ok.ensures.found.reads clean_before rows is sees)))
-          c.flush.ensures.bytes;
-    }
+    let sees_before = g.met.L.Look.kept _ _ (c.in-Ok.ensures.looked.looks refl) clean_before rows sees in (
+      record {
+        place = c.in-Ok.place;
+        leads = c.in-Ok.ensures.found clean_before rows is sees;
+        told = sym c.is_regular_file.ensures ∙ c.if-not-is_regular_file.false;
+      },
+      Appends-kept _ _ _ _
+          (c.in-Ok-copy.ensures.copied clean rows is sees_before (leads_there rows _ _ (c.in-Ok.ensures.found clean_before rows is sees)))
+          c.flush.ensures.bytes,
+    )
 
 pub returns-in-Err-flush-clause-shown : goal.returns-in-Err-flush-clause-shown
 returns-in-Err-flush-clause-shown g c = λ clean rows is sees.
     let clean_before = g.met.L.Look.was_clean _ _ (c.in-Ok-copy.ensures.looked.looks refl) clean in
     record {
       place = c.in-Ok.place;
-      leads = c.in-Ok.ensures.found.reads clean_before rows is sees;
-      is = sym c.is_regular_file.ensures ∙ c.if-not-is_regular_file.false;
+      leads = c.in-Ok.ensures.found clean_before rows is sees;
+      told = sym c.is_regular_file.ensures ∙ c.if-not-is_regular_file.false;
     }
