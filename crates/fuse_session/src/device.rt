@@ -93,6 +93,7 @@ impl<R: Read + Drop, W: Write + Drop> DevicePort<R, W> {
     ghost use Rattle.fuse_session.specs.DevicePort.{device_told};
     ghost use Rattle.fuse_session.specs.Port.{fresh};
 
+    /// The two sides of a device: neither may have a buffer. Takes no memory.
     pub fn new(reader: R, writer: W) -> DevicePort<R, W>
         ensures told { device_told result ≡ fresh None None true }
         ensures reader { result.reader ≡ reader }

@@ -27,7 +27,7 @@ use fuse_keeper::{Done, Keeper, StoreFault, histories_grow, perform_group};
 use fuse_wire::Id;
 use std::alloc::Global;
 
-/// Why nothing more is worked off, where all answers so far were sent.
+/// What comes next, where all answers so far were sent: more messages, or why none.
 #[derive(Clone, Copy, Debug, PartialEq, Eq)]
 pub(crate) enum Rest {
     GoesOn,

@@ -1,5 +1,5 @@
 // Where messages come from and answers go to.
-ghost use Rattle.std.specs.Prelude.{◌≡◌, ◌≤◌, length, IfOk, OnErr};
+ghost use Rattle.std.specs.Prelude.{◌≡◌, ◌≢◌, ◌≤◌, [], length, IfOk, OnErr};
 ghost use Rattle.fuse_request.specs.declared.header.TheConstants.{MAX_MESSAGE as max_message};
 ghost use Rattle.fuse_session.specs.Port.{PortState, IsYoung, IsPath, Receives, Sends};
 ghost use Rattle.fuse_session.specs.Port.{SentWhole, SentPart, tells_gone};
@@ -45,6 +45,7 @@ pub trait Port: Drop {
     /// Sends the bytes that are left of one answer, once.
     fn send(&mut self, bytes: &[u8]) -> Sent
         requires young { IsYoung (told self.old) }
+        requires some { bytes.now ≢ [] }
         ensures sent { Sends (told self.old) (told self.new) result bytes.now }
         ensures same { became self.old self.new };
 
@@ -82,16 +83,15 @@ pub(crate) fn send_whole<P: Port>(port: &mut P, bytes: &[u8]) -> Result<Passed, 
 {
     let mut rest = bytes;
     while !rest.is_empty() {
-        match port.send(rest) {
-            Sent::Took(n) => {
-                if n == 0 {
-                    return Err(PortFailed);
-                }
-                rest = &rest[n..];
-            }
+        let taken = match port.send(rest) {
+            Sent::Took(n) => n,
             Sent::Gone => return Ok(Passed::Gone),
             Sent::Failed => return Err(PortFailed),
+        };
+        if taken == 0 {
+            return Err(PortFailed);
         }
+        rest = &rest[taken..];
     }
     Ok(Passed::Taken)
 }

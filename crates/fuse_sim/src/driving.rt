@@ -312,10 +312,16 @@ pub fn drive_twice<K: Restart>(
         → map bytes_given (both.0.items ++ both.1.items) ≡ map
         (outcome_of K.model start (committed h (events.now ++ more.now)))
         (events.now ++ more.now)) }
+    ensures first { IfOk result (λ both. length both.0.items ≡ length events.now) }
+    ensures second { IfOk result (λ both. length both.1.items ≡ length more.now) }
     ensures opened { OnOk result
         (Opened K.told K.became keeper.old keeper.new (events.now ++ more.now)) }
     ensures fault_causes { IfErr result
         (λ fault. Names fault events.now ⊎ Names fault more.now) }
+    ensures going { OnOk result (IsSomeAnd keeper.new (λ k. (K.told k).has_failed ≡ false)) }
+    ensures failed { IfErr result
+        (λ fault. IfSome keeper.new (λ k. (K.told k).has_failed ≡ is_store fault)) }
+    ensures honest { (told_in K.told keeper.new).is_honest → (told_in K.told keeper.old).is_honest }
 {
     histories_grow::<K>();
     let first = drive(alloc, keeper, events)?;

@@ -39,6 +39,6 @@ pub enum DriveFault {
     ZeroUnique { event: usize },
     /// The store failed, or opening it again did.
     Store { event: usize, fault: StoreFault },
-    /// There was no memory for the answers.
+    /// There was no memory for a group of events, or for its answers.
     Memory { event: usize },
 }

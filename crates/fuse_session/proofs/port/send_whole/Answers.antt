@@ -6,16 +6,16 @@ use Rattle.fuse_session.proofs.port.send_whole.Goals as goal
 pub loop-rest-preserved : goal.loop-rest-preserved
 loop-rest-preserved g c = record {
   sent = front_more (g.P.Port.told c.args.port.now) (g.P.Port.told c.loop-rest.port) (g.P.Port.told c.send.new.self) c.args.bytes.now c.loop-rest.rest.now
-      c.in-Took.n c.if-n-eq0.false c.loop-rest.invariant.sent c.in-Took.ensures.sent;
+      c.in-Took.n c.if-taken-eq0.false c.loop-rest.invariant.sent c.in-Took.ensures.sent;
   same = (g.met.P.Port.path).onward c.args.port.now c.loop-rest.port c.send.new.self c.loop-rest.invariant.same c.in-Took.ensures.same;
 }
 
-pub returns-then-n-eq0-clause-err : goal.returns-then-n-eq0-clause-err
-returns-then-n-eq0-clause-err g c =
+pub returns-then-taken-eq0-clause-err : goal.returns-then-taken-eq0-clause-err
+returns-then-taken-eq0-clause-err g c =
     let some : c.loop-rest.rest.now ≡ [] → ⊥ = search rules in
     front_failed (g.P.Port.told c.args.port.now) (g.P.Port.told c.loop-rest.port) (g.P.Port.told c.send.new.self) c.args.bytes.now c.loop-rest.rest.now
     (Took c.in-Took.n)
-    (took_nothing c.in-Took.n c.loop-rest.rest.now _ _ c.if-n-eq0.true some c.in-Took.ensures.sent.failures) c.in-Took.ensures.sent.gone
+    (took_nothing c.in-Took.n c.loop-rest.rest.now _ _ c.if-taken-eq0.true some c.in-Took.ensures.sent.failures) c.in-Took.ensures.sent.gone
     c.loop-rest.invariant.sent c.in-Took.ensures.sent
 
 pub returns-in-Gone-clause-ok : goal.returns-in-Gone-clause-ok
