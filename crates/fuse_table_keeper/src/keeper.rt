@@ -32,10 +32,12 @@ pub struct TableKeeper<S: Alter> {
 }
 
 impl<S: Alter> TableKeeper<S> {
-    ghost use Rattle.std.specs.Prelude.{[], false, IsTrue, IfOk, IfErr};
+    ghost use Rattle.std.specs.Prelude.{[], false, codes, IsTrue, IfOk, IfErr, IsErrAnd};
     ghost use Rattle.sqlite.specs.State.{HasCleanDisk, Survives};
+    ghost use Rattle.sqlite_schema.specs.Names.{table_named};
     ghost use Rattle.fuse_tree.specs.State.{new_store};
     ghost use Rattle.fuse_tree.specs.Rows.{Rows, rowed};
+    ghost use Rattle.fuse_keeper.specs.declared.fault.StoreFault.TheVariants.{NotAStore};
     ghost use Rattle.fuse_keeper.specs.KeeperState.{IsFirm, StandsFor};
     ghost use Rattle.fuse_keeper.specs.Stands.{Records};
     ghost use Rattle.fuse_keeper.specs.Lots.{SameLots};
@@ -137,6 +139,9 @@ impl<S: Alter> TableKeeper<S> {
             → WasFor z (state S.Store conn) → IsOutside r.0) }
         ensures says { IfErr result (λ r. HasCleanDisk (state S.Store r.1)
             → Says (state S.Store conn).now r.0) }
+        ensures absent { (state S.Store conn).in_transaction ≡ false
+            → table_named (state S.Store conn).now.schema (codes "meta") ≡ None
+            → IsErrAnd result (λ r. r.0 ≡ NotAStore) }
         // Nothing is opened over a `meta` that is damaged, or without a table of its version.
         ensures whole { IfOk result (λ k. (keeper_told S.Store k).is_honest → (c : Content)
             → IsLaid c (state S.Store conn).now → HasMeta c) }
@@ -189,6 +194,9 @@ impl<S: Alter> TableKeeper<S> {
             → WasFor z (state S.Store conn) → IsOutside r.0) }
         ensures says { IfErr result (λ r. HasCleanDisk (state S.Store r.1)
             → Says (state S.Store conn).now r.0) }
+        ensures absent { (state S.Store conn).in_transaction ≡ false
+            → table_named (state S.Store conn).now.schema (codes "meta") ≡ None
+            → IsErrAnd result (λ r. r.0 ≡ NotAStore) }
         // Nothing is opened over a `meta` that is damaged, or without a table of its version.
         ensures whole { IfOk result (λ k. (keeper_told S.Store k).is_honest → (c : Content)
             → IsLaid c (state S.Store conn).now → HasMeta c) }

@@ -1,7 +1,9 @@
 // The begin of a mount.
-ghost use Rattle.std.specs.Prelude.{◌≡◌, false, IsTrue, IfErr, OnOk, OnErr};
+ghost use Rattle.std.specs.Prelude.{◌≡◌, false, None, codes, IsTrue, IfErr, IsErrAnd, OnOk, OnErr};
 ghost use Rattle.sqlite.specs.State.{HasCleanDisk, Survives};
 ghost use Rattle.sqlite.specs.Held.{state};
+ghost use Rattle.sqlite_schema.specs.Names.{table_named};
+ghost use Rattle.fuse_keeper.specs.declared.fault.StoreFault.TheVariants.{NotAStore};
 ghost use Rattle.fuse_tables.specs.Content.{Content};
 ghost use Rattle.fuse_tables.specs.Faults.{IsOutside, IsPlain};
 ghost use Rattle.fuse_tables.specs.Moves.{RestsAs, ServesAs, IsSafe};
@@ -52,6 +54,9 @@ pub(crate) fn set_up_begun<S: Alter>(conn: &mut Connection<S>) -> Result<(), Sto
         → WasFor z (state S.Store conn.old) → IsOutside f) }
     ensures says { HasCleanDisk (state S.Store conn.new)
         → IfErr result (Says (state S.Store conn.old).now) }
+    ensures absent { (state S.Store conn.old).in_transaction ≡ false
+        → table_named (state S.Store conn.old).now.schema (codes "meta") ≡ None
+        → IsErrAnd result (λ f. f ≡ NotAStore) }
 {
     match set_up_for(conn) {
         Ok(()) => begin_mount(conn),

@@ -1,16 +1,21 @@
 // A keeper over any database: what is stored there, or a new store.
-ghost use Rattle.std.specs.Prelude.{◌≡◌, [], None, false, IsTrue, ◌↔◌, IfOk, IfErr};
+ghost use Rattle.std.specs.Prelude.{◌≡◌, [], None, false, codes, IsTrue, ◌↔◌, IfOk, IfErr};
+ghost use Rattle.std.specs.Prelude.{IsErrAnd};
 ghost use Rattle.sqlite.specs.State.{HasCleanDisk, Survives};
 ghost use Rattle.sqlite.specs.Held.{state};
+ghost use Rattle.sqlite_schema.specs.Names.{table_named};
 ghost use Rattle.fuse_tree.specs.State.{new_store};
 ghost use Rattle.fuse_tree.specs.Rows.{rowed};
+ghost use Rattle.fuse_keeper.specs.declared.fault.StoreFault.TheVariants.{NotAStore};
 ghost use Rattle.fuse_keeper.specs.KeeperState.{IsFirm, StandsFor};
 ghost use Rattle.fuse_keeper.specs.Lots.{SameLots};
-ghost use Rattle.fuse_tables.specs.Faults.{IsOutside};
+ghost use Rattle.fuse_tables.specs.Content.{Content};
+ghost use Rattle.fuse_tables.specs.Faults.{IsOutside, IsPlain};
 ghost use Rattle.fuse_tables.specs.Layout.{no_schema};
 ghost use Rattle.fuse_tables.specs.Making.{IsBare};
 ghost use Rattle.fuse_tables.specs.Moves.{RestsAs};
-ghost use Rattle.fuse_tables.specs.Saying.{Says};
+ghost use Rattle.fuse_tables.specs.Opening.{IsLaid, HasMeta};
+ghost use Rattle.fuse_tables.specs.Saying.{Says, IsTabled};
 ghost use Rattle.fuse_table_look.specs.Store.{records_of};
 ghost use Rattle.fuse_table_look.specs.Holding.{lots_of};
 ghost use Rattle.fuse_table_keeper.specs.Creating.{IsBlank};
@@ -52,7 +57,7 @@ pub fn open_or_create<S: Alter>(
         → WasFor z (state S.Store conn)
         → SameLots (lots_of None (opened_for z)) (keeper_told S.Store k).lots) }
     ensures was { IfOk result (λ k. (keeper_told S.Store k).is_honest
-        → (state S.Store conn).in_transaction ≡ false) }
+        → IsTrue (state S.Store conn).is_open × ((state S.Store conn).in_transaction ≡ false)) }
     ensures honest { IfOk result (λ k. (keeper_told S.Store k).is_honest
         → HasCleanDisk (state S.Store conn)) }
     ensures going { IfOk result (λ k. (keeper_told S.Store k).has_failed ≡ false) }
@@ -75,6 +80,17 @@ pub fn open_or_create<S: Alter>(
         → WasFor z (state S.Store conn) → IsOutside r.0) }
     ensures says { IfErr result (λ r. HasCleanDisk (state S.Store r.1)
         → (IsBlank (state S.Store conn) → ⊥) → Says (state S.Store conn).now r.0) }
+    ensures plain { IfErr result (λ r. IsBlank (state S.Store conn) → IsPlain r.0) }
+    // Where something was made, but not what a store has, nothing is opened.
+    ensures absent { (state S.Store conn).in_transaction ≡ false
+        → (IsBlank (state S.Store conn) → ⊥)
+        → table_named (state S.Store conn).now.schema (codes "meta") ≡ None
+        → IsErrAnd result (λ r. r.0 ≡ NotAStore) }
+    ensures whole { IfOk result (λ k. (keeper_told S.Store k).is_honest
+        → (IsBlank (state S.Store conn) → ⊥) → (c : Content)
+        → IsLaid c (state S.Store conn).now → HasMeta c) }
+    ensures tabled { IfOk result (λ k. (keeper_told S.Store k).is_honest
+        → (IsBlank (state S.Store conn) → ⊥) → IsTabled (state S.Store conn).now) }
 {
     if is_blank(&conn) {
         TableKeeper::create(alloc, conn, now)
@@ -103,7 +119,7 @@ pub fn open_fresh<S: Alter>(
         → WasFor z (state S.Store conn)
         → SameLots (lots_of None (begun_for z)) (keeper_told S.Store k).lots) }
     ensures was { IfOk result (λ k. (keeper_told S.Store k).is_honest
-        → (state S.Store conn).in_transaction ≡ false) }
+        → IsTrue (state S.Store conn).is_open × ((state S.Store conn).in_transaction ≡ false)) }
     ensures honest { IfOk result (λ k. (keeper_told S.Store k).is_honest
         → HasCleanDisk (state S.Store conn)) }
     ensures firm { IfOk result (λ k. (keeper_told S.Store k).is_honest
@@ -127,6 +143,17 @@ pub fn open_fresh<S: Alter>(
         → WasFor z (state S.Store conn) → IsOutside r.0) }
     ensures says { IfErr result (λ r. HasCleanDisk (state S.Store r.1)
         → (IsBlank (state S.Store conn) → ⊥) → Says (state S.Store conn).now r.0) }
+    ensures plain { IfErr result (λ r. IsBlank (state S.Store conn) → IsPlain r.0) }
+    // Where something was made, but not what a store has, nothing is opened.
+    ensures absent { (state S.Store conn).in_transaction ≡ false
+        → (IsBlank (state S.Store conn) → ⊥)
+        → table_named (state S.Store conn).now.schema (codes "meta") ≡ None
+        → IsErrAnd result (λ r. r.0 ≡ NotAStore) }
+    ensures whole { IfOk result (λ k. (keeper_told S.Store k).is_honest
+        → (IsBlank (state S.Store conn) → ⊥) → (c : Content)
+        → IsLaid c (state S.Store conn).now → HasMeta c) }
+    ensures tabled { IfOk result (λ k. (keeper_told S.Store k).is_honest
+        → (IsBlank (state S.Store conn) → ⊥) → IsTabled (state S.Store conn).now) }
 {
     let blank = is_blank(&conn);
     if blank {

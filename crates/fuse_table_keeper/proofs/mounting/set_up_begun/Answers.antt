@@ -44,3 +44,6 @@ returns-in-Ok-clause-says g c = λ clean.
 pub returns-in-Err-clause-crash : goal.returns-in-Err-clause-crash
 returns-in-Err-clause-crash g c =
     only_opened (state g.S.Store c.args.conn.now) (state g.S.Store c.set_up_for.new.conn) c.in-Err.ensures.crash
+
+pub returns-in-Ok-clause-absent : goal.returns-in-Ok-clause-absent
+returns-in-Ok-clause-absent g c = λ settled none. absurd (c.in-Ok.ensures.absent settled none)
