@@ -43,7 +43,7 @@ void say(const char *form, ...) {
   else dprintf(STDERR_FILENO, "fusekeep-mount: %s\n", line);
 }
 
-static bool refused(const char *what) {
+bool refused(const char *what) {
   say("%s: %s", what, strerror(errno));
   return false;
 }
@@ -76,56 +76,6 @@ static const char *ending(const struct keeper *k, int status) {
 }
 
 /* What has to be there before a mount begins. */
-
-static bool is_program(const char *path) {
-  struct stat found;
-  if (stat(path, &found) != 0) return false;
-  if (!S_ISREG(found.st_mode)) return errno = EACCES, false;
-  return access(path, X_OK) == 0;
-}
-
-/* Whether PATH leads to a program of this name. */
-static bool is_on_path(const char *name) {
-  char path[2 * PATH_MAX];
-  const char *folder = getenv("PATH");
-  if (!folder) folder = "/bin:/usr/bin";
-  for (;;) {
-    size_t length = strcspn(folder, ":");
-    snprintf(path, sizeof path, "%.*s/%s", (int)length, length > 0 ? folder : ".", name);
-    if (is_program(path)) return true;
-    if (!folder[length]) return false;
-    folder += length + 1;
-  }
-}
-
-/* The engine beside this program: what is built in the tree that it is of, or stands in its folder. */
-static bool find_near(struct keeper *k) {
-  static const char *const near[] = {"../../crates/fusekeep/out/fusekeep", "fusekeep"};
-  static char path[PATH_MAX + 64];
-  ssize_t length = readlink("/proc/self/exe", path, PATH_MAX);
-  while (length > 0 && path[length - 1] != '/') length--;
-  for (size_t i = 0; length > 0 && i < sizeof near / sizeof *near; i++) {
-    strcpy(path + length, near[i]);
-    if (is_program(path)) return k->engine = path, true;
-  }
-  return false;
-}
-
-/* The engine: what FUSEKEEP names, else the one beside this program, else what PATH leads to, which mount(8) doesn't hand on. */
-static bool find_engine(struct keeper *k) {
-  static char path[PATH_MAX];
-  const char *named = getenv("FUSEKEEP");
-  bool is_named = named && *named;
-  if (!is_named && find_near(k)) return true;
-  k->engine = is_named ? named : "fusekeep";
-  if (is_named && strchr(named, '/')) {
-    if (!realpath(named, path) || !is_program(path)) return refused(named);
-    return k->engine = path, true;
-  }
-  if (is_on_path(k->engine)) return true;
-  say("the engine, %s, is %son PATH", k->engine, is_named ? "not " : "neither beside this program nor ");
-  return false;
-}
 
 static bool find_mountpoint(struct keeper *k, const char *mountpoint) {
   struct stat found;
@@ -232,11 +182,46 @@ static pid_t start_probe(const struct keeper *k) {
   _exit(stat(k->mountpoint, &root) == 0 ? 0 : errno);
 }
 
-/* Unmounts, in a child: the servers have to go on meanwhile. A mount in use is detached, and ends with its last user. */
+/* A field of the table of mounts, where blanks and some others stand as three octal digits. */
+static char *plain(char *field) {
+  char *to = field;
+  unsigned byte;
+  for (const char *from = field; *from; to++) {
+    bool is_octal = sscanf(from, "\\%3o", &byte) == 1;
+    *to = is_octal ? (char)byte : *from;
+    from += is_octal ? 4 : 1;
+  }
+  *to = '\0';
+  return field;
+}
+
+/* Whether what is mounted last on the mountpoint is this store. */
+static bool is_on_top(const struct keeper *k) {
+  char *line = NULL, *rest;
+  size_t size = 0;
+  bool is_own = false;
+  FILE *table = fopen("/proc/self/mounts", "re");
+  if (!table) return true;
+  while (getline(&line, &size, table) > 0) {
+    char *source = strtok_r(line, " ", &rest), *place = strtok_r(NULL, " ", &rest), *kind = strtok_r(NULL, " ", &rest);
+    if (!kind || strcmp(plain(place), k->mountpoint) != 0) continue;
+    is_own = strcmp(kind, "fuse.fusekeep") == 0 && strcmp(plain(source), k->store) == 0;
+  }
+  free(line);
+  fclose(table);
+  return is_own;
+}
+
+/* Unmounts, in a child: the servers have to go on meanwhile. A mount in use is detached, and ends with its last user. What
+ * another has mounted in its place stays. */
 static pid_t start_unmounting(const struct keeper *k) {
   pid_t child = fork_child();
   if (child != 0) return child;
   close_range(FIRST_OTHER, ~0U, 0);
+  if (!is_on_top(k)) {
+    say("%s isn't mounted on %s any more: it is served until nobody uses it", k->store, k->mountpoint);
+    _exit(0);
+  }
   if (geteuid() != 0) {
     execlp("fusermount3", "fusermount3", "-u", "-z", "--", k->mountpoint, NULL);
     _exit(errno);

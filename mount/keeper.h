@@ -25,6 +25,13 @@ struct keeper {
 /* One line on standard error, or in the system's log once nobody reads the former. */
 __attribute__((format(printf, 1, 2))) void say(const char *form, ...);
 
+/* Says why a call was refused, and is false. */
+bool refused(const char *what);
+
+/* Puts the engine into the keeper, whether it can: what FUSEKEEP names, else the one beside this program, else what PATH leads
+ * to, which mount(8) doesn't hand on. */
+bool find_engine(struct keeper *k);
+
 /* Whether the command line is one; what it says is put into the keeper, and its operands stand at `optind`. */
 bool read_arguments(struct keeper *k, int argc, char **argv);
 
