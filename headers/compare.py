@@ -17,7 +17,10 @@ NUMBERS = [
 # Names of these tables that are own.
 OWN = {"type_unit", "type_count"}
 
-# Numbers of other tables that the headers have too. Where a file isn't there it is passed over.
+# Functions of these tables, which state no number.
+FUNCTIONS = {"bit k", "silent opcode"}
+
+# Numbers of other tables that the headers have too.
 SINGLE_NUMBERS = [
     ("fuse_wire/specs/Bounds.antt", "max_name_len", "NAME_MAX"),
     ("fuse_answer/specs/Sizes.antt", "dirent_name_offset", "FUSE_NAME_OFFSET"),
@@ -208,16 +211,15 @@ def main(crates, lines):
     def file_sides(name):
         path = os.path.join(crates, name)
         if name not in sides:
-            sides[name] = definitions(path) if os.path.exists(path) else {}
+            sides[name] = definitions(path)
         return sides[name]
 
     for name, called in NUMBERS:
         for left, right in file_sides(name).items():
-            if value_of(right) is not None and left not in OWN:
+            if left not in OWN | FUNCTIONS:
                 result.number(called(left), value_of(right))
     for name, left, real in SINGLE_NUMBERS:
-        if file_sides(name):
-            result.number(real, value_of(file_sides(name)[left]))
+        result.number(real, value_of(file_sides(name)[left]))
     for name in SIZES:
         for left, right in file_sides(name).items():
             if left.endswith("_size"):
@@ -234,7 +236,7 @@ def main(crates, lines):
     print(f"headers: {result.agreed} numbers, sizes and fields agree with linux/fuse.h {found.version}"
           + f", {len(result.wrong)} differ"
           + (f"; it lacks {skipped}" if skipped else ""))
-    return 1 if result.wrong else 0
+    return 0 if result.agreed and not result.wrong else 1
 
 
 if __name__ == "__main__":

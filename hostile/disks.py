@@ -192,13 +192,12 @@ def bounded(words, given, size):
     def bound():
         signal.signal(signal.SIGXFSZ, signal.SIG_IGN)
         resource.setrlimit(resource.RLIMIT_FSIZE, (size, size))
-    with tempfile.TemporaryFile() as source, tempfile.TemporaryFile() as out:
+    with tempfile.TemporaryFile() as source:
         source.write(given)
         source.seek(0)
         child = subprocess.Popen([program.BUILT, *words], stdin=source, stdout=subprocess.PIPE, stderr=subprocess.PIPE,
                                  preexec_fn=bound, restore_signals=False)
         written, told = child.communicate(timeout=SECONDS)
-        out.write(written)
         return program.Ran(child.returncode, written, told, 0, 0)
 
 
@@ -228,7 +227,7 @@ def bytes_of(path):
 
 
 def is_refused(report, name, store, before=()):
-    """Every way to open a store that can't be written is refused, or reads it alone, and leaves it as it is."""
+    """Every way to open a store that can't be written is refused, and leaves it as it is."""
     held = bytes_of(store) if os.path.exists(store) else None
     serve = ["serve", "--db", store]
     for mode in (["replay", "--db", store, *AT, "-"], [*serve, "--fresh"], [*serve, "--resume"]):

@@ -27,7 +27,6 @@ FEW, MANY = 1, 3
 LONGEST = 20
 SAMPLE = 23
 
-REFUSALS = re.compile(r"store: NotAStore|store: Version\(\d+\)")
 FAULTS = re.compile(r"store: (Sql|Damaged|NotAStore|Version\(\d+\))|resume: NotOffered")
 NONE_THERE = re.compile(r"path: (NoSuchPath|NotDirectory|NotFile)")
 COUNTS = re.compile(r"served messages=\d+ kept=\d+ repeated=\d+ bare=\d+ silent=\d+ interrupts=\d+")
@@ -258,7 +257,7 @@ def chosen(words):
     return [at for at, one in enumerate(ALL) if words.all or one.always or at % SAMPLE == 0]
 
 
-def counted(told, counts):
+def counted(counts):
     return ", ".join(f"{name} {number}" for name, number in counts.most_common())
 
 
@@ -267,14 +266,14 @@ def table(tolds):
     kinds = collections.defaultdict(list)
     for told in tolds:
         kinds[told.kind].append(told)
-    yield "| Kind | Files | Opening them | Files with a fault at a request | Runs | Wrong |"
+    yield "| Kind | Files | Opening them | Files with a fault, opening them or at a request | Runs | Wrong |"
     yield "|---|---|---|---|---|---|"
     for kind, some in kinds.items():
         opened = collections.Counter(told.opened for told in some)
         faults = collections.Counter(line.split(" (")[0] for told in some for line in {l.split(" (")[0] for l in told.faults})
         runs = sum(told.runs for told in some)
         wrong = sum(bool(told.wrong) for told in some)
-        cells = (kind, len(some), counted(some, opened), counted(some, faults) or "none", runs, wrong)
+        cells = (kind, len(some), counted(opened), counted(faults) or "none", runs, wrong)
         yield "| " + " | ".join(str(cell) for cell in cells) + " |"
 
 

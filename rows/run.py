@@ -74,9 +74,7 @@ def left_by_serve(row):
 
 def said_alone(found, chain, left):
     """What was found, without what the rows say nothing of."""
-    unsaid = [word for word in ("settings", "blocks") if not last_said(chain, word)] + ["left"] * (not left)
-    if not chain[-1].blocks:
-        unsaid.append("blocks")
+    unsaid = ["settings"] * (not last_said(chain, "settings")) + ["blocks"] * (not chain[-1].blocks) + ["left"] * (not left)
     return [line for line in found if line.split(" ")[0] not in unsaid]
 
 
@@ -263,10 +261,11 @@ def main():
     with tempfile.TemporaryDirectory(prefix="rows-") as work:
         run = Rows(os.path.realpath(program), rows, work)
         right = [run.passes(row) for row in rows.values()] + [run.settles_after_fault(), run.refuses(), run.reads_scripts()]
-        right += run.grows(trees)
+        tables = run.grows(trees)
+        right += tables
         run.tell()
     print(f"rows: {len(right)} run, {right.count(False)} failed")
-    return 0 if rows and all(right) else 1
+    return 0 if rows and tables and all(right) else 1
 
 
 sys.exit(main())
