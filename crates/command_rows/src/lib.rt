@@ -1,5 +1,5 @@
-//! A script over a new store in lists; and tests of the commands with the readers, writers and words
-//! that end a run in other ways.
+//! A script over a new store in lists; and tests of the commands with the readers, writers and
+//! words that end a run in other ways.
 #![tactic(auto)]
 
 #[cfg(test)]

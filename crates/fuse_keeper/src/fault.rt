@@ -6,17 +6,19 @@ use thiserror::Error;
 /// Why a store answers nothing.
 #[derive(Debug, Drop, Error)]
 pub enum StoreFault {
+    /// A growth was refused.
     #[error("out of memory")]
     Memory,
+    /// The database, or its file, refused.
     #[error("sql: {0}")]
     Sql(sqlite::Error),
-    /// The database has not the tables of a store.
+    /// The table `meta` isn't there, or its row of the version.
     #[error("not a store")]
     NotAStore,
     /// The tables are of another version.
     #[error("a store of version {0}")]
     Version(u64),
-    /// What is stored contradicts itself.
+    /// Another table is missing, or a row holds what none may.
     #[error("a damaged store")]
     Damaged,
 }

@@ -30,8 +30,7 @@ fn copy_of(records: &HashMap<u64, Answer>, alloc: Global) -> Result<HashMap<u64,
     Ok(copy)
 }
 
-/// A keeper whose rows are lists and whose records are a map, all in memory. A crash leaves what it
-/// holds.
+/// A keeper over a file system in memory, whose records are a map. A crash leaves what it holds.
 #[derive(Drop)]
 pub struct PlainKeeper<F> {
     alloc: Global,

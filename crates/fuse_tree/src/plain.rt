@@ -108,7 +108,7 @@ impl PlainRows {
     }
 
     /// Makes the changes, one after the other. On an `Err` some of them are made and the others
-    /// not, so that what is left stands for no tree.
+    /// not, so that what is left may stand for no tree.
     pub fn apply_all(&mut self, changes: ChangeList) -> Result<(), Memory>
         ensures ok { OnOk result (rows_of self.new ≡ apply (rows_of self.old) changes) }
         ensures fault { fault_of self.new ≡ fault_of self.old }

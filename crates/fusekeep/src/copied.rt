@@ -94,9 +94,9 @@ fn read_file(rt: &HostRuntime, path: &str) -> Result<Vec<u8>, Ending> {
     }
 }
 
-// The files of a database in memory. What is written goes to the log first, and what goes from there
-// into the file is in the log still: where that is the same before and behind the reading of the
-// file, both together are what was committed then.
+// The files of a database in memory. What is written goes to the log first, and what goes from
+// there into the file is in the log still: where that is the same before and behind the reading of
+// the file, both together are what was committed then.
 fn files_of(rt: &HostRuntime, file: &str) -> Result<Files<Memory>, Ending>
     ensures log { IfOk result (λ files. IsTrue (memory_is_usable files.log)) }
     ensures db { IfOk result (λ files. IsTrue (memory_is_usable files.db)) }

@@ -1,4 +1,5 @@
-//! The program `fusekeep`: serves recorded streams of FUSE requests, and runs scripts of them.
+//! The program `fusekeep`: serves a FUSE device or a recorded stream of its requests from a store,
+//! shows stores and streams, and runs scripts of events.
 #![tactic(auto)]
 
 mod copied;

@@ -13,8 +13,8 @@ pub(crate) type Disks = Files<Fuse<Memory>>;
 
 pub(crate) type Store = FileStore<Fuse<Memory>>;
 
-// Little room, so that a transaction spills into the log and pages are read again. The log is copied
-// into the file before a transaction where it has so many frames.
+// Little room, so that a transaction spills into the log and pages are read again. The log is
+// copied into the file before a transaction where it has so many frames.
 fn little(checkpoint_frames: usize) -> Options {
     Options {
         cache_pages: 4,
