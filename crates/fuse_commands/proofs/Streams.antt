@@ -29,13 +29,13 @@ use Rattle.fuse_session.specs.Port.{PortState, fresh}
 use Rattle.fuse_session.specs.Worked.{Timed, bytes_of, kept_in, answers, answer_by, unique_of, GoesOn, Works, EndsLast, StartsZero, message_id, moments_in}
 use Rattle.fuse_session.specs.Settling.{Mark, replies, settles, settled_in, NoneComesAgain, MayCome, Places, PlaceFirst}
 use Rattle.fuse_session.specs.Counting.{counted}
-use Rattle.fuse_session.specs.Serving.{Turned, Whole}
+use Rattle.fuse_session.specs.Serving.{Turned, Whole, Run}
 use Rattle.fuse_session.specs.Ends.{EndsAs, SentExactly, ExactAt, counts_at}
 use Rattle.fuse_commands.specs.declared.ending.Ending.{Ending}
 use Rattle.fuse_commands.specs.declared.ending.Ending.TheVariants.{Done, ZeroUnique}
 use Rattle.fuse_commands.specs.Endings.{session_ending, stream_ending, store_ending, status_of, IsOfStream}
 use Rattle.fuse_commands.specs.Printing.{IsAnswer}
-use Rattle.fuse_commands.specs.Replaying.{EndsAt, EndsFaulty, Replayed, Faulted, Sends, Prints, PrintsAnswers}
+use Rattle.fuse_commands.specs.Replaying.{EndsAt, EndsFaulty, Replayed, Faulted, StandsForFront, Sends, Prints, PrintsAnswers}
 
 -- ---- no answer was told to be awaited by nobody
 
@@ -335,18 +335,20 @@ session_replayed joins steps k k' moment gave each input sent q p turns e counts
 
 -- ---- a fault of the store
 
-faulted : CutJoins → {M : Model} (k k' : KeeperState M) (may_fault : Type 0) (moment : Moment) (gave : List Moment → Type 0)
+faulted : CutJoins → {M : Model} (k k' : KeeperState M) (fault : StoreFault) (moment : Moment) (gave : List Moment → Type 0)
     (each : (ts : List Moment) → gave ts → AllByRecursion (λ t. t ≡ moment) ts) (input sent : List ℕ) (p : PortState) → (k'.is_clean → k'.is_honest)
     → Told p sent
-    → SentExactly k k' (λ s g t. k'.is_clean → StandsFor k' s g t × may_fault) gave (fresh (Some input) (Some []) false) p [] []
-    → Faulted k k' moment input (λ answers. sent ≡ joined answers)
-faulted joins k k' may_fault moment gave each input sent p clean_honest told life =
+    → SentExactly k k' (λ s g t. k'.is_clean → StandsFor k' s g t × k.may_answer fault) gave (fresh (Some input) (Some []) false) p [] []
+    → Faulted k k' moment input (store_ending fault) (λ answers. sent ≡ joined answers)
+faulted joins k k' fault moment gave each input sent p clean_honest told life =
     let r = life.replied in
     let c = came input p.coming life.received life.came in
     let more = (cut ((cut life.received).1 ++ c.later)).0 in
     let taken = all_taken (Some []) life.marks r.places (sym r.gone ∙ told.gone) r.placed in
     let sent_so = sent_is p.sent sent (joined (replies life.marks) ++ []) told.sent_is r.sent in
     record {
+      fault = fault;
+      told = refl;
       timed = life.timed;
       others = life.others ++ more;
       parts = ap (λ (x : List (List ℕ) × List ℕ). x.0) (cut_came joins input life.received c.later c.parts) ∙ ap (λ ms. ms ++ more) life.front
@@ -356,15 +358,17 @@ faulted joins k k' may_fault moment gave each input sent p clean_honest told lif
           let l = life.exactly (clean_honest clean) s h t so (λ i there. absurd (cc there)) (none_again t (bytes_of life.timed) life.marks taken may) in
           let g = grown h (kept_in l.worked) in
           let same : t ++ settled_in false (bytes_of l.worked) life.marks ≡ t =
-          ap (λ (x : List ℕ). t ++ x) (settled_nothing (bytes_of l.worked) life.marks taken) ∙ append-nil t in
-          record {
-            worked = l.worked;
-            unworked = l.unworked;
-            parts = l.parts;
-            works = l.works;
-            stands = subst (StandsFor k' s g) same (l.stands clean).0;
-            gave = sent_so ∙ append-nil (joined (replies life.marks)) ∙ ap joined l.sent;
-          };
+          ap (λ (x : List ℕ). t ++ x) (settled_nothing (bytes_of l.worked) life.marks taken) ∙ append-nil t in (
+            record {
+              worked = l.worked;
+              unworked = l.unworked;
+              parts = l.parts;
+              works = l.works;
+              stands = subst (StandsFor k' s g) same (l.stands clean).0;
+              gave = sent_so ∙ append-nil (joined (replies life.marks)) ∙ ap joined l.sent;
+            },
+            (l.stands clean).1,
+          );
     }
 
 -- status 3 comes by a fault of the store alone
@@ -373,9 +377,9 @@ store_faulted : CutJoins
     (each : (ts : List Moment) → gave ts → AllByRecursion (λ t. t ≡ moment) ts) (input sent : List ℕ) (p : PortState) (e : Ended) → (k'.is_clean → k'.is_honest)
     → Told p sent
     → status_of (session_ending e) ≡ 3 → ExactAt k k' gave (fresh (Some input) (Some []) false) p [] [] e
-    → Faulted k k' moment input (λ answers. sent ≡ joined answers)
+    → Faulted k k' moment input (session_ending e) (λ answers. sent ≡ joined answers)
 store_faulted joins k k' moment gave each input sent p (session.Store f) clean_honest told is life =
-    faulted joins k k' (k.may_answer f) moment gave each input sent p clean_honest told life
+    faulted joins k k' f moment gave each input sent p clean_honest told life
 store_faulted joins k k' moment gave each input sent p session.End clean_honest told is life = absurd (omega (arith, is))
 store_faulted joins k k' moment gave each input sent p session.Destroyed clean_honest told is life = absurd (omega (arith, is))
 store_faulted joins k k' moment gave each input sent p session.Turns clean_honest told is life = absurd (omega (arith, is))
@@ -393,10 +397,47 @@ pub session_faulted : CutJoins
     → (k'.is_clean → k'.is_honest)
     → ending ≡ session_ending e → q ≡ fresh (Some input) (Some []) false → p.gone ≡ [] → p.sent ≡ Some sent → ExactAt k k' gave q p [] [] e
     → status_of ending ≡ 3
-    → Faulted k k' moment input (λ answers. sent ≡ joined answers)
+    → Faulted k k' moment input ending (λ answers. sent ≡ joined answers)
 session_faulted joins k k' moment gave each input sent q p e ending clean_honest is start gone told life three =
-    store_faulted joins k k' moment gave each input sent p e clean_honest (record { gone = gone; sent_is = told }) (sym (ap status_of is) ∙ three)
-    (subst (λ x. ExactAt k k' gave x p [] [] e) start life)
+    subst (λ x. Faulted k k' moment input x (λ answers. sent ≡ joined answers)) (sym is)
+    (store_faulted joins k k' moment gave each input sent p e clean_honest (record { gone = gone; sent_is = told }) (sym (ap status_of is) ∙ three)
+    (subst (λ x. ExactAt k k' gave x p [] [] e) start life))
+
+-- ---- however it ended
+
+kept : CutJoins → {M : Model} (k k' : KeeperState M) (store memory : Bool) (may_fault : Type 0) (moment : Moment) (gave : List Moment → Type 0)
+    (each : (ts : List Moment) → gave ts → AllByRecursion (λ t. t ≡ moment) ts) (input : List ℕ) (p : PortState) → p.gone ≡ []
+    → Run k k' gave (fresh (Some input) (Some []) false) p [] [] store memory may_fault → StandsForFront k k' moment input
+kept joins k k' store memory may_fault moment gave each input p gone run =
+    let b = run.broken in
+    let c = came input p.coming run.received run.came in
+    let more = (cut ((cut run.received).1 ++ c.later)).0 in
+    let taken = all_taken (Some []) b.marks b.replied.places (sym b.replied.gone ∙ gone) b.replied.placed in
+    record {
+      timed = b.timed;
+      others = b.others ++ more;
+      parts = ap (λ (x : List (List ℕ) × List ℕ). x.0) (cut_came joins input run.received c.later c.parts) ∙ ap (λ ms. ms ++ more) b.front
+          ∙ append_assoc (bytes_of b.timed) b.others more;
+      moments = each_front (λ t. t ≡ moment) (moments_in b.timed) b.moments.0 (each _ b.moments.1);
+      all = λ clean s h t so may.
+          let l = b.life clean s h t so (λ i there. absurd (cc there)) (none_again t (bytes_of b.timed) b.marks taken may) in
+          let same : t ++ settled_in false (bytes_of l.worked) b.marks ≡ t =
+          ap (λ (x : List ℕ). t ++ x) (settled_nothing (bytes_of l.worked) b.marks taken) ∙ append-nil t in
+          record {
+            worked = l.worked;
+            unworked = l.unworked;
+            parts = l.parts;
+            works = l.works;
+            stands = subst (StandsFor k' s (grown h (kept_in l.worked))) same l.stands;
+            gave = tt;
+          };
+    }
+
+pub session_kept : CutJoins → {M : Model} (k k' : KeeperState M) (store memory : Bool) (may_fault : Type 0) (moment : Moment) (gave : List Moment → Type 0)
+    (each : (ts : List Moment) → gave ts → AllByRecursion (λ t. t ≡ moment) ts) (input : List ℕ) (q p : PortState)
+    → q ≡ fresh (Some input) (Some []) false → p.gone ≡ [] → Run k k' gave q p [] [] store memory may_fault → StandsForFront k k' moment input
+session_kept joins k k' store memory may_fault moment gave each input q p start gone run =
+    kept joins k k' store memory may_fault moment gave each input p gone (subst (λ x. Run k k' gave x p [] [] store memory may_fault) start run)
 
 -- ---- what is printed of it
 
@@ -439,23 +480,27 @@ printed {M} len fits k k' moment input sent counts ending written written' print
 }
 
 pub fault_printed : {M : Model} → LenStandsFirst → SaidFits M
-    → (k k' : KeeperState M) (moment : Moment) (input sent : List ℕ) (written written' : Option (List ℕ))
+    → (k k' : KeeperState M) (moment : Moment) (input sent : List ℕ) (ending : Ending) (written written' : Option (List ℕ))
     → ((answers : List (List ℕ)) → AllByRecursion IsAnswer answers → sent ≡ joined answers → PrintsAnswers written written' answers)
-    → Faulted k k' moment input (λ answers. sent ≡ joined answers) → Faulted k k' moment input (PrintsAnswers written written')
-fault_printed {M} len fits k k' moment input sent written written' prints f = record {
+    → Faulted k k' moment input ending (λ answers. sent ≡ joined answers) → Faulted k k' moment input ending (PrintsAnswers written written')
+fault_printed {M} len fits k k' moment input sent ending written written' prints f = record {
+  fault = f.fault;
+  told = f.told;
   timed = f.timed;
   others = f.others;
   parts = f.parts;
   moments = f.moments;
   all = λ clean s h t so may.
-      let d = f.all clean s h t so may in
-      let g = grown h (kept_in d.worked) in
-      record {
-        worked = d.worked;
-        unworked = d.unworked;
-        parts = d.parts;
-        works = d.works;
-        stands = d.stands;
-        gave = prints (answers M s g d.worked) (answers_begin M len fits s g d.worked) d.gave;
-      };
+      let d = (f.all clean s h t so may).0 in
+      let g = grown h (kept_in d.worked) in (
+        record {
+          worked = d.worked;
+          unworked = d.unworked;
+          parts = d.parts;
+          works = d.works;
+          stands = d.stands;
+          gave = prints (answers M s g d.worked) (answers_begin M len fits s g d.worked) d.gave;
+        },
+        (f.all clean s h t so may).1,
+      );
 }

@@ -7,6 +7,7 @@ use Rattle.fuse_request.specs.declared.framer.FrameFault.{FrameFault}
 use Rattle.fuse_request.specs.declared.framer.FrameFault.TheVariants as frame
 use Rattle.fuse_request.specs.Stream.{cut, joined}
 use Rattle.fuse_request.specs.Framing.{end_fault}
+use Rattle.fuse_keeper.specs.declared.fault.StoreFault.{StoreFault}
 use Rattle.fuse_keeper.specs.Model.{Model}
 use Rattle.fuse_keeper.specs.History.{History, grown}
 use Rattle.fuse_keeper.specs.KeeperState.{KeeperState, StandsFor}
@@ -16,6 +17,7 @@ use Rattle.fuse_session.specs.Settling.{MayCome}
 use Rattle.fuse_session.specs.Counting.{counted}
 use Rattle.fuse_commands.specs.declared.ending.Ending.{Ending}
 use Rattle.fuse_commands.specs.declared.ending.Ending.TheVariants.{Done, Short, TooLong, Cut, ZeroUnique}
+use Rattle.fuse_commands.specs.Endings.{store_ending}
 use Rattle.fuse_commands.specs.Printing.{line, answer_lines, count_line}
 
 -- all messages were worked off, and what is behind them at this place has this fault
@@ -59,14 +61,27 @@ pub record Part (M : Model) (stood : History → Type 0) (s : M.State) (h : Hist
   pub stands : stood (grown h (kept_in worked))
   pub gave : Gave (answers M s (grown h (kept_in worked)) worked)
 
--- the store answered a fault: of the first messages of the input some were worked off, the kept ones at this moment
-pub record Faulted {M : Model} (k k' : KeeperState M) (moment : Moment) (input : List ℕ) (Gave : List (List ℕ) → Type 0) : Type 0 where
+-- the store answered a fault, which is one that the keeper may answer: of the first messages of the input some were worked
+-- off, the kept ones at this moment
+pub record Faulted {M : Model} (k k' : KeeperState M) (moment : Moment) (input : List ℕ) (ending : Ending) (Gave : List (List ℕ) → Type 0) : Type 0 where
+  pub fault : StoreFault
+  pub told : ending ≡ store_ending fault
   pub timed : List Timed
   pub others : List (List ℕ)
   pub parts : (cut input).0 ≡ bytes_of timed ++ others
   pub moments : AllByRecursion (λ t. t ≡ moment) (moments_in timed)
   pub all : k'.is_clean → (s : M.State) (h : History) (t : List ℕ) → StandsFor k s h t → AllByRecursion (MayCome t) (bytes_of timed)
-      → Part M (λ g. StandsFor k' s g t) s h timed Gave
+      → Part M (λ g. StandsFor k' s g t) s h timed Gave × k.may_answer fault
+
+-- however it ended: of the first messages of the input some were worked off, the kept ones at this moment, and where its store is
+-- clean the keeper stands for these
+pub record StandsForFront {M : Model} (k k' : KeeperState M) (moment : Moment) (input : List ℕ) : Type 0 where
+  pub timed : List Timed
+  pub others : List (List ℕ)
+  pub parts : (cut input).0 ≡ bytes_of timed ++ others
+  pub moments : AllByRecursion (λ t. t ≡ moment) (moments_in timed)
+  pub all : k'.is_clean → (s : M.State) (h : History) (t : List ℕ) → StandsFor k s h t → AllByRecursion (MayCome t) (bytes_of timed)
+      → Part M (λ g. StandsFor k' s g t) s h timed (λ _. Unit {0})
 
 -- these answers were sent, and so it was counted
 abbrev pub Sends : List ℕ → SessionCounts → List (List ℕ) → SessionCounts → Type 0

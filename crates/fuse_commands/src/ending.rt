@@ -11,7 +11,7 @@ use std::{fmt, io};
 /// How a run ended.
 #[derive(Clone, Copy, Debug, PartialEq, Eq)]
 pub enum Ending {
-    /// The stream was served to its end, and all went well.
+    /// All that was asked for was done.
     Done,
     /// A message says that it is shorter than a header.
     Short { at: u64, len: u32 },
@@ -29,7 +29,7 @@ pub enum Ending {
     Usage,
     /// The words ask to serve, and name neither way to begin, or both.
     Modes,
-    /// The database refused a statement.
+    /// The database refused a statement, or its file can't be opened.
     Sql,
     /// The database is no store.
     NotAStore,

@@ -4,7 +4,8 @@ ghost use Rattle.std.specs.List.{AllByRecursion};
 ghost use Rattle.fuse_request.specs.Stream.{joined};
 ghost use Rattle.fuse_commands.specs.Endings.{status_of, IsOfStream};
 ghost use Rattle.fuse_commands.specs.Printing.{IsAnswer};
-ghost use Rattle.fuse_commands.specs.Replaying.{Replayed, Faulted, Sends, Prints, PrintsAnswers};
+ghost use Rattle.fuse_commands.specs.Replaying.{Replayed, Faulted, StandsForFront, Sends, Prints};
+ghost use Rattle.fuse_commands.specs.Replaying.{PrintsAnswers};
 
 use crate::ending::Ending;
 use crate::printing::{write_answers, write_counts};
@@ -49,8 +50,10 @@ fn serve_stream<K: Keeper, R: Read>(
         (Sends result.sent.items result.counts) }
     ensures faulted { status_of result.ending ≡ 3 → (input : List ℕ)
         → R.remaining reader.old ≡ Some input
-        → Faulted (K.told keeper.old) (K.told keeper.new) moment input
+        → Faulted (K.told keeper.old) (K.told keeper.new) moment input result.ending
         (λ answers. result.sent.items ≡ joined answers) }
+    ensures kept { (input : List ℕ) → R.remaining reader.old ≡ Some input
+        → StandsForFront (K.told keeper.old) (K.told keeper.new) moment input }
     ensures store { status_of result.ending ≡ 3 → (K.told keeper.new).has_failed ≡ true }
     ensures failed { (K.told keeper.new).has_failed ≡ true → 3 ≤ status_of result.ending }
     ensures usage { status_of result.ending ≢ 2 }
@@ -100,10 +103,14 @@ pub fn run_replay<K: Keeper, R: Read + Drop, W: Write>(
         → Replayed (K.told keeper.old) (K.told keeper.new) moment input result
         (Prints (W.contents writer.old) (W.contents writer.new)) }
 
-    // At a fault of the store the answers before it are printed, and no counts.
+    // At a fault of the store, which is one that the keeper may answer, the answers before it are
+    // printed, and no counts.
     ensures faulted { status_of result ≡ 3 → (input : List ℕ) → R.remaining reader ≡ Some input
-        → Faulted (K.told keeper.old) (K.told keeper.new) moment input
+        → Faulted (K.told keeper.old) (K.told keeper.new) moment input result
         (PrintsAnswers (W.contents writer.old) (W.contents writer.new)) }
+    // However it ends, the keeper stands for messages that were worked off, and did nothing else.
+    ensures kept { (input : List ℕ) → R.remaining reader ≡ Some input
+        → StandsForFront (K.told keeper.old) (K.told keeper.new) moment input }
     ensures store { status_of result ≡ 3 → (K.told keeper.new).has_failed ≡ true }
     ensures failed { (K.told keeper.new).has_failed ≡ true → 3 ≤ status_of result }
     ensures usage { status_of result ≢ 2 }

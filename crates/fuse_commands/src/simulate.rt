@@ -18,7 +18,7 @@ use fuse_wire::Moment;
 use std::alloc::Global;
 use std::io::{Read, Write};
 
-/// The moment at which a new store is made.
+/// The moment at which a new store of `replay` or `simulate` is made.
 pub const START: Moment = Moment { secs: 0, nanos: 0 };
 
 // What events were answered, and how much the store holds then.
@@ -139,9 +139,10 @@ pub fn run_simulate<K: Restart, R: Read + Drop, W: Write>(
         → IsSomeAnd keeper.new (λ k. (K.told k).has_failed ≡ false) }
     ensures usage { status_of result ≢ 2 }
     // A fault of the store is one that a keeper answered on the way, or with which it refused to
-    // be opened again.
+    // be opened again. Nothing is printed then.
     ensures store { IfSome (R.remaining reader) (λ script. status_of result ≡ 3
         → StoppedIn K.told K.became K.may_refuse keeper.old keeper.new script result) }
+    ensures silent { status_of result ≡ 3 → W.contents writer.new ≡ W.contents writer.old }
 {
     let simulation = match simulate(alloc, keeper, reader) {
         Ok(simulation) => simulation,

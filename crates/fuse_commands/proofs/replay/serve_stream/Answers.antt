@@ -2,9 +2,10 @@ use Rattle.std.proofs.Common.{ℕ, List, Some, false, refl, ap, sym, subst, ◌�
 use Rattle.fuse_session.specs.Clock.{GaveFixed}
 use Rattle.fuse_commands.specs.Endings.{IsOfStream}
 use Rattle.fuse_commands.specs.Replaying.{Replayed, Sends}
+use Rattle.fuse_session.specs.Ends.{ended_store, ended_memory}
 use Rattle.fuse_session.specs.Port.{fresh}
 use Rattle.fuse_session.specs.Stream.{stream_told}
-use Rattle.fuse_commands.proofs.Streams.{session_replayed, session_faulted, counts_told}
+use Rattle.fuse_commands.proofs.Streams.{session_replayed, session_faulted, session_kept, counts_told}
 use Rattle.fuse_commands.proofs.replay.serve_stream.Goals as goal
 
 pub returns-clause-replayed : goal.returns-clause-replayed
@@ -35,3 +36,13 @@ returns-clause-faulted g c = λ three input told.
     (stream_told (λ r. g.R.Read.remaining r.now) (λ w. Some w.items) c.new-port.result)
     (stream_told (λ r. g.R.Read.remaining r.now) (λ w. Some w.items) c.serve-served.new.port) c.serve-served.result.ended c.of_session.result
     (g.met.K.Keeper.sound c.serve-served.new.keeper).clean_is_honest c.of_session.ensures start refl c.into_writer.ensures c.serve-served.ensures.exactly three
+
+pub returns-clause-kept : goal.returns-clause-kept
+returns-clause-kept g c = λ input told.
+    let start = c.new-port.ensures ∙ ap (λ o. fresh o (Some c.new.result.items) false) told
+    ∙ ap (λ (x : List ℕ). fresh (Some input) (Some x) false) c.new.ensures.items in
+    session_kept c.cut_joins.ensures (g.K.Keeper.told c.args.keeper.now)
+    (g.K.Keeper.told c.serve-served.new.keeper) (ended_store c.serve-served.result.ended) (ended_memory c.serve-served.result.ended) _ c.args.moment
+    (λ ts. GaveFixed (record { 0 = c.args.moment }) c.serve-served.new.clock ts) (λ ts given. given.each) input
+    (stream_told (λ r. g.R.Read.remaining r.now) (λ w. Some w.items) c.new-port.result)
+    (stream_told (λ r. g.R.Read.remaining r.now) (λ w. Some w.items) c.serve-served.new.port) start refl c.serve-served.ensures.life
