@@ -108,7 +108,7 @@ pub fn run_replay<K: Keeper, R: Read + Drop, W: Write>(
     ensures faulted { status_of result ≡ 3 → (input : List ℕ) → R.remaining reader ≡ Some input
         → Faulted (K.told keeper.old) (K.told keeper.new) moment input result
         (PrintsAnswers (W.contents writer.old) (W.contents writer.new)) }
-    // However it ends, the keeper stands for messages that were worked off, and did nothing else.
+    // However it ends, the keeper stands for messages that were worked off.
     ensures kept { (input : List ℕ) → R.remaining reader ≡ Some input
         → StandsForFront (K.told keeper.old) (K.told keeper.new) moment input }
     ensures store { status_of result ≡ 3 → (K.told keeper.new).has_failed ≡ true }

@@ -1,5 +1,5 @@
-/// An error number of Linux (errno(3), its generic numbers), positive, or 0 where there is no error.
-/// The `error` field of an answer holds its negation.
+/// An error number of Linux (errno(3), its generic numbers), positive, or 0 where there is no
+/// error. The `error` field of an answer holds its negation.
 #[derive(Clone, Copy, Debug, PartialEq, Eq)]
 pub struct Errno(pub u32);
 
