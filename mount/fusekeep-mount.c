@@ -182,7 +182,7 @@ static pid_t start_probe(const struct keeper *k) {
   _exit(stat(k->mountpoint, &root) == 0 ? 0 : errno);
 }
 
-/* A field of the table of mounts, where blanks and some others stand as three octal digits. */
+/* A field of the table of mounts, where blanks and some others, of which getmntent(3) leaves #, stand as three octal digits. */
 static char *plain(char *field) {
   char *to = field;
   unsigned byte;

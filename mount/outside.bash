@@ -1,8 +1,10 @@
 # Phases of mount/test: what is done to a mount from outside, by another or by systemd, and how the engine is found. Each runs in a
 # folder of its own.
 
-# In use and unmounted from outside, and another file system mounted there: a signal leaves that one alone.
+# In use and unmounted from outside, and another file system mounted there: a signal leaves that one alone. Its own mount is found
+# by names with all that the table of mounts escapes.
 another_on_top() {
+  mkdir 'm t#\x' && start 'a #\b.store' 'm t#\x' log && stop_and_end || return 1
   start store mnt log && echo one >mnt/one && exec 9<mnt/one || return 1
   umount -l mnt && mount -t tmpfs other mnt || return 1
   kill -TERM "$supervisor"
