@@ -1,11 +1,8 @@
 //! Tests of a store in tables: over a connection in memory a store of version 1, what is no store,
 //! and each call of a keeper; over disks that stop at each of their calls, that what is opened
-//! behind that is what was committed. And of keepers over lists and over tables to which memory is
-//! refused.
+//! behind that is what was committed.
 #![tactic(auto)]
 
-#[cfg(test)]
-mod allocations;
 #[cfg(test)]
 mod blocks;
 #[cfg(test)]
