@@ -1,6 +1,6 @@
-//! The words of a command line.
+//! The words of a command line, where no run of the program shows how they are taken.
 use clap::error::ErrorKind;
-use fuse_commands::{Begin, Run, parse, unreadable};
+use fuse_commands::{Run, parse, unreadable};
 use std::alloc::Global;
 use std::test::Fail;
 
@@ -36,97 +36,6 @@ fn good_words(rt: HostRuntime) -> Result<(), Fail> {
     Ok(())
 }
 
-#[test]
-fn words_of_looks(rt: HostRuntime) -> Result<(), Fail> {
-    let words = ["fusekeep", "dump", "-"];
-    let run = parse(rt.alloc(), words.as_slice())?;
-    assert_eq!(rt; run, Run::Dump { file: "-" });
-    assert_eq!(rt; run.input(), "-");
-    let words = ["fusekeep", "check", "first.stream"];
-    let run = parse(rt.alloc(), words.as_slice())?;
-    assert_eq!(rt;
-        run,
-        Run::Check {
-            file: "first.stream"
-        }
-    );
-    assert_eq!(rt; run.input(), "first.stream");
-    let words = ["fusekeep", "simulate", "first.script"];
-    let run = parse(rt.alloc(), words.as_slice())?;
-    assert_eq!(rt;
-        run,
-        Run::Simulate {
-            script: "first.script"
-        }
-    );
-    assert_eq!(rt; run.input(), "first.script");
-    Ok(())
-}
-
-#[test]
-fn words_of_stores(rt: HostRuntime) -> Result<(), Fail> {
-    let words = ["fusekeep", "store", "a.store"];
-    let run = parse(rt.alloc(), words.as_slice())?;
-    assert_eq!(rt; run, Run::Store { file: "a.store" });
-    assert_eq!(rt; run.input(), "a.store");
-    let words = ["fusekeep", "ls", "a.store"];
-    let run = parse(rt.alloc(), words.as_slice())?;
-    let top = Run::List {
-        file: "a.store",
-        path: "/",
-    };
-    assert_eq!(rt; run, top);
-    let words = ["fusekeep", "ls", "a.store", "a/b"];
-    let run = parse(rt.alloc(), words.as_slice())?;
-    let below = Run::List {
-        file: "a.store",
-        path: "a/b",
-    };
-    assert_eq!(rt; run, below);
-    Ok(())
-}
-
-#[test]
-fn words_of_cat(rt: HostRuntime) -> Result<(), Fail> {
-    let words = ["fusekeep", "cat", "a.store", "a/f"];
-    let run = parse(rt.alloc(), words.as_slice())?;
-    let file = Run::Cat {
-        file: "a.store",
-        path: "a/f",
-    };
-    assert_eq!(rt; run, file);
-    let words = ["fusekeep", "cat", "a.store"];
-    assert!(rt; parse(rt.alloc(), words.as_slice()).is_err());
-    Ok(())
-}
-
-#[test]
-fn words_of_serving(rt: HostRuntime) -> Result<(), Fail> {
-    let words = [
-        "fusekeep", "serve", "--db", "a.store", "--fresh", "--at", "7",
-    ];
-    let run = parse(rt.alloc(), words.as_slice())?;
-    assert_eq!(rt;
-        run,
-        Run::Serve {
-            db: "a.store",
-            begin: Some(Begin::Fresh),
-            at: Some(7)
-        }
-    );
-    assert_eq!(rt; run.input(), "-");
-    let words = ["fusekeep", "serve", "--resume", "--db=a.store"];
-    assert_eq!(rt;
-        parse(rt.alloc(), words.as_slice())?,
-        Run::Serve {
-            db: "a.store",
-            begin: Some(Begin::Resume),
-            at: None
-        }
-    );
-    Ok(())
-}
-
 fn kind_of(alloc: Global, words: &[&str]) -> Option<ErrorKind> {
     match parse(alloc, words) {
         Ok(_) => None,
@@ -144,6 +53,7 @@ fn wrong_words(rt: HostRuntime) {
         missing
     );
     assert_eq!(rt; kind_of(alloc, &["fusekeep", "simulate"]), missing);
+    assert_eq!(rt; kind_of(alloc, &["fusekeep", "cat", "a.store"]), missing);
     assert_eq!(rt; kind_of(alloc, &["fusekeep", "serve", "--fresh"]), missing);
     assert_eq!(rt;
         kind_of(alloc, &["fusekeep"]),

@@ -1,6 +1,5 @@
-//! Tests of a store in tables: over a connection in memory a store of version 1, what is no store,
-//! and each call of a keeper; over disks that stop at each of their calls, that what is opened
-//! behind that is what was committed.
+//! Tests of a store in tables: each call of a keeper over a connection in memory; over disks that
+//! stop at each of their calls, that what is opened behind that is what was committed.
 #![tactic(auto)]
 
 #[cfg(test)]
@@ -16,11 +15,7 @@ mod keepers;
 #[cfg(test)]
 mod laws;
 #[cfg(test)]
-mod opened;
-#[cfg(test)]
 mod requests;
-#[cfg(test)]
-mod shown;
 #[cfg(test)]
 mod stops;
 #[cfg(test)]

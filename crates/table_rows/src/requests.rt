@@ -22,11 +22,29 @@ pub(crate) const MORE: usize = 9;
 /// Their ids.
 pub(crate) const IDS: [u64; MORE] = [2, 4, 6, 8, 10, 12, 14, 16, 18];
 
+// The INIT of row init-agreed.
+const INIT: Op<'static> = Op::Init(InitIn {
+    major: 7,
+    minor: 40,
+    max_readahead: 131_072,
+    flags: 0x4000_2021,
+    flags2: Some(0x80),
+});
+
 const F_TO_G: Op<'static> = Op::Rename {
     new_dir: 3,
     old_name: b"f",
     new_name: b"g",
 };
+
+fn request(header: InHeader, op: Op<'static>) -> Timed {
+    let request = Request {
+        header,
+        op,
+        ext: &[],
+    };
+    (request, AT_1000)
+}
 
 // A request on a node, with the header's end of the rows.
 fn asked(unique: u64, nodeid: u64, op: Op<'static>) -> Timed {
@@ -37,15 +55,10 @@ fn asked(unique: u64, nodeid: u64, op: Op<'static>) -> Timed {
         gid: 1000,
         pid: 77,
     };
-    let request = Request {
-        header,
-        op,
-        ext: &[],
-    };
-    (request, AT_1000)
+    request(header, op)
 }
 
-// The INIT of row init-agreed.
+// The INIT of row init-agreed, of nobody.
 fn init(unique: u64) -> Timed {
     let header = InHeader {
         unique,
@@ -54,19 +67,7 @@ fn init(unique: u64) -> Timed {
         gid: 0,
         pid: 0,
     };
-    let op = Op::Init(InitIn {
-        major: 7,
-        minor: 40,
-        max_readahead: 131_072,
-        flags: 0x4000_2021,
-        flags2: Some(0x80),
-    });
-    let request = Request {
-        header,
-        op,
-        ext: &[],
-    };
-    (request, AT_1000)
+    request(header, INIT)
 }
 
 fn mknod() -> Op<'static> {

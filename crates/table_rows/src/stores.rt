@@ -112,7 +112,8 @@ pub(crate) fn shape<S: Alter>(conn: &mut Connection<S>) -> [i64; 4] {
     SHAPE.map(|text| number(conn, text).unwrap_or(0))
 }
 
-fn number<S: Alter>(conn: &mut Connection<S>, text: &str) -> Result<i64, Error> {
+/// The number that a statement shows.
+pub(crate) fn number<S: Alter>(conn: &mut Connection<S>, text: &str) -> Result<i64, Error> {
     conn.query_row(text, &[])?.get(0)
 }
 

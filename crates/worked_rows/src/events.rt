@@ -9,7 +9,6 @@ use fuse_wire::{ByteList, Moment};
 use std::alloc::{AllocError, Global};
 use std::test::*;
 
-mod allocations;
 mod faults;
 mod kernels;
 mod sending;

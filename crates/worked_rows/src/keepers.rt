@@ -20,14 +20,6 @@ pub(crate) fn new_keeper(alloc: Global) -> Result<TreeKeeper, Memory> {
     PlainKeeper::new(alloc, START)
 }
 
-/// A new store, at the second try where memory was refused at the first.
-pub(crate) fn made(alloc: Global) -> Option<TreeKeeper> {
-    match new_keeper(alloc) {
-        Ok(keeper) => Some(keeper),
-        Err(_) => new_keeper(alloc).ok(),
-    }
-}
-
 /// How much a keeper holds. None where it wants memory, or has a lot.
 pub(crate) fn held_in<K: Keeper>(keeper: &mut K) -> Option<Held> {
     let counts = keeper.counts().ok()?;

@@ -1,8 +1,6 @@
 //! The run over which memory is refused and ports fail: row init-agreed, MKNOD `f`, OPEN, WRITE
 //! `one`, READ, MKDIR `a`, RENAME `f` to `a/g`, RELEASE.
-use crate::requests::{getattr, init, lookup, mkdir, mknod, open, read, release, request, write};
 use crate::texts::{AGREED, INIT_AGREED};
-use fuse_request::{Op, Request};
 
 /// A message and its answer.
 pub type Pair = (&'static str, &'static str);
@@ -135,36 +133,6 @@ pub const RUN: [Pair; MESSAGES] = [
 pub const QUESTIONS: [Pair; 7] = [
     F_IS_GONE, A_IS_THERE, G_IS_THERE, ROOT, FH_IS_GONE, OPEN_AGAIN, READ_AGAIN,
 ];
-
-const F_TO_G: Op<'static> = Op::Rename {
-    new_dir: 3,
-    old_name: b"f",
-    new_name: b"g",
-};
-
-/// The requests of the run, under uniques with this bit.
-pub(crate) fn requests_of_run(bit: u64) -> [Request<'static>; MESSAGES] {
-    [
-        init(bit | 2),
-        mknod(bit | 4, b"f"),
-        open(bit | 6, 2),
-        write(bit | 8, b"one"),
-        read(bit | 10),
-        mkdir(bit | 12, b"a"),
-        request(bit | 14, 1, F_TO_G),
-        release(bit | 16),
-    ]
-}
-
-/// The first four questions.
-pub(crate) fn first_questions() -> [Request<'static>; 4] {
-    [
-        lookup(18, b"f"),
-        lookup(20, b"a"),
-        request(22, 3, Op::Lookup { name: b"g" }),
-        getattr(24, 1),
-    ]
-}
 
 /// How many nodes, handles and records a store holds.
 #[derive(Clone, Copy, PartialEq, Eq)]

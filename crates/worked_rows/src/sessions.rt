@@ -8,7 +8,6 @@ use fuse_session::{Arrival, Ended, Fixed, MemoryPort, Outcome, ResumeFault, resu
 use fuse_wire::Moment;
 use std::alloc::{AllocError, Global};
 
-mod allocations;
 mod clocks;
 mod devices;
 mod mounts;

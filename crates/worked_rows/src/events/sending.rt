@@ -62,13 +62,3 @@ pub(crate) fn send_all(
     }
     Ok(messages)
 }
-
-/// Whether these are the messages that are pending.
-pub(crate) fn are_pending(kernel: &Kernel, messages: &[Vec<u8>]) -> bool {
-    let pending = kernel.pending();
-    pending.len() == messages.len()
-        && pending
-            .iter()
-            .zip(messages)
-            .all(|(one, other)| one.as_slice() == other.as_slice())
-}

@@ -52,11 +52,6 @@ pub(crate) fn size_of_answers(count: usize) -> usize {
     size_of_first(&ANSWER_LENGTHS, count)
 }
 
-/// How many answers of the run these bytes are.
-pub(crate) fn answers_in(sent: usize) -> Option<usize> {
-    (0..MESSAGES + 1).find(|count| size_of_answers(*count) == sent)
-}
-
 /// The run over this peer.
 pub(crate) fn run(alloc: Global, peer: Peer) -> Result<Session, AllocError> {
     let mut input = Vec::new(alloc);
