@@ -13,7 +13,7 @@ import time
 
 from good import m, program
 
-SECONDS = 60
+SECONDS = 300
 GROUP = 16
 NOBODY = 65534
 ROOM = 640 * 1024

@@ -10,7 +10,7 @@ import signal
 import sys
 import time
 
-PATIENCE = 30.0  # seconds in which a next server has to be there
+PATIENCE = 120.0  # seconds in which a next server has to be there
 
 
 def parent_of(process):

@@ -8,7 +8,7 @@ another_on_top() {
   start store mnt log && echo one >mnt/one && exec 9<mnt/one || return 1
   umount -l mnt && mount -t tmpfs other mnt || return 1
   kill -TERM "$supervisor"
-  await 20 grep -q "isn't mounted on .* any more" log || return 1
+  await 120 grep -q "isn't mounted on .* any more" log || return 1
   expect "the other file system is still mounted" grep -q "^other $PWD/mnt tmpfs " /proc/mounts || return 1
   expect "what is open is read" [ "$(cat <&9)" = one ] || return 1
   exec 9<&-
@@ -23,7 +23,7 @@ relative_path() {
   record "$supervisor"
   echo one >mnt/one && python3 "$here/killer.py" "$supervisor" 2 1.1 2>/dev/null || return 1
   expect "it is read by a later server" [ "$(cat mnt/one)" = one ] || return 1
-  umount mnt && await 20 isnt_running "$supervisor"
+  umount mnt && await 120 isnt_running "$supervisor"
 }
 
 # The process that was begun with these words.
@@ -55,7 +55,7 @@ unit_stops() {
   expect "a mount that answers stays" is_mounted "$PWD/mnt" || return 1
   kill -KILL "$supervisor"
   wait "$supervisor" 2>/dev/null
-  await 20 sh -c '! stat "$0"' "$PWD/mnt" || return 1
+  await 120 sh -c '! stat "$0"' "$PWD/mnt" || return 1
   sh stops "$PWD/mnt"
   expect "a dead one goes" isnt_mounted "$PWD/mnt"
 }

@@ -16,7 +16,7 @@ import sys
 import time
 import traceback
 
-LONGEST_STEP = 60.0  # seconds: a step is some calls, and servers are killed meanwhile
+LONGEST_STEP = 180.0  # seconds: a step is some calls, and servers are killed meanwhile
 MOST_FILES, MOST_DIRS, MOST_HELD = 120, 25, 6
 NOREPLACE, EXCHANGE = 1, 2
 AT_FDCWD = -100

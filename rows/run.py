@@ -10,7 +10,7 @@ import tempfile
 
 import serving
 from fronts import fronts_of
-from program import knows_strict_tables, look_into, run_lives, run_program, store_of
+from program import knows_strict_tables, look_into, quick_folder, run_lives, run_program, store_of
 from read import BadRow, chain_of, last_said, moved_end, read_all
 from scripts import bad_lines, good_lines
 from trees import run_tables
@@ -258,7 +258,7 @@ def main():
     except BadRow as fault:
         print(f"rows: FAILED, {fault}")
         return 1
-    with tempfile.TemporaryDirectory(prefix="rows-") as work:
+    with tempfile.TemporaryDirectory(prefix="rows-", dir=quick_folder()) as work:
         run = Rows(os.path.realpath(program), rows, work)
         right = [run.passes(row) for row in rows.values()] + [run.settles_after_fault(), run.refuses(), run.reads_scripts()]
         tables = run.grows(trees)

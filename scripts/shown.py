@@ -109,7 +109,7 @@ def answered_bytes(program, folder, nodes):
     """The sum of the sizes that the program answers to a GETATTR of each of these nodes, over a copy of a store."""
     asked = b"".join(m.message(m.GETATTR, FREE_ID + 2 * at, node, bytes(16)) for at, node in enumerate(nodes))
     words = [program, "replay", "--db", str(folder / "copy"), "--at", "1000", "-"]
-    lines = subprocess.run(words, input=asked, capture_output=True, check=False, timeout=60).stdout.splitlines()
+    lines = subprocess.run(words, input=asked, capture_output=True, check=False, timeout=300).stdout.splitlines()
     answers = [bytes.fromhex(line.decode()) for line in lines if not line.startswith(b"served ")]
     return sum(struct.unpack_from("<Q", answer, SIZE_AT)[0] for answer in answers)
 
@@ -131,7 +131,7 @@ def compare(program, file):
     with tempfile.TemporaryDirectory() as folder:
         store = Store(Path(folder), file)
         for words, wanted in [(["store"], store.told().encode()), *store.wanted()]:
-            done = subprocess.run([program, words[0], file, *words[1:]], capture_output=True, check=False, timeout=60)
+            done = subprocess.run([program, words[0], file, *words[1:]], capture_output=True, check=False, timeout=300)
             compared += 1
             if (done.returncode, done.stdout, done.stderr) != (0, wanted, b""):
                 lost += 1

@@ -11,7 +11,7 @@ from dataclasses import dataclass
 
 HERE = os.path.dirname(os.path.realpath(__file__))
 sys.path.insert(0, f"{HERE}/../rows")
-from program import make_store, run_on_device  # noqa: E402
+from program import make_store, quick_folder, run_on_device  # noqa: E402
 from read import moved_end  # noqa: E402
 
 NOTICE = "10000000070000000000000000000000"
@@ -182,7 +182,7 @@ class Serving:
 def main():
     program = sys.argv[1]
     names = sorted(os.path.basename(path)[:-len(".stream")] for path in glob.glob(f"{HERE}/*.stream"))
-    with tempfile.TemporaryDirectory(prefix="vectors-") as work:
+    with tempfile.TemporaryDirectory(prefix="vectors-", dir=quick_folder()) as work:
         serving = Serving(os.path.realpath(program), work)
         for name in names:
             stream = without_repeats(read_stream(name))
