@@ -26,7 +26,7 @@ LOG = 32 + 24 + 512
 # How many faults of one file a sample goes on behind, and how many a whole run, and for how many seconds.
 FEW, MANY = 1, 3
 LONGEST = 20
-SAMPLE = 23
+SAMPLE = 37
 
 FAULTS = re.compile(r"store: (Sql|Damaged|NotAStore|Version\(\d+\))|resume: NotOffered")
 NONE_THERE = re.compile(r"path: (NoSuchPath|NotDirectory|NotFile)")

@@ -1,3 +1,4 @@
 pub mod Agreements
+pub mod Small
 pub mod Spellings
 pub mod Vectors

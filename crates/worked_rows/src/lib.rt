@@ -1,9 +1,14 @@
 //! The worked rows of the specification: those of messages and of the tree by itself that no run of
-//! the program shows, and those that several crates make together, over a tree in memory.
+//! the program shows, and those that several crates make together, over a tree in memory. And tests
+//! of the commands and of the examples.
 #![tactic(auto)]
 
 #[cfg(test)]
+mod commands;
+#[cfg(test)]
 mod events;
+#[cfg(test)]
+mod examples;
 #[cfg(test)]
 mod hex;
 #[cfg(test)]

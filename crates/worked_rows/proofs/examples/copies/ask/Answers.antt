@@ -1,7 +1,7 @@
 use Rattle.std.proofs.Common.{refl}
 use Rattle.fuse_keeper.specs.Group.{HasId, IsKept}
-use Rattle.example_rows.proofs.Small.{all_one}
-use Rattle.example_rows.proofs.copies.ask.Goals as goal
+use Rattle.worked_rows.proofs.Small.{all_one}
+use Rattle.worked_rows.proofs.examples.copies.ask.Goals as goal
 
 pub perform-requires-clause-named : goal.perform-requires-clause-named
 perform-requires-clause-named c = all_one HasId _ c.requires

@@ -1,8 +1,9 @@
 //! Commands whose reader or writer fails, and a script that is run to its end.
-use crate::fakes::{Failing, Full, Unflushed};
-use crate::lists::simulate_in_lists;
-use crate::messages::LOOKUP_HELLO;
-use crate::running::{bytes_of, printed_to};
+use super::fakes::{Failing, Full, Unflushed};
+use super::running::printed_to;
+use crate::hex::hex;
+use crate::texts::LOOKUP_HELLO;
+use command_rows::simulate_in_lists;
 use fuse_commands::{Ending, run_check, run_dump};
 use std::alloc::Global;
 use std::test::Fail;
@@ -72,7 +73,7 @@ fn simulates(alloc: Global) -> [bool; 2] {
 #[test]
 fn failing_ports(rt: HostRuntime) -> Result<(), Fail> {
     let alloc = rt.alloc();
-    let bytes = bytes_of(alloc, &[LOOKUP_HELLO])?;
+    let bytes = hex(alloc, LOOKUP_HELLO)?;
     let stream = bytes.as_slice();
     let right = [
         replays(alloc, stream)?,
