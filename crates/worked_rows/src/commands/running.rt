@@ -1,6 +1,6 @@
 //! Streams in hexadecimal that are replayed over a tree in memory.
 use crate::hex::hex;
-use crate::keepers::{AT_1000, TreeKeeper, new_keeper};
+use crate::keepers::{AT_1000, START, TreeKeeper};
 use crate::texts::INIT_AGREED;
 use fuse_commands::{Ending, run_replay};
 use fuse_keeper::Keeper;
@@ -10,7 +10,7 @@ use std::test::Fail;
 
 // A new store in which row init-agreed was answered: what the other rows begin with.
 fn begun(alloc: Global) -> Result<TreeKeeper, Fail> {
-    let mut keeper = new_keeper(alloc)?;
+    let mut keeper = TreeKeeper::new(alloc, START)?;
     let init = hex(alloc, INIT_AGREED)?;
     let mut printed = Vec::new(alloc);
     run_replay(alloc, &mut keeper, init.as_slice(), &mut printed, AT_1000);
