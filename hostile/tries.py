@@ -18,7 +18,7 @@ from good import m, make, make_killed, program
 from asking import messages_of
 
 MEMORY = 1 << 30
-# By the clock: it takes one or two where nothing else runs, and ten times as long on a host that lends its processors.
+# By the clock. A run takes at most two where nothing else runs, and ten times as long on a slow host.
 SECONDS = 120
 GROUP = 16
 # A log of fewer bytes holds no page.
