@@ -10,6 +10,7 @@ import time
 from dataclasses import dataclass, field
 
 from compare import Difference, Runs, is_of_script, try_seed, write_seed
+from folders import quick_folder
 import program
 
 MOST_FAILURES = 5
@@ -37,7 +38,7 @@ def work(task):
     """Tries one seed after the other until the time is up or so many requests were tried."""
     seed, step, until, requests = task
     tried = Tried()
-    with tempfile.TemporaryDirectory(prefix="fuzz-", dir=program.quick_folder()) as folder:
+    with tempfile.TemporaryDirectory(prefix="fuzz-", dir=quick_folder()) as folder:
         runs = Runs(folder)
         while tried.requests < requests and time.monotonic() < until and len(tried.failures) < MOST_FAILURES:
             try:

@@ -16,6 +16,7 @@ from by_rows import all_of_rows
 from by_schema import all_of_schema
 from good import m, make, make_killed, program
 from asking import messages_of
+from folders import quick_folder
 
 MEMORY = 1 << 30
 # By the clock. A run takes at most two where nothing else runs, and ten times as long on a slow host.
@@ -93,7 +94,7 @@ def wrong_look(ran, found, refused):
 
 def rows_of(folder):
     """What sqlite3 reads from a copy of a store and its log: its schema and its rows, or why it doesn't."""
-    with tempfile.TemporaryDirectory(dir=program.quick_folder()) as there:
+    with tempfile.TemporaryDirectory(dir=quick_folder()) as there:
         for name in os.listdir(folder):
             shutil.copy(f"{folder}/{name}", there)
         store = sqlite3.connect(f"{there}/store")
@@ -320,7 +321,7 @@ def main():
         return 1
     begun = time.monotonic()
     signal.signal(signal.SIGTERM, lambda *_: sys.exit(1))
-    with tempfile.TemporaryDirectory(prefix="hostile-", dir=program.quick_folder()) as folder:
+    with tempfile.TemporaryDirectory(prefix="hostile-", dir=quick_folder()) as folder:
         collect(folder)
         rounds = MANY if words.all or words.only else FEW
         with multiprocessing.Pool(words.jobs, begin, (folder, rounds)) as pool:

@@ -30,11 +30,6 @@ class Served:
     told: list
 
 
-def quick_folder():
-    """Where files are quick to be written: in memory where that can be."""
-    return "/dev/shm" if os.access("/dev/shm", os.W_OK) else None
-
-
 def cut_into(stream, sizes):
     """The pieces of these sizes that a stream is."""
     pieces = []

@@ -10,11 +10,15 @@ import tempfile
 
 import serving
 from fronts import fronts_of
-from program import knows_strict_tables, look_into, quick_folder, run_lives, run_program, store_of
+from program import knows_strict_tables, look_into, run_lives, run_program, store_of
 from read import BadRow, chain_of, last_said, moved_end, read_all
 from scripts import bad_lines, good_lines
 from trees import run_tables
 from ways import bytes_in, fed, ways_of
+
+sys.path.append(f"{os.path.dirname(os.path.realpath(__file__))}/../streams")
+
+from folders import quick_folder  # noqa: E402
 
 # How much of what differs is shown.
 MOST_LINES = 20

@@ -50,11 +50,6 @@ def wait(child, until):
     return child.returncode, most
 
 
-def quick_folder():
-    """Where files are quick to be written: in memory where that can be."""
-    return "/dev/shm" if os.access("/dev/shm", os.W_OK) else None
-
-
 def run(words, given, seconds, program=BUILT):
     """Runs the program with these bytes, or this file, on standard input."""
     with tempfile.TemporaryFile() as source, tempfile.TemporaryFile() as out, tempfile.TemporaryFile() as err:

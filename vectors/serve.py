@@ -11,7 +11,9 @@ from dataclasses import dataclass
 
 HERE = os.path.dirname(os.path.realpath(__file__))
 sys.path.insert(0, f"{HERE}/../rows")
-from program import make_store, quick_folder, run_on_device  # noqa: E402
+sys.path.append(f"{HERE}/../streams")
+from folders import quick_folder  # noqa: E402
+from program import make_store, run_on_device  # noqa: E402
 from read import moved_end  # noqa: E402
 
 NOTICE = "10000000070000000000000000000000"

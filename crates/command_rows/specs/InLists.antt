@@ -1,4 +1,4 @@
--- What a script's events are answered over a new store of the tree in lists.
+-- What a script's events are answered over a new store of the tree in lists (own profile).
 use Rattle.std.specs.Prelude.{◌≡◌, ℕ, List, [], ◌++◌, length, Option}
 use Rattle.std.specs.Io.KnownBytes.{Appends}
 use Rattle.fuse_tree.specs.State.{State, new_store}

@@ -52,8 +52,8 @@ impl<K: Keeper> CountingKeeper<K> {
 }
 
 impl<K: Keeper> Keeper for CountingKeeper<K> {
-    ghost use Rattle.std.specs.Prelude.{◌≤◌, refl};
-    ghost use Rattle.std.proofs.Common.{◌∙◌, arith};
+    ghost use Rattle.std.specs.Prelude.{◌≤◌};
+    ghost use Rattle.std.proofs.Common.{arith};
     ghost use Rattle.fuse_keeper.specs.declared.keeper.TheConstants.{MAX_GROUP as max_group};
     ghost use Rattle.fuse_keeper.specs.declared.keeper.TheConstants.{MAX_SETTLED as max_settled};
     ghost use Rattle.counting_keeper.specs.Counting.{Became};

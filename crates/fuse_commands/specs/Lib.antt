@@ -8,4 +8,3 @@ pub mod Endings
 pub mod Printing
 pub mod Replaying
 pub mod ServingRuns
-pub mod Words

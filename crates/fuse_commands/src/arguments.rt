@@ -1,7 +1,6 @@
 //! The words of a command line.
 ghost use Rattle.std.specs.Prelude.{◌≡◌, ◌⊎◌, IfOk};
 ghost use Rattle.clap.specs.Values.{kind_of};
-ghost use Rattle.fuse_commands.specs.Words.{input_of};
 
 use crate::serve::Begin;
 use clap::error::ErrorKind;
@@ -50,22 +49,12 @@ const TOP: &str = "/";
 const STREAM_HELP: &str = "The file of the stream, or - for standard input";
 
 /// What the words of a command line ask for.
-#[derive(Clone, Copy, Debug, PartialEq, Eq)]
+#[derive(Clone, Copy)]
 pub enum Run<'a> {
-    /// To print a line for each message of a stream.
-    Dump {
-        file: &'a str,
-    },
-    /// To count the messages of a stream.
-    Check {
-        file: &'a str,
-    },
-    /// To serve a recorded stream, each request at the same second, over the store of a file where
-    /// one is named.
-    Replay {
-        db: Option<&'a str>,
-        at: u64,
-        stream: &'a str,
+    /// To work on what a file holds, or on standard input (`STANDARD_INPUT`).
+    Read {
+        input: &'a str,
+        work: Work<'a>,
     },
     /// To serve requests as they come, over the store of a file. The words name no way to begin
     /// where they name neither or both. Without a second the machine's clock is asked.
@@ -73,10 +62,6 @@ pub enum Run<'a> {
         db: &'a str,
         begin: Option<Begin>,
         at: Option<u64>,
-    },
-    /// To run the events of a script.
-    Simulate {
-        script: &'a str,
     },
     /// To tell what the store of a file holds.
     Store {
@@ -94,19 +79,18 @@ pub enum Run<'a> {
     },
 }
 
-impl<'a> Run<'a> {
-    /// The file of the input, or `STANDARD_INPUT`; of what only looks at a store the file of that.
-    pub fn input(&self) -> &'a str
-        ensures { result.now ≡ input_of self.now }
-    {
-        match *self {
-            Run::Dump { file } | Run::Check { file } => file,
-            Run::Replay { stream, .. } => stream,
-            Run::Serve { .. } => STANDARD_INPUT,
-            Run::Simulate { script } => script,
-            Run::Store { file } | Run::List { file, .. } | Run::Cat { file, .. } => file,
-        }
-    }
+/// What is done with an input.
+#[derive(Clone, Copy)]
+pub enum Work<'a> {
+    /// To print a line for each message of a stream.
+    Dump,
+    /// To count the messages of a stream.
+    Check,
+    /// To serve a recorded stream, each request at the same second, over the store of a file where
+    /// one is named, else over a new one in memory.
+    Replay { db: Option<&'a str>, at: u64 },
+    /// To run the events of a script.
+    Simulate,
 }
 
 // An argument that has to be there.
@@ -264,11 +248,16 @@ fn program_command<'a>(alloc: Global) -> Result<Command<'a>, AllocError> {
     with_looks(alloc, command)
 }
 
+// Work on the file that this argument names.
+fn read_run<'a>(found: &ArgMatches<'a>, name: &str, work: Work<'a>) -> Option<Run<'a>> {
+    let input = found.get_str(name)?;
+    Some(Run::Read { input, work })
+}
+
 fn replay_run<'a>(found: &ArgMatches<'a>) -> Option<Run<'a>> {
     let db = found.get_str(DB);
     let at = found.get_one::<u64>(AT)?;
-    let stream = found.get_str(STREAM)?;
-    Some(Run::Replay { db, at, stream })
+    read_run(found, STREAM, Work::Replay { db, at })
 }
 
 // The one way to begin that the words name.
@@ -304,17 +293,11 @@ fn cat_run<'a>(found: &ArgMatches<'a>) -> Option<Run<'a>> {
 
 fn run_of<'a>(matches: &ArgMatches<'a>) -> Option<Run<'a>> {
     match matches.subcommand()? {
-        (DUMP, found) => Some(Run::Dump {
-            file: found.get_str(FILE)?,
-        }),
-        (CHECK, found) => Some(Run::Check {
-            file: found.get_str(FILE)?,
-        }),
+        (DUMP, found) => read_run(found, FILE, Work::Dump),
+        (CHECK, found) => read_run(found, FILE, Work::Check),
         (REPLAY, found) => replay_run(found),
         (SERVE, found) => serve_run(found),
-        (SIMULATE, found) => Some(Run::Simulate {
-            script: found.get_str(SCRIPT)?,
-        }),
+        (SIMULATE, found) => read_run(found, SCRIPT, Work::Simulate),
         (STORE, found) => Some(Run::Store {
             file: found.get_str(FILE)?,
         }),

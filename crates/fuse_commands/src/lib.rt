@@ -16,7 +16,7 @@ mod script;
 mod serve;
 mod simulate;
 
-pub use arguments::{Run, STANDARD_INPUT, parse, unreadable};
+pub use arguments::{Run, STANDARD_INPUT, Work, parse, unreadable};
 pub use check::run_check;
 pub use count_line::CountLine;
 pub use dump::run_dump;

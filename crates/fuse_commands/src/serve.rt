@@ -1,6 +1,6 @@
 ghost use Rattle.std.specs.Prelude.{◌≡◌, ◌≢◌, ◌≤◌, ◌<◌, ◌^◌, true, false, None};
 ghost use Rattle.std.specs.Prelude.{IfErr, OnOk};
-ghost use Rattle.fuse_commands.specs.Endings.{status_of, store_ending, session_ending};
+ghost use Rattle.fuse_commands.specs.Endings.{status_of};
 ghost use Rattle.fuse_commands.specs.ServingRuns.{ServesPort, ServesDevice, NotServed, Begins};
 ghost use Rattle.fuse_commands.specs.ServingRuns.{resume_ending};
 

@@ -1,4 +1,4 @@
--- What a keeper in memory holds.
+-- What a keeper in memory holds (own profile).
 use Rattle.std.specs.Prelude.{◌≡◌, false}
 use Rattle.fuse_keeper.specs.declared.fault.StoreFault.TheVariants.{Memory}
 use Rattle.fuse_keeper.specs.declared.plain.PlainKeeper.{PlainKeeper}

@@ -1,14 +1,13 @@
 // How a group of requests is taken, over rows and records that stay as they are meanwhile.
-ghost use Rattle.std.specs.Prelude.{◌≡◌, ◌⊎◌, ◌+◌, ◌++◌, ◌∷◌, [], ℕ, Bool, true, List, Option};
+ghost use Rattle.std.specs.Prelude.{◌≡◌, ◌⊎◌, ℕ, true, List, Option};
 ghost use Rattle.std.specs.Prelude.{Some, None, length, All, IfOk, IfErr, OnOk};
 ghost use Rattle.std.specs.Prelude.{◌≤◌, vec_len};
 ghost use Rattle.std.specs.HashMap.{spare};
 ghost use Rattle.std.specs.Option.{option_copied};
-ghost use Rattle.fuse_request.specs.Act.{asked};
 ghost use Rattle.fuse_keeper.specs.History.{History, entry_id, is_in, ids_in, Includes};
 ghost use Rattle.fuse_keeper.specs.History.{IsUnsettled};
 ghost use Rattle.fuse_keeper.specs.Model.{IsRowed};
-ghost use Rattle.fuse_keeper.specs.Stands.{Records, AreThese, Stands, PerformedBy};
+ghost use Rattle.fuse_keeper.specs.Stands.{AreThese, Stands, PerformedBy};
 ghost use Rattle.fuse_keeper.specs.Group.{entry_of, entries_of, IsKept, ids_of};
 ghost use Rattle.fuse_keeper.specs.Taking.{Took};
 ghost use Rattle.fuse_keeper.specs.Plain.{mapped, listed, over, without, record_ids};

@@ -1,5 +1,5 @@
 // A keeper of lists.
-ghost use Rattle.std.specs.Prelude.{◌≡◌, ℕ, Bool, List, false, [], length, All, IfOk, OnOk, OnErr};
+ghost use Rattle.std.specs.Prelude.{◌≡◌, ℕ, List, false, [], length, All, IfOk, OnOk, OnErr};
 ghost use Rattle.std.specs.Prelude.{IfErr, Ok};
 ghost use Rattle.fuse_keeper.specs.History.{History, Includes, IsUnsettled};
 ghost use Rattle.fuse_keeper.specs.Model.{IsRowed};

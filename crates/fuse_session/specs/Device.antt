@@ -20,22 +20,24 @@ eagain = 11
 abbrev pub enodev : ℕ
 enodev = 19
 
--- the number with which the system refused; 0, which is none, where it wasn't the system that did
-abbrev pub number_in : Option ℤ → ℕ
-number_in None = 0
-number_in (Some code) = if int_lt code (pos 0) then 0 else unsigned_abs code
+-- the number with which the system refused; none where it wasn't the system that did
+abbrev pub number_in : Option ℤ → Option ℕ
+number_in None = None
+number_in (Some code) = if int_lt code (pos 0) then None else Some (unsigned_abs code)
 
-abbrev pub os_number : Error → ℕ
+abbrev pub os_number : Error → Option ℕ
 os_number e = number_in (raw_os_error e)
 
 -- a read refused with a number: the file system is unmounted; or no request came, since it had ended before it was read,
 -- a signal came first, or none waits; or it failed
-abbrev pub read_refused : ℕ → Received
-read_refused n = if n == enodev then End else (if (n == enoent || n == eintr) || n == eagain then Got 0 else ReceiveFailed)
+abbrev pub read_refused : Option ℕ → Received
+read_refused None = ReceiveFailed
+read_refused (Some n) = if n == enodev then End else (if (n == enoent || n == eintr) || n == eagain then Got 0 else ReceiveFailed)
 
 -- a write refused with a number: nobody waits for this answer any more, or it failed
-abbrev pub write_refused : ℕ → Sent
-write_refused n = if n == enoent then Gone else Failed
+abbrev pub write_refused : Option ℕ → Sent
+write_refused None = Failed
+write_refused (Some n) = if n == enoent then Gone else Failed
 
 -- what is received by what a read answered
 abbrev pub read_told : Result ℕ Error → Received

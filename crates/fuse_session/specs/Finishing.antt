@@ -1,4 +1,4 @@
--- How a turn ends a session, in the clauses of private functions alone.
+-- How a turn ends a session, in the clauses of private functions alone (own profile).
 use Rattle.std.specs.Prelude.{◌≡◌, ℕ, Option, Some}
 use Rattle.fuse_request.specs.declared.framer.FrameFault.{FrameFault}
 use Rattle.fuse_session.specs.declared.ended.Ended.{Ended}

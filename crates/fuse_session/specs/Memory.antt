@@ -1,4 +1,4 @@
--- What is told of a port in memory.
+-- What is told of a port in memory (own profile).
 use Rattle.std.specs.Prelude.{ℕ, ◌-◌, ◌==◌, if◌then◌else◌, min, List, [], ◌∷◌, drop, length, Some}
 use Rattle.fuse_session.specs.declared.memory.Arrival.{Arrival}
 use Rattle.fuse_session.specs.declared.memory.Arrival.TheVariants as arrivals

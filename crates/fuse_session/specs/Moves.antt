@@ -1,4 +1,4 @@
--- How the steps of serving move a keeper and what they hand on, in the clauses of private functions alone.
+-- How the steps of serving move a keeper and what they hand on, in the clauses of private functions alone (own profile).
 use Rattle.std.specs.Prelude.{◌≡◌, ◌<◌, ◌≤◌, Bool, true, false, List, ℕ, length}
 use Rattle.fuse_keeper.specs.History.{Includes}
 use Rattle.fuse_keeper.specs.Model.{Model, IsRowed}

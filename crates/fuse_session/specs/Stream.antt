@@ -1,4 +1,4 @@
--- What is told of a port over a reader and a writer.
+-- What is told of a port over a reader and a writer (own profile).
 use Rattle.std.specs.Prelude.{ℕ, List, [], Option}
 use Rattle.fuse_session.specs.declared.stream.StreamPort.{StreamPort}
 use Rattle.fuse_session.specs.Port.{PortState}

@@ -1,7 +1,6 @@
 // How the messages of a session are counted.
 ghost use Rattle.std.specs.Prelude.{◌≡◌, ◌≤◌, ◌<◌, ◌-◌, ◌^◌, is_none, length, drop, All};
 ghost use Rattle.fuse_request.specs.Stream.{IsMessage};
-ghost use Rattle.fuse_request.specs.Classes.{class_of};
 ghost use Rattle.fuse_request.specs.Faults.{first_fault};
 ghost use Rattle.fuse_session.specs.Counting.{plus, counted_one, is_interrupt, IsBelow};
 ghost use Rattle.fuse_session.specs.Group.{tallied, repeats_in, head_repeat, left_by, classes_in};

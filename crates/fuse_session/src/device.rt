@@ -19,31 +19,31 @@ const EAGAIN: u32 = 11;
 // The file system is unmounted.
 const ENODEV: u32 = 19;
 
-// The number with which the system refused, or 0 where it wasn't the system that did.
-fn number_of(error: io::Error) -> u32
+// The number with which the system refused, where it was the system that did.
+fn number_of(error: io::Error) -> Option<u32>
     ensures { result ≡ os_number error }
 {
     match error.raw_os_error() {
-        Some(code) => { if code < 0 { 0 } else { code.unsigned_abs() } }
-        None => 0,
+        Some(code) if code >= 0 => Some(code.unsigned_abs()),
+        _ => None,
     }
 }
 
-fn refused_read(number: u32) -> Received
+fn refused_read(number: Option<u32>) -> Received
     ensures { result ≡ read_refused number }
 {
     match number {
-        ENODEV => Received::End,
-        ENOENT | EINTR | EAGAIN => Received::Got(0),
+        Some(ENODEV) => Received::End,
+        Some(ENOENT | EINTR | EAGAIN) => Received::Got(0),
         _ => Received::Failed,
     }
 }
 
-fn refused_write(number: u32) -> Sent
+fn refused_write(number: Option<u32>) -> Sent
     ensures { result ≡ write_refused number }
 {
     match number {
-        ENOENT => Sent::Gone,
+        Some(ENOENT) => Sent::Gone,
         _ => Sent::Failed,
     }
 }

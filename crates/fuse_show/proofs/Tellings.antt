@@ -1,6 +1,6 @@
 -- The lines of a store, written; and a keeper that is asked twice.
 use Rattle.std.proofs.Common.{◌≡◌, ◌||◌, ◌∙◌, ℕ, Bool, true, false, List, Option, refl, ap, subst}
-use Rattle.std.specs.Prelude.{Result, Ok, Err, IfErr, OnErr, is_err}
+use Rattle.std.specs.Prelude.{Ok, Err}
 use Rattle.std.specs.Io.KnownBytes.{Appends, Keeps}
 use Rattle.std.proofs.KnownBytes.{Appends-kept}
 use Rattle.fuse_init.specs.declared.settings.Settings.{Settings}
@@ -9,8 +9,7 @@ use Rattle.fuse_keeper.specs.declared.keeper.StoreCounts.{StoreCounts}
 use Rattle.fuse_keeper.specs.History.{History}
 use Rattle.fuse_keeper.specs.Lots.{Lots, SameLots}
 use Rattle.fuse_keeper.specs.Model.{Model}
-use Rattle.fuse_keeper.specs.Stands.{Records}
-use Rattle.fuse_keeper.specs.KeeperState.{KeeperState, StandsFor, KeepsHeld, WhereHeld, AnswersNoMore, Called, Looked, IsSound}
+use Rattle.fuse_keeper.specs.KeeperState.{KeeperState, StandsFor, KeepsHeld, Looked, IsSound}
 use Rattle.fuse_show.specs.Telling.{store_text, count_of, OnlyAsked}
 
 -- what was counted and agreed on is this

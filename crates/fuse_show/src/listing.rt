@@ -1,8 +1,7 @@
-ghost use Rattle.std.specs.Prelude.{◌≡◌, ◌++◌, ◌∷◌, [], if◌then◌else◌, ◌+◌, false, None};
+ghost use Rattle.std.specs.Prelude.{◌≡◌, ◌+◌, false, None};
 ghost use Rattle.std.specs.Prelude.{IfErr, IfOk, OnOk, IsTrue};
 ghost use Rattle.std.specs.List.{AllByRecursion, flat_map};
 ghost use Rattle.std.specs.Io.KnownBytes.{Appends};
-ghost use Rattle.fuse_tree.specs.State.{is_dir};
 ghost use Rattle.fuse_show.specs.Looks.{ReadOff, OnlyLooked, WritesOut, is_of_path};
 ghost use Rattle.fuse_tree.specs.RowsOfTrees.{LeadsToRow};
 ghost use Rattle.fuse_show.specs.Listing.{links_of_row, entry_line, line_of, listing};

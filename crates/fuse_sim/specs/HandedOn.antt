@@ -1,4 +1,4 @@
--- Which ids are handed on, so that their records are removed, as the groups of events step.
+-- Which ids are handed on, so that their records are removed, as the groups of events step (own profile).
 use Rattle.std.specs.Prelude.{◌-◌, ℕ, zero, suc, Bool, true, false, List, [], ◌∷◌, ◌++◌}
 use Rattle.fuse_keeper.specs.Bounds.{max_group_len}
 use Rattle.fuse_keeper.specs.History.{Entry}

@@ -1,4 +1,4 @@
--- How the kernel's side keeps the messages of the requests that are pending.
+-- How the kernel's side keeps the messages of the requests that are pending (own profile).
 use Rattle.std.specs.Prelude.{◌≡◌, ◌+◌, ℕ, true, false, List, [], ◌∷◌, ◌++◌, length, drop, All, Vec, take, Option, Some, None}
 use Rattle.std.specs.Global.{Global}
 use Rattle.fuse_wire.specs.Bytes.{le, number_of}

@@ -1,7 +1,6 @@
 -- A mount that begins, in the words of a keeper.
-use Rattle.std.proofs.Common.{◌≡◌, ◌⊎◌, ℕ, Bool, List, [], Option, Some, None, Ok, Result, inl, inr, refl, sym, ap, subst, ◌∙◌}
-use Rattle.std.specs.Prelude.{false}
-use Rattle.sqlite.specs.State.{State, HasCleanDisk}
+use Rattle.std.proofs.Common.{◌≡◌, ℕ, Bool, List, [], Option, None, Ok, Result, refl, sym, ap, subst, ◌∙◌}
+use Rattle.sqlite.specs.State.{State}
 use Rattle.fuse_tree.specs.State.{State as TreeState, Tree}
 use Rattle.fuse_tree.specs.Clearing.{cleared}
 use Rattle.fuse_tree.specs.Rows.{Rows, rowed}
@@ -13,11 +12,11 @@ use Rattle.fuse_keeper.specs.declared.fault.StoreFault.{StoreFault}
 use Rattle.fuse_store.specs.TheTree.{the_tree}
 use Rattle.fuse_tables.specs.Moves.{RestsAs, ServesAs}
 use Rattle.fuse_table_look.specs.Store.{records_of}
-use Rattle.fuse_table_look.specs.Holding.{Holding, HeldFor, lots_of}
-use Rattle.fuse_table_look.specs.Lots.{lots_in, LotsAreSame}
+use Rattle.fuse_table_look.specs.Holding.{Holding, HeldFor}
+use Rattle.fuse_table_look.specs.Lots.{LotsAreSame}
 use Rattle.fuse_table_look.specs.Performing.{OneHolding, HoldingStands}
 use Rattle.fuse_table_keeper.specs.Mounting.{cleared_for}
-use Rattle.fuse_table_keeper.specs.Told.{IsOf, HoldsIn, table_told}
+use Rattle.fuse_table_keeper.specs.Told.{IsOf, table_told}
 use Rattle.fuse_table_keeper.proofs.Serving.{Settled, stands_on, holds_at, leaves_either}
 use Rattle.fuse_table_keeper.proofs.Grouping.{its_own}
 

@@ -1,23 +1,20 @@
 -- A group, in the words of a keeper.
-use Rattle.std.proofs.Common.{◌≡◌, ◌⊎◌, ◌++◌, ℕ, Bool, List, [], ◌∷◌, All, if◌then◌else◌, Option, Some, None, Result, Ok, Err, IfOk, inl, inr}
+use Rattle.std.proofs.Common.{◌≡◌, ◌++◌, ℕ, Bool, List, [], ◌∷◌, if◌then◌else◌, Option, Some, None, Result, Ok, inl, inr}
 use Rattle.std.proofs.Common.{refl, sym, ap, subst, ◌∙◌}
 use Rattle.std.specs.Prelude.{false}
-use Rattle.sqlite.specs.Effect.{Database}
-use Rattle.sqlite.specs.State.{State, HasCleanDisk}
-use Rattle.fuse_answer.specs.Said.{Said}
-use Rattle.fuse_tree.specs.State.{State as TreeState, Tree}
-use Rattle.fuse_tree.specs.Rows.{Rows, rowed}
+use Rattle.sqlite.specs.State.{State}
+use Rattle.fuse_tree.specs.Rows.{rowed}
 use Rattle.fuse_keeper.specs.Model.{IsRowed}
 use Rattle.fuse_keeper.specs.declared.keeper.Done.{Done}
 use Rattle.fuse_keeper.specs.declared.fault.StoreFault.{StoreFault}
-use Rattle.fuse_keeper.specs.History.{History, Entry, IsUnsettled, Includes, is_in, ids_in, grown}
-use Rattle.fuse_keeper.specs.Stands.{Records, AreThese, PerformedBy, OthersStay}
-use Rattle.fuse_keeper.specs.KeeperState.{Performs, HoldsOthers, KeepsOthers, KeepsLots, LeavesGroup}
-use Rattle.fuse_keeper.specs.Lots.{Lots, SameLots, RecordsUnder, TakesLot, IsFree}
+use Rattle.fuse_keeper.specs.History.{Entry, is_in, grown}
+use Rattle.fuse_keeper.specs.Stands.{Records, PerformedBy}
+use Rattle.fuse_keeper.specs.KeeperState.{Performs, KeepsOthers, KeepsLots, LeavesGroup}
+use Rattle.fuse_keeper.specs.Lots.{Lots, SameLots, RecordsUnder, IsFree}
 use Rattle.fuse_store.specs.TheTree.{the_tree}
-use Rattle.fuse_tables.specs.Moves.{RestsAs, ServesAs}
+use Rattle.fuse_tables.specs.Moves.{ServesAs}
 use Rattle.fuse_table_look.specs.Store.{records_of}
-use Rattle.fuse_table_look.specs.Holding.{Holding, HeldFor, TellsAfter, AreBelow, lots_of}
+use Rattle.fuse_table_look.specs.Holding.{Holding, HeldFor, TellsAfter, lots_of}
 use Rattle.fuse_table_look.specs.Group.{performed, all_dones, lot_for}
 use Rattle.fuse_table_look.specs.Lots.{lots_in, LotsAreSame}
 use Rattle.fuse_table_look.specs.Performing.{OneHolding, HoldingStands, CallsPerform}

@@ -1,18 +1,16 @@
 -- How many records there are.
-use Rattle.std.proofs.Common.{◌≡◌, ◌<◌, ◌==◌, ℕ, pos, Bool, true, false, List, [], ◌∷◌, map, length, Option, Some, None, option_map, is_some, Less}
+use Rattle.std.proofs.Common.{◌≡◌, ◌<◌, ◌==◌, ℕ, pos, Bool, true, false, List, [], ◌∷◌, map, length, Option, Some, option_map, is_some, Less}
 use Rattle.std.proofs.Common.{if◌then◌else◌, suc}
 use Rattle.std.proofs.Common.{refl, sym, ap, subst, arith, ◌∙◌, int_cmp}
 use Rattle.std.specs.Prelude.{nat_eq}
 use Rattle.std.specs.List.{AllByRecursion, IsDistinct}
 use Rattle.std.specs.Ordering.{nat_cmp, is_eq}
-use Rattle.std.proofs.lemmas.Bool.{cases_Bool}
 use Rattle.std.proofs.lemmas.Bool.Decides.{nat_tests}
 use Rattle.sqlite.specs.Effect.{Database}
 use Rattle.sqlite_trees.specs.Tree.{IsTable, rowid}
 use Rattle.sqlite.specs.declared.types.Value.TheVariants.{Int}
 use Rattle.sqlite_value.specs.Order.{value_cmp}
 use Rattle.sqlite_value.proofs.OrderLemmas.{value_cmp-Int}
-use Rattle.fuse_answer.specs.Said.{Said}
 use Rattle.fuse_tree.specs.Rows.{Rows}
 use Rattle.fuse_keeper.specs.History.{is_in}
 use Rattle.fuse_keeper.specs.Stands.{Records, CountsRecords}

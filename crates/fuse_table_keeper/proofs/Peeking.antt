@@ -1,27 +1,23 @@
 -- A look at what a keeper holds, and a fault of any call.
-use Rattle.std.proofs.Common.{◌≡◌, ◌⊎◌, ℕ, Bool, true, false, List, [], Option, Some, None, Ok, Err, Result, OnOk, IfErr, inl, inr, refl, sym, ap}
-use Rattle.std.proofs.Common.{subst, ◌∙◌, IsTrue}
-use Rattle.std.specs.Prelude.{◌||◌, is_err}
+use Rattle.std.proofs.Common.{◌≡◌, ℕ, Bool, true, false, Option, Ok, Err, Result, inl, inr, refl, sym, ap}
+use Rattle.std.proofs.Common.{subst, IsTrue}
+use Rattle.std.specs.Prelude.{◌||◌}
 use Rattle.sqlite.specs.Tree.{Trees}
 use Rattle.sqlite.specs.State.{State, HasCleanDisk}
-use Rattle.fuse_tree.specs.State.{State as TreeState}
-use Rattle.fuse_tree.specs.Rows.{Rows, rowed}
+use Rattle.fuse_tree.specs.Rows.{Rows}
 use Rattle.fuse_keeper.specs.Stands.{Records}
 use Rattle.fuse_keeper.specs.KeeperState.{Called, Looked}
-use Rattle.fuse_keeper.specs.Lots.{Lots, SameLots}
 use Rattle.fuse_keeper.specs.declared.fault.StoreFault.{StoreFault}
-use Rattle.fuse_store.specs.TheTree.{the_tree}
 use Rattle.fuse_tables.specs.Content.{LeftAs}
 use Rattle.fuse_keeper.specs.declared.fault.StoreFault.TheVariants.{Memory, Sql, NotAStore, Version, Damaged}
 use Rattle.fuse_tables.specs.Faults.{IsPlain, IsOutside}
 use Rattle.fuse_tables.specs.Following.{earlier}
 use Rattle.fuse_tables.specs.Moves.{RestsAs, ServesAs}
-use Rattle.fuse_table_look.specs.Store.{records_of}
 use Rattle.fuse_table_look.specs.Holding.{Holding, HeldFor, lots_of}
 use Rattle.fuse_table_look.specs.Lots.{lots_in, LotsAreSame}
 use Rattle.fuse_table_look.specs.Performing.{OneHolding}
 use Rattle.fuse_table_keeper.specs.Told.{IsOf, HoldsIn, LeavesSome, MayLeave, table_told}
-use Rattle.fuse_table_keeper.proofs.Serving.{Settled, left_either, left_now, one_left, kept_held, made_held, holds_at, same_both}
+use Rattle.fuse_table_keeper.proofs.Serving.{Settled, left_either, one_left, kept_held, holds_at, same_both}
 
 or_true : (b : Bool) → (b || true) ≡ true
 or_true true = refl

@@ -1,5 +1,5 @@
 -- A store that was opened again, in the words of a keeper.
-use Rattle.std.proofs.Common.{◌≡◌, ℕ, Bool, false, Option, None, refl, sym, ap, ◌∙◌, IsTrue}
+use Rattle.std.proofs.Common.{◌≡◌, ℕ, Bool, false, Option, None, sym, ap, ◌∙◌, IsTrue}
 use Rattle.sqlite.specs.State.{State, HasCleanDisk}
 use Rattle.fuse_tree.specs.Rows.{Rows, rowed}
 use Rattle.fuse_keeper.specs.Stands.{Records}

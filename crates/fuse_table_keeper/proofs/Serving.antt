@@ -1,12 +1,12 @@
 -- What a call that is a whole transaction does to a keeper over tables.
-use Rattle.std.proofs.Common.{◌≡◌, ◌⊎◌, ℕ, Bool, List, Option, Result, Ok, Err, inl, inr, refl, sym, ap, subst, ◌∙◌, IsTrue}
+use Rattle.std.proofs.Common.{◌≡◌, ◌⊎◌, ℕ, Bool, List, Option, Ok, Err, inl, inr, sym, ap, subst, ◌∙◌, IsTrue}
 use Rattle.sqlite.specs.Tree.{Trees}
 use Rattle.sqlite.specs.Effect.{Database}
 use Rattle.sqlite.specs.State.{State, HasCleanDisk, Survives}
 use Rattle.fuse_tree.specs.State.{State as TreeState}
 use Rattle.fuse_tree.specs.Rows.{Rows, rowed}
 use Rattle.fuse_keeper.specs.History.{History}
-use Rattle.fuse_keeper.specs.Stands.{Records, Stands, AreThese, StandsForEither}
+use Rattle.fuse_keeper.specs.Stands.{Records, Stands, StandsForEither}
 use Rattle.fuse_keeper.specs.KeeperState.{IsFirm, Leaves}
 use Rattle.fuse_keeper.specs.Lots.{Lots, SameLots}
 use Rattle.fuse_store.specs.TheTree.{the_tree}
@@ -15,7 +15,7 @@ use Rattle.fuse_tables.specs.Moves.{RestsAs, ServesAs}
 use Rattle.fuse_table_look.specs.Store.{records_of}
 use Rattle.fuse_table_look.specs.Holding.{Holding, HeldFor}
 use Rattle.fuse_table_look.specs.Performing.{OneHolding, HoldingStands}
-use Rattle.fuse_table_keeper.specs.Told.{IsOf, HoldsIn, LeavesSome, MayLeave, table_told}
+use Rattle.fuse_table_keeper.specs.Told.{IsOf, HoldsIn, LeavesSome, table_told}
 
 -- while the connection is open, a crash leaves what was committed
 abbrev pub Settled : State → Type 0

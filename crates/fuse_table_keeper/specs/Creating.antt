@@ -1,4 +1,4 @@
--- A database in which nothing was made yet, and what a new store holds.
+-- A database in which nothing was made yet, and what a new store holds (own profile).
 use Rattle.std.specs.Prelude.{◌≡◌, [], false, IsTrue}
 use Rattle.sqlite.specs.Tree.{Trees}
 use Rattle.sqlite.specs.State.{State}

@@ -1,4 +1,4 @@
--- The laws of the keeper, for its `impl`. The proofs stand here, since an `impl` takes them from definitions alone.
+-- The laws of the keeper, for its `impl` (own profile). The proofs stand here, since an `impl` takes them from definitions alone.
 use Rattle.std.proofs.Common.{◌≡◌, ℕ, sym, ap, ◌∙◌}
 use Rattle.sqlite.specs.State.{State}
 use Rattle.fuse_tree.specs.Rows.{Rows, rowed}

@@ -1,4 +1,4 @@
--- What the begin of a mount leaves.
+-- What the begin of a mount leaves (own profile).
 use Rattle.std.specs.Prelude.{[]}
 use Rattle.fuse_tree.specs.Clearing.{cleared}
 use Rattle.fuse_table_look.specs.Holding.{Holding}

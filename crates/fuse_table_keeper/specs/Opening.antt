@@ -1,4 +1,4 @@
--- What a store holds in either version, and what it holds once it is opened.
+-- What a store holds in either version, and what it holds once it is opened (own profile).
 use Rattle.std.specs.Prelude.{◌≡◌, ℕ, false, IsTrue, List, [], ◌∷◌, map, Option}
 use Rattle.std.specs.List.{AllByRecursion}
 use Rattle.sqlite.specs.Effect.{Database}

@@ -1,4 +1,4 @@
--- What a start leaves of any database.
+-- What a start leaves of any database (own profile).
 use Rattle.std.specs.Prelude.{◌⊎◌, ℕ, List, [], IsTrue}
 use Rattle.sqlite.specs.Tree.{Trees}
 use Rattle.sqlite.specs.Effect.{Database}

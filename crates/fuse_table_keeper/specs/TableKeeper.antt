@@ -1,4 +1,4 @@
--- What is told of a keeper over tables, by its connection.
+-- What is told of a keeper over tables, by its connection (own profile).
 use Rattle.std.specs.Prelude.{Result, IsTrue}
 use Rattle.sqlite_trees.specs.declared.store.Store.{Ghosts}
 use Rattle.sqlite.specs.State.{HasCleanDisk, Survives}

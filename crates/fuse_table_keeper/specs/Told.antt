@@ -1,8 +1,7 @@
--- What is told of a keeper over tables.
-use Rattle.std.specs.Prelude.{◌≡◌, ◌<◌, ◌^◌, ℕ, Bool, IsTrue, Option, None}
+-- What is told of a keeper over tables (own profile).
+use Rattle.std.specs.Prelude.{◌≡◌, ℕ, Bool, IsTrue, Option}
 use Rattle.sqlite.specs.Tree.{Trees}
 use Rattle.sqlite.specs.State.{State, HasCleanDisk}
-use Rattle.sqlite.specs.Effect.{Database}
 use Rattle.fuse_tree.specs.Rows.{Rows, rowed}
 use Rattle.fuse_keeper.specs.Stands.{Records}
 use Rattle.fuse_keeper.specs.KeeperState.{KeeperState}

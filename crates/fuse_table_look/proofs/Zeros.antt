@@ -1,5 +1,5 @@
 -- Zeros written within one block, and none where there is no block.
-use Rattle.std.proofs.Common.{◌≡◌, ◌≤◌, ◌+◌, ◌-◌, ◌/◌, ◌%◌, ◌==◌, ◌&&◌, inl, inr, ℕ, List, map, length, replicate, not, nat_lt, Bool, true, false}
+use Rattle.std.proofs.Common.{◌≡◌, ◌≤◌, ◌+◌, ◌-◌, ◌/◌, ◌%◌, ◌==◌, ◌&&◌, inl, inr, ℕ, List, map, length, replicate, not, nat_lt, true, false}
 use Rattle.std.proofs.Common.{Option, Some, None, Ok, Err, Result, IfErr, OnErr, refl, sym, ap, subst, arith, ◌∙◌}
 use Rattle.std.specs.Option.{is_some, option_to_list}
 use Rattle.std.proofs.lemmas.Bool.{cases_Bool}

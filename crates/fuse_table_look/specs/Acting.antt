@@ -1,4 +1,4 @@
--- What a request did within a transaction.
+-- What a request did within a transaction (own profile).
 use Rattle.std.specs.Prelude.{◌≡◌}
 use Rattle.sqlite.specs.State.{State, HasCleanDisk}
 use Rattle.fuse_answer.specs.Said.{Said}

@@ -1,4 +1,4 @@
--- What a step within a transaction does to what the tables tell.
+-- What a step within a transaction does to what the tables tell (own profile).
 use Rattle.sqlite.specs.State.{State}
 use Rattle.fuse_tables.specs.Moves.{StaysIn, TurnsTo}
 use Rattle.std.specs.Prelude.{ℕ, List}

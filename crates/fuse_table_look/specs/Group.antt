@@ -1,4 +1,4 @@
--- What a group makes of what is held, and what it is answered.
+-- What a group makes of what is held, and what it is answered (own profile).
 use Rattle.std.specs.Prelude.{◌≡◌, ◌<◌, ◌^◌, ◌+◌, ℕ, true, false, List, [], ◌∷◌, Option, Some, None, Result, IfErr}
 use Rattle.sqlite.specs.State.{State, HasCleanDisk}
 use Rattle.fuse_answer.specs.Said.{Said}

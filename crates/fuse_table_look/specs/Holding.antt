@@ -1,4 +1,4 @@
--- What the tables tell where their rows are those of a tree.
+-- What the tables tell where their rows are those of a tree (own profile).
 use Rattle.std.specs.Prelude.{◌≡◌, ◌<◌, ◌≤◌, ◌^◌, ℕ, List, map, Option, option_map}
 use Rattle.std.specs.List.{AllByRecursion}
 use Rattle.sqlite.specs.Effect.{Database}

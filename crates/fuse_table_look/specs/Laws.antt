@@ -1,4 +1,4 @@
--- The laws of looks, for the `impl`.
+-- The laws of looks, for the `impl` (own profile).
 use Rattle.std.proofs.Common.{inl, refl, sym, subst, ◌∙◌}
 use Rattle.std.specs.Prelude.{Option, IfSome}
 use Rattle.std.proofs.Math.Nat.{le_refl}

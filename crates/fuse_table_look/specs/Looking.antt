@@ -1,4 +1,4 @@
--- What lies behind a look at the tables.
+-- What lies behind a look at the tables (own profile).
 use Rattle.std.specs.Prelude.{◌≡◌, Option, Some, None, IfSome}
 use Rattle.sqlite.specs.State.{State, HasCleanDisk}
 use Rattle.fuse_keeper.specs.declared.fault.StoreFault.{StoreFault}

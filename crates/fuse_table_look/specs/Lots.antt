@@ -1,4 +1,4 @@
--- The lots and the records that a database tells, read off its rows.
+-- The lots and the records that a database tells, read off its rows (own profile).
 use Rattle.std.specs.Prelude.{◌≡◌, ℕ, ℤ, pos, List, [], map, Option}
 use Rattle.sqlite.specs.declared.types.Value.{Value}
 use Rattle.sqlite.specs.declared.types.Value.TheVariants.{Int, Blob}

@@ -1,4 +1,4 @@
--- What holds of whatever a database holds, and of what a whole call makes of it: the laws, in the words of a keeper.
+-- What holds of whatever a database holds, and of what a whole call makes of it: the laws, in the words of a keeper (own profile).
 use Rattle.std.specs.Prelude.{◌≡◌, ℕ, List, All, Option, Some}
 use Rattle.sqlite.specs.Effect.{Database}
 use Rattle.fuse_tree.specs.State.{State, Tree}

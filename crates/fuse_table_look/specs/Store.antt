@@ -1,4 +1,4 @@
--- What the tables tell: the rows of a tree, and the records in their lots.
+-- What the tables tell (own profile): the rows of a tree, and the records in their lots.
 use Rattle.std.specs.Prelude.{◌≡◌, ◌<◌, ◌^◌, ◌/◌, ◌%◌, ◌==◌, if◌then◌else◌, ◌+◌, replicate, ◌++◌, ◌&&◌, take, drop, length, not, zero, suc, nat_lt, min, ◌-◌, ℕ}
 use Rattle.std.specs.Prelude.{List, [], ◌∷◌, map, fold, option_map, Option, Some, None, slice_index_or}
 use Rattle.sqlite.specs.Effect.{Database}

@@ -1,10 +1,8 @@
 // What a request does within a transaction.
-ghost use Rattle.std.specs.Prelude.{◌≡◌, true, None, All, IfOk, IfErr, OnErr};
-ghost use Rattle.sqlite.specs.State.{HasCleanDisk};
+ghost use Rattle.std.specs.Prelude.{◌≡◌, None, IfOk, IfErr};
 ghost use Rattle.sqlite.specs.Held.{state};
 ghost use Rattle.fuse_request.specs.Act.{asked};
 ghost use Rattle.fuse_tree.specs.Do.{done};
-ghost use Rattle.fuse_tree.specs.Rows.{rowed};
 ghost use Rattle.fuse_tree.specs.State.{State, Tree};
 ghost use Rattle.fuse_tables.specs.Faults.{IsPlain};
 ghost use Rattle.fuse_tables.specs.Moves.{IsSure};

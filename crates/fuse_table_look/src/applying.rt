@@ -1,5 +1,5 @@
 // The changes of a plan, made in the tables.
-ghost use Rattle.std.specs.Prelude.{◌≡◌, All, IfErr, OnOk, OnErr};
+ghost use Rattle.std.specs.Prelude.{IfErr, OnOk, OnErr};
 ghost use Rattle.sqlite.specs.Held.{state};
 ghost use Rattle.fuse_tree.specs.Columns.{FitsChange, FitColumns};
 ghost use Rattle.fuse_tables.specs.Moves.{IsSure};

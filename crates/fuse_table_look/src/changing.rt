@@ -1,5 +1,5 @@
 // The changes of rows, each as a step on the tables.
-ghost use Rattle.std.specs.Prelude.{◌≡◌, ◌≢◌, ◌<◌, ◌^◌, ◌+◌, if◌then◌else◌, Some, OnOk, OnErr};
+ghost use Rattle.std.specs.Prelude.{◌<◌, ◌^◌, ◌+◌, Some, OnOk, OnErr};
 ghost use Rattle.std.specs.Prelude.{IfErr};
 ghost use Rattle.sqlite.specs.State.{HasCleanDisk};
 ghost use Rattle.sqlite.specs.Held.{state};
@@ -15,8 +15,8 @@ use crate::finding::find_node;
 use fuse_init::Settings;
 use fuse_keeper::StoreFault;
 use fuse_tables::{
-    delete_entry, delete_handle, insert_entry, insert_handle, insert_node, update_counter,
-    update_node,
+    AGREED, HANDLES, NEXT_NODE, delete_entry, delete_handle, insert_entry, insert_handle,
+    insert_node, update_counter, update_node,
 };
 use fuse_tree::{Counters, EntryRow, HandleRow, NodeRow};
 use sqlite::{Alter, Connection, Error};
@@ -135,8 +135,15 @@ fn set_numbers<S: Alter>(conn: &mut Connection<S>, n: &Counters) -> Result<(), E
         (set_counter 2 n.now.next_node c))))) (state S.Store conn.old) (state S.Store conn.new)
         result }
 {
-    set_four(conn, 2, n.next_node, n.next_fh, n.next_cookie, n.nodes)?;
-    update_counter(conn, 6, n.handles)
+    set_four(
+        conn,
+        NEXT_NODE,
+        n.next_node,
+        n.next_fh,
+        n.next_cookie,
+        n.nodes,
+    )?;
+    update_counter(conn, HANDLES, n.handles)
 }
 
 fn set_agreed<S: Alter>(conn: &mut Connection<S>, v: Settings) -> Result<(), Error>
@@ -147,7 +154,7 @@ fn set_agreed<S: Alter>(conn: &mut Connection<S>, v: Settings) -> Result<(), Err
 {
     set_four(
         conn,
-        7,
+        AGREED,
         1,
         u64::from(v.minor),
         u64::from(v.max_readahead),

@@ -1,5 +1,5 @@
 // The bytes of files, in blocks.
-ghost use Rattle.std.specs.Prelude.{◌≡◌, ◌≢◌, Some, ◌<◌, ◌≤◌, ◌^◌, ◌+◌, ◌%◌, ◌++◌, ℕ, List, map};
+ghost use Rattle.std.specs.Prelude.{◌≡◌, Some, ◌<◌, ◌≤◌, ◌^◌, ◌+◌, ◌%◌, ◌++◌, map};
 ghost use Rattle.std.specs.Prelude.{length, take, drop, replicate, Option, IfSome, IfOk, IfErr};
 ghost use Rattle.std.specs.Prelude.{OnOk, OnErr};
 ghost use Rattle.std.specs.Option.{is_some, option_to_list};
@@ -14,6 +14,7 @@ ghost use Rattle.fuse_tables.specs.Moves.{Inside, Looked, Stays};
 ghost use Rattle.fuse_table_look.specs.Store.{byte_in, range_of, whole_of, bytes_told};
 
 use crate::finding::find_node;
+use crate::fitting::END;
 use fuse_keeper::StoreFault;
 use fuse_tables::{bytes_at, select_block};
 use fuse_tree::{BLOCK_SIZE, MAX_FILE};
@@ -205,7 +206,7 @@ pub(crate) fn find_bytes<S: Alter>(
         → IfSome (at_by node_key node c.nodes) (λ n. n.size ≤ file_limit) → IsOutside f) }
     ensures plain { IfErr result IsPlain }
 {
-    if node >= 1 << 63 {
+    if node >= END {
         return Ok(ByteList::from_vec(Vec::new(alloc)));
     }
     let Some(row) = find_node(conn, node)? else {

@@ -1,23 +1,24 @@
 // Looks at the tables, typed.
-ghost use Rattle.std.specs.Prelude.{◌≡◌, ◌≢◌, ◌<◌, ◌^◌, ℕ, [], ◌∷◌, List, pos, map, take, filter};
+ghost use Rattle.std.specs.Prelude.{◌≡◌, ◌<◌, ◌^◌, pos, map};
 ghost use Rattle.std.specs.Prelude.{find, Option, Some, None, IfSome, IfOk, IfErr, OnOk, OnErr};
-ghost use Rattle.std.specs.Prelude.{slice_get, option_map};
+ghost use Rattle.std.specs.Prelude.{option_map};
 ghost use Rattle.std.specs.Option.{option_to_list};
 ghost use Rattle.sqlite.specs.Order.{column};
 ghost use Rattle.sqlite.specs.declared.types.Value.TheVariants.{Int};
 ghost use Rattle.sqlite.specs.State.{HasCleanDisk};
 ghost use Rattle.sqlite.specs.Held.{state};
-ghost use Rattle.fuse_answer.specs.Said.{Said, FitsAnswer};
+ghost use Rattle.fuse_answer.specs.Said.{FitsAnswer};
 ghost use Rattle.fuse_tree.specs.declared.rows.NodeRow.{NodeRow as Node};
 ghost use Rattle.fuse_tree.specs.declared.rows.EntryRow.{EntryRow as Entry};
 ghost use Rattle.fuse_tree.specs.declared.rows.HandleRow.{HandleRow as Handle};
 ghost use Rattle.fuse_tables.specs.Content.{Content, Kept, node_columns, node_key, fh_of, kept_key};
-ghost use Rattle.fuse_tables.specs.Content.{shown_handle, shown_kept, shown_place, shown_entry};
-ghost use Rattle.fuse_tables.specs.Content.{has_name, stands_after, at_by, access_code};
+ghost use Rattle.fuse_tables.specs.Content.{shown_handle, shown_kept, shown_place};
+ghost use Rattle.fuse_tables.specs.Content.{has_name, at_by, access_code};
 ghost use Rattle.fuse_table_look.specs.Fits.{Fits, KeepsNode, KeepsRecord};
 ghost use Rattle.fuse_tables.specs.Faults.{IsOutside, IsPlain};
 ghost use Rattle.fuse_tables.specs.Moves.{Inside, Looked, Stays};
 
+use crate::fitting::END;
 use fuse_answer::{Answer, MAX_BODY};
 use fuse_keeper::StoreFault;
 use fuse_tables::{
@@ -167,7 +168,7 @@ pub(crate) fn find_node<S: Alter>(
         → Inside c (state S.Store conn.old) → IsOutside f) }
     ensures plain { IfErr result IsPlain }
 {
-    if number >= 1 << 63 {
+    if number >= END {
         return Ok(None);
     }
     let rows = select_node(conn, number)?;
@@ -187,7 +188,7 @@ pub(crate) fn find_handle<S: Alter>(
         → Inside c (state S.Store conn.old) → IsOutside f) }
     ensures plain { IfErr result IsPlain }
 {
-    if fh >= 1 << 63 {
+    if fh >= END {
         return Ok(None);
     }
     let rows = select_handle(conn, fh)?;
@@ -228,7 +229,7 @@ pub(crate) fn find_entry<S: Alter>(
         → Inside c (state S.Store conn.old) → IsOutside f) }
     ensures plain { IfErr result IsPlain }
 {
-    if dir >= 1 << 63 {
+    if dir >= END {
         return Ok(None);
     }
     let rows = select_named(conn, dir, name)?;

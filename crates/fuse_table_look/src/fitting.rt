@@ -6,7 +6,9 @@ ghost use Rattle.fuse_tree.specs.Columns.{FitsChange};
 
 use fuse_tree::{Change, Counters, EntryRow, HandleRow, MAX_FILE, NodeRow};
 
-const END: u64 = 1 << 63;
+// No number in the tables is as great, be it of a node, a handle, a cookie or a request: SQLite has
+// integers of 63 bits and a sign.
+pub(crate) const END: u64 = 1 << 63;
 
 fn node_fits(row: &NodeRow) -> bool
     ensures { IsTrue result ↔ FitsNode row.now }

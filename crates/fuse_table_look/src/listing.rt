@@ -1,5 +1,5 @@
 // The entries of a directory, in order.
-ghost use Rattle.std.specs.Prelude.{◌≡◌, ◌≢◌, ◌<◌, ◌≤◌, ◌^◌, ◌⊎◌, ◌&&◌, not, nat_lt, List, map};
+ghost use Rattle.std.specs.Prelude.{◌≡◌, ◌<◌, ◌≤◌, ◌^◌, ◌⊎◌, ◌&&◌, not, nat_lt, List, map};
 ghost use Rattle.std.specs.Prelude.{take, filter, length, IfOk, IfErr, OnOk, OnErr};
 ghost use Rattle.std.specs.List.{AllByRecursion};
 ghost use Rattle.sqlite.specs.State.{HasCleanDisk};
@@ -10,6 +10,7 @@ ghost use Rattle.fuse_table_look.specs.Fits.{Fits};
 ghost use Rattle.fuse_tables.specs.Faults.{IsOutside, IsPlain};
 ghost use Rattle.fuse_tables.specs.Moves.{Inside, Looked, Stays};
 
+use crate::fitting::END;
 use fuse_keeper::StoreFault;
 use fuse_tables::{bytes_at, number_at, select_after};
 use fuse_tree::EntryRow;
@@ -87,10 +88,10 @@ pub(crate) fn find_after<S: Alter>(
         → Inside c (state S.Store conn.old) → length c.entries < MOST → IsOutside f) }
     ensures plain { IfErr result IsPlain }
 {
-    if dir >= 1 << 63 {
+    if dir >= END {
         return Ok(Vec::new(alloc));
     }
-    if cookie >= 1 << 63 {
+    if cookie >= END {
         return Ok(Vec::new(alloc));
     }
     let most = most_of(limit);

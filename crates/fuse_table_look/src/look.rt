@@ -1,11 +1,7 @@
 // Looks at the tables, for `plan`.
-ghost use Rattle.std.specs.Prelude.{◌≡◌, ◌≢◌, ◌<◌, ◌^◌, None, Some, Option, IfOk, OnOk, OnErr};
-ghost use Rattle.std.specs.Result.{result_err};
+ghost use Rattle.std.specs.Prelude.{◌≡◌, ◌<◌, None, Some, Option};
 ghost use Rattle.sqlite.specs.State.{HasCleanDisk};
 ghost use Rattle.sqlite.specs.Held.{state};
-ghost use Rattle.fuse_tree.specs.Rows.{Rows};
-ghost use Rattle.fuse_tree.specs.declared.look.LookFault.{LookFault as Fault};
-ghost use Rattle.fuse_tables.specs.Moves.{Looked, Stays};
 ghost use Rattle.fuse_table_look.specs.Looking.{look_fault, told_as};
 
 use crate::contents::find_bytes;

@@ -11,7 +11,7 @@ ghost use Rattle.fuse_table_look.specs.Holding.{Holding, InsideFor, KeepsFor, Tu
 ghost use Rattle.fuse_table_look.specs.Group.{with_new_lot, with_lot_for, lot_for, IsSureFor};
 
 use fuse_keeper::StoreFault;
-use fuse_tables::{insert_lot, number_at, select_counters, update_counter};
+use fuse_tables::{NEXT_LOT, insert_lot, number_at, select_counters, update_counter};
 use sqlite::{Alter, Connection, Error, Row};
 
 // No lot has a number from here on.
@@ -38,7 +38,7 @@ fn add_lot<S: Alter>(conn: &mut Connection<S>, lot: u64) -> Result<(), Error>
         (state S.Store conn.new) result }
 {
     insert_lot(conn, lot)?;
-    update_counter(conn, 11, lot + 1)
+    update_counter(conn, NEXT_LOT, lot + 1)
 }
 
 // The next lot is taken.

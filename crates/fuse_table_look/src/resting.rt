@@ -9,6 +9,7 @@ ghost use Rattle.fuse_table_look.specs.Holding.{HeldFor, TellsAfter};
 
 use crate::counting::{read_counters, read_settings};
 use crate::finding::read_answer;
+use crate::fitting::END;
 use fuse_answer::Answer;
 use fuse_init::Settings;
 use fuse_keeper::{StoreCounts, StoreFault};
@@ -29,7 +30,7 @@ pub fn answer_at_rest<S: Alter>(
     // It never says that there is no store, or one of another version.
     ensures plain { IfErr result IsPlain }
 {
-    if id >= 1 << 63 {
+    if id >= END {
         return Ok(None);
     }
     let rows = select_kept(conn, id)?;

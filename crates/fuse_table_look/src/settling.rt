@@ -6,13 +6,11 @@ ghost use Rattle.fuse_tables.specs.Faults.{IsOutside, IsPlain};
 ghost use Rattle.fuse_table_look.specs.Holding.{KeepsFor, Turned};
 ghost use Rattle.fuse_table_look.specs.Group.{without_record, without_settled};
 
+use crate::fitting::END;
 use fuse_keeper::StoreFault;
 use fuse_tables::delete_kept;
 use fuse_wire::Id;
 use sqlite::{Alter, Connection};
-
-// No record has an id from here on.
-const END: u64 = 1 << 63;
 
 // The record of this id goes, if there is one.
 fn forget<S: Alter>(conn: &mut Connection<S>, id: u64) -> Result<(), StoreFault>

@@ -1,5 +1,5 @@
 // Bytes of files, written over their blocks.
-ghost use Rattle.std.specs.Prelude.{◌≡◌, ◌≢◌, ◌<◌, ◌≤◌, ◌^◌, ◌+◌, ◌%◌, ℕ, length, take, drop};
+ghost use Rattle.std.specs.Prelude.{◌≡◌, ◌<◌, ◌≤◌, ◌^◌, ◌+◌, ◌%◌, ℕ, length};
 ghost use Rattle.std.specs.Prelude.{IfOk, IfErr, OnOk, OnErr};
 ghost use Rattle.sqlite.specs.State.{HasCleanDisk};
 ghost use Rattle.sqlite.specs.Held.{state};
@@ -9,7 +9,7 @@ ghost use Rattle.fuse_table_look.specs.Changing.{Changed, Keeps, KeepsBytes, Ove
 ghost use Rattle.fuse_tree.specs.declared.rows.Change.TheVariants as changes;
 ghost use Rattle.fuse_tables.specs.Content.{Content};
 ghost use Rattle.fuse_table_look.specs.Fits.{Fits};
-ghost use Rattle.fuse_tables.specs.Moves.{Inside, IsSure, Makes};
+ghost use Rattle.fuse_tables.specs.Moves.{Inside, IsSure};
 ghost use Rattle.fuse_table_look.specs.Store.{Held, HeldAs, byte_at, spliced};
 ghost use Rattle.fuse_table_look.specs.Store.{with_change};
 

@@ -1,4 +1,4 @@
--- What the begin of a mount leaves.
+-- What the begin of a mount leaves (own profile).
 use Rattle.std.specs.Prelude.{ℕ, pos, Bool, not, List, [], ◌∷◌, map, filter, length, min}
 use Rattle.std.specs.List.{list_any}
 use Rattle.std.specs.Ordering.{is_eq, nat_cmp}

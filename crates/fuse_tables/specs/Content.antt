@@ -1,4 +1,4 @@
--- What the tables hold, as lists of typed rows.
+-- What the tables hold, as lists of typed rows (own profile).
 use Rattle.std.specs.Prelude.{◌≡◌, ◌<◌, ◌^◌, ℕ, pos, Bool, not, ◌&&◌, List, [], ◌∷◌, map, filter, find, if◌then◌else◌, unwrap_or, option_map, Option}
 use Rattle.std.specs.Ordering.{is_eq, is_gt, nat_cmp, match_ordering}
 use Rattle.std.specs.Cmp.Lexicographic.{slice_cmp}
@@ -112,10 +112,6 @@ Holds c = HoldsAs store_schema (stored c)
 -- the trees of a database that is so
 abbrev pub LeftAs : (Database → Type 0) → Trees → Type 0
 LeftAs P trees = (d : Database) × P d × (d.trees ≡ trees)
-
--- what a crash may leave
-abbrev pub IsLeft : Content → Trees → Type 0
-IsLeft c = LeftAs (Holds c)
 
 -- the rows with this one in its place
 abbrev pub put_by : {X : Type 0} → (X → ℕ) → X → List X → List X

@@ -1,4 +1,4 @@
--- One call after another: what each makes, both make. The proofs stand here, since the crates above go by them.
+-- One call after another: what each makes, both make (own profile). The proofs stand here, since the crates above go by them.
 use Rattle.std.proofs.Common.{subst}
 use Rattle.std.specs.Prelude.{◌≤◌, Result, Ok, Err}
 use Rattle.std.proofs.Math.Arith.{le-zero}

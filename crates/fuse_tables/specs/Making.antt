@@ -1,4 +1,4 @@
--- A new store.
+-- A new store (own profile).
 use Rattle.std.specs.Prelude.{ℕ, List, [], ◌∷◌, ⊤}
 use Rattle.sqlite_trees.specs.Tree.{no_trees}
 use Rattle.sqlite.specs.Effect.{Database}

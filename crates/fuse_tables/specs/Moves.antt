@@ -1,4 +1,4 @@
--- What a call does to a store of the tables.
+-- What a call does to a store of the tables (own profile).
 use Rattle.std.specs.Prelude.{◌≡◌, ℕ, List, true, false, IsTrue, Result, Ok, Err, OnOk, OnErr, IfErr}
 use Rattle.sqlite.specs.Order.{Row}
 use Rattle.sqlite.specs.Effect.{Database}
@@ -35,9 +35,6 @@ Inside c = InsideAs (Holds c)
 -- ready for a step that begins with one of these
 abbrev pub IsReady : {C : Type 0} → (C → Database → Type 0) → State → Type 0
 IsReady {C} P s = (c : C) × InsideAs (P c) s
-
-abbrev pub IsInside : State → Type 0
-IsInside = IsReady Holds
 
 -- whether it went well or not, nothing is committed
 pub record StaysIn {C : Type 0} (P : C → Database → Type 0) (old new : State) : Type 0 where

@@ -1,4 +1,4 @@
--- What a store is when it is opened, and what the opening makes of it.
+-- What a store is when it is opened, and what the opening makes of it (own profile).
 use Rattle.std.specs.Prelude.{◌≡◌, ◌≤◌, ◌⊎◌, ◌<◌, ◌^◌, ◌+◌, ℕ, zero, suc, pos, IsTrue, false, List, [], ◌∷◌, map, fold, length, if◌then◌else◌}
 use Rattle.std.specs.Prelude.{nat_lt, ⊤, Result, OnOk}
 use Rattle.std.specs.List.{AllByRecursion}
@@ -116,7 +116,3 @@ opened c = if is_eq (nat_cmp (value_at 1 c) 1) then migrated c else c
 
 abbrev pub IsOpened : Content → Database → Type 0
 IsOpened c = IsSecond (opened c)
-
--- a store that is open, outside a transaction, and holds this in one of the two versions
-abbrev pub WasStored : Content → State → Type 0
-WasStored c s = IsTrue s.is_open × (s.in_transaction ≡ false) × LeftAs (IsStored c) s.committed.trees

@@ -1,4 +1,4 @@
--- Where the tables say that they are no store, or one of another version, and where tables are missing.
+-- Where the tables say that they are no store, or one of another version, and where tables are missing (own profile).
 use Rattle.std.specs.Prelude.{◌≡◌, ◌≢◌, ◌⊎◌, ℕ, pos, List, [], ◌∷◌, codes, None, Ok, ⊤, Bool, IsTrue}
 use Rattle.std.specs.List.{list_all}
 use Rattle.std.specs.Option.{is_some}

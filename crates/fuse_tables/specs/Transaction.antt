@@ -1,4 +1,4 @@
--- A whole transaction of what is done between its begin and its end. The proofs stand here, since the crates above go by them.
+-- A whole transaction of what is done between its begin and its end (own profile). The proofs stand here, since the crates above go by them.
 use Rattle.std.proofs.Common.{◌≡◌, sym, subst, ◌∙◌}
 use Rattle.std.specs.Prelude.{Result, Ok, Err}
 use Rattle.sqlite.specs.Effect.{Database}

@@ -12,7 +12,7 @@ ghost use Rattle.fuse_tables.specs.Opening.{IsSecond};
 ghost use Rattle.fuse_tables.specs.Moves.{Makes, Performs, Serves, ServesAs, IsSure, IsSafe};
 
 use crate::blocks::delete_blocks_from;
-use crate::counters::update_counter;
+use crate::counters::{AGREED, FLAGS, HANDLES, MAX_READAHEAD, MINOR, NODES, update_counter};
 use crate::handles::delete_all_handles;
 use crate::nodes::{count_nodes, delete_unnamed, select_unnamed};
 use crate::records::{delete_all_kept, delete_all_lots};
@@ -62,17 +62,17 @@ fn recount<S: Alter>(conn: &mut Connection<S>) -> Result<(), StoreFault>
     ensures plain { IfErr result IsPlain }
 {
     let count = count_nodes(conn)?;
-    Ok(update_counter(conn, 5, count)?)
+    Ok(update_counter(conn, NODES, count)?)
 }
 
 // No INIT is agreed on.
 fn clear_settings<S: Alter>(conn: &mut Connection<S>) -> Result<(), Error>
     ensures { Makes without_settings (state S.Store conn.old) (state S.Store conn.new) result }
 {
-    update_counter(conn, 7, 0)?;
-    update_counter(conn, 8, 0)?;
-    update_counter(conn, 9, 0)?;
-    update_counter(conn, 10, 0)
+    update_counter(conn, AGREED, 0)?;
+    update_counter(conn, MINOR, 0)?;
+    update_counter(conn, MAX_READAHEAD, 0)?;
+    update_counter(conn, FLAGS, 0)
 }
 
 // Takes out all records and lots.
@@ -88,7 +88,7 @@ fn clear_handles<S: Alter>(conn: &mut Connection<S>) -> Result<(), Error>
     ensures { Makes without_all_handles (state S.Store conn.old) (state S.Store conn.new) result }
 {
     delete_all_handles(conn)?;
-    update_counter(conn, 6, 0)
+    update_counter(conn, HANDLES, 0)
 }
 
 // Takes out all nodes without a name.

@@ -9,6 +9,32 @@ use crate::statements::run;
 use crate::values::pair;
 use sqlite::{Alter, Connection, Error, Row};
 
+/// The key of the version of the tables.
+pub const VERSION: u64 = 1;
+
+/// The keys of the counters: the next node, fh and cookie, how many nodes there are, how many rows
+/// of handles, and the next lot.
+pub const NEXT_NODE: u64 = 2;
+
+pub const NEXT_FH: u64 = 3;
+
+pub const NEXT_COOKIE: u64 = 4;
+
+pub const NODES: u64 = 5;
+
+pub const HANDLES: u64 = 6;
+
+pub const NEXT_LOT: u64 = 11;
+
+/// The keys of what INIT agreed on: whether it did (0 or 1), and what.
+pub const AGREED: u64 = 7;
+
+pub const MINOR: u64 = 8;
+
+pub const MAX_READAHEAD: u64 = 9;
+
+pub const FLAGS: u64 = 10;
+
 const INSERT: &str = "INSERT INTO meta VALUES (?1, ?2)";
 
 const UPDATE: &str = "UPDATE meta SET v = ?2 WHERE k = ?1";

@@ -4,7 +4,7 @@ ghost use Rattle.fuse_tables.specs.Moves.{Takes, Makes};
 ghost use Rattle.fuse_tables.specs.Opening.{IsFirst, HasLots, HasKept, HasTables, IsOpened, moved};
 ghost use Rattle.fuse_tables.specs.Opening.{marked};
 
-use crate::counters::{insert_counter, update_counter};
+use crate::counters::{NEXT_LOT, VERSION, insert_counter, update_counter};
 use crate::making::{ENTRIES_IN_ORDER, KEPT, LOTS};
 use crate::records::{copy_answers, delete_answers, insert_lot};
 use crate::statements::run;
@@ -44,8 +44,8 @@ fn move_records<S: Alter>(conn: &mut Connection<S>) -> Result<(), Error>
 fn mark<S: Alter>(conn: &mut Connection<S>) -> Result<(), Error>
     ensures { Makes marked (state S.Store conn.old) (state S.Store conn.new) result }
 {
-    insert_counter(conn, 11, 1)?;
-    update_counter(conn, 1, 2)
+    insert_counter(conn, NEXT_LOT, 1)?;
+    update_counter(conn, VERSION, 2)
 }
 
 /// All of it, within a transaction.

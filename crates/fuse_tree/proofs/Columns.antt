@@ -1,10 +1,8 @@
 -- The changes of each plan over the rows of a tree fit a table.
-use Rattle.std.proofs.Common.{◌≡◌, ◌+◌, ◌-◌, ◌<◌, ◌≤◌, ◌==◌, ◌&&◌, ◌||◌, ◌^◌, ℕ, Bool, true, false, cond, not, eqb, List, [], ◌∷◌, ◌++◌, length, map, Option}
-use Rattle.std.proofs.Common.{Some, None, is_some, refl, sym, subst, inl, inr, arith}
+use Rattle.std.proofs.Common.{◌≡◌, ◌+◌, ◌-◌, ◌<◌, ◌≤◌, ◌==◌, ◌&&◌, ◌||◌, ◌^◌, ℕ, Bool, true, false, cond, not, eqb, List, [], ◌∷◌, length, Option}
+use Rattle.std.proofs.Common.{Some, None, is_some, refl, subst, inl, inr, arith}
 use Rattle.std.specs.Prelude.{nat_eq, nat_lt, nat_le}
 use Rattle.std.specs.Cmp.Lexicographic.{pointwise}
-use Rattle.std.specs.List.{AllByRecursion, list_any}
-use Rattle.std.specs.Option.{option_map}
 use Rattle.std.proofs.lemmas.Bool.{eqb-true, ltb-true, ltb-false}
 use Rattle.std.proofs.lemmas.Nat.{and_le_r}
 use Rattle.fuse_wire.specs.declared.access_mode.AccessMode.{AccessMode}
@@ -24,20 +22,16 @@ use Rattle.fuse_init.specs.declared.negotiation.Negotiated.{Negotiated}
 use Rattle.fuse_init.specs.declared.negotiation.Negotiated.TheVariants.{Agreed, Again, Refused}
 use Rattle.fuse_init.specs.Agree.{agree, offered, taken, is_older}
 use Rattle.fuse_init.specs.Numbers.{kernel_version}
-use Rattle.fuse_tree.specs.Bounds.{number_end, file_limit, node_limit, handle_limit, read_limit}
+use Rattle.fuse_tree.specs.Bounds.{number_end, file_limit, read_limit}
 use Rattle.fuse_tree.specs.declared.planning.finding.Link.{Link}
 use Rattle.fuse_tree.specs.declared.new_node.NewNode.{NewNode}
-use Rattle.fuse_tree.specs.declared.rows.Change.{Change}
 use Rattle.fuse_tree.specs.declared.rows.Change.TheVariants as changes
 use Rattle.fuse_tree.specs.declared.rows.Counters.{Counters as CountersRow}
-use Rattle.fuse_tree.specs.declared.rows.EntryRow.{EntryRow}
-use Rattle.fuse_tree.specs.declared.rows.Full.{Full}
-use Rattle.fuse_tree.specs.declared.rows.HandleRow.{HandleRow}
 use Rattle.fuse_tree.specs.declared.rows.NodeRow.{NodeRow}
 use Rattle.fuse_tree.specs.declared.rows.Planned.{Planned}
-use Rattle.fuse_tree.specs.State.{State, Node, Tree, IsNode, IsEntry, IsHandle, is_open_at, is_dir, type_bits, is_file, is_entry, name_fault, up_of}
-use Rattle.fuse_tree.specs.Rows.{Rows, rows_of_state, full_of, full_at, row_at, entry_at, handle_at, row_is_named}
-use Rattle.fuse_tree.specs.Handles.{access_at, access_in, is_open}
+use Rattle.fuse_tree.specs.State.{State, Tree, is_dir, type_bits, is_file, name_fault}
+use Rattle.fuse_tree.specs.Rows.{Rows, rows_of_state, row_at, entry_at, handle_at, row_is_named}
+use Rattle.fuse_tree.specs.Handles.{access_at, is_open}
 use Rattle.fuse_tree.specs.Do.{names_node, offer_of}
 use Rattle.fuse_tree.specs.Making.{is_full, begun, dir_mode, may_make, node_mode, node_rdev}
 use Rattle.fuse_tree.specs.Setting.{has, size_fault, set_fault}
@@ -45,7 +39,7 @@ use Rattle.fuse_tree.specs.Writing.{may_write, may_read}
 use Rattle.fuse_tree.specs.Removing.{has_entries}
 use Rattle.fuse_tree.specs.Listing.{first_fits}
 use Rattle.fuse_tree.specs.Opening.{open_fault, not_for_dirs, for_dirs_alone}
-use Rattle.fuse_tree.specs.Columns.{FitsNode, FitsEntry, FitsHandle, FitColumns}
+use Rattle.fuse_tree.specs.Columns.{FitsNode, FitColumns}
 use Rattle.fuse_tree.specs.Planning.{plan_child, plan_lookup, plan_act, plan_at, plan_offered, plan_of}
 use Rattle.fuse_tree.specs.PlanInit.{plan_init}
 use Rattle.fuse_tree.specs.PlanMaking.{plan_new, plan_make, plan_mkdir, plan_mknod}
@@ -53,16 +47,15 @@ use Rattle.fuse_tree.specs.PlanSetting.{set_row, plan_setattr}
 use Rattle.fuse_tree.specs.PlanWriting.{plan_written, plan_write, plan_read}
 use Rattle.fuse_tree.specs.PlanListing.{rows_behind, plan_read_dir}
 use Rattle.fuse_tree.specs.PlanOpening.{plan_opened, plan_open_node, plan_open_for, plan_open, plan_open_dir, plan_closed, plan_close}
-use Rattle.fuse_tree.specs.PlanRemoving.{link_of, link_at, plan_gone, plan_unlink_link, plan_unlink, plan_rmdir_link, plan_rmdir}
+use Rattle.fuse_tree.specs.PlanRemoving.{link_at, plan_gone, plan_unlink_link, plan_unlink, plan_rmdir_link, plan_rmdir}
 use Rattle.fuse_tree.specs.PlanRenaming.{is_same_link, row_holds, other_at, new_dir_at, link_fault, lost_changes, dir_row, dirs_changes, rename_changes}
 use Rattle.fuse_tree.specs.PlanRenaming.{exchange_changes, is_dir_link, is_dir_other, plan_rename_link, plan_exchange_link, plan_rename_from}
 use Rattle.fuse_tree.specs.PlanRenaming.{plan_rename_between, plan_rename}
 use Rattle.fuse_tree.specs.Renaming.{Renaming, is_exchange, is_no_replace, asking, asked_fault}
-use Rattle.fuse_tree.specs.Reading.{refused_for, child_at}
-use Rattle.fuse_tree.proofs.Lists.{and_true, any_gives, cond_found, found}
-use Rattle.fuse_tree.proofs.Trees.{nodes_below, children_below, dirs_below}
-use Rattle.fuse_tree.proofs.SmallRows.{SmallCounters, Small, below, up_small, dirs_small, nodes_small, entries_small, open_below, handles_small, small}
-use Rattle.fuse_tree.proofs.SmallRows.{row_small, found_small, FitsLink, FitsFound, link_of_row, link_of_entry, link_small, open_small, Fit, nothing, past}
+use Rattle.fuse_tree.specs.Reading.{child_at}
+use Rattle.fuse_tree.proofs.Lists.{cond_found}
+use Rattle.fuse_tree.proofs.SmallRows.{SmallCounters, Small, small}
+use Rattle.fuse_tree.proofs.SmallRows.{found_small, FitsLink, FitsFound, link_small, open_small, Fit, nothing, past}
 use Rattle.fuse_tree.proofs.SmallRows.{unless, joined}
 
 -- ---- LOOKUP

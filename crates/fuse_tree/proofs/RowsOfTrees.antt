@@ -2,12 +2,11 @@
 use Rattle.std.proofs.Common.{◌≡◌, ◌==◌, ◌&&◌, ◌||◌, ◌<◌, ◌≤◌, ℕ, Bool, true, false, List, [], ◌∷◌, length}
 use Rattle.std.proofs.Common.{Option, Some, None, refl, sym, ap, subst, ◌∙◌}
 use Rattle.std.specs.Option.{option_map}
-use Rattle.std.specs.List.{AllByRecursion, list_any}
+use Rattle.std.specs.List.{list_any}
 use Rattle.fuse_tree.specs.Bounds.{fuse_root_id}
-use Rattle.fuse_tree.specs.declared.rows.EntryRow.{EntryRow}
 use Rattle.fuse_tree.specs.declared.rows.NodeRow.{NodeRow}
 use Rattle.fuse_tree.specs.State.{State, Node, Tree, IsEntry, AreApart, Apart, is_dir, is_dir_of, has_number, node_at}
-use Rattle.fuse_tree.specs.Rows.{Rows, IsRowed, row_of, full_of, rows_of_state, row_at, full_at, content_of}
+use Rattle.fuse_tree.specs.Rows.{IsRowed, row_of, full_of, rows_of_state, row_at, full_at, content_of}
 use Rattle.fuse_tree.specs.RowsOfTrees.{OfTree, IsSized, LeadsToRow, RowsOfTrees}
 use Rattle.fuse_tree.proofs.Bounds.{rowed_is, child_there, row_within, is_rowed}
 use Rattle.fuse_tree.proofs.Lists.{all_more}

@@ -1,4 +1,4 @@
--- What holds of numbers, layouts and names, whatever they are.
+-- What holds of numbers, layouts and names, whatever they are (own profile).
 use Rattle.std.specs.Prelude.{◌≡◌, ◌<◌, ◌≤◌, ◌^◌, ℕ, List, ◌∷◌, ◌++◌, length, take, drop, Some, None}
 use Rattle.fuse_wire.specs.Bytes.{le, number_of, IsBytes, HasNoNul, after_nul}
 use Rattle.fuse_wire.specs.Layout.{Part, Lays, Placed, widths, form, HasForm}

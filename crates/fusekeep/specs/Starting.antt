@@ -1,4 +1,4 @@
--- What a run in memory begins at.
+-- What a run in memory begins at (own profile).
 use Rattle.fuse_tree.specs.State.{State, new_store}
 
 abbrev pub start : State

@@ -11,22 +11,22 @@ mod store;
 use clap::Error;
 use clap::error::ErrorKind;
 use fuse_commands::{
-    Ending, ProgressReader, Run, STANDARD_INPUT, START, parse, run_check, run_dump, run_replay,
-    unreadable,
+    Ending, ProgressReader, Run, STANDARD_INPUT, START, Work, parse, run_check, run_dump,
+    run_replay, unreadable,
 };
 use fuse_keeper::PlainKeeper;
 use fuse_store::PlainTree;
 use fuse_table_keeper::open_or_create;
 use fuse_wire::Moment;
 use serve::serve_as_asked;
-use show::{show_directory, show_file, show_store};
+use show::{Show, show_store};
 use simulate::simulate_in_memory;
 use sqlite::{Alter, Connection};
 use std::alloc::Global;
 use std::io::{BufWriter, IsTerminal, Read, Write};
 use std::process::ExitCode;
 use std::{env, fs, io};
-use store::open_file;
+use store::{close_file, open_file};
 
 fn main(rt: HostRuntime) -> ExitCode {
     let ending = run(&rt);
@@ -62,10 +62,10 @@ fn run(rt: &HostRuntime) -> Ending {
     };
     match parse(rt.alloc(), words.as_slice()) {
         Ok(Run::Serve { db, begin, at }) => serve_as_asked(rt, db, begin, at),
-        Ok(Run::Store { file }) => ended(show_store(rt, file)),
-        Ok(Run::List { file, path }) => ended(show_directory(rt, file, path)),
-        Ok(Run::Cat { file, path }) => ended(show_file(rt, file, path)),
-        Ok(run) => run_on_input(rt, run),
+        Ok(Run::Store { file }) => ended(show_store(rt, file, Show::Counts)),
+        Ok(Run::List { file, path }) => ended(show_store(rt, file, Show::Directory(path))),
+        Ok(Run::Cat { file, path }) => ended(show_store(rt, file, Show::File(path))),
+        Ok(Run::Read { input, work }) => work_on_input(rt, input, work),
         Err(error) => refuse(rt, error),
     }
 }
@@ -78,15 +78,15 @@ fn ended(shown: Result<(), Ending>) -> Ending {
     }
 }
 
-// Opens the input, and runs on it.
-fn run_on_input(rt: &HostRuntime, run: Run<'_>) -> Ending {
-    if run.input() == STANDARD_INPUT {
-        return run_told(rt, rt.reader(), None, run);
+// Opens the input, and works on it.
+fn work_on_input(rt: &HostRuntime, input: &str, work: Work<'_>) -> Ending {
+    if input == STANDARD_INPUT {
+        return work_told(rt, rt.reader(), None, work);
     }
-    match fs::open(rt, run.input()) {
+    match fs::open(rt, input) {
         Ok(file) => {
             let total = size_of(&file);
-            run_told(rt, file, total, run)
+            work_told(rt, file, total, work)
         }
         Err(_) => Ending::PortFailed,
     }
@@ -101,54 +101,46 @@ fn size_of(file: &fs::File) -> Option<u64> {
 }
 
 // Whether a terminal shows how far a stream is read, with no line of the output between.
-fn is_watched(rt: &HostRuntime, run: &Run<'_>) -> bool {
-    let prints_apart = match run {
-        Run::Check { .. } => true,
-        Run::Dump { .. } | Run::Replay { .. } => !rt.stdout().is_terminal(),
-        Run::Serve { .. }
-        | Run::Simulate { .. }
-        | Run::Store { .. }
-        | Run::List { .. }
-        | Run::Cat { .. } => false,
+fn is_watched(rt: &HostRuntime, work: Work<'_>) -> bool {
+    let prints_apart = match work {
+        Work::Check => true,
+        Work::Dump | Work::Replay { .. } => !rt.stdout().is_terminal(),
+        Work::Simulate => false,
     };
     prints_apart && rt.stderr().is_terminal()
 }
 
-// Runs on what a reader gives, and tells how far it is where somebody looks on.
-fn run_told<R: Read + Drop>(
+// Works on what a reader gives, and tells how far it is where somebody looks on.
+fn work_told<R: Read + Drop>(
     rt: &HostRuntime,
     reader: R,
     total: Option<u64>,
-    run: Run<'_>,
+    work: Work<'_>,
 ) -> Ending {
-    if is_watched(rt, &run) {
-        run_on(rt, ProgressReader::new(reader, rt, total), run)
+    if is_watched(rt, work) {
+        work_on(rt, ProgressReader::new(reader, rt, total), work)
     } else {
-        run_on(rt, reader, run)
+        work_on(rt, reader, work)
     }
 }
 
-// Runs on what a reader gives, and prints through a buffer.
-fn run_on<R: Read + Drop>(rt: &HostRuntime, reader: R, run: Run<'_>) -> Ending {
+// Works on what a reader gives, and prints through a buffer.
+fn work_on<R: Read + Drop>(rt: &HostRuntime, reader: R, work: Work<'_>) -> Ending {
     let alloc = rt.alloc();
     let Ok(mut writer) = BufWriter::new(alloc, io::writer(rt)) else {
         return Ending::Memory;
     };
-    match run {
-        Run::Dump { .. } => run_dump(alloc, reader, &mut writer),
-        Run::Check { .. } => run_check(alloc, reader, &mut writer),
-        Run::Replay { at, db, .. } => {
+    match work {
+        Work::Dump => run_dump(alloc, reader, &mut writer),
+        Work::Check => run_check(alloc, reader, &mut writer),
+        Work::Replay { db, at } => {
             let moment = Moment { secs: at, nanos: 0 };
             match db {
                 Some(file) => replay_on_file(rt, file, reader, &mut writer, moment),
                 None => replay_in_memory(alloc, reader, &mut writer, moment),
             }
         }
-        Run::Simulate { .. } => simulate_in_memory(alloc, reader, &mut writer),
-        // These have no input.
-        Run::Serve { .. } | Run::Store { .. } | Run::List { .. } | Run::Cat { .. } => {
-            Ending::Usage
-        }
+        Work::Simulate => simulate_in_memory(alloc, reader, &mut writer),
     }
 }
 
@@ -195,9 +187,8 @@ fn replay_on_file<R: Read + Drop, W: Write>(
         Err(fault) => return Ending::of(fault),
     };
     let (ending, conn) = replay_over(rt.alloc(), conn, reader, writer, moment);
-    // What was committed is in the file or in its log, whether this copies the log or not.
     if let Some(conn) = conn {
-        let _ = conn.close();
+        close_file(conn);
     }
     ending
 }

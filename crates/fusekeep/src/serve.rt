@@ -1,5 +1,5 @@
 // Serving standard input to standard output.
-use crate::store::open_file;
+use crate::store::{close_file, open_file};
 use fuse_commands::{Begin, CountLine, Ending, run_serve};
 use fuse_session::{Clock, Fixed, SessionCounts, System};
 use fuse_table_keeper::{TableKeeper, open_fresh};
@@ -43,9 +43,8 @@ fn serve_on_file<C: Clock>(rt: &HostRuntime, file: &str, clock: &mut C, begin: B
     {
         let _ = rt.eprintln(CountLine(counts));
     }
-    // What was committed is in the file or in its log, whether this copies the log or not.
     if let Some(conn) = conn {
-        let _ = conn.close();
+        close_file(conn);
     }
     ending
 }

@@ -106,35 +106,63 @@ fn ending_of<S: Alter + Drop>(fault: ShowFault, look: TableLook<S>) -> Ending {
     }
 }
 
-/// Tells what the store of a file holds.
-pub(crate) fn show_store(rt: &HostRuntime, file: &str) -> Result<(), Ending> {
-    let conn = open_copy(rt, file)?;
-    let Ok(mut writer) = BufWriter::new(rt.alloc(), io::writer(rt)) else {
-        return Err(Ending::Memory);
-    };
-    tell_of(rt.alloc(), conn, &mut writer)
-}
-
-/// Lists a directory of the store of a file.
-pub(crate) fn show_directory(rt: &HostRuntime, file: &str, path: &str) -> Result<(), Ending> {
-    let mut look = look_at(rt.alloc(), open_copy(rt, file)?)?;
-    let Ok(mut writer) = BufWriter::new(rt.alloc(), io::writer(rt)) else {
-        return Err(Ending::Memory);
-    };
-    match show_listing(&mut look, path.as_bytes(), &mut writer) {
+// Lists a directory of the store of a database.
+fn list_of<S: Alter + Drop, W: Write>(
+    alloc: Global,
+    conn: Connection<S>,
+    path: &str,
+    writer: &mut W,
+) -> Result<(), Ending> {
+    let mut look = look_at(alloc, conn)?;
+    match show_listing(&mut look, path.as_bytes(), writer) {
         Ok(()) => Ok(()),
         Err(fault) => Err(ending_of(fault, look)),
     }
 }
 
-/// Prints a file of the store of a file.
-pub(crate) fn show_file(rt: &HostRuntime, file: &str, path: &str) -> Result<(), Ending> {
-    let mut look = look_at(rt.alloc(), open_copy(rt, file)?)?;
-    let Ok(mut writer) = BufWriter::new(rt.alloc(), io::writer(rt)) else {
-        return Err(Ending::Memory);
-    };
-    match show_content(&mut look, path.as_bytes(), &mut writer) {
+// Prints a file of the store of a database.
+fn print_of<S: Alter + Drop, W: Write>(
+    alloc: Global,
+    conn: Connection<S>,
+    path: &str,
+    writer: &mut W,
+) -> Result<(), Ending> {
+    let mut look = look_at(alloc, conn)?;
+    match show_content(&mut look, path.as_bytes(), writer) {
         Ok(()) => Ok(()),
         Err(fault) => Err(ending_of(fault, look)),
     }
+}
+
+/// What is shown of a store.
+#[derive(Clone, Copy)]
+pub(crate) enum Show<'a> {
+    /// What it holds.
+    Counts,
+    /// The directory of a path.
+    Directory(&'a str),
+    /// The file of a path.
+    File(&'a str),
+}
+
+// Shows this of the store of a database.
+fn show_of<S: Alter + Drop, W: Write>(
+    alloc: Global,
+    conn: Connection<S>,
+    show: Show<'_>,
+    writer: &mut W,
+) -> Result<(), Ending> {
+    match show {
+        Show::Counts => tell_of(alloc, conn, writer),
+        Show::Directory(path) => list_of(alloc, conn, path, writer),
+        Show::File(path) => print_of(alloc, conn, path, writer),
+    }
+}
+
+/// Shows this of the store of a file.
+pub(crate) fn show_store(rt: &HostRuntime, file: &str, show: Show<'_>) -> Result<(), Ending> {
+    let Ok(mut writer) = BufWriter::new(rt.alloc(), io::writer(rt)) else {
+        return Err(Ending::Memory);
+    };
+    show_of(rt.alloc(), open_copy(rt, file)?, show, &mut writer)
 }

@@ -2,7 +2,7 @@ use fuse_keeper::StoreFault;
 use fuse_table_keeper::opening_fault;
 use sqlite::{Connection, File, FileStore};
 
-// The database of a file, which is made where it is missing.
+/// The database of a file, which is made where it is missing.
 pub(crate) fn open_file(
     rt: &HostRuntime,
     file: &str,
@@ -11,4 +11,10 @@ pub(crate) fn open_file(
         Ok(conn) => Ok(conn),
         Err(error) => Err(opening_fault(error)),
     }
+}
+
+/// Closes the database of a file. What was committed is in the file or in its log, whether this
+/// copies the log or not.
+pub(crate) fn close_file(conn: Connection<FileStore<File>>) {
+    let _ = conn.close();
 }

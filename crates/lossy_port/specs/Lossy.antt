@@ -1,4 +1,4 @@
--- What is told of a port that loses answers, and its laws.
+-- What is told of a port that loses answers, and its laws (own profile).
 use Rattle.std.specs.Prelude.{◌≡◌, ℕ, false, List, [], ◌∷◌, ◌++◌, length, drop, Some, refl}
 use Rattle.std.proofs.Common.{sym, ap, ◌∙◌}
 use Rattle.std.proofs.lemmas.List.{append_assoc, append-nil}

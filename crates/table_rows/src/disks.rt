@@ -117,7 +117,7 @@ fn connect_again(alloc: Global, held: &Held) -> Result<Connection<Store>, StoreF
 }
 
 // The disks of a database, with no call of them.
-fn disks_of(conn: Connection<Store>) -> Disks {
+fn disks_of<D: Disk + Drop>(conn: Connection<FileStore<D>>) -> Files<D> {
     conn.into_store().close()
 }
 
@@ -143,12 +143,23 @@ pub(crate) struct Stopped {
     pub disks: Disks,
 }
 
-fn work_over(alloc: Global, conn: Connection<Store>, work: Work) -> Result<Stopped, StoreFault> {
+// Does the work up to a stop.
+fn work_over<D: Disk + Drop>(
+    alloc: Global,
+    conn: Connection<FileStore<D>>,
+    work: Work,
+) -> Result<(usize, Files<D>), StoreFault> {
     let (steps, conn) = run(alloc, conn, work)?;
-    Ok(Stopped {
-        steps,
-        disks: disks_of(conn),
-    })
+    Ok((steps, disks_of(conn)))
+}
+
+// Makes a store in such a state.
+fn make_over<D: Disk + Drop>(
+    alloc: Global,
+    conn: Connection<FileStore<D>>,
+    state: State,
+) -> Result<Files<D>, StoreFault> {
+    Ok(disks_of(make(alloc, conn, state)?))
 }
 
 /// Opens such files on disks that stop so, and does the work up to the stop.
@@ -158,10 +169,11 @@ pub(crate) fn stop_at(
     stop: Stop,
     work: Work,
 ) -> Result<Stopped, StoreFault> {
-    match connect(alloc, held, stop)? {
-        Opened::Open(conn) => work_over(alloc, conn, work),
-        Opened::Stopped(disks) => Ok(Stopped { steps: 0, disks }),
-    }
+    let (steps, disks) = match connect(alloc, held, stop)? {
+        Opened::Open(conn) => work_over(alloc, conn, work)?,
+        Opened::Stopped(disks) => (0, disks),
+    };
+    Ok(Stopped { steps, disks })
 }
 
 /// What a store in such a state holds in its files.
@@ -170,8 +182,8 @@ pub(crate) fn files_in(alloc: Global, state: State) -> Result<Held, StoreFault> 
     if state.version == 0 {
         return Ok(nothing);
     }
-    let conn = make(alloc, connect_again(alloc, &nothing)?, state)?;
-    Ok(written(alloc, &disks_of(conn))?)
+    let disks = make_over(alloc, connect_again(alloc, &nothing)?, state)?;
+    Ok(written(alloc, &disks)?)
 }
 
 /// What is found in such files.

@@ -13,8 +13,6 @@ mod halves;
 #[cfg(test)]
 mod keepers;
 #[cfg(test)]
-mod laws;
-#[cfg(test)]
 mod requests;
 #[cfg(test)]
 mod stops;

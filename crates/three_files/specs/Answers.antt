@@ -1,4 +1,4 @@
--- What is answered.
+-- What is answered (own profile).
 use Rattle.std.specs.Prelude.{ℕ, List, [], Option, Some, None, pos}
 use Rattle.fuse_wire.specs.declared.errno.Errno.{Errno}
 use Rattle.fuse_answer.specs.Said.{Said}

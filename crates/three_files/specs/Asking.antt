@@ -1,4 +1,4 @@
--- What each request is answered, and what it leaves agreed on: the first check that applies decides. A moment doesn't matter.
+-- What each request is answered, and what it leaves agreed on (own profile): the first check that applies decides. A moment doesn't matter.
 use Rattle.std.specs.Prelude.{◌==◌, ◌||◌, ℕ, Bool, true, false, not, nat_eq, nat_lt, if◌then◌else◌, List, [], length, take, drop}
 use Rattle.std.specs.Prelude.{Option, Some, None, is_some, codes}
 use Rattle.std.specs.List.{list_any}

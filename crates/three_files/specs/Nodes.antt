@@ -1,4 +1,4 @@
--- The four nodes: a directory, and the three files in it.
+-- The four nodes (own profile): a directory, and the three files in it.
 use Rattle.std.specs.Prelude.{◌+◌, ◌/◌, ◌==◌, ℕ, Bool, true, false, if◌then◌else◌, List, [], length, Option, Some, None, codes}
 use Rattle.fuse_answer.specs.declared.records.Attr.{Attr}
 use Rattle.three_files.specs.declared.node.Node.{Node}

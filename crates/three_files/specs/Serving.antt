@@ -1,4 +1,4 @@
--- What is left of the files where they are served: all of them.
+-- What is left of the files where they are served (own profile): all of them.
 use Rattle.std.specs.Prelude.{◌≡◌, ℕ, true, List, ◌++◌, Option, is_some}
 use Rattle.std.specs.Io.KnownBytes.{Consumes}
 use Rattle.fuse_request.specs.Stream.{cut}

@@ -1,4 +1,4 @@
--- The file system of three files.
+-- The file system of three files (own profile).
 use Rattle.std.specs.Prelude.{Option, None}
 use Rattle.fuse_init.specs.declared.settings.Settings.{Settings}
 use Rattle.fuse_keeper.specs.Model.{Model}

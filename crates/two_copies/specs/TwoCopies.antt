@@ -1,4 +1,4 @@
--- What a keeper with two copies holds, and what a crash leaves of it.
+-- What a keeper with two copies holds, and what a crash leaves of it (own profile).
 use Rattle.std.specs.Prelude.{◌≡◌, ◌||◌, false}
 use Rattle.fuse_keeper.specs.Model.{Model}
 use Rattle.fuse_keeper.specs.KeeperState.{KeeperState, KeepsHeld}

@@ -1,17 +1,16 @@
 -- Worked rows (own profile): what `committed`, `outcome_of` and `settled_by` say of a short list of events, over the store
 -- of row first-run.
-use Rattle.std.specs.Prelude.{◌≡◌, ◌+◌, ◌^◌, ℕ, List, [], ◌∷◌, map, codes, Option, Some, None}
+use Rattle.std.specs.Prelude.{◌≡◌, ◌+◌, ◌^◌, ℕ, List, [], ◌∷◌, map, codes, Some, None}
 use Rattle.fuse_wire.specs.Hex.{hex}
 use Rattle.fuse_wire.specs.Errnos.{eexist, enosys}
 use Rattle.fuse_answer.specs.Wire.{wire}
-use Rattle.fuse_request.specs.Act.{Act}
 use Rattle.fuse_request.specs.Act as acts
 use Rattle.fuse_request.specs.Canon.{canon}
 use Rattle.fuse_store.specs.TheTree.{the_tree}
 use Rattle.fuse_keeper.specs.History.{Entry}
 use Rattle.fuse_tree.specs.Vectors.{at, asks, first, mkdir_a, entry_a}
 use Rattle.fuse_sim.specs.declared.event.Fate.{Fate}
-use Rattle.fuse_sim.specs.declared.event.Fate.TheVariants.{Answered, AnswerLost, DiedBeforeCommit, DiedAfterCommit}
+use Rattle.fuse_sim.specs.declared.event.Fate.TheVariants.{Answered, DiedBeforeCommit, DiedAfterCommit}
 use Rattle.fuse_sim.specs.declared.event.Event.{Event}
 use Rattle.fuse_sim.specs.Driving.{committed, outcome_of, settled_by}
 

@@ -1,6 +1,5 @@
 // The worked rows that the tree makes by itself, over looks of the tests.
 mod definitions;
-mod laws;
 mod limits;
 mod looks;
 mod pieces;

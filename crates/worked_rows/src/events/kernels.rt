@@ -3,9 +3,7 @@ use super::sending::{resend, send_all};
 use super::*;
 use crate::requests::mkdir;
 use crate::texts::AGREED;
-use fuse_keeper::{histories_grow, said_fits};
-use fuse_session::Fixed;
-use fuse_sim::{Kernel, TakeFault, lives, runs_are_lives};
+use fuse_sim::{Kernel, TakeFault};
 use std::test::*;
 
 const INIT: Step = (INIT_AGREED, Fate::Answered, AGREED);
@@ -77,13 +75,4 @@ fn is_right(alloc: Global) -> Result<bool, Fail> {
 fn resent_in_another_order(rt: HostRuntime) -> Result<(), Fail> {
     assert!(rt; is_right(rt.alloc())?);
     Ok(())
-}
-
-// Laws do nothing.
-#[test]
-fn laws_are_called(_rt: HostRuntime) {
-    said_fits::<TreeKeeper>();
-    histories_grow::<TreeKeeper>();
-    lives::<TreeKeeper>();
-    runs_are_lives::<TreeKeeper, Fixed>();
 }

@@ -7,7 +7,7 @@ use fuse_wire::Moment;
 use std::alloc::{AllocError, Global};
 use std::test::*;
 use texts::*;
-use three_files::{ThreeFiles, never_changes, serve_files};
+use three_files::{ThreeFiles, serve_files};
 
 mod mounts;
 mod texts;
@@ -109,9 +109,4 @@ fn two_mounts(alloc: Global) -> Result<[bool; 4], Fail> {
 fn mounted_again(rt: HostRuntime) -> Result<(), Fail> {
     assert_eq!(rt; two_mounts(rt.alloc())?, [true; 4]);
     Ok(())
-}
-
-#[test]
-fn laws() {
-    never_changes();
 }

@@ -6,11 +6,11 @@ use Rattle.fuse_table_look.specs.Store.{bytes_told}
 use Rattle.fuse_table_look.proofs.Looks.{none_found, all_map, always_err}
 use Rattle.fuse_table_look.proofs.contents.find_bytes.Goals as goal
 
-pub returns-then-node-clause-value : goal.returns-then-node-clause-value
-returns-then-node-clause-value g c clean k at fits =
+pub returns-then-node-ge-END-clause-value : goal.returns-then-node-ge-END-clause-value
+returns-then-node-ge-END-clause-value g c clean k at fits =
     c.from_vec.ensures ∙ c.new.ensures.items
     ∙ sym (ap (λ o. bytes_told o k.blocks c.args.node c.args.offset c.args.len) (none_found node_key c.args.node (2 ^ 63) k.nodes
-    (omega (arith, c.if-node.true)) (all_map _ _ k.nodes (λ x p. p.node) fits.nodes)))
+    (omega (arith, c.if-node-ge-END.true)) (all_map _ _ k.nodes (λ x p. p.node) fits.nodes)))
 
 pub returns-in_err-bytes-clause-fails : goal.returns-in_err-bytes-clause-fails
 returns-in_err-bytes-clause-fails g c =

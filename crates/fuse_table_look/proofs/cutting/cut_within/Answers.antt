@@ -4,7 +4,6 @@ use Rattle.fuse_tree.specs.Bounds.{block_bytes}
 use Rattle.fuse_table_look.specs.Changing.{Cut}
 use Rattle.fuse_table_look.proofs.Steps.{on_ok, on_error}
 use Rattle.fuse_table_look.proofs.Cuts.{cut_keeps, cut_then}
-use Rattle.fuse_table_look.proofs.Zeros.{all_zero}
 use Rattle.fuse_table_look.specs.Store.{HeldAs, cut}
 use Rattle.fuse_table_look.proofs.Sure.{sure_next, sure_bytes}
 use Rattle.fuse_table_look.proofs.cutting.cut_within.Goals as goal

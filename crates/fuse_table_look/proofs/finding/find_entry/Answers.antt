@@ -3,8 +3,8 @@ use Rattle.fuse_tables.specs.Content.{has_name, shown_place}
 use Rattle.fuse_table_look.proofs.Looks.{map_ok, map_err, first_found, name_found, none_named}
 use Rattle.fuse_table_look.proofs.finding.find_entry.Goals as goal
 
-pub returns-then-dir-clause-value : goal.returns-then-dir-clause-value
-returns-then-dir-clause-value g c clean k at fits = sym (none_named c.args.dir c.args.name.now k.entries (omega (arith, c.if-dir.true)) fits.entries)
+pub returns-then-dir-ge-END-clause-value : goal.returns-then-dir-ge-END-clause-value
+returns-then-dir-ge-END-clause-value g c clean k at fits = sym (none_named c.args.dir c.args.name.now k.entries (omega (arith, c.if-dir-ge-END.true)) fits.entries)
 
 pub returns-clause-value : goal.returns-clause-value
 returns-clause-value g c clean = map_ok c.read_place.result _ _

@@ -5,8 +5,8 @@ use Rattle.fuse_tree.specs.Columns.{FitsHandle}
 use Rattle.fuse_table_look.proofs.Looks.{found_is, none_found, all_map, map_ok, drop_first}
 use Rattle.fuse_table_look.proofs.finding.find_handle.Goals as goal
 
-pub returns-then-fh-clause-value : goal.returns-then-fh-clause-value
-returns-then-fh-clause-value g c clean k at fits = sym (none_found fh_of c.args.fh (2 ^ 63) k.handles (omega (arith, c.if-fh.true))
+pub returns-then-fh-ge-END-clause-value : goal.returns-then-fh-ge-END-clause-value
+returns-then-fh-ge-END-clause-value g c clean k at fits = sym (none_found fh_of c.args.fh (2 ^ 63) k.handles (omega (arith, c.if-fh-ge-END.true))
     (all_map _ _ k.handles (λ x p. p.fh) fits.handles))
 
 pub returns-clause-value : goal.returns-clause-value

@@ -5,8 +5,8 @@ use Rattle.fuse_table_look.specs.Fits.{KeepsNode}
 use Rattle.fuse_table_look.proofs.Looks.{found_is, none_found, all_map, map_ok}
 use Rattle.fuse_table_look.proofs.finding.find_node.Goals as goal
 
-pub returns-then-number-clause-value : goal.returns-then-number-clause-value
-returns-then-number-clause-value g c clean k at fits = sym (none_found node_key c.args.number (2 ^ 63) k.nodes (omega (arith, c.if-number.true))
+pub returns-then-number-ge-END-clause-value : goal.returns-then-number-ge-END-clause-value
+returns-then-number-ge-END-clause-value g c clean k at fits = sym (none_found node_key c.args.number (2 ^ 63) k.nodes (omega (arith, c.if-number-ge-END.true))
     (all_map _ _ k.nodes (λ x p. p.node) fits.nodes))
 
 pub returns-clause-value : goal.returns-clause-value

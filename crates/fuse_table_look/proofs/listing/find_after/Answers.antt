@@ -4,13 +4,13 @@ use Rattle.fuse_table_look.proofs.Looks.{map_ok, map_err}
 use Rattle.fuse_table_look.proofs.ListingLemmas.{nothing, none_in, none_after, take_map, taken_in_dir, not_cut, shown_length}
 use Rattle.fuse_table_look.proofs.listing.find_after.Goals as goal
 
-pub returns-then-dir-clause-value : goal.returns-then-dir-clause-value
-returns-then-dir-clause-value g c clean k at fits = c.new.ensures.items ∙ nothing c.args.limit
-    ∙ ap (take c.args.limit) (sym (none_in c.args.dir c.args.cookie k.entries (omega (arith, c.if-dir.true)) fits.entries))
+pub returns-then-dir-ge-END-clause-value : goal.returns-then-dir-ge-END-clause-value
+returns-then-dir-ge-END-clause-value g c clean k at fits = c.new.ensures.items ∙ nothing c.args.limit
+    ∙ ap (take c.args.limit) (sym (none_in c.args.dir c.args.cookie k.entries (omega (arith, c.if-dir-ge-END.true)) fits.entries))
 
-pub returns-then-cookie-clause-value : goal.returns-then-cookie-clause-value
-returns-then-cookie-clause-value g c clean k at fits = c.new-then-cookie.ensures.items ∙ nothing c.args.limit
-    ∙ ap (take c.args.limit) (sym (none_after c.args.dir c.args.cookie k.entries (omega (arith, c.if-cookie.true)) fits.entries))
+pub returns-then-cookie-ge-END-clause-value : goal.returns-then-cookie-ge-END-clause-value
+returns-then-cookie-ge-END-clause-value g c clean k at fits = c.new-then-cookie-ge-END.ensures.items ∙ nothing c.args.limit
+    ∙ ap (take c.args.limit) (sym (none_after c.args.dir c.args.cookie k.entries (omega (arith, c.if-cookie-ge-END.true)) fits.entries))
 
 pub returns-clause-value : goal.returns-clause-value
 returns-clause-value g c clean = map_ok c.read_entries.result _ _ (λ v told k at fits.

@@ -7,8 +7,8 @@ use Rattle.fuse_table_look.proofs.Looks.{found_is, map_ok, map_err, drop_second}
 use Rattle.fuse_table_look.proofs.Rests.{content_at, failed_for, read_for, none_kept}
 use Rattle.fuse_table_look.proofs.resting.answer_at_rest.Goals as goal
 
-pub returns-then-id-clause-value : goal.returns-then-id-clause-value
-returns-then-id-clause-value g c clean y at = none_kept c.args.id y (state g.S.Store c.args.conn.now) (omega (arith, c.if-id.true)) at
+pub returns-then-id-ge-END-clause-value : goal.returns-then-id-ge-END-clause-value
+returns-then-id-ge-END-clause-value g c clean y at = none_kept c.args.id y (state g.S.Store c.args.conn.now) (omega (arith, c.if-id-ge-END.true)) at
 
 pub returns-in_err-rows-clause-serves : goal.returns-in_err-rows-clause-serves
 returns-in_err-rows-clause-serves g c =

@@ -1,4 +1,4 @@
-use Rattle.std.proofs.Common.{true, refl, sym, ◌∙◌, None, Ok, Err}
+use Rattle.std.proofs.Common.{true, None, Ok, Err}
 use Rattle.sqlite.specs.Held.{state}
 use Rattle.fuse_table_keeper.specs.Mounting.{cleared_for}
 use Rattle.fuse_table_keeper.proofs.Serving.{firm}

@@ -1,4 +1,4 @@
-use Rattle.std.proofs.Common.{true, sym, ap, subst, ◌∙◌, Some, Ok, Err}
+use Rattle.std.proofs.Common.{true, Some, Ok, Err}
 use Rattle.sqlite.specs.Held.{state}
 use Rattle.fuse_keeper.specs.Group.{ids_of, entries_of}
 use Rattle.fuse_table_look.specs.Group.{performed}

@@ -1,4 +1,4 @@
-use Rattle.std.proofs.Common.{refl, ◌≡◌, ◌≤◌, ◌-◌, ℕ, length, arith}
+use Rattle.std.proofs.Common.{refl, ◌≤◌, ◌-◌, length, arith}
 use Rattle.lossy_port.specs.Lossy.{delivered_path}
 use Rattle.lossy_port.proofs.Pieces.{piece_came, copied_is, copied_length, room}
 use Rattle.lossy_port.proofs.port.LossyPortPort.receive.Goals as goal

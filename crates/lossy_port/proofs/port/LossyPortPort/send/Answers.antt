@@ -1,4 +1,4 @@
-use Rattle.std.proofs.Common.{refl, ◌≡◌, ℕ, [], length, ap, sym, subst, arith}
+use Rattle.std.proofs.Common.{refl, ◌≡◌, [], length, sym, subst, arith}
 use Rattle.lossy_port.specs.Losing.{Delivers, answers_in}
 use Rattle.lossy_port.specs.Lossy.{delivered_path, delivers_none}
 use Rattle.lossy_port.proofs.Slices.{have_bytes, one_sent, none_sent}
