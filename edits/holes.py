@@ -11,6 +11,8 @@ pub {name}_spec : {{M : Type 1}} → statement M
 """
 # The first line of what a lemma says.
 LEMMA = re.compile(r"(?:pub )?([^\s(){}:,;]+) :(?: |$)")
+# What a line begins with that goes on with the one before.
+INSIDE = (" ", "}", ")", "]")
 # What a proof looks into.
 UNFOLDING = re.compile(r"(?m)^\s*unfolding (.*)$")
 
@@ -20,7 +22,7 @@ def end_of_proof(lines, at, name):
     begins, end = re.compile(rf"{re.escape(name)}(?: |$)"), at
     for place in range(at, len(lines)):
         line = lines[place]
-        if begins.match(line) or line.startswith((" ", "}", ")", "]")):
+        if begins.match(line) or line.startswith(INSIDE):
             end = place + 1
         elif line and not line.startswith(("--", "unfolding ")):
             break
@@ -33,7 +35,7 @@ def without_proofs(text, kept):
     while at < len(lines):
         lemma = LEMMA.match(lines[at])
         begin, at = at, at + 1
-        while lemma and at < len(lines) and lines[at].startswith(" "):
+        while lemma and at < len(lines) and lines[at].startswith(INSIDE):
             at += 1
         found += lines[begin:at]
         if lemma and lemma[1] not in kept:
