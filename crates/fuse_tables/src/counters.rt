@@ -10,30 +10,31 @@ use crate::values::pair;
 use sqlite::{Alter, Connection, Error, Row};
 
 /// The key of the version of the tables.
-pub const VERSION: u64 = 1;
+pub(crate) const VERSION: u64 = 1;
 
-/// The keys of the counters: the next node, fh and cookie, how many nodes there are, how many rows
-/// of handles, and the next lot.
+/// The key of the next node, behind which stand the next fh, the next cookie and `NODES`.
 pub const NEXT_NODE: u64 = 2;
 
-pub const NEXT_FH: u64 = 3;
+/// The key of the number of nodes.
+pub(crate) const NODES: u64 = 5;
 
-pub const NEXT_COOKIE: u64 = 4;
-
-pub const NODES: u64 = 5;
-
+/// The key of the number of handles.
 pub const HANDLES: u64 = 6;
 
-pub const NEXT_LOT: u64 = 11;
-
-/// The keys of what INIT agreed on: whether it did (0 or 1), and what.
+/// The key of whether INIT agreed on something (0 or 1), behind which stands on what.
 pub const AGREED: u64 = 7;
 
-pub const MINOR: u64 = 8;
+/// The key of the kernel's minor version.
+pub(crate) const MINOR: u64 = 8;
 
-pub const MAX_READAHEAD: u64 = 9;
+/// The key of the bytes that the kernel reads ahead at most.
+pub(crate) const MAX_READAHEAD: u64 = 9;
 
-pub const FLAGS: u64 = 10;
+/// The key of the flags of INIT.
+pub(crate) const FLAGS: u64 = 10;
+
+/// The key of the next lot.
+pub const NEXT_LOT: u64 = 11;
 
 const INSERT: &str = "INSERT INTO meta VALUES (?1, ?2)";
 

@@ -21,8 +21,7 @@ mod values;
 pub use blocks::{delete_block, delete_blocks_from, insert_block, select_block, write_block};
 pub use clearing::begin_mount;
 pub use counters::{
-    AGREED, FLAGS, HANDLES, MAX_READAHEAD, MINOR, NEXT_COOKIE, NEXT_FH, NEXT_LOT, NEXT_NODE, NODES,
-    VERSION, insert_counter, select_counters, update_counter,
+    AGREED, HANDLES, NEXT_LOT, NEXT_NODE, insert_counter, select_counters, update_counter,
 };
 pub use entries::{delete_entry, insert_entry, select_after, select_named};
 pub use handles::{delete_all_handles, delete_handle, insert_handle, select_handle};
