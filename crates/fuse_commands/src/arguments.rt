@@ -227,24 +227,31 @@ fn cat_command<'a>(alloc: Global) -> Result<Command<'a>, AllocError> {
     look_command(alloc, CAT, about, example)?.arg(path)
 }
 
+// With one more command below it.
+fn with_command<'a>(
+    command: Command<'a>,
+    made: Result<Command<'a>, AllocError>,
+) -> Result<Command<'a>, AllocError> {
+    command.subcommand(made?)
+}
+
 // The commands that only look at a store.
 fn with_looks<'a>(alloc: Global, command: Command<'a>) -> Result<Command<'a>, AllocError> {
-    command
-        .subcommand(store_command(alloc)?)?
-        .subcommand(list_command(alloc)?)?
-        .subcommand(cat_command(alloc)?)
+    let command = with_command(command, store_command(alloc))?;
+    let command = with_command(command, list_command(alloc))?;
+    with_command(command, cat_command(alloc))
 }
 
 fn program_command<'a>(alloc: Global) -> Result<Command<'a>, AllocError> {
     let command = Command::new(alloc, "fusekeep")
         .about("Serves FUSE requests, with recovery by resends")
         .after_help("Example:\n  fusekeep check examples/first-run.stream")
-        .subcommand_required(true)
-        .subcommand(dump_command(alloc)?)?
-        .subcommand(check_command(alloc)?)?
-        .subcommand(replay_command(alloc)?)?
-        .subcommand(serve_command(alloc)?)?
-        .subcommand(simulate_command(alloc)?)?;
+        .subcommand_required(true);
+    let command = with_command(command, dump_command(alloc))?;
+    let command = with_command(command, check_command(alloc))?;
+    let command = with_command(command, replay_command(alloc))?;
+    let command = with_command(command, serve_command(alloc))?;
+    let command = with_command(command, simulate_command(alloc))?;
     with_looks(alloc, command)
 }
 
