@@ -227,7 +227,7 @@ fn cat_command<'a>(alloc: Global) -> Result<Command<'a>, AllocError> {
     look_command(alloc, CAT, about, example)?.arg(path)
 }
 
-// With one more command below it.
+// The command with one more below it.
 fn with_command<'a>(
     command: Command<'a>,
     made: Result<Command<'a>, AllocError>,
