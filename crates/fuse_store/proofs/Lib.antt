@@ -1,1 +1,15 @@
-pub mod Trees
+pub mod Retelling
+pub mod Fitting
+pub mod Clearing
+pub mod Mounted
+pub mod NewStore
+pub mod FirstVersion
+pub mod Reopening
+pub mod Serving
+pub mod Grouping
+pub mod Beginning
+pub mod Peeking
+pub mod Numbering
+pub mod Restarting
+pub mod Blank
+pub mod Begun

@@ -1,3 +1,8 @@
-pub mod TheTree
-pub mod Causing
-pub mod PlainTree
+pub mod Creating
+pub mod Mounting
+pub mod Opening
+pub mod Told
+pub mod TableKeeper
+pub mod Laws
+pub mod Starting
+pub mod Storing

@@ -35,6 +35,7 @@ mod Opening
 mod OpeningAgrees
 mod OpeningFits
 mod Placed
+pub mod PlainTrees
 pub mod Puts
 pub mod Ranges
 mod RemovingAgrees

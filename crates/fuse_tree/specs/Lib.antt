@@ -31,5 +31,8 @@ pub mod PlanOpening
 pub mod PlanListing
 pub mod PlanRenaming
 pub mod Planning
+pub mod TheTree
+pub mod Causing
+pub mod PlainTree
 pub mod Bytes
 pub mod Vectors

@@ -9,6 +9,7 @@ mod mount;
 mod new_node;
 mod pieces;
 mod plain;
+mod plain_tree;
 mod planning;
 mod rename_mode;
 mod rows;
@@ -26,5 +27,6 @@ pub use mode::{S_IFBLK, S_IFCHR, S_IFDIR, S_IFIFO, S_IFREG, S_IFSOCK, TYPE_UNIT,
 pub use mount::clearing;
 pub use pieces::{Piece, Pieces};
 pub use plain::PlainRows;
+pub use plain_tree::PlainTree;
 pub use planning::{PlanFault, plan};
 pub use rows::{Change, ChangeList, Counters, EntryRow, Full, HandleRow, NodeRow, Planned};

@@ -15,8 +15,8 @@ use fuse_commands::{
     run_replay, unreadable,
 };
 use fuse_keeper::PlainKeeper;
-use fuse_store::PlainTree;
-use fuse_table_keeper::open_or_create;
+use fuse_tree::PlainTree;
+use fuse_store::open_or_create;
 use fuse_wire::Moment;
 use serve::serve_as_asked;
 use show::{Show, show_store};

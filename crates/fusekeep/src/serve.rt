@@ -2,7 +2,7 @@
 use crate::store::{close_file, open_file};
 use fuse_commands::{Begin, CountLine, Ending, run_serve};
 use fuse_session::{Clock, Fixed, SessionCounts, System};
-use fuse_table_keeper::{TableKeeper, open_fresh};
+use fuse_store::{TableKeeper, open_fresh};
 use fuse_wire::Moment;
 use sqlite::{Alter, Connection};
 use std::fs;

@@ -2,18 +2,18 @@
 ghost use Rattle.std.specs.Prelude.{◌≡◌, None, IfOk, List, map};
 ghost use Rattle.sqlite.specs.State.{HasCleanDisk};
 ghost use Rattle.sqlite.specs.Held.{state};
-ghost use Rattle.fuse_tables.specs.Content.{Content, Counter, shown_counter};
-ghost use Rattle.fuse_tables.specs.Moves.{Rests};
-ghost use Rattle.fuse_table_look.specs.Looking.{look_fault};
-ghost use Rattle.fuse_table_look.specs.Store.{value_of};
+ghost use Rattle.fuse_store_tables.specs.Content.{Content, Counter, shown_counter};
+ghost use Rattle.fuse_store_tables.specs.Moves.{Rests};
+ghost use Rattle.fuse_store_tree.specs.Looking.{look_fault};
+ghost use Rattle.fuse_store_tree.specs.Store.{value_of};
 
 use crate::copied::open_copy;
 use fuse_commands::Ending;
 use fuse_keeper::StoreFault;
 use fuse_show::{ShowFault, TellFault, show_content, show_listing, tell};
-use fuse_table_keeper::TableKeeper;
-use fuse_table_look::TableLook;
-use fuse_tables::{begin, number_at, select_counters};
+use fuse_store::TableKeeper;
+use fuse_store_tree::TableLook;
+use fuse_store_tables::{begin, number_at, select_counters};
 use sqlite::{Alter, Connection, Row};
 use std::alloc::Global;
 use std::io::{self, BufWriter, Write};

@@ -1,15 +1,15 @@
 ghost use Rattle.std.specs.Prelude.{◌≡◌, ◌≤◌, [], false, IfSome, IfOk};
 ghost use Rattle.sqlite.specs.Steps.{over_memory};
 ghost use Rattle.fuse_keeper.specs.KeeperState.{StandsFor};
-ghost use Rattle.fuse_store.specs.TheTree.{the_tree};
-ghost use Rattle.fuse_table_keeper.specs.TableKeeper.{keeper_told};
+ghost use Rattle.fuse_tree.specs.TheTree.{the_tree};
+ghost use Rattle.fuse_store.specs.TableKeeper.{keeper_told};
 ghost use Rattle.fuse_commands.specs.Endings.{status_of};
 ghost use Rattle.fuse_commands.specs.Simulating.{SimulatedFrom};
 ghost use Rattle.fusekeep.specs.Starting.{start};
 
 use fuse_commands::{Ending, START, run_simulate};
 use fuse_keeper::StoreFault;
-use fuse_table_keeper::TableKeeper;
+use fuse_store::TableKeeper;
 use sqlite::{Connection, MemStore};
 use std::alloc::Global;
 use std::io::{Read, Write};

@@ -1,5 +1,5 @@
 use fuse_keeper::StoreFault;
-use fuse_table_keeper::opening_fault;
+use fuse_store::opening_fault;
 use sqlite::{Connection, File, FileStore};
 
 /// The database of a file, which is made where it is missing.

@@ -1,0 +1,35 @@
+-- A start over any database.
+use Rattle.std.proofs.Common.{◌≡◌, false, IsTrue, codes, sym, subst, refl}
+use Rattle.std.specs.Option.{is_some}
+use Rattle.sqlite.specs.Schema.{Schema}
+use Rattle.sqlite.specs.State.{State, IsLive, Survives}
+use Rattle.sqlite.proofs.StateLemmas.{survives_weaker}
+use Rattle.sqlite_schema.specs.Names.{table_named}
+use Rattle.fuse_wire.specs.declared.moment.Moment.{Moment}
+use Rattle.fuse_store_tables.specs.Content.{LeftAs}
+use Rattle.fuse_store_tables.specs.Layout.{no_schema}
+use Rattle.fuse_store_tables.specs.Making.{IsBare}
+use Rattle.fuse_store_tables.specs.Moves.{RestsAs}
+use Rattle.fuse_store.specs.Creating.{IsBlank, LeavesNew}
+use Rattle.fuse_store.specs.Opening.{Stored, OpenedFor, WasFor}
+use Rattle.fuse_store.specs.Starting.{LeavesStarted}
+use Rattle.fuse_store.proofs.Reopening.{rests_was, has_meta, no_none}
+
+-- where nothing was made, nothing is stored
+pub unstored : (s : State) → IsLive s → (IsTrue s.is_open → s.now ≡ s.committed) → s.now.schema ≡ no_schema → (z : Stored) → WasFor z s → ⊥
+unstored s live settled empty z was =
+    no_none (table_named s.now.schema (codes "meta")) 0 (has_meta z s.now (rests_was z s live settled was).holds)
+    (subst (λ (t : Schema). is_some (table_named t (codes "meta")) ≡ false) (sym empty) refl)
+
+pub bare_is_blank : (s : State) → RestsAs (IsBare no_schema tt) s → IsBlank s
+bare_is_blank s bare = (bare.autocommit, bare.holds.schema)
+
+pub left_made : (now : Moment) (a b : State) → ((z : Stored) → WasFor z a → ⊥) → Survives a b (LeavesNew now a) → Survives a b (LeavesStarted now a)
+left_made now a b none one =
+    survives_weaker a b _ (LeavesStarted now a)
+    (λ clean db left. record { made = λ blank is_open. left.1 is_open; opened = λ z was. absurd (none z was) }) one
+
+pub left_opened : (now : Moment) (a b : State) → (IsBlank a → ⊥) → Survives a b (λ db. (z : Stored) → WasFor z a → LeftAs (OpenedFor z) db)
+    → Survives a b (LeavesStarted now a)
+left_opened now a b stored one =
+    survives_weaker a b _ (LeavesStarted now a) (λ clean db left. record { made = λ blank is_open. absurd (stored blank); opened = left }) one

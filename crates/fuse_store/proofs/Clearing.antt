@@ -1,0 +1,183 @@
+-- What is left of rows, and of the blocks of their nodes.
+use Rattle.std.proofs.Common.{◌≡◌, ◌≤◌, ◌<◌, ℕ, ◌==◌, ◌&&◌, ◌||◌, List, [], ◌∷◌, map, filter, find, Bool, true, false, not, cond}
+use Rattle.std.proofs.Common.{Some, None, Option, inl, inr, refl, sym, ap, arith, ◌∙◌}
+use Rattle.std.specs.List.{AllByRecursion, list_any}
+use Rattle.std.specs.Ordering.{is_eq, is_gt, nat_cmp}
+use Rattle.std.proofs.lemmas.Bool.{cases_Bool}
+use Rattle.std.proofs.lemmas.Bool.Decides.{nat_tests}
+use Rattle.fuse_tree.specs.declared.rows.NodeRow.{NodeRow}
+use Rattle.fuse_tree.specs.declared.rows.Full.{Full}
+use Rattle.fuse_tree.specs.State.{State, Node, IsNode, Apart}
+use Rattle.fuse_tree.specs.Rows.{full_of, row_is_named, content_of}
+use Rattle.fuse_tree.specs.Clearing.{is_named_row}
+use Rattle.fuse_store_tables.specs.Blocks.{Block, block_at, is_at}
+use Rattle.fuse_store_tables.specs.Content.{is_unnamed}
+use Rattle.fuse_store_tables.specs.Clearing.{named, has_unnamed}
+use Rattle.fuse_store_tree.specs.Store.{byte_at, bytes_of}
+
+-- ---- tests
+
+same_test : (a b : ℕ) → is_eq (nat_cmp a b) ≡ (a == b)
+same_test a b = grind (arith, nat_tests)
+
+turned_test : (a b : ℕ) → is_eq (nat_cmp a b) ≡ (b == a)
+turned_test a b = grind (arith, nat_tests)
+
+is_number : (a b : ℕ) → is_eq (nat_cmp a b) ≡ true → a ≡ b
+is_number a b is = grind (arith, nat_tests)
+
+later : (a b n : ℕ) → a < b → (a == n) ≡ true → (b == n) ≡ false
+later a b n low is = grind (arith, nat_tests)
+
+later_row : (a b n : ℕ) → a < b → (a == n) ≡ true → is_eq (nat_cmp n b) ≡ false
+later_row a b n low is = grind (arith, nat_tests)
+
+root_test : (n : ℕ) → 1 ≤ n → (n == 1) ≡ not (is_gt (nat_cmp n 1))
+root_test n from = grind (arith, nat_tests)
+
+either : (g z : Bool) → (not g || not z) ≡ not (z && g)
+either true true = refl
+either true false = refl
+either false true = refl
+either false false = refl
+
+-- a row is named just where it isn't one that goes
+pub named_is : (row : NodeRow) → 1 ≤ row.node → row_is_named row ≡ not (is_unnamed row)
+named_is row from =
+    ap (λ b. b || not (row.up == 0)) (root_test row.node from) ∙ ap (λ b. not (is_gt (nat_cmp row.node 1)) || not b) (sym (same_test row.up 0))
+    ∙ either (is_gt (nat_cmp row.node 1)) (is_eq (nat_cmp row.up 0))
+
+-- ---- the rows that are left
+
+module _ (s : State) where
+  abbrev pub fulls : List Node → List Full
+  fulls ns = map (full_of s) ns
+
+  abbrev pub rows : List Node → List NodeRow
+  rows ns = map (λ f. f.row) (fulls ns)
+
+  abbrev number_is : ℕ → Full → Bool
+  number_is node f = f.row.node == node
+
+  abbrev goes : List Node → ℕ → Bool
+  goes ns node = has_unnamed (rows ns) node
+
+  pub named_rows : (next : ℕ) (ns : List Node) → AllByRecursion (IsNode next) ns → named (rows ns) ≡ map (λ f. f.row) (filter is_named_row (fulls ns))
+  named_rows next [] all = refl
+  named_rows next (n ∷ ns) all = by (named_rows next ns all.1) (is_unnamed (full_of s n).row) (is_named_row (full_of s n))
+      (named_is (full_of s n).row all.0.from_one)
+    where
+      by : named (rows ns) ≡ map (λ f. f.row) (filter is_named_row (fulls ns)) → (u v : Bool) → v ≡ not u
+          → cond (not u) ((full_of s n).row ∷ named (rows ns)) (named (rows ns))
+          ≡ map (λ f. f.row) (cond v (full_of s n ∷ filter is_named_row (fulls ns)) (filter is_named_row (fulls ns)))
+      by more true true is = absurd cc
+      by more true false is = more
+      by more false true is = ap (λ l. (full_of s n).row ∷ l) more
+      by more false false is = absurd cc
+
+  none_later : (node : ℕ) (p : Full → Bool) (ns : List Node) → AllByRecursion (λ m. (m.number == node) ≡ false) ns
+      → find (number_is node) (filter p (fulls ns)) ≡ None
+  none_later node p [] off = refl
+  none_later node p (n ∷ ns) off = by (none_later node p ns off.1) (p (full_of s n))
+    where
+      by : find (number_is node) (filter p (fulls ns)) ≡ None → (b : Bool)
+          → find (number_is node) (cond b (full_of s n ∷ filter p (fulls ns)) (filter p (fulls ns))) ≡ None
+      by more true = ap (λ b. cond b (Some (full_of s n)) (find (number_is node) (filter p (fulls ns)))) off.0 ∙ more
+      by more false = more
+
+  none_goes : (node : ℕ) (ns : List Node) → AllByRecursion (λ m. is_eq (nat_cmp node m.number) ≡ false) ns → goes ns node ≡ false
+  none_goes node [] off = refl
+  none_goes node (n ∷ ns) off = by (none_goes node ns off.1) (is_unnamed (full_of s n).row)
+    where
+      by : goes ns node ≡ false → (b : Bool) → list_any (λ m. is_eq (nat_cmp node m))
+          (map (λ r. r.node) (cond b ((full_of s n).row ∷ filter is_unnamed (rows ns)) (filter is_unnamed (rows ns)))) ≡ false
+      by more true = ap (λ b. b || goes ns node) off.0 ∙ more
+      by more false = more
+
+  all_off : (a node : ℕ) (ns : List Node) → (a == node) ≡ true → AllByRecursion (λ m. a < m.number) ns
+      → AllByRecursion (λ m. (m.number == node) ≡ false) ns
+  all_off a node [] is above = tt
+  all_off a node (n ∷ ns) is above = (later a n.number node above.0 is, all_off a node ns is above.1)
+
+  all_apart : (a node : ℕ) (ns : List Node) → (a == node) ≡ true → AllByRecursion (λ m. a < m.number) ns
+      → AllByRecursion (λ m. is_eq (nat_cmp node m.number) ≡ false) ns
+  all_apart a node [] is above = tt
+  all_apart a node (n ∷ ns) is above = (later_row a n.number node above.0 is, all_apart a node ns is above.1)
+
+  -- a node is found among those that are left unless it goes
+  pub found_left : (node next : ℕ) (ns : List Node) → AllByRecursion (IsNode next) ns → Apart (λ n m. n.number < m.number) ns
+      → find (number_is node) (filter is_named_row (fulls ns)) ≡ cond (goes ns node) None (find (number_is node) (fulls ns))
+  found_left node next [] all apart = refl
+  found_left node next (n ∷ ns) all apart =
+      by (found_left node next ns all.1 apart.1) (is_unnamed (full_of s n).row) (is_named_row (full_of s n)) (named_is (full_of s n).row all.0.from_one)
+    where
+      none : (n.number == node) ≡ true → find (number_is node) (filter is_named_row (fulls ns)) ≡ None
+      none here = none_later node is_named_row ns (all_off n.number node ns here apart.0)
+
+      stays : (n.number == node) ≡ true → goes ns node ≡ false
+      stays here = none_goes node ns (all_apart n.number node ns here apart.0)
+
+      by : find (number_is node) (filter is_named_row (fulls ns)) ≡ cond (goes ns node) None (find (number_is node) (fulls ns)) → (u v : Bool) → v ≡ not u
+          → find (number_is node) (cond v (full_of s n ∷ filter is_named_row (fulls ns)) (filter is_named_row (fulls ns)))
+          ≡ cond (list_any (λ m. is_eq (nat_cmp node m)) (map (λ r. r.node) (cond u ((full_of s n).row ∷ filter is_unnamed (rows ns))
+          (filter is_unnamed (rows ns))))) None (cond (n.number == node) (Some (full_of s n)) (find (number_is node) (fulls ns)))
+      by more true true is = absurd cc
+      by more true false is = elim (cases_Bool (n.number == node)) [
+        | inl here ↦ none here ∙ sym (ap (λ b. cond (b || goes ns node) None (cond (n.number == node) (Some (full_of s n)) (find (number_is node) (fulls ns))))
+            (turned_test node n.number ∙ here))
+        | inr off ↦ more ∙ sym (ap (λ b. cond (b || goes ns node) None (cond (n.number == node) (Some (full_of s n)) (find (number_is node) (fulls ns))))
+            (turned_test node n.number ∙ off) ∙ ap (λ b. cond (goes ns node) None (cond b (Some (full_of s n)) (find (number_is node) (fulls ns)))) off)
+      ]
+      by more false true is = elim (cases_Bool (n.number == node)) [
+        | inl here ↦ ap (λ b. cond b (Some (full_of s n)) (find (number_is node) (filter is_named_row (fulls ns)))) here
+            ∙ sym (ap (λ g. cond g None (cond (n.number == node) (Some (full_of s n)) (find (number_is node) (fulls ns)))) (stays here)
+            ∙ ap (λ b. cond b (Some (full_of s n)) (find (number_is node) (fulls ns))) here)
+        | inr off ↦ ap (λ b. cond b (Some (full_of s n)) (find (number_is node) (filter is_named_row (fulls ns)))) off ∙ more
+            ∙ sym (ap (λ b. cond (goes ns node) None (cond b (Some (full_of s n)) (find (number_is node) (fulls ns)))) off)
+      ]
+      by more false false is = absurd cc
+
+-- ---- the blocks that are left
+
+both_are : (a b : Bool) → (a && b) ≡ true → a ≡ true
+both_are true b e = refl
+both_are false b e = absurd cc
+
+pub block_left : (gone : ℕ → Bool) (node k : ℕ) (bs : List Block) → block_at node k (filter (λ b. not (gone b.node)) bs)
+    ≡ cond (gone node) None (block_at node k bs)
+block_left gone node k [] = by (gone node)
+  where
+    by : (b : Bool) → ◌≡◌ {A = Option Block} None (cond b None None)
+    by true = refl
+    by false = refl
+block_left gone node k (b ∷ bs) = elim (cases_Bool (is_at node k b)) [
+  | inl here ↦ here_by here (gone b.node) (gone node) (ap gone (is_number b.node node (both_are _ _ here))) (block_left gone node k bs)
+  | inr off ↦ off_by off (gone b.node) ∙ block_left gone node k bs ∙ sym (ap (λ t. cond (gone node) None (cond t (Some b) (block_at node k bs))) off)
+]
+  where
+    off_by : is_at node k b ≡ false → (g : Bool)
+        → block_at node k (cond (not g) (b ∷ filter (λ x. not (gone x.node)) bs) (filter (λ x. not (gone x.node)) bs))
+        ≡ block_at node k (filter (λ x. not (gone x.node)) bs)
+    off_by off true = refl
+    off_by off false = ap (λ t. cond t (Some b) (block_at node k (filter (λ x. not (gone x.node)) bs))) off
+
+    here_by : is_at node k b ≡ true → (g m : Bool) → g ≡ m
+        → block_at node k (filter (λ x. not (gone x.node)) bs) ≡ cond m None (block_at node k bs)
+        → block_at node k (cond (not g) (b ∷ filter (λ x. not (gone x.node)) bs) (filter (λ x. not (gone x.node)) bs))
+        ≡ cond m None (cond (is_at node k b) (Some b) (block_at node k bs))
+    here_by here true true same more = more
+    here_by here true false same more = absurd cc
+    here_by here false true same more = absurd cc
+    here_by here false false same more =
+        ap (λ t. cond t (Some b) (block_at node k (filter (λ x. not (gone x.node)) bs))) here
+        ∙ sym (ap (λ t. cond t (Some b) (block_at node k bs)) here)
+
+-- ---- bytes
+
+none_at : (i : ℕ) → byte_at [] i ≡ 0
+none_at i = refl
+
+pub bytes_left : (t : Bool) (o : Option Block) (f : Option Full) (i j : ℕ) → byte_at (bytes_of o) i ≡ byte_at (content_of f) j
+    → byte_at (bytes_of (cond t None o)) i ≡ byte_at (content_of (cond t None f)) j
+bytes_left true o f i j same = none_at i ∙ sym (none_at j)
+bytes_left false o f i j same = same

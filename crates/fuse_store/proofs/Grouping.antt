@@ -1,0 +1,108 @@
+-- A group, in the words of a keeper.
+use Rattle.std.proofs.Common.{◌≡◌, ◌++◌, ℕ, Bool, List, [], ◌∷◌, if◌then◌else◌, Option, Some, None, Result, Ok, inl, inr}
+use Rattle.std.proofs.Common.{refl, sym, ap, subst, ◌∙◌}
+use Rattle.std.specs.Prelude.{false}
+use Rattle.sqlite.specs.State.{State}
+use Rattle.fuse_tree.specs.Rows.{rowed}
+use Rattle.fuse_keeper.specs.Model.{IsRowed}
+use Rattle.fuse_keeper.specs.declared.keeper.Done.{Done}
+use Rattle.fuse_keeper.specs.declared.fault.StoreFault.{StoreFault}
+use Rattle.fuse_keeper.specs.History.{Entry, is_in, grown}
+use Rattle.fuse_keeper.specs.Stands.{Records, PerformedBy}
+use Rattle.fuse_keeper.specs.KeeperState.{Performs, KeepsOthers, KeepsLots, LeavesGroup}
+use Rattle.fuse_keeper.specs.Lots.{Lots, SameLots, RecordsUnder, IsFree}
+use Rattle.fuse_tree.specs.TheTree.{the_tree}
+use Rattle.fuse_store_tables.specs.Moves.{ServesAs}
+use Rattle.fuse_store_tree.specs.Store.{records_of}
+use Rattle.fuse_store_tree.specs.Holding.{Holding, HeldFor, TellsAfter, lots_of}
+use Rattle.fuse_store_tree.specs.Group.{performed, all_dones, lot_for}
+use Rattle.fuse_store_tree.specs.Lots.{lots_in, LotsAreSame}
+use Rattle.fuse_store_tree.specs.Performing.{OneHolding, HoldingStands, CallsPerform}
+use Rattle.fuse_store.specs.Told.{IsOf, HoldsIn, table_told}
+use Rattle.fuse_store.proofs.Serving.{Settled, stands_on, moved, holds_at, leaves_either}
+
+pub its_own : (y : Holding) → IsOf y (rowed y.tree) (records_of y.kept)
+its_own y = record { rows_are = refl; records_are = λ i. refl }
+
+module _ (one : OneHolding) (law : CallsPerform) (lot : Option ℕ) (ids : List ℕ) (es : List Entry) (a b : State) {X : Type 0} (x : X)
+    (serves : ServesAs {E = StoreFault} HeldFor (λ y. HeldFor (performed lot ids es y)) a b (Ok x)) where
+  pub performs : (now : Option ℕ) (was is : Bool) (dones : List Done) → TellsAfter a b (λ y. dones ≡ all_dones lot ids es y)
+      → Performs (table_told a lot was) (table_told b now is) ids es dones
+  performs now was is dones told clean s h t so within each =
+      let y = so.held.holding in
+      let z = performed lot ids es y in
+      let all = law.group lot ids es y s h t so.held.rests.holds.tree within each (stands_on y so.rows so.records s h t so.held.is_of so.stands) in
+      let same : dones ≡ all_dones lot ids es y = told clean y so.held.rests in
+      subst (λ ds. PerformedBy the_tree (HoldsIn b) s h t es ds) (sym same) (record {
+        stands = record {
+          rows = all.stands.rows;
+          records = all.stands.records;
+          held = holds_at one b z all.stands.rows all.stands.records (serves.done clean y so.held.rests)
+              (record { rows_are = all.stands.held.0; records_are = all.stands.held.1 });
+          stands = all.stands.stands;
+        };
+        answers = all.answers;
+        repeated = all.repeated;
+      })
+
+  pub others_so : (now : Option ℕ) (was is : Bool)
+      → KeepsOthers (table_told a lot was) (table_told b now is) ids es
+  unfolding IsRowed
+  others_so now was is clean rows records at rowed_so =
+      let y = at.holding in
+      let z = performed lot ids es y in
+      let after = serves.done clean y at.rests in
+      record {
+        rows = rowed z.tree;
+        records = records_of z.kept;
+        held = holds_at one b z (rowed z.tree) (records_of z.kept) after (its_own z);
+        rowed = (z.tree, after.holds.tree, refl);
+        others = λ i off. law.others lot ids es y i off ∙ ap (λ o. if is_in ids i then None else o) (sym (at.is_of.records_are i));
+      }
+
+-- a crash leaves the group out or in
+pub leaves_group : OneHolding → CallsPerform → (lot : Option ℕ) (ids : List ℕ) (es : List Entry) (a b : State) {X : Type 0} (r : Result X StoreFault)
+    → Settled a → ServesAs HeldFor (λ y. HeldFor (performed lot ids es y)) a b r → (now : Option ℕ) (was is : Bool)
+    → LeavesGroup (table_told a lot was) (table_told b now is) ids es
+leaves_group one law lot ids es a b r settled serves now was is s h t so within each firm =
+    let y = so.held.holding in
+    let z = performed lot ids es y in
+    let before : HoldingStands y s h t = stands_on y so.rows so.records s h t so.held.is_of so.stands in
+    let all = law.group lot ids es y s h t so.held.rests.holds.tree within each before in
+    let behind : HoldingStands z s (grown h es) t =
+    moved all.stands.rows (rowed z.tree) all.stands.records (records_of z.kept) s (grown h es) t (sym all.stands.held.0) (λ i. sym (all.stands.held.1 i))
+    all.stands.stands in
+    leaves_either one (performed lot ids es) a b settled serves.survives y so.held.rests now is s s h (grown h es) t t before behind
+
+-- ---- lots
+
+under_same : (old old' new new' : Lots) (records records' : Records) (ids : List ℕ) (es : List Entry) → SameLots old old' → SameLots new new'
+    → ((i : ℕ) → records' i ≡ records i) → RecordsUnder old new records ids es → RecordsUnder old' new' records' ids es
+under_same old old' new new' records records' ids es o n r u = record {
+  kept = λ lot is. let k = u.kept lot (sym o.current ∙ is) in (n.current ∙ k.0, n.numbers ∙ k.1 ∙ sym o.numbers);
+  taken = λ is. elim (u.taken (sym o.current ∙ is)) [
+    | inl t ↦ inl (record {
+      lot = t.lot;
+      is_new = subst (λ l. is_in l t.lot ≡ false) (sym o.numbers) t.is_new;
+      numbers = n.numbers ∙ t.numbers ∙ ap (λ l. l ++ t.lot ∷ []) (sym o.numbers);
+      current = n.current ∙ t.current;
+    })
+    | inr e ↦ inr (n.current ∙ e.0, n.numbers ∙ e.1 ∙ sym o.numbers)
+  ];
+  added = λ i is free. n.under i ∙ u.added i is (free_same i free) ∙ sym n.current;
+  others = λ i said there off. n.under i ∙ u.others i said (sym (r i) ∙ there) off ∙ sym (o.under i);
+} where
+  free_same : (i : ℕ) → IsFree records' ids i → IsFree records ids i
+  free_same i (inl none) = inl (sym (r i) ∙ none)
+  free_same i (inr on) = inr on
+
+pub lots_so : LotsAreSame → CallsPerform → (lot : Option ℕ) (ids : List ℕ) (es : List Entry) (a b : State) {X : Type 0} (x : X)
+    → ServesAs {E = StoreFault} HeldFor (λ y. HeldFor (performed lot ids es y)) a b (Ok x) → (taken : ℕ) (was is : Bool)
+    → TellsAfter a b (λ y. taken ≡ lot_for lot y) → KeepsLots (table_told a lot was) (table_told b (Some taken) is) ids es
+lots_so told law lot ids es a b x serves taken was is says clean rows records at rowed_so =
+    let y = at.holding in
+    let z = performed lot ids es y in
+    let same : taken ≡ lot_for lot y = says clean y at.rests in
+    under_same (lots_of lot y) (lots_in lot a.now) (lots_of (Some (lot_for lot y)) z) (lots_in (Some taken) b.now) (records_of y.kept) records ids es
+    (told lot y a.now at.rests.holds) (subst (λ n. SameLots (lots_of (Some n) z) (lots_in (Some taken) b.now)) same
+    (told (Some taken) z b.now (serves.done clean y at.rests).holds)) at.is_of.records_are (law.lots lot ids es y at.rests.holds.below)

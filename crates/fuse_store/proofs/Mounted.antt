@@ -1,0 +1,97 @@
+-- What the begin of a mount makes of the tables is told of what is left.
+use Rattle.std.proofs.Common.{◌≡◌, ◌≤◌, ◌/◌, ◌%◌, ℕ, [], map, filter, length, not, cond, min, None}
+use Rattle.std.proofs.Common.{refl, sym, ap, subst, arith, ◌∙◌}
+use Rattle.std.proofs.lemmas.List.{length-map}
+use Rattle.sqlite.specs.Effect.{Database}
+use Rattle.fuse_tree.specs.Bounds.{block_bytes}
+use Rattle.fuse_tree.specs.State.{State, Tree}
+use Rattle.fuse_tree.specs.Rows.{Rows, rowed, full_of, full_at, content_of}
+use Rattle.fuse_tree.specs.Clearing as trees
+use Rattle.fuse_store_tables.specs.Content.{Content, Holds, node_key, is_unnamed, set_counter}
+use Rattle.fuse_store_tables.specs.Clearing.{cleared, named, has_unnamed, counted_to, without_settings}
+use Rattle.fuse_store_tree.specs.Fits.{KeepsNode, IsWhole}
+use Rattle.fuse_store_tree.specs.Store.{Tells, counters_of, in_order, byte_at, bytes_of}
+use Rattle.fuse_store_tree.specs.Holding.{Holding, HeldFor, TreesAreInOrder, store_of}
+use Rattle.fuse_store.specs.Mounting.{cleared_for}
+use Rattle.fuse_store.proofs.Fitting.{filter_length, all_filter}
+use Rattle.fuse_store.proofs.Clearing.{named_rows, found_left, block_left, bytes_left}
+use Rattle.fuse_store.proofs.Retelling.{Retold}
+
+small_count : (n m : ℕ) → n ≤ m → m ≤ 65536 → min n 9223372036854775807 ≡ n
+small_count n m less few = omega (arith, less, few)
+
+module _ (clearing : trees.Clearing) (ordered : TreesAreInOrder) (y : Holding) (c : Content) (tree : Tree y.tree) (told : Tells (store_of y) c) where
+  -- the rows of the nodes, as the tables have them
+  nodes_are : c.nodes ≡ map (λ f. f.row) (rowed y.tree).nodes
+  nodes_are = told.nodes ∙ (ordered y.tree tree).nodes
+
+  named_are : named c.nodes ≡ map (λ f. f.row) (filter trees.is_named_row (rowed y.tree).nodes)
+  unfolding rowed
+  named_are = ap named nodes_are ∙ named_rows y.tree y.tree.next_node y.tree.nodes tree.nodes
+
+  left_in_order : in_order node_key (map (λ f. f.row) (filter trees.is_named_row (rowed y.tree).nodes))
+      ≡ map (λ f. f.row) (filter trees.is_named_row (rowed y.tree).nodes)
+  left_in_order =
+      let law = clearing y.tree tree in
+      subst (λ (r : Rows). in_order node_key (map (λ f. f.row) r.nodes) ≡ map (λ f. f.row) r.nodes) law.1 (ordered (trees.cleared y.tree) law.0).nodes
+
+  count_is : counted_to (named c.nodes) ≡ length (filter trees.is_named_row (rowed y.tree).nodes)
+  unfolding rowed
+  count_is =
+      let short = length-map (filter trees.is_named_row (rowed y.tree).nodes) (λ f. f.row) in
+      ap (λ n. min n 9223372036854775807) (ap length named_are ∙ short)
+      ∙ small_count (length (filter trees.is_named_row (rowed y.tree).nodes)) (length y.tree.nodes) (fewer y.tree) tree.limits.nodes
+    where
+      fewer : (s : State) → length (filter trees.is_named_row (map (full_of s) s.nodes)) ≤ length s.nodes
+      fewer s = subst (λ n. length (filter trees.is_named_row (map (full_of s) s.nodes)) ≤ n) (length-map s.nodes (full_of s))
+          (filter_length trees.is_named_row (map (full_of s) s.nodes))
+
+  counters_are : (cleared c).counters ≡ counters_of (trees.cleared_rows (rowed y.tree)).counters None y.next_lot
+  counters_are =
+      ap (λ cs. (set_counter 5 (counted_to (named c.nodes)) (without_settings (set_counter 6 0 (record c { counters = cs })))).counters) told.counters
+      ∙ ap (λ n. counters_of (record (rowed y.tree).counters { nodes = n; handles = 0 }) None y.next_lot) count_is
+
+  bytes_are : (node i : ℕ) → byte_at (bytes_of (Rattle.fuse_store_tables.specs.Blocks.block_at node (i / block_bytes) (cleared c).blocks)) (i % block_bytes)
+      ≡ byte_at (content_of (full_at (trees.cleared_rows (rowed y.tree)) node)) i
+  unfolding rowed
+  bytes_are node i =
+      ap (λ o. byte_at (bytes_of o) (i % block_bytes)) (block_left (has_unnamed c.nodes) node (i / block_bytes) c.blocks)
+      ∙ bytes_left (has_unnamed c.nodes node) _ (full_at (rowed y.tree) node) (i % block_bytes) i (told.bytes node i)
+      ∙ sym (ap (λ f. byte_at (content_of f) i) (found_left y.tree node y.tree.next_node y.tree.nodes tree.nodes tree.nodes_rise
+      ∙ ap (λ ns. cond (has_unnamed ns node) None (full_at (rowed y.tree) node)) (sym nodes_are)))
+
+  pub tells_cleared : Tells (store_of (cleared_for y)) (cleared c)
+  tells_cleared =
+      subst (λ (r : Rows). Tells (record { rows = r; kept = []; lots = []; next_lot = y.next_lot }) (cleared c)) (sym (clearing y.tree tree).1)
+      (record {
+        counters = counters_are;
+        nodes = named_are ∙ sym left_in_order;
+        entries = told.entries;
+        handles = refl;
+        answers = told.answers;
+        lots = refl;
+        kept = refl;
+        bytes = bytes_are;
+        settings = record { minor = omega arith; readahead = omega arith; flags = omega arith };
+        fits = record {
+          nodes = all_filter KeepsNode (λ n. not (is_unnamed n)) c.nodes told.fits.nodes;
+          entries = told.fits.entries;
+          handles = tt;
+          blocks = all_filter IsWhole (λ b. not (has_unnamed c.nodes b.node)) c.blocks told.fits.blocks;
+          kept = tt;
+        };
+      })
+
+pub mounted : trees.Clearing → TreesAreInOrder → (y : Holding) (d : Database) → HeldFor y d
+    → Retold Holds (λ c. Holds (cleared c)) HeldFor (λ y. HeldFor (cleared_for y)) y d
+mounted clearing ordered y d at = record {
+  content = at.held.0;
+  holds = at.held.1;
+  same = λ e k. record { tree = at.tree; below = at.below; next = at.next; held = (at.held.0, k, at.held.2) };
+  made = λ e k. record {
+    tree = (clearing y.tree at.tree).0;
+    below = tt;
+    next = at.next;
+    held = (cleared at.held.0, k, tells_cleared clearing ordered y at.held.0 at.tree at.held.2);
+  };
+}

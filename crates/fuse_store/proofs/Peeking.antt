@@ -1,0 +1,132 @@
+-- A look at what a keeper holds, and a fault of any call.
+use Rattle.std.proofs.Common.{◌≡◌, ℕ, Bool, true, false, Option, Ok, Err, Result, inl, inr, refl, sym, ap}
+use Rattle.std.proofs.Common.{subst, IsTrue}
+use Rattle.std.specs.Prelude.{◌||◌}
+use Rattle.sqlite.specs.Tree.{Trees}
+use Rattle.sqlite.specs.State.{State, HasCleanDisk}
+use Rattle.fuse_tree.specs.Rows.{Rows}
+use Rattle.fuse_keeper.specs.Stands.{Records}
+use Rattle.fuse_keeper.specs.KeeperState.{Called, Looked}
+use Rattle.fuse_keeper.specs.declared.fault.StoreFault.{StoreFault}
+use Rattle.fuse_store_tables.specs.Content.{LeftAs}
+use Rattle.fuse_keeper.specs.declared.fault.StoreFault.TheVariants.{Memory, Sql, NotAStore, Version, Damaged}
+use Rattle.fuse_store_tables.specs.Faults.{IsPlain, IsOutside}
+use Rattle.fuse_store_tables.specs.Following.{earlier}
+use Rattle.fuse_store_tables.specs.Moves.{RestsAs, ServesAs}
+use Rattle.fuse_store_tree.specs.Holding.{Holding, HeldFor, lots_of}
+use Rattle.fuse_store_tree.specs.Lots.{lots_in, LotsAreSame}
+use Rattle.fuse_store_tree.specs.Performing.{OneHolding}
+use Rattle.fuse_store.specs.Told.{IsOf, HoldsIn, LeavesSome, MayLeave, table_told}
+use Rattle.fuse_store.proofs.Serving.{Settled, left_either, one_left, kept_held, holds_at, same_both}
+
+or_true : (b : Bool) → (b || true) ≡ true
+or_true true = refl
+or_true false = refl
+
+or_false : (b : Bool) → (b || false) ≡ b
+or_false true = refl
+or_false false = refl
+
+-- ---- any call
+
+-- where it held something, a fault is plain
+abbrev pub IsPlainWhere : State → State → StoreFault → Type 0
+IsPlainWhere a b e = HasCleanDisk b → (y : Holding) → RestsAs (HeldFor y) a → IsPlain e
+
+outside_is_plain : (e : StoreFault) → IsOutside e → IsPlain e
+outside_is_plain Memory is = tt
+outside_is_plain (Sql e) is = tt
+outside_is_plain NotAStore is = absurd is
+outside_is_plain (Version n) is = absurd is
+outside_is_plain Damaged is = absurd is
+
+pub plain_where : (a b : State) (e : StoreFault) → (HasCleanDisk b → (y : Holding) → RestsAs (HeldFor y) a → IsOutside e) → IsPlainWhere a b e
+plain_where a b e safe clean y at = outside_is_plain e (safe clean y at)
+
+pub went_well : {A X : Type 0} → (f : Holding → Holding) (a b : State) (x : X) (y : A) → ServesAs {E = StoreFault} HeldFor (λ y. HeldFor (f y)) a b (Ok x)
+    → (lot now : Option ℕ) (failed : Bool) → Called {A = A} (table_told a lot failed) (table_told b now failed) (Ok y)
+went_well f a b x y serves lot now failed = record {
+  failed = sym (or_false failed);
+  honest = λ clean. earlier a b _ serves.survives clean;
+  err = tt;
+  err_lots = tt;
+  fault = λ clean s h t so. tt;
+}
+
+pub went_wrong : {A X : Type 0} → OneHolding → LotsAreSame → (f : Holding → Holding) (a b : State) (e : StoreFault)
+    → ServesAs {X = X} HeldFor (λ y. HeldFor (f y)) a b (Err e) → IsPlainWhere a b e → (lot : Option ℕ) (failed : Bool)
+    → Called {A = A} (table_told a lot failed) (table_told b lot true) (Err e)
+went_wrong one told f a b e serves plain lot failed = record {
+  failed = sym (or_true failed);
+  honest = λ clean. earlier a b _ serves.survives clean;
+  err = λ clean rows records at. kept_held one f a b e rows records serves clean.0 clean.1 at;
+  err_lots = λ clean rows records at.
+      let y = at.holding in
+      same_both (lots_of lot y) (lots_in lot a.now) (lots_in lot b.now) (told lot y a.now at.rests.holds) (told lot y b.now
+      (serves.kept clean.0 clean.1 y at.rests).holds);
+  fault = λ clean s h t so. plain clean.0 so.held.holding so.held.rests;
+}
+
+-- ---- a look
+
+module _ (one : OneHolding) (a b : State) (settled : Settled a) (stays : IsTrue a.is_open
+    → a.may_leave a.committed.trees) {X : Type 0} (r : Result X StoreFault)
+    (serves : ServesAs HeldFor HeldFor a b r) where
+  mid : HasCleanDisk b → HasCleanDisk a
+  mid clean = earlier a b _ serves.survives clean
+
+  -- what a crash may leave after it
+  left_same : (y : Holding) → RestsAs (HeldFor y) a → HasCleanDisk b → (db : Trees) → b.may_leave db → LeftAs (HeldFor y) db
+  left_same y rests clean db may = elim (left_either one (λ z. z) a b settled serves.survives y rests clean db may) [
+    | inl old ↦ old
+    | inr new ↦ new
+  ]
+
+  pub whole_still : (rows : Rows) (records : Records) → HoldsIn a rows records → HasCleanDisk b → (db : Trees) → b.may_leave db → LeavesSome db
+  whole_still rows records at clean db may = record { holding = at.holding; left = left_same at.holding at.rests clean db may }
+
+  -- it might have left that before
+  pub left_before : (x : Rows) (q : Records) (rows : Rows) (records : Records) → HoldsIn a rows records → MayLeave b x q → MayLeave a x q
+  left_before x q rows records at left =
+      let y = at.holding in
+      let same = one_left one left.these.some.holding y left.trees left.these.some.left (left_same y at.rests left.clean left.trees left.may) in
+      record {
+        clean = mid left.clean;
+        trees = a.committed.trees;
+        may = stays at.rests.is_open;
+        these = record {
+          some = record { holding = y; left = (a.now, at.rests.holds, sym (ap (λ d. d.trees) at.rests.committed)) };
+          is_of = subst (λ z. IsOf z x q) same left.these.is_of;
+        };
+      }
+
+  pub still_held : (f : X) → r ≡ Ok f → HasCleanDisk b → (rows : Rows) (records : Records) → HoldsIn a rows records → HoldsIn b rows records
+  still_held f is clean rows records at =
+      let well : ServesAs {E = StoreFault} HeldFor HeldFor a b (Ok f) = subst (λ q. ServesAs HeldFor HeldFor a b q) is serves in
+      holds_at one b at.holding rows records (well.done clean at.holding at.rests) at.is_of
+
+module _ (one : OneHolding) (told : LotsAreSame) (a b : State) (settled : Settled a) (stays : IsTrue a.is_open → a.may_leave a.committed.trees) where
+  pub looked_well : {X : Type 0} → (x : X) → ServesAs {E = StoreFault} HeldFor HeldFor a b (Ok x) → (lot : Option ℕ) (failed : Bool)
+      → Looked {A = X} (table_told a lot failed) (table_told b lot failed) (Ok x)
+  looked_well x serves lot failed = record {
+    called = went_well (λ z. z) a b x x serves lot lot failed;
+    may = λ f plain. plain;
+    same = λ clean rows records at. still_held one a b settled stays (Ok x) serves x refl clean rows records at;
+    lots = λ clean rows records at.
+        let y = at.holding in
+        same_both (lots_of lot y) (lots_in lot a.now) (lots_in lot b.now) (told lot y a.now at.rests.holds) (told lot y b.now
+        (serves.done clean y at.rests).holds);
+    whole = λ rows records at was. whole_still one a b settled stays (Ok x) serves rows records at;
+    crash = λ x' q rows records at left. left_before one a b settled stays (Ok x) serves x' q rows records at left;
+  }
+
+  pub looked_wrong : {X : Type 0} → (e : StoreFault) → ServesAs {X = X} HeldFor HeldFor a b (Err e) → IsPlainWhere a b e → (lot : Option ℕ) (failed : Bool)
+      → Looked {A = X} (table_told a lot failed) (table_told b lot true) (Err e)
+  looked_wrong e serves plain lot failed = record {
+    called = went_wrong one told (λ z. z) a b e serves plain lot failed;
+    may = λ f plain. plain;
+    same = tt;
+    lots = tt;
+    whole = λ rows records at was. whole_still one a b settled stays (Err e) serves rows records at;
+    crash = λ x' q rows records at left. left_before one a b settled stays (Err e) serves x' q rows records at left;
+  }

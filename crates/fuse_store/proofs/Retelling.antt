@@ -1,0 +1,66 @@
+-- A whole transaction on a store, told in other words.
+use Rattle.std.proofs.Common.{Ok, Err, Result, OnOk, OnErr, IfErr, IsTrue}
+use Rattle.sqlite.specs.Effect.{Database}
+use Rattle.sqlite.specs.State.{State, HasCleanDisk, Survives}
+use Rattle.sqlite.proofs.StateLemmas.{survives_weaker}
+use Rattle.fuse_keeper.specs.declared.fault.StoreFault.{StoreFault}
+use Rattle.fuse_store_tables.specs.Content.{LeftAs}
+use Rattle.fuse_store_tables.specs.Faults.{IsOutside}
+use Rattle.fuse_store_tables.specs.Moves.{RestsAs, ServesAs, IsSafe}
+
+-- each database that is told so is one of the first words, and what these make of it is told so too
+pub record Retold {C D : Type 0} (P Q : C → Database → Type 0) (P' Q' : D → Database → Type 0) (z : D) (d : Database) : Type 0 where
+  pub content : C
+  pub holds : P content d
+  pub same : (e : Database) → P content e → P' z e
+  pub made : (e : Database) → Q content e → Q' z e
+
+module _ {C D : Type 0} (P Q : C → Database → Type 0) (P' Q' : D → Database → Type 0) (told : (z : D) (d : Database) → P' z d → Retold P Q P' Q' z d) where
+  as_told : (z : D) (s : State) (at : RestsAs (P' z) s) → RestsAs (P (told z s.now at.holds).content) s
+  as_told z s at = record { is_open = at.is_open; autocommit = at.autocommit; holds = (told z s.now at.holds).holds; committed = at.committed }
+
+  pub served_so : {X E : Type 0} (a b : State) (r : Result X E) → ServesAs P Q a b r → ServesAs P' Q' a b r
+  served_so a b (Ok x) p = record {
+    survives = survives_weaker a b _ _ (λ _ db left z at.
+        let w = told z a.now at.holds in
+        let it = left w.content (as_told z a at) in
+        (it.0, w.made it.0 it.1, it.2)) p.survives;
+    kept = tt;
+    done = λ clean z at.
+        let w = told z a.now at.holds in
+        let now = p.done clean w.content (as_told z a at) in
+        record { is_open = now.is_open; autocommit = now.autocommit; holds = w.made b.now now.holds; committed = now.committed };
+  }
+  served_so a b (Err e) p = record {
+    survives = survives_weaker a b _ _ (λ _ db left z at.
+        let w = told z a.now at.holds in
+        let it = left w.content (as_told z a at) in
+        (it.0, w.made it.0 it.1, it.2)) p.survives;
+    kept = λ clean is_open z at.
+        let w = told z a.now at.holds in
+        let now = p.kept clean is_open w.content (as_told z a at) in
+        record { is_open = now.is_open; autocommit = now.autocommit; holds = w.same b.now now.holds; committed = now.committed };
+    done = tt;
+  }
+
+  pub safe_so : {X : Type 0} (a b : State) (r : Result X StoreFault) → IsSafe P a b r → IsSafe P' a b r
+  safe_so a b (Ok x) p clean = tt
+  safe_so a b (Err e) p clean = λ z at. p clean (told z a.now at.holds).content (as_told z a at)
+
+-- where what is known before the call says that the store is so
+module _ {C : Type 0} (P Q : C → Database → Type 0) (W : C → Type 0) (a b : State) (so : (c : C) → W c → RestsAs (P c) a) where
+  pub done_so : {X E : Type 0} (r : Result X E) → ServesAs P Q a b r → HasCleanDisk b → OnOk r ((c : C) → W c → RestsAs (Q c) b)
+  done_so (Ok x) p clean = λ c w. p.done clean c (so c w)
+  done_so (Err e) p clean = tt
+
+  pub kept_so : {X E : Type 0} (r : Result X E) → ServesAs P Q a b r
+      → OnErr r (HasCleanDisk b → IsTrue b.is_open → (c : C) → W c → RestsAs (P c) b)
+  kept_so (Ok x) p = tt
+  kept_so (Err e) p = λ clean is_open c w. p.kept clean is_open c (so c w)
+
+  pub crash_so : {X E : Type 0} (r : Result X E) → ServesAs P Q a b r → Survives a b (λ db. (c : C) → W c → LeftAs (Q c) db)
+  crash_so r p = survives_weaker a b _ _ (λ _ db left c w. left c (so c w)) p.survives
+
+  pub sure_so : {X : Type 0} (r : Result X StoreFault) → IsSafe P a b r → HasCleanDisk b → IfErr r (λ f. (c : C) → W c → IsOutside f)
+  sure_so (Ok x) p clean = tt
+  sure_so (Err e) p clean = λ c w. p clean c (so c w)

@@ -1,0 +1,122 @@
+-- What a call that is a whole transaction does to a keeper over tables.
+use Rattle.std.proofs.Common.{◌≡◌, ◌⊎◌, ℕ, Bool, List, Option, Ok, Err, inl, inr, sym, ap, subst, ◌∙◌, IsTrue}
+use Rattle.sqlite.specs.Tree.{Trees}
+use Rattle.sqlite.specs.Effect.{Database}
+use Rattle.sqlite.specs.State.{State, HasCleanDisk, Survives}
+use Rattle.fuse_tree.specs.State.{State as TreeState}
+use Rattle.fuse_tree.specs.Rows.{Rows, rowed}
+use Rattle.fuse_keeper.specs.History.{History}
+use Rattle.fuse_keeper.specs.Stands.{Records, Stands, StandsForEither}
+use Rattle.fuse_keeper.specs.KeeperState.{IsFirm, Leaves}
+use Rattle.fuse_keeper.specs.Lots.{Lots, SameLots}
+use Rattle.fuse_tree.specs.TheTree.{the_tree}
+use Rattle.fuse_store_tables.specs.Content.{LeftAs}
+use Rattle.fuse_store_tables.specs.Moves.{RestsAs, ServesAs}
+use Rattle.fuse_store_tree.specs.Store.{records_of}
+use Rattle.fuse_store_tree.specs.Holding.{Holding, HeldFor}
+use Rattle.fuse_store_tree.specs.Performing.{OneHolding, HoldingStands}
+use Rattle.fuse_store.specs.Told.{IsOf, HoldsIn, LeavesSome, table_told}
+
+-- while the connection is open, a crash leaves what was committed
+abbrev pub Settled : State → Type 0
+Settled s = (db : Trees) → IsTrue s.is_open → s.may_leave db → db ≡ s.committed.trees
+
+-- ---- one thing
+
+same_database : (a b : Database) → a.schema ≡ b.schema → a.trees ≡ b.trees → a ≡ b
+same_database a b schema trees = ap (λ s. record a { schema = s }) schema ∙ ap (λ t. record b { trees = t }) trees
+
+pub one_left : OneHolding → (x y : Holding) (db : Trees) → LeftAs (HeldFor x) db → LeftAs (HeldFor y) db → x ≡ y
+one_left one x y db (d, held, is) (e, kept, are) =
+    one x y d held (subst (HeldFor y) (same_database e d (kept.held.1.schema ∙ sym held.held.1.schema) (are ∙ sym is)) kept)
+
+pub holds_at : OneHolding → (s : State) (y : Holding) (rows : Rows) (records : Records) → RestsAs (HeldFor y) s → IsOf y rows records → HoldsIn s rows records
+holds_at one s y rows records rests is = record { holding = y; rests = rests; alone = λ z held. one z y s.now held rests.holds; is_of = is }
+
+-- ---- what stands for a history
+
+pub moved : (rows x : Rows) (records r : Records) (s : TreeState) (h : History) (t : List ℕ) → x ≡ rows → ((i : ℕ) → r i ≡ records i)
+    → Stands the_tree rows records s h t → Stands the_tree x r s h t
+moved rows x records r s h t is are so = record {
+  tree = so.tree;
+  distinct = so.distinct;
+  rows_are = is ∙ so.rows_are;
+  right = λ i a found. so.right i a (sym (are i) ∙ found);
+  kept = λ i off. are i ∙ so.kept i off;
+}
+
+pub stands_on : (y : Holding) (rows : Rows) (records : Records) (s : TreeState) (h : History) (t : List ℕ) → IsOf y rows records
+    → Stands the_tree rows records s h t
+    → HoldingStands y s h t
+stands_on y rows records s h t is so = moved rows (rowed y.tree) records (records_of y.kept) s h t (sym is.rows_are) (λ i. sym (is.records_are i)) so
+
+pub stands_of : (y : Holding) (rows : Rows) (records : Records) (s : TreeState) (h : History) (t : List ℕ) → IsOf y rows records → HoldingStands y s h t
+    → Stands the_tree rows records s h t
+stands_of y rows records s h t is so = moved (rowed y.tree) rows (records_of y.kept) records s h t is.rows_are is.records_are so
+
+-- ---- what a crash leaves
+
+-- of a store at rest, just what it holds
+pub left_now : (s : State) (y : Holding) (db : Trees) → Settled s → RestsAs (HeldFor y) s → s.may_leave db → LeftAs (HeldFor y) db
+left_now s y db settled rests may = (s.now, rests.holds, sym (settled db rests.is_open may ∙ ap (λ d. d.trees) rests.committed))
+
+pub firm : OneHolding → (s : State) (lot : Option ℕ) (failed : Bool) → Settled s → IsFirm (table_told s lot failed)
+firm one s lot failed settled rows records at = (
+  λ clean db may. record { holding = at.holding; left = left_now s at.holding db settled at.rests may },
+  λ x r left.
+      let z = left.these.some.holding in
+      let same : z ≡ at.holding = one_left one z at.holding left.trees left.these.some.left
+      (left_now s at.holding left.trees settled at.rests left.may) in (
+        left.these.is_of.rows_are ∙ ap (λ y. rowed y.tree) same ∙ sym at.is_of.rows_are,
+        λ i. left.these.is_of.records_are i ∙ ap (λ y. records_of y.kept i) same ∙ sym (at.is_of.records_are i),
+      ),
+)
+
+-- a call over what is held leaves that, or what it makes of it
+module _ (one : OneHolding) (f : Holding → Holding) (a b : State) (settled : Settled a)
+    (survives : Survives a b (λ db. (c : Holding) → RestsAs (HeldFor c) a → LeftAs (HeldFor (f c)) db)) (y : Holding) (rests : RestsAs (HeldFor y) a) where
+  pub left_either : HasCleanDisk b → (db : Trees) → b.may_leave db → LeftAs (HeldFor y) db ⊎ LeftAs (HeldFor (f y)) db
+  left_either clean db may = elim (survives.crash clean db may) [
+    | inl before ↦ inl (left_now a y db settled rests before)
+    | inr made ↦ inr (made y rests)
+  ]
+
+  whole : HasCleanDisk b → (db : Trees) → b.may_leave db → LeavesSome db
+  whole clean db may = elim (left_either clean db may) [
+    | inl old ↦ record { holding = y; left = old }
+    | inr new ↦ record { holding = f y; left = new }
+  ]
+
+  pub leaves_either : (lot : Option ℕ) (failed : Bool) (s s' : TreeState) (h h' : History) (t t' : List ℕ) → HoldingStands y s h t
+      → HoldingStands (f y) s' h' t'
+      → Leaves (table_told b lot failed) (StandsForEither the_tree s h t s' h' t')
+  leaves_either lot failed s s' h h' t t' before after = (
+    whole,
+    λ x r left.
+        let z = left.these.some.holding in
+        elim (left_either left.clean left.trees left.may) [
+          | inl old ↦ inl (stands_of y x r s h t (subst (λ w. IsOf w x r) (one_left one z y left.trees left.these.some.left old) left.these.is_of) before)
+          | inr new ↦ inr (stands_of (f y) x r s' h' t'
+              (subst (λ w. IsOf w x r) (one_left one z (f y) left.trees left.these.some.left new) left.these.is_of) after)
+        ],
+  )
+
+-- ---- what is held after a call
+
+pub kept_held : {X E : Type 0} → OneHolding → (f : Holding → Holding) (a b : State) (e : E) (rows : Rows) (records : Records)
+    → ServesAs {X = X} HeldFor (λ y. HeldFor (f y)) a b (Err e) → HasCleanDisk b → IsTrue b.is_open → HoldsIn a rows records → HoldsIn b rows records
+kept_held one f a b e rows records p clean is_open at = holds_at one b at.holding rows records (p.kept clean is_open at.holding at.rests) at.is_of
+
+pub made_held : {X E : Type 0} → OneHolding → (f : Holding → Holding) (a b : State) (x : X) (rows rows' : Rows) (records records' : Records)
+    → ServesAs {E = E} HeldFor (λ y. HeldFor (f y)) a b (Ok x) → HasCleanDisk b → (at : HoldsIn a rows records) → IsOf (f at.holding) rows' records'
+    → HoldsIn b rows' records'
+made_held one f a b x rows rows' records records' p clean at is = holds_at one b (f at.holding) rows' records' (p.done clean at.holding at.rests) is
+
+-- ---- lots
+
+pub same_both : (x a b : Lots) → SameLots x a → SameLots x b → SameLots a b
+same_both x a b p q = record {
+  numbers = q.numbers ∙ sym p.numbers;
+  current = q.current ∙ sym p.current;
+  under = λ i. q.under i ∙ sym (p.under i);
+}

@@ -1,6 +1,0 @@
-use Rattle.fuse_tree.specs.PlainRows.{rows_of}
-use Rattle.fuse_store.proofs.Trees.{tree_clears}
-use Rattle.fuse_store.proofs.tree.PlainTreeFileSystem.begin_mount.Goals as goal
-
-pub returns : goal.returns
-returns c = tree_clears (rows_of c.args.self.now.rows) (rows_of c.begin_mount.new.self) c.clearing.ensures c.begin_mount.ensures.rows

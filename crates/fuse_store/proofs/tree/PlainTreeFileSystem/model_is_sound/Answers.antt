@@ -1,5 +1,0 @@
-use Rattle.fuse_store.proofs.Trees.{tree_is_sound}
-use Rattle.fuse_store.proofs.tree.PlainTreeFileSystem.model_is_sound.Goals as goal
-
-pub returns : goal.returns
-returns c = tree_is_sound c.answers_fit.ensures c.new_store_is_tree.ensures c.tree_kept.ensures c.clearing.ensures

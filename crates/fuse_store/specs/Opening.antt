@@ -1,0 +1,66 @@
+-- What a store holds in either version, and what it holds once it is opened (own profile).
+use Rattle.std.specs.Prelude.{◌≡◌, ℕ, false, IsTrue, List, [], ◌∷◌, map, Option}
+use Rattle.std.specs.List.{AllByRecursion}
+use Rattle.sqlite.specs.Effect.{Database}
+use Rattle.sqlite.specs.State.{State}
+use Rattle.fuse_init.specs.declared.settings.Settings.{Settings}
+use Rattle.fuse_tree.specs.declared.rows.Counters.{Counters as CountersRow}
+use Rattle.fuse_tree.specs.State.{State as TreeState, Tree}
+use Rattle.fuse_tree.specs.Rows.{Rows, rowed}
+use Rattle.fuse_store_tables.specs.Layout.{with_answers}
+use Rattle.fuse_store_tables.specs.Content.{Content, Counter, Answer, HoldsAs, LeftAs, stored, node_key, cookie_of, fh_of}
+use Rattle.fuse_store_tables.specs.Opening.{under}
+use Rattle.fuse_store_tree.specs.Fits.{Fits, KeepsRecord}
+use Rattle.fuse_store_tree.specs.Store.{FitsSettings, in_order, counter, is_there, minor_of, readahead_of, flags_of, byte_in, rows_bytes}
+use Rattle.fuse_store_tree.specs.Holding.{Holding, HeldFor}
+
+-- ---- version 1
+
+-- the ten of its `meta`
+abbrev pub first_counters : CountersRow → Option Settings → List Counter
+first_counters c s =
+    counter 1 1 ∷ counter 2 c.next_node ∷ counter 3 c.next_fh ∷ counter 4 c.next_cookie ∷ counter 5 c.nodes ∷ counter 6 c.handles ∷ counter 7 (is_there s)
+    ∷ counter 8 (minor_of s) ∷ counter 9 (readahead_of s)
+    ∷ counter 10 (flags_of s) ∷ []
+
+-- its tables tell these rows of a tree, and these records, which have no lot
+pub record TellsFirst (rows : Rows) (records : List Answer) (c : Content) : Type 0 where
+  pub counters : c.counters ≡ first_counters rows.counters rows.settings
+  pub nodes : c.nodes ≡ in_order node_key (map (λ f. f.row) rows.nodes)
+  pub entries : c.entries ≡ in_order cookie_of rows.entries
+  pub handles : c.handles ≡ in_order fh_of rows.handles
+  pub answers : c.answers ≡ records
+  pub lots : c.lots ≡ []
+  pub kept : c.kept ≡ []
+  pub bytes : (node i : ℕ) → byte_in c.blocks node i ≡ rows_bytes rows node i
+  pub settings : FitsSettings rows.settings
+  pub fits : Fits c
+  pub keeps : AllByRecursion (λ a. KeepsRecord (under 0 a)) records
+
+-- a database of version 1 that holds this
+pub record FirstFor (s : TreeState) (records : List Answer) (d : Database) : Type 0 where
+  pub tree : Tree s
+  pub held : (c : Content) × HoldsAs with_answers (stored c) d × TellsFirst (rowed s) records c
+
+-- ---- either version
+
+-- a tree and its records, or all that version 2 holds
+pub data Stored : Type 0 where
+  First : TreeState → List Answer → Stored
+  Second : Holding → Stored
+
+abbrev pub StoredFor : Stored → Database → Type 0
+StoredFor (First s records) d = FirstFor s records d
+StoredFor (Second y) d = HeldFor y d
+
+-- the records of version 1 are under lot 0, and the next lot is 1
+abbrev pub opened_for : Stored → Holding
+opened_for (First s records) = record { tree = s; kept = map (under 0) records; lots = 0 ∷ []; next_lot = 1 }
+opened_for (Second y) = y
+
+abbrev pub OpenedFor : Stored → Database → Type 0
+OpenedFor z = HeldFor (opened_for z)
+
+-- a store that is open, outside a transaction, and was left so
+abbrev pub WasFor : Stored → State → Type 0
+WasFor z s = IsTrue s.is_open × (s.in_transaction ≡ false) × LeftAs (StoredFor z) s.committed.trees

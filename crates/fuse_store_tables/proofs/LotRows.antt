@@ -1,0 +1,61 @@
+-- The statements on the table of lots.
+use Rattle.std.proofs.Common.{◌≡◌, ℕ, pos, List, [], ◌∷◌, codes, None, Result}
+use Rattle.std.proofs.Common.{refl, sym, ap, subst, ◌∙◌}
+use Rattle.sqlite.specs.declared.types.Value.TheVariants.{Null, Int}
+use Rattle.sqlite.specs.Order.{Row}
+use Rattle.sqlite_trees.specs.Tree.{IsTable, put_row}
+use Rattle.sqlite_trees.proofs.TreeLemmas.{IsTable-put_row}
+use Rattle.sqlite.specs.Term.{Term, lit, col}
+use Rattle.sqlite.specs.Source.TheVariants.{Values}
+use Rattle.sqlite.specs.Command.TheVariants.{Insert}
+use Rattle.sqlite_rules.specs.Cast.{cast_row}
+use Rattle.sqlite_tied.specs.Compute.{everything}
+use Rattle.sqlite.specs.declared.error.Error.{Error}
+use Rattle.sqlite.specs.Listing.{understood}
+use Rattle.sqlite.specs.State.{State, HasCleanDisk, Survives, CommitsBy, Writes}
+use Rattle.sqlite.proofs.Callers.{IsPlain, command_of, statement_of}
+use Rattle.fuse_store_tables.specs.Layout.{lots, store_schema}
+use Rattle.fuse_store_tables.specs.Content.{Content, Holds, stored, put_by, lot_row, with_lot}
+use Rattle.fuse_store_tables.specs.Moves.{Makes, Ran}
+use Rattle.fuse_store_tables.proofs.Writing.{makes}
+use Rattle.fuse_store_tables.proofs.Tables.{wrote, quiet, only_lots}
+use Rattle.fuse_store_tables.proofs.Keyed.{put_rows}
+use Rattle.fuse_store_tables.proofs.RowLemmas.{cast_int, cast_null, inserted}
+
+-- ---- a new row
+
+abbrev pub insert_text : List ℕ
+insert_text = codes "INSERT INTO lots VALUES (?1)"
+
+abbrev insert_terms : List Term
+insert_terms = col 0 0 ∷ lit Null ∷ []
+
+insert_is : command_of (understood store_schema insert_text) ≡ Insert 6 (Values insert_terms 2)
+unfolding understood everything
+insert_is = refl
+
+insert_plain : IsPlain (understood store_schema insert_text)
+unfolding understood everything
+insert_plain = (refl, refl)
+
+abbrev pub given : ℕ → Row
+given x = Int (pos x) ∷ []
+
+pub cast_as : (x : ℕ) → cast_row lots (lot_row x) ≡ lot_row x
+cast_as x = rw (cast_int (pos x), cast_null)
+
+inserts : (x : ℕ) (c : Content) (old new : State) (n : ℕ) → Holds c old.now → Writes old new None (Insert 6 (Values insert_terms 2)) (statement_of insert_text
+    (understood store_schema insert_text)) (given x) n
+    → Holds (with_lot x c) new.now
+inserts x c old new n at w =
+    let put = inserted store_schema 6 lots refl insert_terms 2 old new _ (given x) n (lot_row x) (λ keys news. quiet keys 9 [] news) (ap (λ r. r
+    ∷ []) (cast_as x)) at.schema w in
+    let was = at.rows.1.1.1.1.1.1.0 in
+    wrote store_schema (stored c) (stored (with_lot x c)) lots old.now new.now at put.spares w.sound (only_lots c (put_by (λ n. n) x c.lots))
+    (put.rows ∙ ap (put_row (lot_row x)) was.0 ∙ put_rows (λ n. n) lot_row (λ _. refl) x c.lots)
+    (subst IsTable (sym put.rows) (IsTable-put_row (lot_row x) (old.now.trees 9) was.1))
+
+pub adds : (x : ℕ) (old new : State) (r : Result (Unit {0}) Error) → (HasCleanDisk new → Ran insert_text (given x) old new r)
+    → Survives old new (CommitsBy insert_text (given x) old) → Makes (with_lot x) old new r
+adds x = makes Holds store_schema (λ c d h. h.schema) insert_text (given x) (Insert 6 (Values insert_terms 2)) insert_is insert_plain refl
+    (λ c. Holds (with_lot x c)) (inserts x)

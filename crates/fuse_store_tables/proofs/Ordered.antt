@@ -1,0 +1,90 @@
+-- A query over one table in the order of its rowid.
+use Rattle.std.proofs.Common.{◌≡◌, ℕ, pos, ◌<◌, ◌≤◌, List, [], ◌∷◌, map, filter, Bool, false, None, Equal, Less, sym, ap, subst, arith, ◌∙◌}
+use Rattle.std.specs.List.{flat_map, list_all, AllByRecursion}
+use Rattle.std.specs.Ordering.{nat_cmp, is_gt, ordering_then}
+use Rattle.std.specs.List.Sorted.{IsPermutation, IsSorted}
+use Rattle.std.proofs.lemmas.Bool.Decides.{nat_tests}
+use Rattle.sqlite.specs.declared.types.Value.{Value}
+use Rattle.sqlite.specs.declared.types.Value.TheVariants.{Int}
+use Rattle.sqlite.specs.Order.{Row}
+use Rattle.sqlite.specs.Tree.{Trees}
+use Rattle.sqlite_trees.specs.Tree.{IsAscending, IsTable, rowid}
+use Rattle.sqlite_value.specs.Order.{value_cmp}
+use Rattle.sqlite_value.specs.declared.keys.Collation.TheVariants.{Binary}
+use Rattle.sqlite.specs.Term.{Term, lit, col, eval_all, holds}
+use Rattle.sqlite.specs.Query.{Query, inner, end, IsAnswerAs, matches_as, output, page, Output}
+use Rattle.sqlite_sql.specs.Query.{output_cmp}
+use Rattle.sqlite_sql.proofs.QueryLemmas.{output_cmp_total}
+use Rattle.sqlite_exec.proofs.PartitionLemmas.{ascending_from_sorted}
+use Rattle.sqlite_trees.proofs.ListLemmas.{map-map, ascending-filter}
+use Rattle.fuse_store_tables.proofs.Lifting.{lifted}
+use Rattle.fuse_store_tables.proofs.Keyed.{row_cmp_nat, cmp_rows}
+use Rattle.fuse_store_tables.proofs.Reading.{matched}
+use Rattle.fuse_store_tables.proofs.Sorting.{sorted_same, Rises, Follows}
+
+-- the rows that pass, in the order of the rowid, up to a limit
+abbrev pub ordered_query : ℕ → List Term → List Term → Term → Query
+ordered_query table where_terms shown limit = record {
+  from = inner table end;
+  filter = where_terms;
+  group = None;
+  project = shown;
+  distinct = false;
+  collations = [];
+  order = (col 1 0, record { collation = Binary; descending = false }) ∷ [];
+  limit = limit;
+  offset = lit (Int (pos 0));
+}
+
+at_most : (a b : ℕ) → is_gt (ordering_then (value_cmp (Int (pos a)) (Int (pos b))) Equal) ≡ false → a ≤ b
+at_most a b h = below (subst (λ o. is_gt (ordering_then o Equal) ≡ false) (row_cmp_nat a b) h)
+  where
+    below : is_gt (ordering_then (nat_cmp a b) Equal) ≡ false → a ≤ b
+    below k = grind (arith, nat_tests)
+
+module _ {X : Type 0} (key : X → ℕ) (cells : X → Row) (p : X → Bool) (lost : Value) (db : Trees) (terms : List Term) (params : Row) where
+  abbrev row : X → Row
+  row x = Int (pos (key x)) ∷ cells x
+
+  module _ (tests : (x : X) → list_all (holds (params ∷ row x ∷ [])) terms ≡ p x) (shown : List Term) (limit : Term) where
+    abbrev query : ℕ → Query
+    query t = ordered_query t terms shown limit
+
+    abbrev out : ℕ → X → Output
+    out t x = output (query t) (params ∷ row x ∷ [])
+
+    follows : (t : ℕ) (xs : List X) → IsAscending (λ a b. is_gt (output_cmp (query t) a b) ≡ false) (map (out t) xs) → Follows key xs
+    follows t [] up = tt
+    follows t (x ∷ xs) up = (each xs up.0, follows t xs up.1)
+      where
+        each : (ys : List X) → AllByRecursion (λ b. is_gt (output_cmp (query t) (out t x) b) ≡ false) (map (out t) ys) → AllByRecursion (λ b. key x ≤ key b) ys
+        each [] all = tt
+        each (y ∷ ys) all = (at_most (key x) (key y) all.0, each ys all.1)
+
+    pub answered_in_order : (t : ℕ) (xs : List X) (rows : List Row) → db t ≡ map row xs → Rises key xs → IsAnswerAs lost (query t) db params rows
+        → rows ≡ page (query t) params (map (λ x. eval_all shown (params ∷ row x ∷ [])) (filter p xs))
+    answered_in_order t xs rows has rises a =
+        let q = query t in
+        let ys = filter p xs in
+        let staged : a.staged ≡ map (λ x. params ∷ row x ∷ []) ys = a.grouped ∙ ap (flat_map (λ r. matches_as lost db terms end (params ∷ r ∷ []))) has
+        ∙ matched row p lost db terms params tests xs in
+        let kept : a.kept ≡ map (out t) ys = a.distinct ∙ ap (map (output q)) staged ∙ map-map (output q) (λ x. params ∷ row x ∷ []) ys in
+        let made = lifted (out t) ys a.ordered (subst (λ k. IsPermutation k a.ordered) kept a.same) in
+        let ws = made.0 in
+        let up = ascending_from_sorted (output_cmp q) (output_cmp_total q) (map (out t) ws) (subst (IsSorted (output_cmp q)) (sym made.1) a.sorted) in
+        let same : ws ≡ ys = sorted_same key ys ws (ascending-filter (λ a b. key a < key b) p xs rises) (follows t ws up) made.2 in
+        let ordered : a.ordered ≡ map (out t) ys = sym made.1 ∙ ap (map (out t)) same in
+        a.shown ∙ ap (λ o. page q params (map (λ (x : Output). x.1) o)) ordered ∙ ap (page q params) (map-map (λ (x : Output). x.1) (out t) ys)
+
+-- the rows of a table rise by their keys
+less_below : (a b : ℕ) → nat_cmp a b ≡ Less → a < b
+less_below a b is = grind (arith, nat_tests)
+
+module _ {X : Type 0} (key : X → ℕ) (row : X → Row) (keyed : (x : X) → rowid (row x) ≡ Int (pos (key x))) where
+  all_above : (x : X) (ys : List X) → AllByRecursion (λ r. value_cmp (rowid (row x)) (rowid r) ≡ Less) (map row ys) → AllByRecursion (λ y. key x < key y) ys
+  all_above x [] above = tt
+  all_above x (y ∷ ys) above = (less_below (key x) (key y) (sym (cmp_rows key row keyed x y) ∙ above.0), all_above x ys above.1)
+
+  pub rises_from : (xs : List X) → IsTable (map row xs) → Rises key xs
+  rises_from [] rise = tt
+  rises_from (x ∷ xs) rise = (all_above x xs rise.0, rises_from xs rise.1)

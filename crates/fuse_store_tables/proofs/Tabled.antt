@@ -1,0 +1,58 @@
+-- The tables that an open finds beside `meta`.
+use Rattle.std.proofs.Common.{◌≡◌, inl, inr, ℕ, true, false, Ok, Err, Result, OnOk, refl, sym, ap, subst, arith, ◌∙◌}
+use Rattle.sqlite.specs.Schema.{Schema}
+use Rattle.sqlite.specs.Effect.{Database}
+use Rattle.sqlite.specs.Tree.{Trees}
+use Rattle.sqlite.specs.State.{State, HasCleanDisk, Survives}
+use Rattle.sqlite_tied.specs.Compute.{everything}
+use Rattle.fuse_keeper.specs.declared.fault.StoreFault.TheVariants.{Damaged}
+use Rattle.fuse_store_tables.specs.Content.{Content, value_at}
+use Rattle.fuse_store_tables.specs.Following.{earlier}
+use Rattle.fuse_store_tables.specs.Faults.{IsOutside}
+use Rattle.fuse_store_tables.specs.Opening.{IsStored, IsSecond}
+use Rattle.fuse_store_tables.specs.Moves.{InsideAs, IsReady}
+use Rattle.fuse_store_tables.specs.Saying.{has_tables, first_names, second_names, TellsVersion, IsTabled}
+
+-- ---- a store has them
+
+first_there : (c : Content) (d : Database) → IsStored c d → has_tables first_names d.schema ≡ true
+unfolding everything
+first_there c d (inl h) = subst (λ (s : Schema). has_tables first_names s ≡ true) (sym h.holds.schema) refl
+first_there c d (inr h) = subst (λ (s : Schema). has_tables first_names s ≡ true) (sym h.holds.schema) refl
+
+second_there : (c : Content) (d : Database) → IsSecond c d → has_tables second_names d.schema ≡ true
+unfolding everything
+second_there c d h = subst (λ (s : Schema). has_tables second_names s ≡ true) (sym h.holds.schema) refl
+
+module _ (a b : State) (s : Schema) (same : s ≡ a.now.schema) where
+  lacks_first : has_tables first_names s ≡ false → ¬ IsReady IsStored a
+  lacks_first none ready =
+      absurd (let clash = sym (first_there ready.0 a.now ready.1.holds) ∙ sym (ap (has_tables first_names) same) ∙ none in cc)
+
+  lacks_second : (n : ℕ) → has_tables second_names s ≡ false → n ≡ 2 → ((c : Content) → InsideAs (IsStored c) a → n ≡ value_at 1 c) → ¬ IsReady IsStored a
+  lacks_second n none two value ready = elim ready.1.holds [
+    | inl h ↦
+        let clash : ◌≡◌ {A = ℕ} 1 2 = sym h.old.version ∙ sym (value ready.0 ready.1) ∙ two in
+        absurd (omega (arith, clash))
+    | inr h ↦ absurd (let clash = sym (second_there ready.0 a.now h) ∙ sym (ap (has_tables second_names) same) ∙ none in cc)
+  ]
+
+  -- what lacks one is no store
+  pub refused_first : has_tables first_names s ≡ false → HasCleanDisk b → IsReady IsStored a → IsOutside Damaged
+  refused_first none clean ready = absurd (lacks_first none ready)
+
+  pub refused_second : (n : ℕ) → has_tables second_names s ≡ false → n ≡ 2
+      → (HasCleanDisk b → (c : Content) → InsideAs (IsStored c) a → n ≡ value_at 1 c) → HasCleanDisk b → IsReady IsStored a → IsOutside Damaged
+  refused_second n none two value clean ready = absurd (lacks_second n none two (value clean) ready)
+
+-- ---- what went well found them
+
+module _ (a b d : State) (s : Schema) (same : s ≡ a.now.schema) (n : ℕ) (tells : HasCleanDisk b → TellsVersion a.now n) {K : Trees → Type 0}
+    (survives : Survives b d K) where
+  pub tabled_first : n ≡ 1 → has_tables first_names s ≡ true → HasCleanDisk d → IsTabled a.now
+  tabled_first one all clean = inl (subst (TellsVersion a.now) one (tells (earlier b d _ survives clean)), sym (ap (has_tables first_names) same) ∙ all)
+
+  pub tabled_second : {X E : Type 0} (r : Result X E) → n ≡ 2 → has_tables second_names s ≡ true → HasCleanDisk d → OnOk r (IsTabled a.now)
+  tabled_second (Err e) two all clean = tt
+  tabled_second (Ok x) two all clean =
+      inr (subst (TellsVersion a.now) two (tells (earlier b d _ survives clean)), sym (ap (has_tables second_names) same) ∙ all)

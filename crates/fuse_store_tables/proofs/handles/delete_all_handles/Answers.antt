@@ -1,0 +1,7 @@
+use Rattle.sqlite.specs.Held.{state}
+use Rattle.fuse_store_tables.proofs.Emptied.{removes_all_handles}
+use Rattle.fuse_store_tables.proofs.handles.delete_all_handles.Goals as goal
+
+pub returns : goal.returns
+returns g c = removes_all_handles (state g.S.Store c.args.conn.now) (state g.S.Store c.run.new.conn) c.run.result c.run.ensures.runs
+    c.run.ensures.survives

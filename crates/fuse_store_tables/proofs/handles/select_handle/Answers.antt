@@ -1,0 +1,19 @@
+use Rattle.sqlite.specs.Held.{state}
+use Rattle.fuse_store_tables.proofs.Looks.{looked, failed}
+use Rattle.fuse_store_tables.proofs.HandleRows.{look_makes, look_finds}
+use Rattle.fuse_store_tables.proofs.handles.select_handle.Goals as goal
+
+pub returns-clause-looks : goal.returns-clause-looks
+returns-clause-looks g c = looked (state g.S.Store c.args.conn.now) (state g.S.Store c.query_all.new.self) c.query_all.result (look_makes (λ rows. rows.items)
+    c.args.fh (state g.S.Store c.args.conn.now) (state g.S.Store c.query_all.new.self) c.query_all.result (rw c.number-values.ensures at c.query_all.ensures.ok)
+    (rw c.number-values.ensures at c.query_all.ensures.err) (rw c.number-values.ensures at c.query_all.ensures.survives))
+
+pub returns-clause-fails : goal.returns-clause-fails
+returns-clause-fails g c = failed (state g.S.Store c.args.conn.now) (state g.S.Store c.query_all.new.self) c.query_all.result (look_makes (λ rows. rows.items)
+    c.args.fh (state g.S.Store c.args.conn.now) (state g.S.Store c.query_all.new.self) c.query_all.result (rw c.number-values.ensures at c.query_all.ensures.ok)
+    (rw c.number-values.ensures at c.query_all.ensures.err) (rw c.number-values.ensures at c.query_all.ensures.survives))
+
+pub returns-clause-found : goal.returns-clause-found
+returns-clause-found g c =
+    look_finds (λ rows. rows.items) c.args.fh (state g.S.Store c.args.conn.now) (state g.S.Store c.query_all.new.self) c.query_all.result
+    (rw c.number-values.ensures at c.query_all.ensures.ok)

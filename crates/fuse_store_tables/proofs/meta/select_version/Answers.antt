@@ -1,0 +1,32 @@
+use Rattle.sqlite.specs.Held.{state}
+use Rattle.fuse_store_tables.specs.Layout.{with_answers}
+use Rattle.fuse_store_tables.specs.Content.{Holds, HoldsAs, stored}
+use Rattle.fuse_store_tables.specs.Opening.{IsFirst, IsSecond}
+use Rattle.fuse_store_tables.proofs.OpenLemmas.{version_looks, version_found, in_order, any_rows}
+use Rattle.fuse_store_tables.proofs.Sayings.{tells_version}
+use Rattle.fuse_store_tables.proofs.meta.select_version.Goals as goal
+
+pub returns-clause-unchanged : goal.returns-clause-unchanged
+returns-clause-unchanged g c =
+    version_looks IsFirst IsSecond in_order (λ rows. rows.items) (state g.S.Store c.args.conn.now) (state g.S.Store c.query_all.new.self)
+    c.query_all.result c.query_all.ensures.ok
+    c.query_all.ensures.err c.query_all.ensures.survives
+
+pub returns-clause-found : goal.returns-clause-found
+returns-clause-found g c = version_found IsFirst IsSecond in_order (λ rows. rows.items) (state g.S.Store c.args.conn.now) (state g.S.Store
+    c.query_all.new.self) c.query_all.result
+    c.query_all.ensures.ok
+
+pub returns-clause-tells : goal.returns-clause-tells
+returns-clause-tells g c = tells_version (λ rows. rows.items) (state g.S.Store c.args.conn.now) (state g.S.Store c.query_all.new.self) c.query_all.result
+    c.query_all.ensures.ok
+
+pub returns-clause-laid : goal.returns-clause-laid
+returns-clause-laid g c =
+    version_looks (λ k. HoldsAs with_answers (stored k)) Holds any_rows (λ rows. rows.items) (state g.S.Store c.args.conn.now)
+    (state g.S.Store c.query_all.new.self) c.query_all.result c.query_all.ensures.ok c.query_all.ensures.err c.query_all.ensures.survives
+
+pub returns-clause-shows : goal.returns-clause-shows
+returns-clause-shows g c =
+    version_found (λ k. HoldsAs with_answers (stored k)) Holds any_rows (λ rows. rows.items) (state g.S.Store c.args.conn.now)
+    (state g.S.Store c.query_all.new.self) c.query_all.result c.query_all.ensures.ok

@@ -1,0 +1,7 @@
+use Rattle.sqlite.specs.Held.{state}
+use Rattle.fuse_store_tables.proofs.Refills.{copies_all}
+use Rattle.fuse_store_tables.proofs.records.copy_answers.Goals as goal
+
+pub returns : goal.returns
+returns g c = copies_all (state g.S.Store c.args.conn.now) (state g.S.Store c.run.new.conn) c.run.result c.run.ensures.runs
+    c.run.ensures.survives

@@ -1,0 +1,9 @@
+use Rattle.sqlite.specs.Held.{state}
+use Rattle.fuse_store_tables.proofs.KeptRows.{adds}
+use Rattle.fuse_store_tables.proofs.records.insert_kept.Goals as goal
+
+pub returns : goal.returns
+returns g c =
+    adds (record { id = c.args.id; lot = c.args.lot; said = c.args.answer.now }) (state g.S.Store c.args.conn.now) (state g.S.Store c.run.new.conn)
+    c.run.result (rw c.kept_values-values.ensures at c.run.ensures.runs)
+    (rw c.kept_values-values.ensures at c.run.ensures.survives)

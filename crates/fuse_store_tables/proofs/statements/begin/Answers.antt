@@ -1,0 +1,6 @@
+use Rattle.sqlite.specs.Held.{state}
+use Rattle.fuse_store_tables.proofs.Control.{begins}
+use Rattle.fuse_store_tables.proofs.statements.begin.Goals as goal
+
+pub returns : goal.returns
+returns g c = begins (state g.S.Store c.args.conn.now) (state g.S.Store c.run.new.conn) c.run.result c.run.ensures.runs c.run.ensures.survives

@@ -1,0 +1,48 @@
+-- A new store (own profile).
+use Rattle.std.specs.Prelude.{ℕ, List, [], ◌∷◌, ⊤}
+use Rattle.sqlite_trees.specs.Tree.{no_trees}
+use Rattle.sqlite.specs.Effect.{Database}
+use Rattle.sqlite.specs.Schema.{Schema}
+use Rattle.fuse_wire.specs.declared.moment.Moment.{Moment}
+use Rattle.fuse_tree.specs.declared.rows.NodeRow.{NodeRow}
+use Rattle.fuse_store_tables.specs.Content.{Content, Counter, Holds, HoldsAs, with_node}
+use Rattle.fuse_store_tables.specs.Opening.{IsSecond}
+
+-- tables of this schema, without a row
+abbrev pub IsBare : Schema → ⊤ → Database → Type 0
+IsBare s _ = HoldsAs s no_trees
+
+abbrev counter : ℕ → ℕ → Counter
+counter key value = record { key = key; value = value }
+
+abbrev pub first_counters : List Counter
+first_counters = counter 1 2 ∷ counter 2 2 ∷ counter 3 1 ∷ counter 4 3 ∷ counter 5 1 ∷ counter 6 0 ∷ counter 7 0 ∷ counter 8 0 ∷ counter 9 0 ∷ counter 10 0
+    ∷ counter 11 1 ∷ []
+
+abbrev pub counters_alone : Content
+counters_alone = record { counters = first_counters; nodes = []; entries = []; blocks = []; handles = []; answers = []; lots = []; kept = [] }
+
+-- the first node, a directory, with all its times at this moment
+abbrev pub root : Moment → NodeRow
+root now = record {
+  node = 1;
+  mode = 16877;
+  uid = 0;
+  gid = 0;
+  rdev = 0;
+  size = 0;
+  atime = now;
+  mtime = now;
+  ctime = now;
+  up = 0;
+  subdirs = 0;
+}
+
+abbrev pub new_store : Moment → Content
+new_store now = with_node (root now) counters_alone
+
+abbrev pub HasCounters : ⊤ → Database → Type 0
+HasCounters _ = Holds counters_alone
+
+abbrev pub IsNew : Moment → ⊤ → Database → Type 0
+IsNew now _ = IsSecond (new_store now)

@@ -1,0 +1,106 @@
+-- What a call does to a store of the tables (own profile).
+use Rattle.std.specs.Prelude.{◌≡◌, ℕ, List, true, false, IsTrue, Result, Ok, Err, OnOk, OnErr, IfErr}
+use Rattle.sqlite.specs.Order.{Row}
+use Rattle.sqlite.specs.Effect.{Database}
+use Rattle.sqlite.specs.declared.error.Error.{Error}
+use Rattle.sqlite.specs.State.{State, HasCleanDisk, Survives, KeepsCommit, Executes}
+use Rattle.fuse_store_tables.specs.Content.{Content, Holds, LeftAs}
+use Rattle.fuse_keeper.specs.declared.fault.StoreFault.{StoreFault}
+use Rattle.fuse_store_tables.specs.Faults.{IsOutside}
+
+-- the statement was run with these values; how many rows it changed isn't told
+abbrev pub Ran : List ℕ → Row → State → State → Result (Unit {0}) Error → Type 0
+Ran sql values old new (Ok _) = (changed : ℕ) × Executes sql values old new (Ok changed)
+Ran sql values old new (Err e) = Executes sql values old new (Err e)
+
+-- no transaction is open
+pub record RestsAs (P : Database → Type 0) (s : State) : Type 0 where
+  pub is_open : IsTrue s.is_open
+  pub autocommit : s.in_transaction ≡ false
+  pub holds : P s.now
+  pub committed : s.committed ≡ s.now
+
+-- a transaction is open, and its database is so
+pub record InsideAs (P : Database → Type 0) (s : State) : Type 0 where
+  pub is_open : IsTrue s.is_open
+  pub in_transaction : s.in_transaction ≡ true
+  pub holds : P s.now
+
+abbrev pub Rests : Content → State → Type 0
+Rests c = RestsAs (Holds c)
+
+abbrev pub Inside : Content → State → Type 0
+Inside c = InsideAs (Holds c)
+
+-- ready for a step that begins with one of these
+abbrev pub IsReady : {C : Type 0} → (C → Database → Type 0) → State → Type 0
+IsReady {C} P s = (c : C) × InsideAs (P c) s
+
+-- whether it went well or not, nothing is committed
+pub record StaysIn {C : Type 0} (P : C → Database → Type 0) (old new : State) : Type 0 where
+  pub survives : Survives old new (λ _. ¬ IsReady P old)
+  pub kept : HasCleanDisk new → IsReady P old → KeepsCommit old new
+
+abbrev pub Stays : State → State → Type 0
+Stays = StaysIn Holds
+
+abbrev pub TurnsTo : {C : Type 0} → (P Q : C → Database → Type 0) → State → State → Type 0
+TurnsTo {C} P Q old new = HasCleanDisk new → (c : C) → InsideAs (P c) old → InsideAs (Q c) new
+
+abbrev pub Turns : (Content → Content) → State → State → Type 0
+Turns f = TurnsTo Holds (λ c. Holds (f c))
+
+-- a call within a transaction
+pub record Takes {C X E : Type 0} (P Q : C → Database → Type 0) (old new : State) (result : Result X E) : Type 0 where
+  pub stays : StaysIn P old new
+  pub turns : OnOk result (TurnsTo P Q old new)
+
+abbrev pub Makes : {X E : Type 0} → (Content → Content) → State → State → Result X E → Type 0
+Makes f = Takes Holds (λ c. Holds (f c))
+
+pub record Begins {X E : Type 0} (old new : State) (result : Result X E) : Type 0 where
+  pub survives : Survives old new (λ _. ⊥)
+  pub kept : HasCleanDisk new → KeepsCommit old new
+  pub begun : OnOk result (HasCleanDisk new → IsTrue new.is_open × (new.in_transaction ≡ true) × (new.now ≡ old.now))
+
+pub record Ends {X E : Type 0} (old new : State) (result : Result X E) : Type 0 where
+  pub survives : Survives old new (λ db. db ≡ old.now.trees)
+  pub kept : OnErr result (HasCleanDisk new → KeepsCommit old new)
+  pub ended : OnOk result (HasCleanDisk new → IsTrue new.is_open × (new.in_transaction ≡ false) × (new.now ≡ old.now) × (new.committed ≡ new.now))
+
+-- a call that is a whole transaction
+pub record PerformsAs {C X E : Type 0} (P Q : C → Database → Type 0) (old new : State) (result : Result X E) : Type 0 where
+  pub survives : Survives old new (λ db. (c : C) → RestsAs (P c) old → LeftAs (Q c) db)
+  pub kept : OnErr result (HasCleanDisk new → (c : C) → RestsAs (P c) old → KeepsCommit old new)
+  pub done : OnOk result (HasCleanDisk new → (c : C) → RestsAs (P c) old → RestsAs (Q c) new)
+
+abbrev pub Performs : {X E : Type 0} → (Content → Content) → State → State → Result X E → Type 0
+Performs f = PerformsAs Holds (λ c. Holds (f c))
+
+-- the transaction, if one is open, is undone
+pub record Undoes (old new : State) : Type 0 where
+  pub survives : Survives old new (λ _. ⊥)
+  pub autocommit : HasCleanDisk new → new.in_transaction ≡ false
+  pub undone : HasCleanDisk new → IsTrue new.is_open → IsTrue old.is_open × (new.now ≡ old.committed) × (new.committed ≡ old.committed)
+
+-- the same as a whole, where a failed call leaves what was there
+pub record ServesAs {C X E : Type 0} (P Q : C → Database → Type 0) (old new : State) (result : Result X E) : Type 0 where
+  pub survives : Survives old new (λ db. (c : C) → RestsAs (P c) old → LeftAs (Q c) db)
+  pub kept : OnErr result (HasCleanDisk new → IsTrue new.is_open → (c : C) → RestsAs (P c) old → RestsAs (P c) new)
+  pub done : OnOk result (HasCleanDisk new → (c : C) → RestsAs (P c) old → RestsAs (Q c) new)
+
+abbrev pub Serves : {X E : Type 0} → (Content → Content) → State → State → Result X E → Type 0
+Serves f = ServesAs Holds (λ c. Holds (f c))
+
+-- only looks that went well lie between
+pub record Looked (old new : State) : Type 0 where
+  pub stays : Stays old new
+  pub same : Turns (λ c. c) old new
+
+-- where it began with one of these, a fault says nothing of what is stored
+abbrev pub IsSure : {C X : Type 0} → (C → Database → Type 0) → State → State → Result X StoreFault → Type 0
+IsSure P old new r = HasCleanDisk new → IfErr r (λ f. IsReady P old → IsOutside f)
+
+-- the same of a whole transaction
+abbrev pub IsSafe : {C X : Type 0} → (C → Database → Type 0) → State → State → Result X StoreFault → Type 0
+IsSafe {C} P old new r = HasCleanDisk new → IfErr r (λ f. (c : C) → RestsAs (P c) old → IsOutside f)

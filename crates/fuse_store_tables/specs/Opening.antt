@@ -1,0 +1,118 @@
+-- What a store is when it is opened, and what the opening makes of it (own profile).
+use Rattle.std.specs.Prelude.{◌≡◌, ◌≤◌, ◌⊎◌, ◌<◌, ◌^◌, ◌+◌, ℕ, zero, suc, pos, IsTrue, false, List, [], ◌∷◌, map, fold, length, if◌then◌else◌}
+use Rattle.std.specs.Prelude.{nat_lt, ⊤, Result, OnOk}
+use Rattle.std.specs.List.{AllByRecursion}
+use Rattle.std.specs.Ordering.{is_eq, nat_cmp}
+use Rattle.sqlite.specs.declared.types.Value.TheVariants.{Int}
+use Rattle.sqlite.specs.Order.{Row}
+use Rattle.sqlite.specs.Effect.{Database}
+use Rattle.fuse_store_tables.specs.Layout.{with_answers, with_lots, with_kept}
+use Rattle.sqlite.specs.State.{State, HasCleanDisk}
+use Rattle.fuse_store_tables.specs.Content.{Content, Counter, Answer, Kept, HoldsAs, Holds, LeftAs, stored, put_by, kept_key, value_at, set_counter, with_counter}
+use Rattle.fuse_store_tables.specs.Content.{with_lot, without_answers}
+use Rattle.fuse_store_tables.specs.Moves.{InsideAs}
+
+-- ---- the rows of `meta`
+
+-- the greatest value of the row with this key
+abbrev pub most : ℕ → ℕ
+most key =
+    if nat_lt key 5 then 2 ^ 62
+    else (if nat_lt key 7 then 65536
+    else (if nat_lt key 8 then 1
+    else (if nat_lt key 10 then 4294967295
+    else (if nat_lt key 11 then 9223372036854775807 else 2 ^ 62))))
+
+-- so many rows, whose keys follow each other from this one
+abbrev pub IsMetaFrom : ℕ → ℕ → List Counter → Type 0
+IsMetaFrom key zero [] = ⊤
+IsMetaFrom key zero (c ∷ cs) = ⊥
+IsMetaFrom key (suc n) [] = ⊥
+IsMetaFrom key (suc n) (c ∷ cs) = (c.key ≡ key) × (c.value ≤ most c.key) × IsMetaFrom (key + 1) n cs
+
+abbrev pub IsMeta : ℕ → Content → Type 0
+IsMeta n c = IsMetaFrom 1 n c.counters
+
+abbrev pub shown_meta : Counter → Row
+shown_meta c = Int (pos c.key) ∷ Int (pos c.value) ∷ []
+
+-- ---- the two versions
+
+-- version 1 has neither lots nor records under them
+pub record IsOld (c : Content) : Type 0 where
+  pub version : value_at 1 c ≡ 1
+  pub meta : IsMeta 10 c
+  pub errnos : AllByRecursion (λ (a : Answer). a.said.errno < 2 ^ 32) c.answers
+  pub few : length c.nodes ≤ 65536
+  pub no_lots : c.lots ≡ []
+  pub no_kept : c.kept ≡ []
+
+-- version 2
+pub record IsFit (c : Content) : Type 0 where
+  pub version : value_at 1 c ≡ 2
+  pub meta : IsMeta 11 c
+  pub errnos : AllByRecursion (λ (k : Kept). k.said.errno < 2 ^ 32) c.kept
+  pub few : length c.nodes ≤ 65536
+
+pub record IsFirst (c : Content) (d : Database) : Type 0 where
+  pub holds : HoldsAs with_answers (stored c) d
+  pub old : IsOld c
+
+pub record IsSecond (c : Content) (d : Database) : Type 0 where
+  pub holds : Holds c d
+  pub fit : IsFit c
+
+abbrev pub IsStored : Content → Database → Type 0
+IsStored c d = IsFirst c d ⊎ IsSecond c d
+
+-- ---- what an open tests
+
+-- the tables are those of one of the versions, whatever their rows
+abbrev pub IsLaid : Content → Database → Type 0
+IsLaid c d = HoldsAs with_answers (stored c) d ⊎ Holds c d
+
+-- the rows of `meta` are those of one of the versions
+abbrev pub HasMeta : Content → Type 0
+HasMeta c = ((value_at 1 c ≡ 1) × IsMeta 10 c) ⊎ ((value_at 1 c ≡ 2) × IsMeta 11 c)
+
+-- what went well says so of the rows of the tables that were there
+abbrev pub Tests : {X E : Type 0} → (Content → Type 0) → State → State → Result X E → Type 0
+Tests P old new r = HasCleanDisk new → OnOk r ((c : Content) → InsideAs (IsLaid c) old → P c)
+
+-- ---- the migration
+
+-- a record of version 1, under a lot
+abbrev pub under : ℕ → Answer → Kept
+under lot a = record { id = a.id; lot = lot; said = a.said }
+
+abbrev pub with_copies : Content → Content
+with_copies c = record c { kept = fold (λ all k. put_by kept_key k all) c.kept (map (under 0) c.answers) }
+
+abbrev pub moved : Content → Content
+moved c = without_answers (with_copies (with_lot 0 c))
+
+abbrev pub marked : Content → Content
+marked c = set_counter 1 2 (with_counter 11 1 c)
+
+-- the tables of version 1, and then those of version 2 one after the other, before they are refilled
+pub record HasLots (c : Content) (d : Database) : Type 0 where
+  pub holds : HoldsAs with_lots (stored c) d
+  pub old : IsOld c
+
+pub record HasKept (c : Content) (d : Database) : Type 0 where
+  pub holds : HoldsAs with_kept (stored c) d
+  pub old : IsOld c
+
+pub record HasTables (c : Content) (d : Database) : Type 0 where
+  pub holds : Holds c d
+  pub old : IsOld c
+
+-- the records are under lot 0, and the next lot is 1
+abbrev pub migrated : Content → Content
+migrated c = record c { counters = (marked c).counters; answers = []; lots = 0 ∷ []; kept = map (under 0) c.answers }
+
+abbrev pub opened : Content → Content
+opened c = if is_eq (nat_cmp (value_at 1 c) 1) then migrated c else c
+
+abbrev pub IsOpened : Content → Database → Type 0
+IsOpened c = IsSecond (opened c)

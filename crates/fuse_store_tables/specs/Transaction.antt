@@ -1,0 +1,96 @@
+-- A whole transaction of what is done between its begin and its end (own profile). The proofs stand here, since the crates above go by them.
+use Rattle.std.proofs.Common.{◌≡◌, sym, subst, ◌∙◌}
+use Rattle.std.specs.Prelude.{Result, Ok, Err}
+use Rattle.sqlite.specs.Effect.{Database}
+use Rattle.sqlite.specs.State.{State, HasCleanDisk, Survives, KeepsCommit}
+use Rattle.sqlite.proofs.StateLemmas.{survives_weaker, survives_then}
+use Rattle.sqlite.proofs.InsideLemmas.{keeps_then}
+use Rattle.fuse_store_tables.specs.Content.{LeftAs}
+use Rattle.fuse_store_tables.specs.Moves.{RestsAs, InsideAs, Takes, Begins, Ends, PerformsAs, Undoes, ServesAs}
+use Rattle.fuse_store_tables.specs.Following.{earlier}
+
+-- ---- a whole transaction
+
+module _ {C : Type 0} (P Q : C → Database → Type 0) where
+  pub failed_first : {X Y E F : Type 0} (a b : State) (e : E) (d : F) → Begins {X = X} a b (Err e) → PerformsAs {X = Y} P Q a b (Err d)
+  failed_first a b e d p = record { survives = survives_weaker a b _ _ (λ _ db none. absurd none) p.survives; kept = λ clean c at. p.kept clean; done = tt }
+
+  begun : {X E : Type 0} (a b : State) (x : X) → Begins {E = E} a b (Ok x) → HasCleanDisk b → (c : C) → RestsAs (P c) a → InsideAs (P c) b
+  begun a b x p clean c at = let on = p.begun clean in record { is_open = on.0; in_transaction = on.1; holds = subst (P c) (sym on.2) at.holds }
+
+  pub failed_inside : {X Y Z E F G : Type 0} (R : C → Database → Type 0) (a b d : State) (x : X) (e : F) (h : G) → Begins {E = E} a b (Ok x)
+      → Takes {X = Y} P R b d (Err e) → PerformsAs {X = Z} P Q a d (Err h)
+  failed_inside R a b d x e h p q = record {
+    survives = survives_then a b d _ _ _ (λ _ db none. absurd none) (λ clean db none c at. absurd (none (
+      c,
+      begun a b x p (earlier b d _ q.stays.survives clean)
+          c at,
+    ))) p.survives q.stays.survives;
+    kept = λ clean c at. let mid = earlier b d _ q.stays.survives clean in keeps_then a b d (p.kept mid) (q.stays.kept clean (c, begun a b x p mid c at));
+    done = tt;
+  }
+
+  -- the transaction as it stands before the commit
+  within : (a b d : State) {X Y E F : Type 0} (x : X) (y : Y) → Begins {E = E} a b (Ok x) → Takes {E = F} P Q b d (Ok y) → HasCleanDisk d → (c : C)
+      → RestsAs (P c) a → InsideAs (Q c) d
+  within a b d x y p q clean c at = q.turns clean c (begun a b x p (earlier b d _ q.stays.survives clean) c at)
+
+  inside_survives : (a b d : State) {X Y E F : Type 0} (x : X) (y : Y) → Begins {E = E} a b (Ok x) → Takes {E = F} P Q b d (Ok y) → Survives a d (λ db. (c : C)
+      → RestsAs (P c) a → LeftAs (Q c) db)
+  inside_survives a b d x y p q = survives_then a b d _ _ _ (λ _ db none. absurd none) (λ clean db none c at. absurd
+      (none (c, begun a b x p (earlier b d _ q.stays.survives clean) c at))) p.survives q.stays.survives
+
+  all_survives : (a b d e : State) {X Y Z E F G : Type 0} (x : X) (y : Y) (r : Result Z G) → Begins {E = E} a b (Ok x) → Takes {E = F} P Q b d (Ok y)
+      → Ends d e r → Survives a e (λ db. (c : C) → RestsAs (P c) a → LeftAs (Q c) db)
+  all_survives a b d e x y r p q t = survives_then a d e _ _ _ (λ _ db left. left)
+      (λ clean db is c at. (d.now, (within a b d x y p q (earlier d e _ t.survives clean) c at).holds, sym is)) (inside_survives a b d x y p q) t.survives
+
+  -- what came before the commit keeps what was committed
+  kept_inside : (a b d : State) {X Y E F : Type 0} (x : X) (y : Y) → Begins {E = E} a b (Ok x) → Takes {E = F} P Q b d (Ok y) → HasCleanDisk d → (c : C)
+      → RestsAs (P c) a → KeepsCommit a d
+  kept_inside a b d x y p q clean c at = let mid = earlier b d _ q.stays.survives clean in keeps_then a b d (p.kept mid)
+      (q.stays.kept clean (c, begun a b x p mid c at))
+
+  pub committed : {X Y Z W E F G H : Type 0} (a b d e : State) (x : X) (y : Y) (z : Z) (w : W) → Begins {E = E} a b (Ok x) → Takes {E = F} P Q b d (Ok y)
+      → Ends {E = G} d e (Ok z) → PerformsAs {E = H} P Q a e (Ok w)
+  committed a b d e x y z w p q t = record {
+    survives = all_survives a b d e x y (Ok z) p q t;
+    kept = tt;
+    done = λ clean c at.
+        let on = t.ended clean in
+        record {
+          is_open = on.0;
+          autocommit = on.1;
+          holds = subst (Q c) (sym on.2) (within a b d x y p q (earlier d e _ t.survives clean) c at).holds;
+          committed = on.3;
+        };
+  }
+
+  pub failed_commit : {X Y Z W E F G H : Type 0} (a b d e : State) (x : X) (y : Y) (h : G) (i : H) → Begins {E = E} a b (Ok x) → Takes {E = F} P Q b d (Ok y)
+      → Ends {X = Z} d e (Err h) → PerformsAs {X = W} P Q a e (Err i)
+  failed_commit a b d e x y h i p q t = record {
+    survives = all_survives a b d e x y (Err h) p q t;
+    kept = λ clean c at. keeps_then a d e (kept_inside a b d x y p q (earlier d e _ t.survives clean) c at) (t.kept clean);
+    done = tt;
+  }
+
+  -- ---- with the roll-back of a call that failed
+
+  pub served : {X Y E F : Type 0} (a b : State) (x : X) (y : Y) → PerformsAs {E = E} P Q a b (Ok x) → ServesAs {E = F} P Q a b (Ok y)
+  served a b x y p = record { survives = p.survives; kept = tt; done = p.done }
+
+  pub undone : {X Y E F : Type 0} (a b d : State) (e : E) (h : F) → PerformsAs {X = X} P Q a b (Err e) → Undoes b d → ServesAs {X = Y} P Q a d (Err h)
+  undone a b d e h p u = record {
+    survives = survives_then a b d _ _ _ (λ _ db left. left) (λ _ db none. absurd none) p.survives u.survives;
+    kept = λ clean is_open c at.
+        let back = u.undone clean is_open in
+        let kept = p.kept (earlier b d _ u.survives clean) c at in
+        let same : b.committed ≡ a.now = kept.committed back.0 ∙ at.committed in
+        record {
+          is_open = is_open;
+          autocommit = u.autocommit clean;
+          holds = subst (P c) (sym (back.1 ∙ same)) at.holds;
+          committed = back.2 ∙ sym back.1;
+        };
+    done = tt;
+  }

@@ -1,0 +1,83 @@
+// The table of counters, `meta`.
+ghost use Rattle.std.specs.Prelude.{◌≡◌, ◌<◌, ◌^◌, map, IfOk, OnOk, OnErr};
+ghost use Rattle.sqlite.specs.State.{HasCleanDisk};
+ghost use Rattle.sqlite.specs.Held.{state};
+ghost use Rattle.fuse_store_tables.specs.Moves.{Inside, Rests, Makes, Looked, Stays, Serves};
+ghost use Rattle.fuse_store_tables.specs.Content.{Content, with_counter, set_counter, shown_counter};
+
+use crate::statements::run;
+use crate::values::pair;
+use sqlite::{Alter, Connection, Error, Row};
+
+/// The key of the version of the tables.
+pub(crate) const VERSION: u64 = 1;
+
+/// The key of the next node, behind which stand the next fh, the next cookie and `NODES`.
+pub const NEXT_NODE: u64 = 2;
+
+/// The key of the number of nodes.
+pub(crate) const NODES: u64 = 5;
+
+/// The key of the number of handles.
+pub const HANDLES: u64 = 6;
+
+/// The key of whether INIT agreed on something (0 or 1), behind which stands on what.
+pub const AGREED: u64 = 7;
+
+/// The key of the kernel's minor version.
+pub(crate) const MINOR: u64 = 8;
+
+/// The key of the bytes that the kernel reads ahead at most.
+pub(crate) const MAX_READAHEAD: u64 = 9;
+
+/// The key of the flags of INIT.
+pub(crate) const FLAGS: u64 = 10;
+
+/// The key of the next lot.
+pub const NEXT_LOT: u64 = 11;
+
+const INSERT: &str = "INSERT INTO meta VALUES (?1, ?2)";
+
+const UPDATE: &str = "UPDATE meta SET v = ?2 WHERE k = ?1";
+
+const SELECT: &str = "SELECT v FROM meta ORDER BY k";
+
+/// Adds a counter, whose key no other has.
+pub fn insert_counter<S: Alter>(conn: &mut Connection<S>, key: u64, value: u64) -> Result<(), Error>
+    requires key { key < 2 ^ 63 }
+    requires value { value < 2 ^ 63 }
+    ensures { Makes (with_counter key value) (state S.Store conn.old) (state S.Store conn.new)
+        result }
+{
+    let values = pair(key, value);
+    run(conn, INSERT, &values)
+}
+
+/// Gives the counter with this key another value.
+pub fn update_counter<S: Alter>(
+    conn: &mut Connection<S>,
+    key: u64,
+    number: u64,
+) -> Result<(), Error>
+    requires key { key < 2 ^ 63 }
+    requires number { number < 2 ^ 63 }
+    ensures { Makes (set_counter key number) (state S.Store conn.old) (state S.Store conn.new)
+        result }
+{
+    let values = pair(key, number);
+    run(conn, UPDATE, &values)
+}
+
+/// The values of all counters, in the order of their keys.
+pub fn select_counters<S: Alter>(conn: &mut Connection<S>) -> Result<Vec<Row>, Error>
+    ensures looks { OnOk result (Looked (state S.Store conn.old) (state S.Store conn.new)) }
+    ensures fails { OnErr result (Stays (state S.Store conn.old) (state S.Store conn.new)) }
+    ensures found { HasCleanDisk (state S.Store conn.new) → IfOk result (λ rows. (c : Content)
+        → Inside c (state S.Store conn.old) → rows.items ≡ map shown_counter c.counters) }
+    ensures rests { Serves (λ c. c) (state S.Store conn.old) (state S.Store conn.new) result }
+    ensures found_at_rest { HasCleanDisk (state S.Store conn.new) → IfOk result (λ rows.
+        (c : Content) → Rests c (state S.Store conn.old)
+        → rows.items ≡ map shown_counter c.counters) }
+{
+    conn.query_all(SELECT, &[])
+}

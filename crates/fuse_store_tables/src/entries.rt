@@ -1,0 +1,105 @@
+// The table of entries.
+ghost use Rattle.std.specs.Prelude.{◌≡◌, ◌<◌, ◌^◌, [], ◌∷◌, pos, map, take, filter, IfOk, OnOk};
+ghost use Rattle.std.specs.Prelude.{OnErr};
+ghost use Rattle.sqlite.specs.declared.types.Value.TheVariants.{Int, Blob};
+ghost use Rattle.sqlite.specs.State.{HasCleanDisk};
+ghost use Rattle.sqlite.specs.Held.{state};
+ghost use Rattle.sqlite.specs.Values.{bound};
+ghost use Rattle.fuse_tree.specs.Columns.{FitsEntry};
+ghost use Rattle.fuse_store_tables.specs.Moves.{Inside, Makes, Looked, Stays};
+ghost use Rattle.fuse_store_tables.specs.Content.{Content, with_entry, with_entry_gone, has_name};
+ghost use Rattle.fuse_store_tables.specs.Content.{stands_after, shown_place, shown_entry};
+
+use crate::statements::run;
+use crate::values::{number, triple};
+use fuse_tree::EntryRow;
+use sqlite::types::{ToSql, ValueRef};
+use sqlite::{Alter, Connection, Error, Row};
+
+const INSERT: &str = "INSERT INTO entries VALUES (?1, ?2, ?3, ?4)";
+
+const DELETE: &str = "DELETE FROM entries WHERE cookie = ?1";
+
+const SELECT_NAMED: &str =
+    "SELECT cookie, child FROM entries WHERE dir = ?1 AND name = ?2 ORDER BY cookie LIMIT 1";
+
+const SELECT_AFTER: &str = "SELECT cookie, name, child FROM entries \
+    WHERE dir = ?1 AND cookie > ?2 ORDER BY cookie LIMIT ?3";
+
+// The parameters of an entry.
+fn entry_values<'a>(row: &'a EntryRow) -> [ValueRef<'a>; 4]
+    requires { FitsEntry row.now }
+    ensures { bound result ≡ Int (pos row.now.cookie) ∷ Int (pos row.now.dir) ∷ Blob row.now.name
+        ∷ Int (pos row.now.child) ∷ [] }
+{
+    [
+        (row.cookie as i64).to_sql(),
+        (row.dir as i64).to_sql(),
+        row.name.as_slice().to_sql(),
+        (row.child as i64).to_sql(),
+    ]
+}
+
+// The parameters of a place.
+fn place_values<'a>(dir: u64, name: &'a [u8]) -> [ValueRef<'a>; 2]
+    requires { dir < 2 ^ 63 }
+    ensures { bound result ≡ Int (pos dir) ∷ Blob name.now ∷ [] }
+{
+    [(dir as i64).to_sql(), name.to_sql()]
+}
+
+/// Adds an entry, whose cookie, child and name in its directory no other has.
+pub fn insert_entry<S: Alter>(conn: &mut Connection<S>, row: &EntryRow) -> Result<(), Error>
+    requires { FitsEntry row.now }
+    ensures { Makes (with_entry row.now) (state S.Store conn.old) (state S.Store conn.new) result }
+{
+    let values = entry_values(row);
+    run(conn, INSERT, &values)
+}
+
+/// Takes out the entry of this cookie, if it is there.
+pub fn delete_entry<S: Alter>(conn: &mut Connection<S>, cookie: u64) -> Result<(), Error>
+    requires { cookie < 2 ^ 63 }
+    ensures { Makes (with_entry_gone cookie) (state S.Store conn.old) (state S.Store conn.new)
+        result }
+{
+    let values = number(cookie);
+    run(conn, DELETE, &values)
+}
+
+/// The first entry of this name: one or none.
+pub fn select_named<S: Alter>(
+    conn: &mut Connection<S>,
+    dir: u64,
+    name: &[u8],
+) -> Result<Vec<Row>, Error>
+    requires { dir < 2 ^ 63 }
+    ensures looks { OnOk result (Looked (state S.Store conn.old) (state S.Store conn.new)) }
+    ensures fails { OnErr result (Stays (state S.Store conn.old) (state S.Store conn.new)) }
+    ensures found { HasCleanDisk (state S.Store conn.new) → IfOk result (λ rows. (c : Content)
+        → Inside c (state S.Store conn.old)
+        → rows.items ≡ take 1 (map shown_place (filter (has_name dir name.now) c.entries))) }
+{
+    let values = place_values(dir, name);
+    conn.query_all(SELECT_NAMED, &values)
+}
+
+/// The entries of a directory behind this cookie, in rising order and at most so many.
+pub fn select_after<S: Alter>(
+    conn: &mut Connection<S>,
+    dir: u64,
+    cookie: u64,
+    limit: u64,
+) -> Result<Vec<Row>, Error>
+    requires dir { dir < 2 ^ 63 }
+    requires cookie { cookie < 2 ^ 63 }
+    requires limit { limit < 2 ^ 63 }
+    ensures looks { OnOk result (Looked (state S.Store conn.old) (state S.Store conn.new)) }
+    ensures fails { OnErr result (Stays (state S.Store conn.old) (state S.Store conn.new)) }
+    ensures found { HasCleanDisk (state S.Store conn.new) → IfOk result (λ rows. (c : Content)
+        → Inside c (state S.Store conn.old)
+        → rows.items ≡ take limit (map shown_entry (filter (stands_after dir cookie) c.entries))) }
+{
+    let values = triple(dir, cookie, limit);
+    conn.query_all(SELECT_AFTER, &values)
+}

@@ -1,0 +1,88 @@
+// The table of handles.
+ghost use Rattle.std.specs.Prelude.{◌≡◌, ◌<◌, ◌^◌, [], ◌∷◌, pos, map, IfOk, OnOk, OnErr};
+ghost use Rattle.std.specs.Option.{option_to_list};
+ghost use Rattle.sqlite.specs.declared.types.Value.TheVariants.{Int};
+ghost use Rattle.sqlite.specs.State.{HasCleanDisk};
+ghost use Rattle.sqlite.specs.Held.{state};
+ghost use Rattle.sqlite.specs.Values.{bound};
+ghost use Rattle.fuse_tree.specs.Columns.{FitsHandle};
+ghost use Rattle.fuse_store_tables.specs.Moves.{Inside, Makes, Looked, Stays};
+ghost use Rattle.fuse_store_tables.specs.Content.{Content, access_code, fh_of, at_by, with_handle};
+ghost use Rattle.fuse_store_tables.specs.Content.{without_handle, without_handles, shown_handle};
+
+use crate::statements::run;
+use crate::values::number;
+use fuse_tree::HandleRow;
+use fuse_wire::AccessMode;
+use sqlite::types::{ToSql, ValueRef};
+use sqlite::{Alter, Connection, Error, Row};
+
+const INSERT: &str = "INSERT INTO handles VALUES (?1, ?2, ?3)";
+
+const DELETE: &str = "DELETE FROM handles WHERE fh = ?1";
+
+const DELETE_ALL: &str = "DELETE FROM handles";
+
+const SELECT: &str = "SELECT node, access FROM handles WHERE fh = ?1";
+
+// The number of an access mode.
+fn code_of(access: AccessMode) -> u32
+    ensures { result ≡ access_code access }
+{
+    match access {
+        AccessMode::ReadOnly => 0,
+        AccessMode::WriteOnly => 1,
+        AccessMode::ReadWrite => 2,
+    }
+}
+
+// The parameters of a handle.
+fn handle_values(row: &HandleRow) -> [ValueRef<'static>; 3]
+    requires { FitsHandle row.now }
+    ensures { bound result ≡ Int (pos row.now.fh) ∷ Int (pos row.now.node)
+        ∷ Int (pos (access_code row.now.access)) ∷ [] }
+{
+    [
+        (row.fh as i64).to_sql(),
+        (row.node as i64).to_sql(),
+        code_of(row.access).to_sql(),
+    ]
+}
+
+/// Adds a handle, whose number no other has.
+pub fn insert_handle<S: Alter>(conn: &mut Connection<S>, row: &HandleRow) -> Result<(), Error>
+    requires { FitsHandle row.now }
+    ensures { Makes (with_handle row.now) (state S.Store conn.old) (state S.Store conn.new) result }
+{
+    let values = handle_values(row);
+    run(conn, INSERT, &values)
+}
+
+/// Takes out the handle of this number, if it is there.
+pub fn delete_handle<S: Alter>(conn: &mut Connection<S>, fh: u64) -> Result<(), Error>
+    requires { fh < 2 ^ 63 }
+    ensures { Makes (without_handle fh) (state S.Store conn.old) (state S.Store conn.new) result }
+{
+    let values = number(fh);
+    run(conn, DELETE, &values)
+}
+
+/// Takes out every handle.
+pub fn delete_all_handles<S: Alter>(conn: &mut Connection<S>) -> Result<(), Error>
+    ensures { Makes without_handles (state S.Store conn.old) (state S.Store conn.new) result }
+{
+    run(conn, DELETE_ALL, &[])
+}
+
+/// The handles of this number: one or none.
+pub fn select_handle<S: Alter>(conn: &mut Connection<S>, fh: u64) -> Result<Vec<Row>, Error>
+    requires { fh < 2 ^ 63 }
+    ensures looks { OnOk result (Looked (state S.Store conn.old) (state S.Store conn.new)) }
+    ensures fails { OnErr result (Stays (state S.Store conn.old) (state S.Store conn.new)) }
+    ensures found { HasCleanDisk (state S.Store conn.new) → IfOk result (λ rows. (c : Content)
+        → Inside c (state S.Store conn.old)
+        → rows.items ≡ map shown_handle (option_to_list (at_by fh_of fh c.handles))) }
+{
+    let values = number(fh);
+    conn.query_all(SELECT, &values)
+}

@@ -1,0 +1,160 @@
+// What the opening of a store reads of `meta`, of either version.
+ghost use Rattle.std.specs.Prelude.{◌≡◌, ◌≤◌, ◌∷◌, [], List, map, IfOk, IfErr, OnOk};
+ghost use Rattle.std.specs.Option.{option_to_list};
+ghost use Rattle.sqlite.specs.State.{HasCleanDisk};
+ghost use Rattle.sqlite.specs.Held.{state};
+ghost use Rattle.sqlite.specs.Effect.{Database};
+ghost use Rattle.fuse_store_tables.specs.Content.{Content, Counter, shown_counter, counter_key, at_by};
+ghost use Rattle.fuse_store_tables.specs.Content.{value_at};
+ghost use Rattle.fuse_store_tables.specs.Faults.{IsOutside, IsPlain};
+ghost use Rattle.fuse_store_tables.specs.Saying.{ShowsVersion, HasFirst, TellsVersion, Says};
+ghost use Rattle.fuse_store_tables.specs.Moves.{InsideAs, Takes, IsSure};
+ghost use Rattle.fuse_store_tables.specs.Opening.{IsStored, IsLaid, IsMetaFrom, IsMeta, Tests, most};
+ghost use Rattle.fuse_store_tables.specs.Opening.{shown_meta};
+
+use crate::typed::number_at;
+use fuse_keeper::StoreFault;
+use sqlite::{Alter, Connection, Error, Row};
+
+const SELECT_VERSION: &str = "SELECT v FROM meta WHERE k = 1";
+
+const SELECT_META: &str = "SELECT k, v FROM meta ORDER BY k";
+
+// The version: one row or none.
+fn select_version<S: Alter>(conn: &mut Connection<S>) -> Result<Vec<Row>, Error>
+    ensures unchanged { Takes IsStored IsStored (state S.Store conn.old) (state S.Store conn.new)
+        result }
+    ensures found { HasCleanDisk (state S.Store conn.new) → IfOk result (λ rows. (c : Content)
+        → InsideAs (IsStored c) (state S.Store conn.old)
+        → rows.items ≡ map shown_counter (option_to_list (at_by counter_key 1 c.counters))) }
+    ensures tells { HasCleanDisk (state S.Store conn.new)
+        → IfOk result (λ rows. ShowsVersion (state S.Store conn.old).now rows.items) }
+    ensures laid { Takes IsLaid IsLaid (state S.Store conn.old) (state S.Store conn.new) result }
+    ensures shows { HasCleanDisk (state S.Store conn.new) → IfOk result (λ rows. (c : Content)
+        → InsideAs (IsLaid c) (state S.Store conn.old)
+        → rows.items ≡ map shown_counter (option_to_list (at_by counter_key 1 c.counters))) }
+{
+    conn.query_all(SELECT_VERSION, &[])
+}
+
+// All of `meta`, in the order of the keys.
+fn select_meta<S: Alter>(conn: &mut Connection<S>) -> Result<Vec<Row>, Error>
+    ensures unchanged { Takes IsStored IsStored (state S.Store conn.old) (state S.Store conn.new)
+        result }
+    ensures found { HasCleanDisk (state S.Store conn.new) → IfOk result (λ rows. (c : Content)
+        → InsideAs (IsStored c) (state S.Store conn.old) → rows.items ≡ map shown_meta c.counters) }
+    ensures laid { Takes IsLaid IsLaid (state S.Store conn.old) (state S.Store conn.new) result }
+    ensures shows { HasCleanDisk (state S.Store conn.new) → IfOk result (λ rows. (c : Content)
+        → InsideAs (IsLaid c) (state S.Store conn.old) → rows.items ≡ map shown_meta c.counters) }
+{
+    conn.query_all(SELECT_META, &[])
+}
+
+// The version that a look-up found.
+fn read_version(rows: &[Row]) -> Result<u64, StoreFault>
+    ensures value { IfOk result (λ n. (c : Content)
+        → rows.now ≡ map shown_counter (option_to_list (at_by counter_key 1 c.counters))
+        → n ≡ value_at 1 c) }
+    ensures fault { IfErr result (λ f. (x : Counter) → rows.now ≡ shown_counter x ∷ []
+        → IsOutside f) }
+    ensures first { IfOk result (λ n. HasFirst n rows.now) }
+    ensures says { IfErr result (λ f. (d : Database) → ShowsVersion d rows.now → Says d f) }
+{
+    match rows.first() {
+        None => Err(StoreFault::NotAStore),
+        Some(row) => number_at(row, 0),
+    }
+}
+
+/// The version.
+pub(crate) fn find_version<S: Alter>(conn: &mut Connection<S>) -> Result<u64, StoreFault>
+    ensures unchanged { Takes IsStored IsStored (state S.Store conn.old) (state S.Store conn.new)
+        result }
+    ensures value { HasCleanDisk (state S.Store conn.new) → IfOk result (λ n. (c : Content)
+        → InsideAs (IsStored c) (state S.Store conn.old) → n ≡ value_at 1 c) }
+    ensures fault { IsSure IsStored (state S.Store conn.old) (state S.Store conn.new) result }
+    ensures tells { HasCleanDisk (state S.Store conn.new)
+        → IfOk result (TellsVersion (state S.Store conn.old).now) }
+    ensures says { HasCleanDisk (state S.Store conn.new)
+        → IfErr result (Says (state S.Store conn.old).now) }
+    ensures laid { Takes IsLaid IsLaid (state S.Store conn.old) (state S.Store conn.new) result }
+    ensures shows { HasCleanDisk (state S.Store conn.new) → IfOk result (λ n. (c : Content)
+        → InsideAs (IsLaid c) (state S.Store conn.old) → n ≡ value_at 1 c) }
+{
+    let rows = select_version(conn)?;
+    read_version(rows.as_slice())
+}
+
+// The greatest value of the row of `meta` with this key.
+fn most(key: u64) -> u64
+    ensures { result ≡ most key }
+{
+    if key < 5 {
+        1 << 62
+    } else if key < 7 {
+        65536
+    } else if key < 8 {
+        1
+    } else if key < 10 {
+        4294967295
+    } else if key < 11 {
+        9223372036854775807
+    } else {
+        1 << 62
+    }
+}
+
+// The row has this key, and a value in range.
+fn check_row(row: &Row, key: u64) -> Result<(), StoreFault>
+    ensures plain { IfErr result IsPlain }
+    ensures fault { IfErr result (λ f. (c : Counter) → row.now ≡ shown_meta c → c.key ≡ key
+        → c.value ≤ most c.key → IsOutside f) }
+    ensures whole { OnOk result ((c : Counter) → row.now ≡ shown_meta c
+        → (c.key ≡ key) × (c.value ≤ most c.key)) }
+{
+    let found = number_at(row, 0)?;
+    let value = number_at(row, 1)?;
+    if found != key {
+        return Err(StoreFault::Damaged);
+    }
+    if value > most(key) {
+        return Err(StoreFault::Damaged);
+    }
+    Ok(())
+}
+
+// They are so many rows with the keys from 1 on, and values in range.
+fn check_rows(rows: &[Row], count: usize) -> Result<(), StoreFault>
+    ensures plain { IfErr result IsPlain }
+    ensures fault { IfErr result (λ f. (cs : List Counter) → rows.now ≡ map shown_meta cs
+        → IsMetaFrom 1 count cs → IsOutside f) }
+    ensures whole { OnOk result ((cs : List Counter) → rows.now ≡ map shown_meta cs
+        → IsMetaFrom 1 count cs) }
+{
+    if rows.len() != count {
+        return Err(StoreFault::Damaged);
+    }
+    let mut at = 0;
+    'rows: while at < rows.len() {
+        match check_row(&rows[at], at as u64 + 1) {
+            Ok(()) => {}
+            Err(fault) => return Err(fault),
+        }
+        at += 1;
+    }
+    Ok(())
+}
+
+/// All of `meta` is as it should be.
+pub(crate) fn check_meta<S: Alter>(conn: &mut Connection<S>, count: usize) -> Result<(), StoreFault>
+    ensures unchanged { Takes IsStored IsStored (state S.Store conn.old) (state S.Store conn.new)
+        result }
+    ensures fault { HasCleanDisk (state S.Store conn.new) → IfErr result (λ f. (c : Content)
+        → InsideAs (IsStored c) (state S.Store conn.old) → IsMetaFrom 1 count c.counters
+        → IsOutside f) }
+    ensures plain { IfErr result IsPlain }
+    ensures whole { Tests (IsMeta count) (state S.Store conn.old) (state S.Store conn.new) result }
+{
+    let rows = select_meta(conn)?;
+    check_rows(rows.as_slice(), count)
+}

@@ -1,0 +1,129 @@
+// The table of nodes.
+ghost use Rattle.std.specs.Prelude.{◌≡◌, ◌<◌, ◌^◌, [], ◌∷◌, map, IfOk, IfErr, OnOk, OnErr};
+ghost use Rattle.std.specs.Option.{option_to_list};
+ghost use Rattle.sqlite.specs.State.{HasCleanDisk};
+ghost use Rattle.sqlite.specs.Held.{state};
+ghost use Rattle.sqlite.specs.Values.{bound};
+ghost use Rattle.fuse_tree.specs.Columns.{FitsNode};
+ghost use Rattle.fuse_store_tables.specs.Moves.{Inside, Makes, Looked, Stays, IsSure};
+ghost use Rattle.fuse_store_tables.specs.Content.{Content, Holds, given_node, node_columns, node_key};
+ghost use Rattle.fuse_store_tables.specs.Content.{at_by, with_node, set_node, without_unnamed};
+ghost use Rattle.fuse_store_tables.specs.Clearing.{shown_number, counted_to, unnamed_numbers};
+ghost use Rattle.fuse_store_tables.specs.Faults.{IsPlain};
+
+use crate::statements::run;
+use crate::typed::the_number;
+use crate::values::number;
+use fuse_keeper::StoreFault;
+use fuse_tree::NodeRow;
+use sqlite::types::{ToSql, ValueRef};
+use sqlite::{Alter, Connection, Error, Row};
+
+const INSERT: &str =
+    "INSERT INTO nodes VALUES (?1, ?2, ?3, ?4, ?5, ?6, ?7, ?8, ?9, ?10, ?11, ?12, ?13, ?14)";
+
+const UPDATE: &str = "UPDATE nodes SET mode = ?2, uid = ?3, gid = ?4, rdev = ?5, size = ?6, \
+    atime = ?7, atimensec = ?8, mtime = ?9, mtimensec = ?10, ctime = ?11, ctimensec = ?12, \
+    up = ?13, subdirs = ?14 WHERE node = ?1";
+
+const SELECT: &str = "SELECT mode, uid, gid, rdev, size, atime, atimensec, mtime, mtimensec, \
+    ctime, ctimensec, up, subdirs FROM nodes WHERE node = ?1";
+
+const SELECT_UNNAMED: &str = "SELECT node FROM nodes WHERE up = 0 AND node > 1 ORDER BY node";
+
+const DELETE_UNNAMED: &str = "DELETE FROM nodes WHERE up = 0 AND node > 1";
+
+const COUNT: &str = "SELECT count(*) FROM nodes";
+
+// The parameters of a node.
+fn node_values(row: &NodeRow) -> [ValueRef<'static>; 14]
+    requires { FitsNode row.now }
+    ensures { bound result ≡ given_node row.now }
+{
+    [
+        (row.node as i64).to_sql(),
+        row.mode.to_sql(),
+        row.uid.to_sql(),
+        row.gid.to_sql(),
+        row.rdev.to_sql(),
+        (row.size as i64).to_sql(),
+        row.atime.secs.cast_signed().to_sql(),
+        row.atime.nanos.to_sql(),
+        row.mtime.secs.cast_signed().to_sql(),
+        row.mtime.nanos.to_sql(),
+        row.ctime.secs.cast_signed().to_sql(),
+        row.ctime.nanos.to_sql(),
+        (row.up as i64).to_sql(),
+        row.subdirs.to_sql(),
+    ]
+}
+
+/// Adds a node, whose number no other has.
+pub fn insert_node<S: Alter>(conn: &mut Connection<S>, row: &NodeRow) -> Result<(), Error>
+    requires { FitsNode row.now }
+    ensures { Makes (with_node row.now) (state S.Store conn.old) (state S.Store conn.new) result }
+{
+    let values = node_values(row);
+    run(conn, INSERT, &values)
+}
+
+/// Changes the node of this number, if it is there.
+pub fn update_node<S: Alter>(conn: &mut Connection<S>, row: &NodeRow) -> Result<(), Error>
+    requires { FitsNode row.now }
+    ensures { Makes (set_node row.now) (state S.Store conn.old) (state S.Store conn.new) result }
+{
+    let values = node_values(row);
+    run(conn, UPDATE, &values)
+}
+
+/// The nodes of this number: one or none.
+pub fn select_node<S: Alter>(conn: &mut Connection<S>, number_of: u64) -> Result<Vec<Row>, Error>
+    requires { number_of < 2 ^ 63 }
+    ensures looks { OnOk result (Looked (state S.Store conn.old) (state S.Store conn.new)) }
+    ensures fails { OnErr result (Stays (state S.Store conn.old) (state S.Store conn.new)) }
+    ensures found { HasCleanDisk (state S.Store conn.new) → IfOk result (λ rows. (c : Content)
+        → Inside c (state S.Store conn.old)
+        → rows.items ≡ map node_columns (option_to_list (at_by node_key number_of c.nodes))) }
+{
+    let values = number(number_of);
+    conn.query_all(SELECT, &values)
+}
+
+/// The numbers of the nodes without a name, in rising order.
+pub fn select_unnamed<S: Alter>(conn: &mut Connection<S>) -> Result<Vec<Row>, Error>
+    ensures made { Makes (λ c. c) (state S.Store conn.old) (state S.Store conn.new) result }
+    ensures found { HasCleanDisk (state S.Store conn.new) → IfOk result (λ rows. (c : Content)
+        → Inside c (state S.Store conn.old)
+        → rows.items ≡ map shown_number (unnamed_numbers c.nodes)) }
+{
+    conn.query_all(SELECT_UNNAMED, &[])
+}
+
+/// Takes out the nodes without a name, but never the root.
+pub fn delete_unnamed<S: Alter>(conn: &mut Connection<S>) -> Result<(), Error>
+    ensures { Makes without_unnamed (state S.Store conn.old) (state S.Store conn.new) result }
+{
+    run(conn, DELETE_UNNAMED, &[])
+}
+
+// How many nodes there are: one row.
+fn select_count<S: Alter>(conn: &mut Connection<S>) -> Result<Vec<Row>, Error>
+    ensures made { Makes (λ c. c) (state S.Store conn.old) (state S.Store conn.new) result }
+    ensures found { HasCleanDisk (state S.Store conn.new) → IfOk result (λ rows. (c : Content)
+        → Inside c (state S.Store conn.old) → rows.items ≡ shown_number (counted_to c.nodes) ∷ []) }
+{
+    conn.query_all(COUNT, &[])
+}
+
+/// How many nodes there are.
+pub fn count_nodes<S: Alter>(conn: &mut Connection<S>) -> Result<u64, StoreFault>
+    ensures made { Makes (λ c. c) (state S.Store conn.old) (state S.Store conn.new) result }
+    ensures value { HasCleanDisk (state S.Store conn.new) → IfOk result (λ n. (c : Content)
+        → Inside c (state S.Store conn.old) → n ≡ counted_to c.nodes) }
+    ensures small { IfOk result (λ n. n < 2 ^ 63) }
+    ensures fault { IsSure Holds (state S.Store conn.old) (state S.Store conn.new) result }
+    ensures plain { IfErr result IsPlain }
+{
+    let rows = select_count(conn)?;
+    the_number(rows.as_slice())
+}

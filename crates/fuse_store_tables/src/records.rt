@@ -1,0 +1,180 @@
+// The tables of records and of lots.
+ghost use Rattle.std.specs.Prelude.{◌≡◌, ◌<◌, ◌^◌, [], ◌∷◌, pos, map, length, IfOk, IfErr};
+ghost use Rattle.std.specs.Prelude.{OnOk, OnErr};
+ghost use Rattle.std.specs.Option.{option_to_list};
+ghost use Rattle.sqlite.specs.declared.types.Value.TheVariants.{Int, Blob};
+ghost use Rattle.sqlite.specs.State.{HasCleanDisk};
+ghost use Rattle.sqlite.specs.Held.{state};
+ghost use Rattle.sqlite.specs.Values.{bound};
+ghost use Rattle.fuse_store_tables.specs.Moves.{Inside, Rests, Makes, Looked, Stays, Serves, IsSafe};
+ghost use Rattle.fuse_store_tables.specs.Clearing.{shown_number, counted_to};
+ghost use Rattle.fuse_store_tables.specs.Content.{Content, Holds, kept_key, at_by, with_kept};
+ghost use Rattle.fuse_store_tables.specs.Content.{without_kept};
+ghost use Rattle.fuse_store_tables.specs.Content.{without_all_kept, with_lot, without_lots};
+ghost use Rattle.fuse_store_tables.specs.Content.{without_answers, shown_kept};
+ghost use Rattle.fuse_store_tables.specs.Faults.{IsPlain};
+ghost use Rattle.fuse_store_tables.specs.Opening.{with_copies};
+
+use crate::statements::run;
+use crate::typed::the_count;
+use crate::values::number;
+use fuse_answer::Answer;
+use fuse_keeper::StoreFault;
+use sqlite::types::{ToSql, ValueRef};
+use sqlite::{Alter, Connection, Error, Row};
+
+const INSERT: &str = "INSERT INTO kept VALUES (?1, ?2, ?3, ?4)";
+
+const INSERT_LOT: &str = "INSERT INTO lots VALUES (?1)";
+
+const DELETE: &str = "DELETE FROM kept WHERE id = ?1";
+
+const DELETE_ALL: &str = "DELETE FROM kept";
+
+const DELETE_LOTS: &str = "DELETE FROM lots";
+
+const SELECT: &str = "SELECT errno, body FROM kept WHERE id = ?1";
+
+const COUNT: &str = "SELECT count(*) FROM kept";
+
+const COUNT_LOTS: &str = "SELECT count(*) FROM lots";
+
+const COPY_ANSWERS: &str = "INSERT INTO kept SELECT id, 0, errno, body FROM answers ORDER BY id";
+
+const DELETE_ANSWERS: &str = "DELETE FROM answers";
+
+// The parameters of a record.
+fn kept_values<'a>(id: u64, lot: u64, answer: &'a Answer) -> [ValueRef<'a>; 4]
+    requires id { id < 2 ^ 63 }
+    requires lot { lot < 2 ^ 63 }
+    ensures { bound result ≡ Int (pos id) ∷ Int (pos lot) ∷ Int (pos answer.now.errno)
+        ∷ Blob answer.now.body ∷ [] }
+{
+    [
+        (id as i64).to_sql(),
+        (lot as i64).to_sql(),
+        answer.errno.0.to_sql(),
+        answer.body.as_slice().to_sql(),
+    ]
+}
+
+/// Adds a record under a lot, whose id no other has.
+pub fn insert_kept<S: Alter>(
+    conn: &mut Connection<S>,
+    id: u64,
+    lot: u64,
+    answer: &Answer,
+) -> Result<(), Error>
+    requires id { id < 2 ^ 63 }
+    requires lot { lot < 2 ^ 63 }
+    ensures { Makes (with_kept (record { id = id; lot = lot; said = answer.now }))
+        (state S.Store conn.old) (state S.Store conn.new) result }
+{
+    let values = kept_values(id, lot, answer);
+    run(conn, INSERT, &values)
+}
+
+/// Adds a lot, which isn't there.
+pub fn insert_lot<S: Alter>(conn: &mut Connection<S>, lot: u64) -> Result<(), Error>
+    requires { lot < 2 ^ 63 }
+    ensures { Makes (with_lot lot) (state S.Store conn.old) (state S.Store conn.new) result }
+{
+    let values = number(lot);
+    run(conn, INSERT_LOT, &values)
+}
+
+/// Takes out the record of this id, if it is there.
+pub fn delete_kept<S: Alter>(conn: &mut Connection<S>, id: u64) -> Result<(), Error>
+    requires { id < 2 ^ 63 }
+    ensures { Makes (without_kept id) (state S.Store conn.old) (state S.Store conn.new) result }
+{
+    let values = number(id);
+    run(conn, DELETE, &values)
+}
+
+/// Takes out every record.
+pub fn delete_all_kept<S: Alter>(conn: &mut Connection<S>) -> Result<(), Error>
+    ensures { Makes without_all_kept (state S.Store conn.old) (state S.Store conn.new) result }
+{
+    run(conn, DELETE_ALL, &[])
+}
+
+/// Takes out every lot.
+pub fn delete_all_lots<S: Alter>(conn: &mut Connection<S>) -> Result<(), Error>
+    ensures { Makes without_lots (state S.Store conn.old) (state S.Store conn.new) result }
+{
+    run(conn, DELETE_LOTS, &[])
+}
+
+/// The records of this id: one or none.
+pub fn select_kept<S: Alter>(conn: &mut Connection<S>, id: u64) -> Result<Vec<Row>, Error>
+    requires { id < 2 ^ 63 }
+    ensures looks { OnOk result (Looked (state S.Store conn.old) (state S.Store conn.new)) }
+    ensures fails { OnErr result (Stays (state S.Store conn.old) (state S.Store conn.new)) }
+    ensures found { HasCleanDisk (state S.Store conn.new) → IfOk result (λ rows. (c : Content)
+        → Inside c (state S.Store conn.old)
+        → rows.items ≡ map shown_kept (option_to_list (at_by kept_key id c.kept))) }
+    ensures rests { Serves (λ c. c) (state S.Store conn.old) (state S.Store conn.new) result }
+    ensures found_at_rest { HasCleanDisk (state S.Store conn.new) → IfOk result (λ rows.
+        (c : Content) → Rests c (state S.Store conn.old)
+        → rows.items ≡ map shown_kept (option_to_list (at_by kept_key id c.kept))) }
+{
+    let values = number(id);
+    conn.query_all(SELECT, &values)
+}
+
+// How many records there are: one row.
+fn select_count<S: Alter>(conn: &mut Connection<S>) -> Result<Vec<Row>, Error>
+    ensures rests { Serves (λ c. c) (state S.Store conn.old) (state S.Store conn.new) result }
+    ensures found { HasCleanDisk (state S.Store conn.new) → IfOk result (λ rows. (c : Content)
+        → Rests c (state S.Store conn.old) → rows.items ≡ shown_number (counted_to c.kept) ∷ []) }
+{
+    conn.query_all(COUNT, &[])
+}
+
+// How many lots there are: one row.
+fn select_lot_count<S: Alter>(conn: &mut Connection<S>) -> Result<Vec<Row>, Error>
+    ensures rests { Serves (λ c. c) (state S.Store conn.old) (state S.Store conn.new) result }
+    ensures found { HasCleanDisk (state S.Store conn.new) → IfOk result (λ rows. (c : Content)
+        → Rests c (state S.Store conn.old) → rows.items ≡ shown_number (counted_to c.lots) ∷ []) }
+{
+    conn.query_all(COUNT_LOTS, &[])
+}
+
+/// How many records there are, outside a transaction.
+pub fn count_kept<S: Alter>(conn: &mut Connection<S>) -> Result<u64, StoreFault>
+    ensures rests { Serves (λ c. c) (state S.Store conn.old) (state S.Store conn.new) result }
+    ensures value { HasCleanDisk (state S.Store conn.new) → IfOk result (λ n. (c : Content)
+        → Rests c (state S.Store conn.old) → n ≡ length c.kept) }
+    ensures fault { IsSafe Holds (state S.Store conn.old) (state S.Store conn.new) result }
+    ensures plain { IfErr result IsPlain }
+{
+    let rows = select_count(conn)?;
+    the_count(rows.as_slice())
+}
+
+/// How many lots there are, outside a transaction.
+pub fn count_lots<S: Alter>(conn: &mut Connection<S>) -> Result<u64, StoreFault>
+    ensures rests { Serves (λ c. c) (state S.Store conn.old) (state S.Store conn.new) result }
+    ensures value { HasCleanDisk (state S.Store conn.new) → IfOk result (λ n. (c : Content)
+        → Rests c (state S.Store conn.old) → n ≡ length c.lots) }
+    ensures fault { IsSafe Holds (state S.Store conn.old) (state S.Store conn.new) result }
+    ensures plain { IfErr result IsPlain }
+{
+    let rows = select_lot_count(conn)?;
+    the_count(rows.as_slice())
+}
+
+/// Puts the records of version 1 under lot 0.
+pub(crate) fn copy_answers<S: Alter>(conn: &mut Connection<S>) -> Result<(), Error>
+    ensures { Makes with_copies (state S.Store conn.old) (state S.Store conn.new) result }
+{
+    run(conn, COPY_ANSWERS, &[])
+}
+
+/// Takes out the records of version 1.
+pub(crate) fn delete_answers<S: Alter>(conn: &mut Connection<S>) -> Result<(), Error>
+    ensures { Makes without_answers (state S.Store conn.old) (state S.Store conn.new) result }
+{
+    run(conn, DELETE_ANSWERS, &[])
+}

@@ -1,0 +1,46 @@
+// A statement, and those that begin and end a transaction.
+ghost use Rattle.sqlite.specs.State.{HasCleanDisk, Survives, CommitsBy};
+ghost use Rattle.sqlite.specs.Held.{state};
+ghost use Rattle.sqlite.specs.Values.{bound};
+ghost use Rattle.fuse_store_tables.specs.Moves.{Begins, Ends, Ran, Undoes};
+
+use sqlite::types::ValueRef;
+use sqlite::{Alter, Connection, Error};
+
+/// Runs a statement. How many rows it changed is left out, since nobody asks.
+pub(crate) fn run<S: Alter>(
+    conn: &mut Connection<S>,
+    statement: &str,
+    values: &[ValueRef<'_>],
+) -> Result<(), Error>
+    ensures runs { HasCleanDisk (state S.Store conn.new) → Ran statement.now (bound values.now)
+        (state S.Store conn.old) (state S.Store conn.new) result }
+    ensures survives { Survives (state S.Store conn.old) (state S.Store conn.new)
+        (CommitsBy statement.now (bound values.now) (state S.Store conn.old)) }
+{
+    conn.execute(statement, values)?;
+    Ok(())
+}
+
+/// Begins a transaction.
+pub fn begin<S: Alter>(conn: &mut Connection<S>) -> Result<(), Error>
+    ensures { Begins (state S.Store conn.old) (state S.Store conn.new) result }
+{
+    run(conn, "BEGIN", &[])
+}
+
+/// Commits the transaction.
+pub fn commit<S: Alter>(conn: &mut Connection<S>) -> Result<(), Error>
+    ensures { Ends (state S.Store conn.old) (state S.Store conn.new) result }
+{
+    run(conn, "COMMIT", &[])
+}
+
+/// Undoes the transaction, if one is open.
+pub fn undo<S: Alter>(conn: &mut Connection<S>)
+    ensures { Undoes (state S.Store conn.old) (state S.Store conn.new) }
+{
+    if !conn.is_autocommit() {
+        let _ = conn.execute("ROLLBACK", &[]);
+    }
+}

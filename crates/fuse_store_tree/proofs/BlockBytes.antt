@@ -1,0 +1,236 @@
+-- What a block that is written does to the bytes of a node.
+use Rattle.std.proofs.Common.{◌≡◌, ◌<◌, ◌≤◌, ◌+◌, ◌-◌, ◌*◌, ◌/◌, ◌%◌, ◌==◌, ◌&&◌, inl, inr, ℕ, zero, suc, List, [], ◌∷◌, ◌++◌, take, drop, length, filter}
+use Rattle.std.proofs.Common.{find, fold, not, nat_lt, Bool, true, false, cond, Some, None, refl, sym, ap, subst, arith, ◌∙◌}
+use Rattle.std.specs.List.{AllByRecursion}
+use Rattle.std.proofs.lemmas.Bool.{cases_Bool}
+use Rattle.std.proofs.lemmas.Bool.Decides.{nat_tests}
+use Rattle.fuse_tree.specs.Bounds.{block_bytes}
+use Rattle.fuse_store_tables.specs.Blocks.{Block, block_at, is_at, new_block, next_slot}
+use Rattle.fuse_store_tables.specs.Content.{put_by}
+use Rattle.fuse_store_tree.specs.Store.{byte_at, bytes_of, byte_in}
+use Rattle.std.proofs.lemmas.List.{get_or-take, get_or-drop}
+use Rattle.std.proofs.Math.ListN.{get_or-append}
+use Rattle.std.proofs.Math.Seq.{get_or-append_right}
+use Rattle.fuse_store_tree.specs.Store.{whole_of, overlay, spliced}
+use Rattle.fuse_store_tree.proofs.Ranges.{whole_byte}
+use Rattle.fuse_store_tree.proofs.Told.{Rises, put_last, same_test, grouped}
+
+abbrev slot : Block → ℕ
+slot b = b.slot
+
+abbrev next_from : ℕ → List Block → ℕ
+next_from a bs = fold (λ _ b. b.slot + 1) a bs
+
+above_all : (a : ℕ) (bs : List Block) → Rises slot bs → AllByRecursion (λ b. a ≤ b.slot) bs → (a ≤ next_from a bs)
+    × AllByRecursion (λ b. b.slot < next_from a bs) bs
+above_all a [] rises low = (omega arith, tt)
+above_all a (b ∷ bs) rises low =
+    let more = above_all (b.slot + 1) bs rises.1 (up bs rises.0) in
+    (omega (arith, low.0, more.0), (omega (arith, more.0), more.1))
+  where
+    up : (xs : List Block) → AllByRecursion (λ x. b.slot < x.slot) xs → AllByRecursion (λ x. b.slot + 1 ≤ x.slot) xs
+    up [] all = tt
+    up (x ∷ xs) all = (omega (arith, all.0), up xs all.1)
+
+next_above : (bs : List Block) → Rises slot bs → AllByRecursion (λ b. b.slot < next_slot bs) bs
+next_above [] rises = tt
+next_above (b ∷ bs) rises =
+    let more = above_all (b.slot + 1) bs rises.1 (up bs rises.0) in
+    (omega (arith, more.0), more.1)
+  where
+    up : (xs : List Block) → AllByRecursion (λ x. b.slot < x.slot) xs → AllByRecursion (λ x. b.slot + 1 ≤ x.slot) xs
+    up [] all = tt
+    up (x ∷ xs) all = (omega (arith, all.0), up xs all.1)
+
+rises_without : (p : Block → Bool) (bs : List Block) → Rises slot bs → Rises slot (filter p bs)
+rises_without p [] rises = tt
+rises_without p (b ∷ bs) rises = elim (cases_Bool (p b)) [
+  | inl here ↦ rw here (all_left bs rises.0, rises_without p bs rises.1)
+  | inr not_here ↦ rw not_here (rises_without p bs rises.1)
+]
+  where
+    all_left : (xs : List Block) → AllByRecursion (λ x. b.slot < x.slot) xs → AllByRecursion (λ x. b.slot < x.slot) (filter p xs)
+    all_left [] all = tt
+    all_left (x ∷ xs) all = elim (cases_Bool (p x)) [
+      | inl here ↦ rw here (all.0, all_left xs all.1)
+      | inr not_here ↦ rw not_here (all_left xs all.1)
+    ]
+
+pub put_new : (node block : ℕ) (bytes : List ℕ) (bs : List Block) → Rises slot bs → put_by slot (new_block node block bytes bs) bs ≡ bs
+    ++ new_block node block bytes bs ∷ []
+put_new node block bytes bs rises = put_last slot (new_block node block bytes bs) bs (next_above bs rises)
+
+find_last : (p : Block → Bool) (xs : List Block) (y : Block) → find p xs ≡ None → p y ≡ true → find p (xs ++ y ∷ []) ≡ Some y
+find_last p [] y none here = rw here refl
+find_last p (x ∷ xs) y none here = elim (cases_Bool (p x)) [
+  | inl found ↦ absurd (let e = rw found at none in cc)
+  | inr not_found ↦ rw not_found (find_last p xs y (rw not_found at none) here)
+]
+
+find_before : (p : Block → Bool) (xs : List Block) (y : Block) → p y ≡ false → find p (xs ++ y ∷ []) ≡ find p xs
+find_before p [] y not_here = rw not_here refl
+find_before p (x ∷ xs) y not_here = elim (cases_Bool (p x)) [
+  | inl found ↦ rw found refl
+  | inr not_found ↦ rw not_found (find_before p xs y not_here)
+]
+
+none_left : (p : Block → Bool) (xs : List Block) → find p (filter (λ x. not (p x)) xs) ≡ None
+none_left p [] = refl
+none_left p (x ∷ xs) = elim (cases_Bool (p x)) [
+  | inl here ↦ rw here (none_left p xs)
+  | inr not_here ↦ rw not_here (rw not_here (none_left p xs))
+]
+
+pub others_left : (p q : Block → Bool) → ((b : Block) → p b ≡ true → q b ≡ false) → (xs : List Block) → find p (filter (λ x. not (q x)) xs) ≡ find p xs
+others_left p q apart [] = refl
+others_left p q apart (x ∷ xs) = elim (cases_Bool (p x)) [
+  | inl here ↦ rw (here, apart x here) (rw here refl)
+  | inr not_here ↦ rw not_here (by (q x) (others_left p q apart xs) not_here)
+]
+  where
+    by : (b : Bool) → find p (filter (λ y. not (q y)) xs) ≡ find p xs → p x ≡ false
+        → find p (cond (not b) (x ∷ filter (λ y. not (q y)) xs) (filter (λ y. not (q y)) xs)) ≡ find p xs
+    by true e miss = e
+    by false e miss = rw miss e
+
+abbrev pub put_at_place : ℕ → ℕ → List ℕ → List Block → List Block
+put_at_place node block bytes bs = let rest : List Block = filter (λ b. not (is_at node block b)) bs in put_by slot (new_block node block bytes rest) rest
+
+place_test : (node block n k : ℕ) (bytes : List ℕ) (bs : List Block) → is_at n k (new_block node block bytes bs) ≡ ((node == n) && (block == k))
+place_test node block n k bytes bs = rw (same_test node n, same_test block k) refl
+
+same_place : (node block n k : ℕ) (b : Block) → ((node == n) && (block == k)) ≡ false → is_at n k b ≡ true → is_at node block b ≡ false
+same_place node block n k b apart is =
+    rw (same_test b.node node, same_test b.block block) (told node block n k b.node b.block apart (rw (same_test b.node n, same_test b.block k) at is))
+  where
+    told : (a x e y m w : ℕ) → ((a == e) && (x == y)) ≡ false → ((m == e) && (w == y)) ≡ true → ((m == a) && (w == x)) ≡ false
+    told a x e y m w apart is = grind (arith, nat_tests)
+
+-- the block at any place, once one is written
+pub block_put : (node block : ℕ) (bytes : List ℕ) (bs : List Block) → Rises slot bs → (n k : ℕ)
+    → bytes_of (block_at n k (put_at_place node block bytes bs)) ≡ cond ((node == n) && (block == k)) bytes (bytes_of (block_at n k bs))
+block_put node block bytes bs rises n k =
+    let rest = filter (λ b. not (is_at node block b)) bs in
+    let behind = put_new node block bytes rest (rises_without (λ b. not (is_at node block b)) bs rises) in
+    ap (λ l. bytes_of (block_at n k l)) behind ∙ elim (cases_Bool ((node == n) && (block == k))) [
+      | inl here ↦
+          let at = same_both node block n k here in
+          rw here (ap bytes_of (find_last (is_at n k) rest (new_block node block bytes rest) (subst (λ m. find (is_at m k) rest ≡ None) at.0
+          (subst (λ m. find (is_at node m) rest ≡ None) at.1 (none_left (is_at node block) bs))) (place_test node block n k bytes rest ∙ here)))
+      | inr not_here ↦
+          rw not_here (ap bytes_of (find_before (is_at n k) rest (new_block node block bytes rest) (place_test node block n k bytes rest ∙ not_here)
+          ∙ others_left (is_at n k) (is_at node block) (λ b is. same_place node block n k b not_here is) bs))
+    ]
+  where
+    same_both : (a x e y : ℕ) → ((a == e) && (x == y)) ≡ true → (a ≡ e) × (x ≡ y)
+    same_both a x e y h = (grind (arith, nat_tests), grind (arith, nat_tests))
+
+-- ---- bytes within a block
+
+taken_length : (n : ℕ) (xs : List ℕ) → n ≤ length xs → length (take n xs) ≡ n
+taken_length zero xs low = refl
+taken_length (suc n) [] low = absurd (omega (arith, low))
+taken_length (suc n) (x ∷ xs) low = ap suc (taken_length n xs (omega (arith, low)))
+
+pub lower : (j start : ℕ) → nat_lt j start ≡ true → j < start
+lower j start is = grind (arith, nat_tests)
+
+pub upper : (j start : ℕ) → nat_lt j start ≡ false → start ≤ j
+upper j start is = grind (arith, nat_tests)
+
+-- the byte of a block with a part written over it
+pub byte_spliced : (old part : List ℕ) (start j : ℕ) → start + length part ≤ length old
+    → byte_at (spliced old start part) j ≡ cond (not (nat_lt j start) && nat_lt j (start + length part)) (byte_at part (j - start)) (byte_at old j)
+byte_spliced old part start j within =
+    let first : length (take start old) ≡ start = taken_length start old (omega (arith, within)) in
+    let rest = part ++ drop (start + length part) old in
+    ap (λ l. byte_at l j) (grouped (take start old) part (drop (start + length part) old)) ∙ elim (cases_Bool (nat_lt j start)) [
+      | inl before ↦
+          let low = lower j start before in
+          rw before (get_or-append (take start old) rest 0 j (omega (arith, first, low)) ∙ get_or-take start old j 0 low)
+      | inr behind ↦
+          let high = upper j start behind in
+          rw behind (get_or-append_right (take start old) rest j 0 (omega (arith, first, high)) ∙ ap (λ k. byte_at rest (j - k)) first
+          ∙ elim (cases_Bool (nat_lt j (start + length part))) [
+            | inl inside ↦
+                let low = lower j (start + length part) inside in
+                rw inside (get_or-append part (drop (start + length part) old) 0 (j - start) (omega (arith, low, high)))
+            | inr outside ↦
+                let far = upper j (start + length part) outside in
+                let e : start + length part + (j - start - length part) ≡ j = omega (arith, far, high) in
+                rw outside (get_or-append_right part (drop (start + length part) old) (j - start) 0 (omega (arith, far, high))
+                ∙ get_or-drop (start + length part) old (j - start - length part) 0 ∙ ap (byte_at old) e)
+          ])
+    ]
+
+shifted : (a b k : ℕ) → nat_lt a b ≡ nat_lt (k + a) (k + b)
+shifted a b k = grind (arith, nat_tests)
+
+shifted_end : (a b m k : ℕ) → nat_lt a (b + m) ≡ nat_lt (k + a) (k + b + m)
+shifted_end a b m k = grind (arith, nat_tests)
+
+whole_place : (i : ℕ) → i / block_bytes * block_bytes + i % block_bytes ≡ i
+whole_place i = omega arith
+
+both_of : (a b : Bool) → (a && b) ≡ true → (a ≡ true) × (b ≡ true)
+both_of true true e = (refl, refl)
+both_of true false e = absurd cc
+both_of false b e = absurd cc
+
+equal_to : (a b : ℕ) → (a == b) ≡ true → a ≡ b
+equal_to a b is = grind (arith, nat_tests)
+
+same_self : (a : ℕ) → (a == a) ≡ true
+same_self a = grind (arith, nat_tests)
+
+flipped : (a b : ℕ) → (a == b) ≡ (b == a)
+flipped a b = grind (arith, nat_tests)
+
+not_within : (here m i : ℕ) → here % block_bytes + m ≤ block_bytes → (here / block_bytes == i / block_bytes) ≡ false
+    → (not (nat_lt i here) && nat_lt i (here + m)) ≡ false
+not_within here m i within apart = elim (cases_Bool (nat_lt i here)) [
+  | inl before ↦ rw before refl
+  | inr behind ↦ rw behind (elim (cases_Bool (nat_lt i (here + m))) [
+    | inl inside ↦
+        let low = lower i (here + m) inside in
+        let high = upper i here behind in
+        let e : here / block_bytes ≡ i / block_bytes = omega (arith, low, high, within) in
+        absurd (let f : (here / block_bytes == i / block_bytes) ≡ true = subst (λ k. (here / block_bytes == k) ≡ true) e (same_self (here / block_bytes)) in
+        let g = sym f ∙ apart in cc)
+    | inr outside ↦ rw outside refl
+  ])
+]
+
+-- a part of one block written: over the bytes of the node
+pub part_put : (node here : ℕ) (part : List ℕ) (bs : List Block) (old : List ℕ) → Rises slot bs → old ≡ whole_of (block_at node (here / block_bytes) bs)
+    → length old ≡ block_bytes → here % block_bytes + length part ≤ block_bytes
+    → (n i : ℕ) → byte_in (put_at_place node (here / block_bytes) (spliced old (here % block_bytes) part) bs) n i ≡ overlay node here part (byte_in bs) n i
+part_put node here part bs old rises is whole within n i =
+    ap (λ l. byte_at l (i % block_bytes)) (block_put node (here / block_bytes) (spliced old (here % block_bytes) part) bs rises n (i / block_bytes))
+    ∙ elim (cases_Bool (node == n)) [
+      | inl here_node ↦ rw (sym (flipped node n), here_node) (elim (cases_Bool (here / block_bytes == i / block_bytes)) [
+        | inl here_block ↦
+            let k = equal_to (here / block_bytes) (i / block_bytes) here_block in
+            let place : here / block_bytes * block_bytes + i % block_bytes ≡ i = ap (λ b. b * block_bytes + i % block_bytes) k ∙ whole_place i in
+            let lows : nat_lt (i % block_bytes) (here % block_bytes) ≡ nat_lt i here =
+            shifted (i % block_bytes) (here % block_bytes) (here / block_bytes * block_bytes)
+            ∙ ap (λ a. nat_lt a (here / block_bytes * block_bytes + here % block_bytes)) place ∙ ap (nat_lt i) (whole_place here) in
+            let ends : nat_lt (i % block_bytes) (here % block_bytes + length part) ≡ nat_lt i (here + length part) =
+            shifted_end (i % block_bytes) (here % block_bytes) (length part) (here / block_bytes * block_bytes)
+            ∙ ap (λ a. nat_lt a (here / block_bytes * block_bytes + here % block_bytes + length part)) place
+            ∙ ap (λ a. nat_lt i (a + length part)) (whole_place here) in
+            let gap : i % block_bytes - here % block_bytes ≡ i - here = omega (arith, place, whole_place here) in
+            let was : byte_at old (i % block_bytes) ≡ byte_in bs n i =
+            ap (λ l. byte_at l (i % block_bytes)) is ∙ whole_byte (block_at node (here / block_bytes) bs) (i % block_bytes)
+            ∙ ap (λ b. byte_at (bytes_of (block_at node b bs)) (i % block_bytes)) k
+            ∙ ap (λ m. byte_at (bytes_of (block_at m (i / block_bytes) bs)) (i % block_bytes)) (equal_to node n here_node) in
+            rw here_block (byte_spliced old part (here % block_bytes) (i % block_bytes) (omega (arith, whole, within))
+            ∙ ap (λ t. cond (not t && nat_lt (i % block_bytes) (here % block_bytes + length part)) (byte_at part (i % block_bytes - here % block_bytes))
+            (byte_at old (i % block_bytes))) lows
+            ∙ ap (λ t. cond (not (nat_lt i here) && t) (byte_at part (i % block_bytes - here % block_bytes)) (byte_at old (i % block_bytes))) ends
+            ∙ ap (λ a. cond (not (nat_lt i here) && nat_lt i (here + length part)) (byte_at part a) (byte_at old (i % block_bytes))) gap
+            ∙ ap (λ b. cond (not (nat_lt i here) && nat_lt i (here + length part)) (byte_at part (i - here)) b) was)
+        | inr other_block ↦ rw (other_block, not_within here (length part) i within other_block) refl
+      ])
+      | inr other_node ↦ rw (sym (flipped node n), other_node) refl
+    ]

@@ -1,0 +1,59 @@
+-- One change after another, and a plan whose changes are made.
+use Rattle.std.proofs.Common.{◌≡◌, List, [], ◌∷◌, ◌++◌, refl, sym, ap, subst, ◌∙◌}
+use Rattle.fuse_tree.specs.State.{State as TreeState}
+use Rattle.fuse_tree.specs.Rows.{rowed, apply, apply_one, Rows}
+use Rattle.fuse_tree.specs.Done.{Done}
+use Rattle.fuse_tree.specs.Plan.{Meets}
+use Rattle.fuse_tree.specs.declared.rows.Planned.{Planned}
+use Rattle.fuse_store_tree.specs.Acting.{ActsInside}
+use Rattle.fuse_store_tree.specs.Looking.{sees_in}
+use Rattle.fuse_store_tree.specs.Store.{with_changes, Store, Held, with_change}
+use Rattle.fuse_tree.specs.declared.rows.Change.{Change}
+use Rattle.fuse_store_tree.specs.Laws.{looked_still}
+use Rattle.sqlite.specs.State.{State, HasCleanDisk}
+use Rattle.fuse_store_tables.specs.Moves.{InsideAs, Looked}
+use Rattle.fuse_store_tree.specs.Changing.{Changed, Keeps}
+use Rattle.fuse_store_tables.specs.Following.{earlier}
+use Rattle.fuse_store_tree.proofs.Told.{inside_of}
+use Rattle.fuse_store_tree.proofs.Steps.{keeps_of, keeps_then}
+
+pub changed_keeps : (f : Store → Store) (a b d : State) → Changed f a b → Keeps b d → Keeps a d
+changed_keeps f a b d p q = keeps_then a b d p.stays (λ clean s at. (f s, p.turns clean s at)) q
+
+pub changed_then : (f g : Store → Store) (a b d : State) → Changed f a b → Changed g b d → Changed (λ x. g (f x)) a d
+changed_then f g a b d p q = record {
+  stays = changed_keeps f a b d p q.stays;
+  turns = λ clean s at. q.turns clean (f s)
+      (p.turns (earlier b d _ q.stays.survives clean) s at);
+}
+
+pub nothing_changed : (a : State) → Changed (λ x. x) a a
+nothing_changed a = record { stays = keeps_of a a (looked_still a).stays; turns = λ clean s at. at }
+
+apply_last : (rows : Rows) (cs : List Change) (c : Change) → apply rows (cs ++ c ∷ []) ≡ apply_one (apply rows cs) c
+apply_last rows [] c = refl
+apply_last rows (x ∷ cs) c = apply_last (apply_one rows x) cs c
+
+pub changed_more : (cs : List Change) (c : Change) (a b d : State) → Changed (with_changes cs) a b → Changed (with_change c) b d
+    → Changed (with_changes (cs ++ c ∷ [])) a d
+changed_more cs c a b d p q =
+    let both = changed_then (with_changes cs) (with_change c) a b d p q in
+    record {
+      stays = both.stays;
+      turns = λ clean s at. subst (λ r. InsideAs (Held (record s { rows = r })) d) (sym (apply_last s.rows cs c))
+          (both.turns clean s at);
+    }
+
+-- a plan that was made, and its changes made
+pub acted : (a b d : State) (s : TreeState) (p : Planned) (e : Done) → Looked a b → Changed (with_changes p.changes) b d → (HasCleanDisk b → sees_in a (rowed s)
+    → Meets s p e) → ActsInside a d s e p.answer
+acted a b d s p e looks changed meets clean x is at =
+    let mid = earlier b d _ changed.stays.survives clean in
+    let met = meets mid (x, at, is) in
+    let now = looks.same mid at.holds.0 (inside_of x a at) in
+    let after = changed.turns clean x (record { is_open = now.is_open; in_transaction = now.in_transaction; holds = (at.holds.0, now.holds, at.holds.2) }) in
+    record {
+      answer_is = met.answer;
+      tree = met.tree;
+      inside = subst (λ r. InsideAs (Held (record x { rows = r })) d) (ap (λ r. apply r p.changes) is ∙ met.rows) after;
+    }

@@ -1,0 +1,221 @@
+-- The bytes of a node behind a place, taken away.
+use Rattle.std.proofs.Common.{◌≡◌, ◌≤◌, ◌+◌, ◌-◌, ◌*◌, ◌/◌, ◌%◌, ◌==◌, ◌&&◌, inl, inr, ℕ, List, [], ◌∷◌, filter, find, length, replicate, not, nat_lt}
+use Rattle.std.proofs.Common.{Bool, true, false, cond, None, Ok, refl, sym, ap, subst, arith, ◌∙◌}
+use Rattle.std.specs.List.{list_any}
+use Rattle.std.specs.Ordering.{is_eq, is_ge, nat_cmp}
+use Rattle.std.proofs.lemmas.Bool.{cases_Bool}
+use Rattle.std.proofs.lemmas.Bool.Decides.{nat_tests}
+use Rattle.std.proofs.lemmas.List.{length-replicate}
+use Rattle.sqlite.specs.declared.error.Error.{Error}
+use Rattle.sqlite.specs.State.{State}
+use Rattle.fuse_tree.specs.Bounds.{block_bytes}
+use Rattle.fuse_tree.specs.Rows.{sized, full_at, content_of}
+use Rattle.fuse_tree.specs.declared.rows.Change.TheVariants as changes
+use Rattle.fuse_store_tables.specs.Blocks.{Block, block_at, is_at, is_from}
+use Rattle.fuse_store_tables.specs.Content.{Content, without_blocks_from, node_key}
+use Rattle.fuse_store_tables.specs.Moves.{Makes}
+use Rattle.fuse_store_tables.specs.Following.{earlier}
+use Rattle.fuse_store_tree.specs.Fits.{IsWhole}
+use Rattle.fuse_store_tree.specs.Store.{Store, Tells, TellsAs, byte_at, bytes_of, byte_in, cut, overlay, rows_bytes, in_order, with_change}
+use Rattle.fuse_store_tree.specs.Changing.{Changed, Cut, Overlaid, KeepsBytes}
+use Rattle.fuse_store_tree.proofs.Orders.{all_filter}
+use Rattle.fuse_store_tree.proofs.BlockBytes.{lower, upper, others_left}
+use Rattle.fuse_store_tree.proofs.Overlays.{byte_sized, sized_length, zero_at, beyond, low_test, high_test}
+use Rattle.fuse_store_tree.proofs.Steps.{bytes_keep, bytes_then}
+use Rattle.fuse_store_tree.proofs.Writes.{tells_same, rows_same, content_other, content_here, none_changed, none_there}
+use Rattle.fuse_store_tree.proofs.RowChanges.{same_number}
+use Rattle.fuse_store_tree.proofs.Steps.{held_of}
+
+-- ---- blocks taken out
+
+none_from : (p q : Block → Bool) → ((b : Block) → p b ≡ true → q b ≡ true) → (xs : List Block) → find p (filter (λ x. not (q x)) xs) ≡ None
+none_from p q under [] = refl
+none_from p q under (x ∷ xs) = elim (cases_Bool (p x)) [
+  | inl here ↦ rw (under x here) (none_from p q under xs)
+  | inr not_here ↦ by (q x) (none_from p q under xs) not_here
+]
+  where
+    by : (b : Bool) → find p (filter (λ y. not (q y)) xs) ≡ None → p x ≡ false
+        → find p (cond (not b) (x ∷ filter (λ y. not (q y)) xs) (filter (λ y. not (q y)) xs)) ≡ None
+    by true e miss = e
+    by false e miss = rw miss e
+
+inside : (node k n j a x : ℕ) → ((n == node) && not (nat_lt j k)) ≡ true → (is_eq (nat_cmp a n) && is_eq (nat_cmp x j)) ≡ true
+    → (is_eq (nat_cmp a node) && is_ge (nat_cmp x k)) ≡ true
+inside node k n j a x here is = grind (arith, nat_tests)
+
+outside : (node k n j a x : ℕ) → ((n == node) && not (nat_lt j k)) ≡ false → (is_eq (nat_cmp a n) && is_eq (nat_cmp x j)) ≡ true
+    → (is_eq (nat_cmp a node) && is_ge (nat_cmp x k)) ≡ false
+outside node k n j a x apart is = grind (arith, nat_tests)
+
+cut_block : (node k : ℕ) (bs : List Block) (n j : ℕ)
+    → bytes_of (block_at n j (filter (λ b. not (is_from node k b)) bs)) ≡ cond ((n == node) && not (nat_lt j k)) [] (bytes_of (block_at n j bs))
+cut_block node k bs n j = elim (cases_Bool ((n == node) && not (nat_lt j k))) [
+  | inl here ↦
+      rw here (ap bytes_of (none_from (is_at n j) (is_from node k) (λ b is. inside node k n j b.node b.block here is) bs))
+  | inr apart ↦
+      rw apart (ap bytes_of (others_left (is_at n j) (is_from node k) (λ b is. outside node k n j b.node b.block apart is) bs))
+]
+
+same_half : (i k : ℕ) → nat_lt (i / block_bytes) k ≡ nat_lt i (k * block_bytes)
+same_half i k = elim (cases_Bool (nat_lt i (k * block_bytes))) [
+  | inl before ↦ let low = lower i (k * block_bytes) before in low_test (i / block_bytes) k (omega (arith, low)) ∙ sym before
+  | inr behind ↦ let high = upper i (k * block_bytes) behind in high_test (i / block_bytes) k (omega (arith, high)) ∙ sym behind
+]
+
+byte_if : (b : Bool) (l : List ℕ) (i : ℕ) → byte_at (cond b [] l) i ≡ cond b 0 (byte_at l i)
+byte_if true l i = refl
+byte_if false l i = refl
+
+cut_bytes : (node k : ℕ) (bs : List Block) (n i : ℕ)
+    → byte_in (filter (λ b. not (is_from node k b)) bs) n i ≡ cut node (k * block_bytes) (byte_in bs) n i
+cut_bytes node k bs n i =
+    ap (λ l. byte_at l (i % block_bytes)) (cut_block node k bs n (i / block_bytes))
+    ∙ byte_if ((n == node) && not (nat_lt (i / block_bytes) k)) (bytes_of (block_at n (i / block_bytes) bs)) (i % block_bytes)
+    ∙ ap (λ b. cond ((n == node) && not b) 0 (byte_in bs n i)) (same_half i k)
+
+same_cut : (node at : ℕ) (g h : ℕ → ℕ → ℕ) → ((n i : ℕ) → g n i ≡ h n i) → (n i : ℕ) → cut node at g n i ≡ cut node at h n i
+same_cut node at g h same n i = ap (λ b. cond ((n == node) && not (nat_lt i at)) 0 b) (same n i)
+
+pub blocks_cut : {X : Type 0} (a b : State) (x : X) (node k : ℕ) → Makes {X = X} {E = Error} (without_blocks_from node k) a b (Ok x)
+    → Cut node (k * block_bytes) a b
+blocks_cut a b x node k p = record {
+  stays = bytes_keep a b p.stays;
+  turns = λ clean w at.
+      let c = at.holds.0 in
+      let was = at.holds.2 in
+      let now = p.turns clean c (record { is_open = at.is_open; in_transaction = at.in_transaction; holds = at.holds.1 }) in
+      record {
+        is_open = now.is_open;
+        in_transaction = now.in_transaction;
+        holds = (
+          without_blocks_from node k c,
+          now.holds,
+          record {
+            counters = was.counters;
+            nodes = was.nodes;
+            entries = was.entries;
+            handles = was.handles;
+            answers = was.answers;
+            lots = was.lots;
+            kept = was.kept;
+            bytes = λ n i. cut_bytes node k c.blocks n i ∙ same_cut node (k * block_bytes) (byte_in c.blocks) w.1 was.bytes n i;
+            settings = was.settings;
+            fits = record {
+              nodes = was.fits.nodes;
+              entries = was.fits.entries;
+              handles = was.fits.handles;
+              blocks = all_filter (λ b. b.slot) IsWhole _ c.blocks was.fits.blocks;
+              kept = was.fits.kept;
+            };
+          },
+        );
+      };
+}
+
+pub cut_keeps : (node at : ℕ) (a b d : State) → Cut node at a b → KeepsBytes b d → KeepsBytes a d
+cut_keeps node at a b d p q = bytes_then a b d p.stays (λ clean w now. ((w.0, cut node at w.1), p.turns clean w now)) q
+
+-- ---- the rest of a block set to 0
+
+zeroed : (node size end : ℕ) (g : ℕ → ℕ → ℕ) (n i : ℕ) → size ≤ end
+    → overlay node size (replicate (end - size) 0) (cut node end g) n i ≡ cut node size g n i
+zeroed node size end g n i high = elim (cases_Bool (n == node)) [
+  | inr other ↦ rw other refl
+  | inl here ↦ rw here (elim (cases_Bool (nat_lt i size)) [
+    | inl before ↦
+        let low = lower i size before in
+        rw (before, low_test i end (omega (arith, low, high))) refl
+    | inr behind ↦
+        let from = upper i size behind in
+        rw behind (elim (cases_Bool (nat_lt i end)) [
+          | inl first ↦
+              let low = lower i end first in
+              rw (low_test i (size + length (replicate {A = ℕ} (end - size) 0)) (omega (arith, low, high, length-replicate {A = ℕ} (end - size) 0)))
+              (zero_at (end - size) (i - size))
+          | inr past ↦
+              let far = upper i end past in
+              rw (past, high_test i (size + length (replicate {A = ℕ} (end - size) 0)) (omega (arith, far, high, length-replicate {A = ℕ} (end - size) 0)))
+              refl
+        ])
+  ])
+]
+
+pub cut_then : (node size end : ℕ) (zeros : List ℕ) (a b d : State) → Cut node end a b → zeros ≡ replicate (end - size) 0 → size ≤ end
+    → Overlaid node size zeros b d → Cut node size a d
+cut_then node size end zeros a b d p are high q =
+    let second : Overlaid node size (replicate (end - size) 0) b d = subst (λ z. Overlaid node size z b d) are q in
+    record {
+      stays = cut_keeps node end a b d p second.stays;
+      turns = λ clean w now.
+          let mid = p.turns (earlier b d _ second.stays.survives clean) w now in
+          let last = second.turns clean (w.0, cut node end w.1) mid in
+          let same = λ (n i : ℕ). zeroed node size end w.1 n i high in
+          record {
+            is_open = last.is_open;
+            in_transaction = last.in_transaction;
+            holds = (
+              last.holds.0,
+              last.holds.1,
+              tells_same w.0 (overlay node size (replicate (end - size) 0) (cut node end w.1)) (cut node size w.1) last.holds.0 same last.holds.2,
+            );
+          };
+    }
+
+-- ---- the content that is cut, or filled up with zeros
+
+byte_cut : (size : ℕ) (xs : List ℕ) (i : ℕ) → byte_at (sized size xs) i ≡ cond (not (nat_lt i size)) 0 (byte_at xs i)
+byte_cut size xs i = elim (cases_Bool (nat_lt i size)) [
+  | inl before ↦ rw before (byte_sized size xs i (lower i size before))
+  | inr behind ↦ let far = upper i size behind in rw behind (beyond (sized size xs) i (omega (arith, far, sized_length size xs)))
+]
+
+either_zero : (b : Bool) → ◌≡◌ {A = ℕ} (cond b 0 0) 0
+either_zero true = refl
+either_zero false = refl
+
+sized_byte : (x : Store) (node size : ℕ) (c : Content) → TellsAs x (cut node size (rows_bytes x.rows)) c → (n i : ℕ)
+    → byte_in c.blocks n i ≡ rows_bytes (with_change (changes.Sized node size) x).rows n i
+sized_byte x node size c told n i = elim (cases_Bool (n == node)) [
+  | inr other ↦ told.bytes n i ∙ (rw other (ap (λ l. byte_at l i) (sym (content_other node (sized size) n x.rows.nodes other))))
+  | inl here ↦
+      let m = same_number n node here in
+      let after = rows_bytes (with_change (changes.Sized node size) x).rows in
+      let was = content_of (full_at x.rows node) in
+      let so : byte_in c.blocks n i ≡ cond (not (nat_lt i size)) 0 (byte_at was i) =
+      told.bytes n i ∙ (rw here (ap (λ z. cond (not (nat_lt i size)) 0 (byte_at (content_of (full_at x.rows z)) i)) m)) in
+      so ∙ elim (cases_Bool (list_any (λ f. f.row.node == node) x.rows.nodes)) [
+        | inl there ↦
+            sym (byte_cut size was i) ∙ ap (λ l. byte_at l i) (sym (content_here node (sized size) x.rows.nodes there)) ∙ ap (λ z. after z i) (sym m)
+        | inr none ↦
+            ap (λ o. cond (not (nat_lt i size)) 0 (byte_at (content_of o) i)) (none_there node x.rows.nodes none) ∙ either_zero (not (nat_lt i size))
+            ∙ sym (ap (λ o. byte_at (content_of o) i) (none_changed node (sized size) x.rows.nodes none)) ∙ ap (λ z. after z i) (sym m)
+      ]
+]
+
+sized_told : (x : Store) (node size : ℕ) (c : Content) → TellsAs x (cut node size (rows_bytes x.rows)) c
+    → Tells (with_change (changes.Sized node size) x) c
+sized_told x node size c told = record {
+  counters = told.counters;
+  nodes = told.nodes ∙ ap (in_order node_key) (sym (rows_same node (sized size) x.rows.nodes));
+  entries = told.entries;
+  handles = told.handles;
+  answers = told.answers;
+  lots = told.lots;
+  kept = told.kept;
+  bytes = sized_byte x node size c told;
+  settings = told.settings;
+  fits = told.fits;
+}
+
+pub sized_changed : (node size : ℕ) (a d : State) → Cut node size a d → Changed (with_change (changes.Sized node size)) a d
+sized_changed node size a d p = record {
+  stays = held_of a d p.stays;
+  turns = λ clean s now.
+      let w = p.turns clean (s, rows_bytes s.rows) now in
+      record {
+        is_open = w.is_open;
+        in_transaction = w.in_transaction;
+        holds = (w.holds.0, w.holds.1, sized_told s node size w.holds.0 w.holds.2);
+      };
+}

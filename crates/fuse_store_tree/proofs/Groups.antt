@@ -1,0 +1,83 @@
+-- A group, one request after another.
+use Rattle.std.proofs.Common.{◌≡◌, ◌<◌, ◌^◌, ◌+◌, ℕ, List, [], ◌∷◌, ◌++◌, length, take, get_or, Option, Some, None, refl, sym, ap, subst, ◌∙◌}
+use Rattle.std.proofs.lemmas.List.{take_more, map-append}
+use Rattle.sqlite.specs.State.{State, HasCleanDisk}
+use Rattle.fuse_wire.specs.declared.moment.Moment.{Moment}
+use Rattle.fuse_request.specs.declared.request.Request.{Request}
+use Rattle.fuse_keeper.specs.History.{Entry}
+use Rattle.fuse_keeper.specs.Group.{entry_of, entries_of}
+use Rattle.fuse_keeper.specs.declared.keeper.Done.{Done}
+use Rattle.fuse_store_tables.specs.Following.{earlier}
+use Rattle.fuse_store_tree.specs.Holding.{Holding, InsideFor, KeepsFor, Turned}
+use Rattle.fuse_store_tree.specs.Group.{without_record, without_settled, lot_for, taken, with_group, dones_of, prepared, performed, all_dones, HasLotLeft}
+use Rattle.fuse_store_tree.proofs.Turning.{turned_then, turned_same, turned_known}
+
+-- ---- one more request
+
+group_last : (lot : ℕ) (es : List Entry) (e : Entry) (y : Holding) → with_group lot (es ++ e ∷ []) y ≡ (taken lot e (with_group lot es y)).holding
+group_last lot [] e y = refl
+group_last lot (x ∷ es) e y = group_last lot es e (taken lot x y).holding
+
+dones_last : (lot : ℕ) (es : List Entry) (e : Entry) (y : Holding) → dones_of lot (es ++ e ∷ []) y ≡ dones_of lot es y
+    ++ (taken lot e (with_group lot es y)).done ∷ []
+dones_last lot [] e y = refl
+dones_last lot (x ∷ es) e y = ap (λ l. (taken lot x y).done ∷ l) (dones_last lot es e (taken lot x y).holding)
+
+-- the entries up to a place
+one_more : (group : List (Request × Moment)) (i : ℕ) (x : Request × Moment) → i < length group
+    → entries_of (take (i + 1) group) ≡ entries_of (take i group) ++ entry_of (get_or group i x) ∷ []
+one_more group i x low = ap entries_of (take_more group i x low) ∙ map-append entry_of (take i group) (get_or group i x ∷ [])
+
+pub took_more : (lot : ℕ) (group : List (Request × Moment)) (i : ℕ) (x : Request × Moment) (a b d : State) → i < length group
+    → Turned (with_group lot (entries_of (take i group))) a b → Turned (λ y. (taken lot (entry_of (get_or group i x)) y).holding) b d
+    → Turned (with_group lot (entries_of (take (i + 1) group))) a d
+took_more lot group i x a b d low p q =
+    let es = entries_of (take i group) in
+    let e = entry_of (get_or group i x) in
+    subst (λ l. Turned (with_group lot l) a d) (sym (one_more group i x low))
+    (turned_same (λ y. (taken lot e (with_group lot es y)).holding) (with_group lot (es ++ e ∷ [])) a d (λ y. sym (group_last lot es e y))
+    (turned_then (with_group lot es) (λ y. (taken lot e y).holding) a b d p q))
+
+-- the answers so far are these
+abbrev pub AreDones : ℕ → List Entry → State → State → List Done → Type 0
+AreDones lot es a b dones = HasCleanDisk b → (y : Holding) → InsideFor y a → dones ≡ dones_of lot es y
+
+pub dones_more : (lot : ℕ) (group : List (Request × Moment)) (i : ℕ) (x : Request × Moment) (a b d : State) (so_far all : List Done) (done : Done)
+    → i < length group → Turned (with_group lot (entries_of (take i group))) a b → AreDones lot (entries_of (take i group)) a b so_far
+    → Turned (λ y. (taken lot (entry_of (get_or group i x)) y).holding) b d
+    → (HasCleanDisk d → (y : Holding) → InsideFor y b → done ≡ (taken lot (entry_of (get_or group i x)) y).done) → all ≡ so_far ++ done ∷ []
+    → AreDones lot (entries_of (take (i + 1) group)) a d all
+dones_more lot group i x a b d so_far all done low p are q told is clean y at =
+    let es = entries_of (take i group) in
+    let e = entry_of (get_or group i x) in
+    let mid = earlier b d _ q.stays.survives clean in
+    is ∙ ap (λ l. l ++ done ∷ []) (are mid y at) ∙ ap (λ n. dones_of lot es y ++ n ∷ []) (told clean (with_group lot es y) (p.turns mid y at))
+    ∙ sym (dones_last lot es e y) ∙ ap (λ l. dones_of lot l y) (sym (one_more group i x low))
+
+-- ---- before the group
+
+same_next : (ids : List ℕ) (y : Holding) → (without_settled ids y).next_lot ≡ y.next_lot
+same_next [] y = refl
+same_next (id ∷ ids) y = same_next ids (without_record id y)
+
+pub lot_settled : (lot : Option ℕ) (ids : List ℕ) (y : Holding) → lot_for lot (without_settled ids y) ≡ lot_for lot y
+lot_settled None ids y = same_next ids y
+lot_settled (Some n) ids y = refl
+
+pub left_settled : (lot : Option ℕ) (ids : List ℕ) (y : Holding) → HasLotLeft lot y → HasLotLeft lot (without_settled ids y)
+left_settled lot ids y left none = subst (λ n. n < 2 ^ 62) (sym (same_next ids y)) (left none)
+
+-- a group behind it, which goes under the lot that was taken
+pub grouped : (lot : Option ℕ) (n : ℕ) (ids : List ℕ) (es : List Entry) (a b d : State) → Turned (prepared lot ids) a b
+    → (HasCleanDisk b → (y : Holding) → InsideFor y a → n ≡ lot_for lot y) → Turned (with_group n es) b d → Turned (performed lot ids es) a d
+grouped lot n ids es a b d p value q =
+    turned_known (λ y. with_group n es (prepared lot ids y)) (performed lot ids es) a d
+    (λ clean y at. ap (λ m. with_group m es (prepared lot ids y)) (value (earlier b d _ q.stays.survives clean) y at))
+    (turned_then (prepared lot ids) (with_group n es) a b d p q)
+
+pub dones_are : (lot : Option ℕ) (n : ℕ) (ids : List ℕ) (es : List Entry) (a b d : State) (dones : List Done) → Turned (prepared lot ids) a b
+    → (HasCleanDisk b → (y : Holding) → InsideFor y a → n ≡ lot_for lot y) → KeepsFor b d → AreDones n es b d dones
+    → HasCleanDisk d → (y : Holding) → InsideFor y a → dones ≡ all_dones lot ids es y
+dones_are lot n ids es a b d dones p value keeps are clean y at =
+    let mid = earlier b d _ keeps.survives clean in
+    are clean (prepared lot ids y) (p.turns mid y at) ∙ ap (λ m. dones_of m es (prepared lot ids y)) (value mid y at)

@@ -1,0 +1,108 @@
+-- The entries behind a cookie, as rows were read.
+use Rattle.std.proofs.Common.{◌≡◌, ◌≤◌, ◌<◌, ◌^◌, ◌+◌, ◌&&◌, inl, inr, ℕ, zero, suc, List, [], ◌∷◌, ◌++◌, map, filter, take, length, not, nat_lt, Bool, true}
+use Rattle.std.proofs.Common.{false, slice_index_or, refl, ap, arith, ◌∙◌}
+use Rattle.std.specs.List.{AllByRecursion}
+use Rattle.std.specs.Ordering.{is_eq, is_gt, nat_cmp}
+use Rattle.std.proofs.lemmas.Bool.{cases_Bool}
+use Rattle.std.proofs.lemmas.Bool.Decides.{nat_tests}
+use Rattle.std.proofs.lemmas.List.{take_more}
+use Rattle.std.proofs.Math.ListN.{get_or-map}
+use Rattle.sqlite.specs.Order.{Row}
+use Rattle.fuse_tree.specs.declared.rows.EntryRow.{EntryRow}
+use Rattle.fuse_store_tables.specs.Content.{shown_entry, stands_after}
+use Rattle.fuse_tree.specs.Columns.{FitsEntry}
+use Rattle.fuse_store_tree.proofs.Looks.{key_is, key_differs, both_are}
+
+pub nothing : {X : Type 0} (n : ℕ) → ◌≡◌ {A = List X} [] (take n [])
+nothing zero = refl
+nothing (suc n) = refl
+
+and_no : (a b : Bool) → b ≡ false → (a && b) ≡ false
+and_no true b e = e
+and_no false b e = refl
+
+not_above : (a k n : ℕ) → a < n → n ≤ k → is_gt (nat_cmp a k) ≡ false
+not_above a k n low high = grind (arith, nat_tests)
+
+pub none_in : (dir cookie : ℕ) (es : List EntryRow) → 2 ^ 63 ≤ dir → AllByRecursion FitsEntry es → filter (stands_after dir cookie) es ≡ []
+none_in dir cookie [] high all = refl
+none_in dir cookie (e ∷ es) high all = rw (key_differs e.dir dir (2 ^ 63) all.0.dir high) (none_in dir cookie es high all.1)
+
+pub none_after : (dir cookie : ℕ) (es : List EntryRow) → 2 ^ 63 ≤ cookie → AllByRecursion FitsEntry es → filter (stands_after dir cookie) es ≡ []
+none_after dir cookie [] high all = refl
+none_after dir cookie (e ∷ es) high all =
+    rw (and_no (is_eq (nat_cmp e.dir dir)) (is_gt (nat_cmp e.cookie cookie)) (not_above e.cookie cookie (2 ^ 63) all.0.cookie high)) (none_after dir cookie es
+    high all.1)
+
+pub take_map : {X Y : Type 0} (f : X → Y) (n : ℕ) (xs : List X) → take n (map f xs) ≡ map f (take n xs)
+take_map f zero xs = refl
+take_map f (suc n) [] = refl
+take_map f (suc n) (x ∷ xs) = ap (λ more. f x ∷ more) (take_map f n xs)
+
+in_dir : (dir cookie : ℕ) (es : List EntryRow) → AllByRecursion (λ e. e.dir ≡ dir) (filter (stands_after dir cookie) es)
+in_dir dir cookie [] = tt
+in_dir dir cookie (e ∷ es) = elim (cases_Bool (stands_after dir cookie e)) [
+  | inl here ↦ rw here (key_is e.dir dir (both_are _ _ here).0, in_dir dir cookie es)
+  | inr not_here ↦ rw not_here (in_dir dir cookie es)
+]
+
+all_taken : {X : Type 0} (P : X → Type 0) (n : ℕ) (xs : List X) → AllByRecursion P xs → AllByRecursion P (take n xs)
+all_taken P zero xs all = tt
+all_taken P (suc n) [] all = tt
+all_taken P (suc n) (x ∷ xs) all = (all.0, all_taken P n xs all.1)
+
+pub taken_in_dir : (dir cookie n : ℕ) (es : List EntryRow) → AllByRecursion (λ e. e.dir ≡ dir) (take n (filter (stands_after dir cookie) es))
+taken_in_dir dir cookie n es = all_taken _ n _ (in_dir dir cookie es)
+
+take_all_of : {X : Type 0} (n : ℕ) (xs : List X) → length (take n xs) < n → take n xs ≡ xs
+take_all_of zero xs low = absurd (omega (arith, low))
+take_all_of (suc n) [] low = refl
+take_all_of (suc n) (x ∷ xs) low = ap (λ l. x ∷ l) (take_all_of n xs (omega (arith, low)))
+
+take_beyond : {X : Type 0} (n m : ℕ) (xs : List X) → length (take n xs) < n → n ≤ m → xs ≡ take m xs
+take_beyond n m [] low high = nothing m
+take_beyond zero m (x ∷ xs) low high = absurd (omega (arith, low))
+take_beyond (suc n) zero (x ∷ xs) low high = absurd (omega (arith, high))
+take_beyond (suc n) (suc m) (x ∷ xs) low high = ap (λ l. x ∷ l) (take_beyond n m xs (omega (arith, low)) (omega (arith, high)))
+
+-- a list that wasn't cut is the same up to a higher limit
+pub not_cut : {X : Type 0} (most limit count : ℕ) (xs : List X) → most ≤ limit → false ≡ (nat_lt most limit && not (nat_lt count most))
+    → count ≡ length (take most xs) → take most xs ≡ take limit xs
+not_cut most limit count xs within short is = elim (cases_Bool (nat_lt most limit)) [
+  | inl above ↦ let low : length (take most xs) < most = fewer (nat_lt count most) refl above in take_all_of most xs low ∙ take_beyond most limit xs low within
+  | inr same ↦ ap (λ n. take n xs) (equal same)
+]
+  where
+    equal : nat_lt most limit ≡ false → most ≡ limit
+    equal e = let h : limit ≤ most = grind (arith, nat_tests) in omega (arith, h, within)
+
+    fewer : (b : Bool) → nat_lt count most ≡ b → nat_lt most limit ≡ true → length (take most xs) < most
+    fewer true e above = let h : count < most = grind (arith, nat_tests) in omega (arith, h, is)
+    fewer false e above = absurd (let f = rw (above, e) at short in cc)
+
+abbrev pub entry_none : EntryRow
+entry_none = record { dir = 0; name = []; child = 0; cookie = 0 }
+
+pub row_at_is : (rows : List Row) (es : List EntryRow) (i : ℕ) (row : Row) → rows ≡ map shown_entry es → row ≡ slice_index_or rows i (shown_entry entry_none)
+    → row ≡ shown_entry (slice_index_or es i entry_none)
+row_at_is rows es i row is at = at ∙ ap (λ l. slice_index_or l i (shown_entry entry_none)) is ∙ get_or-map shown_entry es i entry_none
+
+pub dir_at : (dir : ℕ) (es : List EntryRow) (i : ℕ) → i < length es → AllByRecursion (λ e. e.dir ≡ dir) es → (slice_index_or es i entry_none).dir ≡ dir
+dir_at dir [] i low all = absurd (omega (arith, low))
+dir_at dir (e ∷ es) zero low all = all.0
+dir_at dir (e ∷ es) (suc i) low all = dir_at dir es i (omega (arith, low)) all.1
+
+pub more_taken : (es : List EntryRow) (i : ℕ) → i < length es → take (i + 1) es ≡ take i es ++ slice_index_or es i entry_none ∷ []
+more_taken es i low = take_more es i entry_none low
+
+pub shown_length : (rows : List Row) (es : List EntryRow) → rows ≡ map shown_entry es → length rows ≡ length es
+shown_length rows es is = ap length is ∙ same es
+  where
+    same : (xs : List EntryRow) → length (map shown_entry xs) ≡ length xs
+    same [] = refl
+    same (x ∷ xs) = ap suc (same xs)
+
+pub any_default : {X : Type 0} (xs : List X) (i : ℕ) (d e : X) → i < length xs → slice_index_or xs i d ≡ slice_index_or xs i e
+any_default [] i d e low = absurd (omega (arith, low))
+any_default (x ∷ xs) zero d e low = refl
+any_default (x ∷ xs) (suc i) d e low = any_default xs i d e (omega (arith, low))

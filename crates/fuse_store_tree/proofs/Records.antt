@@ -1,0 +1,227 @@
+-- Records and lots, as steps on what is held.
+use Rattle.std.proofs.Common.{length, take, get_or, Ok, Some, None, Option, ◌++◌, ◌≡◌, ◌≤◌, ◌<◌, ◌^◌, ◌+◌, ℕ, List, [], ◌∷◌, refl, sym, ap, subst, arith, ◌∙◌}
+use Rattle.std.specs.List.{AllByRecursion}
+use Rattle.std.proofs.lemmas.List.{take_more}
+use Rattle.sqlite.specs.State.{State, HasCleanDisk}
+use Rattle.sqlite.specs.declared.error.Error.{Error}
+use Rattle.fuse_answer.specs.Said.{Said, FitsAnswer}
+use Rattle.fuse_tree.specs.State.{State as TreeState, Tree}
+use Rattle.fuse_tree.specs.Do.{done}
+use Rattle.fuse_wire.specs.declared.id.Id.{Id}
+use Rattle.fuse_keeper.specs.History.{Entry, entry_id}
+use Rattle.fuse_keeper.specs.Group.{ids_of}
+use Rattle.fuse_keeper.specs.declared.keeper.Done.{Done}
+use Rattle.fuse_store_tables.specs.Content.{Content, Kept, kept_key, put_by, without_by, with_kept, without_kept, with_lot, set_counter}
+use Rattle.fuse_store_tables.specs.Moves.{Makes, Inside, Looked}
+use Rattle.fuse_store_tables.specs.Following.{earlier}
+use Rattle.fuse_store_tree.specs.Fits.{Fits, KeepsRecord}
+use Rattle.fuse_store_tree.specs.Store.{Store, Tells, records_of, counters_of, value_of}
+use Rattle.fuse_store_tree.specs.Acting.{ActsInside}
+use Rattle.fuse_store_tree.specs.Changing.{Keeps}
+use Rattle.fuse_store_tree.specs.Laws.{looked_still}
+use Rattle.fuse_store_tree.proofs.Steps.{made, made_known}
+use Rattle.fuse_store_tree.proofs.Looks.{key_differs, all_map}
+use Rattle.fuse_store_tree.proofs.Orders.{all_put, all_filter}
+use Rattle.fuse_store_tree.specs.Holding.{Holding, InsideFor, Turned, AreBelow, store_of}
+use Rattle.fuse_store_tree.specs.Group.{without_record, without_settled, with_record, with_new_lot, with_act, said_of, acted_on, taken, taken_by, answered}
+use Rattle.fuse_store_tree.specs.Group.{repeats}
+use Rattle.fuse_store_tree.proofs.Turning.{lifted, looked_for, turned_known, turned_then, turned_same, keeps_for, told_in, content_in}
+
+-- ---- a record goes
+
+record_gone : (id : ℕ) (x : Store) (c : Content) → Tells x c → Tells (record x { kept = without_by kept_key id x.kept }) (without_kept id c)
+record_gone id x c at = record {
+  counters = at.counters;
+  nodes = at.nodes;
+  entries = at.entries;
+  handles = at.handles;
+  answers = at.answers;
+  lots = at.lots;
+  kept = ap (without_by kept_key id) at.kept;
+  bytes = at.bytes;
+  settings = at.settings;
+  fits = record {
+    nodes = at.fits.nodes;
+    entries = at.fits.entries;
+    handles = at.fits.handles;
+    blocks = at.fits.blocks;
+    kept = all_filter kept_key KeepsRecord _ c.kept at.fits.kept;
+  };
+}
+
+pub forgot : {X : Type 0} (id : ℕ) (a b : State) (x : X) → Makes {X = X} {E = Error} (without_kept id) a b (Ok x) → Turned (without_record id) a b
+forgot id a b x p = lifted (λ s. record s { kept = without_by kept_key id s.kept }) (without_record id) a b (λ clean y at.
+    (refl, at.holds.tree, at.holds.below, at.holds.next))
+    (made (without_kept id) (λ s. record s { kept = without_by kept_key id s.kept }) a b x (record_gone id) p)
+
+-- no record has an id so high
+none_goes : (id : ℕ) (ks : List Kept) → 2 ^ 63 ≤ id → AllByRecursion KeepsRecord ks → without_by kept_key id ks ≡ ks
+none_goes id [] high all = refl
+none_goes id (k ∷ ks) high all = rw (key_differs k.id id (2 ^ 63) all.0.id high) (ap (λ l. k ∷ l) (none_goes id ks high all.1))
+
+pub none_forgot : (id : ℕ) (a : State) → 2 ^ 63 ≤ id → Turned (without_record id) a a
+none_forgot id a high = turned_known (λ y. y) (without_record id) a a (λ clean y at.
+    let told = at.holds.held.2 in
+    ap (λ l. record y { kept = l }) (sym (none_goes id y.kept high (subst (AllByRecursion KeepsRecord) told.kept told.fits.kept))))
+    (looked_for a a (looked_still a))
+
+-- ---- a record comes
+
+record_comes : (k : Kept) → KeepsRecord k → (x : Store) (c : Content) → Tells x c → Tells (record x { kept = put_by kept_key k x.kept }) (with_kept k c)
+record_comes k fits x c at = record {
+  counters = at.counters;
+  nodes = at.nodes;
+  entries = at.entries;
+  handles = at.handles;
+  answers = at.answers;
+  lots = at.lots;
+  kept = ap (put_by kept_key k) at.kept;
+  bytes = at.bytes;
+  settings = at.settings;
+  fits = record {
+    nodes = at.fits.nodes;
+    entries = at.fits.entries;
+    handles = at.fits.handles;
+    blocks = at.fits.blocks;
+    kept = all_put kept_key KeepsRecord k c.kept fits at.fits.kept;
+  };
+}
+
+pub recorded : {X : Type 0} (id lot : ℕ) (said : Said) (a b : State) (x : X) → id < 2 ^ 63 → FitsAnswer said → said.errno < 2 ^ 32
+    → Makes {X = X} {E = Error} (with_kept (record { id = id; lot = lot; said = said })) a b (Ok x) → Turned (with_record id lot said) a b
+recorded id lot said a b x low fits small p =
+    let k : Kept = record { id = id; lot = lot; said = said } in
+    lifted (λ s. record s { kept = put_by kept_key k s.kept }) (with_record id lot said) a b (λ clean y at.
+    (refl, at.holds.tree, at.holds.below, at.holds.next))
+    (made (with_kept k) (λ s. record s { kept = put_by kept_key k s.kept }) a b x (record_comes k (record { id = low; said = fits; errno = small })) p)
+
+-- ---- a request acts
+
+pub acts : (e : Entry) (a b : State) (answer : Said) → Keeps a b → ((s : TreeState) → Tree s → ActsInside a b s (done s e.asked e.moment) answer)
+    → Turned (with_act e) a b
+acts e a b answer keeps acted = record {
+  stays = keeps_for a b keeps;
+  turns = λ clean y at.
+      let did = acted y.tree at.holds.tree clean (store_of y) refl (told_in y a at) in
+      record {
+        is_open = did.inside.is_open;
+        in_transaction = did.inside.in_transaction;
+        holds = record { tree = did.tree; below = at.holds.below; next = at.holds.next; held = did.inside.holds };
+      };
+}
+
+-- ---- settled ids
+
+settled_last : (xs : List Id) (x : Id) (y : Holding) → without_settled (ids_of (xs ++ x ∷ [])) y ≡ without_record x.0 (without_settled (ids_of xs) y)
+settled_last [] x y = refl
+settled_last (z ∷ xs) x y = settled_last xs x (without_record z.0 y)
+
+pub settled_more : (xs : List Id) (x : Id) (a b d : State) → Turned (without_settled (ids_of xs)) a b → Turned (without_record x.0) b d
+    → Turned (without_settled (ids_of (xs ++ x ∷ []))) a d
+settled_more xs x a b d p q = turned_same (λ y. without_record x.0 (without_settled (ids_of xs) y)) (without_settled (ids_of (xs ++ x ∷ []))) a d
+    (λ y. sym (settled_last xs x y)) (turned_then (without_settled (ids_of xs)) (without_record x.0) a b d p q)
+
+-- one more, by its place
+pub settled_at : (ids : List Id) (i : ℕ) (x : Id) (a b d : State) → i < length ids → Turned (without_settled (ids_of (take i ids))) a b
+    → Turned (without_record (get_or ids i x).0) b d → Turned (without_settled (ids_of (take (i + 1) ids))) a d
+settled_at ids i x a b d low p q = subst (λ l. Turned (without_settled (ids_of l)) a d) (sym (take_more ids i x low))
+    (settled_more (take i ids) (get_or ids i x) a b d p q)
+
+-- ---- the next lot
+
+below_more : (next : ℕ) (lots : List ℕ) → AreBelow next lots → AreBelow (next + 1) (put_by (λ n. n) next lots)
+below_more next lots below =
+    all_put (λ n. n) (λ n. n < next + 1) next lots (omega arith) (all_map (λ n. n < next) (λ n. n < next + 1) lots (λ n low. omega (arith, low)) below)
+
+lot_comes : (n : ℕ) (x : Store) (c : Content) → Tells x c → n ≡ value_of c.counters 10
+    → Tells (record x { lots = put_by (λ m. m) x.next_lot x.lots; next_lot = x.next_lot + 1 }) (set_counter 11 (n + 1) (with_lot n c))
+lot_comes n x c at is =
+    let same : n ≡ x.next_lot = is ∙ ap (λ cs. value_of cs 10) at.counters in
+    record {
+      counters = ap (λ cs. (set_counter 11 (n + 1) (record c { counters = cs })).counters) at.counters
+          ∙ ap (λ m. counters_of x.rows.counters x.rows.settings (m + 1)) same;
+      nodes = at.nodes;
+      entries = at.entries;
+      handles = at.handles;
+      answers = at.answers;
+      lots = ap (put_by (λ m. m) n) at.lots ∙ ap (λ k. put_by (λ m. m) k x.lots) same;
+      kept = at.kept;
+      bytes = at.bytes;
+      settings = at.settings;
+      fits = record { nodes = at.fits.nodes; entries = at.fits.entries; handles = at.fits.handles; blocks = at.fits.blocks; kept = at.fits.kept };
+    }
+
+pub lot_is : (n : ℕ) (a : State) → ((c : Content) → Inside c a → n ≡ value_of c.counters 10) → (y : Holding) → InsideFor y a → n ≡ y.next_lot
+lot_is n a value y at = value at.holds.held.0 (content_in y a at) ∙ ap (λ cs. value_of cs 10) at.holds.held.2.counters
+
+one_more : (n m : ℕ) → n ≡ m → n < 2 ^ 62 → m + 1 ≤ 2 ^ 62
+one_more n m is low = omega (arith, is, low)
+
+pub lot_taken : {X : Type 0} (n : ℕ) (a b d : State) (x : X) → n < 2 ^ 62 → Looked a b
+    → (HasCleanDisk b → (c : Content) → Inside c a → n ≡ value_of c.counters 10)
+    → Makes {X = X} {E = Error} (λ c. set_counter 11 (n + 1) (with_lot n c)) b d (Ok x) → Turned with_new_lot a d
+lot_taken n a b d x low looks value p =
+    let next : Store → Store = λ s. record s { lots = put_by (λ m. m) s.next_lot s.lots; next_lot = s.next_lot + 1 } in
+    lifted next with_new_lot a d (λ clean y at. (
+      refl,
+      at.holds.tree,
+      below_more y.next_lot y.lots at.holds.below,
+      one_more n y.next_lot (lot_is n a (value (earlier b d _ p.stays.survives clean)) y at) low,
+    ))
+    (made_known (λ c. set_counter 11 (n + 1) (with_lot n c)) next a b d x looks p (λ mid s c inside at. lot_comes n s c at (value mid c inside)))
+
+-- ---- a request, whose id is looked up
+
+abbrev pub IsKnown : ℕ → State → Option Said → Type 0
+IsKnown id a r = (c : Content) → Inside c a → Fits c → r ≡ records_of c.kept id
+
+pub known_is : (id : ℕ) (a : State) (r : Option Said) → IsKnown id a r → (y : Holding) → InsideFor y a → r ≡ records_of y.kept id
+known_is id a r found y at = found at.holds.held.0 (content_in y a at) at.holds.held.2.fits ∙ ap (λ ks. records_of ks id) at.holds.held.2.kept
+
+-- what was found, in the place of what is recorded
+abbrev pub IsFound : ℕ → Entry → State → Option Said → Option Said → Type 0
+IsFound id e a r o = IsKnown id a r × (id ≡ entry_id e) × (r ≡ o)
+
+found_is : (id : ℕ) (e : Entry) (a : State) (r o : Option Said) → IsFound id e a r o → (y : Holding) → InsideFor y a → o ≡ records_of y.kept (entry_id e)
+found_is id e a r o f y at = sym f.2 ∙ known_is id a r f.0 y at ∙ ap (records_of y.kept) f.1
+
+pub took_known : (id lot : ℕ) (e : Entry) (a b : State) (r : Option Said) (known : Said) → Looked a b → (HasCleanDisk b → IsFound id e a r (Some known))
+    → Turned (λ y. (taken lot e y).holding) a b
+took_known id lot e a b r known looks found = turned_known (λ y. y) (λ y. (taken lot e y).holding) a b
+    (λ clean y at. ap (λ o. (taken_by o lot e y).holding) (found_is id e a r (Some known) (found clean) y at)) (looked_for a b looks)
+
+pub done_known : (id lot : ℕ) (e : Entry) (a : State) (r : Option Said) (known : Said) → IsFound id e a r (Some known) → (y : Holding) → InsideFor y a
+    → repeats known ≡ (taken lot e y).done
+done_known id lot e a r known found y at = ap (λ o. (taken_by o lot e y).done) (found_is id e a r (Some known) found y at)
+
+pub took_new : (id lot : ℕ) (e : Entry) (a b d : State) (r : Option Said) → Looked a b → (HasCleanDisk b → IsFound id e a r None) → Turned (acted_on lot e) b d
+    → Turned (λ y. (taken lot e y).holding) a d
+took_new id lot e a b d r looks found p = turned_known (acted_on lot e) (λ y. (taken lot e y).holding) a d
+    (λ clean y at. ap (λ o. (taken_by o lot e y).holding) (found_is id e a r None (found (earlier b d _ p.stays.survives clean)) y at))
+    (turned_then (λ y. y) (acted_on lot e) a b d (looked_for a b looks) p)
+
+-- whether it went well or not, the request that acts is behind a look
+pub done_new : (id lot : ℕ) (e : Entry) (a b d : State) (r : Option Said) (done : Done) → Looked a b → (HasCleanDisk b → IsFound id e a r None)
+    → Turned (acted_on lot e) b d → HasCleanDisk d → ((y : Holding) → InsideFor y b → done ≡ answered (said_of e y)) → (y : Holding) → InsideFor y a
+    → done ≡ (taken lot e y).done
+done_new id lot e a b d r done looks found p clean told y at =
+    let mid = earlier b d _ p.stays.survives clean in
+    told y ((looked_for a b looks).turns mid y at) ∙ ap (λ o. (taken_by o lot e y).done) (found_is id e a r None (found mid) y at)
+
+-- ---- a request that acted, and its record
+
+said_is : (e : Entry) (a b : State) (answer : Said) → ((s : TreeState) → Tree s → ActsInside a b s (done s e.asked e.moment) answer)
+    → HasCleanDisk b → (y : Holding) → InsideFor y a → answer ≡ said_of e y
+said_is e a b answer acted clean y at = (acted y.tree at.holds.tree clean (store_of y) refl (told_in y a at)).answer_is
+
+pub acted_recorded : (id lot : ℕ) (e : Entry) (a b d : State) (answer : Said) → id ≡ entry_id e → Keeps a b
+    → ((s : TreeState) → Tree s → ActsInside a b s (done s e.asked e.moment) answer) → Turned (with_record id lot answer) b d → Turned (acted_on lot e) a d
+acted_recorded id lot e a b d answer same keeps acted p =
+    turned_known (λ y. with_record id lot answer (with_act e y)) (acted_on lot e) a d
+    (λ clean y at. ap (λ i. with_record i lot answer (with_act e y)) same
+    ∙ ap (λ said. with_record (entry_id e) lot said (with_act e y)) (said_is e a b answer acted (earlier b d _ p.stays.survives clean) y at))
+    (turned_then (with_act e) (with_record id lot answer) a b d (acts e a b answer keeps acted) p)
+
+pub answer_told : (id lot : ℕ) (e : Entry) (a b d : State) (answer : Said) → ((s : TreeState) → Tree s → ActsInside a b s (done s e.asked e.moment) answer)
+    → Turned (with_record id lot answer) b d → HasCleanDisk d → (y : Holding) → InsideFor y a → answered answer ≡ answered (said_of e y)
+answer_told id lot e a b d answer acted p clean y at = ap answered (said_is e a b answer acted (earlier b d _ p.stays.survives clean) y at)

@@ -1,0 +1,68 @@
+-- Reads outside a transaction, of what is held.
+use Rattle.std.proofs.Common.{◌≡◌, ◌≤◌, ◌^◌, ◌<◌, ℕ, List, None, Ok, Err, Result, IfOk, sym, ap, map, option_map, ◌∙◌}
+use Rattle.std.specs.Result.{IsErr}
+use Rattle.sqlite.specs.Order.{Row}
+use Rattle.sqlite.specs.Effect.{Database}
+use Rattle.sqlite.specs.declared.error.Error.{Error}
+use Rattle.sqlite.specs.State.{State, HasCleanDisk}
+use Rattle.fuse_keeper.specs.declared.fault.StoreFault.{StoreFault}
+use Rattle.fuse_tree.specs.Rows.{rowed}
+use Rattle.fuse_store_tables.specs.Content.{Content, Kept, Counter, Holds, kept_key, at_by, shown_counter}
+use Rattle.fuse_store_tables.specs.Moves.{Rests, RestsAs, Serves, ServesAs, IsSafe}
+use Rattle.fuse_store_tables.specs.Following.{rests_less, rests_also, rests_told, rests_failed, safe_also}
+use Rattle.fuse_store_tree.specs.Fits.{KeepsRecord}
+use Rattle.fuse_store_tree.specs.Store.{records_of, counters_of}
+use Rattle.fuse_store_tree.specs.Holding.{Holding, HeldFor, TellsAfter}
+use Rattle.fuse_store_tree.proofs.Looks.{all_map, none_found}
+
+-- a database holds it by its content alone
+abbrev has_content : (y : Holding) (d : Database) → HeldFor y d → (c : Content) × Holds c d × ((e : Database) → Holds c e → HeldFor y e)
+has_content y d h = (h.held.0, h.held.1, λ e holds. record { tree = h.tree; below = h.below; next = h.next; held = (h.held.0, holds, h.held.2) })
+
+pub content_at : (y : Holding) (a : State) (at : RestsAs (HeldFor y) a) → Rests at.holds.held.0 a
+content_at y a at = rests_less Holds HeldFor has_content a y at
+
+pub rests_for : {X E : Type 0} (a b : State) (r : Result X E) → Serves (λ c. c) a b r → ServesAs HeldFor HeldFor a b r
+rests_for a b r p = rests_also Holds HeldFor has_content a b r p
+
+pub safe_for : {X : Type 0} (a b : State) (r : Result X StoreFault) → IsSafe Holds a b r → IsSafe HeldFor a b r
+safe_for a b r p = safe_also Holds HeldFor has_content a b r p
+
+-- what is told of a content is told of what is held
+pub tells_for : {X : Type 0} (a b : State) (r : Result X StoreFault) (P : X → Content → Type 0) (Q : X → Holding → Type 0)
+    → ((x : X) (y : Holding) (at : RestsAs (HeldFor y) a) → P x at.holds.held.0 → Q x y)
+    → (HasCleanDisk b → IfOk r (λ x. (c : Content) → Rests c a → P x c)) → IfOk r (λ x. TellsAfter a b (Q x))
+tells_for a b (Ok x) P Q more told = λ clean y at. more x y at (told clean at.holds.held.0 (content_at y a at))
+tells_for a b (Err f) P Q more told = tt
+
+-- what `?` returns of a read that failed
+pub fails_for : {X Y E : Type 0} (a b : State) (e : E) (r : Result Y StoreFault) → IsErr r → ServesAs {X = X} HeldFor HeldFor a b (Err e)
+    → ServesAs HeldFor HeldFor a b r
+fails_for a b e (Ok y) is p = absurd cc
+fails_for a b e (Err f) is p = rests_failed HeldFor a b e f p
+
+pub failed_for : {X Y : Type 0} (a b : State) (e : Error) (r : Result Y StoreFault) → IsErr r → Serves {X = X} (λ c. c) a b (Err e)
+    → ServesAs HeldFor HeldFor a b r
+failed_for a b e r is p = fails_for a b e r is (rests_for a b (Err e) p)
+
+-- a look that went well, whatever it told
+pub read_for : {X Y : Type 0} (a b : State) (x : X) (r : Result Y StoreFault) → Serves {X = X} {E = Error} (λ c. c) a b (Ok x)
+    → ServesAs HeldFor HeldFor a b r
+read_for a b x r p = rests_for a b r (rests_told Holds a b x r p)
+
+-- no record has an id so high
+pub none_kept : (id : ℕ) (y : Holding) (a : State) → 2 ^ 63 ≤ id → RestsAs (HeldFor y) a → None ≡ records_of y.kept id
+none_kept id y a high at =
+    let told = at.holds.held.2 in
+    let kept = at.holds.held.0.kept in
+    let none : at_by kept_key id kept ≡ None =
+    none_found kept_key id (2 ^ 63) kept high (all_map KeepsRecord (λ k. kept_key k < 2 ^ 63) kept (λ k fits. fits.id) told.fits.kept) in
+    sym (ap (option_map (λ (k : Kept). k.said)) none) ∙ ap (λ ks. records_of ks id) told.kept
+
+-- the counters of what is held
+abbrev pub counters_held : Holding → List Counter
+counters_held y = counters_of (rowed y.tree).counters (rowed y.tree).settings y.next_lot
+
+pub counters_shown : (y : Holding) (a : State) (rows : List Row) → ((c : Content) → Rests c a → rows ≡ map shown_counter c.counters) → RestsAs (HeldFor y) a
+    → rows ≡ map shown_counter (counters_held y)
+counters_shown y a rows found at = found at.holds.held.0 (content_at y a at) ∙ ap (map shown_counter) at.holds.held.2.counters

@@ -1,0 +1,103 @@
+-- Which faults may be answered where something is held.
+use Rattle.std.proofs.Common.{◌≡◌, ◌<◌, ℕ, List, [], ◌∷◌, Ok, Err, Result, IfErr, OnErr, Option, Some, None, IfSome, zero, suc, get_or, length, arith}
+use Rattle.std.proofs.Common.{refl, sym, subst}
+use Rattle.std.specs.List.{AllByRecursion}
+use Rattle.sqlite.specs.Effect.{Database}
+use Rattle.sqlite.specs.State.{State, HasCleanDisk}
+use Rattle.fuse_keeper.specs.declared.fault.StoreFault.{StoreFault}
+use Rattle.fuse_tree.specs.State.{State as TreeState, Tree}
+use Rattle.fuse_tree.specs.Rows.{rowed}
+use Rattle.fuse_tree.specs.Plan.{look_fault as answered_fault}
+use Rattle.fuse_tree.specs.declared.rows.Planned.{Planned}
+use Rattle.fuse_tree.specs.declared.planning.fault.PlanFault.{PlanFault}
+use Rattle.fuse_tree.specs.declared.planning.fault.PlanFault.TheVariants as plans
+use Rattle.fuse_store_tables.specs.Faults.{IsOutside, IsPlain}
+use Rattle.fuse_store_tables.specs.Content.{Content}
+use Rattle.fuse_store_tables.specs.Moves.{Inside, IsReady, IsSure, Stays, StaysIn}
+use Rattle.fuse_store_tables.specs.Following.{earlier}
+use Rattle.fuse_store_tree.specs.Fits.{Fits}
+use Rattle.fuse_store_tree.specs.Store.{Held, HeldAs, rows_bytes}
+use Rattle.fuse_store_tree.specs.Looking.{look_fault, sees_in, why_no_plan, MayFail}
+use Rattle.fuse_store_tree.specs.Holding.{Holding, HeldFor, InsideFor, KeepsFor, Turned, store_of}
+use Rattle.fuse_store_tree.specs.Group.{HasLotLeft, IsSureFor}
+use Rattle.fuse_store_tree.proofs.Turning.{told_in}
+
+-- a fault behind a step: it begins with what the step makes
+pub fault_next : {C D : Type 0} (P : C → Database → Type 0) (Q : D → Database → Type 0) (a b d : State) (f : StoreFault) → StaysIn Q b d
+    → (HasCleanDisk b → IsReady P a → IsReady Q b) → (HasCleanDisk d → IsReady Q b → IsOutside f) → HasCleanDisk d → IsReady P a → IsOutside f
+fault_next P Q a b d f stays on sure clean at = sure clean (on (earlier b d _ stays.survives clean) at)
+
+-- the same of a call
+pub sure_next : {C D X : Type 0} (P : C → Database → Type 0) (Q : D → Database → Type 0) (a b d : State) (r : Result X StoreFault) → OnErr r (StaysIn Q b d)
+    → (HasCleanDisk b → IsReady P a → IsReady Q b) → IsSure Q b d r → IsSure P a d r
+sure_next P Q a b d (Ok x) stays on sure clean = tt
+sure_next P Q a b d (Err f) stays on sure clean = fault_next P Q a b d f stays on sure clean
+
+-- what is known of contents that fit
+pub sure_bytes : {X : Type 0} (a b : State) (r : Result X StoreFault) → (HasCleanDisk b → IfErr r (λ f. (c : Content) → Inside c a → Fits c → IsOutside f))
+    → IsSure HeldAs a b r
+sure_bytes a b (Ok x) told clean = tt
+sure_bytes a b (Err f) told clean = λ (w, at). told clean at.holds.0
+    (record { is_open = at.is_open; in_transaction = at.in_transaction; holds = at.holds.1 }) at.holds.2.fits
+
+-- what is known whatever the bytes
+pub sure_held : {X : Type 0} (a b : State) (r : Result X StoreFault) → IsSure HeldAs a b r → IsSure Held a b r
+sure_held a b (Ok x) sure clean = tt
+sure_held a b (Err f) sure clean = λ (x, at). sure clean ((x, rows_bytes x.rows), at)
+
+-- what holds of each holds of the one at a place
+pub one_of : {X : Type 0} (P : X → Type 0) (xs : List X) (i : ℕ) (x : X) → AllByRecursion P xs → i < length xs → P (get_or xs i x)
+one_of P [] i x all low = absurd (omega (arith, low))
+one_of P (y ∷ ys) zero x all low = all.0
+one_of P (y ∷ ys) (suc i) x all low = one_of P ys i x all.1 (omega (arith, low))
+
+-- ---- looks
+
+none_before : (o : Option StoreFault) → look_fault o ≡ None → o ≡ None
+none_before None is = refl
+none_before (Some f) is = absurd cc
+
+-- a look that failed with a fault that is outside
+pub failed_so : (a b : State) (was is : Option StoreFault) (f : StoreFault) → is ≡ Some f → Stays a b → IsPlain f
+    → (HasCleanDisk b → (y : Holding) → InsideFor y a → IsOutside f) → MayFail a b was is
+failed_so a b was is f same stays plain sure = record {
+  stays = stays;
+  plain = λ none. subst (λ o. IfSome o IsPlain) (sym same) plain;
+  sure = λ none clean (y, at). subst (λ o. IfSome o IsOutside) (sym same) (sure clean y at);
+}
+
+-- nothing was planned: the rows being a tree's, its fault is outside
+pub no_plan : (fault : PlanFault) (was is : Option StoreFault) (a b : State) → look_fault was ≡ None
+    → look_fault is ≡ answered_fault {X = Planned} (Err fault) → MayFail a b was is
+    → (fault ≡ plans.NotATree → HasCleanDisk b → (s : TreeState) → Tree s → sees_in a (rowed s) → ⊥) → HasCleanDisk b → IsReady HeldFor a
+    → IsOutside (why_no_plan fault is)
+no_plan plans.Memory was is a b none told fails not_a_tree clean ready = tt
+no_plan plans.NotATree was is a b none told fails not_a_tree clean (y, at) =
+    absurd (not_a_tree refl clean y.tree at.holds.tree (store_of y, told_in y a at, refl))
+no_plan (plans.Look f) was None a b none told fails not_a_tree clean ready = absurd cc
+no_plan (plans.Look f) was (Some g) a b none told fails not_a_tree clean ready = fails.sure (none_before was none) clean ready
+
+-- whatever is held, it is plain
+pub no_plan_plain : (fault : PlanFault) (was is : Option StoreFault) (a b : State) → look_fault was ≡ None → MayFail a b was is
+    → IsPlain (why_no_plan fault is)
+no_plan_plain plans.Memory was is a b none fails = tt
+no_plan_plain plans.NotATree was is a b none fails = tt
+no_plan_plain (plans.Look f) was None a b none fails = tt
+no_plan_plain (plans.Look f) was (Some g) a b none fails = fails.plain (none_before was none)
+
+-- what is held is told
+pub ready_held : (a : State) → IsReady HeldFor a → IsReady Held a
+ready_held a (y, at) = (store_of y, told_in y a at)
+
+-- ---- a group
+
+-- a fault behind a step on what is held
+pub turned_sure : {X : Type 0} (f : Holding → Holding) (a b d : State) (r : Result X StoreFault) → Turned f a b → OnErr r (KeepsFor b d)
+    → IsSure HeldFor b d r → IsSure HeldFor a d r
+turned_sure f a b d r p keeps sure = sure_next HeldFor HeldFor a b d r keeps (λ clean (y, at). (f y, p.turns clean y at)) sure
+
+-- the same where a lot may be wanting
+pub left_sure : {X : Type 0} (lot : Option ℕ) (f : Holding → Holding) (a b d : State) (r : Result X StoreFault) → Turned f a b → OnErr r (KeepsFor b d)
+    → ((y : Holding) → HasLotLeft lot y → HasLotLeft lot (f y)) → IsSureFor lot b d r → IsSureFor lot a d r
+left_sure lot f a b d (Ok x) p keeps on sure clean = tt
+left_sure lot f a b d (Err e) p keeps on sure clean = λ y at left. sure clean (f y) (p.turns (earlier b d _ keeps.survives clean) y at) (on y left)

@@ -1,0 +1,105 @@
+-- What a group makes of rows and records, in the words of a keeper.
+use Rattle.std.proofs.Common.{◌≡◌, ℕ, ◌==◌, suc, zero, List, [], ◌∷◌, ◌++◌, Bool, true, false, cond, All, Option, Some, None, refl, ap, subst, arith, ◌∙◌}
+use Rattle.fuse_answer.specs.Said.{Said}
+use Rattle.fuse_tree.specs.State.{State, Tree}
+use Rattle.fuse_tree.specs.Rows.{rowed}
+use Rattle.fuse_tree.specs.Do.{done}
+use Rattle.fuse_tree.specs.Plan.{TreeKept, RowsTellState}
+use Rattle.fuse_keeper.specs.History.{Entry, entry_id, History, IsUnsettled, is_in, ids_in}
+use Rattle.fuse_keeper.specs.Stands.{Stands, OthersStay}
+use Rattle.fuse_keeper.specs.Taking.{Took, TookBy, Acts, ActedOn, GroupsGrow}
+use Rattle.fuse_keeper.specs.declared.keeper.Done.{Done}
+use Rattle.fuse_store_tree.specs.Store.{records_of}
+use Rattle.fuse_store_tree.proofs.Told.{grouped}
+use Rattle.fuse_store_tree.specs.Holding.{Holding}
+use Rattle.fuse_tree.specs.TheTree.{the_tree}
+use Rattle.fuse_store_tree.specs.Performing.{HasPerformed}
+use Rattle.fuse_store_tree.specs.Group.{said_of, taken, taken_by, with_group, dones_of, without_settled, with_lot_for, lot_for, performed}
+use Rattle.fuse_store_tree.proofs.Finds.{found_put, found_settled}
+
+-- what the crates below say of trees, and of a group to which one more comes
+pub record Below : Type 0 where
+  pub tree_kept : TreeKept
+  pub rows_tell : RowsTellState
+  pub grow : GroupsGrow the_tree
+
+-- ---- one request
+
+acts_so : Below → (e : Entry) (y : Holding) → Tree y.tree → Acts the_tree (rowed y.tree) e (rowed (done y.tree e.asked e.moment).state) (said_of e y)
+acts_so g e y tree s good is = subst (λ (z : State). ActedOn the_tree z e (rowed (done y.tree e.asked e.moment).state) (said_of e y)) (g.rows_tell y.tree s is)
+    (record { answer_is = refl; rows_are = refl; tree = g.tree_kept y.tree e.asked e.moment tree })
+
+took_by : Below → (r : Option Said) (lot : ℕ) (e : Entry) (y : Holding) → Tree y.tree
+    → TookBy the_tree r (rowed y.tree) (records_of y.kept) e (rowed (taken_by r lot e y).holding.tree) (records_of (taken_by r lot e y).holding.kept)
+    (taken_by r lot e y).done
+took_by g (Some known) lot e y tree = (refl, λ i. refl, refl, refl)
+took_by g None lot e y tree = (acts_so g e y tree, λ i. found_put (λ k. k.said) (record { id = entry_id e; lot = lot; said = said_of e y }) y.kept i, refl)
+
+pub took : Below → (lot : ℕ) (e : Entry) (y : Holding) → Tree y.tree
+    → Took the_tree (rowed y.tree) (records_of y.kept) e (rowed (taken lot e y).holding.tree) (records_of (taken lot e y).holding.kept) (taken lot e y).done
+took g lot e y tree = took_by g (records_of y.kept (entry_id e)) lot e y tree
+
+tree_by : Below → (r : Option Said) (lot : ℕ) (e : Entry) (y : Holding) → Tree y.tree → Tree (taken_by r lot e y).holding.tree
+tree_by g (Some known) lot e y tree = tree
+tree_by g None lot e y tree = g.tree_kept y.tree e.asked e.moment tree
+
+-- ---- a group
+
+pub group_tree : Below → (lot : ℕ) (es : List Entry) (y : Holding) → Tree y.tree → Tree (with_group lot es y).tree
+group_tree g lot [] y tree = tree
+group_tree g lot (e ∷ es) y tree = group_tree g lot es (taken lot e y).holding (tree_by g (records_of y.kept (entry_id e)) lot e y tree)
+
+no_more : {X : Type 0} (xs : List X) → xs ≡ xs ++ []
+no_more [] = refl
+no_more (x ∷ xs) = ap (λ more. x ∷ more) (no_more xs)
+
+group_took : Below → (lot : ℕ) (es : List Entry) (y : Holding) (s : State) (h : History) (t : List ℕ) (so_far : List Entry) (dones : List Done) → Tree y.tree
+    → All (IsUnsettled t) es → HasPerformed y s h t so_far dones → HasPerformed (with_group lot es y) s h t (so_far ++ es) (dones ++ dones_of lot es y)
+group_took g lot [] y s h t so_far dones tree each does =
+    subst (λ l. HasPerformed y s h t l (dones ++ [])) (no_more so_far) (subst (λ l. HasPerformed y s h t so_far l) (no_more dones) does)
+group_took g lot (e ∷ es) y s h t so_far dones tree each does =
+    let z = (taken lot e y).holding in
+    let d = (taken lot e y).done in
+    let more : HasPerformed z s h t (so_far ++ e ∷ []) (dones ++ d ∷ []) =
+    (g.grow).one_more (rowed y.tree) (records_of y.kept) e (rowed z.tree) (records_of z.kept) d s h t so_far dones (each zero e (omega arith))
+    (took g lot e y tree) does in
+    let all = group_took g lot es z s h t (so_far ++ e ∷ []) (dones ++ d ∷ []) (tree_by g (records_of y.kept (entry_id e)) lot e y tree)
+    (λ k x below. each (suc k) x (omega (arith, below))) more in
+    subst (λ l. HasPerformed (with_group lot es z) s h t l (dones ++ d ∷ dones_of lot es z)) (grouped so_far (e ∷ []) es)
+    (subst (λ l. HasPerformed (with_group lot es z) s h t ((so_far ++ e ∷ []) ++ es) l) (grouped dones (d ∷ []) (dones_of lot es z)) all)
+
+pub group_performed : Below → (lot : ℕ) (es : List Entry) (y : Holding) (s : State) (h : History) (t : List ℕ) → Tree y.tree → All (IsUnsettled t) es
+    → Stands the_tree (rowed y.tree) (records_of y.kept) s h t → HasPerformed (with_group lot es y) s h t es (dones_of lot es y)
+group_performed g lot es y s h t tree each so =
+    group_took g lot es y s h t [] [] tree each ((g.grow).none_yet (rowed y.tree) (records_of y.kept) s h t so)
+
+-- ---- the records of other ids
+
+neither : (a b : Bool) → cond a true b ≡ false → (a ≡ false) × (b ≡ false)
+neither true b is = absurd cc
+neither false b is = (refl, is)
+
+pub other_by : (r : Option Said) (lot : ℕ) (e : Entry) (y : Holding) (i : ℕ) → (entry_id e == i) ≡ false
+    → records_of (taken_by r lot e y).holding.kept i ≡ records_of y.kept i
+other_by (Some known) lot e y i off = refl
+other_by None lot e y i off =
+    found_put (λ k. k.said) (record { id = entry_id e; lot = lot; said = said_of e y }) y.kept i
+    ∙ ap (λ b. cond b (Some (said_of e y)) (records_of y.kept i)) off
+
+pub group_others : (lot : ℕ) (es : List Entry) (y : Holding) (i : ℕ) → is_in (ids_in es) i ≡ false
+    → records_of (with_group lot es y).kept i ≡ records_of y.kept i
+group_others lot [] y i none = refl
+group_others lot (e ∷ es) y i none =
+    let two = neither (entry_id e == i) (is_in (ids_in es) i) none in
+    group_others lot es (taken lot e y).holding i two.1 ∙ other_by (records_of y.kept (entry_id e)) lot e y i two.0
+
+-- the records after a whole call
+pub kept_for : (lot : Option ℕ) (y : Holding) → (with_lot_for lot y).kept ≡ y.kept
+kept_for None y = refl
+kept_for (Some n) y = refl
+
+pub others_stay : (lot : Option ℕ) (ids : List ℕ) (es : List Entry) (y : Holding)
+    → OthersStay (records_of y.kept) ids es (records_of (performed lot ids es y).kept)
+others_stay lot ids es y i none =
+    group_others (lot_for lot y) es (with_lot_for lot (without_settled ids y)) i none ∙ ap (λ ks. records_of ks i) (kept_for lot (without_settled ids y))
+    ∙ found_settled (λ k. k.said) ids y i

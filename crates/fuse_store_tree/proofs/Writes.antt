@@ -1,0 +1,275 @@
+-- Bytes that are written, told by what the tables tell.
+use Rattle.std.proofs.Common.{◌≡◌, ◌≤◌, inl, inr, ℕ, List, [], ◌∷◌, ◌++◌, ◌==◌, map, filter, Bool, true, false, not, cond, Some}
+use Rattle.std.proofs.Common.{None, Ok, refl, sym, ap, subst, arith, ◌∙◌, ◌+◌, ◌-◌, ◌/◌, ◌%◌, ◌&&◌, nat_lt, length, take, drop, find}
+use Rattle.std.specs.List.{AllByRecursion, list_any}
+use Rattle.std.proofs.lemmas.List.{length-take-le, length-append}
+use Rattle.sqlite_trees.specs.Tree.{IsTable}
+use Rattle.fuse_tree.specs.Bounds.{block_bytes}
+use Rattle.fuse_store_tables.specs.Blocks.{Block, block_at, is_at, new_block}
+use Rattle.fuse_store_tree.specs.Fits.{IsWhole, Fits}
+use Rattle.fuse_store_tables.specs.Content.{put_block, node_key, has_by, Content, Holds}
+use Rattle.fuse_store_tree.specs.Store.{overlay, spliced, whole_of, byte_in, bytes_of, rows_bytes}
+use Rattle.fuse_store_tree.specs.Store.{Store, Tells, TellsAs, with_change, in_order, byte_at}
+use Rattle.fuse_store_tree.specs.Changing.{Overlaid, Changed, KeepsBytes}
+use Rattle.fuse_store_tree.proofs.Keys.{slots_rise}
+use Rattle.fuse_store_tree.proofs.BlockBytes.{part_put}
+use Rattle.fuse_store_tree.proofs.Overlays.{overlay_none, overlay_more, byte_written}
+use Rattle.fuse_store_tree.proofs.Looks.{key_is, both_are}
+use Rattle.fuse_store_tree.proofs.Parents.{blocks_owned}
+use Rattle.fuse_tree.specs.Rows.{at_node, written, content_of, full_at}
+use Rattle.fuse_store_tree.specs.Laws.{looked_still}
+use Rattle.fuse_store_tree.proofs.Ranges.{drop_length}
+use Rattle.sqlite.specs.Effect.{Database}
+use Rattle.std.proofs.lemmas.Bool.{cases_Bool}
+use Rattle.std.proofs.lemmas.Bool.Decides.{nat_tests}
+use Rattle.fuse_tree.specs.declared.rows.Full.{Full}
+use Rattle.fuse_tree.specs.declared.rows.NodeRow.{NodeRow}
+use Rattle.sqlite.specs.State.{State, HasCleanDisk}
+use Rattle.sqlite.specs.declared.error.Error.{Error}
+use Rattle.fuse_tree.specs.declared.rows.Change.TheVariants as changes
+use Rattle.fuse_store_tables.specs.Moves.{Inside, Makes, Looked}
+use Rattle.fuse_store_tables.specs.Following.{earlier}
+use Rattle.fuse_store_tree.proofs.Told.{Rises, same_test}
+use Rattle.fuse_store_tree.proofs.Orders.{all_put, all_in_order, all_filter}
+use Rattle.fuse_store_tree.proofs.Steps.{bytes_keep, held_of, bytes_then, looked_bytes}
+use Rattle.fuse_store_tree.proofs.RowChanges.{same_number}
+
+-- ---- bytes
+
+pub same_overlay : (node at : ℕ) (part : List ℕ) (g h : ℕ → ℕ → ℕ) → ((n i : ℕ) → g n i ≡ h n i)
+    → (n i : ℕ) → overlay node at part g n i ≡ overlay node at part h n i
+same_overlay node at part g h same n i = ap (λ b. cond ((n == node) && (not (nat_lt i at) && nat_lt i (at + length part))) (byte_at part (i - at)) b) (same n i)
+
+blocks_rise : (c : Content) (d : Database) → Holds c d → Rises (λ b. b.slot) c.blocks
+blocks_rise c d at = slots_rise c.blocks (subst IsTable at.rows.1.1.1.0.0 at.rows.1.1.1.0.1)
+
+spliced_length : (old part : List ℕ) (start : ℕ) → start + length part ≤ length old → length (spliced old start part) ≡ length old
+spliced_length old part start within =
+    omega (
+      arith,
+      length-append (take start old ++ part) (drop (start + length part) old),
+      length-append (take start old) part,
+      length-take-le start old
+          (omega (arith, within)),
+      drop_length (start + length part) old,
+      within,
+    )
+
+pub piece_written : {X : Type 0} (a b d : State) (x : X) (node here : ℕ) (part old made_bytes : List ℕ) → Looked a b
+    → Makes {X = X} {E = Error} (put_block node (here / block_bytes) made_bytes) b d (Ok x)
+    → (HasCleanDisk b → (c : Content) → Inside c a → Fits c → old ≡ whole_of (block_at node (here / block_bytes) c.blocks)) → length old ≡ block_bytes
+    → made_bytes ≡ spliced old (here % block_bytes) part → here % block_bytes + length part ≤ block_bytes → Overlaid node here part a d
+piece_written a b d x node here part old made_bytes p q found whole is within = record {
+  stays = looked_bytes a b d p (bytes_keep b d q.stays);
+  turns = λ clean w at.
+      let mid = earlier b d _ q.stays.survives clean in
+      let c = at.holds.0 in
+      let inside : Inside c a = record { is_open = at.is_open; in_transaction = at.in_transaction; holds = at.holds.1 } in
+      let was = at.holds.2 in
+      let now = q.turns clean c (p.same mid c inside) in
+      let rises = blocks_rise c a.now at.holds.1 in
+      let full : length made_bytes ≡ block_bytes = ap length is ∙ spliced_length old part (here % block_bytes) (omega (arith, whole, within)) ∙ whole in
+      record {
+        is_open = now.is_open;
+        in_transaction = now.in_transaction;
+        holds = (
+          put_block node (here / block_bytes) made_bytes c,
+          now.holds,
+          record {
+            counters = was.counters;
+            nodes = was.nodes;
+            entries = was.entries;
+            handles = was.handles;
+            answers = was.answers;
+            lots = was.lots;
+            kept = was.kept;
+            bytes = λ n i.
+                ap (λ l. byte_in (put_block node (here / block_bytes) l c).blocks n i) is ∙ part_put node here part c.blocks old rises
+                (found mid c inside was.fits) whole within n i
+                ∙ same_overlay node here part (byte_in c.blocks) w.1 was.bytes n i;
+            settings = was.settings;
+            fits = record {
+              nodes = was.fits.nodes;
+              entries = was.fits.entries;
+              handles = was.fits.handles;
+              blocks = all_put (λ b. b.slot) IsWhole (new_block node (here / block_bytes) made_bytes (filter (λ b. not (is_at node (here / block_bytes) b))
+                  c.blocks)) _ full (all_filter (λ b. b.slot) IsWhole _ c.blocks was.fits.blocks);
+              kept = was.fits.kept;
+            };
+          },
+        );
+      };
+}
+
+pub tells_same : (x : Store) (g h : ℕ → ℕ → ℕ) (c : Content) → ((n i : ℕ) → g n i ≡ h n i) → TellsAs x g c → TellsAs x h c
+tells_same x g h c same at = record {
+  counters = at.counters;
+  nodes = at.nodes;
+  entries = at.entries;
+  handles = at.handles;
+  answers = at.answers;
+  lots = at.lots;
+  kept = at.kept;
+  bytes = λ n i. at.bytes n i ∙ same n i;
+  settings = at.settings;
+  fits = at.fits;
+}
+
+pub nothing_overlaid : (node at : ℕ) (a : State) → Overlaid node at [] a a
+nothing_overlaid node at a = record {
+  stays = bytes_keep a a (looked_still a).stays;
+  turns = λ clean p now. record {
+    is_open = now.is_open;
+    in_transaction = now.in_transaction;
+    holds = (now.holds.0, now.holds.1, tells_same p.0 p.1 (overlay node at [] p.1) now.holds.0 (overlay_none node at p.1) now.holds.2);
+  };
+}
+
+pub overlaid_keeps : (node at : ℕ) (p : List ℕ) (a b d : State) → Overlaid node at p a b → KeepsBytes b d → KeepsBytes a d
+overlaid_keeps node at p a b d first second = bytes_then a b d first.stays (λ clean w now. ((w.0, overlay node at p w.1), first.turns clean w now)) second
+
+pub overlaid_then : (node at : ℕ) (p q : List ℕ) (a b d : State) → Overlaid node at p a b → Overlaid node (at + length p) q b d → Overlaid node at (p ++ q) a d
+overlaid_then node at p q a b d first second = record {
+  stays = overlaid_keeps node at p a b d first second.stays;
+  turns = λ clean w now.
+      let mid = first.turns (earlier b d _ second.stays.survives clean) w now in
+      let last = second.turns clean (w.0, overlay node at p w.1) mid in
+      record {
+        is_open = last.is_open;
+        in_transaction = last.in_transaction;
+        holds = (
+          last.holds.0,
+          last.holds.1,
+          tells_same w.0 (overlay node (at + length p) q (overlay node at p w.1)) (overlay node at (p ++ q) w.1) last.holds.0
+              (overlay_more node at p q w.1) last.holds.2,
+        );
+      };
+}
+
+-- ---- bytes of a content
+
+pub rows_same : (number : ℕ) (f : List ℕ → List ℕ) (fs : List Full) → map (λ x. x.row) (map (at_node number f) fs) ≡ map (λ x. x.row) fs
+rows_same number f [] = refl
+rows_same number f (x ∷ fs) = elim (cases_Bool (x.row.node == number)) [
+  | inl here ↦ rw here (ap (λ l. x.row ∷ l) (rows_same number f fs))
+  | inr not_here ↦ rw not_here (ap (λ l. x.row ∷ l) (rows_same number f fs))
+]
+
+differs : (a b d : ℕ) → (a == b) ≡ true → (d == b) ≡ false → (a == d) ≡ false
+differs a b d same apart = grind (arith, nat_tests)
+
+-- the content of a node that isn't changed
+pub content_other : (number : ℕ) (f : List ℕ → List ℕ) (n : ℕ) (fs : List Full) → (n == number) ≡ false
+    → content_of (find (λ x. x.row.node == n) (map (at_node number f) fs)) ≡ content_of (find (λ x. x.row.node == n) fs)
+content_other number f n [] apart = refl
+content_other number f n (x ∷ fs) apart = elim (cases_Bool (x.row.node == number)) [
+  | inl here ↦ rw (here, differs x.row.node number n here apart) (content_other number f n fs apart)
+  | inr not_here ↦ rw not_here (by (x.row.node == n) (content_other number f n fs apart))
+]
+  where
+    by : (b : Bool) → content_of (find (λ y. y.row.node == n) (map (at_node number f) fs)) ≡ content_of (find (λ y. y.row.node == n) fs)
+        → content_of (cond b (Some x) (find (λ y. y.row.node == n) (map (at_node number f) fs))) ≡ content_of (cond b (Some x) (find (λ y. y.row.node == n) fs))
+    by true e = refl
+    by false e = e
+
+-- the content of the node that is changed, where it is there
+pub content_here : (number : ℕ) (f : List ℕ → List ℕ) (fs : List Full) → list_any (λ x. x.row.node == number) fs ≡ true
+    → content_of (find (λ x. x.row.node == number) (map (at_node number f) fs)) ≡ f (content_of (find (λ x. x.row.node == number) fs))
+content_here number f [] there = absurd cc
+content_here number f (x ∷ fs) there = elim (cases_Bool (x.row.node == number)) [
+  | inl here ↦ rw here (rw here refl)
+  | inr not_here ↦ rw not_here (rw not_here (content_here number f fs (rw not_here at there)))
+]
+
+pub none_changed : (number : ℕ) (f : List ℕ → List ℕ) (fs : List Full) → list_any (λ x. x.row.node == number) fs ≡ false
+    → find (λ x. x.row.node == number) (map (at_node number f) fs) ≡ None
+none_changed number f [] none = refl
+none_changed number f (x ∷ fs) none = elim (cases_Bool (x.row.node == number)) [
+  | inl here ↦ absurd (let e = rw here at none in cc)
+  | inr not_here ↦ rw not_here (rw not_here (none_changed number f fs (rw not_here at none)))
+]
+
+no_row : (number : ℕ) (fs : List Full) → list_any (λ x. x.row.node == number) fs ≡ false → AllByRecursion (λ r. has_by node_key number r ≡ false)
+    (map (λ x. x.row) fs)
+no_row number [] none = tt
+no_row number (x ∷ fs) none = elim (cases_Bool (x.row.node == number)) [
+  | inl here ↦ absurd (let e = rw here at none in cc)
+  | inr not_here ↦ (same_test x.row.node number ∙ not_here, no_row number fs (rw not_here at none))
+]
+
+none_any : {X : Type 0} (p : X → Bool) (xs : List X) → AllByRecursion (λ x. p x ≡ false) xs → list_any p xs ≡ false
+none_any p [] all = refl
+none_any p (x ∷ xs) all = rw (all.0) (none_any p xs all.1)
+
+no_block : (ns : List NodeRow) (n k : ℕ) (bs : List Block) → AllByRecursion (λ b. list_any (has_by node_key b.node) ns ≡ true) bs
+    → list_any (has_by node_key n) ns ≡ false → block_at n k bs ≡ None
+no_block ns n k [] owned none = refl
+no_block ns n k (b ∷ bs) owned none = elim (cases_Bool (is_at n k b)) [
+  | inl here ↦ absurd (let m = key_is b.node n (both_are _ _ here).0 in let e = subst (λ z. list_any (has_by node_key z) ns ≡ true) m owned.0 in let f = sym e
+      ∙ none in cc)
+  | inr not_here ↦ rw not_here (no_block ns n k bs owned.1 none)
+]
+
+pub none_there : (number : ℕ) (fs : List Full) → list_any (λ x. x.row.node == number) fs ≡ false → find (λ x. x.row.node == number) fs ≡ None
+none_there number [] none = refl
+none_there number (x ∷ fs) none = elim (cases_Bool (x.row.node == number)) [
+  | inl here ↦ absurd (let e = rw here at none in cc)
+  | inr not_here ↦ rw not_here (none_there number fs (rw not_here at none))
+]
+
+-- The blocks of bytes that were written tell the content that is written to. Where there is no such node, a foreign key says that it has no block.
+written_byte : (x : Store) (node at : ℕ) (bytes : List ℕ) (c : Content) (d : Database) → Holds c d → TellsAs x (overlay node at bytes (rows_bytes x.rows)) c
+    → (n i : ℕ) → byte_in c.blocks n i ≡ rows_bytes (with_change (changes.Written node at bytes) x).rows n i
+written_byte x node at bytes c d holds told n i = elim (cases_Bool (n == node)) [
+  | inr other ↦ told.bytes n i ∙ (rw other (ap (λ l. byte_at l i) (sym (content_other node (written at bytes) n x.rows.nodes other))))
+  | inl here ↦
+      let m = same_number n node here in
+      elim (cases_Bool (list_any (λ f. f.row.node == node) x.rows.nodes)) [
+        | inl there ↦
+            let was = content_of (full_at x.rows node) in
+            told.bytes n i ∙ (rw here (ap (λ z. cond (not (nat_lt i at) && nat_lt i (at + length bytes)) (byte_at bytes (i - at))
+            (byte_at (content_of (full_at x.rows z)) i)) m
+            ∙ sym (byte_written at bytes was i) ∙ ap (λ l. byte_at l i) (sym (content_here node (written at bytes) x.rows.nodes there))
+            ∙ ap (λ z. rows_bytes (with_change (changes.Written node at bytes) x).rows z i) (sym m)))
+        | inr none ↦
+            let gone : list_any (has_by node_key node) c.nodes ≡ false =
+            ap (list_any (has_by node_key node)) told.nodes ∙ none_any (has_by node_key node) _ (all_in_order node_key (λ r. has_by node_key node r ≡ false)
+            (map (λ f. f.row) x.rows.nodes) (no_row node x.rows.nodes none)) in
+            ap (λ z. byte_in c.blocks z i) m ∙ ap (λ o. byte_at (bytes_of o) (i % block_bytes)) (no_block c.nodes node (i / block_bytes) c.blocks
+            (blocks_owned c d holds) gone)
+            ∙ sym (ap (λ o. byte_at (content_of o) i) (none_changed node (written at bytes) x.rows.nodes none))
+            ∙ ap (λ z. rows_bytes (with_change (changes.Written node at bytes) x).rows z i) (sym m)
+      ]
+]
+
+pub written_told : (x : Store) (node at : ℕ) (bytes : List ℕ) (c : Content) (d : Database) → Holds c d → TellsAs x (overlay node at bytes (rows_bytes x.rows)) c
+    → Tells (with_change (changes.Written node at bytes) x) c
+written_told x node at bytes c d holds told = record {
+  counters = told.counters;
+  nodes = told.nodes ∙ ap (in_order node_key) (sym (rows_same node (written at bytes) x.rows.nodes));
+  entries = told.entries;
+  handles = told.handles;
+  answers = told.answers;
+  lots = told.lots;
+  kept = told.kept;
+  bytes = written_byte x node at bytes c d holds told;
+  settings = told.settings;
+  fits = told.fits;
+}
+
+pub written_changed : (node at : ℕ) (bytes : List ℕ) (a d : State) → Overlaid node at bytes a d → Changed (with_change (changes.Written node at bytes)) a d
+written_changed node at bytes a d p = record {
+  stays = held_of a d p.stays;
+  turns = λ clean s now.
+      let w = p.turns clean (s, rows_bytes s.rows) now in
+      record {
+        is_open = w.is_open;
+        in_transaction = w.in_transaction;
+        holds = (
+          w.holds.0,
+          w.holds.1,
+          written_told s node at bytes w.holds.0 d.now w.holds.1
+              w.holds.2,
+        );
+      };
+}

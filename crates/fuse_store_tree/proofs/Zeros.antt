@@ -1,0 +1,102 @@
+-- Zeros written within one block, and none where there is no block.
+use Rattle.std.proofs.Common.{◌≡◌, ◌≤◌, ◌+◌, ◌-◌, ◌/◌, ◌%◌, ◌==◌, ◌&&◌, inl, inr, ℕ, List, map, length, replicate, not, nat_lt, true, false}
+use Rattle.std.proofs.Common.{Option, Some, None, Ok, Err, Result, IfErr, OnErr, refl, sym, ap, subst, arith, ◌∙◌}
+use Rattle.std.specs.Option.{is_some, option_to_list}
+use Rattle.std.proofs.lemmas.Bool.{cases_Bool}
+use Rattle.sqlite.specs.Order.{Row}
+use Rattle.sqlite.specs.State.{State, HasCleanDisk}
+use Rattle.fuse_keeper.specs.declared.fault.StoreFault.{StoreFault}
+use Rattle.fuse_tree.specs.Bounds.{block_bytes}
+use Rattle.fuse_store_tables.specs.Blocks.{Block, block_at, shown_block}
+use Rattle.fuse_store_tables.specs.Content.{Content}
+use Rattle.fuse_store_tables.specs.Faults.{IsOutside}
+use Rattle.fuse_store_tables.specs.Following.{earlier}
+use Rattle.fuse_store_tables.specs.Moves.{Inside, Looked}
+use Rattle.fuse_store_tree.specs.Changing.{KeepsBytes, Overlaid}
+use Rattle.fuse_store_tree.specs.Fits.{Fits}
+use Rattle.fuse_store_tree.specs.Store.{byte_at, bytes_of, byte_in, overlay}
+use Rattle.fuse_store_tree.proofs.BlockBytes.{lower, upper}
+use Rattle.fuse_store_tree.proofs.Overlays.{zero_at}
+use Rattle.fuse_store_tree.proofs.RowChanges.{same_number}
+use Rattle.fuse_store_tree.proofs.Steps.{bytes_keep, looked_bytes}
+use Rattle.fuse_store_tree.proofs.Writes.{same_overlay, tells_same}
+
+pub all_zero : (zeros : List ℕ) (n : ℕ) → zeros ≡ replicate n 0 → (i : ℕ) → byte_at zeros i ≡ 0
+all_zero zeros n are i = ap (λ l. byte_at l i) are ∙ zero_at n i
+
+-- whether a look-up found a block
+pub found_none : (rows : List Row) (o : Option Block) → (length rows == 0) ≡ true → rows ≡ map shown_block (option_to_list o) → false ≡ is_some o
+found_none rows None empty is = refl
+found_none rows (Some b) empty is = absurd (let e = subst (λ n. (n == 0) ≡ true) (ap length is) empty in cc)
+
+pub found_some : (rows : List Row) (o : Option Block) → (length rows == 0) ≡ false → rows ≡ map shown_block (option_to_list o) → true ≡ is_some o
+found_some rows None empty is = absurd (let e = subst (λ n. (n == 0) ≡ false) (ap length is) empty in cc)
+found_some rows (Some b) empty is = refl
+
+no_block : (o : Option Block) → false ≡ is_some o → (i : ℕ) → byte_at (bytes_of o) i ≡ 0
+no_block None none i = refl
+no_block (Some b) none i = absurd cc
+
+in_its_block : (here m i : ℕ) → here % block_bytes + m ≤ block_bytes → (not (nat_lt i here) && nat_lt i (here + m)) ≡ true
+    → i / block_bytes ≡ here / block_bytes
+in_its_block here m i within is = elim (cases_Bool (nat_lt i here)) [
+  | inl before ↦ absurd (let e = rw before at is in cc)
+  | inr behind ↦ elim (cases_Bool (nat_lt i (here + m))) [
+    | inl inside ↦
+        let low = lower i (here + m) inside in
+        let high = upper i here behind in
+        omega (arith, low, high, within)
+    | inr outside ↦ absurd (let e = rw (behind, outside) at is in cc)
+  ]
+]
+
+-- where there is no block, its bytes are zeros already
+unchanged : (node here : ℕ) (zeros : List ℕ) (bs : List Block) → false ≡ is_some (block_at node (here / block_bytes) bs)
+    → ((i : ℕ) → byte_at zeros i ≡ 0) → here % block_bytes + length zeros ≤ block_bytes → (n i : ℕ) → byte_in bs n i ≡ overlay node here zeros (byte_in bs) n i
+unchanged node here zeros bs none zero within n i = elim (cases_Bool (n == node)) [
+  | inr other ↦ rw other refl
+  | inl its ↦ rw its (elim (cases_Bool (not (nat_lt i here) && nat_lt i (here + length zeros))) [
+    | inr outside ↦ rw outside refl
+    | inl inside ↦
+        let block = in_its_block here (length zeros) i within inside in
+        rw inside (ap (λ k. byte_at (bytes_of (block_at n k bs)) (i % block_bytes)) block
+        ∙ ap (λ m. byte_at (bytes_of (block_at m (here / block_bytes) bs)) (i % block_bytes)) (same_number n node its)
+        ∙ no_block (block_at node (here / block_bytes) bs) none (i % block_bytes) ∙ sym (zero (i - here)))
+  ])
+]
+
+pub zeros_there : (node here : ℕ) (zeros : List ℕ) (a b : State) → Looked a b
+    → (HasCleanDisk b → (c : Content) → Inside c a → false ≡ is_some (block_at node (here / block_bytes) c.blocks)) → ((i : ℕ) → byte_at zeros i ≡ 0)
+    → here % block_bytes + length zeros ≤ block_bytes → Overlaid node here zeros a b
+zeros_there node here zeros a b p none zero within = record {
+  stays = bytes_keep a b p.stays;
+  turns = λ clean w at.
+      let c = at.holds.0 in
+      let was = at.holds.2 in
+      let inside : Inside c a = record { is_open = at.is_open; in_transaction = at.in_transaction; holds = at.holds.1 } in
+      let now = p.same clean c inside in
+      let same = λ (n i : ℕ). sym (was.bytes n i) ∙ unchanged node here zeros c.blocks (none clean c inside) zero within n i
+      ∙ same_overlay node here zeros (byte_in c.blocks) w.1 was.bytes n i in
+      record {
+        is_open = now.is_open;
+        in_transaction = now.in_transaction;
+        holds = (c, now.holds, tells_same w.0 w.1 (overlay node here zeros w.1) c same was);
+      };
+}
+
+-- ---- a step behind a look
+
+pub looked_over : (node here : ℕ) (part : List ℕ) (a b d : State) → Looked a b → Overlaid node here part b d → Overlaid node here part a d
+looked_over node here part a b d p q = record {
+  stays = looked_bytes a b d p q.stays;
+  turns = λ clean w at.
+      let inside : Inside at.holds.0 a = record { is_open = at.is_open; in_transaction = at.in_transaction; holds = at.holds.1 } in
+      let now = p.same (earlier b d _ q.stays.survives clean) at.holds.0 inside in
+      q.turns clean w (record { is_open = now.is_open; in_transaction = now.in_transaction; holds = (at.holds.0, now.holds, at.holds.2) });
+}
+
+pub looked_sure : {X : Type 0} (a b d : State) (r : Result X StoreFault) → Looked a b → OnErr r (KeepsBytes b d)
+    → (HasCleanDisk d → IfErr r (λ f. (c : Content) → Inside c b → Fits c → IsOutside f)) → HasCleanDisk d
+    → IfErr r (λ f. (c : Content) → Inside c a → Fits c → IsOutside f)
+looked_sure a b d (Ok x) p keeps sure clean = tt
+looked_sure a b d (Err e) p keeps sure clean = λ c at fits. sure clean c (p.same (earlier b d _ keeps.survives clean) c at) fits

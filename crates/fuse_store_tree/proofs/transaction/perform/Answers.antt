@@ -1,0 +1,21 @@
+use Rattle.sqlite.specs.Held.{state}
+use Rattle.fuse_keeper.specs.Group.{ids_of, entries_of}
+use Rattle.fuse_store_tables.specs.Transaction.{served, undone}
+use Rattle.fuse_store_tree.specs.Holding.{HeldFor}
+use Rattle.fuse_store_tree.specs.Group.{performed}
+use Rattle.fuse_store_tables.specs.Following.{earlier}
+use Rattle.fuse_store_tree.proofs.transaction.perform.Goals as goal
+
+pub returns-in-Ok-clause-serves : goal.returns-in-Ok-clause-serves
+returns-in-Ok-clause-serves g c =
+    served HeldFor (λ y. HeldFor (performed c.args.lot (ids_of c.args.settled.now) (entries_of c.args.group.now) y)) (state g.S.Store c.args.look.now.conn)
+    (state g.S.Store c.transact.new.look.conn) c.in-Ok.performed c.in-Ok.performed c.in-Ok.ensures.performs
+
+pub returns-in-Err-clause-serves : goal.returns-in-Err-clause-serves
+returns-in-Err-clause-serves g c =
+    undone HeldFor (λ y. HeldFor (performed c.args.lot (ids_of c.args.settled.now) (entries_of c.args.group.now) y)) (state g.S.Store c.args.look.now.conn)
+    (state g.S.Store c.transact.new.look.conn) (state g.S.Store c.undo.new.conn) c.in-Err.fault c.in-Err.fault c.in-Err.ensures.performs c.undo.ensures
+
+pub returns-in-Err-clause-fault : goal.returns-in-Err-clause-fault
+returns-in-Err-clause-fault g c clean =
+    c.in-Err.ensures.fault (earlier (state g.S.Store c.transact.new.look.conn) (state g.S.Store c.undo.new.conn) _ c.undo.ensures.survives clean)

@@ -1,0 +1,18 @@
+-- What a request did within a transaction (own profile).
+use Rattle.std.specs.Prelude.{◌≡◌}
+use Rattle.sqlite.specs.State.{State, HasCleanDisk}
+use Rattle.fuse_answer.specs.Said.{Said}
+use Rattle.fuse_tree.specs.State.{State as TreeState, Tree}
+use Rattle.fuse_tree.specs.Done.{Done}
+use Rattle.fuse_tree.specs.Rows.{rowed}
+use Rattle.fuse_store_tables.specs.Moves.{InsideAs}
+use Rattle.fuse_store_tree.specs.Store.{Store, Held, with_rows}
+
+-- where the tables told the rows of this tree, they tell those of the tree after it, and the answer is the one said
+pub record ActedInside (new : State) (x : Store) (d : Done) (answer : Said) : Type 0 where
+  pub answer_is : answer ≡ d.said
+  pub tree : Tree d.state
+  pub inside : InsideAs (Held (with_rows (rowed d.state) x)) new
+
+abbrev pub ActsInside : State → State → TreeState → Done → Said → Type 0
+ActsInside old new s d answer = HasCleanDisk new → (x : Store) → x.rows ≡ rowed s → InsideAs (Held x) old → ActedInside new x d answer

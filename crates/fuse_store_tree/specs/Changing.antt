@@ -1,0 +1,28 @@
+-- What a step within a transaction does to what the tables tell (own profile).
+use Rattle.sqlite.specs.State.{State}
+use Rattle.fuse_store_tables.specs.Moves.{StaysIn, TurnsTo}
+use Rattle.std.specs.Prelude.{ℕ, List}
+use Rattle.fuse_store_tree.specs.Store.{Store, Held, HeldAs, overlay, cut}
+
+-- Whether it went well or not, nothing is committed of a transaction whose tables tell something.
+-- Only this composes over several statements: they are known to lead from what tables tell to what tables tell.
+abbrev pub Keeps : State → State → Type 0
+Keeps = StaysIn Held
+
+-- the same, where the blocks tell any bytes
+abbrev pub KeepsBytes : State → State → Type 0
+KeepsBytes = StaysIn HeldAs
+
+pub record Changed (g : Store → Store) (old new : State) : Type 0 where
+  pub stays : Keeps old new
+  pub turns : TurnsTo Held (λ x. Held (g x)) old new
+
+-- some bytes of a node are written over, and nothing else
+pub record Overlaid (node at : ℕ) (part : List ℕ) (old new : State) : Type 0 where
+  pub stays : KeepsBytes old new
+  pub turns : TurnsTo HeldAs (λ p. HeldAs (p.0, overlay node at part p.1)) old new
+
+-- the bytes of a node from a place on are 0, and nothing else changes
+pub record Cut (node at : ℕ) (old new : State) : Type 0 where
+  pub stays : KeepsBytes old new
+  pub turns : TurnsTo HeldAs (λ p. HeldAs (p.0, cut node at p.1)) old new

@@ -1,0 +1,103 @@
+-- What a group makes of what is held, and what it is answered (own profile).
+use Rattle.std.specs.Prelude.{◌≡◌, ◌<◌, ◌^◌, ◌+◌, ℕ, true, false, List, [], ◌∷◌, Option, Some, None, Result, IfErr}
+use Rattle.sqlite.specs.State.{State, HasCleanDisk}
+use Rattle.fuse_answer.specs.Said.{Said}
+use Rattle.fuse_tree.specs.Do.{done}
+use Rattle.fuse_keeper.specs.History.{Entry, entry_id}
+use Rattle.fuse_keeper.specs.declared.keeper.Done.{Done}
+use Rattle.fuse_keeper.specs.declared.fault.StoreFault.{StoreFault}
+use Rattle.fuse_store_tables.specs.Content.{kept_key, put_by, without_by}
+use Rattle.fuse_store_tables.specs.Faults.{IsOutside}
+use Rattle.fuse_store_tables.specs.Moves.{RestsAs}
+use Rattle.fuse_store_tree.specs.Store.{records_of}
+use Rattle.fuse_store_tree.specs.Holding.{Holding, HeldFor, InsideFor}
+
+-- ---- settled ids
+
+abbrev pub without_record : ℕ → Holding → Holding
+without_record id y = record y { kept = without_by kept_key id y.kept }
+
+abbrev pub without_settled : List ℕ → Holding → Holding
+without_settled [] y = y
+without_settled (id ∷ ids) y = without_settled ids (without_record id y)
+
+-- ---- the lot of this start
+
+abbrev pub with_new_lot : Holding → Holding
+with_new_lot y = record y { lots = put_by (λ n. n) y.next_lot y.lots; next_lot = y.next_lot + 1 }
+
+-- the next one is taken where this start has none
+abbrev pub with_lot_for : Option ℕ → Holding → Holding
+with_lot_for None y = with_new_lot y
+with_lot_for (Some lot) y = y
+
+abbrev pub lot_for : Option ℕ → Holding → ℕ
+lot_for None y = y.next_lot
+lot_for (Some lot) y = lot
+
+-- this start has one, or one is left for it
+abbrev pub HasLotLeft : Option ℕ → Holding → Type 0
+HasLotLeft lot y = lot ≡ None → y.next_lot < 2 ^ 62
+
+-- within a transaction: a fault says nothing of what is held, unless no lot is left
+abbrev pub IsSureFor : {X : Type 0} → Option ℕ → State → State → Result X StoreFault → Type 0
+IsSureFor lot old new r = HasCleanDisk new → IfErr r (λ f. (y : Holding) → InsideFor y old → HasLotLeft lot y → IsOutside f)
+
+-- the same of a whole one
+abbrev pub IsSafeFor : {X : Type 0} → Option ℕ → State → State → Result X StoreFault → Type 0
+IsSafeFor lot old new r = HasCleanDisk new → IfErr r (λ f. (y : Holding) → RestsAs (HeldFor y) old → HasLotLeft lot y → IsOutside f)
+
+-- ---- one request
+
+abbrev pub answered : Said → Done
+answered said = record { answer = said; repeated = false }
+
+abbrev pub repeats : Said → Done
+repeats said = record { answer = said; repeated = true }
+
+-- what an entry is answered
+abbrev pub said_of : Entry → Holding → Said
+said_of e y = (done y.tree e.asked e.moment).said
+
+-- what it does to the tree
+abbrev pub with_act : Entry → Holding → Holding
+with_act e y = record y { tree = (done y.tree e.asked e.moment).state }
+
+abbrev pub with_record : ℕ → ℕ → Said → Holding → Holding
+with_record id lot said y = record y { kept = put_by kept_key (record { id = id; lot = lot; said = said }) y.kept }
+
+-- the entry acted, and its answer is recorded under this lot
+abbrev pub acted_on : ℕ → Entry → Holding → Holding
+acted_on lot e y = with_record (entry_id e) lot (said_of e y) (with_act e y)
+
+pub record Taken : Type 0 where
+  pub holding : Holding
+  pub done : Done
+
+-- an id with a record is a repeat
+abbrev pub taken_by : Option Said → ℕ → Entry → Holding → Taken
+taken_by (Some known) lot e y = record { holding = y; done = repeats known }
+taken_by None lot e y = record { holding = acted_on lot e y; done = answered (said_of e y) }
+
+abbrev pub taken : ℕ → Entry → Holding → Taken
+taken lot e y = taken_by (records_of y.kept (entry_id e)) lot e y
+
+-- ---- a group
+
+abbrev pub with_group : ℕ → List Entry → Holding → Holding
+with_group lot [] y = y
+with_group lot (e ∷ es) y = with_group lot es (taken lot e y).holding
+
+abbrev pub dones_of : ℕ → List Entry → Holding → List Done
+dones_of lot [] y = []
+dones_of lot (e ∷ es) y = (taken lot e y).done ∷ dones_of lot es (taken lot e y).holding
+
+-- all that a call does: the settled ids' records go, a lot is taken, the group acts
+abbrev pub prepared : Option ℕ → List ℕ → Holding → Holding
+prepared lot settled y = with_lot_for lot (without_settled settled y)
+
+abbrev pub performed : Option ℕ → List ℕ → List Entry → Holding → Holding
+performed lot settled es y = with_group (lot_for lot y) es (prepared lot settled y)
+
+abbrev pub all_dones : Option ℕ → List ℕ → List Entry → Holding → List Done
+all_dones lot settled es y = dones_of (lot_for lot y) es (prepared lot settled y)

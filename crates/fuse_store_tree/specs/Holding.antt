@@ -1,0 +1,66 @@
+-- What the tables tell where their rows are those of a tree (own profile).
+use Rattle.std.specs.Prelude.{◌≡◌, ◌<◌, ◌≤◌, ◌^◌, ℕ, List, map, Option, option_map}
+use Rattle.std.specs.List.{AllByRecursion}
+use Rattle.sqlite.specs.Effect.{Database}
+use Rattle.sqlite.specs.State.{State, HasCleanDisk}
+use Rattle.fuse_tree.specs.State.{State as TreeState, Tree}
+use Rattle.fuse_tree.specs.Rows.{Rows, rowed}
+use Rattle.fuse_keeper.specs.Lots.{Lots}
+use Rattle.fuse_store_tables.specs.Content.{Kept, kept_key, node_key, cookie_of, fh_of, at_by}
+use Rattle.fuse_store_tables.specs.Moves.{RestsAs, InsideAs, StaysIn, TurnsTo}
+use Rattle.fuse_store_tree.specs.Store.{Store, Held, in_order}
+
+-- a tree, the records in rising order of their ids, the lots in rising order, and the number of the next lot
+pub record Holding : Type 0 where
+  pub tree : TreeState
+  pub kept : List Kept
+  pub lots : List ℕ
+  pub next_lot : ℕ
+
+abbrev pub store_of : Holding → Store
+store_of y = record { rows = rowed y.tree; kept = y.kept; lots = y.lots; next_lot = y.next_lot }
+
+-- a lot that was taken comes before the next one
+abbrev pub AreBelow : ℕ → List ℕ → Type 0
+AreBelow next lots = AllByRecursion (λ n. n < next) lots
+
+-- put into the order of their numbers, the rows are as they were
+pub record AreInOrder (rows : Rows) : Type 0 where
+  pub nodes : in_order node_key (map (λ f. f.row) rows.nodes) ≡ map (λ f. f.row) rows.nodes
+  pub entries : in_order cookie_of rows.entries ≡ rows.entries
+  pub handles : in_order fh_of rows.handles ≡ rows.handles
+
+abbrev pub TreesAreInOrder : Type 0
+TreesAreInOrder = (s : TreeState) → Tree s → AreInOrder (rowed s)
+
+-- a database of the tables that holds this
+pub record HeldFor (y : Holding) (d : Database) : Type 0 where
+  pub tree : Tree y.tree
+  pub below : AreBelow y.next_lot y.lots
+  pub next : y.next_lot ≤ 2 ^ 62
+  pub held : Held (store_of y) d
+
+-- a transaction is open, whose tables hold this
+abbrev pub InsideFor : Holding → State → Type 0
+InsideFor y = InsideAs (HeldFor y)
+
+-- whether it went well or not, nothing is committed of a transaction whose tables hold something
+abbrev pub KeepsFor : State → State → Type 0
+KeepsFor = StaysIn HeldFor
+
+-- within a transaction, this was made of what was held
+pub record Turned (f : Holding → Holding) (old new : State) : Type 0 where
+  pub stays : KeepsFor old new
+  pub turns : TurnsTo HeldFor (λ y. HeldFor (f y)) old new
+
+-- of what was held before a whole transaction, where the store gave back what was written
+abbrev pub TellsAfter : State → State → (Holding → Type 0) → Type 0
+TellsAfter old new P = HasCleanDisk new → (y : Holding) → RestsAs (HeldFor y) old → P y
+
+-- these lots and the one of this start, and under which of them these records stand
+abbrev pub lots_as : Option ℕ → List ℕ → List Kept → Lots
+lots_as current lots kept = record { numbers = lots; current = current; under = λ i. option_map (λ k. k.lot) (at_by kept_key i kept) }
+
+-- the lots that the records are in, and the one of this start
+abbrev pub lots_of : Option ℕ → Holding → Lots
+lots_of current y = lots_as current y.lots y.kept

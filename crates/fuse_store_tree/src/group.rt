@@ -1,0 +1,125 @@
+// A group of requests, within the transaction that is open.
+ghost use Rattle.std.specs.Prelude.{◌≡◌, ◌<◌, ◌^◌, None, length, IfOk, IfErr, OnOk, OnErr};
+ghost use Rattle.std.specs.Prelude.{IfSome};
+ghost use Rattle.sqlite.specs.State.{HasCleanDisk};
+ghost use Rattle.sqlite.specs.Held.{state};
+ghost use Rattle.fuse_keeper.specs.Group.{entries_of, ids_of};
+ghost use Rattle.fuse_store_tables.specs.Moves.{IsSure};
+ghost use Rattle.fuse_store_tables.specs.Faults.{IsPlain};
+ghost use Rattle.fuse_store_tree.specs.Looking.{look_fault};
+ghost use Rattle.fuse_store_tree.specs.Holding.{Holding, HeldFor, InsideFor, KeepsFor};
+ghost use Rattle.fuse_store_tree.specs.Holding.{Turned};
+ghost use Rattle.fuse_store_tree.specs.Group.{with_group, dones_of, prepared, lot_for};
+ghost use Rattle.fuse_store_tree.specs.Group.{performed, all_dones, IsSureFor};
+
+use crate::look::TableLook;
+use crate::lots::take_lot;
+use crate::settling::settle;
+use crate::taking::take_one;
+use fuse_keeper::{Done, StoreFault};
+use fuse_request::Request;
+use fuse_wire::{Id, Moment};
+use sqlite::{Alter, Connection};
+use std::alloc::Global;
+
+/// What a group is answered, and the lot under which its records stand.
+#[derive(Drop)]
+pub struct Performed {
+    pub lot: u64,
+    pub dones: Vec<Done>,
+}
+
+// Takes the requests of a group, one after the other.
+fn take_all<S: Alter>(
+    alloc: Global,
+    look: &mut TableLook<S>,
+    lot: u64,
+    group: &[(Request<'_>, Moment)],
+) -> Result<Vec<Done>, StoreFault>
+    requires ready { look_fault look.old.fault ≡ None }
+    requires lot { lot < 2 ^ 62 }
+    ensures count { IfOk result (λ dones. length dones.items ≡ length group.now) }
+    ensures turned { OnOk result (Turned (with_group lot (entries_of group.now))
+        (state S.Store look.old.conn) (state S.Store look.new.conn)) }
+    ensures dones { HasCleanDisk (state S.Store look.new.conn) → IfOk result (λ dones.
+        (y : Holding) → InsideFor y (state S.Store look.old.conn)
+        → dones.items ≡ dones_of lot (entries_of group.now) y) }
+    ensures fails { OnErr result (KeepsFor (state S.Store look.old.conn)
+        (state S.Store look.new.conn)) }
+    ensures ready { look_fault look.new.fault ≡ None }
+    ensures fault { IsSure HeldFor (state S.Store look.old.conn) (state S.Store look.new.conn)
+        result }
+    ensures plain { IfErr result IsPlain }
+{
+    let mut dones = Vec::new(alloc);
+    for one in group {
+        let done = match take_one(alloc, look, lot, &one.0, one.1) {
+            Ok(done) => done,
+            Err(fault) => return Err(fault),
+        };
+        dones.push(done)?;
+    }
+    Ok(dones)
+}
+
+// The settled ids' records go, and a lot is taken where this start has none.
+fn prepare<S: Alter>(
+    conn: &mut Connection<S>,
+    lot: Option<u64>,
+    settled: &[Id],
+) -> Result<u64, StoreFault>
+    requires { IfSome lot (λ n. n < 2 ^ 62) }
+    ensures turned { OnOk result (Turned (prepared lot (ids_of settled.now))
+        (state S.Store conn.old) (state S.Store conn.new)) }
+    ensures value { HasCleanDisk (state S.Store conn.new) → IfOk result (λ n. (y : Holding)
+        → InsideFor y (state S.Store conn.old) → n ≡ lot_for lot y) }
+    ensures low { IfOk result (λ n. n < 2 ^ 62) }
+    ensures fails { OnErr result (KeepsFor (state S.Store conn.old) (state S.Store conn.new)) }
+    ensures fault { IsSureFor lot (state S.Store conn.old) (state S.Store conn.new) result }
+    ensures plain { IfErr result IsPlain }
+{
+    match settle(conn, settled) {
+        Ok(()) => take_lot(conn, lot),
+        Err(fault) => Err(fault),
+    }
+}
+
+/// Performs a group in the transaction that is open: the settled ids' records go, a lot is taken
+/// where this start has none, and each request whose id isn't recorded acts and is recorded.
+pub fn perform_in<S: Alter>(
+    alloc: Global,
+    look: &mut TableLook<S>,
+    lot: Option<u64>,
+    group: &[(Request<'_>, Moment)],
+    settled: &[Id],
+) -> Result<Performed, StoreFault>
+    requires ready { look_fault look.old.fault ≡ None }
+    requires lot { IfSome lot (λ n. n < 2 ^ 62) }
+    ensures count { IfOk result (λ p. length p.dones.items ≡ length group.now) }
+    ensures turned { OnOk result (Turned
+        (performed lot (ids_of settled.now) (entries_of group.now))
+        (state S.Store look.old.conn) (state S.Store look.new.conn)) }
+    ensures lot { HasCleanDisk (state S.Store look.new.conn) → IfOk result (λ p. (y : Holding)
+        → InsideFor y (state S.Store look.old.conn) → p.lot ≡ lot_for lot y) }
+    ensures low { IfOk result (λ p. p.lot < 2 ^ 62) }
+    ensures dones { HasCleanDisk (state S.Store look.new.conn) → IfOk result (λ p. (y : Holding)
+        → InsideFor y (state S.Store look.old.conn)
+        → p.dones.items ≡ all_dones lot (ids_of settled.now) (entries_of group.now) y) }
+    // Whether it went well or not, nothing is committed.
+    ensures fails { OnErr result (KeepsFor (state S.Store look.old.conn)
+        (state S.Store look.new.conn)) }
+    ensures ready { look_fault look.new.fault ≡ None }
+    // What is held stands: it is damaged only where no lot is left.
+    ensures fault { IsSureFor lot (state S.Store look.old.conn) (state S.Store look.new.conn)
+        result }
+    ensures plain { IfErr result IsPlain }
+{
+    let lot = match prepare(&mut look.conn, lot, settled) {
+        Ok(lot) => lot,
+        Err(fault) => return Err(fault),
+    };
+    match take_all(alloc, look, lot, group) {
+        Ok(dones) => Ok(Performed { lot, dones }),
+        Err(fault) => Err(fault),
+    }
+}

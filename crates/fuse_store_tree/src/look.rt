@@ -1,0 +1,162 @@
+// Looks at the tables, for `plan`.
+ghost use Rattle.std.specs.Prelude.{◌≡◌, ◌<◌, None, Some, Option};
+ghost use Rattle.sqlite.specs.State.{HasCleanDisk};
+ghost use Rattle.sqlite.specs.Held.{state};
+ghost use Rattle.fuse_store_tree.specs.Looking.{look_fault, told_as};
+
+use crate::contents::find_bytes;
+use crate::counting::{find_counters, find_settings};
+use crate::finding::{find_entry, find_handle, find_node};
+use crate::listing::find_after;
+use fuse_init::Settings;
+use fuse_keeper::StoreFault;
+use fuse_tree::{Counters, EntryRow, HandleRow, Look, LookFault, NodeRow};
+use fuse_wire::ByteList;
+use sqlite::{Alter, Connection};
+use std::alloc::Global;
+
+/// The tables within a transaction.
+#[derive(Drop)]
+pub struct TableLook<S: Alter> {
+    /// Where what is looked up is made.
+    pub alloc: Global,
+    pub conn: Connection<S>,
+    /// The fault of a look, once there was one.
+    pub fault: Option<StoreFault>,
+}
+
+// What a look tells of a fault.
+fn told_fault(fault: &StoreFault) -> LookFault
+    ensures { result ≡ told_as fault.now }
+{
+    match fault {
+        StoreFault::Memory => LookFault::Memory,
+        StoreFault::Sql(_) => LookFault::Failed,
+        StoreFault::NotAStore => LookFault::Failed,
+        StoreFault::Version(_) => LookFault::Failed,
+        StoreFault::Damaged => LookFault::Failed,
+    }
+}
+
+impl<S: Alter> TableLook<S> {
+    /// No memory is taken.
+    pub fn new(alloc: Global, conn: Connection<S>) -> TableLook<S>
+        ensures conn { result.conn ≡ conn }
+        ensures fault { look_fault result.fault ≡ None }
+    {
+        TableLook {
+            alloc,
+            conn,
+            fault: None,
+        }
+    }
+
+    /// The fault of a look, if there was one, which is forgotten.
+    pub(crate) fn take_fault(&mut self) -> Option<StoreFault>
+        ensures was { result ≡ self.old.fault }
+        ensures fault { look_fault self.new.fault ≡ None }
+        ensures conn { self.new.conn ≡ self.old.conn }
+    {
+        self.fault.take()
+    }
+
+    // Keeps the fault.
+    fn fail(&mut self, fault: StoreFault) -> LookFault
+        ensures kept { self.new.fault ≡ Some fault }
+        ensures fault { look_fault self.new.fault ≡ Some result }
+        ensures conn { self.new.conn ≡ self.old.conn }
+    {
+        let told = told_fault(&fault);
+        self.fault = Some(fault);
+        told
+    }
+}
+
+impl<S: Alter> Look for TableLook<S> {
+    ghost use Rattle.fuse_store_tree.specs.Looking.{sees_in, WentWell, MayFail};
+    ghost use Rattle.fuse_store_tree.specs.Laws.{well_still, well_then, well_fails, well_less};
+    ghost use Rattle.fuse_store_tree.specs.Laws.{looked_clean, looked_kept};
+
+    ghost sees = { λ k rows. sees_in (state S.Store k.conn) rows };
+
+    ghost fault = { λ k. look_fault k.fault };
+
+    ghost is_clean = { λ k. HasCleanDisk (state S.Store k.conn) };
+
+    ghost looks = { λ a b. WentWell (state S.Store a.conn) (state S.Store b.conn) a.fault b.fault };
+
+    ghost fails = { λ a b. MayFail (state S.Store a.conn) (state S.Store b.conn) a.fault b.fault };
+
+    fn node(&mut self, number: u64) -> Result<Option<NodeRow>, LookFault> {
+        match find_node(&mut self.conn, number) {
+            Ok(row) => Ok(row),
+            Err(fault) => Err(self.fail(fault)),
+        }
+    }
+
+    fn entry(&mut self, dir: u64, name: &[u8]) -> Result<Option<EntryRow>, LookFault> {
+        match find_entry(&mut self.conn, self.alloc, dir, name) {
+            Ok(row) => Ok(row),
+            Err(fault) => Err(self.fail(fault)),
+        }
+    }
+
+    fn entries_after(
+        &mut self,
+        dir: u64,
+        cookie: u64,
+        limit: usize,
+    ) -> Result<Vec<EntryRow>, LookFault> {
+        match find_after(&mut self.conn, self.alloc, dir, cookie, limit) {
+            Ok(rows) => Ok(rows),
+            Err(fault) => Err(self.fail(fault)),
+        }
+    }
+
+    fn handle(&mut self, fh: u64) -> Result<Option<HandleRow>, LookFault> {
+        match find_handle(&mut self.conn, fh) {
+            Ok(row) => Ok(row),
+            Err(fault) => Err(self.fail(fault)),
+        }
+    }
+
+    fn bytes(&mut self, node: u64, offset: u64, len: u32) -> Result<ByteList, LookFault> {
+        match find_bytes(&mut self.conn, self.alloc, node, offset, len) {
+            Ok(bytes) => Ok(bytes),
+            Err(fault) => Err(self.fail(fault)),
+        }
+    }
+
+    fn counters(&mut self) -> Result<Counters, LookFault> {
+        match find_counters(&mut self.conn) {
+            Ok(row) => Ok(row),
+            Err(fault) => Err(self.fail(fault)),
+        }
+    }
+
+    fn settings(&mut self) -> Result<Option<Settings>, LookFault> {
+        match find_settings(&mut self.conn) {
+            Ok(row) => Ok(row),
+            Err(fault) => Err(self.fail(fault)),
+        }
+    }
+
+    fn failed(&self) -> Option<LookFault> {
+        match &self.fault {
+            None => None,
+            Some(fault) => Some(told_fault(fault)),
+        }
+    }
+
+    ghost still = { λ a. well_still _ _ };
+
+    ghost and_then = { λ a b d p q. well_then _ _ _ _ _ _ p q };
+
+    ghost and_fails = { λ a b d p q. well_fails _ _ _ _ _ _ p q };
+
+    ghost or_less = { λ a b p. well_less _ _ _ _ p };
+
+    ghost was_clean = { λ a b p clean. looked_clean _ _ p.looked clean };
+
+    ghost kept = { λ a b p clean rows sees. looked_kept _ _ p.looked clean rows sees };
+}

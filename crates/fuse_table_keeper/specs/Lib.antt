@@ -1,8 +1,0 @@
-pub mod Creating
-pub mod Mounting
-pub mod Opening
-pub mod Told
-pub mod TableKeeper
-pub mod Laws
-pub mod Starting
-pub mod Storing

@@ -1,5 +1,0 @@
-use Rattle.fuse_table_look.proofs.Once as once
-use Rattle.fuse_table_look.proofs.laws.one_holding.Goals as goal
-
-pub returns : goal.returns
-returns c = λ x y d one two. once.one_holding x y d one two c.rows_tell_state.ensures

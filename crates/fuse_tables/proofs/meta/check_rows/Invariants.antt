@@ -1,9 +1,0 @@
-use Rattle.std.proofs.Common.{length, ◌-◌, ◌≡◌, ◌≤◌}
-use Rattle.fuse_tables.proofs.MetaLemmas.{StartsWell}
-use Rattle.fuse_tables.proofs.meta.check_rows.Given as goal
-
-abbrev pub invariant-rows : goal.invariant-rows
-invariant-rows l = (l.rows ≡ l.fn.rows) × (l.count ≡ l.fn.count) × (l.at ≤ length l.rows) × StartsWell l.rows l.at
-
-abbrev pub decreases-rows : goal.decreases-rows
-decreases-rows l = length l.rows - l.at

@@ -1,0 +1,5 @@
+pub mod Agreements
+pub mod Small
+pub mod Spellings
+pub mod Vectors
+mod InLists

@@ -1,0 +1,96 @@
+//! Two lives of a server behind a port that loses answers.
+use crate::hex::put_hex;
+use fuse_keeper::{Keeper, PlainKeeper, Restart};
+use fuse_session::{Ended, Fixed, Port, SessionCounts, serve};
+use fuse_tree::PlainTree;
+use fuse_wire::Moment;
+use lossy_port::LossyPort;
+use messages::*;
+use std::alloc::{AllocError, Global};
+use std::test::*;
+
+mod messages;
+
+const NOW: Moment = Moment {
+    secs: 1000,
+    nanos: 0,
+};
+
+// What comes in a life, what is to be sent for it, and what of that is to get through.
+#[derive(Drop)]
+struct Life {
+    input: Vec<u8>,
+    sent: Vec<u8>,
+    delivered: Vec<u8>,
+}
+
+fn life_of(alloc: Global, exchanges: &[Exchange]) -> Result<Life, AllocError> {
+    let mut life = Life {
+        input: Vec::new(alloc),
+        sent: Vec::new(alloc),
+        delivered: Vec::new(alloc),
+    };
+    for (message, answer, gets_through) in exchanges {
+        put_hex(&mut life.input, message)?;
+        put_hex(&mut life.sent, answer)?;
+        put_hex(&mut life.delivered, if *gets_through { answer } else { "" })?;
+    }
+    Ok(life)
+}
+
+// What is counted of so many messages, some of them repeated, all of them kept.
+fn counts_of(kept: u64, repeated: u64) -> SessionCounts {
+    SessionCounts {
+        messages: kept,
+        kept,
+        repeated,
+        ..SessionCounts::NONE
+    }
+}
+
+// Serves a life over a port that loses each answer of this number: whether it ended where its bytes
+// do, just what was wanted was sent and got through, and just this was counted. The messages come
+// at once, and then there is no more.
+fn serves(
+    alloc: Global,
+    keeper: &mut PlainKeeper<PlainTree>,
+    every: u32,
+    exchanges: &[Exchange],
+    counts: SessionCounts,
+) -> Result<[bool; 4], AllocError> {
+    let life = life_of(alloc, exchanges)?;
+    if keeper.failed() {
+        return Ok([false; 4]);
+    }
+    let mut port = LossyPort::new(alloc, life.input, every);
+    let served = serve(alloc, keeper, &mut port, &mut Fixed(NOW), 1000);
+    Ok([
+        matches!(served.ended, Ended::End) && port.tally() == (2, 0),
+        port.sent() == life.sent.as_slice(),
+        port.delivered() == life.delivered.as_slice(),
+        served.counts == Some(counts),
+    ])
+}
+
+// Whether there are so many nodes and handles.
+fn holds(keeper: &mut PlainKeeper<PlainTree>, nodes: u64, handles: u64) -> bool {
+    matches!(keeper.counts(), Ok(counts) if counts.nodes == nodes && counts.handles == handles)
+}
+
+// The third answer of the first life is lost: nobody is told of handle 1. The second life opens the
+// same keeper, and loses nothing. What comes again gets the same bytes, be its answer lost or not,
+// and changes nothing: there are the root and f, handles 1 and 2, and the one that is new in the
+// second life.
+fn lives(alloc: Global) -> Result<([[bool; 4]; 2], bool), Fail> {
+    let mut keeper: PlainKeeper<PlainTree> = PlainKeeper::new(alloc, NOW)?;
+    let first = serves(alloc, &mut keeper, 3, &FIRST, counts_of(4, 0))?;
+    let mut opened = keeper.restart()?;
+    let second = serves(alloc, &mut opened, 0, &SECOND, counts_of(6, 5))?;
+    Ok(([first, second], holds(&mut opened, 2, 3)))
+}
+
+#[test]
+fn what_was_lost_comes_again(rt: HostRuntime) -> Result<(), Fail> {
+    assert_eq!(rt; lives(rt.alloc())?, ([[true; 4]; 2], true));
+    Ok(())
+}

@@ -1,0 +1,30 @@
+//! Keepers of the tree in lists, and what they hold.
+use crate::run::{Held, holding};
+use fuse_keeper::{Keeper, PlainKeeper};
+use fuse_tree::PlainTree;
+use fuse_wire::{Memory, Moment};
+use std::alloc::Global;
+
+/// A keeper of the tree in memory.
+pub type TreeKeeper = PlainKeeper<PlainTree>;
+
+pub const START: Moment = Moment { secs: 0, nanos: 0 };
+
+pub const AT_1000: Moment = Moment {
+    secs: 1000,
+    nanos: 0,
+};
+
+/// A new store, made at second 0.
+pub(crate) fn new_keeper(alloc: Global) -> Result<TreeKeeper, Memory> {
+    PlainKeeper::new(alloc, START)
+}
+
+/// How much a keeper holds. None where it wants memory, or has a lot.
+pub(crate) fn held_in<K: Keeper>(keeper: &mut K) -> Option<Held> {
+    let counts = keeper.counts().ok()?;
+    if counts.lots != 0 {
+        return None;
+    }
+    Some(holding(counts.nodes, counts.handles, counts.records))
+}

@@ -1,4 +1,0 @@
-pub mod Agreements
-pub mod Small
-pub mod Spellings
-pub mod Vectors

@@ -1,5 +1,0 @@
-use Rattle.worked_rows.proofs.Agreements as rows
-use Rattle.worked_rows.proofs.messages.negotiation.ext_in_16.Goals as goal
-
-pub returns : goal.returns
-returns c = rows.ext_in_16

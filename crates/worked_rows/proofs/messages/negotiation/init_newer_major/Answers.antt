@@ -1,5 +1,0 @@
-use Rattle.worked_rows.proofs.Agreements as rows
-use Rattle.worked_rows.proofs.messages.negotiation.init_newer_major.Goals as goal
-
-pub returns : goal.returns
-returns c = rows.init_newer_major

@@ -1,8 +1,0 @@
-use Rattle.std.proofs.Common.{refl}
-use Rattle.fuse_wire.specs.Bytes.{le}
-use Rattle.fuse_answer.specs.Wire.{wire, wire_head}
-use Rattle.worked_rows.proofs.messages.records.reads.Goals as goal
-
-pub returns : goal.returns
-unfolding le wire wire_head
-returns c = (refl, refl, refl)

@@ -1,5 +1,0 @@
-use Rattle.worked_rows.proofs.Spellings as rows
-use Rattle.worked_rows.proofs.messages.requests.first_run.Goals as goal
-
-pub returns : goal.returns
-returns c = rows.first_run c.canon_spells.ensures

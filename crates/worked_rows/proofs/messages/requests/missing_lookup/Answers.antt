@@ -1,5 +1,0 @@
-use Rattle.worked_rows.proofs.Spellings as rows
-use Rattle.worked_rows.proofs.messages.requests.missing_lookup.Goals as goal
-
-pub returns : goal.returns
-returns c = rows.missing_lookup c.canon_spells.ensures

@@ -1,5 +1,0 @@
-use Rattle.worked_rows.proofs.Spellings as rows
-use Rattle.worked_rows.proofs.messages.requests.rename_bytes.Goals as goal
-
-pub returns : goal.returns
-returns c = rows.rename_bytes c.canon_spells.ensures

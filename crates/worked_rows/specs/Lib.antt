@@ -1,5 +1,0 @@
-pub mod AnswerRows
-pub mod InitRows
-pub mod RequestRows
-pub mod Vectors
-pub mod WireRows
