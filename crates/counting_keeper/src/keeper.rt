@@ -1,6 +1,6 @@
 // A keeper that counts.
 ghost use Rattle.std.specs.Prelude.{◌≡◌, length, All, IfOk, IfErr, OnOk, MatchResult};
-ghost use Rattle.fuse_keeper.specs.KeeperState.{IsFirm, Tells, Reopened};
+ghost use Rattle.fuse_keeper.specs.KeeperState.{IsFirm, Reports, Reopened};
 ghost use Rattle.fuse_keeper.specs.KeeperState.{AnswersNoMore, Called, Looked, Performs};
 ghost use Rattle.fuse_keeper.specs.KeeperState.{KeepsOthers, KeepsLots, LeavesGroup};
 ghost use Rattle.fuse_keeper.specs.KeeperState.{BeginsMount, DropsLots, LeavesMount};
@@ -144,7 +144,7 @@ impl<K: Keeper> Keeper for CountingKeeper<K> {
 
     fn settings(&mut self) -> Result<Option<Settings>, StoreFault>
         ensures looked { Looked (K.told (inner_of self.old)) (K.told (inner_of self.new)) result }
-        ensures ok { IfOk result (λ settings. Tells (K.told (inner_of self.old))
+        ensures ok { IfOk result (λ settings. Reports (K.told (inner_of self.old))
             (K.told (inner_of self.new)) (λ rows records. settings ≡ K.model.settings rows)) }
         ensures same { Became K.became self.old self.new 0 }
         ensures counted { LooksCounted (tally_of self.old) (tally_of self.new) result }
@@ -156,13 +156,13 @@ impl<K: Keeper> Keeper for CountingKeeper<K> {
 
     fn counts(&mut self) -> Result<StoreCounts, StoreFault>
         ensures looked { Looked (K.told (inner_of self.old)) (K.told (inner_of self.new)) result }
-        ensures nodes { IfOk result (λ counts. Tells (K.told (inner_of self.old))
+        ensures nodes { IfOk result (λ counts. Reports (K.told (inner_of self.old))
             (K.told (inner_of self.new)) (λ rows records. counts.nodes ≡ K.model.nodes rows)) }
-        ensures handles { IfOk result (λ counts. Tells (K.told (inner_of self.old))
+        ensures handles { IfOk result (λ counts. Reports (K.told (inner_of self.old))
             (K.told (inner_of self.new)) (λ rows records. counts.handles ≡ K.model.handles rows)) }
-        ensures records { IfOk result (λ counts. Tells (K.told (inner_of self.old))
+        ensures records { IfOk result (λ counts. Reports (K.told (inner_of self.old))
             (K.told (inner_of self.new)) (λ rows records. CountsRecords records counts.records)) }
-        ensures lots { IfOk result (λ counts. Tells (K.told (inner_of self.old))
+        ensures lots { IfOk result (λ counts. Reports (K.told (inner_of self.old))
             (K.told (inner_of self.new))
             (λ rows records. counts.lots ≡ length (K.told (inner_of self.old)).lots.numbers)) }
         ensures same { Became K.became self.old self.new 0 }

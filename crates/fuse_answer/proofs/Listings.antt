@@ -9,7 +9,7 @@ use Rattle.fuse_wire.specs.Bytes.{number_of, IsBytes}
 use Rattle.fuse_wire.specs.Layout.{Part, number, unused, bytes, Lays, Placed, widths}
 use Rattle.fuse_wire.specs.Laws.{LayoutsStand}
 use Rattle.fuse_answer.specs.Entries.{Entry, padding, dirent_parts, StandsBefore, Lists, IsListing, entry_len}
-use Rattle.fuse_answer.specs.Front.{name_len, entry_at, front_of, entries_by}
+use Rattle.fuse_answer.specs.FirstEntry.{name_len, entry_at, leading_entry, entries_by}
 
 -- a payload that ends what is laid out
 all_bytes : (xs b : List ℕ) → Lays (bytes xs ∷ []) b → b ≡ xs
@@ -19,7 +19,7 @@ bytes_laid : (xs : List ℕ) → Lays (bytes xs ∷ []) xs
 bytes_laid xs = ([], sym (append-nil xs), refl)
 
 -- an entry that stands at the front is read there
-pub front_back : LayoutsStand → (e : Entry) (rest b : List ℕ) → StandsBefore e rest b → front_of b ≡ Some (e, rest)
+pub front_back : LayoutsStand → (e : Entry) (rest b : List ℕ) → StandsBefore e rest b → leading_entry b ≡ Some (e, rest)
 front_back laws e rest b s =
     let n : ℕ = length e.name in
     let ps : List Part = dirent_parts e ++ bytes rest ∷ [] in
@@ -79,7 +79,7 @@ front_laid laws b ino off n kind name rest fits long ino_is off_is n_is kind_is 
       laid = rw len (subst (λ (k : ℕ). Lays ps (take k b)) total laid);
     }
 
--- the tests of front_of, and what follows from them
+-- the tests of leading_entry, and what follows from them
 by_tests : (a c d f : Bool) (x : Entry × List ℕ)
     → ((if a then None else if c then None else if d then None else if f then None else Some x) ≡ None)
     ⊎ ((a ≡ false) × ((if a then None else if c then None else if d then None else if f then None else Some x) ≡ Some x))
@@ -90,7 +90,7 @@ by_tests false false false true x = inl refl
 by_tests false false false false x = inr (refl, refl)
 
 -- no entry is read, or one that is not empty
-pub front_cases : (b : List ℕ) → (front_of b ≡ None) ⊎ ((p : Entry × List ℕ) × (front_of b ≡ Some p) × (length p.1 < length b))
+pub front_cases : (b : List ℕ) → (leading_entry b ≡ None) ⊎ ((p : Entry × List ℕ) × (leading_entry b ≡ Some p) × (length p.1 < length b))
 front_cases b =
     elim (by_tests (nat_lt (length b) 24) (name_len b == 0) (nat_lt 255 (name_len b)) (nat_lt (length b) (entry_len (name_len b)))
     (entry_at b, drop (entry_len (name_len b)) b)) [
@@ -99,11 +99,11 @@ front_cases b =
     ]
 
 -- nothing is at the front of no bytes
-front_empty : (b : List ℕ) → length b ≤ 0 → front_of b ≡ None
+front_empty : (b : List ℕ) → length b ≤ 0 → leading_entry b ≡ None
 front_empty b few = rw (lt-ltb (length b) 24 (omega (arith, few))) refl
 
 -- what is read, by what is read at the front
-pub entries_none : (n : ℕ) (b : List ℕ) → front_of b ≡ None → entries_by n b ≡ []
+pub entries_none : (n : ℕ) (b : List ℕ) → leading_entry b ≡ None → entries_by n b ≡ []
 entries_none zero b e = refl
 entries_none (suc n) b e = rw e refl
 
@@ -117,7 +117,7 @@ entries_more (suc n) (suc m) b few many =
       | inr some ↦ rw some.1 (ap (λ (es : List Entry). some.0.0 ∷ es) (entries_more n m some.0.1 (omega (arith, some.2, few)) (omega (arith, some.2, many))))
     ]
 
-front_shorter : (e : Entry) (rest b : List ℕ) → front_of b ≡ Some (e, rest) → length rest < length b
+front_shorter : (e : Entry) (rest b : List ℕ) → leading_entry b ≡ Some (e, rest) → length rest < length b
 front_shorter e rest b is =
     elim (front_cases b) [
       | inl none ↦ (let no : ◌≡◌ {A = Option (Entry × List ℕ)} None (Some (e, rest)) = sym none ∙ is in absurd cc)
@@ -126,7 +126,7 @@ front_shorter e rest b is =
           omega (arith, some.2, ap length behind))
     ]
 
-pub entries_some : (n : ℕ) (e : Entry) (rest b : List ℕ) → length b ≤ n → front_of b ≡ Some (e, rest) → entries_by n b ≡ e ∷ entries_by (length rest) rest
+pub entries_some : (n : ℕ) (e : Entry) (rest b : List ℕ) → length b ≤ n → leading_entry b ≡ Some (e, rest) → entries_by n b ≡ e ∷ entries_by (length rest) rest
 entries_some zero e rest b few is = absurd (omega (arith, front_shorter e rest b is, few))
 entries_some (suc n) e rest b few is =
     rw is (ap (λ (es : List Entry). e ∷ es) (entries_more n (length rest) rest (omega (arith, front_shorter e rest b is, few)) (omega arith)))
@@ -150,7 +150,7 @@ pub listing_more : (e : Entry) (rest b : List ℕ) → StandsBefore e rest b →
 listing_more e rest b s h = (e ∷ h.0, (rest, s, h.1))
 
 -- bytes without an entry at the front
-pub not_listing : LayoutsStand → (b : List ℕ) → front_of b ≡ None → 0 < length b → IsListing b → ⊥
+pub not_listing : LayoutsStand → (b : List ℕ) → leading_entry b ≡ None → 0 < length b → IsListing b → ⊥
 not_listing laws b none some ([], h) = absurd (omega (arith, ap length h, some))
 not_listing laws b none some (e ∷ es, h) =
     let no : ◌≡◌ {A = Option (Entry × List ℕ)} None (Some (e, h.0)) = sym none ∙ front_back laws e h.0 b h.1 in

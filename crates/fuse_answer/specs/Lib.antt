@@ -4,7 +4,7 @@ pub mod Bodies
 pub mod Wire
 pub mod Notice
 pub mod Entries
-pub mod Front
+pub mod FirstEntry
 pub mod Replies
 pub mod Readers
 pub mod Laws

@@ -1,14 +1,14 @@
 ghost use Rattle.std.specs.Prelude.{◌≡◌, ◌↔◌, List, IsTrue, IfSome};
 ghost use Rattle.std.specs.Option.{option_map};
 ghost use Rattle.fuse_answer.specs.Entries.{Entry, entry_of, StandsBefore, Lists, IsListing};
-ghost use Rattle.fuse_answer.specs.Front.{front_of, entries_left};
+ghost use Rattle.fuse_answer.specs.FirstEntry.{leading_entry, entries_left};
 
 use crate::dirent::{Dirent, MAX_NAME, packed_len};
 use fuse_wire::{layouts_stand, u32_at, u64_at};
 
 // The entry at the front, and what follows it. `None` where no whole entry stands there.
 fn split_entry(bytes: &[u8]) -> Option<(Dirent<'_>, &[u8])>
-    ensures front { option_map (λ p. (entry_of p.0, p.1.now)) result ≡ front_of bytes.now }
+    ensures front { option_map (λ p. (entry_of p.0, p.1.now)) result ≡ leading_entry bytes.now }
     ensures laid { IfSome result (λ p. StandsBefore (entry_of p.0) p.1.now bytes.now) }
 {
     layouts_stand();
@@ -65,7 +65,7 @@ pub fn unpack(body: &[u8]) -> Dirents<'_>
 impl<'a> Iterator for Dirents<'a> {
     ghost use Rattle.std.specs.Iterator.{YieldsFirstBy, item_count};
     ghost use Rattle.fuse_answer.specs.Entries.{entry_of};
-    ghost use Rattle.fuse_answer.specs.Front.{entries_left};
+    ghost use Rattle.fuse_answer.specs.FirstEntry.{entries_left};
 
     type Item = Dirent<'a>;
 

@@ -15,7 +15,7 @@ use Rattle.std.proofs.lemmas.Str.Parse.{digits_value-take-le}
 use Rattle.fuse_sim.specs.declared.event.Event.{Event}
 use Rattle.fuse_sim.specs.declared.event.Fate.{Fate}
 use Rattle.fuse_sim.specs.declared.event.Fate.TheVariants.{Answered, AnswerLost, DiedBeforeCommit, DiedAfterCommit}
-use Rattle.fuse_commands.specs.Scripts.{lines_of, parts_in, word_of, Lacks, IsSeconds, HasParts, IsHexOf, Writes, Tells, TookLine, IsBad, FirstBad}
+use Rattle.fuse_commands.specs.Scripts.{lines_of, parts_in, word_of, Lacks, IsSeconds, HasParts, IsHexOf, Writes, Describes, TookLine, IsBad, FirstBad}
 
 -- ---- seconds
 
@@ -119,7 +119,7 @@ no_message line text same none e w = none e.bytes (subst (λ x. IsHexOf x e.byte
 
 -- ---- line after line
 
-tells_more : (lines : List (List ℕ)) (line : List ℕ) (old new : List Event) → Tells lines old → TookLine line old new → Tells (lines ++ line ∷ []) new
+tells_more : (lines : List (List ℕ)) (line : List ℕ) (old new : List Event) → Describes lines old → TookLine line old new → Describes (lines ++ line ∷ []) new
 tells_more [] line old new none took = elim took [
   | inl nothing ↦ inl (nothing.0, nothing.1 ∙ none)
   | inr one ↦ inr (one.0, [], one.2 ∙ ap (λ (es : List Event). es ++ one.0 ∷ []) none, one.1, refl)
@@ -138,15 +138,15 @@ tells_more (l ∷ lines) line old new so took = elim so [
   ]
 ]
 
-pub line_taken : (lines : List (List ℕ)) (i : ℕ) (old new : List Event) → i < length lines → Tells (take i lines) old → TookLine (get_or lines i []) old new
-    → Tells (take (i + 1) lines) new
+pub line_taken : (lines : List (List ℕ)) (i : ℕ) (old new : List Event) → i < length lines → Describes (take i lines) old → TookLine (get_or lines i []) old new
+    → Describes (take (i + 1) lines) new
 line_taken lines i old new there so took =
-    subst (λ x. Tells x new) (sym (take_more lines i [] there)) (tells_more (take i lines) (get_or lines i []) old new so took)
+    subst (λ x. Describes x new) (sym (take_more lines i [] there)) (tells_more (take i lines) (get_or lines i []) old new so took)
 
-pub all_taken : (lines : List (List ℕ)) (i : ℕ) (events : List Event) → length lines ≤ i → Tells (take i lines) events → Tells lines events
-all_taken lines i events all so = subst (λ x. Tells x events) (take_all i lines all) so
+pub all_taken : (lines : List (List ℕ)) (i : ℕ) (events : List Event) → length lines ≤ i → Describes (take i lines) events → Describes lines events
+all_taken lines i events all so = subst (λ x. Describes x events) (take_all i lines all) so
 
-bad_behind : (n : ℕ) (lines : List (List ℕ)) (bad : List ℕ) (more : List (List ℕ)) (events : List Event) → Tells lines events → IsBad bad
+bad_behind : (n : ℕ) (lines : List (List ℕ)) (bad : List ℕ) (more : List (List ℕ)) (events : List Event) → Describes lines events → IsBad bad
     → FirstBad n (lines ++ bad ∷ more) (n + length lines)
 bad_behind n [] bad more events so is = inl (is, omega arith)
 bad_behind n (line ∷ lines) bad more events so is =
@@ -159,7 +159,7 @@ bad_behind n (line ∷ lines) bad more events so is =
       | inr one ↦ inr ((λ wrong. wrong.1 one.0 one.3), subst (FirstBad (suc n) (lines ++ bad ∷ more)) next (bad_behind (suc n) lines bad more one.1 one.4 is))
     ]
 
-pub first_bad : (lines : List (List ℕ)) (i : ℕ) (events : List Event) → i < length lines → Tells (take i lines) events → IsBad (get_or lines i [])
+pub first_bad : (lines : List (List ℕ)) (i : ℕ) (events : List Event) → i < length lines → Describes (take i lines) events → IsBad (get_or lines i [])
     → FirstBad 1 lines (i + 1)
 first_bad lines i events there so is =
     let parts : take i lines ++ get_or lines i [] ∷ drop (suc i) lines ≡ lines = ap (λ x. take i lines ++ x) (sym (drop-cons lines i [] there))
@@ -195,11 +195,11 @@ line_at parts i d there = get_or-map (λ (part : Bor (List ℕ)). part.now) part
 in_parts : (parts : List (Bor (List ℕ))) (i : ℕ) → i < length parts → i < length (parts_in parts)
 in_parts parts i there = omega (arith, length-map parts (λ (part : Bor (List ℕ)). part.now))
 
-pub part_taken : (parts : List (Bor (List ℕ))) (i : ℕ) (d : Bor (List ℕ)) (old new : List Event) → i < length parts → Tells (take i (parts_in parts)) old
-    → TookLine (get_or parts i d).now old new → Tells (take (i + 1) (parts_in parts)) new
+pub part_taken : (parts : List (Bor (List ℕ))) (i : ℕ) (d : Bor (List ℕ)) (old new : List Event) → i < length parts → Describes (take i (parts_in parts)) old
+    → TookLine (get_or parts i d).now old new → Describes (take (i + 1) (parts_in parts)) new
 part_taken parts i d old new there so took =
     line_taken (parts_in parts) i old new (in_parts parts i there) so (subst (λ x. TookLine x old new) (sym (line_at parts i d there)) took)
 
-pub part_bad : (parts : List (Bor (List ℕ))) (i : ℕ) (d : Bor (List ℕ)) (events : List Event) → i < length parts → Tells (take i (parts_in parts)) events
+pub part_bad : (parts : List (Bor (List ℕ))) (i : ℕ) (d : Bor (List ℕ)) (events : List Event) → i < length parts → Describes (take i (parts_in parts)) events
     → IsBad (get_or parts i d).now → FirstBad 1 (parts_in parts) (i + 1)
 part_bad parts i d events there so is = first_bad (parts_in parts) i events (in_parts parts i there) so (subst IsBad (sym (line_at parts i d there)) is)

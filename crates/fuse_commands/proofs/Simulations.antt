@@ -12,7 +12,7 @@ use Rattle.fuse_keeper.specs.declared.fault.StoreFault.{StoreFault}
 use Rattle.fuse_keeper.specs.Model.{Model, IsRowed}
 use Rattle.fuse_keeper.specs.History.{History, after}
 use Rattle.fuse_keeper.specs.KeeperState.{KeeperState, StandsFor, KeepsHeld}
-use Rattle.fuse_keeper.specs.KeeperState.{Tells as TellsHeld}
+use Rattle.fuse_keeper.specs.KeeperState.{Reports as TellsHeld}
 use Rattle.fuse_sim.specs.declared.event.Event.{Event}
 use Rattle.fuse_sim.specs.declared.event.Outcome.{Outcome}
 use Rattle.fuse_sim.specs.declared.event.DriveFault.{DriveFault}
@@ -22,7 +22,7 @@ use Rattle.fuse_sim.specs.Driving.{IsStoreFault, told_in, became_in, Opened, dea
 use Rattle.fuse_commands.specs.declared.ending.Ending.{Ending}
 use Rattle.fuse_commands.specs.declared.simulate.Simulation.{Simulation}
 use Rattle.fuse_commands.specs.Endings.{status_of, store_ending}
-use Rattle.fuse_commands.specs.Scripts.{lines_of, Tells}
+use Rattle.fuse_commands.specs.Scripts.{lines_of, Describes}
 use Rattle.fuse_commands.specs.Printing.{line, store_line}
 use Rattle.fuse_commands.specs.Simulating.{outcome_line, outcome_lines, state_after, StandsAfter, Went, AnsweredFault, StoreEnded}
 use Rattle.fuse_commands.specs.Simulating.{StoppedIn, RanScript, Shown}
@@ -46,7 +46,7 @@ all_read (Some xs) (Some ys) input so end = sym (append-nil input) ∙ ap (λ (y
 
 -- ---- running
 
-fit_each : (lines : List (List ℕ)) (events : List Event) → Tells lines events → AllByRecursion IsFit events
+fit_each : (lines : List (List ℕ)) (events : List Event) → Describes lines events → AllByRecursion IsFit events
 fit_each [] events none = subst (AllByRecursion IsFit) (sym none) tt
 fit_each (l ∷ lines) events tells = elim tells [
   | inl nothing ↦ fit_each lines events nothing.1
@@ -54,7 +54,7 @@ fit_each (l ∷ lines) events tells = elim tells [
 ]
 
 -- each event of a script can be run
-pub all_fit : (lines : List (List ℕ)) (events : List Event) → Tells lines events → All IsFit events
+pub all_fit : (lines : List (List ℕ)) (events : List Event) → Describes lines events → All IsFit events
 all_fit lines events tells = All-from_recursion IsFit events (fit_each lines events tells)
 
 -- what a keeper that stands counts
@@ -87,14 +87,14 @@ went {M} told left k k' s events simulation is honest last keeps answers stands 
 pub ran : {M : Model} {K : Type 0} (told : K → KeeperState M) (old new : Option K) (r : Result Simulation Ending) (known : Option (List ℕ))
     (script slice : List ℕ) (items events : List Event)
     → IfOk r (λ simulation. (told_in told new).is_honest → (s : M.State) → StandsIn told old s [] [] → NoneReused [] events → Went told new s events simulation)
-    → IfSome known (λ xs. script ≡ xs) → slice ≡ script → Tells (lines_of slice) items → events ≡ items
+    → IfSome known (λ xs. script ≡ xs) → slice ≡ script → Describes (lines_of slice) items → events ≡ items
     → IfOk r (λ simulation. IfSome known (λ xs. RanScript told old new xs simulation))
 ran told old new (Err ending) known script slice items events went all same tells is = tt
 ran told old new (Ok simulation) None script slice items events went all same tells is = tt
 ran told old new (Ok simulation) (Some xs) script slice items events went all same tells is =
     record {
       events = events;
-      tells = subst (λ x. Tells (lines_of x) events) (same ∙ all) (subst (Tells (lines_of slice)) (sym is) tells);
+      tells = subst (λ x. Describes (lines_of x) events) (same ∙ all) (subst (Describes (lines_of slice)) (sym is) tells);
       went = went;
     }
 
@@ -103,14 +103,14 @@ pub stopped : {M : Model} {K : Type 0} (told : K → KeeperState M) (became : K 
     (r : Result Simulation Ending) (known : Option (List ℕ)) (script slice : List ℕ) (items events : List Event)
     → IfErr r (λ ending. status_of ending ≡ 3 → (s : M.State) → StandsIn told old s [] [] → NoneReused [] events
     → StoreEnded told became may_refuse old new ending)
-    → IfSome known (λ xs. script ≡ xs) → slice ≡ script → Tells (lines_of slice) items → events ≡ items
+    → IfSome known (λ xs. script ≡ xs) → slice ≡ script → Describes (lines_of slice) items → events ≡ items
     → IfErr r (λ ending. IfSome known (λ xs. status_of ending ≡ 3 → StoppedIn told became may_refuse old new xs ending))
 stopped told became may_refuse old new (Ok simulation) known script slice items events ended all same tells is = tt
 stopped told became may_refuse old new (Err ending) None script slice items events ended all same tells is = tt
 stopped told became may_refuse old new (Err ending) (Some xs) script slice items events ended all same tells is = λ three.
     record {
       events = events;
-      tells = subst (λ x. Tells (lines_of x) events) (same ∙ all) (subst (Tells (lines_of slice)) (sym is) tells);
+      tells = subst (λ x. Describes (lines_of x) events) (same ∙ all) (subst (Describes (lines_of slice)) (sym is) tells);
       ended = ended three;
     }
 
@@ -202,7 +202,7 @@ shown {M} told keeper old new s events simulation w printed =
 pub simulated : {M : Model} {K : Type 0} (told : K → KeeperState M) (keeper keeper' : Option K) (known : Option (List ℕ)) (simulation : Simulation)
     (old new : Option (List ℕ)) → IfSome known (λ script. RanScript told keeper keeper' script simulation)
     → Appends old new (outcome_lines (map bytes_given simulation.outcomes.items) ++ line (store_line simulation.counts.nodes simulation.counts.handles))
-    → IfSome known (λ script. 0 ≤ 1 → (events : List Event) × Tells (lines_of script) events
+    → IfSome known (λ script. 0 ≤ 1 → (events : List Event) × Describes (lines_of script) events
     × ((told_in told keeper').is_honest → (s : M.State) → StandsIn told keeper s [] [] → NoneReused [] events → Shown told keeper' old new s events))
 simulated told keeper keeper' None simulation old new ran printed = tt
 simulated told keeper keeper' (Some script) simulation old new ran printed = λ small. (

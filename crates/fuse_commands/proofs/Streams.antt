@@ -26,7 +26,7 @@ use Rattle.fuse_session.specs.declared.counts.SessionCounts.{SessionCounts}
 use Rattle.fuse_session.specs.declared.ended.Ended.{Ended}
 use Rattle.fuse_session.specs.declared.ended.Ended.TheVariants as session
 use Rattle.fuse_session.specs.Port.{PortState, fresh}
-use Rattle.fuse_session.specs.Worked.{Timed, bytes_of, kept_in, answers, answer_by, unique_of, GoesOn, Works, EndsLast, StartsZero, message_id, moments_in}
+use Rattle.fuse_session.specs.Processed.{Timed, bytes_of, kept_in, answers, answer_by, unique_of, GoesOn, Works, EndsLast, StartsZero, message_id, moments_in}
 use Rattle.fuse_session.specs.Settling.{Mark, replies, settles, settled_in, NoneComesAgain, MayCome, Places, PlaceFirst}
 use Rattle.fuse_session.specs.Counting.{counted}
 use Rattle.fuse_session.specs.Serving.{Turned, Whole, Run}
@@ -35,7 +35,7 @@ use Rattle.fuse_commands.specs.declared.ending.Ending.{Ending}
 use Rattle.fuse_commands.specs.declared.ending.Ending.TheVariants.{Done, ZeroUnique}
 use Rattle.fuse_commands.specs.Endings.{session_ending, stream_ending, store_ending, status_of, IsOfStream}
 use Rattle.fuse_commands.specs.Printing.{IsAnswer}
-use Rattle.fuse_commands.specs.Replaying.{EndsAt, EndsFaulty, Replayed, Faulted, StandsForFront, Sends, Prints, PrintsAnswers}
+use Rattle.fuse_commands.specs.Replaying.{EndsAt, EndsFaulty, Replayed, Faulted, StandsForPrefix, Sends, Prints, PrintsAnswers}
 
 -- ---- no answer was told to be awaited by nobody
 
@@ -361,7 +361,7 @@ faulted joins k k' fault moment gave each input sent p clean_honest told life =
           ap (λ (x : List ℕ). t ++ x) (settled_nothing (bytes_of l.worked) life.marks taken) ∙ append-nil t in (
             record {
               worked = l.worked;
-              unworked = l.unworked;
+              unprocessed = l.unprocessed;
               parts = l.parts;
               works = l.works;
               stands = subst (StandsFor k' s g) same (l.stands clean).0;
@@ -407,7 +407,7 @@ session_faulted joins k k' moment gave each input sent q p e ending clean_honest
 
 kept : CutJoins → {M : Model} (k k' : KeeperState M) (store memory : Bool) (may_fault : Type 0) (moment : Moment) (gave : List Moment → Type 0)
     (each : (ts : List Moment) → gave ts → AllByRecursion (λ t. t ≡ moment) ts) (input : List ℕ) (p : PortState) → p.gone ≡ []
-    → Run k k' gave (fresh (Some input) (Some []) false) p [] [] store memory may_fault → StandsForFront k k' moment input
+    → Run k k' gave (fresh (Some input) (Some []) false) p [] [] store memory may_fault → StandsForPrefix k k' moment input
 kept joins k k' store memory may_fault moment gave each input p gone run =
     let b = run.broken in
     let c = came input p.coming run.received run.came in
@@ -425,7 +425,7 @@ kept joins k k' store memory may_fault moment gave each input p gone run =
           ap (λ (x : List ℕ). t ++ x) (settled_nothing (bytes_of l.worked) b.marks taken) ∙ append-nil t in
           record {
             worked = l.worked;
-            unworked = l.unworked;
+            unprocessed = l.unprocessed;
             parts = l.parts;
             works = l.works;
             stands = subst (StandsFor k' s (grown h (kept_in l.worked))) same l.stands;
@@ -435,7 +435,7 @@ kept joins k k' store memory may_fault moment gave each input p gone run =
 
 pub session_kept : CutJoins → {M : Model} (k k' : KeeperState M) (store memory : Bool) (may_fault : Type 0) (moment : Moment) (gave : List Moment → Type 0)
     (each : (ts : List Moment) → gave ts → AllByRecursion (λ t. t ≡ moment) ts) (input : List ℕ) (q p : PortState)
-    → q ≡ fresh (Some input) (Some []) false → p.gone ≡ [] → Run k k' gave q p [] [] store memory may_fault → StandsForFront k k' moment input
+    → q ≡ fresh (Some input) (Some []) false → p.gone ≡ [] → Run k k' gave q p [] [] store memory may_fault → StandsForPrefix k k' moment input
 session_kept joins k k' store memory may_fault moment gave each input q p start gone run =
     kept joins k k' store memory may_fault moment gave each input p gone (subst (λ x. Run k k' gave x p [] [] store memory may_fault) start run)
 
@@ -495,7 +495,7 @@ fault_printed {M} len fits k k' moment input sent ending written written' prints
       let g = grown h (kept_in d.worked) in (
         record {
           worked = d.worked;
-          unworked = d.unworked;
+          unprocessed = d.unprocessed;
           parts = d.parts;
           works = d.works;
           stands = d.stands;

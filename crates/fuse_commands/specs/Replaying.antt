@@ -12,7 +12,7 @@ use Rattle.fuse_keeper.specs.Model.{Model}
 use Rattle.fuse_keeper.specs.History.{History, grown}
 use Rattle.fuse_keeper.specs.KeeperState.{KeeperState, StandsFor}
 use Rattle.fuse_session.specs.declared.counts.SessionCounts.{SessionCounts}
-use Rattle.fuse_session.specs.Worked.{Timed, bytes_of, kept_in, answers, GoesOn, Works, EndsLast, StartsZero, moments_in}
+use Rattle.fuse_session.specs.Processed.{Timed, bytes_of, kept_in, answers, GoesOn, Works, EndsLast, StartsZero, moments_in}
 use Rattle.fuse_session.specs.Settling.{MayCome}
 use Rattle.fuse_session.specs.Counting.{counted}
 use Rattle.fuse_commands.specs.declared.ending.Ending.{Ending}
@@ -55,8 +55,8 @@ pub record Replayed {M : Model} (k k' : KeeperState M) (moment : Moment) (input 
 -- some of these messages were worked off, and this is what their answers gave
 pub record Part (M : Model) (stood : History → Type 0) (s : M.State) (h : History) (timed : List Timed) (Gave : List (List ℕ) → Type 0) : Type 0 where
   pub worked : List Timed
-  pub unworked : List Timed
-  pub parts : timed ≡ worked ++ unworked
+  pub unprocessed : List Timed
+  pub parts : timed ≡ worked ++ unprocessed
   pub works : Works M s h worked
   pub stands : stood (grown h (kept_in worked))
   pub gave : Gave (answers M s (grown h (kept_in worked)) worked)
@@ -75,7 +75,7 @@ pub record Faulted {M : Model} (k k' : KeeperState M) (moment : Moment) (input :
 
 -- however it ended: of the first messages of the input some were worked off, the kept ones at this moment, and where its store is
 -- clean the keeper stands for these
-pub record StandsForFront {M : Model} (k k' : KeeperState M) (moment : Moment) (input : List ℕ) : Type 0 where
+pub record StandsForPrefix {M : Model} (k k' : KeeperState M) (moment : Moment) (input : List ℕ) : Type 0 where
   pub timed : List Timed
   pub others : List (List ℕ)
   pub parts : (cut input).0 ≡ bytes_of timed ++ others

@@ -51,19 +51,19 @@ pub record Writes (line : List ℕ) (e : Event) : Type 0 where
   pub message : IsHexOf text e.bytes
 
 -- an empty line, and a comment, which begins with #
-abbrev pub TellsNothing : List ℕ → Type 0
-TellsNothing [] = Unit {0}
-TellsNothing (b ∷ bs) = b ≡ 35
+abbrev pub DescribesNothing : List ℕ → Type 0
+DescribesNothing [] = Unit {0}
+DescribesNothing (b ∷ bs) = b ≡ 35
 
 -- the events of lines, in order
-abbrev pub Tells : List (List ℕ) → List Event → Type 0
-Tells [] events = events ≡ []
-Tells (line ∷ lines) events =
-    (TellsNothing line × Tells lines events) ⊎ ((e : Event) × (rest : List Event) × (events ≡ e ∷ rest) × Writes line e × Tells lines rest)
+abbrev pub Describes : List (List ℕ) → List Event → Type 0
+Describes [] events = events ≡ []
+Describes (line ∷ lines) events =
+    (DescribesNothing line × Describes lines events) ⊎ ((e : Event) × (rest : List Event) × (events ≡ e ∷ rest) × Writes line e × Describes lines rest)
 
 -- a line of no right form
 abbrev pub IsBad : List ℕ → Type 0
-IsBad line = (¬ TellsNothing line) × ((e : Event) → ¬ Writes line e)
+IsBad line = (¬ DescribesNothing line) × ((e : Event) → ¬ Writes line e)
 
 -- the first bad one of lines that are counted from n
 abbrev pub FirstBad : ℕ → List (List ℕ) → ℕ → Type 0
@@ -72,7 +72,7 @@ FirstBad n (line ∷ lines) bad = (IsBad line × (bad ≡ n)) ⊎ ((¬ IsBad lin
 
 -- a line more was read, behind these events
 abbrev pub TookLine : List ℕ → List Event → List Event → Type 0
-TookLine line old new = (TellsNothing line × (new ≡ old)) ⊎ ((e : Event) × Writes line e × (new ≡ old ++ e ∷ []))
+TookLine line old new = (DescribesNothing line × (new ≡ old)) ⊎ ((e : Event) × Writes line e × (new ≡ old ++ e ∷ []))
 
 abbrev pub parts_in : List (Bor (List ℕ)) → List (List ℕ)
 parts_in parts = map (λ part. part.now) parts

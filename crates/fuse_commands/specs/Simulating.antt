@@ -14,7 +14,7 @@ use Rattle.fuse_commands.specs.declared.ending.Ending.TheVariants.{Done, ScriptL
 use Rattle.fuse_commands.specs.declared.simulate.Simulation.{Simulation}
 use Rattle.fuse_commands.specs.Endings.{store_ending}
 use Rattle.fuse_commands.specs.Printing.{line, store_line}
-use Rattle.fuse_commands.specs.Scripts.{lines_of, Tells, FirstBad}
+use Rattle.fuse_commands.specs.Scripts.{lines_of, Describes, FirstBad}
 
 -- an answer in hexadecimal, or - where the kernel takes none
 abbrev pub outcome_line : Option (List ℕ) → List ℕ
@@ -52,7 +52,7 @@ simulation_text M s events =
 -- the events that a script tells were run to their end, where no message comes again whose answer was taken
 pub record RanScript {M : Model} {K : Type 0} (told : K → KeeperState M) (old new : Option K) (script : List ℕ) (simulation : Simulation) : Type 0 where
   pub events : List Event
-  pub tells : Tells (lines_of script) events
+  pub tells : Describes (lines_of script) events
   pub went : (told_in told new).is_honest → (s : M.State) → StandsIn told old s [] [] → NoneReused [] events → Went told new s events simulation
 
 -- a keeper that the first one became answered a fault, and is what is left
@@ -76,7 +76,7 @@ StoreEnded told became may_refuse old (Some k') ending = (told k').is_clean → 
 pub record StoppedIn {M : Model} {K : Type 0} (told : K → KeeperState M) (became : K → K → ℕ → Type 0) (may_refuse : K → StoreFault → Type 0)
     (old new : Option K) (script : List ℕ) (ending : Ending) : Type 0 where
   pub events : List Event
-  pub tells : Tells (lines_of script) events
+  pub tells : Describes (lines_of script) events
   pub ended : (s : M.State) → StandsIn told old s [] [] → NoneReused [] events → StoreEnded told became may_refuse old new ending
 
 -- why a script wasn't run: its first bad line
@@ -94,14 +94,14 @@ pub record Shown {M : Model} {K : Type 0} (told : K → KeeperState M) (keeper :
 -- taken, and this is printed of them; or its first bad line is told, nothing was done, and nothing is printed
 abbrev pub Simulated : {M : Model} {K : Type 0} → (K → KeeperState M) → Option K → Option K → Option (List ℕ) → Option (List ℕ) → List ℕ → Ending → Type 0
 Simulated {M} told keeper keeper' old new script Done =
-    (events : List Event) × Tells (lines_of script) events
+    (events : List Event) × Describes (lines_of script) events
     × ((told_in told keeper').is_honest → (s : M.State) → StandsIn told keeper s [] [] → NoneReused [] events → Shown told keeper' old new s events)
 Simulated told keeper keeper' old new script ending = NotRun script ending × (keeper' ≡ keeper) × (new ≡ old)
 
 -- the same of events that begin at a start, whatever ran them
 abbrev pub SimulatedFrom : (M : Model) → M.State → Option (List ℕ) → Option (List ℕ) → List ℕ → Ending → Type 0
 SimulatedFrom M s old new script Done =
-    (events : List Event) × Tells (lines_of script) events × (NoneReused [] events → Appends old new (simulation_text M s events))
+    (events : List Event) × Describes (lines_of script) events × (NoneReused [] events → Appends old new (simulation_text M s events))
 SimulatedFrom M s old new script ending = NotRun script ending × (new ≡ old)
 
 -- what is said of any keeper, of one that stands for a start and gave back what was written

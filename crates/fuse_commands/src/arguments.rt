@@ -204,7 +204,7 @@ fn look_command<'a>(
 }
 
 fn store_command<'a>(alloc: Global) -> Result<Command<'a>, AllocError> {
-    let about = "Tells what a store holds, without a mount";
+    let about = "Reports what a store holds, without a mount";
     look_command(
         alloc,
         STORE,

@@ -73,7 +73,7 @@ impl<R: Read, T: Clock + Eprint> ProgressReader<R, T> {
         }
     }
 
-    // Tells how much was read, where a second began since that was told.
+    // Reports how much was read, where a second began since that was told.
     fn tell(&mut self)
         ensures reader { self.new.reader ≡ self.old.reader }
         ensures line { self.new.line ≡ self.old.line }

@@ -4,7 +4,7 @@ ghost use Rattle.std.specs.List.{AllByRecursion};
 ghost use Rattle.fuse_request.specs.Stream.{joined};
 ghost use Rattle.fuse_commands.specs.Endings.{status_of, IsOfStream};
 ghost use Rattle.fuse_commands.specs.Printing.{IsAnswer};
-ghost use Rattle.fuse_commands.specs.Replaying.{Replayed, Faulted, StandsForFront, Sends, Prints};
+ghost use Rattle.fuse_commands.specs.Replaying.{Replayed, Faulted, StandsForPrefix, Sends, Prints};
 ghost use Rattle.fuse_commands.specs.Replaying.{PrintsAnswers};
 
 use crate::ending::Ending;
@@ -53,7 +53,7 @@ fn serve_stream<K: Keeper, R: Read>(
         → Faulted (K.told keeper.old) (K.told keeper.new) moment input result.ending
         (λ answers. result.sent.items ≡ joined answers) }
     ensures kept { (input : List ℕ) → R.remaining reader.old ≡ Some input
-        → StandsForFront (K.told keeper.old) (K.told keeper.new) moment input }
+        → StandsForPrefix (K.told keeper.old) (K.told keeper.new) moment input }
     ensures store { status_of result.ending ≡ 3 → (K.told keeper.new).has_failed ≡ true }
     ensures failed { (K.told keeper.new).has_failed ≡ true → 3 ≤ status_of result.ending }
     ensures usage { status_of result.ending ≢ 2 }
@@ -110,7 +110,7 @@ pub fn run_replay<K: Keeper, R: Read + Drop, W: Write>(
         (PrintsAnswers (W.contents writer.old) (W.contents writer.new)) }
     // However it ends, the keeper stands for messages that were worked off.
     ensures kept { (input : List ℕ) → R.remaining reader ≡ Some input
-        → StandsForFront (K.told keeper.old) (K.told keeper.new) moment input }
+        → StandsForPrefix (K.told keeper.old) (K.told keeper.new) moment input }
     ensures store { status_of result ≡ 3 → (K.told keeper.new).has_failed ≡ true }
     ensures failed { (K.told keeper.new).has_failed ≡ true → 3 ≤ status_of result }
     ensures usage { status_of result ≢ 2 }

@@ -6,7 +6,7 @@ ghost use Rattle.std.specs.Char.{digit_value};
 ghost use Rattle.fuse_sim.specs.declared.event.Event.{Event as EventValue};
 ghost use Rattle.fuse_sim.specs.declared.event.Fate.{Fate as FateValue};
 ghost use Rattle.fuse_commands.specs.Scripts.{lines_of, parts_in, word_of, Lacks, IsSeconds};
-ghost use Rattle.fuse_commands.specs.Scripts.{HasParts, IsHexOf, Writes, TellsNothing, Tells};
+ghost use Rattle.fuse_commands.specs.Scripts.{HasParts, IsHexOf, Writes, DescribesNothing, Describes};
 ghost use Rattle.fuse_commands.specs.Scripts.{TookLine, IsBad, FirstBad};
 
 use crate::ending::Ending;
@@ -130,7 +130,7 @@ fn event_of(alloc: Global, line: &[u8]) -> Result<Event, LineFault>
 
 // Whether a line is passed over.
 fn tells_nothing(line: &[u8]) -> bool
-    ensures { IsTrue result ↔ TellsNothing line.now }
+    ensures { IsTrue result ↔ DescribesNothing line.now }
 {
     match line {
         [] => true,
@@ -140,7 +140,7 @@ fn tells_nothing(line: &[u8]) -> bool
 
 // The event that a line writes, where it isn't passed over.
 fn read_line(alloc: Global, line: &[u8]) -> Result<Option<Event>, LineFault>
-    ensures found { IfOk result (λ event. MatchOption event (TellsNothing line.now)
+    ensures found { IfOk result (λ event. MatchOption event (DescribesNothing line.now)
         (λ e. Writes line.now e)) }
     ensures form { IfErr result (λ fault. fault ≡ LineFault.Form → IsBad line.now) }
 {
@@ -178,7 +178,7 @@ fn split_lines(alloc: Global, script: &[u8]) -> Result<Vec<&[u8]>, AllocError>
 /// The events that the lines of a script tell. An `Err` is its first line of no right form, or want
 /// of memory.
 pub(crate) fn read_script(alloc: Global, script: &[u8]) -> Result<Vec<Event>, Ending>
-    ensures found { IfOk result (λ events. Tells (lines_of script.now) events.items) }
+    ensures found { IfOk result (λ events. Describes (lines_of script.now) events.items) }
     ensures bad { IfErr result (λ ending. (ending ≡ Ending.Memory)
         ⊎ ((n : ℕ) × (ending ≡ Ending.ScriptLine n) × FirstBad 1 (lines_of script.now) n)) }
 {

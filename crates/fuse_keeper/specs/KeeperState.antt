@@ -80,8 +80,8 @@ pub record Looked {M : Model} {A : Type 0} (old new : KeeperState M) (result : R
   pub crash : (x : M.Rows) (r : Records) → WhereHeld old (new.may_leave x r → old.may_leave x r)
 
 -- what is held, and known to be of a good state, tells this where the store gave back what was written
-abbrev pub Tells : {M : Model} → KeeperState M → KeeperState M → (M.Rows → Records → Type 0) → Type 0
-Tells old new P = new.is_honest → OfHeld old P
+abbrev pub Reports : {M : Model} → KeeperState M → KeeperState M → (M.Rows → Records → Type 0) → Type 0
+Reports old new P = new.is_honest → OfHeld old P
 
 -- a group is performed, whatever it stands for, where `t` are ids settled before and in this call
 abbrev pub Performs : {M : Model} → KeeperState M → KeeperState M → List ℕ → List Entry → List Done → Type 0
@@ -97,11 +97,11 @@ pub record HoldsOthers {M : Model} (k : KeeperState M) (before : Records) (settl
   pub others : OthersStay before settled group records
 
 abbrev pub KeepsOthers : {M : Model} → KeeperState M → KeeperState M → List ℕ → List Entry → Type 0
-KeepsOthers old new settled group = Tells old new (λ rows records. HoldsOthers new records settled group)
+KeepsOthers old new settled group = Reports old new (λ rows records. HoldsOthers new records settled group)
 
 -- which lot the records of a group go under
 abbrev pub KeepsLots : {M : Model} → KeeperState M → KeeperState M → List ℕ → List Entry → Type 0
-KeepsLots old new settled group = Tells old new (λ rows records. RecordsUnder old.lots new.lots records settled group)
+KeepsLots old new settled group = Reports old new (λ rows records. RecordsUnder old.lots new.lots records settled group)
 
 -- a crash leaves the group out or in
 abbrev pub LeavesGroup : {M : Model} → KeeperState M → KeeperState M → List ℕ → List Entry → Type 0

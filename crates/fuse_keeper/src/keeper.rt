@@ -1,7 +1,7 @@
 ghost use Rattle.std.specs.Prelude.{◌≡◌, ◌≤◌, ℕ, length, All, IfOk, OnOk};
 ghost use Rattle.fuse_keeper.specs.Model.{Model, IsSoundModel};
 ghost use Rattle.fuse_keeper.specs.Stands.{Records, CountsRecords};
-ghost use Rattle.fuse_keeper.specs.KeeperState.{KeeperState, IsSound, IsFirm, IsCount, Tells};
+ghost use Rattle.fuse_keeper.specs.KeeperState.{KeeperState, IsSound, IsFirm, IsCount, Reports};
 ghost use Rattle.fuse_keeper.specs.KeeperState.{AnswersNoMore, Called, Looked, Performs};
 ghost use Rattle.fuse_keeper.specs.KeeperState.{KeepsOthers, KeepsLots, LeavesGroup};
 ghost use Rattle.fuse_keeper.specs.KeeperState.{BeginsMount, DropsLots, LeavesMount};
@@ -98,20 +98,20 @@ pub trait Keeper: Drop {
     /// What was agreed on by INIT in this mount.
     fn settings(&mut self) -> Result<Option<Settings>, StoreFault>
         ensures looked { Looked (told self.old) (told self.new) result }
-        ensures ok { IfOk result (λ settings. Tells (told self.old) (told self.new)
+        ensures ok { IfOk result (λ settings. Reports (told self.old) (told self.new)
             (λ rows records. settings ≡ model.settings rows)) }
         ensures same { became self.old self.new 0 };
 
     /// How much it holds.
     fn counts(&mut self) -> Result<StoreCounts, StoreFault>
         ensures looked { Looked (told self.old) (told self.new) result }
-        ensures nodes { IfOk result (λ counts. Tells (told self.old) (told self.new)
+        ensures nodes { IfOk result (λ counts. Reports (told self.old) (told self.new)
             (λ rows records. counts.nodes ≡ model.nodes rows)) }
-        ensures handles { IfOk result (λ counts. Tells (told self.old) (told self.new)
+        ensures handles { IfOk result (λ counts. Reports (told self.old) (told self.new)
             (λ rows records. counts.handles ≡ model.handles rows)) }
-        ensures records { IfOk result (λ counts. Tells (told self.old) (told self.new)
+        ensures records { IfOk result (λ counts. Reports (told self.old) (told self.new)
             (λ rows records. CountsRecords records counts.records)) }
-        ensures lots { IfOk result (λ counts. Tells (told self.old) (told self.new)
+        ensures lots { IfOk result (λ counts. Reports (told self.old) (told self.new)
             (λ rows records. counts.lots ≡ length (told self.old).lots.numbers)) }
         ensures same { became self.old self.new 0 };
 

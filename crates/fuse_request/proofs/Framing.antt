@@ -10,7 +10,7 @@ use Rattle.fuse_request.specs.declared.framer.FrameFault.{FrameFault}
 use Rattle.fuse_request.specs.declared.framer.FrameFault.TheVariants.{Short, TooLong, Cut, Memory}
 use Rattle.fuse_request.specs.Stream.{is_whole, cut, IsMessage}
 use Rattle.fuse_request.specs.Framing.{Held, bad_length, Gives, HasNone, GivesNext, end_fault, ends}
-use Rattle.fuse_request.proofs.Streams.{front_of, first_message, cut_steps}
+use Rattle.fuse_request.proofs.Streams.{leading_message, first_message, cut_steps}
 
 -- n is the length of the message at the front, where that is whole
 abbrev pub IsFront : Option ℕ → List ℕ → Type 0
@@ -33,7 +33,7 @@ pub record Passed (n : ℕ) (w : List ℕ) : Type 0 where
 pub pass : NumbersRead → (n : ℕ) (w : List ℕ) → IsFront (Some n) w → Passed n w
 pass laws n w e =
     let p = front_by (is_whole w) n (number_of 4 w) e in
-    let f = front_of w p.0 in
+    let f = leading_message w p.0 in
     let low = f.low in
     let there = f.there in
     let size : n ≡ number_of 4 w = p.1 in
@@ -75,7 +75,7 @@ only_false false h = refl
 bad_none : NumbersRead → (at : ℕ) (w : List ℕ) (f : FrameFault) → bad_length at w ≡ Some f → HasNone w
 bad_none laws at w f e =
     (cut_steps laws w).1 (only_false (is_whole w) (λ whole. (
-    let front = front_of w whole in
+    let front = leading_message w whole in
     let low = front.low in
     let high = front.high in
     elim (bad at w f e) [ inl p ↦ omega (arith, p.0) | inr p ↦ omega (arith, p.0) ])))
@@ -98,7 +98,7 @@ pub gives_first : NumbersRead → (old new : Held) (n : ℕ) (m : List ℕ) → 
     → new ≡ record old { bytes = drop n old.bytes; at = old.at + n } → Gives old new m
 gives_first laws old new n m e front same =
     let p = front_by (is_whole old.bytes) n (number_of 4 old.bytes) e in
-    let f = front_of old.bytes p.0 in
+    let f = leading_message old.bytes p.0 in
     let there = f.there in
     let size : n ≡ number_of 4 old.bytes = p.1 in
     let m_is : take (number_of 4 old.bytes) old.bytes ≡ m = sym (front ∙ ap (λ (k : ℕ). take k old.bytes) size) in

@@ -20,8 +20,8 @@ pub record Front (w : List ℕ) : Type 0 where
   pub high : number_of 4 w ≤ 135168
   pub there : number_of 4 w ≤ length w
 
-pub front_of : (w : List ℕ) → is_whole w ≡ true → Front w
-front_of w e =
+pub leading_message : (w : List ℕ) → is_whole w ≡ true → Front w
+leading_message w e =
     let a = and_true (leb 4 (length w)) _ e in
     let b = and_true (leb 40 (number_of 4 w)) _ a.1 in
     let c = and_true (leb (number_of 4 w) 135168) _ b.1 in
@@ -43,7 +43,7 @@ at_front laws m rest h =
 pub first_message : NumbersRead → (w : List ℕ) → is_whole w ≡ true → IsMessage (take (number_of 4 w) w)
 first_message laws w e =
     let k : ℕ = number_of 4 w in
-    let f = front_of w e in
+    let f = leading_message w e in
     let there : k ≤ length w = f.there in
     let low : 40 ≤ k = f.low in
     let high : k ≤ 135168 = f.high in
@@ -76,7 +76,7 @@ cut_by_cuts : NumbersRead → (n : ℕ) (w : List ℕ) → length w ≤ n → Cu
 cut_by_cuts laws zero w h = record { whole = refl; each = tt; stuck = short_stuck w h }
 cut_by_cuts laws (suc n) w h =
     case_cuts laws w (is_whole w) (cut_by n (drop (number_of 4 w) w)) refl (λ e.
-    let f = front_of w e in
+    let f = leading_message w e in
     let less : length (drop (number_of 4 w) w) ≤ n = omega (arith, length-drop (number_of 4 w) w, f.low, f.there) in
     cut_by_cuts laws n (drop (number_of 4 w) w) less)
 

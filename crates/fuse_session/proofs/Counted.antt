@@ -10,7 +10,7 @@ use Rattle.fuse_keeper.specs.declared.keeper.Done.{Done}
 use Rattle.fuse_keeper.specs.History.{Entry, entry_id, History, has, grown, repeats}
 use Rattle.fuse_session.proofs.Standing.{grown-append}
 use Rattle.fuse_session.specs.declared.counts.SessionCounts.{SessionCounts}
-use Rattle.fuse_session.specs.Worked.{Timed, bytes_of, kept_in, entries_at, entry_if, timed_entry}
+use Rattle.fuse_session.specs.Processed.{Timed, bytes_of, kept_in, entries_at, entry_if, timed_entry}
 use Rattle.fuse_session.specs.Counting.{plus, none_counted, counted_one, counted, one_if, is_interrupt, IsBelow}
 use Rattle.fuse_session.specs.Group.{tallied, head_repeat, left_by, repeats_in, classes_in}
 

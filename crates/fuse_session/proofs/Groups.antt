@@ -22,7 +22,7 @@ use Rattle.fuse_session.specs.declared.group.Rest.TheVariants.{ZeroUnique}
 use Rattle.fuse_session.specs.declared.sending.SendFault.{SendFault}
 use Rattle.fuse_session.specs.declared.sending.SendFault.TheVariants.{Memory}
 use Rattle.fuse_session.specs.Port.{PortState}
-use Rattle.fuse_session.specs.Worked.{Timed, bytes_of, kept_in, entry_if, timed_entry, answers, Works, StartsZero}
+use Rattle.fuse_session.specs.Processed.{Timed, bytes_of, kept_in, entry_if, timed_entry, answers, Works, StartsZero}
 use Rattle.fuse_session.specs.Settling.{Mark, replies, settled_in, NoneComesAgain, Replied, BeginsNext, FewHave}
 use Rattle.fuse_session.specs.Group.{Gathers, IsStuck, answers_in, repeats_in, wires, left_by, told, tallied, rest_by, last_zero, AreEnough, SentAll, SentSome}
 use Rattle.fuse_session.specs.Serving.{Turned, Lived, Exact, Broken, lasts}
@@ -67,7 +67,7 @@ pub lived_none : (M : Model) → (stood : History → List ℕ → Type 0) (s : 
     → Lived M stood s h c t timed [] []
 lived_none M stood s h c t timed so = record {
   worked = [];
-  unworked = timed;
+  unprocessed = timed;
   parts = refl;
   works = tt;
   stands = subst (stood h) (sym (append-nil t)) so;
@@ -86,7 +86,7 @@ pub lived_all : (M : Model) → (stood : History → List ℕ → Type 0) (s : M
     → Lived M stood s h c t timed marks part
 lived_all M stood s h c t timed marks part unsent later works so sent begun next = record {
   worked = timed;
-  unworked = [];
+  unprocessed = [];
   parts = sym (append-nil timed);
   works = works;
   stands = so;
@@ -102,7 +102,7 @@ pub exact_none : (M : Model) → (stood : History → List ℕ → Type 0) (s : 
     → Exact M stood s h c t timed []
 exact_none M stood s h c t timed so = record {
   worked = [];
-  unworked = timed;
+  unprocessed = timed;
   parts = refl;
   works = tt;
   stands = subst (stood h) (sym (append-nil t)) so;
@@ -115,7 +115,7 @@ pub exact_all : (M : Model) → (stood : History → List ℕ → Type 0) (s : M
     → replies marks ≡ answers M s (grown h (kept_in timed)) timed → Exact M stood s h c t timed marks
 exact_all M stood s h c t timed marks works so sent = record {
   worked = timed;
-  unworked = [];
+  unprocessed = [];
   parts = sym (append-nil timed);
   works = works;
   stands = so;
@@ -245,7 +245,7 @@ broken_sent M grows holds holds' gave p q pending mid messages count taken ends 
           ∙ sym (sent_are M grows holds' s h t (entries_of group) ts front dones d es bytes) ∙ some.whole) in
           record {
             worked = f.first;
-            unworked = f.others;
+            unprocessed = f.others;
             parts = f.parts;
             works = f.works;
             stands = λ is clean. absurd (cc (is, inexact));

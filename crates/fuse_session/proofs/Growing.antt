@@ -17,7 +17,7 @@ use Rattle.fuse_session.specs.Port.{PortState, IsQuiet}
 use Rattle.fuse_session.specs.Settling.{Replied}
 use Rattle.fuse_session.specs.Counting.{plus, none_counted}
 use Rattle.fuse_session.specs.Receiving.{IsHearing, Heard}
-use Rattle.fuse_session.specs.Serving.{Turned, Broken, WorkedOff, Whole, Stopped, Run, lasts, goes_on}
+use Rattle.fuse_session.specs.Serving.{Turned, Broken, ProcessedAll, Whole, Stopped, Run, lasts, goes_on}
 use Rattle.fuse_session.proofs.Bytes.{appends_none, consumes_none, consumes_more}
 use Rattle.fuse_session.proofs.Replies.{joined-append}
 use Rattle.fuse_session.proofs.Counted.{none_plus}
@@ -165,7 +165,7 @@ pub whole_heard : (M : Model) → HistoriesGrow M → (holds new : KeeperState M
     → (gave : List Moment → Type 0) (p q r : PortState) (ids ids' : List ℕ) (before after : Held) (messages slice : List (List ℕ)) (fault : Option FrameFault)
     (begin place : ℕ) (rest : Rest) (counts : SessionCounts)
     → Heard p q before after messages fault → IsHearing p q → slice ≡ messages → rest ≡ GoesOnHere
-    → WorkedOff holds new gave q r ids ids' slice rest begin place counts → IsQuiet q r
+    → ProcessedAll holds new gave q r ids ids' slice rest begin place counts → IsQuiet q r
     → Whole holds new gave p r ids ids' before.bytes after.bytes before.at after.at counts
 whole_heard M grows holds new honest gave p q r ids ids' before after messages slice fault begin place rest counts h hearing same goes w quiet =
     let msgs : (cut (before.bytes ++ h.received)).0 ≡ messages = ap (λ (x : List (List ℕ) × List ℕ). x.0) h.took.cut_is in
@@ -184,7 +184,7 @@ pub stopped_heard : (M : Model) → HistoriesGrow M → (holds new : KeeperState
     → (gave : List Moment → Type 0) (p q r : PortState) (ids ids' : List ℕ) (before after : Held) (messages slice : List (List ℕ)) (fault : Option FrameFault)
     (begin place : ℕ) (rest kind : Rest) (counts : SessionCounts)
     → Heard p q before after messages fault → IsHearing p q → slice ≡ messages → rest ≡ kind → begin ≡ before.at
-    → WorkedOff holds new gave q r ids ids' slice rest begin place counts → IsQuiet q r
+    → ProcessedAll holds new gave q r ids ids' slice rest begin place counts → IsQuiet q r
     → Stopped holds new gave p r ids ids' before.bytes kind before.at place counts
 stopped_heard M grows holds new honest gave p q r ids ids' before after messages slice fault begin place rest kind counts h hearing same kind_is begin_is w
     quiet =

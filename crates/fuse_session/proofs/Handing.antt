@@ -12,7 +12,7 @@ use Rattle.fuse_keeper.specs.declared.keeper.Done.{Done}
 use Rattle.fuse_keeper.specs.KeeperState.{KeeperState, KeepsHeld, OfHeld, HoldsOthers, Performs, LeavesGroup}
 use Rattle.fuse_keeper.specs.Group.{entries_of, handed_to, left_pending}
 use Rattle.fuse_session.specs.Port.{PortState}
-use Rattle.fuse_session.specs.Worked.{Timed, bytes_of, kept_in}
+use Rattle.fuse_session.specs.Processed.{Timed, bytes_of, kept_in}
 use Rattle.fuse_session.specs.Settling.{Mark, settled_in, SomeAndMore, AtMostMore, FewHave}
 use Rattle.fuse_session.specs.Moves.{HandsOn}
 use Rattle.fuse_session.specs.Group.{Gathers, SentAll}

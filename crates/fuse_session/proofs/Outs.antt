@@ -7,8 +7,8 @@ use Rattle.fuse_request.specs.Classes.{class_of}
 use Rattle.fuse_keeper.specs.Model.{Model}
 use Rattle.fuse_keeper.specs.History.{Entry, entry_id, History, has, add, said, grown, HistoriesGrow}
 use Rattle.fuse_session.proofs.Standing.{grown-append}
-use Rattle.fuse_session.specs.Worked.{Timed, bytes_of, kept_in, entries_at, entry_if, timed_entry, message_id, unique_of, answered, answers, answer_by, GoesOn}
-use Rattle.fuse_session.specs.Worked.{Works}
+use Rattle.fuse_session.specs.Processed.{Timed, bytes_of, kept_in, entries_at, entry_if, timed_entry, message_id, unique_of, answered, answers, answer_by, GoesOn}
+use Rattle.fuse_session.specs.Processed.{Works}
 use Rattle.fuse_session.specs.Settling.{Mark, replies}
 use Rattle.fuse_session.specs.Group.{head_wire, left_by, wires, told}
 

@@ -14,7 +14,7 @@ use Rattle.fuse_keeper.specs.declared.keeper.Done.{Done}
 use Rattle.fuse_session.specs.declared.sending.SendFault.{SendFault}
 use Rattle.fuse_session.specs.declared.sending.SendFault.TheVariants.{Memory, PortFailed}
 use Rattle.fuse_session.specs.Port.{PortState, IsYoung, IsQuiet, SentWhole}
-use Rattle.fuse_session.specs.Worked.{unique_of, message_id}
+use Rattle.fuse_session.specs.Processed.{unique_of, message_id}
 use Rattle.fuse_session.specs.Settling.{replies, settles, settles_if, settled_in, Replied, BeginsNext}
 use Rattle.fuse_session.specs.Group.{answers_in, head_wire, left_by, wires, AreEnough, SendFails, SentNext, SentFirst, SentAll, SentSome}
 use Rattle.fuse_session.proofs.Bytes.{appends_none, quiet_none, quiet_more}

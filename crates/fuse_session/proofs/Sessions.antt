@@ -19,12 +19,12 @@ use Rattle.fuse_session.specs.declared.group.Rest.TheVariants.{Destroyed as ByDe
 use Rattle.fuse_session.specs.declared.group.Stop.{Stop}
 use Rattle.fuse_session.specs.declared.group.Stop.TheVariants.{PortFailed as ByPort, Store as ByStore, Memory as ByMemory}
 use Rattle.fuse_session.specs.Port.{PortState, IsQuiet}
-use Rattle.fuse_session.specs.Worked.{Timed, bytes_of}
+use Rattle.fuse_session.specs.Processed.{Timed, bytes_of}
 use Rattle.fuse_session.specs.Settling.{Mark, settled_in, Replied, FewRecorded}
 use Rattle.fuse_session.specs.Counting.{plus, none_counted}
 use Rattle.fuse_session.specs.Moves.{FailedBy}
 use Rattle.fuse_session.specs.Receiving.{IsOpen, IsHearing, Heard, NotHeard}
-use Rattle.fuse_session.specs.Serving.{Turned, Lived, WorkedOff, Whole, Run, FewSettled, MayStop, lasts}
+use Rattle.fuse_session.specs.Serving.{Turned, Lived, ProcessedAll, Whole, Run, FewSettled, MayStop, lasts}
 use Rattle.fuse_session.specs.Ends.{Rested, Halted, EndsAs, IsGoodRest, FaultOf, ended_store, ended_memory, ended_port, SentExactly, ExactAt, MayEnd}
 use Rattle.fuse_session.specs.Finishing.{FinishedBy, IsFault, ended_at}
 use Rattle.fuse_session.proofs.Bytes.{consumes_none}
@@ -175,7 +175,7 @@ ends_more M grows joins holds mid new gave gave' gave'' p q r ids ids' held left
 pub life_worked : (M : Model) → HistoriesGrow M → (holds new : KeeperState M) → (new.is_honest → holds.is_honest)
     → (gave : List Moment → Type 0) (p q r : PortState) (ids ids' : List ℕ) (before after : Held) (messages slice : List (List ℕ))
     (fault : Option FrameFault) (begin place : ℕ) (rest : Rest) (counts : SessionCounts) (exact want : Bool) (faulted : Type 0) → exact ≡ false
-    → Heard p q before after messages fault → IsHearing p q → slice ≡ messages → WorkedOff holds new gave q r ids ids' slice rest begin place counts
+    → Heard p q before after messages fault → IsHearing p q → slice ≡ messages → ProcessedAll holds new gave q r ids ids' slice rest begin place counts
     → IsQuiet q r → (new.is_clean → new.is_honest) → (new.is_honest → IsFirm holds → IsFirm new)
     → Run holds new gave p r ids before.bytes exact want faulted
 life_worked M grows holds new honest gave p q r ids ids' before after messages slice fault begin place rest counts exact want faulted inexact h hearing same w
@@ -189,7 +189,7 @@ pub ends_finished : (M : Model) → HistoriesGrow M → (holds new : KeeperState
     (begin place : ℕ) (rest : Rest)
     (counts counts' : SessionCounts) (turns : ℕ) (e : Ended) → FinishedBy e rest place fault → counts' ≡ counts
     → Heard p q before after messages fault → IsHearing p q → slice ≡ messages → begin ≡ before.at
-    → WorkedOff holds new gave q r ids ids' slice rest begin place counts → IsQuiet q r
+    → ProcessedAll holds new gave q r ids ids' slice rest begin place counts → IsQuiet q r
     → EndsAs holds new gave p r ids before.bytes before.at turns e counts'
 ends_finished M grows holds new honest gave p q r ids ids' before after messages slice fault begin place rest counts counts' turns Destroyed by same_counts h
     hearing same begin_is w quiet =
@@ -366,7 +366,7 @@ exact_life M holds new gave p q ids held store memory faulted stood how f l =
       replied = subst (Replied p q b.marks) (b.no_part how) b.replied;
       exactly = λ is s h t so within again.
           let e = b.exactly how is s h t so within again in
-          record { worked = e.worked; unworked = e.unworked; parts = e.parts; works = e.works; stands = f s _ _ e.stands; sent = e.sent };
+          record { worked = e.worked; unprocessed = e.unprocessed; parts = e.parts; works = e.works; stands = f s _ _ e.stands; sent = e.sent };
     }
 
 pub exact_at : (M : Model) → (holds new : KeeperState M) (gave : List Moment → Type 0) (p q : PortState) (ids held : List ℕ) (e : Ended)
@@ -390,7 +390,7 @@ pub lived_map : (M : Model) → (stood stood' : History → List ℕ → Type 0)
     → Lived M stood s h c t timed marks part → Lived M stood' s h c t timed marks part
 lived_map M stood stood' s h c t timed marks part f l = record {
   worked = l.worked;
-  unworked = l.unworked;
+  unprocessed = l.unprocessed;
   parts = l.parts;
   works = l.works;
   stands = f _ _ l.stands;

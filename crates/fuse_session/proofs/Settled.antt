@@ -9,7 +9,7 @@ use Rattle.fuse_request.specs.declared.class.Class.TheVariants.{Silent, Bare, Ke
 use Rattle.fuse_request.specs.Classes.{class_of}
 use Rattle.fuse_keeper.specs.History.{Entry, entry_id, is_in, ids_in, Includes, IsUnsettled}
 use Rattle.fuse_session.proofs.Standing.{unsettled_too}
-use Rattle.fuse_session.specs.Worked.{Timed, bytes_of, kept_in, entries_at, entry_if, timed_entry, message_id}
+use Rattle.fuse_session.specs.Processed.{Timed, bytes_of, kept_in, entries_at, entry_if, timed_entry, message_id}
 use Rattle.fuse_session.specs.Settling.{Mark, settles, settles_if, settled_in, comes_again, NoneComesAgain}
 
 or_true : (a b : Bool) → b ≡ true → (a || b) ≡ true

@@ -13,10 +13,10 @@ use Rattle.fuse_session.specs.declared.counts.SessionCounts.{SessionCounts}
 use Rattle.fuse_session.specs.declared.group.Rest.{Rest}
 use Rattle.fuse_session.specs.declared.group.Rest.TheVariants.{GoesOn as GoesOnHere, Destroyed, ZeroUnique}
 use Rattle.fuse_session.specs.Port.{PortState}
-use Rattle.fuse_session.specs.Worked.{Timed, bytes_of, kept_in, answers, says_zero, message_id, StartsZero, GoesOn}
+use Rattle.fuse_session.specs.Processed.{Timed, bytes_of, kept_in, answers, says_zero, message_id, StartsZero, GoesOn}
 use Rattle.fuse_session.specs.Settling.{Mark, replies, settled_in, NoneComesAgain, Replied, FewHave}
 use Rattle.fuse_session.specs.Counting.{plus, none_counted, counted}
-use Rattle.fuse_session.specs.Serving.{Turned, Lived, Exact, Broken, WorkedOff, lasts, goes_on}
+use Rattle.fuse_session.specs.Serving.{Turned, Lived, Exact, Broken, ProcessedAll, lasts, goes_on}
 use Rattle.fuse_session.proofs.Replies.{replied_none, replied_more, joined-append, replies-append}
 use Rattle.fuse_session.proofs.Outs.{answers-append, grown_kept, Works-append, GoesOn-append}
 use Rattle.fuse_session.proofs.Settled.{settled-append, again-parts}
@@ -131,8 +131,8 @@ lived_more M grows stood s h c c' t xs ys ms ns part same full goes sent l =
     let g = grown h (kept_in xs) in
     record {
       worked = xs ++ l.worked;
-      unworked = l.unworked;
-      parts = ap (λ f. xs ++ f) l.parts ∙ sym (append_assoc xs l.worked l.unworked);
+      unprocessed = l.unprocessed;
+      parts = ap (λ f. xs ++ f) l.parts ∙ sym (append_assoc xs l.worked l.unprocessed);
       works = Works-append M s h xs l.worked goes l.works;
       stands = subst (λ x. stood x (t ++ settled_in c (bytes_of (xs ++ l.worked)) (ms ++ ns))) (sym (grown_kept h xs l.worked))
           (subst (stood (grown g (kept_in l.worked))) (settled_both c c' t xs l.worked ms ns same full) l.stands);
@@ -154,8 +154,8 @@ exact_more M grows stood stood' s h c c' t xs ys ms ns same full goes sent f e =
     let g = grown h (kept_in xs) in
     record {
       worked = xs ++ e.worked;
-      unworked = e.unworked;
-      parts = ap (λ f. xs ++ f) e.parts ∙ sym (append_assoc xs e.worked e.unworked);
+      unprocessed = e.unprocessed;
+      parts = ap (λ f. xs ++ f) e.parts ∙ sym (append_assoc xs e.worked e.unprocessed);
       works = Works-append M s h xs e.worked goes e.works;
       stands = subst (λ x. stood' x (t ++ settled_in c (bytes_of (xs ++ e.worked)) (ms ++ ns))) (sym (grown_kept h xs e.worked))
           (subst (stood' (grown g (kept_in e.worked))) (settled_both c c' t xs e.worked ms ns same full) (f _ _ e.stands));
@@ -313,7 +313,7 @@ pub worked_off : (M : Model) → (holds new : KeeperState M) (gave : List Moment
     (i n : ℕ) (rest : Rest) (begin place : ℕ) (counts : SessionCounts)
     → slice ≡ take (length messages - i) (drop i messages) → (goes_on rest ≡ false) → (rest ≡ ZeroUnique → StartsZero (drop n slice))
     → place ≡ begin + length (joined (take (i + n) messages))
-    → Turned holds new gave p q ids ids' (take (i + n) messages) (lasts rest) counts → WorkedOff holds new gave p q ids ids' messages rest begin place counts
+    → Turned holds new gave p q ids ids' (take (i + n) messages) (lasts rest) counts → ProcessedAll holds new gave p q ids ids' messages rest begin place counts
 worked_off M holds new gave p q ids ids' messages slice i n rest begin place counts same over zero place_is t = record {
   front = take (i + n) messages;
   others = drop (i + n) messages;
@@ -327,7 +327,7 @@ worked_off M holds new gave p q ids ids' messages slice i n rest begin place cou
 pub worked_all : (M : Model) → (holds new : KeeperState M) (gave : List Moment → Type 0) (p q : PortState) (ids ids' : List ℕ) (messages : List (List ℕ))
     (i : ℕ) (begin place : ℕ) (counts : SessionCounts)
     → length messages ≤ i → place ≡ begin + length (joined (take i messages))
-    → Turned holds new gave p q ids ids' (take i messages) true counts → WorkedOff holds new gave p q ids ids' messages GoesOnHere begin place counts
+    → Turned holds new gave p q ids ids' (take i messages) true counts → ProcessedAll holds new gave p q ids ids' messages GoesOnHere begin place counts
 worked_all M holds new gave p q ids ids' messages i begin place counts past place_is t = record {
   front = take i messages;
   others = [];

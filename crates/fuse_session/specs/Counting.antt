@@ -7,7 +7,7 @@ use Rattle.fuse_request.specs.Classes.{class_of}
 use Rattle.fuse_request.specs.Faults.{first_fault}
 use Rattle.fuse_request.specs.Header.{raw_of}
 use Rattle.fuse_session.specs.declared.counts.SessionCounts.{SessionCounts}
-use Rattle.fuse_session.specs.Worked.{Timed, timed_entry, entries_at}
+use Rattle.fuse_session.specs.Processed.{Timed, timed_entry, entries_at}
 use Rattle.fuse_keeper.specs.History.{History, entry_id, has, grown}
 
 -- a well-formed INTERRUPT

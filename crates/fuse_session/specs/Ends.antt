@@ -15,7 +15,7 @@ use Rattle.fuse_session.specs.declared.ended.Ended.TheVariants.{End, Destroyed, 
 use Rattle.fuse_session.specs.declared.group.Rest.{Rest}
 use Rattle.fuse_session.specs.declared.group.Rest.TheVariants.{Destroyed as ByDestroy, ZeroUnique as ByZero}
 use Rattle.fuse_session.specs.Port.{PortState, HasEnded}
-use Rattle.fuse_session.specs.Worked.{Timed, bytes_of, GaveFirst}
+use Rattle.fuse_session.specs.Processed.{Timed, bytes_of, GaveFirst}
 use Rattle.fuse_session.specs.Settling.{Mark, NoneComesAgain, Replied}
 use Rattle.fuse_session.specs.Serving.{Whole, Stopped, Exact}
 

@@ -18,7 +18,7 @@ use Rattle.fuse_session.specs.declared.group.Rest.TheVariants.{GoesOn as GoesOnH
 use Rattle.fuse_session.specs.declared.sending.SendFault.{SendFault}
 use Rattle.fuse_session.specs.declared.sending.SendFault.TheVariants.{Memory, PortFailed}
 use Rattle.fuse_session.specs.Port.{PortState, IsQuiet, SentWhole, SentPart}
-use Rattle.fuse_session.specs.Worked.{Timed, bytes_of, kept_in, unique_of, destroys, moments_in}
+use Rattle.fuse_session.specs.Processed.{Timed, bytes_of, kept_in, unique_of, destroys, moments_in}
 use Rattle.fuse_session.specs.Moves.{FailedBy, fault_port}
 use Rattle.fuse_session.specs.Settling.{Mark, replies, settles, settled_in, Replied, BeginsNext}
 use Rattle.fuse_session.specs.Counting.{counted_one, none_counted, plus, is_interrupt}

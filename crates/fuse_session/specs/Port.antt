@@ -96,9 +96,9 @@ pub record Sends (old new : PortState) (result : Sent) (bytes : List ℕ) : Type
   pub quiet : IsQuiet old new
 
 -- whether an answer was sent by being answered Gone
-abbrev pub tells_gone : Passed → Bool
-tells_gone Taken = false
-tells_gone PassedGone = true
+abbrev pub reports_gone : Passed → Bool
+reports_gone Taken = false
+reports_gone PassedGone = true
 
 -- all of a slice was sent, as one answer, and whether it was answered Gone, which an empty one never is
 pub record SentWhole (old new : PortState) (bytes : List ℕ) (gone_at_end : Bool) : Type 0 where

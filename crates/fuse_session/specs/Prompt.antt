@@ -6,7 +6,7 @@ use Rattle.fuse_keeper.specs.History.{History, grown}
 use Rattle.fuse_keeper.specs.Model.{Model}
 use Rattle.fuse_keeper.specs.KeeperState.{KeeperState, StandsFor}
 use Rattle.fuse_session.specs.Port.{PortState}
-use Rattle.fuse_session.specs.Worked.{Timed, bytes_of, kept_in, answers}
+use Rattle.fuse_session.specs.Processed.{Timed, bytes_of, kept_in, answers}
 use Rattle.fuse_session.specs.Settling.{Mark, replies, NoneComesAgain, Replied}
 
 -- all messages of the bytes that came so far were worked off, and exactly their answers sent; `k` is the keeper at first and

@@ -14,7 +14,7 @@ use Rattle.fuse_session.specs.declared.group.Rest.TheVariants.{GoesOn as GoesOnH
 use Rattle.fuse_session.specs.declared.group.Stop.{Stop}
 use Rattle.fuse_session.specs.declared.group.Stop.TheVariants.{PortFailed, Store, Memory}
 use Rattle.fuse_session.specs.Port.{PortState}
-use Rattle.fuse_session.specs.Worked.{Timed, bytes_of, kept_in, answers, GoesOn, Works, EndsLast, StartsZero, moments_in, GaveFirst}
+use Rattle.fuse_session.specs.Processed.{Timed, bytes_of, kept_in, answers, GoesOn, Works, EndsLast, StartsZero, moments_in, GaveFirst}
 use Rattle.fuse_session.specs.Settling.{Mark, replies, settled_in, NoneComesAgain, Replied, BeginsNext, FewHave, FewRecorded}
 use Rattle.fuse_session.specs.Counting.{counted}
 
@@ -49,8 +49,8 @@ pub record Turned {M : Model} (k k' : KeeperState M) (gave : List Moment → Typ
 pub record Lived (M : Model) (stood : History → List ℕ → Type 0) (s : M.State) (h : History) (confirms : Bool) (t : List ℕ) (timed : List Timed)
     (marks : List Mark) (part : List ℕ) : Type 0 where
   pub worked : List Timed
-  pub unworked : List Timed
-  pub parts : timed ≡ worked ++ unworked
+  pub unprocessed : List Timed
+  pub parts : timed ≡ worked ++ unprocessed
   pub works : Works M s h worked
   pub stands : stood (grown h (kept_in worked)) (t ++ settled_in confirms (bytes_of worked) marks)
   pub later : List (List ℕ)
@@ -63,8 +63,8 @@ pub record Lived (M : Model) (stood : History → List ℕ → Type 0) (s : M.St
 pub record Exact (M : Model) (stood : History → List ℕ → Type 0) (s : M.State) (h : History) (confirms : Bool) (t : List ℕ) (timed : List Timed)
     (marks : List Mark) : Type 0 where
   pub worked : List Timed
-  pub unworked : List Timed
-  pub parts : timed ≡ worked ++ unworked
+  pub unprocessed : List Timed
+  pub parts : timed ≡ worked ++ unprocessed
   pub works : Works M s h worked
   pub stands : stood (grown h (kept_in worked)) (t ++ settled_in confirms (bytes_of worked) marks)
   pub sent : replies marks ≡ answers M s (grown h (kept_in worked)) worked
@@ -107,7 +107,7 @@ goes_on Destroyed = false
 goes_on ZeroUnique = false
 
 -- messages were worked off, all of them where it goes on, and else up to one that stops it
-pub record WorkedOff {M : Model} (k k' : KeeperState M) (gave : List Moment → Type 0) (old new : PortState) (pending pending' : List ℕ)
+pub record ProcessedAll {M : Model} (k k' : KeeperState M) (gave : List Moment → Type 0) (old new : PortState) (pending pending' : List ℕ)
     (messages : List (List ℕ)) (rest : Rest) (begin place : ℕ) (counts : SessionCounts) : Type 0 where
   pub front : List (List ℕ)
   pub others : List (List ℕ)
@@ -131,7 +131,7 @@ pub record Stopped {M : Model} (k k' : KeeperState M) (gave : List Moment → Ty
     (rest : Rest) (begin place : ℕ) (counts : SessionCounts) : Type 0 where
   pub received : List ℕ
   pub came : Consumes old.coming new.coming received
-  pub worked : WorkedOff k k' gave old new pending pending' (cut (held ++ received)).0 rest begin place counts
+  pub worked : ProcessedAll k k' gave old new pending pending' (cut (held ++ received)).0 rest begin place counts
 
 -- bytes came, and of their messages some were worked off and answered so, however it ended
 pub record Run {M : Model} (k k' : KeeperState M) (gave : List Moment → Type 0) (old new : PortState) (pending : List ℕ) (held : List ℕ) (store memory : Bool)

@@ -10,7 +10,7 @@ use Rattle.fuse_keeper.specs.Model.{Model, IsRowed}
 use Rattle.fuse_keeper.specs.Stands.{Records}
 use Rattle.fuse_keeper.specs.KeeperState.{KeeperState}
 use Rattle.fuse_session.specs.Port.{PortState}
-use Rattle.fuse_session.specs.Worked.{message_id}
+use Rattle.fuse_session.specs.Processed.{message_id}
 
 -- the whole answer that was sent for a message, and whether a slice of it was answered Gone
 pub record Mark : Type 0 where

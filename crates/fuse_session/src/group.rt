@@ -8,7 +8,7 @@ ghost use Rattle.fuse_keeper.specs.Group.{ids_of};
 ghost use Rattle.fuse_keeper.specs.declared.keeper.TheConstants.{MAX_SETTLED as max_settled};
 ghost use Rattle.fuse_session.specs.Moves.{FailedBy, fault_port, stop_port, KeepsFirm};
 ghost use Rattle.fuse_session.specs.Port.{IsYoung, IsQuiet};
-ghost use Rattle.fuse_session.specs.Worked.{StartsZero};
+ghost use Rattle.fuse_session.specs.Processed.{StartsZero};
 ghost use Rattle.fuse_session.specs.Settling.{AtMostMore};
 ghost use Rattle.fuse_session.specs.Moves.{HandsOn};
 ghost use Rattle.fuse_session.specs.Counting.{IsBelow};

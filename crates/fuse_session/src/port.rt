@@ -2,7 +2,7 @@
 ghost use Rattle.std.specs.Prelude.{◌≡◌, ◌≢◌, ◌≤◌, [], length, IfOk, OnErr};
 ghost use Rattle.fuse_request.specs.declared.header.TheConstants.{MAX_MESSAGE as max_message};
 ghost use Rattle.fuse_session.specs.Port.{PortState, IsYoung, IsPath, Receives, Sends};
-ghost use Rattle.fuse_session.specs.Port.{SentWhole, SentPart, tells_gone};
+ghost use Rattle.fuse_session.specs.Port.{SentWhole, SentPart, reports_gone};
 
 /// What a port answers to a call of `receive`.
 #[derive(Clone, Copy, Debug, PartialEq, Eq)]
@@ -77,7 +77,7 @@ pub(crate) struct PortFailed;
 pub(crate) fn send_whole<P: Port>(port: &mut P, bytes: &[u8]) -> Result<Passed, PortFailed>
     requires young { IsYoung (P.told port.old) }
     ensures ok { IfOk result (λ passed. SentWhole (P.told port.old) (P.told port.new)
-        bytes.now (tells_gone passed)) }
+        bytes.now (reports_gone passed)) }
     ensures err { OnErr result (SentPart (P.told port.old) (P.told port.new) bytes.now) }
     ensures same { P.became port.old port.new }
 {

@@ -4,9 +4,9 @@ ghost use Rattle.std.specs.Prelude.{OnOk};
 ghost use Rattle.fuse_answer.specs.Wire.{wire};
 ghost use Rattle.fuse_request.specs.Stream.{IsMessage};
 ghost use Rattle.fuse_request.specs.Classes.{class_of};
-ghost use Rattle.fuse_session.specs.Worked.{unique_of};
+ghost use Rattle.fuse_session.specs.Processed.{unique_of};
 ghost use Rattle.fuse_keeper.specs.Group.{ids_of};
-ghost use Rattle.fuse_session.specs.Port.{IsYoung, SentWhole, tells_gone};
+ghost use Rattle.fuse_session.specs.Port.{IsYoung, SentWhole, reports_gone};
 ghost use Rattle.fuse_session.specs.Group.{answers_in, wires, AreEnough, head_wire, left_by};
 ghost use Rattle.fuse_session.specs.Group.{SendFails, SentNext, SentAll, SentSome, classes_in};
 
@@ -34,7 +34,7 @@ fn send_reply<P: Port>(
 ) -> Result<Passed, SendFault>
     requires young { IsYoung (P.told port.old) }
     ensures ok { IfOk result (λ passed. SentWhole (P.told port.old) (P.told port.new)
-        (wire answer.now.errno answer.now.body unique) (tells_gone passed)) }
+        (wire answer.now.errno answer.now.body unique) (reports_gone passed)) }
     ensures err { IfErr result (λ fault. SendFails fault (P.told port.old) (P.told port.new)
         (wire answer.now.errno answer.now.body unique)) }
     ensures same { P.became port.old port.new }
@@ -51,7 +51,7 @@ fn send_reply<P: Port>(
 
 // Whether an answer that was sent so settles its id.
 fn is_settled<P: Port>(port: &P, passed: Passed) -> bool
-    ensures { result ≡ ((P.told port.now).confirms || tells_gone passed) }
+    ensures { result ≡ ((P.told port.now).confirms || reports_gone passed) }
 {
     match passed {
         Passed::Taken => port.confirms(),
@@ -102,7 +102,7 @@ fn send_bare<P: Port>(
     requires message { IsMessage message.now }
     requires young { IsYoung (P.told port.old) }
     ensures ok { IfOk result (λ passed. SentWhole (P.told port.old) (P.told port.new)
-        (wire errno.0 [] (unique_of message.now)) (tells_gone passed)) }
+        (wire errno.0 [] (unique_of message.now)) (reports_gone passed)) }
     ensures err { IfErr result (λ fault. SendFails fault (P.told port.old) (P.told port.new)
         (wire errno.0 [] (unique_of message.now))) }
     ensures same { P.became port.old port.new }

@@ -11,7 +11,7 @@ ghost use Rattle.fuse_session.specs.Port.{IsYoung, IsQuiet};
 ghost use Rattle.fuse_session.specs.Settling.{AtMostMore};
 ghost use Rattle.fuse_session.specs.Moves.{HandsOn};
 ghost use Rattle.fuse_session.specs.Counting.{IsBelow};
-ghost use Rattle.fuse_session.specs.Serving.{WorkedOff, Broken, MayStop, goes_on, is_store};
+ghost use Rattle.fuse_session.specs.Serving.{ProcessedAll, Broken, MayStop, goes_on, is_store};
 ghost use Rattle.fuse_session.specs.Serving.{is_memory};
 
 use crate::clock::Clock;
@@ -70,7 +70,7 @@ pub(crate) fn work_off<K: Keeper, P: Port, C: Clock>(
     requires few { length pending.old.items ≤ max_settled }
     requires short { length messages.now < 2 ^ 60 }
     requires place { begin + length (joined messages.now) < 2 ^ 62 }
-    ensures ok { IfOk result (λ work. WorkedOff (K.told keeper.old) (K.told keeper.new)
+    ensures ok { IfOk result (λ work. ProcessedAll (K.told keeper.old) (K.told keeper.new)
         (C.gave clock.old clock.new) (P.told port.old) (P.told port.new)
         (ids_of pending.old.items) (ids_of pending.new.items) messages.now work.rest begin
         work.place work.counts) }

@@ -17,7 +17,7 @@ use Rattle.fuse_show.specs.declared.fault.ShowFault.{ShowFault}
 use Rattle.fuse_show.specs.declared.fault.ShowFault.TheVariants.{Look, NotATree, NoSuchPath, NotDirectory, NotFile, Output}
 use Rattle.fuse_show.specs.Looks.{WritesOut, look_fault}
 use Rattle.fuse_show.specs.Listing.{line_of, listing}
-use Rattle.fuse_show.specs.Pages.{entries_behind, lines_behind, lines_left, cookie_at, is_higher, WritesFront, WritesPage}
+use Rattle.fuse_show.specs.Pages.{entries_following, lines_behind, lines_left, cookie_at, is_higher, WritesPrefix, WritesPage}
 use Rattle.fuse_show.proofs.Trees.{filtered}
 
 -- ---- on lists
@@ -116,18 +116,18 @@ second true c is = is
 second false c is = absurd cc
 
 -- what is behind a cookie has a higher one
-higher_behind : (rows : Rows) (dir after i : ℕ) (x : EntryRow) → slice_get (entries_behind rows dir after) i ≡ Some x → nat_lt after x.cookie ≡ true
+higher_behind : (rows : Rows) (dir after i : ℕ) (x : EntryRow) → slice_get (entries_following rows dir after) i ≡ Some x → nat_lt after x.cookie ≡ true
 higher_behind rows dir after i x there =
     second (x.dir == dir) (nat_lt after x.cookie)
-    (all_got (λ e. is_after dir after e ≡ true) (entries_behind rows dir after) i x (passes (is_after dir after) rows.entries) there)
+    (all_got (λ e. is_after dir after e ≡ true) (entries_following rows dir after) i x (passes (is_after dir after) rows.entries) there)
 
 -- behind the last entry of a page stands what is behind the page
-behind_page : RowsOfTrees → (rows : Rows) (dir after i : ℕ) (x : EntryRow) → IsRowed rows → slice_get (entries_behind rows dir after) i ≡ Some x
-    → entries_behind rows dir x.cookie ≡ drop (suc i) (entries_behind rows dir after)
+behind_page : RowsOfTrees → (rows : Rows) (dir after i : ℕ) (x : EntryRow) → IsRowed rows → slice_get (entries_following rows dir after) i ≡ Some x
+    → entries_following rows dir x.cookie ≡ drop (suc i) (entries_following rows dir after)
 behind_page law rows dir after i x is there =
     let higher : after < x.cookie = ltb-true after x.cookie (higher_behind rows dir after i x there) in
     sym (still_behind rows.entries dir after x.cookie (omega arith))
-    ∙ above_one (entries_behind rows dir after) i x (apart_filtered Rise (is_after dir after) rows.entries (law rows is).rise) there
+    ∙ above_one (entries_following rows dir after) i x (apart_filtered Rise (is_after dir after) rows.entries (law rows is).rise) there
 
 abbrev text_of : Rows → List EntryRow → List ℕ
 text_of rows es = flat_map (line_of rows) es
@@ -137,21 +137,21 @@ pub page_lines : RowsOfTrees → (rows : Rows) (dir after i : ℕ) (es : List En
     → lines_behind rows dir after ≡ flat_map (line_of rows) es ++ lines_left rows dir (cookie_at i es)
 page_lines law rows dir after i es is same = step (slice_get es i) refl
   where
-    whole : slice_get es i ≡ None → es ≡ entries_behind rows dir after
-    whole got = same ∙ short_page (entries_behind rows dir after) i (subst (λ (ys : List EntryRow). slice_get ys i ≡ None) same got)
+    whole : slice_get es i ≡ None → es ≡ entries_following rows dir after
+    whole got = same ∙ short_page (entries_following rows dir after) i (subst (λ (ys : List EntryRow). slice_get ys i ≡ None) same got)
 
-    there : (x : EntryRow) → slice_get es i ≡ Some x → entries_behind rows dir x.cookie ≡ drop (suc i) (entries_behind rows dir after)
+    there : (x : EntryRow) → slice_get es i ≡ Some x → entries_following rows dir x.cookie ≡ drop (suc i) (entries_following rows dir after)
     there x got =
         behind_page law rows dir after i x is
-        (full_page (entries_behind rows dir after) i x (subst (λ (ys : List EntryRow). slice_get ys i ≡ Some x) same got))
+        (full_page (entries_following rows dir after) i x (subst (λ (ys : List EntryRow). slice_get ys i ≡ Some x) same got))
 
     step : (o : Option EntryRow) → slice_get es i ≡ o
         → lines_behind rows dir after ≡ text_of rows es ++ lines_left rows dir (option_map (λ (e : EntryRow). e.cookie) o)
     step None got = ap (text_of rows) (sym (whole got)) ∙ sym (append-nil (text_of rows es))
     step (Some x) got =
-        ap (text_of rows) (sym (take-append-drop (suc i) (entries_behind rows dir after)))
-        ∙ flat_map-append (line_of rows) (take (suc i) (entries_behind rows dir after)) (drop (suc i) (entries_behind rows dir after))
-        ∙ ap (λ (ys : List EntryRow). text_of rows ys ++ text_of rows (drop (suc i) (entries_behind rows dir after))) (sym same)
+        ap (text_of rows) (sym (take-append-drop (suc i) (entries_following rows dir after)))
+        ∙ flat_map-append (line_of rows) (take (suc i) (entries_following rows dir after)) (drop (suc i) (entries_following rows dir after))
+        ∙ ap (λ (ys : List EntryRow). text_of rows ys ++ text_of rows (drop (suc i) (entries_following rows dir after))) (sym same)
         ∙ ap (λ (ys : List EntryRow). text_of rows es ++ text_of rows ys) (sym (there x got))
 
 -- a page ends with a higher cookie than those before it
@@ -162,7 +162,7 @@ page_higher rows dir after i es same = step (slice_get es i) refl
     step None got = refl
     step (Some x) got =
         higher_behind rows dir after i x
-        (full_page (entries_behind rows dir after) i x (subst (λ (ys : List EntryRow). slice_get ys i ≡ Some x) same got))
+        (full_page (entries_following rows dir after) i x (subst (λ (ys : List EntryRow). slice_get ys i ≡ Some x) same got))
 
 -- ---- pages one after the other
 
@@ -183,7 +183,7 @@ in_after (e ∷ es) dir all =
 pub all_left : RowsOfTrees → (rows : Rows) (dir : ℕ) → IsRowed rows → listing rows dir ≡ lines_behind rows dir 0
 all_left law rows dir is = ap (flat_map (line_of rows)) (sym (in_after rows.entries dir (law rows is).cookies))
 
-pub front_more : (a b c : Option (List ℕ)) (text mid rest : List ℕ) → WritesFront a b text mid → WritesFront b c mid rest → WritesFront a c text rest
+pub front_more : (a b c : Option (List ℕ)) (text mid rest : List ℕ) → WritesPrefix a b text mid → WritesPrefix b c mid rest → WritesPrefix a c text rest
 front_more a b c text mid rest p q = record {
   front = p.front ++ q.front;
   written = Appends-trans a b c p.front q.front p.written q.written;
@@ -191,7 +191,7 @@ front_more a b c text mid rest p q = record {
 }
 
 -- nothing is left
-pub front_all : (a b : Option (List ℕ)) (text : List ℕ) → WritesFront a b text [] → Appends a b text
+pub front_all : (a b : Option (List ℕ)) (text : List ℕ) → WritesPrefix a b text [] → Appends a b text
 front_all a b text p = subst (Appends a b) (sym (p.parts ∙ append-nil p.front)) p.written
 
 -- a page that couldn't be written

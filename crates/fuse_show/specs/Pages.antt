@@ -10,12 +10,12 @@ use Rattle.fuse_show.specs.declared.fault.ShowFault.TheVariants.{Look, NotATree,
 use Rattle.fuse_show.specs.Listing.{line_of}
 
 -- the entries of a directory with a higher cookie than this one
-abbrev pub entries_behind : Rows → ℕ → ℕ → List EntryRow
-entries_behind rows dir cookie = filter (is_after dir cookie) rows.entries
+abbrev pub entries_following : Rows → ℕ → ℕ → List EntryRow
+entries_following rows dir cookie = filter (is_after dir cookie) rows.entries
 
 -- their lines
 abbrev pub lines_behind : Rows → ℕ → ℕ → List ℕ
-lines_behind rows dir cookie = flat_map (line_of rows) (entries_behind rows dir cookie)
+lines_behind rows dir cookie = flat_map (line_of rows) (entries_following rows dir cookie)
 
 -- the lines behind the cookie that a page ends with, or none where it was the last
 abbrev pub lines_left : Rows → ℕ → Option ℕ → List ℕ
@@ -32,14 +32,14 @@ is_higher None after = true
 is_higher (Some cookie) after = nat_lt after cookie
 
 -- a front of a text was written, and this rest of it is left
-pub record WritesFront (old new : Option (List ℕ)) (text rest : List ℕ) : Type 0 where
+pub record WritesPrefix (old new : Option (List ℕ)) (text rest : List ℕ) : Type 0 where
   pub front : List ℕ
   pub written : Appends old new front
   pub parts : text ≡ front ++ rest
 
 -- a page was written; else a look or the output failed
 abbrev pub WritesPage : Rows → ℕ → ℕ → Option (List ℕ) → Option (List ℕ) → Result (Option ℕ) ShowFault → Type 0
-WritesPage rows dir after old new (Ok left) = WritesFront old new (lines_behind rows dir after) (lines_left rows dir left)
+WritesPage rows dir after old new (Ok left) = WritesPrefix old new (lines_behind rows dir after) (lines_left rows dir left)
 WritesPage rows dir after old new (Err (Look f)) = Unit {0}
 WritesPage rows dir after old new (Err NotATree) = ⊥
 WritesPage rows dir after old new (Err NoSuchPath) = ⊥

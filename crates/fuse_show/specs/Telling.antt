@@ -7,8 +7,8 @@ use Rattle.fuse_keeper.specs.Lots.{SameLots}
 use Rattle.fuse_keeper.specs.Model.{Model}
 use Rattle.fuse_keeper.specs.Stands.{Records}
 use Rattle.fuse_keeper.specs.KeeperState.{KeeperState, AnswersNoMore, Called, KeepsHeld, WhereHeld}
-use Rattle.fuse_show.specs.declared.telling.TellFault.{TellFault}
-use Rattle.fuse_show.specs.declared.telling.TellFault.TheVariants.{Store, Output}
+use Rattle.fuse_show.specs.declared.telling.ReportFault.{ReportFault}
+use Rattle.fuse_show.specs.declared.telling.ReportFault.TheVariants.{Store, Output}
 
 -- what was agreed on by INIT
 abbrev pub settings_text : Option Settings → List ℕ
@@ -32,7 +32,7 @@ abbrev pub count_of : ℕ → ℕ → ℕ → ℕ → StoreCounts
 count_of nodes handles records lots = record { nodes = nodes; handles = handles; records = records; lots = lots }
 
 -- what the keeper had to do with it: its fault, or none
-abbrev pub of_keeper : Result (Unit {0}) TellFault → Result (Unit {0}) StoreFault
+abbrev pub of_keeper : Result (Unit {0}) ReportFault → Result (Unit {0}) StoreFault
 of_keeper (Ok done) = Ok done
 of_keeper (Err (Store fault)) = Err fault
 of_keeper (Err Output) = Ok tt

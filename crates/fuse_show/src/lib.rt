@@ -19,4 +19,4 @@ pub use finding::find;
 pub use laws::found_once;
 pub use listing::list;
 pub use showing::{show_content, show_listing};
-pub use telling::{TellFault, tell};
+pub use telling::{ReportFault, tell};

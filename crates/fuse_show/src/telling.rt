@@ -1,7 +1,7 @@
 ghost use Rattle.std.specs.Prelude.{◌≡◌, ℕ, OnOk, OnErr, length};
 ghost use Rattle.std.specs.Io.KnownBytes.{Appends};
 ghost use Rattle.fuse_keeper.specs.Stands.{CountsRecords};
-ghost use Rattle.fuse_keeper.specs.KeeperState.{Tells};
+ghost use Rattle.fuse_keeper.specs.KeeperState.{Reports};
 ghost use Rattle.fuse_show.specs.Telling.{store_text, count_of, of_keeper, OnlyAsked};
 
 use fuse_init::Settings;
@@ -11,31 +11,31 @@ use std::{fmt, io};
 
 /// Why nothing is told of a store.
 #[derive(Debug, Drop)]
-pub enum TellFault {
+pub enum ReportFault {
     Store(StoreFault),
     /// The output can't be written.
     Output,
 }
 
-impl From<StoreFault> for TellFault {
+impl From<StoreFault> for ReportFault {
     ghost use Rattle.std.specs.Prelude.{◌≡◌};
-    ghost use Rattle.fuse_show.specs.declared.telling.TellFault.TheVariants.{Store as OfStore};
+    ghost use Rattle.fuse_show.specs.declared.telling.ReportFault.TheVariants.{Store as OfStore};
 
     ghost from_gives = { λ fault e. e ≡ OfStore fault };
 
-    fn from(fault: StoreFault) -> TellFault {
-        TellFault::Store(fault)
+    fn from(fault: StoreFault) -> ReportFault {
+        ReportFault::Store(fault)
     }
 }
 
-impl From<io::Error> for TellFault {
+impl From<io::Error> for ReportFault {
     ghost use Rattle.std.specs.Prelude.{◌≡◌};
-    ghost use Rattle.fuse_show.specs.declared.telling.TellFault.TheVariants.{Output as OfOutput};
+    ghost use Rattle.fuse_show.specs.declared.telling.ReportFault.TheVariants.{Output as OfOutput};
 
     ghost from_gives = { λ _ e. e ≡ OfOutput };
 
-    fn from(_e: io::Error) -> TellFault {
-        TellFault::Output
+    fn from(_e: io::Error) -> ReportFault {
+        ReportFault::Output
     }
 }
 
@@ -113,8 +113,8 @@ pub fn tell<K: Keeper, W: Write>(
     version: u64,
     bytes: u64,
     writer: &mut W,
-) -> Result<(), TellFault>
-    ensures told { OnOk result (Tells (K.told keeper.old) (K.told keeper.new) (λ rows records.
+) -> Result<(), ReportFault>
+    ensures told { OnOk result (Reports (K.told keeper.old) (K.told keeper.new) (λ rows records.
         (n : ℕ) × CountsRecords records n
         × Appends (W.contents writer.old) (W.contents writer.new)
         (store_text version (count_of (K.model.nodes rows) (K.model.handles rows) n

@@ -10,7 +10,7 @@ use Rattle.fuse_request.specs.Classes.{class_of}
 use Rattle.fuse_wire.specs.declared.moment.Moment.{Moment}
 use Rattle.fuse_keeper.specs.Model.{Model}
 use Rattle.fuse_keeper.specs.History.{Entry, entry_id, History, HistoriesGrow, add, grown, is_in, ids_in, Includes, IsUnsettled}
-use Rattle.fuse_session.specs.Worked.{entry_if, message_entry, message_id, unique_of}
+use Rattle.fuse_session.specs.Processed.{entry_if, message_entry, message_id, unique_of}
 use Rattle.fuse_session.specs.Settling.{settles_if, comes_again, MayCome}
 use Rattle.fuse_sim.specs.declared.event.Fate.{Fate}
 use Rattle.fuse_sim.specs.declared.event.Fate.TheVariants.{Answered, AnswerLost, DiedBeforeCommit, DiedAfterCommit}

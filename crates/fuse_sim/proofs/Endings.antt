@@ -8,14 +8,14 @@ use Rattle.fuse_keeper.specs.declared.fault.StoreFault.{StoreFault}
 use Rattle.fuse_keeper.specs.History.{History, HistoriesGrow, Includes, is_in, said}
 use Rattle.fuse_keeper.specs.Model.{Model}
 use Rattle.fuse_keeper.specs.Stands.{Records}
-use Rattle.fuse_keeper.specs.KeeperState.{KeeperState, StandsFor, KeepsHeld, Tells, IsCount}
+use Rattle.fuse_keeper.specs.KeeperState.{KeeperState, StandsFor, KeepsHeld, Reports, IsCount}
 use Rattle.fuse_sim.specs.declared.event.Event.{Event}
 use Rattle.fuse_sim.specs.declared.event.Outcome.{Outcome}
 use Rattle.fuse_sim.specs.declared.event.DriveFault.{DriveFault}
 use Rattle.fuse_sim.specs.Driving.{committed, outcome_of, bytes_given, settled_by, NoneReused, told_in, StandsIn, became_in, deaths, Opened, AnsweredBy}
 use Rattle.fuse_sim.specs.Driving.{OfRestart, IsFit, event_of, before, is_store, LeftBy}
 use Rattle.fuse_sim.specs.HandedOn.{Ledger, empty_ledger, ledger_after, handed_on}
-use Rattle.fuse_sim.specs.LeftRecords.{Behind, RecordsLeft, HoldsRecords}
+use Rattle.fuse_sim.specs.LeftRecords.{LongAfter, RecordsLeft, HoldsRecords}
 use Rattle.fuse_sim.specs.Running.{Moved, MayBegin, Opens, Stops}
 use Rattle.fuse_sim.proofs.Settled.{tested, is_in-append, stands_later, stands_kept}
 use Rattle.fuse_sim.proofs.Driven.{ledger-append, pending_settled, settled_all, includes_none, handed_came}
@@ -105,7 +105,7 @@ kept_or_gone false o now is isnt = is
 
 pub moved_records : (M : Model) → (holds holds' : KeeperState M) (es others : List Event) (p : List ℕ) (new : List (Option Outcome))
     → Moved holds holds' empty_ledger es others p [] new
-    → NoneReused [] es → Tells holds holds' (λ rows records. HoldsRecords holds' (RecordsLeft es records))
+    → NoneReused [] es → Reports holds holds' (λ rows records. HoldsRecords holds' (RecordsLeft es records))
 moved_records M holds holds' es others p new moved none is rows records held rowed =
     let done = moved.ran.records is rows records held rowed in
     record {
@@ -120,7 +120,7 @@ moved_records M holds holds' es others p new moved none is rows records held row
       };
     }
 
-not_handed : (es : List Event) (i : ℕ) → ¬ Behind 1 es i → is_in (handed_on empty_ledger es) i ≡ false
+not_handed : (es : List Event) (i : ℕ) → ¬ LongAfter 1 es i → is_in (handed_on empty_ledger es) i ≡ false
 not_handed es i isnt = elim (tested (is_in (handed_on empty_ledger es) i)) [
   | inl there ↦ absurd (isnt (handed_behind es i there))
   | inr absent ↦ absent
@@ -141,7 +141,7 @@ pub moved_left : (M : Model) → {K : Type 0} (told : K → KeeperState M) (old 
     → Moved (told_in told old) (told_in told new) empty_ledger es others p [] outcomes
     → (told_in told new).is_honest → (s : M.State) (h : History) (t : List ℕ) → StandsIn told old s h t → NoneReused t es → (rows : M.Rows) (records : Records)
     → (told_in told new).holds rows records
-    → (i : ℕ) → is_in t i ≡ false → ¬ Behind 1 es i → records i ≡ said M s (committed h es) i
+    → (i : ℕ) → is_in t i ≡ false → ¬ LongAfter 1 es i → records i ≡ said M s (committed h es) i
 moved_left M told old new es others p outcomes one moved is s h t so none rows records held i unsettled isnt =
     let left = moved_kept M (told_in told old) (told_in told new) es others p outcomes moved is s h t so none in
     same_records M told new rows left.rows records left.records one held left.held i

@@ -15,7 +15,7 @@ use Rattle.fuse_request.specs.Header.{raw_of}
 use Rattle.fuse_keeper.specs.History.{Entry}
 use Rattle.fuse_keeper.specs.declared.keeper.TheConstants.{MAX_GROUP}
 use Rattle.fuse_keeper.specs.Group.{entry_of, entries_of, HasId, IsKept}
-use Rattle.fuse_session.specs.Worked.{entry_if, message_entry}
+use Rattle.fuse_session.specs.Processed.{entry_if, message_entry}
 use Rattle.fuse_sim.specs.declared.event.Fate.{Fate}
 use Rattle.fuse_sim.specs.declared.event.Fate.TheVariants.{Answered, AnswerLost, DiedBeforeCommit, DiedAfterCommit}
 use Rattle.fuse_sim.specs.declared.event.Event.{Event}

@@ -14,7 +14,7 @@ use Rattle.fuse_keeper.specs.Model.{Model}
 use Rattle.fuse_keeper.specs.KeeperState.{KeeperState, StandsFor, Performed, KeepsOthers, Called}
 use Rattle.fuse_keeper.specs.Group.{entry_of, entries_of, handed_to, left_pending}
 use Rattle.fuse_keeper.specs.declared.keeper.Done.{Done}
-use Rattle.fuse_session.specs.Worked.{entry_if, message_entry, unique_of}
+use Rattle.fuse_session.specs.Processed.{entry_if, message_entry, unique_of}
 use Rattle.fuse_session.specs.Group.{left_by}
 use Rattle.fuse_sim.specs.declared.event.Event.{Event}
 use Rattle.fuse_sim.specs.declared.event.Outcome.{Outcome}

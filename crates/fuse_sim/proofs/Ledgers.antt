@@ -6,7 +6,7 @@ use Rattle.fuse_request.specs.declared.class.Class.{Class}
 use Rattle.fuse_request.specs.declared.class.Class.TheVariants.{Silent, Bare, Kept}
 use Rattle.fuse_request.specs.Classes.{class_of}
 use Rattle.fuse_keeper.specs.History.{Entry}
-use Rattle.fuse_session.specs.Worked.{entry_if, message_entry, message_id}
+use Rattle.fuse_session.specs.Processed.{entry_if, message_entry, message_id}
 use Rattle.fuse_session.specs.Settling.{settles_if}
 use Rattle.fuse_keeper.specs.Group.{handed_to, left_pending}
 use Rattle.fuse_sim.specs.declared.event.Fate.{Fate}

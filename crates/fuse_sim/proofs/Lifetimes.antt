@@ -14,9 +14,9 @@ use Rattle.fuse_keeper.specs.History.{Entry, entry_id, History, has, Distinct, a
 use Rattle.fuse_session.specs.Port.{PortState}
 use Rattle.fuse_session.specs.Serving.{Lived}
 use Rattle.fuse_session.specs.Settling.{Mark, replies, settled_in, Replied}
-use Rattle.fuse_session.specs.Worked.{Timed, bytes_of, kept_in, entries_at, entry_if, timed_entry, message_id, unique_of, answered, answers, answer_by, out}
-use Rattle.fuse_session.specs.Worked.{moment_if, moments_in, GaveFirst}
-use Rattle.fuse_sim.specs.Lives.{Lifetime, AreLives, after_lives, all_worked, AllSend, RanAsLife}
+use Rattle.fuse_session.specs.Processed.{Timed, bytes_of, kept_in, entries_at, entry_if, timed_entry, message_id, unique_of, answered, answers, answer_by, out}
+use Rattle.fuse_session.specs.Processed.{moment_if, moments_in, GaveFirst}
+use Rattle.fuse_sim.specs.Lives.{Lifetime, AreLives, after_lives, all_processed, AllSend, RanAsLife}
 
 tested : (b : Bool) → (b ≡ true) ⊎ (b ≡ false)
 tested true = inl refl
@@ -76,15 +76,15 @@ kept_in-append (x ∷ xs) ys = ap (λ r. entries_at x ++ r) (kept_in-append xs y
 grown_kept : (h : History) (xs ys : List Timed) → grown h (kept_in (xs ++ ys)) ≡ grown (grown h (kept_in xs)) (kept_in ys)
 grown_kept h xs ys = ap (grown h) (kept_in-append xs ys) ∙ grown-append h (kept_in xs) (kept_in ys)
 
-later : (h : History) (ls : List Lifetime) → after_lives h ls ≡ grown h (kept_in (all_worked ls))
+later : (h : History) (ls : List Lifetime) → after_lives h ls ≡ grown h (kept_in (all_processed ls))
 later h [] = refl
-later h (l ∷ ls) = later (grown h (kept_in l.worked)) ls ∙ sym (grown_kept h l.worked (all_worked ls))
+later h (l ∷ ls) = later (grown h (kept_in l.worked)) ls ∙ sym (grown_kept h l.worked (all_processed ls))
 
-pub in_a_row : (ls : List Lifetime) → after_lives [] ls ≡ grown [] (kept_in (all_worked ls))
+pub in_a_row : (ls : List Lifetime) → after_lives [] ls ≡ grown [] (kept_in (all_processed ls))
 in_a_row ls = later [] ls
 
 pub once_each : (ls : List Lifetime) → Distinct (after_lives [] ls)
-once_each ls = subst Distinct (sym (in_a_row ls)) (Distinct-grown [] (kept_in (all_worked ls)) Distinct-none)
+once_each ls = subst Distinct (sym (in_a_row ls)) (Distinct-grown [] (kept_in (all_processed ls)) Distinct-none)
 
 -- ---- later requests change no answer
 
@@ -124,9 +124,9 @@ sends_by : (M : Model) → HistoriesGrow M → (s : M.State) (h : History) (ls :
 sends_by M grows s h [] lives = tt
 sends_by M grows s h (l ∷ ls) lives =
     let g = grown h (kept_in l.worked) in
-    let more = kept_in (all_worked ls) ++ kept_in l.worked in
+    let more = kept_in (all_processed ls) ++ kept_in l.worked in
     let end : grown (after_lives g ls) (kept_in l.worked) ≡ grown g more =
-    ap (λ x. grown x (kept_in l.worked)) (later g ls) ∙ sym (grown-append g (kept_in (all_worked ls)) (kept_in l.worked)) in
+    ap (λ x. grown x (kept_in l.worked)) (later g ls) ∙ sym (grown-append g (kept_in (all_processed ls)) (kept_in l.worked)) in
     let same : out M s (after_lives g ls) l.worked ≡ out M s h l.worked =
     ap (λ x. joined (answers M s x l.worked)) end ∙ ap joined (answers_stay M grows s h l.worked more []) in
     ((lives.0.unsent, same ∙ lives.0.sends), sends_by M grows s g ls lives.1)
@@ -155,22 +155,22 @@ pub run_lived : (M : Model) → (stood : History → List ℕ → Type 0) (gave 
     → Lived M stood s h old.confirms t timed marks part → RanAsLife M stood gave s h t old new
 run_lived M stood gave s h t old new received timed others marks part came front moments replied l =
     let sent = joined (replies marks) ++ part in
-    let parts : bytes_of timed ++ others ≡ bytes_of l.worked ++ (bytes_of l.unworked ++ others) =
-    ap (λ (x : List Timed). bytes_of x ++ others) l.parts ∙ ap (λ (x : List (List ℕ)). x ++ others) (map-append (λ (x : Timed). x.bytes) l.worked l.unworked)
-    ∙ append_assoc (bytes_of l.worked) (bytes_of l.unworked) others in
+    let parts : bytes_of timed ++ others ≡ bytes_of l.worked ++ (bytes_of l.unprocessed ++ others) =
+    ap (λ (x : List Timed). bytes_of x ++ others) l.parts ∙ ap (λ (x : List (List ℕ)). x ++ others) (map-append (λ (x : Timed). x.bytes) l.worked l.unprocessed)
+    ∙ append_assoc (bytes_of l.worked) (bytes_of l.unprocessed) others in
     let split : out M s h l.worked ≡ joined (replies marks) ++ joined l.later =
     ap joined l.sent ∙ flat_map-append (λ (m : List ℕ). m) (replies marks) l.later in
     let begun : joined (replies marks) ++ joined l.later ≡ sent ++ l.unsent =
     ap (λ (x : List ℕ). joined (replies marks) ++ x) l.begun ∙ sym (append_assoc (joined (replies marks)) part l.unsent) in
     record {
       life = record { received = received; sent = sent; worked = l.worked; settled = settled_in old.confirms (bytes_of l.worked) marks };
-      lived = record { others = bytes_of l.unworked ++ others; front = front ∙ parts; works = l.works; unsent = l.unsent; sends = split ∙ begun };
+      lived = record { others = bytes_of l.unprocessed ++ others; front = front ∙ parts; works = l.works; unsent = l.unsent; sends = split ∙ begun };
       came = came;
       marks = marks;
       part = part;
       replied = replied;
       sent = refl;
       settled_are = refl;
-      moments = gave_front gave l.worked l.unworked (subst (GaveFirst gave) l.parts moments);
+      moments = gave_front gave l.worked l.unprocessed (subst (GaveFirst gave) l.parts moments);
       stands = l.stands;
     }

@@ -14,7 +14,7 @@ use Rattle.fuse_keeper.specs.Model.{Model}
 use Rattle.fuse_keeper.specs.Stands.{Records}
 use Rattle.fuse_keeper.specs.KeeperState.{KeeperState, StandsFor, KeepsHeld}
 use Rattle.fuse_keeper.specs.Group.{entry_of, entries_of, ids_of, handed_to, left_pending}
-use Rattle.fuse_session.specs.Worked.{entry_if, message_entry, unique_of}
+use Rattle.fuse_session.specs.Processed.{entry_if, message_entry, unique_of}
 use Rattle.fuse_sim.specs.declared.event.Fate.{Fate}
 use Rattle.fuse_sim.specs.declared.event.Fate.TheVariants.{Answered, AnswerLost, DiedBeforeCommit, DiedAfterCommit}
 use Rattle.fuse_sim.specs.declared.event.Event.{Event}

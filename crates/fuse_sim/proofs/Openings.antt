@@ -9,7 +9,7 @@ use Rattle.fuse_request.specs.Classes.{class_of}
 use Rattle.fuse_keeper.specs.History.{History, grown, Includes}
 use Rattle.fuse_keeper.specs.Model.{Model}
 use Rattle.fuse_keeper.specs.KeeperState.{KeeperState, KeepsHeld, IsCount}
-use Rattle.fuse_session.specs.Worked.{entry_if, message_entry}
+use Rattle.fuse_session.specs.Processed.{entry_if, message_entry}
 use Rattle.fuse_keeper.specs.Group.{handed_to}
 use Rattle.fuse_sim.specs.declared.event.Fate.{Fate}
 use Rattle.fuse_sim.specs.declared.event.Fate.TheVariants.{DiedAfterCommit}

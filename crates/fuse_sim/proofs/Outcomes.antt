@@ -12,7 +12,7 @@ use Rattle.fuse_keeper.specs.Group.{ids_of}
 use Rattle.fuse_keeper.specs.declared.keeper.Done.{Done}
 use Rattle.fuse_session.specs.Group.{left_by}
 use Rattle.fuse_session.specs.Settling.{settles_if}
-use Rattle.fuse_session.specs.Worked.{message_id}
+use Rattle.fuse_session.specs.Processed.{message_id}
 use Rattle.fuse_sim.specs.declared.event.Event.{Event}
 use Rattle.fuse_sim.specs.declared.event.Outcome.{Outcome}
 use Rattle.fuse_sim.specs.Driving.{bytes_given, settles, is_taken}

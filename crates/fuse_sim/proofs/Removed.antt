@@ -6,14 +6,14 @@ use Rattle.fuse_request.specs.declared.class.Class.{Class}
 use Rattle.fuse_request.specs.declared.class.Class.TheVariants.{Silent, Bare, Kept}
 use Rattle.fuse_request.specs.Classes.{class_of}
 use Rattle.fuse_keeper.specs.History.{Entry, is_in}
-use Rattle.fuse_session.specs.Worked.{message_id}
+use Rattle.fuse_session.specs.Processed.{message_id}
 use Rattle.fuse_session.specs.Settling.{settles_if}
 use Rattle.fuse_sim.specs.declared.event.Fate.{Fate}
 use Rattle.fuse_sim.specs.declared.event.Fate.TheVariants.{Answered, AnswerLost, DiedBeforeCommit, DiedAfterCommit}
 use Rattle.fuse_sim.specs.declared.event.Event.{Event}
 use Rattle.fuse_sim.specs.Driving.{commits, commits_in, settles, is_taken, dies, Calm}
 use Rattle.fuse_sim.specs.HandedOn.{Ledger, empty_ledger, after_one, handed_by, after_commit, handed_at, crashed_if, after_event, ledger_after, handed_on}
-use Rattle.fuse_sim.specs.LeftRecords.{Follow, Behind}
+use Rattle.fuse_sim.specs.LeftRecords.{Follow, LongAfter}
 use Rattle.fuse_sim.proofs.Settled.{tested, includes_left, includes_right, in_either}
 use Rattle.fuse_sim.proofs.Ledgers.{commits_one, none_step, one_step}
 use Rattle.fuse_sim.proofs.Driven.{handed-append}
@@ -134,7 +134,7 @@ handed_soon l one later i few settled follow = elim (commits_one one) [
       (ap (λ k. is_in (handed_on k later) i) (one_step l one x.0 calm x.1) ∙ ap (λ es. is_in (handed_on l' es) i) follow.parts ∙ soon)
 ]
 
-pub behind_handed : (es : List Event) (i : ℕ) → Behind 16 es i → is_in (handed_on empty_ledger es) i ≡ true
+pub behind_handed : (es : List Event) (i : ℕ) → LongAfter 16 es i → is_in (handed_on empty_ledger es) i ≡ true
 behind_handed es i behind =
     let l = ledger_after empty_ledger behind.earlier in
     let few : l.room ≤ 15 = room_after empty_ledger behind.earlier (omega arith) in
@@ -176,7 +176,7 @@ follow_here e es x one = record {
       omega (arith, ap length one, length-append (commits e) []);
 }
 
-behind_more : (e : Event) (es : List Event) (i : ℕ) → Behind 1 es i → Behind 1 (e ∷ es) i
+behind_more : (e : Event) (es : List Event) (i : ℕ) → LongAfter 1 es i → LongAfter 1 (e ∷ es) i
 behind_more e es i behind = record {
   earlier = e ∷ behind.earlier;
   one = behind.one;
@@ -186,12 +186,12 @@ behind_more e es i behind = record {
   follow = behind.follow;
 }
 
-behind_here : (e : Event) (es : List Event) (i : ℕ) → settles e ≡ i ∷ [] → Follow 1 es → Behind 1 (e ∷ es) i
+behind_here : (e : Event) (es : List Event) (i : ℕ) → settles e ≡ i ∷ [] → Follow 1 es → LongAfter 1 (e ∷ es) i
 behind_here e es i settled follow = record { earlier = []; one = e; later = es; parts = refl; settled = settled; follow = follow }
 
 -- it was pending before these events, or it is settled by one of them
 Waits : Ledger → List Event → ℕ → Type 0
-Waits l es i = ((is_in l.pending i ≡ true) × Follow 1 es) ⊎ Behind 1 es i
+Waits l es i = ((is_in l.pending i ≡ true) × Follow 1 es) ⊎ LongAfter 1 es i
 
 hands_here : (l : Ledger) (e : Event) (es : List Event) (i : ℕ) → is_in (handed_at (commits e) l) i ≡ true → Waits l (e ∷ es) i
 unfolding Waits
@@ -227,7 +227,7 @@ handed_waits l (e ∷ es) i there = elim (in_either (handed_at (commits e) l) (h
   | inr later ↦ hands_later l e es i (handed_waits (after_event l e) es i later)
 ]
 
-pub handed_behind : (es : List Event) (i : ℕ) → is_in (handed_on empty_ledger es) i ≡ true → Behind 1 es i
+pub handed_behind : (es : List Event) (i : ℕ) → is_in (handed_on empty_ledger es) i ≡ true → LongAfter 1 es i
 unfolding Waits
 handed_behind es i there = elim (handed_waits empty_ledger es i there) [
   | inl was ↦ absurd (let isnt = was.0 in cc isnt)

@@ -13,7 +13,7 @@ use Rattle.fuse_keeper.specs.History.{Entry, History, grown, said}
 use Rattle.fuse_keeper.specs.Model.{Model}
 use Rattle.fuse_keeper.specs.Lots.{no_lots}
 use Rattle.fuse_keeper.specs.KeeperState.{KeeperState, StandsFor, KeepsHeld}
-use Rattle.fuse_session.specs.Worked.{unique_of, message_id, message_entry, entry_if}
+use Rattle.fuse_session.specs.Processed.{unique_of, message_id, message_entry, entry_if}
 use Rattle.fuse_session.specs.Settling.{settles_if, MayCome}
 use Rattle.fuse_sim.specs.declared.event.Fate.{Fate}
 use Rattle.fuse_sim.specs.declared.event.Fate.TheVariants.{Answered, AnswerLost, DiedBeforeCommit, DiedAfterCommit}

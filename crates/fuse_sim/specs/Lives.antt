@@ -11,7 +11,7 @@ use Rattle.fuse_session.specs.Ends.{MayEnd, ended_store, ended_memory}
 use Rattle.fuse_session.specs.Port.{PortState}
 use Rattle.fuse_session.specs.Serving.{Run}
 use Rattle.fuse_session.specs.Settling.{Mark, replies, settled_in, Replied}
-use Rattle.fuse_session.specs.Worked.{Timed, bytes_of, kept_in, out, Works, GaveFirst}
+use Rattle.fuse_session.specs.Processed.{Timed, bytes_of, kept_in, out, Works, GaveFirst}
 
 -- the bytes that came, those that were sent, the messages that were worked off, and the ids that their answers settled
 pub record Lifetime : Type 0 where
@@ -40,9 +40,9 @@ after_lives h [] = h
 after_lives h (life ∷ lives) = after_lives (grown h (kept_in life.worked)) lives
 
 -- all messages that were worked off, in a row
-abbrev pub all_worked : List Lifetime → List Timed
-all_worked [] = []
-all_worked (life ∷ lives) = life.worked ++ all_worked lives
+abbrev pub all_processed : List Lifetime → List Timed
+all_processed [] = []
+all_processed (life ∷ lives) = life.worked ++ all_processed lives
 
 -- what each life sent is a front of what is to be sent where this is the history
 abbrev pub AllSend : (M : Model) → M.State → History → List Lifetime → Type 0

@@ -14,10 +14,10 @@ use Rattle.fuse_keeper.specs.declared.fault.StoreFault.{StoreFault}
 use Rattle.fuse_keeper.specs.declared.keeper.Done.{Done}
 use Rattle.fuse_keeper.specs.Model.{Model}
 use Rattle.fuse_keeper.specs.Stands.{Records}
-use Rattle.fuse_keeper.specs.KeeperState.{KeeperState, StandsFor, KeepsHeld, KeepsOthers, Tells}
+use Rattle.fuse_keeper.specs.KeeperState.{KeeperState, StandsFor, KeepsHeld, KeepsOthers, Reports}
 use Rattle.fuse_keeper.specs.Bounds.{max_group_len}
 use Rattle.fuse_keeper.specs.Group.{entries_of, HasId, IsKept, handed_to, left_pending}
-use Rattle.fuse_session.specs.Worked.{unique_of}
+use Rattle.fuse_session.specs.Processed.{unique_of}
 use Rattle.fuse_session.specs.Group.{left_by}
 use Rattle.fuse_sim.specs.declared.event.Fate.{Fate}
 use Rattle.fuse_sim.specs.declared.event.Fate.TheVariants.{Answered, AnswerLost, DiedBeforeCommit, DiedAfterCommit}
@@ -143,7 +143,7 @@ pub record Ran {M : Model} (k k' : KeeperState M) (l : Ledger) (es : List Event)
       → StandsFor k' s (committed h es) (t ++ handed_on l es)
   pub outcomes : k'.is_honest → (s : M.State) (h : History) (t u : List ℕ) → StandsFor k s h t → Includes u t → Includes u l.pending → NoneReused u es
       → map bytes_given added ≡ map (outcome_of M s (committed h es)) es
-  pub records : Tells k k' (λ rows records. HoldsRecords k' (RecordsRan l es records))
+  pub records : Reports k k' (λ rows records. HoldsRecords k' (RecordsRan l es records))
 
 -- no more kept messages are in the group that was begun, or none begins here
 abbrev pub MayBegin : Ledger → List Event → Type 0

@@ -5,14 +5,14 @@ ghost use Rattle.std.specs.Prelude.{None, IsSome, IsSomeAnd, IfSome, is_err};
 ghost use Rattle.std.specs.Prelude.{IfOk, IfErr, OnOk, OnErr, MatchResult};
 ghost use Rattle.fuse_keeper.specs.History.{History, said, is_in};
 ghost use Rattle.fuse_keeper.specs.Stands.{Records};
-ghost use Rattle.fuse_keeper.specs.KeeperState.{Called, KeepsHeld, Tells};
+ghost use Rattle.fuse_keeper.specs.KeeperState.{Called, KeepsHeld, Reports};
 ghost use Rattle.fuse_keeper.specs.Group.{ids_of};
 ghost use Rattle.fuse_keeper.specs.declared.keeper.TheConstants.{MAX_SETTLED as max_settled};
 ghost use Rattle.fuse_sim.specs.Driving.{told_in, StandsIn, committed, outcome_of, bytes_given};
 ghost use Rattle.fuse_sim.specs.Driving.{settled_by, NoneReused, IsFit, Names, event_of, before};
 ghost use Rattle.fuse_sim.specs.Driving.{is_store, IsStoreFault, LeftBy, OfRestart};
 ghost use Rattle.fuse_sim.specs.Driving.{became_in, Opened, AnsweredBy};
-ghost use Rattle.fuse_sim.specs.LeftRecords.{Behind, RecordsLeft, HoldsRecords};
+ghost use Rattle.fuse_sim.specs.LeftRecords.{LongAfter, RecordsLeft, HoldsRecords};
 ghost use Rattle.fuse_sim.specs.HandedOn.{Ledger};
 ghost use Rattle.fuse_sim.specs.Running.{Gathers, Begins, Worked, Moved, MayBegin, Opens, Stops};
 
@@ -272,14 +272,14 @@ pub fn drive<K: Restart>(
     // request committed behind it at the latest, and with the first at the earliest, unless the
     // server dies before.
     ensures records { OnOk result (NoneReused [] events.now
-        → Tells (told_in K.told keeper.old) (told_in K.told keeper.new) (λ rows records.
+        → Reports (told_in K.told keeper.old) (told_in K.told keeper.new) (λ rows records.
         HoldsRecords (told_in K.told keeper.new) (RecordsLeft events.now records))) }
     ensures kept { OnOk result ((told_in K.told keeper.new).is_honest
         → (start : K.model.State) (h : History) (settled : List ℕ)
         → StandsIn K.told keeper.old start h settled → NoneReused settled events.now
         → (rows : K.model.Rows) (records : Records)
         → (told_in K.told keeper.new).holds rows records
-        → (i : ℕ) → is_in settled i ≡ false → ¬ Behind 1 events.now i
+        → (i : ℕ) → is_in settled i ≡ false → ¬ LongAfter 1 events.now i
         → records i ≡ said K.model start (committed h events.now) i) }
 {
     histories_grow::<K>();

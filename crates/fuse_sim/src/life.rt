@@ -6,8 +6,8 @@ ghost use Rattle.fuse_keeper.specs.KeeperState.{StandsFor, Leaves, IsFirm};
 ghost use Rattle.fuse_session.specs.declared.ended.Ended.{Ended as EndedValue};
 ghost use Rattle.fuse_session.specs.Port.{PortState};
 ghost use Rattle.fuse_session.specs.Settling.{NoneComesAgain};
-ghost use Rattle.fuse_session.specs.Worked.{bytes_of, kept_in};
-ghost use Rattle.fuse_sim.specs.Lives.{Lifetime, AreLives, after_lives, all_worked, AllSend};
+ghost use Rattle.fuse_session.specs.Processed.{bytes_of, kept_in};
+ghost use Rattle.fuse_sim.specs.Lives.{Lifetime, AreLives, after_lives, all_processed, AllSend};
 ghost use Rattle.fuse_sim.specs.Lives.{RunOfServe, RanAsLife};
 
 use fuse_keeper::{Keeper, histories_grow};
@@ -18,7 +18,7 @@ use fuse_session::Clock;
 pub fn lives<K: Keeper>()
     // The last history is that of all messages that they worked off, in a row,
     ensures in_a_row { (ls : List Lifetime)
-        → after_lives [] ls ≡ grown [] (kept_in (all_worked ls)) }
+        → after_lives [] ls ≡ grown [] (kept_in (all_processed ls)) }
     // in which no request stands twice,
     ensures once { (ls : List Lifetime) → Distinct (after_lives [] ls) }
     // and what each life sent is a front of what is to be sent by that history.

@@ -6,7 +6,7 @@ use Rattle.fuse_tree.specs.Rows.{rowed}
 use Rattle.fuse_store_tables.specs.Content.{Content, Answer, value_at}
 use Rattle.fuse_store_tables.specs.Opening.{IsMetaFrom, IsOld, under, marked, migrated}
 use Rattle.fuse_store_tree.specs.Fits.{KeepsRecord}
-use Rattle.fuse_store_tree.specs.Store.{Tells, FitsSettings}
+use Rattle.fuse_store_tree.specs.Store.{Reports, FitsSettings}
 use Rattle.fuse_store_tree.specs.Holding.{TreesAreInOrder, store_of}
 use Rattle.fuse_store.specs.Opening.{TellsFirst, first_counters, First, opened_for}
 use Rattle.fuse_store.proofs.Fitting.{nodes_length, settings_low, all_less}
@@ -50,7 +50,7 @@ kept_under (a ∷ answers) all = (all.0, kept_under answers all.1)
 
 -- the records are under lot 0, and the rest is as it was
 pub tells_migrated : (tree : State) (answers : List Answer) (c : Content) → TellsFirst (rowed tree) answers c
-    → Tells (store_of (opened_for (First tree answers))) (migrated c)
+    → Reports (store_of (opened_for (First tree answers))) (migrated c)
 tells_migrated tree answers c told = record {
   counters = ap (λ cs. (marked (record c { counters = cs })).counters) told.counters;
   nodes = told.nodes;

@@ -246,7 +246,7 @@ impl<S: Alter + Drop> Keeper for TableKeeper<S> {
     ghost use Rattle.std.specs.Prelude.{length, IfOk, IfErr, OnOk};
     ghost use Rattle.fuse_tree.specs.Rows.{Rows};
     ghost use Rattle.fuse_keeper.specs.KeeperState.{AnswersNoMore, Called, Looked};
-    ghost use Rattle.fuse_keeper.specs.KeeperState.{IsFirm, Performs, Tells};
+    ghost use Rattle.fuse_keeper.specs.KeeperState.{IsFirm, Performs, Reports};
     ghost use Rattle.fuse_keeper.specs.KeeperState.{KeepsLots, KeepsOthers, LeavesGroup};
     ghost use Rattle.fuse_keeper.specs.KeeperState.{BeginsMount, DropsLots, LeavesMount};
     ghost use Rattle.fuse_keeper.specs.Group.{entries_of, ids_of};
@@ -356,7 +356,7 @@ impl<S: Alter + Drop> Keeper for TableKeeper<S> {
     fn settings(&mut self) -> Result<Option<Settings>, StoreFault>
         ensures looked { Looked (keeper_told S.Store self.old) (keeper_told S.Store self.new)
             result }
-        ensures ok { IfOk result (λ settings. Tells (keeper_told S.Store self.old)
+        ensures ok { IfOk result (λ settings. Reports (keeper_told S.Store self.old)
             (keeper_told S.Store self.new) (λ rows records. settings ≡ the_tree.settings rows)) }
         ensures fault { FaultsOutside S.Store self.old self.new result }
         ensures plain { IfErr result IsPlain }
@@ -375,15 +375,15 @@ impl<S: Alter + Drop> Keeper for TableKeeper<S> {
     fn counts(&mut self) -> Result<StoreCounts, StoreFault>
         ensures looked { Looked (keeper_told S.Store self.old) (keeper_told S.Store self.new)
             result }
-        ensures nodes { IfOk result (λ counts. Tells (keeper_told S.Store self.old)
+        ensures nodes { IfOk result (λ counts. Reports (keeper_told S.Store self.old)
             (keeper_told S.Store self.new) (λ rows records. counts.nodes ≡ the_tree.nodes rows)) }
-        ensures handles { IfOk result (λ counts. Tells (keeper_told S.Store self.old)
+        ensures handles { IfOk result (λ counts. Reports (keeper_told S.Store self.old)
             (keeper_told S.Store self.new)
             (λ rows records. counts.handles ≡ the_tree.handles rows)) }
-        ensures records { IfOk result (λ counts. Tells (keeper_told S.Store self.old)
+        ensures records { IfOk result (λ counts. Reports (keeper_told S.Store self.old)
             (keeper_told S.Store self.new)
             (λ rows records. CountsRecords records counts.records)) }
-        ensures lots { IfOk result (λ counts. Tells (keeper_told S.Store self.old)
+        ensures lots { IfOk result (λ counts. Reports (keeper_told S.Store self.old)
             (keeper_told S.Store self.new)
             (λ rows records. counts.lots ≡ length (keeper_told S.Store self.old).lots.numbers)) }
         ensures fault { FaultsOutside S.Store self.old self.new result }

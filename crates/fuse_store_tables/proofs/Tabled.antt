@@ -11,7 +11,7 @@ use Rattle.fuse_store_tables.specs.Following.{earlier}
 use Rattle.fuse_store_tables.specs.Faults.{IsOutside}
 use Rattle.fuse_store_tables.specs.Opening.{IsStored, IsSecond}
 use Rattle.fuse_store_tables.specs.Moves.{InsideAs, IsReady}
-use Rattle.fuse_store_tables.specs.Saying.{has_tables, first_names, second_names, TellsVersion, IsTabled}
+use Rattle.fuse_store_tables.specs.Saying.{has_tables, first_names, second_names, ReportsVersion, IsTabled}
 
 -- ---- a store has them
 
@@ -47,12 +47,12 @@ module _ (a b : State) (s : Schema) (same : s ≡ a.now.schema) where
 
 -- ---- what went well found them
 
-module _ (a b d : State) (s : Schema) (same : s ≡ a.now.schema) (n : ℕ) (tells : HasCleanDisk b → TellsVersion a.now n) {K : Trees → Type 0}
+module _ (a b d : State) (s : Schema) (same : s ≡ a.now.schema) (n : ℕ) (tells : HasCleanDisk b → ReportsVersion a.now n) {K : Trees → Type 0}
     (survives : Survives b d K) where
   pub tabled_first : n ≡ 1 → has_tables first_names s ≡ true → HasCleanDisk d → IsTabled a.now
-  tabled_first one all clean = inl (subst (TellsVersion a.now) one (tells (earlier b d _ survives clean)), sym (ap (has_tables first_names) same) ∙ all)
+  tabled_first one all clean = inl (subst (ReportsVersion a.now) one (tells (earlier b d _ survives clean)), sym (ap (has_tables first_names) same) ∙ all)
 
   pub tabled_second : {X E : Type 0} (r : Result X E) → n ≡ 2 → has_tables second_names s ≡ true → HasCleanDisk d → OnOk r (IsTabled a.now)
   tabled_second (Err e) two all clean = tt
   tabled_second (Ok x) two all clean =
-      inr (subst (TellsVersion a.now) two (tells (earlier b d _ survives clean)), sym (ap (has_tables second_names) same) ∙ all)
+      inr (subst (ReportsVersion a.now) two (tells (earlier b d _ survives clean)), sym (ap (has_tables second_names) same) ∙ all)

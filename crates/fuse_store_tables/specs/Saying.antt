@@ -27,13 +27,13 @@ abbrev pub HasFirst : ℕ → List Row → Type 0
 HasFirst n [] = ⊥
 HasFirst n (row ∷ rows) = column row 0 ≡ Int (pos n)
 
-abbrev pub TellsVersion : Database → ℕ → Type 0
-TellsVersion d n = (rows : List Row) × ShowsVersion d rows × HasFirst n rows
+abbrev pub ReportsVersion : Database → ℕ → Type 0
+ReportsVersion d n = (rows : List Row) × ShowsVersion d rows × HasFirst n rows
 
 -- `meta` isn't there, or no row of the version; or it is another version than 1 and 2
 abbrev pub Says : Database → StoreFault → Type 0
 Says d NotAStore = (table_named d.schema (codes "meta") ≡ None) ⊎ ShowsVersion d []
-Says d (Version n) = (n ≢ 1) × (n ≢ 2) × TellsVersion d n
+Says d (Version n) = (n ≢ 1) × (n ≢ 2) × ReportsVersion d n
 Says d _ = ⊤
 
 -- ---- the tables beside `meta`
@@ -52,4 +52,4 @@ has_tables names schema = list_all (λ name. is_some (table_named schema name)) 
 
 -- it tells one of the two versions, and has all tables of that one
 abbrev pub IsTabled : Database → Type 0
-IsTabled d = (TellsVersion d 1 × IsTrue (has_tables first_names d.schema)) ⊎ (TellsVersion d 2 × IsTrue (has_tables second_names d.schema))
+IsTabled d = (ReportsVersion d 1 × IsTrue (has_tables first_names d.schema)) ⊎ (ReportsVersion d 2 × IsTrue (has_tables second_names d.schema))

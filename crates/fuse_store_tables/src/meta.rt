@@ -7,7 +7,7 @@ ghost use Rattle.sqlite.specs.Effect.{Database};
 ghost use Rattle.fuse_store_tables.specs.Content.{Content, Counter, shown_counter, counter_key, at_by};
 ghost use Rattle.fuse_store_tables.specs.Content.{value_at};
 ghost use Rattle.fuse_store_tables.specs.Faults.{IsOutside, IsPlain};
-ghost use Rattle.fuse_store_tables.specs.Saying.{ShowsVersion, HasFirst, TellsVersion, Says};
+ghost use Rattle.fuse_store_tables.specs.Saying.{ShowsVersion, HasFirst, ReportsVersion, Says};
 ghost use Rattle.fuse_store_tables.specs.Moves.{InsideAs, Takes, IsSure};
 ghost use Rattle.fuse_store_tables.specs.Opening.{IsStored, IsLaid, IsMetaFrom, IsMeta, Tests, most};
 ghost use Rattle.fuse_store_tables.specs.Opening.{shown_meta};
@@ -74,7 +74,7 @@ pub(crate) fn find_version<S: Alter>(conn: &mut Connection<S>) -> Result<u64, St
         → InsideAs (IsStored c) (state S.Store conn.old) → n ≡ value_at 1 c) }
     ensures fault { IsSure IsStored (state S.Store conn.old) (state S.Store conn.new) result }
     ensures tells { HasCleanDisk (state S.Store conn.new)
-        → IfOk result (TellsVersion (state S.Store conn.old).now) }
+        → IfOk result (ReportsVersion (state S.Store conn.old).now) }
     ensures says { HasCleanDisk (state S.Store conn.new)
         → IfErr result (Says (state S.Store conn.old).now) }
     ensures laid { Takes IsLaid IsLaid (state S.Store conn.old) (state S.Store conn.new) result }

@@ -16,7 +16,7 @@ use Rattle.fuse_store_tables.specs.Content.{Content, without_blocks_from, node_k
 use Rattle.fuse_store_tables.specs.Moves.{Makes}
 use Rattle.fuse_store_tables.specs.Following.{earlier}
 use Rattle.fuse_store_tree.specs.Fits.{IsWhole}
-use Rattle.fuse_store_tree.specs.Store.{Store, Tells, TellsAs, byte_at, bytes_of, byte_in, cut, overlay, rows_bytes, in_order, with_change}
+use Rattle.fuse_store_tree.specs.Store.{Store, Reports, TellsAs, byte_at, bytes_of, byte_in, cut, overlay, rows_bytes, in_order, with_change}
 use Rattle.fuse_store_tree.specs.Changing.{Changed, Cut, Overlaid, KeepsBytes}
 use Rattle.fuse_store_tree.proofs.Orders.{all_filter}
 use Rattle.fuse_store_tree.proofs.BlockBytes.{lower, upper, others_left}
@@ -194,7 +194,7 @@ sized_byte x node size c told n i = elim (cases_Bool (n == node)) [
 ]
 
 sized_told : (x : Store) (node size : ℕ) (c : Content) → TellsAs x (cut node size (rows_bytes x.rows)) c
-    → Tells (with_change (changes.Sized node size) x) c
+    → Reports (with_change (changes.Sized node size) x) c
 sized_told x node size c told = record {
   counters = told.counters;
   nodes = told.nodes ∙ ap (in_order node_key) (sym (rows_same node (sized size) x.rows.nodes));

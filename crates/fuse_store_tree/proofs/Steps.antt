@@ -1,6 +1,6 @@
 -- A statement, or several, as a step on what the tables tell.
 use Rattle.std.proofs.Common.{ℕ, Ok, Err, Result, OnOk, OnErr}
-use Rattle.fuse_store_tree.specs.Store.{HeldAs, rows_bytes, Store, Tells, Held}
+use Rattle.fuse_store_tree.specs.Store.{HeldAs, rows_bytes, Store, Reports, Held}
 use Rattle.sqlite.specs.State.{State, HasCleanDisk}
 use Rattle.sqlite.specs.declared.error.Error.{Error}
 use Rattle.fuse_store_tables.specs.Content.{Content, Holds}
@@ -49,7 +49,7 @@ looked_bytes a b d p q = bytes_then a b d (bytes_keep a b p.stays) (λ clean w a
     (w, record { is_open = now.is_open; in_transaction = now.in_transaction; holds = (at.holds.0, now.holds, at.holds.2) })) q
 
 -- what a statement makes of the tables, told by what they tell
-pub made : {X : Type 0} (f : Content → Content) (g : Store → Store) (a b : State) (x : X) → ((s : Store) (c : Content) → Tells s c → Tells (g s) (f c))
+pub made : {X : Type 0} (f : Content → Content) (g : Store → Store) (a b : State) (x : X) → ((s : Store) (c : Content) → Reports s c → Reports (g s) (f c))
     → Makes {X = X} {E = Error} f a b (Ok x) → Changed g a b
 made f g a b x tells p = record {
   stays = keeps_of a b p.stays;
@@ -60,7 +60,7 @@ made f g a b x tells p = record {
 
 -- the same behind a look
 pub made_known : {X : Type 0} (f : Content → Content) (g : Store → Store) (a b d : State) (x : X) → Looked a b → Makes {X = X} {E = Error} f b d (Ok x)
-    → (HasCleanDisk b → (s : Store) (c : Content) → Inside c a → Tells s c → Tells (g s) (f c)) → Changed g a d
+    → (HasCleanDisk b → (s : Store) (c : Content) → Inside c a → Reports s c → Reports (g s) (f c)) → Changed g a d
 made_known f g a b d x p q tells = record {
   stays = looked_keeps a b d p (keeps_of b d q.stays);
   turns = λ clean s at.

@@ -19,7 +19,7 @@ use Rattle.fuse_tree.specs.Rows.{full_at, content_of, bytes_at, Rows, IsRowed, r
 use Rattle.fuse_store_tables.specs.Content.{Content, put_by, at_by, node_key, cookie_of, fh_of, has_name, stands_after}
 use Rattle.sqlite.specs.State.{State as Connected}
 use Rattle.fuse_store_tables.specs.Moves.{Inside, InsideAs}
-use Rattle.fuse_store_tree.specs.Store.{Store, Tells, Held, in_order}
+use Rattle.fuse_store_tree.specs.Store.{Store, Reports, Held, in_order}
 
 -- ---- lists that rise
 
@@ -128,7 +128,7 @@ find_row number (f ∷ fs) = elim (cases_Bool (f.row.node == number)) [
 
 -- ---- what is told
 
-module _ (x : Store) (c : Content) (rowed : IsRowed x.rows) (at : Tells x c) where
+module _ (x : Store) (c : Content) (rowed : IsRowed x.rows) (at : Reports x c) where
   pub row_told : (number : ℕ) → at_by node_key number c.nodes ≡ row_at x.rows number
   row_told number = ap (at_by node_key number) (at.nodes ∙ order_kept node_key _ (rows_rise x.rows rowed).0) ∙ find_row number x.rows.nodes
 
@@ -189,7 +189,7 @@ bytes_of_full c node offset len (Some f) full bytes = elim (cases_Bool (nat_lt o
     behind : (a k l : ℕ) → k ≡ l → nat_lt a k ≡ false → l ≤ a
     behind a k l same high = let h : k ≤ a = grind (arith, nat_tests) in omega (arith, h, same)
 
-pub bytes_are : (x : Store) (c : Content) → IsRowed x.rows → Tells x c → (node offset len : ℕ) → bytes_told (at_by node_key node c.nodes) c.blocks node offset
+pub bytes_are : (x : Store) (c : Content) → IsRowed x.rows → Reports x c → (node offset len : ℕ) → bytes_told (at_by node_key node c.nodes) c.blocks node offset
     len ≡ bytes_at x.rows node offset len
 bytes_are x c is_rowed at node offset len =
     ap (λ o. bytes_told o c.blocks node offset len) (row_told x c is_rowed at node)

@@ -9,7 +9,7 @@ use Rattle.fuse_store_tables.specs.Blocks.{Block, block_at, is_at, new_block}
 use Rattle.fuse_store_tree.specs.Fits.{IsWhole, Fits}
 use Rattle.fuse_store_tables.specs.Content.{put_block, node_key, has_by, Content, Holds}
 use Rattle.fuse_store_tree.specs.Store.{overlay, spliced, whole_of, byte_in, bytes_of, rows_bytes}
-use Rattle.fuse_store_tree.specs.Store.{Store, Tells, TellsAs, with_change, in_order, byte_at}
+use Rattle.fuse_store_tree.specs.Store.{Store, Reports, TellsAs, with_change, in_order, byte_at}
 use Rattle.fuse_store_tree.specs.Changing.{Overlaid, Changed, KeepsBytes}
 use Rattle.fuse_store_tree.proofs.Keys.{slots_rise}
 use Rattle.fuse_store_tree.proofs.BlockBytes.{part_put}
@@ -243,7 +243,7 @@ written_byte x node at bytes c d holds told n i = elim (cases_Bool (n == node)) 
 ]
 
 pub written_told : (x : Store) (node at : ℕ) (bytes : List ℕ) (c : Content) (d : Database) → Holds c d → TellsAs x (overlay node at bytes (rows_bytes x.rows)) c
-    → Tells (with_change (changes.Written node at bytes) x) c
+    → Reports (with_change (changes.Written node at bytes) x) c
 written_told x node at bytes c d holds told = record {
   counters = told.counters;
   nodes = told.nodes ∙ ap (in_order node_key) (sym (rows_same node (written at bytes) x.rows.nodes));

@@ -126,8 +126,8 @@ pub record TellsAs (x : Store) (bytes_are : ℕ → ℕ → ℕ) (c : Content) :
   pub fits : Fits c
 
 -- Of a content the blocks tell the bytes and zeros behind them: how long it is, its row tells.
-abbrev pub Tells : Store → Content → Type 0
-Tells x = TellsAs x (rows_bytes x.rows)
+abbrev pub Reports : Store → Content → Type 0
+Reports x = TellsAs x (rows_bytes x.rows)
 
 -- a database of the tables that tells this
 abbrev pub HeldAs : Store × (ℕ → ℕ → ℕ) → Database → Type 0

@@ -22,7 +22,7 @@ use Rattle.fuse_tree.specs.Rows.{row_of, rowed, rows_of_state, row_at, entry_at}
 use Rattle.fuse_tree.specs.Do.{lookup_child, lookup_entry, lookup, done, do_at, do_act, names_node, do_agreed, do_offered, offer_of}
 use Rattle.fuse_tree.specs.Plan.{Meets, TreeKept, look_fault, AnswersAreRead}
 use Rattle.fuse_tree.specs.Renaming.{asking}
-use Rattle.fuse_tree.specs.Reading.{Tells, child_of}
+use Rattle.fuse_tree.specs.Reading.{Reports, child_of}
 use Rattle.fuse_tree.specs.Planning.{plan_lookup, plan_of, plan_offered, plan_agreed, plan_at, plan_act, plan_child}
 use Rattle.fuse_tree.proofs.Agreement.{Agrees, refused_agrees, both, both_for}
 use Rattle.fuse_tree.proofs.MakingAgrees.{mkdir_agrees, mknod_agrees}
@@ -113,7 +113,7 @@ pub tree_kept : TreeKept
 tree_kept s request now tree = (plan_meets s request now tree).tree
 
 pub answered : (s : State) (request : Asked) (now : Moment) (result : Result Planned PlanFault) → Tree s
-    → (look_fault result ≡ None → Tells result (plan_of request now (rowed s))) → IfOk result (λ p. Meets s p (done s request now))
+    → (look_fault result ≡ None → Reports result (plan_of request now (rowed s))) → IfOk result (λ p. Meets s p (done s request now))
 answered s request now (Ok p) tree tells = subst (λ (q : Planned). Meets s q (done s request now)) (sym (tells refl).0) (plan_meets s request now tree)
 answered s request now (Err fault) tree tells = tt
 
@@ -123,7 +123,7 @@ read s request now (Ok p) law tree meets = subst (IsRead (opcode_of request.act)
 read s request now (Err fault) law tree meets = tt
 
 pub no_tree : (q : Planned) (result : Result Planned PlanFault)
-    → IfErr result (λ fault. fault ≡ faults.NotATree → (look_fault result ≡ None → Tells result q) → ⊥)
+    → IfErr result (λ fault. fault ≡ faults.NotATree → (look_fault result ≡ None → Reports result q) → ⊥)
 no_tree q (Ok p) = tt
 no_tree q (Err (faults.Look f)) = λ is _. absurd cc
 no_tree q (Err faults.Memory) = λ is _. absurd cc

@@ -31,7 +31,7 @@ use Rattle.fuse_tree.specs.Setting.{has, set_fault, set_node, with_set, setattr}
 use Rattle.fuse_tree.specs.Writing.{wrote, with_bytes, may_write, may_read, write, read}
 use Rattle.fuse_tree.specs.Making.{is_full, begun, new_node, new_entry, with_node, make, dir_mode, mkdir, may_make, node_mode, node_rdev, mknod}
 use Rattle.fuse_tree.specs.Init.{init}
-use Rattle.fuse_tree.specs.Listing.{first_fits, list_front, entries_behind, read_dir}
+use Rattle.fuse_tree.specs.Listing.{first_fits, list_prefix, entries_following, read_dir}
 use Rattle.fuse_tree.specs.Opening.{open_fault, opened, open_node, open_for, open_file, open_dir, closed, close, not_for_dirs, for_dirs_alone}
 use Rattle.fuse_tree.specs.Removing.{marked, mark, without, entry_gone, has_entries, unlink_child, unlink_entry, unlink_named, unlink, rmdir_child, rmdir_entry}
 use Rattle.fuse_tree.specs.Removing.{rmdir_named, rmdir}
@@ -232,7 +232,7 @@ module _ (s : State) (h : HoldsBytes s) where
       chosen (not (is_open s.handles fh n.number)) _ _ (stays s _ h)
       (unless s kind_fault _ h (leads (closed s fh) [] (record { contents = h.contents; names = h.names })))
 
-  list_keeps : (es : List Entry) (size : ℕ) → Keeps (list_front s es size)
+  list_keeps : (es : List Entry) (size : ℕ) → Keeps (list_prefix s es size)
   list_keeps es size = chosen (not (first_fits es size)) _ _ (stays s _ h) (leads s _ h)
 
   read_dir_keeps : (asked : ReadIn) (n : Node) → Keeps (read_dir s asked n)
@@ -240,7 +240,7 @@ module _ (s : State) (h : HoldsBytes s) where
       chosen (not (is_open s.handles asked.fh n.number)) _ _ (stays s _ h)
       (chosen (not (is_dir n.mode)) _ _ (stays s _ h)
       (chosen (nat_lt read_limit asked.size) _ _ (stays s _ h)
-      (chosen (not (is_named s n.number)) _ _ (stays s _ h) (list_keeps (entries_behind s n.number asked.offset) asked.size))))
+      (chosen (not (is_named s n.number)) _ _ (stays s _ h) (list_keeps (entries_following s n.number asked.offset) asked.size))))
 
   init_keeps : (negotiated : Negotiated) → Keeps (init s negotiated)
   init_keeps (Agreed out settings) = leads (record s { settings = Some settings }) _ (record { contents = h.contents; names = h.names })

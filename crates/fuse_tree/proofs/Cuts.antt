@@ -17,7 +17,7 @@ use Rattle.fuse_tree.specs.Rows.{Rows}
 use Rattle.fuse_tree.specs.Listing.{most}
 use Rattle.fuse_tree.specs.Reading.{refused, told}
 use Rattle.fuse_tree.specs.PlanListing.{row_above, row_entry, row_len, dots_behind, plan_front, IsCut}
-use Rattle.fuse_tree.proofs.Fronts.{longest, front_upto, first_cut}
+use Rattle.fuse_tree.proofs.Prefixes.{longest, front_upto, first_cut}
 
 -- ---- one entry after the other
 

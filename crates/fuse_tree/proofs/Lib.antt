@@ -10,7 +10,7 @@ pub mod EntryGone
 pub mod Exchanges
 mod Fit
 pub mod Fitting
-mod Fronts
+mod Prefixes
 mod GoneFirst
 pub mod GoneRows
 pub mod Heights

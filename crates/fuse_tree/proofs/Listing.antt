@@ -11,27 +11,27 @@ use Rattle.fuse_answer.specs.Entries.{Entry, IsNamed}
 use Rattle.fuse_tree.specs.declared.rows.EntryRow.{EntryRow}
 use Rattle.fuse_tree.specs.State.{State, Node, Tree, Apart, IsEntry, AreApart, node_at}
 use Rattle.fuse_tree.specs.Rows.{rows_of_state, row_of, is_after}
-use Rattle.fuse_tree.specs.Listing.{dots, above_or_root, kind_of, told_entry, entries_in, is_behind, entries_behind, longest_front, first_fits}
+use Rattle.fuse_tree.specs.Listing.{dots, above_or_root, kind_of, told_entry, entries_in, is_following, entries_following, longest_prefix, first_fits}
 use Rattle.fuse_tree.specs.Listing.{ListingIsLongest}
 use Rattle.fuse_tree.specs.PlanListing.{row_kind, row_entry, enough, dots_behind, rows_behind}
 use Rattle.fuse_tree.proofs.Lists.{all_more, all_kept, apart_filtered}
 use Rattle.fuse_tree.proofs.Puts.{row_found}
 use Rattle.fuse_tree.proofs.Shown.{name_fits}
-use Rattle.fuse_tree.proofs.Fronts.{longest, front_cut, first_cut}
+use Rattle.fuse_tree.proofs.Prefixes.{longest, front_cut, first_cut}
 
 -- ---- those behind an offset
 
 told_behind : (s : State) (dir offset : ℕ) (es : List EntryRow)
-    → filter (is_behind offset) (map (told_entry s) (filter (λ e. e.dir == dir) es)) ≡ map (told_entry s) (filter (is_after dir offset) es)
+    → filter (is_following offset) (map (told_entry s) (filter (λ e. e.dir == dir) es)) ≡ map (told_entry s) (filter (is_after dir offset) es)
 told_behind s dir offset [] = refl
 told_behind s dir offset (e ∷ es) =
     let rest = told_behind s dir offset es in
     let told : List EntryRow → List Entry = map (told_entry s) in
     let here : List EntryRow = filter (λ x. x.dir == dir) es in
     let after : List EntryRow = filter (is_after dir offset) es in
-    elim (eqb e.dir dir) as (λ b. filter (is_behind offset) (told (cond b (e ∷ here) here)) ≡ told (cond (b && nat_lt offset e.cookie) (e ∷ after) after)) [
+    elim (eqb e.dir dir) as (λ b. filter (is_following offset) (told (cond b (e ∷ here) here)) ≡ told (cond (b && nat_lt offset e.cookie) (e ∷ after) after)) [
       | true ↦ elim (nat_lt offset e.cookie) as
-          (λ b. cond b (told_entry s e ∷ filter (is_behind offset) (told here)) (filter (is_behind offset) (told here)) ≡ told (cond b (e ∷ after) after)) [
+          (λ b. cond b (told_entry s e ∷ filter (is_following offset) (told here)) (filter (is_following offset) (told here)) ≡ told (cond b (e ∷ after) after)) [
             | true ↦ ap (λ (xs : List Entry). told_entry s e ∷ xs) rest
             | false ↦ rest
           ]
@@ -40,10 +40,10 @@ told_behind s dir offset (e ∷ es) =
 
 -- the dots and the entries behind the offset
 behind : (s : State) (dir offset : ℕ)
-    → entries_behind s dir offset ≡ filter (is_behind offset) (dots dir (above_or_root s dir)) ++ map (told_entry s) (filter (is_after dir offset) s.entries)
+    → entries_following s dir offset ≡ filter (is_following offset) (dots dir (above_or_root s dir)) ++ map (told_entry s) (filter (is_after dir offset) s.entries)
 behind s dir offset =
-    filter-append (is_behind offset) (dots dir (above_or_root s dir)) (map (told_entry s) (filter (λ e. e.dir == dir) s.entries))
-    ∙ ap (λ (xs : List Entry). filter (is_behind offset) (dots dir (above_or_root s dir)) ++ xs) (told_behind s dir offset s.entries)
+    filter-append (is_following offset) (dots dir (above_or_root s dir)) (map (told_entry s) (filter (λ e. e.dir == dir) s.entries))
+    ∙ ap (λ (xs : List Entry). filter (is_following offset) (dots dir (above_or_root s dir)) ++ xs) (told_behind s dir offset s.entries)
 
 -- ---- those that the rows tell
 
@@ -62,7 +62,7 @@ same_entries s (e ∷ es) = rw (same_entry s e, same_entries s es) refl
 
 -- the rows tell a front of the entries behind the offset
 pub rows_cut : (s : State) (d : Node) (offset size : ℕ)
-    → rows_behind offset size (row_of s d) (rows_of_state s) ≡ take (length (dots_behind offset (row_of s d)) + enough size) (entries_behind s d.number offset)
+    → rows_behind offset size (row_of s d) (rows_of_state s) ≡ take (length (dots_behind offset (row_of s d)) + enough size) (entries_following s d.number offset)
 rows_cut s d offset size =
     let first : List Entry = dots_behind offset (row_of s d) in
     let after : List EntryRow = filter (is_after d.number offset) s.entries in
@@ -77,12 +77,12 @@ all_told s [] all = tt
 all_told s (e ∷ es) all = (all.0, all_told s es all.1)
 
 -- of a directory in a tree, each entry has a name
-pub all_named : (s : State) (dir offset : ℕ) → Tree s → AllByRecursion IsNamed (entries_behind s dir offset)
+pub all_named : (s : State) (dir offset : ℕ) → Tree s → AllByRecursion IsNamed (entries_following s dir offset)
 all_named s dir offset tree =
     let each : AllByRecursion (λ e. IsNamed (told_entry s e)) s.entries =
     all_more (IsEntry s.nodes s.entries s.next_cookie) (λ e. IsNamed (told_entry s e)) s.entries
     (λ e p. let fits = name_fits e.name p.name in (fits.some, fits.short)) tree.entries in
-    all_kept IsNamed (is_behind offset) (entries_in s dir)
+    all_kept IsNamed (is_following offset) (entries_in s dir)
     ((omega arith, omega arith), ((omega arith, omega arith), all_told s _ (all_kept (λ e. IsNamed (told_entry s e)) (λ e. e.dir == dir) s.entries each)))
 
 -- ---- what is told is that of the state
@@ -91,16 +91,16 @@ past : (size n : ℕ) → size < 32 * (n + enough size)
 past size n = omega arith
 
 pub same_front : (s : State) (d : Node) (offset size : ℕ) → Tree s
-    → longest_front (rows_behind offset size (row_of s d) (rows_of_state s)) size ≡ longest_front (entries_behind s d.number offset) size
+    → longest_prefix (rows_behind offset size (row_of s d) (rows_of_state s)) size ≡ longest_prefix (entries_following s d.number offset) size
 same_front s d offset size tree =
-    ap (λ (es : List Entry). longest_front es size) (rows_cut s d offset size)
-    ∙ front_cut (entries_behind s d.number offset) size _ (all_named s d.number offset tree) (past size (length (dots_behind offset (row_of s d))))
+    ap (λ (es : List Entry). longest_prefix es size) (rows_cut s d offset size)
+    ∙ front_cut (entries_following s d.number offset) size _ (all_named s d.number offset tree) (past size (length (dots_behind offset (row_of s d))))
 
 pub same_first : (s : State) (d : Node) (offset size : ℕ)
-    → first_fits (rows_behind offset size (row_of s d) (rows_of_state s)) size ≡ first_fits (entries_behind s d.number offset) size
+    → first_fits (rows_behind offset size (row_of s d) (rows_of_state s)) size ≡ first_fits (entries_following s d.number offset) size
 same_first s d offset size =
     ap (λ (es : List Entry). first_fits es size) (rows_cut s d offset size)
-    ∙ first_cut (entries_behind s d.number offset) size _ (omega arith)
+    ∙ first_cut (entries_following s d.number offset) size _ (omega arith)
 
 -- ---- the law
 
@@ -128,5 +128,5 @@ listing_is_longest s dir offset size tree =
         (omega arith, all_above s 1 here (omega arith) cookies),
         (all_above s 2 here (omega arith) cookies, apart_told s here (apart_filtered AreApart (λ e. e.dir == dir) s.entries tree.entries_apart)),
       );
-      longest = longest (entries_behind s dir offset) size;
+      longest = longest (entries_following s dir offset) size;
     }

@@ -9,16 +9,16 @@ use Rattle.fuse_answer.specs.Replies.{Directory}
 use Rattle.fuse_tree.specs.Bounds.{read_limit}
 use Rattle.fuse_tree.specs.State.{State, Node, Tree, is_dir, is_named}
 use Rattle.fuse_tree.specs.Handles.{is_open}
-use Rattle.fuse_tree.specs.Listing.{entries_behind, first_fits, longest_front, list_front, read_dir}
+use Rattle.fuse_tree.specs.Listing.{entries_following, first_fits, longest_prefix, list_prefix, read_dir}
 use Rattle.fuse_tree.proofs.Fit.{Fits, Reads, refused, answered, chosen, chosen_then, refused_reads, answered_reads, chosen_reads}
-use Rattle.fuse_tree.proofs.Fronts.{longest}
+use Rattle.fuse_tree.proofs.Prefixes.{longest}
 use Rattle.fuse_tree.proofs.Listing.{all_named}
 use Rattle.fuse_tree.proofs.Shown.{all_taken}
 
-list_fits : RecordSizes → (s : State) (es : List Entry) (size : ℕ) → size ≤ 1048576 → Fits (list_front s es size)
+list_fits : RecordSizes → (s : State) (es : List Entry) (size : ℕ) → size ≤ 1048576 → Fits (list_prefix s es size)
 list_fits sizes s es size few =
     chosen (not (first_fits es size)) _ _ (refused s _)
-    (answered s _ (omega (arith, few, sizes.5 (longest_front es size), (longest es size).fits)))
+    (answered s _ (omega (arith, few, sizes.5 (longest_prefix es size), (longest es size).fits)))
 
 pub read_dir_fits : RecordSizes → (s : State) (asked : ReadIn) (n : Node) → Fits (read_dir s asked n)
 read_dir_fits sizes s asked n =
@@ -26,14 +26,14 @@ read_dir_fits sizes s asked n =
     (chosen (not (is_dir n.mode)) _ _ (refused s _)
     (chosen_then (nat_lt read_limit asked.size) _ _ (refused s _) (λ few.
     chosen (not (is_named s n.number)) _ _ (refused s _)
-    (list_fits sizes s (entries_behind s n.number asked.offset) asked.size (ltb-false read_limit asked.size few)))))
+    (list_fits sizes s (entries_following s n.number asked.offset) asked.size (ltb-false read_limit asked.size few)))))
 
 -- ---- it is read
 
-list_reads : ReadBack → (s : State) (es : List Entry) (size : ℕ) → AllByRecursion IsNamed es → Reads Directory (list_front s es size)
+list_reads : ReadBack → (s : State) (es : List Entry) (size : ℕ) → AllByRecursion IsNamed es → Reads Directory (list_prefix s es size)
 list_reads back s es size named =
     chosen_reads (not (first_fits es size)) _ _ (refused_reads s _ refl)
-    (answered_reads s _ (back.listing (longest_front es size) (all_taken IsNamed _ es named)))
+    (answered_reads s _ (back.listing (longest_prefix es size) (all_taken IsNamed _ es named)))
 
 pub read_dir_reads : ReadBack → (s : State) (asked : ReadIn) (n : Node) → Tree s → Reads Directory (read_dir s asked n)
 read_dir_reads back s asked n tree =
@@ -41,4 +41,4 @@ read_dir_reads back s asked n tree =
     (chosen_reads (not (is_dir n.mode)) _ _ (refused_reads s _ refl)
     (chosen_reads (nat_lt read_limit asked.size) _ _ (refused_reads s _ refl)
     (chosen_reads (not (is_named s n.number)) _ _ (refused_reads s _ refl)
-    (list_reads back s (entries_behind s n.number asked.offset) asked.size (all_named s n.number asked.offset tree)))))
+    (list_reads back s (entries_following s n.number asked.offset) asked.size (all_named s n.number asked.offset tree)))))

@@ -36,11 +36,11 @@ told_entry s e = record { ino = e.child; off = e.cookie; kind = kind_of (node_at
 abbrev pub entries_in : State → ℕ → List Entry
 entries_in s dir = dots dir (above_or_root s dir) ++ map (told_entry s) (filter (λ e. e.dir == dir) s.entries)
 
-abbrev pub is_behind : ℕ → Entry → Bool
-is_behind offset e = nat_lt offset e.off
+abbrev pub is_following : ℕ → Entry → Bool
+is_following offset e = nat_lt offset e.off
 
-abbrev pub entries_behind : State → ℕ → ℕ → List Entry
-entries_behind s dir offset = filter (is_behind offset) (entries_in s dir)
+abbrev pub entries_following : State → ℕ → ℕ → List Entry
+entries_following s dir offset = filter (is_following offset) (entries_in s dir)
 
 -- ---- as many as fit
 
@@ -49,8 +49,8 @@ abbrev pub most : List Entry → ℕ → ℕ → ℕ
 most es size zero = 0
 most es size (suc n) = if nat_le (sum_by packed_len (take (suc n) es)) size then suc n else most es size n
 
-abbrev pub longest_front : List Entry → ℕ → List Entry
-longest_front es size = take (most es size (length es)) es
+abbrev pub longest_prefix : List Entry → ℕ → List Entry
+longest_prefix es size = take (most es size (length es)) es
 
 -- there is no first entry, or it fits
 abbrev pub first_fits : List Entry → ℕ → Bool
@@ -59,8 +59,8 @@ first_fits (e ∷ es) size = nat_le (packed_len e) size
 
 -- ---- READDIR
 
-abbrev pub list_front : State → List Entry → ℕ → Done
-list_front s es size = if not (first_fits es size) then refuse s einval else answer s (entries_bytes (longest_front es size))
+abbrev pub list_prefix : State → List Entry → ℕ → Done
+list_prefix s es size = if not (first_fits es size) then refuse s einval else answer s (entries_bytes (longest_prefix es size))
 
 abbrev pub read_dir : State → ReadIn → Node → Done
 read_dir s asked n =
@@ -68,7 +68,7 @@ read_dir s asked n =
     else if not (is_dir n.mode) then refuse s enotdir
     else if nat_lt read_limit asked.size then refuse s einval
     else if not (is_named s n.number) then refuse s enoent
-    else list_front s (entries_behind s n.number asked.offset) asked.size
+    else list_prefix s (entries_following s n.number asked.offset) asked.size
 
 -- ---- laws
 
@@ -76,7 +76,7 @@ read_dir s asked n =
 -- longest one that fits
 pub record Listed (s : State) (dir offset size : ℕ) : Type 0 where
   pub rise : Apart (λ e later. e.off < later.off) (entries_in s dir)
-  pub longest : IsLongest (entries_behind s dir offset) size (most (entries_behind s dir offset) size (length (entries_behind s dir offset)))
+  pub longest : IsLongest (entries_following s dir offset) size (most (entries_following s dir offset) size (length (entries_following s dir offset)))
 
 abbrev pub ListingIsLongest : Type 0
 ListingIsLongest = (s : State) (dir offset size : ℕ) → Tree s → Listed s dir offset size

@@ -16,7 +16,7 @@ use Rattle.fuse_tree.specs.State.{is_dir, type_of}
 use Rattle.fuse_tree.specs.Rows.{Rows, IsRowed, row_at, entries_after, row_is_named}
 use Rattle.fuse_tree.specs.Handles.{is_open}
 use Rattle.fuse_tree.specs.Plan.{look_fault}
-use Rattle.fuse_tree.specs.Listing.{dots, is_behind, longest_front, first_fits}
+use Rattle.fuse_tree.specs.Listing.{dots, is_following, longest_prefix, first_fits}
 use Rattle.fuse_tree.specs.Reading.{refused, told}
 
 -- ---- the entries of a directory
@@ -36,7 +36,7 @@ abbrev pub enough : ℕ → ℕ
 enough size = size / least_entry + 1
 
 abbrev pub dots_behind : ℕ → NodeRow → List Entry
-dots_behind offset row = filter (is_behind offset) (dots row.node (row_above row))
+dots_behind offset row = filter (is_following offset) (dots row.node (row_above row))
 
 abbrev pub rows_behind : ℕ → ℕ → NodeRow → Rows → List Entry
 rows_behind offset size row rows = dots_behind offset row ++ map (row_entry rows) (entries_after rows row.node offset (enough size))
@@ -53,7 +53,7 @@ pub record IsCut (es : List EntryRow) (left n : ℕ) : Type 0 where
 -- ---- READDIR
 
 abbrev pub plan_front : List Entry → ℕ → Planned
-plan_front es size = if not (first_fits es size) then refused einval else told (entries_bytes (longest_front es size))
+plan_front es size = if not (first_fits es size) then refused einval else told (entries_bytes (longest_prefix es size))
 
 abbrev pub plan_list : ℕ → ℕ → NodeRow → Rows → Planned
 plan_list offset size row rows = plan_front (rows_behind offset size row rows) size

@@ -19,12 +19,12 @@ use Rattle.fuse_tree.specs.Done.{entry_of, attr_out_of}
 -- ---- what the parts answer
 
 -- where it is answered, it is this, and the rows are not said to be those of no tree
-abbrev pub Tells : {X : Type 0} → Result X PlanFault → X → Type 0
-Tells result told = IfOk result (λ x. x ≡ told) × IfErr result (λ fault. fault ≢ faults.NotATree)
+abbrev pub Reports : {X : Type 0} → Result X PlanFault → X → Type 0
+Reports result told = IfOk result (λ x. x ≡ told) × IfErr result (λ fault. fault ≢ faults.NotATree)
 
 -- where no look failed and nothing wrong was taken, over the rows of a tree it is what is read off them
 abbrev pub Reads : {X : Type 0} → Type 0 → (Rows → Type 0) → Result X PlanFault → (Rows → X) → Type 0
-Reads clean sees result told = look_fault result ≡ None → clean → (rows : Rows) → IsRowed rows → sees rows → Tells result (told rows)
+Reads clean sees result told = look_fault result ≡ None → clean → (rows : Rows) → IsRowed rows → sees rows → Reports result (told rows)
 
 -- nothing but looks lie between the two, and the fault of the last is the one that is answered
 pub record Looked {S X : Type 0} (fault_of : S → Option LookFault) (looking failing : S → S → Type 0) (old new : S) (result : Result X PlanFault) : Type 0 where

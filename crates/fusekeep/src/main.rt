@@ -36,7 +36,7 @@ fn main(rt: HostRuntime) -> ExitCode {
     ExitCode::from(ending.status())
 }
 
-// Tells what clap says of the words.
+// Reports what clap says of the words.
 fn refuse<R: Eprint>(rt: &R, error: Error) -> Ending {
     if error.kind() == ErrorKind::OutOfMemory {
         return Ending::Memory;

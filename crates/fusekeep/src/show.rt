@@ -10,7 +10,7 @@ ghost use Rattle.fuse_store_tree.specs.Store.{value_of};
 use crate::copied::open_copy;
 use fuse_commands::Ending;
 use fuse_keeper::StoreFault;
-use fuse_show::{ShowFault, TellFault, show_content, show_listing, tell};
+use fuse_show::{ShowFault, ReportFault, show_content, show_listing, tell};
 use fuse_store::TableKeeper;
 use fuse_store_tree::TableLook;
 use fuse_store_tables::{begin, number_at, select_counters};
@@ -72,7 +72,7 @@ fn look_at<S: Alter + Drop>(alloc: Global, conn: Connection<S>) -> Result<TableL
     }
 }
 
-// Tells what the store of a database holds. Its version is that before it is opened, which makes a
+// Reports what the store of a database holds. Its version is that before it is opened, which makes a
 // store of version 1 one of version 2.
 fn tell_of<S: Alter + Drop, W: Write>(
     alloc: Global,
@@ -86,8 +86,8 @@ fn tell_of<S: Alter + Drop, W: Write>(
     let mut keeper = open_keeper(alloc, conn)?;
     match tell(&mut keeper, version, bytes, writer) {
         Ok(()) => Ok(()),
-        Err(TellFault::Store(fault)) => Err(Ending::of(fault)),
-        Err(TellFault::Output) => Err(Ending::PortFailed),
+        Err(ReportFault::Store(fault)) => Err(Ending::of(fault)),
+        Err(ReportFault::Output) => Err(Ending::PortFailed),
     }
 }
 

@@ -5,7 +5,7 @@ use crate::line::Line;
 use fuse_session::{Port, Received, Sent};
 use std::alloc::Global;
 
-/// Gives a list of bytes, and takes every answer. Behind it each answer of some number is lost, as
+/// Gives a list of bytes, and takes every answer. LongAfter it each answer of some number is lost, as
 /// where a server dies before the kernel has its answer.
 #[derive(Drop)]
 pub struct LossyPort {

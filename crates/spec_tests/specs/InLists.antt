@@ -8,7 +8,7 @@ use Rattle.fuse_sim.specs.Driving.{NoneReused}
 use Rattle.fuse_commands.specs.declared.ending.Ending.{Ending}
 use Rattle.fuse_commands.specs.declared.ending.Ending.TheVariants.{Done}
 use Rattle.fuse_commands.specs.Printing.{line, store_line}
-use Rattle.fuse_commands.specs.Scripts.{lines_of, Tells}
+use Rattle.fuse_commands.specs.Scripts.{lines_of, Describes}
 use Rattle.fuse_commands.specs.Simulating.{outcome_lines, outcomes_of, state_after, NotRun}
 
 -- the new store that events begin at
@@ -23,10 +23,10 @@ tree_text s events =
 
 -- a message of a script comes again though its answer was taken
 abbrev pub Reuses : List ℕ → Type 0
-Reuses script = (events : List Event) × Tells (lines_of script) events × (¬ NoneReused [] events)
+Reuses script = (events : List Event) × Describes (lines_of script) events × (¬ NoneReused [] events)
 
 -- the events of a script were run to their end, where no message comes again whose answer was taken, and this is
 -- printed of them; or its first bad line is told, and nothing is printed
 abbrev pub SimulatedAnew : Option (List ℕ) → Option (List ℕ) → List ℕ → Ending → Type 0
-SimulatedAnew old new script Done = (events : List Event) × Tells (lines_of script) events × (NoneReused [] events → Appends old new (tree_text start events))
+SimulatedAnew old new script Done = (events : List Event) × Describes (lines_of script) events × (NoneReused [] events → Appends old new (tree_text start events))
 SimulatedAnew old new script ending = NotRun script ending × (new ≡ old)

@@ -126,7 +126,7 @@ fn release() -> Op<'static> {
 }
 
 /// The run, under uniques with this bit: row init-agreed, MKNOD `f`, OPEN, WRITE `one`, READ,
-/// MKDIR `a`, RENAME `f` to `a/g`, RELEASE. Behind it UNLINK of `a/g`, so that node 2 stays until
+/// MKDIR `a`, RENAME `f` to `a/g`, RELEASE. LongAfter it UNLINK of `a/g`, so that node 2 stays until
 /// the next mount begins.
 pub(crate) fn messages(bit: u64) -> [Timed; MORE] {
     [

@@ -23,9 +23,9 @@ use Rattle.three_files.specs.Nodes.{number_of, node_at, is_dir, content_of}
 use Rattle.three_files.specs.Answers.{refuse, give, refuse_for, entry_out, attr_out, open_out, give_entry, give_attr, give_open}
 use Rattle.three_files.specs.Asking.{name_fault, file_named, found, lookup, open_for, release, release_dir, read, said_at}
 use Rattle.three_files.specs.Asking.{said_for, names_node, said_init, offer_of, said_offered, said}
-use Rattle.three_files.specs.Listing.{entries_behind, fitting, first_fits, list, read_dir}
+use Rattle.three_files.specs.Listing.{entries_following, fitting, first_fits, list, read_dir}
 use Rattle.three_files.specs.TheFiles.{the_files}
-use Rattle.three_files.proofs.Fronts.{fitting_fits}
+use Rattle.three_files.proofs.Prefixes.{fitting_fits}
 
 refused : (errno : Errno) → FitsAnswer (refuse errno)
 refused errno = record { refusal = λ _. refl; short = omega arith }
@@ -88,7 +88,7 @@ read_dir_fits sizes asked n =
     chosen (not (asked.fh == number_of n)) _ _ (refused _) (λ here.
     chosen (not (is_dir n)) _ _ (refused _) (λ dir.
     chosen (nat_lt 1048576 asked.size) _ _ (refused _) (λ few.
-    list_fits sizes (entries_behind asked.offset) asked.size (ltb-false 1048576 asked.size few))))
+    list_fits sizes (entries_following asked.offset) asked.size (ltb-false 1048576 asked.size few))))
 
 -- ---- all requests
 

@@ -1,5 +1,5 @@
 pub mod Asked
-pub mod Fronts
+pub mod Prefixes
 pub mod Fits
 pub mod Same
 pub mod Staying

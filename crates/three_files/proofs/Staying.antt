@@ -4,7 +4,7 @@ use Rattle.fuse_init.specs.declared.settings.Settings.{Settings}
 use Rattle.fuse_keeper.specs.History.{Entry, entry_id, History, after, has, add, grown}
 use Rattle.fuse_keeper.specs.KeeperState.{KeeperState, StandsFor}
 use Rattle.fuse_session.specs.Settling.{Mark}
-use Rattle.fuse_session.specs.Worked.{Timed, kept_in}
+use Rattle.fuse_session.specs.Processed.{Timed, kept_in}
 use Rattle.fuse_session.specs.Serving.{Lived}
 use Rattle.three_files.specs.Asking.{said, agreed_after}
 use Rattle.three_files.specs.TheFiles.{the_files}

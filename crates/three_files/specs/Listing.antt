@@ -23,8 +23,8 @@ entries =
     ∷ file_entry Hours 5
     ∷ []
 
-abbrev pub entries_behind : ℕ → List Entry
-entries_behind offset = filter (λ e. nat_lt offset e.off) entries
+abbrev pub entries_following : ℕ → List Entry
+entries_following offset = filter (λ e. nat_lt offset e.off) entries
 
 -- the entries from the first one on, as long as each fits with its padding into what is left
 abbrev pub fitting : List Entry → ℕ → List Entry
@@ -44,4 +44,4 @@ read_dir asked n =
     if not (asked.fh == number_of n) then refuse ebadf
     else if not (is_dir n) then refuse enotdir
     else if nat_lt 1048576 asked.size then refuse einval
-    else list (entries_behind asked.offset) asked.size
+    else list (entries_following asked.offset) asked.size

@@ -9,7 +9,7 @@ use Rattle.fuse_keeper.specs.PlainKeeper.{plain_told}
 use Rattle.fuse_keeper.specs.declared.plain.PlainKeeper.{PlainKeeper}
 use Rattle.fuse_keeper.specs.Stands.{Records}
 use Rattle.fuse_session.specs.Port.{PortState}
-use Rattle.fuse_session.specs.Worked.{Timed, bytes_of}
+use Rattle.fuse_session.specs.Processed.{Timed, bytes_of}
 use Rattle.fuse_session.specs.Settling.{Mark, NoneComesAgain, Replied}
 use Rattle.three_files.specs.TheFiles.{the_files}
 use Rattle.three_files.specs.declared.files.ThreeFiles.{ThreeFiles}

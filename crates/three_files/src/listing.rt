@@ -2,7 +2,7 @@
 ghost use Rattle.std.specs.Prelude.{◌≡◌, ◌≤◌, All, map, drop, IfOk};
 ghost use Rattle.fuse_answer.specs.Entries.{entry_of, IsNamed};
 ghost use Rattle.three_files.specs.Listing as listing;
-ghost use Rattle.three_files.specs.Listing.{file_entry, entries, entries_behind};
+ghost use Rattle.three_files.specs.Listing.{file_entry, entries, entries_following};
 ghost use Rattle.three_files.specs.declared.limits.TheConstants.{MAX_READ as max_read};
 
 use crate::limits::MAX_READ;
@@ -63,7 +63,7 @@ fn behind<'a, 'b>(dirents: &'b [Dirent<'a>], offset: u64) -> &'b [Dirent<'a>]
 
 // As many entries as fit.
 #[tactic(auto, using(crate::proofs::Fronts::front_listed))]
-fn list_front(alloc: Global, dirents: &[Dirent<'_>], size: u32) -> Result<Answer, Memory>
+fn list_prefix(alloc: Global, dirents: &[Dirent<'_>], size: u32) -> Result<Answer, Memory>
     requires named { All (λ d. IsNamed (entry_of d)) dirents.now }
     requires size { size ≤ max_read }
     ensures { IfOk result (λ answer. answer ≡ listing.list (map entry_of dirents.now) size) }
@@ -78,10 +78,10 @@ fn list_front(alloc: Global, dirents: &[Dirent<'_>], size: u32) -> Result<Answer
 // The entries behind the offset, as many as fit.
 fn list(alloc: Global, offset: u64, size: u32) -> Result<Answer, Memory>
     requires { size ≤ max_read }
-    ensures { IfOk result (λ answer. answer ≡ listing.list (entries_behind offset) size) }
+    ensures { IfOk result (λ answer. answer ≡ listing.list (entries_following offset) size) }
 {
     let dirents = all_dirents();
-    list_front(alloc, behind(&dirents, offset), size)
+    list_prefix(alloc, behind(&dirents, offset), size)
 }
 
 pub(crate) fn read_dir(alloc: Global, asked: &ReadIn, node: Node) -> Result<Answer, Memory>

@@ -10,7 +10,7 @@ ghost use Rattle.fuse_tree.specs.PlanListing as planning;
 ghost use Rattle.fuse_tree.specs.PlanListing.{dots_behind, row_above, row_entry, row_len};
 ghost use Rattle.fuse_tree.specs.PlanListing.{plan_front, plan_list, ReadsBy, IsCut, IsShown};
 ghost use Rattle.fuse_tree.specs.Reading as planned;
-ghost use Rattle.fuse_tree.specs.Reading.{Tells, told, LooksUp, Looked};
+ghost use Rattle.fuse_tree.specs.Reading.{Reports, told, LooksUp, Looked};
 ghost use Rattle.fuse_tree.specs.declared.limits.TheConstants.{MAX_READ as max_read};
 ghost use Rattle.fuse_tree.specs.declared.mode.TheConstants.{S_IFDIR as s_ifdir};
 
@@ -72,7 +72,7 @@ fn list<L: Look>(
     list_behind(alloc, look, dirents, entries.as_slice(), size)
 }
 
-// Behind the dots as many entries as fit. No other's child is looked up.
+// LongAfter the dots as many entries as fit. No other's child is looked up.
 #[tactic(auto, using(crate::proofs::Cuts::none_told, crate::proofs::Cuts::dots_fit))]
 fn list_behind<'a, L: Look>(
     alloc: Global,
@@ -88,7 +88,7 @@ fn list_behind<'a, L: Look>(
     requires named { All (λ d. IsNamed (entry_of d)) dirents.items }
     ensures plan { look_fault result ≡ None → L.is_clean look.new → (rows : Rows) → IsRowed rows
         → L.sees look.old rows → AllByRecursion (IsShown rows) entries.now
-        → Tells result (plan_front (map entry_of dirents.entry.items
+        → Reports result (plan_front (map entry_of dirents.entry.items
         ++ map (row_entry rows) entries.now) size) }
     ensures looked { Looked L.fault L.looks L.fails look.old look.new result }
 {
@@ -98,7 +98,7 @@ fn list_behind<'a, L: Look>(
         return Ok(list_nothing(alloc, entries.is_empty()));
     }
     push_entries(look, &mut dirents, &entries[..count])?;
-    Ok(list_front(alloc, dirents.as_slice(), size)?)
+    Ok(list_prefix(alloc, dirents.as_slice(), size)?)
 }
 
 // Where no entry fits: none is there, or the first one is too big.
@@ -245,7 +245,7 @@ fn dirent_of<'a, L: Look>(look: &mut L, entry: &'a EntryRow) -> Result<Dirent<'a
 
 // As many entries as fit.
 #[tactic(auto, using(crate::proofs::Fronts::front_planned))]
-fn list_front(alloc: Global, entries: &[Dirent<'_>], size: u32) -> Result<Planned, Memory>
+fn list_prefix(alloc: Global, entries: &[Dirent<'_>], size: u32) -> Result<Planned, Memory>
     requires named { All (λ d. IsNamed (entry_of d)) entries.now }
     requires size { size ≤ max_read }
     ensures { IfOk result (λ p. p ≡ plan_front (map entry_of entries.now) size) }

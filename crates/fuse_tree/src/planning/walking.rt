@@ -3,7 +3,7 @@ ghost use Rattle.fuse_tree.specs.State.{up_of, above};
 ghost use Rattle.fuse_tree.specs.Rows.{Rows, IsRowed};
 ghost use Rattle.fuse_tree.specs.Plan.{look_fault};
 ghost use Rattle.fuse_tree.specs.Renaming.{leads_to};
-ghost use Rattle.fuse_tree.specs.Reading.{Tells, LooksUp, Looked};
+ghost use Rattle.fuse_tree.specs.Reading.{Reports, LooksUp, Looked};
 
 use super::fault::PlanFault;
 use super::finding::{find_counters, find_node};
@@ -44,7 +44,7 @@ fn go_up<L: Look>(look: &mut L, node: u64, dir: u64, places: u64) -> Result<bool
     requires { L.fault look.old ≡ None }
     ensures under { look_fault result ≡ None → L.is_clean look.new → (rows : Rows) → IsRowed rows
         → L.sees look.old rows → above rows.entries places dir ≡ 0
-        → Tells result (leads_to rows.entries places node dir) }
+        → Reports result (leads_to rows.entries places node dir) }
     ensures looked { Looked L.fault L.looks L.fails look.old look.new result }
 {
     let mut place = dir;

@@ -1,5 +1,5 @@
 use Rattle.std.proofs.Common.{arith}
-use Rattle.fuse_answer.specs.Front.{entries_left}
+use Rattle.fuse_answer.specs.FirstEntry.{entries_left}
 use Rattle.fuse_answer.proofs.Listings.{entries_are}
 use Rattle.fuse_answer.proofs.unpacking.unpack.Goals as goal
 

@@ -2,7 +2,7 @@ use Rattle.std.proofs.Common.{◌≡◌, ap, subst}
 use Rattle.fuse_wire.specs.declared.moment.Moment.{Moment}
 use Rattle.fuse_request.specs.declared.class.Class.TheVariants.{Silent, Bare}
 use Rattle.fuse_request.specs.Classes.{class_of}
-use Rattle.fuse_session.specs.Worked.{entry_if, message_entry, moment_if}
+use Rattle.fuse_session.specs.Processed.{entry_if, message_entry, moment_if}
 use Rattle.fuse_session.proofs.gather.read_one.Goals as goal
 
 pub returns-in-Silent-clause-entry : goal.returns-in-Silent-clause-entry

@@ -1,6 +1,6 @@
 use Rattle.std.proofs.Common.{refl, subst, Option, ℕ, [], Some}
 use Rattle.fuse_show.specs.Listing.{listing}
-use Rattle.fuse_show.specs.Pages.{lines_left, WritesFront}
+use Rattle.fuse_show.specs.Pages.{lines_left, WritesPrefix}
 use Rattle.fuse_show.proofs.Lines.{none_written}
 use Rattle.fuse_show.proofs.Pages.{all_left, front_more, front_all, page_fails}
 use Rattle.fuse_show.proofs.listing.list.Goals as goal
@@ -27,7 +27,7 @@ loop-left-preserved g c =
           (listing rows c.args.dir) (lines_left rows c.args.dir (Some c.in-Some.after)) (lines_left rows c.args.dir c.in-Ok.rest)
           (subst
           (λ (o : Option ℕ).
-          WritesFront (g.W.Write.contents c.args.writer.now) (g.W.Write.contents c.loop-left.writer) (listing rows c.args.dir) (lines_left rows c.args.dir o))
+          WritesPrefix (g.W.Write.contents c.args.writer.now) (g.W.Write.contents c.loop-left.writer) (listing rows c.args.dir) (lines_left rows c.args.dir o))
           c.in-Some.is (before.lines clean_before rows is sees))
           (one.page clean rows is sees_before);
     }
@@ -59,7 +59,7 @@ returns g c =
           front_all (g.W.Write.contents c.args.writer.now) (g.W.Write.contents c.loop-left.writer) (listing rows c.args.dir)
           (subst
           (λ (o : Option ℕ).
-          WritesFront (g.W.Write.contents c.args.writer.now) (g.W.Write.contents c.loop-left.writer) (listing rows c.args.dir) (lines_left rows c.args.dir o))
+          WritesPrefix (g.W.Write.contents c.args.writer.now) (g.W.Write.contents c.loop-left.writer) (listing rows c.args.dir) (lines_left rows c.args.dir o))
           c.in_default.is (before.lines clean rows is sees));
       looked = record { fault = before.fault; looks = λ _. before.looks; fails = tt };
       reasons = tt;

@@ -1,7 +1,7 @@
 use Rattle.std.proofs.Common.{◌≡◌, None}
 use Rattle.fuse_show.specs.Looks.{ReadOff}
 use Rattle.fuse_show.specs.Listing.{listing}
-use Rattle.fuse_show.specs.Pages.{lines_left, WritesFront}
+use Rattle.fuse_show.specs.Pages.{lines_left, WritesPrefix}
 use Rattle.fuse_show.proofs.Pages.{cookies_left}
 use Rattle.fuse_show.proofs.listing.list.Given as goal
 
@@ -13,5 +13,5 @@ invariant-loop-left g l = record {
   fault : g.L.Look.fault l.look ≡ None;
   looks : g.L.Look.looks l.fn.look l.look;
   lines : ReadOff (g.L.Look.is_clean l.look) (g.L.Look.sees l.fn.look) (λ rows.
-      WritesFront (g.W.Write.contents l.fn.writer) (g.W.Write.contents l.writer) (listing rows l.dir) (lines_left rows l.dir l.left));
+      WritesPrefix (g.W.Write.contents l.fn.writer) (g.W.Write.contents l.writer) (listing rows l.dir) (lines_left rows l.dir l.left));
 }

@@ -1,5 +1,5 @@
 use Rattle.std.proofs.Common.{length, sym, ap, arith}
-use Rattle.fuse_answer.specs.Front.{entries_left}
+use Rattle.fuse_answer.specs.FirstEntry.{entries_left}
 use Rattle.fuse_answer.proofs.Listings.{entries_none, entries_some}
 use Rattle.fuse_answer.proofs.unpacking.DirentsIterator.next.Goals as goal
 

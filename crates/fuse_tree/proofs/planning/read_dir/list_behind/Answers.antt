@@ -24,7 +24,7 @@ returns-clause-plan g c = λ well clean rows is sees shown.
     let room : c.args.size ≤ sum_by packed_len first + c.saturating_sub.result =
     omega (arith, c.saturating_sub.ensures, c.len.ensures, c.requires.dots, len, count) in
     let told = second.entries (refl {a = None}) clean rows is sees (all_taken _ _ c.args.entries.now shown) in (
-      c.in_ok-list_front.ensures ∙ ap (λ (es : List Entry). plan_front es c.args.size) (ap (map entry_of) c.as_slice.ensures.value ∙ told.0)
+      c.in_ok-list_prefix.ensures ∙ ap (λ (es : List Entry). plan_front es c.args.size) (ap (map entry_of) c.as_slice.ensures.value ∙ told.0)
           ∙ same_told rows first c.args.entries.now c.args.size c.saturating_sub.result c.count_fitting-count.result room some c.count_fitting-count.ensures,
       tt,
     )

@@ -8,11 +8,11 @@ use Rattle.std.proofs.lemmas.List.Sums.{sum_by-cons}
 use Rattle.fuse_answer.specs.declared.dirent.Dirent.{Dirent}
 use Rattle.fuse_answer.specs.Entries.{Entry, entry_of, packed_len, entries_bytes, IsLongest, FirstIsTooBig}
 use Rattle.three_files.specs.Answers.{give}
-use Rattle.three_files.specs.Listing.{entries, entries_behind, fitting, first_fits, list}
+use Rattle.three_files.specs.Listing.{entries, entries_following, fitting, first_fits, list}
 
 -- ---- behind an offset
 
-past : (offset : ℕ) → 5 ≤ offset → [] ≡ entries_behind offset
+past : (offset : ℕ) → 5 ≤ offset → [] ≡ entries_following offset
 past offset many =
     let one : nat_lt offset 1 ≡ false = le-ltb offset 1 (omega arith) in
     let two : nat_lt offset 2 ≡ false = le-ltb offset 2 (omega arith) in
@@ -22,7 +22,7 @@ past offset many =
     rw (one, two, three, four, five) refl
 
 -- the offset of an entry is its place
-dropped : (offset : ℕ) → drop offset entries ≡ entries_behind offset
+dropped : (offset : ℕ) → drop offset entries ≡ entries_following offset
 dropped zero = refl
 dropped (suc zero) = refl
 dropped (suc (suc zero)) = refl
@@ -30,7 +30,7 @@ dropped (suc (suc (suc zero))) = refl
 dropped (suc (suc (suc (suc zero)))) = refl
 dropped (suc (suc (suc (suc (suc n))))) = drop_all (suc (suc (suc (suc (suc n))))) entries (omega arith) ∙ past (suc (suc (suc (suc (suc n))))) (omega arith)
 
-pub behind_is : (ds : List Dirent) (offset : ℕ) → map entry_of ds ≡ entries → map entry_of (drop offset ds) ≡ entries_behind offset
+pub behind_is : (ds : List Dirent) (offset : ℕ) → map entry_of ds ≡ entries → map entry_of (drop offset ds) ≡ entries_following offset
 behind_is ds offset is = sym (drop-map entry_of offset ds) ∙ ap (drop offset) is ∙ dropped offset
 
 -- ---- that fit

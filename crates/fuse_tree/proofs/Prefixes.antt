@@ -6,7 +6,7 @@ use Rattle.std.proofs.lemmas.Bool.{leb-true, leb-false}
 use Rattle.std.proofs.lemmas.List.{length-take, take-take}
 use Rattle.std.proofs.lemmas.List.Sums.{sum_by-cons}
 use Rattle.fuse_answer.specs.Entries.{Entry, IsNamed, packed_len, entries_bytes, IsLongest, FirstIsTooBig}
-use Rattle.fuse_tree.specs.Listing.{most, longest_front, first_fits}
+use Rattle.fuse_tree.specs.Listing.{most, longest_prefix, first_fits}
 use Rattle.fuse_tree.specs.Reading.{told}
 use Rattle.fuse_tree.specs.PlanListing.{plan_front}
 
@@ -43,7 +43,7 @@ longest es size =
 one_longest : (es : List Entry) (size n m : ℕ) → IsLongest es size n → IsLongest es size m → n ≡ m
 one_longest es size n m a b = omega (arith, b.longest n a.within a.fits, a.longest m b.within b.fits)
 
-pub front_is : (es : List Entry) (size n : ℕ) → IsLongest es size n → take n es ≡ longest_front es size
+pub front_is : (es : List Entry) (size n : ℕ) → IsLongest es size n → take n es ≡ longest_prefix es size
 front_is es size n is = ap (λ (k : ℕ). take k es) (one_longest es size n _ is (longest es size))
 
 first_that_fits : (es : List Entry) (size : ℕ) → (FirstIsTooBig es size → ⊥) → not (first_fits es size) ≡ false
@@ -88,13 +88,13 @@ cut_longest es size k few =
     }
 
 -- the front is the same where entries are left out that are not of it
-pub front_upto : (es : List Entry) (size k : ℕ) → most es size (length es) ≤ k → longest_front (take k es) size ≡ longest_front es size
+pub front_upto : (es : List Entry) (size k : ℕ) → most es size (length es) ≤ k → longest_prefix (take k es) size ≡ longest_prefix es size
 front_upto es size k few =
     let n : ℕ = most es size (length es) in
     sym (front_is (take k es) size n (cut_longest es size k few)) ∙ take-take n k es few
 
 -- and so where they can't fit
-pub front_cut : (es : List Entry) (size k : ℕ) → AllByRecursion IsNamed es → size < 32 * k → longest_front (take k es) size ≡ longest_front es size
+pub front_cut : (es : List Entry) (size k : ℕ) → AllByRecursion IsNamed es → size < 32 * k → longest_prefix (take k es) size ≡ longest_prefix es size
 front_cut es size k named past = front_upto es size k (let few = most_few es size k named past in omega (arith, few))
 
 pub first_cut : (es : List Entry) (size k : ℕ) → 0 < k → first_fits (take k es) size ≡ first_fits es size

@@ -19,8 +19,8 @@ entry_at b = record {
 }
 
 -- the entry and what follows it, where a whole one stands there
-abbrev pub front_of : List ℕ → Option (Entry × List ℕ)
-front_of b =
+abbrev pub leading_entry : List ℕ → Option (Entry × List ℕ)
+leading_entry b =
     if nat_lt (length b) dirent_name_offset then None
     else if name_len b == 0 then None
     else if nat_lt max_name_len (name_len b) then None
@@ -30,7 +30,7 @@ front_of b =
 -- at most n entries, as long as a whole one stands there
 abbrev pub entries_by : ℕ → List ℕ → List Entry
 entries_by zero b = []
-entries_by (suc n) b = option_map_or (λ p. p.0 ∷ entries_by n p.1) (front_of b) []
+entries_by (suc n) b = option_map_or (λ p. p.0 ∷ entries_by n p.1) (leading_entry b) []
 
 -- what an iterator over entries has left
 unfoldable pub entries_left : Dirents → List Entry
