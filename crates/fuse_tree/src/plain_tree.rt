@@ -5,14 +5,14 @@ ghost use Rattle.fuse_tree.specs.TheTree.{the_tree};
 ghost use Rattle.fuse_tree.specs.PlainTree.{tree_held};
 ghost use Rattle.fuse_tree.specs.Causing.{CausedBy};
 
-use fuse_answer::Answer;
-use fuse_init::Settings;
-use fuse_keeper::{FileSystem, StoreFault};
-use fuse_request::Request;
 use crate::laws::{answers_fit, new_store_is_tree, tree_kept};
 use crate::mount::clearing;
 use crate::plain::PlainRows;
 use crate::planning::{PlanFault, plan};
+use fuse_answer::Answer;
+use fuse_init::Settings;
+use fuse_keeper::{FileSystem, StoreFault};
+use fuse_request::Request;
 use fuse_wire::{Memory, Moment};
 use std::alloc::Global;
 

@@ -244,7 +244,7 @@ fn dirent_of<'a, L: Look>(look: &mut L, entry: &'a EntryRow) -> Result<Dirent<'a
 }
 
 // As many entries as fit.
-#[tactic(auto, using(crate::proofs::Fronts::front_planned))]
+#[tactic(auto, using(crate::proofs::Prefixes::front_planned))]
 fn list_prefix(alloc: Global, entries: &[Dirent<'_>], size: u32) -> Result<Planned, Memory>
     requires named { All (λ d. IsNamed (entry_of d)) entries.now }
     requires size { size ≤ max_read }
