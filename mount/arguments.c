@@ -1,6 +1,6 @@
 /* The command line of fusekeep-mount, and of mount.fuse.fusekeep. */
 #define _GNU_SOURCE
-#include "keeper.h"
+#include "supervisor.h"
 #include <stdio.h>
 #include <stdlib.h>
 #include <string.h>
@@ -18,7 +18,7 @@ static const struct { const char *word; unsigned long set, clear; } flag_words[]
   {"relatime", MS_RELATIME, 0}, {"norelatime", 0, MS_RELATIME}, {"strictatime", MS_STRICTATIME, 0},
 };
 
-/* Words of /etc/fstab that are for others; those that end in = or - are the begins of words. */
+/* Words of /etc/fstab for other programs; those that end in = or - are prefixes. */
 static const char *const others_words[] = {
   "defaults", "auto", "noauto", "nofail", "_netdev", "user", "nouser", "users", "owner", "group",
   "user=", "comment=", "x-", "X-",
@@ -46,36 +46,52 @@ static bool append(char *list, const char *word) {
   return false;
 }
 
-static bool take_option(struct keeper *k, const char *word) {
+static bool take_option(struct supervisor *s, const char *word) {
   for (size_t i = 0; i < sizeof flag_words / sizeof *flag_words; i++)
     if (strcmp(word, flag_words[i].word) == 0) {
-      k->flags = (k->flags & ~flag_words[i].clear) | flag_words[i].set;
-      return append(k->options, word);
+      s->flags = (s->flags & ~flag_words[i].clear) | flag_words[i].set;
+      return append(s->options, word);
     }
   if (strcmp(word, "default_permissions") == 0 || is_for_others(word)) return true;
-  if (strcmp(word, "allow_other") == 0 || is_max_read(word)) return append(k->data, word) && append(k->options, word);
-  if (!k->sloppy) say("the option %s isn't known", word);
-  return k->sloppy;
+  if (strcmp(word, "allow_other") == 0 || is_max_read(word)) return append(s->data, word) && append(s->options, word);
+  if (!s->sloppy) say("the option %s isn't known", word);
+  return s->sloppy;
 }
 
-static bool take_options(struct keeper *k, char *words) {
+static bool take_options(struct supervisor *s, char *words) {
   for (char *word = strtok(words, ","); word; word = strtok(NULL, ","))
-    if (!take_option(k, word)) return false;
+    if (!take_option(s, word)) return false;
   return true;
 }
 
-/* mount(8) hands options behind the operands, and `-f` of its own: to do all but the mount. */
-bool read_arguments(struct keeper *k, int argc, char **argv) {
-  bool is_helper = strcmp(basename(argv[0]), "mount.fuse.fusekeep") == 0, is_known = true;
+bool is_helper(const char *name) {
+  return strcmp(basename(name), "mount.fuse.fusekeep") == 0;
+}
+
+int print_help(void) {
+  static const char help[] =
+    "usage: fusekeep-mount [-f] [-o OPTIONS] STORE MOUNTPOINT\n"
+    "       fusekeep-mount --server STORE\n"
+    "\n"
+    "Mounts the store in the file STORE on the directory MOUNTPOINT. fusekeep-mount(8) lists the options.\n"
+    "  -f              stay in the foreground\n"
+    "  -o OPTIONS      mount options, with commas between them\n"
+    "  --server STORE  print the process number of the server of a mounted store\n";
+  return fputs(help, stdout) >= 0 && fflush(stdout) == 0 ? 0 : FAILED;
+}
+
+/* mount(8) gives the options after the operands. Its own `-f` means to do all but the mount. */
+bool read_arguments(struct supervisor *s, int argc, char **argv) {
+  bool by_mount = is_helper(argv[0]), is_known = true;
   unsetenv("POSIXLY_CORRECT");
   opterr = 0;
-  for (int letter; (letter = getopt(argc, argv, is_helper ? "sfnvo:" : "fo:")) != -1;) {
-    if (letter == 'f') *(is_helper ? &k->fake : &k->foreground) = true;
-    if (letter == 's') k->sloppy = true;
-    if (letter == 'o' && !take_options(k, optarg)) return false;
+  for (int letter; (letter = getopt(argc, argv, by_mount ? "sfnvo:" : "fo:")) != -1;) {
+    if (letter == 'f') *(by_mount ? &s->fake : &s->foreground) = true;
+    if (letter == 's') s->sloppy = true;
+    if (letter == 'o' && !take_options(s, optarg)) return false;
     if (letter == '?') is_known = false;
   }
   if (is_known && argc - optind == 2) return true;
-  say("usage: %s", is_helper ? "STORE MOUNTPOINT [-sfnv] [-o OPTIONS]" : "[-f] [-o OPTIONS] STORE MOUNTPOINT");
+  say("usage: %s", by_mount ? "STORE MOUNTPOINT [-sfnv] [-o OPTIONS]" : "[-f] [-o OPTIONS] STORE MOUNTPOINT, or --server STORE");
   return false;
 }

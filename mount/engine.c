@@ -1,6 +1,6 @@
-/* The engine of a mount, the program `fusekeep`: where it is found. */
+/* Where the engine of a mount, the program `fusekeep`, is found. */
 #define _GNU_SOURCE
-#include "keeper.h"
+#include "supervisor.h"
 #include <errno.h>
 #include <stdio.h>
 #include <stdlib.h>
@@ -15,9 +15,9 @@ static bool is_program(const char *path) {
   return access(path, X_OK) == 0;
 }
 
-/* The program of this name that PATH leads to. A part of PATH that isn't absolute is one of the folder in which this process
- * was begun, which it leaves. */
-static bool find_on_path(struct keeper *k, const char *name) {
+/* Searches PATH for a program. A relative folder of PATH is made absolute, since this process leaves the folder in which it was
+ * started. */
+static bool find_on_path(struct supervisor *s, const char *name) {
   static char path[3 * PATH_MAX];
   char here[PATH_MAX];
   const char *folder = getenv("PATH");
@@ -26,36 +26,36 @@ static bool find_on_path(struct keeper *k, const char *name) {
   for (;;) {
     int length = (int)strcspn(folder, ":");
     snprintf(path, sizeof path, "%s/%.*s/%s", *folder == '/' ? "" : here, length, folder, name);
-    if (is_program(path)) return k->engine = path, true;
+    if (is_program(path)) return s->engine = path, true;
     if (!folder[length]) return false;
     folder += length + 1;
   }
 }
 
-/* The engine beside this program: what is built in the tree that it is of, or stands in its folder. */
-static bool find_near(struct keeper *k) {
-  static const char *const near[] = {"../../crates/fusekeep/out/fusekeep", "fusekeep"};
+/* Searches the source tree and the folder of this program. */
+static bool find_near(struct supervisor *s) {
+  static const char *const near[] = {"../../dist/x86_64-linux/fusekeep", "fusekeep"};
   static char path[PATH_MAX + 64];
   ssize_t length = readlink("/proc/self/exe", path, PATH_MAX);
   while (length > 0 && path[length - 1] != '/') length--;
   for (size_t i = 0; length > 0 && i < sizeof near / sizeof *near; i++) {
     strcpy(path + length, near[i]);
-    if (is_program(path)) return k->engine = path, true;
+    if (is_program(path)) return s->engine = path, true;
   }
   return false;
 }
 
-bool find_engine(struct keeper *k) {
+bool find_engine(struct supervisor *s) {
   static char path[PATH_MAX];
   const char *named = getenv("FUSEKEEP");
   bool is_named = named && *named;
-  if (!is_named && find_near(k)) return true;
+  if (!is_named && find_near(s)) return true;
   if (is_named && strchr(named, '/')) {
     if (!realpath(named, path) || !is_program(path)) return refused(named);
-    return k->engine = path, true;
+    return s->engine = path, true;
   }
   const char *name = is_named ? named : "fusekeep";
-  if (find_on_path(k, name)) return true;
+  if (find_on_path(s, name)) return true;
   say("the engine, %s, is %son PATH", name, is_named ? "not " : "neither beside this program nor ");
   return false;
 }
