@@ -1,6 +1,6 @@
-/* Serves a stream of INIT, LOOKUP, MKNOD, OPEN, WRITE, READ and RELEASE over a store file by libsqlite3, with the statements
- * that the program makes, in the same groups and with the same durability; so that the two can be measured beside each
- * other. Every request has to be answered without an error. Prints the number of statements of each opcode. */
+/* Serves a stream of INIT, LOOKUP, MKNOD, OPEN, WRITE, READ and RELEASE over a store file by libsqlite3, to be measured beside the
+ * program: with the program's statements, in the same groups and with the same durability. Every request must be answered without
+ * an error. Prints the number of statements of each opcode. */
 #include <sqlite3.h>
 #include <stdint.h>
 #include <stdio.h>
@@ -11,7 +11,7 @@
 enum { LOOKUP = 1, MKNOD = 8, OPEN = 14, READ = 15, WRITE = 16, RELEASE = 18, INIT = 26, OPCODES = 64 };
 enum { HEADER = 40, PIECE = 135168, GROUP = 16, BLOCK = 4096, SECOND = 1000 };
 
-/* A row of nodes, and the numbers of meta from its key 1 on. */
+/* The columns of nodes, and the numbers of meta from key 1 on. */
 enum { NODE, MODE, UID, GID, RDEV, SIZE, ATIME, ATIMENSEC, MTIME, MTIMENSEC, CTIME, CTIMENSEC, UP, SUBDIRS, COLUMNS };
 enum { VERSION, NEXT_NODE, NEXT_FH, NEXT_COOKIE, NODES, HANDLES, SETTINGS, MINOR, READAHEAD, FLAGS, NEXT_LOT, NUMBERS };
 
@@ -60,7 +60,7 @@ static void exec(const char *text) {
   check(sqlite3_exec(db, text, NULL, NULL, NULL) == SQLITE_OK, text);
 }
 
-/* A statement with these numbers as its first parameters, before its first step. */
+/* Binds these numbers to the first parameters of a statement. */
 static sqlite3_stmt *with(int which, int count, const int64_t *numbers) {
   sqlite3_stmt *s = statements[which];
   for (int i = 0; i < count; i++) check(sqlite3_bind_int64(s, i + 1, numbers[i]) == SQLITE_OK, "bind");
@@ -113,7 +113,7 @@ static void put_node(const int64_t *row) {
   run_with(select_node(row[NODE], old) ? UPDATE_NODE : INSERT_NODE, COLUMNS, row);
 }
 
-/* The node under a name, 0 for none. */
+/* The node of a name, or 0. */
 static int64_t select_named(int64_t dir, const char *name) {
   sqlite3_stmt *s = with(SELECT_NAMED, 1, &dir);
   put_bytes(s, 2, name, (int)strlen(name));
@@ -240,7 +240,7 @@ static int do_release(const int64_t *row, const uint8_t *body) {
   return 0;
 }
 
-/* Does what a request asks for; its answer's body goes to `out`. */
+/* Executes a request, and writes its answer's body to `out`. */
 static int act(int opcode, const uint8_t *message, uint8_t *out) {
   int64_t numbers[NUMBERS], row[COLUMNS];
   const uint8_t *body = message + HEADER;
@@ -283,7 +283,7 @@ static void take_lot(void) {
   set_numbers(numbers, NEXT_LOT, NUMBERS);
 }
 
-/* Takes the whole messages of these bytes, in groups, and tells where they end. */
+/* Serves the whole messages of these bytes, in groups, and returns where they end. */
 static size_t take_all(const uint8_t *bytes, size_t len) {
   size_t at = 0;
   while (len - at >= HEADER && len - at >= get(bytes + at, 4)) {
