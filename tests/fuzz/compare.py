@@ -1,15 +1,14 @@
-"""One generated stream or script, run in all its ways; what they wrote has to be equal."""
+"""Runs one generated stream or script in all its ways, and compares the outputs."""
 import os
 import re
 import sqlite3
 from dataclasses import dataclass
 
-from generate import Scripts, Streams, m
-
-import program
+from fuzz.generate import Scripts, Streams, m
+from lib import program
 
 SECONDS = 300
-# How many messages a stream may have, and events a script.
+# The lengths of streams in messages, and of scripts in events.
 MESSAGES = [40, 400, 2000, 5000]
 EVENTS = [40, 300, 1500]
 COUNTS = re.compile(r"(\w+)=(\d+)")
@@ -18,8 +17,8 @@ PLACE = re.compile(r" at (\d+)")
 
 @dataclass
 class Seen:
-    """The answers of runs over one store, their counts together, the last fault line, with its place in the whole stream, and
-    the status."""
+    """The answers of runs over one store, the sums of their counts, the last fault line with its place in the whole stream, and the
+    status."""
     answers: list
     counts: dict
     line: str
@@ -27,11 +26,11 @@ class Seen:
 
 
 class Difference(Exception):
-    """Two ways differ; the words tell how."""
+    """A difference of two ways, in words."""
 
 
 def seen_of(ran, before=0):
-    """What a run wrote, behind so many bytes of the stream."""
+    """The output of a run that began after this many bytes of the stream."""
     lines = ran.out.decode(errors="replace").splitlines()
     counts = {name: int(number) for line in lines[-1:] for name, number in COUNTS.findall(line)}
     answers = lines[:-1] if counts else lines
@@ -46,7 +45,7 @@ def joined(first, second):
 
 
 def has_ended(seen, messages):
-    """Whether a session ended within these messages, and not behind them."""
+    """Whether a session ended within these messages, and not after them."""
     if seen.status != 0:
         return True
     served = seen.counts["messages"]
@@ -57,7 +56,7 @@ def has_ended(seen, messages):
 
 
 def first_difference(wanted, found):
-    """Where two lists of lines part."""
+    """The first difference of two lists of lines."""
     for at, (one, other) in enumerate(zip(wanted, found)):
         if one != other:
             return f"answer {at}: {one[:120]} and {other[:120]}"
@@ -65,7 +64,7 @@ def first_difference(wanted, found):
 
 
 def same(ways, wanted, found):
-    """Both have to be equal."""
+    """Raises a difference unless both are equal."""
     if wanted == found:
         return
     if wanted.answers != found.answers:
@@ -81,7 +80,7 @@ class Runs:
         self.count = 0
 
     def store(self):
-        """The path of a store that isn't there yet."""
+        """The path of a new store."""
         for name in os.listdir(self.folder):
             if name.startswith("store"):
                 os.remove(f"{self.folder}/{name}")
@@ -104,19 +103,19 @@ class Runs:
 
 
 def compare_stream(runs, messages, secs, cut):
-    """A stream over lists, over a file, and over a file in two runs."""
-    lists = runs.replay(messages, secs)
-    same("replay and replay --db", lists, runs.replay(messages, secs, runs.store()))
+    """Compares a stream in memory, over a file, and over a file in two runs."""
+    whole = runs.replay(messages, secs)
+    same("replay and replay --db", whole, runs.replay(messages, secs, runs.store()))
     store = runs.store()
     parts = runs.replay(messages[:cut], secs, store)
     if not has_ended(parts, messages[:cut]):
         before = sum(map(len, messages[:cut]))
         parts = joined(parts, runs.replay(messages[cut:], secs, store, before))
-    same(f"replay and two runs of replay --db, cut at message {cut}", lists, parts)
+    same(f"replay and two runs of replay --db, cut at message {cut}", whole, parts)
 
 
 def lives_of(events):
-    """Events in runs of one second each, of which a DESTROY is the last."""
+    """The events in runs of one second each. A DESTROY ends a run."""
     lives = [[]]
     for event in events:
         if lives[-1] and (lives[-1][-1].secs != event.secs or m.opcode_of(lives[-1][-1].message) == m.DESTROY):
@@ -126,14 +125,14 @@ def lives_of(events):
 
 
 def taken_of(events, answers):
-    """What a kernel takes: the answers of those events whose answers aren't lost, and `-` else."""
+    """The lines of `simulate`: the answers that aren't lost, and `-` for the other events."""
     left = iter(answers)
-    told = []
+    lines = []
     for event in events:
         is_silent = m.opcode_of(event.message) in m.SILENT
         answer = None if is_silent or event.fate == "before" else next(left, "none")
-        told.append(answer if event.fate == "answered" and answer else "-")
-    return told
+        lines.append(answer if event.fate == "answered" and answer else "-")
+    return lines
 
 
 def counts_in(store):
@@ -147,7 +146,7 @@ def counts_in(store):
 
 
 def compare_script(runs, events):
-    """A script, beside a replay of the events that were committed: each request once, in the order of its first commit."""
+    """Compares a script with a replay of the events that were committed: each request once, in the order of its first commit."""
     ran = runs.simulate(events)
     lines = ran.out.decode(errors="replace").splitlines()
     store = runs.store()
@@ -159,12 +158,12 @@ def compare_script(runs, events):
 
 
 def is_of_script(seed):
-    """Which seeds make scripts."""
+    """Whether a seed makes a script."""
     return seed % 3 == 2
 
 
 def try_seed(runs, seed):
-    """Makes what a seed makes and runs it: how many requests it has."""
+    """Makes and runs the stream or script of a seed; the number of its requests."""
     if is_of_script(seed):
         made = Scripts(seed)
         events = made.events(made.random.choice(EVENTS))

@@ -1,18 +1,12 @@
 """Generated streams of messages, and scripts of events with their fates."""
-import os
 import random
 import struct
-import sys
 from dataclasses import dataclass
 from functools import partial
 
-from guess import DIRECTORY, OTHER, Guess
-from guess import FILE as FILE_KIND
-
-HERE = os.path.dirname(os.path.realpath(__file__))
-sys.path.insert(0, f"{HERE}/../streams")
-
-import messages as m  # noqa: E402
+from fuzz.guess import DIRECTORY, OTHER, Guess
+from fuzz.guess import FILE as FILE_KIND
+from lib import messages as m
 
 NAMES = [b"a", b"b", b"c", b"d", b"e", b"name", b"n" * 255]
 ODD_NAMES = [b"", b".", b"..", b"x/y", b"n" * 256, b"\xff\xfe", b" "]
@@ -25,7 +19,7 @@ FILE = 1 << 24
 READ = 1 << 20
 WORD = (1 << 32) - 1
 NO_KIND = 0o150000
-# So many entries are much.
+# From this many entries on, more requests remove.
 MUCH = 120
 # How often each kind of request comes.
 WEIGHTS = {
@@ -45,7 +39,7 @@ class Event:
 
 
 class Values:
-    """Numbers, names and places as they come in requests."""
+    """Numbers, names and places of requests."""
 
     def __init__(self, seed):
         self.random = random.Random(seed)
@@ -66,7 +60,7 @@ class Values:
         return self.random.choice(nodes)
 
     def handle(self, kind):
-        """A handle and its node, most often of those of a kind that are open."""
+        """A handle and its node, most often an open one of a kind."""
         if self.chance(0.06):
             return self.random.choice([self.guess.next_handle, 1, *NUMBERS]), self.node()
         handle, node = self.random.choice(self.guess.open(kind) or [(1, 1)])
@@ -78,13 +72,13 @@ class Values:
         return b"%d" % self.random.randint(0, 200) if self.chance(0.15) else self.random.choice(NAMES)
 
     def place(self):
-        """A directory and a name in it that is there, most often."""
+        """A directory and a name, most often one that it has."""
         if not self.guess.entries or self.chance(0.2):
             return self.node(DIRECTORY), self.name()
         return self.random.choice(list(self.guess.entries))
 
     def offset(self):
-        """A place in a file, often at the end of a block, seldom at the end of all."""
+        """A place in a file, often at the end of a block, seldom at the largest one."""
         if self.chance(0.01):
             return self.random.choice([FILE - 1, FILE - 5000, FILE, 1 << 40, (1 << 64) - 1])
         if self.chance(0.4):
@@ -102,7 +96,7 @@ class Values:
 
 
 class Requests(Values):
-    """The node and the body of requests, each kind by its name. What one would change of the guess is its effect."""
+    """The nodes and bodies of requests, each kind by its name. An effect is the change that a request makes to the guess."""
 
     def will(self, change, *values):
         self.effect = partial(change, *values)
@@ -143,7 +137,7 @@ class Requests(Values):
         return place, m.mkdir_body(name, self.word())
 
     def moved(self):
-        """From where to where: often from one entry to another."""
+        """The two places of a rename, often two entries."""
         place, old = self.place()
         new_place, new = self.place() if self.chance(0.5) else (self.node(DIRECTORY), self.name())
         return place, old, new_place, new
@@ -244,7 +238,7 @@ class Messages(Requests):
         return body[:at] + self.random.randbytes(1) + body[at + 1:]
 
     def extension(self, body):
-        """Extensions, which may be told longer than the message is."""
+        """Extensions, whose length may be stated longer than the message."""
         if not self.chance(0.02):
             return body, 0
         count = self.random.randint(1, 3)
@@ -254,7 +248,7 @@ class Messages(Requests):
         return body, self.random.choice([count, 65535])
 
     def made(self, opcode, unique, node, body):
-        """The message of these parts, seldom one of no request."""
+        """The message of these parts; seldom with a spoiled body."""
         if self.chance(0.02):
             body = self.spoiled(body)
             self.effect = None
@@ -265,13 +259,13 @@ class Messages(Requests):
         return whole[:36] + struct.pack("<HH", count, 0 if self.chance(0.9) else 0xffff) + whole[40:]
 
     def opcode(self):
-        """What is asked for; where much is there, more of it goes."""
+        """The kind of a request; where there are many entries, more requests remove."""
         if len(self.guess.entries) > MUCH and self.chance(0.3):
             return self.random.choice([m.UNLINK, m.UNLINK, m.RMDIR])
         return self.random.choices(list(WEIGHTS), WEIGHTS.values())[0]
 
     def first(self):
-        """An INIT by which the rest is served."""
+        """An INIT that is agreed on."""
         return m.message(m.INIT, self.fresh(), 0, m.init_body())
 
     def request(self, unique):
@@ -284,17 +278,17 @@ class Messages(Requests):
 
 
     def happen(self, effect):
-        """What a message does, where it does something."""
+        """Makes the change of a message to the guess."""
         self.effect = None
         if effect:
             effect()
 
 
 class Streams(Messages):
-    """Streams as a kernel, or nobody, would write them."""
+    """Streams, some as a kernel writes them, others as none does."""
 
     def again(self, earlier):
-        """A message of an id that was there: the same one or another."""
+        """A message of a used id: the same message or another."""
         whole = self.random.choice(earlier[-40:])
         unique, = struct.unpack_from("<Q", whole, 8)
         unique = unique & ~m.RESEND or self.fresh()
@@ -305,7 +299,7 @@ class Streams(Messages):
         return m.resent(whole) if self.chance(0.8) else whole
 
     def end(self):
-        """How a stream ends: well, most often."""
+        """The end of a stream, most often a good one."""
         way = self.random.randint(0, 11)
         rest = self.request(self.fresh())
         ends = {
@@ -330,14 +324,14 @@ class Streams(Messages):
 
 
 class Scripts(Messages):
-    """Scripts in which no id comes again whose answer was taken, as a kernel has it."""
+    """Scripts as a kernel makes them: no id comes again whose answer was taken."""
 
     def __init__(self, seed):
         super().__init__(seed)
         self.pending = []
 
     def message(self):
-        """A new message, or a pending one again, and its effect if it has none yet."""
+        """A new message, or a pending one again, and its effect if that is not yet made."""
         if self.pending and self.chance(0.25):
             whole, effect = self.pending.pop(self.random.randrange(len(self.pending)))
             return m.resent(whole), effect
@@ -357,7 +351,7 @@ class Scripts(Messages):
         return Event(fate, secs, whole)
 
     def events(self, count):
-        """Events; now and then the second is another."""
+        """The events; now and then the second changes."""
         secs = self.secs()
         made = [Event("answered", secs, self.first())]
         while len(made) < count:

@@ -1,4 +1,4 @@
-"""The tree that a stream has made so far, so that most of its requests name what is there. Nothing is tested by it."""
+"""The tree that a stream has probably made so far, so that most of its requests name nodes that exist. No test depends on it."""
 
 DIRECTORY, FILE, OTHER = "directory", "file", "other"
 NOREPLACE, EXCHANGE = 1, 2

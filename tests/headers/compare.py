@@ -1,12 +1,11 @@
-"""Compares what the definitions in specs/ state with the lines that numbers.c prints: compare.py CRATES LINES.
-
-The last line tells what was compared; the exit status is 1 where anything differs.
-"""
+"""Compares the definitions in specs/ with the lines that numbers.c prints: compare CRATES LINES"""
 import os
 import re
 import sys
 
-# The tables of numbers: a file, and what a name of it is called in the headers.
+from lib.counts import print_counts
+
+# The tables of numbers: a file, and the name in the headers of one of its names.
 NUMBERS = [
     ("fuse_wire/specs/Opcodes.antt", str.upper),
     ("fuse_wire/specs/Errnos.antt", str.upper),
@@ -14,7 +13,7 @@ NUMBERS = [
     ("fuse_tree/specs/Modes.antt", str.upper),
 ]
 
-# Names of these tables that are own.
+# Names of these tables that the headers don't have.
 OWN = {"type_unit", "type_count"}
 
 # Functions of these tables, which state no number.
@@ -34,7 +33,7 @@ SINGLE_NUMBERS = [
 SIZES = ["fuse_request/specs/Lengths.antt", "fuse_answer/specs/Sizes.antt"]
 SINGLE_SIZES = [("fuse_wire/specs/Bounds.antt", "min_message_len", "fuse_in_header")]
 
-# The layouts: a file, a definition's left side up to `=`, its struct, and fields that are called otherwise there.
+# The layouts: a file, a definition's left side up to `=`, its struct, and fields that have another name there.
 LAYOUTS = [
     ("fuse_request/specs/Header.antt", "raw_parts h", "fuse_in_header", {}),
     ("fuse_request/specs/Spelling.antt", "setattr_parts x", "fuse_setattr_in", {}),
@@ -68,7 +67,7 @@ LAYOUTS = [
      {"name": "namelen", "kind": "type"}),
 ]
 
-# Parts of a layout that are the parts of another definition of the same file, and what its fields stand under.
+# Parts of a layout that are the parts of another definition of the same file, and the prefix of their fields.
 INNER = {
     "attr_parts a.attr": ("attr_parts a", "attr."),
     "attr_parts e.attr": ("attr_parts a", "attr."),
@@ -76,12 +75,12 @@ INNER = {
     "head_parts h (number 2 h.padding)": ("head_parts h padding", ""),
 }
 
-# A part that a definition is given, and what that is in the layout that is compared.
+# A part that a definition gets as an argument, and its value in the layout that is compared.
 GIVEN = {"padding": "number 2 h.padding"}
 
 
 class Found:
-    """What the headers say."""
+    """The headers' numbers, sizes and fields."""
 
     def __init__(self, path):
         self.version, self.numbers, self.sizes, self.fields, self.lacks = "", {}, {}, {}, set()
@@ -100,13 +99,13 @@ class Found:
 
 
 class Comparison:
-    """Counts what agrees, and keeps what differs and what was passed over."""
+    """Counts the names that agree, and keeps those that differ and those that the header lacks."""
 
     def __init__(self, found):
         self.found, self.agreed, self.skipped, self.wrong = found, 0, [], []
 
     def same(self, name, stated, real, lacked):
-        """Whether the headers say the same of this name."""
+        """Compares the stated number of this name with the real one."""
         if real is None:
             if lacked:
                 self.skipped.append(name)
@@ -147,7 +146,7 @@ def value_of(text):
 
 
 def definitions(path):
-    """The definitions of a file, each by its left side, with its lines joined."""
+    """The definitions of a file by their left sides, with their lines joined."""
     sides, last = {}, None
     for line in open(path, encoding="utf-8"):
         line = line.rstrip()
@@ -163,7 +162,7 @@ def definitions(path):
 
 
 def parts_of(sides, left, others, under=""):
-    """The parts of a layout up to its first text or payload: each one's width, and its field or None where it is unused."""
+    """The parts of a layout up to its first text or payload: the width of each, and its field, or None where it is unused."""
     pairs = []
     for part in map(str.strip, sides[left].split("∷")):
         part = GIVEN.get(part, part)
@@ -178,18 +177,18 @@ def parts_of(sides, left, others, under=""):
         elif part == "[]" or part.startswith(("text ", "bytes ")):
             break
         else:
-            raise ValueError(f"{left}: {part} is read as no part")
+            raise ValueError(f"{left}: {part} is no part that is known here")
     return pairs
 
 
 def field_of(expression, others):
-    """Which field an expression names: its last name that is one, as the headers call it."""
+    """The field that an expression names, as the headers call it: its last name."""
     names = [word for word in re.findall(r"[a-z_]\w*", expression) if word != "forget_one_size"]
     return others.get(names[-1], names[-1])
 
 
 def compare_layout(result, sides, left, struct, others):
-    """Each field at its place with its width, no field left out, and no more or fewer bytes in all."""
+    """Compares the place and the width of each field, that no field is left out, and the size of the whole."""
     place, named = 0, set()
     for width, field in parts_of(sides, left, others):
         if field is not None:
@@ -233,10 +232,10 @@ def main(crates, lines):
     for line in result.wrong:
         print("headers:", line)
     skipped = ", ".join(sorted(set(result.skipped)))
-    print(f"headers: {result.agreed} numbers, sizes and fields agree with linux/fuse.h {found.version}"
-          + f", {len(result.wrong)} differ"
-          + (f"; it lacks {skipped}" if skipped else ""))
-    return 0 if result.agreed and not result.wrong else 1
+    print(f"headers: {result.agreed} numbers, sizes and fields agree with linux/fuse.h {found.version}")
+    if skipped:
+        print(f"headers: {len(set(result.skipped))} names: skipped, the header lacks {skipped}")
+    return print_counts("headers", result.agreed, len(result.wrong), len(set(result.skipped)))
 
 
 if __name__ == "__main__":

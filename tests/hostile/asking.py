@@ -1,7 +1,7 @@
 """A stream of every operation, over all the nodes and names of a store."""
 import sqlite3
 
-from good import FIRST_ID, LONG, init, m
+from hostile.good import FIRST_ID, LONG, init, m
 
 NAMES = [b"a", b"b", b"f", b"g", b"pipe", b"e", b"gone", LONG, b"00" + b"x" * 60, b"no", b".", b"..", b"x/y", b""]
 NODES = [1, 2, 3, 4, 5, 6, 8, 9, 10, 11, 50]
@@ -10,12 +10,12 @@ HANDLES = [(1, 4), (2, 5), (3, 9), (4, 1), (5, 3), (6, 4)]
 BEYOND = [0, 51, 52, 1 << 32, 1 << 62, (1 << 63) - 1, 1 << 63, (1 << 64) - 1]
 MOST_FOUND = 12
 IN_RANGE = range(1 << 63)
-# Steps of sqlite's machine, after which a view without an end is left.
+# The steps of sqlite's machine after which a query is stopped: a view may have no end.
 STEPS = 10_000_000
 
 
 def found_in(path, statement):
-    """Rows of a store, as far as they can be read in a bounded time."""
+    """Rows of a store, as many as can be read in a bounded time."""
     store = sqlite3.connect(f"file:{path}?immutable=1", uri=True)
     store.set_progress_handler(lambda: 1, STEPS)
     try:
@@ -27,12 +27,12 @@ def found_in(path, statement):
 
 
 def numbers_of(rows):
-    """The numbers among what was read."""
+    """The numbers in rows."""
     return [value for row in rows for value in row if isinstance(value, int) and value in IN_RANGE]
 
 
 def names_of(rows):
-    """The names among what was read, which a message can hold."""
+    """The names in rows that a message can hold."""
     names = [value for row in rows for value in row if isinstance(value, bytes)]
     return [name for name in names if len(name) < 1000 and b"\0" not in name]
 
@@ -42,7 +42,7 @@ def distinct(values):
 
 
 class Found:
-    """What a stream goes over: the good store's numbers and names, and those that were put into the hostile one."""
+    """The numbers and names of a stream: those of the good store, and those that were put into the hostile one."""
 
     def __init__(self, path):
         nodes = numbers_of(found_in(path, "SELECT node, up FROM nodes ORDER BY node DESC"))
@@ -104,7 +104,7 @@ def naming(found):
 
 
 def removing(found):
-    """Requests that take names and handles away."""
+    """Requests that remove names and handles."""
     parts = []
     for place in reversed(found.directories):
         parts += [(m.UNLINK, place, name + b"\0") for name in found.names + [b"new", b"moved", b"kept"]]
@@ -115,7 +115,7 @@ def removing(found):
 
 
 def messages_of(path, anew):
-    """The messages that a hostile store gets. Where a mount begins they begin with an INIT; else records are asked for."""
+    """The messages for a hostile store. Those of a new mount begin with an INIT; the others begin with resends of recorded ids."""
     found = Found(path)
     parts = [init()] if anew else []
     parts += looking(found) + opening(found) + changing(found) + naming(found) + removing(found) + looking(found) + [init()]

@@ -4,7 +4,7 @@ import random
 import sqlite3
 import struct
 
-from edit import Hostile
+from hostile.edit import Hostile
 
 STEP = 97
 PAGE = 4096
@@ -28,7 +28,7 @@ def some_bytes(count):
 
 
 def change(path, at, byte):
-    """Gives a byte another value; None is its complement."""
+    """Sets a byte to another value; None is its complement."""
     whole = bytearray(bytes_of(path))
     whole[at] = whole[at] ^ 0xff if byte is None else byte
     put(path, whole)
@@ -39,12 +39,12 @@ def foreign(name, make):
 
 
 def blank(name, whole):
-    """A file that counts as empty, so that a store is made in it. SQLite takes a file of one byte for an empty one."""
+    """A file that counts as empty, so that a store is made in it. To SQLite a file of one byte is empty."""
     return Hostile("empty", name, lambda path: put(path, whole), True)
 
 
 def by_statements(*statements):
-    """What makes a new database of statements."""
+    """Makes a function that makes a database by statements."""
     def make(path):
         os.remove(path)
         store = sqlite3.connect(path)
@@ -56,7 +56,7 @@ def by_statements(*statements):
 
 
 def put_in_place(make):
-    """What puts something else than a file at the path."""
+    """Makes a function that puts something other than a file at the path."""
     def place(path):
         os.remove(path)
         make(path)

@@ -1,10 +1,10 @@
 """Stores with rows that a store's tables may not hold."""
 from functools import partial
 
-from edit import by_sql
+from hostile.edit import by_sql
 
 LEAST, MOST = -(1 << 63), (1 << 63) - 1
-# A key is a number whatever is written; other columns may hold other types too.
+# A key is always a number; other columns may hold other types too.
 KEYS = [
     -1, LEAST, MOST, 1 << 62, (1 << 62) - 1, (1 << 62) + 1, 1 << 32, (1 << 32) - 1, 1 << 31, 65536, 65537, 16777216, 16777217,
     0, 1, 2, 3, 4, 0o040000, 0o100000,
@@ -14,7 +14,7 @@ BYTES = [None, 0, MOST, 1.5, "text", b"", b"\0", b".", b"..", b"a/b", b"a\0b", b
          bytes(4097), bytes(8192), bytes((1 << 20) + 1), bytes(16), bytes(1 << 24)]
 
 NODE_COLUMNS = ("mode uid gid rdev size atime atimensec mtime mtimensec ctime ctimensec up subdirs").split()
-# Table, key, the rows that are changed, and their columns with what they get.
+# Table, key, the rows that are changed, and the values for each column.
 COLUMNS = [
     ("meta", "k", range(1, 12), {"k": KEYS, "v": NUMBERS}),
     ("nodes", "node", (1, 2, 4), {"node": KEYS} | {column: NUMBERS for column in NODE_COLUMNS}),
@@ -32,7 +32,7 @@ def shown(value):
 
 
 def column_edits():
-    """Each column of each table, with values that it may not hold and some that it may."""
+    """Each column of each table, with values that are not allowed and some that are."""
     for table, key, rows, columns in COLUMNS:
         for row in rows:
             for column, values in columns.items():
@@ -63,7 +63,7 @@ def node(number, mode=0o100644, size=0, up=0, subdirs=0):
 
 
 def trees():
-    """Rows that are those of no tree."""
+    """Rows that make no tree."""
     kind = "no tree"
     cycle = ("UPDATE entries SET dir = 3 WHERE child = 2", "UPDATE nodes SET up = 3 WHERE node = 2")
     many = ("UPDATE meta SET v = 65536 WHERE k = 5",)
@@ -111,7 +111,7 @@ def counts():
 
 
 def contents():
-    """Blocks and sizes that don't fit."""
+    """Blocks and sizes that don't fit each other."""
     kind = "block"
     for block in (3, 14, 15, 4095, 4096, 1 << 40, -1):
         statement = ("INSERT INTO blocks VALUES (5, ?, ?)", block, b"p" * 4096)
@@ -139,7 +139,7 @@ def handles():
 
 
 def records():
-    """Records and lots that may not be."""
+    """Records and lots that are not allowed."""
     kind = "record"
     for number in (-1, -(1 << 63), 0, (1 << 63) - 1):
         yield by_sql(kind, f"a record of id {number}", f"UPDATE kept SET id = {number} WHERE id = 4")

@@ -1,5 +1,5 @@
 """Stores whose tables and indexes are others, and databases that are no store."""
-from edit import Hostile, by_schema, connect
+from hostile.edit import Hostile, by_schema, connect
 
 TABLES = ("meta", "nodes", "entries", "blocks", "handles", "answers", "lots", "kept")
 INDEXES = ("entries_in_order", "sqlite_autoindex_entries_1", "sqlite_autoindex_entries_2", "sqlite_autoindex_blocks_1")

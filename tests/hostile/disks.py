@@ -1,5 +1,5 @@
-"""Stores on disks that are full, can't be written, or lost a log: each run ends by a line of its own, and what was committed is
-there afterwards. What can't be tried here is skipped with a line."""
+"""Stores on disks that are full, can't be written, or lost a log. Each run must end by its own fault line, and all that was committed
+must be there afterwards."""
 import contextlib
 import os
 import re
@@ -11,7 +11,8 @@ import sys
 import tempfile
 import time
 
-from good import m, program
+from hostile.good import m, program
+from lib.counts import print_counts
 
 SECONDS = 300
 GROUP = 16
@@ -57,32 +58,34 @@ WHOLE = []
 
 
 def whole():
-    """What all messages are answered over a store in memory, which is without such faults."""
+    """The answers to all messages over a store in memory, which has no such faults."""
     if not WHOLE:
         WHOLE.extend(replayed(program.run(["replay", *AT, "-"], b"".join(MESSAGES), SECONDS))[0])
     return WHOLE
 
 
 class Report:
-    """What was tried, and what was wrong."""
+    """The counts, and the fault lines that were seen."""
 
     def __init__(self):
-        self.tried = 0
-        self.wrong = 0
+        self.passed = 0
+        self.failed = 0
+        self.skipped = 0
         self.seen = {}
 
-    def check(self, name, is_right, told=""):
-        self.tried += 1
+    def check(self, name, is_right, found):
+        self.passed += bool(is_right)
+        self.failed += not is_right
         if not is_right:
-            self.wrong += 1
-            print(f"disks: {name}: {told}")
+            print(f"hostile: {name}: {found}")
 
     def saw(self, what, line):
         self.seen.setdefault(what, {}).setdefault(line or "none", 0)
         self.seen[what][line or "none"] += 1
 
     def skip(self, name, why):
-        print(f"disks: {name}: skipped, {why}")
+        self.skipped += 1
+        print(f"hostile: {name}: skipped, {why}")
 
 
 # ---- a disk that is full
@@ -90,7 +93,7 @@ class Report:
 
 @contextlib.contextmanager
 def small_disk(folder):
-    """A file system of its own in memory, of few bytes; none where it can't be mounted."""
+    """A small file system in memory; None where it can't be mounted."""
     place = f"{folder}/disk"
     os.makedirs(place, exist_ok=True)
     words = ["mount", "-t", "tmpfs", "-o", f"size={ROOM}", "tmpfs", place]
@@ -109,7 +112,7 @@ def empty(place):
 
 
 def leave(place, room):
-    """Fills a disk but for so much room."""
+    """Fills a disk up to this much room."""
     free = os.statvfs(place)
     size = max(0, free.f_bavail * free.f_frsize - room)
     with open(f"{place}/filler", "wb") as filler:
@@ -117,7 +120,7 @@ def leave(place, room):
 
 
 def moved(place, folder):
-    """A copy of the store, with its log, where there is room."""
+    """A copy of the store, with its log, on a disk with room."""
     there = tempfile.mkdtemp(dir=folder)
     for name in os.listdir(place):
         if name.startswith("store"):
@@ -126,16 +129,16 @@ def moved(place, folder):
 
 
 def goes_on(report, name, store, given):
-    """The same stream on the copy: what was committed is answered as before, and the rest is done."""
+    """Replays the stream on the copy: committed requests are answered as before, and the others are executed."""
     answers, counts, line = replayed(program.run(["replay", "--db", store, *AT, "-"], b"".join(MESSAGES), SECONDS))
     report.check(f"{name}, with room", line == "" and answers == whole(), f"'{line}', {len(answers)} answers")
     repeated = counts.get("repeated", -1)
     is_kept = given <= repeated <= given + GROUP
-    report.check(f"{name}, what was committed", is_kept, f"{given} were answered, {repeated} are there")
+    report.check(f"{name}, the committed requests", is_kept, f"{given} were answered, {repeated} are recorded")
 
 
 def fills_in_replay(report, place, folder, room):
-    """A `replay` on a disk with so much room."""
+    """A `replay` on a disk with this much room."""
     name = f"replay, room for {room} bytes"
     empty(place)
     leave(place, room)
@@ -143,9 +146,9 @@ def fills_in_replay(report, place, folder, room):
     ran = program.run(["replay", "--db", store, *AT, "-"], b"".join(MESSAGES), SECONDS)
     answers, _, line = replayed(ran)
     report.saw("full disk, replay", line)
-    is_told = (ran.status, line) in ((3, "store: Sql"), (0, ""))
-    report.check(name, is_told, f"status {ran.status}, '{line}'")
-    report.check(f"{name}, its answers", answers == whole()[:len(answers)], f"{len(answers)} answers that are others")
+    is_right = (ran.status, line) in ((3, "store: Sql"), (0, ""))
+    report.check(name, is_right, f"status {ran.status}, '{line}'")
+    report.check(f"{name}, its answers", answers == whole()[:len(answers)], f"{len(answers)} answers that differ")
     goes_on(report, name, moved(place, folder), len(answers))
     os.remove(f"{place}/filler")
     again = replayed(program.run(["replay", "--db", store, *AT, "-"], b"".join(MESSAGES[:30]), SECONDS))
@@ -154,7 +157,7 @@ def fills_in_replay(report, place, folder, room):
 
 
 def fills_in_serve(report, place, folder, room):
-    """A `serve --fresh` on a disk with so much room, and what goes on elsewhere."""
+    """A `serve --fresh` on a disk with this much room, and a server that resumes on the copy."""
     name = f"serve, room for {room} bytes"
     empty(place)
     leave(place, room)
@@ -162,8 +165,8 @@ def fills_in_serve(report, place, folder, room):
     answers = m.cut(ran.out)
     line = last_line(ran)
     report.saw("full disk, serve --fresh", line if ran.status else "")
-    is_told = ran.status == 0 or (ran.status, line) == (3, "store: Sql")
-    report.check(name, is_told and answers == whole()[:len(answers)], f"status {ran.status}, '{line}', {len(answers)} answers")
+    is_right = ran.status == 0 or (ran.status, line) == (3, "store: Sql")
+    report.check(name, is_right and answers == whole()[:len(answers)], f"status {ran.status}, '{line}', {len(answers)} answers")
     if ran.status == 0 or not answers:
         return
     store = moved(place, folder)
@@ -188,7 +191,7 @@ def full_disks(report, folder):
 
 
 def bounded(words, given, size):
-    """A run whose files may have so many bytes: a write beyond is refused."""
+    """A run whose files may have this many bytes: a write beyond that is refused."""
     def bound():
         signal.signal(signal.SIGXFSZ, signal.SIG_IGN)
         resource.setrlimit(resource.RLIMIT_FSIZE, (size, size))
@@ -197,24 +200,24 @@ def bounded(words, given, size):
         source.seek(0)
         child = subprocess.Popen([program.BUILT, *words], stdin=source, stdout=subprocess.PIPE, stderr=subprocess.PIPE,
                                  preexec_fn=bound, restore_signals=False)
-        written, told = child.communicate(timeout=SECONDS)
-        return program.Ran(child.returncode, written, told, 0, 0)
+        out, err = child.communicate(timeout=SECONDS)
+        return program.Ran(child.returncode, out, err, 0, 0)
 
 
 def file_bounds(report, folder):
-    """A file that may not grow: EFBIG, as a quota is EDQUOT."""
+    """A file that may not grow: a write returns EFBIG, as one over a quota returns EDQUOT."""
     for size in range(0, ROOM + 1, 2 * STEP):
         there = tempfile.mkdtemp(dir=folder)
         ran = bounded(["replay", "--db", f"{there}/store", *AT, "-"], b"".join(MESSAGES), size)
         answers, _, line = replayed(ran)
         report.saw("file that may not grow", line)
-        is_told = (ran.status, line) in ((3, "store: Sql"), (0, "")) and answers == whole()[:len(answers)]
-        report.check(f"files of {size} bytes", is_told, f"status {ran.status}, '{line}', {len(answers)} answers")
+        is_right = (ran.status, line) in ((3, "store: Sql"), (0, "")) and answers == whole()[:len(answers)]
+        report.check(f"files of {size} bytes", is_right, f"status {ran.status}, '{line}', {len(answers)} answers")
         goes_on(report, f"files of {size} bytes", moved(there, folder), len(answers))
 
 
 def made_store(folder):
-    """A store of the first messages, which was closed."""
+    """A closed store of the first messages."""
     there = tempfile.mkdtemp(dir=folder)
     os.chmod(there, 0o755)
     program.run(["replay", "--db", f"{there}/store", *AT, "-"], b"".join(MESSAGES[:40]), SECONDS)
@@ -227,7 +230,7 @@ def bytes_of(path):
 
 
 def is_refused(report, name, store, before=()):
-    """Every way to open a store that can't be written is refused, and leaves it as it is."""
+    """Opens a store that can't be written in each way: it must be refused, and stay as it is."""
     held = bytes_of(store) if os.path.exists(store) else None
     serve = ["serve", "--db", store]
     for mode in (["replay", "--db", store, *AT, "-"], [*serve, "--fresh"], [*serve, "--resume"]):
@@ -235,8 +238,8 @@ def is_refused(report, name, store, before=()):
                              check=False)
         line = last_line(ran_of(ran))
         report.saw(name, line)
-        is_told = ran.returncode == 3 and REFUSED.fullmatch(line)
-        report.check(f"{name}, {mode[0]}", is_told, f"status {ran.returncode}, '{line}'")
+        is_right = ran.returncode == 3 and REFUSED.fullmatch(line)
+        report.check(f"{name}, {mode[0]}", is_right, f"status {ran.returncode}, '{line}'")
     after = bytes_of(store) if os.path.exists(store) else None
     report.check(f"{name}, its bytes", held == after, "they changed")
 
@@ -246,14 +249,14 @@ def ran_of(done):
 
 
 def unwritable(report, folder):
-    """Stores that may not be written."""
-    is_refused(report, "a folder that isn't there", f"{folder}/missing/store")
+    """Stores that the program may not write."""
+    is_refused(report, "a missing folder", f"{folder}/missing/store")
     if os.getuid() != 0 or not shutil.which("setpriv"):
-        report.skip("stores of others", "that takes root and setpriv")
+        report.skip("stores of others", "it takes root and setpriv")
         return
     before = ["setpriv", f"--reuid={NOBODY}", f"--regid={NOBODY}", "--clear-groups"]
     if subprocess.run([*before, program.BUILT, "--help"], capture_output=True, check=False).returncode != 2:
-        report.skip("stores of others", "nobody can't run the program here")
+        report.skip("stores of others", "the user nobody can't run the program here")
         return
     for mode in (0o444, 0o000):
         store = made_store(folder)
@@ -265,24 +268,24 @@ def unwritable(report, folder):
 
 
 def read_only_mount(report, folder):
-    """A store below a mount that is read alone."""
+    """A store on a read-only mount."""
     store = made_store(folder)
     place = f"{folder}/bound"
     os.mkdir(place)
     words = ["mount", "-o", "bind", os.path.dirname(store), place]
     if os.getuid() != 0 or subprocess.run(words, capture_output=True, check=False).returncode != 0:
-        report.skip("a mount that is read alone", "no folder can be bound here")
+        report.skip("a read-only mount", "no folder can be bound here")
         return
     try:
         subprocess.run(["mount", "-o", "remount,ro,bind", place], check=True)
-        is_refused(report, "a mount that is read alone", f"{place}/store")
-        is_refused(report, "a mount that is read alone, and no store", f"{place}/other")
+        is_refused(report, "a read-only mount", f"{place}/store")
+        is_refused(report, "a read-only mount, and no store", f"{place}/other")
     finally:
         subprocess.run(["umount", "-l", place], check=False)
 
 
 def full_outputs(report, folder):
-    """Outputs that take nothing."""
+    """Outputs on a full device."""
     stores = (["replay", "--db", f"{folder}/replayed", *AT, "-"], ["serve", "--db", f"{folder}/served", "--fresh"])
     for mode in (["replay", *AT, "-"], *stores, ["dump", "-"], ["check", "-"]):
         with open("/dev/full", "wb") as full:
@@ -290,15 +293,15 @@ def full_outputs(report, folder):
                                  timeout=SECONDS, check=False)
         line = ran.stderr.decode().strip().splitlines()[-1:]
         report.saw("full output", line[0] if line else "")
-        is_told = (ran.returncode, line) == (4, ["port: failed"])
-        report.check(f"full output, {mode[0]}", is_told, f"status {ran.returncode}, {line}")
+        is_right = (ran.returncode, line) == (4, ["port: failed"])
+        report.check(f"full output, {mode[0]}", is_right, f"status {ran.returncode}, {line}")
 
 
-# ---- a log that is gone
+# ---- a log that is deleted
 
 
 def killed_server(store, messages, mode):
-    """A server that is killed behind the answer to the last message, and what it answered."""
+    """Kills a server after its answer to the last message; its answers."""
     begin, end = os.pipe()
     with tempfile.NamedTemporaryFile() as out:
         words = [program.BUILT, "serve", "--db", store, f"--{mode}", *AT]
@@ -317,13 +320,13 @@ def killed_server(store, messages, mode):
 
 
 def lost_logs(report, folder):
-    """The log is deleted between two runs, behind a server that was killed."""
+    """The log is deleted after a server was killed, before the next run."""
     for first in (0, 10, 40):
         store = f"{tempfile.mkdtemp(dir=folder)}/store"
         if first:
             program.run(["replay", "--db", store, *AT, "-"], b"".join(MESSAGES[:first]), SECONDS)
         killed_server(store, MESSAGES[first:first + 8], "resume" if first else "fresh")
-        name = f"log deleted behind {first} messages"
+        name = f"log deleted after {first} messages"
         had = os.path.exists(f"{store}-wal")
         report.check(f"{name}, there was one", had, "there was none")
         if had:
@@ -337,18 +340,14 @@ def lost_logs(report, folder):
 
 
 def main():
-    if not program.is_built():
-        print("disks: FAILED, the program isn't built (./fusekeep builds it)")
-        return 1
     report = Report()
     with tempfile.TemporaryDirectory(prefix="disks-") as folder:
         os.chmod(folder, 0o755)
         for trial in (full_disks, file_bounds, unwritable, read_only_mount, full_outputs, lost_logs):
             trial(report, folder)
     for what, lines in report.seen.items():
-        print(f"disks: {what}:", ", ".join(f"{line} {count}" for line, count in lines.items()))
-    print(f"disks: {report.tried} compared, {report.wrong} wrong")
-    return 1 if report.wrong else 0
+        print(f"hostile: {what}:", ", ".join(f"{line} {count}" for line, count in lines.items()))
+    return print_counts("hostile disks", report.passed, report.failed, report.skipped)
 
 
 if __name__ == "__main__":

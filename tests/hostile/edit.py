@@ -1,16 +1,16 @@
-"""Edits of a store's file by SQL that its constraints don't stop."""
+"""Edits of a store's file by SQL, past its constraints."""
 import sqlite3
 from dataclasses import dataclass
 from typing import Callable
 
-# What makes a table refuse rows.
+# The words of the schema that make a table refuse rows.
 CONSTRAINTS = (" STRICT", " NOT NULL")
 
 
 @dataclass
 class Hostile:
-    """A hostile file: its kind, what it is, what makes it of a copy of the good store, whether a sample has it always,
-    whether it has to be refused as a whole, and by which line, where just one is right."""
+    """A hostile file: its kind, its name, the function that makes it from a copy of the good store, whether each sample has it,
+    whether opening it must be refused, and the line of that refusal, where only one is right."""
     kind: str
     name: str
     make: Callable[[str], None]
@@ -39,7 +39,7 @@ def without_constraints(text):
 
 
 def set_schema(path, texts):
-    """Gives rows of the schema other texts."""
+    """Sets the texts of rows of the schema."""
     store = connect(path)
     for rowid, text in texts:
         store.execute("UPDATE sqlite_master SET sql = ? WHERE rowid = ?", (text, rowid))
@@ -47,7 +47,7 @@ def set_schema(path, texts):
 
 
 def edit(path, *statements):
-    """Runs statements over tables that take any value, and puts the schema back as it was."""
+    """Runs statements over tables that take any value, and restores the schema."""
     store = connect(path)
     texts = schema_of(store)
     store.close()
@@ -69,10 +69,10 @@ def edit_schema(path, *statements):
 
 
 def by_sql(kind, name, *statements, always=True):
-    """What statements make of a store."""
+    """A store that statements changed."""
     return Hostile(kind, name, lambda path: edit(path, *statements), always)
 
 
 def by_schema(name, *statements, always=True, wanted=""):
-    """What statements make of a store's schema."""
+    """A store whose schema statements changed."""
     return Hostile("schema", name, lambda path: edit_schema(path, *statements), always, wanted=wanted)

@@ -1,4 +1,4 @@
-"""Opens hostile files with the program and asks for everything in them: docs/HOSTILE.md says what has to come."""
+"""Opens hostile files with the program, and sends requests for all that is in them. README.md says what must come of them."""
 import argparse
 import collections
 import multiprocessing
@@ -11,20 +11,21 @@ import sys
 import tempfile
 import time
 
-from by_bytes import all_of_bytes, bytes_of
-from by_rows import all_of_rows
-from by_schema import all_of_schema
-from good import m, make, make_killed, program
-from asking import messages_of
-from folders import quick_folder
+from hostile.asking import messages_of
+from hostile.by_bytes import all_of_bytes, bytes_of
+from hostile.by_rows import all_of_rows
+from hostile.by_schema import all_of_schema
+from hostile.good import m, make, make_killed, program
+from lib.counts import print_counts
+from lib.folders import quick_folder
 
 MEMORY = 1 << 30
-# By the clock. A run takes at most two where nothing else runs, and ten times as long on a slow host.
+# The longest run takes some six seconds, and many times as long on a slow host.
 SECONDS = 120
 GROUP = 16
-# A log of fewer bytes holds no page.
+# A log of fewer bytes has no page.
 LOG = 32 + 24 + 512
-# How many faults of one file a sample goes on behind, and how many a whole run, and for how many seconds.
+# After how many faults of one file a sample and a whole run go on, and for how many seconds.
 FEW, MANY = 1, 3
 LONGEST = 20
 SAMPLE = 37
@@ -35,8 +36,8 @@ COUNTS = re.compile(r"served messages=\d+ kept=\d+ repeated=\d+ bare=\d+ silent=
 HEX = re.compile(rb"(?:[0-9a-f]{2})+")
 
 
-class Told:
-    """What came of one file: how it was opened, by which faults requests ended, what was wrong, and what it took."""
+class Outcome:
+    """The outcome of one file: how it was opened, the faults by which requests ended, the failures, and the cost."""
 
     def __init__(self, hostile):
         self.kind, self.name = hostile.kind, hostile.name
@@ -50,13 +51,13 @@ class Told:
 
 
 def line_of(ran):
-    """The fault line of a run, without the line of counts."""
+    """The fault line of a run: its standard error without the line of counts."""
     lines = [line for line in ran.err.decode(errors="replace").splitlines() if not COUNTS.fullmatch(line)]
     return "\n".join(lines)
 
 
 def answers_of(ran, words):
-    """The answers that a run wrote, or None where what it wrote is something else."""
+    """The answers that a run wrote, or None where it wrote something else."""
     if words[0] == "serve":
         return m.cut(ran.out)
     lines = [line for line in ran.out.splitlines() if not line.startswith(b"served ")]
@@ -66,7 +67,7 @@ def answers_of(ran, words):
 
 
 def wrong_of(ran, words, wanted):
-    """What is wrong with a run of these words, which got so many messages, or None."""
+    """The failure of a run of these words, which got this many messages, or None."""
     line = line_of(ran)
     if ran.status is None:
         return f"didn't end within {SECONDS} seconds"
@@ -82,18 +83,18 @@ def wrong_of(ran, words, wanted):
 
 
 def wrong_look(ran, found, refused):
-    """What is wrong with a look that ended by this line, at a file that is refused by that one, or None."""
+    """The failure of a look that ended by one line, at a file whose opening is refused by another, or None."""
     if ran.status is None:
         return f"didn't end within {SECONDS} seconds"
     if refused and refused != found:
-        return f"'{found[:200]}', where opening says '{refused}'"
+        return f"'{found[:200]}', but opening says '{refused}'"
     if (ran.status, found) == (0, "") or ran.status == 3 and (FAULTS.fullmatch(found) or NONE_THERE.fullmatch(found)):
         return None
     return f"status {ran.status}, '{found[:200]}'"
 
 
 def rows_of(folder):
-    """What sqlite3 reads from a copy of a store and its log: its schema and its rows, or why it doesn't."""
+    """The schema and the rows that sqlite3 reads from a copy of a store and its log, or its fault."""
     with tempfile.TemporaryDirectory(dir=quick_folder()) as there:
         for name in os.listdir(folder):
             shutil.copy(f"{folder}/{name}", there)
@@ -110,7 +111,7 @@ def rows_of(folder):
 
 
 def snapshot(folder):
-    """The files of a folder with their bytes; what isn't a file by its kind."""
+    """The files of a folder with their bytes, and the kinds of all else."""
     seen = {}
     for name in sorted(os.listdir(folder)):
         path = f"{folder}/{name}"
@@ -119,7 +120,7 @@ def snapshot(folder):
 
 
 def is_same(before, rows, folder):
-    """Whether the file is as it was, and the log beside it, if it is another, changes nothing of what is read."""
+    """Whether the file is as it was, and the log beside it, if it differs, changes no row that is read."""
     after = snapshot(folder)
     if before.get("store") != after.get("store"):
         return False
@@ -132,17 +133,17 @@ class Try:
     def __init__(self, hostile, good, folder, rounds):
         self.hostile, self.good, self.folder, self.rounds = hostile, good, folder, rounds
         self.path = f"{folder}/store"
-        self.told = Told(hostile)
+        self.outcome = Outcome(hostile)
 
     def place(self):
-        """Makes the file, with nothing else in its folder."""
+        """Makes the file, alone in its folder."""
         shutil.rmtree(self.folder, ignore_errors=True)
         os.mkdir(self.folder)
         shutil.copyfile(self.good, self.path)
         self.hostile.make(self.path)
 
     def run(self, mode, messages, must_stay):
-        """Runs the program over the file. Where it is refused, or has to stay, nothing may change."""
+        """Runs the program over the file. Where the file is refused it must stay as it is."""
         before = snapshot(self.folder) if must_stay else None
         rows = rows_of(self.folder) if must_stay and "store-wal" in before else None
         words = {"replay": ["replay", "--db", self.path, "--at", "2000", "-"]}.get(
@@ -151,28 +152,28 @@ class Try:
         wrong = wrong_of(ran, words, len(messages))
         line = line_of(ran)
         if not wrong and must_stay and line and not is_same(before, rows, self.folder):
-            wrong = f"'{line}', but what is stored was changed"
+            wrong = f"'{line}', but the store was changed"
         self.note(mode, ran, wrong, messages)
         return ran, line
 
     def note(self, mode, ran, wrong, messages):
-        told = self.told
-        told.runs += 1
-        told.requests += len(messages)
-        told.seconds = max(told.seconds, ran.seconds)
-        told.kilobytes = max(told.kilobytes, ran.kilobytes)
+        outcome = self.outcome
+        outcome.runs += 1
+        outcome.requests += len(messages)
+        outcome.seconds = max(outcome.seconds, ran.seconds)
+        outcome.kilobytes = max(outcome.kilobytes, ran.kilobytes)
         if wrong:
-            told.wrong.append(f"{mode}, {len(messages)} messages: {wrong}")
+            outcome.wrong.append(f"{mode}, {len(messages)} messages: {wrong}")
 
     def replay(self, messages):
-        """All messages; where a fault ends the run, those of its group alone, and then the ones behind it."""
+        """Replays all messages. Where a fault ends the run, it replays each message of that group alone, and then those after the group."""
         at = 0
         until = time.monotonic() + LONGEST
         for _ in range(self.rounds):
             ran, line = self.run("replay", messages[at:], False)
             if not line or time.monotonic() > until:
                 return
-            self.told.faults[line] += 1
+            self.outcome.faults[line] += 1
             at += len(answers_of(ran, ["replay"]) or ())
             for message in messages[at:at + GROUP]:
                 if time.monotonic() < until:
@@ -180,7 +181,7 @@ class Try:
             at += GROUP
 
     def look(self, line):
-        """Looks at what is stored: what opening refuses by this line, looking refuses by the same, and no byte changes."""
+        """Looks at the store. Where opening is refused by this line, looking must be refused by the same; and no byte may change."""
         self.place()
         before = snapshot(self.folder)
         for words in (["store", self.path], ["ls", self.path, "a/b"], ["cat", self.path, "f"]):
@@ -192,7 +193,7 @@ class Try:
             self.note(" ".join(words[:1] + words[2:]), ran, wrong, [])
 
     def serve(self, mode, messages):
-        """A mount that begins, or one that goes on."""
+        """A server of a new mount, or one that resumes."""
         self.place()
         if mode == "fresh":
             _, line = self.run(mode, [], True)
@@ -200,17 +201,17 @@ class Try:
                 return
         ran, line = self.run(mode, messages, not messages)
         if line:
-            self.told.faults[f"{line} (--{mode})"] += 1
+            self.outcome.faults[f"{line} (--{mode})"] += 1
 
     def go(self):
-        """Every way, and what came."""
+        """Opens the file in every way; the outcome."""
         self.place()
         _, line = self.run("replay", [], True)
-        self.told.opened = line or "opened"
+        self.outcome.opened = line or "opened"
         if self.hostile.is_no_store and not line:
-            self.told.wrong.append("it was taken for a store")
+            self.outcome.wrong.append("it was opened as a store")
         if self.hostile.wanted and line != self.hostile.wanted:
-            self.told.wrong.append(f"'{line}', where '{self.hostile.wanted}' is right")
+            self.outcome.wrong.append(f"'{line}', but '{self.hostile.wanted}' is right")
         if not line:
             self.replay(messages_of(self.path, False))
         self.look("store: NotAStore" if self.hostile.kind == "empty" else line)
@@ -218,7 +219,7 @@ class Try:
         readable = os.path.isfile(self.path)
         self.serve("fresh", messages_of(self.path, True) if readable else [])
         self.serve("resume", messages_of(self.path, False) if readable and not line else [])
-        return self.told
+        return self.outcome
 
 
 # ---- many of them
@@ -228,7 +229,7 @@ PLACES = {}
 
 
 def begin(folder, rounds):
-    """What each process of the pool does first."""
+    """Prepares a process of the pool."""
     signal.signal(signal.SIGTERM, signal.SIG_DFL)
     program.bound_memory(MEMORY)
     PLACES.update(good=f"{folder}/good", rounds=rounds, work=f"{folder}/work{os.getpid()}")
@@ -238,13 +239,13 @@ def try_one(at):
     one = Try(ALL[at], PLACES["good"], PLACES["work"], PLACES["rounds"])
     try:
         return one.go()
-    except Exception as fault:  # what made the file failed: that is told too
-        one.told.wrong.append(f"the file couldn't be made or read: {fault!r}")
-        return one.told
+    except Exception as fault:  # a file that can't be made is a failure too
+        one.outcome.wrong.append(f"the file couldn't be made or read: {fault!r}")
+        return one.outcome
 
 
 def collect(folder):
-    """All hostile files, of a good store that is made now, and of one whose server was killed."""
+    """Collects all hostile files: of a good store that is made now, and of one whose server was killed."""
     make(f"{folder}/good")
     make_killed(f"{folder}/killed", folder)
     log = f"{folder}/killed-wal"
@@ -253,7 +254,7 @@ def collect(folder):
 
 
 def chosen(words):
-    """The places of those that are tried."""
+    """The places of the files that are tried."""
     if words.only:
         return [at for at, one in enumerate(ALL) if re.search(words.only, f"{one.kind}: {one.name}")]
     return [at for at, one in enumerate(ALL) if words.all or one.always or at % SAMPLE == 0]
@@ -263,70 +264,66 @@ def counted(counts):
     return ", ".join(f"{name} {number}" for name, number in counts.most_common())
 
 
-def table(tolds):
-    """A line for each kind: files, how they were opened, how requests ended."""
+def table(outcomes):
+    """A line for each kind: the files, how they were opened, how requests ended."""
     kinds = collections.defaultdict(list)
-    for told in tolds:
-        kinds[told.kind].append(told)
+    for one in outcomes:
+        kinds[one.kind].append(one)
     yield "| Kind | Files | Opening them | Files with a fault, opening them or at a request | Runs | Wrong |"
     yield "|---|---|---|---|---|---|"
     for kind, some in kinds.items():
-        opened = collections.Counter(told.opened for told in some)
-        faults = collections.Counter(line.split(" (")[0] for told in some for line in {l.split(" (")[0] for l in told.faults})
-        runs = sum(told.runs for told in some)
-        wrong = sum(bool(told.wrong) for told in some)
+        opened = collections.Counter(one.opened for one in some)
+        faults = collections.Counter(line for one in some for line in {it.split(" (")[0] for it in one.faults})
+        runs = sum(one.runs for one in some)
+        wrong = sum(bool(one.wrong) for one in some)
         cells = (kind, len(some), counted(opened), counted(faults) or "none", runs, wrong)
         yield "| " + " | ".join(str(cell) for cell in cells) + " |"
 
 
-def told_at_once(told):
-    """Tells what was wrong with a file."""
-    for wrong in told.wrong[:3]:
-        print(f"hostile: {told.kind}: {told.name}: {wrong}", flush=True)
-    return told
+def print_failures(outcome):
+    """Prints the failures of a file."""
+    for wrong in outcome.wrong[:3]:
+        print(f"hostile: {outcome.kind}: {outcome.name}: {wrong}", flush=True)
+    return outcome
 
 
-def tell(tolds, words, took):
-    """What came, and whether all is right."""
-    for told in tolds:
-        if words.only:
-            cost = f"{told.seconds:.2f} s, {told.kilobytes} KB"
-            print(f"hostile: {told.kind}: {told.name}: {told.opened}; {dict(told.faults)}; {cost}")
+def report(outcomes, words, took):
+    """Prints the outcomes and the counts; the exit status."""
+    for one in outcomes if words.only else ():
+        print(f"hostile: {one.kind}: {one.name}: {one.opened}; {dict(one.faults)}; {one.seconds:.2f} s, {one.kilobytes} KB")
     if words.table:
-        print(*table(tolds), sep="\n")
-    slowest = max(tolds, key=lambda told: told.seconds)
-    largest = max(tolds, key=lambda told: told.kilobytes)
-    print(f"hostile: the longest run took {slowest.seconds:.1f} s ({slowest.kind}: {slowest.name})")
-    print(f"hostile: the most memory was {largest.kilobytes // 1024} MiB ({largest.kind}: {largest.name})")
-    runs, requests = sum(told.runs for told in tolds), sum(told.requests for told in tolds)
-    wrong = sum(bool(told.wrong) for told in tolds)
-    print(f"hostile: {runs} runs with {requests} requests, {took:.0f} seconds")
-    print(f"hostile: {len(tolds)} of {len(ALL)} files tried, {wrong} wrong")
-    return 0 if tolds and not wrong else 1
+        print(*table(outcomes), sep="
+")
+    if outcomes:
+        slowest = max(outcomes, key=lambda one: one.seconds)
+        largest = max(outcomes, key=lambda one: one.kilobytes)
+        print(f"hostile: the longest run took {slowest.seconds:.1f} s ({slowest.kind}: {slowest.name})")
+        print(f"hostile: the most memory was {largest.kilobytes // 1024} MiB ({largest.kind}: {largest.name})")
+    runs, requests = sum(one.runs for one in outcomes), sum(one.requests for one in outcomes)
+    wrong = sum(bool(one.wrong) for one in outcomes)
+    print(f"hostile: {len(outcomes)} of {len(ALL)} files, {runs} runs with {requests} requests, {took:.0f} seconds")
+    return print_counts("hostile files", len(outcomes) - wrong, wrong)
 
 
 def words_of():
-    words = argparse.ArgumentParser(prog="hostile/try", description=__doc__)
+    words = argparse.ArgumentParser(prog="tests/hostile/run files", description=__doc__)
     words.add_argument("--all", action="store_true", help="all files, and not a sample")
-    words.add_argument("--only", help="those in whose kind and name this pattern is found, each told")
-    words.add_argument("--table", action="store_true", help="a table of what came, by kind")
-    words.add_argument("--jobs", type=int, default=2, help="so many at a time")
+    words.add_argument("--only", help="the files in whose kind and name this pattern is found, with the outcome of each")
+    words.add_argument("--table", action="store_true", help="a table of the outcomes, by kind")
+    words.add_argument("--jobs", type=int, default=2, help="how many files at a time (2)")
     return words.parse_args()
 
 
 def main():
     words = words_of()
-    if not program.is_built():
-        print("hostile: FAILED, the program isn't built (./fusekeep builds it)")
-        return 1
     begun = time.monotonic()
     signal.signal(signal.SIGTERM, lambda *_: sys.exit(1))
     with tempfile.TemporaryDirectory(prefix="hostile-", dir=quick_folder()) as folder:
         collect(folder)
         rounds = MANY if words.all or words.only else FEW
         with multiprocessing.Pool(words.jobs, begin, (folder, rounds)) as pool:
-            tolds = [told_at_once(told) for told in pool.imap(try_one, chosen(words))]
-    return tell(tolds, words, time.monotonic() - begun)
+            outcomes = [print_failures(one) for one in pool.imap(try_one, chosen(words))]
+    return report(outcomes, words, time.monotonic() - begun)
 
 
 if __name__ == "__main__":

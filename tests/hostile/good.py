@@ -1,17 +1,13 @@
-"""The good store that hostile ones are made of, and a stream of every operation over all that is in one."""
+"""The good store, from which the hostile ones are made."""
 import os
 import signal
 import subprocess
-import sys
 
-HERE = os.path.dirname(os.path.realpath(__file__))
-sys.path.insert(0, f"{HERE}/../streams")
-
-import messages as m  # noqa: E402
-import program  # noqa: E402
+from lib import messages as m
+from lib import program
 
 LONG = b"n" * 255
-# The first id of the requests that a hostile store gets; the store's own records have lower ones.
+# The first id of the requests for a hostile store. The store's own records have lower ones.
 FIRST_ID = 1000
 MANY = 40
 
@@ -26,7 +22,7 @@ def init():
 
 
 def making():
-    """Requests that make a tree with something of everything, and leave a file without a name."""
+    """Requests that make a tree with nodes of each kind, and leave a file without a name."""
     parts = [
         init(),
         (m.MKDIR, 1, m.mkdir_body(b"a")),
@@ -48,15 +44,15 @@ def making():
 
 
 def make(path):
-    """Makes the store, which the program closes."""
+    """Makes the store by a run that closes it."""
     words = ["replay", "--db", path, "--at", "1000", "-"]
     ran = program.run(words, b"".join(numbered(making())), 60)
     if ran.status != 0:
-        raise SystemExit(f"hostile: FAILED, no good store could be made: {ran.err.decode()}")
+        raise SystemExit(f"hostile: the good store could not be made: {ran.err.decode()}")
 
 
 def make_killed(path, folder):
-    """Makes the store by a server that is killed, so that what it holds is in its log."""
+    """Makes the store by a server that is killed, so that its content is in the log."""
     with open(f"{folder}/stream", "wb") as stream:
         stream.write(b"".join(numbered(making())))
     begin, end = os.pipe()
@@ -72,10 +68,10 @@ def make_killed(path, folder):
 
 
 def wait_for_answers(child, path, wanted):
-    """Waits until so many answers are there."""
+    """Waits until the file has this many answers."""
     while child.poll() is None:
         with open(path, "rb") as out:
             answers = m.cut(out.read())
         if answers is not None and len(answers) >= wanted:
             return
-    raise SystemExit("hostile: FAILED, the server of the good store ended")
+    raise SystemExit("hostile: the server of the good store ended")

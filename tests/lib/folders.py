@@ -1,7 +1,7 @@
-"""Folders for what a run writes."""
+"""Folders for the files that a run writes."""
 import os
 
 
 def quick_folder():
-    """Where files are quick to be written: in memory where that can be."""
+    """The folder in memory, where there is one; else None, for the default."""
     return "/dev/shm" if os.access("/dev/shm", os.W_OK) else None

@@ -1,4 +1,4 @@
-"""The built program, run within bounds of time."""
+"""The program under test, run within bounds of time."""
 import os
 import resource
 import subprocess
@@ -6,14 +6,14 @@ import tempfile
 import time
 from dataclasses import dataclass
 
-HERE = os.path.dirname(os.path.realpath(__file__))
-BUILT = os.path.realpath(f"{HERE}/../crates/fusekeep/out/fusekeep")
+# The program's path, as the entry of the test found it.
+BUILT = os.environ.get("FUSEKEEP", "")
 
 
 @dataclass
 class Ran:
-    """What a run wrote, how it ended and what it took. A status below 0 is a signal, None is a run that was stopped. The
-    memory is what it had at the last look, so it may have been a little more."""
+    """The output of a run, its end and its cost. A status below 0 is a signal; None is a run that was stopped. The memory is that of
+    the last look, so the run may have had a little more."""
     status: int
     out: bytes
     err: bytes
@@ -37,7 +37,7 @@ def held_by(child):
 
 
 def wait(child, until):
-    """Waits for a child's end, and what it had; None where it has to be stopped."""
+    """Waits for a child's end: its status, or None where its time ran out, and its memory."""
     pause, most = 0.0005, 0
     while child.poll() is None:
         if time.monotonic() > until:
@@ -64,7 +64,3 @@ def run(words, given, seconds, program=BUILT):
         out.seek(0)
         err.seek(0)
         return Ran(status, out.read(), err.read(), took, kilobytes)
-
-
-def is_built():
-    return os.access(BUILT, os.X_OK)

@@ -1,13 +1,8 @@
-#!/usr/bin/env python3
 """Runs the tests `each_allocation` with their allocations refused in turn.
 
-    refusals/sweep [--all]
-
-`rt try --test --fail-alloc N` refuses the Nth allocation of each test. So a copy of worked_rows gets the modules that lie here, and in
-them a test for each place up to N: it makes as many allocations of its own before as it takes for the one at that place to be the
-Nth. One more test makes sure that `each_allocation` has no more places than are named here. One place of so many in a row is
-tried, and by --all each. The tests are of sessions and events over lists; `refusals/stores` has the program refused its allocations over
-tables."""
+`rt try --test --fail-alloc N` refuses the Nth allocation of each test. So a copy of spec_tests gets the modules that lie here, with a
+test for each place: it makes as many allocations of its own first as it takes for the one at that place to be the Nth. One more test
+makes sure that `each_allocation` has no more places than PLACES says."""
 import os
 import re
 import shutil
@@ -15,15 +10,18 @@ import subprocess
 import sys
 import tempfile
 
-ROOT = os.path.dirname(os.path.dirname(os.path.realpath(__file__)))
+from lib.counts import print_counts
 
-CRATE = "worked_rows"
+HERE = os.path.dirname(os.path.realpath(__file__))
+ROOT = os.path.dirname(os.path.dirname(HERE))
 
-# The modules that get one with the test, and how many places there are at most in each.
+CRATE = "spec_tests"
+
+# The modules that get one with the test, and the most places of each.
 PLACES = {"sessions": 400, "events": 800}
 STEP = 7
 
-# What these stand on; the crate's other modules are left out of the copy.
+# The modules that these use. The crate's other modules are left out of the copy.
 BELOW = {"hex", "keepers", "requests", "run", "texts"}
 
 ALLOCATE = """
@@ -36,33 +34,33 @@ fn allocate(alloc: std::alloc::Global, count: usize) -> Result<(), std::alloc::A
 }
 """
 
-# What the test answers, and its body.
+# The test: its result type, and its body.
 TEST = re.compile(r"\nfn each_allocation\(rt: HostRuntime\)([^{]*) \{\n(.*?\n)( *Ok\(\(\)\)\n)?\}\n", re.S)
 
 
 def tests_of(source, places, tried, refused):
-    """The tests of these places, and the one that all its allocations are among them, where this allocation is refused."""
+    """The tests of these places, and the one that there are no more, where the allocation of number `refused` is refused."""
     answer, body, end = TEST.search(source).groups("")
     one = "\n#[test]\nfn %s(rt: HostRuntime)%s {\n%s%s%s%s}\n"
     before = "    let _made = allocate(rt.alloc(), %d);\n"
-    behind = f"    assert!(rt; allocate(rt.alloc(), {places}).is_err());\n"
+    after = f"    assert!(rt; allocate(rt.alloc(), {places}).is_err());\n"
     tests = [one % (f"refused_at_{place}", answer, before % (refused - place), body, "", end) for place in tried]
-    last = one % ("refused_behind_all", answer, before % (refused - places), body, behind, end)
+    last = one % ("refused_after_all", answer, before % (refused - places), body, after, end)
     return "".join([ALLOCATE, *tests, last])
 
 
 def add_module(sources, module, tests):
-    """Gives a module of the crate the one with the test, and that one the tests that are made of its source."""
+    """Adds to a module of the crate the one with the test, and to that one the tests that are made from its source."""
     with open(f"{sources}/{module}.rt", "a", encoding="utf-8") as file:
         file.write("\nmod allocations;\n")
-    with open(f"{ROOT}/refusals/{CRATE}/{module}/allocations.rt.in", encoding="utf-8") as file:
+    with open(f"{HERE}/{CRATE}/{module}/allocations.rt.in", encoding="utf-8") as file:
         source = file.read()
     with open(f"{sources}/{module}/allocations.rt", "w", encoding="utf-8") as file:
         file.write(source + tests(source))
 
 
 def leave_out_others(sources):
-    """Takes the modules out of the crate that nothing here needs."""
+    """Removes the modules that are not needed here."""
     with open(f"{sources}/lib.rt", encoding="utf-8") as file:
         source = file.read()
     for declared, module in re.findall(r"(#\[cfg\(test\)\]\nmod (\w+);\n)", source):
@@ -75,7 +73,7 @@ def leave_out_others(sources):
 
 
 def sweep(copy, step):
-    """Whether all tests of a copy pass, of one place of so many in a row."""
+    """Runs the tests of a copy, for one place in `step`; the number of those that passed, and of those that failed."""
     refused = max(PLACES.values())
     tried = {module: range(1, places + 1, step) for module, places in PLACES.items()}
     leave_out_others(f"{copy}/crates/{CRATE}/src")
@@ -86,21 +84,19 @@ def sweep(copy, step):
     ran = subprocess.run(words, cwd=f"{copy}/crates/{CRATE}", capture_output=True, text=True, check=False)
     said = ran.stdout + ran.stderr
     count = sum(len(it) + 1 for it in tried.values())
-    passed = f"test result: ok. {count} passed; 0 failed" in said
-    if not passed:
-        print(*[line for line in said.splitlines() if not line.endswith("... ok")][-40:], sep="\n")
-    print(f"refusals: {CRATE}: {'passed' if passed else 'FAILED'}", flush=True)
-    return passed
+    if f"test result: ok. {count} passed; 0 failed" in said:
+        return count, 0
+    print(*[line for line in said.splitlines() if not line.endswith("... ok")][-40:], sep="\n")
+    passed = len(re.findall(r"(?m)^test .* \.\.\. ok$", said))
+    return passed, max(count - passed, 1)
 
 
 def main(words):
-    if words not in ([], ["--all"]):
-        sys.exit("usage: refusals/sweep [--all]")
     with tempfile.TemporaryDirectory(prefix="refusals-") as copy:
         shutil.copy(f"{ROOT}/crates.txt", copy)
         leave = shutil.ignore_patterns("out", "proofs", "must-fail")
         shutil.copytree(f"{ROOT}/crates", f"{copy}/crates", ignore=leave)
-        return sweep(copy, 1 if words else STEP)
+        return print_counts("refusals calls", *sweep(copy, 1 if words else STEP))
 
 
-sys.exit(0 if main(sys.argv[1:]) else 1)
+sys.exit(main(sys.argv[1:]))

@@ -1,5 +1,5 @@
-// Preloaded to a program, refuses one of its allocations: the one of the number in REFUSED, from the program's beginning on. How many
-// there were stands in the file that COUNTED names, in 8 bytes.
+// A library that is preloaded to a program. It refuses the allocation whose number, counted from the program's start, is in REFUSED.
+// It counts all allocations in the file that COUNTED names, in 8 bytes.
 #include <errno.h>
 #include <fcntl.h>
 #include <stdint.h>

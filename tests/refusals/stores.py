@@ -1,13 +1,10 @@
-#!/usr/bin/env python3
-"""Runs the built program over stores in files, with its allocations refused in turn.
+"""Runs the program over stores in files, with its allocations refused in turn.
 
-    refusals/stores [--all] [--jobs N]
-
-A library that is preloaded (refuse.c) refuses the Nth allocation of a run. The works are the run of row each-allocation, made
-in a new store and message by message, all of it sent again, a migration, the begin of a mount, and a resume. Each is one group or
-none. A run ends as it would, or by `memory`, or by `port: failed` where the room for its output was refused. Then the store holds
-what it held before or what the whole work leaves, and the same work, run again, answers what it would have, and leaves that.
-One allocation of so many in a row is tried, and by --all each. The last line counts them, and the status is 1 where one failed."""
+A preloaded library (refuse.c) refuses the Nth allocation of a run. The works are the run of case each-allocation, in a new store and
+message by message; all of it sent again; a migration; the begin of a mount; and a resume. Each is one group or none. A run must end as
+it would without a refusal, or by `memory`, or by `port: failed` where the room for its output was refused. Then the store must hold
+what it held before, or what the whole work leaves; and the same work, run again, must return the same answers and leave the same
+store."""
 import argparse
 import os
 import shutil
@@ -20,13 +17,12 @@ from concurrent.futures import ThreadPoolExecutor
 from dataclasses import dataclass
 from pathlib import Path
 
-sys.dont_write_bytecode = True
-HERE = Path(__file__).resolve().parent
-sys.path.insert(0, str(HERE.parent / "streams"))
+from lib import messages as m
+from lib import program
+from lib.counts import print_counts
+from lib.folders import quick_folder
 
-import messages as m  # noqa: E402
-from folders import quick_folder  # noqa: E402
-import program  # noqa: E402
+HERE = Path(__file__).resolve().parent
 
 NEW = None
 STEP = 29
@@ -46,7 +42,7 @@ RUN = [
     m.message(m.RELEASE, 16, 2, m.release_body(1)),
 ]
 
-# What a store holds, but for the lots: each start takes another one.
+# The content of a store, without the lots: each start allocates another one.
 TABLES = {
     "meta": "SELECT k, v FROM meta WHERE k <> 11 ORDER BY k",
     "nodes": "SELECT * FROM nodes ORDER BY node",
@@ -60,28 +56,28 @@ TABLES = {
 
 @dataclass
 class Work:
-    """The files that a work begins with, the words that it runs by, and what it gets."""
+    """A run of the program: the store that it begins with, its words, and its input."""
 
     name: str
     begins: bytes | None
     words: list[str]
     given: bytes
-    # whether what is allocated before the first message is told by other works
+    # whether other works refuse the allocations before its first message
     is_opened: bool = False
 
 
 @dataclass
 class Known:
-    """What a work does where nothing is refused: what stands before and behind it, its output, and the allocations to be refused."""
+    """A work without a refusal: the content of the store before and after it, its output, and the allocations to be refused."""
 
     before: object
-    behind: object
-    told: bytes
+    after: object
+    out: bytes
     places: range
 
 
 def held_in(store):
-    """The rows of a store, of a copy of its files; None where there is none, and its tables alone where these are of version 1."""
+    """The rows of a store, read from a copy of its files; None where there is no store."""
     with tempfile.TemporaryDirectory(dir=quick_folder()) as room:
         for end in ("", "-wal"):
             if os.path.exists(store + end):
@@ -96,13 +92,13 @@ def held_in(store):
             database.close()
 
 
-def told_by(work, out):
-    """What a run told of its answers: `replay` counts repeats in its last line."""
+def answers_in(work, out):
+    """The answers in an output: the last line of `replay` counts, repeats too."""
     return out.rpartition(b"served ")[0] if work.words[0] == "replay" else out
 
 
 class Room:
-    """A folder with the store of a work as it begins."""
+    """A folder with the store that a work begins with."""
 
     def __init__(self, work, library):
         self.work, self.library = work, library
@@ -121,48 +117,48 @@ class Room:
         """Runs the work, with this allocation refused."""
         Path(self.counted).write_bytes(bytes(8))
         words = [self.store if word == "STORE" else word for word in self.work.words]
-        told = [f"LD_PRELOAD={self.library}", f"COUNTED={self.counted}", f"REFUSED={refused}"]
-        ran = program.run([*told, program.BUILT, *words], self.work.given, SECONDS, "/usr/bin/env")
+        variables = [f"LD_PRELOAD={self.library}", f"COUNTED={self.counted}", f"REFUSED={refused}"]
+        ran = program.run([*variables, program.BUILT, *words], self.work.given, SECONDS, "/usr/bin/env")
         places, = struct.unpack("<Q", Path(self.counted).read_bytes())
         return ran, places
 
 
 def allocated_before(work, library):
-    """How much the work allocates before its first message."""
+    """The number of a work's allocations before its first message."""
     with Room(Work(work.name, work.begins, work.words, b""), library) as room:
         return room.run()[1]
 
 
 def know(work, library):
-    """What a work does where nothing is refused."""
+    """Runs a work without a refusal."""
     first = allocated_before(work, library) if work.is_opened else 1
     with Room(work, library) as room:
         before = held_in(room.store)
         ran, places = room.run()
         if ran.status != 0:
-            sys.exit(f"allocations: {work.name}: FAILED, it ends so without a refusal: {ran.status} {ran.err.decode()}")
-        return Known(before, held_in(room.store), told_by(work, ran.out), range(min(first, places), places + 1))
+            sys.exit(f"refusals: {work.name}: without a refusal it ended with {ran.status} {ran.err.decode()}")
+        return Known(before, held_in(room.store), answers_in(work, ran.out), range(min(first, places), places + 1))
 
 
 def fault_at(work, known, library, place):
-    """What is wrong where this allocation is refused, or nothing."""
+    """The failure where this allocation is refused, or an empty text."""
     with Room(work, library) as room:
         ran, _ = room.run(place)
         line = (ran.err.decode(errors="replace").splitlines() or [""])[-1]
-        whole = ran.status == 0 and told_by(work, ran.out) == known.told
+        whole = ran.status == 0 and answers_in(work, ran.out) == known.out
         if not whole and (ran.status, line) not in ((5, "memory"), (4, "port: failed")):
-            return f"it ends so: {ran.status} {line}"
+            return f"it ends with {ran.status} {line}"
         held = held_in(room.store)
-        if held != known.behind and (whole or held not in (known.before, None, NEW)):
+        if held != known.after and (whole or held not in (known.before, None, NEW)):
             return "the store holds something else"
         again, _ = room.run()
-        if again.status != 0 or told_by(work, again.out) != known.told:
-            return f"run again it ends so: {again.status} {again.err.decode(errors='replace')}"
-        return "" if held_in(room.store) == known.behind else "run again it leaves something else"
+        if again.status != 0 or answers_in(work, again.out) != known.out:
+            return f"run again it ends with {again.status} {again.err.decode(errors='replace')}"
+        return "" if held_in(room.store) == known.after else "run again it leaves something else"
 
 
 def store_after(messages, library):
-    """The file of a store in which these were done."""
+    """The file of a store that executed these messages."""
     with Room(Work("", None, REPLAY, b"".join(messages)), library) as room:
         room.run()
         return Path(room.store).read_bytes()
@@ -180,53 +176,41 @@ def first_version():
 def works(library):
     """All works."""
     whole = b"".join(RUN)
-    behind = store_after(RUN, library)
+    after = store_after(RUN, library)
     yield Work("a new store, the run in one group", None, REPLAY, whole)
     for place, message in enumerate(RUN):
         yield Work(f"message {place + 1} of the run", store_after(RUN[:place], library), REPLAY, message, True)
-    yield Work("the run sent again", behind, REPLAY, b"".join(m.resent(message) for message in RUN), True)
+    yield Work("the run sent again", after, REPLAY, b"".join(m.resent(message) for message in RUN), True)
     yield Work("a migration", first_version(), REPLAY, b"")
-    yield Work("a mount begins", behind, FRESH, b"")
-    yield Work("a server resumes", behind, RESUME, b"")
+    yield Work("a mount begins", after, FRESH, b"")
+    yield Work("a server resumes", after, RESUME, b"")
 
 
 def try_work(pool, work, library, step):
-    """Tries a work, tells what came, and counts the allocations and those at which something was wrong."""
+    """Tries a work; the number of refused allocations, and of those that failed."""
     known = know(work, library)
     places = known.places[::step]
     wrong = [(place, why) for place, why in zip(places, pool.map(lambda it: fault_at(work, known, library, it), places)) if why]
     for place, why in wrong[:5]:
-        print(f"allocations: {work.name}: allocation {place} refused: {why}")
-    print(f"allocations: {work.name}: {len(places)} of {len(known.places)} allocations refused, {len(wrong)} wrong", flush=True)
+        print(f"refusals: {work.name}: allocation {place} refused: {why}")
+    print(f"refusals: {work.name}: {len(places)} of {len(known.places)} allocations refused, {len(wrong)} wrong", flush=True)
     return len(places), len(wrong)
 
 
-def skipped():
-    """Why nothing can be tried here, or nothing."""
-    if not program.is_built():
-        return "the program isn't built (./fusekeep builds it)"
-    if sqlite3.sqlite_version_info < (3, 37):
-        return "Python's SQLite doesn't know strict tables"
-    return "" if shutil.which(os.environ.get("CC", "cc")) else "there is no C compiler"
-
-
 def main():
-    words = argparse.ArgumentParser(description=__doc__, formatter_class=argparse.RawDescriptionHelpFormatter)
+    words = argparse.ArgumentParser(prog="tests/refusals/run stores")
     words.add_argument("--all", action="store_true")
     words.add_argument("--jobs", type=int, default=os.cpu_count())
     given = words.parse_args()
-    if why := skipped():
-        print(f"allocations: skipped, {why}")
-        return 0
     with tempfile.TemporaryDirectory() as room, ThreadPoolExecutor(given.jobs) as pool:
         library = f"{room}/refuse.so"
-        subprocess.run([os.environ.get("CC", "cc"), "-shared", "-fPIC", "-O2", "-Wall", "-Wextra", "-o", library, HERE / "refuse.c"], check=True)
+        subprocess.run([os.environ.get("CC", "cc"), "-shared", "-fPIC", "-O2", "-Wall", "-Wextra", "-o", library,
+                        HERE / "refuse.c"], check=True)
         global NEW
-        NEW = know(Work("a new store", None, REPLAY, b""), library).behind
+        NEW = know(Work("a new store", None, REPLAY, b""), library).after
         tried = [try_work(pool, work, library, 1 if given.all else STEP) for work in works(library)]
     count, wrong = map(sum, zip(*tried))
-    print(f"allocations: {count} allocations refused, {wrong} wrong")
-    return 1 if wrong or not count else 0
+    return print_counts("refusals stores", count - wrong, wrong)
 
 
 if __name__ == "__main__":

@@ -1,4 +1,4 @@
--- What a store file of version 2 holds, in the words of the rows.
+-- What a store file of version 2 holds, in the words of the cases.
 PRAGMA integrity_check;
 PRAGMA foreign_key_check;
 SELECT 'version=' || v FROM meta WHERE k = 1;

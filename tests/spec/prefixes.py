@@ -1,4 +1,4 @@
-"""Fronts of a row's stream, as they are and with a byte of a header that is ff: what each is answered, and how it ends."""
+"""The prefixes of a case's stream, as they are and with a byte of a header that is ff: their answers and their ends."""
 import struct
 
 # Error numbers by their names.
@@ -10,7 +10,7 @@ FIELDS = [
 ]
 HEADER = 40
 
-# The lengths of a message.
+# The bounds of a message's length.
 LEAST = 40
 MOST = 135168
 
@@ -19,7 +19,7 @@ WITH_ATTRIBUTES = (144, 120)
 
 
 def fault_of(rest, at):
-    """The end of a stream of which this is left at a place, or None where a whole message is."""
+    """The fault of a stream of which this is left at a place, or None where a whole message is left."""
     if len(rest) < 4:
         return f"stream: Cut at {at}: have {len(rest)}, need 4"
     size = int.from_bytes(rest[:4], "little")
@@ -45,7 +45,7 @@ def cut(stream):
 
 
 def answer_to(event, word, message, owner):
-    """What a message is answered: an error, or what the row says, under the unique of the message and with this owner."""
+    """The answer to a message: an error, or the answer of the case, under the unique of the message and with this owner."""
     unique = message[8:16]
     if word != "=":
         return struct.pack("<Ii", 16, -ERRNOS[word]) + unique
@@ -55,38 +55,38 @@ def answer_to(event, word, message, owner):
     return answer
 
 
-def wanted_of(row, stream, words):
+def wanted_of(case, stream, words):
     """The lines of a stream's answers, and the fault at its end."""
     messages, fault = cut(stream)
     owner = stream[24:32]
-    answers = [answer_to(*one, owner) for one in zip(row.events, words, messages)]
+    answers = [answer_to(*one, owner) for one in zip(case.events, words, messages)]
     return [answer.hex() for answer in answers if answer], fault
 
 
-def words_for(row, message, byte):
-    """What the messages are answered where this byte of a message's header is ff."""
+def words_for(case, message, byte):
+    """The words for the answers where this byte of a message's header is ff."""
     field = next(name for end, name in FIELDS if byte < end)
-    return row.spoiled.get((message + 1, field), ["="] * len(row.events))
+    return case.spoiled.get((message + 1, field), ["="] * len(case.events))
 
 
-def bytes_changed(row, size, total):
-    """Which bytes of which headers are changed in a front: one after another, and in the whole stream each of each."""
-    count = len(row.events)
+def bytes_changed(case, size, total):
+    """The bytes of headers that are changed in a prefix: one of one header, and in the whole stream each of each header."""
+    count = len(case.events)
     if size == total:
         return [(message, byte) for message in range(count) for byte in range(HEADER)]
     return [(size % count, size % HEADER)]
 
 
-def fronts_of(row):
-    """Each front: what it is, its bytes, and what is wanted of it."""
-    whole = b"".join(event.message for event in row.events)
-    begins = [sum(len(event.message) for event in row.events[:count]) for count in range(len(row.events))]
+def prefixes_of(case):
+    """Each prefix: its name, its bytes, its answers, and its fault."""
+    whole = b"".join(event.message for event in case.events)
+    begins = [sum(len(event.message) for event in case.events[:count]) for count in range(len(case.events))]
     for size in range(len(whole) + 1):
-        front = whole[:size]
-        yield f"the first {size} bytes", front, *wanted_of(row, front, ["="] * len(row.events))
-        for message, byte in bytes_changed(row, size, len(whole)):
+        prefix = whole[:size]
+        yield f"the first {size} bytes", prefix, *wanted_of(case, prefix, ["="] * len(case.events))
+        for message, byte in bytes_changed(case, size, len(whole)):
             at = begins[message] + byte
             if at < size:
-                changed = front[:at] + b"\xff" + front[at + 1:]
-                words = words_for(row, message, byte)
-                yield f"the first {size} bytes, byte {at} ff", changed, *wanted_of(row, changed, words)
+                changed = prefix[:at] + b"\xff" + prefix[at + 1:]
+                words = words_for(case, message, byte)
+                yield f"the first {size} bytes, byte {at} ff", changed, *wanted_of(case, changed, words)

@@ -1,13 +1,13 @@
-"""Reads files of rows. README.md says how they are written."""
+"""Reads files of cases. README.md has their syntax."""
 import re
 from dataclasses import dataclass, field
 
-# What becomes of a message and its answer, as in a script; a message behind the end of its session is never worked off.
+# What becomes of a message and its answer, as in a script; a message after the end of its session is never processed.
 FATES = ("answered", "lost", "before", "after", "never")
 
-# The lines that each row has, and those that one has which is run by a script alone.
-OWED = ("served", "ends", "left")
-OWED_BY_SCRIPT = ("left",)
+# The lines that each case must have, and those of one that is run by a script alone.
+REQUIRED = ("served", "ends", "left")
+REQUIRED_BY_SCRIPT = ("left",)
 
 
 @dataclass
@@ -20,15 +20,15 @@ class Event:
 
 
 @dataclass
-class Row:
+class Case:
     name: str
-    behind: str = ""
+    follows: str = ""
     by_replay: bool = False
     by_script: bool = False
     mount: bool = False
     pieces: list = field(default_factory=list)
     cut_anywhere: bool = False
-    fronts: bool = False
+    prefixes: bool = False
     spoiled: dict = field(default_factory=dict)
     events: list = field(default_factory=list)
     served: str = ""
@@ -41,12 +41,12 @@ class Row:
     check: str = ""
 
 
-class BadRow(Exception):
-    """A line that isn't one of a row."""
+class BadCase(Exception):
+    """A line that isn't one of a case, or a case that lacks something."""
 
 
 def bytes_of(text):
-    """The bytes of hexadecimal with spaces, in which `0*8` and `61*255` are a byte so many times."""
+    """The bytes of hexadecimal with spaces; `0*8` and `61*255` repeat a byte."""
     out = bytearray()
     for word in text.split():
         digits, star, times = word.partition("*")
@@ -55,7 +55,7 @@ def bytes_of(text):
 
 
 def logical_lines(text):
-    """The lines with their numbers, each with those that continue it; without comments and empty lines."""
+    """The lines with their numbers, each joined with those that continue it, without comments and empty lines."""
     lines = []
     for number, line in enumerate(text.splitlines(), 1):
         if line.startswith("    ") and lines:
@@ -65,112 +65,112 @@ def logical_lines(text):
     return lines
 
 
-def add_bytes(row, word, text):
-    """The bytes of the last event's message or of its answer."""
+def add_bytes(case, word, text):
+    """Sets the bytes of the last event's message or of its answer."""
     if word == ">":
-        row.events[-1].message = bytes_of(text)
+        case.events[-1].message = bytes_of(text)
     else:
-        row.events[-1].answer = bytes_of(text)
+        case.events[-1].answer = bytes_of(text)
 
 
-def add_spoiled(row, text):
-    """What the messages are answered where a byte of a field of one of them is ff."""
+def add_spoiled(case, text):
+    """Adds the answers to the messages where a byte of a field of one of them is ff."""
     which, _, words = text.partition(" gives ")
     number, field_name = which.split()
-    row.spoiled[int(number), field_name] = words.split()
+    case.spoiled[int(number), field_name] = words.split()
 
 
-def add_line(row, line):
-    """What a line says of a row."""
+def add_line(case, line):
+    """Adds to a case what a line says."""
     word, _, rest = line.partition(" ")
     if word in FATES:
-        row.events.append(Event(word, int(rest.split()[0])))
+        case.events.append(Event(word, int(rest.split()[0])))
     elif word in (">", "<"):
-        add_bytes(row, word, rest)
+        add_bytes(case, word, rest)
     elif word == "!":
-        row.events[-1].malformed = rest
+        case.events[-1].malformed = rest
     elif line == "by replay":
-        row.by_replay = True
+        case.by_replay = True
     elif line == "by script":
-        row.by_script = True
+        case.by_script = True
     elif line == "mount":
-        row.mount = True
+        case.mount = True
     elif line == "cut anywhere":
-        row.cut_anywhere = True
-    elif line == "fronts":
-        row.fronts = True
+        case.cut_anywhere = True
+    elif line == "prefixes":
+        case.prefixes = True
     elif word == "spoiled":
-        add_spoiled(row, rest)
+        add_spoiled(case, rest)
     elif word == "pieces":
-        row.pieces = [int(size) for size in rest.split()]
+        case.pieces = [int(size) for size in rest.split()]
     elif word == "dump":
-        row.dump.append(rest)
-    elif word in ("behind", "ends", "check"):
-        setattr(row, word, rest)
+        case.dump.append(rest)
+    elif word in ("follows", "ends", "check"):
+        setattr(case, word, rest)
     elif word in ("served", "left", "settled", "settings", "blocks"):
-        setattr(row, word, line)
+        setattr(case, word, line)
     else:
         raise ValueError(word)
 
 
-def owed(row):
-    """The first thing that a row lacks or says without need, or None."""
-    for word in OWED_BY_SCRIPT if row.by_script else OWED:
-        if not getattr(row, word):
+def fault_of(case):
+    """The first fault of a case, or None."""
+    for word in REQUIRED_BY_SCRIPT if case.by_script else REQUIRED:
+        if not getattr(case, word):
             return f"no line `{word}`"
-    if any(not event.message for event in row.events):
+    if any(not event.message for event in case.events):
         return "an event without a message"
-    if any(event.answer for event in row.events if event.fate in ("before", "never")):
-        return "an answer to a message that isn't worked off"
-    if any(event.fate == "never" for event in row.events) and not row.by_replay:
-        return "a message behind the end of a session, but not `by replay`"
+    if any(event.answer for event in case.events if event.fate in ("before", "never")):
+        return "an answer to a message that isn't processed"
+    if any(event.fate == "never" for event in case.events) and not case.by_replay:
+        return "a message after the end of a session, but not `by replay`"
     return None
 
 
-def read_rows(path):
-    """The rows of a file, in order."""
-    rows = []
+def read_cases(path):
+    """The cases of a file, in order."""
+    cases = []
     with open(path, encoding="utf-8") as file:
         lines = logical_lines(file.read())
     for number, line in lines:
         try:
-            if line.startswith("row "):
-                rows.append(Row(line[len("row "):]))
+            if line.startswith("case "):
+                cases.append(Case(line[len("case "):]))
             else:
-                add_line(rows[-1], line)
+                add_line(cases[-1], line)
         except (ValueError, IndexError):
-            raise BadRow(f"{path}, line {number}: {line[:60]}") from None
-    return rows
+            raise BadCase(f"{path}, line {number}: {line[:60]}") from None
+    return cases
 
 
 def read_all(paths):
-    """The rows of all files, by their names."""
-    rows = {}
-    for row in (row for path in paths for row in read_rows(path)):
-        wrong = owed(row) or (row.name in rows and "its name is there already")
+    """The cases of all files, by name."""
+    cases = {}
+    for case in (case for path in paths for case in read_cases(path)):
+        wrong = fault_of(case) or (case.name in cases and "another case has its name")
         if wrong:
-            raise BadRow(f"row {row.name}: {wrong}")
-        rows[row.name] = row
-    unknown = [row.behind for row in rows.values() if row.behind and row.behind not in rows]
+            raise BadCase(f"case {case.name}: {wrong}")
+        cases[case.name] = case
+    unknown = [case.follows for case in cases.values() if case.follows and case.follows not in cases]
     if unknown:
-        raise BadRow(f"there is no row {unknown[0]}")
-    return rows
+        raise BadCase(f"there is no case {unknown[0]}")
+    return cases
 
 
-def chain_of(rows, row):
-    """The rows that come before a row, the first one first, and the row."""
-    chain = [row]
-    while chain[0].behind:
-        chain.insert(0, rows[chain[0].behind])
+def chain_of(cases, case):
+    """The cases that a case follows, the first one first, and the case."""
+    chain = [case]
+    while chain[0].follows:
+        chain.insert(0, cases[chain[0].follows])
     return chain
 
 
 def last_said(chain, word):
-    """The last line of this word that the rows have."""
-    said = [getattr(row, word) for row in chain if getattr(row, word)]
+    """The last line of this word that the cases have."""
+    said = [getattr(case, word) for case in chain if getattr(case, word)]
     return said[-1:]
 
 
 def moved_end(ends, by):
-    """An end whose place is counted from so many bytes further back."""
+    """An end whose place is counted from this many bytes further back."""
     return re.sub(r" at (\d+)", lambda place: f" at {int(place.group(1)) + by}", ends)

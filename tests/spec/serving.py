@@ -1,23 +1,24 @@
-"""Rows by `fusekeep serve`: the lives of servers over one file, between pipes that stand for a device. README.md says how."""
+"""Cases by `fusekeep serve`: the lives of servers over one file, between pipes that stand for a device."""
 import os
 import re
 from dataclasses import dataclass, replace
 
-from program import copy_store, look_into, make_store, run_on_device, store_of
-from read import chain_of, last_said
-from ways import bytes_in, lives_of
+from lib.device import copy_store, make_store, run_on_device, store_of
+from spec.read import chain_of, last_said
+from spec.stores import look_into
+from spec.ways import bytes_in, lives_of
 
 NOTICE = "10000000070000000000000000000000"
 NOT_OFFERED = ["status 3", "resume: NotOffered"]
 HAS_RESEND = 1 << 39
 
-# How many requests a group has at most.
+# The most requests of a group.
 GROUP = 16
 
 
 @dataclass
 class Life:
-    """What a server gets, and the word by which it begins."""
+    """The events of a life, and the word by which its server begins."""
     begin: str
     events: list
 
@@ -25,15 +26,15 @@ class Life:
 def mounts_of(chain):
     """The events of each mount."""
     mounts = [[]]
-    for row in chain:
-        if row.mount:
+    for case in chain:
+        if case.mount:
             mounts.append([])
-        mounts[-1] += row.events
+        mounts[-1] += case.events
     return mounts
 
 
 def lives_of_servers(chain):
-    """A server is gone behind an answer that is lost: else the next group would settle its id. The first one of a mount is
+    """The lives. A server ends after an answer that is lost, since the next group would settle its id. The first server of a mount is
     fresh."""
     lives = []
     for events in mounts_of(chain):
@@ -55,7 +56,7 @@ def serve(program, work, begin, events, secs=1000, whole=True, room=None):
 
 
 def serve_lives(program, lives, whole, work):
-    """The lives, one after the other, over one new store; then a server that resumes, and is given nothing."""
+    """Runs the lives, one after the other, over one new store; then a server that resumes without input."""
     make_store(program, work)
     ran = []
     for life in lives:
@@ -69,30 +70,30 @@ def answers_of(events):
 
 
 def is_offered(chain):
-    """Whether the notice is sent: where no INIT is agreed on, or it agreed on resends."""
+    """Whether the notice is sent: where no INIT was agreed on, or where it agreed on resends."""
     flags = re.search(r"flags=0x([0-9a-f]+)", " ".join(last_said(chain, "settings")))
     return flags is None or bool(int(flags.group(1), 16) & HAS_RESEND)
 
 
 def seen_of(served):
-    """What a server sent, and how it ended, without its counts."""
-    lines = [line for line in served.told if not line.startswith("served ")]
+    """The packets of a server, and its end, without its counts."""
+    lines = [line for line in served.err if not line.startswith("served ")]
     return [packet.hex() for packet in served.packets] + [f"status {served.status}", *lines]
 
 
 def wanted_of(chain, lives):
-    """The same of all lives, as the rows say it, and of the server that is given nothing."""
+    """The same of all lives, as the cases say it, and of the last server, which has no input."""
     wanted = []
     for life in lives:
         wanted += [NOTICE] * (life.begin == "--resume") + answers_of(life.events) + ["status 0"]
     return wanted + ([NOTICE, "status 0"] if is_offered(chain) else NOT_OFFERED)
 
 
-def counts_told(ran):
-    return [line for one in ran for line in one.told if line.startswith("served ")]
+def lines_of_counts(ran):
+    return [line for one in ran for line in one.err if line.startswith("served ")]
 
 
-# Row settled-after-fault, which goes on from row settled-counts.
+# Case settled-after-fault, which goes on from case settled-counts.
 
 
 def again(event):
@@ -106,17 +107,17 @@ def left_in(work):
     return [line for line in look_into(work) if line.startswith(("lots=", "left "))]
 
 
-def settled_after_fault(program, rows, work, looks):
-    """What is wanted and what is seen where the second group's first answer can't be sent, and what resends then get."""
-    events = [event for row in chain_of(rows, rows["settled-counts"]) for event in row.events]
-    first, second, behind = events[:GROUP], events[GROUP:2 * GROUP], events[2 * GROUP]
+def settled_after_fault(program, cases, work, looks):
+    """The wanted and the seen lines where the second group's first answer can't be sent, and where its requests are resent."""
+    events = [event for case in chain_of(cases, cases["settled-counts"]) for event in case.events]
+    first, second, last = events[:GROUP], events[GROUP:2 * GROUP], events[2 * GROUP]
     make_store(program, work)
     wanted = answers_of(first) + ["status 4", "port: failed"]
     seen = seen_of(serve(program, work, "--fresh", events, room=GROUP))
     if looks:
         wanted += ["lots=1", "left nodes=32 handles=0 records=16"]
         seen += left_in(work)
-    for more, left in (([], "left nodes=32 handles=0 records=16"), ([behind], "left nodes=33 handles=0 records=1")):
+    for more, left in (([], "left nodes=32 handles=0 records=16"), ([last], "left nodes=33 handles=0 records=1")):
         resent = [again(event) for event in second] + more
         folder = copy_store(work, f"with-{len(more)}")
         wanted += [NOTICE] + answers_of(resent) + ["status 0"]
@@ -127,11 +128,11 @@ def settled_after_fault(program, rows, work, looks):
     return wanted, seen
 
 
-# What is refused before anything is served.
+# Words that `serve` refuses.
 
 
 def refused(program, work):
-    """What is wanted and what is seen where words name neither or both ways to begin, and where there is no store to go on with."""
+    """The wanted and the seen lines where the words name neither or both ways to begin, and where there is no store to resume."""
     usage = ["status 2", "usage: one of --fresh and --resume", "nothing is made"]
     no_store = ["status 3", "store: NotAStore", "nothing is made"]
     seen = []

@@ -1,19 +1,14 @@
-"""Trees, step by step: reads `trees.steps`, and runs it. README.md says how it is written.
+"""Trees, step by step: reads and runs `trees.steps`. README.md has its syntax.
 
-Over a file each request is a run of `replay --db`; between them the tables are read and changed by SQL. Over lists the requests
-behind a `new`, up to the first change by SQL, are one run of `replay`, at the second of the first."""
-import os
+Over a file each request is a run of `replay --db`; between the runs the tables are read and changed by SQL. In memory the requests
+after a `new`, up to the first change by SQL, are one run of `replay`, at the second of the first."""
 import sqlite3
 import struct
-import sys
 from dataclasses import dataclass, field
 
-from program import run_program, store_of
-from read import BadRow, logical_lines
-
-sys.path.insert(0, f"{os.path.dirname(os.path.realpath(__file__))}/../streams")
-
-import messages as m  # noqa: E402
+from lib import messages as m
+from lib.device import run_program, store_of
+from spec.read import BadCase, logical_lines
 
 LONG = b"a" * 256
 NAMES = {"-": b"", "LONG": LONG, "LONGEST": LONG[1:]}
@@ -25,7 +20,7 @@ PUT = {"put-cookie": 4, "put-nodes": 5, "put-handles": 6}
 
 @dataclass
 class Table:
-    """A table of steps, the steps that each of its stores begins with, and its steps: lists of words, `new` alone among them."""
+    """A table of steps: its name, the steps that each of its stores begins with, and its steps, each a list of words."""
     name: str
     setup: list
     steps: list = field(default_factory=list)
@@ -41,9 +36,9 @@ def read_tables(path):
         if word == "setup":
             steps = setups[rest] = []
         elif word == "table":
-            name, _, setup = rest.partition(" behind ")
+            name, _, setup = rest.partition(" after ")
             if setup not in setups:
-                raise BadRow(f"{path}, line {number}: {line}")
+                raise BadCase(f"{path}, line {number}: {line}")
             tables.append(Table(name, setups[setup]))
             steps = tables[-1].steps
         else:
@@ -51,7 +46,7 @@ def read_tables(path):
     return tables
 
 
-# ---- what is asked
+# ---- requests
 
 
 def number_of(word):
@@ -68,7 +63,7 @@ def init_of(major, minor, flags, flags2):
 
 
 def setattr_of(valid, size, mode):
-    """The fields that aren't named hold numbers of their own, and so does fh."""
+    """The other fields, fh among them, have numbers that differ."""
     fields = (number_of(valid), number_of(size), number_of(mode))
     body = m.setattr_body(*fields, (31, 32), (11, 12, 13), (21, 22, 0xffffffff))
     return m.SETATTR, body[:8] + struct.pack("<Q", 9) + body[16:]
@@ -78,8 +73,8 @@ def read_of(opcode, handle, offset, size):
     return opcode, m.read_body(*map(number_of, (handle, offset, size)))
 
 
-# The opcode and the body of what is asked, by its words.
-ASKED = {
+# The opcode and the body of a request, by its words.
+REQUESTS = {
     "lookup": lambda name: (m.LOOKUP, name_of(name) + b"\0"),
     "mkdir": lambda mode, name: (m.MKDIR, m.mkdir_body(name_of(name), number_of(mode))),
     "mknod": lambda mode, rdev, name: (m.MKNOD, m.mknod_body(name_of(name), number_of(mode), number_of(rdev))),
@@ -114,12 +109,12 @@ class Request:
 def request_of(words, unique):
     secs, node, kind, *rest = words
     at = rest.index("=")
-    opcode, body = ASKED[kind](*rest[:at])
+    opcode, body = REQUESTS[kind](*rest[:at])
     return Request(number_of(secs), m.message(opcode, unique, number_of(node), body), rest[at + 1:])
 
 
 def is_answer(words, answer):
-    """Whether an answer is what the words of a step say: its error, and what is said of its body."""
+    """Whether an answer fits the words of a step: its error, and the checks of its body."""
     errno, *checks = words
     error, body = -struct.unpack_from("<i", answer, 4)[0], answer[16:]
     if error != number_of(errno):
@@ -143,12 +138,12 @@ def is_answer(words, answer):
 
 
 def signed(number):
-    """A number as the tables hold it."""
+    """A number of 64 bits as the tables hold it."""
     return number - (1 << 64) if number >= 1 << 63 else number
 
 
 class Store:
-    """A store in a file, asked by runs of the program, and read and changed by SQL."""
+    """A store in a file, which gets requests by runs of the program, and is read and changed by SQL."""
 
     def __init__(self, program, work):
         self.program = program
@@ -166,7 +161,7 @@ class Store:
     def asks(self, request):
         ran = self.run(request.secs, request.message)
         if request.answer == ["lost"]:
-            return ran.status == 3 and ran.told == ["store: Damaged"]
+            return ran.status == 3 and ran.err == ["store: Damaged"]
         answered = [bytes.fromhex(line) for line in ran.lines if not line.startswith("served ")]
         return ran.status == 0 and len(answered) == 1 and is_answer(request.answer, answered[0])
 
@@ -184,7 +179,7 @@ class Store:
         return [held[key] for key in keys]
 
     def is_held(self, kind, words):
-        """Whether the tables hold what a step says, or None where it says nothing of them."""
+        """Whether the tables hold the row that a step names, or None where the step names none."""
         if kind == "row":
             node, *numbers = map(number_of, words)
             found = self.sql("SELECT mode, up, subdirs, size, atime, mtime, ctime FROM nodes WHERE node = ?", node)
@@ -216,7 +211,7 @@ class Store:
         return True
 
     def takes(self, words, unique):
-        """Whether a step is as it should be."""
+        """Runs a step; whether it is as it should be."""
         kind, *rest = words
         if self.is_put(kind, rest):
             return True
@@ -225,7 +220,7 @@ class Store:
 
 
 def stores_of(table):
-    """The steps of each store of a table, the steps that it begins with among them."""
+    """The steps of each store of a table, with those that it begins with."""
     stores = [[]]
     for words in table.steps:
         if words == ["new"]:
@@ -236,7 +231,7 @@ def stores_of(table):
 
 
 def wrong_in_file(store, table):
-    """The steps of a table that aren't so over a file."""
+    """The steps of a table that fail over a file."""
     wrong = []
     for steps in stores_of(table):
         store.begin()
@@ -246,7 +241,7 @@ def wrong_in_file(store, table):
     return wrong
 
 
-# ---- over lists
+# ---- in memory
 
 
 def is_change(words):
@@ -265,8 +260,8 @@ def requests_in(steps):
     return [request_of(words, 2 * place + 2) for place, words in asked]
 
 
-def wrong_in_lists(store, table):
-    """The requests of a table that aren't answered so over lists. Of those that come at several seconds the errors are compared."""
+def wrong_in_memory(store, table):
+    """The requests of a table that fail in memory. Of those that come at several seconds only the errors are compared."""
     wrong = []
     for steps in stores_of(table):
         requests = requests_in(steps)
@@ -276,7 +271,7 @@ def wrong_in_lists(store, table):
         store.runs += 1
         answers = [bytes.fromhex(line) for line in ran.lines if not line.startswith("served ")]
         if ran.status or len(answers) != len(requests):
-            wrong.append(f"{len(requests)} requests: status {ran.status}, {len(answers)} answers, {' '.join(ran.told)}")
+            wrong.append(f"{len(requests)} requests: status {ran.status}, {len(answers)} answers, {' '.join(ran.err)}")
         for one, answer in zip(requests, answers):
             if not is_answer(one.answer if at_once else one.answer[:1], answer):
                 wrong.append(one.message.hex())
@@ -284,13 +279,13 @@ def wrong_in_lists(store, table):
 
 
 def run_tables(program, path, work):
-    """The names of the tables, how many runs there were, and the names of the tables that have a step which isn't so."""
+    """The names of the tables, the number of runs, and the names of the tables that failed."""
     store = Store(program, work)
     tables = read_tables(path)
     failed = []
     for table in tables:
-        for kind, wrong in (("a file", wrong_in_file(store, table)), ("lists", wrong_in_lists(store, table))):
+        for kind, wrong in (("over a file", wrong_in_file(store, table)), ("in memory", wrong_in_memory(store, table))):
             for step in wrong[:5]:
-                print(f"rows: trees, {table.name}, over {kind}: {step}")
+                print(f"spec: trees, {table.name}, {kind}: {step}")
             failed += [table.name] * bool(wrong)
     return [table.name for table in tables], store.runs, failed

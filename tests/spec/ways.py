@@ -1,10 +1,10 @@
-"""The ways in which a row is run: in which lives of a server, and in which pieces its messages come."""
+"""The ways in which a case is run: the lives of the server, and the pieces in which the messages come."""
 from dataclasses import dataclass, field
 
 
 @dataclass
 class Way:
-    """How a row is run: the events of each run of the program, in a file or not, and the sizes of the pieces they come in."""
+    """How a case is run: the events of each run of the program, over a file or not, and the sizes of the pieces."""
     name: str
     lives: list
     in_file: bool = False
@@ -12,7 +12,7 @@ class Way:
 
 
 def fed(events):
-    """The events whose messages a replay gets: a server that dies before its commit has done nothing."""
+    """The events whose messages a replay gets. A server that dies before its commit has done nothing."""
     return [event for event in events if event.fate != "before"]
 
 
@@ -21,7 +21,7 @@ def bytes_in(events):
 
 
 def lives_of(events, ends=("after",)):
-    """The events of each life of a server: another begins at another second, at a `before` and behind one of the fates that
+    """The events of each life of a server. Another life begins at another second, at a `before`, and after one of the fates that
     end a life."""
     lives = []
     anew = True
@@ -37,7 +37,7 @@ def lives_of(events, ends=("after",)):
 
 
 def one_by_one(events):
-    """A life for each message. What comes behind the end of a session stays in the life that it ends."""
+    """A life for each message. Messages after the end of a session stay in the life that it ends."""
     lives = []
     for event in fed(events):
         if event.fate == "never" and lives:
@@ -48,33 +48,33 @@ def one_by_one(events):
 
 
 def sizes_to(total, size):
-    """Pieces of one size, up to so many bytes."""
+    """The sizes of pieces of one size, up to a total."""
     return [size] * (total // size) + [total % size]
 
 
 def ways_at_once(chain, events):
-    """All in one run, of a row whose messages come at one second."""
-    row = chain[-1]
+    """The ways in one run, of a case whose messages come at one second."""
+    case = chain[-1]
     total = len(bytes_in(events))
-    first = total - len(bytes_in(fed(row.events)))
+    first = total - len(bytes_in(fed(case.events)))
     ways = [
         Way("replay", [events]),
         Way("replay, each message in a piece", [events], pieces=[len(event.message) for event in events]),
         Way("replay --db", [events], in_file=True),
     ]
-    for size in row.pieces:
+    for size in case.pieces:
         ways.append(Way(f"replay, in pieces of {size}", [events], pieces=sizes_to(total, size)))
         ways.append(Way(f"replay --db, in pieces of {size}", [events], True, sizes_to(total, size)))
-    for place in range(first, total) if row.cut_anywhere else ():
+    for place in range(first, total) if case.cut_anywhere else ():
         ways.append(Way(f"replay, cut at {place}", [events], pieces=[place, total - place]))
     return ways
 
 
 def ways_of(chain):
-    """The ways in which a row is replayed."""
-    everything = [event for row in chain for event in row.events]
+    """The ways in which a case is replayed."""
+    everything = [event for case in chain for event in case.events]
     events = fed(everything)
-    lives = [life for row in chain for life in lives_of(row.events)]
+    lives = [life for case in chain for life in lives_of(case.events)]
     if not chain[-1].events:
         lives.append([])
     ways = [

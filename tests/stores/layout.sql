@@ -1,4 +1,4 @@
--- What the tables of a database are, whatever its texts: their columns, references and indexes.
+-- The tables of a database, apart from their texts: their columns, references and indexes.
 SELECT type, name, tbl_name FROM sqlite_master ORDER BY name;
 SELECT 'table', t.name, t.strict, t.wr, c.cid, c.name, c.type, c."notnull", c.dflt_value, c.pk, c.hidden
   FROM pragma_table_list AS t, pragma_table_xinfo(t.name) AS c

@@ -1,4 +1,4 @@
--- A store of version 1 behind three requests at second 1000: INIT (id 2), MKDIR a (id 6, node 2) and LOOKUP hello (id 4).
+-- A store of version 1 after three requests at second 1000: INIT (id 2), MKDIR a (id 6, node 2) and LOOKUP hello (id 4).
 CREATE TABLE meta (k INTEGER PRIMARY KEY, v INTEGER NOT NULL) STRICT;
 CREATE TABLE nodes (node INTEGER PRIMARY KEY, mode INTEGER NOT NULL, uid INTEGER NOT NULL, gid INTEGER NOT NULL,
   rdev INTEGER NOT NULL, size INTEGER NOT NULL, atime INTEGER NOT NULL, atimensec INTEGER NOT NULL,

@@ -1,7 +1,4 @@
-"""Serves the streams of this folder by `fusekeep serve`: serve.py PROGRAM. README.md says how.
-
-The last line tells how many runs were compared and how many failed; the exit status is 1 where one did or none was made.
-"""
+"""Serves the streams of this folder by `fusekeep serve`. README.md says how."""
 import glob
 import os
 import re
@@ -9,12 +6,13 @@ import sys
 import tempfile
 from dataclasses import dataclass
 
+from lib import program
+from lib.counts import print_counts
+from lib.device import make_store, run_on_device
+from lib.folders import quick_folder
+from spec.read import moved_end
+
 HERE = os.path.dirname(os.path.realpath(__file__))
-sys.path.insert(0, f"{HERE}/../rows")
-sys.path.append(f"{HERE}/../streams")
-from folders import quick_folder  # noqa: E402
-from program import make_store, run_on_device  # noqa: E402
-from read import moved_end  # noqa: E402
 
 NOTICE = "10000000070000000000000000000000"
 NOT_OFFERED = ["status 3", "resume: NotOffered"]
@@ -25,13 +23,13 @@ RESEND = bytes(15) + b"\x80"
 # Places in the answer to an INIT, and the bit that says that resends were agreed on.
 MAX_WRITE, FLAGS2, HAS_RESEND = slice(36, 40), slice(48, 52), 0x80
 
-# In how many places a stream is cut in two, beside its begin and its end.
+# The number of places at which a stream is cut in two.
 CUTS = 3
 
 
 @dataclass
 class Message:
-    """A message that is served, and its answer in hexadecimal, if it has one."""
+    """A message that is processed, and its answer in hexadecimal, if it has one."""
     content: bytes
     opcode: str
     unique: str
@@ -47,7 +45,7 @@ class Message:
 
 @dataclass
 class Stream:
-    """The messages that are served, what comes behind them, how it ends, and what was left out of them."""
+    """The messages that are processed, the bytes after them, the end, and how many bytes were left out."""
     messages: list
     rest: bytes
     ends: list
@@ -60,15 +58,15 @@ def lines_of(name, kind):
 
 
 def read_message(stream, line):
-    """The message that a line of `dump` tells of."""
+    """The message of a line of `dump`."""
     words = line.split()
-    told = dict(word.split("=") for word in words[2:])
+    fields = dict(word.split("=") for word in words[2:])
     begin = int(words[0])
-    return Message(stream[begin:begin + int(told["len"])], words[1], told["id"], "malformed" in told)
+    return Message(stream[begin:begin + int(fields["len"])], words[1], fields["id"], "malformed" in fields)
 
 
 def read_stream(name):
-    """A stream with what the model says of it."""
+    """A stream with the model's answers and end."""
     with open(f"{HERE}/{name}.stream", "rb") as file:
         content = file.read()
     *answers, served = lines_of(name, "replay")
@@ -84,8 +82,8 @@ def read_stream(name):
 
 
 def without_repeats(stream):
-    """The stream without what comes again: behind its answer an id is forgotten. The others are answered as they were, since
-    what is repeated changes nothing. Without the DESTROY that ended the session nothing may follow."""
+    """The stream without repeats, since a server forgets an id after its answer. The other answers stay, since a repeat changes
+    nothing. Where the DESTROY that ended the session is left out, nothing may follow."""
     left, kept = [], set()
     for message in stream.messages:
         if not (message.is_kept() and message.unique in kept):
@@ -99,7 +97,7 @@ def without_repeats(stream):
 
 
 def counts_of(messages, repeated):
-    """The line of counts of these messages, so many of which are repeats."""
+    """The line of counts of these messages, with this number of repeats."""
     silent = [one for one in messages if one.is_silent()]
     kept = sum(one.is_kept() for one in messages)
     interrupts = sum(one.opcode == "INTERRUPT" and not one.is_malformed for one in silent)
@@ -108,7 +106,7 @@ def counts_of(messages, repeated):
 
 
 def is_offered(messages):
-    """Whether the notice is sent behind these: where no INIT was agreed on, or the last one agreed on resends."""
+    """Whether the notice is sent after these messages: where no INIT was agreed on, or the last one agreed on resends."""
     agreed = [bytes.fromhex(one.answer) for one in messages if one.is_kept() and one.opcode == "INIT"]
     flags = [int.from_bytes(answer[FLAGS2], "little") for answer in agreed if any(answer[MAX_WRITE])]
     return not flags or bool(flags[-1] & HAS_RESEND)
@@ -127,7 +125,7 @@ def sent(messages):
 
 
 def end_of(stream, messages, repeated, by):
-    """How a life ends that gets the end of a stream, and these messages before it."""
+    """The end of a life that gets these messages and the end of a stream."""
     status, *line = stream.ends
     return [status, counts_of(messages, repeated), *[moved_end(one, by - stream.gone) for one in line]]
 
@@ -135,17 +133,17 @@ def end_of(stream, messages, repeated, by):
 class Serving:
     """Serves streams, and counts."""
 
-    def __init__(self, program, work):
-        self.program = program
+    def __init__(self, work):
+        self.program = program.BUILT
         self.work = work
         self.compared = 0
         self.failed = 0
 
     def serve(self, begin, content):
-        """What a server sends of these bytes, and how it ends."""
+        """The packets of a server that gets these bytes, and its end."""
         words = [self.program, "serve", "--db", f"{self.work}/store", begin, "--at", "1000"]
         ran = run_on_device(words, [content], self.work)
-        return [packet.hex() for packet in ran.packets] + [f"status {ran.status}", *ran.told]
+        return [packet.hex() for packet in ran.packets] + [f"status {ran.status}", *ran.err]
 
     def compare(self, name, how, wanted, seen):
         self.compared += 1
@@ -163,10 +161,10 @@ class Serving:
         self.compare(name, "", wanted, self.serve("--fresh", content + stream.rest))
 
     def in_two_lives(self, name, stream, cut):
-        """Cut behind so many messages. The second life begins with the last one that the first one kept, sent again."""
+        """Cut after this many messages. The second life begins with the last message that the first one kept, sent again."""
         make_store(self.program, self.work)
         first, second = stream.messages[:cut], stream.messages[cut:]
-        how = f" in two lives, cut behind {cut} messages"
+        how = f" in two lives, cut after {cut} messages"
         content = b"".join(one.content for one in first)
         wanted = sent(first) + ["status 0", counts_of(first, 0)]
         self.compare(name, f"{how}, the first", wanted, self.serve("--fresh", content))
@@ -182,17 +180,15 @@ class Serving:
 
 
 def main():
-    program = sys.argv[1]
     names = sorted(os.path.basename(path)[:-len(".stream")] for path in glob.glob(f"{HERE}/*.stream"))
     with tempfile.TemporaryDirectory(prefix="vectors-", dir=quick_folder()) as work:
-        serving = Serving(os.path.realpath(program), work)
+        serving = Serving(work)
         for name in names:
             stream = without_repeats(read_stream(name))
             serving.in_one_life(name, stream)
             for part in range(1, CUTS + 1):
                 serving.in_two_lives(name, stream, len(stream.messages) * part // (CUTS + 1))
-    print(f"vectors, by serve: {serving.compared} compared, {serving.failed} failed")
-    return 0 if serving.compared and not serving.failed else 1
+    return print_counts("vectors, by serve", serving.compared - serving.failed, serving.failed)
 
 
 sys.exit(main())

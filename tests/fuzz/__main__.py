@@ -1,5 +1,4 @@
-"""Runs generated streams through `replay`, `replay --db` and `replay --db` in two runs, and generated scripts through
-`simulate` beside `replay --db`. What they write has to be equal, to the byte. A failure is kept, and told with its seed."""
+"""Compares the program's ways of running on generated streams and scripts."""
 import argparse
 import multiprocessing
 import os
@@ -9,16 +8,16 @@ import tempfile
 import time
 from dataclasses import dataclass, field
 
-from compare import Difference, Runs, is_of_script, try_seed, write_seed
-from folders import quick_folder
-import program
+from fuzz.compare import Difference, Runs, is_of_script, try_seed, write_seed
+from lib.counts import print_counts
+from lib.folders import quick_folder
 
 MOST_FAILURES = 5
 
 
 @dataclass
 class Tried:
-    """What one process tried."""
+    """The counts of one process, and its failures."""
     requests: int = 0
     streams: int = 0
     scripts: int = 0
@@ -26,16 +25,16 @@ class Tried:
     failures: list = field(default_factory=list)
 
 
-def keep(seed, told):
-    """Keeps what failed, and says how it is run again."""
+def keep(seed, difference):
+    """Keeps the stream or script of a seed; the lines that report it."""
     kind = "script" if is_of_script(seed) else "stream"
     path = f"{tempfile.gettempdir()}/fuzz-{seed}.{kind}"
     write_seed(seed, path)
-    return f"fuzz: seed {seed}: {told}\nfuzz: kept in {path}; run it again by: fuzz/run --seed {seed} --requests 1"
+    return f"fuzz: seed {seed}: {difference}\nfuzz: kept in {path}; run it again by: tests/fuzz/run --seed {seed} --requests 1"
 
 
 def work(task):
-    """Tries one seed after the other until the time is up or so many requests were tried."""
+    """Tries one seed after the other until the time is up or this many requests were tried."""
     seed, step, until, requests = task
     tried = Tried()
     with tempfile.TemporaryDirectory(prefix="fuzz-", dir=quick_folder()) as folder:
@@ -43,8 +42,8 @@ def work(task):
         while tried.requests < requests and time.monotonic() < until and len(tried.failures) < MOST_FAILURES:
             try:
                 tried.requests += try_seed(runs, seed)
-            except Difference as told:
-                tried.failures.append(keep(seed, told))
+            except Difference as difference:
+                tried.failures.append(keep(seed, difference))
             tried.scripts += is_of_script(seed)
             tried.streams += not is_of_script(seed)
             seed += step
@@ -53,24 +52,21 @@ def work(task):
 
 
 def free_processors():
-    """How many processors nobody uses, at least one."""
+    """The number of idle processors, at least one."""
     return max(1, (os.cpu_count() or 1) - round(os.getloadavg()[0]))
 
 
 def words_of():
-    words = argparse.ArgumentParser(prog="fuzz/run", description=__doc__)
-    words.add_argument("--seconds", type=float, default=60, help="so long (60)")
+    words = argparse.ArgumentParser(prog="tests/fuzz/run", description=__doc__)
+    words.add_argument("--seconds", type=float, default=60, help="how long (60)")
     words.add_argument("--seed", type=int, default=int(time.time()), help="the first seed (the time)")
-    words.add_argument("--requests", type=int, help="at least so many requests, and then no more")
-    words.add_argument("--jobs", type=int, help="so many processes (as many as there are free processors)")
+    words.add_argument("--requests", type=int, help="ends after this many requests")
+    words.add_argument("--jobs", type=int, help="how many processes (as many as there are free processors)")
     return words.parse_args()
 
 
 def main():
     words = words_of()
-    if not program.is_built():
-        print("fuzz: FAILED, the program isn't built (./fusekeep builds it)")
-        return 1
     jobs = words.jobs or (1 if words.requests == 1 else free_processors())
     print(f"fuzz: first seed {words.seed}, {jobs} at a time", flush=True)
     signal.signal(signal.SIGTERM, lambda *_: sys.exit(1))
@@ -82,8 +78,7 @@ def main():
     print(*failures, sep="\n" if failures else "", end="\n" if failures else "")
     count = {name: sum(getattr(one, name) for one in tried) for name in ("requests", "streams", "scripts", "runs")}
     print("fuzz: {requests} requests in {streams} streams and {scripts} scripts, {runs} runs".format(**count))
-    print(f"fuzz: FAILED, {len(failures)} of them" if failures else "fuzz: passed")
-    return 1 if failures or not count["requests"] else 0
+    return print_counts("fuzz", count["streams"] + count["scripts"] - len(failures), len(failures))
 
 
 if __name__ == "__main__":

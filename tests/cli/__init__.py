@@ -1,0 +1,1 @@
+"""The commands of the top folder, and what the program shows of stores."""

@@ -1,0 +1,1 @@
+"""The must-fail edits."""

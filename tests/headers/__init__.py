@@ -1,0 +1,1 @@
+"""The numbers of the definitions, compared with those of Linux's headers."""

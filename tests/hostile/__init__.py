@@ -1,0 +1,1 @@
+"""Hostile stores and bad disks."""

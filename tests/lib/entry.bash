@@ -1,0 +1,113 @@
+# For the entry of a test folder, tests/NAME/run, which sources this file. It sets
+#   name     NAME
+#   here     the entry's folder
+#   tests    the folder of all tests
+#   top      the top of the repository
+# An entry counts by `compare`, `part` and `skip`, and ends by `finish`. Its leading comment is what --help prints.
+
+set -u
+here=$(cd "$(dirname "$(readlink -f "$0")")" && pwd)
+tests=$(cd "$(dirname "$(readlink -f "${BASH_SOURCE[0]}")")/.." && pwd)
+top=$(dirname "$tests")
+name=$(basename "$here")
+passed=0
+failed=0
+skipped=0
+export PYTHONDONTWRITEBYTECODE=1 PYTHONSAFEPATH=1 PYTHONPATH=$tests
+
+# Prints the entry's leading comment.
+print_help() {
+  sed -n '2,/^[^#]/ s/^# \{0,1\}//p' "$0"
+}
+
+# Ends with status 2 and the usage, the first line of the leading comment.
+refuse_words() {
+  print_help | head -n 1 >&2
+  exit 2
+}
+
+# Prints the help where it is asked for. Other words are refused, unless the entry takes some: take_words yes "$@"
+take_words() {
+  local takes=$1
+  shift
+  if [ "${1-}" = --help ]; then
+    print_help
+    exit 0
+  fi
+  [ "$takes" = yes ] || [ $# -eq 0 ] || refuse_words
+}
+
+# Prints the counts, and exits by them.
+finish() {
+  local line="$name: $passed passed, $failed failed"
+  [ "$skipped" -eq 0 ] || line+=", $skipped skipped"
+  echo "$line"
+  [ "$failed" -eq 0 ] && [ $((passed + skipped)) -gt 0 ]
+  exit
+}
+
+# Leaves something out: skip WHAT WHY
+skip() {
+  skipped=$((skipped + 1))
+  echo "$name: $1: skipped, $2"
+}
+
+# Leaves out all: skip_all WHY
+skip_all() {
+  skipped=$((skipped + 1))
+  echo "$name: skipped, $1"
+  finish
+}
+
+# Skips all where one of these tools is missing.
+require_tools() {
+  local tool
+  for tool; do
+    command -v "$tool" >/dev/null || skip_all "there is no $tool"
+  done
+}
+
+# Sets `program` to the path of the program: that of FUSEKEEP where it is set, else the one that dist/program prints. It is exported as
+# FUSEKEEP, too. Where there is none, the whole entry has failed.
+require_program() {
+  program=$(readlink -f "${FUSEKEEP:-$("$top/dist/program")}")
+  if ! [ -x "$program" ]; then
+    echo "$name: there is no program of these sources (./fusekeep --build builds it)"
+    failed=$((failed + 1))
+    finish
+  fi
+  export FUSEKEEP=$program
+}
+
+# Compares what is wanted with what is found: compare WHAT WANTED FOUND
+compare() {
+  if [ "$2" = "$3" ]; then
+    passed=$((passed + 1))
+  else
+    failed=$((failed + 1))
+    echo "$name: $1: FAILED; < is wanted, > is found"
+    diff <(echo "$2") <(echo "$3") | head -n 20
+  fi
+}
+
+# Runs a program that prints its counts in its last line, as an entry does, and adds them: part COMMAND WORD.. The line itself is left
+# out where it has the entry's name.
+part() {
+  local said status before=$failed
+  said=$(mktemp) || exit 1
+  "$@" | tee "$said" | sed "\$ { /^$name: / d }"
+  status=${PIPESTATUS[0]}
+  if [[ $(tail -n 1 "$said") =~ :\ ([0-9]+)\ passed,\ ([0-9]+)\ failed(,\ ([0-9]+)\ skipped)?$ ]]; then
+    passed=$((passed + BASH_REMATCH[1]))
+    failed=$((failed + BASH_REMATCH[2]))
+    skipped=$((skipped + ${BASH_REMATCH[4]:-0}))
+  else
+    failed=$((failed + 1))
+    echo "$name: FAILED, it printed no counts: $*"
+  fi
+  rm -f "$said"
+  if [ "$status" -ne 0 ] && [ "$failed" -eq "$before" ]; then
+    failed=$((failed + 1))
+    echo "$name: FAILED, it ended with status $status: $*"
+  fi
+}

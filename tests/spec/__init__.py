@@ -1,0 +1,1 @@
+"""The specification's cases, run through the program."""

@@ -1,0 +1,35 @@
+"""Stores in files: runs over one, and what it holds afterwards."""
+import os
+import subprocess
+
+from lib.device import run_program, store_of
+from spec.ways import bytes_in
+
+HERE = os.path.dirname(os.path.realpath(__file__))
+
+
+def run_lives(program, way, work):
+    """Runs the lives of a way, one after the other, over one new store."""
+    store = ["--db", store_of(work)] if way.in_file else []
+    ran = []
+    for life in way.lives:
+        secs = str(life[0].secs if life else 1000)
+        words = [program, "replay", *store, "--at", secs, "-"]
+        ran.append(run_program(words, bytes_in(life), way.pieces, work))
+    return ran
+
+
+def look_into(work):
+    """The content of the store's file, in lines."""
+    with open(f"{HERE}/left.sql", encoding="utf-8") as sql:
+        shell = subprocess.run(["sqlite3", f"{work}/store"], stdin=sql, capture_output=True, text=True, check=False)
+    return (shell.stdout + shell.stderr).splitlines()
+
+
+def knows_strict_tables():
+    """Whether there is an `sqlite3` that reads the store's tables."""
+    words = ["sqlite3", ":memory:", "CREATE TABLE t (k INTEGER PRIMARY KEY) STRICT"]
+    try:
+        return subprocess.run(words, capture_output=True, check=False).returncode == 0
+    except FileNotFoundError:
+        return False

@@ -1,0 +1,1 @@
+"""Streams of an independent model, run through the program."""
