@@ -1,20 +1,42 @@
-#!/usr/bin/env python3
-"""Tries the must-fail edits: each turns the meaning of a function, and the prover must refuse that function.
+"""Tries the must-fail edits: each changes the behaviour of a function, and the prover must refuse that function.
 
-`rt ci` tries one edit a check. Here a check gets all edits of a crate that change different functions, or constants that different
-functions name: a contract is all that callers see of a function, so none of these edits touches the proof of another. It checks
-these functions, of those that name a constant only the shortest, and no others: a function that no edit changes gets a hole in the
-place of its proof, and an endless loop as its body; the prover takes it by its contract, for `rt ci` proves it. So it takes lemmas by
-what they say. An edit counts as refused only where the prover couldn't prove a function that it changes, for a reason of its own. What isn't refused so is tried again
-by itself over the whole crate, and so is what changes anything else. That it isn't the holes that are refused, a function shows that no
-edit changes and whose own proof is checked beside them, over the holes of what it calls. Where there is none, the shortest of those that
-edits change must be proved without them; and over a tree in which the crate isn't proved, all of them.
+`rt ci` tries one edit a check. Here one check tries all edits of a crate that change different functions, or constants that
+different functions name. Callers see only a function's contract, so no such edit affects the proof of another function. Three things
+make a check short:
 
-    edits/try [--over TREE] [--unedited] [CRATE ..]
+- It checks only the functions that edits change; of those that name a changed constant, only the shortest.
+- Each other function gets a hole in place of its proof and an endless loop as its body. The prover then takes it by its contract, which
+  `rt ci` proves. Lemmas get holes too (holes.py).
+- It reuses the results of earlier checks (`--incremental`).
 
-TREE holds the same sources with their libraries built, by `rt ci` or by checks (without it a copy is made and built first). What
-TREE keeps of a crate's checks is taken too. A line for each edit and each crate; the last line counts the edits. By --unedited no edit is
-applied, and what each changes has to be proved, over the same holes: so a refusal is the edit's, and not that of the way of trying.
+An edit counts as refused only where the prover refuses a function that the edit changes, for a reason of that function's own. An edit
+that isn't refused so is tried again, alone, over the whole crate; and so is an edit that changes anything other than functions. A witness
+shows that the holes aren't the reason of the refusals: in the same check stands one function that no edit changes, with its own proof.
+Where no function can be the witness, the shortest function that edits change must be proved without them; and over a tree in which the
+crate isn't proved, all of them.
+
+The lines of `rattle check` that are read here. PATH names a function, as `fuse_wire::access_mode::AccessMode::of`. Other lines are
+skipped, and so is the rest of a line.
+
+    fn PATH: proved
+    fn PATH: no holes                  with --allow-holes: proved, and so is all that it calls and cites
+    fn PATH: depends on a hole in `Rattle.fuse_wire.proofs.fields.u32_of.Proof.u32_of_spec`
+                                       with --allow-holes: proved but for that hole; its own proof is the hole where the name ends with
+                                       the function's own module and NAME_spec
+    fn PATH: not proved; it stands on `Rattle.fuse_wire.proofs.fields.u16_of.Answers.returns`, which antt refuses
+                                       a proof file of its own, or of what it calls or cites, has an error; an `error:` line says which
+    fn PATH: no proof: expected answers in ./proofs/put/put_bytes/Answers.antt; `search` did not prove `returns-in-Ok-clause-ok`
+                                       goals have no proof; the names in backticks after `search` are the goals
+    fn PATH: could not tell            the prover gave up
+    ./proofs/fields/u16_of/Answers.antt:7:49: error: `returns`: the two types differ ..
+                                       an error in a proof file: file, line, column, text
+    note: src/access_mode.rt:26:5: it is not proved that what the function ensures holds when it returns (`returns-in_default`); ..
+                                       a goal without a proof, by its place in the source
+    only=38 proved=38                  the check of named functions (--only) has ended: how many were checked, how many are proved
+    only=38 holes=38                   the same with --allow-holes
+    only=0 proved=0                    none has that name
+    logic=proved functions=41          the check of a whole crate has ended: all is proved
+    logic=not-proved                   the same, but something isn't
 """
 import argparse
 import os
@@ -27,20 +49,21 @@ from concurrent.futures import ThreadPoolExecutor
 from dataclasses import dataclass
 from pathlib import Path
 
-from holes import Holes
-from sources import HERE, Edit, Sources, batches_of, edits_of, touches
+from edits.holes import Holes
+from edits.sources import TOP, Edit, Sources, batches_of, edits_of, touches
+from lib.counts import print_counts
 
 KIT = Path(os.path.realpath(shutil.which("rt") or "rt")).parent.parent
 PARTS = ("src", "specs", "proofs")
-# What is said of a name that an edit took away, and of what cites that.
-TAKEN = re.compile(r"has no field|is not in scope|has no `|was not admitted")
-# What a check of the largest crate with edits takes, in bytes.
+# The errors about a name that an edit removed.
+REMOVED = re.compile(r"has no field|is not in scope|has no `|was not admitted")
+# The memory of a check of the largest crate with edits, in bytes.
 LARGEST = 3_500_000_000
 
 
 @dataclass
 class Tried:
-    """What became of an edit."""
+    """The outcome of an edit."""
 
     edit: Edit
     refused: bool
@@ -51,8 +74,8 @@ class Tried:
 
 
 def read_crates():
-    """Of each crate of the repository the names that it stands on, of the repository and of the kit."""
-    lines = (HERE / "crates.txt").read_text(encoding="utf-8").split("\n")
+    """The crates of the repository, each with the crates of the repository and of the kit that it stands on."""
+    lines = (TOP / "crates.txt").read_text(encoding="utf-8").split("\n")
     found = dict(it.split(":", 1) for it in lines if ":" in it and not it.startswith("#"))
     return {name.split()[0]: words.split() for name, words in found.items()}
 
@@ -76,7 +99,7 @@ def library(tree, crate):
 
 
 def words_over(tree, crate):
-    """What `rt` tells `rattle` of a crate whose libraries are built in a tree."""
+    """The words with which `rt` calls `rattle` on a crate whose libraries are built in a tree."""
     libraries = {it: library(tree, it) if it in STANDS_ON else KIT / "rlibs" / f"{it}.rlib" for it in ["std", *STANDS_ON[crate]]}
     folders = [KIT / "rlibs", *(library(tree, it).parent for it in sorted(closure([crate]) - {crate}))]
     words = ["--crate-name", crate, "src/lib.rt", "--links", f"{crate}=", "--jobs", "1"]
@@ -86,7 +109,7 @@ def words_over(tree, crate):
 
 
 def rattle(verb, words, folder):
-    """What `rattle` says, and the seconds of processor time that it took."""
+    """Runs `rattle`; its output, and its seconds of processor time."""
     how = {"stdin": subprocess.DEVNULL, "stdout": subprocess.PIPE, "stderr": subprocess.STDOUT, "text": True, "errors": "replace"}
     with subprocess.Popen([KIT / "bin/rattle", verb, *words], cwd=folder, **how) as ran:
         said = ran.stdout.read()
@@ -96,7 +119,7 @@ def rattle(verb, words, folder):
 
 
 def build(tree, crate):
-    """Proves and builds a library over those that it stands on, with the work of the proof kept, and tells whether it could."""
+    """Proves and builds a library over those that it stands on, and keeps the work of the proof; whether it succeeded."""
     folder = tree / "crates" / crate
     library(tree, crate).parent.mkdir(parents=True)
     words = [*words_over(tree, crate), "--incremental", "out/incremental", "-o", library(tree, crate)]
@@ -107,13 +130,13 @@ def build(tree, crate):
 
 
 def built_tree(crates, room):
-    """A copy of these crates with all libraries that they stand on built, and whether all could be."""
+    """Builds all libraries that these crates stand on, in a copy; the copy, and whether all were built."""
     tree, needed = Path(room) / "built", closure(crates)
     for crate in needed:
-        shutil.copytree(HERE / "crates" / crate, tree / "crates" / crate, ignore=shutil.ignore_patterns("out", "must-fail"))
+        shutil.copytree(TOP / "crates" / crate, tree / "crates" / crate, ignore=shutil.ignore_patterns("out", "must-fail"))
     runs, below = {}, set().union(*(closure([it]) - {it} for it in crates))
     with ThreadPoolExecutor(lanes()) as pool:
-        # Each waits only for those that were handed in before it.
+        # Each waits only for libraries that were submitted before it.
         for crate in sorted(below, key=lambda it: len(closure([it]))):
             ready = [runs[it] for it in sorted(closure([crate]) - {crate})]
             runs[crate] = pool.submit(lambda it=crate, ready=ready: all(run.result() for run in ready) and build(tree, it))
@@ -124,7 +147,7 @@ def built_tree(crates, room):
 
 
 def replaced(text, places):
-    """A text with others in the place of some of its parts."""
+    """A text with some of its parts replaced."""
     for at, old, new in sorted(places, reverse=True):
         text = text[:at] + new + text[at + len(old) :]
     return text
@@ -134,11 +157,11 @@ class Scratch:
     """A copy of a crate, which may be edited, over the libraries of a built tree."""
 
     def __init__(self, tree, crate, room):
-        self.folder, self.source = Path(room) / crate, HERE / "crates" / crate
+        self.folder, self.source = Path(room) / crate, TOP / "crates" / crate
         self.words = [*words_over(tree, crate), "--incremental", "out"]
         self.checks, self.seconds = 0, 0.0
         self.is_proved = library(tree, crate).is_dir()
-        # whether there were holes, and whether a function was proved that no edit changed, beside those that edits changed
+        # whether a check had holes, and whether a witness was proved
         self.has_holes, self.proves = False, False
         self.sources = Sources(crate)
         self.places = self.sources.places
@@ -154,7 +177,7 @@ class Scratch:
                 shutil.copytree(self.source / part, self.folder / part)
 
     def apply(self, edits):
-        """Applies edits, and says why one can't be."""
+        """Applies edits; the reason why one can't be applied, or an empty text."""
         self.restore()
         places = {}
         for edit in edits:
@@ -162,7 +185,7 @@ class Scratch:
                 path = self.folder / file
                 text = path.read_text(encoding="utf-8") if path.is_file() else ""
                 if text.count(old) != 1:
-                    return f"a text of {edit.name} is in {file} {text.count(old)} times, and not once"
+                    return f"an old text of {edit.name} occurs {text.count(old)} times in {file}, and not once"
                 places.setdefault(path, []).append((text.index(old), old, new))
             if not edit.pairs:
                 return f"{edit.name} has no 'file:', 'old:' and 'new:' lines"
@@ -171,8 +194,8 @@ class Scratch:
         return ""
 
     def check_batch(self, edits, applied):
-        """What a check of what these edits change says, where those are applied: of one edit that is alone, or that changes anything else
-        than functions, over all proofs; and so where a hole is refused for another reason than that it is one."""
+        """Checks the functions that these edits change, while others are applied; its output. The check has holes, unless it is of one edit
+        alone or of one that changes anything other than functions, or a hole is refused for another reason than being one."""
         functions = functions_of(edits)
         if len(edits) > 1 and functions:
             holes = Holes(self.folder, self.source.name, self.sources)
@@ -183,29 +206,29 @@ class Scratch:
             wrong = [f"{file}: {why}" for file, why in refused if file in holes.files and "has-holes" not in why]
             if not wrong and re.search(r"(?m)^only=", said):
                 return said
-            print(f"edits of {self.source.name}: no check with holes: {(wrong or said.strip().split(chr(10)))[0][:160]}", flush=True)
+            print(f"edits: {self.source.name}: no check with holes: {(wrong or said.strip().split(chr(10)))[0][:160]}", flush=True)
             self.apply(applied)
         return self.check(functions)
 
     def check(self, functions, *flags):
-        """What a check of these functions says, or of the whole crate where there are none, over what the checks before it proved."""
+        """Checks these functions, or the whole crate where there are none, over the results of earlier checks; its output."""
         only = [word for it in sorted(functions) for word in ("--only", it)]
         said, seconds = rattle("check", [*self.words, *only, *flags], self.folder)
         self.checks, self.seconds = self.checks + 1, self.seconds + seconds
-        # Where a name fits no function, nothing is checked.
+        # Where a name fits no function, the prover checks nothing.
         return self.check(()) if only and not flags and not re.search(r"(?m)^only=", said) else said
 
 
 def notes_in(said, place):
-    """What is said of a function's own goals that aren't proved, by the lines of its source, which an edit leaves where they are."""
+    """The first note about a goal in a function's own lines. No edit moves a line."""
     file, first, last = place
     notes = re.findall(rf"(?m)^note: (?:\./)?{re.escape(file)}:(\d+):\d+: (it is not proved that .*)", said)
     return next((text[:160] for line, text in notes if first < int(line) <= last + 1), "")
 
 
 def refusals_of(said, places):
-    """The functions that weren't proved for a reason of their own, and that reason. One that only calls or cites what wasn't proved
-    has none."""
+    """The functions that weren't proved for a reason of their own, with the reason. A function that only calls or cites such a one has
+    none."""
     found = {}
     for line in said.split("\n"):
         at = re.match(r"fn (\S+): (not proved|no proof: .*)", line)
@@ -220,15 +243,15 @@ def refusals_of(said, places):
 
 
 def first_error(said, path):
-    """The error in a function's proof files that isn't only of a name that the edit took away."""
+    """The first error in a function's proof files that isn't about a removed name."""
     folder = "/".join(path.split("::")[1:])
     errors = re.findall(rf"(?m)^(?:\./)?proofs/{re.escape(folder)}/\S+?:\d+:\d+: error: (.*)", said)
-    real = [it for it in errors if not TAKEN.search(it)]
+    real = [it for it in errors if not REMOVED.search(it)]
     return real[0][:110] if real else ""
 
 
 def try_batch(scratch, batch):
-    """Tries edits at once. Those that weren't refused for their own functions are tried again, each by itself over the whole crate."""
+    """Tries edits at once. Those that weren't refused for their own functions are tried again, each alone over the whole crate."""
     is_alone = len(batch) == 1
     why = scratch.apply(batch)
     if why and is_alone:
@@ -250,36 +273,36 @@ def try_batch(scratch, batch):
 
 
 def proves_others(said, edits, places):
-    """Whether the own proof of a function of the crate was checked, and stood, that isn't among those that edits change."""
+    """Whether a function that no edit changes was proved by a proof of its own."""
     changed = set().union(*(it.functions for it in edits))
-    stood = re.findall(r"(?m)^fn (\S+): (proved$|no holes$|depends on a hole in `(\S+)`)", said)
+    proved = re.findall(r"(?m)^fn (\S+): (proved$|no holes$|depends on a hole in `(\S+)`)", said)
     is_own = lambda path, hole: hole.removesuffix(f".Proof.{path.split('::')[-1]}_spec").endswith(".".join(path.split("::")[1:]))
-    own = [path for path, _, hole in stood if not hole or not is_own(path, hole)]
+    own = [path for path, _, hole in proved if not hole or not is_own(path, hole)]
     return bool(changed) and any(path in places and not touches(path, changed) for path in own)
 
 
 def functions_of(edits):
-    """The functions that are checked of those that edits change, or none where one changes anything else."""
+    """The functions that are checked for these edits, or none where an edit changes anything other than functions."""
     return set().union(*(it.checked for it in edits)) if all(it.functions for it in edits) else set()
 
 
 def without_own(edit, said):
-    """What became of an edit by itself where no function was refused for a reason of its own: a lemma may have been."""
+    """The outcome of an edit alone where no function was refused for a reason of its own. A lemma may have been refused."""
     if re.search(r"(?m)^logic=proved", said):
         return Tried(edit, False, "NOT REFUSED: the crate is still proved with this edit")
     errors = re.findall(r"(?m)^\S+: error: .*", said)
-    taken = [it for it in errors if TAKEN.search(it)]
-    if errors and len(taken) < len(errors) and re.search(r"(?m)^fn \S+: (not proved|no proof)", said):
-        return Tried(edit, True, f"refused: {next(it for it in errors if it not in taken)[:160]}")
-    if taken:
-        return Tried(edit, True, f"refused, but a proof only names what it took away, which says little: {taken[0][:160]}")
+    removed = [it for it in errors if REMOVED.search(it)]
+    if errors and len(removed) < len(errors) and re.search(r"(?m)^fn \S+: (not proved|no proof)", said):
+        return Tried(edit, True, f"refused: {next(it for it in errors if it not in removed)[:160]}")
+    if removed:
+        return Tried(edit, True, f"refused, but only since a proof names what the edit removed: {removed[0][:160]}")
     lines = errors or said.strip().split("\n")
     return Tried(edit, False, f"BAD EDIT: no contract was tried: {' / '.join(lines[:3])[:300]}")
 
 
 def is_proved_unedited(scratch, edits):
-    """Whether what edits change is proved without them: all of it, or where the crate is proved, the shortest function. A check without
-    holes has the proofs that `rt ci` proved in the tree."""
+    """Whether the functions that edits change are proved without them: all, or only the shortest where the crate is proved. Where no check
+    had holes, `rt ci` has proved them in the tree."""
     if scratch.is_proved and (scratch.proves or not scratch.has_holes):
         return True
     functions = functions_of(edits)
@@ -289,20 +312,23 @@ def is_proved_unedited(scratch, edits):
 
 
 def try_crate(tree, crate):
-    """Tries a crate's edits, and then makes sure that what they change is proved there without them."""
+    """Tries a crate's edits, and makes sure that the functions that they change are proved without them."""
     edits = edits_of(crate)
     with tempfile.TemporaryDirectory(prefix="edits-") as room:
         scratch = Scratch(tree, crate, room)
         tried = [it for batch in batches_of(edits) for it in try_batch(scratch, batch)]
         is_proved = is_proved_unedited(scratch, edits)
     if not is_proved:
-        tried = [Tried(it.edit, False, "what it changes isn't proved without it either") for it in tried]
-    told = f"edits of {crate}: {len(edits)}, checks: {scratch.checks}, processor time: {scratch.seconds:.0f} seconds"
-    return sorted(tried, key=lambda it: it.edit.name), told
+        tried = [Tried(it.edit, False, "the function isn't proved without the edit either") for it in tried]
+    return sorted(tried, key=lambda it: it.edit.name), summary_of(crate, edits, scratch)
+
+
+def summary_of(crate, edits, scratch):
+    return f"edits: {crate}: {len(edits)} edits, {scratch.checks} checks, {scratch.seconds:.0f} seconds of processor time"
 
 
 def check_unedited(tree, crate):
-    """Tells of a crate's edits which change a function that isn't proved in this way without them either."""
+    """Checks the functions that a crate's edits change, in the same way but without the edits."""
     edits, wrong = edits_of(crate), []
     with tempfile.TemporaryDirectory(prefix="edits-") as room:
         scratch = Scratch(tree, crate, room)
@@ -313,55 +339,55 @@ def check_unedited(tree, crate):
             ran = re.search(r"(?m)^(only=|logic=proved)", said)
             wrong += [it for it in batch if not ran or any(touches(path, it.checked) for path in unproved)]
     tried = [Tried(it, it not in wrong, "NOT PROVED UNEDITED" if it in wrong else "proved unedited") for it in edits]
-    return tried, f"edits of {crate}: {len(edits)}, checks: {scratch.checks}, processor time: {scratch.seconds:.0f} seconds"
+    return tried, summary_of(crate, edits, scratch)
 
 
 def lanes():
-    """How many crates at a time: as RT_JOBS says, or one a processor, as many as memory holds."""
+    """How many crates are tried at a time: RT_JOBS, or one a processor, as far as there is memory."""
     said = os.environ.get("RT_JOBS", "")
     found = re.search(r"MemAvailable:\s+(\d+)", Path("/proc/meminfo").read_text(encoding="utf-8"))
     return int(said) if said.isdigit() and said != "0" else max(1, min(len(os.sched_getaffinity(0)), int(found[1]) * 1024 // LARGEST))
 
 
 def with_edits():
-    """The crates that have edits, those with the longest text first, since their checks take longest."""
-    found = {it.parent.parent for it in (HERE / "crates").glob("*/must-fail/*.edit")}
+    """The crates that have edits, those with the most text first, since their checks take longest."""
+    found = {it.parent.parent for it in (TOP / "crates").glob("*/must-fail/*.edit")}
     size = lambda folder: sum(it.stat().st_size for part in PARTS for it in (folder / part).rglob("*.*t"))
     return [it.name for it in sorted(found, key=lambda it: (-size(it), it.name))]
 
 
 def misplaced():
-    """What lies in must-fail/ and is neither an edit nor a page."""
-    return [it for it in sorted((HERE / "crates").glob("*/must-fail/*")) if it.suffix not in (".edit", ".md") or not it.is_file()]
+    """The files in must-fail/ that are neither edits nor pages."""
+    return [it for it in sorted((TOP / "crates").glob("*/must-fail/*")) if it.suffix not in (".edit", ".md") or not it.is_file()]
 
 
 def try_all(tree, crates, way):
-    """Tries the edits of all crates in one of the two ways, and tells how many were as they have to be and how many weren't."""
+    """Tries the edits of crates in one of the two ways; how many passed, and how many failed."""
     refused, failed = 0, 0
     with ThreadPoolExecutor(lanes()) as pool:
-        for crate, (tried, told) in zip(crates, pool.map(lambda it: way(tree, it), crates)):
+        for crate, (tried, summary) in zip(crates, pool.map(lambda it: way(tree, it), crates)):
             for it in tried:
                 print(f"edit {crate}/{it.edit.name}: {it.text}")
                 refused, failed = refused + it.refused, failed + (not it.refused)
-            print(told, flush=True)
+            print(summary, flush=True)
     return refused, failed
 
 
 def main():
-    words = argparse.ArgumentParser(description=__doc__, formatter_class=argparse.RawDescriptionHelpFormatter)
+    words = argparse.ArgumentParser(prog="tests/edits/run")
     words.add_argument("--over", type=Path, metavar="TREE")
     words.add_argument("--unedited", action="store_true")
     words.add_argument("crates", nargs="*", metavar="CRATE")
     given = words.parse_args()
     crates, wrong = given.crates or with_edits(), misplaced()
     for it in wrong:
-        print(f"edit {it.relative_to(HERE)}: BAD EDIT: no edit ends so")
+        print(f"edit {it.relative_to(TOP)}: BAD EDIT: its name doesn't end with .edit")
     with tempfile.TemporaryDirectory(prefix="edits-") as room:
         tree, is_built = (given.over.resolve(), True) if given.over else built_tree(crates, room)
         refused, failed = try_all(tree, crates, check_unedited if given.unedited else try_crate) if is_built else (0, 1)
     right, other = ("proved unedited", "not proved") if given.unedited else ("refused", "not refused")
     print(f"edits: {refused} {right}, {failed + len(wrong)} {other}")
-    return 1 if failed or wrong or not refused else 0
+    return print_counts("edits", refused, failed + len(wrong))
 
 
 if __name__ == "__main__":

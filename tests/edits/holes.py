@@ -1,24 +1,24 @@
-"""Holes in the place of proofs that stand already, for a check of a few functions of a crate."""
+"""Puts holes in place of proofs, for a check of a few functions of a crate."""
 import re
 
 # The files of a function's proof.
 OF_PROOF = ("Answers.antt", "Invariants.antt", "Proof.antt")
-# In the place of a function's proof.
+# The hole in place of a function's proof.
 HOLE = """use Rattle.{crate}.proofs.{module}.Statement.{{statement}}
 
 pub {name}_spec : {{M : Type 1}} → statement M
 {name}_spec = ?
 """
-# The first line of what a lemma says.
+# The first line of a lemma's statement.
 LEMMA = re.compile(r"(?:pub )?([^\s(){}:,;]+) :(?: |$)")
-# What a line begins with that goes on with the one before.
+# The beginnings of a line that continues the one before.
 INSIDE = (" ", "}", ")", "]")
-# What a proof looks into.
+# The names that a proof unfolds.
 UNFOLDING = re.compile(r"(?m)^\s*unfolding (.*)$")
 
 
 def end_of_proof(lines, at, name):
-    """The line behind a lemma's proof, which begins at this one, or further on behind comments."""
+    """The line after a lemma's proof. The proof begins at this line, or after comments."""
     begins, end = re.compile(rf"{re.escape(name)}(?: |$)"), at
     for place in range(at, len(lines)):
         line = lines[place]
@@ -30,7 +30,7 @@ def end_of_proof(lines, at, name):
 
 
 def without_proofs(text, kept):
-    """A file of lemmas with a hole in the place of each proof, but of these."""
+    """A file of lemmas with a hole in place of each proof, except for the kept lemmas."""
     lines, found, at = text.split("\n"), [], 0
     while at < len(lines):
         lemma = LEMMA.match(lines[at])
@@ -46,7 +46,7 @@ def without_proofs(text, kept):
 
 
 class Holes:
-    """The holes of a copy of a crate. Each is in one of these files, as they are named from the crate's folder."""
+    """The holes of a copy of a crate, and the files that have them, relative to the crate's folder."""
 
     def __init__(self, folder, crate, sources):
         self.folder, self.crate, self.sources = folder, crate, sources
@@ -61,7 +61,7 @@ class Holes:
         self.files.add(place.relative_to(self.folder).as_posix())
 
     def open_lemmas(self):
-        """Puts holes in the place of the proofs of lemmas. What another proof looks into stays."""
+        """Puts holes in place of the proofs of lemmas, except for those that another proof unfolds."""
         read = {it: it.read_text(encoding="utf-8") for it in (self.folder / "proofs").rglob("*.antt")}
         of_definitions = [it.read_text(encoding="utf-8") for it in (self.folder / "specs").rglob("*.antt")]
         kept = {name for text in [*read.values(), *of_definitions] for names in UNFOLDING.findall(text) for name in names.split()}
@@ -70,8 +70,8 @@ class Holes:
                 self.write(place, without_proofs(text, kept))
 
     def open_others(self, edits):
-        """Puts holes in the place of the proofs of functions that no edit changes, but for the witness: the shortest of those that call
-        nothing that an edit changes and have a proof file, or of all. Answers which it is."""
+        """Puts holes in place of the proofs of functions that no edit changes, except for the witness, and returns that. It is the shortest
+        of those that call no changed function and have a proof file, or else of all."""
         others = self.sources.others(edits)
         changed = {it.split("::")[-1] for edit in edits for it in edit.functions}
         free = {it for it in others if not self.sources.names_any(it, changed)} or others
@@ -83,7 +83,7 @@ class Holes:
         return witness
 
     def open_proof(self, path):
-        """Puts a hole in the place of a function's proof."""
+        """Puts a hole in place of a function's proof."""
         folder, (_, *names) = self.proof_of(path), path.split("::")
         for file in OF_PROOF:
             (folder / file).unlink(missing_ok=True)
@@ -91,8 +91,8 @@ class Holes:
         self.write(folder / "Proof.antt", HOLE.format(crate=self.crate, module=".".join(names), name=names[-1]))
 
     def empty_body(self, path):
-        """Puts an endless loop in the place of a function's body, on as many lines, so that nothing that it calls is looked at. Not so of
-        one that constants are made by, or that is in a cycle of calls."""
+        """Puts an endless loop in place of a function's body, on as many lines, so that its calls are not checked. A function that makes
+        constants, or that is in a cycle of calls, keeps its body."""
         file, first, last = self.sources.places[path]
         place = self.folder / file
         lines = place.read_text(encoding="utf-8").split("\n")

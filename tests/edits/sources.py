@@ -1,22 +1,22 @@
-"""The must-fail edits of a crate, its sources, and which functions an edit changes."""
+"""The must-fail edits of a crate, its sources, and the functions that an edit changes."""
 import re
 from dataclasses import dataclass, field
 from pathlib import Path
 
-HERE = Path(__file__).resolve().parent.parent
-# An `impl` of a trait that has types of its own, whose methods the prover names by these too.
+TOP = Path(__file__).resolve().parent.parent.parent
+# An `impl` of a trait with type parameters. The prover's names of its methods include the types.
 GENERIC_TRAIT = re.compile(r"impl(?:<(?:[^<>]|<[^<>]*>)*>)? *[\w:]+<[^{]*\bfor\b")
 
 
 @dataclass
 class Edit:
-    """An edit of a crate: the texts that it replaces, each once in its file."""
+    """An edit of a crate: the texts that it replaces. Each occurs once in its file."""
 
     name: str
     pairs: list[tuple[str, str, str]]
-    # the functions that it changes, in their bodies or in a constant that they name; none where it changes anything else
+    # the functions that it changes, by their bodies or by a constant that they name; none where it changes anything else
     functions: set[str] = field(default_factory=set)
-    # those of them that are checked: of the functions that name a constant the shortest
+    # those that are checked: of the functions that name a constant, the shortest
     checked: set[str] = field(default_factory=set)
 
 
@@ -24,7 +24,7 @@ class Edit:
 
 
 def read_edit(path):
-    """The pairs of an edit, in the form that `rt` has."""
+    """Reads an edit, in the syntax of `rt`."""
     file, old, pairs = "", None, []
     for line in path.read_text(encoding="utf-8").split("\n"):
         if line.startswith("file: "):
@@ -38,7 +38,7 @@ def read_edit(path):
 
 
 def owner_of(header):
-    """The type that an `impl` is of, and the trait, if there is one."""
+    """The type of an `impl`, and its trait, if there is one."""
     plain = header
     while "<" in plain and re.search(r"<[^<>]*>", plain):
         plain = re.sub(r"<[^<>]*>", "", plain)
@@ -57,8 +57,8 @@ def end_of(lines, start, ends):
 
 
 def functions_in(module, lines, homes):
-    """The functions of a source as the prover names them, a method below the module of its type; their first and last lines.
-    What a trait declares is none."""
+    """The functions of a source by the prover's names, with their first and last lines. A method's name begins with the module of its
+    type. The declarations of a trait are left out."""
     owner, is_trait = "", False
     for at, line in enumerate(lines):
         if re.match(r"(unsafe )?impl\b|(pub )?trait\b", line):
@@ -82,7 +82,7 @@ class Sources:
     """The sources of a crate."""
 
     def __init__(self, crate):
-        self.folder = HERE / "crates" / crate
+        self.folder = TOP / "crates" / crate
         files = [it.relative_to(self.folder).as_posix() for it in sorted((self.folder / "src").rglob("*.rt"))]
         self.lines = {it: (self.folder / it).read_text(encoding="utf-8").split("\n") for it in files}
         modules = {it: f"{crate}::{module_of(it)}" for it in files}
@@ -95,7 +95,7 @@ class Sources:
         return ((file, *item) for file, items in of.items() for item in items)
 
     def naming(self, name, home):
-        """The functions that name a constant of a file, or a constant that names it: those of the file, unless it is public."""
+        """The functions that name a constant, or another constant that names it; unless it is public, only those of its own file."""
         word = re.compile(rf"\b{name}\b")
         names = lambda file, first, last: any(word.search(it) for it in self.lines[file][first : last + 1])
         found = {path for file, path, first, last in self.items(self.functions) if names(file, first, last)}
@@ -106,20 +106,20 @@ class Sources:
         return found if is_public else at_home or found
 
     def others(self, edits):
-        """The functions that no edit changes and whose names the prover has as they are here."""
+        """The functions that no edit changes, as far as the prover's names of them are known here."""
         changed = set().union(*(it.functions for it in edits))
         is_plain = lambda it: not GENERIC_TRAIT.match(self.header_of(it))
         return {it for it in self.places if not touches(it, changed) and is_plain(it)}
 
     def header_of(self, path):
-        """The line that begins the `impl` of a method, or the function's own."""
+        """The first line of the `impl` of a method, or of the function itself."""
         file, first, _ = self.places[path]
         lines = self.lines[file]
         inside = lines[first].startswith(" ")
         return next((lines[it] for it in range(first, -1, -1) if inside and lines[it] and lines[it][0] not in " }#/"), lines[first])
 
     def names_any(self, path, words):
-        """Whether a function's body has one of these words."""
+        """Whether a function's body names one of these."""
         file, first, last = self.places[path]
         return not words.isdisjoint(re.findall(r"\w+", "\n".join(self.lines[file][first + 1 : last + 1])))
 
@@ -132,7 +132,7 @@ class Sources:
         return first + ends[0] if ends else last
 
     def is_bound(self, path):
-        """Whether constants may be made by a function, or it is in a cycle of calls."""
+        """Whether a function makes constants or is in a cycle of calls."""
         file, first, _ = self.places[path]
         above = self.lines[file][max(first - 3, 0) : first + 1]
         return " const fn " in f" {above[-1]}" or any("#[cycle" in line for line in above)
@@ -147,7 +147,7 @@ class Sources:
         return last - begin
 
     def changed_by(self, edit):
-        """The functions that an edit changes, and those of them that tell; none where it changes something else too."""
+        """The functions that an edit changes, and those that are checked for it; none where it changes anything else too."""
         found, checked = set(), set()
         for file, old, new in edit.pairs:
             text = "\n".join(self.lines.get(file, []))
@@ -167,13 +167,13 @@ class Sources:
 
 
 def added_function(old, new):
-    """Whether an edit puts a function before a text or in the place of a comment, which by itself changes nothing."""
+    """Whether an edit only adds a function, before a text or in place of a comment. That alone changes no behaviour."""
     is_beside = new.endswith(old) or old.startswith("//")
     return is_beside and re.fullmatch(r"fn \w+.*\}", new.removesuffix(old).rstrip()) is not None
 
 
 def module_of(file):
-    """The path of a source's module, as the prover writes it."""
+    """The prover's name of a source's module."""
     parts = Path(file).with_suffix("").parts[1:]
     return "" if parts in (("lib",), ("main",)) else "::".join(parts) + "::"
 
@@ -194,7 +194,7 @@ def go_together(edit, other):
 
 
 def batches_of(edits):
-    """Edits that are tried at once change different functions; one that changes something else goes alone."""
+    """Edits that are tried at once. They change different functions; an edit that changes anything else goes alone."""
     batches, alone = [], []
     for edit in edits:
         if not edit.functions:

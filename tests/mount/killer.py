@@ -1,16 +1,16 @@
 #!/usr/bin/env python3
 """Kills the servers of a fusekeep-mount by SIGKILL: killer.py SUPERVISOR KILLS [SHORTEST]
 
-After ten short lives in a row the supervisor gives up. So of each five servers four are killed at any moment of their first
-300 ms, from before they serve on, and one after it has lived for more than a second. With SHORTEST only servers are killed that
-have lived for so many seconds; then it goes on until the supervisor has ended."""
+After ten short lives in a row the supervisor gives up. So of each five servers four are killed at any moment of their first 300 ms,
+even before they serve, and one after more than a second. With SHORTEST only servers are killed that have lived for this many
+seconds; then it goes on until the supervisor has ended."""
 import os
 import random
 import signal
 import sys
 import time
 
-PATIENCE = 120.0  # seconds in which a next server has to be there
+PATIENCE = 120.0  # seconds until the next server must be there
 
 
 def parent_of(process):
@@ -19,7 +19,7 @@ def parent_of(process):
 
 
 def server_of(supervisor):
-    """The child that serves, if there is one; other children unmount, or look whether the mount is there."""
+    """The child that serves, if there is one; other children unmount, or check the mount."""
     with open(f"/proc/{supervisor}/task/{supervisor}/children") as file:
         children = file.read().split()
     for child in children:

@@ -1,7 +1,7 @@
-# Phases of mount/test: what is refused, and a store whose disk gets full. Each runs in a folder of its own.
+# Phases of tests/mount/run: refused mounts, and a store whose disk gets full. Each runs in a folder of its own.
 
-# Runs fusekeep-mount, which has to end with this status, say this line, and mount nothing, sooner than after the pauses between ten
-# servers (16 seconds): refuses STATUS LINE WORD..
+# Runs fusekeep-mount, which must end with this status, print this line, and mount nothing, before the pauses between ten servers would
+# end (16 seconds): refuses STATUS LINE WORD..
 refuses() {
   local status=$1 line=$2 began ended
   shift 2
@@ -35,12 +35,12 @@ refusals() {
   stop_and_end
 }
 
-# Whether the kernel knows a lock on a file.
+# Whether the kernel has a lock on a file.
 is_locked() {
   grep -q ":$(stat -c %i "$1") " /proc/locks
 }
 
-# A server that runs by hand holds the store.
+# A server that was started by hand holds the store.
 held_store() {
   mkfifo silence
   "$engine" serve --db store --fresh <silence >answers 2>counts &
@@ -51,7 +51,7 @@ held_store() {
   refuses 1 "fusekeep-mount: store is held by another server, or by a program that has it open" "$program" store || return 1
   "$engine" serve --db store --resume </dev/null 2>line
   expect "the engine's status is 3" [ $? -eq 3 ] || return 1
-  expect "the engine says so" [ "$(cat line)" = "store: Sql" ] || return 1
+  expect "the engine reports it" [ "$(cat line)" = "store: Sql" ] || return 1
   exec 9>&-
   wait "$server"
   expect "the first server ends well" [ $? -eq 0 ] || return 1
@@ -71,7 +71,7 @@ unwritable_store() {
   umount disk
 }
 
-# Writes files of 20,000 bytes whose bytes are a function of their number, until one fails or the word to stop is there.
+# Writes files of 20,000 bytes, which follow from their number, until a write fails or the file `enough` exists.
 write_pieces() {
   local number=0
   while ! [ -e enough ]; do
@@ -96,8 +96,8 @@ has_ended_servers() {
   [ "$(grep -c "status 3" log)" -ge "$1" ]
 }
 
-# While the disk is full calls wait; they go on once there is room. Where it stays full they get an error, and what was answered
-# is there as soon as there is room.
+# While the disk is full calls wait; they go on once there is room. Where it stays full they return an error, and once there is room all
+# answered writes are there.
 full_disk() {
   mkdir disk && mount -t tmpfs -o size=2m none disk && start disk/store mnt log || return 1
   write_pieces &
@@ -107,7 +107,7 @@ full_disk() {
   wait "$writer"
   expect "at last a write fails" [ $? -ne 0 ] || return 1
   ended 1 || return 1
-  expect "it says why" grep -q "disk has no room left" log || return 1
+  expect "it names the reason" grep -q "disk has no room left" log || return 1
   expect "more was written than had room at first" [ "$(cat written)" -gt 20 ] || return 1
   umount -l mnt
   refuses 3 "fusekeep-mount: .*disk has no room left" "$program" disk/store || return 1

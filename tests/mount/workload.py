@@ -25,7 +25,7 @@ libc = ctypes.CDLL(None, use_errno=True)
 
 
 def content(key):
-    """The bytes of a file: its key tells their number."""
+    """The bytes of a file; its key ends with their number."""
     return hashlib.shake_128(key.encode()).digest(int(key.rsplit("-", 1)[1]))
 
 
@@ -46,7 +46,7 @@ def check(condition, what):
 
 
 def refused(code, call, *args):
-    """The call has to be refused with just this number."""
+    """The call must be refused with exactly this number."""
     try:
         call(*args)
     except OSError as refusal:
@@ -90,7 +90,7 @@ class Worker:
     def __init__(self, mount, number, model, creations):
         self.number, self.model, self.creations = number, Model(model), creations
         self.random = random.Random(f"{number} {self.model.serial}")
-        self.held = []  # descriptors that stay open for a while, and the bytes behind them
+        self.held = []  # descriptors that stay open for a while, and the bytes of their files
         self.calls, self.longest = 0, 0.0
         os.chdir(mount)
         os.makedirs("shared", exist_ok=True)
@@ -188,7 +188,7 @@ class Worker:
             files[new] = files.pop(path)
 
     def exchange(self, path, other):
-        """Two files change places, and then get names that tell their bytes again."""
+        """Two files change places, and then get names that fit their bytes again."""
         files = self.model.files
         renameat2(path, other, EXCHANGE)
         mine = self.free_path(os.path.dirname(other), key_of(path))
@@ -199,7 +199,7 @@ class Worker:
         files[mine], files[its] = mode, other_mode
 
     def replace(self):
-        """A file takes the place of another one, and then gets a name that tells its bytes again."""
+        """A file takes the place of another one, and then gets a name that fits its bytes again."""
         path, other = self.a_file(), self.a_file()
         if not path or path == other:
             return

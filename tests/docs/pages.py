@@ -1,0 +1,78 @@
+"""Checks of all pages: their links, their bytes, their code and their sizes."""
+import re
+
+from docs.markdown import anchors_of, blocks_of, prose_of, text_of
+from spec.read import bytes_of, read_all
+
+MOST_WORDS_OF_README = 1000
+MOST_WORDS = 20000
+
+LINK = re.compile(r"\]\(([^()\s]+)\)")
+
+# A case in tests/spec/README.md, and its messages and answers in hexadecimal, of at least eight bytes.
+CASE = re.compile(r" *- \*\*([\w-]+)\*\* (.*)")
+BYTES = re.compile(r"`([0-9a-f* ]{16,})`")
+
+# The notice that a server sends when it resumes. It is in no case.
+NOTICE = bytes_of("10000000 07000000 0*8")
+
+
+def check_links(tree):
+    """Each link leads to a file or a folder, and to a heading where it names one."""
+    for page in tree.pages():
+        for number, line in prose_of(text_of(page)):
+            for link in LINK.findall(re.sub(r"`[^`]*`", "", line)):
+                path, _, anchor = link.partition("#")
+                target = page.parent / path if path else page
+                if ":" in path:
+                    continue
+                found = target.exists() and (not anchor or target.suffix != ".md" or anchor in anchors_of(text_of(target)))
+                tree.check(found, f"{tree.name_of(page)}, line {number}: the link {link} leads nowhere")
+
+
+def check_spec(tree):
+    """The bytes in tests/spec/README.md are those of the cases. A case that is in no file is a test of a crate."""
+    folder = tree.top / "tests/spec"
+    cases = read_all(sorted(folder.glob("*.cases")))
+    names = {name.split(",")[0] for name in cases}
+    spelled = [NOTICE] + [part for case in cases.values() for event in case.events for part in (event.message, event.answer)]
+    compared = 0
+    for name, text in CASE.findall(text_of(folder / "README.md")):
+        for digits in BYTES.findall(text) if name in names else ():
+            compared += 1
+            found = any(bytes_of(digits) in part for part in spelled)
+            tree.check(found, f"tests/spec/README.md: {name}: no case has {digits[:40]}")
+    tree.check(compared, "tests/spec/README.md: it has no bytes of a case")
+
+
+def examples_of(tree):
+    """The example crates: the program stands on none of them, and they are no tests."""
+    lines = [line.split(":", 1) for line in text_of(tree.top / "crates.txt").split("\n") if ":" in line and line[0] != "#"]
+    stands_on = {name.split()[0]: words.split() for name, words in lines}
+    return sorted(name for name in stands_on if name not in [*stands_on["fusekeep"], "fusekeep"] and not name.endswith("_tests"))
+
+
+def without_indent(text):
+    """The lines of a text, each without its indent."""
+    return "".join(f"\n{line.strip()}" for line in text.splitlines()) + "\n"
+
+
+def check_code(tree):
+    """The code in BUILDING_ON_IT.md is that of the example crates."""
+    page = tree.top / "docs/BUILDING_ON_IT.md"
+    sources = tree.files(*[f"crates/{name}/{part}/**/*.*t" for name in examples_of(tree) for part in ("src", "specs")])
+    texts = [without_indent(text_of(source)) for source in sources]
+    blocks = blocks_of(text_of(page), "rust", "antt")
+    for block, _ in blocks:
+        found = any(without_indent(block) in text for text in texts)
+        tree.check(found, f"{tree.name_of(page)}: no example crate has the block that begins with {block.splitlines()[0].strip()}")
+    tree.check(blocks, f"{tree.name_of(page)}: it has no block of code")
+
+
+def check_sizes(tree):
+    """The pages are short."""
+    readme = len(text_of(tree.top / "README.md").split())
+    words = readme + sum(len(text_of(page).split()) for page in tree.files("docs/*.md"))
+    tree.check(readme <= MOST_WORDS_OF_README, f"README.md has {readme:,} words; {MOST_WORDS_OF_README:,} are allowed")
+    tree.check(words <= MOST_WORDS, f"README.md and docs/ have {words:,} words; {MOST_WORDS:,} are allowed")
+    print(f"docs: README.md has {readme:,} words, and {words:,} with docs/")
