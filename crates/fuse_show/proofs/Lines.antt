@@ -9,7 +9,7 @@ use Rattle.fuse_show.specs.declared.fault.ShowFault.{ShowFault}
 use Rattle.fuse_show.specs.declared.fault.ShowFault.TheVariants.{Look, NotATree, NoSuchPath, NotDirectory, NotFile, Output}
 use Rattle.fuse_show.specs.Looks.{WritesOut, look_fault}
 
--- the text of one element more was written
+-- the text of one more element was written
 pub text_more : {A : Type 0} (f : A → List ℕ) (xs : List A) (i : ℕ) (x : A) (a b c : Option (List ℕ)) → i < length xs → get_or xs i x ≡ x
     → Appends a b (flat_map f (take i xs)) → Appends b c (f x) → Appends a c (flat_map f (take (i + 1) xs))
 text_more f xs i x a b c there is before one =
@@ -38,7 +38,7 @@ take_sum (suc o) len (x ∷ xs) =
     let same : suc (o + len) ≡ suc o + len = omega arith in
     ap (λ (y : List ℕ). x ∷ y) (take_sum o len xs) ∙ ap (λ n. take n (x ∷ xs)) same
 
--- a piece more was written
+-- one more piece was written
 pub piece_more : (xs : List ℕ) (o len : ℕ) (a b c : Option (List ℕ)) → Appends a b (take o xs) → Appends b c (take len (drop o xs))
     → Appends a c (take (o + len) xs)
 piece_more xs o len a b c before one =
@@ -50,7 +50,7 @@ piece_all xs o a b all so = subst (Appends a b) (take_all o xs all) so
 pub none_written : (a : Option (List ℕ)) → Appends a a []
 none_written a = Appends-nil a
 
--- what failed while one text was written has failed whatever the whole is
+-- a failure in a part is a failure of the whole
 pub fails_if : (a b c : Option (List ℕ)) (text all : List ℕ) (f : ShowFault) → (look_fault {X = Unit {0}} (Err f) ≡ None → WritesOut b c text (Err f))
     → WritesOut a c all (Err f)
 fails_if a b c text all (Look f) so = tt
@@ -65,7 +65,7 @@ all_at P [] i x all within is = absurd (omega arith)
 all_at P (y ∷ ys) zero x all within is = subst P is all.0
 all_at P (y ∷ ys) (suc i) x all within is = all_at P ys i x all.1 (omega arith) is
 
--- what is so where no look failed is so
+-- a text is written if it is written where no look failed
 pub writes_if : (a b : Option (List ℕ)) (text : List ℕ) (r : Result (Unit {0}) ShowFault) → (look_fault r ≡ None → WritesOut a b text r) → WritesOut a b text r
 writes_if a b text (Ok x) so = so refl
 writes_if a b text (Err f) so = fails_if a a b text text f so

@@ -1,4 +1,4 @@
--- Just one thing is found by names.
+-- The names of a path lead to one node, or fail for one reason.
 use Rattle.std.proofs.Common.{◌≡◌, ◌⊎◌, ℕ, Bool, true, false, List, [], ◌∷◌, ◌++◌, Option, Some, None, inl, inr, refl, sym, ap, subst, ◌∙◌}
 use Rattle.std.specs.Prelude.{Result, Ok, Err}
 use Rattle.fuse_tree.specs.declared.rows.NodeRow.{NodeRow}
@@ -9,7 +9,7 @@ use Rattle.fuse_tree.specs.Rows.{Rows, IsRowed, row_at, entry_at}
 use Rattle.fuse_tree.specs.RowsOfTrees.{RowsOfTrees}
 use Rattle.fuse_show.specs.declared.fault.ShowFault.{ShowFault}
 use Rattle.fuse_show.specs.declared.fault.ShowFault.TheVariants.{Look, NotATree, NoSuchPath, NotDirectory, NotFile, Output}
-use Rattle.fuse_show.specs.Finding.{LeadsBy, Lead, LeadTo, Stops, HasNone, IsNoDirectory, Finds, IsTold, FindsSomething, FoundOnce}
+use Rattle.fuse_show.specs.Lookup.{LeadsBy, Lead, LeadTo, Stops, HasNone, IsNoDirectory, Finds, NoLookFault, FindsSomething, FoundOnce}
 use Rattle.fuse_show.proofs.Trees.{root_there, child_row}
 
 some_once : {A : Type 0} (x y : A) (o : Option A) → o ≡ Some x → o ≡ Some y → x ≡ y
@@ -43,13 +43,13 @@ no_directory_ends rows last name why next one =
     let none : is_dir last.mode ≡ false = why in
     absurd cc
 
--- names that lead somewhere stop nowhere
-on_and_stop : (rows : Rows) (from : NodeRow) (front : List (List ℕ)) (name : List ℕ) (behind : List (List ℕ)) (to last : NodeRow)
-    → Lead rows from (front ++ name ∷ behind) to → Lead rows from front last → EndsHere rows last name → ⊥
-on_and_stop rows from [] name behind to last on stop ends = ends on.0 (subst (λ (x : NodeRow). LeadsBy rows x name on.0) (sym stop) on.1)
-on_and_stop rows from (n ∷ front) name behind to last on stop ends =
+-- names that lead to a node do not stop on the way
+on_and_stop : (rows : Rows) (from : NodeRow) (prefix : List (List ℕ)) (name : List ℕ) (after : List (List ℕ)) (to last : NodeRow)
+    → Lead rows from (prefix ++ name ∷ after) to → Lead rows from prefix last → EndsHere rows last name → ⊥
+on_and_stop rows from [] name after to last on stop ends = ends on.0 (subst (λ (x : NodeRow). LeadsBy rows x name on.0) (sym stop) on.1)
+on_and_stop rows from (n ∷ prefix) name after to last on stop ends =
     let same : on.0 ≡ stop.0 = leads_once rows from n on.0 stop.0 on.1 stop.1 in
-    on_and_stop rows stop.0 front name behind to last (subst (λ (x : NodeRow). Lead rows x (front ++ name ∷ behind) to) same on.2) stop.2 ends
+    on_and_stop rows stop.0 prefix name after to last (subst (λ (x : NodeRow). Lead rows x (prefix ++ name ∷ after) to) same on.2) stop.2 ends
 
 -- where names stop twice, they stop at one node
 both_stop : (rows : Rows) (from : NodeRow) (f g : List (List ℕ)) (m n : List ℕ) (p q : List (List ℕ)) (a b : NodeRow) → f ++ m ∷ p ≡ g ++ n ∷ q
@@ -82,82 +82,82 @@ places_once rows names a b p q =
 leads_or_stops : (rows : Rows) (names : List (List ℕ)) (a : NodeRow) (Why : NodeRow → List ℕ → Type 0)
     → ((last : NodeRow) (name : List ℕ) → Why last name → EndsHere rows last name) → LeadTo rows names a → Stops rows names Why → ⊥
 leads_or_stops rows names a Why ends p s =
-    let root = root_once rows s.front names s.last a s.leads p in
-    on_and_stop rows p.root s.front s.name s.behind a s.last (subst (λ (x : List (List ℕ)). Lead rows p.root x a) s.parts p.lead)
-    (subst (λ (x : NodeRow). Lead rows x s.front s.last) root s.leads.lead) (ends s.last s.name s.why)
+    let root = root_once rows s.prefix names s.last a s.leads p in
+    on_and_stop rows p.root s.prefix s.name s.after a s.last (subst (λ (x : List (List ℕ)). Lead rows p.root x a) s.parts p.lead)
+    (subst (λ (x : NodeRow). Lead rows x s.prefix s.last) root s.leads.lead) (ends s.last s.name s.why)
 
 stops_or : (rows : Rows) (names : List (List ℕ)) → Stops rows names (HasNone rows) → Stops rows names IsNoDirectory → ⊥
 stops_or rows names p q =
-    let root = root_once rows p.front q.front p.last q.last p.leads q.leads in
+    let root = root_once rows p.prefix q.prefix p.last q.last p.leads q.leads in
     let last : p.last ≡ q.last =
-    both_stop rows q.leads.root p.front q.front p.name q.name p.behind q.behind p.last q.last (sym p.parts ∙ q.parts)
-    (subst (λ (x : NodeRow). Lead rows x p.front p.last) root p.leads.lead) q.leads.lead
+    both_stop rows q.leads.root p.prefix q.prefix p.name q.name p.after q.after p.last q.last (sym p.parts ∙ q.parts)
+    (subst (λ (x : NodeRow). Lead rows x p.prefix p.last) root p.leads.lead) q.leads.lead
     (none_ends rows p.last p.name p.why) (no_directory_ends rows q.last q.name q.why) in
     let dir : is_dir q.last.mode ≡ true = subst (λ (x : NodeRow). is_dir x.mode ≡ true) last p.why.0 in
     let none : is_dir q.last.mode ≡ false = q.why in
     absurd cc
 
-place_or : (rows : Rows) (names : List (List ℕ)) (a : NodeRow) (b : Result NodeRow ShowFault) → IsTold b → LeadTo rows names a → Finds rows names b → Ok a ≡ b
-place_or rows names a (Ok b) told p q = ap Ok (places_once rows names a b p q)
-place_or rows names a (Err (Look f)) told p q = absurd told
-place_or rows names a (Err NotATree) told p q = absurd q
-place_or rows names a (Err NoSuchPath) told p q = absurd (leads_or_stops rows names a (HasNone rows) (none_ends rows) p q)
-place_or rows names a (Err NotDirectory) told p q = absurd (leads_or_stops rows names a IsNoDirectory (no_directory_ends rows) p q)
-place_or rows names a (Err NotFile) told p q = absurd q
-place_or rows names a (Err Output) told p q = absurd q
+place_or : (rows : Rows) (names : List (List ℕ)) (a : NodeRow) (b : Result NodeRow ShowFault) → NoLookFault b → LeadTo rows names a → Finds rows names b → Ok a ≡ b
+place_or rows names a (Ok b) known p q = ap Ok (places_once rows names a b p q)
+place_or rows names a (Err (Look f)) known p q = absurd known
+place_or rows names a (Err NotATree) known p q = absurd q
+place_or rows names a (Err NoSuchPath) known p q = absurd (leads_or_stops rows names a (HasNone rows) (none_ends rows) p q)
+place_or rows names a (Err NotDirectory) known p q = absurd (leads_or_stops rows names a IsNoDirectory (no_directory_ends rows) p q)
+place_or rows names a (Err NotFile) known p q = absurd q
+place_or rows names a (Err Output) known p q = absurd q
 
-none_or : (rows : Rows) (names : List (List ℕ)) (b : Result NodeRow ShowFault) → IsTold b → Stops rows names (HasNone rows) → Finds rows names b
+none_or : (rows : Rows) (names : List (List ℕ)) (b : Result NodeRow ShowFault) → NoLookFault b → Stops rows names (HasNone rows) → Finds rows names b
     → Err NoSuchPath ≡ b
-none_or rows names (Ok b) told p q = absurd (leads_or_stops rows names b (HasNone rows) (none_ends rows) q p)
-none_or rows names (Err (Look f)) told p q = absurd told
-none_or rows names (Err NotATree) told p q = absurd q
-none_or rows names (Err NoSuchPath) told p q = refl
-none_or rows names (Err NotDirectory) told p q = absurd (stops_or rows names p q)
-none_or rows names (Err NotFile) told p q = absurd q
-none_or rows names (Err Output) told p q = absurd q
+none_or rows names (Ok b) known p q = absurd (leads_or_stops rows names b (HasNone rows) (none_ends rows) q p)
+none_or rows names (Err (Look f)) known p q = absurd known
+none_or rows names (Err NotATree) known p q = absurd q
+none_or rows names (Err NoSuchPath) known p q = refl
+none_or rows names (Err NotDirectory) known p q = absurd (stops_or rows names p q)
+none_or rows names (Err NotFile) known p q = absurd q
+none_or rows names (Err Output) known p q = absurd q
 
-no_directory_or : (rows : Rows) (names : List (List ℕ)) (b : Result NodeRow ShowFault) → IsTold b → Stops rows names IsNoDirectory → Finds rows names b
+no_directory_or : (rows : Rows) (names : List (List ℕ)) (b : Result NodeRow ShowFault) → NoLookFault b → Stops rows names IsNoDirectory → Finds rows names b
     → Err NotDirectory ≡ b
-no_directory_or rows names (Ok b) told p q = absurd (leads_or_stops rows names b IsNoDirectory (no_directory_ends rows) q p)
-no_directory_or rows names (Err (Look f)) told p q = absurd told
-no_directory_or rows names (Err NotATree) told p q = absurd q
-no_directory_or rows names (Err NoSuchPath) told p q = absurd (stops_or rows names q p)
-no_directory_or rows names (Err NotDirectory) told p q = refl
-no_directory_or rows names (Err NotFile) told p q = absurd q
-no_directory_or rows names (Err Output) told p q = absurd q
+no_directory_or rows names (Ok b) known p q = absurd (leads_or_stops rows names b IsNoDirectory (no_directory_ends rows) q p)
+no_directory_or rows names (Err (Look f)) known p q = absurd known
+no_directory_or rows names (Err NotATree) known p q = absurd q
+no_directory_or rows names (Err NoSuchPath) known p q = absurd (stops_or rows names q p)
+no_directory_or rows names (Err NotDirectory) known p q = refl
+no_directory_or rows names (Err NotFile) known p q = absurd q
+no_directory_or rows names (Err Output) known p q = absurd q
 
 pub found_once : FoundOnce
-found_once rows names (Ok a) b told told' p q = place_or rows names a b told' p q
-found_once rows names (Err (Look f)) b told told' p q = absurd told
-found_once rows names (Err NotATree) b told told' p q = absurd p
-found_once rows names (Err NoSuchPath) b told told' p q = none_or rows names b told' p q
-found_once rows names (Err NotDirectory) b told told' p q = no_directory_or rows names b told' p q
-found_once rows names (Err NotFile) b told told' p q = absurd p
-found_once rows names (Err Output) b told told' p q = absurd p
+found_once rows names (Ok a) b known known' p q = place_or rows names a b known' p q
+found_once rows names (Err (Look f)) b known known' p q = absurd known
+found_once rows names (Err NotATree) b known known' p q = absurd p
+found_once rows names (Err NoSuchPath) b known known' p q = none_or rows names b known' p q
+found_once rows names (Err NotDirectory) b known known' p q = no_directory_or rows names b known' p q
+found_once rows names (Err NotFile) b known known' p q = absurd p
+found_once rows names (Err Output) b known known' p q = absurd p
 
--- ---- something is found
+-- ---- a node or a reason is found
 
 -- names stop on their way from a node
 record StopsFrom (rows : Rows) (from : NodeRow) (names : List (List ℕ)) : Type 0 where
-  pub front : List (List ℕ)
+  pub prefix : List (List ℕ)
   pub name : List ℕ
-  pub behind : List (List ℕ)
-  pub parts : names ≡ front ++ name ∷ behind
+  pub after : List (List ℕ)
+  pub parts : names ≡ prefix ++ name ∷ after
   pub last : NodeRow
-  pub lead : Lead rows from front last
+  pub lead : Lead rows from prefix last
   pub why : HasNone rows last name ⊎ IsNoDirectory last name
 
 abbrev GoesFrom : Rows → NodeRow → List (List ℕ) → Type 0
 GoesFrom rows from names = ((to : NodeRow) × Lead rows from names to) ⊎ StopsFrom rows from names
 
--- it goes on from the next node as from there
+-- the walk goes on from the next node
 goes_on : (rows : Rows) (from next : NodeRow) (name : List ℕ) (names : List (List ℕ)) → LeadsBy rows from name next → GoesFrom rows next names
     → GoesFrom rows from (name ∷ names)
 goes_on rows from next name names one (inl p) = inl (p.0, (next, one, p.1))
 goes_on rows from next name names one (inr s) = inr (record {
-  front = name ∷ s.front;
+  prefix = name ∷ s.prefix;
   name = s.name;
-  behind = s.behind;
+  after = s.after;
   parts = ap (λ (x : List (List ℕ)). name ∷ x) s.parts;
   last = s.last;
   lead = (next, one, s.lead);
@@ -167,7 +167,7 @@ goes_on rows from next name names one (inr s) = inr (record {
 stops_here : (rows : Rows) (from : NodeRow) (name : List ℕ) (names : List (List ℕ)) → HasNone rows from name ⊎ IsNoDirectory from name
     → GoesFrom rows from (name ∷ names)
 stops_here rows from name names why =
-    inr (record { front = []; name = name; behind = names; parts = refl; last = from; lead = refl; why = why })
+    inr (record { prefix = []; name = name; after = names; parts = refl; last = from; lead = refl; why = why })
 
 goes_from : RowsOfTrees → (rows : Rows) → IsRowed rows → (names : List (List ℕ)) (from : NodeRow) → GoesFrom rows from names
 goes_from law rows is [] from = inl (from, refl)
@@ -188,24 +188,24 @@ goes_from law rows is (name ∷ names) from = of_dir (λ next. goes_from law row
     of_dir more true dir = of_entry more dir (entry_at rows.entries from.node name) refl
     of_dir more false dir = stops_here rows from name names (inr dir)
 
--- what is found where it went so
+-- the result of that walk
 found_so : (rows : Rows) (names : List (List ℕ)) (root : NodeRow) → row_at rows fuse_root_id ≡ Some root → GoesFrom rows root names
-    → (found : Result NodeRow ShowFault) × IsTold found × Finds rows names found
+    → (found : Result NodeRow ShowFault) × NoLookFault found × Finds rows names found
 found_so rows names root here (inl p) = (Ok p.0, tt, record { root = root; is_root = here; lead = p.1 })
 found_so rows names root here (inr s) = of_why s.why
   where
-    leads : LeadTo rows s.front s.last
+    leads : LeadTo rows s.prefix s.last
     leads = record { root = root; is_root = here; lead = s.lead }
 
-    of_why : HasNone rows s.last s.name ⊎ IsNoDirectory s.last s.name → (found : Result NodeRow ShowFault) × IsTold found × Finds rows names found
+    of_why : HasNone rows s.last s.name ⊎ IsNoDirectory s.last s.name → (found : Result NodeRow ShowFault) × NoLookFault found × Finds rows names found
     of_why (inl why) =
-        (Err NoSuchPath, tt, record { front = s.front; name = s.name; behind = s.behind; parts = s.parts; last = s.last; leads = leads; why = why })
+        (Err NoSuchPath, tt, record { prefix = s.prefix; name = s.name; after = s.after; parts = s.parts; last = s.last; leads = leads; why = why })
     of_why (inr why) =
-        (Err NotDirectory, tt, record { front = s.front; name = s.name; behind = s.behind; parts = s.parts; last = s.last; leads = leads; why = why })
+        (Err NotDirectory, tt, record { prefix = s.prefix; name = s.name; after = s.after; parts = s.parts; last = s.last; leads = leads; why = why })
 
 pub finds_something : RowsOfTrees → FindsSomething
 finds_something law rows names is = of_root (row_at rows fuse_root_id) refl
   where
-    of_root : (o : Option NodeRow) → row_at rows fuse_root_id ≡ o → (found : Result NodeRow ShowFault) × IsTold found × Finds rows names found
+    of_root : (o : Option NodeRow) → row_at rows fuse_root_id ≡ o → (found : Result NodeRow ShowFault) × NoLookFault found × Finds rows names found
     of_root None root = absurd (root_there law rows is root)
     of_root (Some root) here = found_so rows names root here (goes_from law rows is names root)

@@ -17,7 +17,7 @@ use Rattle.fuse_show.specs.declared.fault.ShowFault.{ShowFault}
 use Rattle.fuse_show.specs.declared.fault.ShowFault.TheVariants.{Look, NotATree, NoSuchPath, NotDirectory, NotFile, Output}
 use Rattle.fuse_show.specs.Looks.{WritesOut, look_fault}
 use Rattle.fuse_show.specs.Listing.{line_of, listing}
-use Rattle.fuse_show.specs.Pages.{entries_following, lines_behind, lines_left, cookie_at, is_higher, WritesPrefix, WritesPage}
+use Rattle.fuse_show.specs.Pages.{entries_following, lines_after, lines_left, cookie_at, is_higher, WritesPrefix, WritesPage}
 use Rattle.fuse_show.proofs.Trees.{filtered}
 
 -- ---- on lists
@@ -54,7 +54,7 @@ apart_filtered R test (x ∷ xs) apart =
       | false ↦ apart_filtered R test xs apart.1
     ]
 
--- fewer than were asked for are all
+-- a page that is not full has all
 short_page : {A : Type 0} (xs : List A) (i : ℕ) → slice_get (take (suc i) xs) i ≡ None → take (suc i) xs ≡ xs
 short_page [] i is = refl
 short_page (x ∷ xs) zero is = absurd cc
@@ -73,7 +73,7 @@ Rise e later = e.cookie < later.cookie
 abbrev above : ℕ → EntryRow → Bool
 above cookie e = nat_lt cookie e.cookie
 
--- those above one of them are those behind it
+-- the entries above one of them are those after it
 above_one : (ys : List EntryRow) (i : ℕ) (x : EntryRow) → Apart Rise ys → slice_get ys i ≡ Some x → filter (above x.cookie) ys ≡ drop (suc i) ys
 above_one [] i x rise is = absurd cc
 above_one (y ∷ ys) zero x rise is =
@@ -89,24 +89,24 @@ above_one (y ∷ ys) (suc i) x rise is =
     subst (λ (b : Bool). cond b (y ∷ filter (above x.cookie) ys) (filter (above x.cookie) ys) ≡ drop (suc i) ys)
     (sym (le-ltb x.cookie y.cookie (omega arith))) (above_one ys i x rise.1 is)
 
-one_behind : (e : EntryRow) (near far : List EntryRow) (cookie : ℕ) (d p q : Bool) → filter (above cookie) near ≡ far → above cookie e ≡ q
+one_after : (e : EntryRow) (near far : List EntryRow) (cookie : ℕ) (d p q : Bool) → filter (above cookie) near ≡ far → above cookie e ≡ q
     → (q ≡ true → p ≡ true) → filter (above cookie) (cond (d && p) (e ∷ near) near) ≡ cond (d && q) (e ∷ far) far
-one_behind e near far cookie false p q rest is fewer = rest
-one_behind e near far cookie true true q rest is fewer =
+one_after e near far cookie false p q rest is fewer = rest
+one_after e near far cookie true true q rest is fewer =
     subst (λ (b : Bool). cond b (e ∷ filter (above cookie) near) (filter (above cookie) near) ≡ cond q (e ∷ far) far) (sym is)
     (ap (λ (ys : List EntryRow). cond q (e ∷ ys) ys) rest)
-one_behind e near far cookie true false true rest is fewer = let no : false ≡ true = fewer refl in absurd cc
-one_behind e near far cookie true false false rest is fewer = rest
+one_after e near far cookie true false true rest is fewer = let no : false ≡ true = fewer refl in absurd cc
+one_after e near far cookie true false false rest is fewer = rest
 
--- of those behind a cookie, those above a higher one are those behind that
-still_behind : (es : List EntryRow) (dir after cookie : ℕ) → after ≤ cookie
+-- of the entries after a cookie, those above a higher cookie are those after that one
+still_after : (es : List EntryRow) (dir after cookie : ℕ) → after ≤ cookie
     → filter (above cookie) (filter (is_after dir after) es) ≡ filter (is_after dir cookie) es
-still_behind [] dir after cookie less = refl
-still_behind (e ∷ es) dir after cookie less =
-    let rest = still_behind es dir after cookie less in
+still_after [] dir after cookie less = refl
+still_after (e ∷ es) dir after cookie less =
+    let rest = still_after es dir after cookie less in
     let fewer : nat_lt cookie e.cookie ≡ true → nat_lt after e.cookie ≡ true =
     λ is. (let far : cookie < e.cookie = ltb-true cookie e.cookie is in lt-ltb after e.cookie (omega arith)) in
-    one_behind e (filter (is_after dir after) es) (filter (is_after dir cookie) es) cookie (e.dir == dir) (nat_lt after e.cookie) (nat_lt cookie e.cookie)
+    one_after e (filter (is_after dir after) es) (filter (is_after dir cookie) es) cookie (e.dir == dir) (nat_lt after e.cookie) (nat_lt cookie e.cookie)
     rest refl fewer
 
 -- ---- a page
@@ -115,26 +115,26 @@ second : (b c : Bool) → (b && c) ≡ true → c ≡ true
 second true c is = is
 second false c is = absurd cc
 
--- what is behind a cookie has a higher one
-higher_behind : (rows : Rows) (dir after i : ℕ) (x : EntryRow) → slice_get (entries_following rows dir after) i ≡ Some x → nat_lt after x.cookie ≡ true
-higher_behind rows dir after i x there =
+-- the entries after a cookie have higher ones
+higher_after : (rows : Rows) (dir after i : ℕ) (x : EntryRow) → slice_get (entries_following rows dir after) i ≡ Some x → nat_lt after x.cookie ≡ true
+higher_after rows dir after i x there =
     second (x.dir == dir) (nat_lt after x.cookie)
     (all_got (λ e. is_after dir after e ≡ true) (entries_following rows dir after) i x (passes (is_after dir after) rows.entries) there)
 
--- behind the last entry of a page stands what is behind the page
-behind_page : RowsOfTrees → (rows : Rows) (dir after i : ℕ) (x : EntryRow) → IsRowed rows → slice_get (entries_following rows dir after) i ≡ Some x
+-- the entries after the last one of a page are those after the page
+after_page : RowsOfTrees → (rows : Rows) (dir after i : ℕ) (x : EntryRow) → IsRowed rows → slice_get (entries_following rows dir after) i ≡ Some x
     → entries_following rows dir x.cookie ≡ drop (suc i) (entries_following rows dir after)
-behind_page law rows dir after i x is there =
-    let higher : after < x.cookie = ltb-true after x.cookie (higher_behind rows dir after i x there) in
-    sym (still_behind rows.entries dir after x.cookie (omega arith))
+after_page law rows dir after i x is there =
+    let higher : after < x.cookie = ltb-true after x.cookie (higher_after rows dir after i x there) in
+    sym (still_after rows.entries dir after x.cookie (omega arith))
     ∙ above_one (entries_following rows dir after) i x (apart_filtered Rise (is_after dir after) rows.entries (law rows is).rise) there
 
 abbrev text_of : Rows → List EntryRow → List ℕ
 text_of rows es = flat_map (line_of rows) es
 
--- the lines of a page, and those that are left behind it, are those that were left before it
+-- the lines of a page and those left after it are those left before it
 pub page_lines : RowsOfTrees → (rows : Rows) (dir after i : ℕ) (es : List EntryRow) → IsRowed rows → es ≡ entries_after rows dir after (suc i)
-    → lines_behind rows dir after ≡ flat_map (line_of rows) es ++ lines_left rows dir (cookie_at i es)
+    → lines_after rows dir after ≡ flat_map (line_of rows) es ++ lines_left rows dir (cookie_at i es)
 page_lines law rows dir after i es is same = step (slice_get es i) refl
   where
     whole : slice_get es i ≡ None → es ≡ entries_following rows dir after
@@ -142,11 +142,11 @@ page_lines law rows dir after i es is same = step (slice_get es i) refl
 
     there : (x : EntryRow) → slice_get es i ≡ Some x → entries_following rows dir x.cookie ≡ drop (suc i) (entries_following rows dir after)
     there x got =
-        behind_page law rows dir after i x is
+        after_page law rows dir after i x is
         (full_page (entries_following rows dir after) i x (subst (λ (ys : List EntryRow). slice_get ys i ≡ Some x) same got))
 
     step : (o : Option EntryRow) → slice_get es i ≡ o
-        → lines_behind rows dir after ≡ text_of rows es ++ lines_left rows dir (option_map (λ (e : EntryRow). e.cookie) o)
+        → lines_after rows dir after ≡ text_of rows es ++ lines_left rows dir (option_map (λ (e : EntryRow). e.cookie) o)
     step None got = ap (text_of rows) (sym (whole got)) ∙ sym (append-nil (text_of rows es))
     step (Some x) got =
         ap (text_of rows) (sym (take-append-drop (suc i) (entries_following rows dir after)))
@@ -161,7 +161,7 @@ page_higher rows dir after i es same = step (slice_get es i) refl
     step : (o : Option EntryRow) → slice_get es i ≡ o → is_higher (option_map (λ (e : EntryRow). e.cookie) o) after ≡ true
     step None got = refl
     step (Some x) got =
-        higher_behind rows dir after i x
+        higher_after rows dir after i x
         (full_page (entries_following rows dir after) i x (subst (λ (ys : List EntryRow). slice_get ys i ≡ Some x) same got))
 
 -- ---- pages one after the other
@@ -180,21 +180,21 @@ in_after (e ∷ es) dir all =
     ])
 
 -- before the first page all is left
-pub all_left : RowsOfTrees → (rows : Rows) (dir : ℕ) → IsRowed rows → listing rows dir ≡ lines_behind rows dir 0
+pub all_left : RowsOfTrees → (rows : Rows) (dir : ℕ) → IsRowed rows → listing rows dir ≡ lines_after rows dir 0
 all_left law rows dir is = ap (flat_map (line_of rows)) (sym (in_after rows.entries dir (law rows is).cookies))
 
-pub front_more : (a b c : Option (List ℕ)) (text mid rest : List ℕ) → WritesPrefix a b text mid → WritesPrefix b c mid rest → WritesPrefix a c text rest
-front_more a b c text mid rest p q = record {
-  front = p.front ++ q.front;
-  written = Appends-trans a b c p.front q.front p.written q.written;
-  parts = p.parts ∙ ap (λ (x : List ℕ). p.front ++ x) q.parts ∙ sym (append_assoc p.front q.front rest);
+pub prefix_more : (a b c : Option (List ℕ)) (text mid rest : List ℕ) → WritesPrefix a b text mid → WritesPrefix b c mid rest → WritesPrefix a c text rest
+prefix_more a b c text mid rest p q = record {
+  prefix = p.prefix ++ q.prefix;
+  written = Appends-trans a b c p.prefix q.prefix p.written q.written;
+  parts = p.parts ∙ ap (λ (x : List ℕ). p.prefix ++ x) q.parts ∙ sym (append_assoc p.prefix q.prefix rest);
 }
 
 -- nothing is left
-pub front_all : (a b : Option (List ℕ)) (text : List ℕ) → WritesPrefix a b text [] → Appends a b text
-front_all a b text p = subst (Appends a b) (sym (p.parts ∙ append-nil p.front)) p.written
+pub prefix_all : (a b : Option (List ℕ)) (text : List ℕ) → WritesPrefix a b text [] → Appends a b text
+prefix_all a b text p = subst (Appends a b) (sym (p.parts ∙ append-nil p.prefix)) p.written
 
--- a page that couldn't be written
+-- a page failed
 pub page_fails : (rows : Rows) (dir after : ℕ) (a b c : Option (List ℕ)) (text : List ℕ) (f : ShowFault)
     → (look_fault {X = Option ℕ} (Err f) ≡ None → WritesPage rows dir after b c (Err f)) → WritesOut a c text (Err f)
 page_fails rows dir after a b c text (Look f) so = tt

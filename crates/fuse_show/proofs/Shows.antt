@@ -1,13 +1,13 @@
--- What is shown of what a path leads to.
+-- The listing or the content at a path.
 use Rattle.std.proofs.Common.{◌≡◌, ℕ, List, Option, None, true, refl, inl}
 use Rattle.std.specs.Prelude.{Err}
 use Rattle.fuse_tree.specs.Rows.{Rows}
 use Rattle.fuse_show.specs.declared.fault.ShowFault.{ShowFault}
 use Rattle.fuse_show.specs.declared.fault.ShowFault.TheVariants.{Look, NotATree, NoSuchPath, NotDirectory, NotFile, Output}
 use Rattle.fuse_show.specs.Looks.{WritesOut, look_fault}
-use Rattle.fuse_show.specs.Finding.{Finds}
+use Rattle.fuse_show.specs.Lookup.{Finds}
 use Rattle.fuse_tree.specs.State.{is_dir, is_file}
-use Rattle.fuse_show.specs.Showing.{ShowsListing, ShowsContent, LeadsToOne}
+use Rattle.fuse_show.specs.Shown.{ShowsListing, ShowsContent, LeadsToOne}
 
 -- nothing is found
 pub lists_none : (rows : Rows) (names : List (List ℕ)) (w : Option (List ℕ)) (f : ShowFault) → Finds rows names (Err f) → ShowsListing rows names w w (Err f)
@@ -26,7 +26,7 @@ prints_none rows names w NotDirectory so = (so, refl)
 prints_none rows names w NotFile so = absurd so
 prints_none rows names w Output so = absurd so
 
--- what is found can't be looked at or written
+-- a look at the node failed, or the output
 pub listing_fails : (rows : Rows) (names : List (List ℕ)) (old a b : Option (List ℕ)) (text : List ℕ) (f : ShowFault)
     → (look_fault {X = Unit {0}} (Err f) ≡ None → WritesOut a b text (Err f)) → (look_fault {X = Unit {0}} (Err f) ≡ None → LeadsToOne rows names is_dir true)
     → ShowsListing rows names old b (Err f)

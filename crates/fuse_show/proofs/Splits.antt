@@ -14,26 +14,26 @@ no_slashes xs none k d there = apart (get_or xs k d) (none k d there)
 abbrev named : List ℕ → Bool
 named name = not (length name == 0)
 
-cut : (path part behind : List ℕ) → path ≡ part ++ 47 ∷ behind → Lacks 47 part
-    → names_of path ≡ cond (not (length part == 0)) (part ∷ names_of behind) (names_of behind)
+cut : (path part after : List ℕ) → path ≡ part ++ 47 ∷ after → Lacks 47 part
+    → names_of path ≡ cond (not (length part == 0)) (part ∷ names_of after) (names_of after)
 unfolding names_of
-cut path part behind is none =
+cut path part after is none =
     ap (λ (x : List ℕ). filter named (slice_split (λ b. b == 47) x)) is
-    ∙ ap (filter named) (slice_split_at (λ (b : ℕ). b == 47) part 47 behind (no_slashes part none) refl)
+    ∙ ap (filter named) (slice_split_at (λ (b : ℕ). b == 47) part 47 after (no_slashes part none) refl)
 
 last : (path : List ℕ) → Lacks 47 path → names_of path ≡ cond (not (length path == 0)) (path ∷ []) []
 unfolding names_of
 last path none = ap (filter named) (slice_split_none (λ (b : ℕ). b == 47) path (no_slashes path none))
 
--- a name was cut off, or what is empty
-pub named_cut : (path part behind : List ℕ) → path ≡ part ++ 47 ∷ behind → Lacks 47 part → (length part == 0) ≡ false
-    → names_of path ≡ part ∷ names_of behind
-named_cut path part behind is none some =
-    cut path part behind is none ∙ ap (λ (b : Bool). cond (not b) (part ∷ names_of behind) (names_of behind)) some
+-- a name was cut off, or an empty part
+pub named_cut : (path part after : List ℕ) → path ≡ part ++ 47 ∷ after → Lacks 47 part → (length part == 0) ≡ false
+    → names_of path ≡ part ∷ names_of after
+named_cut path part after is none some =
+    cut path part after is none ∙ ap (λ (b : Bool). cond (not b) (part ∷ names_of after) (names_of after)) some
 
-pub empty_cut : (path part behind : List ℕ) → path ≡ part ++ 47 ∷ behind → Lacks 47 part → (length part == 0) ≡ true → names_of path ≡ names_of behind
-empty_cut path part behind is none empty =
-    cut path part behind is none ∙ ap (λ (b : Bool). cond (not b) (part ∷ names_of behind) (names_of behind)) empty
+pub empty_cut : (path part after : List ℕ) → path ≡ part ++ 47 ∷ after → Lacks 47 part → (length part == 0) ≡ true → names_of path ≡ names_of after
+empty_cut path part after is none empty =
+    cut path part after is none ∙ ap (λ (b : Bool). cond (not b) (part ∷ names_of after) (names_of after)) empty
 
 -- no slash is left
 pub named_last : (path : List ℕ) → Lacks 47 path → (length path == 0) ≡ false → names_of path ≡ path ∷ []
@@ -46,9 +46,9 @@ pub none_named : names_of [] ≡ []
 unfolding names_of
 none_named = refl
 
--- what stands behind the last name names nothing
-pub named_end : (path rest behind : List ℕ) → names_of path ≡ names_of rest → names_of rest ≡ rest ∷ [] → behind ≡ []
-    → names_of path ≡ rest ∷ names_of behind
-named_end path rest behind so is none =
-    let nothing : names_of behind ≡ [] = ap names_of none ∙ none_named in
+-- nothing follows the last name
+pub named_end : (path rest after : List ℕ) → names_of path ≡ names_of rest → names_of rest ≡ rest ∷ [] → after ≡ []
+    → names_of path ≡ rest ∷ names_of after
+named_end path rest after so is none =
+    let nothing : names_of after ≡ [] = ap names_of none ∙ none_named in
     so ∙ is ∙ ap (λ (x : List (List ℕ)). rest ∷ x) (sym nothing)

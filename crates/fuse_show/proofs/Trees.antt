@@ -1,4 +1,4 @@
--- What the rows of a tree have, by the law `rows_of_trees`, which is the first argument of each.
+-- Properties of the rows of a tree, by the law `rows_of_trees`, which is the first argument of each.
 use Rattle.std.proofs.Common.{◌≡◌, ◌≤◌, ◌==◌, ℕ, Bool, true, false, cond, eqb, List, [], ◌∷◌, length, take, zero, suc}
 use Rattle.std.proofs.Common.{Some, None, refl, sym, ap, subst, ◌∙◌}
 use Rattle.std.specs.Prelude.{find, filter}
@@ -12,13 +12,13 @@ use Rattle.fuse_tree.specs.declared.rows.Full.{Full}
 use Rattle.fuse_tree.specs.State.{is_entry}
 use Rattle.fuse_tree.specs.Rows.{Rows, IsRowed, row_at, entry_at, is_after, entries_after}
 use Rattle.fuse_tree.specs.RowsOfTrees.{RowsOfTrees, LeadsToRow}
-use Rattle.fuse_show.specs.Copying.{content_at}
+use Rattle.fuse_show.specs.Content.{content_at}
 
 -- the root of a tree has a row
 pub root_there : RowsOfTrees → (rows : Rows) → IsRowed rows → row_at rows fuse_root_id ≡ None → ⊥
 root_there law rows is = (law rows is).root
 
--- the size that a row of a tree tells is that of the content
+-- the size in a row of a tree is that of the content
 pub sized_right : RowsOfTrees → (rows : Rows) (number : ℕ) (row : NodeRow) → IsRowed rows → row_at rows number ≡ Some row
     → row.size ≡ length (content_at rows number)
 sized_right law rows number row is e = ((law rows is).sizes number row e).told
@@ -38,7 +38,7 @@ found_all P test (y ∷ ys) x all is =
     ] in
     step (test y) refl is
 
--- what an entry leads to has a row
+-- the child of an entry has a row
 pub child_row : RowsOfTrees → (rows : Rows) (dir : ℕ) (name : List ℕ) (e : EntryRow) → IsRowed rows → entry_at rows.entries dir name ≡ Some e
     → row_at rows e.child ≡ None → ⊥
 child_row law rows dir name e is found = found_all (LeadsToRow rows) (is_entry dir name) rows.entries e (law rows is).children found
@@ -66,18 +66,18 @@ page_shown law rows dir after limit es is same =
 
 -- ---- numbers
 
-full_told : (fs : List Full) (number : ℕ) (row : NodeRow)
+full_numbered : (fs : List Full) (number : ℕ) (row : NodeRow)
     → option_map (λ (f : Full). f.row) (find (λ f. f.row.node == number) fs) ≡ Some row → row.node ≡ number
-full_told [] number row is = absurd cc
-full_told (f ∷ fs) number row is =
+full_numbered [] number row is = absurd cc
+full_numbered (f ∷ fs) number row is =
     let step : (b : Bool) → eqb f.row.node number ≡ b
     → option_map (λ (x : Full). x.row) (cond b (Some f) (find (λ x. x.row.node == number) fs)) ≡ Some row → row.node ≡ number =
     elim [
       | true ↦ λ here e. (let same : f.row ≡ row = cc e in ap (λ (r : NodeRow). r.node) (sym same) ∙ eqb-true f.row.node number here)
-      | false ↦ λ _ e. full_told fs number row e
+      | false ↦ λ _ e. full_numbered fs number row e
     ] in
     step (eqb f.row.node number) refl is
 
--- the row that is found has the number
-pub row_told : (rows : Rows) (number : ℕ) (row : NodeRow) → row_at rows number ≡ Some row → row_at rows row.node ≡ Some row
-row_told rows number row is = ap (row_at rows) (full_told rows.nodes number row is) ∙ is
+-- the row at a number has that number
+pub row_numbered : (rows : Rows) (number : ℕ) (row : NodeRow) → row_at rows number ≡ Some row → row_at rows row.node ≡ Some row
+row_numbered rows number row is = ap (row_at rows) (full_numbered rows.nodes number row is) ∙ is

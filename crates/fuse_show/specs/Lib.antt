@@ -1,10 +1,10 @@
-pub mod Copying
-pub mod Finding
+pub mod Content
 pub mod Listing
 pub mod Looks
+pub mod Lookup
 pub mod Modes
 pub mod Names
 pub mod Pages
 pub mod Paths
-pub mod Showing
-pub mod Telling
+pub mod Shown
+pub mod Summary

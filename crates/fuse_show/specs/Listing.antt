@@ -1,4 +1,4 @@
--- The lines of a directory's entries (own profile, in the form of ls -l).
+-- The lines of a directory's entries (own profile, like ls -l).
 use Rattle.std.specs.Prelude.{◌+◌, ◌==◌, ◌++◌, ℕ, if◌then◌else◌, List, [], ◌∷◌, filter, codes, decimal, Option, Some, None}
 use Rattle.std.specs.List.{flat_map}
 use Rattle.fuse_tree.specs.declared.rows.NodeRow.{NodeRow}
@@ -8,11 +8,11 @@ use Rattle.fuse_tree.specs.Rows.{Rows, row_at}
 use Rattle.fuse_show.specs.Modes.{mode_text}
 use Rattle.fuse_show.specs.Names.{name_text}
 
--- how many links lead to a node that has a name
+-- the link count of a node that has a name
 abbrev pub links_of_row : NodeRow → ℕ
 links_of_row row = if is_dir row.mode then 2 + row.subdirs else 1
 
--- what is told of a node before its name: type and permissions, links, owner, group, size, number
+-- the part of a line before the name: type and permissions, links, owner, group, size, node number
 abbrev pub row_text : NodeRow → List ℕ
 row_text row =
     mode_text row.mode
@@ -22,7 +22,7 @@ row_text row =
     ++ (codes " " ++ (decimal row.size
     ++ (codes " " ++ (decimal row.node ++ codes " "))))))))))
 
--- the line of an entry of this name
+-- the line of an entry with this name
 abbrev pub entry_line : List ℕ → NodeRow → List ℕ
 entry_line name row = row_text row ++ (name_text name ++ 10 ∷ [])
 
@@ -30,11 +30,11 @@ abbrev pub line_for : List ℕ → Option NodeRow → List ℕ
 line_for name None = []
 line_for name (Some row) = entry_line name row
 
--- the line of an entry, which leads to a node
+-- the line of an entry
 abbrev pub line_of : Rows → EntryRow → List ℕ
 line_of rows e = line_for e.name (row_at rows e.child)
 
--- the entries of a directory, in its order
+-- the entries of a directory, in the order of the directory
 abbrev pub entries_in : Rows → ℕ → List EntryRow
 entries_in rows dir = filter (λ e. e.dir == dir) rows.entries
 

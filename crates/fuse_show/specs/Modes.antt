@@ -1,9 +1,9 @@
--- The type and the permissions of a node in ten letters (POSIX: ls).
+-- The type and the permissions of a node as ten letters (POSIX: ls).
 use Rattle.std.specs.Prelude.{◌/◌, ◌%◌, ◌==◌, ◌++◌, ℕ, Bool, if◌then◌else◌, List, codes}
 use Rattle.fuse_tree.specs.Modes.{s_ifdir, s_ifchr, s_ifblk, s_ififo, s_ifsock}
 use Rattle.fuse_tree.specs.State.{type_bits}
 
--- the letter of a type; that of a regular file is a dash
+-- the letter of the file type; a dash for a regular file
 abbrev pub kind_text : ℕ → List ℕ
 kind_text mode =
     if type_bits mode == s_ifdir then codes "d"
@@ -20,11 +20,11 @@ has_bit mode unit = mode / unit % 2 == 1
 abbrev pub letter_text : Bool → List ℕ → List ℕ
 letter_text is_set letter = if is_set then letter else codes "-"
 
--- who may run it, and a special bit: the one letter where both are so, the other where that bit is alone
+-- the execute bit and a set-id or sticky bit: `both` if both are set, `alone` if only the latter is
 abbrev pub run_text : Bool → Bool → List ℕ → List ℕ → List ℕ
 run_text runs is_special both alone = if is_special then (if runs then both else alone) else letter_text runs (codes "x")
 
--- whether a class of users may read, write and run it
+-- the permissions of a class of users
 abbrev pub class_text : List ℕ → List ℕ → List ℕ → List ℕ
 class_text read write run = read ++ (write ++ run)
 

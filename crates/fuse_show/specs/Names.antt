@@ -1,4 +1,4 @@
--- A name on one line, whatever its bytes are (own profile).
+-- A name on one line, for any bytes (own profile).
 use Rattle.std.specs.Prelude.{◌+◌, ◌-◌, ◌/◌, ◌%◌, ◌==◌, ◌&&◌, ℕ, Bool, not, nat_le, nat_lt, if◌then◌else◌, List, [], ◌∷◌}
 use Rattle.std.specs.List.{flat_map}
 
@@ -6,11 +6,11 @@ use Rattle.std.specs.List.{flat_map}
 abbrev pub hex_digit : ℕ → ℕ
 hex_digit n = if nat_lt n 10 then 48 + n else 97 + (n - 10)
 
--- a byte of ASCII that can be printed, but for the backslash
+-- printable ASCII other than the backslash
 abbrev pub is_plain : ℕ → Bool
 is_plain b = nat_le 32 b && (nat_lt b 127 && not (b == 92))
 
--- a byte as it is, or \x and its number in hexadecimal
+-- the byte itself, or \x and its two hexadecimal digits
 abbrev pub byte_text : ℕ → List ℕ
 byte_text b = if is_plain b then b ∷ [] else 92 ∷ 120 ∷ hex_digit (b / 16) ∷ hex_digit (b % 16) ∷ []
 

@@ -14,32 +14,32 @@ abbrev pub entries_following : Rows → ℕ → ℕ → List EntryRow
 entries_following rows dir cookie = filter (is_after dir cookie) rows.entries
 
 -- their lines
-abbrev pub lines_behind : Rows → ℕ → ℕ → List ℕ
-lines_behind rows dir cookie = flat_map (line_of rows) (entries_following rows dir cookie)
+abbrev pub lines_after : Rows → ℕ → ℕ → List ℕ
+lines_after rows dir cookie = flat_map (line_of rows) (entries_following rows dir cookie)
 
--- the lines behind the cookie that a page ends with, or none where it was the last
+-- the lines after the cookie that a page ends with; none after the last page
 abbrev pub lines_left : Rows → ℕ → Option ℕ → List ℕ
 lines_left rows dir None = []
-lines_left rows dir (Some cookie) = lines_behind rows dir cookie
+lines_left rows dir (Some cookie) = lines_after rows dir cookie
 
--- the cookie of the entry of a page that has so many before it
+-- the cookie of the entry of a page at index i
 abbrev pub cookie_at : ℕ → List EntryRow → Option ℕ
 cookie_at i es = option_map (λ e. e.cookie) (slice_get es i)
 
--- where there is a cookie, it is higher than this one
+-- there is no cookie, or it is higher than `after`
 abbrev pub is_higher : Option ℕ → ℕ → Bool
 is_higher None after = true
 is_higher (Some cookie) after = nat_lt after cookie
 
--- a front of a text was written, and this rest of it is left
+-- a prefix of a text was written, and this rest is left
 pub record WritesPrefix (old new : Option (List ℕ)) (text rest : List ℕ) : Type 0 where
-  pub front : List ℕ
-  pub written : Appends old new front
-  pub parts : text ≡ front ++ rest
+  pub prefix : List ℕ
+  pub written : Appends old new prefix
+  pub parts : text ≡ prefix ++ rest
 
--- a page was written; else a look or the output failed
+-- a page was written, or a look or the output failed
 abbrev pub WritesPage : Rows → ℕ → ℕ → Option (List ℕ) → Option (List ℕ) → Result (Option ℕ) ShowFault → Type 0
-WritesPage rows dir after old new (Ok left) = WritesPrefix old new (lines_behind rows dir after) (lines_left rows dir left)
+WritesPage rows dir after old new (Ok left) = WritesPrefix old new (lines_after rows dir after) (lines_left rows dir left)
 WritesPage rows dir after old new (Err (Look f)) = Unit {0}
 WritesPage rows dir after old new (Err NotATree) = ⊥
 WritesPage rows dir after old new (Err NoSuchPath) = ⊥

@@ -1,20 +1,20 @@
 use fuse_tree::LookFault;
 use std::io;
 
-/// Why nothing more is shown.
+/// Why a listing or a content is not shown, or not to its end.
 #[derive(Clone, Copy, Debug, PartialEq, Eq)]
 pub enum ShowFault {
     /// A look failed.
     Look(LookFault),
-    /// The rows that were looked up are those of no tree.
+    /// The rows are not those of a tree.
     NotATree,
-    /// A directory has no entry of a name of the path.
+    /// A directory has no entry with a name of the path.
     NoSuchPath,
-    /// A name stands behind what is no directory, or entries of such are asked for.
+    /// A name of the path follows a node that is no directory, or the listed node is none.
     NotDirectory,
-    /// The bytes of what is no regular file are asked for.
+    /// The node at the path is no regular file.
     NotFile,
-    /// The output can't be written.
+    /// Writing failed.
     Output,
 }
 

@@ -1,8 +1,8 @@
-ghost use Rattle.fuse_show.specs.Finding.{FindsSomething, FoundOnce};
+ghost use Rattle.fuse_show.specs.Lookup.{FindsSomething, FoundOnce};
 
 use fuse_tree::rows_of_trees;
 
-/// Just one thing is found in a tree by the names of a path.
+/// In a tree the names of a path lead to exactly one node, or fail for exactly one reason.
 pub fn found_once()
     ensures some { FindsSomething }
     ensures once { FoundOnce }

@@ -1,22 +1,19 @@
-//! What a store holds, shown to people over any keeper and look: the counts of a store, the entries
-//! of a directory, the bytes of a file. Nothing is changed.
+//! Read-only views of a store over any `Keeper` and `Look`: a summary, the entries of a directory,
+//! the bytes of a file.
 #![tactic(auto)]
 
-mod copying;
+mod content;
 mod fault;
-mod finding;
 mod laws;
 mod listing;
+mod lookup;
 mod modes;
 mod names;
 mod paths;
-mod showing;
-mod telling;
+mod summary;
 
-pub use copying::copy;
+pub use content::show_content;
 pub use fault::ShowFault;
-pub use finding::find;
 pub use laws::found_once;
-pub use listing::list;
-pub use showing::{show_content, show_listing};
-pub use telling::{ReportFault, tell};
+pub use listing::show_listing;
+pub use summary::{SummaryFault, show_summary};

@@ -1,4 +1,4 @@
-ghost use Rattle.std.specs.Prelude.{◌≡◌, ◌+◌, false, None};
+ghost use Rattle.std.specs.Prelude.{◌≡◌, ◌+◌, true, false, None};
 ghost use Rattle.std.specs.Prelude.{IfErr, IfOk, OnOk, IsTrue};
 ghost use Rattle.std.specs.List.{AllByRecursion, flat_map};
 ghost use Rattle.std.specs.Io.KnownBytes.{Appends};
@@ -6,18 +6,21 @@ ghost use Rattle.fuse_show.specs.Looks.{ReadOff, OnlyLooked, WritesOut, is_of_pa
 ghost use Rattle.fuse_tree.specs.RowsOfTrees.{LeadsToRow};
 ghost use Rattle.fuse_show.specs.Listing.{links_of_row, entry_line, line_of, listing};
 ghost use Rattle.fuse_show.specs.Pages.{cookie_at, is_higher, WritesPage};
+ghost use Rattle.fuse_show.specs.Paths.{names_of};
+ghost use Rattle.fuse_show.specs.Shown.{ShowsListing};
 
 use crate::fault::ShowFault;
+use crate::lookup::find;
 use crate::modes::{Mode, is_directory};
 use crate::names::write_name;
 use fuse_tree::{EntryRow, Look, NodeRow, rows_of_trees};
 use std::fmt;
 use std::io::Write;
 
-// How many entries of a directory are looked up at once.
+// The number of entries that one look reads.
 const PAGE: usize = 1024;
 
-// How many links lead to a node that has a name.
+// The link count of a node that has a name.
 fn links_of(row: &NodeRow) -> u64
     ensures { result ≡ links_of_row row.now }
 {
@@ -28,11 +31,11 @@ fn links_of(row: &NodeRow) -> u64
     }
 }
 
-// What is told of a node, before its name.
+// The part of a line before the name.
 #[derive(Clone, Copy)]
-struct Told(NodeRow);
+struct NodeText(NodeRow);
 
-impl fmt::Display for Told {
+impl fmt::Display for NodeText {
     ghost use Rattle.std.specs.Prelude.{Some};
     ghost use Rattle.fuse_show.specs.Listing.{row_text};
 
@@ -52,19 +55,19 @@ impl fmt::Display for Told {
     }
 }
 
-// Writes the line of an entry that leads to the node of this row.
+// Writes the line of an entry: its name, and the row of its node.
 fn write_entry<W: Write>(writer: &mut W, row: &NodeRow, name: &[u8]) -> Result<(), ShowFault>
     ensures ok { OnOk result (Appends (W.contents writer.old) (W.contents writer.new)
         (entry_line name.now row.now)) }
     ensures err { IfErr result (λ fault. fault ≡ ShowFault.Output) }
 {
-    write!(writer, "{}", Told(*row))?;
+    write!(writer, "{}", NodeText(*row))?;
     write_name(writer, name)?;
     writer.write_all(b"\n")?;
     Ok(())
 }
 
-// Looks up what an entry leads to, and writes its line.
+// Looks up the node of an entry, and writes the line of the entry.
 fn show_entry<L: Look, W: Write>(
     look: &mut L,
     entry: &EntryRow,
@@ -106,7 +109,7 @@ fn show_entries<L: Look, W: Write>(
     Ok(())
 }
 
-// The cookie of the last entry of a page, where it is full.
+// The cookie of the last entry of a full page.
 fn last_cookie(page: &[EntryRow]) -> Option<u64>
     ensures { result ≡ cookie_at 1023 page.now }
 {
@@ -116,7 +119,7 @@ fn last_cookie(page: &[EntryRow]) -> Option<u64>
     }
 }
 
-// Whether a cookie, if there is one, is higher than another.
+// Whether `cookie` is `None` or higher than `after`.
 fn is_higher(cookie: Option<u64>, after: u64) -> bool
     ensures { result ≡ is_higher cookie after }
 {
@@ -126,8 +129,8 @@ fn is_higher(cookie: Option<u64>, after: u64) -> bool
     }
 }
 
-// Writes the lines of as many entries as a page has, behind this cookie, and tells the last one's
-// cookie where there may be more.
+// Writes the lines of the page of entries after the cookie `after`. Returns the cookie of the last
+// one if there may be more.
 fn list_page<L: Look, W: Write>(
     look: &mut L,
     dir: u64,
@@ -153,9 +156,12 @@ fn list_page<L: Look, W: Write>(
     }
 }
 
-/// Writes a line for each entry of a directory, in the order of the directory. It looks up some at
-/// a time.
-pub fn list<L: Look, W: Write>(look: &mut L, dir: u64, writer: &mut W) -> Result<(), ShowFault>
+/// Writes a line for each entry of a directory, in the order of the directory, page by page.
+pub(crate) fn list<L: Look, W: Write>(
+    look: &mut L,
+    dir: u64,
+    writer: &mut W,
+) -> Result<(), ShowFault>
     requires { L.fault look.old ≡ None }
     ensures listed { ReadOff (L.is_clean look.new) (L.sees look.old) (λ rows.
         WritesOut (W.contents writer.old) (W.contents writer.new) (listing rows dir) result) }
@@ -171,4 +177,36 @@ pub fn list<L: Look, W: Write>(look: &mut L, dir: u64, writer: &mut W) -> Result
         }
     }
     Ok(())
+}
+
+/// Writes a line for each entry of the directory at a path.
+pub fn show_listing<L: Look, W: Write>(
+    look: &mut L,
+    path: &[u8],
+    writer: &mut W,
+) -> Result<(), ShowFault>
+    requires { L.fault look.old ≡ None }
+    ensures shown { ReadOff (L.is_clean look.new) (L.sees look.old) (λ rows.
+        ShowsListing rows (names_of path.now) (W.contents writer.old) (W.contents writer.new)
+        result) }
+    ensures looked { OnlyLooked L.fault L.looks L.fails look.old look.new result }
+    // A fault of the path writes nothing.
+    ensures silent { IfErr result (λ fault. is_of_path fault ≡ true
+        → W.contents writer.new ≡ W.contents writer.old) }
+{
+    let place = match find(look, path) {
+        Ok(place) => place,
+        Err(fault) => return Err(fault),
+    };
+    if !is_directory(place.mode) {
+        return Err(ShowFault::NotDirectory);
+    }
+    match list(look, place.node, writer) {
+        Ok(()) => {}
+        Err(fault) => return Err(fault),
+    }
+    match writer.flush() {
+        Ok(()) => Ok(()),
+        Err(_) => Err(ShowFault::Output),
+    }
 }

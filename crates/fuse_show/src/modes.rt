@@ -6,21 +6,21 @@ ghost use Rattle.fuse_show.specs.Modes.{owner_text, group_text, others_text};
 use fuse_tree::{S_IFBLK, S_IFCHR, S_IFDIR, S_IFIFO, S_IFREG, S_IFSOCK, TYPE_UNIT, TYPES};
 use std::fmt;
 
-/// Whether a mode is that of a directory.
+/// Whether a mode is of a directory.
 pub(crate) fn is_directory(mode: u32) -> bool
     ensures { result ≡ is_dir mode }
 {
     mode / TYPE_UNIT % TYPES == S_IFDIR / TYPE_UNIT
 }
 
-/// Whether a mode is that of a regular file.
+/// Whether a mode is of a regular file.
 pub(crate) fn is_regular_file(mode: u32) -> bool
     ensures { result ≡ is_file mode }
 {
     mode / TYPE_UNIT % TYPES == S_IFREG / TYPE_UNIT
 }
 
-// The letter of a type.
+// The letter of the file type.
 fn kind_of(mode: u32) -> &'static str
     ensures { result.now ≡ kind_text mode }
 {
@@ -48,14 +48,14 @@ fn has(mode: u32, unit: u32) -> bool
     mode / unit % 2 == 1
 }
 
-// The letter where the bit is set.
+// The letter if the bit is set, else a dash.
 fn letter(is_set: bool, letter: &'static str) -> &'static str
     ensures { result.now ≡ (if is_set then letter.now else codes "-") }
 {
     if is_set { letter } else { "-" }
 }
 
-// The letter of who may run it, which tells a special bit too.
+// The letter of the execute bit, which also shows a set-id or sticky bit.
 fn run_letter(runs: bool, is_special: bool, both: &'static str, alone: &'static str) -> &'static str
     ensures { result.now ≡ run_text runs is_special both.now alone.now }
 {
@@ -66,7 +66,7 @@ fn run_letter(runs: bool, is_special: bool, both: &'static str, alone: &'static 
     }
 }
 
-// What a class of users may do.
+// The permissions of a class of users.
 #[derive(Clone, Copy)]
 struct Class {
     read: &'static str,
@@ -115,7 +115,7 @@ fn others_class(mode: u32) -> Class
     }
 }
 
-/// The type and the permissions of a node, in the ten letters of ls(1).
+/// The type and the permissions of a node, as the ten letters of ls(1).
 #[derive(Clone, Copy)]
 pub(crate) struct Mode(pub(crate) u32);
 

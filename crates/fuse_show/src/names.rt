@@ -17,14 +17,14 @@ fn digit_of(number: u8) -> u8
     }
 }
 
-// Whether a byte stands for itself: one of ASCII that can be printed, but for the backslash.
+// Whether a byte is printable ASCII other than the backslash.
 fn stands_for_itself(byte: u8) -> bool
     ensures { result ≡ is_plain byte }
 {
     byte >= 32 && byte < 127 && byte != b'\\'
 }
 
-// Writes a byte, or where it doesn't stand for itself its number in hexadecimal.
+// Writes a byte, or `\x` and its hexadecimal digits.
 fn write_byte<W: Write>(writer: &mut W, byte: u8) -> Result<(), ShowFault>
     ensures ok { OnOk result (Appends (W.contents writer.old) (W.contents writer.new)
         (byte_text byte)) }
@@ -39,7 +39,7 @@ fn write_byte<W: Write>(writer: &mut W, byte: u8) -> Result<(), ShowFault>
     Ok(())
 }
 
-/// Writes a name, so that each name is written differently, and all on one line.
+/// Writes a name on one line. Different names are written differently.
 pub(crate) fn write_name<W: Write>(writer: &mut W, name: &[u8]) -> Result<(), ShowFault>
     ensures ok { OnOk result (Appends (W.contents writer.old) (W.contents writer.new)
         (name_text name.now)) }

@@ -2,14 +2,14 @@ use Rattle.std.proofs.Common.{refl, subst, Option, ℕ, [], Some}
 use Rattle.fuse_show.specs.Listing.{listing}
 use Rattle.fuse_show.specs.Pages.{lines_left, WritesPrefix}
 use Rattle.fuse_show.proofs.Lines.{none_written}
-use Rattle.fuse_show.proofs.Pages.{all_left, front_more, front_all, page_fails}
+use Rattle.fuse_show.proofs.Pages.{all_left, prefix_more, prefix_all, page_fails}
 use Rattle.fuse_show.proofs.listing.list.Goals as goal
 
 pub loop-left-init : goal.loop-left-init
 loop-left-init g c = record {
   fault = c.requires;
   looks = g.met.L.Look.still _;
-  lines = λ clean rows is sees. record { front = []; written = none_written _; parts = all_left c.rows_of_trees.ensures rows c.args.dir is };
+  lines = λ clean rows is sees. record { prefix = []; written = none_written _; parts = all_left c.rows_of_trees.ensures rows c.args.dir is };
 }
 
 pub loop-left-preserved : goal.loop-left-preserved
@@ -23,7 +23,7 @@ loop-left-preserved g c =
       lines = λ clean rows is sees.
           let clean_before = g.met.L.Look.was_clean _ _ looks clean in
           let sees_before = g.met.L.Look.kept _ _ before.looks clean_before rows sees in
-          front_more (g.W.Write.contents c.args.writer.now) (g.W.Write.contents c.loop-left.writer) (g.W.Write.contents c.list_page.new.writer)
+          prefix_more (g.W.Write.contents c.args.writer.now) (g.W.Write.contents c.loop-left.writer) (g.W.Write.contents c.list_page.new.writer)
           (listing rows c.args.dir) (lines_left rows c.args.dir (Some c.in-Some.after)) (lines_left rows c.args.dir c.in-Ok.rest)
           (subst
           (λ (o : Option ℕ).
@@ -56,7 +56,7 @@ returns g c =
     let before = c.loop-left.invariant in
     record {
       listed = λ clean rows is sees.
-          front_all (g.W.Write.contents c.args.writer.now) (g.W.Write.contents c.loop-left.writer) (listing rows c.args.dir)
+          prefix_all (g.W.Write.contents c.args.writer.now) (g.W.Write.contents c.loop-left.writer) (listing rows c.args.dir)
           (subst
           (λ (o : Option ℕ).
           WritesPrefix (g.W.Write.contents c.args.writer.now) (g.W.Write.contents c.loop-left.writer) (listing rows c.args.dir) (lines_left rows c.args.dir o))

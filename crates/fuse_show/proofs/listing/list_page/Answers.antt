@@ -26,7 +26,7 @@ returns-in-Ok-clause-page g c = λ clean rows is sees.
     let last : cookie_at 1023 page ≡ c.last_cookie-last.result =
     ap (cookie_at 1023) (c.as_slice-2.ensures.value ∙ sym c.as_slice.ensures.value) ∙ sym c.last_cookie-last.ensures in
     record {
-      front = flat_map (line_of rows) page;
+      prefix = flat_map (line_of rows) page;
       written = c.in-Ok.ensures.lines clean rows is sees_before (page_shown law rows c.args.dir c.args.after 1024 page is same);
       parts = page_lines law rows c.args.dir c.args.after 1023 page is same
           ∙ ap (λ (k : Option ℕ). flat_map (line_of rows) page ++ lines_left rows c.args.dir k) last;

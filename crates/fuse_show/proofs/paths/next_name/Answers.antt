@@ -8,11 +8,11 @@ pub loop-part-preserved : goal.loop-part-preserved
 loop-part-preserved c =
     let one = c.in-Some.ensures.some in
     let size = ap (length {A = ℕ}) one.0 in
-    let sum = length-append c.in-Some.part.now (47 ∷ c.in-Some.behind.now) in
+    let sum = length-append c.in-Some.part.now (47 ∷ c.in-Some.after.now) in
     let before = c.loop-part.invariant.within in
     record {
       same = c.loop-part.invariant.same
-          ∙ empty_cut c.loop-part.rest.now c.in-Some.part.now c.in-Some.behind.now one.0 one.1 (sym c.is_empty.ensures ∙ c.if-not-is_empty.false);
+          ∙ empty_cut c.loop-part.rest.now c.in-Some.part.now c.in-Some.after.now one.0 one.1 (sym c.is_empty.ensures ∙ c.if-not-is_empty.false);
       within = omega (arith, size, sum, before);
     }
 
@@ -20,10 +20,10 @@ pub returns-then-not-is_empty-clause-some : goal.returns-then-not-is_empty-claus
 returns-then-not-is_empty-clause-some c =
     let one = c.in-Some.ensures.some in
     let size = ap (length {A = ℕ}) one.0 in
-    let sum = length-append c.in-Some.part.now (47 ∷ c.in-Some.behind.now) in
+    let sum = length-append c.in-Some.part.now (47 ∷ c.in-Some.after.now) in
     let before = c.loop-part.invariant.within in (
       c.loop-part.invariant.same
-          ∙ named_cut c.loop-part.rest.now c.in-Some.part.now c.in-Some.behind.now one.0 one.1 (sym c.is_empty.ensures ∙ c.if-not-is_empty.true),
+          ∙ named_cut c.loop-part.rest.now c.in-Some.part.now c.in-Some.after.now one.0 one.1 (sym c.is_empty.ensures ∙ c.if-not-is_empty.true),
       omega (arith, size, sum, before),
     )
 

@@ -2,50 +2,50 @@ ghost use Rattle.std.specs.Prelude.{◌≡◌, ℕ, OnOk, OnErr, length};
 ghost use Rattle.std.specs.Io.KnownBytes.{Appends};
 ghost use Rattle.fuse_keeper.specs.Stands.{CountsRecords};
 ghost use Rattle.fuse_keeper.specs.KeeperState.{Reports};
-ghost use Rattle.fuse_show.specs.Telling.{store_text, count_of, of_keeper, OnlyAsked};
+ghost use Rattle.fuse_show.specs.Summary.{store_text, count_of, of_keeper, OnlyAsked};
 
 use fuse_init::Settings;
 use fuse_keeper::{Keeper, StoreCounts, StoreFault};
 use std::io::Write;
 use std::{fmt, io};
 
-/// Why nothing is told of a store.
+/// Why a summary is not written.
 #[derive(Debug, Drop)]
-pub enum ReportFault {
+pub enum SummaryFault {
     Store(StoreFault),
-    /// The output can't be written.
+    /// Writing failed.
     Output,
 }
 
-impl From<StoreFault> for ReportFault {
+impl From<StoreFault> for SummaryFault {
     ghost use Rattle.std.specs.Prelude.{◌≡◌};
-    ghost use Rattle.fuse_show.specs.declared.telling.ReportFault.TheVariants.{Store as OfStore};
+    ghost use Rattle.fuse_show.specs.declared.summary.SummaryFault.TheVariants.{Store as OfStore};
 
     ghost from_gives = { λ fault e. e ≡ OfStore fault };
 
-    fn from(fault: StoreFault) -> ReportFault {
-        ReportFault::Store(fault)
+    fn from(fault: StoreFault) -> SummaryFault {
+        SummaryFault::Store(fault)
     }
 }
 
-impl From<io::Error> for ReportFault {
+impl From<io::Error> for SummaryFault {
     ghost use Rattle.std.specs.Prelude.{◌≡◌};
-    ghost use Rattle.fuse_show.specs.declared.telling.ReportFault.TheVariants.{Output as OfOutput};
+    ghost use Rattle.fuse_show.specs.declared.summary.SummaryFault.TheVariants.{Output as OfOutput};
 
     ghost from_gives = { λ _ e. e ≡ OfOutput };
 
-    fn from(_e: io::Error) -> ReportFault {
-        ReportFault::Output
+    fn from(_e: io::Error) -> SummaryFault {
+        SummaryFault::Output
     }
 }
 
-// What was agreed on by INIT.
+// The settings that INIT agreed on.
 #[derive(Clone, Copy)]
 struct Agreed(Option<Settings>);
 
 impl fmt::Display for Agreed {
     ghost use Rattle.std.specs.Prelude.{Some};
-    ghost use Rattle.fuse_show.specs.Telling.{settings_text};
+    ghost use Rattle.fuse_show.specs.Summary.{settings_text};
 
     ghost output = { λ a. Some (settings_text a.0) };
 
@@ -61,13 +61,13 @@ impl fmt::Display for Agreed {
     }
 }
 
-// The lines of what is counted.
+// The lines of the counts.
 #[derive(Clone, Copy)]
 struct CountsText(StoreCounts);
 
 impl fmt::Display for CountsText {
     ghost use Rattle.std.specs.Prelude.{Some};
-    ghost use Rattle.fuse_show.specs.Telling.{counts_text};
+    ghost use Rattle.fuse_show.specs.Summary.{counts_text};
 
     ghost output = { λ t. Some (counts_text t.0) };
 
@@ -80,7 +80,7 @@ impl fmt::Display for CountsText {
     }
 }
 
-// The lines that tell what a store holds.
+// The lines of a summary.
 #[derive(Clone, Copy)]
 struct StoreText {
     version: u64,
@@ -91,7 +91,7 @@ struct StoreText {
 
 impl fmt::Display for StoreText {
     ghost use Rattle.std.specs.Prelude.{Some};
-    ghost use Rattle.fuse_show.specs.Telling.{store_text};
+    ghost use Rattle.fuse_show.specs.Summary.{store_text};
 
     ghost output = { λ t. Some (store_text t.version t.counts t.bytes t.agreed) };
 
@@ -107,22 +107,23 @@ impl fmt::Display for StoreText {
     }
 }
 
-/// Writes what a store of this version holds, whose contents have so many bytes.
-pub fn tell<K: Keeper, W: Write>(
+/// Writes a summary of a store: its version, its counts, the bytes of all contents, and the
+/// settings that INIT agreed on.
+pub fn show_summary<K: Keeper, W: Write>(
     keeper: &mut K,
     version: u64,
     bytes: u64,
     writer: &mut W,
-) -> Result<(), ReportFault>
-    ensures told { OnOk result (Reports (K.told keeper.old) (K.told keeper.new) (λ rows records.
+) -> Result<(), SummaryFault>
+    ensures shown { OnOk result (Reports (K.told keeper.old) (K.told keeper.new) (λ rows records.
         (n : ℕ) × CountsRecords records n
         × Appends (W.contents writer.old) (W.contents writer.new)
         (store_text version (count_of (K.model.nodes rows) (K.model.handles rows) n
         (length (K.told keeper.old).lots.numbers)) bytes (K.model.settings rows)))) }
-    // What it holds stays, and so does what a crash may leave of it.
+    // The store holds the same, and a crash can leave no more than before.
     ensures asked { OnlyAsked (K.told keeper.old) (K.told keeper.new) (of_keeper result) }
     ensures same { K.became keeper.old keeper.new 0 }
-    // Nothing is written before all is known.
+    // A fault of the keeper writes nothing.
     ensures silent { OnErr (of_keeper result) (W.contents writer.new ≡ W.contents writer.old) }
 {
     let counts = keeper.counts()?;

@@ -1,9 +1,9 @@
 use Rattle.std.proofs.Common.{◌+◌, take, sym, subst, arith}
 use Rattle.std.specs.Io.KnownBytes.{Appends}
-use Rattle.fuse_show.specs.Copying.{content_at}
+use Rattle.fuse_show.specs.Content.{content_at}
 use Rattle.fuse_show.proofs.Lines.{piece_more, piece_all, none_written}
 use Rattle.fuse_show.proofs.Trees.{sized_right, small}
-use Rattle.fuse_show.proofs.copying.copy.Goals as goal
+use Rattle.fuse_show.proofs.content.copy.Goals as goal
 
 pub loop-offset-init : goal.loop-offset-init
 loop-offset-init g c = record { fault = c.requires; looks = g.met.L.Look.still _; within = omega arith; bytes = λ clean rows is sees found. none_written _ }

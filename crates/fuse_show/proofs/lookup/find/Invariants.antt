@@ -1,6 +1,6 @@
 use Rattle.std.proofs.Common.{◌≡◌, None, length}
 use Rattle.fuse_show.proofs.Walks.{Went}
-use Rattle.fuse_show.proofs.finding.find.Given as goal
+use Rattle.fuse_show.proofs.lookup.find.Given as goal
 
 abbrev pub decreases-loop-name : goal.decreases-loop-name
 decreases-loop-name g l = length l.rest

@@ -1,16 +1,16 @@
 use Rattle.std.proofs.lemmas.Result.{err_from_is_err_and}
-use Rattle.fuse_show.proofs.Tellings.{told, refused_first, refused_second, answered_both}
-use Rattle.fuse_show.proofs.telling.tell.Goals as goal
+use Rattle.fuse_show.proofs.Summaries.{summary_written, refused_first, refused_second, answered_both}
+use Rattle.fuse_show.proofs.summary.show_summary.Goals as goal
 
-pub returns-clause-told : goal.returns-clause-told
-returns-clause-told g c = λ honest rows records held rowed.
+pub returns-clause-shown : goal.returns-clause-shown
+returns-clause-shown g c = λ honest rows records held rowed.
     let counts = c.in_ok-counts.ensures in
     let settings = c.in_ok-agreed.ensures in
     let honest_mid = settings.looked.called.honest honest in
     let held_mid = counts.looked.same honest_mid rows records held in (
       c.in_ok-counts.counts.records,
       counts.records honest_mid rows records held rowed,
-      told _ _ _ c.args.version c.args.bytes c.in_ok-counts.counts _ _ _ _ _ (counts.nodes honest_mid rows records held rowed)
+      summary_written _ _ _ c.args.version c.args.bytes c.in_ok-counts.counts _ _ _ _ _ (counts.nodes honest_mid rows records held rowed)
           (counts.handles honest_mid rows records held rowed) (counts.lots honest_mid rows records held rowed)
           (settings.ok honest rows records held_mid rowed) c.in_ok-write.ensures.bytes c.in_ok-flush.ensures.bytes,
     )

@@ -1,4 +1,4 @@
--- What is shown of what a path leads to, and why nothing is (own profile).
+-- The listing or the content at a path, or why there is none (own profile).
 use Rattle.std.specs.Prelude.{◌≡◌, ◌⊎◌, ℕ, Bool, true, false, List, Option, Result, Ok, Err}
 use Rattle.std.specs.Io.KnownBytes.{Appends}
 use Rattle.fuse_tree.specs.declared.rows.NodeRow.{NodeRow}
@@ -6,17 +6,17 @@ use Rattle.fuse_tree.specs.State.{is_dir, is_file}
 use Rattle.fuse_tree.specs.Rows.{Rows}
 use Rattle.fuse_show.specs.declared.fault.ShowFault.{ShowFault}
 use Rattle.fuse_show.specs.declared.fault.ShowFault.TheVariants.{Look, NotATree, NoSuchPath, NotDirectory, NotFile, Output}
-use Rattle.fuse_show.specs.Finding.{LeadTo, Stops, HasNone, IsNoDirectory}
+use Rattle.fuse_show.specs.Lookup.{LeadTo, Stops, HasNone, IsNoDirectory}
 use Rattle.fuse_show.specs.Listing.{listing}
-use Rattle.fuse_show.specs.Copying.{content_at}
+use Rattle.fuse_show.specs.Content.{content_at}
 
--- the names lead to a node of whose mode the test says this
+-- the names lead to a node, and the test of its mode gives this
 pub record LeadsToOne (rows : Rows) (names : List (List ℕ)) (test : ℕ → Bool) (said : Bool) : Type 0 where
   pub place : NodeRow
   pub leads : LeadTo rows names place
-  pub told : test place.mode ≡ said
+  pub tested : test place.mode ≡ said
 
--- the lines of the directory to which the names lead, or why there are none
+-- the lines of the directory at the names, or why there are none
 abbrev pub ShowsListing : Rows → List (List ℕ) → Option (List ℕ) → Option (List ℕ) → Result (Unit {0}) ShowFault → Type 0
 ShowsListing rows names old new (Ok _) = (one : LeadsToOne rows names is_dir true) × Appends old new (listing rows one.place.node)
 ShowsListing rows names old new (Err (Look f)) = Unit {0}
@@ -26,7 +26,7 @@ ShowsListing rows names old new (Err NotDirectory) = (Stops rows names IsNoDirec
 ShowsListing rows names old new (Err NotFile) = ⊥
 ShowsListing rows names old new (Err Output) = LeadsToOne rows names is_dir true
 
--- the bytes of the regular file to which the names lead, or why there are none
+-- the bytes of the regular file at the names, or why there are none
 abbrev pub ShowsContent : Rows → List (List ℕ) → Option (List ℕ) → Option (List ℕ) → Result (Unit {0}) ShowFault → Type 0
 ShowsContent rows names old new (Ok _) = (one : LeadsToOne rows names is_file true) × Appends old new (content_at rows one.place.node)
 ShowsContent rows names old new (Err (Look f)) = Unit {0}

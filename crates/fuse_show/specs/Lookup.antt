@@ -1,4 +1,4 @@
--- Where the names of a path lead (own profile).
+-- The node at a path (own profile).
 use Rattle.std.specs.Prelude.{◌≡◌, ℕ, true, false, List, [], ◌∷◌, ◌++◌, Some, None, Result, Ok, Err}
 use Rattle.fuse_tree.specs.Bounds.{fuse_root_id}
 use Rattle.fuse_tree.specs.declared.rows.NodeRow.{NodeRow}
@@ -8,14 +8,14 @@ use Rattle.fuse_tree.specs.Rows.{Rows, IsRowed, row_at, entry_at}
 use Rattle.fuse_show.specs.declared.fault.ShowFault.{ShowFault}
 use Rattle.fuse_show.specs.declared.fault.ShowFault.TheVariants.{Look, NotATree, NoSuchPath, NotDirectory, NotFile, Output}
 
--- a name leads from a directory to what its entry there leads to
+-- a name leads from a directory to the child of its entry with that name
 pub record LeadsBy (rows : Rows) (from : NodeRow) (name : List ℕ) (to : NodeRow) : Type 0 where
   pub entry : EntryRow
   pub dir : is_dir from.mode ≡ true
   pub found : entry_at rows.entries from.node name ≡ Some entry
   pub child : row_at rows entry.child ≡ Some to
 
--- names lead from a node to another, one after the other
+-- names lead from a node to another, each from a directory to a child
 abbrev pub Lead : Rows → NodeRow → List (List ℕ) → NodeRow → Type 0
 Lead rows from [] to = to ≡ from
 Lead rows from (name ∷ names) to = (next : NodeRow) × LeadsBy rows from name next × Lead rows next names to
@@ -26,14 +26,14 @@ pub record LeadTo (rows : Rows) (names : List (List ℕ)) (to : NodeRow) : Type 
   pub is_root : row_at rows fuse_root_id ≡ Some root
   pub lead : Lead rows root names to
 
--- some names lead from the root to a node, and the next one leads nowhere, since this is so
+-- a prefix of the names leads from the root to a node, and the next name leads nowhere for this reason
 pub record Stops (rows : Rows) (names : List (List ℕ)) (Why : NodeRow → List ℕ → Type 0) : Type 0 where
-  pub front : List (List ℕ)
+  pub prefix : List (List ℕ)
   pub name : List ℕ
-  pub behind : List (List ℕ)
-  pub parts : names ≡ front ++ name ∷ behind
+  pub after : List (List ℕ)
+  pub parts : names ≡ prefix ++ name ∷ after
   pub last : NodeRow
-  pub leads : LeadTo rows front last
+  pub leads : LeadTo rows prefix last
   pub why : Why last name
 
 -- the node is a directory without an entry of this name
@@ -44,7 +44,7 @@ HasNone rows last name = (is_dir last.mode ≡ true) × (entry_at rows.entries l
 abbrev pub IsNoDirectory : NodeRow → List ℕ → Type 0
 IsNoDirectory last name = is_dir last.mode ≡ false
 
--- what is found where a name is followed from a node
+-- the result of following one name from a node
 abbrev pub Steps : Rows → NodeRow → List ℕ → Result NodeRow ShowFault → Type 0
 Steps rows from name (Ok to) = LeadsBy rows from name to
 Steps rows from name (Err (Look f)) = Unit {0}
@@ -54,7 +54,7 @@ Steps rows from name (Err NotDirectory) = IsNoDirectory from name
 Steps rows from name (Err NotFile) = ⊥
 Steps rows from name (Err Output) = ⊥
 
--- the root is found
+-- the result of looking up the root
 abbrev pub IsRoot : Rows → Result NodeRow ShowFault → Type 0
 IsRoot rows (Ok row) = row_at rows fuse_root_id ≡ Some row
 IsRoot rows (Err (Look f)) = Unit {0}
@@ -64,7 +64,7 @@ IsRoot rows (Err NotDirectory) = ⊥
 IsRoot rows (Err NotFile) = ⊥
 IsRoot rows (Err Output) = ⊥
 
--- what is found by names: where they lead, or why they lead nowhere
+-- the result of following names: the node, or why there is none
 abbrev pub Finds : Rows → List (List ℕ) → Result NodeRow ShowFault → Type 0
 Finds rows names (Ok row) = LeadTo rows names row
 Finds rows names (Err (Look f)) = Unit {0}
@@ -74,22 +74,22 @@ Finds rows names (Err NotDirectory) = Stops rows names IsNoDirectory
 Finds rows names (Err NotFile) = ⊥
 Finds rows names (Err Output) = ⊥
 
--- it isn't by the fault of a look that nothing is found
-abbrev pub IsTold : Result NodeRow ShowFault → Type 0
-IsTold (Ok row) = Unit {0}
-IsTold (Err (Look f)) = ⊥
-IsTold (Err NotATree) = Unit {0}
-IsTold (Err NoSuchPath) = Unit {0}
-IsTold (Err NotDirectory) = Unit {0}
-IsTold (Err NotFile) = Unit {0}
-IsTold (Err Output) = Unit {0}
+-- the result is not the fault of a look
+abbrev pub NoLookFault : Result NodeRow ShowFault → Type 0
+NoLookFault (Ok row) = Unit {0}
+NoLookFault (Err (Look f)) = ⊥
+NoLookFault (Err NotATree) = Unit {0}
+NoLookFault (Err NoSuchPath) = Unit {0}
+NoLookFault (Err NotDirectory) = Unit {0}
+NoLookFault (Err NotFile) = Unit {0}
+NoLookFault (Err Output) = Unit {0}
 
 -- ---- laws
 
--- in a tree something is found by any names, and not by the fault of a look
+-- in a tree any names have such a result that is not the fault of a look
 abbrev pub FindsSomething : Type 0
-FindsSomething = (rows : Rows) (names : List (List ℕ)) → IsRowed rows → (found : Result NodeRow ShowFault) × IsTold found × Finds rows names found
+FindsSomething = (rows : Rows) (names : List (List ℕ)) → IsRowed rows → (found : Result NodeRow ShowFault) × NoLookFault found × Finds rows names found
 
--- just one of all that may be found is so
+-- and only one
 abbrev pub FoundOnce : Type 0
-FoundOnce = (rows : Rows) (names : List (List ℕ)) (a b : Result NodeRow ShowFault) → IsTold a → IsTold b → Finds rows names a → Finds rows names b → a ≡ b
+FoundOnce = (rows : Rows) (names : List (List ℕ)) (a b : Result NodeRow ShowFault) → NoLookFault a → NoLookFault b → Finds rows names a → Finds rows names b → a ≡ b

@@ -2,8 +2,8 @@ use Rattle.std.proofs.Common.{◌≡◌, ◌≤◌, ◌-◌, None, Some, take}
 use Rattle.std.specs.Io.KnownBytes.{Appends}
 use Rattle.fuse_tree.specs.Rows.{row_at}
 use Rattle.fuse_show.specs.Looks.{ReadOff}
-use Rattle.fuse_show.specs.Copying.{content_at}
-use Rattle.fuse_show.proofs.copying.copy.Given as goal
+use Rattle.fuse_show.specs.Content.{content_at}
+use Rattle.fuse_show.proofs.content.copy.Given as goal
 
 abbrev pub decreases-loop-offset : goal.decreases-loop-offset
 decreases-loop-offset g l = l.row.size - l.offset

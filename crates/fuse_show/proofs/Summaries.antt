@@ -1,4 +1,4 @@
--- The lines of a store, written; and a keeper that is asked twice.
+-- The lines of a summary, and a keeper with two queries.
 use Rattle.std.proofs.Common.{◌≡◌, ◌||◌, ◌∙◌, ℕ, Bool, true, false, List, Option, refl, ap, subst}
 use Rattle.std.specs.Prelude.{Ok, Err}
 use Rattle.std.specs.Io.KnownBytes.{Appends, Keeps}
@@ -10,22 +10,22 @@ use Rattle.fuse_keeper.specs.History.{History}
 use Rattle.fuse_keeper.specs.Lots.{Lots, SameLots}
 use Rattle.fuse_keeper.specs.Model.{Model}
 use Rattle.fuse_keeper.specs.KeeperState.{KeeperState, StandsFor, KeepsHeld, Looked, IsSound}
-use Rattle.fuse_show.specs.Telling.{store_text, count_of, OnlyAsked}
+use Rattle.fuse_show.specs.Summary.{store_text, count_of, OnlyAsked}
 
--- what was counted and agreed on is this
-pub told : (old mid new : Option (List ℕ)) (version bytes : ℕ) (c : StoreCounts) (nodes handles lots : ℕ) (a b : Option Settings) → c.nodes ≡ nodes
+-- the counts and the settings of the summary are these
+pub summary_written : (old mid new : Option (List ℕ)) (version bytes : ℕ) (c : StoreCounts) (nodes handles lots : ℕ) (a b : Option Settings) → c.nodes ≡ nodes
     → c.handles ≡ handles → c.lots ≡ lots → a ≡ b → Appends old mid (store_text version c bytes a) → Keeps mid new
     → Appends old new (store_text version (count_of nodes handles c.records lots) bytes b)
-told old mid new version bytes c nodes handles lots a b p q r e written kept =
+summary_written old mid new version bytes c nodes handles lots a b p q r e written kept =
     let whole : Appends old new (store_text version c bytes a) = Appends-kept old mid new (store_text version c bytes a) written kept in
     subst (λ n. Appends old new (store_text version (count_of n handles c.records lots) bytes b)) p
     (subst (λ n. Appends old new (store_text version (count_of c.nodes n c.records lots) bytes b)) q
     (subst (λ n. Appends old new (store_text version (count_of c.nodes c.handles c.records n) bytes b)) r
     (subst (λ s. Appends old new (store_text version c bytes s)) e whole)))
 
--- ---- a keeper that is asked
+-- ---- two queries of a keeper
 
--- the first question was refused
+-- the first query failed
 pub refused_first : {M : Model} {A : Type 0} (a b : KeeperState M) (f : StoreFault) → Looked {A = A} a b (Err f) → OnlyAsked a b (Err f)
 refused_first {A = A} a b f one =
     let call = one.called in
@@ -55,7 +55,7 @@ stands_still : {M : Model} (a b : KeeperState M) (s : M.State) (h : History) (t 
 stands_still a b s h t kept stood =
     record { rows = stood.rows; records = stood.records; held = kept stood.rows stood.records stood.held; stands = stood.stands }
 
--- the second was refused
+-- the second query failed
 pub refused_second : {M : Model} {A B : Type 0} (a b c : KeeperState M) (x : A) (f : StoreFault) → IsSound c → Looked a b (Ok x)
     → Looked {A = B} b c (Err f) → OnlyAsked a c (Err f)
 refused_second a b c x f sound one two =
@@ -80,7 +80,7 @@ refused_second a b c x f sound one two =
           one.crash x r rows records held (two.crash x r rows records (one.same (mid honest) rows records held) left);
     }
 
--- both were answered
+-- both succeeded
 pub answered_both : {M : Model} {A B : Type 0} (a b c : KeeperState M) (x : A) (y : B) (done : Unit {0}) → Looked a b (Ok x) → Looked b c (Ok y)
     → OnlyAsked a c (Ok done)
 answered_both a b c x y done one two =

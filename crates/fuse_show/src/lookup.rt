@@ -1,7 +1,7 @@
 ghost use Rattle.std.specs.Prelude.{◌≡◌, true, None, IfErr};
 ghost use Rattle.fuse_show.specs.Looks.{ReadOff, OnlyLooked, is_of_finding};
 ghost use Rattle.fuse_show.specs.Paths.{names_of};
-ghost use Rattle.fuse_show.specs.Finding.{IsRoot, Steps, Finds};
+ghost use Rattle.fuse_show.specs.Lookup.{IsRoot, Steps, Finds};
 
 use crate::fault::ShowFault;
 use crate::modes::is_directory;
@@ -22,7 +22,7 @@ fn find_root<L: Look>(look: &mut L) -> Result<NodeRow, ShowFault>
     Ok(row)
 }
 
-// The row of what a name leads to, from a node.
+// The row of the node that a name leads to from `from`.
 fn step<L: Look>(look: &mut L, from: &NodeRow, name: &[u8]) -> Result<NodeRow, ShowFault>
     requires { L.fault look.old ≡ None }
     ensures found { ReadOff (L.is_clean look.new) (L.sees look.old) (λ rows.
@@ -43,10 +43,9 @@ fn step<L: Look>(look: &mut L, from: &NodeRow, name: &[u8]) -> Result<NodeRow, S
     Ok(row)
 }
 
-/// The row of the node that a path leads to from the root. Slashes stand between its names, before
-/// them and behind them, any number of them; no name is that of the directory itself or of the one
-/// above.
-pub fn find<L: Look>(look: &mut L, path: &[u8]) -> Result<NodeRow, ShowFault>
+/// The row of the node at a path, from the root. Any number of slashes may stand before, between and
+/// after the names. The names `.` and `..` have no special meaning.
+pub(crate) fn find<L: Look>(look: &mut L, path: &[u8]) -> Result<NodeRow, ShowFault>
     requires { L.fault look.old ≡ None }
     ensures found { ReadOff (L.is_clean look.new) (L.sees look.old) (λ rows.
         Finds rows (names_of path.now) result) }
@@ -58,12 +57,12 @@ pub fn find<L: Look>(look: &mut L, path: &[u8]) -> Result<NodeRow, ShowFault>
         Err(fault) => return Err(fault),
     };
     let mut rest = path;
-    while let Some((name, behind)) = next_name(rest) {
+    while let Some((name, after)) = next_name(rest) {
         match step(look, &place, name) {
             Ok(row) => place = row,
             Err(fault) => return Err(fault),
         }
-        rest = behind;
+        rest = after;
     }
     Ok(place)
 }

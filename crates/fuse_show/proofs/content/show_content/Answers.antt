@@ -1,10 +1,10 @@
 use Rattle.std.proofs.Common.{refl, sym, ◌∙◌}
 use Rattle.std.proofs.KnownBytes.{Appends-kept}
 use Rattle.fuse_show.specs.Paths.{names_of}
-use Rattle.fuse_show.specs.Copying.{content_at}
+use Rattle.fuse_show.specs.Content.{content_at}
 use Rattle.fuse_show.proofs.Shows.{prints_none, content_fails}
 use Rattle.fuse_show.proofs.Walks.{leads_there}
-use Rattle.fuse_show.proofs.showing.show_content.Goals as goal
+use Rattle.fuse_show.proofs.content.show_content.Goals as goal
 
 pub returns-in-Err-clause-shown : goal.returns-in-Err-clause-shown
 returns-in-Err-clause-shown g c = λ clean rows is sees.
@@ -15,7 +15,7 @@ returns-then-not-is_regular_file-clause-shown g c = λ clean rows is sees. (
   record {
     place = c.in-Ok.place;
     leads = c.in-Ok.ensures.found clean rows is sees;
-    told = sym c.is_regular_file.ensures ∙ c.if-not-is_regular_file.true;
+    tested = sym c.is_regular_file.ensures ∙ c.if-not-is_regular_file.true;
   },
   refl,
 )
@@ -33,7 +33,7 @@ returns-in-Err-copy-clause-shown g c = λ clean rows is sees.
     record {
       place = c.in-Ok.place;
       leads = c.in-Ok.ensures.found clean_before rows is sees;
-      told = sym c.is_regular_file.ensures ∙ c.if-not-is_regular_file.false;
+      tested = sym c.is_regular_file.ensures ∙ c.if-not-is_regular_file.false;
     })
 
 pub returns-in-Ok-flush-clause-shown : goal.returns-in-Ok-flush-clause-shown
@@ -43,7 +43,7 @@ returns-in-Ok-flush-clause-shown g c = λ clean rows is sees.
       record {
         place = c.in-Ok.place;
         leads = c.in-Ok.ensures.found clean_before rows is sees;
-        told = sym c.is_regular_file.ensures ∙ c.if-not-is_regular_file.false;
+        tested = sym c.is_regular_file.ensures ∙ c.if-not-is_regular_file.false;
       },
       Appends-kept _ _ _ _
           (c.in-Ok-copy.ensures.copied clean rows is sees_before (leads_there rows _ _ (c.in-Ok.ensures.found clean_before rows is sees)))
@@ -56,5 +56,5 @@ returns-in-Err-flush-clause-shown g c = λ clean rows is sees.
     record {
       place = c.in-Ok.place;
       leads = c.in-Ok.ensures.found clean_before rows is sees;
-      told = sym c.is_regular_file.ensures ∙ c.if-not-is_regular_file.false;
+      tested = sym c.is_regular_file.ensures ∙ c.if-not-is_regular_file.false;
     }

@@ -1,7 +1,7 @@
 use Rattle.std.proofs.Common.{refl}
 use Rattle.fuse_show.proofs.Walks.{went_none, went_more, went_all, stop_if, no_root}
 use Rattle.fuse_show.specs.Paths.{names_of}
-use Rattle.fuse_show.proofs.finding.find.Goals as goal
+use Rattle.fuse_show.proofs.lookup.find.Goals as goal
 
 pub loop-name-init : goal.loop-name-init
 loop-name-init g c =
@@ -16,7 +16,7 @@ loop-name-preserved g c =
     record {
       fault = one.looked.fault;
       looks = g.met.L.Look.and_then _ _ _ before.looks looks;
-      went = went_more _ _ _ _ c.args.path.now c.loop-name.rest.now c.in-Some.name.now c.in-Some.behind.now c.loop-name.place c.in-Ok-step.row before.went
+      went = went_more _ _ _ _ c.args.path.now c.loop-name.rest.now c.in-Some.name.now c.in-Some.after.now c.loop-name.place c.in-Ok-step.row before.went
           c.in-Some.ensures.some.0 (g.met.L.Look.was_clean _ _ looks) (g.met.L.Look.kept _ _ before.looks) one.found;
     }
 
@@ -28,7 +28,7 @@ pub returns-in-Err-step-clause-found : goal.returns-in-Err-step-clause-found
 returns-in-Err-step-clause-found g c = λ clean rows is sees.
     let before = c.loop-name.invariant in
     let one = c.in-Err-step.ensures in
-    stop_if _ _ c.args.path.now c.loop-name.rest.now c.in-Some.name.now c.in-Some.behind.now c.loop-name.place before.went c.in-Some.ensures.some.0 rows
+    stop_if _ _ c.args.path.now c.loop-name.rest.now c.in-Some.name.now c.in-Some.after.now c.loop-name.place before.went c.in-Some.ensures.some.0 rows
     c.in-Err-step.fault
     (λ none.
     let clean_before = g.met.L.Look.was_clean _ _ (one.looked.looks none) clean in

@@ -3,7 +3,7 @@ use Rattle.std.proofs.KnownBytes.{Appends-kept}
 use Rattle.fuse_show.specs.Paths.{names_of}
 use Rattle.fuse_show.specs.Listing.{listing}
 use Rattle.fuse_show.proofs.Shows.{lists_none, listing_fails}
-use Rattle.fuse_show.proofs.showing.show_listing.Goals as goal
+use Rattle.fuse_show.proofs.listing.show_listing.Goals as goal
 
 pub returns-in-Err-clause-shown : goal.returns-in-Err-clause-shown
 returns-in-Err-clause-shown g c = λ clean rows is sees.
@@ -14,7 +14,7 @@ returns-then-not-is_directory-clause-shown g c = λ clean rows is sees. (
   inr (record {
     place = c.in-Ok.place;
     leads = c.in-Ok.ensures.found clean rows is sees;
-    told = sym c.is_directory.ensures ∙ c.if-not-is_directory.true;
+    tested = sym c.is_directory.ensures ∙ c.if-not-is_directory.true;
   }),
   refl,
 )
@@ -31,7 +31,7 @@ returns-in-Err-list-clause-shown g c = λ clean rows is sees.
     record {
       place = c.in-Ok.place;
       leads = c.in-Ok.ensures.found clean_before rows is sees;
-      told = sym c.is_directory.ensures ∙ c.if-not-is_directory.false;
+      tested = sym c.is_directory.ensures ∙ c.if-not-is_directory.false;
     })
 
 pub returns-in-Ok-flush-clause-shown : goal.returns-in-Ok-flush-clause-shown
@@ -41,7 +41,7 @@ returns-in-Ok-flush-clause-shown g c = λ clean rows is sees.
       record {
         place = c.in-Ok.place;
         leads = c.in-Ok.ensures.found clean_before rows is sees;
-        told = sym c.is_directory.ensures ∙ c.if-not-is_directory.false;
+        tested = sym c.is_directory.ensures ∙ c.if-not-is_directory.false;
       },
       Appends-kept _ _ _ _ (c.in-Ok-list.ensures.listed clean rows is sees_before) c.flush.ensures.bytes,
     )
@@ -52,5 +52,5 @@ returns-in-Err-flush-clause-shown g c = λ clean rows is sees.
     record {
       place = c.in-Ok.place;
       leads = c.in-Ok.ensures.found clean_before rows is sees;
-      told = sym c.is_directory.ensures ∙ c.if-not-is_directory.false;
+      tested = sym c.is_directory.ensures ∙ c.if-not-is_directory.false;
     }

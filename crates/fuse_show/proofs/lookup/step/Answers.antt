@@ -1,6 +1,6 @@
 use Rattle.std.proofs.Common.{sym, ◌∙◌}
 use Rattle.fuse_show.proofs.Trees.{child_row}
-use Rattle.fuse_show.proofs.finding.step.Goals as goal
+use Rattle.fuse_show.proofs.lookup.step.Goals as goal
 
 pub returns-in_default-2-clause-found : goal.returns-in_default-2-clause-found
 returns-in_default-2-clause-found g c = λ clean rows is sees.

@@ -1,6 +1,6 @@
 use Rattle.std.proofs.Common.{sym, ◌∙◌}
 use Rattle.fuse_show.proofs.Trees.{root_there}
-use Rattle.fuse_show.proofs.finding.find_root.Goals as goal
+use Rattle.fuse_show.proofs.lookup.find_root.Goals as goal
 
 pub returns-in_default-clause-found : goal.returns-in_default-clause-found
 returns-in_default-clause-found g c = λ clean rows is sees.
