@@ -1,4 +1,4 @@
--- What a keeper counts that stands on another one (own profile).
+-- The counts of a keeper over another one (own profile).
 use Rattle.std.specs.Prelude.{◌≡◌, ℕ, ◌+◌, ◌-◌, ◌<◌, ◌^◌, min, List, length, Result, Ok, Err}
 use Rattle.std.proofs.Common.{arith}
 use Rattle.std.specs.List.{count_by}
@@ -7,7 +7,7 @@ use Rattle.fuse_keeper.specs.declared.keeper.Done.{Done}
 use Rattle.counting_keeper.specs.declared.keeper.CountingKeeper.{CountingKeeper}
 use Rattle.counting_keeper.specs.declared.tally.Tally.{Tally}
 
--- the keeper that it stands on, of which all that is told is told of it too
+-- the keeper that it stands on, whose state is its own
 abbrev pub inner_of : {K : Type 0} → CountingKeeper K → K
 inner_of k = k.inner
 
@@ -33,11 +33,11 @@ with_group t dones = record t {
 abbrev pub with_mount : Tally → Tally
 with_mount t = record t { mounts = up t.mounts 1 }
 
--- a call answered a fault
+-- a call failed
 abbrev pub with_fault : Tally → Tally
 with_fault t = record t { faults = up t.faults 1 }
 
--- a call that only looks counts where it answers a fault
+-- a call that only looks counts where it fails
 abbrev pub LooksCounted : {A : Type 0} → Tally → Tally → Result A StoreFault → Type 0
 LooksCounted a b (Ok x) = b ≡ a
 LooksCounted a b (Err fault) = b ≡ with_fault a

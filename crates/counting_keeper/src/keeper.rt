@@ -36,7 +36,7 @@ impl<K: Keeper> CountingKeeper<K> {
         }
     }
 
-    /// What was counted. Takes no memory.
+    /// The counts. Takes no memory.
     pub fn tally(&self) -> Tally
         ensures { result ≡ tally_of self.now }
     {

@@ -1,4 +1,4 @@
-//! A keeper over any other keeper, which counts what that one does: an example of one.
+//! An example of a keeper over any other keeper: it counts the calls.
 #![tactic(auto)]
 
 mod keeper;

@@ -1,4 +1,4 @@
-// What is counted.
+// The counts.
 ghost use Rattle.std.specs.Prelude.{◌≡◌};
 ghost use Rattle.counting_keeper.specs.Counting.{with_group, with_mount, with_fault, with_opening};
 ghost use Rattle.counting_keeper.specs.Counting.{LooksCounted};
@@ -16,7 +16,7 @@ pub struct Tally {
     pub repeated: u64,
     /// Mounts that were begun.
     pub mounts: u64,
-    /// Calls that answered a fault, but for those to open the keeper again.
+    /// Calls that failed, but for those to open the keeper again.
     pub faults: u64,
     /// How often the keeper was opened again.
     pub openings: u64,
@@ -33,7 +33,7 @@ impl Tally {
         openings: 0,
     };
 
-    /// A group more, which was answered so.
+    /// Counts a group with this answer.
     pub(crate) fn count_group(&mut self, dones: &[Done])
         ensures { self.new ≡ with_group self.old dones.now }
     {
@@ -55,7 +55,7 @@ impl Tally {
         self.faults = self.faults.saturating_add(1);
     }
 
-    /// A call that only looks, and answered so.
+    /// Counts a call that only looks, with this answer.
     pub(crate) fn count_look<T>(&mut self, answer: &Result<T, StoreFault>)
         ensures { LooksCounted self.old self.new answer.now }
     {

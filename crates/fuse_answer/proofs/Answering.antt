@@ -274,9 +274,9 @@ pub answered : NumbersRead → (opcode : ℕ) (t : Told) (m : List ℕ) → IsBy
     → t.unique ≡ number_of 8 (drop 8 m) → IsOf opcode t (drop 16 m) → Answers opcode t m
 unfolding wire wire_head
 answered laws opcode t m fits long len errno unique said =
-    let q0 = laws.front 4 m (omega (arith, long)) fits in
-    let q1 = laws.front 4 (drop 4 m) (omega (arith, long, length-drop 4 m)) (laws.rest_bytes 4 m fits) in
-    let q2 = laws.front 8 (drop 8 m) (omega (arith, long, length-drop 8 m)) (laws.rest_bytes 8 m fits) in
+    let q0 = laws.prefix 4 m (omega (arith, long)) fits in
+    let q1 = laws.prefix 4 (drop 4 m) (omega (arith, long, length-drop 4 m)) (laws.rest_bytes 4 m fits) in
+    let q2 = laws.prefix 8 (drop 8 m) (omega (arith, long, length-drop 8 m)) (laws.rest_bytes 8 m fits) in
     let n_is : number_of 4 m ≡ 16 + length (drop 16 m) = omega (arith, len, long, length-drop 16 m) in
     let e_is : number_of 4 (drop 4 m) ≡ negated t.errno = omega (arith, errno, q1.0) in
     let r0 : m ≡ le 4 (16 + length (drop 16 m)) ++ drop 4 m = rw (← n_is) q0.1 in
@@ -304,7 +304,7 @@ proper_of : (opcode : ℕ) (t : Told) (body : List ℕ) → IsOf opcode t body �
 proper_of opcode t body (inl h) = h.1.proper
 proper_of opcode t body (inr h) = subst IsProper (sym h.2) tt
 
--- the body of what was read is as it has to be
+-- the body that was read is proper
 pub proper : (opcode : ℕ) (m : List ℕ) (r : Result Reply BadAnswer) → IfOk r (λ q. Answers opcode (told q) m) → IfOk r (λ q. IsProper (content q.body))
 proper opcode m (Ok q) found = proper_of opcode (told q) found.body found.said
 proper opcode m (Err f) found = tt

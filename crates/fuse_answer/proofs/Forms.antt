@@ -57,9 +57,9 @@ len_first laws errno body unique short =
     let rest : List ℕ = others ++ body in
     let parts : wire errno body unique ≡ le 4 len ++ rest = append_assoc (le 4 len) others body in
     let four : length others ≡ 12 = laws.1.form_len (number 4 (negated errno) ∷ number 8 unique ∷ []) in
-    let behind : length rest ≡ length others + length body = length-append others body in
+    let follows : length rest ≡ length others + length body = length-append others body in
     let all : length (wire errno body unique) ≡ length (le 4 len) + length rest = ap (length {A = ℕ}) parts ∙ length-append (le 4 len) rest in
-    let front : length (le 4 len) ≡ 4 = laws.0.len 4 len in
+    let prefix : length (le 4 len) ≡ 4 = laws.0.len 4 len in
     let size : length (wire errno body unique) ≡ len = omega arith in
     record {
       rest = rest;

@@ -18,26 +18,26 @@ all_bytes xs b h = h.1 ∙ ap (λ (x : List ℕ). xs ++ x) h.2 ∙ append-nil xs
 bytes_laid : (xs : List ℕ) → Lays (bytes xs ∷ []) xs
 bytes_laid xs = ([], sym (append-nil xs), refl)
 
--- an entry that stands at the front is read there
-pub front_back : LayoutsStand → (e : Entry) (rest b : List ℕ) → StandsBefore e rest b → leading_entry b ≡ Some (e, rest)
-front_back laws e rest b s =
+-- an entry that stands first is read there
+pub leading_back : LayoutsStand → (e : Entry) (rest b : List ℕ) → StandsBefore e rest b → leading_entry b ≡ Some (e, rest)
+leading_back laws e rest b s =
     let n : ℕ = length e.name in
     let ps : List Part = dirent_parts e ++ bytes rest ∷ [] in
-    let laid : Lays ps (s.front ++ rest) = laws.joined (dirent_parts e) (bytes rest ∷ []) s.front rest s.laid (bytes_laid rest) in
+    let laid : Lays ps (s.prefix ++ rest) = laws.joined (dirent_parts e) (bytes rest ∷ []) s.prefix rest s.laid (bytes_laid rest) in
     let p : Placed 0 ps b = laws.stands ps b (subst (Lays ps) (sym s.whole) laid) in
     let named = p.1.1.1.1.1 in
     let padded = named.2 in
-    let behind_it : padded.1 ≡ rest = all_bytes rest padded.1 padded.4 in
-    let after : named.0 ≡ padded.0 ++ rest = padded.3 ∙ ap (λ (x : List ℕ). padded.0 ++ x) behind_it in
+    let follows_it : padded.1 ≡ rest = all_bytes rest padded.1 padded.4 in
+    let after : named.0 ≡ padded.0 ++ rest = padded.3 ∙ ap (λ (x : List ℕ). padded.0 ++ x) follows_it in
     let name : take n (drop 24 b) ≡ e.name = ap (take n) named.1 ∙ take_at e.name named.0 n refl in
     let past : drop n (drop 24 b) ≡ named.0 = ap (drop n) named.1 ∙ drop_at e.name named.0 n refl in
-    let behind : drop (24 + (n + padding n)) b ≡ rest =
+    let follows : drop (24 + (n + padding n)) b ≡ rest =
     sym (drop-drop (n + padding n) 24 b) ∙ sym (drop-drop (padding n) n (drop 24 b)) ∙ ap (drop (padding n)) (past ∙ after)
     ∙ drop_at padded.0 rest (padding n) padded.2 in
-    let front_len : length s.front ≡ 24 + (n + padding n) = omega (arith, laws.len (dirent_parts e) s.front s.laid) in
-    let len : length b ≡ length s.front + length rest = ap length s.whole ∙ length-append s.front rest in
-    let long : 24 ≤ length b = omega (arith, len, front_len) in
-    let fits : 24 + (n + padding n) ≤ length b = omega (arith, len, front_len) in
+    let leading_len : length s.prefix ≡ 24 + (n + padding n) = omega (arith, laws.len (dirent_parts e) s.prefix s.laid) in
+    let len : length b ≡ length s.prefix + length rest = ap length s.whole ∙ length-append s.prefix rest in
+    let long : 24 ≤ length b = omega (arith, len, leading_len) in
+    let fits : 24 + (n + padding n) ≤ length b = omega (arith, len, leading_len) in
     let some : n ≢ 0 = omega (arith, s.named.0) in
     rw (
       ← p.1.1.0,
@@ -45,35 +45,35 @@ front_back laws e rest b s =
       ← p.1.0,
       ← p.1.1.1.0,
       name,
-      behind,
+      follows,
       le-ltb (length b) 24 long,
       ne_eqb n 0 some,
       le-ltb 255 n s.named.1,
       le-ltb (length b) (24 + (n + padding n)) fits,
     ) refl
 
--- what is read by its places stands there
-pub front_laid : LayoutsStand → (b : List ℕ) (ino off n kind : ℕ) (name rest : List ℕ) → IsBytes b → 24 ≤ length b
+-- an entry that is read by its places stands there
+pub leading_laid : LayoutsStand → (b : List ℕ) (ino off n kind : ℕ) (name rest : List ℕ) → IsBytes b → 24 ≤ length b
     → ino ≡ number_of 8 (drop 0 b) → off ≡ number_of 8 (drop 8 b) → n ≡ number_of 4 (drop 16 b) → kind ≡ number_of 4 (drop 20 b)
     → 1 ≤ n → n ≤ 255 → entry_len n ≤ length b → name ≡ take n (drop 24 b) → rest ≡ drop (entry_len n) b
     → StandsBefore (record { ino = ino; off = off; kind = kind; name = name }) rest b
-front_laid laws b ino off n kind name rest fits long ino_is off_is n_is kind_is some few room name_is rest_is =
+leading_laid laws b ino off n kind name rest fits long ino_is off_is n_is kind_is some few room name_is rest_is =
     let len : length name ≡ n = ap length name_is ∙ omega (arith, room, length-take n (drop 24 b), length-drop 24 b) in
     let pad : ℕ = padding n in
     let gap : List ℕ = take pad (drop n (drop 24 b)) in
     let gap_len : length gap ≡ pad = omega (arith, room, length-take pad (drop n (drop 24 b)), length-drop n (drop 24 b), length-drop 24 b) in
     let rest_at : drop pad (drop n (drop 24 b)) ≡ rest = drop-drop pad n (drop 24 b) ∙ drop-drop (n + pad) 24 b ∙ sym rest_is in
     let past : drop n (drop 24 b) ≡ gap ++ rest = sym (take-append-drop pad (drop n (drop 24 b))) ∙ ap (λ (x : List ℕ). gap ++ x) rest_at in
-    let behind : drop 24 b ≡ name ++ (gap ++ rest) = sym (take-append-drop n (drop 24 b)) ∙ rw (← name_is) (ap (λ (x : List ℕ). name ++ x) past) in
+    let follows : drop 24 b ≡ name ++ (gap ++ rest) = sym (take-append-drop n (drop 24 b)) ∙ rw (← name_is) (ap (λ (x : List ℕ). name ++ x) past) in
     let ps : List Part = number 8 ino ∷ number 8 off ∷ number 4 n ∷ number 4 kind ∷ bytes name ∷ unused pad ∷ [] in
     let placed : Placed 0 (ps ++ bytes rest ∷ []) b = (
       ino_is,
-      (off_is, (n_is, (kind_is, (long, (gap ++ rest, behind, (gap, rest, gap_len, refl, bytes_laid rest)))))),
+      (off_is, (n_is, (kind_is, (long, (gap ++ rest, follows, (gap, rest, gap_len, refl, bytes_laid rest)))))),
     ) in
     let total : widths ps ≡ entry_len n = omega (arith, len) in
     let laid : Lays ps (take (widths ps) b) = (laws.parted ps (bytes rest ∷ []) b (laws.placed (ps ++ bytes rest ∷ []) b fits placed)).0 in
     record {
-      front = take (entry_len n) b;
+      prefix = take (entry_len n) b;
       whole = rw rest_is (sym (take-append-drop (entry_len n) b));
       named = rw len (some, few);
       laid = rw len (subst (λ (k : ℕ). Lays ps (take k b)) total laid);
@@ -90,68 +90,68 @@ by_tests false false false true x = inl refl
 by_tests false false false false x = inr (refl, refl)
 
 -- no entry is read, or one that is not empty
-pub front_cases : (b : List ℕ) → (leading_entry b ≡ None) ⊎ ((p : Entry × List ℕ) × (leading_entry b ≡ Some p) × (length p.1 < length b))
-front_cases b =
+pub leading_cases : (b : List ℕ) → (leading_entry b ≡ None) ⊎ ((p : Entry × List ℕ) × (leading_entry b ≡ Some p) × (length p.1 < length b))
+leading_cases b =
     elim (by_tests (nat_lt (length b) 24) (name_len b == 0) (nat_lt 255 (name_len b)) (nat_lt (length b) (entry_len (name_len b)))
     (entry_at b, drop (entry_len (name_len b)) b)) [
       | inl none ↦ inl none
       | inr some ↦ (let long : 24 ≤ length b = ltb-false (length b) 24 some.0 in inr (_, some.1, omega (arith, long, length-drop (entry_len (name_len b)) b)))
     ]
 
--- nothing is at the front of no bytes
-front_empty : (b : List ℕ) → length b ≤ 0 → leading_entry b ≡ None
-front_empty b few = rw (lt-ltb (length b) 24 (omega (arith, few))) refl
+-- no bytes have no first entry
+leading_empty : (b : List ℕ) → length b ≤ 0 → leading_entry b ≡ None
+leading_empty b few = rw (lt-ltb (length b) 24 (omega (arith, few))) refl
 
--- what is read, by what is read at the front
+-- the entries that are read, by the first one
 pub entries_none : (n : ℕ) (b : List ℕ) → leading_entry b ≡ None → entries_by n b ≡ []
 entries_none zero b e = refl
 entries_none (suc n) b e = rw e refl
 
 -- more turns than bytes give no more entries
 pub entries_more : (n m : ℕ) (b : List ℕ) → length b ≤ n → length b ≤ m → entries_by n b ≡ entries_by m b
-entries_more zero m b few many = sym (entries_none m b (front_empty b few))
-entries_more (suc n) zero b few many = entries_none (suc n) b (front_empty b many)
+entries_more zero m b few many = sym (entries_none m b (leading_empty b few))
+entries_more (suc n) zero b few many = entries_none (suc n) b (leading_empty b many)
 entries_more (suc n) (suc m) b few many =
-    elim (front_cases b) [
+    elim (leading_cases b) [
       | inl none ↦ rw none refl
       | inr some ↦ rw some.1 (ap (λ (es : List Entry). some.0.0 ∷ es) (entries_more n m some.0.1 (omega (arith, some.2, few)) (omega (arith, some.2, many))))
     ]
 
-front_shorter : (e : Entry) (rest b : List ℕ) → leading_entry b ≡ Some (e, rest) → length rest < length b
-front_shorter e rest b is =
-    elim (front_cases b) [
+leading_shorter : (e : Entry) (rest b : List ℕ) → leading_entry b ≡ Some (e, rest) → length rest < length b
+leading_shorter e rest b is =
+    elim (leading_cases b) [
       | inl none ↦ (let no : ◌≡◌ {A = Option (Entry × List ℕ)} None (Some (e, rest)) = sym none ∙ is in absurd cc)
       | inr some ↦ (let same : ◌≡◌ {A = Option (Entry × List ℕ)} (Some some.0) (Some (e, rest)) = sym some.1 ∙ is in
-          let behind : some.0.1 ≡ rest = ap (λ (o : Option (Entry × List ℕ)). option_map_or (λ p. p.1) o []) same in
-          omega (arith, some.2, ap length behind))
+          let follows : some.0.1 ≡ rest = ap (λ (o : Option (Entry × List ℕ)). option_map_or (λ p. p.1) o []) same in
+          omega (arith, some.2, ap length follows))
     ]
 
 pub entries_some : (n : ℕ) (e : Entry) (rest b : List ℕ) → length b ≤ n → leading_entry b ≡ Some (e, rest) → entries_by n b ≡ e ∷ entries_by (length rest) rest
-entries_some zero e rest b few is = absurd (omega (arith, front_shorter e rest b is, few))
+entries_some zero e rest b few is = absurd (omega (arith, leading_shorter e rest b is, few))
 entries_some (suc n) e rest b few is =
-    rw is (ap (λ (es : List Entry). e ∷ es) (entries_more n (length rest) rest (omega (arith, front_shorter e rest b is, few)) (omega arith)))
+    rw is (ap (λ (es : List Entry). e ∷ es) (entries_more n (length rest) rest (omega (arith, leading_shorter e rest b is, few)) (omega arith)))
 
 -- the entries that bytes list are read
 pub entries_are : LayoutsStand → (es : List Entry) (n : ℕ) (b : List ℕ) → length b ≤ n → Lists es b → entries_by n b ≡ es
-entries_are laws [] n b few h = entries_none n b (front_empty b (omega (arith, ap length h)))
+entries_are laws [] n b few h = entries_none n b (leading_empty b (omega (arith, ap length h)))
 entries_are laws (e ∷ es) n b few h =
-    let is = front_back laws e h.0 b h.1 in
+    let is = leading_back laws e h.0 b h.1 in
     entries_some n e h.0 b few is ∙ ap (λ (xs : List Entry). e ∷ xs) (entries_are laws es (length h.0) h.0 (omega arith) h.2)
 
--- what is behind the first entry of a listing
+-- the bytes after the first entry of a listing
 pub listing_rest : LayoutsStand → (e : Entry) (rest b : List ℕ) → StandsBefore e rest b → IsListing b → IsListing rest
-listing_rest laws e rest b s ([], h) = absurd (omega (arith, front_shorter e rest b (front_back laws e rest b s), ap length h))
+listing_rest laws e rest b s ([], h) = absurd (omega (arith, leading_shorter e rest b (leading_back laws e rest b s), ap length h))
 listing_rest laws e rest b s (e' ∷ es, h) =
-    let same : ◌≡◌ {A = Option (Entry × List ℕ)} (Some (e', h.0)) (Some (e, rest)) = sym (front_back laws e' h.0 b h.1) ∙ front_back laws e rest b s in
-    let behind : h.0 ≡ rest = ap (λ (o : Option (Entry × List ℕ)). option_map_or (λ p. p.1) o []) same in
-    (es, subst (Lists es) behind h.2)
+    let same : ◌≡◌ {A = Option (Entry × List ℕ)} (Some (e', h.0)) (Some (e, rest)) = sym (leading_back laws e' h.0 b h.1) ∙ leading_back laws e rest b s in
+    let follows : h.0 ≡ rest = ap (λ (o : Option (Entry × List ℕ)). option_map_or (λ p. p.1) o []) same in
+    (es, subst (Lists es) follows h.2)
 
 pub listing_more : (e : Entry) (rest b : List ℕ) → StandsBefore e rest b → IsListing rest → IsListing b
 listing_more e rest b s h = (e ∷ h.0, (rest, s, h.1))
 
--- bytes without an entry at the front
+-- bytes without a first entry
 pub not_listing : LayoutsStand → (b : List ℕ) → leading_entry b ≡ None → 0 < length b → IsListing b → ⊥
 not_listing laws b none some ([], h) = absurd (omega (arith, ap length h, some))
 not_listing laws b none some (e ∷ es, h) =
-    let no : ◌≡◌ {A = Option (Entry × List ℕ)} None (Some (e, h.0)) = sym none ∙ front_back laws e h.0 b h.1 in
+    let no : ◌≡◌ {A = Option (Entry × List ℕ)} None (Some (e, h.0)) = sym none ∙ leading_back laws e h.0 b h.1 in
     absurd cc

@@ -1,4 +1,4 @@
--- Entries put one behind the other.
+-- Entries put one after the other.
 use Rattle.std.proofs.Common.{◌≡◌, ℕ, ◌+◌, ◌-◌, ◌<◌, ◌≤◌, inl, inr, List, [], ◌∷◌, ◌++◌, length, take, get_or, refl, sym, ap, subst, ◌∙◌, append_assoc, arith}
 use Rattle.std.specs.List.{sum_by}
 use Rattle.std.proofs.lemmas.Bool.{cases_lt}
@@ -30,7 +30,7 @@ lists-append [] fs a b h g = subst (λ (x : List ℕ). Lists fs (x ++ b)) (sym h
 lists-append (e ∷ es) fs a b h g =
     let s = h.1 in (
       h.0 ++ b,
-      record { front = s.front; whole = ap (λ (x : List ℕ). x ++ b) s.whole ∙ append_assoc s.front h.0 b; named = s.named; laid = s.laid },
+      record { prefix = s.prefix; whole = ap (λ (x : List ℕ). x ++ b) s.whole ∙ append_assoc s.prefix h.0 b; named = s.named; laid = s.laid },
       lists-append es fs h.0 b h.2 g,
     )
 
@@ -44,7 +44,7 @@ filled_more laws es size n body new e within is f named has room put =
     let b : List ℕ = form (dirent_parts e) in
     let laid = laws.formed (dirent_parts e) has in
     let len : length b ≡ packed_len e = omega (arith, laws.len (dirent_parts e) b laid) in
-    let one : Lists (e ∷ []) b = ([], record { front = b; whole = sym (append-nil b); named = named; laid = laid }, refl) in
+    let one : Lists (e ∷ []) b = ([], record { prefix = b; whole = sym (append-nil b); named = named; laid = laid }, refl) in
     let total = sum_by_more packed_len es n e within ∙ ap (λ (x : Entry). sum_by packed_len (take n es) + packed_len x) is in
     record {
       bytes = rw (more, put, f.bytes) (sym (bytes-append (take n es) (e ∷ []) ∙ ap (λ (x : List ℕ). entries_bytes (take n es) ++ x) (append-nil b)));

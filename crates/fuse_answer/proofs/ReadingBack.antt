@@ -44,9 +44,9 @@ low w n = number_of w (le w n)
 low_is : NumbersRead → (w n : ℕ) → (low w n < 256 ^ w) × (le w (low w n) ≡ le w n)
 unfolding low
 low_is laws w n =
-    let front = laws.front w (le w n) (omega (arith, laws.len w n)) (le_small w n) in
+    let prefix = laws.prefix w (le w n) (omega (arith, laws.len w n)) (le_small w n) in
     let none : drop w (le w n) ≡ [] = nil_from_length (drop w (le w n)) (omega (arith, length-drop w (le w n), laws.len w n)) in
-    (front.0, sym (front.1 ∙ ap (λ (x : List ℕ). le w (number_of w (le w n)) ++ x) none ∙ append-nil (le w (number_of w (le w n)))))
+    (prefix.0, sym (prefix.1 ∙ ap (λ (x : List ℕ). le w (number_of w (le w n)) ++ x) none ∙ append-nil (le w (number_of w (le w n)))))
 
 low_same : NumbersRead → (w n : ℕ) → n < 256 ^ w → low w n ≡ n
 unfolding low
@@ -169,7 +169,7 @@ lists : NumbersRead → (es : List Entry) → AllByRecursion IsNamed es → List
 unfolding low_entries low_entry
 lists laws [] named = refl
 lists laws (e ∷ es) named =
-    (entries_bytes es, record { front = form (dirent_parts e); whole = refl; named = named.0; laid = dirent_lays laws e named.0.1 }, lists laws es named.1)
+    (entries_bytes es, record { prefix = form (dirent_parts e); whole = refl; named = named.0; laid = dirent_lays laws e named.0.1 }, lists laws es named.1)
 
 pub listing_body : NumbersRead → (es : List Entry) → AllByRecursion IsNamed es → IsBody Directory (entries_bytes es)
 listing_body laws es named =

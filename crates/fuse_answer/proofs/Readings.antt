@@ -6,11 +6,11 @@ use Rattle.fuse_wire.specs.Layout.{Part, Lays, Placed}
 use Rattle.fuse_wire.specs.Laws.{NumbersRead, LayoutsStand}
 
 -- the first n parts by their places in the first k bytes, and the others
-pub laid_halves : (NumbersRead × LayoutsStand) → (k n : ℕ) (ps : List Part) (b front back : List ℕ) → IsBytes b → front ≡ take k b → back ≡ drop k b
-    → Placed 0 (take n ps) front → Lays (drop n ps) back → Lays ps b
-laid_halves laws k n ps b front back fits e f first second =
-    let small : IsBytes front = subst IsBytes (sym e) (laws.0.front_bytes k b fits) in
-    let both : Lays (take n ps ++ drop n ps) (front ++ back) = laws.1.joined (take n ps) (drop n ps) front back (laws.1.placed (take n ps) front small first)
+pub laid_halves : (NumbersRead × LayoutsStand) → (k n : ℕ) (ps : List Part) (b prefix back : List ℕ) → IsBytes b → prefix ≡ take k b → back ≡ drop k b
+    → Placed 0 (take n ps) prefix → Lays (drop n ps) back → Lays ps b
+laid_halves laws k n ps b prefix back fits e f first second =
+    let small : IsBytes prefix = subst IsBytes (sym e) (laws.0.prefix_bytes k b fits) in
+    let both : Lays (take n ps ++ drop n ps) (prefix ++ back) = laws.1.joined (take n ps) (drop n ps) prefix back (laws.1.placed (take n ps) prefix small first)
     second in
-    let parts : Lays ps (front ++ back) = subst (λ (qs : List Part). Lays qs (front ++ back)) (take-append-drop n ps) both in
+    let parts : Lays ps (prefix ++ back) = subst (λ (qs : List Part). Lays qs (prefix ++ back)) (take-append-drop n ps) both in
     subst (Lays ps) (rw (e, f) (take-append-drop k b)) parts

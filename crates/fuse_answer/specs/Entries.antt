@@ -20,11 +20,11 @@ entry_of d = record { ino = d.ino; off = d.off; kind = d.kind; name = d.name.now
 abbrev pub IsNamed : Entry → Type 0
 IsNamed e = (1 ≤ length e.name) × (length e.name ≤ max_name_len)
 
--- what n bytes lack to a multiple of 8
+-- the bytes from n to the next multiple of 8
 abbrev pub padding : ℕ → ℕ
 padding n = (8 - n % 8) % 8
 
--- the padding behind a name belongs to its entry
+-- the padding after a name belongs to its entry
 abbrev pub dirent_parts : Entry → List Part
 dirent_parts e =
     number 8 e.ino ∷ number 8 e.off ∷ number 4 (length e.name) ∷ number 4 e.kind ∷ bytes e.name
@@ -32,10 +32,10 @@ dirent_parts e =
 
 -- the bytes b are the entry e with any padding, and then rest
 pub record StandsBefore (e : Entry) (rest b : List ℕ) : Type 0 where
-  pub front : List ℕ
-  pub whole : b ≡ front ++ rest
+  pub prefix : List ℕ
+  pub whole : b ≡ prefix ++ rest
   pub named : IsNamed e
-  pub laid : Lays (dirent_parts e) front
+  pub laid : Lays (dirent_parts e) prefix
 
 -- the bytes are these entries, one after the other
 abbrev pub Lists : List Entry → List ℕ → Type 0

@@ -1,4 +1,4 @@
--- The entry at the front of bytes, by its places (fuse.h: fuse_dirent).
+-- The first entry of a directory listing, by its places (fuse.h: fuse_dirent).
 use Rattle.std.specs.Prelude.{◌==◌, ℕ, zero, suc, nat_lt, if◌then◌else◌, List, [], ◌∷◌, length, take, drop, Option, Some, None}
 use Rattle.std.specs.Option.{option_map_or}
 use Rattle.fuse_wire.specs.Bytes.{number_of}
@@ -18,7 +18,7 @@ entry_at b = record {
   name = take (name_len b) (drop dirent_name_offset b);
 }
 
--- the entry and what follows it, where a whole one stands there
+-- the first entry and the bytes after it, where it is whole
 abbrev pub leading_entry : List ℕ → Option (Entry × List ℕ)
 leading_entry b =
     if nat_lt (length b) dirent_name_offset then None
@@ -27,11 +27,11 @@ leading_entry b =
     else if nat_lt (length b) (entry_len (name_len b)) then None
     else Some (entry_at b, drop (entry_len (name_len b)) b)
 
--- at most n entries, as long as a whole one stands there
+-- the first entries, at most n, as long as they are whole
 abbrev pub entries_by : ℕ → List ℕ → List Entry
 entries_by zero b = []
 entries_by (suc n) b = option_map_or (λ p. p.0 ∷ entries_by n p.1) (leading_entry b) []
 
--- what an iterator over entries has left
+-- the entries that an iterator has left
 unfoldable pub entries_left : Dirents → List Entry
 entries_left d = entries_by (length d.rest.now) d.rest.now

@@ -26,7 +26,7 @@ pub record BeginsWithLen (b : List ℕ) : Type 0 where
 abbrev pub LenStandsFirst : Type 0
 LenStandsFirst = (errno : ℕ) (body : List ℕ) (unique : ℕ) → length body ≤ max_body_len → BeginsWithLen (wire errno body unique)
 
--- the records have the sizes of fuse.h, and entries of a directory take what they take together
+-- the records have the sizes of fuse.h, and entries of a directory take the sum of their lengths
 abbrev pub RecordSizes : Type 0
 RecordSizes =
     ((e : EntryOut) → length (entry_bytes e) ≡ entry_out_size)
@@ -36,7 +36,7 @@ RecordSizes =
     × ((i : InitOut) → length (init_bytes i) ≡ init_out_size)
     × ((es : List Entry) → length (entries_bytes es) ≡ sum_by packed_len es)
 
--- what fits and is of the opcode's kind is read; each record is a body of its kind, and so are entries whose names are
+-- an answer that fits and is of the opcode's kind is read; each record is a body of its kind, and so are named entries
 pub record ReadBack : Type 0 where
   pub said : (opcode : ℕ) (a : Said) → FitsAnswer a → IsOfKind (kind_of opcode) a → IsRead opcode a
   pub entry : (e : EntryOut) → IsBody AnEntry (entry_bytes e)

@@ -1,4 +1,4 @@
--- What a server tells the kernel without being asked (fuse.h: fuse_out_header, fuse_notify_code).
+-- Notices, which a server sends unasked (fuse.h: fuse_out_header, fuse_notify_code).
 use Rattle.std.specs.Prelude.{ℕ, List}
 use Rattle.fuse_wire.specs.Layout.{form}
 use Rattle.fuse_answer.specs.Bodies.{head_parts}

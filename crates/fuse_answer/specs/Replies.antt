@@ -1,4 +1,4 @@
--- What an answer says of itself and of its body, which goes by the opcode of the request (fuse.h).
+-- The content of an answer, whose body is determined by the opcode of the request (fuse.h).
 use Rattle.std.specs.Prelude.{◌≡◌, ◌≢◌, ◌<◌, ◌≤◌, ◌^◌, ◌==◌, ◌||◌, ◌⊎◌, ℕ, if◌then◌else◌, List, [], ◌∷◌, length, drop, Option, Some, None, FitsSigned}
 use Rattle.std.specs.Int.{w32}
 use Rattle.fuse_wire.specs.Bytes.{number_of}
@@ -142,7 +142,7 @@ pub record Answers (opcode : ℕ) (t : Told) (message : List ℕ) : Type 0 where
   pub unique : t.unique < 2 ^ 64
   pub said : IsOf opcode t body
 
--- what is said is read as the answer to a request of this opcode, whichever its unique is
+-- it is read as the answer to a request of this opcode, whichever its unique is
 abbrev pub IsRead : ℕ → Said → Type 0
 IsRead opcode a =
     (unique : ℕ) → unique < 2 ^ 64 → (c : Content) × Answers opcode (record { unique = unique; errno = a.errno; content = c }) (wire a.errno a.body unique)
@@ -156,7 +156,7 @@ abbrev pub IsOtherThan : Option ℕ → ℕ → Type 0
 IsOtherThan None len = ⊥
 IsOtherThan (Some size) len = len ≢ size
 
--- what is wrong with a body of a kind
+-- the fault of a body of a kind
 abbrev pub BodyFault : Kind → List ℕ → BadAnswer → Type 0
 BodyFault kind b BodyLength = IsOtherThan (size_of kind) (length b)
 BodyFault kind b BadDirent = (kind ≡ Directory) × (IsListing b → ⊥)
@@ -166,11 +166,11 @@ BodyFault kind b _ = ⊥
 abbrev pub errno_in : List ℕ → ℕ
 errno_in b = negated (number_of 4 (drop 4 b))
 
--- there is a header, and it tells the number of bytes
+-- there is a header, and its length is the number of bytes
 abbrev pub IsMeasured : List ℕ → Type 0
 IsMeasured b = (out_header_size ≤ length b) × (number_of 4 b ≡ length b)
 
--- what is wrong with bytes that are no answer to an opcode: the first fault in the order of BadAnswer (own)
+-- the fault of bytes that are no answer to an opcode: the first one in the order of BadAnswer (own)
 abbrev pub FirstFault : ℕ → List ℕ → BadAnswer → Type 0
 FirstFault opcode b Short = length b < out_header_size
 FirstFault opcode b LenDiffers = (out_header_size ≤ length b) × (number_of 4 b ≢ length b)

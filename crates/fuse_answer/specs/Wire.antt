@@ -1,4 +1,4 @@
--- A whole answer as bytes (fuse.h: fuse_out_header, and the body behind it).
+-- A whole answer as bytes (fuse.h: fuse_out_header, then the body).
 use Rattle.std.specs.Prelude.{ℕ, List, ◌++◌, ◌+◌, ◌-◌, ◌%◌, ◌^◌, length}
 use Rattle.fuse_wire.specs.Layout.{form}
 use Rattle.fuse_answer.specs.Bodies.{head_parts}

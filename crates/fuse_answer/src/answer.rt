@@ -8,7 +8,7 @@ use std::marker::Model;
 /// The most bytes that an answer's body has: those of the largest READ or READDIR.
 pub const MAX_BODY: usize = 1_048_576;
 
-/// What a request is answered: an error number and no body, or no error and the body.
+/// The answer to a request: an error number and no body, or no error and the body.
 /// Contracts see it as `Said`, and know that it `FitsAnswer`.
 #[derive(Drop)]
 pub struct Answer {
@@ -48,7 +48,7 @@ impl Answer {
         }
     }
 
-    /// The same answer once more.
+    /// A copy of the answer.
     pub fn to_copy(&self, alloc: Global) -> Result<Answer, Memory>
         ensures { IfOk result (λ copy. copy ≡ self.now) }
     {

@@ -50,14 +50,14 @@ fn entry_of(body: &[u8]) -> Result<ReplyBody<'_>, BadAnswer>
     if body.len() != EntryOut::SIZE {
         return Err(BadAnswer::BodyLength);
     }
-    let (front, attr) = body.split_at(EntryOut::SIZE - Attr::SIZE);
+    let (prefix, attr) = body.split_at(EntryOut::SIZE - Attr::SIZE);
     Ok(ReplyBody::Entry(EntryOut {
-        nodeid: u64_at(front, 0),
-        generation: u64_at(front, 8),
-        entry_valid: u64_at(front, 16),
-        attr_valid: u64_at(front, 24),
-        entry_valid_nsec: u32_at(front, 32),
-        attr_valid_nsec: u32_at(front, 36),
+        nodeid: u64_at(prefix, 0),
+        generation: u64_at(prefix, 8),
+        entry_valid: u64_at(prefix, 16),
+        attr_valid: u64_at(prefix, 24),
+        entry_valid_nsec: u32_at(prefix, 32),
+        attr_valid_nsec: u32_at(prefix, 36),
         attr: attr_of(attr),
     }))
 }
@@ -70,10 +70,10 @@ fn attributes_of(body: &[u8]) -> Result<ReplyBody<'_>, BadAnswer>
     if body.len() != AttrOut::SIZE {
         return Err(BadAnswer::BodyLength);
     }
-    let (front, attr) = body.split_at(AttrOut::SIZE - Attr::SIZE);
+    let (prefix, attr) = body.split_at(AttrOut::SIZE - Attr::SIZE);
     Ok(ReplyBody::Attributes(AttrOut {
-        attr_valid: u64_at(front, 0),
-        attr_valid_nsec: u32_at(front, 8),
+        attr_valid: u64_at(prefix, 0),
+        attr_valid_nsec: u32_at(prefix, 8),
         attr: attr_of(attr),
     }))
 }

@@ -9,7 +9,7 @@ pub const MAX_NAME: usize = 255;
 #[derive(Clone, Copy, Debug)]
 pub struct Dirent<'a> {
     pub ino: u64,
-    /// The offset that goes on behind it.
+    /// The offset that continues after it.
     pub off: u64,
     pub kind: u32,
     pub name: &'a [u8],

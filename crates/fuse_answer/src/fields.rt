@@ -5,7 +5,7 @@ ghost use Rattle.fuse_wire.specs.Written.{HasNoText, laid};
 use fuse_wire::{Field, Memory, layouts_stand, put_fields};
 use std::alloc::Global;
 
-// A body of fields, for which `size` bytes are asked at once.
+// A body of fields, for which `size` bytes are allocated at once.
 pub(crate) fn body_of_fields(
     alloc: Global,
     size: usize,

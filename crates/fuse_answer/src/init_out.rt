@@ -8,7 +8,7 @@ use fuse_wire::Field::{U16, U32, Unused};
 use fuse_wire::Memory;
 use std::alloc::Global;
 
-/// What INIT answers, `fuse_init_out` of `fuse.h`.
+/// The answer to INIT, `fuse_init_out` of `fuse.h`.
 #[derive(Clone, Copy, Debug, PartialEq, Eq)]
 pub struct InitOut {
     pub major: u32,

@@ -1,4 +1,4 @@
-// What a server tells the kernel without being asked.
+// Notices, which a server sends unasked.
 ghost use Rattle.std.specs.Prelude.{◌≡◌};
 ghost use Rattle.fuse_answer.specs.Notice.{resend_bytes};
 

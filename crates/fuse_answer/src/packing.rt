@@ -85,7 +85,7 @@ fn first_is_too_big(entries: &[Dirent<'_>], size: usize) -> bool
     }
 }
 
-/// The entries at the front that fit into `size` bytes together, as many as do.
+/// The longest prefix of the entries that fits into `size` bytes.
 pub fn pack(alloc: Global, entries: &[Dirent<'_>], size: u32) -> Result<Packed, PackFault>
     requires { All (λ d. IsNamed (entry_of d)) entries.now }
 

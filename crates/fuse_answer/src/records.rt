@@ -42,7 +42,7 @@ pub struct Attr {
     pub flags: u32,
 }
 
-/// What LOOKUP, MKNOD and MKDIR answer, `fuse_entry_out` of `fuse.h`.
+/// The answer to LOOKUP, MKNOD and MKDIR, `fuse_entry_out` of `fuse.h`.
 #[derive(Clone, Copy, Debug, PartialEq, Eq)]
 pub struct EntryOut {
     pub nodeid: u64,
@@ -54,7 +54,7 @@ pub struct EntryOut {
     pub attr: Attr,
 }
 
-/// What GETATTR and SETATTR answer, `fuse_attr_out` of `fuse.h`.
+/// The answer to GETATTR and SETATTR, `fuse_attr_out` of `fuse.h`.
 #[derive(Clone, Copy, Debug, PartialEq, Eq)]
 pub struct AttrOut {
     pub attr_valid: u64,
@@ -62,7 +62,7 @@ pub struct AttrOut {
     pub attr: Attr,
 }
 
-/// What OPEN and OPENDIR answer, `fuse_open_out` of `fuse.h`.
+/// The answer to OPEN and OPENDIR, `fuse_open_out` of `fuse.h`.
 #[derive(Clone, Copy, Debug, PartialEq, Eq)]
 pub struct OpenOut {
     pub fh: u64,
@@ -70,7 +70,7 @@ pub struct OpenOut {
     pub backing_id: i32,
 }
 
-/// What WRITE answers, `fuse_write_out` of `fuse.h`.
+/// The answer to WRITE, `fuse_write_out` of `fuse.h`.
 #[derive(Clone, Copy, Debug, PartialEq, Eq)]
 pub struct WriteOut {
     pub size: u32,
@@ -135,19 +135,19 @@ impl Attr {
         )
     }
 
-    // A body of fields with the attributes behind them, for which `size` bytes are asked at once.
-    fn body_after(&self, alloc: Global, size: usize, front: &[Field<'_>]) -> Result<Vec<u8>, Memory>
-        requires { HasNoText (laid front.now) }
+    // A body of fields and then the attributes, for which `size` bytes are allocated at once.
+    fn body_after(&self, alloc: Global, size: usize, first: &[Field<'_>]) -> Result<Vec<u8>, Memory>
+        requires { HasNoText (laid first.now) }
         ensures bytes { IfOk result (λ body. body.items
-            ≡ form (laid front.now ++ attr_parts self.now)) }
+            ≡ form (laid first.now ++ attr_parts self.now)) }
         ensures size { IfOk result (λ body. length body.items
-            ≡ widths (laid front.now ++ attr_parts self.now)) }
+            ≡ widths (laid first.now ++ attr_parts self.now)) }
         ensures laid { IfOk result (λ body. Lays
-            (laid front.now ++ attr_parts self.now) body.items) }
+            (laid first.now ++ attr_parts self.now) body.items) }
     {
         layouts_stand();
         let mut body = Vec::with_capacity(alloc, size)?;
-        put_fields(&mut body, front)?;
+        put_fields(&mut body, first)?;
         self.put(&mut body)?;
         Ok(body)
     }
@@ -174,7 +174,7 @@ impl EntryOut {
         ensures size { IfOk result (λ body. length body.items ≡ entry_out_size) }
         ensures laid { IfOk result (λ body. Lays (entry_parts self.now) body.items) }
     {
-        let front = [
+        let first = [
             U64(self.nodeid),
             U64(self.generation),
             U64(self.entry_valid),
@@ -182,7 +182,7 @@ impl EntryOut {
             U32(self.entry_valid_nsec),
             U32(self.attr_valid_nsec),
         ];
-        self.attr.body_after(alloc, EntryOut::SIZE, &front)
+        self.attr.body_after(alloc, EntryOut::SIZE, &first)
     }
 }
 
@@ -197,8 +197,8 @@ impl AttrOut {
         ensures size { IfOk result (λ body. length body.items ≡ attr_out_size) }
         ensures laid { IfOk result (λ body. Lays (attr_out_parts self.now) body.items) }
     {
-        let front = [U64(self.attr_valid), U32(self.attr_valid_nsec), Unused(4)];
-        self.attr.body_after(alloc, AttrOut::SIZE, &front)
+        let first = [U64(self.attr_valid), U32(self.attr_valid_nsec), Unused(4)];
+        self.attr.body_after(alloc, AttrOut::SIZE, &first)
     }
 }
 

@@ -27,9 +27,9 @@ pub enum ReplyBody<'a> {
     Init(InitOut),
     /// To READ.
     Data(&'a [u8]),
-    /// To READDIR: what `unpack` takes.
+    /// To READDIR: the entries that `unpack` takes.
     Directory(&'a [u8]),
-    /// To what is answered by the header alone, and every error.
+    /// To opcodes that the header alone answers, and every error.
     Nothing,
     /// To an opcode that the server doesn't serve.
     Unknown(&'a [u8]),
@@ -68,7 +68,7 @@ fn errno_at(bytes: &[u8]) -> u32
     u32_at(bytes, 4).wrapping_neg()
 }
 
-// What an answer to a request of this opcode says, or the first of its faults.
+// The content of an answer to a request of this opcode, or its first fault.
 fn read(opcode: u32, bytes: &[u8]) -> Result<Reply<'_>, BadAnswer>
     ensures found { IfOk result (λ r. Answers opcode (told r) bytes.now) }
     ensures fault { IfErr result (λ m. FirstFault opcode bytes.now m) }
@@ -104,7 +104,7 @@ fn read(opcode: u32, bytes: &[u8]) -> Result<Reply<'_>, BadAnswer>
     })
 }
 
-/// What an answer to a request of this opcode says, or the first of its faults. Takes no memory.
+/// The content of an answer to a request of this opcode, or its first fault. Takes no memory.
 pub fn read_answer(opcode: u32, bytes: &[u8]) -> Result<Reply<'_>, BadAnswer>
     requires { silent opcode ≡ false }
 
@@ -112,7 +112,7 @@ pub fn read_answer(opcode: u32, bytes: &[u8]) -> Result<Reply<'_>, BadAnswer>
     ensures found { IfOk result (λ r. Answers opcode (told r) bytes.now) }
     // What is answered is read.
     ensures only { (t : Told) → Answers opcode t bytes.now → IsOkAnd result (λ r. told r ≡ t) }
-    // The body of a directory is what `unpack` takes.
+    // `unpack` takes the body of a directory.
     ensures proper { IfOk result (λ r. IsProper (content r.body)) }
 
     // Which fault it is.

@@ -6,9 +6,9 @@ ghost use Rattle.fuse_answer.specs.FirstEntry.{leading_entry, entries_left};
 use crate::dirent::{Dirent, MAX_NAME, packed_len};
 use fuse_wire::{layouts_stand, u32_at, u64_at};
 
-// The entry at the front, and what follows it. `None` where no whole entry stands there.
+// The first entry, and the bytes after it. `None` where the bytes begin with no whole entry.
 fn split_entry(bytes: &[u8]) -> Option<(Dirent<'_>, &[u8])>
-    ensures front { option_map (λ p. (entry_of p.0, p.1.now)) result ≡ leading_entry bytes.now }
+    ensures prefix { option_map (λ p. (entry_of p.0, p.1.now)) result ≡ leading_entry bytes.now }
     ensures laid { IfSome result (λ p. StandsBefore (entry_of p.0) p.1.now bytes.now) }
 {
     layouts_stand();
@@ -39,10 +39,10 @@ pub(crate) fn is_listing(body: &[u8]) -> bool
     layouts_stand();
     let mut rest = body;
     while !rest.is_empty() {
-        let Some((_dirent, behind)) = split_entry(rest) else {
+        let Some((_dirent, follows)) = split_entry(rest) else {
             return false;
         };
-        rest = behind;
+        rest = follows;
     }
     true
 }

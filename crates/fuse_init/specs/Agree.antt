@@ -1,4 +1,4 @@
--- What is agreed on by INIT (fuse.h's rule for versions; the numbers that are chosen are own).
+-- The negotiation of INIT (fuse.h's rule for versions; the numbers that are chosen are own).
 use Rattle.std.specs.Prelude.{◌*◌, ◌/◌, ◌%◌, ◌^◌, ◌==◌, ◌&&◌, ◌||◌, ℕ, min, Bool, nat_lt, if◌then◌else◌, Option, Some, None}
 use Rattle.std.specs.Int.RustNames.{bit_and, bit_or}
 use Rattle.fuse_wire.specs.Bits.{fuse_async_read, fuse_big_writes, fuse_init_ext, fuse_has_resend}

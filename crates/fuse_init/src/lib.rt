@@ -1,4 +1,4 @@
-//! What kernel and server agree on by INIT.
+//! The negotiation of INIT.
 #![tactic(auto)]
 
 mod laws;

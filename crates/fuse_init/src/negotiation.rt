@@ -20,7 +20,7 @@ pub const MIN_MINOR: u32 = 23;
 /// How many requests the kernel may have in the background.
 pub const MAX_BACKGROUND: u16 = 12;
 
-/// From how many requests in the background on the kernel takes the server for congested.
+/// The number of background requests from which on the kernel takes the server for congested.
 pub const CONGESTION_THRESHOLD: u16 = 9;
 
 /// The most bytes that a WRITE carries.
@@ -29,7 +29,7 @@ pub const MAX_WRITE: u32 = 131_072;
 /// The steps of times, in nanoseconds.
 pub const TIME_GRAN: u32 = 1;
 
-/// What comes of an INIT.
+/// The outcome of an INIT.
 #[derive(Clone, Copy, Debug, PartialEq, Eq)]
 pub enum Negotiated {
     /// These settings hold from now on.
@@ -99,7 +99,7 @@ fn agreed_out(max_readahead: u32, flags: InitFlags) -> InitOut
     }
 }
 
-/// What comes of an INIT that offers this. Takes no memory.
+/// The outcome of an INIT that offers this. Takes no memory.
 pub fn negotiate(init: &InitIn) -> Negotiated
     ensures { result ≡ agree init.now }
 {

@@ -1,6 +1,6 @@
 use fuse_wire::InitFlags;
 
-/// What was agreed on by INIT, in force until the next INIT or mount.
+/// The settings that INIT agreed on, in force until the next INIT or mount.
 #[derive(Clone, Copy, Debug, PartialEq, Eq)]
 pub struct Settings {
     /// The smaller of 40 and the kernel's minor version.

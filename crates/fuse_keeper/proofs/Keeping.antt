@@ -1,4 +1,4 @@
--- What a keeper of lists holds, and what a crash leaves of it.
+-- The state of a keeper in memory, and a crash of it.
 use Rattle.std.proofs.Common.{◌≡◌, ◌||◌, Bool, true, false, ℕ, nat_eq, List, [], None, inr, refl, sym, ap, ◌∙◌}
 use Rattle.std.specs.HashMap.{HashMap, IsEmpty}
 use Rattle.std.specs.Map.{lookup}

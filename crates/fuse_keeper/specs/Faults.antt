@@ -1,4 +1,4 @@
--- What a fault of `sqlite` is to a store (own).
+-- Faults of `sqlite` as faults of a store (own profile).
 use Rattle.std.specs.Prelude.{Bool, true, false, if◌then◌else◌}
 use Rattle.sqlite.specs.declared.error.Error.{Error}
 use Rattle.sqlite.specs.declared.error.Error.TheVariants.{SqliteFailure}
@@ -11,11 +11,11 @@ abbrev pub is_want : ErrorCode → Bool
 is_want OutOfMemory = true
 is_want _ = false
 
--- memory was wanting
+-- the error is out of memory
 abbrev pub is_memory : Error → Bool
 is_memory (SqliteFailure code) = is_want code
 is_memory _ = false
 
--- want of memory is passed on as such
+-- out of memory is passed on as such
 abbrev pub fault_of : Error → StoreFault
 fault_of e = if is_memory e then Memory else Sql e

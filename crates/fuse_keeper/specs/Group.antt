@@ -26,7 +26,7 @@ IsKept e = act.IsKept e.asked.act
 abbrev pub ids_of : List Id → List ℕ
 ids_of ids = map (λ id. id.0) ids
 
--- an empty group isn't performed: no ids are handed on with it, and all stays pending
+-- an empty group isn't performed: no ids are handed on with it, and all stay pending
 abbrev pub handed_to : List Entry → List ℕ → List ℕ
 handed_to [] pending = []
 handed_to (e ∷ es) pending = pending

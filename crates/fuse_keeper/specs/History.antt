@@ -1,4 +1,4 @@
--- Histories: what requests did, each once (own profile).
+-- Histories: the requests that were performed, each once (own profile).
 use Rattle.std.specs.Prelude.{◌≡◌, ℕ, Bool, true, false, ◌==◌, if◌then◌else◌, List, [], ◌∷◌, ◌++◌, map, Option, Some, None}
 use Rattle.fuse_wire.specs.Ids.{id_of}
 use Rattle.fuse_wire.specs.declared.moment.Moment.{Moment}
@@ -18,7 +18,7 @@ entry_id e = id_of e.asked.header.unique
 abbrev pub History : Type 0
 History = List Entry
 
--- the state after an entry, and what it is answered
+-- the state after an entry, and its answer
 abbrev pub next_state : (M : Model) → M.State → Entry → M.State
 next_state M s e = M.next s e.asked e.moment
 
@@ -35,7 +35,7 @@ unfoldable pub after : (M : Model) → M.State → History → M.State
 after M s [] = s
 after M s (e ∷ h) = after M (next_state M s e) h
 
--- what the entry of this id is answered at its place
+-- the answer to the entry of this id at its place
 unfoldable pub said : (M : Model) → M.State → History → ℕ → Option Said
 said M s [] i = None
 said M s (e ∷ h) i = if entry_id e == i then Some (answer_to M s e) else said M (next_state M s e) h i
@@ -54,7 +54,7 @@ abbrev pub grown : History → List Entry → History
 grown h [] = h
 grown h (e ∷ es) = grown (add h e) es
 
--- what is added is there, and what was said of an id that is there stays when the history grows
+-- an entry that is added is there, and the answer to an id that is there stays when the history grows
 pub record HistoriesGrow (M : Model) : Type 0 where
   pub added : (h : History) (e : Entry) → has (add h e) (entry_id e) ≡ true
   pub stays : (s : M.State) (h : History) (more : List Entry) (i : ℕ) → has h i ≡ true → said M s (grown h more) i ≡ said M s h i
@@ -81,6 +81,6 @@ abbrev pub repeats : History → List Entry → List Bool
 repeats h [] = []
 repeats h (e ∷ es) = has h (entry_id e) ∷ repeats (add h e) es
 
--- what was said of an id has no body beside an error, and none that is too long
+-- the answer to an id has no body beside an error, and none that is too long
 abbrev pub SaidFits : (M : Model) → Type 0
 SaidFits M = (s : M.State) (h : History) (i : ℕ) (a : Said) → said M s h i ≡ Some a → FitsAnswer a

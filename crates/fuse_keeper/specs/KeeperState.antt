@@ -1,4 +1,4 @@
--- What is told of a keeper, and how a call changes it (own profile).
+-- The state of a keeper, and how a call changes it (own profile).
 use Rattle.std.specs.Prelude.{◌≡◌, ◌||◌, ℕ, ◌+◌, Bool, false, List, [], All, Result, is_err, IfErr, OnOk, OnErr}
 use Rattle.fuse_keeper.specs.declared.fault.StoreFault.{StoreFault}
 use Rattle.fuse_keeper.specs.declared.keeper.Done.{Done}
@@ -8,13 +8,13 @@ use Rattle.fuse_keeper.specs.Lots.{Lots, SameLots, RecordsUnder, AreGone, AreReo
 use Rattle.fuse_keeper.specs.Stands.{Records, StandsBy, PerformedBy, LeavesBy, IsFirmBy, KeepsHeldBy, StandsForEither, OthersStay}
 
 pub record KeeperState (M : Model) : Type 1 where
-  -- these rows and these records are what it holds now
+  -- it holds these rows and these records now
   pub holds : M.Rows → Records → Type 0
-  -- what it stands on has so far given back what was written
+  -- its store has so far given back what was written
   pub is_honest : Type 0
   -- it is honest, and no write is open or half done
   pub is_clean : Type 0
-  -- a call has answered a fault since it was made or opened
+  -- a call has failed since it was made or opened
   pub has_failed : Bool
   -- whatever a crash now leaves holds some rows and records
   pub leaves_whole : Type 0
@@ -45,7 +45,7 @@ IsFirm {M} k = IsFirmBy M k.holds k.leaves_whole k.may_leave
 abbrev pub KeepsHeld : {M : Model} → KeeperState M → KeeperState M → Type 0
 KeepsHeld {M} old new = KeepsHeldBy M old.holds new.holds
 
--- what it holds is just one thing, and where it is clean it is honest
+-- it holds just one thing, and where it is clean it is honest
 pub record IsSound {M : Model} (k : KeeperState M) : Type 0 where
   pub one_holding : (x y : M.Rows) (p q : Records) → k.holds x p → k.holds y q → (x ≡ y) × ((i : ℕ) → p i ≡ q i)
   pub clean_is_honest : k.is_clean → k.is_honest
@@ -79,11 +79,11 @@ pub record Looked {M : Model} {A : Type 0} (old new : KeeperState M) (result : R
   pub whole : WhereHeld old (old.leaves_whole → new.leaves_whole)
   pub crash : (x : M.Rows) (r : Records) → WhereHeld old (new.may_leave x r → old.may_leave x r)
 
--- what is held, and known to be of a good state, tells this where the store gave back what was written
+-- a look reports this of rows and records that are held, and known to be of a good state, where the store is honest
 abbrev pub Reports : {M : Model} → KeeperState M → KeeperState M → (M.Rows → Records → Type 0) → Type 0
 Reports old new P = new.is_honest → OfHeld old P
 
--- a group is performed, whatever it stands for, where `t` are ids settled before and in this call
+-- a group is performed, whichever history it stands for, where `t` are ids settled before and in this call
 abbrev pub Performs : {M : Model} → KeeperState M → KeeperState M → List ℕ → List Entry → List Done → Type 0
 Performs {M} old new settled group dones = new.is_honest → (s : M.State) (h : History) (t : List ℕ) → StandsFor old s h t
     → Includes t settled → All (IsUnsettled t) group → Performed new s h t group dones
@@ -121,19 +121,19 @@ abbrev pub LeavesMount : {M : Model} → KeeperState M → KeeperState M → Typ
 LeavesMount {M} old new = (s : M.State) (h : History) (t : List ℕ) → StandsFor old s h t → IsFirm old
     → Leaves new (StandsForEither M s h t (M.cleared (after M s h)) [] [])
 
--- a keeper that was opened again over what the old one stood on
+-- a keeper that was opened again over the store of the old one
 pub record Reopened {M : Model} (old new : KeeperState M) : Type 0 where
   pub same : new.is_honest → KeepsHeld old new
-  -- it opens something, where a crash could have left nothing but something
+  -- it holds something, where whatever a crash could have left holds something
   pub held : new.is_honest → old.leaves_whole → (rows : M.Rows) × (records : Records) × new.holds rows records
-  -- what it opens is what a crash could have left
+  -- it holds rows and records that a crash could have left
   pub left : new.is_honest → old.leaves_whole → (rows : M.Rows) (records : Records) → new.holds rows records → old.may_leave rows records
   pub firm : new.is_honest → IsFirm new
   pub lots : new.is_honest → WhereHeld old (AreReopened old.lots new.lots)
   pub honest : new.is_honest → old.is_honest
   pub going : new.has_failed ≡ false
 
--- `became a b n`: b is what became of a, which was opened again n times on the way
+-- `became a b n`: b is a later state of a, which was opened again n times on the way
 pub record IsCount {K : Type 0} (became : K → K → ℕ → Type 0) : Type 0 where
   pub none : (k : K) → became k k 0
   pub then : (a b c : K) (m n : ℕ) → became a b m → became b c n → became a c (m + n)

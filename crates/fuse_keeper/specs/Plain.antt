@@ -1,4 +1,4 @@
--- What lists and a map of records stand for (own profile).
+-- The records that lists and a map stand for (own profile).
 use Rattle.std.specs.Prelude.{ℕ, nat_eq, ◌==◌, if◌then◌else◌, List, [], ◌∷◌, map, Option, Some, None}
 use Rattle.std.specs.HashMap.{HashMap, get}
 use Rattle.fuse_answer.specs.Said.{Said}

@@ -1,4 +1,4 @@
--- What a keeper in memory holds (own profile).
+-- The state of a keeper in memory (own profile).
 use Rattle.std.specs.Prelude.{◌≡◌, false}
 use Rattle.fuse_keeper.specs.declared.fault.StoreFault.TheVariants.{Memory}
 use Rattle.fuse_keeper.specs.declared.plain.PlainKeeper.{PlainKeeper}
@@ -11,7 +11,7 @@ use Rattle.fuse_keeper.specs.Plain.{mapped}
 abbrev pub plain_holds : {F : Type 0} → (M : Model) → (F → M.Rows) → PlainKeeper F → M.Rows → Records → Type 0
 plain_holds M held k = AreThese M (held k.rows) (mapped k.records)
 
--- it answers want of memory alone, and a crash leaves what it holds
+-- its only fault is out of memory, and a crash leaves the state that it holds
 abbrev pub plain_told : {F : Type 0} → (M : Model) → (F → M.Rows) → PlainKeeper F → KeeperState M
 plain_told M held k = record {
   holds = plain_holds M held k;

@@ -1,4 +1,4 @@
--- How what is held stands for a history, and what a crash may leave of it (own profile).
+-- How rows and records stand for a history, and what a crash may leave of them (own profile).
 use Rattle.std.specs.Prelude.{◌≡◌, ◌⊎◌, ℕ, false, nat_eq, if◌then◌else◌, List, length, map, Option, Some, None, is_some}
 use Rattle.std.specs.List.{IsDistinct}
 use Rattle.fuse_answer.specs.Said.{Said}
@@ -6,11 +6,11 @@ use Rattle.fuse_keeper.specs.Model.{Model}
 use Rattle.fuse_keeper.specs.declared.keeper.Done.{Done}
 use Rattle.fuse_keeper.specs.History.{Entry, entry_id, History, after, said, Distinct, grown, is_in, ids_in, repeats}
 
--- what is recorded under each id
+-- the record of each id
 abbrev pub Records : Type 0
 Records = ℕ → Option Said
 
--- the rows are those of the state after the history; each record is what was said of its id, and each
+-- the rows are those of the state after the history; each record is the answer to its id, and each
 -- id of the history that isn't settled has one
 pub record Stands (M : Model) (rows : M.Rows) (records : Records) (s : M.State) (h : History) (settled : List ℕ) : Type 0 where
   pub tree : M.IsGood (after M s h)

@@ -1,4 +1,4 @@
--- How one request after another is taken (own profile).
+-- Taking one request after another (own profile).
 use Rattle.std.specs.Prelude.{◌≡◌, ℕ, true, false, ◌==◌, if◌then◌else◌, List, [], ◌∷◌, ◌++◌, Option, Some, None}
 use Rattle.fuse_answer.specs.Said.{Said}
 use Rattle.fuse_keeper.specs.Model.{Model}
@@ -15,7 +15,7 @@ pub record ActedOn (M : Model) (s : M.State) (e : Entry) (rows' : M.Rows) (answe
 abbrev pub Acts : (M : Model) → M.Rows → Entry → M.Rows → Said → Type 0
 Acts M rows e rows' answer = (s : M.State) → M.IsGood s → rows ≡ M.held_for s → ActedOn M s e rows' answer
 
--- what is left of it stands for what a mount leaves of the state
+-- the rows that are left are those of the state that a mount begins with
 abbrev pub Clears : (M : Model) → M.Rows → M.Rows → Type 0
 Clears M rows rows' = (s : M.State) → M.IsGood s → rows ≡ M.held_for s → M.IsGood (M.cleared s) × (rows' ≡ M.held_for (M.cleared s))
 
@@ -32,8 +32,8 @@ TookBy M None rows records e rows' records' done =
 abbrev pub Took : (M : Model) → M.Rows → Records → Entry → M.Rows → Records → Done → Type 0
 Took M rows records e rows' records' done = TookBy M (records (entry_id e)) rows records e rows' records' done
 
--- a group of no entries was performed on what stands for a history; and where one was performed, and one more entry was
--- taken, a group of one more was
+-- a group of no entries was performed; and where a group was performed and one more entry was taken, a group of one more was
+-- performed
 pub record GroupsGrow (M : Model) : Type 0 where
   pub none_yet : (rows : M.Rows) (records : Records) (s : M.State) (h : History) (t : List ℕ) → Stands M rows records s h t
       → PerformedBy M (AreThese M rows records) s h t [] []

@@ -3,16 +3,16 @@ use sqlite::ErrorCode;
 use std::alloc::{AllocError, AllocFailed};
 use thiserror::Error;
 
-/// Why a store answers nothing.
+/// Why a call of a store failed.
 #[derive(Debug, Drop, Error)]
 pub enum StoreFault {
-    /// A growth was refused.
+    /// An allocation was refused.
     #[error("out of memory")]
     Memory,
     /// The database, or its file, refused.
     #[error("sql: {0}")]
     Sql(sqlite::Error),
-    /// The table `meta` isn't there, or its row of the version.
+    /// The table `meta` is missing, or its row of the version.
     #[error("not a store")]
     NotAStore,
     /// The tables are of another version.

@@ -1,4 +1,4 @@
-// What a file system in memory is to do.
+// A file system in memory.
 ghost use Rattle.std.specs.Prelude.{◌≡◌, IfOk, IfErr, OnOk};
 ghost use Rattle.fuse_keeper.specs.Model.{Model, IsRowed, IsSoundModel};
 ghost use Rattle.fuse_keeper.specs.Group.{entry_of, IsKept};
@@ -11,12 +11,12 @@ use fuse_request::Request;
 use fuse_wire::{Memory, Moment};
 use std::alloc::Global;
 
-/// A file system whose states lie in memory: what its model says, done to what is held.
+/// A file system whose states lie in memory. It does what its model says.
 pub trait FileSystem: Drop {
     /// The file system that it is.
     ghost model: { Model };
 
-    /// What it holds.
+    /// The rows that it holds.
     ghost held: { Self → model.Rows };
 
     /// It may act.
@@ -26,7 +26,7 @@ pub trait FileSystem: Drop {
     fn start(alloc: Global, now: Moment) -> Result<Self, Memory>
         ensures { IfOk result (λ files. held files ≡ model.held_for (model.start now)) };
 
-    /// Does what a request asks for. What a fault leaves isn't used again.
+    /// Performs a request. After a fault the file system isn't used again.
     fn act(
         &mut self,
         alloc: Global,
@@ -38,7 +38,7 @@ pub trait FileSystem: Drop {
         ensures acts { IfOk result (λ answer. Acts model (held self.old)
             (entry_of (request.now, now)) (held self.new) answer) }
         ensures ready { OnOk result (is_ready self.new) }
-        // Over a good state it wants nothing but memory.
+        // Over a good state the only fault is out of memory.
         ensures fault { IfErr result (λ f. IsRowed model (held self.old) → f ≡ StoreFault.Memory) };
 
     /// A copy, which may act.
@@ -50,7 +50,7 @@ pub trait FileSystem: Drop {
     fn begin_mount(&mut self)
         ensures { Clears model (held self.old) (held self.new) };
 
-    /// What INIT agreed on in this mount.
+    /// The settings that INIT agreed on in this mount.
     fn agreed(&self) -> Option<Settings>
         ensures { result ≡ model.settings (held self.now) };
 
@@ -59,7 +59,7 @@ pub trait FileSystem: Drop {
         ensures nodes { result.0 ≡ model.nodes (held self.now) }
         ensures handles { result.1 ≡ model.handles (held self.now) };
 
-    /// A law: what a file system owes.
+    /// A law: the model is sound.
     fn model_is_sound()
         ensures { IsSoundModel model };
 }

@@ -1,4 +1,4 @@
-// How a group of requests is taken, over rows and records that stay as they are meanwhile.
+// Taking a group of requests, over rows and records that stay unchanged meanwhile.
 ghost use Rattle.std.specs.Prelude.{◌≡◌, ◌⊎◌, ℕ, true, List, Option};
 ghost use Rattle.std.specs.Prelude.{Some, None, length, All, IfOk, IfErr, OnOk};
 ghost use Rattle.std.specs.Prelude.{◌≤◌, vec_len};
@@ -71,7 +71,7 @@ fn known<'a>(
     records.get(&id)
 }
 
-/// What a group leads to: the rows, and the records that it adds.
+/// The outcome of a group: the rows, and the records that it adds.
 #[derive(Drop)]
 pub(crate) struct Draft<F> {
     pub(crate) rows: F,

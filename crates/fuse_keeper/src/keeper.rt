@@ -19,7 +19,7 @@ pub const MAX_GROUP: usize = 16;
 /// The most settled ids of a call.
 pub const MAX_SETTLED: usize = 16;
 
-/// What a request was answered, and whether its id was recorded before.
+/// The answer to a request, and whether its id was recorded before.
 #[derive(Drop)]
 pub struct Done {
     pub answer: Answer,
@@ -44,11 +44,11 @@ pub trait Keeper: Drop {
     /// The file system that it keeps.
     ghost model: { Model };
 
-    /// What is told of it.
+    /// The state of a keeper, as contracts see it.
     ghost told: { Self → KeeperState model };
 
-    /// The second is what became of the first, which was opened again so often on the way. One that
-    /// doesn't count lets all be so.
+    /// The second keeper is a later state of the first, which was opened again so often on the way.
+    /// For a keeper that doesn't count, this always holds.
     ghost became: { Self → Self → ℕ → Type 0 };
 
     /// Removes the records of settled ids, then performs a group, all in one transaction. A request
@@ -77,8 +77,8 @@ pub trait Keeper: Drop {
         ensures firm { OnOk result ((told self.new).is_honest → IsFirm (told self.new)) }
         ensures same { became self.old self.new 0 };
 
-    /// Begins a mount: all that the mount before recorded goes, and of the file system what doesn't
-    /// outlive a mount, in one transaction.
+    /// Begins a mount: in one transaction it deletes the records of the mount before, and the parts
+    /// of the file system that don't outlive a mount.
     fn begin_mount(&mut self) -> Result<(), StoreFault>
         ensures called { Called (told self.old) (told self.new) result }
         ensures ok { OnOk result (BeginsMount (told self.old) (told self.new)) }
@@ -95,7 +95,7 @@ pub trait Keeper: Drop {
             → answer ≡ records id.0) }
         ensures same { became self.old self.new 0 };
 
-    /// What was agreed on by INIT in this mount.
+    /// The settings that INIT agreed on in this mount.
     fn settings(&mut self) -> Result<Option<Settings>, StoreFault>
         ensures looked { Looked (told self.old) (told self.new) result }
         ensures ok { IfOk result (λ settings. Reports (told self.old) (told self.new)
@@ -115,11 +115,11 @@ pub trait Keeper: Drop {
             (λ rows records. counts.lots ≡ length (told self.old).lots.numbers)) }
         ensures same { became self.old self.new 0 };
 
-    /// Whether a call has answered a fault since it was made or opened. No memory is taken.
+    /// Whether a call has failed since the keeper was made or opened. Takes no memory.
     fn failed(&self) -> bool
         ensures { result ≡ (told self.now).has_failed };
 
-    /// A law: what its file system owes.
+    /// A law: the model of its file system is sound.
     fn model_is_sound()
         ensures { IsSoundModel model };
 

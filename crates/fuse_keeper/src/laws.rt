@@ -6,14 +6,14 @@ ghost use Rattle.fuse_keeper.specs.Taking.{GroupsGrow};
 use crate::file_system::FileSystem;
 use crate::keeper::{Keeper, MAX_GROUP, MAX_SETTLED};
 
-/// What was said of an id fits.
+/// The answer to each id of a history fits.
 pub fn said_fits<K: Keeper>()
     ensures { SaidFits K.model }
 {
     K::model_is_sound();
 }
 
-/// What is added to a history is there, and what was said of it stays.
+/// A request that is added to a history is in it, and the answers of the others stay.
 pub fn histories_grow<K: Keeper>()
     ensures { HistoriesGrow K.model }
 {}
@@ -23,7 +23,7 @@ pub fn groups_grow<F: FileSystem>()
     ensures { GroupsGrow F.model }
 {}
 
-/// How many requests a group has at most, and how many settled ids a call is given.
+/// The most requests of a group, and the most settled ids of a call.
 pub fn group_bounds()
     ensures requests { MAX_GROUP ≡ bounds.max_group_len }
     ensures settled { MAX_SETTLED ≡ bounds.max_settled_len }

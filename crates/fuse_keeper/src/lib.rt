@@ -1,5 +1,5 @@
-//! Keepers of any file system: what one is, what a store of it and of the recorded answers is to
-//! do, and one in memory.
+//! Keepers: stores of any file system and of the recorded answers of its requests. The trait, and a
+//! keeper in memory.
 #![tactic(auto)]
 
 mod fault;

@@ -1,4 +1,4 @@
-// A group, and the ids that are to be handed on with it.
+// A group, and the settled ids that are handed to the keeper with it.
 ghost use Rattle.std.specs.Prelude.{◌≡◌, ◌≤◌, ◌<◌, ◌⊎◌, [], length, All, vec_capacity};
 ghost use Rattle.std.specs.Prelude.{IfOk, IsOk, OnOk, OnErr};
 ghost use Rattle.fuse_keeper.specs.KeeperState.{IsFirm, Called, AnswersNoMore};
@@ -14,9 +14,9 @@ use fuse_request::Request;
 use fuse_wire::{Id, Moment};
 use std::alloc::Global;
 
-/// Performs a group, if there is one, and hands on the pending ids with it: their records are
-/// removed first, in the same transaction, and then none is pending. An empty group calls nothing.
-/// A fault leaves all pending.
+/// Performs a group, if it isn't empty, and hands on the pending ids with it: their records are
+/// deleted first, in the same transaction, and then none is pending. An empty group calls nothing.
+/// After a fault all are still pending.
 pub fn perform_group<K: Keeper>(
     alloc: Global,
     keeper: &mut K,
@@ -43,7 +43,7 @@ pub fn perform_group<K: Keeper>(
         → IsFirm (K.told keeper.old) ⊎ (0 < length group.now) → IsFirm (K.told keeper.new)) }
     ensures same { K.became keeper.old keeper.new 0 }
 
-    // An empty group leaves all as it was.
+    // An empty group changes nothing.
     ensures none { group.now ≡ [] → IsOk result × (keeper.new ≡ keeper.old) }
     ensures pending { OnOk result (ids_of pending.new.items
         ≡ left_pending (entries_of group.now) (ids_of pending.old.items)) }

@@ -1,4 +1,4 @@
-// A keeper of lists.
+// A keeper in memory.
 ghost use Rattle.std.specs.Prelude.{◌≡◌, ℕ, List, false, [], length, All, IfOk, OnOk, OnErr};
 ghost use Rattle.std.specs.Prelude.{IfErr, Ok};
 ghost use Rattle.fuse_keeper.specs.History.{History, Includes, IsUnsettled};
@@ -54,7 +54,7 @@ impl<F: FileSystem> PlainKeeper<F> {
         Ok(PlainKeeper::over(alloc, rows))
     }
 
-    /// A store of this file system, without a record.
+    /// A store of this file system, without records.
     pub fn over(alloc: Global, rows: F) -> PlainKeeper<F>
         ensures stands { (s : F.model.State) → F.model.IsGood s → F.held rows ≡ F.model.held_for s
             → StandsFor (plain_told F.model F.held result) s [] [] }
@@ -85,7 +85,7 @@ impl<F: FileSystem> PlainKeeper<F> {
         })
     }
 
-    // Performs a group. A fault leaves what it holds.
+    // Performs a group. A fault changes nothing.
     fn perform_group(
         &mut self,
         group: &[(Request<'_>, Moment)],

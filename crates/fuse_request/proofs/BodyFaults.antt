@@ -39,12 +39,12 @@ pub not_all : NamesEnd → (b t rest : List ℕ) → HasNoNul t → b ≡ t ++ 0
 not_all ends b t [] h e more = absurd (omega arith)
 not_all ends b t (x ∷ rest) h e more = ap name_fault e ∙ more_after ends t x rest h
 
--- the first of two names doesn't end, or what is behind it has a fault
+-- the first of two names doesn't end, or the bytes after it have a fault
 pub endless_first : NamesEnd → (b : List ℕ) → HasNoNul b → names_fault b ≡ Some NoNul
 endless_first ends b h = ap second_fault (ends.endless b h)
 
-pub behind : NamesEnd → (b t rest : List ℕ) → HasNoNul t → b ≡ t ++ 0 ∷ rest → names_fault b ≡ name_fault rest
-behind ends b t rest h e = ap names_fault e ∙ ap second_fault (ends.text t rest h)
+pub after_first : NamesEnd → (b t rest : List ℕ) → HasNoNul t → b ≡ t ++ 0 ∷ rest → names_fault b ≡ name_fault rest
+after_first ends b t rest h e = ap names_fault e ∙ ap second_fault (ends.text t rest h)
 
 first_text : (t rest : List ℕ) → AllByRecursion (λ x. x ≢ 0) t → before_nul (t ++ 0 ∷ rest) ≡ t
 first_text [] rest h = refl

@@ -1,4 +1,4 @@
--- What a framer gives out, and what is left when all whole messages are passed.
+-- The messages that a framer gives out, and the bytes after the last whole one.
 use Rattle.std.proofs.Common.{◌≡◌, ◌<◌, ◌≤◌, ◌+◌, ◌-◌, ℕ, Bool, true, false, cond, ltb, List, [], length, take, drop, Option, Some, None, Ok, Err, inl, inr}
 use Rattle.std.proofs.Common.{refl, sym, ap, subst, ◌∙◌, arith}
 use Rattle.std.specs.Prelude.{◌⊎◌}
@@ -12,13 +12,13 @@ use Rattle.fuse_request.specs.Stream.{is_whole, cut, IsMessage}
 use Rattle.fuse_request.specs.Framing.{Held, bad_length, Gives, HasNone, GivesNext, end_fault, ends}
 use Rattle.fuse_request.proofs.Streams.{leading_message, first_message, cut_steps}
 
--- n is the length of the message at the front, where that is whole
-abbrev pub IsFront : Option ℕ → List ℕ → Type 0
-IsFront n w = n ≡ cond {A = Option ℕ} (is_whole w) (Some (number_of 4 w)) None
+-- n is the length of the first message, where that is whole
+abbrev pub IsLeading : Option ℕ → List ℕ → Type 0
+IsLeading n w = n ≡ cond {A = Option ℕ} (is_whole w) (Some (number_of 4 w)) None
 
-front_by : (b : Bool) (n m : ℕ) → ◌≡◌ {A = Option ℕ} (Some n) (cond b (Some m) None) → (b ≡ true) × (n ≡ m)
-front_by true n m e = (refl, cc)
-front_by false n m e = absurd cc
+leading_by : (b : Bool) (n m : ℕ) → ◌≡◌ {A = Option ℕ} (Some n) (cond b (Some m) None) → (b ≡ true) × (n ≡ m)
+leading_by true n m e = (refl, cc)
+leading_by false n m e = absurd cc
 
 none_by : (b : Bool) (m : ℕ) → ◌≡◌ {A = Option ℕ} None (cond b (Some m) None) → b ≡ false
 none_by true m e = absurd cc
@@ -30,9 +30,9 @@ pub record Passed (n : ℕ) (w : List ℕ) : Type 0 where
   pub there : n ≤ length w
   pub rest : (cut (drop n w)).1 ≡ (cut w).1
 
-pub pass : NumbersRead → (n : ℕ) (w : List ℕ) → IsFront (Some n) w → Passed n w
+pub pass : NumbersRead → (n : ℕ) (w : List ℕ) → IsLeading (Some n) w → Passed n w
 pass laws n w e =
-    let p = front_by (is_whole w) n (number_of 4 w) e in
+    let p = leading_by (is_whole w) n (number_of 4 w) e in
     let f = leading_message w p.0 in
     let low = f.low in
     let there = f.there in
@@ -42,9 +42,9 @@ pass laws n w e =
 
 -- where no message is left, the fault is that of the end
 pub ended_at : NumbersRead → (h : Held) (at : ℕ) (rest : List ℕ) → h.at ≤ at → at + length rest ≡ h.at + length h.bytes → (cut rest).1 ≡ (cut h.bytes).1
-    → IsFront None rest
+    → IsLeading None rest
     → end_fault at rest ≡ ends h
-ended_at laws h at rest behind place same none =
+ended_at laws h at rest follows place same none =
     let stuck : cut rest ≡ ([], rest) = (cut_steps laws rest).1 (none_by (is_whole rest) (number_of 4 rest) none) in
     let left : (cut h.bytes).1 ≡ rest = sym same ∙ ap (λ (c : List (List ℕ) × List ℕ). c.1) stuck in
     let here : h.at + (length h.bytes - length rest) ≡ at = omega arith in
@@ -75,9 +75,9 @@ only_false false h = refl
 bad_none : NumbersRead → (at : ℕ) (w : List ℕ) (f : FrameFault) → bad_length at w ≡ Some f → HasNone w
 bad_none laws at w f e =
     (cut_steps laws w).1 (only_false (is_whole w) (λ whole. (
-    let front = leading_message w whole in
-    let low = front.low in
-    let high = front.high in
+    let leading = leading_message w whole in
+    let low = leading.low in
+    let high = leading.high in
     elim (bad at w f e) [ inl p ↦ omega (arith, p.0) | inr p ↦ omega (arith, p.0) ])))
 
 -- a bad length is answered
@@ -90,20 +90,20 @@ gives_fault laws old new (Cut at have need) e same =
 gives_fault laws old new Memory e same = absurd (elim (bad old.at old.bytes Memory (sym e)) [ inl p ↦ (let h = p.1 in cc) | inr p ↦ (let h = p.1 in cc) ])
 
 -- there is no message yet
-pub gives_none : NumbersRead → (old new : Held) → None ≡ bad_length old.at old.bytes → IsFront None old.bytes → new ≡ old → GivesNext old new (Ok None)
+pub gives_none : NumbersRead → (old new : Held) → None ≡ bad_length old.at old.bytes → IsLeading None old.bytes → new ≡ old → GivesNext old new (Ok None)
 gives_none laws old new good none same = ((cut_steps laws old.bytes).1 (none_by (is_whole old.bytes) (number_of 4 old.bytes) none), sym good, same)
 
 -- the first message is given out
-pub gives_first : NumbersRead → (old new : Held) (n : ℕ) (m : List ℕ) → IsFront (Some n) old.bytes → m ≡ take n old.bytes
+pub gives_first : NumbersRead → (old new : Held) (n : ℕ) (m : List ℕ) → IsLeading (Some n) old.bytes → m ≡ take n old.bytes
     → new ≡ record old { bytes = drop n old.bytes; at = old.at + n } → Gives old new m
-gives_first laws old new n m e front same =
-    let p = front_by (is_whole old.bytes) n (number_of 4 old.bytes) e in
+gives_first laws old new n m e leading same =
+    let p = leading_by (is_whole old.bytes) n (number_of 4 old.bytes) e in
     let f = leading_message old.bytes p.0 in
     let there = f.there in
     let size : n ≡ number_of 4 old.bytes = p.1 in
-    let m_is : take (number_of 4 old.bytes) old.bytes ≡ m = sym (front ∙ ap (λ (k : ℕ). take k old.bytes) size) in
+    let m_is : take (number_of 4 old.bytes) old.bytes ≡ m = sym (leading ∙ ap (λ (k : ℕ). take k old.bytes) size) in
     let rest_is : drop (number_of 4 old.bytes) old.bytes ≡ new.bytes = sym (ap (λ (h : Held). h.bytes) same ∙ ap (λ (k : ℕ). drop k old.bytes) size) in
-    let len : length m ≡ n = ap length front ∙ omega (arith, length-take n old.bytes) in
+    let len : length m ≡ n = ap length leading ∙ omega (arith, length-take n old.bytes) in
     record {
       message = subst IsMessage m_is (first_message laws old.bytes p.0);
       first = (cut_steps laws old.bytes).0 p.0 ∙ rw (m_is, rest_is) refl;
@@ -113,9 +113,9 @@ gives_first laws old new n m e front same =
     }
 
 -- there is a message, and no memory to give it out
-pub gives_memory : NumbersRead → (old new : Held) (n : ℕ) → IsFront (Some n) old.bytes → new ≡ old → GivesNext old new (Err Memory)
+pub gives_memory : NumbersRead → (old new : Held) (n : ℕ) → IsLeading (Some n) old.bytes → new ≡ old → GivesNext old new (Err Memory)
 gives_memory laws old new n e same =
-    let p = front_by (is_whole old.bytes) n (number_of 4 old.bytes) e in
+    let p = leading_by (is_whole old.bytes) n (number_of 4 old.bytes) e in
     let step = (cut_steps laws old.bytes).0 p.0 in (
       (λ (none : HasNone old.bytes). (let same : (cut old.bytes).0 ≡ [] = ap (λ (c : List (List ℕ) × List ℕ). c.0) none in let more = ap
           (λ (c : List (List ℕ) × List ℕ). c.0) step in cc)),

@@ -13,23 +13,23 @@ and_true : (b c : Bool) → (b && c) ≡ true → (b ≡ true) × (c ≡ true)
 and_true true c e = (refl, e)
 and_true false c e = absurd cc
 
--- what a whole message at the front says
-pub record Front (w : List ℕ) : Type 0 where
+-- the length of a whole first message
+pub record Leading (w : List ℕ) : Type 0 where
   pub some : 4 ≤ length w
   pub low : 40 ≤ number_of 4 w
   pub high : number_of 4 w ≤ 135168
   pub there : number_of 4 w ≤ length w
 
-pub leading_message : (w : List ℕ) → is_whole w ≡ true → Front w
+pub leading_message : (w : List ℕ) → is_whole w ≡ true → Leading w
 leading_message w e =
     let a = and_true (leb 4 (length w)) _ e in
     let b = and_true (leb 40 (number_of 4 w)) _ a.1 in
     let c = and_true (leb (number_of 4 w) 135168) _ b.1 in
     record { some = leb-true _ _ a.0; low = leb-true _ _ b.0; high = leb-true _ _ c.0; there = leb-true _ _ c.1 }
 
--- a message at the front is the one that is cut off
-at_front : NumbersRead → (m rest : List ℕ) → IsMessage m → (is_whole (m ++ rest) ≡ true) × (number_of 4 (m ++ rest) ≡ length m)
-at_front laws m rest h =
+-- the first message is the one that is cut off
+leading_is : NumbersRead → (m rest : List ℕ) → IsMessage m → (is_whole (m ++ rest) ≡ true) × (number_of 4 (m ++ rest) ≡ length m)
+leading_is laws m rest h =
     let low = h.low in
     let high = h.high in
     let size : number_of 4 (m ++ rest) ≡ length m = laws.apart 4 m rest (omega arith) ∙ h.size in
@@ -84,12 +84,12 @@ whole_of : (m : List ℕ) (ms : List (List ℕ)) (r : List ℕ) → joined (m �
 whole_of m ms r = rw flat_map-cons (append_assoc m (joined ms) r)
 
 not_stuck : NumbersRead → (w m : List ℕ) (ms : List (List ℕ)) (r : List ℕ) → Cuts w (m ∷ ms) r → is_whole w ≡ true
-not_stuck laws w m ms r c = ap is_whole (c.whole ∙ whole_of m ms r) ∙ (at_front laws m (joined ms ++ r) c.each.0).0
+not_stuck laws w m ms r c = ap is_whole (c.whole ∙ whole_of m ms r) ∙ (leading_is laws m (joined ms ++ r) c.each.0).0
 
-behind : NumbersRead → (w m : List ℕ) (ms : List (List ℕ)) (r : List ℕ) → Cuts w (m ∷ ms) r → (take (number_of 4 w) w ≡ m) × Cuts (drop (number_of 4 w) w) ms r
-behind laws w m ms r c =
+first_and_rest : NumbersRead → (w m : List ℕ) (ms : List (List ℕ)) (r : List ℕ) → Cuts w (m ∷ ms) r → (take (number_of 4 w) w ≡ m) × Cuts (drop (number_of 4 w) w) ms r
+first_and_rest laws w m ms r c =
     let whole : w ≡ m ++ (joined ms ++ r) = c.whole ∙ whole_of m ms r in
-    let size : number_of 4 w ≡ length m = ap (number_of 4) whole ∙ (at_front laws m (joined ms ++ r) c.each.0).1 in
+    let size : number_of 4 w ≡ length m = ap (number_of 4) whole ∙ (leading_is laws m (joined ms ++ r) c.each.0).1 in
     let first : take (number_of 4 w) w ≡ m = rw size (ap (take (length m)) whole ∙ take_at m (joined ms ++ r) (length m) refl) in
     let rest : drop (number_of 4 w) w ≡ joined ms ++ r = rw size (ap (drop (length m)) whole ∙ drop_at m (joined ms ++ r) (length m) refl) in
     (first, record { whole = rest; each = c.each.1; stuck = c.stuck })
@@ -105,8 +105,8 @@ one_cut laws (m ∷ ms) [] w r q c d =
     let not_whole : is_whole w ≡ false = ap is_whole d.whole ∙ d.stuck in
     absurd cc
 one_cut laws (m ∷ ms) (n ∷ ns) w r q c d =
-    let a = behind laws w m ms r c in
-    let b = behind laws w n ns q d in
+    let a = first_and_rest laws w m ms r c in
+    let b = first_and_rest laws w n ns q d in
     let rest = one_cut laws ms ns (drop (number_of 4 w) w) r q a.1 b.1 in
     let first : m ≡ n = sym a.0 ∙ b.0 in
     (ap (λ (x : List ℕ). x ∷ ms) first ∙ ap (λ (xs : List (List ℕ)). n ∷ xs) rest.0, rest.1)

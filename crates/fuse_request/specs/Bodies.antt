@@ -1,4 +1,4 @@
--- What is wrong with a body (own profile), by the kinds of bodies: the first fault in the order of Malformed.
+-- The fault of a body (own profile), by the kinds of bodies: the first one in the order of Malformed.
 use Rattle.std.specs.Prelude.{◌-◌, ◌*◌, ◌==◌, ◌||◌, ℕ, nat_lt, if◌then◌else◌, List, [], ◌∷◌, length, drop, Option, Some, None}
 use Rattle.fuse_wire.specs.Bytes.{number_of, after_nul}
 use Rattle.fuse_request.specs.declared.decoding.Malformed.{Malformed}
@@ -9,11 +9,11 @@ use Rattle.fuse_request.specs.Lengths.{compat_init_in_size, init_in_size}
 abbrev pub fixed : ℕ → List ℕ → Option Malformed
 fixed n b = if length b == n then None else Some BodyLength
 
--- of n bytes, and then what is after them
+-- of n bytes, and then of the bytes after them
 abbrev pub at_least : ℕ → (List ℕ → Option Malformed) → List ℕ → Option Malformed
 at_least n after b = if nat_lt (length b) n then Some BodyLength else after (drop n b)
 
--- by what is behind the NUL of the last name
+-- by the bytes after the NUL of the last name
 abbrev pub end_fault : Option (List ℕ) → Option Malformed
 end_fault None = Some NoNul
 end_fault (Some []) = None
@@ -23,7 +23,7 @@ end_fault (Some (x ∷ rest)) = Some AfterNul
 abbrev pub name_fault : List ℕ → Option Malformed
 name_fault b = end_fault (after_nul b)
 
--- by what is behind the NUL of the first of two names
+-- by the bytes after the NUL of the first of two names
 abbrev pub second_fault : Option (List ℕ) → Option Malformed
 second_fault None = Some NoNul
 second_fault (Some rest) = name_fault rest

@@ -20,7 +20,7 @@ class_by None opcode = if in_profile opcode then Kept else Bare enosys
 unfoldable pub class_of : List ℕ → Class
 class_of b = if silent (raw_of b).opcode then Silent else class_by (first_fault b) (raw_of b).opcode
 
--- what a class says of the requests that the message spells
+-- how a class follows from the requests that the message spells
 abbrev pub IsOfClass : Class → List ℕ → Type 0
 IsOfClass Silent b = silent (raw_of b).opcode ≡ true
 IsOfClass (Bare errno) b =
@@ -28,6 +28,6 @@ IsOfClass (Bare errno) b =
     × (((errno ≡ einval) × ((r : Asked) → ¬ (Spells r b))) ⊎ ((errno ≡ enosys) × ((r : Asked) × Spells r b × ¬ (IsInProfile r.act))))
 IsOfClass Kept b = (silent (raw_of b).opcode ≡ false) × ((r : Asked) × Spells r b × IsInProfile r.act)
 
--- it would have to be answered, and its id is 0
+-- it must be answered, and its id is 0
 abbrev pub is_zero : List ℕ → Bool
 is_zero b = not (silent (raw_of b).opcode) && (id_of (raw_of b).unique == 0)

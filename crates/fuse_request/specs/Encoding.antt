@@ -1,4 +1,4 @@
--- What the writers of messages append, and what that is read as (own profile).
+-- The bytes that the writers of messages append, and the request that is read from them (own profile).
 use Rattle.std.specs.Prelude.{◌≡◌, ◌/◌, ℕ, None, List, length}
 use Rattle.fuse_wire.specs.Written.{AllFit}
 use Rattle.fuse_request.specs.Act.{Act, Lookup, Mknod, Mkdir, Unlink, Rmdir, Rename, Rename2, Asked}
@@ -22,6 +22,6 @@ EndsWithName _ = ⊥
 abbrev pub HasNumbers : Asked → Type 0
 HasNumbers v = AllFit (header_parts (len_of v) (length v.ext / 8) v) × AllFit (parts v.act)
 
--- the message has no fault, and what stands at its places is the request: by its contract `decode` answers just that
+-- the message has no fault, and the request stands at its places: by its contract `decode` answers just that request
 abbrev pub ReadsAs : List ℕ → Asked → Type 0
 ReadsAs message v = (first_fault message ≡ None) × (asked_at message ≡ v)

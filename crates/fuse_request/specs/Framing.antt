@@ -1,4 +1,4 @@
--- What a framer holds, and what it answers (own profile).
+-- The state of a framer, and its answers (own profile).
 use Rattle.std.specs.Prelude.{◌≡◌, ◌≤◌, ◌+◌, ◌-◌, ℕ, nat_lt, if◌then◌else◌, List, [], ◌∷◌, ◌++◌, length, Option, Some, None, Result, Ok, Err, IfSome}
 use Rattle.std.specs.Option.{option_or}
 use Rattle.fuse_wire.specs.Bytes.{number_of}
@@ -25,12 +25,12 @@ bad_length at w =
     else if nat_lt max_message_len (number_of 4 w) then Some (TooLong at (number_of 4 w))
     else None
 
--- no more was fed than may be, and a fault that is held is that of the length at the front
+-- no more was fed than may be, and a fault that is held is that of the first length
 pub record IsHeld (h : Held) : Type 0 where
   pub fed : fed_of h ≤ max_fed_len
   pub fault : IfSome h.fault (λ f. bad_length h.at h.bytes ≡ Some f)
 
--- the first message of the cut is given out, and what follows it is held then
+-- the first message of the cut is given out, and the bytes after it are held then
 pub record Gives (old new : Held) (m : List ℕ) : Type 0 where
   pub message : IsMessage m
   pub first : cut old.bytes ≡ (m ∷ (cut new.bytes).0, (cut new.bytes).1)
@@ -42,7 +42,7 @@ pub record Gives (old new : Held) (m : List ℕ) : Type 0 where
 abbrev pub HasNone : List ℕ → Type 0
 HasNone w = cut w ≡ ([], w)
 
--- what is answered next, and what is held then
+-- the next answer, and the state then
 abbrev pub GivesNext : Held → Held → Result (Option (List ℕ)) FrameFault → Type 0
 GivesNext old new (Ok (Some m)) = Gives old new m
 GivesNext old new (Ok None) = HasNone old.bytes × (bad_length old.at old.bytes ≡ None) × (new ≡ old)
@@ -53,7 +53,7 @@ GivesNext old new (Err f) = HasNone old.bytes × (bad_length old.at old.bytes �
 abbrev pub needed : List ℕ → ℕ
 needed w = if nat_lt (length w) 4 then 4 else number_of 4 w
 
--- what is wrong with a stream that ends with these bytes, in which there is no message
+-- the fault of a stream that ends with these bytes, in which there is no message
 abbrev pub end_fault : ℕ → List ℕ → Option FrameFault
 end_fault at [] = None
 end_fault at (x ∷ w) = option_or (bad_length at (x ∷ w)) (Some (Cut at (length (x ∷ w)) (needed (x ∷ w))))

@@ -1,11 +1,11 @@
--- The header of a message, and what follows it (fuse.h: fuse_in_header).
+-- The header of a message, and the bytes after it (fuse.h: fuse_in_header).
 use Rattle.std.specs.Prelude.{◌+◌, ◌-◌, ◌*◌, ℕ, zero, suc, List, [], ◌∷◌, length, take, drop}
 use Rattle.fuse_wire.specs.Bounds.{min_message_len}
 use Rattle.fuse_wire.specs.Bytes.{number_of}
 use Rattle.fuse_wire.specs.Layout.{Part, number, unused, text, bytes, Lays}
 use Rattle.fuse_request.specs.declared.header.RawHeader.{RawHeader}
 
--- its layout: the numbers of a header, and what stands in the place of its padding
+-- its layout: the numbers of a header, and the padding as it was received
 abbrev pub head_parts : RawHeader → Part → List Part
 head_parts h padding =
     number 4 h.len ∷ number 4 h.opcode ∷ number 8 h.unique ∷ number 8 h.nodeid ∷ number 4 h.uid ∷ number 4 h.gid ∷ number 4 h.pid
@@ -60,6 +60,6 @@ raw_of b = record {
 abbrev pub ext_len : List ℕ → ℕ
 ext_len b = 8 * (raw_of b).total_extlen
 
--- what stands between the header and the extensions
+-- the bytes between the header and the extensions
 abbrev pub body_of : List ℕ → List ℕ
 body_of b = take (length b - min_message_len - ext_len b) (drop min_message_len b)

@@ -9,7 +9,7 @@ use Rattle.fuse_wire.specs.Opcodes.{fuse_open, fuse_read, fuse_write, fuse_relea
 use Rattle.fuse_wire.specs.Opcodes.{fuse_destroy, fuse_batch_forget, fuse_rename2, silent}
 use Rattle.fuse_request.specs.Bodies.{fixed, at_least, name_fault, names_fault, counted, init_fault}
 
--- an opcode: its number, its name, and what is wrong with a body
+-- an opcode: its number, its name, and the fault of a body
 pub record Opcode : Type 0 where
   pub number : ℕ
   pub name : List ℕ

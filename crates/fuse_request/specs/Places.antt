@@ -1,4 +1,4 @@
--- What a message says at the places of its opcode, where it spells anything (fuse.h: fuse_in_header and the request bodies).
+-- The request that stands in a message at the places of its opcode (fuse.h: fuse_in_header and the request bodies).
 use Rattle.std.specs.Prelude.{◌≡◌, ◌≤◌, ◌-◌, ◌==◌, ℕ, zero, suc, if◌then◌else◌, List, [], ◌∷◌, length, drop, Option, Some, None}
 use Rattle.std.specs.Option.{unwrap_or}
 use Rattle.fuse_wire.specs.Bytes.{number_of, after_nul}
@@ -75,7 +75,7 @@ init_with b flags2 = record {
 abbrev pub init_at : List ℕ → InitIn
 init_at b = init_with b (if length b == compat_init_in_size then None else Some (number_of 4 (drop 16 b)))
 
--- each opcode of the profile, with what its body says
+-- each opcode of the profile, with the request that its body says
 abbrev pub places : List (ℕ × (List ℕ → Act))
 places =
     (fuse_lookup, λ b. Lookup (before_nul b))

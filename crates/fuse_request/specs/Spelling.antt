@@ -1,4 +1,4 @@
--- How a request is spelled (fuse.h: fuse_in_header and the request bodies).
+-- The grammar of requests (fuse.h: fuse_in_header and the request bodies).
 use Rattle.std.specs.Prelude.{◌≡◌, ◌*◌, ◌/◌, ℕ, false, List, [], ◌∷◌, ◌++◌, length, Option, Some, None}
 use Rattle.fuse_wire.specs.Layout.{Part, number, unused, text, bytes, Lays}
 use Rattle.fuse_request.specs.Lengths.{forget_one_size}
@@ -30,7 +30,7 @@ read_parts x =
 abbrev pub release_parts : ReleaseIn → List Part
 release_parts x = number 8 x.fh ∷ number 4 x.flags ∷ number 4 x.release_flags ∷ number 8 x.lock_owner ∷ []
 
--- what fuse_init_in has from version 7.36 on: flags2, and eleven unused fields
+-- the end of fuse_init_in from version 7.36 on: flags2, and eleven unused fields
 abbrev pub flags2_parts : Option ℕ → List Part
 flags2_parts None = []
 flags2_parts (Some flags2) = number 4 flags2 ∷ unused 44 ∷ []
@@ -62,7 +62,7 @@ parts (BatchForget items) = number 4 (length items / forget_one_size) ∷ unused
 parts (Rename2 new_dir flags old_name new_name) = number 8 new_dir ∷ number 4 flags ∷ unused 4 ∷ text old_name ∷ text new_name ∷ []
 parts (Unsupported opcode body) = bytes body ∷ []
 
--- only what is outside the profile is unsupported, and the items of BATCH_FORGET are whole
+-- only opcodes outside the profile are unsupported, and the items of BATCH_FORGET are whole
 abbrev pub IsSpellable : Act → Type 0
 IsSpellable (Unsupported opcode body) = in_profile opcode ≡ false
 IsSpellable (BatchForget items) = length items ≡ forget_one_size * (length items / forget_one_size)

@@ -4,13 +4,13 @@ use Rattle.std.specs.List.{flat_map, AllByRecursion}
 use Rattle.fuse_wire.specs.Bytes.{number_of}
 use Rattle.fuse_wire.specs.Bounds.{min_message_len, max_message_len}
 
--- a whole message stands at the front
+-- the first message is whole
 abbrev pub is_whole : List ℕ → Bool
 is_whole w =
     nat_le 4 (length w)
     && (nat_le min_message_len (number_of 4 w) && (nat_le (number_of 4 w) max_message_len && nat_le (number_of 4 w) (length w)))
 
--- the messages at the front, n of them at most, and the rest
+-- the first messages, n of them at most, and the rest
 abbrev pub cut_by : ℕ → List ℕ → List (List ℕ) × List ℕ
 cut_by zero w = ([], w)
 cut_by (suc n) w =
@@ -29,7 +29,7 @@ pub record IsMessage (m : List ℕ) : Type 0 where
 abbrev pub joined : List (List ℕ) → List ℕ
 joined ms = flat_map (λ m. m) ms
 
--- the stream is these messages, and a rest with no message at its front
+-- the stream is these messages, and a rest that begins with no whole message
 pub record Cuts (w : List ℕ) (ms : List (List ℕ)) (rest : List ℕ) : Type 0 where
   pub whole : w ≡ joined ms ++ rest
   pub each : AllByRecursion IsMessage ms

@@ -34,7 +34,7 @@ fn last_name(bytes: &[u8]) -> Result<&[u8], Malformed>
 }
 
 // Two names that are the last of their body.
-#[tactic(auto, using(crate::proofs::BodyFaults::endless_first, crate::proofs::BodyFaults::behind))]
+#[tactic(auto, using(crate::proofs::BodyFaults::endless_first, crate::proofs::BodyFaults::after_first))]
 fn two_names(bytes: &[u8]) -> Result<(&[u8], &[u8]), Malformed>
     ensures { GivesTwoNames bytes.now result }
 {

@@ -24,7 +24,7 @@ pub fn classify(message: &[u8]) -> Class
     requires header { min_message_len ≤ length message.now }
     requires len { number_of 4 message.now ≡ length message.now }
     ensures class { result ≡ class_of message.now }
-    // What that says of the requests that the message spells.
+    // How the class follows from the request that the message spells.
     ensures spells { IsOfClass result message.now }
 {
     layouts_stand();
@@ -42,7 +42,7 @@ pub fn classify(message: &[u8]) -> Class
     Class::Kept
 }
 
-/// Whether a message would have to be answered and has the id 0, which an answer can't bear.
+/// Whether a message must be answered and has the id 0, which an answer can't bear.
 pub fn has_zero_unique(message: &[u8]) -> bool
     requires { min_message_len ≤ length message.now }
     ensures { result ≡ is_zero message.now }

@@ -19,7 +19,7 @@ pub enum Malformed {
     HeaderShort,
     /// `len` isn't the number of bytes.
     LenDiffers,
-    /// The extensions are longer than what follows the header.
+    /// The extensions are longer than the bytes after the header.
     ExtTooLong,
     /// A fixed body has another length, or a fixed part isn't whole.
     BodyLength,
@@ -27,7 +27,7 @@ pub enum Malformed {
     NoNul,
     /// Bytes follow the NUL of the last name.
     AfterNul,
-    /// A count isn't that of what follows it.
+    /// A count isn't that of the bytes after it.
     CountDiffers,
 }
 

@@ -16,7 +16,7 @@ use std::marker::Model;
 /// How many bytes a framer may be fed.
 pub const MAX_FED: u64 = 0x1000_0000_0000_0000;
 
-/// What is wrong with a stream. `at` is the offset in the stream at which a message begins.
+/// A fault of a stream. `at` is the offset in the stream at which a message begins.
 #[derive(Clone, Copy, Debug, PartialEq, Eq)]
 pub enum FrameFault {
     /// The message says that it is shorter than a header.
@@ -65,7 +65,7 @@ fn length_fault(at: u64, bytes: &[u8]) -> Option<FrameFault>
     None
 }
 
-// The length of the message at the front, where it is whole.
+// The length of the first message, where it is whole.
 fn whole_len(bytes: &[u8]) -> Option<usize>
     ensures { result ≡ (if is_whole bytes.now then Some (number_of 4 bytes.now) else None) }
 {
@@ -79,7 +79,7 @@ fn whole_len(bytes: &[u8]) -> Option<usize>
     Some(len)
 }
 
-// What is wrong where a stream ends with these bytes, in which there is no whole message.
+// The fault of a stream that ends with these bytes, in which there is no whole message.
 fn end_of(at: u64, rest: &[u8]) -> Result<(), FrameFault>
     ensures { result_err result ≡ end_fault at rest.now }
 {
@@ -131,7 +131,7 @@ impl Framer {
             × (self.new ≡ record self.old { bytes = self.old.bytes ++ piece.now })) }
         ensures err { OnErr result (self.new ≡ self.old) }
 
-        // The fault that it holds, and else want of memory.
+        // The fault that it holds, or else out of memory.
         ensures fault { IfErr result (λ f. f ≡ unwrap_or self.old.fault FrameFault.Memory) }
     {
         if let Some(fault) = self.fault {
@@ -170,8 +170,8 @@ impl Framer {
         }
     }
 
-    /// What is wrong where the stream ends here: of the bytes that are left when all whole messages
-    /// are passed. Takes no memory.
+    /// The fault of the stream if it ends here: that of the bytes after the last whole message.
+    /// Takes no memory.
     pub fn end(&self) -> Result<(), FrameFault>
         ensures { result_err result ≡ ends self.now }
     {

@@ -13,7 +13,7 @@ pub const MIN_MESSAGE: usize = 40;
 /// The length of the longest message.
 pub const MAX_MESSAGE: usize = 135_168;
 
-/// All that the header of a message says, `fuse_in_header` of `fuse.h`.
+/// The header of a message, `fuse_in_header` of `fuse.h`.
 #[derive(Clone, Copy, Debug, PartialEq, Eq)]
 pub struct RawHeader {
     pub len: u32,

@@ -29,14 +29,14 @@ pub fn cut_steps()
     numbers_read();
 }
 
-/// What has a spelling is spelled by its canon.
+/// A request that has a spelling is spelled by its canon.
 pub fn canon_spells()
     ensures { CanonSpells }
 {
     layouts_stand();
 }
 
-/// What a message spells stands at the places of its opcode.
+/// The request that a message spells stands at the places of its opcode.
 pub fn spelled_at()
     ensures { SpelledAt }
 {

@@ -1,4 +1,5 @@
-//! The requests of a FUSE kernel: how they are spelled, and how a stream is cut into them.
+//! The requests of a FUSE kernel: their grammar, a decoder, an encoder, and a framer that cuts a
+//! stream into messages.
 #![tactic(auto)]
 
 mod bodies;

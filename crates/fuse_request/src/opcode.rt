@@ -11,7 +11,7 @@ pub use fuse_wire::opcode::{
     WRITE,
 };
 
-/// What `fuse.h` calls an opcode of the profile, without its prefix.
+/// The name of an opcode of the profile in `fuse.h`, without `FUSE_`.
 pub fn name_of(opcode: u32) -> Option<&'static str>
     ensures { option_map (λ name. name.now) result ≡ opcodes.name_of opcode }
 {
@@ -42,7 +42,7 @@ pub fn name_of(opcode: u32) -> Option<&'static str>
 }
 
 /// Whether an opcode is of the profile.
-pub fn is_in_profile(opcode: u32) -> bool
+pub(crate) fn is_in_profile(opcode: u32) -> bool
     ensures { result ≡ in_profile opcode }
 {
     name_of(opcode).is_some()

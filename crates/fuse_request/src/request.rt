@@ -1,4 +1,4 @@
-/// What the header of a request says, but for its length and its opcode.
+/// The header of a request without its length and its opcode.
 #[derive(Clone, Copy, Debug, PartialEq, Eq)]
 pub struct InHeader {
     pub unique: u64,
@@ -139,6 +139,6 @@ pub enum Op<'a> {
 pub struct Request<'a> {
     pub header: InHeader,
     pub op: Op<'a>,
-    /// The extensions, which nothing looks into.
+    /// The extensions, which are not interpreted.
     pub ext: &'a [u8],
 }

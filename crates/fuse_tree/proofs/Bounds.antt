@@ -1,4 +1,4 @@
--- What the rows of a tree can't pass, so that a plan over them never gives up.
+-- The bounds of the rows of a tree, so that a plan over them never gives up.
 use Rattle.std.proofs.Common.{◌≡◌, ◌==◌, ◌≤◌, ◌&&◌, ◌||◌, ℕ, true, false, cond, not, eqb, List, [], ◌∷◌, length, take, Option, Some, None, refl, sym, subst}
 use Rattle.std.proofs.Common.{◌∙◌, arith}
 use Rattle.std.specs.Prelude.{filter, nat_lt}
@@ -81,7 +81,7 @@ pub is_rowed : (s : State) → Tree s → IsRowed (rowed s)
 unfolding IsRowed
 is_rowed s tree = (s, tree, refl)
 
--- an entry of a tree has a cookie above 0, so the first entry of a directory is among those behind 0
+-- an entry of a tree has a cookie above 0, so the first entry of a directory is among those after 0
 first_after : (es : List EntryRow) (dir : ℕ) → AllByRecursion (λ e. 3 ≤ e.cookie) es
     → not (eqb (length (take 1 (filter (is_after dir 0) es))) 0) ≡ has_entries es dir
 first_after [] dir all = refl
@@ -95,7 +95,7 @@ first_after (e ∷ es) dir all =
       | false ↦ rest
     ])
 
--- whether an entry stands in a directory is told by the first one behind cookie 0
+-- the first entry after cookie 0 shows whether an entry stands in a directory
 pub entries_told : (rows : Rows) (dir : ℕ) → IsRowed rows → not (eqb (length (entries_after rows dir 0 1)) 0) ≡ has_entries rows.entries dir
 unfolding IsRowed
 entries_told rows dir is =

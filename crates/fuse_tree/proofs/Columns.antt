@@ -45,7 +45,7 @@ use Rattle.fuse_tree.specs.PlanInit.{plan_init}
 use Rattle.fuse_tree.specs.PlanMaking.{plan_new, plan_make, plan_mkdir, plan_mknod}
 use Rattle.fuse_tree.specs.PlanSetting.{set_row, plan_setattr}
 use Rattle.fuse_tree.specs.PlanWriting.{plan_written, plan_write, plan_read}
-use Rattle.fuse_tree.specs.PlanListing.{rows_behind, plan_read_dir}
+use Rattle.fuse_tree.specs.PlanListing.{rows_after, plan_read_dir}
 use Rattle.fuse_tree.specs.PlanOpening.{plan_opened, plan_open_node, plan_open_for, plan_open, plan_open_dir, plan_closed, plan_close}
 use Rattle.fuse_tree.specs.PlanRemoving.{link_at, plan_gone, plan_unlink_link, plan_unlink, plan_rmdir_link, plan_rmdir}
 use Rattle.fuse_tree.specs.PlanRenaming.{is_same_link, row_holds, other_at, new_dir_at, link_fault, lost_changes, dir_row, dirs_changes, rename_changes}
@@ -162,7 +162,7 @@ read_dir_fits asked row rows =
     (λ _. past (not (is_dir row.mode)) _ _ refl
     (λ _. past (nat_lt read_limit asked.size) _ _ refl
     (λ _. past (not (row_is_named row)) _ _ refl
-    (λ _. past (not (first_fits (rows_behind asked.offset asked.size row rows) asked.size)) _ _ refl (λ _. nothing _ refl)))))
+    (λ _. past (not (first_fits (rows_after asked.offset asked.size row rows) asked.size)) _ _ refl (λ _. nothing _ refl)))))
 
 -- ---- handles
 

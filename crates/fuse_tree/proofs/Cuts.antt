@@ -16,8 +16,8 @@ use Rattle.fuse_tree.specs.State.{type_of}
 use Rattle.fuse_tree.specs.Rows.{Rows}
 use Rattle.fuse_tree.specs.Listing.{most}
 use Rattle.fuse_tree.specs.Reading.{refused, told}
-use Rattle.fuse_tree.specs.PlanListing.{row_above, row_entry, row_len, dots_behind, plan_front, IsCut}
-use Rattle.fuse_tree.proofs.Prefixes.{longest, front_upto, first_cut}
+use Rattle.fuse_tree.specs.PlanListing.{row_above, row_entry, row_len, dots_after, plan_prefix, IsCut}
+use Rattle.fuse_tree.proofs.Prefixes.{longest, prefix_upto, first_cut}
 
 -- ---- one entry after the other
 
@@ -51,7 +51,7 @@ pub record DotsFit (es : List Entry) : Type 0 where
 abbrev dot : ℕ → ℕ → List ℕ → Entry
 dot ino off name = record { ino = ino; off = off; kind = type_of s_ifdir; name = name }
 
-pub dots_fit : (offset : ℕ) (row : NodeRow) → DotsFit (dots_behind offset row)
+pub dots_fit : (offset : ℕ) (row : NodeRow) → DotsFit (dots_after offset row)
 dots_fit offset row = step (nat_lt offset 1) (nat_lt offset 2)
   where
     step : (a b : Bool)
@@ -84,32 +84,32 @@ most_cut rows first es size left n room cut = step (nat_le m (length first + n))
         ∙ ap (sum_by packed_len) (take-append-add first (map (row_entry rows) es) j ∙ ap (λ (xs : List Entry). first ++ xs) (take-map (row_entry rows) j es))
         ∙ sum_by-append packed_len first (map (row_entry rows) (take j es))
         ∙ ap (λ (k : ℕ). sum_by packed_len first + k) (sum_told rows (take j es)) in
-        let front = longest all size in
+        let prefix = longest all size in
         let count : length all ≡ length first + length es =
         length-append first (map (row_entry rows) es) ∙ ap (λ (k : ℕ). length first + k) (length-map es (row_entry rows)) in
-        let over = cut.past (omega (arith, past, front.within, count)) in
+        let over = cut.past (omega (arith, past, prefix.within, count)) in
         let grows = sum_grows es (n + 1) j (omega (arith, past)) in
-        absurd (omega (arith, sums, over, grows, front.fits, room))
+        absurd (omega (arith, sums, over, grows, prefix.fits, room))
 
 cut_is : (rows : Rows) (first : List Entry) (es : List EntryRow) (n : ℕ)
     → first ++ map (row_entry rows) (take n es) ≡ take (length first + n) (first ++ map (row_entry rows) es)
 cut_is rows first es n = ap (λ (xs : List Entry). first ++ xs) (sym (take-map (row_entry rows) n es)) ∙ sym (take-append-add first (map (row_entry rows) es) n)
 
--- where something is told, the rest may be left out
+-- where an entry is listed, the rest may be left out
 pub same_told : (rows : Rows) (first : List Entry) (es : List EntryRow) (size left n : ℕ) → size ≤ sum_by packed_len first + left → 0 < length first + n
     → IsCut es left n
-    → plan_front (first ++ map (row_entry rows) (take n es)) size ≡ plan_front (first ++ map (row_entry rows) es) size
+    → plan_prefix (first ++ map (row_entry rows) (take n es)) size ≡ plan_prefix (first ++ map (row_entry rows) es) size
 same_told rows first es size left n room some cut =
     let all : List Entry = first ++ map (row_entry rows) es in
     rw (
       cut_is rows first es n,
       first_cut all size (length first + n) some,
-      front_upto all size (length first + n) (most_cut rows first es size left n room cut),
+      prefix_upto all size (length first + n) (most_cut rows first es size left n room cut),
     ) refl
 
 -- where nothing is
 pub none_told : (rows : Rows) (es : List EntryRow) (size : ℕ) → IsCut es size 0
-    → cond (nat_eq (length es) 0) (told []) (refused einval) ≡ plan_front (map (row_entry rows) es) size
+    → cond (nat_eq (length es) 0) (told []) (refused einval) ≡ plan_prefix (map (row_entry rows) es) size
 none_told rows [] size cut = refl
 none_told rows (e ∷ es) size cut =
     let past : size < row_len e = let over = cut.past (omega arith) in omega (arith, over, one_len e) in

@@ -89,7 +89,7 @@ only_found test (x ∷ es) e apart is =
       | inl h ↦ (
         (
           record { cookie = λ _. h.1; child = λ _. h.1 },
-          all_more (AreApart e) (IsOnly e) es (λ y p. behind y p) (subst (λ (z : EntryRow). AllByRecursion (AreApart z) es) h.1 apart.0),
+          all_more (AreApart e) (IsOnly e) es (λ y p. later y p) (subst (λ (z : EntryRow). AllByRecursion (AreApart z) es) h.1 apart.0),
         ),
         subst (λ (z : EntryRow). cond (eqb x.child z.child) x.dir (up_of es z.child) ≡ z.dir) h.1 (rw (eq-eqb x.child x.child refl) refl),
       )
@@ -99,8 +99,8 @@ only_found test (x ∷ es) e apart is =
           ((before p, rest.0), rw (ne_eqb x.child e.child p.child) rest.1))
     ]
   where
-    behind : (y : EntryRow) → AreApart e y → IsOnly e y
-    behind y p = let lt : e.cookie < y.cookie = p.cookie in record { cookie = λ same. absurd (omega arith); child = λ same. absurd (p.child (sym same)) }
+    later : (y : EntryRow) → AreApart e y → IsOnly e y
+    later y p = let lt : e.cookie < y.cookie = p.cookie in record { cookie = λ same. absurd (omega arith); child = λ same. absurd (p.child (sym same)) }
 
     before : AreApart x e → IsOnly e x
     before p = let lt : x.cookie < e.cookie = p.cookie in record { cookie = λ same. absurd (omega arith); child = λ same. absurd (p.child same) }

@@ -41,7 +41,7 @@ use Rattle.fuse_tree.specs.PlanInit.{plan_init}
 use Rattle.fuse_tree.specs.PlanMaking.{plan_make, plan_mkdir, plan_mknod}
 use Rattle.fuse_tree.specs.PlanSetting.{set_row, plan_setattr}
 use Rattle.fuse_tree.specs.PlanWriting.{plan_write, plan_read}
-use Rattle.fuse_tree.specs.PlanListing.{rows_behind, plan_read_dir}
+use Rattle.fuse_tree.specs.PlanListing.{rows_after, plan_read_dir}
 use Rattle.fuse_tree.specs.PlanOpening.{plan_open_node, plan_open_for, plan_open, plan_open_dir, plan_close}
 use Rattle.fuse_tree.specs.PlanRemoving.{link_at, plan_unlink_link, plan_unlink, plan_rmdir_link, plan_rmdir}
 use Rattle.fuse_tree.specs.PlanRenaming.{is_same_link, row_holds, other_at, new_dir_at, link_fault, rename_changes, exchange_changes, plan_rename_link}
@@ -53,7 +53,7 @@ use Rattle.fuse_tree.proofs.Lists.{and_true}
 record Orders (p : Planned) : Type 0 where
   order : GoneFirst p.changes
 
--- ---- told by a test
+-- ---- shown by a test
 
 abbrev goes_first : List Change → Bool
 goes_first [] = true
@@ -143,7 +143,7 @@ read_dir_orders asked row rows =
     (chosen (not (is_dir row.mode)) _ _ (by_test _ refl)
     (chosen (nat_lt read_limit asked.size) _ _ (by_test _ refl)
     (chosen (not (row_is_named row)) _ _ (by_test _ refl)
-    (chosen (not (first_fits (rows_behind asked.offset asked.size row rows) asked.size)) _ _ (by_test _ refl) (by_test _ refl)))))
+    (chosen (not (first_fits (rows_after asked.offset asked.size row rows) asked.size)) _ _ (by_test _ refl) (by_test _ refl)))))
 
 -- ---- handles
 

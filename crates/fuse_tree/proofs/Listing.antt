@@ -13,19 +13,19 @@ use Rattle.fuse_tree.specs.State.{State, Node, Tree, Apart, IsEntry, AreApart, n
 use Rattle.fuse_tree.specs.Rows.{rows_of_state, row_of, is_after}
 use Rattle.fuse_tree.specs.Listing.{dots, above_or_root, kind_of, told_entry, entries_in, is_following, entries_following, longest_prefix, first_fits}
 use Rattle.fuse_tree.specs.Listing.{ListingIsLongest}
-use Rattle.fuse_tree.specs.PlanListing.{row_kind, row_entry, enough, dots_behind, rows_behind}
+use Rattle.fuse_tree.specs.PlanListing.{row_kind, row_entry, enough, dots_after, rows_after}
 use Rattle.fuse_tree.proofs.Lists.{all_more, all_kept, apart_filtered}
 use Rattle.fuse_tree.proofs.Puts.{row_found}
 use Rattle.fuse_tree.proofs.Shown.{name_fits}
-use Rattle.fuse_tree.proofs.Prefixes.{longest, front_cut, first_cut}
+use Rattle.fuse_tree.proofs.Prefixes.{longest, prefix_cut, first_cut}
 
--- ---- those behind an offset
+-- ---- those after an offset
 
-told_behind : (s : State) (dir offset : ℕ) (es : List EntryRow)
+told_after : (s : State) (dir offset : ℕ) (es : List EntryRow)
     → filter (is_following offset) (map (told_entry s) (filter (λ e. e.dir == dir) es)) ≡ map (told_entry s) (filter (is_after dir offset) es)
-told_behind s dir offset [] = refl
-told_behind s dir offset (e ∷ es) =
-    let rest = told_behind s dir offset es in
+told_after s dir offset [] = refl
+told_after s dir offset (e ∷ es) =
+    let rest = told_after s dir offset es in
     let told : List EntryRow → List Entry = map (told_entry s) in
     let here : List EntryRow = filter (λ x. x.dir == dir) es in
     let after : List EntryRow = filter (is_after dir offset) es in
@@ -38,14 +38,14 @@ told_behind s dir offset (e ∷ es) =
       | false ↦ rest
     ]
 
--- the dots and the entries behind the offset
-behind : (s : State) (dir offset : ℕ)
+-- the dots and the entries after the offset
+all_after : (s : State) (dir offset : ℕ)
     → entries_following s dir offset ≡ filter (is_following offset) (dots dir (above_or_root s dir)) ++ map (told_entry s) (filter (is_after dir offset) s.entries)
-behind s dir offset =
+all_after s dir offset =
     filter-append (is_following offset) (dots dir (above_or_root s dir)) (map (told_entry s) (filter (λ e. e.dir == dir) s.entries))
-    ∙ ap (λ (xs : List Entry). filter (is_following offset) (dots dir (above_or_root s dir)) ++ xs) (told_behind s dir offset s.entries)
+    ∙ ap (λ (xs : List Entry). filter (is_following offset) (dots dir (above_or_root s dir)) ++ xs) (told_after s dir offset s.entries)
 
--- ---- those that the rows tell
+-- ---- those of the rows
 
 same_kind : (s : State) (o : Option Node) → row_kind (option_map (row_of s) o) ≡ kind_of o
 same_kind s None = refl
@@ -60,15 +60,15 @@ same_entries : (s : State) (es : List EntryRow) → map (row_entry (rows_of_stat
 same_entries s [] = refl
 same_entries s (e ∷ es) = rw (same_entry s e, same_entries s es) refl
 
--- the rows tell a front of the entries behind the offset
+-- the rows have a prefix of the entries after the offset
 pub rows_cut : (s : State) (d : Node) (offset size : ℕ)
-    → rows_behind offset size (row_of s d) (rows_of_state s) ≡ take (length (dots_behind offset (row_of s d)) + enough size) (entries_following s d.number offset)
+    → rows_after offset size (row_of s d) (rows_of_state s) ≡ take (length (dots_after offset (row_of s d)) + enough size) (entries_following s d.number offset)
 rows_cut s d offset size =
-    let first : List Entry = dots_behind offset (row_of s d) in
+    let first : List Entry = dots_after offset (row_of s d) in
     let after : List EntryRow = filter (is_after d.number offset) s.entries in
     ap (λ (xs : List Entry). first ++ xs) (same_entries s (take (enough size) after) ∙ sym (take-map (told_entry s) (enough size) after))
     ∙ sym (take-append-add first (map (told_entry s) after) (enough size))
-    ∙ ap (take (length first + enough size)) (sym (behind s d.number offset))
+    ∙ ap (take (length first + enough size)) (sym (all_after s d.number offset))
 
 -- ---- their names
 
@@ -85,19 +85,19 @@ all_named s dir offset tree =
     all_kept IsNamed (is_following offset) (entries_in s dir)
     ((omega arith, omega arith), ((omega arith, omega arith), all_told s _ (all_kept (λ e. IsNamed (told_entry s e)) (λ e. e.dir == dir) s.entries each)))
 
--- ---- what is told is that of the state
+-- ---- the listing is that of the state
 
 past : (size n : ℕ) → size < 32 * (n + enough size)
 past size n = omega arith
 
-pub same_front : (s : State) (d : Node) (offset size : ℕ) → Tree s
-    → longest_prefix (rows_behind offset size (row_of s d) (rows_of_state s)) size ≡ longest_prefix (entries_following s d.number offset) size
-same_front s d offset size tree =
+pub same_prefix : (s : State) (d : Node) (offset size : ℕ) → Tree s
+    → longest_prefix (rows_after offset size (row_of s d) (rows_of_state s)) size ≡ longest_prefix (entries_following s d.number offset) size
+same_prefix s d offset size tree =
     ap (λ (es : List Entry). longest_prefix es size) (rows_cut s d offset size)
-    ∙ front_cut (entries_following s d.number offset) size _ (all_named s d.number offset tree) (past size (length (dots_behind offset (row_of s d))))
+    ∙ prefix_cut (entries_following s d.number offset) size _ (all_named s d.number offset tree) (past size (length (dots_after offset (row_of s d))))
 
 pub same_first : (s : State) (d : Node) (offset size : ℕ)
-    → first_fits (rows_behind offset size (row_of s d) (rows_of_state s)) size ≡ first_fits (entries_following s d.number offset) size
+    → first_fits (rows_after offset size (row_of s d) (rows_of_state s)) size ≡ first_fits (entries_following s d.number offset) size
 same_first s d offset size =
     ap (λ (es : List Entry). first_fits es size) (rows_cut s d offset size)
     ∙ first_cut (entries_following s d.number offset) size _ (omega arith)

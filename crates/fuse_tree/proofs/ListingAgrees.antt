@@ -10,14 +10,14 @@ use Rattle.fuse_tree.specs.Handles.{is_open}
 use Rattle.fuse_tree.specs.Listing.{entries_following, first_fits, list_prefix, read_dir}
 use Rattle.fuse_tree.specs.PlanListing.{plan_list, plan_read_dir}
 use Rattle.fuse_tree.proofs.Agreement.{Agrees, refused_agrees, both}
-use Rattle.fuse_tree.proofs.Listing.{same_front, same_first}
+use Rattle.fuse_tree.proofs.Listing.{same_prefix, same_first}
 
 list_agrees : (s : State) (offset size : ℕ) (d : Node) → Tree s
     → Agrees s (plan_list offset size (row_of s d) (rows_of_state s)) (list_prefix s (entries_following s d.number offset) size)
 list_agrees s offset size d tree =
     rw (same_first s d offset size)
     (both s (not (first_fits (entries_following s d.number offset) size)) _ _ _ _ (λ _. refused_agrees s tree einval) (λ _. record {
-      answer = ap (λ (es : List Entry). record { errno = 0; body = entries_bytes es }) (same_front s d offset size tree);
+      answer = ap (λ (es : List Entry). record { errno = 0; body = entries_bytes es }) (same_prefix s d offset size tree);
       rows = refl;
       tree = tree;
     }))

@@ -64,7 +64,7 @@ puts_meet s G H (row ∷ rows) tree numbers contents each others =
 
 -- ---- nodes whose times change
 
--- the times of a directory and the status of a child, where D and C tell who they are
+-- the times of a directory and the status of a child, where D and C say which they are
 abbrev pub timed : (ℕ → Bool) → (ℕ → Bool) → Moment → Node → Node
 timed D C now n = record n { mtime = cond (D n.number) now n.mtime; ctime = cond (D n.number || C n.number) now n.ctime }
 

@@ -52,7 +52,7 @@ others_differ test (x ∷ es) e apart is =
 
 -- ---- the directory above
 
--- the entry that is found tells the directory above its child
+-- the entry that is found says which directory is above its child
 pub up_found : (test : EntryRow → Bool) (es : List EntryRow) (e : EntryRow) → Apart AreApart es → find test es ≡ Some e → up_of es e.child ≡ e.dir
 up_found test es e apart is = step es (others_differ test es e apart is) is
   where
@@ -67,7 +67,7 @@ up_found test es e apart is = step es (others_differ test es e apart is) is
           ]
         ]
 
--- an entry behind the others tells the directory above its child, where none of them does
+-- an entry after the others says which directory is above its child, where none of them does
 pub up_last : (es : List EntryRow) (e : EntryRow) → AllByRecursion (λ z. z.child ≢ e.child) es → up_of (es ++ e ∷ []) e.child ≡ e.dir
 up_last [] e others = rw (eq-eqb e.child e.child refl) refl
 up_last (x ∷ es) e others = rw (ne_eqb x.child e.child others.0) (up_last es e others.1)

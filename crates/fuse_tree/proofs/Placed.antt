@@ -1,4 +1,4 @@
--- A list in which each node stands once: one node is changed in its place, or stands behind the others.
+-- A list in which each node stands once: one node is changed in its place, or comes last.
 use Rattle.std.proofs.Common.{◌≡◌, ◌≢◌, ◌<◌, ◌≤◌, ◌==◌, ℕ, zero, suc, Bool, true, false, not, cond, eqb, List, [], ◌∷◌, ◌++◌, length, map, get_or, set, Some}
 use Rattle.std.proofs.Common.{None, refl, sym, ap, subst, ◌∙◌, arith}
 use Rattle.std.specs.Prelude.{filter, position, nat_lt}
@@ -112,26 +112,26 @@ pub no_content : (number : ℕ) (change : List ℕ → List ℕ) (fs : List Full
 no_content number change fs none =
     sym (none_changed (λ f. eqb f.row.node number) (λ f. record f { content = change f.content }) fs (no_place (λ f. f.row.node == number) fs none))
 
--- ---- a node behind the others, and nodes that go
+-- ---- a node that comes last, and nodes that go
 
-pub row_behind : (row : NodeRow) (fs : List Full) → position (λ f. f.row.node == row.node) fs ≡ None
+pub row_last : (row : NodeRow) (fs : List Full) → position (λ f. f.row.node == row.node) fs ≡ None
     → fs ++ record { row = row; content = [] } ∷ [] ≡ put_node row fs
-row_behind row fs none = rw (no_place (λ f. f.row.node == row.node) fs none) refl
+row_last row fs none = rw (no_place (λ f. f.row.node == row.node) fs none) refl
 
-none_behind : (test : Full → Bool) (fs : List Full) (x : Full) → list_any test fs ≡ false → test x ≡ false → list_any test (fs ++ x ∷ []) ≡ false
-none_behind test [] x none is = rw is refl
-none_behind test (f ∷ fs) x none is =
+none_last : (test : Full → Bool) (fs : List Full) (x : Full) → list_any test fs ≡ false → test x ≡ false → list_any test (fs ++ x ∷ []) ≡ false
+none_last test [] x none is = rw is refl
+none_last test (f ∷ fs) x none is =
     let h = or_false (test f) (list_any test fs) none in
-    rw (h.0) (none_behind test fs x h.1 is)
+    rw (h.0) (none_last test fs x h.1 is)
 
-pub once_behind : (fs : List Full) (x : Full) → are_distinct fs ≡ true → list_any (λ f. f.row.node == x.row.node) fs ≡ false
+pub once_last : (fs : List Full) (x : Full) → are_distinct fs ≡ true → list_any (λ f. f.row.node == x.row.node) fs ≡ false
     → are_distinct (fs ++ x ∷ []) ≡ true
-once_behind [] x once none = refl
-once_behind (f ∷ fs) x once none =
+once_last [] x once none = refl
+once_last (f ∷ fs) x once none =
     let h = and_true _ _ once in
     let n = or_false (eqb f.row.node x.row.node) (list_any (λ g. g.row.node == x.row.node) fs) none in
     let apart : x.row.node ≢ f.row.node = λ same. eqb-false _ _ n.0 (sym same) in
-    rw (none_behind (λ g. eqb g.row.node f.row.node) fs x (not_true _ h.0) (ne_eqb _ _ apart)) (once_behind fs x h.1 n.1)
+    rw (none_last (λ g. eqb g.row.node f.row.node) fs x (not_true _ h.0) (ne_eqb _ _ apart)) (once_last fs x h.1 n.1)
 
 none_kept : (test kept : Full → Bool) (fs : List Full) → list_any test fs ≡ false → list_any test (filter kept fs) ≡ false
 none_kept test kept [] none = refl

@@ -13,7 +13,7 @@ use Rattle.fuse_keeper.specs.declared.fault.StoreFault.TheVariants.{Memory}
 use Rattle.fuse_tree.specs.TheTree.{the_tree}
 use Rattle.fuse_tree.specs.Causing.{CausedBy}
 
--- over the rows of a tree a plan in lists wants nothing but memory
+-- over the rows of a tree the only fault of a plan in lists is out of memory
 pub caused : (fault : PlanFault) (f : StoreFault) (rows : Rows) → CausedBy fault f → (fault ≡ plans.NotATree → (s : State) → Tree s → rows ≡ rowed s → ⊥)
     → IsRowed the_tree rows → f ≡ Memory
 caused (plans.Look look) f rows is isnt of_tree = is
@@ -24,7 +24,7 @@ caused plans.NotATree f rows is isnt of_tree = unfold IsRowed in absurd (isnt re
 pub tree_clears : (rows rows' : Rows) → Clearing → rows' ≡ cleared_rows rows → Clears the_tree rows rows'
 tree_clears rows rows' clearing is s tree are = let clear = clearing s tree in (clear.0, is ∙ ap cleared_rows are ∙ sym clear.1)
 
--- the tree owes no more
+-- the model is sound
 pub tree_is_sound : AnswersFit → NewStoreIsTree → TreeKept → Clearing → IsSoundModel the_tree
 tree_is_sound fit new kept clearing = record {
   fits = fit;

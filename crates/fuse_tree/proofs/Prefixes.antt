@@ -1,4 +1,4 @@
--- The longest front of entries that fits.
+-- The longest prefix of entries that fits.
 use Rattle.std.proofs.Common.{◌≡◌, ◌≢◌, ◌≤◌, ◌<◌, ◌*◌, ℕ, zero, suc, Bool, true, false, not, cond, nat_le, List, [], ◌∷◌, length, take, refl, sym, ap, subst}
 use Rattle.std.proofs.Common.{◌∙◌, arith}
 use Rattle.std.specs.List.{AllByRecursion, sum_by}
@@ -8,7 +8,7 @@ use Rattle.std.proofs.lemmas.List.Sums.{sum_by-cons}
 use Rattle.fuse_answer.specs.Entries.{Entry, IsNamed, packed_len, entries_bytes, IsLongest, FirstIsTooBig}
 use Rattle.fuse_tree.specs.Listing.{most, longest_prefix, first_fits}
 use Rattle.fuse_tree.specs.Reading.{told}
-use Rattle.fuse_tree.specs.PlanListing.{plan_front}
+use Rattle.fuse_tree.specs.PlanListing.{plan_prefix}
 
 most_within : (es : List Entry) (size n : ℕ) → most es size n ≤ n
 most_within es size zero = omega arith
@@ -43,8 +43,8 @@ longest es size =
 one_longest : (es : List Entry) (size n m : ℕ) → IsLongest es size n → IsLongest es size m → n ≡ m
 one_longest es size n m a b = omega (arith, b.longest n a.within a.fits, a.longest m b.within b.fits)
 
-pub front_is : (es : List Entry) (size n : ℕ) → IsLongest es size n → take n es ≡ longest_prefix es size
-front_is es size n is = ap (λ (k : ℕ). take k es) (one_longest es size n _ is (longest es size))
+pub prefix_is : (es : List Entry) (size n : ℕ) → IsLongest es size n → take n es ≡ longest_prefix es size
+prefix_is es size n is = ap (λ (k : ℕ). take k es) (one_longest es size n _ is (longest es size))
 
 first_that_fits : (es : List Entry) (size : ℕ) → (FirstIsTooBig es size → ⊥) → not (first_fits es size) ≡ false
 first_that_fits [] size fits = refl
@@ -53,10 +53,10 @@ first_that_fits (e ∷ es) size fits =
     elim [ true ↦ λ is. refl | false ↦ λ is. absurd (fits (leb-false _ size is)) ] in
     step (nat_le (packed_len e) size) refl
 
--- what is packed is what is planned
-pub front_planned : (es : List Entry) (size n : ℕ) (body : List ℕ) → (FirstIsTooBig es size → ⊥) → IsLongest es size n → body ≡ entries_bytes (take n es)
-    → told body ≡ plan_front es size
-front_planned es size n body fits is e = rw (first_that_fits es size fits) (ap told (e ∙ ap entries_bytes (front_is es size n is)))
+-- the body that is packed is the one that is planned
+pub prefix_planned : (es : List Entry) (size n : ℕ) (body : List ℕ) → (FirstIsTooBig es size → ⊥) → IsLongest es size n → body ≡ entries_bytes (take n es)
+    → told body ≡ plan_prefix es size
+prefix_planned es size n body fits is e = rw (first_that_fits es size fits) (ap told (e ∙ ap entries_bytes (prefix_is es size n is)))
 
 -- ---- more entries than can fit
 
@@ -87,15 +87,15 @@ cut_longest es size k few =
           (subst (λ (fs : List Entry). sum_by packed_len fs ≤ size) (take-take m k es (omega (arith, fewer, len))) fits);
     }
 
--- the front is the same where entries are left out that are not of it
-pub front_upto : (es : List Entry) (size k : ℕ) → most es size (length es) ≤ k → longest_prefix (take k es) size ≡ longest_prefix es size
-front_upto es size k few =
+-- the prefix is the same where entries are left out that are not of it
+pub prefix_upto : (es : List Entry) (size k : ℕ) → most es size (length es) ≤ k → longest_prefix (take k es) size ≡ longest_prefix es size
+prefix_upto es size k few =
     let n : ℕ = most es size (length es) in
-    sym (front_is (take k es) size n (cut_longest es size k few)) ∙ take-take n k es few
+    sym (prefix_is (take k es) size n (cut_longest es size k few)) ∙ take-take n k es few
 
 -- and so where they can't fit
-pub front_cut : (es : List Entry) (size k : ℕ) → AllByRecursion IsNamed es → size < 32 * k → longest_prefix (take k es) size ≡ longest_prefix es size
-front_cut es size k named past = front_upto es size k (let few = most_few es size k named past in omega (arith, few))
+pub prefix_cut : (es : List Entry) (size k : ℕ) → AllByRecursion IsNamed es → size < 32 * k → longest_prefix (take k es) size ≡ longest_prefix es size
+prefix_cut es size k named past = prefix_upto es size k (let few = most_few es size k named past in omega (arith, few))
 
 pub first_cut : (es : List Entry) (size k : ℕ) → 0 < k → first_fits (take k es) size ≡ first_fits es size
 first_cut [] size zero some = refl

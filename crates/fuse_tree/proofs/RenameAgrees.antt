@@ -35,7 +35,7 @@ use Rattle.fuse_tree.proofs.RenameFree.{free_rows, free_tree}
 use Rattle.fuse_tree.proofs.RenameOver.{over_rows, over_tree}
 use Rattle.fuse_tree.proofs.Exchanges.{exchange_rows, exchange_tree}
 
--- ---- tests and faults that are told in two ways
+-- ---- tests and faults that are stated in two ways
 
 both_as : (s : State) (b b' : Bool) (p q : Planned) (d e : Done) → b' ≡ b → (b ≡ true → Agrees s p d) → (b ≡ false → Agrees s q e)
     → Agrees s (cond b' p q) (cond b d e)

@@ -51,7 +51,7 @@ rename_fits s r n = between_fits s r n (node_at s r.new_dir)
 
 -- ---- and is read
 
--- a fault that is told is an error that an answer may bear
+-- a fault that is answered is an error that an answer may bear
 IsError : Option Errno → Type 0
 IsError None = Unit {0}
 IsError (Some errno) = is_error errno ≡ true

@@ -46,7 +46,7 @@ given_at s k n tree at =
     let is : n.number ≡ k = (node_found s k n tree at).0 in
     omega arith
 
--- node x comes to stand in directory `to`, it and `dir` change, and the nodes that Y tells come to stand elsewhere
+-- node x comes to stand in directory `to`, it and `dir` change, and the nodes of which Y holds come to stand elsewhere
 pub record Shift (s : State) (fs : List EntryRow) (dir to x : ℕ) (Y : ℕ → Bool) (d t c : Node) : Type 0 where
   pub tree : Tree s
   pub at_d : node_at s dir ≡ Some d
@@ -133,7 +133,7 @@ module _ {s : State} {fs : List EntryRow} {dir to x : ℕ} {Y : ℕ → Bool} {d
       ((t, at_own s to t m.tree m.at_t, to_is lost moves (recounted.into (two_dirs is))), (child_row, tt)),
     )
 
-    -- a node that Y tells
+    -- a node of which Y holds
     pub lost_is : (y k : ℕ) (o : Node) → node_at s y ≡ Some o → Y y ≡ true → y ≢ dir → y ≢ to → up_of fs y ≡ k → IsRowOf s G (moved_row now k (row_of s o))
     lost_is y k o at is apart_dir apart_to up =
         let o_is : o.number ≡ y = (node_found s y o m.tree at).0 in

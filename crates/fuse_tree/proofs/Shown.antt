@@ -50,7 +50,7 @@ all_shown rows dir cookie limit es is e =
     subst (AllByRecursion (IsShown rows)) (sym e)
     (subst (λ (r : Rows). AllByRecursion (IsShown r) (entries_after r dir cookie limit)) (sym (is.2 ∙ rowed_is s)) (shown_in s dir cookie limit is.1))
 
--- ---- entries that are told one after the other
+-- ---- entries that are listed one after the other
 
 pub all_at : {A : Type 0} (P : A → Type 0) (xs : List A) (i : ℕ) (x : A) → AllByRecursion P xs → i < length xs → get_or xs i x ≡ x → P x
 all_at P [] i x all within is = absurd (omega arith)

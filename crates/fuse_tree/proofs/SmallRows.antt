@@ -154,7 +154,7 @@ pub record Fit (p : Planned) : Type 0 where
 pub nothing : (p : Planned) → p.changes ≡ [] → Fit p
 nothing p none = record { columns = subst FitColumns (sym none) tt }
 
--- behind a check that changes nothing
+-- after a check that changes nothing
 pub past : (b : Bool) (p q : Planned) → p.changes ≡ [] → (b ≡ false → Fit q) → Fit (cond b p q)
 past true p q none so = nothing p none
 past false p q none so = so refl

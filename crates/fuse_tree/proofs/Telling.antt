@@ -1,4 +1,4 @@
--- The rows of a state tell all of it.
+-- The rows of a state determine it.
 use Rattle.std.proofs.Common.{◌≡◌, List, [], ◌∷◌, map, refl, sym, ap, ◌∙◌}
 use Rattle.fuse_tree.specs.declared.rows.Full.{Full}
 use Rattle.fuse_tree.specs.State.{State, Node}

@@ -24,7 +24,7 @@ state_up s number row (Some n) tree e is =
     let same : row_of s n ≡ row = cc in
     ap (up_of s.entries) (sym (node_found s number n tree e).0) ∙ ap (λ (r : NodeRow). r.up) same
 
--- the row that is found tells the directory above
+-- the row that is found has the directory above
 pub row_up : (rows : Rows) (number : ℕ) (row : NodeRow) → IsRowed rows → row_at rows number ≡ Some row → up_of rows.entries number ≡ row.up
 unfolding IsRowed
 row_up rows number row is e =

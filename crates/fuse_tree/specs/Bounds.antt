@@ -28,7 +28,7 @@ name_limit = 255
 abbrev pub fuse_root_id : ℕ
 fuse_root_id = 1
 
--- blksize of the attributes, and what one of their blocks counts
+-- blksize of the attributes, and the size of one of their blocks
 abbrev pub block_bytes : ℕ
 block_bytes = 4096
 
@@ -39,6 +39,6 @@ sector_bytes = 512
 abbrev pub valid_seconds : ℕ
 valid_seconds = 1
 
--- what the shortest entry of a directory takes: 24 bytes and a name of one, padded to a multiple of 8
+-- the size of the shortest entry of a directory: 24 bytes and a name of one, padded to a multiple of 8
 abbrev pub least_entry : ℕ
 least_entry = 32

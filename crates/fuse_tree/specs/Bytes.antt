@@ -1,5 +1,5 @@
 -- States of bytes (own profile): contents are bytes, and names are bytes other than NUL. The definitions have numbers without
--- bounds, and `done` refuses no name for its NUL; so this isn't said of each tree, but of what requests of bytes lead to.
+-- bounds, and `done` refuses no name for its NUL; so this holds of the states that requests of bytes lead to, not of every tree.
 use Rattle.std.specs.Prelude.{◌<◌, ◌≤◌, ℕ, List}
 use Rattle.std.specs.List.{AllByRecursion}
 use Rattle.fuse_wire.specs.declared.moment.Moment.{Moment}
@@ -20,7 +20,7 @@ pub record HoldsBytes (s : State) : Type 0 where
   pub contents : AllByRecursion (λ n. AreBytes n.content) s.nodes
   pub names : AllByRecursion (λ e. AreNameBytes e.name) s.entries
 
--- what a request would give to a node or an entry is bytes
+-- the request gives bytes to a node or an entry
 abbrev pub BringsBytes : Act → Type 0
 BringsBytes (acts.Mknod mode rdev umask name) = AreNameBytes name
 BringsBytes (acts.Mkdir mode umask name) = AreNameBytes name

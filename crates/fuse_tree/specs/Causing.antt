@@ -1,4 +1,4 @@
--- What a store answers where a plan over lists answers a fault (own profile).
+-- The faults of plans over lists as faults of a store (own profile).
 use Rattle.std.specs.Prelude.{◌≡◌}
 use Rattle.fuse_tree.specs.declared.planning.fault.PlanFault.{PlanFault}
 use Rattle.fuse_tree.specs.declared.planning.fault.PlanFault.TheVariants as plans

@@ -1,4 +1,4 @@
--- A state in which one node is another than before (own profile).
+-- A state in which one node has changed (own profile).
 use Rattle.std.specs.Prelude.{◌==◌, ℕ, if◌then◌else◌, map}
 use Rattle.fuse_tree.specs.State.{State, Node}
 

@@ -1,4 +1,4 @@
--- What a new mount leaves of a state (own profile).
+-- The state that a mount begins with (own profile).
 use Rattle.std.specs.Prelude.{◌≡◌, Bool, [], length, filter, None}
 use Rattle.fuse_tree.specs.declared.rows.Full.{Full}
 use Rattle.fuse_tree.specs.State.{State, Tree, is_named}
@@ -21,6 +21,6 @@ cleared_rows rows = record {
   settings = None;
 }
 
--- what is left of a tree is a tree, and its rows are those that are left
+-- of a tree a tree is left, and its rows are those that are left
 abbrev pub Clearing : Type 0
 Clearing = (s : State) → Tree s → Tree (cleared s) × (rowed (cleared s) ≡ cleared_rows (rowed s))

@@ -29,7 +29,7 @@ pub record FitsCounters (counters : CountersRow) : Type 0 where
   pub nodes : counters.nodes < 2 ^ 63
   pub handles : counters.handles < 2 ^ 63
 
--- the numbers of a change; those of 32 bits and the seconds have a column for all that their types can tell
+-- the numbers of a change; columns have room for every number of 32 bits and every second
 abbrev pub FitsChange : Change → Type 0
 FitsChange (changes.Node row) = FitsNode row
 FitsChange (changes.Entry entry) = FitsEntry entry

@@ -1,5 +1,5 @@
--- What each request does to a state and answers (own profile), over the whole state: the first check that
--- applies decides. Neither unique nor pid nor the extensions are looked at.
+-- The effect and the answer of each request (own profile), over the whole state: the first check that
+-- applies decides. Neither unique nor pid nor the extensions matter.
 use Rattle.std.specs.Prelude.{ℕ, Bool, true, false, not, if◌then◌else◌, List, [], Option, Some, None, is_some}
 use Rattle.fuse_wire.specs.Errnos.{enoent, enotdir, enosys, eproto, estale}
 use Rattle.fuse_wire.specs.declared.moment.Moment.{Moment}
@@ -48,7 +48,7 @@ getattr s n = answer s (attr_out_bytes (attr_out_of (attr_of s n)))
 
 -- ---- all requests
 
--- what is asked, at the node that the header names; the last line is of requests that aren't kept, and of INIT and
+-- the operation, at the node of the header; the last line is of requests that aren't kept, and of INIT and
 -- DESTROY, which are answered before
 abbrev pub do_act : State → InHeader → Act → Moment → Node → Done
 do_act s header (acts.Lookup name) now n = lookup s name n
@@ -73,7 +73,7 @@ abbrev pub do_at : State → Asked → Moment → Option Node → Done
 do_at s request now None = refuse s estale
 do_at s request now (Some n) = do_act s request.header request.act now n
 
--- whether the node that the header names is looked at
+-- whether the node of the header matters
 abbrev pub names_node : Act → Bool
 names_node acts.Destroy = false
 names_node _ = true
@@ -82,16 +82,16 @@ names_node _ = true
 abbrev pub do_agreed : State → Asked → Moment → Done
 do_agreed s request now = if names_node request.act then do_at s request now (node_at s request.header.nodeid) else answer s []
 
--- what an INIT offers
+-- the offer of an INIT
 abbrev pub offer_of : Act → Option InitIn
 offer_of (acts.Init offer) = Some offer
 offer_of _ = None
 
--- INIT is answered always, and all else where settings are agreed on
+-- INIT is always answered, and other requests where settings are agreed on
 abbrev pub do_offered : State → Asked → Moment → Option InitIn → Done
 do_offered s request now (Some offer) = init s (agree offer)
 do_offered s request now None = if is_some s.settings then do_agreed s request now else refuse s eproto
 
--- what a request does at a moment
+-- the effect of a request at a moment
 unfoldable pub done : State → Asked → Moment → Done
 done s request now = do_offered s request now (offer_of request.act)

@@ -1,4 +1,4 @@
--- The state after a request and its answer (own profile): what the definitions of the operations share.
+-- The state after a request and its answer (own profile): shared by the definitions of the operations.
 use Rattle.std.specs.Prelude.{◌+◌, ◌-◌, ◌/◌, ◌==◌, ℕ, if◌then◌else◌, List, [], length, map, Option, Some, None}
 use Rattle.fuse_wire.specs.declared.errno.Errno.{Errno}
 use Rattle.fuse_wire.specs.declared.moment.Moment.{Moment}
@@ -9,7 +9,7 @@ use Rattle.fuse_answer.specs.declared.records.AttrOut.{AttrOut}
 use Rattle.fuse_tree.specs.Bounds.{block_bytes, sector_bytes, valid_seconds}
 use Rattle.fuse_tree.specs.State.{State, Node, links_of}
 
--- the state after a request, and what it is answered
+-- the state after a request, and its answer
 pub record Done : Type 0 where
   pub state : State
   pub said : Said
@@ -18,7 +18,7 @@ pub record Done : Type 0 where
 abbrev pub refuse : State → Errno → Done
 refuse s errno = record { state = s; said = record { errno = errno.0; body = [] } }
 
--- a refusal where there is a fault, and else what is done
+-- a refusal where there is a fault, and else the operation
 abbrev pub refuse_for : State → Option Errno → Done → Done
 refuse_for s (Some errno) d = refuse s errno
 refuse_for s None d = d
@@ -27,7 +27,7 @@ refuse_for s None d = d
 abbrev pub answer : State → List ℕ → Done
 answer s body = record { state = s; said = record { errno = 0; body = body } }
 
--- ---- what is told of a node
+-- ---- the attributes of a node
 
 abbrev pub attr_of : State → Node → Attr
 attr_of s n = record {

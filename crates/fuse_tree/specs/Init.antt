@@ -1,4 +1,4 @@
--- What INIT does (own profile): what is agreed on replaces the settings, agreed on before or not.
+-- INIT (own profile): the new settings replace those of an earlier INIT.
 use Rattle.std.specs.Prelude.{Some}
 use Rattle.fuse_answer.specs.Bodies.{init_bytes}
 use Rattle.fuse_init.specs.declared.negotiation.Negotiated.{Negotiated}

@@ -1,4 +1,4 @@
--- What READDIR does (own profile): the entries of a directory behind an offset, as many as fit.
+-- READDIR (own profile): the entries of a directory after an offset, as many as fit.
 use Rattle.std.specs.Prelude.{◌<◌, ◌==◌, ℕ, zero, suc, Bool, true, not, nat_le, nat_lt, if◌then◌else◌, List, [], ◌∷◌, ◌++◌, length, map, take, filter, Option}
 use Rattle.std.specs.Prelude.{Some, None, codes}
 use Rattle.std.specs.List.{sum_by}
@@ -72,8 +72,8 @@ read_dir s asked n =
 
 -- ---- laws
 
--- the entries of a directory of a tree stand in rising order of their offsets, and the front that is told is the
--- longest one that fits
+-- the entries of a directory of a tree stand in rising order of their offsets, and the listing is the longest prefix
+-- that fits
 pub record Listed (s : State) (dir offset size : ℕ) : Type 0 where
   pub rise : Apart (λ e later. e.off < later.off) (entries_in s dir)
   pub longest : IsLongest (entries_following s dir offset) size (most (entries_following s dir offset) size (length (entries_following s dir offset)))

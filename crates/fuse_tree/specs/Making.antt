@@ -1,4 +1,4 @@
--- What MKNOD and MKDIR do (own profile): a new node and its entry.
+-- MKNOD and MKDIR (own profile): a new node and its entry.
 use Rattle.std.specs.Prelude.{◌+◌, ◌%◌, ◌==◌, ◌||◌, ℕ, Bool, not, nat_le, if◌then◌else◌, List, [], ◌∷◌, ◌++◌, length, is_some}
 use Rattle.fuse_wire.specs.Errnos.{enoent, eexist, enotdir, einval, enospc}
 use Rattle.fuse_wire.specs.declared.moment.Moment.{Moment}
@@ -12,7 +12,7 @@ use Rattle.fuse_tree.specs.State.{State, Node, is_dir, type_bits, is_device, is_
 use Rattle.fuse_tree.specs.Rows.{entry_at}
 use Rattle.fuse_tree.specs.Done.{Done, refuse, refuse_for, answer, attr_of, entry_of, touch}
 
--- what a request's new node begins with
+-- the initial attributes of a new node
 abbrev pub begun : InHeader → ℕ → ℕ → Moment → NewNode
 begun header mode rdev now = record { mode = mode; uid = header.uid; gid = header.gid; rdev = rdev; made = now }
 

@@ -1,4 +1,4 @@
--- The types that a mode tells, and the flags of RENAME2 (Linux: sys/stat.h, linux/fs.h).
+-- The types of modes, and the flags of RENAME2 (Linux: sys/stat.h, linux/fs.h).
 use Rattle.std.specs.Prelude.{ℕ}
 
 abbrev pub s_ifdir : ℕ
@@ -19,7 +19,7 @@ s_ififo = 0o010000
 abbrev pub s_ifsock : ℕ
 s_ifsock = 0o140000
 
--- the bits below this one are the permissions, and the next four tell the type
+-- the bits below this one are the permissions, and the next four are the type
 abbrev pub type_unit : ℕ
 type_unit = 0o10000
 

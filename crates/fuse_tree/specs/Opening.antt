@@ -1,4 +1,4 @@
--- What OPEN, OPENDIR, RELEASE and RELEASEDIR do (own profile).
+-- OPEN, OPENDIR, RELEASE and RELEASEDIR (own profile).
 use Rattle.std.specs.Prelude.{◌+◌, ◌==◌, ℕ, not, nat_le, if◌then◌else◌, [], ◌∷◌, ◌++◌, length, filter, Option, Some, None, pos}
 use Rattle.fuse_wire.specs.declared.access_mode.AccessMode.{AccessMode}
 use Rattle.fuse_wire.specs.declared.access_mode.AccessMode.TheVariants.{ReadOnly}
@@ -29,7 +29,7 @@ new_handle next_fh node access = record { fh = next_fh; node = node; access = ac
 abbrev pub opened : State → ℕ → AccessMode → State
 opened s node access = record s { handles = s.handles ++ new_handle s.next_fh node access ∷ []; next_fh = s.next_fh + 1 }
 
--- what is answered for a new handle
+-- the answer for a new handle
 abbrev pub open_of : ℕ → OpenOut
 open_of fh = record { fh = fh; open_flags = 0; backing_id = pos 0 }
 

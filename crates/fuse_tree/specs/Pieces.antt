@@ -28,6 +28,6 @@ pieces_by zero at len = []
 pieces_by (suc n) at zero = []
 pieces_by (suc n) at (suc m) = first_piece at (suc m) ∷ pieces_by n (at + first_len at (suc m)) (suc m - first_len at (suc m))
 
--- what an iterator over pieces has left
+-- the pieces that an iterator has left
 unfoldable pub pieces_of : ℕ → ℕ → List Piece
 pieces_of at len = pieces_by len at len

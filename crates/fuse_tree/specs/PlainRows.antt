@@ -8,6 +8,6 @@ use Rattle.fuse_tree.specs.Rows.{Rows}
 abbrev pub rows_of : PlainRows → Rows
 rows_of p = record { nodes = p.nodes; entries = p.entries.items; handles = p.handles.items; counters = p.counters; settings = p.settings }
 
--- the fault of a look, once there was one: only want of memory makes a look in lists fail
+-- the fault of a look, once there was one: a look in lists fails only where it is out of memory
 abbrev pub fault_of : PlainRows → Option LookFault
 fault_of p = if p.failed then Some Memory else None

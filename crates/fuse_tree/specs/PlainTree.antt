@@ -1,4 +1,4 @@
--- What a tree over lists holds, and what is told of a keeper of one (own profile).
+-- The rows of a tree over lists, and the state of a keeper of one (own profile).
 use Rattle.fuse_tree.specs.Rows.{Rows}
 use Rattle.fuse_tree.specs.PlainRows.{rows_of}
 use Rattle.fuse_keeper.specs.declared.plain.PlainKeeper.{PlainKeeper}

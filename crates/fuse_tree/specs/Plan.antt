@@ -1,4 +1,4 @@
--- What `plan` answers, and the laws on what requests do (own profile).
+-- The contract of `plan`, and the laws on requests (own profile).
 use Rattle.std.specs.Prelude.{◌≡◌, Bool, true, false, List, Option, Some, None, Result, Ok, Err}
 use Rattle.fuse_wire.specs.declared.moment.Moment.{Moment}
 use Rattle.fuse_request.specs.Act.{Asked, opcode_of}
@@ -24,11 +24,11 @@ abbrev pub takes_entry : Change → Bool
 takes_entry (changes.EntryGone cookie) = true
 takes_entry _ = false
 
--- behind a change that makes an entry none takes one away
+-- after a change that makes an entry none deletes one
 abbrev pub GoneFirst : List Change → Type 0
 GoneFirst = Apart (λ change later. makes_entry change ≡ true → takes_entry later ≡ false)
 
--- the plan is what is done: its answer is the one said, and its changes, each of which fits a table, make the rows of the
+-- the plan agrees with `done`: its answer is that of `done`, and its changes, each of which fits a table, make the rows of the
 -- state after it, a tree
 pub record Meets (s : State) (p : Planned) (d : Done) : Type 0 where
   pub answer : p.answer ≡ d.said
@@ -46,7 +46,7 @@ look_fault (Err faults.NotATree) = None
 
 -- ---- laws
 
--- what is done in a tree leaves a tree
+-- each request leaves a tree
 abbrev pub TreeKept : Type 0
 TreeKept = (s : State) (request : Asked) (now : Moment) → Tree s → Tree (done s request now).state
 
@@ -54,14 +54,14 @@ TreeKept = (s : State) (request : Asked) (now : Moment) → Tree s → Tree (don
 abbrev pub NewStoreIsTree : Type 0
 NewStoreIsTree = (now : Moment) → Tree (new_store now)
 
--- the rows tell the whole state
+-- the rows determine the state
 abbrev pub RowsTellState : Type 0
 RowsTellState = (s other : State) → rowed s ≡ rowed other → s ≡ other
 
--- what is answered has no body beside an error, and none that is too long
+-- an answer has no body beside an error, and none that is too long
 abbrev pub AnswersFit : Type 0
 AnswersFit = (s : State) (request : Asked) (now : Moment) → FitsAnswer (done s request now).said
 
--- what is answered in a tree is read as the answer to the request's opcode
+-- an answer in a tree is read as one to the request's opcode
 abbrev pub AnswersAreRead : Type 0
 AnswersAreRead = (s : State) (request : Asked) (now : Moment) → Tree s → IsRead (opcode_of request.act) (done s request now).said

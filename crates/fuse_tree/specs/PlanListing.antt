@@ -1,4 +1,4 @@
--- What the plan of READDIR reads off the rows (own profile), in the order of its checks.
+-- The plan of READDIR over the rows (own profile), in the order of its checks.
 -- Not part of what is trusted: neither `done` nor the public clauses of `plan` speak of it.
 use Rattle.std.specs.Prelude.{◌≡◌, ◌≢◌, ◌<◌, ◌≤◌, ◌+◌, ◌/◌, ◌==◌, ℕ, not, nat_lt, if◌then◌else◌, List, ◌++◌, length, map, take, filter, Option, Some, None}
 use Rattle.std.specs.Prelude.{Result, IfOk, IfErr}
@@ -35,11 +35,11 @@ row_entry rows e = record { ino = e.child; off = e.cookie; kind = row_kind (row_
 abbrev pub enough : ℕ → ℕ
 enough size = size / least_entry + 1
 
-abbrev pub dots_behind : ℕ → NodeRow → List Entry
-dots_behind offset row = filter (is_following offset) (dots row.node (row_above row))
+abbrev pub dots_after : ℕ → NodeRow → List Entry
+dots_after offset row = filter (is_following offset) (dots row.node (row_above row))
 
-abbrev pub rows_behind : ℕ → ℕ → NodeRow → Rows → List Entry
-rows_behind offset size row rows = dots_behind offset row ++ map (row_entry rows) (entries_after rows row.node offset (enough size))
+abbrev pub rows_after : ℕ → ℕ → NodeRow → Rows → List Entry
+rows_after offset size row rows = dots_after offset row ++ map (row_entry rows) (entries_after rows row.node offset (enough size))
 
 -- how many bytes the entry takes in a listing
 abbrev pub row_len : EntryRow → ℕ
@@ -52,11 +52,11 @@ pub record IsCut (es : List EntryRow) (left n : ℕ) : Type 0 where
 
 -- ---- READDIR
 
-abbrev pub plan_front : List Entry → ℕ → Planned
-plan_front es size = if not (first_fits es size) then refused einval else told (entries_bytes (longest_prefix es size))
+abbrev pub plan_prefix : List Entry → ℕ → Planned
+plan_prefix es size = if not (first_fits es size) then refused einval else told (entries_bytes (longest_prefix es size))
 
 abbrev pub plan_list : ℕ → ℕ → NodeRow → Rows → Planned
-plan_list offset size row rows = plan_front (rows_behind offset size row rows) size
+plan_list offset size row rows = plan_prefix (rows_after offset size row rows) size
 
 abbrev pub plan_read_dir : ReadIn → NodeRow → Rows → Planned
 plan_read_dir asked row rows =
@@ -66,7 +66,7 @@ plan_read_dir asked row rows =
     else if not (row_is_named row) then refused enoent
     else plan_list asked.offset asked.size row rows
 
--- ---- what the parts answer
+-- ---- the answers of the parts
 
 -- `Reads`, of what is seen of the answer
 abbrev pub ReadsBy : {X Y : Type 0} → (X → Y) → Type 0 → (Rows → Type 0) → Result X PlanFault → (Rows → Y) → Type 0

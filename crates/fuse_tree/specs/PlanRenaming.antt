@@ -1,4 +1,4 @@
--- What the plans of RENAME and RENAME2 read off the rows (own profile), in the order of their checks.
+-- The plans of RENAME and RENAME2 over the rows (own profile), in the order of their checks.
 -- Not part of what is trusted: neither `done` nor the public clauses of `plan` speak of it.
 use Rattle.std.specs.Prelude.{◌+◌, ◌-◌, ◌==◌, ◌&&◌, ◌||◌, ℕ, Bool, false, not, nat_eq, nat_le, nat_lt, if◌then◌else◌, List, [], ◌∷◌, ◌++◌, is_some, Option}
 use Rattle.std.specs.Prelude.{Some, None}
@@ -21,7 +21,7 @@ use Rattle.fuse_tree.specs.Removing.{has_entries}
 use Rattle.fuse_tree.specs.PlanRemoving.{link_at, unnamed_row}
 use Rattle.fuse_tree.specs.Renaming.{Renaming, is_exchange, is_no_replace, leads_to, asked_fault, kinds_fault}
 
--- what is asked, its names as lists
+-- the request, its names as lists
 abbrev pub renaming_of : RenameIn → Renaming
 renaming_of asked = record { new_dir = asked.new_dir; mode = asked.mode; old_name = asked.old_name.now; new_name = asked.new_name.now; now = asked.at }
 
@@ -81,7 +81,7 @@ link_fault rows source (Some other) = kinds_fault (is_dir_link source) (is_dir_l
 
 -- ---- RENAME
 
--- what stood at the new place goes
+-- the entry at the new place goes
 abbrev pub lost_changes : Moment → Option Link → List Change
 lost_changes now None = []
 lost_changes now (Some other) = changes.EntryGone other.cookie ∷ changes.Node (unnamed_row now other.child) ∷ []
@@ -142,7 +142,7 @@ plan_rename_by r from to source other rows =
     else if is_no_replace r.mode && is_some other then refused eexist
     else plan_rename_link r from to source other rows
 
--- what stands at the new place, which may be the old one
+-- the entry at the new place, which may be the old one
 abbrev pub other_at : Renaming → ℕ → Link → Rows → Option Link
 other_at r dir source rows = if (dir == r.new_dir) && pointwise nat_eq r.old_name r.new_name then Some source else link_at rows r.new_dir r.new_name
 

@@ -1,4 +1,4 @@
--- What the plan of SETATTR reads off the row (own profile), in the order of its checks.
+-- The plan of SETATTR over the row (own profile), in the order of its checks.
 -- Not part of what is trusted: neither `done` nor the public clauses of `plan` speak of it.
 use Rattle.std.specs.Prelude.{ℕ, if◌then◌else◌, List, [], ◌∷◌}
 use Rattle.fuse_wire.specs.declared.moment.Moment.{Moment}

@@ -1,4 +1,4 @@
--- What `plan` reads off the rows (own profile), in the order of its checks.
+-- `plan` over the rows (own profile), in the order of its checks.
 -- Not part of what is trusted: neither `done` nor the public clauses of `plan` speak of it.
 use Rattle.std.specs.Prelude.{ℕ, Bool, true, false, not, if◌then◌else◌, List, [], Option, Some, None, is_some}
 use Rattle.fuse_wire.specs.Errnos.{enoent, enotdir, enosys, eproto, estale}
@@ -51,7 +51,7 @@ tells_name (acts.Rename new_dir old_name new_name) = true
 tells_name (acts.Rename2 new_dir flags old_name new_name) = true
 tells_name _ = false
 
--- what is asked, at the node that the header names; the last line is of what isn't performed here
+-- the operation, at the node of the header; the last line is of requests that aren't performed here
 abbrev pub plan_act : InHeader → Act → Moment → NodeRow → Rows → Planned
 plan_act header (acts.Lookup name) now row rows = plan_lookup name row rows
 plan_act header (acts.Getattr flags fh) now row rows = told (attr_body row)

@@ -1,4 +1,4 @@
--- What the parts of `plan` read off the rows (own profile): what the plans of the operations share.
+-- The parts of `plan` over the rows (own profile): shared by the plans of the operations.
 -- Not part of what is trusted: neither `done` nor the public clauses of `plan` speak of it.
 use Rattle.std.specs.Prelude.{◌≡◌, ◌≤◌, ◌+◌, ◌-◌, ◌/◌, ℕ, not, if◌then◌else◌, List, [], Option, Some, None, Result, IfOk, IfErr, OnErr, ◌≢◌}
 use Rattle.fuse_wire.specs.declared.errno.Errno.{Errno}
@@ -16,13 +16,13 @@ use Rattle.fuse_tree.specs.Rows.{Rows, IsRowed, row_is_named, row_at, entry_at}
 use Rattle.fuse_tree.specs.Plan.{look_fault}
 use Rattle.fuse_tree.specs.Done.{entry_of, attr_out_of}
 
--- ---- what the parts answer
+-- ---- the answers of the parts
 
 -- where it is answered, it is this, and the rows are not said to be those of no tree
 abbrev pub Reports : {X : Type 0} → Result X PlanFault → X → Type 0
 Reports result told = IfOk result (λ x. x ≡ told) × IfErr result (λ fault. fault ≢ faults.NotATree)
 
--- where no look failed and nothing wrong was taken, over the rows of a tree it is what is read off them
+-- where no look failed and no answer was wrong, over the rows of a tree it is read off them
 abbrev pub Reads : {X : Type 0} → Type 0 → (Rows → Type 0) → Result X PlanFault → (Rows → X) → Type 0
 Reads clean sees result told = look_fault result ≡ None → clean → (rows : Rows) → IsRowed rows → sees rows → Reports result (told rows)
 
@@ -32,7 +32,7 @@ pub record Looked {S X : Type 0} (fault_of : S → Option LookFault) (looking fa
   pub looks : look_fault result ≡ None → looking old new
   pub fails : OnErr result (failing old new)
 
--- what is answered is read off the rows behind the old, and nothing but looks lie between the two
+-- the answer is read off the rows that the old one sees, and nothing but looks lie between the two
 pub record LooksUp {S X : Type 0} (clean : S → Type 0) (sees : S → Rows → Type 0) (fault_of : S → Option LookFault)
     (looking failing : S → S → Type 0) (old new : S) (result : Result X PlanFault) (told : Rows → X) : Type 0 where
   pub reads : Reads (clean new) (sees old) result told
@@ -50,7 +50,7 @@ pub record IsWithin (row : NodeRow) : Type 0 where
 abbrev pub refused : Errno → Planned
 refused errno = record { answer = record { errno = errno.0; body = [] }; changes = [] }
 
--- a refusal where there is a fault, and else what is planned
+-- a refusal where there is a fault, and else the plan
 abbrev pub refused_for : Option Errno → Planned → Planned
 refused_for (Some errno) p = refused errno
 refused_for None p = p
@@ -58,7 +58,7 @@ refused_for None p = p
 abbrev pub told : List ℕ → Planned
 told body = record { answer = record { errno = 0; body = body }; changes = [] }
 
--- ---- what a row tells
+-- ---- the content of a row
 
 abbrev pub row_links : NodeRow → ℕ
 row_links row =
@@ -92,7 +92,7 @@ entry_body row = entry_bytes (entry_of (row_attr row))
 abbrev pub attr_body : NodeRow → List ℕ
 attr_body row = attr_out_bytes (attr_out_of (row_attr row))
 
--- ---- what an entry leads to
+-- ---- the child of an entry
 
 abbrev pub child_of : Rows → Option EntryRow → Option NodeRow
 child_of rows None = None

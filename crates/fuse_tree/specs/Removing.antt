@@ -1,4 +1,4 @@
--- What UNLINK and RMDIR do (own profile): an entry goes, and its child stays as a node without a name.
+-- UNLINK and RMDIR (own profile): an entry goes, and its child stays as a node without a name.
 use Rattle.std.specs.Prelude.{◌==◌, ℕ, Bool, not, if◌then◌else◌, List, [], map, filter, Option, Some, None}
 use Rattle.std.specs.List.{list_any}
 use Rattle.fuse_wire.specs.Errnos.{enoent, enotdir, eisdir, enotempty}

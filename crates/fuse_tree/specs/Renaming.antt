@@ -1,4 +1,4 @@
--- What RENAME and RENAME2 do (own profile): an entry moves, or two children change places.
+-- RENAME and RENAME2 (own profile): an entry moves, or two children change places.
 use Rattle.std.specs.Prelude.{◌≡◌, ◌≢◌, ◌+◌, ◌-◌, ◌==◌, ◌&&◌, ◌||◌, ℕ, zero, suc, Bool, true, false, not, nat_le, nat_lt, if◌then◌else◌, List, [], ◌∷◌, ◌++◌}
 use Rattle.std.specs.Prelude.{length, is_some, Option, Some, None}
 use Rattle.std.specs.List.{list_any}
@@ -15,7 +15,7 @@ use Rattle.fuse_tree.specs.Rows.{entry_at}
 use Rattle.fuse_tree.specs.Done.{Done, refuse, refuse_for, answer, touch}
 use Rattle.fuse_tree.specs.Removing.{mark, without, entry_gone, has_entries}
 
--- what the flags of RENAME2 ask for
+-- the mode of the flags of RENAME2
 abbrev pub mode_of : ℕ → Option RenameMode
 mode_of flags =
     if flags == 0 then Some Replace
@@ -31,7 +31,7 @@ abbrev pub is_exchange : Option RenameMode → Bool
 is_exchange (Some Exchange) = true
 is_exchange _ = false
 
--- what is asked: from a name in the node of the header to a name in another directory, and at which moment
+-- the request: from a name in the node of the header to a name in another directory, and at which moment
 pub record Renaming : Type 0 where
   pub new_dir : ℕ
   pub mode : Option RenameMode
@@ -42,7 +42,7 @@ pub record Renaming : Type 0 where
 abbrev pub asking : ℕ → ℕ → List ℕ → List ℕ → Moment → Renaming
 asking new_dir flags old_name new_name now = record { new_dir = new_dir; mode = mode_of flags; old_name = old_name; new_name = new_name; now = now }
 
--- ---- what lies under a node
+-- ---- the directories under a node
 
 -- one of so many places on the way up is this node; the first place is where it begins
 abbrev pub leads_to : List EntryRow → ℕ → ℕ → ℕ → Bool
@@ -96,7 +96,7 @@ abbrev pub earlier : Option Errno → Option Errno → Option Errno
 earlier (Some errno) later = Some errno
 earlier None later = later
 
--- what is wrong before any entry is looked at, where both are directories and both are named, or not
+-- the fault before any entry is looked up, where both are directories and both are named, or not
 abbrev pub asked_fault : Renaming → Bool → Bool → Option Errno
 asked_fault r are_dirs are_named =
     if not are_dirs then Some enotdir

@@ -1,4 +1,4 @@
--- The rows that stand for a state, what a look tells of them, and what a change makes of them (own profile).
+-- The rows that stand for a state, the looks at them, and the effect of a change (own profile).
 use Rattle.std.specs.Prelude.{◌≡◌, ◌+◌, ◌-◌, ◌==◌, ◌&&◌, ◌||◌, ℕ, Bool, not, nat_lt, if◌then◌else◌, List, [], ◌∷◌, ◌++◌, length, map, find, filter, take, drop}
 use Rattle.std.specs.Prelude.{replicate, Option, Some, None}
 use Rattle.std.specs.Option.{option_map}
@@ -68,7 +68,7 @@ rowed s = rows_of_state s
 unfoldable pub IsRowed : Rows → Type 0
 IsRowed rows = (s : State) × Tree s × (rows ≡ rowed s)
 
--- ---- what a look tells
+-- ---- looks
 
 -- the node of this number
 abbrev pub full_at : Rows → ℕ → Option Full
@@ -105,7 +105,7 @@ bytes_at rows number offset len = take len (drop offset (content_of (full_at row
 abbrev pub with_row : NodeRow → Full → Full
 with_row row f = if f.row.node == row.node then record f { row = row } else f
 
--- a node's row, in place of the one with its number, or else behind the others
+-- a node's row, in place of the one with its number, or else after the others
 abbrev pub put_node : NodeRow → List Full → List Full
 put_node row nodes =
     if list_any (λ f. f.row.node == row.node) nodes then map (with_row row) nodes

@@ -1,4 +1,4 @@
--- What is true of the rows of each tree (own profile): what a reader of rows may rely on.
+-- True of the rows of each tree (own profile): a reader of rows may rely on it.
 use Rattle.std.specs.Prelude.{◌≡◌, ◌≢◌, ◌<◌, ◌≤◌, ℕ, length, Some, None}
 use Rattle.std.specs.List.{AllByRecursion}
 use Rattle.fuse_tree.specs.Bounds.{fuse_root_id, file_limit}
@@ -11,12 +11,12 @@ use Rattle.fuse_tree.specs.Rows.{Rows, IsRowed, row_at, full_at, content_of}
 abbrev pub LeadsToRow : Rows → EntryRow → Type 0
 LeadsToRow rows e = row_at rows e.child ≢ None
 
--- the size that the row of a node tells is that of its content, which fits into a file
+-- the size in the row of a node is that of its content, which fits into a file
 pub record IsSized (rows : Rows) (number : ℕ) (row : NodeRow) : Type 0 where
   pub told : row.size ≡ length (content_of (full_at rows number))
   pub within : row.size ≤ file_limit
 
--- the root is there, each entry leads to a row, cookies rise from 3 on, and sizes are told right
+-- the root is there, each entry leads to a row, cookies rise from 3 on, and sizes are right
 pub record OfTree (rows : Rows) : Type 0 where
   pub root : row_at rows fuse_root_id ≢ None
   pub children : AllByRecursion (LeadsToRow rows) rows.entries

@@ -1,4 +1,4 @@
--- What SETATTR does (own profile): the bits of `valid` say which attributes it sets.
+-- SETATTR (own profile): the bits of `valid` say which attributes it sets.
 use Rattle.std.specs.Prelude.{◌+◌, ◌*◌, ◌/◌, ◌%◌, ◌==◌, ◌||◌, ℕ, Bool, not, nat_lt, if◌then◌else◌, Option, Some, None}
 use Rattle.std.specs.Int.RustNames.{bit_and}
 use Rattle.fuse_wire.specs.Flags.{valid_bits}
@@ -44,7 +44,7 @@ atime_after set now atime =
     else if has set fattr_atime then record { secs = set.atime; nanos = set.atimensec }
     else atime
 
--- what changes the size changes this time
+-- a change of the size changes this time
 abbrev pub mtime_after : SetattrIn → Moment → Moment → Moment
 mtime_after set now mtime =
     if has set fattr_mtime_now then now
@@ -71,7 +71,7 @@ set_node set now n = record n {
 
 -- ---- SETATTR
 
--- what speaks against this size of a node of this mode
+-- the fault of this size for a node of this mode
 abbrev pub size_fault : ℕ → ℕ → Option Errno
 size_fault mode size =
     if is_dir mode then Some eisdir

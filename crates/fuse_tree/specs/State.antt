@@ -1,4 +1,4 @@
--- A tree of files, and what is true of each (own profile). Numbers are given out in rising order, so each
+-- A tree of files, and its invariant (own profile). Numbers are given out in rising order, so each
 -- list stands in the order of its numbers: a list with rising numbers is a finite map.
 use Rattle.std.specs.Prelude.{◌≡◌, ◌≢◌, ◌<◌, ◌≤◌, ◌+◌, ◌*◌, ◌/◌, ◌%◌, ◌^◌, ◌==◌, ◌&&◌, ◌||◌, ℕ, zero, suc, Bool, true, false, not, nat_eq, nat_lt}
 use Rattle.std.specs.Prelude.{if◌then◌else◌, List, [], ◌∷◌, length, find, filter, Option, Some, None, codes}
@@ -27,7 +27,7 @@ pub record Node : Type 0 where
   pub ctime : Moment
   pub content : List ℕ
 
--- all that the requests of a kernel can tell or change
+-- all that the requests of a kernel can read or change
 pub record State : Type 0 where
   pub nodes : List Node
   pub entries : List EntryRow
@@ -45,7 +45,7 @@ root_node now = record { number = fuse_root_id; mode = s_ifdir + 0o755; uid = 0;
 abbrev pub new_store : Moment → State
 new_store now = record { nodes = root_node now ∷ []; entries = []; handles = []; settings = None; next_node = 2; next_fh = 1; next_cookie = 3 }
 
--- ---- what is counted
+-- ---- counts
 
 -- the type of a node, from its mode
 abbrev pub type_of : ℕ → ℕ
@@ -57,7 +57,7 @@ is_dir mode = type_of mode == s_ifdir / type_unit
 abbrev pub is_file : ℕ → Bool
 is_file mode = type_of mode == s_ifreg / type_unit
 
--- the bits of a mode that tell its type
+-- the bits of a mode that are its type
 abbrev pub type_bits : ℕ → ℕ
 type_bits mode = type_of mode * type_unit
 
@@ -103,7 +103,7 @@ links_of s n =
 abbrev pub is_odd_name : List ℕ → Bool
 is_odd_name name = (length name == 0) || pointwise nat_eq name (codes ".") || pointwise nat_eq name (codes "..") || list_any (λ byte. byte == 47) name
 
--- what is wrong with a name
+-- the fault of a name
 abbrev pub name_fault : List ℕ → Option Errno
 name_fault name =
     if nat_lt name_limit (length name) then Some enametoolong
@@ -114,7 +114,7 @@ name_fault name =
 abbrev pub is_entry : ℕ → List ℕ → EntryRow → Bool
 is_entry dir name e = (e.dir == dir) && pointwise nat_eq e.name name
 
--- ---- what each state keeps
+-- ---- the invariant
 
 -- the relation holds between each element and each later one
 abbrev pub Apart : {A : Type 0} → (A → A → Type 0) → List A → Type 0
@@ -145,7 +145,7 @@ above entries (suc steps) number = above entries steps (up_of entries number)
 abbrev pub Reaches : List EntryRow → ℕ → Type 0
 Reaches entries number = (steps : ℕ) × (above entries steps number ≡ fuse_root_id)
 
--- a mode tells a type and permissions, and nothing more; only devices have the number of one
+-- a mode is a type and permissions, and nothing more; only devices have the number of one
 pub record HasMode (mode rdev : ℕ) : Type 0 where
   pub typed : is_type (type_bits mode) ≡ true
   pub no_more : mode < 2 ^ 16

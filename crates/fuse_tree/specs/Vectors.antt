@@ -1,4 +1,4 @@
--- Worked rows (own profile): what `done` says of INIT, of the first run, and of a name that is missing.
+-- Worked examples (own profile): `done` of INIT, of the first run, and of a name that is missing.
 use Rattle.std.specs.Prelude.{◌≡◌, ◌+◌, ◌^◌, ℕ, List, [], Option, Some, None, replicate, codes}
 use Rattle.fuse_wire.specs.declared.moment.Moment.{Moment}
 use Rattle.fuse_wire.specs.declared.errno.Errno.{Errno}
@@ -15,7 +15,7 @@ use Rattle.fuse_tree.specs.Do.{done}
 abbrev pub at : ℕ → Moment
 at secs = record { secs = secs; nanos = 0 }
 
--- with the uid, gid and pid of the worked rows
+-- with the uid, gid and pid of the worked examples
 abbrev pub asks : ℕ → ℕ → Act → Asked
 asks unique nodeid a = record { header = record { unique = unique; nodeid = nodeid; uid = 1000; gid = 1000; pid = 77 }; act = a; ext = [] }
 
@@ -33,7 +33,7 @@ init major minor flags flags2 = acts.Init (record { major = major; minor = minor
 abbrev pub after_init : State → Act → State
 after_init s a = (done s (asks 2 0 a) (at 1000)).state
 
--- init-agreed, on which the other rows stand
+-- init-agreed, on which the other examples stand
 abbrev pub first : State
 first = after_init (new_store (at 0)) (init 7 40 0x40002021 (Some 0x80))
 

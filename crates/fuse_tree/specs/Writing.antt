@@ -1,4 +1,4 @@
--- What WRITE and READ do (own profile).
+-- WRITE and READ (own profile).
 use Rattle.std.specs.Prelude.{◌+◌, ◌==◌, ℕ, Bool, true, false, not, nat_lt, if◌then◌else◌, List, length, take, drop, Option, Some, None}
 use Rattle.fuse_wire.specs.declared.access_mode.AccessMode.{AccessMode}
 use Rattle.fuse_wire.specs.declared.access_mode.AccessMode.TheVariants.{ReadOnly, WriteOnly, ReadWrite}

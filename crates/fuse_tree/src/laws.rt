@@ -13,7 +13,7 @@ use crate::mode::*;
 use crate::rename_mode::{RENAME_EXCHANGE, RENAME_NOREPLACE};
 use fuse_answer::{read_back, record_sizes};
 
-/// What is done in a tree leaves a tree.
+/// Each request leaves a tree.
 pub fn tree_kept()
     ensures { TreeKept }
 {}
@@ -28,7 +28,7 @@ pub fn bytes_kept()
     ensures { BytesKept }
 {}
 
-/// The rows tell the whole state.
+/// The rows determine the state.
 pub fn rows_tell_state()
     ensures { RowsTellState }
 {}
@@ -39,14 +39,14 @@ pub fn rows_of_trees()
     ensures { RowsOfTrees }
 {}
 
-/// What is answered fits.
+/// Each answer fits.
 pub fn answers_fit()
     ensures { AnswersFit }
 {
     record_sizes();
 }
 
-/// What is answered is read.
+/// Each answer is read as one to its opcode.
 pub fn answers_are_read()
     ensures { AnswersAreRead }
 {
@@ -54,12 +54,12 @@ pub fn answers_are_read()
     record_sizes();
 }
 
-/// The entries of a directory rise, and as many are told as fit.
+/// The entries of a directory rise, and READDIR lists the longest prefix that fits.
 pub fn listing_is_longest()
     ensures { ListingIsLongest }
 {}
 
-/// What lies under a directory is told by as many steps up as there are nodes.
+/// A directory lies under another one within as many steps up as there are nodes.
 pub fn lies_in_is_under()
     ensures { LiesInIsUnder }
 {}

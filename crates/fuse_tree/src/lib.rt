@@ -1,4 +1,5 @@
-//! A tree of files: what each request answers, and which rows it changes.
+//! A tree of files: the answer of each request and the rows that it changes, and the tree in memory
+//! as a file system.
 #![tactic(auto)]
 
 mod laws;
@@ -26,7 +27,6 @@ pub use look::{Look, LookFault};
 pub use mode::{S_IFBLK, S_IFCHR, S_IFDIR, S_IFIFO, S_IFREG, S_IFSOCK, TYPE_UNIT, TYPES};
 pub use mount::clearing;
 pub use pieces::{Piece, Pieces};
-pub use plain::PlainRows;
 pub use plain_tree::PlainTree;
 pub use planning::{PlanFault, plan};
 pub use rows::{Change, ChangeList, Counters, EntryRow, Full, HandleRow, NodeRow, Planned};

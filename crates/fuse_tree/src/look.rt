@@ -8,26 +8,26 @@ use crate::rows::{Counters, EntryRow, HandleRow, NodeRow};
 use fuse_init::Settings;
 use fuse_wire::ByteList;
 
-/// Why a look tells nothing.
+/// Why a look failed.
 #[derive(Clone, Copy, Debug, PartialEq, Eq)]
 pub enum LookFault {
     Memory,
-    /// What it stands on has failed.
+    /// Its store has failed.
     Failed,
 }
 
 /// Rows of a tree, wherever they are kept.
 ///
-/// Where it is clean and the rows of a tree lie behind it, an `Ok` tells of these rows, and they
-/// still lie behind it then. A fault stays: after it nothing is looked up any more.
+/// Where it is clean and sees the rows of a tree, an `Ok` reports these rows, and they stay in
+/// view. A fault stays: after it nothing is looked up any more.
 pub trait Look {
-    /// These rows lie behind it.
+    /// It sees these rows.
     ghost sees: { Self → Rows → Type 0 };
 
     /// The fault of a look, once there was one.
     ghost fault: { Self → Option LookFault };
 
-    /// It has taken no wrong answer of what it stands on.
+    /// It has taken no wrong answer of its store.
     ghost is_clean: { Self → Type 0 };
 
     /// Nothing but looks that went well lie between the two.
@@ -95,7 +95,7 @@ pub trait Look {
         ensures looks { OnOk result (looks self.old self.new) }
         ensures fails { OnErr result (fails self.old self.new) };
 
-    /// What was agreed on by INIT, where there was one.
+    /// The settings that INIT agreed on, where there was one.
     fn settings(&mut self) -> Result<Option<Settings>, LookFault>
         requires { fault self.old ≡ None }
         ensures row { is_clean self.new → (rows : Rows) → IsRowed rows → sees self.old rows
@@ -120,7 +120,7 @@ pub trait Look {
     /// Looks that left it clean found it clean.
     ghost was_clean: { (a b : Self) → looks a b → is_clean b → is_clean a };
 
-    /// Looks change nothing of what lies behind it.
+    /// Looks change nothing of the rows that it sees.
     ghost kept: { (a b : Self) → looks a b → is_clean b → (rows : Rows) → sees a rows
         → sees b rows };
 }

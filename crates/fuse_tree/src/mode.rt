@@ -16,8 +16,8 @@ pub const S_IFIFO: u32 = 0o010000;
 /// A socket.
 pub const S_IFSOCK: u32 = 0o140000;
 
-/// A mode's bits below this one are the permissions. It and the next three tell the type.
+/// A mode's bits below this one are the permissions. It and the next three are the type.
 pub const TYPE_UNIT: u32 = 0o10000;
 
-/// How many types four bits can tell.
+/// The number of types that four bits can hold.
 pub const TYPES: u32 = 16;

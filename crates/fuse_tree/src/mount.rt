@@ -1,7 +1,6 @@
 ghost use Rattle.fuse_tree.specs.Clearing.{Clearing};
 
-/// What a new mount leaves of a tree is a tree, and the rows that it leaves follow from the rows
-/// alone.
+/// A mount of a tree begins with a tree, whose rows follow from the rows before alone.
 pub fn clearing()
     ensures { Clearing }
 {}

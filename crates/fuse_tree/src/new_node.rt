@@ -1,6 +1,6 @@
 use fuse_wire::Moment;
 
-/// What a request's new node begins with.
+/// The initial attributes of a new node.
 #[derive(Clone, Copy)]
 pub struct NewNode {
     pub mode: u32,

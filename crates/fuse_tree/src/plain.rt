@@ -12,14 +12,14 @@ use std::alloc::Global;
 
 /// A tree whose rows are kept in lists. Contracts see them as `rows_of`.
 #[derive(Drop)]
-pub struct PlainRows {
+pub(crate) struct PlainRows {
     alloc: Global,
     nodes: NodeList,
     entries: Vec<EntryRow>,
     handles: Vec<HandleRow>,
     counters: Counters,
     settings: Option<Settings>,
-    // A look has failed: it wanted memory.
+    // A look has failed: it was out of memory.
     failed: bool,
 }
 
@@ -33,7 +33,7 @@ impl PlainRows {
     ghost use Rattle.fuse_tree.specs.PlainRows.{rows_of, fault_of};
 
     /// A new store, made at this moment.
-    pub fn new(alloc: Global, now: Moment) -> Result<PlainRows, Memory>
+    pub(crate) fn new(alloc: Global, now: Moment) -> Result<PlainRows, Memory>
         ensures rows { IfOk result (λ p. rows_of p ≡ rowed (new_store now)) }
         ensures fault { IfOk result (λ p. fault_of p ≡ None) }
     {
@@ -56,8 +56,8 @@ impl PlainRows {
         })
     }
 
-    /// The same rows once more.
-    pub fn to_copy(&self) -> Result<PlainRows, Memory>
+    /// A copy of the rows.
+    pub(crate) fn to_copy(&self) -> Result<PlainRows, Memory>
         ensures rows { IfOk result (λ copy. rows_of copy ≡ rows_of self.now) }
         ensures fault { IfOk result (λ copy. fault_of copy ≡ None) }
     {
@@ -73,7 +73,7 @@ impl PlainRows {
     }
 
     /// Makes one change.
-    pub fn apply(&mut self, change: Change) -> Result<(), Memory>
+    pub(crate) fn apply(&mut self, change: Change) -> Result<(), Memory>
         ensures ok { OnOk result (rows_of self.new ≡ apply_one (rows_of self.old) change) }
         ensures err { OnErr result (rows_of self.new ≡ rows_of self.old) }
         ensures fault { fault_of self.new ≡ fault_of self.old }
@@ -107,9 +107,9 @@ impl PlainRows {
         }
     }
 
-    /// Makes the changes, one after the other. On an `Err` some of them are made and the others
-    /// not, so that what is left may stand for no tree.
-    pub fn apply_all(&mut self, changes: ChangeList) -> Result<(), Memory>
+    /// Makes the changes, one after the other. After an `Err` only some of them are made, so the
+    /// rows may be those of no tree.
+    pub(crate) fn apply_all(&mut self, changes: ChangeList) -> Result<(), Memory>
         ensures ok { OnOk result (rows_of self.new ≡ apply (rows_of self.old) changes) }
         ensures fault { fault_of self.new ≡ fault_of self.old }
     {
@@ -120,7 +120,7 @@ impl PlainRows {
     }
 
     /// Begins a mount: handles, settings and the nodes without a name go. No memory is taken.
-    pub fn begin_mount(&mut self)
+    pub(crate) fn begin_mount(&mut self)
         ensures rows { rows_of self.new ≡ cleared_rows (rows_of self.old) }
         ensures fault { fault_of self.new ≡ fault_of self.old }
     {
@@ -132,14 +132,14 @@ impl PlainRows {
     }
 
     /// The counters, by a look that cannot fail.
-    pub fn counted(&self) -> Counters
+    pub(crate) fn counted(&self) -> Counters
         ensures { result ≡ (rows_of self.now).counters }
     {
         self.counters
     }
 
-    /// What was agreed on by INIT, by a look that cannot fail.
-    pub fn agreed(&self) -> Option<Settings>
+    /// The settings that INIT agreed on, by a look that cannot fail.
+    pub(crate) fn agreed(&self) -> Option<Settings>
         ensures { result ≡ (rows_of self.now).settings }
     {
         self.settings

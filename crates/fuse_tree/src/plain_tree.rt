@@ -1,4 +1,4 @@
-// The file system of fuse_tree, over lists.
+// The tree in memory as a file system.
 ghost use Rattle.std.specs.Prelude.{◌≡◌, None};
 ghost use Rattle.fuse_tree.specs.PlainRows.{fault_of};
 ghost use Rattle.fuse_tree.specs.TheTree.{the_tree};
@@ -22,7 +22,7 @@ pub struct PlainTree {
     rows: PlainRows,
 }
 
-// The store's fault for a plan's. A look at lists wants nothing but memory.
+// The store's fault for a plan's. A look at lists fails only where it is out of memory.
 fn fault_of_plan(fault: PlanFault) -> StoreFault
     ensures { CausedBy fault result }
 {

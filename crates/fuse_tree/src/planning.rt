@@ -58,9 +58,8 @@ use std::alloc::Global;
 use unlink::plan_unlink;
 use write::plan_write;
 
-/// What the request answers in the tree whose rows lie behind `look`, and which rows it changes.
-/// Nothing is changed. It is for a kept request: others are answered ENOSYS, where settings and
-/// node are there.
+/// The answer of the request in the tree that `look` sees, and the rows that it changes. Nothing is
+/// changed. It is for a kept request: others get ENOSYS, where settings and node are there.
 pub fn plan<L: Look>(
     alloc: Global,
     look: &mut L,
@@ -68,16 +67,16 @@ pub fn plan<L: Look>(
     now: Moment,
 ) -> Result<Planned, PlanFault>
     requires { L.fault look.old ≡ None }
-    // Over the rows of a tree, it is what the request does there.
+    // Over the rows of a tree it agrees with `done`.
     ensures meets { L.is_clean look.new → (s : State) → Tree s → L.sees look.old (rowed s)
         → IfOk result (λ p. Meets s p (done s (asked request.now) now)) }
     // Its answer is read as one to the request's opcode.
     ensures read { L.is_clean look.new → (s : State) → Tree s → L.sees look.old (rowed s)
         → IfOk result (λ p. IsRead (opcode_of (act request.now.op)) p.answer) }
-    // The rows are said to be those of no tree only where they are.
+    // `NotATree` comes only over rows of no tree.
     ensures not_a_tree { IfErr result (λ f. f ≡ PlanFault.NotATree → L.is_clean look.new
         → (s : State) → Tree s → L.sees look.old (rowed s) → ⊥) }
-    // The look's fault is then the one that is answered, and none where none is.
+    // The look has the fault that is answered, and none where none is.
     ensures fault { L.fault look.new ≡ look_fault result }
     ensures looks { look_fault result ≡ None → L.looks look.old look.new }
     ensures fails { OnErr result (L.fails look.old look.new) }
@@ -86,7 +85,7 @@ pub fn plan<L: Look>(
     plan_request(alloc, look, request, now)
 }
 
-// INIT is answered always, and all else where an INIT is agreed on.
+// INIT is always answered, and other requests where settings are agreed on.
 #[tactic(auto, using(crate::proofs::Agreeing::offers_nothing))]
 fn plan_request<L: Look>(
     alloc: Global,
@@ -127,7 +126,7 @@ fn plan_agreed<L: Look>(
     plan_op(alloc, look, request, now, &row)
 }
 
-// What is asked, at the node that the header names. The last line is of what isn't performed here.
+// The operation, at the node of the header. The last line is of requests that are not performed.
 fn plan_op<L: Look>(
     alloc: Global,
     look: &mut L,
@@ -171,7 +170,7 @@ fn plan_op<L: Look>(
     }
 }
 
-// What is asked of names in the node that the header names.
+// The operations on names in the node of the header.
 fn plan_named<L: Look>(
     alloc: Global,
     look: &mut L,

@@ -7,7 +7,7 @@ pub const RENAME_NOREPLACE: u32 = 1;
 /// The flag of RENAME2 that makes two children change places.
 pub const RENAME_EXCHANGE: u32 = 2;
 
-/// What is done about a node that stands at the new place.
+/// The treatment of a node that stands at the new place.
 #[derive(Clone, Copy, Debug, PartialEq, Eq)]
 pub enum RenameMode {
     /// It loses its name there. RENAME does so too.
@@ -19,7 +19,7 @@ pub enum RenameMode {
 }
 
 impl RenameMode {
-    // What the flags of RENAME2 ask for. `None` where they have no meaning.
+    // The mode of the flags of RENAME2. `None` where they have no meaning.
     pub(crate) fn of(flags: u32) -> Option<RenameMode>
         ensures { result ≡ mode_of flags }
     {

@@ -75,12 +75,12 @@ pub struct Counters {
 pub enum Change {
     /// A node's row, in place of the one with its number where there is one. The bytes stay.
     Node(NodeRow),
-    /// An entry, behind the others.
+    /// An entry, after the others.
     Entry(EntryRow),
     EntryGone {
         cookie: u64,
     },
-    /// A handle, behind the others.
+    /// A handle, after the others.
     Handle(HandleRow),
     HandleGone {
         fh: u64,
@@ -141,7 +141,7 @@ impl ChangeList {
     }
 }
 
-/// What a request is answered, and how it changes the rows.
+/// The answer to a request, and the changes of the rows.
 #[derive(Drop)]
 pub struct Planned {
     pub answer: Answer,

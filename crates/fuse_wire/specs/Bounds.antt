@@ -8,7 +8,7 @@ min_message_len = 40
 abbrev pub max_message_len : ℕ
 max_message_len = 135168
 
--- of all that a framer is fed
+-- of all bytes that a framer is fed
 abbrev pub max_fed_len : ℕ
 max_fed_len = 2 ^ 60
 

@@ -1,4 +1,4 @@
--- What the writers of messages append: parts as fuse.h lays them out, what is unused as zeros (own choice).
+-- The bytes that the writers of messages append: parts as fuse.h lays them out, unused bytes as zeros (own choice).
 use Rattle.std.specs.Prelude.{◌≡◌, ◌<◌, ◌^◌, ℕ, List, [], ◌∷◌, ◌++◌, Result, OnOk, OnErr}
 use Rattle.fuse_wire.specs.declared.field.Field.{Field}
 use Rattle.fuse_wire.specs.declared.field.Field.TheVariants as fields

@@ -13,7 +13,7 @@ pub const O_WRONLY: u32 = 1;
 /// For both.
 pub const O_RDWR: u32 = 2;
 
-/// What an open file may be used for.
+/// How an open file may be used.
 #[derive(Clone, Copy, Debug, PartialEq, Eq)]
 pub enum AccessMode {
     ReadOnly,
@@ -22,7 +22,7 @@ pub enum AccessMode {
 }
 
 impl AccessMode {
-    /// What the flags of OPEN ask for. `None` where they ask for the fourth, which has no meaning.
+    /// The access that the flags of OPEN ask for. `None` for the value 3, which has no meaning.
     pub fn of(flags: u32) -> Option<AccessMode>
         ensures { result ≡ access_of flags }
     {

@@ -40,7 +40,7 @@ impl ByteList {
         self.bytes.as_slice()
     }
 
-    /// The same bytes once more.
+    /// A copy of the bytes.
     pub fn to_copy(&self, alloc: Global) -> Result<ByteList, Memory>
         ensures { IfOk result (λ copy. copy ≡ self.now) }
     {

@@ -6,7 +6,7 @@ ghost use Rattle.fuse_wire.specs.Bytes.{le, GivesNumber, GivesBytes, GivesText};
 use byteorder::{ByteOrder, LittleEndian};
 use std::marker::Model;
 
-/// Reads the fields of a message, from its front on. Contracts see the bytes that are left.
+/// Reads the fields of a message, the first one first. Contracts see the bytes that are left.
 #[derive(Drop)]
 pub struct Fields<'a> {
     rest: &'a [u8],
@@ -59,9 +59,9 @@ impl<'a> Fields<'a> {
         if self.rest.len() < 2 {
             return None;
         }
-        let (front, rest) = self.rest.split_at(2);
+        let (prefix, rest) = self.rest.split_at(2);
         self.rest = rest;
-        Some(u16_of(front))
+        Some(u16_of(prefix))
     }
 
     /// The next four bytes as a number. `None` where fewer are left, and then nothing changes.
@@ -71,9 +71,9 @@ impl<'a> Fields<'a> {
         if self.rest.len() < 4 {
             return None;
         }
-        let (front, rest) = self.rest.split_at(4);
+        let (prefix, rest) = self.rest.split_at(4);
         self.rest = rest;
-        Some(u32_of(front))
+        Some(u32_of(prefix))
     }
 
     /// The next eight bytes as a number. `None` where fewer are left, and then nothing changes.
@@ -83,9 +83,9 @@ impl<'a> Fields<'a> {
         if self.rest.len() < 8 {
             return None;
         }
-        let (front, rest) = self.rest.split_at(8);
+        let (prefix, rest) = self.rest.split_at(8);
         self.rest = rest;
-        Some(u64_of(front))
+        Some(u64_of(prefix))
     }
 
     /// The next four bytes as a number in two's complement. `None` where fewer are left, and then
@@ -106,9 +106,9 @@ impl<'a> Fields<'a> {
         if self.rest.len() < n {
             return None;
         }
-        let (front, rest) = self.rest.split_at(n);
+        let (prefix, rest) = self.rest.split_at(n);
         self.rest = rest;
-        Some(front)
+        Some(prefix)
     }
 
     /// The bytes before the next NUL, which is passed. `None` where there is none, and then
@@ -122,7 +122,7 @@ impl<'a> Fields<'a> {
         Some(text)
     }
 
-    /// What is left.
+    /// The bytes that are left.
     pub fn rest(&self) -> &'a [u8]
         ensures { result.now ≡ self.now }
     {

@@ -4,12 +4,12 @@ ghost use Rattle.fuse_wire.specs.Ids.{id_of, resent};
 /// The bit of `unique` that marks a resend: FUSE_UNIQUE_RESEND of `fuse.h`.
 pub const UNIQUE_RESEND: u64 = 0x8000_0000_0000_0000;
 
-/// What a request keeps over its resends: its `unique` without the bit of a resend.
+/// The id of a request: its `unique` without the bit of a resend.
 #[derive(Clone, Copy, Debug, PartialEq, Eq)]
 pub struct Id(pub u64);
 
 impl Id {
-    /// The same for a request and each of its resends.
+    /// The id, which a request and each of its resends share.
     pub fn of(unique: u64) -> Id
         ensures { result.0 ≡ id_of unique }
     {
@@ -18,7 +18,7 @@ impl Id {
     }
 }
 
-/// Whether a request of this `unique` is one that the kernel sends again.
+/// Whether a request of this `unique` is a resend.
 pub fn is_resend(unique: u64) -> bool
     ensures { result ≡ resent unique }
 {

@@ -2,7 +2,7 @@ ghost use Rattle.std.specs.Prelude.{⊤, [], ◌∷◌, codes};
 
 use bitflags::{Flag, Flags, bitflag_items};
 
-/// What kernel and server agree on by INIT: `flags`, with `flags2` as bits 32 to 63 (`fuse.h`).
+/// The flags of INIT: `flags`, with `flags2` as bits 32 to 63 (`fuse.h`).
 #[derive(Clone, Copy, Debug, PartialEq, Eq)]
 pub struct InitFlags(pub u64);
 

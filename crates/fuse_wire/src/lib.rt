@@ -1,5 +1,5 @@
-//! What the bytes of messages are made of: numbers with their lowest byte first, names that end in
-//! a NUL, the id of a request, error numbers and flag sets.
+//! The parts of FUSE messages: little-endian numbers, names that end in a NUL, request ids, error
+//! numbers and flag sets.
 #![tactic(auto)]
 
 mod access_mode;

@@ -24,7 +24,7 @@ pub const UNLINK: u32 = 10;
 /// Removes an empty directory.
 pub const RMDIR: u32 = 11;
 
-/// Renames, in the place of what had the new name.
+/// Renames, and replaces an entry of the new name.
 pub const RENAME: u32 = 12;
 
 /// Opens a regular file.
@@ -57,7 +57,7 @@ pub const INTERRUPT: u32 = 36;
 /// Ends the session.
 pub const DESTROY: u32 = 38;
 
-/// Bears what a notice asked for. No answer follows.
+/// Replies to a notice. No answer follows.
 pub const NOTIFY_REPLY: u32 = 41;
 
 /// Takes back lookups of several nodes. No answer follows.

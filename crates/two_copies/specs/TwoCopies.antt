@@ -1,4 +1,4 @@
--- What a keeper with two copies holds, and what a crash leaves of it (own profile).
+-- The state of a keeper with two copies (own profile).
 use Rattle.std.specs.Prelude.{◌≡◌, ◌||◌, false}
 use Rattle.fuse_keeper.specs.Model.{Model}
 use Rattle.fuse_keeper.specs.KeeperState.{KeeperState, KeepsHeld}
@@ -10,7 +10,7 @@ use Rattle.two_copies.specs.declared.copies.TwoCopies.{TwoCopies}
 abbrev pub HoldsAlike : {M : Model} → KeeperState M → KeeperState M → Type 0
 HoldsAlike a b = KeepsHeld a b × KeepsHeld b a
 
--- where no write is in doubt it holds what both copies hold; a crash leaves the committed one
+-- where no write is in doubt it holds the content of both copies; a crash leaves the committed one
 abbrev pub two_told : {F : Type 0} → (M : Model) → (F → M.Rows) → TwoCopies F → KeeperState M
 two_told M held k = record {
   holds = λ rows records. (plain_told M held k.committed).holds rows records

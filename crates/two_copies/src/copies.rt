@@ -1,4 +1,4 @@
-// A keeper of lists with two copies.
+// A keeper in memory with two copies.
 ghost use Rattle.std.specs.Prelude.{◌≡◌, ◌+◌, ◌^◌, ◌⊎◌, true, false, [], IfOk, OnOk, OnErr, is_err};
 ghost use Rattle.fuse_keeper.specs.KeeperState.{StandsFor};
 ghost use Rattle.fuse_keeper.specs.PlainKeeper.{plain_told};
@@ -11,17 +11,17 @@ use fuse_request::Request;
 use fuse_wire::{Id, Memory, Moment};
 use std::alloc::Global;
 
-/// A keeper of lists in a working copy, from which a committed one is made after each change.
+/// A keeper in memory with a working copy, from which a committed one is made after each change.
 ///
-/// A commit may answer a fault, by plan or for want of memory. Then the working copy holds what the
-/// call did. The committed one holds it only where the maker asked for a commit that holds all the
-/// same: else a crash there loses it, and so does opening the keeper again. Until it is opened
+/// A commit may fail, by plan or since it is out of memory. Then the working copy holds the change.
+/// The committed one holds it only where the maker asked for a commit that succeeds and reports a
+/// fault: else a crash loses the change, and so does opening the keeper again. Until it is opened
 /// again the keeper performs nothing more.
 #[derive(Drop)]
 pub struct TwoCopies<F> {
     committed: PlainKeeper<F>,
     working: PlainKeeper<F>,
-    // The last commit answered a fault.
+    // The last commit failed.
     in_doubt: bool,
     // How often it was opened again.
     openings: u64,
@@ -171,10 +171,10 @@ impl<F: FileSystem> Keeper for TwoCopies<F> {
 impl<F: FileSystem> Restart for TwoCopies<F> {
     ghost use Rattle.fuse_keeper.specs.declared.fault.StoreFault.TheVariants.{Memory as NoMemory};
 
-    // For want of memory, or where the openings can't be counted any further.
+    // Out of memory, or where the openings can't be counted any further.
     ghost may_refuse = { λ k fault. (fault ≡ NoMemory) ⊎ (k.openings + 1 ≡ 2 ^ 64) };
 
-    /// Makes the working copy anew from the committed one. What only the working copy held is lost.
+    /// Makes the working copy anew from the committed one. Uncommitted changes are lost.
     fn restart(mut self) -> Result<TwoCopies<F>, StoreFault> {
         let Some(openings) = self.openings.checked_add(1) else {
             return Err(StoreFault::Damaged);

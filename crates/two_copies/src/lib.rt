@@ -1,4 +1,4 @@
-//! A keeper of lists for tests, in a committed and a working copy: what a crash loses is lost.
+//! A keeper for tests with a committed and a working copy. A crash loses uncommitted changes.
 #![tactic(auto)]
 
 mod copies;

@@ -118,7 +118,7 @@ pub(crate) fn find_handle<L: Look>(look: &mut L, fh: u64) -> Result<Option<Handl
     Ok(look.handle(fh)?)
 }
 
-// What the handle is open for at this node. `None` where it is not open, or is of another node.
+// The access of the handle at this node. `None` where it is not open, or is of another node.
 pub(crate) fn find_access<L: Look>(
     look: &mut L,
     fh: u64,

@@ -12,7 +12,7 @@ use fuse_request::InitIn;
 use fuse_wire::{ByteList, Memory};
 use std::alloc::Global;
 
-// INIT. What is agreed on replaces the settings.
+// INIT. The new settings replace the old ones.
 pub(crate) fn plan_init(alloc: Global, offer: &InitIn) -> Result<Planned, Memory>
     ensures { IfOk result (λ p. p ≡ planning.plan_init (agree offer.now)) }
 {

@@ -17,7 +17,7 @@ use fuse_request::InHeader;
 use fuse_wire::{Errno, Moment};
 use std::alloc::Global;
 
-/// What MKNOD asks for.
+/// The body of MKNOD.
 #[derive(Clone, Copy)]
 pub(crate) struct MknodIn<'a> {
     pub(crate) mode: u32,
@@ -59,7 +59,7 @@ pub(crate) fn plan_mknod<L: Look>(
     plan_make(alloc, look, &fresh, asked.name, row)
 }
 
-// The bits that tell the type.
+// The bits of the type.
 fn type_bits(mode: u32) -> u32
     ensures { result ≡ state.type_bits mode }
 {

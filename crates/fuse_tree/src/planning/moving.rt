@@ -121,7 +121,7 @@ fn entry_of(
     }))
 }
 
-// What stood at the new place goes.
+// The entry at the new place goes.
 fn put_lost(changes: &mut Vec<Change>, now: Moment, other: Option<Link>) -> Result<(), Memory>
     ensures { OnOk result (changes.new.items ≡ changes.old.items ++ lost_changes now other) }
 {
@@ -134,7 +134,7 @@ fn put_lost(changes: &mut Vec<Change>, now: Moment, other: Option<Link>) -> Resu
     Ok(())
 }
 
-// The changes of RENAME: what goes before what comes.
+// The changes of RENAME: deletions stand before insertions.
 pub(crate) fn rename_changes_of(
     alloc: Global,
     asked: &RenameIn<'_>,

@@ -4,7 +4,7 @@ ghost use Rattle.fuse_tree.specs.State.{name_fault};
 use fuse_answer::MAX_NAME;
 use fuse_wire::Errno;
 
-// What is wrong with a name: it is too long, empty, or one that leads elsewhere.
+// The fault of a name: it is too long, empty, or one that leads elsewhere.
 pub(crate) fn fault_of_name(name: &[u8]) -> Option<Errno>
     ensures { result ≡ name_fault name.now }
 {

@@ -15,7 +15,7 @@ use fuse_answer::{Answer, OpenOut};
 use fuse_wire::{AccessMode, ByteList, Errno, Memory};
 use std::alloc::Global;
 
-// OPEN of the node of this row, for what the flags ask for.
+// OPEN of the node of this row, for the access of the flags.
 pub(crate) fn plan_open<L: Look>(
     alloc: Global,
     look: &mut L,

@@ -7,8 +7,8 @@ ghost use Rattle.fuse_tree.specs.State.{type_of};
 ghost use Rattle.fuse_tree.specs.Rows.{Rows, IsRowed, entries_after};
 ghost use Rattle.fuse_tree.specs.Plan.{look_fault};
 ghost use Rattle.fuse_tree.specs.PlanListing as planning;
-ghost use Rattle.fuse_tree.specs.PlanListing.{dots_behind, row_above, row_entry, row_len};
-ghost use Rattle.fuse_tree.specs.PlanListing.{plan_front, plan_list, ReadsBy, IsCut, IsShown};
+ghost use Rattle.fuse_tree.specs.PlanListing.{dots_after, row_above, row_entry, row_len};
+ghost use Rattle.fuse_tree.specs.PlanListing.{plan_prefix, plan_list, ReadsBy, IsCut, IsShown};
 ghost use Rattle.fuse_tree.specs.Reading as planned;
 ghost use Rattle.fuse_tree.specs.Reading.{Reports, told, LooksUp, Looked};
 ghost use Rattle.fuse_tree.specs.declared.limits.TheConstants.{MAX_READ as max_read};
@@ -53,7 +53,7 @@ pub(crate) fn plan_read_dir<L: Look>(
     list(alloc, look, asked.offset, asked.size, row)
 }
 
-// The entries of a directory behind the offset, as many as fit.
+// The entries of a directory after the offset, as many as fit.
 fn list<L: Look>(
     alloc: Global,
     look: &mut L,
@@ -69,12 +69,12 @@ fn list<L: Look>(
     let enough = size / LEAST_ENTRY + 1;
     let entries = find_entries(look, row.node, offset, enough as usize)?;
     let dirents = dots_of(alloc, offset, row)?;
-    list_behind(alloc, look, dirents, entries.as_slice(), size)
+    list_after(alloc, look, dirents, entries.as_slice(), size)
 }
 
-// LongAfter the dots as many entries as fit. No other's child is looked up.
+// After the dots as many entries as fit. No other's child is looked up.
 #[tactic(auto, using(crate::proofs::Cuts::none_told, crate::proofs::Cuts::dots_fit))]
-fn list_behind<'a, L: Look>(
+fn list_after<'a, L: Look>(
     alloc: Global,
     look: &mut L,
     mut dirents: Vec<Dirent<'a>>,
@@ -88,7 +88,7 @@ fn list_behind<'a, L: Look>(
     requires named { All (λ d. IsNamed (entry_of d)) dirents.items }
     ensures plan { look_fault result ≡ None → L.is_clean look.new → (rows : Rows) → IsRowed rows
         → L.sees look.old rows → AllByRecursion (IsShown rows) entries.now
-        → Reports result (plan_front (map entry_of dirents.entry.items
+        → Reports result (plan_prefix (map entry_of dirents.entry.items
         ++ map (row_entry rows) entries.now) size) }
     ensures looked { Looked L.fault L.looks L.fails look.old look.new result }
 {
@@ -150,10 +150,10 @@ fn find_entries<L: Look>(
     Ok(look.entries_after(dir, cookie, limit)?)
 }
 
-// The directory itself and the one above it, where they stand behind the offset.
+// The directory itself and the one above it, where they stand after the offset.
 fn dots_of<'a>(alloc: Global, offset: u64, row: &NodeRow) -> Result<Vec<Dirent<'a>>, Memory>
     ensures entries { IfOk result (λ dirents. map entry_of dirents.items
-        ≡ dots_behind offset row.now) }
+        ≡ dots_after offset row.now) }
     ensures named { IfOk result (λ dirents. All (λ d. IsNamed (entry_of d)) dirents.items) }
 {
     let mut dirents = Vec::new(alloc);
@@ -244,11 +244,11 @@ fn dirent_of<'a, L: Look>(look: &mut L, entry: &'a EntryRow) -> Result<Dirent<'a
 }
 
 // As many entries as fit.
-#[tactic(auto, using(crate::proofs::Prefixes::front_planned))]
+#[tactic(auto, using(crate::proofs::Prefixes::prefix_planned))]
 fn list_prefix(alloc: Global, entries: &[Dirent<'_>], size: u32) -> Result<Planned, Memory>
     requires named { All (λ d. IsNamed (entry_of d)) entries.now }
     requires size { size ≤ max_read }
-    ensures { IfOk result (λ p. p ≡ plan_front (map entry_of entries.now) size) }
+    ensures { IfOk result (λ p. p ≡ plan_prefix (map entry_of entries.now) size) }
 {
     match pack(alloc, entries, size) {
         Ok(packed) => Ok(unchanged(alloc, Answer::success(packed.body))),

@@ -27,7 +27,7 @@ use crate::rows::{NodeRow, Planned};
 use fuse_wire::{Errno, Moment};
 use std::alloc::Global;
 
-/// What RENAME and RENAME2 ask for, and when. Without a mode the flags have no meaning.
+/// The body of RENAME and RENAME2, and the moment. Without a mode the flags have no meaning.
 #[derive(Clone, Copy)]
 pub struct RenameIn<'a> {
     pub new_dir: u64,
@@ -37,7 +37,7 @@ pub struct RenameIn<'a> {
     pub at: Moment,
 }
 
-// What is asked with these flags.
+// The request with these flags.
 pub(crate) fn asking<'a>(
     new_dir: u64,
     flags: u32,
@@ -95,7 +95,7 @@ fn find_new_dir<L: Look>(
     find_node(look, new_dir)
 }
 
-// What is wrong before any entry is looked at.
+// The fault before any entry is looked up.
 fn fault_of_asked(asked: &RenameIn<'_>, from: &NodeRow, to: &NodeRow) -> Option<Errno>
     ensures { result ≡ asked_fault (renaming_of asked.now)
         (is_dir from.now.mode && is_dir to.now.mode)
@@ -161,7 +161,7 @@ fn rename_to<L: Look>(
     rename_by(alloc, look, asked, from, to, source, other)
 }
 
-// What stands under the new name, which is looked up only where it isn't the old place.
+// The entry of the new name, which is looked up only where it isn't the old place.
 fn find_other<L: Look>(
     look: &mut L,
     asked: &RenameIn<'_>,

@@ -54,7 +54,7 @@ fn sets_any(set: &SetattrIn) -> bool
         || has(set, SetattrValid::MTIME_NOW)
 }
 
-// What speaks against it, of a node of this mode.
+// The fault of a SETATTR for a node of this mode.
 fn fault_of_set(set: &SetattrIn, mode: u32) -> Option<Errno>
     ensures { result ≡ set_fault set.now mode }
 {
@@ -129,7 +129,7 @@ fn ctime_after(set: &SetattrIn, now: Moment, ctime: Moment) -> Moment
     }
 }
 
-// The row after it, where nothing speaks against it.
+// The row after it, where there is no fault.
 fn row_after(set: &SetattrIn, now: Moment, row: &NodeRow) -> NodeRow
     ensures { result ≡ set_row set.now now row.now }
 {

@@ -7,7 +7,7 @@ pub returns-in_default : goal.returns-in_default
 returns-in_default c =
     let some = eqb-false _ 0 (sym c.loop-rest-test.ensures) in (
       λ no. absurd cc,
-      λ h. absurd (not_listing c.layouts_stand.ensures c.loop-rest.rest.now (sym c.in_default.ensures.front) (omega (arith, some))
+      λ h. absurd (not_listing c.layouts_stand.ensures c.loop-rest.rest.now (sym c.in_default.ensures.prefix) (omega (arith, some))
           (c.loop-rest.invariant.less h)),
     )
 

@@ -12,7 +12,7 @@ returns-clause-found c =
     let m = c.args.message.now in
     let op = c.in_ok-op.ensures in
     let rest_is : take (length m - 40) (drop 40 m) ≡ drop 40 m = take_all (length m - 40) (drop 40 m) (omega (arith, length-drop 40 m)) in
-    let bytes : IsBytes (take (length (drop 40 m) - 8 * c.in-Some.raw.total_extlen) (drop 40 m)) = c.numbers_read.ensures.front_bytes _ _
+    let bytes : IsBytes (take (length (drop 40 m) - 8 * c.in-Some.raw.total_extlen) (drop 40 m)) = c.numbers_read.ensures.prefix_bytes _ _
     (c.numbers_read.ensures.rest_bytes 40 m (λ i. omega (arith, c.type_inv.message i))) in
     let body_is = rw rest_is at c.split_at.ensures.front in
     let laid = c.layouts_stand.ensures.placed (parts (act c.in_ok-op.op)) c.split_at.result.0.now (subst IsBytes (sym body_is) bytes) op.2 in

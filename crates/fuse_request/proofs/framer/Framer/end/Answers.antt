@@ -9,7 +9,7 @@ loop-len-preserved c =
     let there = p.there in
     let back = c.split_at.ensures.back in
     record {
-      behind = omega (arith, c.loop-len.invariant.behind);
+      follows = omega (arith, c.loop-len.invariant.follows);
       place = omega (arith, c.loop-len.invariant.place, c.split_at.ensures.back_len);
       rest = ap (λ (w : List ℕ). (cut w).1) back ∙ p.rest ∙ c.loop-len.invariant.rest;
     }
@@ -17,4 +17,4 @@ loop-len-preserved c =
 pub returns : goal.returns
 returns c =
     let i = c.loop-len.invariant in
-    c.end_of.ensures ∙ ended_at c.numbers_read.ensures c.args.self.now c.loop-len.at c.loop-len.rest.now i.behind i.place i.rest c.in_default.ensures
+    c.end_of.ensures ∙ ended_at c.numbers_read.ensures c.args.self.now c.loop-len.at c.loop-len.rest.now i.follows i.place i.rest c.in_default.ensures

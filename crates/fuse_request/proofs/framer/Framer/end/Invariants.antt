@@ -4,7 +4,7 @@ use Rattle.fuse_request.proofs.framer.Framer.end.Given as goal
 
 abbrev pub invariant-loop-len : goal.invariant-loop-len
 invariant-loop-len l = record {
-  behind : l.self.at ≤ l.at;
+  follows : l.self.at ≤ l.at;
   place : l.at + length l.rest ≡ l.self.at + length l.self.bytes;
   rest : (cut l.rest).1 ≡ (cut l.self.bytes).1;
 }

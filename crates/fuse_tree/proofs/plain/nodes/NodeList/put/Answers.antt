@@ -2,7 +2,7 @@ use Rattle.std.proofs.Common.{◌≡◌, ◌==◌, ◌∙◌, Some, None, sym, a
 use Rattle.std.specs.Prelude.{position}
 use Rattle.fuse_tree.specs.NumbersOnce.{are_distinct}
 use Rattle.fuse_tree.specs.Rows.{put_node}
-use Rattle.fuse_tree.proofs.Placed.{row_in_place, row_there, row_behind, once_behind, no_place}
+use Rattle.fuse_tree.proofs.Placed.{row_in_place, row_there, row_last, once_last, no_place}
 use Rattle.fuse_tree.proofs.plain.nodes.NodeList.put.Goals as goal
 
 pub invariant_of-self : goal.invariant_of-self
@@ -23,7 +23,7 @@ invariant_of-self-2 c =
     let none : position (λ f. f.row.node == c.args.row.node) c.self.inside.nodes.items ≡ None =
     ap (position (λ f. f.row.node == c.args.row.node)) (sym c.as_slice.ensures.value) ∙ sym c.in_default.ensures in
     ap are_distinct c.in_ok-push.ensures.items
-    ∙ once_behind c.self.inside.nodes.items (record { row = c.args.row; content = _ }) c.self.invariant
+    ∙ once_last c.self.inside.nodes.items (record { row = c.args.row; content = _ }) c.self.invariant
     (no_place (λ f. f.row.node == c.args.row.node) c.self.inside.nodes.items none)
 
 pub returns-clause-ok : goal.returns-clause-ok
@@ -31,4 +31,4 @@ returns-clause-ok c =
     let none : position (λ f. f.row.node == c.args.row.node) c.self.inside.nodes.items ≡ None =
     ap (position (λ f. f.row.node == c.args.row.node)) (sym c.as_slice.ensures.value) ∙ sym c.in_default.ensures in
     c.in_ok-push.ensures.items
-    ∙ rw (c.from_vec-content.ensures, c.new.ensures.items) (row_behind c.args.row c.self.inside.nodes.items none ∙ ap (put_node c.args.row) c.self.view_is)
+    ∙ rw (c.from_vec-content.ensures, c.new.ensures.items) (row_last c.args.row c.self.inside.nodes.items none ∙ ap (put_node c.args.row) c.self.view_is)

@@ -3,11 +3,11 @@ use Rattle.std.specs.List.{sum_by}
 use Rattle.std.proofs.lemmas.Bool.{eqb-false}
 use Rattle.std.proofs.lemmas.List.{length-map}
 use Rattle.fuse_answer.specs.Entries.{Entry, entry_of, packed_len}
-use Rattle.fuse_tree.specs.PlanListing.{plan_front}
+use Rattle.fuse_tree.specs.PlanListing.{plan_prefix}
 use Rattle.fuse_tree.proofs.Cuts.{same_told}
 use Rattle.fuse_tree.proofs.Shown.{all_taken}
-use Rattle.fuse_tree.proofs.planning.read_dir.list_behind.Goals as goal
-use Rattle.fuse_tree.proofs.planning.read_dir.list_behind.Goals.{else-count-eq0-via-then-count-eq0+else-is_empty, else-count-eq0-via-else-count-eq0}
+use Rattle.fuse_tree.proofs.planning.read_dir.list_after.Goals as goal
+use Rattle.fuse_tree.proofs.planning.read_dir.list_after.Goals.{else-count-eq0-via-then-count-eq0+else-is_empty, else-count-eq0-via-else-count-eq0}
 
 pub returns-clause-plan : goal.returns-clause-plan
 returns-clause-plan g c = λ well clean rows is sees shown.
@@ -24,7 +24,7 @@ returns-clause-plan g c = λ well clean rows is sees shown.
     let room : c.args.size ≤ sum_by packed_len first + c.saturating_sub.result =
     omega (arith, c.saturating_sub.ensures, c.len.ensures, c.requires.dots, len, count) in
     let told = second.entries (refl {a = None}) clean rows is sees (all_taken _ _ c.args.entries.now shown) in (
-      c.in_ok-list_prefix.ensures ∙ ap (λ (es : List Entry). plan_front es c.args.size) (ap (map entry_of) c.as_slice.ensures.value ∙ told.0)
+      c.in_ok-list_prefix.ensures ∙ ap (λ (es : List Entry). plan_prefix es c.args.size) (ap (map entry_of) c.as_slice.ensures.value ∙ told.0)
           ∙ same_told rows first c.args.entries.now c.args.size c.saturating_sub.result c.count_fitting-count.result room some c.count_fitting-count.ensures,
       tt,
     )
