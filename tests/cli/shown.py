@@ -1,8 +1,8 @@
-"""What `store`, `ls` and `cat` have to print of a store, read from a copy of its file and log by Python's own SQLite, beside what the
-program prints: each directory and each file of the tree. The bytes of all contents have to be the sum of the sizes that the program
-answers to a GETATTR of each node, too. A line for each difference; the last line counts what was compared.
+"""Compares the output of `store`, `ls` and `cat` with the rows that Python's own SQLite reads from a copy of a store and its log:
+shown PROGRAM STORE
 
-Usage: shown.py PROGRAM STORE"""
+It looks at each directory and each file of the tree. The bytes of all contents must also be the sum of the sizes that the program
+answers to a GETATTR of each node. It prints a line for each difference, and counts in the last line."""
 import shutil
 import sqlite3
 import stat
@@ -12,12 +12,10 @@ import sys
 import tempfile
 from pathlib import Path
 
-sys.dont_write_bytecode = True
-sys.path.insert(0, str(Path(__file__).resolve().parent.parent / "streams"))
-import messages as m  # noqa: E402
+from lib import messages as m
 
 BLOCK = 4096
-# An id that no record of a store has, and where an answer to GETATTR has the size.
+# An id that no record of a store has, and the place of the size in an answer to GETATTR.
 FREE_ID = 1 << 40
 SIZE_AT = 40
 
@@ -33,7 +31,7 @@ def letters(mode):
 
 
 def escaped(name):
-    """A name with its bytes that can't be printed, and backslashes, in hexadecimal."""
+    """A name with backslashes, and bytes that can't be printed, in hexadecimal."""
     return "".join(chr(b) if 32 <= b < 127 and b != 92 else f"\\x{b:02x}" for b in name)
 
 
@@ -46,7 +44,7 @@ def is_word(name):
 
 
 class Store:
-    """A copy of a store, and what has to be shown of it."""
+    """A copy of a store, and the output that is wanted of it."""
 
     def __init__(self, folder, file):
         for end in ("", "-wal"):
@@ -60,18 +58,18 @@ class Store:
         return found[0] if found else None
 
     def settings(self):
-        """What was agreed on by INIT."""
+        """The settings that an INIT agreed on."""
         if not self.one(META, 7):
             return "none"
         minor, readahead, flags = (self.one(META, key) for key in (8, 9, 10))
         return f"minor={minor} max_readahead={readahead} flags={flags}"
 
     def count(self, table):
-        """How many rows a table has."""
+        """The number of rows of a table."""
         return self.one(f"SELECT count(*) FROM {table}")
 
-    def told(self):
-        """The lines of the whole. The records of version 1 are one lot."""
+    def summary(self):
+        """The output of `store`. The records of version 1 are one lot."""
         version = self.one(META, 1)
         records, lots = (self.count("answers"), 1) if version == 1 else (self.count("kept"), self.count("lots"))
         counts = {"version": version, "nodes": self.count("nodes"), "handles": self.count("handles"), "records": records, "lots": lots,
@@ -92,7 +90,7 @@ class Store:
         return whole[:size]
 
     def wanted(self, node=1, path=""):
-        """The words of each run over the tree under a directory, and what it has to print."""
+        """The words of each run over the tree under a directory, and its output."""
         entries = self.db.execute(ENTRIES, (node,)).fetchall()
         yield ["ls", path or "/"], "".join(self.line(*entry) for entry in entries).encode()
         for name, child in entries:
@@ -115,22 +113,22 @@ def answered_bytes(program, folder, nodes):
 
 
 def lost_bytes(program, folder, store):
-    """How many differences there are between the sum of the sizes that are answered and the bytes that the store tells."""
-    told = store.one("SELECT sum(size) FROM nodes")
+    """Compares the sum of the answered sizes with the bytes of the store; 1 where they differ."""
+    stored = store.one("SELECT sum(size) FROM nodes")
     nodes = [node for node, in store.db.execute("SELECT node FROM nodes ORDER BY node")]
     store.db.close()
     answered = answered_bytes(program, folder, nodes)
-    if answered != told:
-        print(f"the nodes of {folder} have {answered} bytes together, and not {told}")
-    return int(answered != told)
+    if answered != stored:
+        print(f"the nodes of {folder} have {answered} bytes together, and not {stored}")
+    return int(answered != stored)
 
 
 def compare(program, file):
-    """Runs the program on a store as often as there is something to be shown."""
+    """Compares all that the program shows of a store."""
     lost = compared = 0
     with tempfile.TemporaryDirectory() as folder:
         store = Store(Path(folder), file)
-        for words, wanted in [(["store"], store.told().encode()), *store.wanted()]:
+        for words, wanted in [(["store"], store.summary().encode()), *store.wanted()]:
             done = subprocess.run([program, words[0], file, *words[1:]], capture_output=True, check=False, timeout=300)
             compared += 1
             if (done.returncode, done.stdout, done.stderr) != (0, wanted, b""):

@@ -1,32 +1,29 @@
-"""A stream that makes directories of more entries than are read at once, of exactly as many, and of one more, and a file with a hole
-that is longer than what is read at once. It goes to standard output."""
+"""Writes a stream to standard output that makes wide directories and a large file. The directories have as many entries as are read at
+once, one more, and twice as many. The file is longer than a read, and has a hole."""
 import sys
-from pathlib import Path
 
-sys.dont_write_bytecode = True
-sys.path.insert(0, str(Path(__file__).resolve().parent.parent / "streams"))
-import messages as m  # noqa: E402
+from lib import messages as m
 
 PAGE = 1024
-FULL, BEHIND, BIG = 2, 3, 4
+FULL, LONGER, BIG = 2, 3, 4
 
 
 def pipes(directory, count):
-    """Requests that make so many pipes."""
+    """Requests that make this many pipes."""
     return [(m.MKNOD, directory, m.mknod_body(b"%04d" % number, m.FIFO | 0o600)) for number in range(count)]
 
 
 def requests():
-    """The opcode, node and body of each."""
+    """The opcode, node and body of each request."""
     yield m.INIT, 0, m.init_body()
     yield m.MKDIR, 1, m.mkdir_body(b"full")
-    yield m.MKDIR, 1, m.mkdir_body(b"behind")
+    yield m.MKDIR, 1, m.mkdir_body(b"longer")
     yield m.MKNOD, 1, m.mknod_body(b"big")
     yield m.OPEN, BIG, m.open_body(2)
     yield m.WRITE, BIG, m.write_body(1, 0, bytes(range(1, 251)) * 400)
     yield m.WRITE, BIG, m.write_body(1, 250000, b"the end " * 9000)
     yield from pipes(FULL, PAGE)
-    yield from pipes(BEHIND, PAGE + 1)
+    yield from pipes(LONGER, PAGE + 1)
     yield from pipes(1, 2 * PAGE)
 
 

@@ -1,15 +1,15 @@
 # For the entry of a test folder, tests/NAME/run, which sources this file. It sets
-#   name     NAME
-#   here     the entry's folder
-#   tests    the folder of all tests
-#   top      the top of the repository
+#   test_name  NAME
+#   here       the entry's folder
+#   tests      the folder of all tests
+#   top        the top of the repository
 # An entry counts by `compare`, `part` and `skip`, and ends by `finish`. Its leading comment is what --help prints.
 
 set -u
 here=$(cd "$(dirname "$(readlink -f "$0")")" && pwd)
 tests=$(cd "$(dirname "$(readlink -f "${BASH_SOURCE[0]}")")/.." && pwd)
 top=$(dirname "$tests")
-name=$(basename "$here")
+test_name=$(basename "$here")
 passed=0
 failed=0
 skipped=0
@@ -39,7 +39,7 @@ take_words() {
 
 # Prints the counts, and exits by them.
 finish() {
-  local line="$name: $passed passed, $failed failed"
+  local line="$test_name: $passed passed, $failed failed"
   [ "$skipped" -eq 0 ] || line+=", $skipped skipped"
   echo "$line"
   [ "$failed" -eq 0 ] && [ $((passed + skipped)) -gt 0 ]
@@ -49,13 +49,13 @@ finish() {
 # Leaves something out: skip WHAT WHY
 skip() {
   skipped=$((skipped + 1))
-  echo "$name: $1: skipped, $2"
+  echo "$test_name: $1: skipped, $2"
 }
 
 # Leaves out all: skip_all WHY
 skip_all() {
   skipped=$((skipped + 1))
-  echo "$name: skipped, $1"
+  echo "$test_name: skipped, $1"
   finish
 }
 
@@ -72,7 +72,7 @@ require_tools() {
 require_program() {
   program=$(readlink -f "${FUSEKEEP:-$("$top/dist/program")}")
   if ! [ -x "$program" ]; then
-    echo "$name: there is no program of these sources (./fusekeep --build builds it)"
+    echo "$test_name: there is no program of these sources (./fusekeep --build builds it)"
     failed=$((failed + 1))
     finish
   fi
@@ -85,7 +85,7 @@ compare() {
     passed=$((passed + 1))
   else
     failed=$((failed + 1))
-    echo "$name: $1: FAILED; < is wanted, > is found"
+    echo "$test_name: $1: FAILED; < is wanted, > is found"
     diff <(echo "$2") <(echo "$3") | head -n 20
   fi
 }
@@ -95,7 +95,7 @@ compare() {
 part() {
   local said status before=$failed
   said=$(mktemp) || exit 1
-  "$@" | tee "$said" | sed "\$ { /^$name: / d }"
+  "$@" | tee "$said" | sed "\$ { /^$test_name: / d }"
   status=${PIPESTATUS[0]}
   if [[ $(tail -n 1 "$said") =~ :\ ([0-9]+)\ passed,\ ([0-9]+)\ failed(,\ ([0-9]+)\ skipped)?$ ]]; then
     passed=$((passed + BASH_REMATCH[1]))
@@ -103,11 +103,11 @@ part() {
     skipped=$((skipped + ${BASH_REMATCH[4]:-0}))
   else
     failed=$((failed + 1))
-    echo "$name: FAILED, it printed no counts: $*"
+    echo "$test_name: FAILED, it printed no counts: $*"
   fi
   rm -f "$said"
   if [ "$status" -ne 0 ] && [ "$failed" -eq "$before" ]; then
     failed=$((failed + 1))
-    echo "$name: FAILED, it ended with status $status: $*"
+    echo "$test_name: FAILED, it ended with status $status: $*"
   fi
 }
