@@ -40,6 +40,39 @@ isnt_running() {
   ! kill -0 "$1"
 }
 
+# --server prints the number of this store's server: by any path of the store, beside another mount, and again when the next server
+# runs. Without a mount, and for a user who may not see the server, it prints a line and no number.
+server_number() {
+  local server other
+  mkdir other && start other-store other log-other && other=$supervisor || return 1
+  start store mnt log && ln -s "$PWD/store" link && server=$("$program" --server store) || return 1
+  expect "the supervisor's child" [ "$(sed 's/.*) . \([0-9]*\) .*/\1/' "/proc/$server/stat")" = "$supervisor" ] || return 1
+  expect "the same by a link" [ "$("$program" --server link)" = "$server" ] || return 1
+  expect "the same from within the mount" [ "$(cd mnt && "$program" --server ../store)" = "$server" ] || return 1
+  expect "another number for another store" [ "$("$program" --server other-store)" != "$server" ] || return 1
+  kill -KILL "$server"
+  await 120 has_other_server "$server" && mkdir mnt/a || return 1
+  expect "only this server was killed" [ "$(kills_in log) $(kills_in log-other)" = "1 0" ] || return 1
+  expect "another user sees no server" has_no_server "no server that this user may see" $user "$program" --server store || return 1
+  unmount_and_end mnt || return 1
+  expect "no server after the end of the mount" has_no_server "store isn't mounted" "$program" --server store || return 1
+  expect "no server of a missing store" has_no_server "missing: No such file" "$program" --server missing || return 1
+  supervisor=$other && stop_and_end
+}
+
+has_other_server() {
+  local server
+  server=$("$program" --server store) && [ "$server" != "$1" ]
+}
+
+# Whether a command prints this line on standard error and nothing on standard output, with status 1: has_no_server LINE COMMAND WORD..
+has_no_server() {
+  local line=$1
+  shift
+  "$@" >number 2>line
+  [ $? -eq 1 ] && ! [ -s number ] && grep -qF "$line" line
+}
+
 # The unit for systemd, with its program in the folder that it names.
 unit() {
   # shellcheck disable=SC2016
