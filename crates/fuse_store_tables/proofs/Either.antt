@@ -68,7 +68,7 @@ pub narrowed_if : {C X E : Type 0} (P Q R : C → Database → Type 0) (a b : St
 narrowed_if P Q R a b (Ok x) p more = record { stays = p.stays; turns = λ clean c at. more clean c at (p.turns clean c at) }
 narrowed_if P Q R a b (Err e) p more = record { stays = p.stays; turns = tt }
 
--- a sure step behind a look by which more is known
+-- a sure step after a read by which more is known
 pub sure_known : {C Y : Type 0} (P R : C → Database → Type 0) (a b d : State) (r : Result Y StoreFault) → {K : Trees → Type 0} → Survives b d K
     → (HasCleanDisk b → (c : C) → InsideAs (P c) a → InsideAs (R c) b) → IsSure R b d r → IsSure P a d r
 sure_known P R a b d (Ok y) s to q clean = tt

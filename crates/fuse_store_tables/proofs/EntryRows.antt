@@ -167,7 +167,7 @@ pub named_shows : {X : Type 0} (items : X → List Row) (dir : ℕ) (name : List
 named_shows items dir name old new (Ok x) ok clean = λ c at. named_finds dir name c old new (items x) at (ok clean)
 named_shows items dir name old new (Err e) ok clean = tt
 
--- ---- those behind a cookie
+-- ---- those after a cookie
 
 after_tests : (dir cookie limit : ℕ) (e : EntryRow) → list_all (holds ((Int (pos dir) ∷ Int (pos cookie) ∷ Int (pos limit) ∷ []) ∷ entry_row e ∷ []))
     (op2 (Compare Eq Binary) (col 1 2) (col 0 0) ∷ op2 (Compare Gt Binary) (col 1 0) (col 0 1) ∷ []) ≡ stands_after dir cookie e

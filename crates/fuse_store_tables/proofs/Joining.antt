@@ -34,7 +34,7 @@ makes_as_too f g a b d x (Ok y) p same q =
     }
 makes_as_too f g a b d x (Err e) p same q = record { stays = (makes_then (λ c. c) f a b d x (Err e) p q).stays; turns = tt }
 
--- a step that failed, behind one that went well, and what `?` returns
+-- a step that failed after one that succeeded, and what `?` returns
 pub fails_next : {C X Y Z E F G : Type 0} (P Q R S : C → Database → Type 0) (a b d : State) (x : X) (e : F) (r : Result Z G)
     → Takes {X = X} {E = E} P Q a b (Ok x) → Takes {X = Y} Q R b d (Err e) → IsErr r → Takes P S a d r
 fails_next P Q R S a b d x e (Ok z) p q is = absurd cc
@@ -58,7 +58,7 @@ outside e = told (is_memory e)
     told true = tt
     told false = tt
 
--- behind a step that went well
+-- after a step that succeeded
 pub sure_then : {X Y E : Type 0} (f : Content → Content) (a b d : State) (x : X) (r : Result Y StoreFault) → Makes {X = X} {E = E} f a b (Ok x)
     → {K : Trees → Type 0} → Survives b d K → IsSure Holds b d r → IsSure Holds a d r
 sure_then f a b d x (Ok y) p s q clean = tt

@@ -34,5 +34,5 @@ pub mod MetaLemmas
 pub mod Either
 pub mod Sayings
 pub mod OpenLemmas
-pub mod Migration
+pub mod MigrationLemmas
 pub mod Fitting

@@ -61,7 +61,7 @@ starts_more rows at row low is whole so_far cs same =
     subst (IsMetaFrom 1 (at + 1)) (sym (take_more cs at no_counter (subst (λ n. at < n) (length-map cs shown_meta) below)))
     (subst (λ m. IsMetaFrom 1 m (take at cs ++ c ∷ [])) (one_above at) (meta_last 1 at (take at cs) c (so_far cs same) (omega (arith, told.0)) told.1))
 
--- a row more behind the others
+-- one more row after the others
 lower : (a b k n : ℕ) → a ≡ k → b ≡ k + suc n → nat_cmp a b ≡ Less
 lower a b k n first last = grind (arith, nat_tests)
 

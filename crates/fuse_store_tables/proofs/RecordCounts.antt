@@ -43,7 +43,7 @@ module _ {X : Type 0} (row : X → Row) (rows_in : Content → List X) (tree : �
   count_finds items old new (Ok x) ok clean = λ c at. finds c old new (items x) at.holds (ok clean)
   count_finds items old new (Err e) ok clean = tt
 
--- ---- what a count tells of what rests
+-- ---- the value of a count
 
 module _ (r : Result ℕ StoreFault) (rows : List Row) (IsThere : Content → Type 0) (count : Content → ℕ)
     (is : (c : Content) → IsThere c → rows ≡ shown_number (reached (count c)) ∷ []) where

@@ -40,7 +40,7 @@ shows : (old new : State) (rows : List Row) → Shown version_text [] old new ro
 unfolding Shown
 shows old new rows h = (h.0, h.1.is, by_returning old new rows h.0 h.1.now h.0.returning refl h.2)
 
-pub tells_version : {X : Type 0} (items : X → List Row) (old new : State) (r : Result X Error)
+pub says_version : {X : Type 0} (items : X → List Row) (old new : State) (r : Result X Error)
     → (HasCleanDisk new → IfOk r (λ x. Shown version_text [] old new (items x))) → HasCleanDisk new → IfOk r (λ x. ShowsVersion old.now (items x))
-tells_version items old new (Ok x) ok clean = shows old new (items x) (ok clean)
-tells_version items old new (Err e) ok clean = tt
+says_version items old new (Ok x) ok clean = shows old new (items x) (ok clean)
+says_version items old new (Err e) ok clean = tt

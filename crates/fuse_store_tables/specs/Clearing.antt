@@ -1,4 +1,4 @@
--- What the begin of a mount leaves (own profile).
+-- The content of the tables after the begin of a mount (own profile).
 use Rattle.std.specs.Prelude.{ℕ, pos, Bool, not, List, [], ◌∷◌, map, filter, length, min}
 use Rattle.std.specs.List.{list_any}
 use Rattle.std.specs.Ordering.{is_eq, nat_cmp}
@@ -41,7 +41,7 @@ without_unnamed_blocks c = record c { blocks = filter (λ b. not (has_unnamed c.
 abbrev pub without_settings : Content → Content
 without_settings c = set_counter 10 0 (set_counter 9 0 (set_counter 8 0 (set_counter 7 0 c)))
 
--- `count` goes no further
+-- SQLite counts no further
 abbrev pub reached : ℕ → ℕ
 reached n = min n 9223372036854775807
 
@@ -62,7 +62,7 @@ without_unnamed_nodes c = with_nodes_counted (without_unnamed (without_unnamed_b
 
 -- ---- all of them
 
--- records, handles, settings and unnamed nodes are gone; the counts are those of what is left
+-- without records, handles, settings and unnamed nodes; the counts are those of the rest
 abbrev pub cleared : Content → Content
 cleared c = record c {
   counters = (set_counter 5 (counted_to (named c.nodes)) (without_settings (set_counter 6 0 c))).counters;

@@ -1,4 +1,4 @@
--- What the tables hold, as lists of typed rows (own profile).
+-- The content of the tables, as lists of typed rows (own profile).
 use Rattle.std.specs.Prelude.{◌≡◌, ◌<◌, ◌^◌, ℕ, pos, Bool, not, ◌&&◌, List, [], ◌∷◌, map, filter, find, if◌then◌else◌, unwrap_or, option_map, Option}
 use Rattle.std.specs.Ordering.{is_eq, is_gt, nat_cmp, match_ordering}
 use Rattle.std.specs.Cmp.Lexicographic.{slice_cmp}
@@ -160,7 +160,7 @@ renumbered n x = record n { node = x.node }
 abbrev pub set_node : NodeRow → Content → Content
 set_node n c = record c { nodes = set_by node_key n.node (renumbered n) c.nodes }
 
--- a node without a name, which isn't the root
+-- a node without a name, other than the root
 abbrev pub is_unnamed : NodeRow → Bool
 is_unnamed n = is_eq (nat_cmp n.up 0) && is_gt (nat_cmp n.node 1)
 
@@ -209,7 +209,7 @@ valued value c = record c { value = value }
 abbrev pub set_counter : ℕ → ℕ → Content → Content
 set_counter key value c = record c { counters = set_by counter_key key (valued value) c.counters }
 
--- the value of this key, 0 where it isn't there
+-- the value of this key, 0 where there is no such key
 abbrev pub value_at : ℕ → Content → ℕ
 value_at key c = unwrap_or (option_map (λ x. x.value) (at_by counter_key key c.counters)) 0
 

@@ -1,4 +1,4 @@
--- One call after another: what each makes, both make (own profile). The proofs stand here, since the crates above go by them.
+-- One call after another: both make what each makes (own profile). The proofs are here because the crates above cite them.
 use Rattle.std.proofs.Common.{subst}
 use Rattle.std.specs.Prelude.{◌≤◌, Result, Ok, Err}
 use Rattle.std.proofs.Math.Arith.{le-zero}
@@ -62,13 +62,13 @@ makes_then f g a b d x r p q = then_as Holds (λ c. Holds (f c)) (λ c. Holds (g
 
 -- ---- reads outside a transaction
 
--- what was read, whatever it told
+-- the same, with what was read
 pub rests_told : {C X Y E F : Type 0} (P : C → Database → Type 0) (a b : State) (x : X) (r : Result Y F) → ServesAs {X = X} {E = E} P P a b (Ok x)
     → ServesAs P P a b r
 rests_told P a b x (Ok y) p = record { survives = p.survives; kept = tt; done = p.done }
 rests_told P a b x (Err f) p = record { survives = p.survives; kept = λ clean is_open. p.done clean; done = tt }
 
--- a read that failed, by another fault
+-- a read that failed, with another fault
 pub rests_failed : {C X Y E F : Type 0} (P : C → Database → Type 0) (a b : State) (e : E) (f : F) → ServesAs {X = X} P P a b (Err e)
     → ServesAs {X = Y} P P a b (Err f)
 rests_failed P a b e f p = record { survives = p.survives; kept = p.kept; done = tt }
@@ -102,7 +102,7 @@ pub safe_then : {C X Y E : Type 0} (P : C → Database → Type 0) (a b d : Stat
 safe_then P a b d x (Ok y) p s q clean = tt
 safe_then P a b d x (Err f) p s q clean = λ c at. q clean c (p.done (earlier b d _ s clean) c at)
 
--- the same of databases of which more is known, which hangs on nothing but what the read keeps
+-- the same of databases of which more is known
 module _ {C D : Type 0} (P : C → Database → Type 0) (Q : D → Database → Type 0)
     (has : (y : D) (d : Database) → Q y d → (c : C) × P c d × ((e : Database) → P c e → Q y e)) where
   pub rests_less : (s : State) (y : D) (at : RestsAs (Q y) s) → RestsAs (P (has y s.now at.holds).0) s

@@ -1,4 +1,4 @@
--- A new store (own profile).
+-- The content of a new store (own profile).
 use Rattle.std.specs.Prelude.{ℕ, List, [], ◌∷◌, ⊤}
 use Rattle.sqlite_trees.specs.Tree.{no_trees}
 use Rattle.sqlite.specs.Effect.{Database}
@@ -8,7 +8,7 @@ use Rattle.fuse_tree.specs.declared.rows.NodeRow.{NodeRow}
 use Rattle.fuse_store_tables.specs.Content.{Content, Counter, Holds, HoldsAs, with_node}
 use Rattle.fuse_store_tables.specs.Opening.{IsSecond}
 
--- tables of this schema, without a row
+-- the tables of this schema, all empty
 abbrev pub IsBare : Schema → ⊤ → Database → Type 0
 IsBare s _ = HoldsAs s no_trees
 

@@ -1,4 +1,4 @@
--- What a call does to a store of the tables (own profile).
+-- The effect of a call on a store, by the state of the connection before and after it (own profile).
 use Rattle.std.specs.Prelude.{◌≡◌, ℕ, List, true, false, IsTrue, Result, Ok, Err, OnOk, OnErr, IfErr}
 use Rattle.sqlite.specs.Order.{Row}
 use Rattle.sqlite.specs.Effect.{Database}
@@ -8,7 +8,7 @@ use Rattle.fuse_store_tables.specs.Content.{Content, Holds, LeftAs}
 use Rattle.fuse_keeper.specs.declared.fault.StoreFault.{StoreFault}
 use Rattle.fuse_store_tables.specs.Faults.{IsOutside}
 
--- the statement was run with these values; how many rows it changed isn't told
+-- the statement was run with these values
 abbrev pub Ran : List ℕ → Row → State → State → Result (Unit {0}) Error → Type 0
 Ran sql values old new (Ok _) = (changed : ℕ) × Executes sql values old new (Ok changed)
 Ran sql values old new (Err e) = Executes sql values old new (Err e)
@@ -36,7 +36,7 @@ Inside c = InsideAs (Holds c)
 abbrev pub IsReady : {C : Type 0} → (C → Database → Type 0) → State → Type 0
 IsReady {C} P s = (c : C) × InsideAs (P c) s
 
--- whether it went well or not, nothing is committed
+-- nothing is committed, whether the call succeeded or not
 pub record StaysIn {C : Type 0} (P : C → Database → Type 0) (old new : State) : Type 0 where
   pub survives : Survives old new (λ _. ¬ IsReady P old)
   pub kept : HasCleanDisk new → IsReady P old → KeepsCommit old new
@@ -77,13 +77,13 @@ pub record PerformsAs {C X E : Type 0} (P Q : C → Database → Type 0) (old ne
 abbrev pub Performs : {X E : Type 0} → (Content → Content) → State → State → Result X E → Type 0
 Performs f = PerformsAs Holds (λ c. Holds (f c))
 
--- the transaction, if one is open, is undone
+-- the transaction, if one is open, is rolled back
 pub record Undoes (old new : State) : Type 0 where
   pub survives : Survives old new (λ _. ⊥)
   pub autocommit : HasCleanDisk new → new.in_transaction ≡ false
   pub undone : HasCleanDisk new → IsTrue new.is_open → IsTrue old.is_open × (new.now ≡ old.committed) × (new.committed ≡ old.committed)
 
--- the same as a whole, where a failed call leaves what was there
+-- a whole transaction that leaves the store as it was where it fails
 pub record ServesAs {C X E : Type 0} (P Q : C → Database → Type 0) (old new : State) (result : Result X E) : Type 0 where
   pub survives : Survives old new (λ db. (c : C) → RestsAs (P c) old → LeftAs (Q c) db)
   pub kept : OnErr result (HasCleanDisk new → IsTrue new.is_open → (c : C) → RestsAs (P c) old → RestsAs (P c) new)
@@ -92,12 +92,12 @@ pub record ServesAs {C X E : Type 0} (P Q : C → Database → Type 0) (old new 
 abbrev pub Serves : {X E : Type 0} → (Content → Content) → State → State → Result X E → Type 0
 Serves f = ServesAs Holds (λ c. Holds (f c))
 
--- only looks that went well lie between
+-- only reads that succeeded lie between the two states
 pub record Looked (old new : State) : Type 0 where
   pub stays : Stays old new
   pub same : Turns (λ c. c) old new
 
--- where it began with one of these, a fault says nothing of what is stored
+-- of a call that began with one of these databases, a fault says nothing of the store
 abbrev pub IsSure : {C X : Type 0} → (C → Database → Type 0) → State → State → Result X StoreFault → Type 0
 IsSure P old new r = HasCleanDisk new → IfErr r (λ f. IsReady P old → IsOutside f)
 

@@ -1,5 +1,5 @@
--- What a store is when it is opened, and what the opening makes of it (own profile).
-use Rattle.std.specs.Prelude.{◌≡◌, ◌≤◌, ◌⊎◌, ◌<◌, ◌^◌, ◌+◌, ℕ, zero, suc, pos, IsTrue, false, List, [], ◌∷◌, map, fold, length, if◌then◌else◌}
+-- A store before and after its opening (own profile).
+use Rattle.std.specs.Prelude.{◌≡◌, ◌≤◌, ◌⊎◌, ◌<◌, ◌^◌, ◌+◌, ℕ, zero, suc, pos, List, [], ◌∷◌, map, fold, length, if◌then◌else◌}
 use Rattle.std.specs.Prelude.{nat_lt, ⊤, Result, OnOk}
 use Rattle.std.specs.List.{AllByRecursion}
 use Rattle.std.specs.Ordering.{is_eq, nat_cmp}
@@ -8,7 +8,7 @@ use Rattle.sqlite.specs.Order.{Row}
 use Rattle.sqlite.specs.Effect.{Database}
 use Rattle.fuse_store_tables.specs.Layout.{with_answers, with_lots, with_kept}
 use Rattle.sqlite.specs.State.{State, HasCleanDisk}
-use Rattle.fuse_store_tables.specs.Content.{Content, Counter, Answer, Kept, HoldsAs, Holds, LeftAs, stored, put_by, kept_key, value_at, set_counter, with_counter}
+use Rattle.fuse_store_tables.specs.Content.{Content, Counter, Answer, Kept, HoldsAs, Holds, stored, put_by, kept_key, value_at, set_counter, with_counter}
 use Rattle.fuse_store_tables.specs.Content.{with_lot, without_answers}
 use Rattle.fuse_store_tables.specs.Moves.{InsideAs}
 
@@ -65,7 +65,7 @@ pub record IsSecond (c : Content) (d : Database) : Type 0 where
 abbrev pub IsStored : Content → Database → Type 0
 IsStored c d = IsFirst c d ⊎ IsSecond c d
 
--- ---- what an open tests
+-- ---- the tests of an opening
 
 -- the tables are those of one of the versions, whatever their rows
 abbrev pub IsLaid : Content → Database → Type 0
@@ -75,7 +75,7 @@ IsLaid c d = HoldsAs with_answers (stored c) d ⊎ Holds c d
 abbrev pub HasMeta : Content → Type 0
 HasMeta c = ((value_at 1 c ≡ 1) × IsMeta 10 c) ⊎ ((value_at 1 c ≡ 2) × IsMeta 11 c)
 
--- what went well says so of the rows of the tables that were there
+-- where the opening succeeds, the rows of `meta` are those of one of the versions
 abbrev pub Tests : {X E : Type 0} → (Content → Type 0) → State → State → Result X E → Type 0
 Tests P old new r = HasCleanDisk new → OnOk r ((c : Content) → InsideAs (IsLaid c) old → P c)
 

@@ -1,4 +1,4 @@
--- Where the tables say that they are no store, or one of another version, and where tables are missing (own profile).
+-- The databases that are no store, are of another version, or lack a table (own profile).
 use Rattle.std.specs.Prelude.{◌≡◌, ◌≢◌, ◌⊎◌, ℕ, pos, List, [], ◌∷◌, codes, None, Ok, ⊤, Bool, IsTrue}
 use Rattle.std.specs.List.{list_all}
 use Rattle.std.specs.Option.{is_some}
@@ -30,7 +30,7 @@ HasFirst n (row ∷ rows) = column row 0 ≡ Int (pos n)
 abbrev pub ReportsVersion : Database → ℕ → Type 0
 ReportsVersion d n = (rows : List Row) × ShowsVersion d rows × HasFirst n rows
 
--- `meta` isn't there, or no row of the version; or it is another version than 1 and 2
+-- there is no `meta`, or no row of the version, or the version is neither 1 nor 2
 abbrev pub Says : Database → StoreFault → Type 0
 Says d NotAStore = (table_named d.schema (codes "meta") ≡ None) ⊎ ShowsVersion d []
 Says d (Version n) = (n ≢ 1) × (n ≢ 2) × ReportsVersion d n
@@ -50,6 +50,6 @@ second_names = codes "nodes" ∷ codes "entries" ∷ codes "blocks" ∷ codes "h
 abbrev pub has_tables : List (List ℕ) → Schema → Bool
 has_tables names schema = list_all (λ name. is_some (table_named schema name)) names
 
--- it tells one of the two versions, and has all tables of that one
+-- it is of one of the two versions, and has all tables of that version
 abbrev pub IsTabled : Database → Type 0
 IsTabled d = (ReportsVersion d 1 × IsTrue (has_tables first_names d.schema)) ⊎ (ReportsVersion d 2 × IsTrue (has_tables second_names d.schema))

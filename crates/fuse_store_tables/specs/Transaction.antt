@@ -1,4 +1,4 @@
--- A whole transaction of what is done between its begin and its end (own profile). The proofs stand here, since the crates above go by them.
+-- A whole transaction, of the steps between its begin and its end (own profile). The proofs are here because the crates above cite them.
 use Rattle.std.proofs.Common.{◌≡◌, sym, subst, ◌∙◌}
 use Rattle.std.specs.Prelude.{Result, Ok, Err}
 use Rattle.sqlite.specs.Effect.{Database}
@@ -74,7 +74,7 @@ module _ {C : Type 0} (P Q : C → Database → Type 0) where
     done = tt;
   }
 
-  -- ---- with the roll-back of a call that failed
+  -- ---- with the rollback after a call that failed
 
   pub served : {X Y E F : Type 0} (a b : State) (x : X) (y : Y) → PerformsAs {E = E} P Q a b (Ok x) → ServesAs {E = F} P Q a b (Ok y)
   served a b x y p = record { survives = p.survives; kept = tt; done = p.done }

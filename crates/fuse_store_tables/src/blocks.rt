@@ -36,7 +36,7 @@ fn block_values<'a>(node: u64, block: u64, bytes: &'a [u8]) -> [ValueRef<'a>; 3]
     ]
 }
 
-/// Adds a block, whose place no other has.
+/// Adds a block at a place without one.
 pub fn insert_block<S: Alter>(
     conn: &mut Connection<S>,
     node: u64,
@@ -52,7 +52,7 @@ pub fn insert_block<S: Alter>(
     run(conn, INSERT, &values)
 }
 
-/// Takes out a block, if it is there.
+/// Deletes a block, if there is one.
 pub fn delete_block<S: Alter>(conn: &mut Connection<S>, node: u64, block: u64) -> Result<(), Error>
     requires node { node < 2 ^ 63 }
     requires block { block < 2 ^ 63 }
@@ -63,7 +63,7 @@ pub fn delete_block<S: Alter>(conn: &mut Connection<S>, node: u64, block: u64) -
     run(conn, DELETE, &values)
 }
 
-/// Gives a block these bytes, whether it is there or not.
+/// Writes the bytes of a block, in place of those before or as a new block.
 pub fn write_block<S: Alter>(
     conn: &mut Connection<S>,
     node: u64,
@@ -79,7 +79,7 @@ pub fn write_block<S: Alter>(
     insert_block(conn, node, block, bytes)
 }
 
-/// Takes out the blocks of a node from a number on.
+/// Deletes the blocks of a node from this number on.
 pub fn delete_blocks_from<S: Alter>(
     conn: &mut Connection<S>,
     node: u64,
@@ -94,7 +94,7 @@ pub fn delete_blocks_from<S: Alter>(
     run(conn, DELETE_FROM, &values)
 }
 
-/// The blocks at this place: one or none.
+/// The blocks at this place: one row or none.
 pub fn select_block<S: Alter>(
     conn: &mut Connection<S>,
     node: u64,

@@ -12,7 +12,7 @@ use sqlite::{Alter, Connection, Error, Row};
 /// The key of the version of the tables.
 pub(crate) const VERSION: u64 = 1;
 
-/// The key of the next node, behind which stand the next fh, the next cookie and `NODES`.
+/// The key of the next node. The next fh, the next cookie and `NODES` follow.
 pub const NEXT_NODE: u64 = 2;
 
 /// The key of the number of nodes.
@@ -21,16 +21,16 @@ pub(crate) const NODES: u64 = 5;
 /// The key of the number of handles.
 pub const HANDLES: u64 = 6;
 
-/// The key of whether INIT agreed on something (0 or 1), behind which stands on what.
+/// The key of whether settings were agreed on by INIT (0 or 1). The settings follow.
 pub const AGREED: u64 = 7;
 
-/// The key of the kernel's minor version.
+/// The key of the settings' minor version.
 pub(crate) const MINOR: u64 = 8;
 
-/// The key of the bytes that the kernel reads ahead at most.
+/// The key of the settings' `max_readahead`.
 pub(crate) const MAX_READAHEAD: u64 = 9;
 
-/// The key of the flags of INIT.
+/// The key of the settings' flags.
 pub(crate) const FLAGS: u64 = 10;
 
 /// The key of the next lot.
@@ -42,8 +42,12 @@ const UPDATE: &str = "UPDATE meta SET v = ?2 WHERE k = ?1";
 
 const SELECT: &str = "SELECT v FROM meta ORDER BY k";
 
-/// Adds a counter, whose key no other has.
-pub fn insert_counter<S: Alter>(conn: &mut Connection<S>, key: u64, value: u64) -> Result<(), Error>
+/// Adds a counter under a new key.
+pub(crate) fn insert_counter<S: Alter>(
+    conn: &mut Connection<S>,
+    key: u64,
+    value: u64,
+) -> Result<(), Error>
     requires key { key < 2 ^ 63 }
     requires value { value < 2 ^ 63 }
     ensures { Makes (with_counter key value) (state S.Store conn.old) (state S.Store conn.new)
@@ -53,7 +57,7 @@ pub fn insert_counter<S: Alter>(conn: &mut Connection<S>, key: u64, value: u64) 
     run(conn, INSERT, &values)
 }
 
-/// Gives the counter with this key another value.
+/// Changes the value of the counter with this key.
 pub fn update_counter<S: Alter>(
     conn: &mut Connection<S>,
     key: u64,

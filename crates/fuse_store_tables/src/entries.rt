@@ -40,7 +40,7 @@ fn entry_values<'a>(row: &'a EntryRow) -> [ValueRef<'a>; 4]
     ]
 }
 
-// The parameters of a place.
+// The parameters of a directory and a name.
 fn place_values<'a>(dir: u64, name: &'a [u8]) -> [ValueRef<'a>; 2]
     requires { dir < 2 ^ 63 }
     ensures { bound result ≡ Int (pos dir) ∷ Blob name.now ∷ [] }
@@ -48,7 +48,7 @@ fn place_values<'a>(dir: u64, name: &'a [u8]) -> [ValueRef<'a>; 2]
     [(dir as i64).to_sql(), name.to_sql()]
 }
 
-/// Adds an entry, whose cookie, child and name in its directory no other has.
+/// Adds an entry. Its cookie, its child and its name in the directory are new.
 pub fn insert_entry<S: Alter>(conn: &mut Connection<S>, row: &EntryRow) -> Result<(), Error>
     requires { FitsEntry row.now }
     ensures { Makes (with_entry row.now) (state S.Store conn.old) (state S.Store conn.new) result }
@@ -57,7 +57,7 @@ pub fn insert_entry<S: Alter>(conn: &mut Connection<S>, row: &EntryRow) -> Resul
     run(conn, INSERT, &values)
 }
 
-/// Takes out the entry of this cookie, if it is there.
+/// Deletes the entry of this cookie, if there is one.
 pub fn delete_entry<S: Alter>(conn: &mut Connection<S>, cookie: u64) -> Result<(), Error>
     requires { cookie < 2 ^ 63 }
     ensures { Makes (with_entry_gone cookie) (state S.Store conn.old) (state S.Store conn.new)
@@ -67,7 +67,7 @@ pub fn delete_entry<S: Alter>(conn: &mut Connection<S>, cookie: u64) -> Result<(
     run(conn, DELETE, &values)
 }
 
-/// The first entry of this name: one or none.
+/// The first entry of this name: one row or none.
 pub fn select_named<S: Alter>(
     conn: &mut Connection<S>,
     dir: u64,
@@ -84,7 +84,7 @@ pub fn select_named<S: Alter>(
     conn.query_all(SELECT_NAMED, &values)
 }
 
-/// The entries of a directory behind this cookie, in rising order and at most so many.
+/// At most `limit` entries of a directory after this cookie, in rising order.
 pub fn select_after<S: Alter>(
     conn: &mut Connection<S>,
     dir: u64,

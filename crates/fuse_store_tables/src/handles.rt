@@ -49,7 +49,7 @@ fn handle_values(row: &HandleRow) -> [ValueRef<'static>; 3]
     ]
 }
 
-/// Adds a handle, whose number no other has.
+/// Adds a handle with a new number.
 pub fn insert_handle<S: Alter>(conn: &mut Connection<S>, row: &HandleRow) -> Result<(), Error>
     requires { FitsHandle row.now }
     ensures { Makes (with_handle row.now) (state S.Store conn.old) (state S.Store conn.new) result }
@@ -58,7 +58,7 @@ pub fn insert_handle<S: Alter>(conn: &mut Connection<S>, row: &HandleRow) -> Res
     run(conn, INSERT, &values)
 }
 
-/// Takes out the handle of this number, if it is there.
+/// Deletes the handle of this number, if there is one.
 pub fn delete_handle<S: Alter>(conn: &mut Connection<S>, fh: u64) -> Result<(), Error>
     requires { fh < 2 ^ 63 }
     ensures { Makes (without_handle fh) (state S.Store conn.old) (state S.Store conn.new) result }
@@ -67,14 +67,14 @@ pub fn delete_handle<S: Alter>(conn: &mut Connection<S>, fh: u64) -> Result<(), 
     run(conn, DELETE, &values)
 }
 
-/// Takes out every handle.
-pub fn delete_all_handles<S: Alter>(conn: &mut Connection<S>) -> Result<(), Error>
+/// Deletes every handle.
+pub(crate) fn delete_all_handles<S: Alter>(conn: &mut Connection<S>) -> Result<(), Error>
     ensures { Makes without_handles (state S.Store conn.old) (state S.Store conn.new) result }
 {
     run(conn, DELETE_ALL, &[])
 }
 
-/// The handles of this number: one or none.
+/// The handles of this number: one row or none.
 pub fn select_handle<S: Alter>(conn: &mut Connection<S>, fh: u64) -> Result<Vec<Row>, Error>
     requires { fh < 2 ^ 63 }
     ensures looks { OnOk result (Looked (state S.Store conn.old) (state S.Store conn.new)) }

@@ -1,38 +1,30 @@
-//! The tables of a store over `sqlite`: their layout, the statements on them, a store made, opened
-//! and begun anew.
+//! The schema of a store in SQLite tables, and the statements on it.
 #![tactic(auto)]
 
 mod blocks;
-mod clearing;
+mod columns;
 mod counters;
+mod creation;
 mod entries;
 mod handles;
-mod making;
 mod meta;
-mod migrating;
+mod migration;
+mod mount;
 mod nodes;
-mod opening;
 mod records;
 mod schema;
+mod setup;
 mod statements;
-mod typed;
 mod values;
 
 pub use blocks::{delete_block, delete_blocks_from, insert_block, select_block, write_block};
-pub use clearing::begin_mount;
-pub use counters::{
-    AGREED, HANDLES, NEXT_LOT, NEXT_NODE, insert_counter, select_counters, update_counter,
-};
+pub use columns::{bytes_at, node_at, number_at, small_at};
+pub use counters::{AGREED, HANDLES, NEXT_LOT, NEXT_NODE, select_counters, update_counter};
+pub use creation::make_store;
 pub use entries::{delete_entry, insert_entry, select_after, select_named};
-pub use handles::{delete_all_handles, delete_handle, insert_handle, select_handle};
-pub use making::make_store;
-pub use nodes::{
-    count_nodes, delete_unnamed, insert_node, select_node, select_unnamed, update_node,
-};
-pub use opening::set_up;
-pub use records::{
-    count_kept, count_lots, delete_all_kept, delete_all_lots, delete_kept, insert_kept, insert_lot,
-    select_kept,
-};
+pub use handles::{delete_handle, insert_handle, select_handle};
+pub use mount::begin_mount;
+pub use nodes::{insert_node, select_node, update_node};
+pub use records::{count_kept, count_lots, delete_kept, insert_kept, insert_lot, select_kept};
+pub use setup::set_up;
 pub use statements::{begin, commit, undo};
-pub use typed::{bits_at, bytes_at, node_at, number_at, small_at};

@@ -1,4 +1,4 @@
-// What the opening of a store reads of `meta`, of either version.
+// The table `meta` of either version, as the opening of a store reads it.
 ghost use Rattle.std.specs.Prelude.{◌≡◌, ◌≤◌, ◌∷◌, [], List, map, IfOk, IfErr, OnOk};
 ghost use Rattle.std.specs.Option.{option_to_list};
 ghost use Rattle.sqlite.specs.State.{HasCleanDisk};
@@ -12,7 +12,7 @@ ghost use Rattle.fuse_store_tables.specs.Moves.{InsideAs, Takes, IsSure};
 ghost use Rattle.fuse_store_tables.specs.Opening.{IsStored, IsLaid, IsMetaFrom, IsMeta, Tests, most};
 ghost use Rattle.fuse_store_tables.specs.Opening.{shown_meta};
 
-use crate::typed::number_at;
+use crate::columns::number_at;
 use fuse_keeper::StoreFault;
 use sqlite::{Alter, Connection, Error, Row};
 
@@ -27,7 +27,7 @@ fn select_version<S: Alter>(conn: &mut Connection<S>) -> Result<Vec<Row>, Error>
     ensures found { HasCleanDisk (state S.Store conn.new) → IfOk result (λ rows. (c : Content)
         → InsideAs (IsStored c) (state S.Store conn.old)
         → rows.items ≡ map shown_counter (option_to_list (at_by counter_key 1 c.counters))) }
-    ensures tells { HasCleanDisk (state S.Store conn.new)
+    ensures reports { HasCleanDisk (state S.Store conn.new)
         → IfOk result (λ rows. ShowsVersion (state S.Store conn.old).now rows.items) }
     ensures laid { Takes IsLaid IsLaid (state S.Store conn.old) (state S.Store conn.new) result }
     ensures shows { HasCleanDisk (state S.Store conn.new) → IfOk result (λ rows. (c : Content)
@@ -37,7 +37,7 @@ fn select_version<S: Alter>(conn: &mut Connection<S>) -> Result<Vec<Row>, Error>
     conn.query_all(SELECT_VERSION, &[])
 }
 
-// All of `meta`, in the order of the keys.
+// All rows of `meta`, in the order of their keys.
 fn select_meta<S: Alter>(conn: &mut Connection<S>) -> Result<Vec<Row>, Error>
     ensures unchanged { Takes IsStored IsStored (state S.Store conn.old) (state S.Store conn.new)
         result }
@@ -50,7 +50,7 @@ fn select_meta<S: Alter>(conn: &mut Connection<S>) -> Result<Vec<Row>, Error>
     conn.query_all(SELECT_META, &[])
 }
 
-// The version that a look-up found.
+// The version in the row that was found.
 fn read_version(rows: &[Row]) -> Result<u64, StoreFault>
     ensures value { IfOk result (λ n. (c : Content)
         → rows.now ≡ map shown_counter (option_to_list (at_by counter_key 1 c.counters))
@@ -73,7 +73,7 @@ pub(crate) fn find_version<S: Alter>(conn: &mut Connection<S>) -> Result<u64, St
     ensures value { HasCleanDisk (state S.Store conn.new) → IfOk result (λ n. (c : Content)
         → InsideAs (IsStored c) (state S.Store conn.old) → n ≡ value_at 1 c) }
     ensures fault { IsSure IsStored (state S.Store conn.old) (state S.Store conn.new) result }
-    ensures tells { HasCleanDisk (state S.Store conn.new)
+    ensures reports { HasCleanDisk (state S.Store conn.new)
         → IfOk result (ReportsVersion (state S.Store conn.old).now) }
     ensures says { HasCleanDisk (state S.Store conn.new)
         → IfErr result (Says (state S.Store conn.old).now) }
@@ -104,7 +104,7 @@ fn most(key: u64) -> u64
     }
 }
 
-// The row has this key, and a value in range.
+// Tests that the row has this key, and a value in range.
 fn check_row(row: &Row, key: u64) -> Result<(), StoreFault>
     ensures plain { IfErr result IsPlain }
     ensures fault { IfErr result (λ f. (c : Counter) → row.now ≡ shown_meta c → c.key ≡ key
@@ -123,7 +123,7 @@ fn check_row(row: &Row, key: u64) -> Result<(), StoreFault>
     Ok(())
 }
 
-// They are so many rows with the keys from 1 on, and values in range.
+// Tests that the keys of the rows count from 1 to `last`, and that the values are in range.
 fn check_rows(rows: &[Row], count: usize) -> Result<(), StoreFault>
     ensures plain { IfErr result IsPlain }
     ensures fault { IfErr result (λ f. (cs : List Counter) → rows.now ≡ map shown_meta cs
@@ -145,7 +145,7 @@ fn check_rows(rows: &[Row], count: usize) -> Result<(), StoreFault>
     Ok(())
 }
 
-/// All of `meta` is as it should be.
+/// Tests the keys and the values of `meta`.
 pub(crate) fn check_meta<S: Alter>(conn: &mut Connection<S>, count: usize) -> Result<(), StoreFault>
     ensures unchanged { Takes IsStored IsStored (state S.Store conn.old) (state S.Store conn.new)
         result }

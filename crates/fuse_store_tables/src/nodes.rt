@@ -11,8 +11,8 @@ ghost use Rattle.fuse_store_tables.specs.Content.{at_by, with_node, set_node, wi
 ghost use Rattle.fuse_store_tables.specs.Clearing.{shown_number, counted_to, unnamed_numbers};
 ghost use Rattle.fuse_store_tables.specs.Faults.{IsPlain};
 
+use crate::columns::the_number;
 use crate::statements::run;
-use crate::typed::the_number;
 use crate::values::number;
 use fuse_keeper::StoreFault;
 use fuse_tree::NodeRow;
@@ -58,7 +58,7 @@ fn node_values(row: &NodeRow) -> [ValueRef<'static>; 14]
     ]
 }
 
-/// Adds a node, whose number no other has.
+/// Adds a node with a new number.
 pub fn insert_node<S: Alter>(conn: &mut Connection<S>, row: &NodeRow) -> Result<(), Error>
     requires { FitsNode row.now }
     ensures { Makes (with_node row.now) (state S.Store conn.old) (state S.Store conn.new) result }
@@ -67,7 +67,7 @@ pub fn insert_node<S: Alter>(conn: &mut Connection<S>, row: &NodeRow) -> Result<
     run(conn, INSERT, &values)
 }
 
-/// Changes the node of this number, if it is there.
+/// Changes the node of this number, if there is one.
 pub fn update_node<S: Alter>(conn: &mut Connection<S>, row: &NodeRow) -> Result<(), Error>
     requires { FitsNode row.now }
     ensures { Makes (set_node row.now) (state S.Store conn.old) (state S.Store conn.new) result }
@@ -76,7 +76,7 @@ pub fn update_node<S: Alter>(conn: &mut Connection<S>, row: &NodeRow) -> Result<
     run(conn, UPDATE, &values)
 }
 
-/// The nodes of this number: one or none.
+/// The nodes of this number: one row or none.
 pub fn select_node<S: Alter>(conn: &mut Connection<S>, number_of: u64) -> Result<Vec<Row>, Error>
     requires { number_of < 2 ^ 63 }
     ensures looks { OnOk result (Looked (state S.Store conn.old) (state S.Store conn.new)) }
@@ -90,7 +90,7 @@ pub fn select_node<S: Alter>(conn: &mut Connection<S>, number_of: u64) -> Result
 }
 
 /// The numbers of the nodes without a name, in rising order.
-pub fn select_unnamed<S: Alter>(conn: &mut Connection<S>) -> Result<Vec<Row>, Error>
+pub(crate) fn select_unnamed<S: Alter>(conn: &mut Connection<S>) -> Result<Vec<Row>, Error>
     ensures made { Makes (λ c. c) (state S.Store conn.old) (state S.Store conn.new) result }
     ensures found { HasCleanDisk (state S.Store conn.new) → IfOk result (λ rows. (c : Content)
         → Inside c (state S.Store conn.old)
@@ -99,14 +99,14 @@ pub fn select_unnamed<S: Alter>(conn: &mut Connection<S>) -> Result<Vec<Row>, Er
     conn.query_all(SELECT_UNNAMED, &[])
 }
 
-/// Takes out the nodes without a name, but never the root.
-pub fn delete_unnamed<S: Alter>(conn: &mut Connection<S>) -> Result<(), Error>
+/// Deletes the nodes without a name, but never the root.
+pub(crate) fn delete_unnamed<S: Alter>(conn: &mut Connection<S>) -> Result<(), Error>
     ensures { Makes without_unnamed (state S.Store conn.old) (state S.Store conn.new) result }
 {
     run(conn, DELETE_UNNAMED, &[])
 }
 
-// How many nodes there are: one row.
+// The number of nodes: one row.
 fn select_count<S: Alter>(conn: &mut Connection<S>) -> Result<Vec<Row>, Error>
     ensures made { Makes (λ c. c) (state S.Store conn.old) (state S.Store conn.new) result }
     ensures found { HasCleanDisk (state S.Store conn.new) → IfOk result (λ rows. (c : Content)
@@ -115,8 +115,8 @@ fn select_count<S: Alter>(conn: &mut Connection<S>) -> Result<Vec<Row>, Error>
     conn.query_all(COUNT, &[])
 }
 
-/// How many nodes there are.
-pub fn count_nodes<S: Alter>(conn: &mut Connection<S>) -> Result<u64, StoreFault>
+/// The number of nodes.
+pub(crate) fn count_nodes<S: Alter>(conn: &mut Connection<S>) -> Result<u64, StoreFault>
     ensures made { Makes (λ c. c) (state S.Store conn.old) (state S.Store conn.new) result }
     ensures value { HasCleanDisk (state S.Store conn.new) → IfOk result (λ n. (c : Content)
         → Inside c (state S.Store conn.old) → n ≡ counted_to c.nodes) }

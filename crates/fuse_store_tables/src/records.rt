@@ -15,8 +15,8 @@ ghost use Rattle.fuse_store_tables.specs.Content.{without_answers, shown_kept};
 ghost use Rattle.fuse_store_tables.specs.Faults.{IsPlain};
 ghost use Rattle.fuse_store_tables.specs.Opening.{with_copies};
 
+use crate::columns::the_count;
 use crate::statements::run;
-use crate::typed::the_count;
 use crate::values::number;
 use fuse_answer::Answer;
 use fuse_keeper::StoreFault;
@@ -58,7 +58,7 @@ fn kept_values<'a>(id: u64, lot: u64, answer: &'a Answer) -> [ValueRef<'a>; 4]
     ]
 }
 
-/// Adds a record under a lot, whose id no other has.
+/// Adds a record with a new id, under a lot.
 pub fn insert_kept<S: Alter>(
     conn: &mut Connection<S>,
     id: u64,
@@ -74,7 +74,7 @@ pub fn insert_kept<S: Alter>(
     run(conn, INSERT, &values)
 }
 
-/// Adds a lot, which isn't there.
+/// Adds a new lot.
 pub fn insert_lot<S: Alter>(conn: &mut Connection<S>, lot: u64) -> Result<(), Error>
     requires { lot < 2 ^ 63 }
     ensures { Makes (with_lot lot) (state S.Store conn.old) (state S.Store conn.new) result }
@@ -83,7 +83,7 @@ pub fn insert_lot<S: Alter>(conn: &mut Connection<S>, lot: u64) -> Result<(), Er
     run(conn, INSERT_LOT, &values)
 }
 
-/// Takes out the record of this id, if it is there.
+/// Deletes the record of this id, if there is one.
 pub fn delete_kept<S: Alter>(conn: &mut Connection<S>, id: u64) -> Result<(), Error>
     requires { id < 2 ^ 63 }
     ensures { Makes (without_kept id) (state S.Store conn.old) (state S.Store conn.new) result }
@@ -92,21 +92,21 @@ pub fn delete_kept<S: Alter>(conn: &mut Connection<S>, id: u64) -> Result<(), Er
     run(conn, DELETE, &values)
 }
 
-/// Takes out every record.
-pub fn delete_all_kept<S: Alter>(conn: &mut Connection<S>) -> Result<(), Error>
+/// Deletes every record.
+pub(crate) fn delete_all_kept<S: Alter>(conn: &mut Connection<S>) -> Result<(), Error>
     ensures { Makes without_all_kept (state S.Store conn.old) (state S.Store conn.new) result }
 {
     run(conn, DELETE_ALL, &[])
 }
 
-/// Takes out every lot.
-pub fn delete_all_lots<S: Alter>(conn: &mut Connection<S>) -> Result<(), Error>
+/// Deletes every lot.
+pub(crate) fn delete_all_lots<S: Alter>(conn: &mut Connection<S>) -> Result<(), Error>
     ensures { Makes without_lots (state S.Store conn.old) (state S.Store conn.new) result }
 {
     run(conn, DELETE_LOTS, &[])
 }
 
-/// The records of this id: one or none.
+/// The records of this id: one row or none.
 pub fn select_kept<S: Alter>(conn: &mut Connection<S>, id: u64) -> Result<Vec<Row>, Error>
     requires { id < 2 ^ 63 }
     ensures looks { OnOk result (Looked (state S.Store conn.old) (state S.Store conn.new)) }
@@ -123,7 +123,7 @@ pub fn select_kept<S: Alter>(conn: &mut Connection<S>, id: u64) -> Result<Vec<Ro
     conn.query_all(SELECT, &values)
 }
 
-// How many records there are: one row.
+// The number of records: one row.
 fn select_count<S: Alter>(conn: &mut Connection<S>) -> Result<Vec<Row>, Error>
     ensures rests { Serves (λ c. c) (state S.Store conn.old) (state S.Store conn.new) result }
     ensures found { HasCleanDisk (state S.Store conn.new) → IfOk result (λ rows. (c : Content)
@@ -132,7 +132,7 @@ fn select_count<S: Alter>(conn: &mut Connection<S>) -> Result<Vec<Row>, Error>
     conn.query_all(COUNT, &[])
 }
 
-// How many lots there are: one row.
+// The number of lots: one row.
 fn select_lot_count<S: Alter>(conn: &mut Connection<S>) -> Result<Vec<Row>, Error>
     ensures rests { Serves (λ c. c) (state S.Store conn.old) (state S.Store conn.new) result }
     ensures found { HasCleanDisk (state S.Store conn.new) → IfOk result (λ rows. (c : Content)
@@ -141,7 +141,7 @@ fn select_lot_count<S: Alter>(conn: &mut Connection<S>) -> Result<Vec<Row>, Erro
     conn.query_all(COUNT_LOTS, &[])
 }
 
-/// How many records there are, outside a transaction.
+/// The number of records, outside a transaction.
 pub fn count_kept<S: Alter>(conn: &mut Connection<S>) -> Result<u64, StoreFault>
     ensures rests { Serves (λ c. c) (state S.Store conn.old) (state S.Store conn.new) result }
     ensures value { HasCleanDisk (state S.Store conn.new) → IfOk result (λ n. (c : Content)
@@ -153,7 +153,7 @@ pub fn count_kept<S: Alter>(conn: &mut Connection<S>) -> Result<u64, StoreFault>
     the_count(rows.as_slice())
 }
 
-/// How many lots there are, outside a transaction.
+/// The number of lots, outside a transaction.
 pub fn count_lots<S: Alter>(conn: &mut Connection<S>) -> Result<u64, StoreFault>
     ensures rests { Serves (λ c. c) (state S.Store conn.old) (state S.Store conn.new) result }
     ensures value { HasCleanDisk (state S.Store conn.new) → IfOk result (λ n. (c : Content)
@@ -165,14 +165,14 @@ pub fn count_lots<S: Alter>(conn: &mut Connection<S>) -> Result<u64, StoreFault>
     the_count(rows.as_slice())
 }
 
-/// Puts the records of version 1 under lot 0.
+/// Copies the records of version 1 under lot 0.
 pub(crate) fn copy_answers<S: Alter>(conn: &mut Connection<S>) -> Result<(), Error>
     ensures { Makes with_copies (state S.Store conn.old) (state S.Store conn.new) result }
 {
     run(conn, COPY_ANSWERS, &[])
 }
 
-/// Takes out the records of version 1.
+/// Deletes the records of version 1.
 pub(crate) fn delete_answers<S: Alter>(conn: &mut Connection<S>) -> Result<(), Error>
     ensures { Makes without_answers (state S.Store conn.old) (state S.Store conn.new) result }
 {

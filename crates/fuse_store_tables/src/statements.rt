@@ -1,4 +1,4 @@
-// A statement, and those that begin and end a transaction.
+// The run of a statement, and the begin and the end of a transaction.
 ghost use Rattle.sqlite.specs.State.{HasCleanDisk, Survives, CommitsBy};
 ghost use Rattle.sqlite.specs.Held.{state};
 ghost use Rattle.sqlite.specs.Values.{bound};
@@ -7,7 +7,7 @@ ghost use Rattle.fuse_store_tables.specs.Moves.{Begins, Ends, Ran, Undoes};
 use sqlite::types::ValueRef;
 use sqlite::{Alter, Connection, Error};
 
-/// Runs a statement. How many rows it changed is left out, since nobody asks.
+/// Runs a statement.
 pub(crate) fn run<S: Alter>(
     conn: &mut Connection<S>,
     statement: &str,
@@ -36,7 +36,7 @@ pub fn commit<S: Alter>(conn: &mut Connection<S>) -> Result<(), Error>
     run(conn, "COMMIT", &[])
 }
 
-/// Undoes the transaction, if one is open.
+/// Rolls the transaction back, if one is open.
 pub fn undo<S: Alter>(conn: &mut Connection<S>)
     ensures { Undoes (state S.Store conn.old) (state S.Store conn.new) }
 {

@@ -3,7 +3,7 @@ use Rattle.fuse_store_tables.specs.Layout.{with_answers}
 use Rattle.fuse_store_tables.specs.Content.{Holds, HoldsAs, stored}
 use Rattle.fuse_store_tables.specs.Opening.{IsFirst, IsSecond}
 use Rattle.fuse_store_tables.proofs.OpenLemmas.{version_looks, version_found, in_order, any_rows}
-use Rattle.fuse_store_tables.proofs.Sayings.{tells_version}
+use Rattle.fuse_store_tables.proofs.Sayings.{says_version}
 use Rattle.fuse_store_tables.proofs.meta.select_version.Goals as goal
 
 pub returns-clause-unchanged : goal.returns-clause-unchanged
@@ -17,8 +17,8 @@ returns-clause-found g c = version_found IsFirst IsSecond in_order (λ rows. row
     c.query_all.new.self) c.query_all.result
     c.query_all.ensures.ok
 
-pub returns-clause-tells : goal.returns-clause-tells
-returns-clause-tells g c = tells_version (λ rows. rows.items) (state g.S.Store c.args.conn.now) (state g.S.Store c.query_all.new.self) c.query_all.result
+pub returns-clause-reports : goal.returns-clause-reports
+returns-clause-reports g c = says_version (λ rows. rows.items) (state g.S.Store c.args.conn.now) (state g.S.Store c.query_all.new.self) c.query_all.result
     c.query_all.ensures.ok
 
 pub returns-clause-laid : goal.returns-clause-laid

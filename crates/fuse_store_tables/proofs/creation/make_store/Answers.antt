@@ -1,0 +1,15 @@
+use Rattle.sqlite.specs.Held.{state}
+use Rattle.fuse_store_tables.specs.Layout.{no_schema}
+use Rattle.fuse_store_tables.specs.Making.{IsBare, IsNew}
+use Rattle.fuse_store_tables.specs.Following.{earlier}
+use Rattle.fuse_store_tables.proofs.Joining.{undone}
+use Rattle.fuse_store_tables.proofs.creation.make_store.Goals as goal
+
+pub returns-in-Err-clause-serves : goal.returns-in-Err-clause-serves
+returns-in-Err-clause-serves g c =
+    undone (IsBare no_schema) (IsNew c.args.now) _ _ _ _ _ c.in-Err.ensures.performs c.undo.ensures
+
+pub returns-in-Err-clause-fault : goal.returns-in-Err-clause-fault
+returns-in-Err-clause-fault g c clean =
+    let before = state g.S.Store c.transact.new.conn in
+    c.in-Err.ensures.fault (earlier before (state g.S.Store c.undo.new.conn) _ c.undo.ensures.survives clean)

@@ -1,0 +1,20 @@
+use Rattle.std.proofs.Common.{Ok, Err}
+use Rattle.sqlite.specs.Held.{state}
+use Rattle.fuse_keeper.specs.declared.fault.StoreFault.{StoreFault}
+use Rattle.fuse_store_tables.specs.Content.{Holds}
+use Rattle.fuse_store_tables.specs.Clearing.{cleared}
+use Rattle.fuse_store_tables.specs.Moves.{Serves}
+use Rattle.fuse_store_tables.proofs.Joining.{served, undone}
+use Rattle.fuse_store_tables.proofs.Fitting.{fit_cleared, second_serves}
+use Rattle.fuse_store_tables.proofs.mount.begin_mount.Goals as goal
+
+pub returns-in-Ok-clause-fit : goal.returns-in-Ok-clause-fit
+returns-in-Ok-clause-fit g c =
+    let all : Serves {E = StoreFault} cleared (state g.S.Store c.args.conn.now) (state g.S.Store c.transact.new.conn) (Ok tt) =
+    served Holds (λ k. Holds (cleared k)) _ _ _ _ c.in-Ok.ensures.performs in
+    second_serves cleared fit_cleared _ _ (Ok tt) all
+
+pub returns-in-Err-clause-fit : goal.returns-in-Err-clause-fit
+returns-in-Err-clause-fit g c =
+    second_serves cleared fit_cleared (state g.S.Store c.args.conn.now) (state g.S.Store c.undo.new.conn) (Err c.in-Err.fault)
+    (undone Holds (λ k. Holds (cleared k)) _ _ _ _ _ c.in-Err.ensures.performs c.undo.ensures)

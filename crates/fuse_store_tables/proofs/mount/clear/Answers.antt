@@ -1,0 +1,33 @@
+use Rattle.fuse_store_tables.specs.Content.{Holds}
+use Rattle.fuse_store_tables.specs.Clearing.{without_records, without_all_handles, without_settings, without_unnamed_nodes, cleared}
+use Rattle.fuse_store_tables.proofs.Joining.{makes_then, fails_next, made_from, sure_then}
+use Rattle.fuse_store_tables.proofs.mount.clear.Goals as goal
+
+pub returns-in_err-clear_handles-clause-made : goal.returns-in_err-clear_handles-clause-made
+returns-in_err-clear_handles-clause-made g c =
+    fails_next Holds (λ k. Holds (without_records k)) (λ k. Holds (without_all_handles (without_records k))) (λ k. Holds (cleared k)) _ _ _ _ _ _
+    c.in_ok-clear_records.ensures
+    (made_from without_records without_all_handles _ _ _ c.in_err-clear_handles.ensures) c.from_residual-in_err-clear_handles.ensures.0
+
+pub returns-in_err-clear_settings-clause-made : goal.returns-in_err-clear_settings-clause-made
+returns-in_err-clear_settings-clause-made g c =
+    fails_next Holds (λ k. Holds (without_all_handles (without_records k))) (λ k. Holds (without_settings (without_all_handles (without_records k))))
+    (λ k. Holds (cleared k)) _ _ _ _ _ _
+    (makes_then without_records without_all_handles _ _ _ _ _ c.in_ok-clear_records.ensures c.in_ok-clear_handles.ensures)
+    (made_from (λ k. without_all_handles (without_records k)) without_settings _ _ _ c.in_err-clear_settings.ensures)
+    c.from_residual-in_err-clear_settings.ensures.0
+
+pub returns-clause-made : goal.returns-clause-made
+returns-clause-made g c =
+    makes_then (λ k. without_settings (without_all_handles (without_records k))) without_unnamed_nodes _ _ _ _ _
+    (makes_then (λ k. without_all_handles (without_records k)) without_settings _ _ _ _ _ (makes_then without_records without_all_handles _ _ _ _ _
+    c.in_ok-clear_records.ensures c.in_ok-clear_handles.ensures)
+    c.in_ok-clear_settings.ensures) c.clear_nodes.ensures.made
+
+pub returns-clause-fault : goal.returns-clause-fault
+returns-clause-fault g c =
+    sure_then (λ k. without_settings (without_all_handles (without_records k))) _ _ _ _ c.clear_nodes.result
+    (makes_then (λ k. without_all_handles (without_records k)) without_settings _ _ _ _ _ (makes_then without_records without_all_handles _ _ _ _ _
+    c.in_ok-clear_records.ensures c.in_ok-clear_handles.ensures)
+    c.in_ok-clear_settings.ensures)
+    c.clear_nodes.ensures.made.stays.survives c.clear_nodes.ensures.fault

@@ -1,0 +1,26 @@
+use Rattle.sqlite.specs.Held.{state}
+use Rattle.fuse_store_tables.specs.Content.{Holds}
+use Rattle.fuse_store_tables.specs.Clearing.{cleared}
+use Rattle.fuse_store_tables.specs.Moves.{Performs}
+use Rattle.fuse_store_tables.proofs.Joining.{failed_first, failed_inside, failed_commit, committed, on_err}
+use Rattle.fuse_store_tables.proofs.mount.transact.Goals as goal
+
+pub returns-in_err-begin-clause-performs : goal.returns-in_err-begin-clause-performs
+returns-in_err-begin-clause-performs g c =
+    on_err (Performs cleared (state g.S.Store c.args.conn.now) (state g.S.Store c.begin.new.conn)) c.from_residual.result c.from_residual.ensures.0
+    (λ e. failed_first Holds (λ k. Holds (cleared k)) _ _ _ e c.in_err-begin.ensures)
+
+pub returns-in_err-clear-clause-performs : goal.returns-in_err-clear-clause-performs
+returns-in_err-clear-clause-performs g c =
+    on_err (Performs cleared (state g.S.Store c.args.conn.now) (state g.S.Store c.clear.new.conn)) c.from_residual-in_err-clear.result
+    c.from_residual-in_err-clear.ensures.0
+    (λ e. failed_inside Holds (λ k. Holds (cleared k)) (λ k. Holds (cleared k)) _ _ _ _ _ e c.in_ok-begin.ensures c.in_err-clear.ensures.made)
+
+pub returns-in_err-commit-clause-performs : goal.returns-in_err-commit-clause-performs
+returns-in_err-commit-clause-performs g c =
+    on_err (Performs cleared (state g.S.Store c.args.conn.now) (state g.S.Store c.commit.new.conn)) c.from_residual-in_err-commit.result
+    c.from_residual-in_err-commit.ensures.0
+    (λ e. failed_commit Holds (λ k. Holds (cleared k)) _ _ _ _ _ _ _ e c.in_ok-begin.ensures c.in_ok-clear.ensures.made c.in_err-commit.ensures)
+
+pub returns-clause-performs : goal.returns-clause-performs
+returns-clause-performs g c = committed Holds (λ k. Holds (cleared k)) _ _ _ _ _ _ _ _ c.in_ok-begin.ensures c.in_ok-clear.ensures.made c.in_ok-commit.ensures

@@ -1,0 +1,19 @@
+use Rattle.std.proofs.Common.{Ok}
+use Rattle.sqlite.specs.Held.{state}
+use Rattle.fuse_store_tables.specs.Opening.{IsFirst, IsOpened}
+use Rattle.fuse_store_tables.proofs.Joining.{then_as, fails_next}
+use Rattle.fuse_store_tables.proofs.MigrationLemmas.{first_looks}
+use Rattle.fuse_store_tables.proofs.setup.open_first.Goals as goal
+
+pub returns-in_err-migrate-clause-made : goal.returns-in_err-migrate-clause-made
+returns-in_err-migrate-clause-made g c =
+    fails_next IsFirst IsFirst IsOpened IsOpened _ _ _ _ _ _ (first_looks _ _ _ c.in_ok-check_meta.ensures.unchanged) c.in_err-migrate.ensures
+    c.from_residual-in_err-migrate.ensures.0
+
+pub returns-clause-made : goal.returns-clause-made
+returns-clause-made g c =
+    let all =
+    then_as IsFirst IsFirst IsOpened (state g.S.Store c.args.conn.now) (state g.S.Store c.check_meta.new.conn) (state g.S.Store c.migrate.new.conn) _
+    (Ok _) (first_looks _ _ _ c.in_ok-check_meta.ensures.unchanged)
+    c.in_ok-migrate.ensures in
+    record { stays = all.stays; turns = all.turns }

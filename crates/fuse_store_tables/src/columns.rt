@@ -1,0 +1,162 @@
+// Typed values of the columns of a row.
+ghost use Rattle.std.specs.Prelude.{◌≡◌, ◌<◌, ◌^◌, ◌+◌, ℕ, List, [], ◌∷◌, pos, length, IfOk, IfErr};
+ghost use Rattle.std.specs.Int.{w64, cast_signed};
+ghost use Rattle.sqlite.specs.declared.types.Value.TheVariants.{Int, Blob};
+ghost use Rattle.sqlite.specs.Order.{column};
+ghost use Rattle.fuse_wire.specs.declared.moment.Moment.{Moment as Time};
+ghost use Rattle.fuse_tree.specs.declared.rows.NodeRow.{NodeRow as Node};
+ghost use Rattle.fuse_keeper.specs.Faults.{is_memory};
+ghost use Rattle.fuse_store_tables.specs.Faults.{misread_as, IsOutside, IsPlain};
+ghost use Rattle.fuse_store_tables.specs.Content.{node_columns, HasSeconds};
+ghost use Rattle.fuse_store_tables.specs.Clearing.{shown_number, reached};
+
+use fuse_keeper::StoreFault;
+use fuse_tree::NodeRow;
+use fuse_wire::Moment;
+use sqlite::{Error, ErrorCode, Row};
+
+// Whether memory ran out.
+fn is_memory(e: &Error) -> bool
+    ensures { result ≡ is_memory e.now }
+{
+    matches!(e, Error::SqliteFailure(ErrorCode::OutOfMemory))
+}
+
+// The fault of a column of the wrong type.
+#[tactic(auto, using(crate::proofs::Sayings::plain_misread))]
+fn misread(e: Error) -> StoreFault
+    ensures value { result ≡ misread_as e }
+    ensures plain { IsPlain result }
+{
+    if is_memory(&e) {
+        StoreFault::Memory
+    } else {
+        StoreFault::Damaged
+    }
+}
+
+/// A number that is not negative.
+pub fn number_at(row: &Row, at: usize) -> Result<u64, StoreFault>
+    ensures value { IfOk result (λ n. column row.now at ≡ Int (pos n)) }
+    ensures small { IfOk result (λ n. n < 2 ^ 63) }
+    ensures fault { IfErr result (λ f. (n : ℕ) → at < length row.now
+        → column row.now at ≡ Int (pos n) → IsOutside f) }
+    ensures plain { IfErr result IsPlain }
+{
+    match row.get::<i64>(at) {
+        Ok(value) => {
+            if value < 0 {
+                return Err(StoreFault::Damaged);
+            }
+            Ok(value as u64)
+        }
+        Err(e) => Err(misread(e)),
+    }
+}
+
+/// The number in the only row of a count.
+pub(crate) fn the_number(rows: &[Row]) -> Result<u64, StoreFault>
+    ensures value { IfOk result (λ n. (m : ℕ) → rows.now ≡ shown_number m ∷ [] → n ≡ m) }
+    ensures small { IfOk result (λ n. n < 2 ^ 63) }
+    ensures fault { IfErr result (λ f. (m : ℕ) → rows.now ≡ shown_number m ∷ [] → IsOutside f) }
+    ensures plain { IfErr result IsPlain }
+{
+    match rows.first() {
+        None => Err(StoreFault::Damaged),
+        Some(row) => number_at(row, 0),
+    }
+}
+
+// The greatest number that SQLite counts to.
+const LAST_COUNT: u64 = i64::MAX as u64;
+
+/// The number of rows, in the only row of a count.
+pub(crate) fn the_count(rows: &[Row]) -> Result<u64, StoreFault>
+    ensures value { IfOk result (λ n. (m : ℕ) → rows.now ≡ shown_number (reached m) ∷ [] → n ≡ m) }
+    ensures fault { IfErr result (λ f. (m : ℕ) → rows.now ≡ shown_number m ∷ [] → IsOutside f) }
+    ensures plain { IfErr result IsPlain }
+{
+    let count = the_number(rows)?;
+    if count == LAST_COUNT {
+        let beyond = Error::SqliteFailure(ErrorCode::IntegerOverflow);
+        return Err(StoreFault::Sql(beyond));
+    }
+    Ok(count)
+}
+
+/// A number of 32 bits.
+pub fn small_at(row: &Row, at: usize) -> Result<u32, StoreFault>
+    ensures value { IfOk result (λ n. (m : ℕ) → column row.now at ≡ Int (pos m) → n ≡ m) }
+    ensures fault { IfErr result IsOutside }
+    ensures plain { IfErr result IsPlain }
+{
+    let value: u32 = row.get(at)?;
+    Ok(value)
+}
+
+/// A number of 64 bits, stored as the signed number with the same bits.
+pub(crate) fn bits_at(row: &Row, at: usize) -> Result<u64, StoreFault>
+    ensures value { IfOk result (λ n. (m : ℕ) → m < 2 ^ 64
+        → column row.now at ≡ Int (cast_signed w64 m) → n ≡ m) }
+    ensures fault { IfErr result IsOutside }
+    ensures plain { IfErr result IsPlain }
+{
+    let value: i64 = row.get(at)?;
+    Ok(value.cast_unsigned())
+}
+
+/// Bytes.
+pub fn bytes_at(row: &Row, at: usize) -> Result<Vec<u8>, StoreFault>
+    ensures value { IfOk result (λ v. (l : List ℕ) → column row.now at ≡ Blob l → v.items ≡ l) }
+    ensures fault { IfErr result IsOutside }
+    ensures plain { IfErr result IsPlain }
+{
+    let value: Vec<u8> = row.get(at)?;
+    Ok(value)
+}
+
+// A time, in two columns.
+fn moment_at(row: &Row, at: usize) -> Result<Moment, StoreFault>
+    requires { at < 2 ^ 32 }
+    ensures value { IfOk result (λ t. (m : Time) → m.secs < 2 ^ 64
+        → column row.now at ≡ Int (cast_signed w64 m.secs)
+        → column row.now (at + 1) ≡ Int (pos m.nanos) → t ≡ m) }
+    ensures fault { IfErr result IsOutside }
+    ensures plain { IfErr result IsPlain }
+{
+    let secs = bits_at(row, at)?;
+    let nanos = small_at(row, at + 1)?;
+    Ok(Moment { secs, nanos })
+}
+
+/// The row of a node, without its number.
+pub fn node_at(row: &Row, node: u64) -> Result<NodeRow, StoreFault>
+    ensures value { IfOk result (λ r. (n : Node) → HasSeconds n → n.node ≡ node
+        → row.now ≡ node_columns n → r ≡ n) }
+    ensures fault { IfErr result (λ f. (n : Node) → row.now ≡ node_columns n → IsOutside f) }
+    ensures plain { IfErr result IsPlain }
+{
+    let mode = small_at(row, 0)?;
+    let uid = small_at(row, 1)?;
+    let gid = small_at(row, 2)?;
+    let rdev = small_at(row, 3)?;
+    let size = number_at(row, 4)?;
+    let atime = moment_at(row, 5)?;
+    let mtime = moment_at(row, 7)?;
+    let ctime = moment_at(row, 9)?;
+    let up = number_at(row, 11)?;
+    let subdirs = small_at(row, 12)?;
+    Ok(NodeRow {
+        node,
+        mode,
+        uid,
+        gid,
+        rdev,
+        size,
+        atime,
+        mtime,
+        ctime,
+        up,
+        subdirs,
+    })
+}

@@ -1,0 +1,187 @@
+// A new store, made in one transaction.
+ghost use Rattle.std.specs.Prelude.{IsTrue, IfErr, OnOk};
+ghost use Rattle.sqlite.specs.State.{HasCleanDisk};
+ghost use Rattle.sqlite.specs.Held.{state};
+ghost use Rattle.fuse_store_tables.specs.Faults.{IsPlain};
+ghost use Rattle.fuse_store_tables.specs.Layout.{no_schema, with_meta, with_nodes, with_entries};
+ghost use Rattle.fuse_store_tables.specs.Layout.{with_blocks, with_handles, with_answers, with_lots};
+ghost use Rattle.fuse_store_tables.specs.Layout.{with_kept, store_schema};
+ghost use Rattle.fuse_store_tables.specs.Making.{IsBare, HasCounters, IsNew};
+ghost use Rattle.fuse_store_tables.specs.Moves.{Takes, PerformsAs, ServesAs, IsSafe};
+
+use crate::nodes::insert_node;
+use crate::statements::{begin, commit, run, undo};
+use fuse_keeper::StoreFault;
+use fuse_tree::NodeRow;
+use fuse_wire::Moment;
+use sqlite::{Alter, Connection, Error};
+
+const META: &str = "CREATE TABLE meta (k INTEGER PRIMARY KEY, v INTEGER NOT NULL) STRICT";
+
+const NODES: &str = "CREATE TABLE nodes (node INTEGER PRIMARY KEY, mode INTEGER NOT NULL, \
+    uid INTEGER NOT NULL, gid INTEGER NOT NULL, rdev INTEGER NOT NULL, size INTEGER NOT NULL, \
+    atime INTEGER NOT NULL, atimensec INTEGER NOT NULL, mtime INTEGER NOT NULL, \
+    mtimensec INTEGER NOT NULL, ctime INTEGER NOT NULL, ctimensec INTEGER NOT NULL, \
+    up INTEGER NOT NULL, subdirs INTEGER NOT NULL) STRICT";
+
+const ENTRIES: &str = "CREATE TABLE entries (cookie INTEGER PRIMARY KEY, \
+    dir INTEGER NOT NULL REFERENCES nodes (node), name BLOB NOT NULL, \
+    child INTEGER NOT NULL UNIQUE REFERENCES nodes (node), UNIQUE (dir, name)) STRICT";
+
+const BLOCKS: &str = "CREATE TABLE blocks (node INTEGER NOT NULL REFERENCES nodes (node), \
+    block INTEGER NOT NULL, bytes BLOB NOT NULL, PRIMARY KEY (node, block)) STRICT";
+
+const HANDLES: &str = "CREATE TABLE handles (fh INTEGER PRIMARY KEY, \
+    node INTEGER NOT NULL REFERENCES nodes (node), access INTEGER NOT NULL) STRICT";
+
+const ANSWERS: &str = "CREATE TABLE answers (id INTEGER PRIMARY KEY, errno INTEGER NOT NULL, \
+    body BLOB NOT NULL) STRICT";
+
+pub(crate) const LOTS: &str = "CREATE TABLE lots (lot INTEGER PRIMARY KEY) STRICT";
+
+pub(crate) const KEPT: &str = "CREATE TABLE kept (id INTEGER PRIMARY KEY, \
+    lot INTEGER NOT NULL REFERENCES lots (lot), errno INTEGER NOT NULL, \
+    body BLOB NOT NULL) STRICT";
+
+pub(crate) const ENTRIES_IN_ORDER: &str = "CREATE INDEX entries_in_order ON entries (dir, cookie)";
+
+const FILL: &str = "INSERT INTO meta VALUES (1, 2), (2, 2), (3, 1), (4, 3), (5, 1), (6, 0), \
+    (7, 0), (8, 0), (9, 0), (10, 0), (11, 1)";
+
+fn make_meta<S: Alter>(conn: &mut Connection<S>) -> Result<(), Error>
+    ensures { Takes (IsBare no_schema) (IsBare with_meta) (state S.Store conn.old)
+        (state S.Store conn.new) result }
+{
+    run(conn, META, &[])
+}
+
+fn make_nodes<S: Alter>(conn: &mut Connection<S>) -> Result<(), Error>
+    ensures { Takes (IsBare no_schema) (IsBare with_nodes) (state S.Store conn.old)
+        (state S.Store conn.new) result }
+{
+    make_meta(conn)?;
+    run(conn, NODES, &[])
+}
+
+fn make_entries<S: Alter>(conn: &mut Connection<S>) -> Result<(), Error>
+    ensures { Takes (IsBare no_schema) (IsBare with_entries) (state S.Store conn.old)
+        (state S.Store conn.new) result }
+{
+    make_nodes(conn)?;
+    run(conn, ENTRIES, &[])
+}
+
+fn make_blocks<S: Alter>(conn: &mut Connection<S>) -> Result<(), Error>
+    ensures { Takes (IsBare no_schema) (IsBare with_blocks) (state S.Store conn.old)
+        (state S.Store conn.new) result }
+{
+    make_entries(conn)?;
+    run(conn, BLOCKS, &[])
+}
+
+fn make_handles<S: Alter>(conn: &mut Connection<S>) -> Result<(), Error>
+    ensures { Takes (IsBare no_schema) (IsBare with_handles) (state S.Store conn.old)
+        (state S.Store conn.new) result }
+{
+    make_blocks(conn)?;
+    run(conn, HANDLES, &[])
+}
+
+fn make_answers<S: Alter>(conn: &mut Connection<S>) -> Result<(), Error>
+    ensures { Takes (IsBare no_schema) (IsBare with_answers) (state S.Store conn.old)
+        (state S.Store conn.new) result }
+{
+    make_handles(conn)?;
+    run(conn, ANSWERS, &[])
+}
+
+fn make_lots<S: Alter>(conn: &mut Connection<S>) -> Result<(), Error>
+    ensures { Takes (IsBare no_schema) (IsBare with_lots) (state S.Store conn.old)
+        (state S.Store conn.new) result }
+{
+    make_answers(conn)?;
+    run(conn, LOTS, &[])
+}
+
+fn make_kept<S: Alter>(conn: &mut Connection<S>) -> Result<(), Error>
+    ensures { Takes (IsBare no_schema) (IsBare with_kept) (state S.Store conn.old)
+        (state S.Store conn.new) result }
+{
+    make_lots(conn)?;
+    run(conn, KEPT, &[])
+}
+
+// The index is made last: its root page follows those of all tables.
+fn make_entries_in_order<S: Alter>(conn: &mut Connection<S>) -> Result<(), Error>
+    ensures { Takes (IsBare no_schema) (IsBare store_schema) (state S.Store conn.old)
+        (state S.Store conn.new) result }
+{
+    make_kept(conn)?;
+    run(conn, ENTRIES_IN_ORDER, &[])
+}
+
+fn fill_meta<S: Alter>(conn: &mut Connection<S>) -> Result<(), Error>
+    ensures { Takes (IsBare no_schema) HasCounters (state S.Store conn.old) (state S.Store conn.new)
+        result }
+{
+    make_entries_in_order(conn)?;
+    run(conn, FILL, &[])
+}
+
+// The tables and their first rows.
+fn make_all<S: Alter>(conn: &mut Connection<S>, now: Moment) -> Result<(), Error>
+    ensures { Takes (IsBare no_schema) (IsNew now) (state S.Store conn.old) (state S.Store conn.new)
+        result }
+{
+    fill_meta(conn)?;
+    let root = NodeRow {
+        node: 1,
+        mode: 0o040755,
+        uid: 0,
+        gid: 0,
+        rdev: 0,
+        size: 0,
+        atime: now,
+        mtime: now,
+        ctime: now,
+        up: 0,
+        subdirs: 0,
+    };
+    insert_node(conn, &root)
+}
+
+// The transaction. A fault may leave it open.
+fn transact<S: Alter>(conn: &mut Connection<S>, now: Moment) -> Result<(), StoreFault>
+    ensures performs { PerformsAs (IsBare no_schema) (IsNew now) (state S.Store conn.old)
+        (state S.Store conn.new) result }
+    ensures fault { IsSafe (IsBare no_schema) (state S.Store conn.old) (state S.Store conn.new)
+        result }
+    ensures plain { IfErr result IsPlain }
+    ensures was { HasCleanDisk (state S.Store conn.new)
+        → OnOk result (IsTrue (state S.Store conn.old).is_open) }
+{
+    begin(conn)?;
+    make_all(conn, now)?;
+    commit(conn)?;
+    Ok(())
+}
+
+/// Makes a new store in a database without tables. The commit is its last call of the database.
+pub fn make_store<S: Alter>(conn: &mut Connection<S>, now: Moment) -> Result<(), StoreFault>
+    ensures serves { ServesAs (IsBare no_schema) (IsNew now) (state S.Store conn.old)
+        (state S.Store conn.new) result }
+    ensures fault { IsSafe (IsBare no_schema) (state S.Store conn.old) (state S.Store conn.new)
+        result }
+    // The fault is never `NotAStore` or `Version`.
+    ensures plain { IfErr result IsPlain }
+    ensures was { HasCleanDisk (state S.Store conn.new)
+        → OnOk result (IsTrue (state S.Store conn.old).is_open) }
+{
+    match transact(conn, now) {
+        Ok(()) => Ok(()),
+        Err(fault) => {
+            undo(conn);
+            Err(fault)
+        }
+    }
+}

@@ -1,0 +1,58 @@
+// The migration of a store from version 1 to version 2.
+ghost use Rattle.sqlite.specs.Held.{state};
+ghost use Rattle.fuse_store_tables.specs.Moves.{Takes, Makes};
+ghost use Rattle.fuse_store_tables.specs.Opening.{IsFirst, HasLots, HasKept, HasTables, IsOpened, moved};
+ghost use Rattle.fuse_store_tables.specs.Opening.{marked};
+
+use crate::counters::{NEXT_LOT, VERSION, insert_counter, update_counter};
+use crate::creation::{ENTRIES_IN_ORDER, KEPT, LOTS};
+use crate::records::{copy_answers, delete_answers, insert_lot};
+use crate::statements::run;
+use sqlite::{Alter, Connection, Error};
+
+fn add_lots<S: Alter>(conn: &mut Connection<S>) -> Result<(), Error>
+    ensures { Takes IsFirst HasLots (state S.Store conn.old) (state S.Store conn.new) result }
+{
+    run(conn, LOTS, &[])
+}
+
+fn add_kept<S: Alter>(conn: &mut Connection<S>) -> Result<(), Error>
+    ensures { Takes IsFirst HasKept (state S.Store conn.old) (state S.Store conn.new) result }
+{
+    add_lots(conn)?;
+    run(conn, KEPT, &[])
+}
+
+// The index is made after all tables, as in a new store.
+fn add_tables<S: Alter>(conn: &mut Connection<S>) -> Result<(), Error>
+    ensures { Takes IsFirst HasTables (state S.Store conn.old) (state S.Store conn.new) result }
+{
+    add_kept(conn)?;
+    run(conn, ENTRIES_IN_ORDER, &[])
+}
+
+// Puts the records under lot 0.
+fn move_records<S: Alter>(conn: &mut Connection<S>) -> Result<(), Error>
+    ensures { Makes moved (state S.Store conn.old) (state S.Store conn.new) result }
+{
+    insert_lot(conn, 0)?;
+    copy_answers(conn)?;
+    delete_answers(conn)
+}
+
+// Sets the next lot and the version.
+fn mark<S: Alter>(conn: &mut Connection<S>) -> Result<(), Error>
+    ensures { Makes marked (state S.Store conn.old) (state S.Store conn.new) result }
+{
+    insert_counter(conn, NEXT_LOT, 1)?;
+    update_counter(conn, VERSION, 2)
+}
+
+/// The whole migration, within a transaction.
+pub(crate) fn migrate<S: Alter>(conn: &mut Connection<S>) -> Result<(), Error>
+    ensures { Takes IsFirst IsOpened (state S.Store conn.old) (state S.Store conn.new) result }
+{
+    add_tables(conn)?;
+    move_records(conn)?;
+    mark(conn)
+}

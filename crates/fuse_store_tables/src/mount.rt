@@ -1,0 +1,147 @@
+// The begin of a mount: all state of the last mount is deleted, in one transaction.
+ghost use Rattle.std.specs.Prelude.{◌≡◌, map, List, ℕ, IfErr};
+ghost use Rattle.sqlite.specs.Held.{state};
+ghost use Rattle.fuse_store_tables.specs.Content.{Holds};
+ghost use Rattle.fuse_store_tables.specs.Faults.{IsOutside, IsPlain};
+ghost use Rattle.fuse_store_tables.specs.Clearing.{shown_number, number_of, without_blocks_of};
+ghost use Rattle.fuse_store_tables.specs.Clearing.{without_unnamed_blocks, without_settings};
+ghost use Rattle.fuse_store_tables.specs.Clearing.{with_nodes_counted, without_records};
+ghost use Rattle.fuse_store_tables.specs.Clearing.{without_all_handles, without_unnamed_nodes};
+ghost use Rattle.fuse_store_tables.specs.Clearing.{cleared};
+ghost use Rattle.fuse_store_tables.specs.Opening.{IsSecond};
+ghost use Rattle.fuse_store_tables.specs.Moves.{Makes, Performs, Serves, ServesAs, IsSure, IsSafe};
+
+use crate::blocks::delete_blocks_from;
+use crate::columns::number_at;
+use crate::counters::{AGREED, FLAGS, HANDLES, MAX_READAHEAD, MINOR, NODES, update_counter};
+use crate::handles::delete_all_handles;
+use crate::nodes::{count_nodes, delete_unnamed, select_unnamed};
+use crate::records::{delete_all_kept, delete_all_lots};
+use crate::statements::{begin, commit, undo};
+use fuse_keeper::StoreFault;
+use sqlite::{Alter, Connection, Error, Row};
+
+// Deletes the blocks of these nodes.
+fn delete_blocks_of<S: Alter>(conn: &mut Connection<S>, nodes: &[Row]) -> Result<(), StoreFault>
+    ensures made { Makes (without_blocks_of (map number_of nodes.now)) (state S.Store conn.old)
+        (state S.Store conn.new) result }
+    ensures fault { IfErr result (λ f. (ns : List ℕ) → nodes.now ≡ map shown_number ns
+        → IsOutside f) }
+    ensures plain { IfErr result IsPlain }
+{
+    let mut at = 0;
+    'nodes: while at < nodes.len() {
+        match number_at(&nodes[at], 0) {
+            Ok(node) => match delete_blocks_from(conn, node, 0) {
+                Ok(()) => {}
+                Err(error) => return Err(error.into()),
+            },
+            Err(fault) => return Err(fault),
+        }
+        at += 1;
+    }
+    Ok(())
+}
+
+// Deletes the blocks of the nodes without a name.
+fn clear_blocks<S: Alter>(conn: &mut Connection<S>) -> Result<(), StoreFault>
+    ensures made { Makes without_unnamed_blocks (state S.Store conn.old) (state S.Store conn.new)
+        result }
+    ensures fault { IsSure Holds (state S.Store conn.old) (state S.Store conn.new) result }
+    ensures plain { IfErr result IsPlain }
+{
+    let nodes = select_unnamed(conn)?;
+    delete_blocks_of(conn, nodes.as_slice())
+}
+
+// Counts the nodes anew.
+fn recount<S: Alter>(conn: &mut Connection<S>) -> Result<(), StoreFault>
+    ensures counted { Makes with_nodes_counted (state S.Store conn.old) (state S.Store conn.new)
+        result }
+    ensures fault { IsSure Holds (state S.Store conn.old) (state S.Store conn.new) result }
+    ensures plain { IfErr result IsPlain }
+{
+    let count = count_nodes(conn)?;
+    Ok(update_counter(conn, NODES, count)?)
+}
+
+// Deletes the settings.
+fn clear_settings<S: Alter>(conn: &mut Connection<S>) -> Result<(), Error>
+    ensures { Makes without_settings (state S.Store conn.old) (state S.Store conn.new) result }
+{
+    update_counter(conn, AGREED, 0)?;
+    update_counter(conn, MINOR, 0)?;
+    update_counter(conn, MAX_READAHEAD, 0)?;
+    update_counter(conn, FLAGS, 0)
+}
+
+// Deletes all records and lots.
+fn clear_records<S: Alter>(conn: &mut Connection<S>) -> Result<(), Error>
+    ensures { Makes without_records (state S.Store conn.old) (state S.Store conn.new) result }
+{
+    delete_all_kept(conn)?;
+    delete_all_lots(conn)
+}
+
+// Deletes all handles.
+fn clear_handles<S: Alter>(conn: &mut Connection<S>) -> Result<(), Error>
+    ensures { Makes without_all_handles (state S.Store conn.old) (state S.Store conn.new) result }
+{
+    delete_all_handles(conn)?;
+    update_counter(conn, HANDLES, 0)
+}
+
+// Deletes all nodes without a name.
+fn clear_nodes<S: Alter>(conn: &mut Connection<S>) -> Result<(), StoreFault>
+    ensures made { Makes without_unnamed_nodes (state S.Store conn.old) (state S.Store conn.new)
+        result }
+    ensures fault { IsSure Holds (state S.Store conn.old) (state S.Store conn.new) result }
+    ensures plain { IfErr result IsPlain }
+{
+    clear_blocks(conn)?;
+    delete_unnamed(conn)?;
+    recount(conn)
+}
+
+// Deletes all state of the last mount.
+fn clear<S: Alter>(conn: &mut Connection<S>) -> Result<(), StoreFault>
+    ensures made { Makes cleared (state S.Store conn.old) (state S.Store conn.new) result }
+    ensures fault { IsSure Holds (state S.Store conn.old) (state S.Store conn.new) result }
+    ensures plain { IfErr result IsPlain }
+{
+    clear_records(conn)?;
+    clear_handles(conn)?;
+    clear_settings(conn)?;
+    clear_nodes(conn)
+}
+
+// The transaction. A fault may leave it open.
+fn transact<S: Alter>(conn: &mut Connection<S>) -> Result<(), StoreFault>
+    ensures performs { Performs cleared (state S.Store conn.old) (state S.Store conn.new) result }
+    ensures fault { IsSafe Holds (state S.Store conn.old) (state S.Store conn.new) result }
+    ensures plain { IfErr result IsPlain }
+{
+    begin(conn)?;
+    clear(conn)?;
+    commit(conn)?;
+    Ok(())
+}
+
+/// Begins a mount: deletes records, lots, handles, settings, and nodes without a name with their
+/// blocks. The commit is its last call of the database.
+pub fn begin_mount<S: Alter>(conn: &mut Connection<S>) -> Result<(), StoreFault>
+    ensures serves { Serves cleared (state S.Store conn.old) (state S.Store conn.new) result }
+    ensures fit { ServesAs IsSecond (λ c. IsSecond (cleared c)) (state S.Store conn.old)
+        (state S.Store conn.new) result }
+    ensures fault { IsSafe Holds (state S.Store conn.old) (state S.Store conn.new) result }
+    // The fault is never `NotAStore` or `Version`.
+    ensures plain { IfErr result IsPlain }
+{
+    match transact(conn) {
+        Ok(()) => Ok(()),
+        Err(fault) => {
+            undo(conn);
+            Err(fault)
+        }
+    }
+}
