@@ -51,7 +51,7 @@ first_text [] rest h = refl
 first_text (zero ∷ t) rest h = absurd (h.0 refl)
 first_text (suc n ∷ t) rest h = ap (λ (x : List ℕ). suc n ∷ x) (first_text t rest h.1)
 
-before_nul-text : (t rest : List ℕ) → HasNoNul t → before_nul (t ++ 0 ∷ rest) ≡ t
+pub before_nul-text : (t rest : List ℕ) → HasNoNul t → before_nul (t ++ 0 ∷ rest) ≡ t
 before_nul-text t rest h = first_text t rest (recursion_from_All (λ x. x ≢ 0) t h)
 
 -- a name that is laid out is read, and has no fault

@@ -6,3 +6,4 @@ pub mod Streams
 pub mod Framing
 pub mod Canons
 pub mod Classes
+mod FurtherContents

@@ -12,3 +12,5 @@ pub mod Canon
 pub mod Encoding
 pub mod Stream
 pub mod Framing
+pub mod FurtherBodies
+pub mod FurtherReaders

@@ -19,7 +19,7 @@ use fuse_wire::{Fields, names_end, u32_at, u64_at};
 
 // A name that is the last of its body.
 #[tactic(auto, using(crate::proofs::BodyFaults::endless, crate::proofs::BodyFaults::not_all))]
-fn last_name(bytes: &[u8]) -> Result<&[u8], Malformed>
+pub(crate) fn last_name(bytes: &[u8]) -> Result<&[u8], Malformed>
     ensures { GivesLastName bytes.now result }
 {
     names_end();
@@ -35,7 +35,7 @@ fn last_name(bytes: &[u8]) -> Result<&[u8], Malformed>
 
 // Two names that are the last of their body.
 #[tactic(auto, using(crate::proofs::BodyFaults::endless_first, crate::proofs::BodyFaults::after_first))]
-fn two_names(bytes: &[u8]) -> Result<(&[u8], &[u8]), Malformed>
+pub(crate) fn two_names(bytes: &[u8]) -> Result<(&[u8], &[u8]), Malformed>
     ensures { GivesTwoNames bytes.now result }
 {
     names_end();

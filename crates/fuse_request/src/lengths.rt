@@ -47,3 +47,33 @@ pub const BATCH_FORGET_IN: usize = 8;
 
 /// `fuse_forget_one`, an item of BATCH_FORGET.
 pub const FORGET_ONE: usize = 16;
+
+/// `fuse_link_in`, before the name.
+pub const LINK_IN: usize = 8;
+
+/// `fuse_fsync_in`, of FSYNC and of FSYNCDIR.
+pub const FSYNC_IN: usize = 16;
+
+/// `fuse_setxattr_in` without what FUSE_SETXATTR_EXT adds, before the name.
+pub const SETXATTR_IN: usize = 8;
+
+/// `fuse_getxattr_in`, before the name of GETXATTR, and all of LISTXATTR.
+pub const GETXATTR_IN: usize = 8;
+
+/// `fuse_flush_in`.
+pub const FLUSH_IN: usize = 24;
+
+/// `fuse_access_in`.
+pub const ACCESS_IN: usize = 8;
+
+/// `fuse_create_in`, before the name.
+pub const CREATE_IN: usize = 16;
+
+/// `fuse_fallocate_in`.
+pub const FALLOCATE_IN: usize = 32;
+
+/// `fuse_lseek_in`.
+pub const LSEEK_IN: usize = 24;
+
+/// `fuse_copy_file_range_in`.
+pub const COPY_FILE_RANGE_IN: usize = 56;

@@ -35,6 +35,22 @@ pub fn opcode_numbers()
     ensures notify_reply { NOTIFY_REPLY ≡ opcodes.fuse_notify_reply }
     ensures batch_forget { BATCH_FORGET ≡ opcodes.fuse_batch_forget }
     ensures rename2 { RENAME2 ≡ opcodes.fuse_rename2 }
+    ensures readlink { READLINK ≡ opcodes.fuse_readlink }
+    ensures symlink { SYMLINK ≡ opcodes.fuse_symlink }
+    ensures link { LINK ≡ opcodes.fuse_link }
+    ensures statfs { STATFS ≡ opcodes.fuse_statfs }
+    ensures fsync { FSYNC ≡ opcodes.fuse_fsync }
+    ensures setxattr { SETXATTR ≡ opcodes.fuse_setxattr }
+    ensures getxattr { GETXATTR ≡ opcodes.fuse_getxattr }
+    ensures listxattr { LISTXATTR ≡ opcodes.fuse_listxattr }
+    ensures removexattr { REMOVEXATTR ≡ opcodes.fuse_removexattr }
+    ensures flush { FLUSH ≡ opcodes.fuse_flush }
+    ensures fsyncdir { FSYNCDIR ≡ opcodes.fuse_fsyncdir }
+    ensures access { ACCESS ≡ opcodes.fuse_access }
+    ensures create { CREATE ≡ opcodes.fuse_create }
+    ensures fallocate { FALLOCATE ≡ opcodes.fuse_fallocate }
+    ensures lseek { LSEEK ≡ opcodes.fuse_lseek }
+    ensures copy_file_range { COPY_FILE_RANGE ≡ opcodes.fuse_copy_file_range }
 {}
 
 /// The error numbers are those of Linux.
