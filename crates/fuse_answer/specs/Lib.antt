@@ -8,3 +8,4 @@ pub mod FirstEntry
 pub mod Replies
 pub mod Readers
 pub mod Laws
+pub mod FurtherAnswers

@@ -5,6 +5,7 @@ mod answer;
 mod bodies;
 mod dirent;
 mod fields;
+mod further;
 mod init_out;
 mod laws;
 mod notice;
@@ -16,6 +17,7 @@ mod wire;
 
 pub use answer::{Answer, MAX_BODY};
 pub use dirent::{Dirent, MAX_NAME};
+pub use further::{CreateOut, LseekOut, StatfsOut, XattrOut};
 pub use init_out::InitOut;
 pub use laws::{answer_numbers, len_stands_first, read_back, record_sizes};
 pub use notice::{NOTIFY_RESEND, resend_notice};
