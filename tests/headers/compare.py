@@ -56,6 +56,24 @@ LAYOUTS = [
     ("fuse_request/specs/Spelling.antt", "parts (Interrupt unique)", "fuse_interrupt_in", {}),
     ("fuse_request/specs/Spelling.antt", "parts (BatchForget items)", "fuse_batch_forget_in",
      {"items": "count"}),
+    ("fuse_request/specs/FurtherBodies.antt", "content_parts (Link oldnodeid name)", "fuse_link_in", {}),
+    ("fuse_request/specs/FurtherBodies.antt", "content_parts (Fsync fh fsync_flags)", "fuse_fsync_in", {}),
+    ("fuse_request/specs/FurtherBodies.antt", "content_parts (FsyncDir fh fsync_flags)", "fuse_fsync_in", {}),
+    ("fuse_request/specs/FurtherBodies.antt", "content_parts (Setxattr flags name value)", "fuse_setxattr_in",
+     {"value": "size"}),
+    ("fuse_request/specs/FurtherBodies.antt", "content_parts (Getxattr size name)", "fuse_getxattr_in", {}),
+    ("fuse_request/specs/FurtherBodies.antt", "content_parts (Listxattr size)", "fuse_getxattr_in", {}),
+    ("fuse_request/specs/FurtherBodies.antt", "content_parts (Flush fh lock_owner)", "fuse_flush_in", {}),
+    ("fuse_request/specs/FurtherBodies.antt", "content_parts (Access mask)", "fuse_access_in", {}),
+    ("fuse_request/specs/FurtherBodies.antt",
+     "content_parts (Create flags mode umask open_flags name)", "fuse_create_in", {}),
+    ("fuse_request/specs/FurtherBodies.antt", "content_parts (Fallocate fh offset len mode)",
+     "fuse_fallocate_in", {"len": "length"}),
+    ("fuse_request/specs/FurtherBodies.antt", "content_parts (Lseek fh offset whence)", "fuse_lseek_in", {}),
+    ("fuse_request/specs/FurtherBodies.antt", "copy_file_range_parts x", "fuse_copy_file_range_in", {}),
+    ("fuse_answer/specs/FurtherAnswers.antt", "statfs_parts s", "fuse_kstatfs", {}),
+    ("fuse_answer/specs/FurtherAnswers.antt", "xattr_parts x", "fuse_getxattr_out", {}),
+    ("fuse_answer/specs/FurtherAnswers.antt", "lseek_parts l", "fuse_lseek_out", {}),
     ("fuse_answer/specs/Bodies.antt", "head_parts len error unique", "fuse_out_header", {}),
     ("fuse_answer/specs/Bodies.antt", "attr_parts a", "fuse_attr", {}),
     ("fuse_answer/specs/Bodies.antt", "entry_parts e", "fuse_entry_out", {}),
@@ -223,7 +241,7 @@ def main(crates, lines):
         for left, right in file_sides(name).items():
             if left.endswith("_size"):
                 stem = left[: -len("_size")]
-                result.size(stem if stem == "compat_init_in" else "fuse_" + stem, value_of(right))
+                result.size(stem if stem.startswith("compat_") else "fuse_" + stem, value_of(right))
     for name, left, struct in SINGLE_SIZES:
         result.size(struct, value_of(file_sides(name)[left]))
     for name, left, struct, others in LAYOUTS:

@@ -66,6 +66,22 @@ static void opcodes(void)
 	NUMBER(FUSE_NOTIFY_REPLY);
 	NUMBER(FUSE_BATCH_FORGET);
 	NUMBER(FUSE_RENAME2);
+	NUMBER(FUSE_READLINK);
+	NUMBER(FUSE_SYMLINK);
+	NUMBER(FUSE_LINK);
+	NUMBER(FUSE_STATFS);
+	NUMBER(FUSE_FSYNC);
+	NUMBER(FUSE_SETXATTR);
+	NUMBER(FUSE_GETXATTR);
+	NUMBER(FUSE_LISTXATTR);
+	NUMBER(FUSE_REMOVEXATTR);
+	NUMBER(FUSE_FLUSH);
+	NUMBER(FUSE_FSYNCDIR);
+	NUMBER(FUSE_ACCESS);
+	NUMBER(FUSE_CREATE);
+	NUMBER(FUSE_FALLOCATE);
+	NUMBER(FUSE_LSEEK);
+	NUMBER(FUSE_COPY_FILE_RANGE);
 }
 
 static void error_numbers(void)
@@ -247,6 +263,59 @@ static void requests(void)
 #endif
 }
 
+/* of opcodes outside the profile */
+static void further_requests(void)
+{
+	SIZE(fuse_link_in);
+	FIELD(fuse_link_in, oldnodeid);
+	SIZE(fuse_fsync_in);
+	FIELD(fuse_fsync_in, fh);
+	FIELD(fuse_fsync_in, fsync_flags);
+	FIELD(fuse_fsync_in, padding);
+	SIZE(fuse_getxattr_in);
+	FIELD(fuse_getxattr_in, size);
+	FIELD(fuse_getxattr_in, padding);
+	SIZE(fuse_flush_in);
+	FIELD(fuse_flush_in, fh);
+	FIELD(fuse_flush_in, unused);
+	FIELD(fuse_flush_in, padding);
+	FIELD(fuse_flush_in, lock_owner);
+	SIZE(fuse_access_in);
+	FIELD(fuse_access_in, mask);
+	FIELD(fuse_access_in, padding);
+	SIZE(fuse_create_in);
+	FIELD(fuse_create_in, flags);
+	FIELD(fuse_create_in, mode);
+	FIELD(fuse_create_in, umask);
+	FIELD(fuse_create_in, open_flags);
+	SIZE(fuse_fallocate_in);
+	FIELD(fuse_fallocate_in, fh);
+	FIELD(fuse_fallocate_in, offset);
+	FIELD(fuse_fallocate_in, length);
+	FIELD(fuse_fallocate_in, mode);
+	FIELD(fuse_fallocate_in, padding);
+	SIZE(fuse_lseek_in);
+	FIELD(fuse_lseek_in, fh);
+	FIELD(fuse_lseek_in, offset);
+	FIELD(fuse_lseek_in, whence);
+	FIELD(fuse_lseek_in, padding);
+	SIZE(fuse_copy_file_range_in);
+	FIELD(fuse_copy_file_range_in, fh_in);
+	FIELD(fuse_copy_file_range_in, off_in);
+	FIELD(fuse_copy_file_range_in, nodeid_out);
+	FIELD(fuse_copy_file_range_in, fh_out);
+	FIELD(fuse_copy_file_range_in, off_out);
+	FIELD(fuse_copy_file_range_in, len);
+	FIELD(fuse_copy_file_range_in, flags);
+	FIELD(fuse_setxattr_in, size);
+	FIELD(fuse_setxattr_in, flags);
+#ifdef FUSE_COMPAT_SETXATTR_IN_SIZE
+	printf("size compat_setxattr_in %d\n", FUSE_COMPAT_SETXATTR_IN_SIZE);
+#else
+	printf("size compat_setxattr_in %zu\n", sizeof(struct fuse_setxattr_in));
+#endif
+}
+
 static void answers(void)
 {
 	SIZE(fuse_out_header);
@@ -325,6 +394,26 @@ static void answers(void)
 	FIELD(fuse_dirent, type);
 }
 
+static void further_answers(void)
+{
+	FIELD(fuse_kstatfs, blocks);
+	FIELD(fuse_kstatfs, bfree);
+	FIELD(fuse_kstatfs, bavail);
+	FIELD(fuse_kstatfs, files);
+	FIELD(fuse_kstatfs, ffree);
+	FIELD(fuse_kstatfs, bsize);
+	FIELD(fuse_kstatfs, namelen);
+	FIELD(fuse_kstatfs, frsize);
+	FIELD(fuse_kstatfs, padding);
+	SIZE(fuse_kstatfs);
+	SIZE(fuse_statfs_out);
+	FIELD(fuse_getxattr_out, size);
+	FIELD(fuse_getxattr_out, padding);
+	SIZE(fuse_getxattr_out);
+	FIELD(fuse_lseek_out, offset);
+	SIZE(fuse_lseek_out);
+}
+
 int main(void)
 {
 	printf("version %d.%d\n", FUSE_KERNEL_VERSION, FUSE_KERNEL_MINOR_VERSION);
@@ -333,6 +422,8 @@ int main(void)
 	bits();
 	others();
 	requests();
+	further_requests();
 	answers();
+	further_answers();
 	return 0;
 }

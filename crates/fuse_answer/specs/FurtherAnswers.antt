@@ -25,15 +25,6 @@ lseek_parts l = number 8 l.offset ∷ []
 abbrev pub create_parts : CreateOut → List Part
 create_parts c = entry_parts c.entry ++ open_parts c.open
 
-abbrev pub statfs_out_size : ℕ
-statfs_out_size = 80
-
-abbrev pub xattr_out_size : ℕ
-xattr_out_size = 8
-
-abbrev pub lseek_out_size : ℕ
-lseek_out_size = 8
-
 abbrev pub create_out_size : ℕ
 create_out_size = 144
 

@@ -22,6 +22,15 @@ write_out_size = 8
 abbrev pub init_out_size : ℕ
 init_out_size = 64
 
+abbrev pub statfs_out_size : ℕ
+statfs_out_size = 80
+
+abbrev pub getxattr_out_size : ℕ
+getxattr_out_size = 8
+
+abbrev pub lseek_out_size : ℕ
+lseek_out_size = 8
+
 -- where the name of a fuse_dirent begins: FUSE_NAME_OFFSET
 abbrev pub dirent_name_offset : ℕ
 dirent_name_offset = 24

@@ -2,9 +2,10 @@
 ghost use Rattle.std.specs.Prelude.{◌≡◌, length, IfOk};
 ghost use Rattle.fuse_wire.specs.Layout.{Lays};
 ghost use Rattle.fuse_answer.specs.FurtherAnswers.{create_bytes, create_out_size, create_parts};
-ghost use Rattle.fuse_answer.specs.FurtherAnswers.{lseek_bytes, lseek_out_size, lseek_parts};
-ghost use Rattle.fuse_answer.specs.FurtherAnswers.{statfs_bytes, statfs_out_size, statfs_parts};
-ghost use Rattle.fuse_answer.specs.FurtherAnswers.{xattr_bytes, xattr_out_size, xattr_parts};
+ghost use Rattle.fuse_answer.specs.FurtherAnswers.{lseek_bytes, lseek_parts};
+ghost use Rattle.fuse_answer.specs.FurtherAnswers.{statfs_bytes, statfs_parts};
+ghost use Rattle.fuse_answer.specs.FurtherAnswers.{xattr_bytes, xattr_parts};
+ghost use Rattle.fuse_answer.specs.Sizes.{getxattr_out_size, lseek_out_size, statfs_out_size};
 
 use crate::fields::body_of_fields;
 use crate::records::{EntryOut, OpenOut};
@@ -79,7 +80,7 @@ impl XattrOut {
     #[tactic(auto, unfolding(crate::specs::FurtherAnswers::xattr_bytes))]
     pub fn body_of(&self, alloc: Global) -> Result<Vec<u8>, Memory>
         ensures bytes { IfOk result (λ body. body.items ≡ xattr_bytes self.now) }
-        ensures size { IfOk result (λ body. length body.items ≡ xattr_out_size) }
+        ensures size { IfOk result (λ body. length body.items ≡ getxattr_out_size) }
         ensures laid { IfOk result (λ body. Lays (xattr_parts self.now) body.items) }
     {
         body_of_fields(alloc, XattrOut::SIZE, &[U32(self.size), Unused(4)])

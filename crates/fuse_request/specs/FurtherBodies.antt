@@ -10,6 +10,8 @@ use Rattle.fuse_request.specs.declared.decoding.Malformed.TheVariants.{NoNul, Co
 use Rattle.fuse_request.specs.declared.further.CopyFileRangeIn.{CopyFileRangeIn}
 use Rattle.fuse_request.specs.declared.further.Body.{Body}
 use Rattle.fuse_request.specs.declared.further.Body.TheVariants as bodies
+use Rattle.fuse_request.specs.Lengths.{link_in_size, fsync_in_size, getxattr_in_size, flush_in_size, access_in_size, create_in_size, fallocate_in_size}
+use Rattle.fuse_request.specs.Lengths.{lseek_in_size, copy_file_range_in_size, compat_setxattr_in_size}
 use Rattle.fuse_request.specs.Bodies.{fixed, at_least, name_fault, names_fault}
 use Rattle.fuse_request.specs.Places.{before_nul, second_name}
 
@@ -103,7 +105,7 @@ value_fault size None = Some NoNul
 value_fault size (Some value) = if length value == size then None else Some CountDiffers
 
 abbrev pub setxattr_fault : List ℕ → Option Malformed
-setxattr_fault b = at_least 8 (λ rest. value_fault (number_of 4 b) (after_nul rest)) b
+setxattr_fault b = at_least compat_setxattr_in_size (λ rest. value_fault (number_of 4 b) (after_nul rest)) b
 
 -- an opcode: its number, what is wrong with a body (own profile), and what a body says at its places
 pub record FurtherOpcode : Type 0 where
@@ -129,21 +131,21 @@ abbrev pub further : List FurtherOpcode
 further =
     further_row fuse_readlink (fixed 0) (λ b. Readlink)
     ∷ further_row fuse_symlink names_fault (λ b. Symlink (before_nul b) (second_name b))
-    ∷ further_row fuse_link (at_least 8 name_fault) (λ b. Link (number_of 8 b) (before_nul (drop 8 b)))
+    ∷ further_row fuse_link (at_least link_in_size name_fault) (λ b. Link (number_of 8 b) (before_nul (drop 8 b)))
     ∷ further_row fuse_statfs (fixed 0) (λ b. Statfs)
-    ∷ further_row fuse_fsync (fixed 16) (λ b. Fsync (number_of 8 b) (number_of 4 (drop 8 b)))
+    ∷ further_row fuse_fsync (fixed fsync_in_size) (λ b. Fsync (number_of 8 b) (number_of 4 (drop 8 b)))
     ∷ further_row fuse_setxattr setxattr_fault (λ b. Setxattr (number_of 4 (drop 4 b)) (before_nul (drop 8 b)) (unwrap_or (after_nul (drop 8 b)) []))
-    ∷ further_row fuse_getxattr (at_least 8 name_fault) (λ b. Getxattr (number_of 4 b) (before_nul (drop 8 b)))
-    ∷ further_row fuse_listxattr (fixed 8) (λ b. Listxattr (number_of 4 b))
+    ∷ further_row fuse_getxattr (at_least getxattr_in_size name_fault) (λ b. Getxattr (number_of 4 b) (before_nul (drop 8 b)))
+    ∷ further_row fuse_listxattr (fixed getxattr_in_size) (λ b. Listxattr (number_of 4 b))
     ∷ further_row fuse_removexattr name_fault (λ b. Removexattr (before_nul b))
-    ∷ further_row fuse_flush (fixed 24) (λ b. Flush (number_of 8 b) (number_of 8 (drop 16 b)))
-    ∷ further_row fuse_fsyncdir (fixed 16) (λ b. FsyncDir (number_of 8 b) (number_of 4 (drop 8 b)))
-    ∷ further_row fuse_access (fixed 8) (λ b. Access (number_of 4 b))
-    ∷ further_row fuse_create (at_least 16 name_fault)
+    ∷ further_row fuse_flush (fixed flush_in_size) (λ b. Flush (number_of 8 b) (number_of 8 (drop 16 b)))
+    ∷ further_row fuse_fsyncdir (fixed fsync_in_size) (λ b. FsyncDir (number_of 8 b) (number_of 4 (drop 8 b)))
+    ∷ further_row fuse_access (fixed access_in_size) (λ b. Access (number_of 4 b))
+    ∷ further_row fuse_create (at_least create_in_size name_fault)
     (λ b. Create (number_of 4 b) (number_of 4 (drop 4 b)) (number_of 4 (drop 8 b)) (number_of 4 (drop 12 b)) (before_nul (drop 16 b)))
-    ∷ further_row fuse_fallocate (fixed 32) (λ b. Fallocate (number_of 8 b) (number_of 8 (drop 8 b)) (number_of 8 (drop 16 b)) (number_of 4 (drop 24 b)))
-    ∷ further_row fuse_lseek (fixed 24) (λ b. Lseek (number_of 8 b) (number_of 8 (drop 8 b)) (number_of 4 (drop 16 b)))
-    ∷ further_row fuse_copy_file_range (fixed 56) (λ b. CopyFileRange (copy_file_range_at b))
+    ∷ further_row fuse_fallocate (fixed fallocate_in_size) (λ b. Fallocate (number_of 8 b) (number_of 8 (drop 8 b)) (number_of 8 (drop 16 b)) (number_of 4 (drop 24 b)))
+    ∷ further_row fuse_lseek (fixed lseek_in_size) (λ b. Lseek (number_of 8 b) (number_of 8 (drop 8 b)) (number_of 4 (drop 16 b)))
+    ∷ further_row fuse_copy_file_range (fixed copy_file_range_in_size) (λ b. CopyFileRange (copy_file_range_at b))
     ∷ []
 
 abbrev pub find_further : ℕ → List FurtherOpcode → Option FurtherOpcode

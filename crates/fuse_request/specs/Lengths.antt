@@ -49,3 +49,34 @@ compat_init_in_size = 16
 
 abbrev pub init_in_size : ℕ
 init_in_size = 64
+
+abbrev pub link_in_size : ℕ
+link_in_size = 8
+
+abbrev pub fsync_in_size : ℕ
+fsync_in_size = 16
+
+abbrev pub getxattr_in_size : ℕ
+getxattr_in_size = 8
+
+abbrev pub flush_in_size : ℕ
+flush_in_size = 24
+
+abbrev pub access_in_size : ℕ
+access_in_size = 8
+
+abbrev pub create_in_size : ℕ
+create_in_size = 16
+
+abbrev pub fallocate_in_size : ℕ
+fallocate_in_size = 32
+
+abbrev pub lseek_in_size : ℕ
+lseek_in_size = 24
+
+abbrev pub copy_file_range_in_size : ℕ
+copy_file_range_in_size = 56
+
+-- fuse_setxattr_in without the fields of FUSE_SETXATTR_EXT
+abbrev pub compat_setxattr_in_size : ℕ
+compat_setxattr_in_size = 8
