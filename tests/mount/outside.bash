@@ -26,6 +26,25 @@ relative_path() {
   umount mnt && await 120 isnt_running "$supervisor"
 }
 
+# Another engine, which keeps its files and records in memory: the next server after a kill has agreed on no INIT.
+files_from_memory() {
+  export FUSEKEEP=$files_mount
+  start store mnt log || return 1
+  expect "its files are listed" [ "$(ls mnt | xargs)" = "hours licence readme" ] || return 1
+  expect "they are read" [ "$(cat mnt/readme mnt/licence mnt/hours)" = "Three files to read.Copy them freely.9 to 5" ] || return 1
+  expect "none is made" is_read_only mnt/new || return 1
+  unmount_and_end mnt && start store mnt log-again || return 1
+  expect "the next mount has them, too" [ "$(cat mnt/hours)" = "9 to 5" ] || return 1
+  python3 "$here/killer.py" "$supervisor" 1 || return 1
+  expect "after a kill a look at the mount is an error" is_refused mnt || return 1
+  expect "the store is empty" [ ! -s store ] || return 1
+  unmount_and_end mnt
+}
+
+is_read_only() {
+  ! touch "$1" 2>line && grep -q "Read-only" line
+}
+
 # The process that was started with these words.
 process_of() {
   local line
