@@ -3,6 +3,7 @@
 mod directories;
 mod encoding;
 mod framing;
+mod further;
 mod negotiation;
 mod records;
 mod replies;

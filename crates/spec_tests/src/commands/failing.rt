@@ -2,8 +2,8 @@
 use super::fakes::{Failing, Full, Unflushed};
 use super::running::printed_to;
 use crate::hex::hex;
-use crate::texts::LOOKUP_HELLO;
 use crate::lists::simulate_in_lists;
+use crate::texts::LOOKUP_HELLO;
 use fuse_commands::{Ending, run_check, run_dump};
 use std::alloc::Global;
 use std::test::Fail;
