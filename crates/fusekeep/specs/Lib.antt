@@ -1,1 +1,1 @@
-pub mod Starting
+pub mod NewStore

@@ -1,11 +1,11 @@
-//! The program `fusekeep`: serves a FUSE device or a recorded stream of its requests from a store,
-//! shows stores and streams, and runs scripts of events.
+//! The program `fusekeep`: it serves a FUSE device or a recorded stream from a store, shows stores
+//! and streams, and runs scripts of events.
 #![tactic(auto)]
 
-mod copied;
 mod serve;
 mod show;
 mod simulate;
+mod snapshot;
 mod store;
 
 use clap::Error;
@@ -15,8 +15,8 @@ use fuse_commands::{
     run_replay, unreadable,
 };
 use fuse_keeper::PlainKeeper;
-use fuse_tree::PlainTree;
 use fuse_store::open_or_create;
+use fuse_tree::PlainTree;
 use fuse_wire::Moment;
 use serve::serve_as_asked;
 use show::{Show, show_store};
@@ -36,7 +36,7 @@ fn main(rt: HostRuntime) -> ExitCode {
     ExitCode::from(ending.status())
 }
 
-// Reports what clap says of the words.
+// Prints the message of clap.
 fn refuse<R: Eprint>(rt: &R, error: Error) -> Ending {
     if error.kind() == ErrorKind::OutOfMemory {
         return Ending::Memory;
@@ -45,7 +45,7 @@ fn refuse<R: Eprint>(rt: &R, error: Error) -> Ending {
     Ending::Usage
 }
 
-// The words that the program is called with.
+// The command line.
 fn words_of(rt: &HostRuntime) -> Result<Vec<String>, Ending> {
     match env::args(rt) {
         Ok(words) => Ok(words.collect::<Vec<String>>(rt.alloc())?),
@@ -54,7 +54,7 @@ fn words_of(rt: &HostRuntime) -> Result<Vec<String>, Ending> {
     }
 }
 
-// Runs what the words ask for.
+// Runs the command line.
 fn run(rt: &HostRuntime) -> Ending {
     let words = match words_of(rt) {
         Ok(words) => words,
@@ -62,15 +62,15 @@ fn run(rt: &HostRuntime) -> Ending {
     };
     match parse(rt.alloc(), words.as_slice()) {
         Ok(Run::Serve { db, begin, at }) => serve_as_asked(rt, db, begin, at),
-        Ok(Run::Store { file }) => ended(show_store(rt, file, Show::Counts)),
+        Ok(Run::Store { file }) => ended(show_store(rt, file, Show::Summary)),
         Ok(Run::List { file, path }) => ended(show_store(rt, file, Show::Directory(path))),
         Ok(Run::Cat { file, path }) => ended(show_store(rt, file, Show::File(path))),
-        Ok(Run::Read { input, work }) => work_on_input(rt, input, work),
+        Ok(Run::Read { input, work }) => run_on_input(rt, input, work),
         Err(error) => refuse(rt, error),
     }
 }
 
-// How a run ends that only looked.
+// The ending of a read-only command.
 fn ended(shown: Result<(), Ending>) -> Ending {
     match shown {
         Ok(()) => Ending::Done,
@@ -78,21 +78,21 @@ fn ended(shown: Result<(), Ending>) -> Ending {
     }
 }
 
-// Opens the input, and works on it.
-fn work_on_input(rt: &HostRuntime, input: &str, work: Work<'_>) -> Ending {
+// Opens the input and processes it.
+fn run_on_input(rt: &HostRuntime, input: &str, work: Work<'_>) -> Ending {
     if input == STANDARD_INPUT {
-        return work_told(rt, rt.reader(), None, work);
+        return run_with_progress(rt, rt.reader(), None, work);
     }
     match fs::open(rt, input) {
         Ok(file) => {
             let total = size_of(&file);
-            work_told(rt, file, total, work)
+            run_with_progress(rt, file, total, work)
         }
         Err(_) => Ending::PortFailed,
     }
 }
 
-// How many bytes a regular file has.
+// The size of a regular file.
 fn size_of(file: &fs::File) -> Option<u64> {
     match file.metadata() {
         Ok(metadata) if metadata.is_file() => Some(metadata.len()),
@@ -100,7 +100,7 @@ fn size_of(file: &fs::File) -> Option<u64> {
     }
 }
 
-// Whether a terminal shows how far a stream is read, with no line of the output between.
+// Whether progress is shown: on a terminal on which no output appears meanwhile.
 fn is_watched(rt: &HostRuntime, work: Work<'_>) -> bool {
     let prints_apart = match work {
         Work::Check => true,
@@ -110,22 +110,22 @@ fn is_watched(rt: &HostRuntime, work: Work<'_>) -> bool {
     prints_apart && rt.stderr().is_terminal()
 }
 
-// Works on what a reader gives, and tells how far it is where somebody looks on.
-fn work_told<R: Read + Drop>(
+// Processes the input, with progress on a terminal.
+fn run_with_progress<R: Read + Drop>(
     rt: &HostRuntime,
     reader: R,
     total: Option<u64>,
     work: Work<'_>,
 ) -> Ending {
     if is_watched(rt, work) {
-        work_on(rt, ProgressReader::new(reader, rt, total), work)
+        run_work(rt, ProgressReader::new(reader, rt, total), work)
     } else {
-        work_on(rt, reader, work)
+        run_work(rt, reader, work)
     }
 }
 
-// Works on what a reader gives, and prints through a buffer.
-fn work_on<R: Read + Drop>(rt: &HostRuntime, reader: R, work: Work<'_>) -> Ending {
+// Processes the input, with buffered output.
+fn run_work<R: Read + Drop>(rt: &HostRuntime, reader: R, work: Work<'_>) -> Ending {
     let alloc = rt.alloc();
     let Ok(mut writer) = BufWriter::new(alloc, io::writer(rt)) else {
         return Ending::Memory;
@@ -144,7 +144,7 @@ fn work_on<R: Read + Drop>(rt: &HostRuntime, reader: R, work: Work<'_>) -> Endin
     }
 }
 
-// Makes a store in memory, and replays over it.
+// Replays over a new store in memory.
 fn replay_in_memory<R: Read + Drop, W: Write>(
     alloc: Global,
     reader: R,
@@ -157,8 +157,8 @@ fn replay_in_memory<R: Read + Drop, W: Write>(
     run_replay(alloc, &mut keeper, reader, writer, moment)
 }
 
-// Opens the store of a database, or makes it, and replays over it. Where there is a store, the
-// connection comes back.
+// Opens or creates the store of a database, and replays over it. Returns the connection if there is
+// a store.
 fn replay_over<S: Alter + Drop, R: Read + Drop, W: Write>(
     alloc: Global,
     conn: Connection<S>,
@@ -174,7 +174,7 @@ fn replay_over<S: Alter + Drop, R: Read + Drop, W: Write>(
     (ending, Some(keeper.into_connection()))
 }
 
-// Replays over the store of a file.
+// Replays over the store in a file.
 fn replay_on_file<R: Read + Drop, W: Write>(
     rt: &HostRuntime,
     file: &str,

@@ -1,4 +1,4 @@
-// Serving standard input to standard output.
+//! The command `serve`: standard input and standard output are a FUSE device.
 use crate::store::{close_file, open_file};
 use fuse_commands::{Begin, CountLine, Ending, run_serve};
 use fuse_session::{Clock, Fixed, SessionCounts, System};
@@ -7,7 +7,7 @@ use fuse_wire::Moment;
 use sqlite::{Alter, Connection};
 use std::fs;
 
-/// Serves over the store of a file, if the words name one way to begin.
+/// Serves over the store in a file, if the command line names one way to begin.
 pub(crate) fn serve_as_asked(
     rt: &HostRuntime,
     file: &str,
@@ -23,13 +23,13 @@ pub(crate) fn serve_as_asked(
     }
 }
 
-// Whether no file has this name.
+// Whether there is no file with this name.
 fn is_missing(rt: &HostRuntime, file: &str) -> bool {
     matches!(fs::exists(rt, file), Ok(false))
 }
 
 fn serve_on_file<C: Clock>(rt: &HostRuntime, file: &str, clock: &mut C, begin: Begin) -> Ending {
-    // Opening would make it.
+    // Opening would create the file.
     if begin == Begin::Resume && is_missing(rt, file) {
         return Ending::NotAStore;
     }
@@ -49,7 +49,7 @@ fn serve_on_file<C: Clock>(rt: &HostRuntime, file: &str, clock: &mut C, begin: B
     ending
 }
 
-// Opens the store of a database, and serves. Where there is a store, the connection comes back.
+// Opens the store of a database, and serves. Returns the connection if there is a store.
 fn serve_over<S: Alter + Drop, C: Clock>(
     rt: &HostRuntime,
     conn: Connection<S>,
@@ -65,7 +65,7 @@ fn serve_over<S: Alter + Drop, C: Clock>(
         Ok(keeper) => keeper,
         Err((fault, _)) => return (Ending::of(fault), None, None),
     };
-    // No buffer may stand between: one read is one message, and one write one answer.
+    // Without buffers: one read is one message, and one write one answer.
     let (ending, counts) = run_serve(alloc, &mut keeper, rt.stdin(), rt.stdout(), clock, begin);
     (ending, counts, Some(keeper.into_connection()))
 }

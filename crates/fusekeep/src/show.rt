@@ -1,4 +1,4 @@
-// What a store holds, its directories and its files, without a mount.
+//! The commands `store`, `ls` and `cat`: a summary, a directory or a file of a store.
 ghost use Rattle.std.specs.Prelude.{◌≡◌, None, IfOk, List, map};
 ghost use Rattle.sqlite.specs.State.{HasCleanDisk};
 ghost use Rattle.sqlite.specs.Held.{state};
@@ -7,20 +7,20 @@ ghost use Rattle.fuse_store_tables.specs.Moves.{Rests};
 ghost use Rattle.fuse_store_tree.specs.Looking.{look_fault};
 ghost use Rattle.fuse_store_tree.specs.Store.{value_of};
 
-use crate::copied::open_copy;
+use crate::snapshot::open_snapshot;
 use fuse_commands::Ending;
 use fuse_keeper::StoreFault;
-use fuse_show::{ShowFault, ReportFault, show_content, show_listing, tell};
+use fuse_show::{ShowFault, SummaryFault, show_content, show_listing, show_summary};
 use fuse_store::TableKeeper;
-use fuse_store_tree::TableLook;
 use fuse_store_tables::{begin, number_at, select_counters};
+use fuse_store_tree::TableLook;
 use sqlite::{Alter, Connection, Row};
 use std::alloc::Global;
 use std::io::{self, BufWriter, Write};
 
 const SIZES: &str = "SELECT sum(size) FROM nodes";
 
-// The first of the counters that these rows show.
+// The first of the counters in these rows.
 fn first_counter(rows: &[Row]) -> Result<u64, StoreFault>
     ensures { IfOk result (λ n. (cs : List Counter) → rows.now ≡ map shown_counter cs
         → n ≡ value_of cs 0) }
@@ -31,8 +31,8 @@ fn first_counter(rows: &[Row]) -> Result<u64, StoreFault>
     }
 }
 
-// The version of a store, which stands first in its `meta`. A view in its place may have no end.
-// The clause speaks of the tables of version 2.
+// The version of a store, the first row of its `meta`. A view in its place could have no end, so it
+// is refused. The clause is about the tables of version 2.
 fn version_of<S: Alter>(conn: &mut Connection<S>) -> Result<u64, StoreFault>
     ensures { HasCleanDisk (state S.Store conn.new) → IfOk result (λ n. (c : Content)
         → Rests c (state S.Store conn.old) → n ≡ value_of c.counters 0) }
@@ -44,7 +44,7 @@ fn version_of<S: Alter>(conn: &mut Connection<S>) -> Result<u64, StoreFault>
     first_counter(rows.as_slice())
 }
 
-// How many bytes the contents of a store have that was opened, so that its tables are tables.
+// The size of all contents of a store. The store was opened before, so its tables are no views.
 fn bytes_of<S: Alter>(conn: &mut Connection<S>) -> Result<u64, StoreFault> {
     let row = conn.query_row(SIZES, &[])?;
     number_at(&row, 0)
@@ -72,9 +72,9 @@ fn look_at<S: Alter + Drop>(alloc: Global, conn: Connection<S>) -> Result<TableL
     }
 }
 
-// Reports what the store of a database holds. Its version is that before it is opened, which makes a
-// store of version 1 one of version 2.
-fn tell_of<S: Alter + Drop, W: Write>(
+// Prints a summary of the store of a database. The version is read before the store is opened, which
+// makes a store of version 1 one of version 2.
+fn summary_of<S: Alter + Drop, W: Write>(
     alloc: Global,
     mut conn: Connection<S>,
     writer: &mut W,
@@ -84,14 +84,14 @@ fn tell_of<S: Alter + Drop, W: Write>(
     let version = version.map_err(Ending::of)?;
     let bytes = bytes_of(&mut conn).map_err(Ending::of)?;
     let mut keeper = open_keeper(alloc, conn)?;
-    match tell(&mut keeper, version, bytes, writer) {
+    match show_summary(&mut keeper, version, bytes, writer) {
         Ok(()) => Ok(()),
-        Err(ReportFault::Store(fault)) => Err(Ending::of(fault)),
-        Err(ReportFault::Output) => Err(Ending::PortFailed),
+        Err(SummaryFault::Store(fault)) => Err(Ending::of(fault)),
+        Err(SummaryFault::Output) => Err(Ending::PortFailed),
     }
 }
 
-// How a run ends whose look met this fault.
+// The ending of a command with this fault, over this look.
 fn ending_of<S: Alter + Drop>(fault: ShowFault, look: TableLook<S>) -> Ending {
     match fault {
         ShowFault::Look(_) => {
@@ -134,18 +134,18 @@ fn print_of<S: Alter + Drop, W: Write>(
     }
 }
 
-/// What is shown of a store.
+/// What a command shows of a store.
 #[derive(Clone, Copy)]
 pub(crate) enum Show<'a> {
-    /// What it holds.
-    Counts,
-    /// The directory of a path.
+    /// A summary.
+    Summary,
+    /// The directory at a path.
     Directory(&'a str),
-    /// The file of a path.
+    /// The file at a path.
     File(&'a str),
 }
 
-// Shows this of the store of a database.
+// Shows a part of the store of a database.
 fn show_of<S: Alter + Drop, W: Write>(
     alloc: Global,
     conn: Connection<S>,
@@ -153,16 +153,16 @@ fn show_of<S: Alter + Drop, W: Write>(
     writer: &mut W,
 ) -> Result<(), Ending> {
     match show {
-        Show::Counts => tell_of(alloc, conn, writer),
+        Show::Summary => summary_of(alloc, conn, writer),
         Show::Directory(path) => list_of(alloc, conn, path, writer),
         Show::File(path) => print_of(alloc, conn, path, writer),
     }
 }
 
-/// Shows this of the store of a file.
+/// Shows a part of the store in a file.
 pub(crate) fn show_store(rt: &HostRuntime, file: &str, show: Show<'_>) -> Result<(), Ending> {
     let Ok(mut writer) = BufWriter::new(rt.alloc(), io::writer(rt)) else {
         return Err(Ending::Memory);
     };
-    show_of(rt.alloc(), open_copy(rt, file)?, show, &mut writer)
+    show_of(rt.alloc(), open_snapshot(rt, file)?, show, &mut writer)
 }

@@ -5,7 +5,7 @@ ghost use Rattle.fuse_tree.specs.TheTree.{the_tree};
 ghost use Rattle.fuse_store.specs.TableKeeper.{keeper_told};
 ghost use Rattle.fuse_commands.specs.Endings.{status_of};
 ghost use Rattle.fuse_commands.specs.Simulating.{SimulatedFrom};
-ghost use Rattle.fusekeep.specs.Starting.{start};
+ghost use Rattle.fusekeep.specs.NewStore.{start};
 
 use fuse_commands::{Ending, START, run_simulate};
 use fuse_keeper::StoreFault;
@@ -14,7 +14,7 @@ use sqlite::{Connection, MemStore};
 use std::alloc::Global;
 use std::io::{Read, Write};
 
-// A keeper over the tables of a new store in memory.
+// A keeper over a new store in tables in memory.
 fn new_keeper(alloc: Global) -> Result<TableKeeper<MemStore>, StoreFault>
     ensures stands { IfOk result (λ k. StandsFor (keeper_told over_memory k) start [] []) }
     ensures going { IfOk result (λ k. (keeper_told over_memory k).has_failed ≡ false) }
@@ -26,7 +26,7 @@ fn new_keeper(alloc: Global) -> Result<TableKeeper<MemStore>, StoreFault>
     }
 }
 
-// Makes a store in memory, and runs a script over it.
+// Runs a script over a new store in memory.
 pub(crate) fn simulate_in_memory<R: Read + Drop, W: Write>(
     alloc: Global,
     reader: R,

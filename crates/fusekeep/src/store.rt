@@ -2,7 +2,7 @@ use fuse_keeper::StoreFault;
 use fuse_store::opening_fault;
 use sqlite::{Connection, File, FileStore};
 
-/// The database of a file, which is made where it is missing.
+/// Opens the database in a file, which is created if it is missing.
 pub(crate) fn open_file(
     rt: &HostRuntime,
     file: &str,
@@ -13,8 +13,8 @@ pub(crate) fn open_file(
     }
 }
 
-/// Closes the database of a file. What was committed is in the file or in its log, whether this
-/// copies the log or not.
+/// Closes the database in a file. Committed data is in the file or in its log, whether this succeeds
+/// in copying the log or not.
 pub(crate) fn close_file(conn: Connection<FileStore<File>>) {
     let _ = conn.close();
 }

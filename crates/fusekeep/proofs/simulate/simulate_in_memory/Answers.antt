@@ -2,7 +2,7 @@ use Rattle.std.proofs.Common.{Some}
 use Rattle.sqlite.specs.Steps.{over_memory}
 use Rattle.sqlite.proofs.Callers.{memory_is_clean}
 use Rattle.fuse_store.specs.TableKeeper.{keeper_told}
-use Rattle.fusekeep.specs.Starting.{start}
+use Rattle.fusekeep.specs.NewStore.{start}
 use Rattle.fusekeep.proofs.InMemory.{simulated}
 use Rattle.fusekeep.proofs.simulate.simulate_in_memory.Goals as goal
 

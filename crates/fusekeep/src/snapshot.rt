@@ -1,4 +1,4 @@
-// A store's files in memory, so that whoever looks at a store changes nothing of it.
+//! A copy of a store in memory, so that reading a store does not change its files.
 ghost use Rattle.std.specs.Prelude.{IsTrue, IfOk};
 ghost use Rattle.sqlite_disk.specs.Memory.{memory_is_usable};
 
@@ -11,10 +11,10 @@ use std::fs;
 use std::io::{self, Read};
 use std::os::unix::fs::MetadataExt;
 
-// How often a store is read, where a server writes it meanwhile.
+// The number of attempts to read a store that a server writes to.
 const TRIES: usize = 8;
 
-// What is said of a file that can't be read.
+// The ending for a file that can't be read.
 fn refusal(error: &io::Error) -> Ending {
     match error.kind() {
         io::ErrorKind::NotFound => Ending::NotAStore,
@@ -23,7 +23,7 @@ fn refusal(error: &io::Error) -> Ending {
     }
 }
 
-// What a reader gives.
+// All bytes of a reader.
 fn read_all<R: Read + Drop>(alloc: Global, mut reader: R) -> Result<Vec<u8>, Ending> {
     let mut bytes = Vec::new(alloc);
     match reader.read_to_end(&mut bytes) {
@@ -32,7 +32,7 @@ fn read_all<R: Read + Drop>(alloc: Global, mut reader: R) -> Result<Vec<u8>, End
     }
 }
 
-// A file in memory that holds these bytes.
+// A disk in memory with these bytes.
 fn disk_of(alloc: Global, bytes: &[u8]) -> Result<Memory, Ending>
     ensures { IfOk result (λ disk. IsTrue (memory_is_usable disk)) }
 {
@@ -43,8 +43,8 @@ fn disk_of(alloc: Global, bytes: &[u8]) -> Result<Memory, Ending>
     }
 }
 
-// The file of this path, if there is one. As where a server opens it, it has to be a regular file
-// without another name, beside which would be another log.
+// The file at this path, if there is one. As for a server it must be a regular file with one link,
+// since the log lies beside the name.
 fn find_file(rt: &HostRuntime, path: &str) -> Result<Option<fs::File>, Ending> {
     match fs::symlink_metadata(rt, path) {
         Ok(found) if found.is_file() && found.nlink() == 1 => match fs::open(rt, path) {
@@ -57,7 +57,7 @@ fn find_file(rt: &HostRuntime, path: &str) -> Result<Option<fs::File>, Ending> {
     }
 }
 
-// What the log of this path holds, which may be missing.
+// The bytes of the log at this path, which may be missing.
 fn read_log(rt: &HostRuntime, path: &str) -> Result<Vec<u8>, Ending> {
     match find_file(rt, path)? {
         Some(file) => read_all(rt.alloc(), file),
@@ -65,7 +65,7 @@ fn read_log(rt: &HostRuntime, path: &str) -> Result<Vec<u8>, Ending> {
     }
 }
 
-// Whether something of this path is a journal that only SQLite can play back, or no file.
+// Whether this path is a journal that only SQLite can play back, or no regular file.
 fn has_journal(rt: &HostRuntime, path: &str) -> bool {
     match fs::symlink_metadata(rt, path) {
         Ok(found) if found.is_file() => begins_a_journal(rt, path),
@@ -74,7 +74,7 @@ fn has_journal(rt: &HostRuntime, path: &str) -> bool {
     }
 }
 
-// A journal that is empty or begins with a zero has nothing to play back.
+// An empty journal, or one that begins with a zero, has nothing to play back.
 fn begins_a_journal(rt: &HostRuntime, path: &str) -> bool {
     let Ok(mut journal) = fs::open(rt, path) else {
         return true;
@@ -86,7 +86,7 @@ fn begins_a_journal(rt: &HostRuntime, path: &str) -> bool {
     }
 }
 
-// What the file of this path holds.
+// The bytes of the file at this path.
 fn read_file(rt: &HostRuntime, path: &str) -> Result<Vec<u8>, Ending> {
     match find_file(rt, path)? {
         Some(file) => read_all(rt.alloc(), file),
@@ -94,9 +94,9 @@ fn read_file(rt: &HostRuntime, path: &str) -> Result<Vec<u8>, Ending> {
     }
 }
 
-// The files of a database in memory. What is written goes to the log first, and what goes from
-// there into the file is in the log still: where that is the same before and behind the reading of
-// the file, both together are what was committed then.
+// The files of a database, in memory. Pages are written to the log first and stay there when they are
+// copied into the file. So if the log is the same before and after reading the file, both together
+// are a committed state.
 fn files_of(rt: &HostRuntime, file: &str) -> Result<Files<Memory>, Ending>
     ensures log { IfOk result (λ files. IsTrue (memory_is_usable files.log)) }
     ensures db { IfOk result (λ files. IsTrue (memory_is_usable files.db)) }
@@ -115,7 +115,7 @@ fn files_of(rt: &HostRuntime, file: &str) -> Result<Files<Memory>, Ending>
     Ok(Files { log, db })
 }
 
-// The same, read again where a server wrote it meanwhile.
+// The same, read again if a server wrote to the store meanwhile.
 fn files_at_rest(rt: &HostRuntime, file: &str) -> Result<Files<Memory>, Ending>
     ensures log { IfOk result (λ files. IsTrue (memory_is_usable files.log)) }
     ensures db { IfOk result (λ files. IsTrue (memory_is_usable files.db)) }
@@ -129,15 +129,15 @@ fn files_at_rest(rt: &HostRuntime, file: &str) -> Result<Files<Memory>, Ending>
     Err(Ending::Busy)
 }
 
-// Names that SQLite takes for something else than a file.
+// Whether SQLite takes this name for something other than a file.
 fn is_no_file_name(name: &str) -> bool {
     name == ":memory:" || name.starts_with("file:")
 }
 
-/// The database of a copy of a file and its log. What makes opening the file fail makes this fail
-/// too, but for a file that may not be written, and nothing is made where it is missing. Where a
-/// link leads to the file, the log lies beside that.
-pub(crate) fn open_copy(
+/// Opens a copy of the database in a file, with its log. It fails where opening the file itself
+/// fails, except that the file may be read-only. It never creates the file. For a symbolic link the
+/// log is the one beside its target.
+pub(crate) fn open_snapshot(
     rt: &HostRuntime,
     file: &str,
 ) -> Result<Connection<FileStore<Memory>>, Ending> {

@@ -1,4 +1,4 @@
--- What a run in memory begins at (own profile).
+-- The new store of a run in memory (own profile).
 use Rattle.fuse_tree.specs.State.{State, new_store}
 
 abbrev pub start : State
