@@ -5,8 +5,8 @@ use Rattle.fuse_keeper.specs.Model.{Model}
 use Rattle.fuse_keeper.specs.KeeperState.{KeeperState, Looked, WhereHeld, OfHeld, IsFirm, AnswersNoMore}
 use Rattle.fuse_session.specs.declared.counts.SessionCounts.{SessionCounts}
 use Rattle.fuse_session.specs.declared.ended.Ended.{Ended}
-use Rattle.fuse_session.specs.declared.resuming.ResumeFault.{ResumeFault}
-use Rattle.fuse_session.specs.declared.resuming.ResumeFault.TheVariants as resume
+use Rattle.fuse_session.specs.declared.resend.ResumeFault.{ResumeFault}
+use Rattle.fuse_session.specs.declared.resend.ResumeFault.TheVariants as resume
 use Rattle.fuse_session.specs.declared.device.DevicePort.{DevicePort}
 use Rattle.fuse_session.specs.Port.{PortState, fresh}
 use Rattle.fuse_session.specs.DevicePort.{device_told}

@@ -17,15 +17,16 @@ use Rattle.fuse_keeper.specs.KeeperState.{KeeperState, StandsFor, Performed, Lea
 use Rattle.fuse_keeper.specs.Group.{entry_of, entries_of}
 use Rattle.fuse_session.proofs.Standing.{Stands-same, Stands-settled}
 use Rattle.fuse_session.specs.declared.counts.SessionCounts.{SessionCounts}
-use Rattle.fuse_session.specs.declared.group.Rest.{Rest}
-use Rattle.fuse_session.specs.declared.group.Rest.TheVariants.{ZeroUnique}
-use Rattle.fuse_session.specs.declared.sending.SendFault.{SendFault}
-use Rattle.fuse_session.specs.declared.sending.SendFault.TheVariants.{Memory}
+use Rattle.fuse_session.specs.declared.group.Next.{Next}
+use Rattle.fuse_session.specs.declared.group.Next.TheVariants.{ZeroUnique}
+use Rattle.fuse_session.specs.declared.fault.Fault.{Fault}
+use Rattle.fuse_session.specs.declared.fault.Fault.TheVariants.{PortFailed, Store, Memory}
 use Rattle.fuse_session.specs.Port.{PortState}
 use Rattle.fuse_session.specs.Processed.{Timed, bytes_of, kept_in, entry_if, timed_entry, answers, Works, StartsZero}
 use Rattle.fuse_session.specs.Settling.{Mark, replies, settled_in, NoneComesAgain, Replied, BeginsNext, FewHave}
 use Rattle.fuse_session.specs.Group.{Gathers, IsStuck, answers_in, repeats_in, wires, left_by, told, tallied, rest_by, last_zero, AreEnough, SentAll, SentSome}
 use Rattle.fuse_session.specs.Serving.{Turned, Lived, Exact, Broken, lasts}
+use Rattle.fuse_session.specs.Faults.{is_store, is_memory}
 use Rattle.fuse_session.proofs.Replies.{begins_none, replied_none}
 use Rattle.fuse_session.proofs.Gathering.{gave_all}
 use Rattle.fuse_session.proofs.Outs.{wires_are, told_is, answers_are_outs, outs_front}
@@ -62,7 +63,7 @@ firm_leaves M holds s h t firm so =
 
 -- ---- lives
 
--- nothing was worked off
+-- nothing was processed
 pub lived_none : (M : Model) → (stood : History → List ℕ → Type 0) (s : M.State) (h : History) (c : Bool) (t : List ℕ) (timed : List Timed) → stood h t
     → Lived M stood s h c t timed [] []
 lived_none M stood s h c t timed so = record {
@@ -208,20 +209,25 @@ now_stands : (M : Model) → (holds : KeeperState M) (s : M.State) (h : History)
 now_stands M holds s h t more es ts dones done is = stands_later M holds s (grown h (kept_in ts)) t (t ++ more) (includes_left t more)
     (subst (λ l. StandsFor holds s (grown h l) t) is done.stands)
 
+memory_is : (fault : Fault) → is_memory fault ≡ true → fault ≡ Memory
+memory_is PortFailed is = absurd (cc is)
+memory_is (Store x) is = absurd (cc is)
+memory_is Memory is = refl
+
 -- its answers weren't all sent
 pub broken_sent : (M : Model) → HistoriesGrow M → (holds holds' : KeeperState M) (gave : List Moment → Type 0) (p q : PortState) (pending mid : List ℕ)
     (messages : List (List ℕ)) (count : ℕ) (taken : List (Request × Moment)) (ends : Bool) (group : List (Request × Moment)) (front : List (List ℕ))
-    (dones list : List Done) (fault : SendFault) (exact want : Bool) (faulted : Type 0)
+    (dones list : List Done) (fault : Fault) (faulted : Type 0)
     → Gathers gave (take count messages) taken ends → group ≡ taken → front ≡ take count messages → (holds'.is_clean → holds'.is_honest)
     → (holds'.is_honest → (s : M.State) (h : History) (t : List ℕ) → StandsFor holds s h t → Includes t pending → All (IsUnsettled t) (entries_of group)
     → Performed holds' s h t (entries_of group) dones)
     → (holds'.is_honest → IsFirm holds → IsFirm holds')
     → (holds'.is_honest → (u : List ℕ) → All (IsUnsettled u) (entries_of group) → FewHave holds u pending → FewHave holds' u mid)
     → length mid + length (entries_of group) ≤ 16
-    → list ≡ dones → SentSome p q (wires front (answers_in list)) fault → exact ≡ false → (want ≡ true → fault ≡ Memory)
-    → Broken holds holds' gave p q pending messages exact want faulted
-broken_sent M grows holds holds' gave p q pending mid messages count taken ends group front dones list fault exact want faulted gathers same same_front
-    clean_honest performed firm_still few size same_list sent inexact memory =
+    → list ≡ dones → SentSome p q (wires front (answers_in list)) fault
+    → Broken holds holds' gave p q pending messages (is_store fault) (is_memory fault) faulted
+broken_sent M grows holds holds' gave p q pending mid messages count taken ends group front dones list fault faulted gathers same same_front
+    clean_honest performed firm_still few size same_list sent =
     let some = subst (λ l. SentSome p q (wires front (answers_in l)) fault) same_list sent in
     let ts = gathers.timed in
     let es : entries_of group ≡ kept_in ts = ap entries_of same ∙ gathers.entries in
@@ -238,7 +244,7 @@ broken_sent M grows holds holds' gave p q pending mid messages count taken ends 
       front = sym (take-append-drop count messages) ∙ ap (λ f. f ++ drop count messages) gathers.bytes;
       moments = gave_all gave gathers.timed gathers.moments;
       replied = some.replied;
-      no_part = λ is. some.memory (memory (ap (λ b. b || want) (sym inexact) ∙ is));
+      no_part = λ is. some.memory (memory_is fault (ap (λ b. b || is_memory fault) (sym some.sends) ∙ is));
       exactly = λ _ honest s h t so within again.
           let d = done honest s h t so within again in
           let f = outs_front M s h ts some.marks some.later (works s h) (sym (answers_are_outs M grows s h ts)
@@ -248,7 +254,7 @@ broken_sent M grows holds holds' gave p q pending mid messages count taken ends 
             unprocessed = f.others;
             parts = f.parts;
             works = f.works;
-            stands = λ is clean. absurd (cc (is, inexact));
+            stands = λ is clean. absurd (cc (is, some.sends));
             sent = f.sent ∙ sym (answers_are_outs M grows s h f.first);
           };
       life = λ clean s h t so within again.
@@ -298,7 +304,7 @@ both_included t pending mid more pending' within f is i there =
 pub turned : (M : Model) → HistoriesGrow M → (holds holds' : KeeperState M) (gave : List Moment → Type 0) (p q : PortState) (pending mid pending' : List ℕ)
     (messages : List (List ℕ)) (count : ℕ)
     (taken : List (Request × Moment)) (ends : Bool) (group : List (Request × Moment)) (front : List (List ℕ)) (dones list : List Done) (stuck : Bool)
-    (rest : Rest) (counts : SessionCounts)
+    (rest : Next) (counts : SessionCounts)
     → Gathers gave (take count messages) taken ends → group ≡ taken → front ≡ take count messages
     → (holds'.is_honest → (s : M.State) (h : History) (t : List ℕ) → StandsFor holds s h t → Includes t pending → All (IsUnsettled t) (entries_of group)
     → Performed holds' s h t (entries_of group) dones)

@@ -1,4 +1,4 @@
--- What was worked off in turns, one after another, and what came in one.
+-- Messages that are processed in turns, one after another, and the bytes that come in one.
 use Rattle.std.proofs.Common.{◌≡◌, ◌+◌, ℕ, Bool, true, false, List, [], ◌++◌, length, Option, refl, sym, ap, subst, ◌∙◌}
 use Rattle.std.proofs.Common.{append_assoc, arith, length-append}
 use Rattle.std.proofs.lemmas.List.{append-nil}
@@ -11,8 +11,8 @@ use Rattle.fuse_keeper.specs.History.{HistoriesGrow}
 use Rattle.fuse_keeper.specs.Model.{Model}
 use Rattle.fuse_keeper.specs.KeeperState.{KeeperState, IsFirm}
 use Rattle.fuse_session.specs.declared.counts.SessionCounts.{SessionCounts}
-use Rattle.fuse_session.specs.declared.group.Rest.{Rest}
-use Rattle.fuse_session.specs.declared.group.Rest.TheVariants.{GoesOn as GoesOnHere}
+use Rattle.fuse_session.specs.declared.group.Next.{Next}
+use Rattle.fuse_session.specs.declared.group.Next.TheVariants.{GoesOn as GoesOnHere}
 use Rattle.fuse_session.specs.Port.{PortState, IsQuiet}
 use Rattle.fuse_session.specs.Settling.{Replied}
 use Rattle.fuse_session.specs.Counting.{plus, none_counted}
@@ -34,7 +34,7 @@ hearing_replied a b h = record {
   confirms = h.confirms;
 }
 
--- what is held, and more bytes behind it
+-- the bytes that are held, and more after them
 cut_more : CutJoins → (held mid r1 r2 : List ℕ) → mid ≡ (cut (held ++ r1)).1
     → cut (held ++ (r1 ++ r2)) ≡ ((cut (held ++ r1)).0 ++ (cut (mid ++ r2)).0, (cut (mid ++ r2)).1)
 cut_more joins held mid r1 r2 is =
@@ -81,7 +81,7 @@ whole_more M grows joins holds mid new gave gave' gave'' p q r ids ids' ids'' he
 }
 
 pub stopped_more : (M : Model) → HistoriesGrow M → CutJoins → (holds mid new : KeeperState M) (gave gave' gave'' : List Moment → Type 0) (p q r : PortState)
-    (ids ids' ids'' : List ℕ) (held left : List ℕ) (rest : Rest) (begin at place : ℕ) (counts counts' : SessionCounts)
+    (ids ids' ids'' : List ℕ) (held left : List ℕ) (rest : Next) (begin at place : ℕ) (counts counts' : SessionCounts)
     → Whole holds mid gave p q ids ids' held left begin at counts → Stopped mid new gave' q r ids' ids'' left rest at place counts'
     → (new.is_honest → mid.is_honest) → ((xs ys : List Moment) → gave xs → gave' ys → gave'' (xs ++ ys))
     → Stopped holds new gave'' p r ids ids'' held rest begin place (plus counts counts')
@@ -119,7 +119,7 @@ life_more M grows joins holds mid new gave gave' gave'' p q r ids ids' held rest
           faulted faulted' one.turned two.broken faulted_too clean_honest honest_too firm_too moments);
     }
 
--- all was worked off: a life too
+-- all messages were processed: a life too
 pub whole_life : (M : Model) → (holds new : KeeperState M) (gave : List Moment → Type 0) (p q : PortState) (ids ids' : List ℕ) (held rest : List ℕ)
     (begin at : ℕ) (counts : SessionCounts) (exact want : Bool) (faulted : Type 0) → exact ≡ false
     → Whole holds new gave p q ids ids' held rest begin at counts → (new.is_clean → new.is_honest) → (new.is_honest → IsFirm holds → IsFirm new)
@@ -163,7 +163,7 @@ heard_came p q r before after messages fault h quiet = subst (λ o. Consumes p.c
 
 pub whole_heard : (M : Model) → HistoriesGrow M → (holds new : KeeperState M) → (new.is_honest → holds.is_honest)
     → (gave : List Moment → Type 0) (p q r : PortState) (ids ids' : List ℕ) (before after : Held) (messages slice : List (List ℕ)) (fault : Option FrameFault)
-    (begin place : ℕ) (rest : Rest) (counts : SessionCounts)
+    (begin place : ℕ) (rest : Next) (counts : SessionCounts)
     → Heard p q before after messages fault → IsHearing p q → slice ≡ messages → rest ≡ GoesOnHere
     → ProcessedAll holds new gave q r ids ids' slice rest begin place counts → IsQuiet q r
     → Whole holds new gave p r ids ids' before.bytes after.bytes before.at after.at counts
@@ -182,7 +182,7 @@ whole_heard M grows holds new honest gave p q r ids ids' before after messages s
 
 pub stopped_heard : (M : Model) → HistoriesGrow M → (holds new : KeeperState M) → (new.is_honest → holds.is_honest)
     → (gave : List Moment → Type 0) (p q r : PortState) (ids ids' : List ℕ) (before after : Held) (messages slice : List (List ℕ)) (fault : Option FrameFault)
-    (begin place : ℕ) (rest kind : Rest) (counts : SessionCounts)
+    (begin place : ℕ) (rest kind : Next) (counts : SessionCounts)
     → Heard p q before after messages fault → IsHearing p q → slice ≡ messages → rest ≡ kind → begin ≡ before.at
     → ProcessedAll holds new gave q r ids ids' slice rest begin place counts → IsQuiet q r
     → Stopped holds new gave p r ids ids' before.bytes kind before.at place counts

@@ -9,7 +9,7 @@ use Rattle.fuse_session.specs.Port.{PortState, IsPath}
 use Rattle.fuse_session.specs.Serving.{Whole}
 use Rattle.fuse_session.specs.Prompt.{CaughtUp, WasCaughtUp}
 
--- all that came was worked off
+-- all messages that came were processed
 pub whole_caught_up : (M : Model) → (k new : KeeperState M) (gave : List Moment → Type 0) (p q : PortState) (ids rest : List ℕ) (at : ℕ)
     (counts : SessionCounts) → Whole k new gave p q [] ids [] rest 0 at counts → CaughtUp k new p q
 whole_caught_up M k new gave p q ids rest at counts w = record {

@@ -1,4 +1,4 @@
--- Answers that were sent, one after another, and the places that a port tells.
+-- Answers that were sent, one after another, and the places that a port reports.
 use Rattle.std.proofs.Common.{◌≡◌, ℕ, Bool, true, false, List, [], ◌∷◌, ◌++◌, length, Option, Some, None, refl, sym, ap, subst, ◌∙◌, append_assoc}
 use Rattle.std.specs.Prelude.{IfSome}
 use Rattle.std.proofs.lemmas.List.{append-nil, map-append}

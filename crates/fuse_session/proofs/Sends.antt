@@ -11,8 +11,8 @@ use Rattle.fuse_request.specs.declared.class.Class.TheVariants.{Silent, Bare, Ke
 use Rattle.fuse_request.specs.Classes.{class_of}
 use Rattle.fuse_request.specs.Stream.{joined}
 use Rattle.fuse_keeper.specs.declared.keeper.Done.{Done}
-use Rattle.fuse_session.specs.declared.sending.SendFault.{SendFault}
-use Rattle.fuse_session.specs.declared.sending.SendFault.TheVariants.{Memory, PortFailed}
+use Rattle.fuse_session.specs.declared.fault.Fault.{Fault}
+use Rattle.fuse_session.specs.declared.fault.Fault.TheVariants.{PortFailed, Store, Memory}
 use Rattle.fuse_session.specs.Port.{PortState, IsYoung, IsQuiet, SentWhole}
 use Rattle.fuse_session.specs.Processed.{unique_of, message_id}
 use Rattle.fuse_session.specs.Settling.{replies, settles, settles_if, settled_in, Replied, BeginsNext}
@@ -83,7 +83,7 @@ sent_more a b c ms i m bytes list list' all p q r lt at is left one two =
     subst (λ f. SentFirst a c f all (wires (drop (i + 1) ms) list') p r) (taken_at ms i m bytes lt at is) step
 
 -- an answer wasn't sent whole
-some_by : (fault : SendFault) (a b c : PortState) (front answers left left' : List (List ℕ)) (bytes : List ℕ) (p q : List ℕ) → left ≡ bytes ∷ left'
+some_by : (fault : Fault) (a b c : PortState) (front answers left left' : List (List ℕ)) (bytes : List ℕ) (p q : List ℕ) → left ≡ bytes ∷ left'
     → SentFirst a b front answers left p q → SendFails fault b c bytes
     → SentSome a c answers fault
 some_by Memory a b c front answers left left' bytes p q is one same = record {
@@ -96,6 +96,7 @@ some_by Memory a b c front answers left left' bytes p q is one same = record {
   next = begins_none left;
   replied = subst (λ x. Replied a x one.marks []) (sym same) one.replied;
   memory = λ _. refl;
+  sends = refl;
   failed = ap (λ (x : PortState). x.failures) same ∙ one.failures;
   quiet = subst (IsQuiet a) (sym same) one.quiet;
 }
@@ -109,11 +110,13 @@ some_by PortFailed a b c front answers left left' bytes p q is one two = record 
   next = subst (λ l. BeginsNext l two.part) (sym is) (two.rest, two.parts);
   replied = subst (λ x. Replied a c x two.part) (append-nil one.marks) (replied_more a b c one.marks [] two.part one.replied (replied_part b c bytes two));
   memory = λ isnt. absurd (cc isnt);
+  sends = refl;
   failed = omega (arith, two.failures, one.failures);
   quiet = quiet_more a b c one.quiet two.quiet;
 }
+some_by (Store x) a b c front answers left left' bytes p q is one two = absurd two
 
-pub sent_some : (fault : SendFault) (a b c : PortState) (ms : List (List ℕ)) (i : ℕ) (m bytes : List ℕ) (list : List Said) (all : List (List ℕ)) (p q : List ℕ)
+pub sent_some : (fault : Fault) (a b c : PortState) (ms : List (List ℕ)) (i : ℕ) (m bytes : List ℕ) (list : List Said) (all : List (List ℕ)) (p q : List ℕ)
     → i < length ms → m ≡ get_or ms i m → bytes ≡ m
     → SentFirst a b (take i ms) all (wires (drop i ms) list) p q → SendFails fault b c (head_wire (class_of bytes) (unique_of bytes) list)
     → SentSome a c all fault
@@ -203,7 +206,7 @@ next_bare a b m e gone list pending is sent =
       handed = sym (ap (λ (r : List ℕ). pending ++ r) none ∙ append-nil pending);
     })
 
-pub fails_bare : (fault : SendFault) (a b : PortState) (m : List ℕ) (e : Errno) (list : List Said) → Bare e ≡ class_of m
+pub fails_bare : (fault : Fault) (a b : PortState) (m : List ℕ) (e : Errno) (list : List Said) → Bare e ≡ class_of m
     → SendFails fault a b (wire e.0 [] (unique_of m)) → SendFails fault a b (head_wire (class_of m) (unique_of m) list)
 fails_bare fault a b m e list is f = subst (λ k. SendFails fault a b (head_wire k (unique_of m) list)) is f
 
@@ -219,7 +222,7 @@ pub next_kept : (a b : PortState) (m : List ℕ) (dones : List Done) (n : ℕ) (
     → SentNext a b m (wire said.errno said.body (unique_of m)) p q → SentNext a b m (head_wire (class_of m) (unique_of m) (drop n (answers_in dones))) p q
 next_kept a b m dones n d said p q is lt at same sent = subst (λ w. SentNext a b m w p q) (head_kept m dones n d said is lt at same) sent
 
-pub fails_kept : (fault : SendFault) (a b : PortState) (m : List ℕ) (dones : List Done) (n : ℕ) (d : Done) (said : Said) → Kept ≡ class_of m → n < length dones
+pub fails_kept : (fault : Fault) (a b : PortState) (m : List ℕ) (dones : List Done) (n : ℕ) (d : Done) (said : Said) → Kept ≡ class_of m → n < length dones
     → d ≡ get_or dones n d → said ≡ d.answer
     → SendFails fault a b (wire said.errno said.body (unique_of m)) → SendFails fault a b (head_wire (class_of m) (unique_of m) (drop n (answers_in dones)))
 fails_kept fault a b m dones n d said is lt at same f = subst (SendFails fault a b) (head_kept m dones n d said is lt at same) f
@@ -253,7 +256,7 @@ pub bare_sent : (a b : PortState) (answer : Said) (e : Errno) (u v : ℕ) (gone 
     → SentWhole a b (wire answer.errno answer.body u) gone → SentWhole a b (wire e.0 [] v) gone
 bare_sent a b answer e u v gone is same sent = subst (λ w. SentWhole a b w gone) (bare_wire answer e u v is same) sent
 
-pub bare_fails : (fault : SendFault) (a b : PortState) (answer : Said) (e : Errno) (u v : ℕ) → answer ≡ record { errno = e.0; body = [] } → u ≡ v
+pub bare_fails : (fault : Fault) (a b : PortState) (answer : Said) (e : Errno) (u v : ℕ) → answer ≡ record { errno = e.0; body = [] } → u ≡ v
     → SendFails fault a b (wire answer.errno answer.body u) → SendFails fault a b (wire e.0 [] v)
 bare_fails fault a b answer e u v is same f = subst (SendFails fault a b) (bare_wire answer e u v is same) f
 

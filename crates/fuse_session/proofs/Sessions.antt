@@ -1,6 +1,7 @@
 -- Turns that end, and whole sessions.
-use Rattle.std.proofs.Common.{◌≡◌, ◌↔◌, inl, inr, ◌<◌, ℕ, ◌||◌, Bool, true, false, List, [], ◌++◌, length, Option, None, refl, sym, ap, subst, ◌∙◌}
+use Rattle.std.proofs.Common.{◌≡◌, ◌↔◌, inl, inr, ◌<◌, ℕ, ◌||◌, Bool, true, false, List, [], ◌++◌, length, Option, Some, None, refl, sym, ap, subst, ◌∙◌}
 use Rattle.std.proofs.Common.{arith}
+use Rattle.std.specs.Prelude.{IfSome}
 use Rattle.std.proofs.lemmas.List.{append-nil}
 use Rattle.std.specs.Io.KnownBytes.{Consumes}
 use Rattle.fuse_wire.specs.declared.moment.Moment.{Moment}
@@ -14,18 +15,19 @@ use Rattle.fuse_keeper.specs.KeeperState.{KeeperState, StandsFor, IsFirm}
 use Rattle.fuse_session.specs.declared.counts.SessionCounts.{SessionCounts}
 use Rattle.fuse_session.specs.declared.ended.Ended.{Ended}
 use Rattle.fuse_session.specs.declared.ended.Ended.TheVariants.{End, Destroyed, Turns, Frame, ZeroUnique, PortFailed, Store, Memory}
-use Rattle.fuse_session.specs.declared.group.Rest.{Rest}
-use Rattle.fuse_session.specs.declared.group.Rest.TheVariants.{Destroyed as ByDestroy, ZeroUnique as ByZero}
-use Rattle.fuse_session.specs.declared.group.Stop.{Stop}
-use Rattle.fuse_session.specs.declared.group.Stop.TheVariants.{PortFailed as ByPort, Store as ByStore, Memory as ByMemory}
+use Rattle.fuse_session.specs.declared.group.Next.{Next}
+use Rattle.fuse_session.specs.declared.group.Next.TheVariants.{Destroyed as ByDestroy, ZeroUnique as ByZero}
+use Rattle.fuse_session.specs.declared.fault.Fault.{Fault}
+use Rattle.fuse_session.specs.declared.fault.Fault.TheVariants.{PortFailed as ByPort, Store as ByStore, Memory as ByMemory}
 use Rattle.fuse_session.specs.Port.{PortState, IsQuiet}
 use Rattle.fuse_session.specs.Processed.{Timed, bytes_of}
 use Rattle.fuse_session.specs.Settling.{Mark, settled_in, Replied, FewRecorded}
-use Rattle.fuse_session.specs.Counting.{plus, none_counted}
+use Rattle.fuse_session.specs.Counting.{plus, plus_if, none_counted, IsBelow}
 use Rattle.fuse_session.specs.Moves.{FailedBy}
 use Rattle.fuse_session.specs.Receiving.{IsOpen, IsHearing, Heard, NotHeard}
-use Rattle.fuse_session.specs.Serving.{Turned, Lived, ProcessedAll, Whole, Run, FewSettled, MayStop, lasts}
-use Rattle.fuse_session.specs.Ends.{Rested, Halted, EndsAs, IsGoodRest, FaultOf, ended_store, ended_memory, ended_port, SentExactly, ExactAt, MayEnd}
+use Rattle.fuse_session.specs.Faults.{MayFault}
+use Rattle.fuse_session.specs.Serving.{Turned, Lived, ProcessedAll, Whole, Run, FewSettled, lasts}
+use Rattle.fuse_session.specs.Ends.{Rested, Halted, EndsAs, IsGoodRest, FaultOf, counts_at, ended_store, ended_memory, ended_port, SentExactly, ExactAt, MayEnd}
 use Rattle.fuse_session.specs.Finishing.{FinishedBy, IsFault, ended_at}
 use Rattle.fuse_session.proofs.Bytes.{consumes_none}
 use Rattle.fuse_session.proofs.Replies.{replied_none}
@@ -123,7 +125,7 @@ rested_more M grows joins holds mid new gave gave' gave'' p q r ids ids' held le
 }
 
 halted_more : (M : Model) → HistoriesGrow M → CutJoins → (holds mid new : KeeperState M) (gave gave' gave'' : List Moment → Type 0) (p q r : PortState)
-    (ids ids' : List ℕ) (held left : List ℕ) (rest : Rest) (begin at place : ℕ) (counts counts' : SessionCounts)
+    (ids ids' : List ℕ) (held left : List ℕ) (rest : Next) (begin at place : ℕ) (counts counts' : SessionCounts)
     → Whole holds mid gave p q ids ids' held left begin at counts → Halted mid new gave' q r ids' left rest at place counts' → (new.is_honest → mid.is_honest)
     → ((xs ys : List Moment) → gave xs → gave' ys → gave'' (xs ++ ys))
     → Halted holds new gave'' p r ids held rest begin place (plus counts counts')
@@ -171,10 +173,10 @@ ends_more M grows joins holds mid new gave gave' gave'' p q r ids ids' held left
 
 -- ---- a turn
 
--- messages were worked off: a life
+-- messages were processed: a life
 pub life_worked : (M : Model) → HistoriesGrow M → (holds new : KeeperState M) → (new.is_honest → holds.is_honest)
     → (gave : List Moment → Type 0) (p q r : PortState) (ids ids' : List ℕ) (before after : Held) (messages slice : List (List ℕ))
-    (fault : Option FrameFault) (begin place : ℕ) (rest : Rest) (counts : SessionCounts) (exact want : Bool) (faulted : Type 0) → exact ≡ false
+    (fault : Option FrameFault) (begin place : ℕ) (rest : Next) (counts : SessionCounts) (exact want : Bool) (faulted : Type 0) → exact ≡ false
     → Heard p q before after messages fault → IsHearing p q → slice ≡ messages → ProcessedAll holds new gave q r ids ids' slice rest begin place counts
     → IsQuiet q r → (new.is_clean → new.is_honest) → (new.is_honest → IsFirm holds → IsFirm new)
     → Run holds new gave p r ids before.bytes exact want faulted
@@ -186,14 +188,13 @@ life_worked M grows holds new honest gave p q r ids ids' before after messages s
 
 pub ends_finished : (M : Model) → HistoriesGrow M → (holds new : KeeperState M) → (new.is_honest → holds.is_honest)
     → (gave : List Moment → Type 0) (p q r : PortState) (ids ids' : List ℕ) (before after : Held) (messages slice : List (List ℕ)) (fault : Option FrameFault)
-    (begin place : ℕ) (rest : Rest)
-    (counts counts' : SessionCounts) (turns : ℕ) (e : Ended) → FinishedBy e rest place fault → counts' ≡ counts
+    (begin place : ℕ) (rest : Next)
+    (counts : SessionCounts) (turns : ℕ) (e : Ended) → FinishedBy e rest place fault
     → Heard p q before after messages fault → IsHearing p q → slice ≡ messages → begin ≡ before.at
     → ProcessedAll holds new gave q r ids ids' slice rest begin place counts → IsQuiet q r
-    → EndsAs holds new gave p r ids before.bytes before.at turns e counts'
-ends_finished M grows holds new honest gave p q r ids ids' before after messages slice fault begin place rest counts counts' turns Destroyed by same_counts h
-    hearing same begin_is w quiet =
-    subst (λ c. EndsAs holds new gave p r ids before.bytes before.at turns Destroyed c) (sym same_counts) (
+    → EndsAs holds new gave p r ids before.bytes before.at turns e counts
+ends_finished M grows holds new honest gave p q r ids ids' before after messages slice fault begin place rest counts turns Destroyed by h
+    hearing same begin_is w quiet = (
       place,
       record {
         pending' = ids';
@@ -201,37 +202,35 @@ ends_finished M grows holds new honest gave p q r ids ids' before after messages
             ByDestroy counts h hearing same by begin_is w quiet;
       },
     )
-ends_finished M grows holds new honest gave p q r ids ids' before after messages slice fault begin place rest counts counts' turns
-    (ZeroUnique at) by same_counts h hearing same begin_is w quiet =
-    subst (λ c. EndsAs holds new gave p r ids before.bytes before.at turns (ZeroUnique at) c) (sym same_counts)
-    (subst (λ x. Halted holds new gave p r ids before.bytes ByZero before.at x counts) (sym by.1)
+ends_finished M grows holds new honest gave p q r ids ids' before after messages slice fault begin place rest counts turns
+    (ZeroUnique at) by h hearing same begin_is w quiet =
+    subst (λ x. Halted holds new gave p r ids before.bytes ByZero before.at x counts) (sym by.1)
     (record {
       pending' = ids';
       stopped = stopped_heard M grows holds new honest gave p q r ids ids' before after messages slice fault begin place rest ByZero
           counts h hearing same by.0 begin_is w quiet;
-    }))
-ends_finished M grows holds new honest gave p q r ids ids' before after messages slice fault begin place rest counts counts' turns
-    (Frame f) by same_counts h hearing same begin_is w quiet =
-    subst (λ c. EndsAs holds new gave p r ids before.bytes before.at turns (Frame f) c) (sym same_counts)
-    (record {
+    })
+ends_finished M grows holds new honest gave p q r ids ids' before after messages slice fault begin place rest counts turns
+    (Frame f) by h hearing same begin_is w quiet =
+    record {
       rest = after.bytes;
       place = after.at;
       pending' = ids';
       whole = whole_heard M grows holds new honest gave p q r ids ids' before after messages slice fault begin place rest counts h hearing same by.0 w quiet;
       so = inl (h.took.bad ∙ by.1);
-    })
-ends_finished M grows holds new honest gave p q r ids ids' before after messages slice fault begin place rest counts counts' turns End by same_counts h hearing
+    }
+ends_finished M grows holds new honest gave p q r ids ids' before after messages slice fault begin place rest counts turns End by h hearing
     same begin_is w quiet = absurd by
-ends_finished M grows holds new honest gave p q r ids ids' before after messages slice fault begin place rest counts counts' turns Turns by same_counts h
+ends_finished M grows holds new honest gave p q r ids ids' before after messages slice fault begin place rest counts turns Turns by h
     hearing same begin_is w quiet = absurd by
-ends_finished M grows holds new honest gave p q r ids ids' before after messages slice fault begin place rest counts counts' turns PortFailed by same_counts h
+ends_finished M grows holds new honest gave p q r ids ids' before after messages slice fault begin place rest counts turns PortFailed by h
     hearing same begin_is w quiet = absurd by
-ends_finished M grows holds new honest gave p q r ids ids' before after messages slice fault begin place rest counts counts' turns
-    (Store x) by same_counts h hearing same begin_is w quiet = absurd by
-ends_finished M grows holds new honest gave p q r ids ids' before after messages slice fault begin place rest counts counts' turns Memory by same_counts h
+ends_finished M grows holds new honest gave p q r ids ids' before after messages slice fault begin place rest counts turns
+    (Store x) by h hearing same begin_is w quiet = absurd by
+ends_finished M grows holds new honest gave p q r ids ids' before after messages slice fault begin place rest counts turns Memory by h
     hearing same begin_is w quiet = absurd by
 
-pub finished_store : (e : Ended) (rest : Rest) (place : ℕ) (fault : Option FrameFault) → FinishedBy e rest place fault → (ended_store e ≡ false)
+pub finished_store : (e : Ended) (rest : Next) (place : ℕ) (fault : Option FrameFault) → FinishedBy e rest place fault → (ended_store e ≡ false)
     × (ended_port e ≡ false) × (e ≡ Turns → ⊥)
 finished_store Destroyed rest place fault by = (refl, refl, (λ isnt. cc isnt))
 finished_store (ZeroUnique at) rest place fault by = (refl, refl, (λ isnt. cc isnt))
@@ -274,6 +273,57 @@ fault_not_turns Destroyed is isnt = is
 fault_not_turns Turns is isnt = is
 fault_not_turns (Frame f) is isnt = is
 fault_not_turns (ZeroUnique at) is isnt = is
+
+-- ---- the counts at an end
+
+pub none_below : (n : ℕ) → IsBelow none_counted n
+none_below n = record { messages = omega arith; kept = omega arith; repeated = omega arith; bare = omega arith; silent = omega arith; interrupts = omega arith }
+
+pub fault_counts : (e : Ended) (counts : SessionCounts) → IsFault e → None ≡ counts_at e counts
+fault_counts PortFailed counts is = refl
+fault_counts (Store x) counts is = refl
+fault_counts Memory counts is = refl
+fault_counts End counts is = absurd is
+fault_counts Destroyed counts is = absurd is
+fault_counts Turns counts is = absurd is
+fault_counts (Frame f) counts is = absurd is
+fault_counts (ZeroUnique at) counts is = absurd is
+
+pub finished_counts : (e : Ended) (rest : Next) (place : ℕ) (fault : Option FrameFault) (told : Option SessionCounts) (counts : SessionCounts)
+    → FinishedBy e rest place fault → told ≡ Some counts → told ≡ counts_at e counts
+finished_counts Destroyed rest place fault told counts by is = is
+finished_counts (ZeroUnique at) rest place fault told counts by is = is
+finished_counts (Frame f) rest place fault told counts by is = is
+finished_counts End rest place fault told counts by is = absurd by
+finished_counts Turns rest place fault told counts by is = absurd by
+finished_counts PortFailed rest place fault told counts by is = absurd by
+finished_counts (Store x) rest place fault told counts by is = absurd by
+finished_counts Memory rest place fault told counts by is = absurd by
+
+-- the counts at an end, added to those before the last turn
+pub counts_more : (e : Ended) (a b : SessionCounts) (told sum : Option SessionCounts) → told ≡ counts_at e b → sum ≡ plus_if a told → sum ≡ counts_at e (plus a b)
+counts_more End a b told sum is sum_is = sum_is ∙ ap (plus_if a) is
+counts_more Destroyed a b told sum is sum_is = sum_is ∙ ap (plus_if a) is
+counts_more Turns a b told sum is sum_is = sum_is ∙ ap (plus_if a) is
+counts_more (Frame f) a b told sum is sum_is = sum_is ∙ ap (plus_if a) is
+counts_more (ZeroUnique at) a b told sum is sum_is = sum_is ∙ ap (plus_if a) is
+counts_more PortFailed a b told sum is sum_is = sum_is ∙ ap (plus_if a) is
+counts_more (Store x) a b told sum is sum_is = sum_is ∙ ap (plus_if a) is
+counts_more Memory a b told sum is sum_is = sum_is ∙ ap (plus_if a) is
+
+below_at : (e : Ended) (b : SessionCounts) (n : ℕ) → IsBelow b n → IfSome (counts_at e b) (λ last. IsBelow last n)
+below_at End b n below = below
+below_at Destroyed b n below = below
+below_at Turns b n below = below
+below_at (Frame f) b n below = below
+below_at (ZeroUnique at) b n below = below
+below_at PortFailed b n below = tt
+below_at (Store x) b n below = tt
+below_at Memory b n below = tt
+
+pub counts_below : (e : Ended) (b : SessionCounts) (n : ℕ) (told : Option SessionCounts) → IsBelow b n → told ≡ counts_at e b
+    → IfSome told (λ last. IsBelow last n)
+counts_below e b n told below is = subst (λ o. IfSome o (λ last. IsBelow last n)) (sym is) (below_at e b n below)
 
 -- the port failed exactly where it ended the session
 pub failed_both : (e : Ended) (old new : ℕ) → FailedBy (ended_port e) old new → (e ≡ PortFailed) ↔ (old < new)
@@ -339,15 +389,15 @@ may_end may may' PortFailed m is = tt
 may_end may may' (Store fault) m is = m fault is
 may_end may may' Memory m is = tt
 
-pub may_stop : (may may' : StoreFault → Type 0) (stop : Stop) → ((f : StoreFault) → may' f → may f) → MayStop may' stop → MayStop may stop
-may_stop may may' ByPort m is = tt
-may_stop may may' (ByStore fault) m is = m fault is
-may_stop may may' ByMemory m is = tt
+pub may_fault : (may may' : StoreFault → Type 0) (fault : Fault) → ((f : StoreFault) → may' f → may f) → MayFault may' fault → MayFault may fault
+may_fault may may' ByPort m is = tt
+may_fault may may' (ByStore fault) m is = m fault is
+may_fault may may' ByMemory m is = tt
 
-pub stop_may_end : (may : StoreFault → Type 0) (stop : Stop) (e : Ended) → e ≡ ended_at stop → MayStop may stop → MayEnd may e
-stop_may_end may ByPort e is m = subst (MayEnd may) (sym is) tt
-stop_may_end may (ByStore fault) e is m = subst (MayEnd may) (sym is) m
-stop_may_end may ByMemory e is m = subst (MayEnd may) (sym is) tt
+pub fault_may_end : (may : StoreFault → Type 0) (fault : Fault) (e : Ended) → e ≡ ended_at fault → MayFault may fault → MayEnd may e
+fault_may_end may ByPort e is m = subst (MayEnd may) (sym is) tt
+fault_may_end may (ByStore fault) e is m = subst (MayEnd may) (sym is) m
+fault_may_end may ByMemory e is m = subst (MayEnd may) (sym is) tt
 
 exact_life : (M : Model) → (holds new : KeeperState M) (gave : List Moment → Type 0) (p q : PortState) (ids held : List ℕ) (store memory : Bool)
     (faulted : Type 0) (stood : M.State → History → List ℕ → Type 0)

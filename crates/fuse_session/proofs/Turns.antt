@@ -10,8 +10,8 @@ use Rattle.fuse_keeper.specs.Model.{Model}
 use Rattle.fuse_keeper.specs.Stands.{Stands}
 use Rattle.fuse_keeper.specs.KeeperState.{KeeperState, StandsFor, IsFirm}
 use Rattle.fuse_session.specs.declared.counts.SessionCounts.{SessionCounts}
-use Rattle.fuse_session.specs.declared.group.Rest.{Rest}
-use Rattle.fuse_session.specs.declared.group.Rest.TheVariants.{GoesOn as GoesOnHere, Destroyed, ZeroUnique}
+use Rattle.fuse_session.specs.declared.group.Next.{Next}
+use Rattle.fuse_session.specs.declared.group.Next.TheVariants.{GoesOn as GoesOnHere, Destroyed, ZeroUnique}
 use Rattle.fuse_session.specs.Port.{PortState}
 use Rattle.fuse_session.specs.Processed.{Timed, bytes_of, kept_in, answers, says_zero, message_id, StartsZero, GoesOn}
 use Rattle.fuse_session.specs.Settling.{Mark, replies, settled_in, NoneComesAgain, Replied, FewHave}
@@ -27,7 +27,7 @@ use Rattle.fuse_session.proofs.Groups.{leaves_map, firm_leaves, lived_all, exact
 bytes-append : (xs ys : List Timed) → bytes_of (xs ++ ys) ≡ bytes_of xs ++ bytes_of ys
 bytes-append xs ys = map-append (λ (t : Timed). t.bytes) xs ys
 
--- nothing was worked off
+-- nothing was processed
 pub turned_quiet : (M : Model) → (holds : KeeperState M) (gave : List Moment → Type 0) (p q : PortState) (pending : List ℕ) → gave [] → Replied p q [] []
     → Turned holds holds gave p q pending pending [] true none_counted
 turned_quiet M holds gave p q pending none replied = record {
@@ -218,7 +218,7 @@ turned_broken M grows holds mid new gave gave' gave'' p q r ids ids' front messa
           );
     }
 
--- what was answered, as a life, with others behind
+-- messages that were answered, as a life, with others after them
 pub turned_life : (M : Model) → (holds new : KeeperState M) (gave : List Moment → Type 0) (p q : PortState) (ids ids' : List ℕ)
     (front others messages : List (List ℕ)) (going : Bool) (counts : SessionCounts) (exact want : Bool) (faulted : Type 0) → exact ≡ false
     → Turned holds new gave p q ids ids' front going counts → messages ≡ front ++ others → (new.is_clean → new.is_honest)
@@ -272,9 +272,9 @@ joined_at ms i m lt =
     (append-nil (get_or ms i m)))
     ∙ length-append (joined (take i ms)) (get_or ms i m)
 
--- ---- messages worked off
+-- ---- messages processed
 
-pub lasts_on : (rest : Rest) → goes_on rest ≡ true → lasts rest ≡ true
+pub lasts_on : (rest : Next) → goes_on rest ≡ true → lasts rest ≡ true
 lasts_on GoesOnHere is = refl
 lasts_on Destroyed is = absurd (cc is)
 lasts_on ZeroUnique is = absurd (cc is)
@@ -309,12 +309,12 @@ group_broken M grows holds mid new gave gave' gave'' p q r ids ids' messages sli
     clean_honest honest_too firm_too moments)
 
 -- the last group
-pub worked_off : (M : Model) → (holds new : KeeperState M) (gave : List Moment → Type 0) (p q : PortState) (ids ids' : List ℕ) (messages slice : List (List ℕ))
-    (i n : ℕ) (rest : Rest) (begin place : ℕ) (counts : SessionCounts)
+pub worked_part : (M : Model) → (holds new : KeeperState M) (gave : List Moment → Type 0) (p q : PortState) (ids ids' : List ℕ) (messages slice : List (List ℕ))
+    (i n : ℕ) (rest : Next) (begin place : ℕ) (counts : SessionCounts)
     → slice ≡ take (length messages - i) (drop i messages) → (goes_on rest ≡ false) → (rest ≡ ZeroUnique → StartsZero (drop n slice))
     → place ≡ begin + length (joined (take (i + n) messages))
     → Turned holds new gave p q ids ids' (take (i + n) messages) (lasts rest) counts → ProcessedAll holds new gave p q ids ids' messages rest begin place counts
-worked_off M holds new gave p q ids ids' messages slice i n rest begin place counts same over zero place_is t = record {
+worked_part M holds new gave p q ids ids' messages slice i n rest begin place counts same over zero place_is t = record {
   front = take (i + n) messages;
   others = drop (i + n) messages;
   parts = sym (take-append-drop (i + n) messages);

@@ -1,5 +1,5 @@
--- How the messages of a session are counted (own profile).
-use Rattle.std.specs.Prelude.{ℕ, ◌+◌, ◌≤◌, ◌==◌, ◌&&◌, Bool, if◌then◌else◌, List, [], ◌∷◌, is_none}
+-- The counts of a session's messages (own profile).
+use Rattle.std.specs.Prelude.{ℕ, ◌+◌, ◌≤◌, ◌==◌, ◌&&◌, Bool, if◌then◌else◌, List, [], ◌∷◌, Option, Some, None, is_none}
 use Rattle.fuse_request.specs.declared.class.Class.{Class}
 use Rattle.fuse_request.specs.declared.class.Class.TheVariants.{Silent, Bare, Kept}
 use Rattle.fuse_wire.specs.Opcodes.{fuse_interrupt}
@@ -35,6 +35,11 @@ plus a b = record {
   silent = a.silent + b.silent;
   interrupts = a.interrupts + b.interrupts;
 }
+
+-- with more counts, if there are some
+abbrev pub plus_if : SessionCounts → Option SessionCounts → Option SessionCounts
+plus_if a None = None
+plus_if a (Some b) = Some (plus a b)
 
 -- the messages by class, where h was the history before
 abbrev pub counted : History → List Timed → SessionCounts

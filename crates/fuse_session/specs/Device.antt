@@ -1,4 +1,4 @@
--- What the reads and writes of a FUSE device tell, by their error numbers (fuse(4); Linux: fs/fuse/dev.c).
+-- The results of reads and writes of a FUSE device, by their error numbers (fuse(4); Linux: fs/fuse/dev.c).
 use Rattle.std.specs.Prelude.{ℕ, ℤ, pos, int_lt, unsigned_abs, ◌||◌, ◌==◌, if◌then◌else◌, Option, Some, None, Result, Ok, Err}
 use Rattle.std.specs.IoError.{raw_os_error}
 use Rattle.std.specs.declared.io.Error.{Error}
@@ -39,12 +39,12 @@ abbrev pub write_refused : Option ℕ → Sent
 write_refused None = Failed
 write_refused (Some n) = if n == enoent then Gone else Failed
 
--- what is received by what a read answered
+-- the result of a receive, by that of the read
 abbrev pub read_told : Result ℕ Error → Received
 read_told (Ok n) = if n == 0 then End else Got n
 read_told (Err e) = read_refused (os_number e)
 
--- what is sent by what a write answered
+-- the result of a send, by that of the write
 abbrev pub write_told : Result ℕ Error → Sent
 write_told (Ok n) = Took n
 write_told (Err e) = write_refused (os_number e)

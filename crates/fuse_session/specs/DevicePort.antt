@@ -1,4 +1,4 @@
--- What is told of a port over a FUSE device (own profile).
+-- The state of a port over a FUSE device (own profile).
 use Rattle.std.specs.Prelude.{◌≡◌, ℕ, ◌-◌, ◌^◌, ◌==◌, if◌then◌else◌, true, List, replicate, Option, None, Result}
 use Rattle.std.specs.Io.{ReadsAtMost, WritesAtMost}
 use Rattle.std.specs.Io.KnownBytes.{ReadConsumes, WriteAppends}
@@ -30,7 +30,7 @@ pub record WasRead (old new : Option (List ℕ)) (result : Received) (buffer : L
   pub bytes : ReadConsumes old new read buffer
   pub is : result ≡ read_told read
 
--- a slice that nobody waits for is told to be Gone, unless 2^64 - 1 slices were before
+-- a slice that nobody waits for is Gone, unless 2^64 - 1 slices were before
 abbrev pub counted_gone : ℕ → Sent → Sent
 counted_gone before Gone = if before == 2 ^ 64 - 1 then Failed else Gone
 counted_gone before (Took n) = Took n

@@ -12,14 +12,14 @@ use Rattle.fuse_keeper.specs.KeeperState.{KeeperState, StandsFor}
 use Rattle.fuse_session.specs.declared.counts.SessionCounts.{SessionCounts}
 use Rattle.fuse_session.specs.declared.ended.Ended.{Ended}
 use Rattle.fuse_session.specs.declared.ended.Ended.TheVariants.{End, Destroyed, Turns, Frame, ZeroUnique, PortFailed, Store, Memory}
-use Rattle.fuse_session.specs.declared.group.Rest.{Rest}
-use Rattle.fuse_session.specs.declared.group.Rest.TheVariants.{Destroyed as ByDestroy, ZeroUnique as ByZero}
+use Rattle.fuse_session.specs.declared.group.Next.{Next}
+use Rattle.fuse_session.specs.declared.group.Next.TheVariants.{Destroyed as ByDestroy, ZeroUnique as ByZero}
 use Rattle.fuse_session.specs.Port.{PortState, HasEnded}
 use Rattle.fuse_session.specs.Processed.{Timed, bytes_of, GaveFirst}
 use Rattle.fuse_session.specs.Settling.{Mark, NoneComesAgain, Replied}
 use Rattle.fuse_session.specs.Serving.{Whole, Stopped, Exact}
 
--- a fault of the store, and want of memory
+-- a fault of the store, and out of memory
 abbrev pub ended_store : Ended → Bool
 ended_store End = false
 ended_store Destroyed = false
@@ -61,7 +61,7 @@ counts_at PortFailed counts = None
 counts_at (Store fault) counts = None
 counts_at Memory counts = None
 
--- all that came was worked off and answered, but for a rest that begins at a place
+-- all messages that came were processed and answered, but for a rest that begins at a place
 pub record Rested {M : Model} (k k' : KeeperState M) (gave : List Moment → Type 0) (old new : PortState) (pending : List ℕ) (held : List ℕ) (begin : ℕ)
     (counts : SessionCounts) (P : ℕ → List ℕ → Type 0) : Type 0 where
   pub rest : List ℕ
@@ -70,8 +70,8 @@ pub record Rested {M : Model} (k k' : KeeperState M) (gave : List Moment → Typ
   pub whole : Whole k k' gave old new pending pending' held rest begin place counts
   pub so : P place rest
 
--- messages were worked off up to one that stops the session, and this one begins, or ended, at a place
-pub record Halted {M : Model} (k k' : KeeperState M) (gave : List Moment → Type 0) (old new : PortState) (pending : List ℕ) (held : List ℕ) (rest : Rest)
+-- messages were processed up to one that stops the session, and this one begins, or ended, at a place
+pub record Halted {M : Model} (k k' : KeeperState M) (gave : List Moment → Type 0) (old new : PortState) (pending : List ℕ) (held : List ℕ) (rest : Next)
     (begin place : ℕ) (counts : SessionCounts) : Type 0 where
   pub pending' : List ℕ
   pub stopped : Stopped k k' gave old new pending pending' held rest begin place counts
@@ -84,7 +84,7 @@ IsGoodRest place rest = HasNone rest × (bad_length place rest ≡ None)
 abbrev pub FaultOf : PortState → FrameFault → ℕ → List ℕ → Type 0
 FaultOf port f place rest = (bad_length place rest ≡ Some f) ⊎ (HasEnded port × (bad_length place rest ≡ None) × (end_fault place rest ≡ Some f))
 
--- at each of the ends; `begin` is the offset of the bytes held at first. What Store and Memory leave stands below
+-- at each of the ends; `begin` is the offset of the bytes held at first. Of Store and Memory see below
 abbrev pub EndsAs : {M : Model} → KeeperState M → KeeperState M → (List Moment → Type 0) → PortState → PortState → List ℕ → List ℕ → ℕ → ℕ → Ended
     → SessionCounts → Type 0
 EndsAs k k' gave old new pending held begin turns End counts =
@@ -115,7 +115,7 @@ pub record SentExactly {M : Model} (k k' : KeeperState M) (stood : M.State → H
       → Exact M (stood s) s h old.confirms t timed marks
 
 -- by a fault of the store, which is one that the keeper may answer; the keeper stands for those messages, where its
--- store is clean. For want of memory
+-- store is clean. Out of memory
 abbrev pub ExactAt : {M : Model} → KeeperState M → KeeperState M → (List Moment → Type 0) → PortState → PortState → List ℕ → List ℕ → Ended → Type 0
 ExactAt k k' gave old new pending held (Store fault) = SentExactly k k' (λ s g t. k'.is_clean → StandsFor k' s g t
     × k.may_answer fault) gave old new pending held
@@ -127,7 +127,7 @@ abbrev pub MayEnd : (StoreFault → Type 0) → Ended → Type 0
 MayEnd may (Store fault) = may fault
 MayEnd may _ = Unit {0}
 
--- a whole session: it ended so, and its counts are told where no fault ended it
+-- a whole session: it ended so, and its counts are returned where no fault ended it
 pub record SessionEnds {M : Model} (k k' : KeeperState M) (gave : List Moment → Type 0) (old new : PortState) (turns : ℕ) (ended : Ended)
     (told : Option SessionCounts) : Type 0 where
   pub counts : SessionCounts

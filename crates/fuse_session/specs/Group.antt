@@ -13,13 +13,14 @@ use Rattle.fuse_keeper.specs.declared.keeper.Done.{Done}
 use Rattle.fuse_keeper.specs.History.{Entry, entry_id, History, add, said}
 use Rattle.fuse_keeper.specs.Group.{entries_of}
 use Rattle.fuse_session.specs.declared.counts.SessionCounts.{SessionCounts}
-use Rattle.fuse_session.specs.declared.group.Rest.{Rest}
-use Rattle.fuse_session.specs.declared.group.Rest.TheVariants.{GoesOn as GoesOnHere, Destroyed, ZeroUnique}
-use Rattle.fuse_session.specs.declared.sending.SendFault.{SendFault}
-use Rattle.fuse_session.specs.declared.sending.SendFault.TheVariants.{Memory, PortFailed}
+use Rattle.fuse_session.specs.declared.group.Next.{Next}
+use Rattle.fuse_session.specs.declared.group.Next.TheVariants.{GoesOn as GoesOnHere, Destroyed, ZeroUnique}
+use Rattle.fuse_session.specs.declared.fault.Fault.{Fault}
+use Rattle.fuse_session.specs.declared.fault.Fault.TheVariants.{PortFailed, Store, Memory}
 use Rattle.fuse_session.specs.Port.{PortState, IsQuiet, SentWhole, SentPart}
 use Rattle.fuse_session.specs.Processed.{Timed, bytes_of, kept_in, unique_of, destroys, moments_in}
-use Rattle.fuse_session.specs.Moves.{FailedBy, fault_port}
+use Rattle.fuse_session.specs.Moves.{FailedBy}
+use Rattle.fuse_session.specs.Faults.{is_port, is_store}
 use Rattle.fuse_session.specs.Settling.{Mark, replies, settles, settled_in, Replied, BeginsNext}
 use Rattle.fuse_session.specs.Counting.{counted_one, none_counted, plus, is_interrupt}
 
@@ -62,12 +63,12 @@ abbrev pub listed : Option (Request × Moment) → List (Request × Moment)
 listed None = []
 listed (Some one) = one ∷ []
 
--- nothing can be worked off: there is no message, or the first is zero
+-- nothing can be processed: there is no message, or the first is zero
 abbrev pub IsStuck : List (List ℕ) → Type 0
 IsStuck [] = Unit {0}
 IsStuck (m ∷ ms) = is_zero m ≡ true
 
-abbrev pub rest_by : Bool → Bool → Rest
+abbrev pub rest_by : Bool → Bool → Next
 rest_by ended stuck = if ended then Destroyed else (if stuck then ZeroUnique else GoesOnHere)
 
 abbrev pub answers_in : List Done → List Said
@@ -82,7 +83,7 @@ last_zero [] = false
 last_zero (a ∷ []) = a.errno == 0
 last_zero (a ∷ b ∷ rest) = last_zero (b ∷ rest)
 
--- what is sent for a message, where these answers are left
+-- the bytes that are sent for a message, where these answers are left
 abbrev pub head_wire : Class → ℕ → List Said → List ℕ
 head_wire Silent unique answers = []
 head_wire (Bare errno) unique answers = wire errno.0 [] unique
@@ -96,12 +97,12 @@ left_by (Bare errno) xs = xs
 left_by Kept [] = []
 left_by Kept (x ∷ xs) = xs
 
--- what a list of answers sends for each message
+-- the bytes that a list of answers sends for each message
 abbrev pub wires : List (List ℕ) → List Said → List (List ℕ)
 wires [] answers = []
 wires (m ∷ ms) answers = head_wire (class_of m) (unique_of m) answers ∷ wires ms (left_by (class_of m) answers)
 
--- what each entry is told when it is added
+-- the answer to each entry when it is added
 abbrev pub told : (M : Model) → M.State → History → List Entry → List (Option Said)
 told M s h [] = []
 told M s h (e ∷ es) = said M s (add h e) (entry_id e) ∷ told M s (add h e) es
@@ -122,9 +123,10 @@ tallied [] repeated = none_counted
 tallied (m ∷ ms) repeated = plus (counted_one (class_of m) (head_repeat repeated) (is_interrupt m)) (tallied ms (left_by (class_of m) repeated))
 
 -- an answer wasn't sent whole
-abbrev pub SendFails : SendFault → PortState → PortState → List ℕ → Type 0
+abbrev pub SendFails : Fault → PortState → PortState → List ℕ → Type 0
 SendFails Memory old new bytes = new ≡ old
 SendFails PortFailed old new bytes = SentPart old new bytes
+SendFails (Store fault) old new bytes = ⊥
 
 -- what is to be sent for a message was sent, and the id that it settles is pending
 pub record SentNext (old new : PortState) (message bytes : List ℕ) (pending pending' : List ℕ) : Type 0 where
@@ -154,7 +156,7 @@ pub record SentFirst (old new : PortState) (messages answers left : List (List �
   pub handed : pending' ≡ pending ++ settled_in old.confirms messages marks
 
 -- the first of these answers were sent whole, and of the next one a part
-pub record SentSome (old new : PortState) (answers : List (List ℕ)) (fault : SendFault) : Type 0 where
+pub record SentSome (old new : PortState) (answers : List (List ℕ)) (fault : Fault) : Type 0 where
   pub marks : List Mark
   pub later : List (List ℕ)
   pub part : List ℕ
@@ -164,5 +166,6 @@ pub record SentSome (old new : PortState) (answers : List (List ℕ)) (fault : S
   pub next : BeginsNext later part
   pub replied : Replied old new marks part
   pub memory : fault ≡ Memory → part ≡ []
-  pub failed : FailedBy (fault_port fault) old.failures new.failures
+  pub sends : is_store fault ≡ false
+  pub failed : FailedBy (is_port fault) old.failures new.failures
   pub quiet : IsQuiet old new

@@ -1,4 +1,4 @@
--- What is told of a port in memory (own profile).
+-- The state of a port in memory (own profile).
 use Rattle.std.specs.Prelude.{ℕ, ◌-◌, ◌==◌, if◌then◌else◌, min, List, [], ◌∷◌, drop, length, Some}
 use Rattle.fuse_session.specs.declared.memory.Arrival.{Arrival}
 use Rattle.fuse_session.specs.declared.memory.Arrival.TheVariants as arrivals
@@ -23,7 +23,7 @@ memory_told p = record {
   gone = p.gone.items;
 }
 
--- what its next calls are to give and to answer
+-- the results of its next calls
 abbrev pub arrivals_left : MemoryPort → List Arrival
 arrivals_left p = drop p.arrived p.arrivals.items
 
@@ -34,7 +34,7 @@ outcomes_left p = drop p.answered p.outcomes.items
 abbrev pub bytes_left : MemoryPort → ℕ
 bytes_left p = length p.input.items - p.at
 
--- the next of these, or what lets all through
+-- the next of these, or one that lets all through
 abbrev pub first_arrival : List Arrival → Arrival
 first_arrival [] = arrivals.Piece 18446744073709551615
 first_arrival (a ∷ more) = a
@@ -43,12 +43,12 @@ abbrev pub first_outcome : List Outcome → Outcome
 first_outcome [] = outcomes.Take 18446744073709551615
 first_outcome (o ∷ more) = o
 
--- what a call gives, of so many bytes that are left, into a buffer with so much room
+-- the result of a receive, of so many bytes that are left, into a buffer with so much room
 abbrev pub received_by : Arrival → ℕ → ℕ → Received
 received_by (arrivals.Piece most) left room = if left == 0 then received.End else received.Got (min (min left most) room)
 received_by arrivals.Failed left room = received.Failed
 
--- what a call answers to so many bytes, unless memory is wanting
+-- the result of a send of so many bytes, unless it is out of memory
 abbrev pub sent_by : Outcome → ℕ → Sent
 sent_by (outcomes.Take most) len = sent.Took (min len most)
 sent_by outcomes.Gone len = sent.Gone

@@ -1,13 +1,9 @@
--- How the steps of serving move a keeper and what they hand on, in the clauses of private functions alone (own profile).
+-- How the steps of a session move a keeper, and the ids that they hand on, in the clauses of private functions alone (own profile).
 use Rattle.std.specs.Prelude.{◌≡◌, ◌<◌, ◌≤◌, Bool, true, false, List, ℕ, length}
 use Rattle.fuse_keeper.specs.History.{Includes}
 use Rattle.fuse_keeper.specs.Model.{Model, IsRowed}
 use Rattle.fuse_keeper.specs.Stands.{Records}
 use Rattle.fuse_keeper.specs.KeeperState.{KeeperState, IsFirm}
-use Rattle.fuse_session.specs.declared.group.Stop.{Stop}
-use Rattle.fuse_session.specs.declared.group.Stop.TheVariants.{PortFailed, Store, Memory}
-use Rattle.fuse_session.specs.declared.sending.SendFault.{SendFault}
-use Rattle.fuse_session.specs.declared.sending.SendFault.TheVariants.{Memory as SendMemory, PortFailed as SendPortFailed}
 use Rattle.fuse_session.specs.Settling.{SomeAndMore}
 
 -- it is firm if it was
@@ -29,12 +25,3 @@ pub record HandsOn {M : Model} (before : Records) (k : KeeperState M) (pending :
 abbrev pub FailedBy : Bool → ℕ → ℕ → Type 0
 FailedBy true old new = old < new
 FailedBy false old new = new ≡ old
-
-abbrev pub fault_port : SendFault → Bool
-fault_port SendPortFailed = true
-fault_port SendMemory = false
-
-abbrev pub stop_port : Stop → Bool
-stop_port PortFailed = true
-stop_port (Store fault) = false
-stop_port Memory = false

@@ -1,4 +1,4 @@
--- What a port gives and takes (own profile).
+-- The bytes that a port gives and takes (own profile).
 use Rattle.std.specs.Prelude.{◌≡◌, ℕ, ◌+◌, ◌<◌, ◌≤◌, ◌^◌, Bool, true, false, ◌==◌, if◌then◌else◌, List, [], ◌∷◌, ◌++◌, length, take, Option, IfSome}
 use Rattle.std.specs.Io.KnownBytes.{Keeps, Appends, Consumes, IsAtEnd}
 use Rattle.fuse_session.specs.declared.port.Passed.{Passed}
@@ -30,7 +30,7 @@ pub record IsYoung (p : PortState) : Type 0 where
   pub receives : p.receives < 2 ^ 63
   pub failures : p.failures < 2 ^ 63
 
--- the front of the buffer is what came; at the end nothing is known to come
+-- the bytes that came are at the start of the buffer; at the end nothing is known to come
 abbrev pub GaveBytes : Option (List ℕ) → Option (List ℕ) → Received → List ℕ → Type 0
 GaveBytes old new (Got n) buffer = (n ≤ length buffer) × Consumes old new (take n buffer)
 GaveBytes old new End buffer = Keeps old new × IsAtEnd new
@@ -78,7 +78,7 @@ is_gone (Took n) = false
 is_gone Gone = true
 is_gone Failed = false
 
--- what neither a send nor its fault changes
+-- neither a send nor its fault changes these
 pub record IsQuiet (old new : PortState) : Type 0 where
   pub coming : new.coming ≡ old.coming
   pub receives : new.receives ≡ old.receives
@@ -108,7 +108,7 @@ pub record SentWhole (old new : PortState) (bytes : List ℕ) (gone_at_end : Boo
   pub gone : MoreGone gone_at_end old.gone new.gone new.sent
   pub quiet : IsQuiet old new
 
--- the port failed, with a front of a slice sent
+-- the port failed, with a prefix of a slice sent
 pub record SentPart (old new : PortState) (bytes : List ℕ) : Type 0 where
   pub part : List ℕ
   pub rest : List ℕ
@@ -118,7 +118,7 @@ pub record SentPart (old new : PortState) (bytes : List ℕ) : Type 0 where
   pub gone : new.gone ≡ old.gone
   pub quiet : IsQuiet old new
 
--- a front of a slice was sent, and this is left of it
+-- a prefix of a slice was sent, and this is left of it
 pub record SentFront (old new : PortState) (bytes rest : List ℕ) : Type 0 where
   pub part : List ℕ
   pub parts : bytes ≡ part ++ rest
@@ -132,7 +132,7 @@ pub record IsPath {P : Type 0} (became : P → P → Type 0) : Type 0 where
   pub none : (p : P) → became p p
   pub onward : (a b c : P) → became a b → became b c → became a c
 
--- a port that wasn't used yet
+-- a port that was not used yet
 abbrev pub fresh : Option (List ℕ) → Option (List ℕ) → Bool → PortState
 fresh coming sent confirms = record {
   coming = coming;

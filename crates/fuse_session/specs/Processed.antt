@@ -1,4 +1,4 @@
--- Messages that are worked off, and what is sent for them (own profile).
+-- Messages that are processed, and the bytes that are sent for them (own profile).
 use Rattle.std.specs.Prelude.{◌≡◌, ◌⊎◌, ℕ, Bool, true, false, ◌==◌, List, [], ◌∷◌, ◌++◌, map, Option, Some, None}
 use Rattle.fuse_wire.specs.Ids.{id_of}
 use Rattle.fuse_wire.specs.declared.moment.Moment.{Moment}
@@ -14,7 +14,7 @@ use Rattle.fuse_wire.specs.Opcodes.{fuse_destroy}
 use Rattle.fuse_keeper.specs.Model.{Model}
 use Rattle.fuse_keeper.specs.History.{Entry, History, grown, said}
 
--- a message, and the moment at which it was worked off (of one that isn't kept, any)
+-- a message, and the moment at which it was processed (any, where it isn't kept)
 pub record Timed : Type 0 where
   pub bytes : List ℕ
   pub moment : Moment
@@ -47,7 +47,7 @@ abbrev pub kept_in : List Timed → List Entry
 kept_in [] = []
 kept_in (t ∷ ts) = entries_at t ++ kept_in ts
 
--- the answer of a class, by what was said of the id
+-- the answer of a class, by the one said of the id
 abbrev pub answer_by : Class → Option Said → ℕ → List ℕ
 answer_by Silent o unique = []
 answer_by (Bare errno) o unique = wire errno.0 [] unique
@@ -61,7 +61,7 @@ answered M s g t = answer_by (class_of t.bytes) (said M s g (message_id t.bytes)
 abbrev pub answers : (M : Model) → M.State → History → List Timed → List (List ℕ)
 answers M s g ts = map (answered M s g) ts
 
--- what is to be sent for messages
+-- the bytes that are to be sent for messages
 abbrev pub out : (M : Model) → M.State → History → List Timed → List ℕ
 out M s h ts = joined (answers M s (grown h (kept_in ts)) ts)
 
@@ -81,12 +81,12 @@ says_zero (Some a) = a.errno == 0
 abbrev pub Ends : (M : Model) → M.State → History → Timed → Type 0
 Ends M s g t = (destroys t.bytes ≡ true) × (says_zero (said M s g (message_id t.bytes)) ≡ true)
 
--- worked off to the end: none is zero, and none ends the session
+-- processed to the end: none is zero, and none ends the session
 abbrev pub GoesOn : (M : Model) → M.State → History → List Timed → Type 0
 GoesOn M s h [] = Unit {0}
 GoesOn M s h (t ∷ ts) = (is_zero t.bytes ≡ false) × (¬ Ends M s (grown h (entries_at t)) t) × GoesOn M s (grown h (entries_at t)) ts
 
--- worked off: none is zero, and nothing comes after one that ends the session
+-- processed: none is zero, and nothing comes after one that ends the session
 abbrev pub Works : (M : Model) → M.State → History → List Timed → Type 0
 Works M s h [] = Unit {0}
 Works M s h (t ∷ ts) = (is_zero t.bytes ≡ false) × ((ts ≡ []) ⊎ (¬ Ends M s (grown h (entries_at t)) t)) × Works M s (grown h (entries_at t)) ts
@@ -113,6 +113,6 @@ abbrev pub moments_in : List Timed → List Moment
 moments_in [] = []
 moments_in (t ∷ ts) = moment_if (class_of t.bytes) t.moment ++ moments_in ts
 
--- they came first of what was given
+-- their moments are the first that were given
 abbrev pub GaveFirst : (List Moment → Type 0) → List Timed → Type 0
 GaveFirst gave timed = (more : List Moment) × gave (moments_in timed ++ more)

@@ -1,4 +1,4 @@
--- That what came is answered before more is received (own profile).
+-- All messages that came are answered before more is received (own profile).
 use Rattle.std.specs.Prelude.{◌≡◌, ◌<◌, ◌+◌, ℕ, List, []}
 use Rattle.std.specs.Io.KnownBytes.{Consumes}
 use Rattle.fuse_request.specs.Stream.{cut}
@@ -9,7 +9,7 @@ use Rattle.fuse_session.specs.Port.{PortState}
 use Rattle.fuse_session.specs.Processed.{Timed, bytes_of, kept_in, answers}
 use Rattle.fuse_session.specs.Settling.{Mark, replies, NoneComesAgain, Replied}
 
--- all messages of the bytes that came so far were worked off, and exactly their answers sent; `k` is the keeper at first and
+-- all messages of the bytes that came so far were processed, and exactly their answers sent; `k` is the keeper at first and
 -- `new` the one in the end
 pub record CaughtUp {M : Model} (k new : KeeperState M) (old now : PortState) : Type 0 where
   pub received : List ℕ

@@ -1,4 +1,4 @@
--- What was received, and the messages that wait then (own profile).
+-- The bytes that were received, and the messages that wait then (own profile).
 use Rattle.std.specs.Prelude.{◌≡◌, ◌<◌, ◌≤◌, ◌+◌, ℕ, List, [], ◌++◌, length, All, Option, Some, None}
 use Rattle.std.specs.Io.KnownBytes.{Consumes}
 use Rattle.fuse_request.specs.declared.framer.FrameFault.{FrameFault}
@@ -9,7 +9,7 @@ use Rattle.fuse_session.specs.declared.ended.Ended.{Ended}
 use Rattle.fuse_session.specs.declared.ended.Ended.TheVariants.{End, Destroyed, Turns, Frame, ZeroUnique, PortFailed, Store, Memory}
 use Rattle.fuse_session.specs.Port.{PortState, HasEnded}
 
--- it answered no fault so far, and holds neither a whole message nor a bad length at its front
+-- it returned no fault so far, and its bytes begin with neither a whole message nor a bad length
 pub record IsOpen (h : Held) : Type 0 where
   pub fault : h.fault ≡ None
   pub none : HasNone h.bytes
@@ -25,7 +25,7 @@ pub record TookSome (old new : Held) (messages : List (List ℕ)) : Type 0 where
   pub each : All IsMessage messages
   pub few : length messages ≤ length (joined messages)
 
--- all messages were taken, and what follows them has this bad length, if it has one
+-- all messages were taken, and the bytes after them have this bad length, if they have one
 pub record TookAll (old new : Held) (messages : List (List ℕ)) (fault : Option FrameFault) : Type 0 where
   pub cut_is : cut old.bytes ≡ (messages, new.bytes)
   pub at : new.at ≡ old.at + length (joined messages)
@@ -34,7 +34,7 @@ pub record TookAll (old new : Held) (messages : List (List ℕ)) (fault : Option
   pub bad : bad_length new.at new.bytes ≡ fault
   pub opened : fault ≡ None → IsOpen new
 
--- what receiving leaves as it was
+-- receiving leaves these as they were
 pub record IsHearing (old new : PortState) : Type 0 where
   pub sent : new.sent ≡ old.sent
   pub receives : new.receives ≡ old.receives + 1

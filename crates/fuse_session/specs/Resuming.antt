@@ -7,8 +7,8 @@ use Rattle.fuse_keeper.specs.declared.fault.StoreFault.{StoreFault}
 use Rattle.fuse_keeper.specs.Model.{Model, IsRowed}
 use Rattle.fuse_keeper.specs.Stands.{Records}
 use Rattle.fuse_keeper.specs.KeeperState.{KeeperState}
-use Rattle.fuse_session.specs.declared.resuming.ResumeFault.{ResumeFault}
-use Rattle.fuse_session.specs.declared.resuming.ResumeFault.TheVariants.{NotOffered, PortFailed, Store}
+use Rattle.fuse_session.specs.declared.resend.ResumeFault.{ResumeFault}
+use Rattle.fuse_session.specs.declared.resend.ResumeFault.TheVariants.{NotOffered, PortFailed, Store}
 use Rattle.fuse_session.specs.Port.{PortState, SentWhole, SentPart}
 
 -- FUSE_HAS_RESEND, bit 39 of the flags
@@ -30,13 +30,13 @@ pub record Resumed {M : Model} (k k' : KeeperState M) (old new : PortState) : Ty
   pub sent : SentWhole old new resend_bytes gone
   pub asks : k'.is_honest → SettingsSay k true
 
--- it wasn't: nothing was sent, or the port failed with a front of it sent
+-- it wasn't: nothing was sent, or the port failed with a prefix of it sent
 abbrev pub NotResumed : {M : Model} → KeeperState M → KeeperState M → PortState → PortState → ResumeFault → Type 0
 NotResumed k k' old new NotOffered = (new ≡ old) × (k'.is_honest → SettingsSay k false)
 NotResumed k k' old new PortFailed = SentPart old new resend_bytes × (k'.is_honest → SettingsSay k true)
 NotResumed k k' old new (Store fault) = new ≡ old
 
--- what the store had to do with it: its fault, or none
+-- the part of the store in it: its fault, or none
 abbrev pub of_store : Result (Unit {0}) ResumeFault → Result (Unit {0}) StoreFault
 of_store (Ok done) = Ok done
 of_store (Err NotOffered) = Ok tt

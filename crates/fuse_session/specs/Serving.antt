@@ -1,24 +1,21 @@
--- What serving did: what came, what was worked off and sent, and what the keeper stands for (own profile).
+-- A session so far: the bytes that came, the messages processed, the answers sent, and the history of the keeper (own profile).
 use Rattle.std.specs.Prelude.{◌≡◌, ℕ, ◌+◌, ◌||◌, Bool, true, false, List, [], ◌++◌, length}
 use Rattle.std.specs.Io.KnownBytes.{Consumes}
 use Rattle.fuse_wire.specs.declared.moment.Moment.{Moment}
 use Rattle.fuse_request.specs.Stream.{cut, joined}
 use Rattle.fuse_keeper.specs.History.{History, grown, Includes}
-use Rattle.fuse_keeper.specs.declared.fault.StoreFault.{StoreFault}
 use Rattle.fuse_keeper.specs.Model.{Model}
 use Rattle.fuse_keeper.specs.Stands.{Stands}
 use Rattle.fuse_keeper.specs.KeeperState.{KeeperState, StandsFor, Leaves, IsFirm}
 use Rattle.fuse_session.specs.declared.counts.SessionCounts.{SessionCounts}
-use Rattle.fuse_session.specs.declared.group.Rest.{Rest}
-use Rattle.fuse_session.specs.declared.group.Rest.TheVariants.{GoesOn as GoesOnHere, Destroyed, ZeroUnique}
-use Rattle.fuse_session.specs.declared.group.Stop.{Stop}
-use Rattle.fuse_session.specs.declared.group.Stop.TheVariants.{PortFailed, Store, Memory}
+use Rattle.fuse_session.specs.declared.group.Next.{Next}
+use Rattle.fuse_session.specs.declared.group.Next.TheVariants.{GoesOn as GoesOnHere, Destroyed, ZeroUnique}
 use Rattle.fuse_session.specs.Port.{PortState}
 use Rattle.fuse_session.specs.Processed.{Timed, bytes_of, kept_in, answers, GoesOn, Works, EndsLast, StartsZero, moments_in, GaveFirst}
 use Rattle.fuse_session.specs.Settling.{Mark, replies, settled_in, NoneComesAgain, Replied, BeginsNext, FewHave, FewRecorded}
 use Rattle.fuse_session.specs.Counting.{counted}
 
--- all messages were worked off, and their answers sent
+-- all messages were processed, and their answers sent
 pub record Answered (M : Model) (stood : History → List ℕ → Type 0) (s : M.State) (h : History) (confirms : Bool) (t : List ℕ) (timed : List Timed)
     (marks : List Mark) (going : Bool) (counts : SessionCounts) : Type 0 where
   pub works : Works M s h timed
@@ -28,8 +25,8 @@ pub record Answered (M : Model) (stood : History → List ℕ → Type 0) (s : M
   pub sent : replies marks ≡ answers M s (grown h (kept_in timed)) timed
   pub counts_are : counts ≡ counted h timed
 
--- so it was, whatever the keeper stood for and whatever was settled, where no message comes again; and of what is settled
--- few ids have a record, all of them to be handed on, if so it was before
+-- so it was, whatever the keeper stood for and whatever was settled, where no message comes again; and few of the settled
+-- ids have a record, all of them to be handed on, if so it was before
 pub record Turned {M : Model} (k k' : KeeperState M) (gave : List Moment → Type 0) (old new : PortState) (pending pending' : List ℕ) (front : List (List ℕ))
     (going : Bool) (counts : SessionCounts) : Type 0 where
   pub timed : List Timed
@@ -45,7 +42,7 @@ pub record Turned {M : Model} (k k' : KeeperState M) (gave : List Moment → Typ
   pub few : k'.is_honest → (t : List ℕ) → NoneComesAgain old.confirms t (bytes_of timed) marks → FewHave k t pending
       → FewHave k' (t ++ settled_in old.confirms (bytes_of timed) marks) pending'
 
--- some of the messages were worked off, and a front of their answers was sent
+-- some of the messages were processed, and a prefix of their answers was sent
 pub record Lived (M : Model) (stood : History → List ℕ → Type 0) (s : M.State) (h : History) (confirms : Bool) (t : List ℕ) (timed : List Timed)
     (marks : List Mark) (part : List ℕ) : Type 0 where
   pub worked : List Timed
@@ -59,7 +56,7 @@ pub record Lived (M : Model) (stood : History → List ℕ → Type 0) (s : M.St
   pub begun : joined later ≡ part ++ unsent
   pub next : BeginsNext later part
 
--- some of the messages were worked off, and exactly their answers were sent
+-- some of the messages were processed, and exactly their answers were sent
 pub record Exact (M : Model) (stood : History → List ℕ → Type 0) (s : M.State) (h : History) (confirms : Bool) (t : List ℕ) (timed : List Timed)
     (marks : List Mark) : Type 0 where
   pub worked : List Timed
@@ -69,10 +66,10 @@ pub record Exact (M : Model) (stood : History → List ℕ → Type 0) (s : M.St
   pub stands : stood (grown h (kept_in worked)) (t ++ settled_in confirms (bytes_of worked) marks)
   pub sent : replies marks ≡ answers M s (grown h (kept_in worked)) worked
 
--- some of these messages were worked off, and a front of the answers to those was sent: so it is at a fault, and at every
--- other end of a session too. What the keeper holds where its store is clean, and where it was firm whatever a crash leaves,
--- stands for the messages worked off. Where the store or want of memory ended it, exactly their answers were sent. Of the
--- ids that are settled few have a record, if so it was before
+-- some of these messages were processed, and a prefix of the answers to those was sent: so it is at a fault, and at every
+-- other end of a session too. The rows and records that the keeper holds where its store is clean, and where it was firm those
+-- that a crash leaves, stand for the messages processed. Where the store or a lack of memory ended it, exactly their answers were
+-- sent. Few of the settled ids have a record, if so it was before
 pub record Broken {M : Model} (k k' : KeeperState M) (gave : List Moment → Type 0) (old new : PortState) (pending : List ℕ) (messages : List (List ℕ))
     (store memory : Bool) (faulted : Type 0) : Type 0 where
   pub timed : List Timed
@@ -96,19 +93,19 @@ pub record Broken {M : Model} (k k' : KeeperState M) (gave : List Moment → Typ
       → FewRecorded k' (t ++ settled_in old.confirms (bytes_of timed) marks)
 
 -- nothing ended the session so far
-abbrev pub lasts : Rest → Bool
+abbrev pub lasts : Next → Bool
 lasts GoesOnHere = true
 lasts ZeroUnique = true
 lasts Destroyed = false
 
-abbrev pub goes_on : Rest → Bool
+abbrev pub goes_on : Next → Bool
 goes_on GoesOnHere = true
 goes_on Destroyed = false
 goes_on ZeroUnique = false
 
--- messages were worked off, all of them where it goes on, and else up to one that stops it
+-- messages were processed, all of them where it goes on, and else up to one that stops it
 pub record ProcessedAll {M : Model} (k k' : KeeperState M) (gave : List Moment → Type 0) (old new : PortState) (pending pending' : List ℕ)
-    (messages : List (List ℕ)) (rest : Rest) (begin place : ℕ) (counts : SessionCounts) : Type 0 where
+    (messages : List (List ℕ)) (rest : Next) (begin place : ℕ) (counts : SessionCounts) : Type 0 where
   pub front : List (List ℕ)
   pub others : List (List ℕ)
   pub parts : messages ≡ front ++ others
@@ -117,7 +114,7 @@ pub record ProcessedAll {M : Model} (k k' : KeeperState M) (gave : List Moment �
   pub at : place ≡ begin + length (joined front)
   pub turned : Turned k k' gave old new pending pending' front (lasts rest) counts
 
--- bytes came, and all messages that they and those held before them have were worked off and answered; this is the rest
+-- bytes came, and all messages of these and of the bytes held before were processed and answered; this is the rest
 pub record Whole {M : Model} (k k' : KeeperState M) (gave : List Moment → Type 0) (old new : PortState) (pending pending' : List ℕ) (held rest : List ℕ)
     (begin place : ℕ) (counts : SessionCounts) : Type 0 where
   pub received : List ℕ
@@ -126,14 +123,14 @@ pub record Whole {M : Model} (k k' : KeeperState M) (gave : List Moment → Type
   pub at : place ≡ begin + length (joined (cut (held ++ received)).0)
   pub turned : Turned k k' gave old new pending pending' (cut (held ++ received)).0 true counts
 
--- bytes came, and their messages were worked off up to one that stops the session
+-- bytes came, and their messages were processed up to one that stops the session
 pub record Stopped {M : Model} (k k' : KeeperState M) (gave : List Moment → Type 0) (old new : PortState) (pending pending' : List ℕ) (held : List ℕ)
-    (rest : Rest) (begin place : ℕ) (counts : SessionCounts) : Type 0 where
+    (rest : Next) (begin place : ℕ) (counts : SessionCounts) : Type 0 where
   pub received : List ℕ
   pub came : Consumes old.coming new.coming received
   pub worked : ProcessedAll k k' gave old new pending pending' (cut (held ++ received)).0 rest begin place counts
 
--- bytes came, and of their messages some were worked off and answered so, however it ended
+-- bytes came, and some of their messages were processed and answered so, however it ended
 pub record Run {M : Model} (k k' : KeeperState M) (gave : List Moment → Type 0) (old new : PortState) (pending : List ℕ) (held : List ℕ) (store memory : Bool)
     (faulted : Type 0) : Type 0 where
   pub received : List ℕ
@@ -153,19 +150,3 @@ pub record FewSettled {M : Model} (k k' : KeeperState M) (gave : List Moment →
   pub replied : Replied old new marks part
   pub few : (s : M.State) (h : History) (t : List ℕ) → StandsFor k s h t → NoneComesAgain old.confirms t (bytes_of timed) marks
       → Lived M (λ g u. StandsFor k' s g u × FewRecorded k' (settled_in old.confirms (bytes_of timed) marks)) s h old.confirms t timed marks part
-
-abbrev pub is_store : Stop → Bool
-is_store PortFailed = false
-is_store (Store fault) = true
-is_store Memory = false
-
-abbrev pub is_memory : Stop → Bool
-is_memory PortFailed = false
-is_memory (Store fault) = false
-is_memory Memory = true
-
--- a fault of the store is one of these
-abbrev pub MayStop : (StoreFault → Type 0) → Stop → Type 0
-MayStop may PortFailed = Unit {0}
-MayStop may (Store fault) = may fault
-MayStop may Memory = Unit {0}

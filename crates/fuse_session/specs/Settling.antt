@@ -1,4 +1,4 @@
--- Which ids the answers that are sent settle, and which records stay (own profile).
+-- The ids that the answers settle, and the records that stay (own profile).
 use Rattle.std.specs.Prelude.{◌≡◌, ◌⊎◌, ◌≤◌, ◌||◌, ℕ, Bool, true, false, List, [], ◌∷◌, ◌++◌, length, map, Option, None, IfSome}
 use Rattle.std.specs.Io.KnownBytes.{Appends, append_known}
 use Rattle.fuse_request.specs.declared.class.Class.{Class}
@@ -20,7 +20,7 @@ pub record Mark : Type 0 where
 abbrev pub replies : List Mark → List (List ℕ)
 replies marks = map (λ m. m.reply) marks
 
--- the id that an answer settles: that of a kept message, where the port confirms or told that nobody waits for it
+-- the id that an answer settles: that of a kept message, where the port confirms or answered that nobody waits for it
 abbrev pub settles_if : Bool → Class → ℕ → List ℕ
 settles_if false class i = []
 settles_if true Silent i = []

@@ -1,9 +1,9 @@
--- What is told of a port over a reader and a writer (own profile).
+-- The state of a port over a reader and a writer (own profile).
 use Rattle.std.specs.Prelude.{ℕ, List, [], Option}
 use Rattle.fuse_session.specs.declared.stream.StreamPort.{StreamPort}
 use Rattle.fuse_session.specs.Port.{PortState}
 
--- what is to come from the reader, and what the writer holds
+-- the bytes that are to come from the reader, and those that the writer holds
 abbrev pub stream_told : {R W : Type 0} → (R → Option (List ℕ)) → (W → Option (List ℕ)) → StreamPort R W → PortState
 stream_told remaining contents p = record {
   coming = remaining p.reader;

@@ -1,4 +1,4 @@
-// Where moments come from.
+// The clocks that moments come from.
 ghost use Rattle.std.specs.Prelude.{◌≡◌, ◌∷◌, [], List};
 ghost use Rattle.fuse_wire.specs.declared.moment.Moment.{Moment as MomentValue};
 ghost use Rattle.fuse_session.specs.Clock.{IsLog};
@@ -19,7 +19,7 @@ pub trait Clock: Drop {
     ghost logged: { IsLog gave };
 }
 
-/// A clock that stands.
+/// A clock that stands still.
 #[derive(Drop)]
 pub struct Fixed(pub Moment);
 
@@ -36,7 +36,7 @@ impl Clock for Fixed {
     ghost logged = { fixed_logged };
 }
 
-/// The machine's clock: its moment, or the last one that it gave (at first 0) where it gives none.
+/// The machine's clock: its moment, or where it gives none the last one (at first 0).
 #[derive(Drop)]
 pub struct System<T: rt::Clock + Drop> {
     rt: T,

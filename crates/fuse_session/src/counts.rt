@@ -1,4 +1,4 @@
-// How the messages of a session are counted.
+// The counts of a session's messages.
 ghost use Rattle.std.specs.Prelude.{◌≡◌, ◌≤◌, ◌<◌, ◌-◌, ◌^◌, is_none, length, drop, All};
 ghost use Rattle.fuse_request.specs.Stream.{IsMessage};
 ghost use Rattle.fuse_request.specs.Faults.{first_fault};
@@ -11,7 +11,7 @@ use fuse_keeper::Done;
 use fuse_request::opcode::INTERRUPT;
 use fuse_request::{Class, decode};
 
-/// How many messages were worked off, by class.
+/// How many messages were processed, by class.
 #[derive(Clone, Copy, Debug, PartialEq, Eq)]
 pub struct SessionCounts {
     /// All of them: the kept, the bare and the silent ones.
@@ -126,7 +126,7 @@ fn used_after(class: Class, dones: &[Done], next: usize) -> usize
     }
 }
 
-/// How the messages of a group, which are of these classes, count, by what they were answered.
+/// Counts the messages of a group, which are of these classes, by the answers to them.
 pub(crate) fn count_all(messages: &[Bytes], classes: &[Class], dones: &[Done]) -> SessionCounts
     requires messages { All IsMessage messages.now }
     requires classes { classes.now ≡ classes_in messages.now }

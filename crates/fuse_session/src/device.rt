@@ -19,7 +19,7 @@ const EAGAIN: u32 = 11;
 // The file system is unmounted.
 const ENODEV: u32 = 19;
 
-// The number with which the system refused, where it was the system that did.
+// The error number, where the system refused.
 fn number_of(error: io::Error) -> Option<u32>
     ensures { result ≡ os_number error }
 {
@@ -48,7 +48,7 @@ fn refused_write(number: Option<u32>) -> Sent
     }
 }
 
-// What is received by what a read answered.
+// The result of a receive, by that of the read.
 fn received_by(read: io::Result<usize>) -> Received
     ensures { result ≡ read_told read }
 {
@@ -59,7 +59,7 @@ fn received_by(read: io::Result<usize>) -> Received
     }
 }
 
-// What is sent by what a write answered.
+// The result of a send, by that of the write.
 fn sent_by(write: io::Result<usize>) -> Sent
     ensures { result ≡ write_told write }
 {
@@ -70,11 +70,11 @@ fn sent_by(write: io::Result<usize>) -> Sent
 }
 
 /// Receives from a reader and sends to a writer of a FUSE device, of which one read is one whole
-/// message and one write one whole answer. What the system refuses tells, by its error number, what
-/// happened. An answer taken whole counts as taken by the kernel.
+/// message and one write one whole answer. The error number of a call that the system refuses
+/// decides its result. An answer taken whole counts as taken by the kernel.
 ///
-/// How many slices were answered `Gone` is told, and not where they end, since the bytes of a
-/// device aren't known.
+/// It counts the slices that were answered `Gone`, and does not know where they end, since the
+/// bytes of a device are unknown.
 #[derive(Drop)]
 pub struct DevicePort<R, W> {
     reader: R,
@@ -93,7 +93,7 @@ impl<R: Read + Drop, W: Write + Drop> DevicePort<R, W> {
     ghost use Rattle.fuse_session.specs.DevicePort.{device_told};
     ghost use Rattle.fuse_session.specs.Port.{fresh};
 
-    /// The two sides of a device: neither may have a buffer. Takes no memory.
+    /// The two sides of a device: neither may have a buffer. Allocates nothing.
     pub fn new(reader: R, writer: W) -> DevicePort<R, W>
         ensures told { device_told result ≡ fresh None None true }
         ensures reader { result.reader ≡ reader }
@@ -110,7 +110,7 @@ impl<R: Read + Drop, W: Write + Drop> DevicePort<R, W> {
         }
     }
 
-    /// The writer, with what was written.
+    /// The writer, with the bytes that were written.
     pub fn into_writer(self) -> W
         ensures { result ≡ self.writer }
     {
@@ -134,7 +134,7 @@ impl<R: Read + Drop, W: Write + Drop> Port for DevicePort<R, W> {
         ensures received { Receives (device_told self.old) (device_told self.new)
             result buffer.new }
         ensures same { Unit {0} }
-        // By what the read answered.
+        // By the result of the read.
         ensures read { WasRead (R.remaining self.old.reader) (R.remaining self.new.reader) result
             buffer.new }
     {
@@ -156,7 +156,7 @@ impl<R: Read + Drop, W: Write + Drop> Port for DevicePort<R, W> {
         requires young { IsYoung (device_told self.old) }
         ensures sent { Sends (device_told self.old) (device_told self.new) result bytes.now }
         ensures same { Unit {0} }
-        // By what the write answered.
+        // By the result of the write.
         ensures written { WasWritten (W.contents self.old.writer) (W.contents self.new.writer)
             self.old.gone result bytes.now }
     {

@@ -5,27 +5,27 @@ use fuse_request::FrameFault;
 /// How serving ended.
 #[derive(Drop)]
 pub enum Ended {
-    /// The port ended, and nothing is left over.
+    /// The port ended, and no bytes are left over.
     End,
-    /// A DESTROY was answered without an error. Nothing after it is worked off.
+    /// A DESTROY was answered without an error. Nothing after it is processed.
     Destroyed,
     /// The bound was used up before the end.
     Turns,
-    /// The bytes are no messages. All whole messages before are answered.
+    /// The bytes are no messages. All whole messages before them are answered.
     Frame(FrameFault),
-    /// A message at this offset would have to be answered under the id 0. All messages before it
+    /// The message at this offset could only be answered under the id 0. All messages before it
     /// are answered.
     ZeroUnique { at: u64 },
-    /// The port failed, or took no byte of what was left of an answer.
+    /// The port failed, or took no byte of the rest of an answer.
     PortFailed,
-    /// The keeper answered a fault. Nothing of that group is sent.
+    /// The keeper returned a fault. Nothing of that group is sent.
     Store(StoreFault),
-    /// Want of memory outside the store.
+    /// Out of memory outside the store.
     Memory,
 }
 
-/// How serving ended, and what was worked off: none is told where the port, the store or want of
-/// memory ended it.
+/// How serving ended, and the counts of the messages that it processed. There are none where the
+/// port, the store or a lack of memory ended it.
 #[derive(Drop)]
 pub struct Served {
     pub ended: Ended,

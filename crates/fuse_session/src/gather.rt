@@ -1,4 +1,4 @@
-// Reading a group off the messages that wait.
+// A group, read off the messages that wait.
 ghost use Rattle.std.specs.Prelude.{◌≡◌, ◌≤◌, ◌==◌, List, length, take, All, IfOk};
 ghost use Rattle.fuse_wire.specs.declared.moment.Moment.{Moment as MomentValue};
 ghost use Rattle.fuse_request.specs.Stream.{IsMessage};
@@ -61,7 +61,7 @@ fn read_one<'a, C: Clock>(
 }
 
 /// Reads a group off the first messages: at most 16 kept ones, up to one that is zero, and none
-/// behind a DESTROY.
+/// after a DESTROY.
 pub(crate) fn gather<'a, C: Clock>(
     alloc: Global,
     clock: &mut C,

@@ -1,4 +1,4 @@
-// Working off one group.
+// One group: read off the messages, performed, and answered.
 ghost use Rattle.std.specs.Prelude.{◌≡◌, ◌≤◌, ◌<◌, ◌&&◌, ◌==◌, [], true, false, length, take};
 ghost use Rattle.std.specs.Prelude.{drop, ◌^◌, All, IfOk, IfErr, OnOk, OnErr};
 ghost use Rattle.fuse_request.specs.Stream.{IsMessage};
@@ -6,53 +6,45 @@ ghost use Rattle.fuse_keeper.specs.declared.fault.StoreFault.{StoreFault as Stor
 ghost use Rattle.fuse_keeper.specs.Stands.{Records};
 ghost use Rattle.fuse_keeper.specs.Group.{ids_of};
 ghost use Rattle.fuse_keeper.specs.declared.keeper.TheConstants.{MAX_SETTLED as max_settled};
-ghost use Rattle.fuse_session.specs.Moves.{FailedBy, fault_port, stop_port, KeepsFirm};
+ghost use Rattle.fuse_session.specs.Faults.{is_port, is_store, is_memory, MayFault};
+ghost use Rattle.fuse_session.specs.Loans.{SameLoans};
+ghost use Rattle.fuse_session.specs.Moves.{FailedBy, KeepsFirm, HandsOn};
 ghost use Rattle.fuse_session.specs.Port.{IsYoung, IsQuiet};
 ghost use Rattle.fuse_session.specs.Processed.{StartsZero};
 ghost use Rattle.fuse_session.specs.Settling.{AtMostMore};
-ghost use Rattle.fuse_session.specs.Moves.{HandsOn};
 ghost use Rattle.fuse_session.specs.Counting.{IsBelow};
 ghost use Rattle.fuse_session.specs.Group.{answers_in, last_zero, rest_by};
-ghost use Rattle.fuse_session.specs.Serving.{Turned, Broken, MayStop, lasts, goes_on};
-ghost use Rattle.fuse_session.specs.Serving.{is_store, is_memory};
+ghost use Rattle.fuse_session.specs.Serving.{Turned, Broken, lasts, goes_on};
 
+use crate::answers::send_answers;
 use crate::clock::Clock;
 use crate::counts::{SessionCounts, count_all};
+use crate::fault::Fault;
 use crate::gather::gather;
 use crate::port::Port;
-use crate::sending::{SendFault, send_answers};
+use crate::session::Session;
 use bytes::Bytes;
 use fuse_answer::Answer;
-use fuse_keeper::{Done, Keeper, StoreFault, histories_grow, perform_group};
-use fuse_wire::Id;
-use std::alloc::Global;
+use fuse_keeper::{Done, Keeper, histories_grow, perform_group};
 
-/// What comes next, where all answers so far were sent: more messages, or why none.
+/// What comes next, once all answers so far are sent: more messages, or why there are none.
 #[derive(Clone, Copy, Debug, PartialEq, Eq)]
-pub(crate) enum Rest {
+pub(crate) enum Next {
     GoesOn,
     Destroyed,
     ZeroUnique,
 }
 
-/// A fault that ended the work.
-#[derive(Drop)]
-pub(crate) enum Stop {
-    PortFailed,
-    Store(StoreFault),
-    Memory,
-}
-
-/// A group that was worked off.
+/// How it goes on after the first messages, which are processed and answered.
 #[derive(Clone, Copy, Debug, PartialEq, Eq)]
-pub(crate) struct Turn {
+pub(crate) struct Progress {
     pub(crate) count: usize,
-    pub(crate) rest: Rest,
+    pub(crate) next: Next,
     pub(crate) counts: SessionCounts,
 }
 
-// Whether an answer tells no error.
-fn tells_no_error(answer: &Answer) -> bool
+// Whether an answer has errno 0.
+fn has_no_error(answer: &Answer) -> bool
     ensures { result ≡ (answer.now.errno == 0) }
 {
     answer.errno.0 == 0
@@ -63,21 +55,21 @@ fn ends_well(dones: &[Done]) -> bool
     ensures { result ≡ last_zero (answers_in dones.now) }
 {
     match dones.last() {
-        Some(done) => tells_no_error(&done.answer),
+        Some(done) => has_no_error(&done.answer),
         None => false,
     }
 }
 
-// How a group's messages end.
-fn rest_of(ends: bool, dones: &[Done], stuck: bool) -> Rest
+// What comes after a group, which may end with a DESTROY or be stuck at its begin.
+fn next_of(ends: bool, dones: &[Done], stuck: bool) -> Next
     ensures { result ≡ rest_by (ends && last_zero (answers_in dones.now)) stuck }
 {
     if ends && ends_well(dones) {
-        Rest::Destroyed
+        Next::Destroyed
     } else if stuck {
-        Rest::ZeroUnique
+        Next::ZeroUnique
     } else {
-        Rest::GoesOn
+        Next::GoesOn
     }
 }
 
@@ -89,85 +81,85 @@ fn is_stuck(count: usize, messages: &[Bytes]) -> bool
     count == 0 && !messages.is_empty()
 }
 
-fn stop_of(fault: SendFault) -> Stop
-    ensures port { stop_port result ≡ fault_port fault }
-    ensures memory { is_memory result ≡ true → fault ≡ SendFault.Memory }
-    ensures store { is_store result ≡ false }
-{
-    match fault {
-        SendFault::Memory => Stop::Memory,
-        SendFault::PortFailed => Stop::PortFailed,
-    }
-}
-
-/// Works off one group: reads it off the first messages, performs it, and sends its answers once it
-/// is committed.
-pub(crate) fn work_group<K: Keeper, P: Port, C: Clock>(
-    alloc: Global,
-    keeper: &mut K,
-    port: &mut P,
-    clock: &mut C,
-    messages: &[Bytes],
-    pending: &mut Vec<Id>,
-) -> Result<Turn, Stop>
-    requires messages { All IsMessage messages.now }
-    requires going { (K.told keeper.old).has_failed ≡ false }
-    requires young { IsYoung (P.told port.old) }
-    requires few { length pending.old.items ≤ max_settled }
-    requires short { length messages.now < 2 ^ 60 }
-    ensures within { IfOk result (λ turn. turn.count ≤ length messages.now) }
-    ensures moves { IfOk result (λ turn. goes_on turn.rest ≡ true → turn.count ≡ 0
-        → messages.now ≡ []) }
-    ensures zero { IfOk result (λ turn. turn.rest ≡ Rest.ZeroUnique
-        → StartsZero (drop turn.count messages.now)) }
-    ensures ok { IfOk result (λ turn. Turned (K.told keeper.old) (K.told keeper.new)
-        (C.gave clock.old clock.new) (P.told port.old) (P.told port.new)
-        (ids_of pending.old.items) (ids_of pending.new.items) (take turn.count messages.now)
-        (lasts turn.rest) turn.counts) }
-    ensures below { IfOk result (λ turn. IsBelow turn.counts turn.count) }
-    ensures few { OnOk result (length pending.new.items ≤ max_settled) }
-    ensures going { OnOk result ((K.told keeper.new).has_failed ≡ false) }
-    ensures firm { OnOk result (KeepsFirm (K.told keeper.old) (K.told keeper.new)) }
-    ensures more { OnOk result ((P.told port.old).confirms ≡ true → (K.told keeper.new).is_honest
-        → (before : Records) → HandsOn before (K.told keeper.old) (ids_of pending.old.items)
-        → HandsOn before (K.told keeper.new) (ids_of pending.new.items)) }
-    ensures failures { OnOk result ((P.told port.new).failures ≡ (P.told port.old).failures) }
-    ensures err { IfErr result (λ stop. Broken (K.told keeper.old) (K.told keeper.new)
-        (C.gave clock.old clock.new) (P.told port.old) (P.told port.new)
-        (ids_of pending.old.items) messages.now (is_store stop) (is_memory stop)
-        (MayStop (K.told keeper.old).may_answer stop)) }
-    ensures may { (f : StoreFaultValue) → (K.told keeper.new).may_answer f
-        → (K.told keeper.old).may_answer f }
-    ensures at_most { OnErr result ((K.told keeper.new).is_clean → (before : Records)
-        → HandsOn before (K.told keeper.old) (ids_of pending.old.items)
-        → AtMostMore before (K.told keeper.new)) }
-    ensures failed { IfErr result (λ stop. FailedBy (stop_port stop)
-        (P.told port.old).failures (P.told port.new).failures) }
-    ensures store { IfErr result (λ stop. (K.told keeper.new).has_failed ≡ is_store stop) }
-    ensures honest { (K.told keeper.new).is_honest → (K.told keeper.old).is_honest }
-    ensures quiet { IsQuiet (P.told port.old) (P.told port.new) }
-    ensures same { P.became port.old port.new }
-    ensures unopened { K.became keeper.old keeper.new 0 }
-{
-    histories_grow::<K>();
-    let Ok(gathered) = gather(alloc, clock, messages) else {
-        return Err(Stop::Memory);
-    };
-    let count = gathered.classes.len();
-    let front = &messages[..count];
-    let classes = gathered.classes.as_slice();
-    let group = gathered.taken.as_slice();
-    let dones = match perform_group(alloc, keeper, group, pending) {
-        Ok(dones) => dones,
-        Err(fault) => return Err(Stop::Store(fault)),
-    };
-    let answered = dones.as_slice();
-    match send_answers(alloc, port, front, classes, answered, pending) {
-        Ok(()) => Ok(Turn {
-            count,
-            rest: rest_of(gathered.ends, answered, is_stuck(count, messages)),
-            counts: count_all(front, classes, answered),
-        }),
-        Err(fault) => Err(stop_of(fault)),
+impl<K: Keeper, P: Port, C: Clock> Session<'_, '_, '_, '_, K, P, C> {
+    /// Serves one group: reads it off the first messages, performs it, and sends its answers once
+    /// it is committed.
+    pub(crate) fn serve_group(&mut self, messages: &[Bytes]) -> Result<Progress, Fault>
+        requires messages { All IsMessage messages.now }
+        requires going { (K.told self.old.keeper.now).has_failed ≡ false }
+        requires young { IsYoung (P.told self.old.port.now) }
+        requires few { length self.old.pending.now.items ≤ max_settled }
+        requires short { length messages.now < 2 ^ 60 }
+        ensures within { IfOk result (λ progress. progress.count ≤ length messages.now) }
+        ensures moves { IfOk result (λ progress. goes_on progress.next ≡ true
+            → progress.count ≡ 0 → messages.now ≡ []) }
+        ensures zero { IfOk result (λ progress. progress.next ≡ Next.ZeroUnique
+            → StartsZero (drop progress.count messages.now)) }
+        ensures ok { IfOk result (λ progress. Turned (K.told self.old.keeper.now)
+            (K.told self.new.keeper.now) (C.gave self.old.clock.now self.new.clock.now)
+            (P.told self.old.port.now) (P.told self.new.port.now)
+            (ids_of self.old.pending.now.items) (ids_of self.new.pending.now.items)
+            (take progress.count messages.now) (lasts progress.next) progress.counts) }
+        ensures below { IfOk result (λ progress. IsBelow progress.counts progress.count) }
+        ensures few { OnOk result (length self.new.pending.now.items ≤ max_settled) }
+        ensures going { OnOk result ((K.told self.new.keeper.now).has_failed ≡ false) }
+        ensures firm { OnOk result
+            (KeepsFirm (K.told self.old.keeper.now) (K.told self.new.keeper.now)) }
+        ensures more { OnOk result ((P.told self.old.port.now).confirms ≡ true
+            → (K.told self.new.keeper.now).is_honest → (before : Records)
+            → HandsOn before (K.told self.old.keeper.now) (ids_of self.old.pending.now.items)
+            → HandsOn before (K.told self.new.keeper.now) (ids_of self.new.pending.now.items)) }
+        ensures failures { OnOk result
+            ((P.told self.new.port.now).failures ≡ (P.told self.old.port.now).failures) }
+        ensures err { IfErr result (λ fault. Broken (K.told self.old.keeper.now)
+            (K.told self.new.keeper.now) (C.gave self.old.clock.now self.new.clock.now)
+            (P.told self.old.port.now) (P.told self.new.port.now)
+            (ids_of self.old.pending.now.items) messages.now (is_store fault) (is_memory fault)
+            (MayFault (K.told self.old.keeper.now).may_answer fault)) }
+        ensures may { (f : StoreFaultValue) → (K.told self.new.keeper.now).may_answer f
+            → (K.told self.old.keeper.now).may_answer f }
+        ensures at_most { OnErr result ((K.told self.new.keeper.now).is_clean
+            → (before : Records)
+            → HandsOn before (K.told self.old.keeper.now) (ids_of self.old.pending.now.items)
+            → AtMostMore before (K.told self.new.keeper.now)) }
+        ensures failed { IfErr result (λ fault. FailedBy (is_port fault)
+            (P.told self.old.port.now).failures (P.told self.new.port.now).failures) }
+        ensures store { IfErr result
+            (λ fault. (K.told self.new.keeper.now).has_failed ≡ is_store fault) }
+        ensures honest { (K.told self.new.keeper.now).is_honest
+            → (K.told self.old.keeper.now).is_honest }
+        ensures quiet { IsQuiet (P.told self.old.port.now) (P.told self.new.port.now) }
+        ensures same { P.became self.old.port.now self.new.port.now }
+        ensures unopened { K.became self.old.keeper.now self.new.keeper.now 0 }
+        ensures loans { SameLoans self.old self.new }
+    {
+        histories_grow::<K>();
+        let Ok(gathered) = gather(self.alloc, self.clock, messages) else {
+            return Err(Fault::Memory);
+        };
+        let count = gathered.classes.len();
+        let first = &messages[..count];
+        let classes = gathered.classes.as_slice();
+        let group = gathered.taken.as_slice();
+        let dones = match perform_group(self.alloc, self.keeper, group, self.pending) {
+            Ok(dones) => dones,
+            Err(fault) => return Err(Fault::Store(fault)),
+        };
+        let answered = dones.as_slice();
+        match send_answers(
+            self.alloc,
+            self.port,
+            first,
+            classes,
+            answered,
+            self.pending,
+        ) {
+            Ok(()) => Ok(Progress {
+                count,
+                next: next_of(gathered.ends, answered, is_stuck(count, messages)),
+                counts: count_all(first, classes, answered),
+            }),
+            Err(fault) => Err(fault),
+        }
     }
 }

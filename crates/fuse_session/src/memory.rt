@@ -4,7 +4,7 @@ ghost use Rattle.std.specs.Prelude.{◌≡◌, ◌⊎◌, ◌≤◌, drop, lengt
 use crate::port::{Port, Received, Sent};
 use std::alloc::Global;
 
-/// What a call of `receive` of a `MemoryPort` gives.
+/// What one call of `receive` of a `MemoryPort` gives.
 #[derive(Clone, Copy, Debug, PartialEq, Eq)]
 pub enum Arrival {
     /// At most so many bytes.
@@ -13,7 +13,7 @@ pub enum Arrival {
     Failed,
 }
 
-/// What a call of `send` of a `MemoryPort` answers.
+/// How one call of `send` of a `MemoryPort` goes.
 #[derive(Clone, Copy, Debug, PartialEq, Eq)]
 pub enum Outcome {
     /// At most so many bytes are taken.
@@ -24,8 +24,8 @@ pub enum Outcome {
     Failed,
 }
 
-/// Gives bytes in pieces, and keeps what is sent. Past its arrivals it gives what the buffer takes,
-/// and past its outcomes it takes all.
+/// Gives bytes in pieces, and keeps the bytes that are sent. After its arrivals it fills the buffer,
+/// and after its outcomes it takes all.
 #[derive(Drop)]
 pub struct MemoryPort {
     input: Vec<u8>,
@@ -81,7 +81,7 @@ impl MemoryPort {
         }
     }
 
-    /// What was sent.
+    /// The bytes that were sent.
     pub fn sent(&self) -> &[u8]
         ensures { Some result.now ≡ (memory_told self.now).sent }
     {
@@ -132,7 +132,7 @@ impl Port for MemoryPort {
         ensures received { Receives (memory_told self.old) (memory_told self.new)
             result buffer.new }
         ensures same { Unit {0} }
-        // By its lists: what arrives next, of which one less is left then.
+        // By its list of arrivals, which is then one shorter.
         ensures arrives { result ≡ received_by (first_arrival (arrivals_left self.old))
             (bytes_left self.old) (length buffer.old) }
         ensures left { arrivals_left self.new ≡ drop 1 (arrivals_left self.old) }
@@ -160,7 +160,7 @@ impl Port for MemoryPort {
         requires young { IsYoung (memory_told self.old) }
         ensures sent { Sends (memory_told self.old) (memory_told self.new) result bytes.now }
         ensures same { Unit {0} }
-        // By its lists: how it goes next, of which one less is left then.
+        // By its list of outcomes, which is then one shorter.
         ensures answers { (result ≡ sent_by (first_outcome (outcomes_left self.old))
             (length bytes.now))
             ⊎ (result ≡ Sent.Failed) }

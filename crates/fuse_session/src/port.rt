@@ -4,10 +4,10 @@ ghost use Rattle.fuse_request.specs.declared.header.TheConstants.{MAX_MESSAGE as
 ghost use Rattle.fuse_session.specs.Port.{PortState, IsYoung, IsPath, Receives, Sends};
 ghost use Rattle.fuse_session.specs.Port.{SentWhole, SentPart, reports_gone};
 
-/// What a port answers to a call of `receive`.
+/// The result of a call of `receive`.
 #[derive(Clone, Copy, Debug, PartialEq, Eq)]
 pub enum Received {
-    /// So many bytes came, and stand at the front of the buffer.
+    /// So many bytes came, and stand at the start of the buffer.
     Got(usize),
     /// Nothing comes any more.
     End,
@@ -15,27 +15,27 @@ pub enum Received {
     Failed,
 }
 
-/// What a port answers to a call of `send`.
+/// The result of a call of `send`.
 #[derive(Clone, Copy, Debug, PartialEq, Eq)]
 pub enum Sent {
     /// So many bytes were taken.
     Took(usize),
     /// No request of this answer's unique is pending. The whole slice counts as sent.
     Gone,
-    /// A front of the bytes may have been taken.
+    /// A prefix of the bytes may have been taken.
     Failed,
 }
 
 /// A connection to a kernel: messages come from it, and answers go to it.
 pub trait Port: Drop {
-    /// What is told of it.
+    /// Its state.
     ghost told: { Self → PortState };
 
-    /// The second is what became of the first. One of which that isn't told lets all be so.
+    /// The second is what became of the first. A port that records nothing lets all be so.
     ghost became: { Self → Self → Type 0 };
 
-    /// Receives bytes into a buffer with room for the longest message, once. What stands in the
-    /// buffer behind them is nothing.
+    /// Receives bytes into a buffer with room for the longest message, once. The rest of the buffer
+    /// has no meaning.
     fn receive(&mut self, buffer: &mut [u8]) -> Received
         requires young { IsYoung (told self.old) }
         requires room { max_message ≤ length buffer.old }
@@ -49,11 +49,11 @@ pub trait Port: Drop {
         ensures sent { Sends (told self.old) (told self.new) result bytes.now }
         ensures same { became self.old self.new };
 
-    /// Whether an answer taken whole counts as taken by the kernel. Takes no memory.
+    /// Whether an answer taken whole counts as taken by the kernel. Allocates nothing.
     fn confirms(&self) -> bool
         ensures { result ≡ (told self.now).confirms };
 
-    /// How often it was asked to receive, and how often it failed. Takes no memory.
+    /// How often it was asked to receive, and how often it failed. Allocates nothing.
     fn tally(&self) -> (u64, u64)
         ensures receives { result.0 ≡ (told self.now).receives }
         ensures failures { result.1 ≡ (told self.now).failures };
@@ -65,7 +65,7 @@ pub trait Port: Drop {
 #[derive(Clone, Copy, Debug, PartialEq, Eq)]
 pub(crate) enum Passed {
     Taken,
-    /// The port told that nobody waits for it.
+    /// The port answered that nobody waits for it.
     Gone,
 }
 
@@ -73,7 +73,7 @@ pub(crate) enum Passed {
 #[derive(Clone, Copy, Debug, PartialEq, Eq)]
 pub(crate) struct PortFailed;
 
-/// Sends all of one answer. An `Err` leaves a front of it sent.
+/// Sends all of one answer. An `Err` leaves a prefix of it sent.
 pub(crate) fn send_whole<P: Port>(port: &mut P, bytes: &[u8]) -> Result<Passed, PortFailed>
     requires young { IsYoung (P.told port.old) }
     ensures ok { IfOk result (λ passed. SentWhole (P.told port.old) (P.told port.new)

@@ -38,7 +38,7 @@ impl<R: Read + Drop, W: Write + Drop> StreamPort<R, W> {
         }
     }
 
-    /// The writer, with what was sent.
+    /// The writer, with the bytes that were sent.
     pub fn into_writer(self) -> W
         ensures { (stream_told R.remaining W.contents self).sent ≡ W.contents result }
     {
@@ -70,7 +70,7 @@ impl<R: Read + Drop, W: Write + Drop> Port for StreamPort<R, W> {
         }
     }
 
-    // One write and one flush. What was written before a flush that failed counts as sent.
+    // One write and one flush. Bytes written before a flush that failed count as sent.
     fn send(&mut self, bytes: &[u8]) -> Sent {
         let Ok(n) = self.writer.write(bytes) else {
             self.failures += 1;

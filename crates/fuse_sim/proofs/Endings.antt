@@ -15,11 +15,11 @@ use Rattle.fuse_sim.specs.declared.event.DriveFault.{DriveFault}
 use Rattle.fuse_sim.specs.Driving.{committed, outcome_of, bytes_given, settled_by, NoneReused, told_in, StandsIn, became_in, deaths, Opened, AnsweredBy}
 use Rattle.fuse_sim.specs.Driving.{OfRestart, IsFit, event_of, before, is_store, LeftBy}
 use Rattle.fuse_sim.specs.HandedOn.{Ledger, empty_ledger, ledger_after, handed_on}
-use Rattle.fuse_sim.specs.LeftRecords.{LongAfter, RecordsLeft, HoldsRecords}
+use Rattle.fuse_sim.specs.LeftRecords.{SettledBefore, RecordsLeft, HoldsRecords}
 use Rattle.fuse_sim.specs.Running.{Moved, MayBegin, Opens, Stops}
 use Rattle.fuse_sim.proofs.Settled.{tested, is_in-append, stands_later, stands_kept}
 use Rattle.fuse_sim.proofs.Driven.{ledger-append, pending_settled, settled_all, includes_none, handed_came}
-use Rattle.fuse_sim.proofs.Removed.{behind_handed, handed_behind}
+use Rattle.fuse_sim.proofs.Removed.{settled_handed, handed_settled}
 use Rattle.fuse_sim.proofs.Moves.{ran_more, ran_none}
 use Rattle.fuse_sim.proofs.Openings.{became_then, opened_more, opened_still}
 
@@ -114,15 +114,15 @@ moved_records M holds holds' es others p new moved none is rows records held row
       held = done.held;
       rowed = done.rowed;
       left = record {
-        gone = λ i behind. done.left.gone [] (includes_none []) none i (behind_handed es i behind);
+        gone = λ i was. done.left.gone [] (includes_none []) none i (settled_handed es i was);
         others = λ i isnt. kept_or_gone (is_in (handed_on empty_ledger es) i) (records i) (done.records i) (done.left.others i isnt)
             (λ there. absurd (let came = handed_came es i there in cc (came, isnt)));
       };
     }
 
-not_handed : (es : List Event) (i : ℕ) → ¬ LongAfter 1 es i → is_in (handed_on empty_ledger es) i ≡ false
+not_handed : (es : List Event) (i : ℕ) → ¬ SettledBefore 1 es i → is_in (handed_on empty_ledger es) i ≡ false
 not_handed es i isnt = elim (tested (is_in (handed_on empty_ledger es) i)) [
-  | inl there ↦ absurd (isnt (handed_behind es i there))
+  | inl there ↦ absurd (isnt (handed_settled es i there))
   | inr absent ↦ absent
 ]
 
@@ -141,7 +141,7 @@ pub moved_left : (M : Model) → {K : Type 0} (told : K → KeeperState M) (old 
     → Moved (told_in told old) (told_in told new) empty_ledger es others p [] outcomes
     → (told_in told new).is_honest → (s : M.State) (h : History) (t : List ℕ) → StandsIn told old s h t → NoneReused t es → (rows : M.Rows) (records : Records)
     → (told_in told new).holds rows records
-    → (i : ℕ) → is_in t i ≡ false → ¬ LongAfter 1 es i → records i ≡ said M s (committed h es) i
+    → (i : ℕ) → is_in t i ≡ false → ¬ SettledBefore 1 es i → records i ≡ said M s (committed h es) i
 moved_left M told old new es others p outcomes one moved is s h t so none rows records held i unsettled isnt =
     let left = moved_kept M (told_in told old) (told_in told new) es others p outcomes moved is s h t so none in
     same_records M told new rows left.rows records left.records one held left.held i

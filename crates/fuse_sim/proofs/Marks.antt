@@ -56,8 +56,8 @@ marked_at a b r unique la lb fits =
     let two : m ≡ (a ++ b) ++ (c ++ r) = sym (append_assoc a b (c ++ r)) in
     let three : m ≡ ((a ++ b) ++ c) ++ r = two ∙ sym (append_assoc (a ++ b) c r) in
     let front : take 8 m ≡ a ++ b = ap (take 8) two ∙ take_at (a ++ b) (c ++ r) 8 eight in
-    let behind : drop 8 m ≡ c ++ r = ap (drop 8) two ∙ drop_at (a ++ b) (c ++ r) 8 eight in
-    let number : number_of 8 (drop 8 m) ≡ unique = ap (number_of 8) behind ∙ number_front 8 unique r fits in
+    let later : drop 8 m ≡ c ++ r = ap (drop 8) two ∙ drop_at (a ++ b) (c ++ r) 8 eight in
+    let number : number_of 8 (drop 8 m) ≡ unique = ap (number_of 8) later ∙ number_front 8 unique r fits in
     let back : drop 16 m ≡ r = ap (drop 16) three ∙ drop_at ((a ++ b) ++ c) r 16 sixteen in
     ap (λ (x : List ℕ). x ++ (le 8 (bit_set (number_of 8 (drop 8 m))) ++ drop 16 m)) front
     ∙ ap (λ (n : ℕ). (a ++ b) ++ (le 8 (bit_set n) ++ drop 16 m)) number

@@ -231,7 +231,7 @@ owner-more unique (x ∷ rs) r none isnt =
     elim (has_unique unique x) as (λ b. (if b then Some x else owner unique rs) ≡ None → (if b then Some x else owner unique (rs ++ r ∷ [])) ≡ None)
     [ true ↦ λ is. absurd (cc is) | false ↦ λ rest. owner-more unique rs r rest isnt ] none
 
--- the request at a place, and those before and behind it
+-- the request at a place, and those before and after it
 parted : (pending : List (Vec ℕ Global)) (place : ℕ) (d : Vec ℕ Global) → place < length pending
     → requests_in pending ≡ take place (requests_in pending) ++ asked_at (get_or pending place d).items ∷ drop (suc place) (requests_in pending)
 parted pending place d there =
@@ -305,23 +305,23 @@ others_before unique (r ∷ rs) none = elim (tested (has_unique unique r)) [
 ]
 
 -- two requests of one unique have one id
-others_behind : (unique : ℕ) (one : Asked) (rs : List Asked) → has_unique unique one ≡ true → is_in (request_ids rs) (request_id one) ≡ false
+others_after : (unique : ℕ) (one : Asked) (rs : List Asked) → has_unique unique one ≡ true → is_in (request_ids rs) (request_id one) ≡ false
     → others unique rs ≡ rs
-others_behind unique one [] is none = refl
-others_behind unique one (r ∷ rs) is none =
+others_after unique one [] is none = refl
+others_after unique one (r ∷ rs) is none =
     let apart = head_isnt (request_id r) (request_id one) (request_ids rs) none in
     elim (tested (has_unique unique r)) [
       | inl too ↦ absurd (let same : one.header.unique ≡ r.header.unique = eqb-true one.header.unique unique is ∙ sym (eqb-true r.header.unique unique too) in
           let equal : (request_id one == request_id r) ≡ true = eq-eqb (request_id one) (request_id r) (ap (λ (u : ℕ). id_of u) same) in cc)
-      | inr isnt ↦ others_kept unique r rs isnt (others_behind unique one rs is apart.1)
+      | inr isnt ↦ others_kept unique r rs isnt (others_after unique one rs is apart.1)
     ]
 
 others_first : (unique : ℕ) (one : Asked) (rs : List Asked) → has_unique unique one ≡ true → others unique (one ∷ rs) ≡ others unique rs
 others_first unique one rs is = rw is
 
-get_or_behind : {A : Type 0} (before : List A) (one : A) (after : List A) (d : A) → get_or (before ++ one ∷ after) (length before) d ≡ one
-get_or_behind [] one after d = refl
-get_or_behind (x ∷ before) one after d = get_or_behind before one after d
+get_or_after : {A : Type 0} (before : List A) (one : A) (after : List A) (d : A) → get_or (before ++ one ∷ after) (length before) d ≡ one
+get_or_after [] one after d = refl
+get_or_after (x ∷ before) one after d = get_or_after before one after d
 
 -- a pending request, and what is pending without it
 pub record Found (pending : List (Vec ℕ Global)) (unique place : ℕ) (m : List ℕ) : Type 0 where
@@ -344,7 +344,7 @@ found spelled pending unique place m p f here =
     let says : asked_at m.items ≡ one =
     ap (λ (x : Vec ℕ Global). asked_at x.items) here ∙ sym (request_at pending place m there)
     ∙ ap (λ (x : List Asked). get_or x place (asked_at [])) f.3 ∙ ap (λ (n : ℕ). get_or (before ++ one ∷ after) n (asked_at [])) (sym f.4)
-    ∙ get_or_behind before one after (asked_at []) in
+    ∙ get_or_after before one after (asked_at []) in
     let owed = subst (λ (x : Vec ℕ Global). IsOwed x.items) (sym here) (owed_at pending place m there p.each) in
     let at = spelled (asked_at m.items) m.items owed.spells in
     let ids : request_ids rs ≡ request_ids before ++ request_id one ∷ request_ids after = ap request_ids f.3 ∙ map-append request_id before (one ∷ after) in
@@ -355,7 +355,7 @@ found spelled pending unique place m p f here =
     let kept : others unique rs ≡ before ++ after =
     ap (others unique) f.3 ∙ filter-append (λ r. not (has_unique unique r)) before (one ∷ after)
     ∙ ap (λ (x : List Asked). x ++ others unique (one ∷ after)) (others_before unique before f.5)
-    ∙ ap (λ (x : List Asked). before ++ x) (others_first unique one after f.6 ∙ others_behind unique one after f.6 less.1) in
+    ∙ ap (λ (x : List Asked). before ++ x) (others_first unique one after f.6 ∙ others_after unique one after f.6 less.1) in
     record {
       one = one;
       there = there;

@@ -13,7 +13,7 @@ use Rattle.fuse_sim.specs.declared.event.Fate.TheVariants.{Answered, AnswerLost,
 use Rattle.fuse_sim.specs.declared.event.Event.{Event}
 use Rattle.fuse_sim.specs.Driving.{commits, commits_in, settles, is_taken, dies, Calm}
 use Rattle.fuse_sim.specs.HandedOn.{Ledger, empty_ledger, after_one, handed_by, after_commit, handed_at, crashed_if, after_event, ledger_after, handed_on}
-use Rattle.fuse_sim.specs.LeftRecords.{Follow, LongAfter}
+use Rattle.fuse_sim.specs.LeftRecords.{Follow, SettledBefore}
 use Rattle.fuse_sim.proofs.Settled.{tested, includes_left, includes_right, in_either}
 use Rattle.fuse_sim.proofs.Ledgers.{commits_one, none_step, one_step}
 use Rattle.fuse_sim.proofs.Driven.{handed-append}
@@ -44,7 +44,7 @@ itself i = grind arith
 one_in : (i : ℕ) → is_in (i ∷ []) i ≡ true
 one_in i = ap (λ b. if b then true else false) (itself i)
 
--- ---- the 16th that is committed behind it begins another group
+-- ---- the 16th that is committed after it begins another group
 
 room_one : (room : ℕ) (p settled : List ℕ) → room ≤ 15 → (after_one room p settled).room ≤ 15
 room_one zero p settled few = omega arith
@@ -69,8 +69,8 @@ too_few e es room none many = omega (arith, many, ap length none, length-append 
 one_fewer : (e : Event) (es : List Event) (x : Entry) (room : ℕ) → commits e ≡ x ∷ [] → suc room < length (commits_in (e ∷ es)) → room < length (commits_in es)
 one_fewer e es x room one many = omega (arith, many, ap length one, length-append (commits e) (commits_in es))
 
-none_behind : (room : ℕ) → room < length (commits_in []) → ⊥
-none_behind room many = omega (arith, many)
+none_after : (room : ℕ) → room < length (commits_in []) → ⊥
+none_after room many = omega (arith, many)
 
 last_one : (e : Event) (es : List Event) (x : Entry) (room : ℕ) (p : List ℕ) (i : ℕ) → commits e ≡ x ∷ [] → is_in p i ≡ true
     → room < length (commits_in (e ∷ [])) → is_in (handed_on (record { room = room; pending = p }) (e ∷ es)) i ≡ true
@@ -102,7 +102,7 @@ handed_then : (between : List Event) (last : Event) (later : List Event) (room :
     → room < length (commits_in (between ++ last ∷ []))
     → is_in (handed_on (record { room = room; pending = p }) (between ++ last ∷ later)) i ≡ true
 handed_then [] last later room p i calm there many = elim (commits_one last) [
-  | inl none ↦ absurd (none_behind room (too_few last [] room none.0 many))
+  | inl none ↦ absurd (none_after room (too_few last [] room none.0 many))
   | inr one ↦ last_one last later one.0 room p i one.1 there many
 ]
 handed_then (e ∷ between) last later room p i calm there many =
@@ -134,15 +134,15 @@ handed_soon l one later i few settled follow = elim (commits_one one) [
       (ap (λ k. is_in (handed_on k later) i) (one_step l one x.0 calm x.1) ∙ ap (λ es. is_in (handed_on l' es) i) follow.parts ∙ soon)
 ]
 
-pub behind_handed : (es : List Event) (i : ℕ) → LongAfter 16 es i → is_in (handed_on empty_ledger es) i ≡ true
-behind_handed es i behind =
-    let l = ledger_after empty_ledger behind.earlier in
-    let few : l.room ≤ 15 = room_after empty_ledger behind.earlier (omega arith) in
-    ap (λ x. is_in (handed_on empty_ledger x) i) behind.parts ∙ ap (λ x. is_in x i) (handed-append empty_ledger behind.earlier (behind.one ∷ behind.later))
-    ∙ includes_right (handed_on empty_ledger behind.earlier) (handed_on l (behind.one ∷ behind.later)) i
-    (handed_soon l behind.one behind.later i few behind.settled behind.follow)
+pub settled_handed : (es : List Event) (i : ℕ) → SettledBefore 16 es i → is_in (handed_on empty_ledger es) i ≡ true
+settled_handed es i b =
+    let l = ledger_after empty_ledger b.earlier in
+    let few : l.room ≤ 15 = room_after empty_ledger b.earlier (omega arith) in
+    ap (λ x. is_in (handed_on empty_ledger x) i) b.parts ∙ ap (λ x. is_in x i) (handed-append empty_ledger b.earlier (b.one ∷ b.later))
+    ∙ includes_right (handed_on empty_ledger b.earlier) (handed_on l (b.one ∷ b.later)) i
+    (handed_soon l b.one b.later i few b.settled b.follow)
 
--- ---- none is handed on before the first that is committed behind it
+-- ---- none is handed on before the first that is committed after it
 
 handed_pending : (room : ℕ) (p : List ℕ) (i : ℕ) → is_in (handed_by room p) i ≡ true → is_in p i ≡ true
 handed_pending zero p i there = there
@@ -176,22 +176,22 @@ follow_here e es x one = record {
       omega (arith, ap length one, length-append (commits e) []);
 }
 
-behind_more : (e : Event) (es : List Event) (i : ℕ) → LongAfter 1 es i → LongAfter 1 (e ∷ es) i
-behind_more e es i behind = record {
-  earlier = e ∷ behind.earlier;
-  one = behind.one;
-  later = behind.later;
-  parts = ap (λ (x : List Event). e ∷ x) behind.parts;
-  settled = behind.settled;
-  follow = behind.follow;
+before_more : (e : Event) (es : List Event) (i : ℕ) → SettledBefore 1 es i → SettledBefore 1 (e ∷ es) i
+before_more e es i b = record {
+  earlier = e ∷ b.earlier;
+  one = b.one;
+  later = b.later;
+  parts = ap (λ (x : List Event). e ∷ x) b.parts;
+  settled = b.settled;
+  follow = b.follow;
 }
 
-behind_here : (e : Event) (es : List Event) (i : ℕ) → settles e ≡ i ∷ [] → Follow 1 es → LongAfter 1 (e ∷ es) i
-behind_here e es i settled follow = record { earlier = []; one = e; later = es; parts = refl; settled = settled; follow = follow }
+before_here : (e : Event) (es : List Event) (i : ℕ) → settles e ≡ i ∷ [] → Follow 1 es → SettledBefore 1 (e ∷ es) i
+before_here e es i settled follow = record { earlier = []; one = e; later = es; parts = refl; settled = settled; follow = follow }
 
 -- it was pending before these events, or it is settled by one of them
 Waits : Ledger → List Event → ℕ → Type 0
-Waits l es i = ((is_in l.pending i ≡ true) × Follow 1 es) ⊎ LongAfter 1 es i
+Waits l es i = ((is_in l.pending i ≡ true) × Follow 1 es) ⊎ SettledBefore 1 es i
 
 hands_here : (l : Ledger) (e : Event) (es : List Event) (i : ℕ) → is_in (handed_at (commits e) l) i ≡ true → Waits l (e ∷ es) i
 unfolding Waits
@@ -206,7 +206,7 @@ hands_calm l e es i calm there follow = elim (commits_one e) [
   | inl none ↦ inl (sym (ap (λ (k : Ledger). is_in k.pending i) (none_step l e calm none.0)) ∙ there, follow_more e es calm follow)
   | inr one ↦ elim (either_pending l.room l.pending (settles e) i (sym (ap (λ (k : Ledger). is_in k.pending i) (one_step l e one.0 calm one.1)) ∙ there)) [
     | inl before ↦ inl (before, follow_more e es calm follow)
-    | inr now ↦ inr (behind_here e es i (settles_only e i now) follow)
+    | inr now ↦ inr (before_here e es i (settles_only e i now) follow)
   ]
 ]
 
@@ -217,7 +217,7 @@ hands_later l e es i waits = elim waits [
     | inl died ↦ absurd (let isnt = sym was.0 ∙ ap (λ b. is_in (crashed_if b (after_commit (commits e) l (settles e))).pending i) died in cc isnt)
     | inr calm ↦ hands_calm l e es i calm was.0 was.1
   ]
-  | inr behind ↦ inr (behind_more e es i behind)
+  | inr b ↦ inr (before_more e es i b)
 ]
 
 handed_waits : (l : Ledger) (es : List Event) (i : ℕ) → is_in (handed_on l es) i ≡ true → Waits l es i
@@ -227,9 +227,9 @@ handed_waits l (e ∷ es) i there = elim (in_either (handed_at (commits e) l) (h
   | inr later ↦ hands_later l e es i (handed_waits (after_event l e) es i later)
 ]
 
-pub handed_behind : (es : List Event) (i : ℕ) → is_in (handed_on empty_ledger es) i ≡ true → LongAfter 1 es i
+pub handed_settled : (es : List Event) (i : ℕ) → is_in (handed_on empty_ledger es) i ≡ true → SettledBefore 1 es i
 unfolding Waits
-handed_behind es i there = elim (handed_waits empty_ledger es i there) [
+handed_settled es i there = elim (handed_waits empty_ledger es i there) [
   | inl was ↦ absurd (let isnt = was.0 in cc isnt)
-  | inr behind ↦ behind
+  | inr b ↦ b
 ]

@@ -1,4 +1,4 @@
--- What events do to a keeper, and what they are answered (own profile).
+-- The effect of events on a keeper, and the answers to them (own profile).
 use Rattle.std.specs.Prelude.{◌≡◌, ℕ, suc, Bool, true, false, if◌then◌else◌, List, [], ◌∷◌, ◌++◌, take, Option, Some, None, IsSomeAnd, slice_get, All}
 use Rattle.std.specs.List.{flat_map}
 use Rattle.std.specs.Option.{option_map}
@@ -100,7 +100,7 @@ NoneReused t (e ∷ es) = MayCome t e.bytes × NoneReused (t ++ settles e) es
 
 -- ---- the keeper that is driven
 
--- what is told of the keeper, if there is one: nothing holds of none
+-- the state of the keeper, if there is one: nothing holds of none
 abbrev pub told_in : {M : Model} {K : Type 0} → (K → KeeperState M) → Option K → KeeperState M
 told_in told None = record {
   holds = λ rows records. ⊥;
@@ -125,8 +125,8 @@ became_in became None new n = ⊥
 became_in became (Some a) None n = ⊥
 became_in became (Some a) (Some b) n = became a b n
 
--- the server died at one of the events: what was left then stood for all events up to this one, and it was opened again, once,
--- before anything else was done
+-- the server died at one of the events: the keeper that was left then stood for all events up to this one, and it was opened
+-- again, once, before anything else was done
 pub record OpenedAt {M : Model} {K : Type 0} (told : K → KeeperState M) (became : K → K → ℕ → Type 0)
     (old new : Option K) (earlier : List Event) (one : Event) (later : List Event) : Type 0 where
   pub left : Option K
@@ -161,7 +161,7 @@ event_of (Memory n) = n
 abbrev pub before : DriveFault → List Event → List Event
 before fault events = take (event_of fault) events
 
--- what a fault says of the event that it names
+-- the reason of a fault at the event that it names
 abbrev pub CausedBy : DriveFault → Event → Type 0
 CausedBy (NotAMessage n) e = ¬ (cut e.bytes ≡ (e.bytes ∷ [], []))
 CausedBy (ZeroUnique n) e = (cut e.bytes ≡ (e.bytes ∷ [], [])) × (is_zero e.bytes ≡ true)
@@ -204,7 +204,7 @@ pub record OfRestart {K : Type 0} (became : K → K → ℕ → Type 0) (may_ref
   pub refused : IsSomeAnd keeper (λ k. IsStoreFault (may_refuse k) fault)
 
 -- a keeper that is left stands for the events before the fault: where the store answered it, if the store is clean,
--- and else if it gave back what was written
+-- and else if it gave back the bytes that were written
 abbrev pub LeftBy : {M : Model} → KeeperState M → Bool → Type 0 → Type 0
 LeftBy k true P = k.is_clean → P
 LeftBy k false P = k.is_honest → P

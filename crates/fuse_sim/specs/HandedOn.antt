@@ -1,4 +1,4 @@
--- Which ids are handed on, so that their records are removed, as the groups of events step (own profile).
+-- The ids that are handed on, so that their records are deleted, as the groups of events step (own profile).
 use Rattle.std.specs.Prelude.{◌-◌, ℕ, zero, suc, Bool, true, false, List, [], ◌∷◌, ◌++◌}
 use Rattle.fuse_keeper.specs.Bounds.{max_group_len}
 use Rattle.fuse_keeper.specs.History.{Entry}
@@ -10,11 +10,11 @@ pub record Ledger : Type 0 where
   pub room : ℕ
   pub pending : List ℕ
 
--- at first, and after a crash, which forgets what is pending
+-- at first, and after a crash, which forgets the pending ids
 abbrev pub empty_ledger : Ledger
 empty_ledger = record { room = 0; pending = [] }
 
--- a kept message joins a group that has room; else it begins the next one, to which all that is pending is handed on
+-- a kept message joins a group that has room; else it begins the next one, to which all pending ids are handed on
 abbrev pub after_one : ℕ → List ℕ → List ℕ → Ledger
 after_one zero pending settled = record { room = max_group_len - 1; pending = settled }
 after_one (suc room) pending settled = record { room = room; pending = pending ++ settled }

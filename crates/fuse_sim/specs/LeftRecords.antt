@@ -1,4 +1,4 @@
--- Which records are gone after events (own profile).
+-- The records that are deleted by events (own profile).
 use Rattle.std.specs.Prelude.{◌≡◌, ◌≤◌, ℕ, false, List, [], ◌∷◌, ◌++◌, length, All, None}
 use Rattle.fuse_keeper.specs.Bounds.{max_group_len}
 use Rattle.fuse_keeper.specs.History.{is_in, ids_in}
@@ -18,7 +18,7 @@ pub record Follow (n : ℕ) (events : List Event) : Type 0 where
   pub many : n ≤ length (commits_in (between ++ last ∷ []))
 
 -- the answer to this id was taken, and so many requests were committed after it before the server died
-pub record LongAfter (n : ℕ) (events : List Event) (i : ℕ) : Type 0 where
+pub record SettledBefore (n : ℕ) (events : List Event) (i : ℕ) : Type 0 where
   pub earlier : List Event
   pub one : Event
   pub later : List Event
@@ -26,9 +26,9 @@ pub record LongAfter (n : ℕ) (events : List Event) (i : ℕ) : Type 0 where
   pub settled : settles one ≡ i ∷ []
   pub follow : Follow n later
 
--- a record goes with the 16th request committed behind its answer at the latest; those of ids that didn't come stay
+-- a record is deleted with the 16th request committed after its answer at the latest; those of ids that didn't come stay
 pub record RecordsLeft (events : List Event) (records records' : Records) : Type 0 where
-  pub gone : (i : ℕ) → LongAfter max_group_len events i → records' i ≡ None
+  pub gone : (i : ℕ) → SettledBefore max_group_len events i → records' i ≡ None
   pub others : (i : ℕ) → is_in (ids_in (commits_in events)) i ≡ false → records' i ≡ records i
 
 -- it holds something of a good state, with such records

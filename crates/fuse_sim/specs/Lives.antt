@@ -13,15 +13,15 @@ use Rattle.fuse_session.specs.Serving.{Run}
 use Rattle.fuse_session.specs.Settling.{Mark, replies, settled_in, Replied}
 use Rattle.fuse_session.specs.Processed.{Timed, bytes_of, kept_in, out, Works, GaveFirst}
 
--- the bytes that came, those that were sent, the messages that were worked off, and the ids that their answers settled
+-- the bytes that came, those that were sent, the messages that were processed, and the ids that their answers settled
 pub record Lifetime : Type 0 where
   pub received : List ℕ
   pub sent : List ℕ
   pub worked : List Timed
   pub settled : List ℕ
 
--- the first messages that came were worked off, up to one that ends the session at most, and a front of what is to be
--- sent for them was sent
+-- the first messages that came were processed, up to one that ends the session at most, and a prefix of the bytes that are
+-- to be sent for them was sent
 pub record IsLife (M : Model) (s : M.State) (h : History) (life : Lifetime) : Type 0 where
   pub others : List (List ℕ)
   pub front : (cut life.received).0 ≡ bytes_of life.worked ++ others
@@ -39,17 +39,17 @@ abbrev pub after_lives : History → List Lifetime → History
 after_lives h [] = h
 after_lives h (life ∷ lives) = after_lives (grown h (kept_in life.worked)) lives
 
--- all messages that were worked off, in a row
+-- all messages that were processed, in a row
 abbrev pub all_processed : List Lifetime → List Timed
 all_processed [] = []
 all_processed (life ∷ lives) = life.worked ++ all_processed lives
 
--- what each life sent is a front of what is to be sent where this is the history
+-- each life sent a prefix of the bytes that are to be sent where this is the history
 abbrev pub AllSend : (M : Model) → M.State → History → List Lifetime → Type 0
 AllSend M s last [] = Unit {0}
 AllSend M s last (life ∷ lives) = ((unsent : List ℕ) × (out M s last life.worked ≡ life.sent ++ unsent)) × AllSend M s last lives
 
--- what the clause `life` of `serve` says of a run, at whatever end, of a keeper that was k and is k'
+-- the clause `life` of `serve` for a run, at whatever end, of a keeper that was k and is k'
 abbrev pub RunOfServe : {M : Model} → KeeperState M → KeeperState M → (List Moment → Type 0) → PortState → PortState → Ended → Type 0
 RunOfServe k k' gave old new ended = Run k k' gave old new [] [] (ended_store ended) (ended_memory ended) (MayEnd k.may_answer ended)
 

@@ -1,5 +1,4 @@
--- What is pending on the kernel's side: the requests that were sent and whose answers weren't taken, in order (own
--- profile).
+-- The requests that are pending on the kernel's side: sent, and their answers not taken, in order (own profile).
 use Rattle.std.specs.Prelude.{◌≡◌, ◌≢◌, ◌+◌, ◌==◌, ℕ, suc, Bool, false, not, if◌then◌else◌, List, [], ◌∷◌, map, drop, Vec, Option, Some, None, Result, Ok, Err}
 use Rattle.std.specs.Global.{Global}
 use Rattle.std.specs.List.{filter}
@@ -27,7 +26,7 @@ request_ids rs = map request_id rs
 abbrev pub MayBeSent : List Asked → Asked → Type 0
 MayBeSent pending r = is_silent r ≡ false → (request_id r ≢ 0) × (is_in (request_ids pending) (request_id r) ≡ false)
 
--- what is pending of a request that was sent
+-- the part of a sent request that is pending
 abbrev pub owed : Asked → List Asked
 owed r = if is_silent r then [] else r ∷ []
 
@@ -58,7 +57,7 @@ owner unique (r ∷ rs) = if has_unique unique r then Some r else owner unique r
 abbrev pub others : ℕ → List Asked → List Asked
 others unique rs = filter (λ r. not (has_unique unique r)) rs
 
--- what becomes of an answer that bears the unique of this pending request, or of none
+-- the result for an answer that bears the unique of this pending request, or of none
 abbrev pub TakenOf : Option Asked → List Asked → List Asked → List ℕ → Result (Unit {0}) TakeFault → Type 0
 TakenOf None old new answer result = result ≡ Err Unknown
 TakenOf (Some r) old new answer (Ok _) = ((told : Told) × Answers (opcode_of r.act) told answer) × (new ≡ others (borne answer) old)

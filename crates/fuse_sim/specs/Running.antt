@@ -92,7 +92,7 @@ head_answer (Bare errno) unique answers = Some (wire errno.0 [] unique)
 head_answer Kept unique [] = None
 head_answer Kept unique (a ∷ answers) = Some (wire a.errno a.body unique)
 
--- what the kernel takes of it
+-- the part of it that the kernel takes
 abbrev pub head_outcome : Event → List Said → Option (List ℕ)
 head_outcome e answers = where_taken (is_taken e.fate) (head_answer (class_of e.bytes) (unique_of e.bytes) answers)
 
@@ -129,7 +129,7 @@ pub record Worked {M : Model} (k k' : KeeperState M) (run : List Event) (pending
   pub records : KeepsOthers k k' (handed_to (commits_in run) pending) (commits_in run)
   pub handed : pending' ≡ left_pending (commits_in run) pending ++ settles_in run
 
--- what becomes of records: those that are handed on go, and of the other ids those that don't come stay
+-- the records: those of ids that are handed on are deleted, and of the other ids those that don't come stay
 pub record RecordsRan (l : Ledger) (es : List Event) (records records' : Records) : Type 0 where
   pub others : (i : ℕ) → is_in (ids_in (commits_in es)) i ≡ false → records' i ≡ (if is_in (handed_on l es) i then None else records i)
   pub gone : (u : List ℕ) → Includes u l.pending → NoneReused u es → (i : ℕ) → is_in (handed_on l es) i ≡ true → records' i ≡ None
@@ -161,7 +161,7 @@ abbrev pub DiesLast : Bool → List Event → Type 0
 DiesLast died [] = died ≡ false
 DiesLast died (e ∷ es) = (Calm e × DiesLast died es) ⊎ ((died ≡ true) × (dies e.fate ≡ true) × (es ≡ []))
 
--- events were run, and where the server died at the last of them, what stood for all of them was opened again, once
+-- events were run, and where the server died at the last of them, the keeper that stood for all of them was opened again, once
 pub record Opens {M : Model} {K : Type 0} (told : K → KeeperState M) (became : K → K → ℕ → Type 0)
     (old new : Option K) (pending : List ℕ) (run : List Event) : Type 0 where
   pub died : Bool
@@ -175,7 +175,7 @@ pub record Opens {M : Model} {K : Type 0} (told : K → KeeperState M) (became :
   pub stood : (told_in told left).is_honest → (s : M.State) (h : History) (t : List ℕ) → StandsIn told old s h t → Includes t pending → NoneReused t run
       → StandsIn told left s (committed h run) (settled_by t run)
 
--- the server died at the event that is named, and what these events had left by then refused to be opened again
+-- the server died at the event that is named, and the keeper that these events had left refused to be opened again
 pub record Refuses {K : Type 0} (became : K → K → ℕ → Type 0) (refuses : K → StoreFault → Type 0)
     (old : Option K) (events : List Event) (at : ℕ) (fault : DriveFault) : Type 0 where
   pub died : IsSomeAnd (slice_get events (event_of fault)) (λ e. dies e.fate ≡ true)
@@ -184,7 +184,7 @@ pub record Refuses {K : Type 0} (became : K → K → ℕ → Type 0) (refuses :
   pub calm : deaths (before fault events) ≡ deaths (take at events)
   pub refused : IsSomeAnd keeper (λ k. IsStoreFault (refuses k) fault)
 
--- a fault came at the events that begin at a place: what it names, and the keeper that it leaves
+-- a fault came at the events that begin at a place: the event that it names, and the keeper that it leaves
 pub record Stops {M : Model} {K : Type 0} (told : K → KeeperState M) (became : K → K → ℕ → Type 0) (refuses : K → StoreFault → Type 0)
     (old new : Option K) (events : List Event) (at : ℕ) (fault : DriveFault) : Type 0 where
   pub named : IsSomeAnd (slice_get events (event_of fault)) (CausedBy fault)

@@ -1,4 +1,4 @@
-// Running events to their end.
+// Events, run to their end.
 ghost use Rattle.std.specs.Prelude.{◌⊎◌, ◌≡◌, ◌≤◌, ◌<◌, ◌+◌, ◌++◌, ℕ, List, [], false, true};
 ghost use Rattle.std.specs.Prelude.{if◌then◌else◌, length, map, take, drop, All, vec_capacity};
 ghost use Rattle.std.specs.Prelude.{None, IsSome, IsSomeAnd, IfSome, is_err};
@@ -12,7 +12,7 @@ ghost use Rattle.fuse_sim.specs.Driving.{told_in, StandsIn, committed, outcome_o
 ghost use Rattle.fuse_sim.specs.Driving.{settled_by, NoneReused, IsFit, Names, event_of, before};
 ghost use Rattle.fuse_sim.specs.Driving.{is_store, IsStoreFault, LeftBy, OfRestart};
 ghost use Rattle.fuse_sim.specs.Driving.{became_in, Opened, AnsweredBy};
-ghost use Rattle.fuse_sim.specs.LeftRecords.{LongAfter, RecordsLeft, HoldsRecords};
+ghost use Rattle.fuse_sim.specs.LeftRecords.{SettledBefore, RecordsLeft, HoldsRecords};
 ghost use Rattle.fuse_sim.specs.HandedOn.{Ledger};
 ghost use Rattle.fuse_sim.specs.Running.{Gathers, Begins, Worked, Moved, MayBegin, Opens, Stops};
 
@@ -86,7 +86,7 @@ fn make_room(
 }
 
 // Performs a group that was read off events, on the keeper that is there, and gives them their
-// outcomes. There is room for them, and for the ids that they settle.
+// outcomes. There is room for these, and for the ids that they settle.
 fn work_group<K: Restart>(
     alloc: Global,
     keeper: &mut Option<K>,
@@ -204,7 +204,7 @@ fn run_next<K: Restart>(
     Ok(1)
 }
 
-/// Runs events over a keeper, in groups, and answers what the kernel takes for each of them.
+/// Runs events over a keeper, in groups, and returns the answer that the kernel takes for each.
 ///
 /// A group is a run of events with up to 16 kept messages, of which the last may be one after which
 /// the server dies. Room for its outcomes is made before it is performed. The keeper is opened
@@ -217,15 +217,15 @@ pub fn drive<K: Restart>(
 ) -> Result<Vec<Option<Outcome>>, DriveFault>
     requires present { IsSomeAnd keeper.old (λ k. (K.told k).has_failed ≡ false) }
 
-    // What stood stands with the requests that were committed, each once, in the order of their
-    // first commit.
+    // The history that the keeper stood for has the requests that were committed added, each once,
+    // in the order of their first commit.
     ensures tree_stands { OnOk result ((told_in K.told keeper.new).is_honest
         → (start : K.model.State) (h : History) (settled : List ℕ)
         → StandsIn K.told keeper.old start h settled → NoneReused settled events.now
         → StandsIn K.told keeper.new start (committed h events.now)
         (settled_by settled events.now)) }
 
-    // Each answer, that to a resend too, is what was said there of its id.
+    // Each answer, that to a resend too, is the one that this history says of its id.
     ensures outcomes { IfOk result (λ outcomes. (told_in K.told keeper.new).is_honest
         → (start : K.model.State) (h : History) (settled : List ℕ)
         → StandsIn K.told keeper.old start h settled → NoneReused settled events.now
@@ -236,7 +236,7 @@ pub fn drive<K: Restart>(
     // The keeper is opened again once for each event at which the server dies, after its commit.
     ensures opened { OnOk result (Opened K.told K.became keeper.old keeper.new events.now) }
 
-    // Why it faults; and where it doesn't, each event can be run.
+    // Why it faults; and where it does not, each event can be run.
     ensures fault_causes { MatchResult result
         (λ _. All IsFit events.now) (λ fault. Names fault events.now) }
 
@@ -265,12 +265,11 @@ pub fn drive<K: Restart>(
     ensures failed { IfErr result
         (λ fault. IfSome keeper.new (λ k. (K.told k).has_failed ≡ is_store fault)) }
 
-    // A store that gave back what was written did so before.
+    // A store that gave back the bytes that were written did so before.
     ensures honest { (told_in K.told keeper.new).is_honest → (told_in K.told keeper.old).is_honest }
 
-    // Not of the headline: which records are left. That of an answered id goes with the 16th
-    // request committed behind it at the latest, and with the first at the earliest, unless the
-    // server dies before.
+    // The records that are left. That of an answered id is deleted with the 16th request committed
+    // after it at the latest, and with the first at the earliest, unless the server dies before.
     ensures records { OnOk result (NoneReused [] events.now
         → Reports (told_in K.told keeper.old) (told_in K.told keeper.new) (λ rows records.
         HoldsRecords (told_in K.told keeper.new) (RecordsLeft events.now records))) }
@@ -279,7 +278,7 @@ pub fn drive<K: Restart>(
         → StandsIn K.told keeper.old start h settled → NoneReused settled events.now
         → (rows : K.model.Rows) (records : Records)
         → (told_in K.told keeper.new).holds rows records
-        → (i : ℕ) → is_in settled i ≡ false → ¬ LongAfter 1 events.now i
+        → (i : ℕ) → is_in settled i ≡ false → ¬ SettledBefore 1 events.now i
         → records i ≡ said K.model start (committed h events.now) i) }
 {
     histories_grow::<K>();
@@ -292,8 +291,8 @@ pub fn drive<K: Restart>(
     Ok(outcomes)
 }
 
-/// Runs events, and then more of them. What `drive` says of one list is so of both in a row. A
-/// fault names an event of the list that it came at.
+/// Runs events, and then more of them. The clauses of `drive` for one list hold of both in a row.
+/// A fault names an event of the list that it came at.
 pub fn drive_twice<K: Restart>(
     alloc: Global,
     keeper: &mut Option<K>,

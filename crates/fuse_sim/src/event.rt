@@ -1,8 +1,8 @@
-// Events: a message that comes, and what becomes of its answer.
+// Events: a message that comes, and the fate of its answer.
 use fuse_keeper::StoreFault;
 use fuse_wire::{ByteList, Moment};
 
-/// What becomes of a message and of its answer.
+/// The fate of a message and of its answer.
 #[derive(Clone, Copy, Debug, PartialEq, Eq)]
 pub enum Fate {
     /// The kernel takes the answer.
@@ -23,17 +23,17 @@ pub struct Event {
     pub fate: Fate,
 }
 
-/// What an event was answered with.
+/// The answer to an event.
 #[derive(Drop)]
 pub struct Outcome {
     pub head: [u8; 16],
     pub body: ByteList,
 }
 
-/// Why events weren't run to their end. Events are counted from 0.
+/// Why events were not run to their end. Events are counted from 0.
 #[derive(Debug, Drop)]
 pub enum DriveFault {
-    /// The event's bytes aren't just one message.
+    /// The event's bytes are not just one message.
     NotAMessage { event: usize },
     /// The event's message would be answered under unique 0.
     ZeroUnique { event: usize },

@@ -124,7 +124,7 @@ fn take_in<'a>(group: &mut Group<'a>, event: &'a Event) -> Result<bool, AllocErr
 }
 
 /// Reads a group off the first events: at most 16 kept ones, up to one that stands apart, and none
-/// behind a crash.
+/// after a crash.
 pub(crate) fn gather<'a>(alloc: Global, events: &'a [Event]) -> Result<Group<'a>, AllocError>
     ensures within { IfOk result (λ r. length r.classes.items ≤ length events.now) }
     ensures gathers { IfOk result (λ r. Gathers (take (length r.classes.items) events.now)
@@ -162,7 +162,7 @@ fn outcome_with(unique: u64, answer: Answer) -> Outcome
     }
 }
 
-// What the kernel takes as the answer to an event whose message is of this class. A kept one uses
+// The answer that the kernel takes to an event whose message is of this class. A kept one uses
 // the next answer.
 fn outcome_of_event(
     alloc: Global,
@@ -191,7 +191,7 @@ fn outcome_of_event(
     }
 }
 
-// The id that an event settles is to be handed on.
+// Adds the id that an event settles to the pending ones.
 fn settle(pending: &mut Vec<Id>, event: &Event, class: Class)
     requires message { IsMessage event.now.bytes }
     requires class { class ≡ class_of event.now.bytes }
@@ -212,7 +212,7 @@ fn settle(pending: &mut Vec<Id>, event: &Event, class: Class)
 }
 
 /// Gives the events of a group, whose messages are of these classes, their outcomes by the answers
-/// to the kept ones, and hands on the ids that they settle. Takes no memory.
+/// to the kept ones, and hands on the ids that they settle. Allocates nothing.
 pub(crate) fn answer_group(
     alloc: Global,
     run: &[Event],

@@ -22,7 +22,7 @@ use fuse_wire::{Id, Memory, UNIQUE_RESEND, u32_at, u64_at};
 use std::alloc::Global;
 use std::marker::Model;
 
-/// Why an answer wasn't taken.
+/// Why an answer was not taken.
 #[derive(Clone, Copy, Debug, PartialEq, Eq)]
 pub enum TakeFault {
     /// No pending request has the answer's unique.
@@ -151,7 +151,7 @@ fn place_of(pending: &[Vec<u8>], unique: u64) -> Option<usize>
 }
 
 impl Kernel {
-    /// Nothing is pending. Takes no memory.
+    /// Nothing is pending. Allocates nothing.
     pub fn new(alloc: Global) -> Kernel
         ensures { result ≡ [] }
     {
@@ -181,14 +181,14 @@ impl Kernel {
     }
 
     /// Whether a pending request has this id, by which a caller tests the condition of `send`.
-    /// Takes no memory.
+    /// Allocates nothing.
     pub fn awaits(&self, id: Id) -> bool
         ensures { result ≡ is_in (request_ids self.now) id.0 }
     {
         has_id(self.pending.as_slice(), id)
     }
 
-    /// The messages that are pending, as they were sent last. Takes no memory.
+    /// The messages that are pending, as they were sent last. Allocates nothing.
     pub fn pending(&self) -> &[Vec<u8>]
         ensures { messages_in result.now ≡ map canon self.now }
     {
@@ -196,7 +196,7 @@ impl Kernel {
     }
 
     /// The messages that send the requests at these places of the pending ones again, in this
-    /// order. They bear the bit of a resend from then on, and an answer has to bear it too. An
+    /// order. They bear the bit of a resend from then on, and an answer must bear it too. An
     /// `Err` leaves the kernel as it was.
     pub fn resend(&mut self, order: &[usize]) -> Result<Vec<Vec<u8>>, Memory>
         requires { All (λ place. place < length self.old) order.now }
@@ -212,9 +212,9 @@ impl Kernel {
     }
 
     /// Takes an answer: the request of its unique is pending no more. An `Err` leaves the kernel as
-    /// it was. Takes no memory.
+    /// it was. Allocates nothing.
     pub fn take(&mut self, answer: &[u8]) -> Result<(), TakeFault>
-        // What is no header is refused first.
+        // Bytes that are no header are refused first.
         ensures short { length answer.now < header_size
             → result ≡ Err (TakeFault.BadAnswer BadAnswer.Short) }
         ensures taken { header_size ≤ length answer.now → TakenOf

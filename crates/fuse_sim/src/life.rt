@@ -1,4 +1,4 @@
-// What several lives of a server did in one mount.
+// Several lives of a server in one mount.
 ghost use Rattle.std.specs.Prelude.{◌≡◌, ℕ, List, []};
 ghost use Rattle.fuse_keeper.specs.History.{History, Distinct, grown};
 ghost use Rattle.fuse_keeper.specs.Stands.{Stands};
@@ -16,24 +16,24 @@ use fuse_session::Clock;
 /// Over every list of lives of one mount, each beginning with the history that the one before left
 /// and the first with none.
 pub fn lives<K: Keeper>()
-    // The last history is that of all messages that they worked off, in a row,
+    // The last history is that of all messages that they processed, in a row,
     ensures in_a_row { (ls : List Lifetime)
         → after_lives [] ls ≡ grown [] (kept_in (all_processed ls)) }
     // in which no request stands twice,
     ensures once { (ls : List Lifetime) → Distinct (after_lives [] ls) }
-    // and what each life sent is a front of what is to be sent by that history.
+    // and the bytes that each life sent are a prefix of those to be sent by that history.
     ensures send { (s : K.model.State) (ls : List Lifetime)
         → AreLives K.model s [] ls → AllSend K.model s (after_lives [] ls) ls }
 {
     histories_grow::<K>();
 }
 
-/// Each run of `serve` is such a life: `run` is what its clause `life` says, of a keeper that was
-/// `k` and is `k'`, at whatever end; its clock was `c` and is `c'`. Its premise is that no kept
-/// message comes again whose answer was settled before or by the run.
+/// Each run of `serve` is such a life: `run` is its clause `life`, of a keeper that was `k` and is
+/// `k'`, at whatever end; its clock was `c` and is `c'`. The premise is that no kept message comes
+/// again whose answer was settled before or by the run.
 pub fn runs_are_lives<K: Keeper, C: Clock>()
-    // What the keeper is left with stands for the history that the life leaves, where its store is
-    // clean,
+    // The rows and records that the keeper holds stand for the history that the life leaves, where
+    // its store is clean,
     ensures ends { (k k' : K) (c c' : C) (old new : PortState) (ended : EndedValue)
         (run : RunOfServe (K.told k) (K.told k') (C.gave c c') old new ended)
         (s : K.model.State) (h : History) (t : List ℕ) → StandsFor (K.told k) s h t

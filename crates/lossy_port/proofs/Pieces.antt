@@ -1,4 +1,4 @@
--- Pieces of what is to come.
+-- Pieces of the bytes to come.
 use Rattle.std.specs.Io.KnownBytes.{Consumes}
 use Rattle.std.proofs.Common.{◌≡◌, ℕ, List, ◌++◌, length, take, drop, ◌+◌, ◌-◌, ◌≤◌, Some, sym, ap, ◌∙◌, arith, length-drop, length-append}
 use Rattle.std.proofs.lemmas.List.{take-append-drop, drop-drop, length-take-le}

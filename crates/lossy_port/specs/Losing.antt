@@ -7,11 +7,11 @@ use Rattle.lossy_port.specs.declared.line.Line.{Line}
 abbrev pub through_of : ℕ → List ℕ → List ℕ
 through_of left answer = if left == 1 then [] else answer
 
--- which one is lost behind it
+-- the next one to be lost after it
 abbrev pub lost_then : ℕ → ℕ → ℕ
 lost_then every left = if left == 1 then every else left - 1
 
--- what gets through of several, and which one is lost behind them
+-- the ones of several that get through, and the next one to be lost after them
 abbrev pub through : ℕ → ℕ → List (List ℕ) → List ℕ
 through every left [] = []
 through every left (answer ∷ more) = through_of left answer ++ through every (lost_then every left) more

@@ -1,4 +1,4 @@
--- What is told of a port that loses answers, and its laws (own profile).
+-- The state of a port that loses answers, and its laws (own profile).
 use Rattle.std.specs.Prelude.{◌≡◌, ℕ, false, List, [], ◌∷◌, ◌++◌, length, drop, Some, refl}
 use Rattle.std.proofs.Common.{sym, ap, ◌∙◌}
 use Rattle.std.proofs.lemmas.List.{append_assoc, append-nil}
@@ -11,7 +11,7 @@ use Rattle.lossy_port.specs.declared.line.Line.{Line}
 use Rattle.lossy_port.specs.declared.port.LossyPort.{LossyPort}
 use Rattle.lossy_port.specs.Losing.{through_of, lost_then, through, lost_after, Stays, Delivers, HaveBytes, answers_in}
 
--- what is lost behind the port was sent all the same; so that an answer was sent doesn't settle it
+-- an answer that is lost after the port was sent all the same; so that an answer was sent does not settle it
 abbrev pub lossy_told : LossyPort → PortState
 lossy_told p = record {
   coming = Some (drop p.at p.input.items);
@@ -24,7 +24,7 @@ lossy_told p = record {
   gone = [];
 }
 
--- what got through
+-- the bytes that got through
 abbrev pub delivered_of : LossyPort → List ℕ
 delivered_of p = p.line.delivered.items
 
@@ -32,7 +32,7 @@ delivered_of p = p.line.delivered.items
 abbrev pub every_of : LossyPort → ℕ
 every_of p = p.line.every
 
--- which of the next answers is lost: 1 is the very next, 0 none
+-- the place of the next answer to be lost: 1 is the very next, 0 none
 abbrev pub next_lost : LossyPort → ℕ
 next_lost p = p.line.left
 

@@ -4,14 +4,14 @@ ghost use Rattle.lossy_port.specs.Losing.{Takes, Stays};
 
 use std::alloc::{AllocError, Global};
 
-/// What was sent on a line, and what got through.
+/// The answers sent on a line, and those that got through.
 #[derive(Drop)]
 pub(crate) struct Line {
     sent: Vec<u8>,
     delivered: Vec<u8>,
     // Each answer of this number is lost; at 0 none is.
     every: u32,
-    // Which of the next answers is lost: 1 is the very next, 0 none.
+    // The place of the next answer to be lost: 1 is the very next, 0 none.
     left: u32,
 }
 
@@ -42,8 +42,8 @@ impl Line {
         self.delivered.as_slice()
     }
 
-    /// Sends an answer, which gets through unless it is the next to be lost. Where memory is
-    /// wanting nothing of it is sent.
+    /// Sends an answer, which gets through unless it is the next to be lost. Out of memory,
+    /// nothing of it is sent.
     pub(crate) fn take(&mut self, answer: &[u8]) -> Result<(), AllocError>
         ensures ok { OnOk result (Takes self.old self.new answer.now) }
         ensures err { OnErr result (Stays self.old self.new) }

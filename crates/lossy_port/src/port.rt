@@ -5,8 +5,8 @@ use crate::line::Line;
 use fuse_session::{Port, Received, Sent};
 use std::alloc::Global;
 
-/// Gives a list of bytes, and takes every answer. LongAfter it each answer of some number is lost, as
-/// where a server dies before the kernel has its answer.
+/// Gives a list of bytes, and takes every answer. On the way from it each answer of some number is
+/// lost, as where a server dies before the kernel has its answer.
 #[derive(Drop)]
 pub struct LossyPort {
     input: Vec<u8>,
@@ -41,14 +41,14 @@ impl LossyPort {
         }
     }
 
-    /// What it took.
+    /// The bytes that it took.
     pub fn sent(&self) -> &[u8]
         ensures { Some result.now ≡ (lossy_told self.now).sent }
     {
         self.line.sent()
     }
 
-    /// What got through of it.
+    /// The bytes that got through.
     pub fn delivered(&self) -> &[u8]
         ensures { result.now ≡ delivered_of self.now }
     {
@@ -64,7 +64,7 @@ impl Port for LossyPort {
 
     ghost became = { Delivered };
 
-    // As much as there is and fits.
+    // As many bytes as there are and fit.
     fn receive(&mut self, buffer: &mut [u8]) -> Received {
         self.receives += 1;
         let left = self.input.len() - self.at;
@@ -78,7 +78,7 @@ impl Port for LossyPort {
         Received::Got(n)
     }
 
-    // Want of memory is a failure.
+    // It fails where it is out of memory.
     fn send(&mut self, bytes: &[u8]) -> Sent
         requires young { IsYoung (lossy_told self.old) }
         ensures sent { Sends (lossy_told self.old) (lossy_told self.new) result bytes.now }
@@ -98,7 +98,7 @@ impl Port for LossyPort {
         }
     }
 
-    // What is taken may be lost, so its record has to stay.
+    // An answer that is taken may be lost, so its record must stay.
     fn confirms(&self) -> bool {
         false
     }

@@ -1,4 +1,4 @@
--- What is answered fits.
+-- The answers fit.
 use Rattle.std.proofs.Common.{◌≡◌, ◌≤◌, ◌==◌, ℕ, Bool, true, false, not, if◌then◌else◌, nat_lt, List, [], length, drop, Option, Some, None, refl, arith}
 use Rattle.std.proofs.lemmas.Bool.{ltb-false}
 use Rattle.std.proofs.lemmas.List.{length-take}

@@ -1,4 +1,4 @@
--- The entries behind an offset, and those of them that fit.
+-- The entries after an offset, and those of them that fit.
 use Rattle.std.proofs.Common.{◌≡◌, ◌≤◌, ◌-◌, ℕ, zero, suc, Bool, true, false, not, cond, nat_le, nat_lt, List, [], ◌∷◌, map}
 use Rattle.std.proofs.Common.{take, drop, refl, sym, ap, ◌∙◌, arith}
 use Rattle.std.specs.List.{sum_by}
@@ -10,7 +10,7 @@ use Rattle.fuse_answer.specs.Entries.{Entry, entry_of, packed_len, entries_bytes
 use Rattle.three_files.specs.Answers.{give}
 use Rattle.three_files.specs.Listing.{entries, entries_following, fitting, first_fits, list}
 
--- ---- behind an offset
+-- ---- after an offset
 
 past : (offset : ℕ) → 5 ≤ offset → [] ≡ entries_following offset
 past offset many =
@@ -30,8 +30,8 @@ dropped (suc (suc (suc zero))) = refl
 dropped (suc (suc (suc (suc zero)))) = refl
 dropped (suc (suc (suc (suc (suc n))))) = drop_all (suc (suc (suc (suc (suc n))))) entries (omega arith) ∙ past (suc (suc (suc (suc (suc n))))) (omega arith)
 
-pub behind_is : (ds : List Dirent) (offset : ℕ) → map entry_of ds ≡ entries → map entry_of (drop offset ds) ≡ entries_following offset
-behind_is ds offset is = sym (drop-map entry_of offset ds) ∙ ap (drop offset) is ∙ dropped offset
+pub after_is : (ds : List Dirent) (offset : ℕ) → map entry_of ds ≡ entries → map entry_of (drop offset ds) ≡ entries_following offset
+after_is ds offset is = sym (drop-map entry_of offset ds) ∙ ap (drop offset) is ∙ dropped offset
 
 -- ---- that fit
 
@@ -42,7 +42,7 @@ shorter e es size n fits is = record {
   longest = λ m few sum. omega (arith, is.longest (suc m) (omega (arith, few)) (omega (arith, fits, sum, sum_by-cons packed_len e (take m es))));
 }
 
--- the longest front has the entries that fit one after the other
+-- the longest prefix has the entries that fit one after the other
 pub front_is : (es : List Entry) (size n : ℕ) → IsLongest es size n → take n es ≡ fitting es size
 front_is [] size zero is = refl
 front_is [] size (suc n) is = absurd (omega (arith, is.within))
@@ -78,7 +78,7 @@ first_that_fits (e ∷ es) size fits =
     elim [ true ↦ λ is. refl | false ↦ λ is. absurd (fits (leb-false _ size is)) ] in
     step (nat_le (packed_len e) size) refl
 
--- what is packed is what is to be listed
+-- the entries that are packed are those to be listed
 pub front_listed : (es : List Entry) (size n : ℕ) (body : List ℕ) → (FirstIsTooBig es size → ⊥) → IsLongest es size n
     → body ≡ entries_bytes (take n es) → give body ≡ list es size
 front_listed es size n body fits is e = rw (first_that_fits es size fits) (ap give (e ∙ ap entries_bytes (front_is es size n is)))

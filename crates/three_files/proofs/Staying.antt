@@ -1,4 +1,4 @@
--- What was agreed on stays so while requests are worked off.
+-- The settings stay while requests are processed.
 use Rattle.std.proofs.Common.{◌≡◌, ℕ, Bool, true, false, cond, List, [], ◌∷◌, ◌++◌, Option, is_some, ap, ◌∙◌}
 use Rattle.fuse_init.specs.declared.settings.Settings.{Settings}
 use Rattle.fuse_keeper.specs.History.{Entry, entry_id, History, after, has, add, grown}

@@ -1,4 +1,4 @@
--- What is answered (own profile).
+-- The forms of answers (own profile).
 use Rattle.std.specs.Prelude.{ℕ, List, [], Option, Some, None, pos}
 use Rattle.fuse_wire.specs.declared.errno.Errno.{Errno}
 use Rattle.fuse_answer.specs.Said.{Said}
@@ -31,7 +31,7 @@ entry_out n = record { nodeid = number_of n; generation = 0; entry_valid = 1; at
 abbrev pub attr_out : Node → AttrOut
 attr_out n = record { attr_valid = 1; attr_valid_nsec = 0; attr = attr_of n }
 
--- the fh of an open node is its number: nothing is kept of what is open
+-- the fh of an open node is its number: nothing of open nodes is kept
 abbrev pub open_out : Node → OpenOut
 open_out n = record { fh = number_of n; open_flags = 0; backing_id = pos 0 }
 

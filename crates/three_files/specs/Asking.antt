@@ -1,4 +1,4 @@
--- What each request is answered, and what it leaves agreed on (own profile): the first check that applies decides. A moment doesn't matter.
+-- The answer to each request, and the settings after it (own profile): the first check that applies decides. A moment does not matter.
 use Rattle.std.specs.Prelude.{◌==◌, ◌||◌, ℕ, Bool, true, false, not, nat_eq, nat_lt, if◌then◌else◌, List, [], length, take, drop}
 use Rattle.std.specs.Prelude.{Option, Some, None, is_some, codes}
 use Rattle.std.specs.List.{list_any}
@@ -91,7 +91,7 @@ read asked n =
 
 -- ---- all requests
 
--- what is asked at the node that the header names: whatever would change it is refused. The last line is of requests that
+-- the answer at the node that the header names: a request that would change it is refused. The last line is of requests that
 -- aren't kept, and of INIT and DESTROY, which are answered before
 abbrev pub said_at : Act → Node → Said
 said_at (acts.Lookup name) n = lookup name n

@@ -1,4 +1,4 @@
--- What is left of the files where they are served (own profile): all of them.
+-- That the files stay where they are served (own profile).
 use Rattle.std.specs.Prelude.{◌≡◌, ℕ, true, List, ◌++◌, Option, is_some}
 use Rattle.std.specs.Io.KnownBytes.{Consumes}
 use Rattle.fuse_request.specs.Stream.{cut}
@@ -14,11 +14,11 @@ use Rattle.fuse_session.specs.Settling.{Mark, NoneComesAgain, Replied}
 use Rattle.three_files.specs.TheFiles.{the_files}
 use Rattle.three_files.specs.declared.files.ThreeFiles.{ThreeFiles}
 
--- what is told of a keeper of the files in memory
+-- the state of a keeper of the files in memory
 abbrev pub files_told : PlainKeeper ThreeFiles → KeeperState the_files
 files_told = plain_told the_files (λ files. files.agreed)
 
--- what is held answers each request as this state does
+-- the rows that are held answer each request as this state does
 pub record AnswersAs (k : KeeperState the_files) (s : Option Settings) : Type 0 where
   pub rows : Option Settings
   pub records : Records

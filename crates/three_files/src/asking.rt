@@ -1,4 +1,4 @@
-// What each request is answered.
+// The answer to each request.
 ghost use Rattle.std.specs.Prelude.{◌≡◌, IfOk, OnOk};
 ghost use Rattle.fuse_request.specs.Act.{asked, act};
 ghost use Rattle.three_files.specs.Asking as asking;
@@ -17,7 +17,7 @@ use fuse_request::{Op, Request};
 use fuse_wire::{Errno, Memory};
 use std::alloc::Global;
 
-// What is wrong with a name: it is too long, empty, or one that leads elsewhere.
+// The fault of a name: it is too long, empty, or leads elsewhere.
 fn fault_of_name(name: &[u8]) -> Option<Errno>
     ensures { result ≡ name_fault name.now }
 {
@@ -61,8 +61,8 @@ fn lookup(alloc: Global, name: &[u8], node: Node) -> Result<Answer, Memory>
     }
 }
 
-// What is asked at a node. All that would change something is refused; the last line is of what
-// isn't asked here.
+// The answer at a node. Requests that would change something are refused; the last line is of
+// those that do not come here.
 fn answer_at(alloc: Global, op: &Op<'_>, node: Node) -> Result<Answer, Memory>
     ensures { IfOk result (λ answer. answer ≡ said_at (act op.now) node) }
 {
@@ -87,7 +87,7 @@ fn answer_at(alloc: Global, op: &Op<'_>, node: Node) -> Result<Answer, Memory>
     }
 }
 
-// What is asked where settings are agreed on.
+// The answer where settings are agreed on.
 #[tactic(auto, using(crate::proofs::Asked::looks_at_node))]
 fn answer_agreed(alloc: Global, request: &Request<'_>) -> Result<Answer, Memory>
     ensures { IfOk result (λ answer. answer ≡ said_agreed (asked request.now)) }
@@ -101,7 +101,7 @@ fn answer_agreed(alloc: Global, request: &Request<'_>) -> Result<Answer, Memory>
     }
 }
 
-// What a request is answered, and what it leaves agreed on. INIT is answered always, and all else
+// The answer to a request, and the settings after it. INIT is always answered, and other requests
 // where settings are agreed on.
 pub(crate) fn answer(
     alloc: Global,

@@ -1,4 +1,4 @@
-// What is told of a node.
+// The attributes of a node.
 ghost use Rattle.std.specs.Prelude.{◌≡◌, IfOk};
 ghost use Rattle.three_files.specs.Nodes.{links_of, attr_of};
 ghost use Rattle.three_files.specs.Answers.{give_entry, give_attr};

@@ -18,7 +18,7 @@ fn init_answer(alloc: Global, out: &InitOut) -> Result<Answer, Memory>
     Ok(Answer::success(ByteList::from_vec(body)))
 }
 
-// What is agreed on replaces what was.
+// The new settings replace the old ones.
 pub(crate) fn init(
     alloc: Global,
     agreed: &mut Option<Settings>,

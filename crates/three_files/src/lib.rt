@@ -1,4 +1,4 @@
-//! A file system of three files that nobody can change: an example of one that isn't a tree.
+//! A file system of three files that nobody can change: an example of one that is no tree.
 #![tactic(auto)]
 
 mod asking;

@@ -53,8 +53,8 @@ fn all_dirents<'a>() -> [Dirent<'a>; 5]
     ]
 }
 
-// Those behind the offset.
-fn behind<'a, 'b>(dirents: &'b [Dirent<'a>], offset: u64) -> &'b [Dirent<'a>]
+// Those after the offset.
+fn after<'a, 'b>(dirents: &'b [Dirent<'a>], offset: u64) -> &'b [Dirent<'a>]
     ensures { result.now ≡ drop offset dirents.now }
 {
     let start = dirents.len().min(offset as usize);
@@ -75,13 +75,13 @@ fn list_prefix(alloc: Global, dirents: &[Dirent<'_>], size: u32) -> Result<Answe
     }
 }
 
-// The entries behind the offset, as many as fit.
+// The entries after the offset, as many as fit.
 fn list(alloc: Global, offset: u64, size: u32) -> Result<Answer, Memory>
     requires { size ≤ max_read }
     ensures { IfOk result (λ answer. answer ≡ listing.list (entries_following offset) size) }
 {
     let dirents = all_dirents();
-    list_prefix(alloc, behind(&dirents, offset), size)
+    list_prefix(alloc, after(&dirents, offset), size)
 }
 
 pub(crate) fn read_dir(alloc: Global, asked: &ReadIn, node: Node) -> Result<Answer, Memory>

@@ -55,7 +55,7 @@ impl Node {
         }
     }
 
-    /// What a READ of it reads.
+    /// Its content.
     pub fn content(self) -> &'static [u8]
         ensures { result.now ≡ content_of self }
     {

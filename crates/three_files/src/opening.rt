@@ -1,5 +1,5 @@
 // OPEN, OPENDIR, READ, RELEASE and RELEASEDIR. The handle of an open node is its number: nothing
-// depends on how often a node is open, so that nothing is to be kept of it.
+// depends on how often a node is open, so nothing of it is kept.
 ghost use Rattle.std.specs.Prelude.{◌≡◌, [], take, drop, IfOk};
 ghost use Rattle.three_files.specs.Answers.{give, give_open};
 ghost use Rattle.three_files.specs.Asking as asking;
@@ -92,10 +92,10 @@ pub(crate) fn read(alloc: Global, asked: &ReadIn, node: Node) -> Result<Answer, 
     Ok(Answer::success(ByteList::from_vec(body)))
 }
 
-// What stands from the offset on, at most so many bytes.
+// The bytes from the offset on, at most so many.
 fn part_of(alloc: Global, content: &[u8], offset: u64, size: u32) -> Result<Vec<u8>, Memory>
     ensures { IfOk result (λ part. part.items ≡ take size (drop offset content.now)) }
 {
-    let behind = content.iter().skip(offset as usize);
-    Ok(behind.take(size as usize).copied().collect(alloc)?)
+    let rest = content.iter().skip(offset as usize);
+    Ok(rest.take(size as usize).copied().collect(alloc)?)
 }

@@ -1,0 +1,118 @@
+use Rattle.std.proofs.Common.{◌∙◌, ◌+◌, ◌-◌, ◌^◌, take, drop, length, arith, refl, sym, subst}
+use Rattle.fuse_keeper.specs.Group.{ids_of}
+use Rattle.fuse_keeper.specs.Stands.{Records}
+use Rattle.fuse_session.specs.Counting.{IsBelow}
+use Rattle.fuse_session.specs.Serving.{Turned, goes_on, lasts}
+use Rattle.fuse_session.proofs.Bytes.{quiet_none, quiet_more}
+use Rattle.fuse_session.proofs.Counted.{plus_below, below_more}
+use Rattle.fuse_session.proofs.Turns.{turned_none, group_more, group_broken, worked_part, worked_all, lasts_on, within_parts}
+use Rattle.fuse_session.proofs.Turns.{is_over, isnt_over}
+use Rattle.fuse_session.proofs.Sessions.{may_fault}
+use Rattle.fuse_session.proofs.session.Session.serve_messages.Goals as goal
+
+pub loop-at-init : goal.loop-at-init
+loop-at-init g c = record {
+  within = omega arith;
+  turned = turned_none g.K.Keeper.model _ _ (g.P.Port.told c.args.self.now.port.now) (ids_of c.args.self.now.pending.now.items) ((g.met.C.Clock.logged).none c.args.self.now.clock.now);
+  loans = (refl, refl, refl, refl);
+  below = record { messages = omega arith; kept = omega arith; repeated = omega arith; bare = omega arith; silent = omega arith; interrupts = omega arith };
+  few = c.requires.few;
+  going = c.requires.going;
+  firm = λ _ firm. firm;
+  more = λ _ _ (before : Records) h. h;
+  failures = refl;
+  honest = λ is. is;
+  same = (g.met.P.Port.path).none c.args.self.now.port.now;
+  unopened = (g.met.K.Keeper.counted).none c.args.self.now.keeper.now;
+  quiet = quiet_none (g.P.Port.told c.args.self.now.port.now);
+  may = λ f may. may;
+}
+
+pub returns-in-Err-clause-err : goal.returns-in-Err-clause-err
+returns-in-Err-clause-err g c =
+    let inv = c.loop-at.invariant in
+    group_broken g.K.Keeper.model c.histories_grow.ensures (g.K.Keeper.told c.args.self.now.keeper.now) (g.K.Keeper.told c.loop-at.self.keeper.now)
+    (g.K.Keeper.told c.serve_group.new.self.keeper.now) (g.C.Clock.gave c.args.self.now.clock.now c.loop-at.self.clock.now) (g.C.Clock.gave c.loop-at.self.clock.now c.serve_group.new.self.clock.now)
+    (g.C.Clock.gave c.args.self.now.clock.now c.serve_group.new.self.clock.now) _ _ _ _ _ c.args.messages.now _ c.loop-at.at _ _ _ _ _
+    refl inv.turned c.in-Err.ensures.err (may_fault (g.K.Keeper.told c.args.self.now.keeper.now).may_answer (g.K.Keeper.told c.loop-at.self.keeper.now).may_answer c.in-Err.fault
+    inv.may) (g.met.K.Keeper.sound c.serve_group.new.self.keeper.now).clean_is_honest c.in-Err.ensures.honest inv.firm
+    ((g.met.C.Clock.logged).onward c.args.self.now.clock.now c.loop-at.self.clock.now c.serve_group.new.self.clock.now)
+
+pub sum_of-sum-requires-clause-a : goal.sum_of-sum-requires-clause-a
+sum_of-sum-requires-clause-a g c = below_more c.loop-at.counts c.loop-at.at (2 ^ 63 - 1) (omega (arith, c.loop-at.invariant.within, c.requires.short))
+    c.loop-at.invariant.below
+
+pub sum_of-sum-requires-clause-b : goal.sum_of-sum-requires-clause-b
+sum_of-sum-requires-clause-b g c =
+    below_more c.in-Ok.progress.counts c.in-Ok.progress.count (2 ^ 63 - 1)
+    (omega (arith, within_parts c.args.messages.now c.loop-at.at c.in-Ok.progress.count c.loop-at.invariant.within c.in-Ok.ensures.within, c.requires.short))
+    c.in-Ok.ensures.below
+
+pub returns-then-over-clause-ok : goal.returns-then-over-clause-ok
+returns-then-over-clause-ok g c = λ begin.
+    let ms = c.args.messages.now in
+    let i = c.loop-at.at in
+    let n = c.in-Ok.progress.count in
+    let inv = c.loop-at.invariant in
+    worked_part g.K.Keeper.model (g.K.Keeper.told c.args.self.now.keeper.now) (g.K.Keeper.told c.serve_group.new.self.keeper.now) _ _ _ (ids_of c.args.self.now.pending.now.items)
+    (ids_of c.serve_group.new.self.pending.now.items) ms (take (length ms - i) (drop i ms)) i n c.in-Ok.progress.next begin _ c.sum_of-sum.result
+    refl (is_over (goes_on c.in-Ok.progress.next) (sym c.is_over-over.ensures ∙ c.if-over.true)) c.in-Ok.ensures.zero
+    refl
+    (group_more g.K.Keeper.model c.histories_grow.ensures (g.K.Keeper.told c.args.self.now.keeper.now) (g.K.Keeper.told c.loop-at.self.keeper.now)
+    (g.K.Keeper.told c.serve_group.new.self.keeper.now) (g.C.Clock.gave c.args.self.now.clock.now c.loop-at.self.clock.now) (g.C.Clock.gave c.loop-at.self.clock.now c.serve_group.new.self.clock.now)
+    (g.C.Clock.gave c.args.self.now.clock.now c.serve_group.new.self.clock.now) _ _ _ _ _ _ ms (take (length ms - i) (drop i ms)) i n
+    (lasts c.in-Ok.progress.next) c.loop-at.counts c.in-Ok.progress.counts c.sum_of-sum.result
+    refl c.sum_of-sum.ensures inv.turned c.in-Ok.ensures.ok c.in-Ok.ensures.honest
+    ((g.met.C.Clock.logged).onward c.args.self.now.clock.now c.loop-at.self.clock.now c.serve_group.new.self.clock.now))
+
+pub loop-at-preserved : goal.loop-at-preserved
+loop-at-preserved g c =
+    let ms = c.args.messages.now in
+    let i = c.loop-at.at in
+    let n = c.in-Ok.progress.count in
+    let inv = c.loop-at.invariant in
+    let on = isnt_over (goes_on c.in-Ok.progress.next) (sym c.is_over-over.ensures ∙ c.if-over.false) in
+    let k' = c.serve_group.new.self.keeper.now in
+    record {
+      within = within_parts ms i n inv.within c.in-Ok.ensures.within;
+      turned = subst (λ b. Turned (g.K.Keeper.told c.args.self.now.keeper.now) (g.K.Keeper.told k') (g.C.Clock.gave c.args.self.now.clock.now c.serve_group.new.self.clock.now)
+          (g.P.Port.told c.args.self.now.port.now) (g.P.Port.told c.serve_group.new.self.port.now)
+          (ids_of c.args.self.now.pending.now.items) (ids_of c.serve_group.new.self.pending.now.items) (take (i + n) ms) b c.sum_of-sum.result) (lasts_on c.in-Ok.progress.next on)
+          (group_more g.K.Keeper.model c.histories_grow.ensures (g.K.Keeper.told c.args.self.now.keeper.now) (g.K.Keeper.told c.loop-at.self.keeper.now) (g.K.Keeper.told k')
+          (g.C.Clock.gave c.args.self.now.clock.now c.loop-at.self.clock.now) (g.C.Clock.gave c.loop-at.self.clock.now c.serve_group.new.self.clock.now)
+          (g.C.Clock.gave c.args.self.now.clock.now c.serve_group.new.self.clock.now) _ _ _ _ _ _ ms (take (length ms - i) (drop i ms)) i n
+          (lasts c.in-Ok.progress.next) c.loop-at.counts c.in-Ok.progress.counts c.sum_of-sum.result
+          refl c.sum_of-sum.ensures inv.turned c.in-Ok.ensures.ok c.in-Ok.ensures.honest
+          ((g.met.C.Clock.logged).onward c.args.self.now.clock.now c.loop-at.self.clock.now c.serve_group.new.self.clock.now));
+      loans = (c.in-Ok.ensures.loans.0 ∙ inv.loans.0, c.in-Ok.ensures.loans.1 ∙ inv.loans.1, c.in-Ok.ensures.loans.2 ∙ inv.loans.2, c.in-Ok.ensures.loans.3 ∙ inv.loans.3);
+      below = subst (λ x. IsBelow x (i + n)) (sym c.sum_of-sum.ensures) (plus_below c.loop-at.counts c.in-Ok.progress.counts i n inv.below c.in-Ok.ensures.below);
+      few = c.in-Ok.ensures.few;
+      going = c.in-Ok.ensures.going;
+      firm = λ honest firm. c.in-Ok.ensures.firm honest (inv.firm (c.in-Ok.ensures.honest honest) firm);
+      more = λ confirms honest (before : Records) h. c.in-Ok.ensures.more (inv.quiet.confirms ∙ confirms) honest before
+          (inv.more confirms (c.in-Ok.ensures.honest honest) before h);
+      failures = c.in-Ok.ensures.failures ∙ inv.failures;
+      honest = λ honest. inv.honest (c.in-Ok.ensures.honest honest);
+      unopened = (g.met.K.Keeper.counted).then c.args.self.now.keeper.now c.loop-at.self.keeper.now k' 0 0 inv.unopened c.in-Ok.ensures.unopened;
+      same = (g.met.P.Port.path).onward c.args.self.now.port.now c.loop-at.self.port.now c.serve_group.new.self.port.now inv.same c.in-Ok.ensures.same;
+      quiet = quiet_more (g.P.Port.told c.args.self.now.port.now) (g.P.Port.told c.loop-at.self.port.now) (g.P.Port.told c.serve_group.new.self.port.now) inv.quiet c.in-Ok.ensures.quiet;
+      may = λ f may. inv.may f (c.in-Ok.ensures.may f may);
+    }
+
+pub returns-clause-ok : goal.returns-clause-ok
+returns-clause-ok g c = λ begin.
+    let inv = c.loop-at.invariant in
+    worked_all g.K.Keeper.model (g.K.Keeper.told c.args.self.now.keeper.now) (g.K.Keeper.told c.loop-at.self.keeper.now) _ _ _ (ids_of c.args.self.now.pending.now.items)
+    (ids_of c.loop-at.self.pending.now.items) c.args.messages.now c.loop-at.at begin _ c.loop-at.counts
+    c.loop-at-test.false refl inv.turned
+
+pub returns-in-Err-clause-unopened : goal.returns-in-Err-clause-unopened
+returns-in-Err-clause-unopened g c = (g.met.K.Keeper.counted).then c.args.self.now.keeper.now c.loop-at.self.keeper.now c.serve_group.new.self.keeper.now 0 0 c.loop-at.invariant.unopened
+    c.in-Err.ensures.unopened
+
+pub returns-then-over-clause-unopened : goal.returns-then-over-clause-unopened
+returns-then-over-clause-unopened g c = (g.met.K.Keeper.counted).then c.args.self.now.keeper.now c.loop-at.self.keeper.now c.serve_group.new.self.keeper.now 0 0
+    c.loop-at.invariant.unopened c.in-Ok.ensures.unopened
+
+pub returns-clause-unopened : goal.returns-clause-unopened
+returns-clause-unopened g c = c.loop-at.invariant.unopened

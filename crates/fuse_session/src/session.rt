@@ -1,0 +1,339 @@
+// A session: the messages of a port are served from a keeper.
+ghost use Rattle.std.specs.Prelude.{◌≡◌, ◌↔◌, ◌≤◌, ◌<◌, ◌+◌, ◌-◌, ◌^◌, [], true, false, None, Some};
+ghost use Rattle.std.specs.Prelude.{length, take, IfOk, IfErr, OnOk, IfSome};
+ghost use Rattle.fuse_request.specs.Framing.{fed_of};
+ghost use Rattle.fuse_request.specs.Stream.{joined};
+ghost use Rattle.fuse_request.specs.declared.header.TheConstants.{MAX_MESSAGE as max_message};
+ghost use Rattle.fuse_keeper.specs.declared.fault.StoreFault.{StoreFault as StoreFaultValue};
+ghost use Rattle.fuse_keeper.specs.KeeperState.{OfHeld, AnswersNoMore};
+ghost use Rattle.fuse_keeper.specs.Group.{ids_of};
+ghost use Rattle.fuse_keeper.specs.declared.keeper.TheConstants.{MAX_SETTLED as max_settled};
+ghost use Rattle.fuse_session.specs.Faults.{is_port, is_store, is_memory};
+ghost use Rattle.fuse_session.specs.Loans.{SameLoans};
+ghost use Rattle.fuse_session.specs.Port.{IsYoung};
+ghost use Rattle.fuse_session.specs.Settling.{AtMostMore};
+ghost use Rattle.fuse_session.specs.Counting.{IsBelow, plus_if};
+ghost use Rattle.fuse_session.specs.Receiving.{IsOpen};
+ghost use Rattle.fuse_session.specs.Serving.{Run, FewSettled};
+ghost use Rattle.fuse_session.specs.Ends.{ExactAt, MayEnd, SessionEnds, counts_at};
+ghost use Rattle.fuse_session.specs.Ends.{ended_store, ended_memory, ended_port};
+ghost use Rattle.fuse_session.specs.Finishing.{FinishedBy, IsFault, ended_at};
+ghost use Rattle.fuse_session.specs.Prompt.{AnswersFirst};
+ghost use Rattle.fuse_session.specs.Turn.{TurnPassed, TurnEnded};
+
+use crate::clock::Clock;
+use crate::counts::{SessionCounts, sum_of};
+use crate::ended::{Ended, Served};
+use crate::fault::Fault;
+use crate::group::{Next, Progress};
+use crate::input::receive_messages;
+use crate::messages::length_of;
+use crate::port::Port;
+use bytes::Bytes;
+use fuse_keeper::{Keeper, histories_grow};
+use fuse_request::{FrameFault, Framer, MAX_MESSAGE, cut_joins};
+use fuse_wire::Id;
+use std::alloc::Global;
+
+/// A session works on a keeper, a port and a clock. `pending` has the ids that its answers settled
+/// and that the keeper gets with the next group.
+#[derive(Drop)]
+pub(crate) struct Session<'k, 'p, 'c, 'i, K: Keeper, P: Port, C: Clock> {
+    pub(crate) alloc: Global,
+    pub(crate) keeper: &'k mut K,
+    pub(crate) port: &'p mut P,
+    pub(crate) clock: &'c mut C,
+    pub(crate) pending: &'i mut Vec<Id>,
+}
+
+fn ended_of(fault: Fault) -> Ended
+    ensures store { ended_store result ≡ is_store fault }
+    ensures memory { ended_memory result ≡ is_memory fault }
+    ensures port { ended_port result ≡ is_port fault }
+    ensures fault { IsFault result }
+    ensures is { result ≡ ended_at fault }
+{
+    match fault {
+        Fault::PortFailed => Ended::PortFailed,
+        Fault::Store(fault) => Ended::Store(fault),
+        Fault::Memory => Ended::Memory,
+    }
+}
+
+// The counts that are returned at an end.
+fn counts_of(ended: &Ended, counts: SessionCounts) -> Option<SessionCounts>
+    ensures { result ≡ counts_at ended.now counts }
+{
+    match ended {
+        Ended::End => Some(counts),
+        Ended::Destroyed => Some(counts),
+        Ended::Turns => Some(counts),
+        Ended::Frame(_) => Some(counts),
+        Ended::ZeroUnique { .. } => Some(counts),
+        Ended::PortFailed => None,
+        Ended::Store(_) => None,
+        Ended::Memory => None,
+    }
+}
+
+// These counts and the last turn's, if that has some.
+fn sum_with(counts: SessionCounts, more: Option<SessionCounts>) -> Option<SessionCounts>
+    requires counts { IsBelow counts (2 ^ 63 - 1) }
+    requires more { IfSome more (λ last. IsBelow last (2 ^ 63 - 1)) }
+    ensures { result ≡ plus_if counts more }
+{
+    match more {
+        Some(last) => Some(sum_of(counts, last)),
+        None => None,
+    }
+}
+
+// The offset after the first messages, which begin at this offset.
+fn place_after(begin: u64, messages: &[Bytes], count: usize) -> u64
+    requires within { count ≤ length messages.now }
+    requires place { begin + length (joined messages.now) < 2 ^ 62 }
+    ensures { result ≡ begin + length (joined (take count messages.now)) }
+{
+    begin + length_of(&messages[..count])
+}
+
+// What follows the messages that waited, which began at this offset, and the bad length after
+// them, if there is one.
+fn finish(
+    begin: u64,
+    messages: &[Bytes],
+    progress: Progress,
+    fault: Option<FrameFault>,
+) -> Result<SessionCounts, Served>
+    requires within { progress.count ≤ length messages.now }
+    requires place { begin + length (joined messages.now) < 2 ^ 62 }
+    ensures ok { IfOk result (λ counts. (counts ≡ progress.counts)
+        × (progress.next ≡ Next.GoesOn) × (fault ≡ None)) }
+    ensures err { IfErr result (λ served. (served.counts ≡ Some progress.counts)
+        × FinishedBy served.ended progress.next
+        (begin + length (joined (take progress.count messages.now))) fault) }
+{
+    let counts = progress.counts;
+    match progress.next {
+        Next::Destroyed => Err(Served {
+            ended: Ended::Destroyed,
+            counts: Some(counts),
+        }),
+        Next::ZeroUnique => {
+            let at = place_after(begin, messages, progress.count);
+            Err(Served {
+                ended: Ended::ZeroUnique { at },
+                counts: Some(counts),
+            })
+        }
+        Next::GoesOn => match fault {
+            Some(fault) => Err(Served {
+                ended: Ended::Frame(fault),
+                counts: Some(counts),
+            }),
+            None => Ok(counts),
+        },
+    }
+}
+
+impl<K: Keeper, P: Port, C: Clock> Session<'_, '_, '_, '_, K, P, C> {
+    // One turn: receives once, and serves all messages that wait then.
+    fn serve_turn(
+        &mut self,
+        framer: &mut Framer,
+        buffer: &mut [u8],
+    ) -> Result<SessionCounts, Served>
+        requires going { (K.told self.old.keeper.now).has_failed ≡ false }
+        requires young { IsYoung (P.told self.old.port.now) }
+        requires spare { (P.told self.old.port.now).receives + 1 < 2 ^ 63 }
+        requires few { length self.old.pending.now.items ≤ max_settled }
+        requires opened { IsOpen framer.old }
+        requires room { length buffer.old ≡ max_message }
+        requires fed { fed_of framer.old + length buffer.old ≤ 2 ^ 59 }
+        ensures ok { IfOk result (λ counts. TurnPassed (K.told self.old.keeper.now)
+            (K.told self.new.keeper.now) (C.gave self.old.clock.now self.new.clock.now)
+            (P.told self.old.port.now) (P.told self.new.port.now)
+            (ids_of self.old.pending.now.items) (ids_of self.new.pending.now.items)
+            framer.old framer.new counts) }
+        ensures err { IfErr result (λ served. TurnEnded (K.told self.old.keeper.now)
+            (K.told self.new.keeper.now) (C.gave self.old.clock.now self.new.clock.now)
+            (P.told self.old.port.now) (P.told self.new.port.now)
+            (ids_of self.old.pending.now.items) framer.old served.ended served.counts) }
+        ensures few { OnOk result (length self.new.pending.now.items ≤ max_settled) }
+        ensures receives { (P.told self.new.port.now).receives
+            ≡ (P.told self.old.port.now).receives + 1 }
+        ensures confirms { (P.told self.new.port.now).confirms
+            ≡ (P.told self.old.port.now).confirms }
+        ensures fed { fed_of framer.new ≤ fed_of framer.old + length buffer.old }
+        ensures buffer { length buffer.new ≡ length buffer.old }
+        ensures may { (f : StoreFaultValue) → (K.told self.new.keeper.now).may_answer f
+            → (K.told self.old.keeper.now).may_answer f }
+        ensures honest { (K.told self.new.keeper.now).is_honest
+            → (K.told self.old.keeper.now).is_honest }
+        ensures same { P.became self.old.port.now self.new.port.now }
+        ensures unopened { K.became self.old.keeper.now self.new.keeper.now 0 }
+        ensures loans { SameLoans self.old self.new }
+    {
+        histories_grow::<K>();
+        let begin = framer.fed() - framer.held();
+        let waiting = match receive_messages(self.alloc, self.port, framer, buffer) {
+            Ok(waiting) => waiting,
+            Err(ended) => {
+                let counts = counts_of(&ended, SessionCounts::NONE);
+                return Err(Served { ended, counts });
+            }
+        };
+        let slice = waiting.messages.as_slice();
+        let progress = match self.serve_messages(slice) {
+            Ok(progress) => progress,
+            Err(fault) => {
+                return Err(Served {
+                    ended: ended_of(fault),
+                    counts: None,
+                });
+            }
+        };
+        match finish(begin, slice, progress, waiting.fault) {
+            Ok(counts) => Ok(counts),
+            Err(served) => Err(served),
+        }
+    }
+}
+
+// One turn of a session.
+fn one_turn<K: Keeper, P: Port, C: Clock>(
+    alloc: Global,
+    keeper: &mut K,
+    port: &mut P,
+    clock: &mut C,
+    framer: &mut Framer,
+    buffer: &mut [u8],
+    pending: &mut Vec<Id>,
+) -> Result<SessionCounts, Served>
+    requires going { (K.told keeper.old).has_failed ≡ false }
+    requires young { IsYoung (P.told port.old) }
+    requires spare { (P.told port.old).receives + 1 < 2 ^ 63 }
+    requires few { length pending.old.items ≤ max_settled }
+    requires opened { IsOpen framer.old }
+    requires room { length buffer.old ≡ max_message }
+    requires fed { fed_of framer.old + length buffer.old ≤ 2 ^ 59 }
+    ensures ok { IfOk result (λ counts. TurnPassed (K.told keeper.old) (K.told keeper.new)
+        (C.gave clock.old clock.new) (P.told port.old) (P.told port.new)
+        (ids_of pending.old.items) (ids_of pending.new.items) framer.old framer.new counts) }
+    ensures err { IfErr result (λ served. TurnEnded (K.told keeper.old) (K.told keeper.new)
+        (C.gave clock.old clock.new) (P.told port.old) (P.told port.new)
+        (ids_of pending.old.items) framer.old served.ended served.counts) }
+    ensures few { OnOk result (length pending.new.items ≤ max_settled) }
+    ensures receives { (P.told port.new).receives ≡ (P.told port.old).receives + 1 }
+    ensures confirms { (P.told port.new).confirms ≡ (P.told port.old).confirms }
+    ensures fed { fed_of framer.new ≤ fed_of framer.old + length buffer.old }
+    ensures buffer { length buffer.new ≡ length buffer.old }
+    ensures may { (f : StoreFaultValue) → (K.told keeper.new).may_answer f
+        → (K.told keeper.old).may_answer f }
+    ensures honest { (K.told keeper.new).is_honest → (K.told keeper.old).is_honest }
+    ensures same { P.became port.old port.new }
+    ensures unopened { K.became keeper.old keeper.new 0 }
+{
+    let mut session = Session {
+        alloc,
+        keeper,
+        port,
+        clock,
+        pending,
+    };
+    session.serve_turn(framer, buffer)
+}
+
+/// Serves the messages of a port: receives at most `turns` times, processes all whole messages
+/// after each of them in groups of at most 16 kept ones, and sends the answers of a group once it
+/// is committed. The keeper gets the ids that the answers settle with the next group.
+pub fn serve<K: Keeper, P: Port, C: Clock>(
+    alloc: Global,
+    keeper: &mut K,
+    port: &mut P,
+    clock: &mut C,
+    turns: u32,
+) -> Served
+    requires going { (K.told keeper.old).has_failed ≡ false }
+    requires receives { (P.told port.old).receives < 2 ^ 62 }
+    requires failures { (P.told port.old).failures < 2 ^ 62 }
+    // The messages that were processed and answered at each of the ends, and their counts.
+    ensures ends { SessionEnds (K.told keeper.old) (K.told keeper.new) (C.gave clock.old clock.new)
+        (P.told port.old) (P.told port.new) turns result.ended result.counts }
+
+    // However it ends, the bytes sent are a prefix of those to be sent for messages that the
+    // keeper stands for, and that whatever a crash leaves stands for.
+    ensures life { Run (K.told keeper.old) (K.told keeper.new) (C.gave clock.old clock.new)
+        (P.told port.old) (P.told port.new) [] [] (ended_store result.ended)
+        (ended_memory result.ended) (MayEnd (K.told keeper.old).may_answer result.ended) }
+
+    // Before more is received, all that came is answered.
+    ensures prompt { AnswersFirst P.told P.became (K.told keeper.old) (K.told keeper.new)
+        port.old port.new }
+
+    // Where the store or a lack of memory ended it, exactly the answers to some of the messages
+    // were sent. The store's fault is one that the keeper may answer, and the keeper stands for
+    // those messages, where its store is clean.
+    ensures exactly { ExactAt (K.told keeper.old) (K.told keeper.new) (C.gave clock.old clock.new)
+        (P.told port.old) (P.told port.new) [] [] result.ended }
+
+    // On a port that confirms few records stay.
+    ensures at_most { (P.told port.old).confirms ≡ true → (K.told keeper.new).is_clean
+        → OfHeld (K.told keeper.old) (λ rows records. AtMostMore records (K.told keeper.new)) }
+
+    // On any port few of the ids that the answers settled have a record, whether the port confirms
+    // or answered Gone.
+    ensures settled { (K.told keeper.new).is_clean → FewSettled (K.told keeper.old)
+        (K.told keeper.new) (C.gave clock.old clock.new) (P.told port.old) (P.told port.new) }
+
+    // It receives no more often than it may.
+    ensures turns { (P.told port.new).receives ≤ (P.told port.old).receives + turns }
+
+    // It ends by the port and by the store exactly where they failed.
+    ensures failed { (result.ended ≡ Ended.PortFailed)
+        ↔ ((P.told port.old).failures < (P.told port.new).failures) }
+    ensures store { (K.told keeper.new).has_failed ≡ ended_store result.ended }
+
+    // The keeper and the port afterwards.
+    ensures honest { (K.told keeper.new).is_honest → (K.told keeper.old).is_honest }
+    ensures may { AnswersNoMore (K.told keeper.old) (K.told keeper.new) }
+    ensures unopened { K.became keeper.old keeper.new 0 }
+    ensures same { P.became port.old port.new }
+{
+    cut_joins();
+    histories_grow::<K>();
+    // Each byte is written, so that all its pages are there before a message is copied into them.
+    let Ok(mut buffer) = vec![in alloc; 0; MAX_MESSAGE] else {
+        return Served {
+            ended: Ended::Memory,
+            counts: None,
+        };
+    };
+    let mut framer = Framer::new(alloc);
+    let mut pending = Vec::new(alloc);
+    let mut counts = SessionCounts::NONE;
+    for turn in 0..turns {
+        match one_turn(
+            alloc,
+            keeper,
+            port,
+            clock,
+            &mut framer,
+            buffer.as_mut_slice(),
+            &mut pending,
+        ) {
+            Ok(more) => counts = sum_of(counts, more),
+            Err(served) => {
+                let sum = sum_with(counts, served.counts);
+                return Served {
+                    ended: served.ended,
+                    counts: sum,
+                };
+            }
+        }
+    }
+    Served {
+        ended: Ended::Turns,
+        counts: Some(counts),
+    }
+}
