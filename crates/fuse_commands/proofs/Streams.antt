@@ -291,7 +291,7 @@ replayed joins steps k k' moment gave each input sent p turns session.End counts
     (λ s h timed goes at. inr (goes, refl, ap (λ (x : List (List ℕ) × List ℕ). x.1) same ∙ sym r.whole.rest_is ∙ r.so))
 replayed joins steps k k' moment gave each input sent p turns session.Destroyed counts told e of_stream =
     let w = e.1.stopped.worked in
-    halted joins k k' moment gave each input sent p e.1.pending' e.1.stopped.received w.front w.others false e.0 counts Done told e.1.stopped.came w.parts w.at
+    halted joins k k' moment gave each input sent p e.1.pending' e.1.stopped.received w.prefix w.others false e.0 counts Done told e.1.stopped.came w.parts w.at
     w.turned (λ s h timed more goes last at. inl (last refl))
 replayed joins steps k k' moment gave each input sent p turns (session.Frame f) counts told r of_stream =
     let c = came input p.coming r.whole.received r.whole.came in
@@ -312,7 +312,7 @@ replayed joins steps k k' moment gave each input sent p turns (session.Frame f) 
     ]
 replayed joins steps k k' moment gave each input sent p turns (session.ZeroUnique at) counts told e of_stream =
     let w = e.stopped.worked in
-    halted joins k k' moment gave each input sent p e.pending' e.stopped.received w.front w.others true at counts (ZeroUnique at) told e.stopped.came w.parts
+    halted joins k k' moment gave each input sent p e.pending' e.stopped.received w.prefix w.others true at counts (ZeroUnique at) told e.stopped.came w.parts
     w.at w.turned
     (λ s h timed more goes last place. (goes refl, zero_more w.others more (w.zero refl), place))
 replayed joins steps k k' moment gave each input sent p turns session.Turns counts told e of_stream = absurd (omega (arith, of_stream))
@@ -351,7 +351,7 @@ faulted joins k k' fault moment gave each input sent p clean_honest told life =
       told = refl;
       timed = life.timed;
       others = life.others ++ more;
-      parts = ap (λ (x : List (List ℕ) × List ℕ). x.0) (cut_came joins input life.received c.later c.parts) ∙ ap (λ ms. ms ++ more) life.front
+      parts = ap (λ (x : List (List ℕ) × List ℕ). x.0) (cut_came joins input life.received c.later c.parts) ∙ ap (λ ms. ms ++ more) life.prefix
           ∙ append_assoc (bytes_of life.timed) life.others more;
       moments = each_front (λ t. t ≡ moment) (moments_in life.timed) life.moments.0 (each _ life.moments.1);
       all = λ clean s h t so may.
@@ -416,7 +416,7 @@ kept joins k k' store memory may_fault moment gave each input p gone run =
     record {
       timed = b.timed;
       others = b.others ++ more;
-      parts = ap (λ (x : List (List ℕ) × List ℕ). x.0) (cut_came joins input run.received c.later c.parts) ∙ ap (λ ms. ms ++ more) b.front
+      parts = ap (λ (x : List (List ℕ) × List ℕ). x.0) (cut_came joins input run.received c.later c.parts) ∙ ap (λ ms. ms ++ more) b.prefix
           ∙ append_assoc (bytes_of b.timed) b.others more;
       moments = each_front (λ t. t ≡ moment) (moments_in b.timed) b.moments.0 (each _ b.moments.1);
       all = λ clean s h t so may.

@@ -5,7 +5,7 @@ use Rattle.std.proofs.lemmas.List.{append-nil, take-append-drop, take_all, lengt
 use Rattle.std.specs.Io.KnownBytes.{Keeps, Appends, Consumes}
 use Rattle.fuse_session.specs.declared.port.Sent.{Sent}
 use Rattle.fuse_session.specs.declared.port.Sent.TheVariants.{Took, Gone}
-use Rattle.fuse_session.specs.Port.{PortState, IsQuiet, Sends, SentFront, SentWhole, SentPart}
+use Rattle.fuse_session.specs.Port.{PortState, IsQuiet, Sends, SentPrefix, SentWhole, SentPart}
 
 pub appends_none : (o : Option (List ℕ)) → Appends o o []
 appends_none None = tt
@@ -54,7 +54,7 @@ quiet_more a b c one two = record {
 
 -- ---- one slice
 
-pub nothing_sent : (p : PortState) (bytes : List ℕ) → SentFront p p bytes bytes
+pub nothing_sent : (p : PortState) (bytes : List ℕ) → SentPrefix p p bytes bytes
 nothing_sent p bytes = record { part = []; parts = refl; sent = appends_none p.sent; failures = refl; gone = refl; quiet = quiet_none p }
 
 isnt_zero : (n : ℕ) → (n ≡ 0 → ⊥) → (n == 0) ≡ false
@@ -67,9 +67,9 @@ rest_is : (rest : List ℕ) (n : ℕ) → take (length rest - n) (drop n rest) �
 rest_is rest n = take_all (length rest - n) (drop n rest) (omega (arith, length-drop n rest))
 
 -- more of it was taken
-pub front_more : (old mid new : PortState) (bytes rest : List ℕ) (n : ℕ) → (n ≡ 0 → ⊥) → SentFront old mid bytes rest → Sends mid new (Took n) rest
-    → SentFront old new bytes (take (length rest - n) (drop n rest))
-front_more old mid new bytes rest n isnt one two =
+pub prefix_more : (old mid new : PortState) (bytes rest : List ℕ) (n : ℕ) → (n ≡ 0 → ⊥) → SentPrefix old mid bytes rest → Sends mid new (Took n) rest
+    → SentPrefix old new bytes (take (length rest - n) (drop n rest))
+prefix_more old mid new bytes rest n isnt one two =
     let is : take two.count rest ≡ take n rest = ap (λ k. take k rest) two.counts in
     record {
       part = one.part ++ take n rest;
@@ -86,9 +86,9 @@ empty_behind [] ys is = is
 empty_behind (x ∷ xs) ys is = absurd (cc is)
 
 -- nobody waits for it
-pub front_gone : (old mid new : PortState) (bytes rest : List ℕ) → (rest ≡ [] → ⊥) → SentFront old mid bytes rest → Sends mid new Gone rest
+pub prefix_gone : (old mid new : PortState) (bytes rest : List ℕ) → (rest ≡ [] → ⊥) → SentPrefix old mid bytes rest → Sends mid new Gone rest
     → SentWhole old new bytes true
-front_gone old mid new bytes rest some one two =
+prefix_gone old mid new bytes rest some one two =
     let is : take two.count rest ≡ rest = take_all two.count rest (omega (arith, two.counts)) in
     let place = two.gone in
     record {
@@ -101,8 +101,8 @@ front_gone old mid new bytes rest some one two =
     }
 
 -- all of it was taken
-pub front_whole : (old new : PortState) (bytes rest : List ℕ) → rest ≡ [] → SentFront old new bytes rest → SentWhole old new bytes false
-front_whole old new bytes rest none one = record {
+pub prefix_whole : (old new : PortState) (bytes rest : List ℕ) → rest ≡ [] → SentPrefix old new bytes rest → SentWhole old new bytes false
+prefix_whole old new bytes rest none one = record {
   some = λ _. refl;
   sent = subst (Appends old.sent new.sent) (sym (one.parts ∙ ap (λ r. one.part ++ r) none ∙ append-nil one.part)) one.sent;
   failures = one.failures;
@@ -111,10 +111,10 @@ front_whole old new bytes rest none one = record {
 }
 
 -- the port failed
-pub front_failed : (old mid new : PortState) (bytes rest : List ℕ) (result : Sent) → mid.failures < new.failures → new.gone ≡ mid.gone
-    → SentFront old mid bytes rest → Sends mid new result rest
+pub prefix_failed : (old mid new : PortState) (bytes rest : List ℕ) (result : Sent) → mid.failures < new.failures → new.gone ≡ mid.gone
+    → SentPrefix old mid bytes rest → Sends mid new result rest
     → SentPart old new bytes
-front_failed old mid new bytes rest result more same one two = record {
+prefix_failed old mid new bytes rest result more same one two = record {
   part = one.part ++ take two.count rest;
   rest = drop two.count rest;
   parts = one.parts ∙ ap (λ r. one.part ++ r) (sym (take-append-drop two.count rest)) ∙ sym (append_assoc one.part (take two.count rest) (drop two.count rest));

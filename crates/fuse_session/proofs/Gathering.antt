@@ -72,10 +72,10 @@ none_yet_gathered gave taken none is = record {
 }
 
 one_more_gathered : (gave gave' gave'' : List Moment → Type 0) → ((one two : List Moment) → gave one → gave' two → gave'' (one ++ two))
-    → (front : List (List ℕ)) (taken taken' : List (Request × Moment)) (m : List ℕ) (t : Moment) (b : Bool) → Gathers gave front taken false → is_zero m ≡ false
+    → (prefix : List (List ℕ)) (taken taken' : List (Request × Moment)) (m : List ℕ) (t : Moment) (b : Bool) → Gathers gave prefix taken false → is_zero m ≡ false
     → entries_of taken' ≡ entries_of taken ++ entry_if (class_of m) (message_entry m t) → (b ≡ false → destroys m ≡ false) → (b ≡ true → destroys m ≡ true)
-    → gave' (moment_if (class_of m) t) → Gathers gave'' (front ++ m ∷ []) taken' b
-one_more_gathered gave gave' gave'' joins front taken taken' m t b so_far named entries last it moment =
+    → gave' (moment_if (class_of m) t) → Gathers gave'' (prefix ++ m ∷ []) taken' b
+one_more_gathered gave gave' gave'' joins prefix taken taken' m t b so_far named entries last it moment =
     let one : Timed = record { bytes = m; moment = t } in
     record {
       timed = so_far.timed ++ one ∷ [];
@@ -109,7 +109,7 @@ gathers_none gave gave' gave'' joins ms i m bytes taken t lt at is so_far named 
     let grown = one_more_gathered gave gave' gave'' joins (take i ms) taken taken bytes t false so_far named (sym (append-nil (entries_of taken))
     ∙ ap (λ r. entries_of taken ++ r) none)
     (λ _. not_kept (class_of bytes) (message_entry bytes t) (raw_of bytes).opcode none) (λ isnt. absurd (cc isnt)) moment in
-    subst (λ front. Gathers gave'' front taken false) (ap (λ x. take i ms ++ x ∷ []) (is ∙ at) ∙ sym (take_more ms i m lt)) grown
+    subst (λ prefix. Gathers gave'' prefix taken false) (ap (λ x. take i ms ++ x ∷ []) (is ∙ at) ∙ sym (take_more ms i m lt)) grown
 
 -- one that is
 pub gathers_some : (gave gave' gave'' : List Moment → Type 0) → ((one two : List Moment) → gave one → gave' two → gave'' (one ++ two))
@@ -123,7 +123,7 @@ gathers_some gave gave' gave'' joins ms i m bytes taken taken' one t b lt at is 
     (ap entries_of pushed ∙ map-append entry_of taken (one ∷ []) ∙ ap (λ r. entries_of taken ++ r) some)
     (λ isnt. subst (λ c. destroys_by c (raw_of bytes).opcode ≡ false) (sym kept.0) (sym last ∙ isnt))
     (λ is_so. subst (λ c. destroys_by c (raw_of bytes).opcode ≡ true) (sym kept.0) (sym last ∙ is_so)) moment in
-    subst (λ front. Gathers gave'' front taken' b) (ap (λ x. take i ms ++ x ∷ []) (is ∙ at) ∙ sym (take_more ms i m lt)) grown
+    subst (λ prefix. Gathers gave'' prefix taken' b) (ap (λ x. take i ms ++ x ∷ []) (is ∙ at) ∙ sym (take_more ms i m lt)) grown
 
 -- a kept message is answered
 kept_speaks : (b : List ℕ) → class_of b ≡ Kept → silent (raw_of b).opcode ≡ false

@@ -29,7 +29,7 @@ use Rattle.fuse_session.specs.Serving.{Turned, Lived, Exact, Broken, lasts}
 use Rattle.fuse_session.specs.Faults.{is_store, is_memory}
 use Rattle.fuse_session.proofs.Replies.{begins_none, replied_none}
 use Rattle.fuse_session.proofs.Gathering.{gave_all}
-use Rattle.fuse_session.proofs.Outs.{wires_are, told_is, answers_are_outs, outs_front}
+use Rattle.fuse_session.proofs.Outs.{wires_are, told_is, answers_are_outs, outs_prefix}
 use Rattle.fuse_session.proofs.Ending.{works_group, goes_none, goes_last, ends_last}
 use Rattle.fuse_session.proofs.Settled.{includes_left, includes_right, in_either, group_unsettled, settled_none}
 use Rattle.fuse_session.proofs.Handing.{few_kept, few_same, few_sent, few_unsent}
@@ -133,7 +133,7 @@ broken_none M holds holds' gave p q pending messages exact whole faulted inexact
   others = messages;
   marks = [];
   part = [];
-  front = refl;
+  prefix = refl;
   moments = given;
   replied = replied;
   no_part = λ _. refl;
@@ -172,7 +172,7 @@ broken_store M holds holds' gave p pending messages count taken ends group fault
       others = drop count messages;
       marks = [];
       part = [];
-      front = sym (take-append-drop count messages) ∙ ap (λ f. f ++ drop count messages) gathers.bytes;
+      prefix = sym (take-append-drop count messages) ∙ ap (λ f. f ++ drop count messages) gathers.bytes;
       moments = gave_all gave gathers.timed gathers.moments;
       replied = replied_none p;
       no_part = λ _. refl;
@@ -198,9 +198,9 @@ says_told : (M : Model) → HistoriesGrow M → (holds : KeeperState M) (s : M.S
 says_told M grows holds s h t es ts dones done is = same_answers dones ∙ done.answers ∙ told_is M grows s h es ∙ ap (told M s h) is
 
 sent_are : (M : Model) → HistoriesGrow M → (holds : KeeperState M) (s : M.State) (h : History) (t : List ℕ) (es : List Entry) (ts : List Timed)
-    (front : List (List ℕ)) (dones : List Done) → Performed holds s h t es dones → es ≡ kept_in ts
-    → front ≡ bytes_of ts → wires front (answers_in dones) ≡ answers M s (grown h (kept_in ts)) ts
-sent_are M grows holds s h t es ts front dones done is bytes = ap (λ f. wires f (answers_in dones)) bytes ∙ wires_are M grows s h ts (answers_in dones)
+    (prefix : List (List ℕ)) (dones : List Done) → Performed holds s h t es dones → es ≡ kept_in ts
+    → prefix ≡ bytes_of ts → wires prefix (answers_in dones) ≡ answers M s (grown h (kept_in ts)) ts
+sent_are M grows holds s h t es ts prefix dones done is bytes = ap (λ f. wires f (answers_in dones)) bytes ∙ wires_are M grows s h ts (answers_in dones)
     (says_told M grows holds s h t es ts dones done is)
 
 now_stands : (M : Model) → (holds : KeeperState M) (s : M.State) (h : History) (t more : List ℕ) (es : List Entry) (ts : List Timed) (dones : List Done)
@@ -216,22 +216,22 @@ memory_is Memory is = refl
 
 -- its answers weren't all sent
 pub broken_sent : (M : Model) → HistoriesGrow M → (holds holds' : KeeperState M) (gave : List Moment → Type 0) (p q : PortState) (pending mid : List ℕ)
-    (messages : List (List ℕ)) (count : ℕ) (taken : List (Request × Moment)) (ends : Bool) (group : List (Request × Moment)) (front : List (List ℕ))
+    (messages : List (List ℕ)) (count : ℕ) (taken : List (Request × Moment)) (ends : Bool) (group : List (Request × Moment)) (prefix : List (List ℕ))
     (dones list : List Done) (fault : Fault) (faulted : Type 0)
-    → Gathers gave (take count messages) taken ends → group ≡ taken → front ≡ take count messages → (holds'.is_clean → holds'.is_honest)
+    → Gathers gave (take count messages) taken ends → group ≡ taken → prefix ≡ take count messages → (holds'.is_clean → holds'.is_honest)
     → (holds'.is_honest → (s : M.State) (h : History) (t : List ℕ) → StandsFor holds s h t → Includes t pending → All (IsUnsettled t) (entries_of group)
     → Performed holds' s h t (entries_of group) dones)
     → (holds'.is_honest → IsFirm holds → IsFirm holds')
     → (holds'.is_honest → (u : List ℕ) → All (IsUnsettled u) (entries_of group) → FewHave holds u pending → FewHave holds' u mid)
     → length mid + length (entries_of group) ≤ 16
-    → list ≡ dones → SentSome p q (wires front (answers_in list)) fault
+    → list ≡ dones → SentSome p q (wires prefix (answers_in list)) fault
     → Broken holds holds' gave p q pending messages (is_store fault) (is_memory fault) faulted
-broken_sent M grows holds holds' gave p q pending mid messages count taken ends group front dones list fault faulted gathers same same_front
+broken_sent M grows holds holds' gave p q pending mid messages count taken ends group prefix dones list fault faulted gathers same same_prefix
     clean_honest performed firm_still few size same_list sent =
-    let some = subst (λ l. SentSome p q (wires front (answers_in l)) fault) same_list sent in
+    let some = subst (λ l. SentSome p q (wires prefix (answers_in l)) fault) same_list sent in
     let ts = gathers.timed in
     let es : entries_of group ≡ kept_in ts = ap entries_of same ∙ gathers.entries in
-    let bytes : front ≡ bytes_of ts = same_front ∙ gathers.bytes in
+    let bytes : prefix ≡ bytes_of ts = same_prefix ∙ gathers.bytes in
     let done = λ (honest : holds'.is_honest) (s : M.State) (h : History) (t : List ℕ) (so : StandsFor holds s h t) (within : Includes t pending)
     (again : NoneComesAgain p.confirms t (bytes_of ts) some.marks).
     performed honest s h t so within (subst (All (IsUnsettled t)) (sym es) (group_unsettled p.confirms t ts some.marks again)) in
@@ -241,14 +241,14 @@ broken_sent M grows holds holds' gave p q pending mid messages count taken ends 
       others = drop count messages;
       marks = some.marks;
       part = some.part;
-      front = sym (take-append-drop count messages) ∙ ap (λ f. f ++ drop count messages) gathers.bytes;
+      prefix = sym (take-append-drop count messages) ∙ ap (λ f. f ++ drop count messages) gathers.bytes;
       moments = gave_all gave gathers.timed gathers.moments;
       replied = some.replied;
       no_part = λ is. some.memory (memory_is fault (ap (λ b. b || is_memory fault) (sym some.sends) ∙ is));
       exactly = λ _ honest s h t so within again.
           let d = done honest s h t so within again in
-          let f = outs_front M s h ts some.marks some.later (works s h) (sym (answers_are_outs M grows s h ts)
-          ∙ sym (sent_are M grows holds' s h t (entries_of group) ts front dones d es bytes) ∙ some.whole) in
+          let f = outs_prefix M s h ts some.marks some.later (works s h) (sym (answers_are_outs M grows s h ts)
+          ∙ sym (sent_are M grows holds' s h t (entries_of group) ts prefix dones d es bytes) ∙ some.whole) in
           record {
             worked = f.first;
             unprocessed = f.others;
@@ -261,13 +261,13 @@ broken_sent M grows holds holds' gave p q pending mid messages count taken ends 
           let d = done (clean_honest clean) s h t so within again in
           lived_all M (StandsFor holds' s) s h p.confirms t ts some.marks some.part some.unsent some.later (works s h)
           (now_stands M holds' s h t _ (entries_of group) ts dones d es)
-          (sym (sent_are M grows holds' s h t (entries_of group) ts front dones d es bytes) ∙ some.whole) some.begun some.next;
+          (sym (sent_are M grows holds' s h t (entries_of group) ts prefix dones d es bytes) ∙ some.whole) some.begun some.next;
       crash = λ honest firm s h t so within again.
           let d = done honest s h t so within again in
           leaves_map M holds' (λ x r. Stands M x r s (grown h (kept_in ts)) (t ++ settled_in p.confirms (bytes_of ts) some.marks))
           (λ x r. Lived M (Stands M x r s) s h p.confirms t ts some.marks some.part)
           (λ x r stands. lived_all M (Stands M x r s) s h p.confirms t ts some.marks some.part some.unsent some.later (works s h) stands
-          (sym (sent_are M grows holds' s h t (entries_of group) ts front dones d es bytes) ∙ some.whole) some.begun some.next)
+          (sym (sent_are M grows holds' s h t (entries_of group) ts prefix dones d es bytes) ∙ some.whole) some.begun some.next)
           (firm_leaves M holds' s (grown h (kept_in ts)) _ (firm_still honest firm)
           (now_stands M holds' s h t (settled_in p.confirms (bytes_of ts) some.marks) (entries_of group) ts dones d es));
       few = λ honest clean t again h. (
@@ -303,22 +303,22 @@ both_included t pending mid more pending' within f is i there =
 
 pub turned : (M : Model) → HistoriesGrow M → (holds holds' : KeeperState M) (gave : List Moment → Type 0) (p q : PortState) (pending mid pending' : List ℕ)
     (messages : List (List ℕ)) (count : ℕ)
-    (taken : List (Request × Moment)) (ends : Bool) (group : List (Request × Moment)) (front : List (List ℕ)) (dones list : List Done) (stuck : Bool)
+    (taken : List (Request × Moment)) (ends : Bool) (group : List (Request × Moment)) (prefix : List (List ℕ)) (dones list : List Done) (stuck : Bool)
     (rest : Next) (counts : SessionCounts)
-    → Gathers gave (take count messages) taken ends → group ≡ taken → front ≡ take count messages
+    → Gathers gave (take count messages) taken ends → group ≡ taken → prefix ≡ take count messages
     → (holds'.is_honest → (s : M.State) (h : History) (t : List ℕ) → StandsFor holds s h t → Includes t pending → All (IsUnsettled t) (entries_of group)
     → Performed holds' s h t (entries_of group) dones)
     → ((u : List ℕ) → Includes u pending → Includes u mid)
     → (holds'.is_honest → (u : List ℕ) → All (IsUnsettled u) (entries_of group) → FewHave holds u pending → FewHave holds' u mid) → length pending' ≤ 16
-    → SentAll p q front (wires front (answers_in list)) mid pending' → list ≡ dones → rest ≡ rest_by (ends && last_zero (answers_in list)) stuck
-    → counts ≡ tallied front (repeats_in list)
+    → SentAll p q prefix (wires prefix (answers_in list)) mid pending' → list ≡ dones → rest ≡ rest_by (ends && last_zero (answers_in list)) stuck
+    → counts ≡ tallied prefix (repeats_in list)
     → Turned holds holds' gave p q pending pending' (take count messages) (lasts rest) counts
-turned M grows holds holds' gave p q pending mid pending' messages count taken ends group front dones list stuck rest counts gathers same same_front performed
+turned M grows holds holds' gave p q pending mid pending' messages count taken ends group prefix dones list stuck rest counts gathers same same_prefix performed
     handed few size sent same_list is counts_are =
-    let all = subst (λ l. SentAll p q front (wires front (answers_in l)) mid pending') same_list sent in
+    let all = subst (λ l. SentAll p q prefix (wires prefix (answers_in l)) mid pending') same_list sent in
     let ts = gathers.timed in
     let es : entries_of group ≡ kept_in ts = ap entries_of same ∙ gathers.entries in
-    let bytes : front ≡ bytes_of ts = same_front ∙ gathers.bytes in
+    let bytes : prefix ≡ bytes_of ts = same_prefix ∙ gathers.bytes in
     record {
       timed = ts;
       marks = all.marks;
@@ -343,12 +343,12 @@ turned M grows holds holds' gave p q pending mid pending' messages count taken e
                 let both = and_true ends (last_zero (answers_in list)) (ended_so (ends && last_zero (answers_in list)) stuck (sym (ap lasts is) ∙ over)) in
                 ends_last M s h ts (answers_in dones) (gathers.ended both.0) says (sym (ap (λ l. last_zero (answers_in l)) same_list) ∙ both.1);
             stands = now_stands M holds' s h t _ (entries_of group) ts dones d es;
-            sent = all.whole ∙ sent_are M grows holds' s h t (entries_of group) ts front dones d es bytes;
-            counts_are = counts_are ∙ ap (λ l. tallied front (repeats_in l)) same_list ∙ ap (λ f. tallied f (repeats_in dones)) bytes
+            sent = all.whole ∙ sent_are M grows holds' s h t (entries_of group) ts prefix dones d es bytes;
+            counts_are = counts_are ∙ ap (λ l. tallied prefix (repeats_in l)) same_list ∙ ap (λ f. tallied f (repeats_in dones)) bytes
                 ∙ ap (tallied (bytes_of ts)) (d.repeated ∙ ap (repeats h) es) ∙ tallied_is ts h;
           };
       few = λ honest t again h.
-          few_sent M holds' p.confirms t mid pending' front ts all.marks bytes all.handed size
+          few_sent M holds' p.confirms t mid pending' prefix ts all.marks bytes all.handed size
           (few honest t (subst (All (IsUnsettled t)) (sym es) (group_unsettled p.confirms t ts all.marks again)) h);
     }
 
@@ -383,10 +383,10 @@ enough (t ∷ ts) list is =
     let p = enough_by (class_of t.bytes) (timed_entry t) (kept_in ts) list is in
     (p.0, enough ts (left_by (class_of t.bytes) list) p.1)
 
-pub are_enough : (gave : List Moment → Type 0) (front : List (List ℕ)) (taken : List (Request × Moment)) (ends : Bool) (slice : List (List ℕ))
+pub are_enough : (gave : List Moment → Type 0) (prefix : List (List ℕ)) (taken : List (Request × Moment)) (ends : Bool) (slice : List (List ℕ))
     (group : List (Request × Moment)) (dones list : List Done)
-    → Gathers gave front taken ends → slice ≡ front → group ≡ taken → length dones ≡ length group → list ≡ dones → AreEnough slice (answers_in list)
-are_enough gave front taken ends slice group dones list gathers same same_group count same_list =
+    → Gathers gave prefix taken ends → slice ≡ prefix → group ≡ taken → length dones ≡ length group → list ≡ dones → AreEnough slice (answers_in list)
+are_enough gave prefix taken ends slice group dones list gathers same same_group count same_list =
     subst (λ f. AreEnough f (answers_in list)) (sym (same ∙ gathers.bytes))
     (enough gathers.timed (answers_in list) (length-map list (λ (d : Done). d.answer) ∙ ap length same_list ∙ count ∙ ap length same_group
     ∙ sym (length-map taken entry_of) ∙ ap length gathers.entries))

@@ -41,8 +41,8 @@ cut_more joins held mid r1 r2 is =
     ap cut (sym (append_assoc held r1 r2)) ∙ joins (held ++ r1) r2 ∙ ap (λ (w : List ℕ). ((cut (held ++ r1)).0 ++ (cut (w ++ r2)).0, (cut (w ++ r2)).1))
     (sym is)
 
-front_more : CutJoins → (held mid r1 r2 : List ℕ) → mid ≡ (cut (held ++ r1)).1 → (cut (held ++ r1)).0 ++ (cut (mid ++ r2)).0 ≡ (cut (held ++ (r1 ++ r2))).0
-front_more joins held mid r1 r2 is = sym (ap (λ (x : List (List ℕ) × List ℕ). x.0) (cut_more joins held mid r1 r2 is))
+prefix_more : CutJoins → (held mid r1 r2 : List ℕ) → mid ≡ (cut (held ++ r1)).1 → (cut (held ++ r1)).0 ++ (cut (mid ++ r2)).0 ≡ (cut (held ++ (r1 ++ r2))).0
+prefix_more joins held mid r1 r2 is = sym (ap (λ (x : List (List ℕ) × List ℕ). x.0) (cut_more joins held mid r1 r2 is))
 
 rest_more : CutJoins → (held mid r1 r2 : List ℕ) → mid ≡ (cut (held ++ r1)).1 → (cut (mid ++ r2)).1 ≡ (cut (held ++ (r1 ++ r2))).1
 rest_more joins held mid r1 r2 is = sym (ap (λ (x : List (List ℕ) × List ℕ). x.1) (cut_more joins held mid r1 r2 is))
@@ -57,7 +57,7 @@ place_more joins held mid r1 r2 begin at place is one two =
       arith,
       one,
       two,
-      ap (λ x. length (joined x)) (front_more joins held mid r1 r2 is),
+      ap (λ x. length (joined x)) (prefix_more joins held mid r1 r2 is),
       ap length (joined-append a b),
       length-append (joined a)
           (joined b),
@@ -75,7 +75,7 @@ whole_more M grows joins holds mid new gave gave' gave'' p q r ids ids' ids'' he
   came = consumes_more p.coming q.coming r.coming one.received two.received one.came two.came;
   rest_is = two.rest_is ∙ rest_more joins held left one.received two.received one.rest_is;
   at = place_more joins held left one.received two.received begin at place one.rest_is one.at two.at;
-  turned = subst (λ f. Turned holds new gave'' p r ids ids'' f true (plus counts counts')) (front_more joins held left one.received two.received one.rest_is)
+  turned = subst (λ f. Turned holds new gave'' p r ids ids'' f true (plus counts counts')) (prefix_more joins held left one.received two.received one.rest_is)
       (turned_more M grows holds mid new gave gave' gave'' p q r ids ids' ids'' (cut (held ++ one.received)).0 (cut (left ++ two.received)).0 true counts
       counts' one.turned two.turned honest_too moments);
 }
@@ -92,13 +92,13 @@ stopped_more M grows joins holds mid new gave gave' gave'' p q r ids ids' ids'' 
       received = one.received ++ two.received;
       came = consumes_more p.coming q.coming r.coming one.received two.received one.came two.came;
       worked = record {
-        front = a ++ w.front;
+        prefix = a ++ w.prefix;
         others = w.others;
-        parts = sym (front_more joins held left one.received two.received one.rest_is) ∙ ap (λ x. a ++ x) w.parts ∙ sym (append_assoc a w.front w.others);
+        parts = sym (prefix_more joins held left one.received two.received one.rest_is) ∙ ap (λ x. a ++ x) w.parts ∙ sym (append_assoc a w.prefix w.others);
         all = w.all;
         zero = w.zero;
-        at = omega (arith, one.at, w.at, ap length (joined-append a w.front), length-append (joined a) (joined w.front));
-        turned = turned_more M grows holds mid new gave gave' gave'' p q r ids ids' ids'' a w.front (lasts rest) counts counts' one.turned w.turned honest_too
+        at = omega (arith, one.at, w.at, ap length (joined-append a w.prefix), length-append (joined a) (joined w.prefix));
+        turned = turned_more M grows holds mid new gave gave' gave'' p q r ids ids' ids'' a w.prefix (lasts rest) counts counts' one.turned w.turned honest_too
             moments;
       };
     }
@@ -114,7 +114,7 @@ life_more M grows joins holds mid new gave gave' gave'' p q r ids ids' held rest
     honest_too firm_too moments = record {
       received = one.received ++ two.received;
       came = consumes_more p.coming q.coming r.coming one.received two.received one.came two.came;
-      broken = subst (λ f. Broken holds new gave'' p r ids f exact want faulted) (front_more joins held rest one.received two.received one.rest_is)
+      broken = subst (λ f. Broken holds new gave'' p r ids f exact want faulted) (prefix_more joins held rest one.received two.received one.rest_is)
           (turned_broken M grows holds mid new gave gave' gave'' p q r ids ids' (cut (held ++ one.received)).0 (cut (rest ++ two.received)).0 counts exact want
           faulted faulted' one.turned two.broken faulted_too clean_honest honest_too firm_too moments);
     }
@@ -150,11 +150,11 @@ whole_none M holds gave p ids none = record {
 -- ---- what came in a turn
 
 heard_turned : (M : Model) → HistoriesGrow M → (holds new : KeeperState M) → (new.is_honest → holds.is_honest)
-    → (gave : List Moment → Type 0) (p q r : PortState) (ids ids' : List ℕ) (front : List (List ℕ)) (going : Bool) (counts : SessionCounts) → IsHearing p q
-    → Turned holds new gave q r ids ids' front going counts → Turned holds new gave p r ids ids' front going counts
-heard_turned M grows holds new honest gave p q r ids ids' front going counts hearing t =
-    subst (λ c. Turned holds new gave p r ids ids' front going c) (none_plus counts)
-    (turned_more M grows holds holds new (λ ts. ts ≡ []) gave gave p q r ids ids ids' [] front going none_counted counts
+    → (gave : List Moment → Type 0) (p q r : PortState) (ids ids' : List ℕ) (prefix : List (List ℕ)) (going : Bool) (counts : SessionCounts) → IsHearing p q
+    → Turned holds new gave q r ids ids' prefix going counts → Turned holds new gave p r ids ids' prefix going counts
+heard_turned M grows holds new honest gave p q r ids ids' prefix going counts hearing t =
+    subst (λ c. Turned holds new gave p r ids ids' prefix going c) (none_plus counts)
+    (turned_more M grows holds holds new (λ ts. ts ≡ []) gave gave p q r ids ids ids' [] prefix going none_counted counts
     (turned_quiet M holds (λ ts. ts ≡ []) p q ids refl (hearing_replied p q hearing)) t honest (gave_later gave))
 
 heard_came : (p q r : PortState) (before after : Held) (messages : List (List ℕ)) (fault : Option FrameFault) → (h : Heard p q before after messages fault)
@@ -169,15 +169,15 @@ pub whole_heard : (M : Model) → HistoriesGrow M → (holds new : KeeperState M
     → Whole holds new gave p r ids ids' before.bytes after.bytes before.at after.at counts
 whole_heard M grows holds new honest gave p q r ids ids' before after messages slice fault begin place rest counts h hearing same goes w quiet =
     let msgs : (cut (before.bytes ++ h.received)).0 ≡ messages = ap (λ (x : List (List ℕ) × List ℕ). x.0) h.took.cut_is in
-    let front : w.front ≡ messages = sym (sym same ∙ w.parts ∙ ap (λ x. w.front ++ x) (w.all (ap goes_on goes)) ∙ append-nil w.front) in
+    let prefix : w.prefix ≡ messages = sym (sym same ∙ w.parts ∙ ap (λ x. w.prefix ++ x) (w.all (ap goes_on goes)) ∙ append-nil w.prefix) in
     record {
       received = h.received;
       came = heard_came p q r before after messages fault h quiet;
       rest_is = sym (ap (λ (x : List (List ℕ) × List ℕ). x.1) h.took.cut_is);
       at = h.took.at ∙ ap (λ x. before.at + length (joined x)) (sym msgs);
-      turned = subst (λ f. Turned holds new gave p r ids ids' f true counts) (front ∙ sym msgs)
-          (subst (λ b. Turned holds new gave p r ids ids' w.front b counts) (ap lasts goes)
-          (heard_turned M grows holds new honest gave p q r ids ids' w.front (lasts rest) counts hearing w.turned));
+      turned = subst (λ f. Turned holds new gave p r ids ids' f true counts) (prefix ∙ sym msgs)
+          (subst (λ b. Turned holds new gave p r ids ids' w.prefix b counts) (ap lasts goes)
+          (heard_turned M grows holds new honest gave p q r ids ids' w.prefix (lasts rest) counts hearing w.turned));
     }
 
 pub stopped_heard : (M : Model) → HistoriesGrow M → (holds new : KeeperState M) → (new.is_honest → holds.is_honest)
@@ -193,13 +193,13 @@ stopped_heard M grows holds new honest gave p q r ids ids' before after messages
       received = h.received;
       came = heard_came p q r before after messages fault h quiet;
       worked = record {
-        front = w.front;
+        prefix = w.prefix;
         others = w.others;
         parts = ap (λ (x : List (List ℕ) × List ℕ). x.0) h.took.cut_is ∙ sym same ∙ w.parts;
         all = w.all;
         zero = w.zero;
-        at = w.at ∙ ap (λ n. n + length (joined w.front)) begin_is;
-        turned = heard_turned M grows holds new honest gave p q r ids ids' w.front (lasts rest) counts hearing w.turned;
+        at = w.at ∙ ap (λ n. n + length (joined w.prefix)) begin_is;
+        turned = heard_turned M grows holds new honest gave p q r ids ids' w.prefix (lasts rest) counts hearing w.turned;
       };
     })
 

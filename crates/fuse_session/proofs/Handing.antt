@@ -78,13 +78,13 @@ at_most_kept M before holds holds' pending keeps h = record {
 -- where the port confirms, the answers to a group settle all its ids
 pub hands_group : (M : Model) → (before : Records) (holds : KeeperState M) (gave : List Moment → Type 0) (p q : PortState) (mid pending' : List ℕ)
     (messages : List (List ℕ)) (taken : List (Request × Moment)) (ends : Bool)
-    (group : List (Request × Moment)) (front answers' : List (List ℕ)) → Gathers gave messages taken ends → group ≡ taken → front ≡ messages → p.confirms ≡ true
-    → SentAll p q front answers' mid pending'
+    (group : List (Request × Moment)) (prefix answers' : List (List ℕ)) → Gathers gave messages taken ends → group ≡ taken → prefix ≡ messages → p.confirms ≡ true
+    → SentAll p q prefix answers' mid pending'
     → HandsOn before holds (mid ++ ids_in (entries_of group)) → HandsOn before holds pending'
-hands_group M before holds gave p q mid pending' messages taken ends group front answers' gathers same same_front confirms all h =
-    let bytes : front ≡ bytes_of gathers.timed = same_front ∙ gathers.bytes in
+hands_group M before holds gave p q mid pending' messages taken ends group prefix answers' gathers same same_prefix confirms all h =
+    let bytes : prefix ≡ bytes_of gathers.timed = same_prefix ∙ gathers.bytes in
     let full : length all.marks ≡ length gathers.timed = all.full ∙ ap length bytes ∙ length-map gathers.timed (λ (t : Timed). t.bytes) in
-    subst (HandsOn before holds) (sym (all.handed ∙ ap (λ c. mid ++ settled_in c front all.marks) confirms ∙ ap (λ f. mid ++ settled_in true f all.marks) bytes
+    subst (HandsOn before holds) (sym (all.handed ∙ ap (λ c. mid ++ settled_in c prefix all.marks) confirms ∙ ap (λ f. mid ++ settled_in true f all.marks) bytes
     ∙ ap (λ (x : List ℕ). mid ++ x) (all_settled gathers.timed all.marks full ∙ ap ids_in (sym gathers.entries ∙ sym (ap entries_of same))))) h
 
 -- at first nothing is to be handed on
@@ -155,10 +155,10 @@ pub few_same : (M : Model) → (holds : KeeperState M) (c : Bool) (u more : List
 few_same M holds c u more ts h = subst (λ x. FewHave holds x more) (sym (ap (λ (q : List ℕ). u ++ q) (settled_none c (bytes_of ts)) ∙ append-nil u)) h
 
 -- the answers to a group were sent, all of them or some
-pub few_sent : (M : Model) → (holds : KeeperState M) (c : Bool) (u mid pending' : List ℕ) (front : List (List ℕ)) (ts : List Timed) (marks : List Mark)
-    → front ≡ bytes_of ts → pending' ≡ mid ++ settled_in c front marks → length pending' ≤ 16
+pub few_sent : (M : Model) → (holds : KeeperState M) (c : Bool) (u mid pending' : List ℕ) (prefix : List (List ℕ)) (ts : List Timed) (marks : List Mark)
+    → prefix ≡ bytes_of ts → pending' ≡ mid ++ settled_in c prefix marks → length pending' ≤ 16
     → FewHave holds u mid → FewHave holds (u ++ settled_in c (bytes_of ts) marks) pending'
-few_sent M holds c u mid pending' front ts marks bytes handed few h =
+few_sent M holds c u mid pending' prefix ts marks bytes handed few h =
     let new = settled_in c (bytes_of ts) marks in
     let is : pending' ≡ mid ++ new = handed ∙ ap (λ f. mid ++ settled_in c f marks) bytes in
     subst (FewHave holds (u ++ new)) (sym is) (few_more M holds u mid new (mid ++ new) (subst (λ x. length x ≤ 16) is few) (includes_left mid new)

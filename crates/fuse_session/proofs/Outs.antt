@@ -63,34 +63,34 @@ outs-append M s h (x ∷ xs) ys =
     ∙ ap (λ g. answered M s (grown h (entries_at x)) x ∷ (outs M s (grown h (entries_at x)) xs ++ outs M s g ys))
     (sym (grown-append h (entries_at x) (kept_in xs)))
 
-front_none : (xs ys : List Timed) → xs ++ ys ≡ [] → xs ≡ []
-front_none [] ys is = refl
-front_none (x ∷ xs) ys is = absurd (cc is)
+prefix_none : (xs ys : List Timed) → xs ++ ys ≡ [] → xs ≡ []
+prefix_none [] ys is = refl
+prefix_none (x ∷ xs) ys is = absurd (cc is)
 
 -- the first answers are those of the first messages
-pub record Front (M : Model) (s : M.State) (h : History) (ts : List Timed) (ms : List Mark) : Type 0 where
+pub record Prefix (M : Model) (s : M.State) (h : History) (ts : List Timed) (ms : List Mark) : Type 0 where
   pub first : List Timed
   pub others : List Timed
   pub parts : ts ≡ first ++ others
   pub works : Works M s h first
   pub sent : replies ms ≡ outs M s h first
 
-front_more : (M : Model) → (s : M.State) (h : History) (t : Timed) (ts : List Timed) (m : Mark) (ms : List Mark) → Works M s h (t ∷ ts)
-    → answered M s (grown h (entries_at t)) t ≡ m.reply → Front M s (grown h (entries_at t)) ts ms → Front M s h (t ∷ ts) (m ∷ ms)
-front_more M s h t ts m ms works is f = record {
+prefix_more : (M : Model) → (s : M.State) (h : History) (t : Timed) (ts : List Timed) (m : Mark) (ms : List Mark) → Works M s h (t ∷ ts)
+    → answered M s (grown h (entries_at t)) t ≡ m.reply → Prefix M s (grown h (entries_at t)) ts ms → Prefix M s h (t ∷ ts) (m ∷ ms)
+prefix_more M s h t ts m ms works is f = record {
   first = t ∷ f.first;
   others = f.others;
   parts = ap (λ (x : List Timed). t ∷ x) f.parts;
-  works = (works.0, elim works.1 [ inl none ↦ inl (front_none f.first f.others (sym f.parts ∙ none)) | inr goes ↦ inr goes ], f.works);
+  works = (works.0, elim works.1 [ inl none ↦ inl (prefix_none f.first f.others (sym f.parts ∙ none)) | inr goes ↦ inr goes ], f.works);
   sent = ap (λ x. x ∷ replies ms) (sym is) ∙ ap (λ x. answered M s (grown h (entries_at t)) t ∷ x) f.sent;
 }
 
-pub outs_front : (M : Model) → (s : M.State) (h : History) (ts : List Timed) (ms : List Mark) (later : List (List ℕ)) → Works M s h ts
-    → outs M s h ts ≡ replies ms ++ later → Front M s h ts ms
-outs_front M s h ts [] later works is = record { first = []; others = ts; parts = refl; works = tt; sent = refl }
-outs_front M s h [] (m ∷ ms) later works is = absurd (cc is)
-outs_front M s h (t ∷ ts) (m ∷ ms) later works is = front_more M s h t ts m ms works (cc is)
-    (outs_front M s (grown h (entries_at t)) ts ms later works.2 (cc is))
+pub outs_prefix : (M : Model) → (s : M.State) (h : History) (ts : List Timed) (ms : List Mark) (later : List (List ℕ)) → Works M s h ts
+    → outs M s h ts ≡ replies ms ++ later → Prefix M s h ts ms
+outs_prefix M s h ts [] later works is = record { first = []; others = ts; parts = refl; works = tt; sent = refl }
+outs_prefix M s h [] (m ∷ ms) later works is = absurd (cc is)
+outs_prefix M s h (t ∷ ts) (m ∷ ms) later works is = prefix_more M s h t ts m ms works (cc is)
+    (outs_prefix M s (grown h (entries_at t)) ts ms later works.2 (cc is))
 
 pub answers-append : (M : Model) → HistoriesGrow M → (s : M.State) (h : History) (xs ys : List Timed)
     → answers M s (grown h (kept_in (xs ++ ys))) (xs ++ ys) ≡ answers M s (grown h (kept_in xs)) xs

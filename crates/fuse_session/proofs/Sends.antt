@@ -45,22 +45,22 @@ sent_first_none p messages answers pending = record {
   handed = sym (append-nil pending);
 }
 
-pub sent_first_more : (a b c : PortState) (front answers left left' : List (List ℕ)) (m bytes : List ℕ) (p q r : List ℕ) → left ≡ bytes ∷ left'
-    → SentFirst a b front answers left p q → SentNext b c m bytes q r
-    → SentFirst a c (front ++ m ∷ []) answers left' p r
-sent_first_more a b c front answers left left' m bytes p q r is one two = record {
+pub sent_first_more : (a b c : PortState) (prefix answers left left' : List (List ℕ)) (m bytes : List ℕ) (p q r : List ℕ) → left ≡ bytes ∷ left'
+    → SentFirst a b prefix answers left p q → SentNext b c m bytes q r
+    → SentFirst a c (prefix ++ m ∷ []) answers left' p r
+sent_first_more a b c prefix answers left left' m bytes p q r is one two = record {
   marks = one.marks ++ two.mark ∷ [];
   whole = one.whole ∙ ap (λ l. replies one.marks ++ l) (is ∙ ap (λ x. x ∷ left') (sym two.reply))
       ∙ sym (append_assoc (replies one.marks) (two.mark.reply ∷ []) left') ∙ ap (λ x. x ++ left') (sym (replies-append one.marks (two.mark ∷ [])));
-  full = length-append one.marks (two.mark ∷ []) ∙ ap (λ n. n + 1) one.full ∙ sym (length-append front (m ∷ []));
+  full = length-append one.marks (two.mark ∷ []) ∙ ap (λ n. n + 1) one.full ∙ sym (length-append prefix (m ∷ []));
   replied = replied_more a b c one.marks (two.mark ∷ []) [] one.replied (replied_one b c two.mark two.sent);
   failures = two.sent.failures ∙ one.failures;
   quiet = quiet_more a b c one.quiet two.sent.quiet;
-  handed = two.handed ∙ ap (λ (x : List ℕ). x ++ settles b.confirms m two.mark) one.handed ∙ append_assoc p (settled_in a.confirms front one.marks)
+  handed = two.handed ∙ ap (λ (x : List ℕ). x ++ settles b.confirms m two.mark) one.handed ∙ append_assoc p (settled_in a.confirms prefix one.marks)
       (settles b.confirms m two.mark)
-      ∙ ap (λ x. p ++ (settled_in a.confirms front one.marks ++ settles x m two.mark)) one.quiet.confirms
-      ∙ ap (λ (x : List ℕ). p ++ (settled_in a.confirms front one.marks ++ x)) (sym (append-nil (settles a.confirms m two.mark)))
-      ∙ ap (λ (x : List ℕ). p ++ x) (sym (settled-append a.confirms front (m ∷ []) one.marks (two.mark ∷ []) one.full));
+      ∙ ap (λ x. p ++ (settled_in a.confirms prefix one.marks ++ settles x m two.mark)) one.quiet.confirms
+      ∙ ap (λ (x : List ℕ). p ++ (settled_in a.confirms prefix one.marks ++ x)) (sym (append-nil (settles a.confirms m two.mark)))
+      ∙ ap (λ (x : List ℕ). p ++ x) (sym (settled-append a.confirms prefix (m ∷ []) one.marks (two.mark ∷ []) one.full));
 }
 
 -- at the message at i
@@ -83,10 +83,10 @@ sent_more a b c ms i m bytes list list' all p q r lt at is left one two =
     subst (λ f. SentFirst a c f all (wires (drop (i + 1) ms) list') p r) (taken_at ms i m bytes lt at is) step
 
 -- an answer wasn't sent whole
-some_by : (fault : Fault) (a b c : PortState) (front answers left left' : List (List ℕ)) (bytes : List ℕ) (p q : List ℕ) → left ≡ bytes ∷ left'
-    → SentFirst a b front answers left p q → SendFails fault b c bytes
+some_by : (fault : Fault) (a b c : PortState) (prefix answers left left' : List (List ℕ)) (bytes : List ℕ) (p q : List ℕ) → left ≡ bytes ∷ left'
+    → SentFirst a b prefix answers left p q → SendFails fault b c bytes
     → SentSome a c answers fault
-some_by Memory a b c front answers left left' bytes p q is one same = record {
+some_by Memory a b c prefix answers left left' bytes p q is one same = record {
   marks = one.marks;
   later = left;
   part = [];
@@ -100,7 +100,7 @@ some_by Memory a b c front answers left left' bytes p q is one same = record {
   failed = ap (λ (x : PortState). x.failures) same ∙ one.failures;
   quiet = subst (IsQuiet a) (sym same) one.quiet;
 }
-some_by PortFailed a b c front answers left left' bytes p q is one two = record {
+some_by PortFailed a b c prefix answers left left' bytes p q is one two = record {
   marks = one.marks;
   later = left;
   part = two.part;
@@ -114,7 +114,7 @@ some_by PortFailed a b c front answers left left' bytes p q is one two = record 
   failed = omega (arith, two.failures, one.failures);
   quiet = quiet_more a b c one.quiet two.quiet;
 }
-some_by (Store x) a b c front answers left left' bytes p q is one two = absurd two
+some_by (Store x) a b c prefix answers left left' bytes p q is one two = absurd two
 
 pub sent_some : (fault : Fault) (a b c : PortState) (ms : List (List ℕ)) (i : ℕ) (m bytes : List ℕ) (list : List Said) (all : List (List ℕ)) (p q : List ℕ)
     → i < length ms → m ≡ get_or ms i m → bytes ≡ m
@@ -125,9 +125,9 @@ sent_some fault a b c ms i m bytes list all p q lt at is one two =
     (head_wire (class_of bytes) (unique_of bytes) list) p q
     (ap (λ x. wires x list) (left_at ms i m bytes lt at is)) one two
 
-pub sent_all : (a b : PortState) (ms left all : List (List ℕ)) (front : List (List ℕ)) (p q : List ℕ) → left ≡ [] → front ≡ ms
-    → SentFirst a b front all left p q → SentAll a b ms all p q
-sent_all a b ms left all front p q none same one = record {
+pub sent_all : (a b : PortState) (ms left all : List (List ℕ)) (prefix : List (List ℕ)) (p q : List ℕ) → left ≡ [] → prefix ≡ ms
+    → SentFirst a b prefix all left p q → SentAll a b ms all p q
+sent_all a b ms left all prefix p q none same one = record {
   marks = one.marks;
   whole = sym (one.whole ∙ ap (λ x. replies one.marks ++ x) none ∙ append-nil (replies one.marks));
   full = one.full ∙ ap length same;

@@ -183,7 +183,7 @@ pub life_worked : (M : Model) → HistoriesGrow M → (holds new : KeeperState M
 life_worked M grows holds new honest gave p q r ids ids' before after messages slice fault begin place rest counts exact want faulted inexact h hearing same w
     quiet clean_honest firm_still =
     life_heard M grows holds new honest gave p q r ids before after messages slice fault exact want exact want faulted faulted h hearing same refl refl
-    (turned_life M holds new gave q r ids ids' w.front w.others slice (lasts rest) counts exact want faulted inexact w.turned w.parts clean_honest firm_still)
+    (turned_life M holds new gave q r ids ids' w.prefix w.others slice (lasts rest) counts exact want faulted inexact w.turned w.parts clean_honest firm_still)
     (λ x. x) quiet clean_honest
 
 pub ends_finished : (M : Model) → HistoriesGrow M → (holds new : KeeperState M) → (new.is_honest → holds.is_honest)
@@ -411,7 +411,7 @@ exact_life M holds new gave p q ids held store memory faulted stood how f l =
       timed = b.timed;
       others = b.others;
       marks = b.marks;
-      front = b.front;
+      prefix = b.prefix;
       moments = b.moments;
       replied = subst (Replied p q b.marks) (b.no_part how) b.replied;
       exactly = λ is s h t so within again.
@@ -463,7 +463,7 @@ few_settled M holds new gave p q store memory faulted clean_honest is l =
       others = b.others;
       marks = b.marks;
       part = b.part;
-      front = b.front;
+      prefix = b.prefix;
       moments = b.moments;
       replied = b.replied;
       few = λ s h t so again.

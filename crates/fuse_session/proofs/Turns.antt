@@ -73,14 +73,14 @@ again_both c c' t xs ys ms ns same full each =
 
 -- messages, and then others
 pub turned_more : (M : Model) → HistoriesGrow M → (holds mid new : KeeperState M) (gave gave' gave'' : List Moment → Type 0) (p q r : PortState)
-    (ids ids' ids'' : List ℕ) (front front' : List (List ℕ)) (going : Bool) (counts counts' : SessionCounts)
-    → Turned holds mid gave p q ids ids' front true counts → Turned mid new gave' q r ids' ids'' front' going counts' → (new.is_honest → mid.is_honest)
+    (ids ids' ids'' : List ℕ) (prefix prefix' : List (List ℕ)) (going : Bool) (counts counts' : SessionCounts)
+    → Turned holds mid gave p q ids ids' prefix true counts → Turned mid new gave' q r ids' ids'' prefix' going counts' → (new.is_honest → mid.is_honest)
     → ((xs ys : List Moment) → gave xs → gave' ys → gave'' (xs ++ ys))
-    → Turned holds new gave'' p r ids ids'' (front ++ front') going (plus counts counts')
-turned_more M grows holds mid new gave gave' gave'' p q r ids ids' ids'' front front' going counts counts' one two honest_too moments = record {
+    → Turned holds new gave'' p r ids ids'' (prefix ++ prefix') going (plus counts counts')
+turned_more M grows holds mid new gave gave' gave'' p q r ids ids' ids'' prefix prefix' going counts counts' one two honest_too moments = record {
   timed = one.timed ++ two.timed;
   marks = one.marks ++ two.marks;
-  bytes = ap (λ f. f ++ front') one.bytes ∙ ap (λ f. bytes_of one.timed ++ f) two.bytes ∙ sym (bytes-append one.timed two.timed);
+  bytes = ap (λ f. f ++ prefix') one.bytes ∙ ap (λ f. bytes_of one.timed ++ f) two.bytes ∙ sym (bytes-append one.timed two.timed);
   full = length-append one.marks two.marks ∙ ap (λ n. n + length two.marks) one.full ∙ ap (λ n. length one.timed + n) two.full
       ∙ sym (length-append one.timed two.timed);
   moments = gave_more gave gave' gave'' one.timed two.timed moments one.moments two.moments;
@@ -164,12 +164,12 @@ exact_more M grows stood stood' s h c c' t xs ys ms ns same full goes sent f e =
 
 pub turned_broken : (M : Model) → HistoriesGrow M → (holds mid new : KeeperState M) (gave gave' gave'' : List Moment → Type 0) (p q r : PortState)
     (ids ids' : List ℕ)
-    (front messages : List (List ℕ)) (counts : SessionCounts) (exact want : Bool) (faulted faulted' : Type 0)
-    → Turned holds mid gave p q ids ids' front true counts → Broken mid new gave' q r ids' messages exact want faulted' → (faulted' → faulted)
+    (prefix messages : List (List ℕ)) (counts : SessionCounts) (exact want : Bool) (faulted faulted' : Type 0)
+    → Turned holds mid gave p q ids ids' prefix true counts → Broken mid new gave' q r ids' messages exact want faulted' → (faulted' → faulted)
     → (new.is_clean → new.is_honest) → (new.is_honest → mid.is_honest) → (mid.is_honest → IsFirm holds → IsFirm mid)
     → ((xs ys : List Moment) → gave xs → gave' ys → gave'' (xs ++ ys))
-    → Broken holds new gave'' p r ids (front ++ messages) exact want faulted
-turned_broken M grows holds mid new gave gave' gave'' p q r ids ids' front messages counts exact want faulted faulted' one two faulted_too clean_honest
+    → Broken holds new gave'' p r ids (prefix ++ messages) exact want faulted
+turned_broken M grows holds mid new gave gave' gave'' p q r ids ids' prefix messages counts exact want faulted faulted' one two faulted_too clean_honest
     honest_too firm_too moments =
     let c = p.confirms in
     let ts = one.timed ++ two.timed in
@@ -179,7 +179,7 @@ turned_broken M grows holds mid new gave gave' gave'' p q r ids ids' front messa
       others = two.others;
       marks = marks;
       part = two.part;
-      front = ap (λ f. f ++ messages) one.bytes ∙ ap (λ f. bytes_of one.timed ++ f) two.front
+      prefix = ap (λ f. f ++ messages) one.bytes ∙ ap (λ f. bytes_of one.timed ++ f) two.prefix
           ∙ sym (append_assoc (bytes_of one.timed) (bytes_of two.timed) two.others)
           ∙ ap (λ f. f ++ two.others) (sym (bytes-append one.timed two.timed));
       moments = gave_first gave gave' gave'' one.timed two.timed moments one.moments two.moments;
@@ -220,16 +220,16 @@ turned_broken M grows holds mid new gave gave' gave'' p q r ids ids' front messa
 
 -- messages that were answered, as a life, with others after them
 pub turned_life : (M : Model) → (holds new : KeeperState M) (gave : List Moment → Type 0) (p q : PortState) (ids ids' : List ℕ)
-    (front others messages : List (List ℕ)) (going : Bool) (counts : SessionCounts) (exact want : Bool) (faulted : Type 0) → exact ≡ false
-    → Turned holds new gave p q ids ids' front going counts → messages ≡ front ++ others → (new.is_clean → new.is_honest)
+    (prefix others messages : List (List ℕ)) (going : Bool) (counts : SessionCounts) (exact want : Bool) (faulted : Type 0) → exact ≡ false
+    → Turned holds new gave p q ids ids' prefix going counts → messages ≡ prefix ++ others → (new.is_clean → new.is_honest)
     → (new.is_honest → IsFirm holds → IsFirm new)
     → Broken holds new gave p q ids messages exact want faulted
-turned_life M holds new gave p q ids ids' front others messages going counts exact want faulted inexact one parts clean_honest firm_still = record {
+turned_life M holds new gave p q ids ids' prefix others messages going counts exact want faulted inexact one parts clean_honest firm_still = record {
   timed = one.timed;
   others = others;
   marks = one.marks;
   part = [];
-  front = parts ∙ ap (λ f. f ++ others) one.bytes;
+  prefix = parts ∙ ap (λ f. f ++ others) one.bytes;
   moments = gave_all gave one.timed one.moments;
   replied = one.replied;
   no_part = λ _. refl;
@@ -315,7 +315,7 @@ pub worked_part : (M : Model) → (holds new : KeeperState M) (gave : List Momen
     → place ≡ begin + length (joined (take (i + n) messages))
     → Turned holds new gave p q ids ids' (take (i + n) messages) (lasts rest) counts → ProcessedAll holds new gave p q ids ids' messages rest begin place counts
 worked_part M holds new gave p q ids ids' messages slice i n rest begin place counts same over zero place_is t = record {
-  front = take (i + n) messages;
+  prefix = take (i + n) messages;
   others = drop (i + n) messages;
   parts = sym (take-append-drop (i + n) messages);
   all = λ is. absurd (cc (is, over));
@@ -329,7 +329,7 @@ pub worked_all : (M : Model) → (holds new : KeeperState M) (gave : List Moment
     → length messages ≤ i → place ≡ begin + length (joined (take i messages))
     → Turned holds new gave p q ids ids' (take i messages) true counts → ProcessedAll holds new gave p q ids ids' messages GoesOnHere begin place counts
 worked_all M holds new gave p q ids ids' messages i begin place counts past place_is t = record {
-  front = take i messages;
+  prefix = take i messages;
   others = [];
   parts = sym (append-nil (take i messages) ∙ take_all i messages past);
   all = λ _. refl;

@@ -15,7 +15,7 @@ use Rattle.fuse_session.proofs.Settled.{only_one}
 
 pub took_none : (h : Held) (messages : List (List ℕ)) → messages ≡ [] → h.fault ≡ None → TookSome h h messages
 took_none h messages none ready = subst (TookSome h h) (sym none) (record {
-  front = refl;
+  prefix = refl;
   rest = refl;
   at = omega arith;
   fault = ready;
@@ -29,7 +29,7 @@ took_more a b c ms ms' m pushed one g =
     ap length (joined-append ms (m ∷ []) ∙ ap (λ (x : List ℕ). joined ms ++ x) (append-nil m)) ∙ length-append (joined ms) m in
     let low = g.message.low in
     subst (TookSome a c) (sym pushed) (record {
-      front = one.front ∙ ap (λ (x : List (List ℕ) × List ℕ). ms ++ x.0) g.first ∙ sym (append_assoc ms (m ∷ []) (cut c.bytes).0);
+      prefix = one.prefix ∙ ap (λ (x : List (List ℕ) × List ℕ). ms ++ x.0) g.first ∙ sym (append_assoc ms (m ∷ []) (cut c.bytes).0);
       rest = one.rest ∙ ap (λ (x : List (List ℕ) × List ℕ). x.1) g.first;
       at = omega (arith, g.at, one.at, size);
       fault = g.fault ∙ one.fault;
@@ -47,7 +47,7 @@ both (a, b) x y e f = cc
 took_all : (a b c : Held) (ms : List (List ℕ)) (fault : Option FrameFault) → TookSome a b ms → HasNone b.bytes → bad_length b.at b.bytes ≡ fault
     → c.bytes ≡ b.bytes → c.at ≡ b.at → (fault ≡ None → IsOpen c) → TookAll a c ms fault
 took_all a b c ms fault one none bad same same_at ready = record {
-  cut_is = both (cut a.bytes) ms c.bytes (one.front ∙ ap (λ (x : List (List ℕ) × List ℕ). ms ++ x.0) none ∙ append-nil ms)
+  cut_is = both (cut a.bytes) ms c.bytes (one.prefix ∙ ap (λ (x : List (List ℕ) × List ℕ). ms ++ x.0) none ∙ append-nil ms)
       (one.rest ∙ ap (λ (x : List (List ℕ) × List ℕ). x.1) none ∙ sym same);
   at = same_at ∙ one.at;
   each = one.each;

@@ -107,7 +107,7 @@ pub record SentExactly {M : Model} (k k' : KeeperState M) (stood : M.State → H
   pub timed : List Timed
   pub others : List (List ℕ)
   pub marks : List Mark
-  pub front : (cut (held ++ received)).0 ≡ bytes_of timed ++ others
+  pub prefix : (cut (held ++ received)).0 ≡ bytes_of timed ++ others
   pub moments : GaveFirst gave timed
   pub replied : Replied old new marks []
   pub exactly : k'.is_honest → (s : M.State) (h : History) (t : List ℕ) → StandsFor k s h t → Includes t pending

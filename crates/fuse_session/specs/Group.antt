@@ -45,9 +45,9 @@ pub record LastDestroys (timed : List Timed) : Type 0 where
   pub destroy : destroys one.bytes ≡ true
 
 -- requests were read off messages, under moments; a DESTROY may only be the last
-pub record Gathers (gave : List Moment → Type 0) (front : List (List ℕ)) (taken : List (Request × Moment)) (ends : Bool) : Type 0 where
+pub record Gathers (gave : List Moment → Type 0) (prefix : List (List ℕ)) (taken : List (Request × Moment)) (ends : Bool) : Type 0 where
   pub timed : List Timed
-  pub bytes : front ≡ bytes_of timed
+  pub bytes : prefix ≡ bytes_of timed
   pub entries : entries_of taken ≡ kept_in timed
   pub moments : gave (moments_in timed)
   pub no_zero : NoZero timed

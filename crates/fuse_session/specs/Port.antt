@@ -119,7 +119,7 @@ pub record SentPart (old new : PortState) (bytes : List ℕ) : Type 0 where
   pub quiet : IsQuiet old new
 
 -- a prefix of a slice was sent, and this is left of it
-pub record SentFront (old new : PortState) (bytes rest : List ℕ) : Type 0 where
+pub record SentPrefix (old new : PortState) (bytes rest : List ℕ) : Type 0 where
   pub part : List ℕ
   pub parts : bytes ≡ part ++ rest
   pub sent : Appends old.sent new.sent part

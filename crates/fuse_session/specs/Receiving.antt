@@ -18,7 +18,7 @@ pub record IsOpen (h : Held) : Type 0 where
 
 -- the first messages were taken
 pub record TookSome (old new : Held) (messages : List (List ℕ)) : Type 0 where
-  pub front : (cut old.bytes).0 ≡ messages ++ (cut new.bytes).0
+  pub prefix : (cut old.bytes).0 ≡ messages ++ (cut new.bytes).0
   pub rest : (cut old.bytes).1 ≡ (cut new.bytes).1
   pub at : new.at ≡ old.at + length (joined messages)
   pub fault : new.fault ≡ None

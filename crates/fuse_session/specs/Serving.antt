@@ -27,11 +27,11 @@ pub record Answered (M : Model) (stood : History → List ℕ → Type 0) (s : M
 
 -- so it was, whatever the keeper stood for and whatever was settled, where no message comes again; and few of the settled
 -- ids have a record, all of them to be handed on, if so it was before
-pub record Turned {M : Model} (k k' : KeeperState M) (gave : List Moment → Type 0) (old new : PortState) (pending pending' : List ℕ) (front : List (List ℕ))
+pub record Turned {M : Model} (k k' : KeeperState M) (gave : List Moment → Type 0) (old new : PortState) (pending pending' : List ℕ) (prefix : List (List ℕ))
     (going : Bool) (counts : SessionCounts) : Type 0 where
   pub timed : List Timed
   pub marks : List Mark
-  pub bytes : front ≡ bytes_of timed
+  pub bytes : prefix ≡ bytes_of timed
   pub full : length marks ≡ length timed
   pub moments : gave (moments_in timed)
   pub replied : Replied old new marks []
@@ -76,7 +76,7 @@ pub record Broken {M : Model} (k k' : KeeperState M) (gave : List Moment → Typ
   pub others : List (List ℕ)
   pub marks : List Mark
   pub part : List ℕ
-  pub front : messages ≡ bytes_of timed ++ others
+  pub prefix : messages ≡ bytes_of timed ++ others
   pub moments : GaveFirst gave timed
   pub replied : Replied old new marks part
   pub no_part : (store || memory) ≡ true → part ≡ []
@@ -106,13 +106,13 @@ goes_on ZeroUnique = false
 -- messages were processed, all of them where it goes on, and else up to one that stops it
 pub record ProcessedAll {M : Model} (k k' : KeeperState M) (gave : List Moment → Type 0) (old new : PortState) (pending pending' : List ℕ)
     (messages : List (List ℕ)) (rest : Next) (begin place : ℕ) (counts : SessionCounts) : Type 0 where
-  pub front : List (List ℕ)
+  pub prefix : List (List ℕ)
   pub others : List (List ℕ)
-  pub parts : messages ≡ front ++ others
+  pub parts : messages ≡ prefix ++ others
   pub all : goes_on rest ≡ true → others ≡ []
   pub zero : rest ≡ ZeroUnique → StartsZero others
-  pub at : place ≡ begin + length (joined front)
-  pub turned : Turned k k' gave old new pending pending' front (lasts rest) counts
+  pub at : place ≡ begin + length (joined prefix)
+  pub turned : Turned k k' gave old new pending pending' prefix (lasts rest) counts
 
 -- bytes came, and all messages of these and of the bytes held before were processed and answered; this is the rest
 pub record Whole {M : Model} (k k' : KeeperState M) (gave : List Moment → Type 0) (old new : PortState) (pending pending' : List ℕ) (held rest : List ℕ)
@@ -145,7 +145,7 @@ pub record FewSettled {M : Model} (k k' : KeeperState M) (gave : List Moment →
   pub others : List (List ℕ)
   pub marks : List Mark
   pub part : List ℕ
-  pub front : (cut received).0 ≡ bytes_of timed ++ others
+  pub prefix : (cut received).0 ≡ bytes_of timed ++ others
   pub moments : GaveFirst gave timed
   pub replied : Replied old new marks part
   pub few : (s : M.State) (h : History) (t : List ℕ) → StandsFor k s h t → NoneComesAgain old.confirms t (bytes_of timed) marks

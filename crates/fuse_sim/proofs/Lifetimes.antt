@@ -142,8 +142,8 @@ moments-append (x ∷ xs) ys =
     ap (λ (r : List Moment). moment_if (class_of x.bytes) x.moment ++ r) (moments-append xs ys)
     ∙ sym (append_assoc (moment_if (class_of x.bytes) x.moment) (moments_in xs) (moments_in ys))
 
-gave_front : (gave : List Moment → Type 0) (xs ys : List Timed) → GaveFirst gave (xs ++ ys) → GaveFirst gave xs
-gave_front gave xs ys given = (
+gave_prefix : (gave : List Moment → Type 0) (xs ys : List Timed) → GaveFirst gave (xs ++ ys) → GaveFirst gave xs
+gave_prefix gave xs ys given = (
   moments_in ys ++ given.0,
   subst gave (ap (λ (r : List Moment). r ++ given.0) (moments-append xs ys) ∙ append_assoc (moments_in xs) (moments_in ys) given.0)
       given.1,
@@ -153,7 +153,7 @@ pub run_lived : (M : Model) → (stood : History → List ℕ → Type 0) (gave 
     (received : List ℕ) (timed : List Timed) (others : List (List ℕ)) (marks : List Mark) (part : List ℕ)
     → Consumes old.coming new.coming received → (cut received).0 ≡ bytes_of timed ++ others → GaveFirst gave timed → Replied old new marks part
     → Lived M stood s h old.confirms t timed marks part → RanAsLife M stood gave s h t old new
-run_lived M stood gave s h t old new received timed others marks part came front moments replied l =
+run_lived M stood gave s h t old new received timed others marks part came prefix moments replied l =
     let sent = joined (replies marks) ++ part in
     let parts : bytes_of timed ++ others ≡ bytes_of l.worked ++ (bytes_of l.unprocessed ++ others) =
     ap (λ (x : List Timed). bytes_of x ++ others) l.parts ∙ ap (λ (x : List (List ℕ)). x ++ others) (map-append (λ (x : Timed). x.bytes) l.worked l.unprocessed)
@@ -164,13 +164,13 @@ run_lived M stood gave s h t old new received timed others marks part came front
     ap (λ (x : List ℕ). joined (replies marks) ++ x) l.begun ∙ sym (append_assoc (joined (replies marks)) part l.unsent) in
     record {
       life = record { received = received; sent = sent; worked = l.worked; settled = settled_in old.confirms (bytes_of l.worked) marks };
-      lived = record { others = bytes_of l.unprocessed ++ others; front = front ∙ parts; works = l.works; unsent = l.unsent; sends = split ∙ begun };
+      lived = record { others = bytes_of l.unprocessed ++ others; prefix = prefix ∙ parts; works = l.works; unsent = l.unsent; sends = split ∙ begun };
       came = came;
       marks = marks;
       part = part;
       replied = replied;
       sent = refl;
       settled_are = refl;
-      moments = gave_front gave l.worked l.unprocessed (subst (GaveFirst gave) l.parts moments);
+      moments = gave_prefix gave l.worked l.unprocessed (subst (GaveFirst gave) l.parts moments);
       stands = l.stands;
     }

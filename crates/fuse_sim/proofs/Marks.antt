@@ -17,9 +17,9 @@ length-le : (w n : ℕ) → length (le w n) ≡ w
 unfolding le
 length-le w n = length-bytes_low_first 0 w n
 
-number_front : (w n : ℕ) (rest : List ℕ) → n < 256 ^ w → number_of w (le w n ++ rest) ≡ n
+number_prefix : (w n : ℕ) (rest : List ℕ) → n < 256 ^ w → number_of w (le w n ++ rest) ≡ n
 unfolding le number_of
-number_front w n rest fits = little_number-reads_back w n rest fits
+number_prefix w n rest fits = little_number-reads_back w n rest fits
 
 abbrev bit_set : ℕ → ℕ
 bit_set unique = id_of unique + 0x8000_0000_0000_0000
@@ -55,11 +55,11 @@ marked_at a b r unique la lb fits =
     let m : List ℕ = a ++ (b ++ (c ++ r)) in
     let two : m ≡ (a ++ b) ++ (c ++ r) = sym (append_assoc a b (c ++ r)) in
     let three : m ≡ ((a ++ b) ++ c) ++ r = two ∙ sym (append_assoc (a ++ b) c r) in
-    let front : take 8 m ≡ a ++ b = ap (take 8) two ∙ take_at (a ++ b) (c ++ r) 8 eight in
+    let prefix : take 8 m ≡ a ++ b = ap (take 8) two ∙ take_at (a ++ b) (c ++ r) 8 eight in
     let later : drop 8 m ≡ c ++ r = ap (drop 8) two ∙ drop_at (a ++ b) (c ++ r) 8 eight in
-    let number : number_of 8 (drop 8 m) ≡ unique = ap (number_of 8) later ∙ number_front 8 unique r fits in
+    let number : number_of 8 (drop 8 m) ≡ unique = ap (number_of 8) later ∙ number_prefix 8 unique r fits in
     let back : drop 16 m ≡ r = ap (drop 16) three ∙ drop_at ((a ++ b) ++ c) r 16 sixteen in
-    ap (λ (x : List ℕ). x ++ (le 8 (bit_set (number_of 8 (drop 8 m))) ++ drop 16 m)) front
+    ap (λ (x : List ℕ). x ++ (le 8 (bit_set (number_of 8 (drop 8 m))) ++ drop 16 m)) prefix
     ∙ ap (λ (n : ℕ). (a ++ b) ++ (le 8 (bit_set n) ++ drop 16 m)) number
     ∙ ap (λ (x : List ℕ). (a ++ b) ++ (le 8 (bit_set unique) ++ x)) back
     ∙ append_assoc a b (le 8 (bit_set unique) ++ r)

@@ -106,13 +106,13 @@ record InFirst (xs ys earlier : List Event) (e : Event) (later : List Event) : T
   pub rest : later ≡ more ++ ys
 
 record InSecond (xs ys earlier : List Event) (e : Event) (later : List Event) : Type 0 where
-  pub front : List Event
-  pub parts : ys ≡ front ++ e ∷ later
-  pub begin : earlier ≡ xs ++ front
+  pub prefix : List Event
+  pub parts : ys ≡ prefix ++ e ∷ later
+  pub begin : earlier ≡ xs ++ prefix
 
 in_which : (xs ys earlier : List Event) (e : Event) (later : List Event) → xs ++ ys ≡ earlier ++ e ∷ later
     → InFirst xs ys earlier e later ⊎ InSecond xs ys earlier e later
-in_which [] ys earlier e later is = inr (record { front = earlier; parts = is; begin = refl })
+in_which [] ys earlier e later is = inr (record { prefix = earlier; parts = is; begin = refl })
 in_which (x ∷ xs) ys [] e later is =
     let same : x ≡ e = cc is in
     let rest : xs ++ ys ≡ later = cc is in
@@ -128,7 +128,7 @@ in_which (x ∷ xs) ys (y ∷ earlier) e later is =
         rest = first.rest;
       })
       | inr second ↦ inr (record {
-        front = second.front;
+        prefix = second.prefix;
         parts = second.parts;
         begin = ap (λ (z : Event). z ∷ earlier) (sym same)
             ∙ ap (λ (zs : List Event). x ∷ zs) second.begin;
@@ -170,19 +170,19 @@ opened_before M told became law old mid new ys earlier e more later rest further
 }
 
 opened_last : (M : Model) → {K : Type 0} (told : K → KeeperState M) (became : K → K → ℕ → Type 0) → IsCount became
-    → (old mid new : Option K) (xs ys : List Event) (p : List ℕ) (earlier front : List Event) (e : Event) (later : List Event)
+    → (old mid new : Option K) (xs ys : List Event) (p : List ℕ) (earlier prefix : List Event) (e : Event) (later : List Event)
     → ((t : List ℕ) → Includes (settled_by t xs) p) → Stood told old mid xs → became_in became old mid (deaths xs) → (two : Opens told became mid new p ys)
-    → ys ≡ front ++ e ∷ later → earlier ≡ xs ++ front → AtLast two.died front later → OpenedAt told became old new earlier e later
-opened_last M told became law old mid new xs ys p earlier front e later within stood often two parts begin last =
+    → ys ≡ prefix ++ e ∷ later → earlier ≡ xs ++ prefix → AtLast two.died prefix later → OpenedAt told became old new earlier e later
+opened_last M told became law old mid new xs ys p earlier prefix e later within stood often two parts begin last =
     let once : became_in became two.left new 1 = subst (λ b. became_in became two.left new (if b then 1 else 0)) last.died_is two.after in
     let whole : earlier ++ e ∷ [] ≡ xs ++ ys =
-    ap (λ (zs : List Event). zs ++ e ∷ []) begin ∙ append_assoc xs front (e ∷ []) ∙ ap (λ (zs : List Event). xs ++ (front ++ e ∷ zs)) (sym last.ends)
+    ap (λ (zs : List Event). zs ++ e ∷ []) begin ∙ append_assoc xs prefix (e ∷ []) ∙ ap (λ (zs : List Event). xs ++ (prefix ++ e ∷ zs)) (sym last.ends)
     ∙ ap (λ (zs : List Event). xs ++ zs) (sym parts) in
     record {
       left = two.left;
       opened = new;
       before = became_then became law old mid two.left (deaths xs) 0 (deaths earlier) often two.before
-          (omega (arith, ap deaths begin, deaths-append xs front, last.calm));
+          (omega (arith, ap deaths begin, deaths-append xs prefix, last.calm));
       once = once;
       after = subst (became_in became new new) (ap deaths (sym last.ends)) (became_last became law two.left new 1 once);
       kept = two.kept;
@@ -200,8 +200,8 @@ opened_place : (M : Model) → {K : Type 0} (told : K → KeeperState M) (became
     → OpenedAt told became old new earlier e later
 opened_place M told became law old mid new xs ys p within stood further was one two earlier e later is so = elim (in_which xs ys earlier e later is) [
   | inl first ↦ opened_before M told became law old mid new ys earlier e first.more later first.rest further was (one.each earlier e first.more first.parts so)
-  | inr second ↦ opened_last M told became law old mid new xs ys p earlier second.front e later within stood one.often two second.parts second.begin
-      (at_last two.died ys second.front e later two.last second.parts so)
+  | inr second ↦ opened_last M told became law old mid new xs ys p earlier second.prefix e later within stood one.often two second.parts second.begin
+      (at_last two.died ys second.prefix e later two.last second.parts so)
 ]
 
 pub opened_more : (M : Model) → {K : Type 0} (told : K → KeeperState M) (became : K → K → ℕ → Type 0) → IsCount became
@@ -227,22 +227,22 @@ stands_twice M told old mid new xs ys one two =
     stood_more M told old mid new xs ys [] (λ t i there. absurd (cc there)) one (λ s h t so within none. two s h t so none)
 
 opened_second : (M : Model) → {K : Type 0} (told : K → KeeperState M) (became : K → K → ℕ → Type 0) → IsCount became
-    → (old mid new : Option K) (xs ys earlier front : List Event) (e : Event) (later : List Event)
-    → ((told_in told new).is_honest → (told_in told mid).is_honest) → Stood told old mid xs → became_in became old mid (deaths xs) → earlier ≡ xs ++ front
-    → OpenedAt told became mid new front e later → OpenedAt told became old new earlier e later
-opened_second M told became law old mid new xs ys earlier front e later was stood often begin at =
-    let whole : earlier ++ e ∷ [] ≡ xs ++ (front ++ e ∷ []) = ap (λ (zs : List Event). zs ++ e ∷ []) begin ∙ append_assoc xs front (e ∷ []) in
+    → (old mid new : Option K) (xs ys earlier prefix : List Event) (e : Event) (later : List Event)
+    → ((told_in told new).is_honest → (told_in told mid).is_honest) → Stood told old mid xs → became_in became old mid (deaths xs) → earlier ≡ xs ++ prefix
+    → OpenedAt told became mid new prefix e later → OpenedAt told became old new earlier e later
+opened_second M told became law old mid new xs ys earlier prefix e later was stood often begin at =
+    let whole : earlier ++ e ∷ [] ≡ xs ++ (prefix ++ e ∷ []) = ap (λ (zs : List Event). zs ++ e ∷ []) begin ∙ append_assoc xs prefix (e ∷ []) in
     record {
       left = at.left;
       opened = at.opened;
-      before = became_then became law old mid at.left (deaths xs) (deaths front) (deaths earlier) often at.before
-          (sym (ap deaths begin ∙ deaths-append xs front));
+      before = became_then became law old mid at.left (deaths xs) (deaths prefix) (deaths earlier) often at.before
+          (sym (ap deaths begin ∙ deaths-append xs prefix));
       once = at.once;
       after = at.after;
       kept = at.kept;
       stood = λ is. subst (λ es. (s : M.State) (h : History) (t : List ℕ) → StandsIn told old s h t → NoneReused t es
           → StandsIn told at.left s (committed h es) (settled_by t es)) (sym whole)
-          (stands_twice M told old mid at.left xs (front ++ e ∷ []) (stood (was is)) (at.stood is));
+          (stands_twice M told old mid at.left xs (prefix ++ e ∷ []) (stood (was is)) (at.stood is));
     }
 
 pub opened_twice : (M : Model) → {K : Type 0} (told : K → KeeperState M) (became : K → K → ℕ → Type 0) → IsCount became
@@ -254,8 +254,8 @@ opened_twice M told became law old mid new xs ys was stood one two = record {
   each = λ earlier e later is so. elim (in_which xs ys earlier e later is) [
     | inl first ↦ opened_before M told became law old mid new ys earlier e first.more later first.rest two.often was
         (one.each earlier e first.more first.parts so)
-    | inr second ↦ opened_second M told became law old mid new xs ys earlier second.front e later was stood one.often second.begin
-        (two.each second.front e later second.parts so)
+    | inr second ↦ opened_second M told became law old mid new xs ys earlier second.prefix e later was stood one.often second.begin
+        (two.each second.prefix e later second.parts so)
   ];
 }
 

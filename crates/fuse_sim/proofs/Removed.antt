@@ -79,18 +79,18 @@ last_one e es x zero p i one there many =
     includes_left (handed_at (commits e) l) (handed_on (after_event l e) es) i (ap (λ cs. is_in (handed_at cs l) i) one ∙ there)
 last_one e es x (suc room) p i one there many = absurd (let more = one_fewer e [] x room one many in omega (arith, more))
 
-then_one : (e : Event) (es front : List Event) (x : Entry) (room : ℕ) (p : List ℕ) (i : ℕ) → Calm e → commits e ≡ x ∷ [] → is_in p i ≡ true
-    → room < length (commits_in (e ∷ front))
-    → ((r : ℕ) (q : List ℕ) → is_in q i ≡ true → r < length (commits_in front) → is_in (handed_on (record { room = r; pending = q }) es) i ≡ true)
+then_one : (e : Event) (es prefix : List Event) (x : Entry) (room : ℕ) (p : List ℕ) (i : ℕ) → Calm e → commits e ≡ x ∷ [] → is_in p i ≡ true
+    → room < length (commits_in (e ∷ prefix))
+    → ((r : ℕ) (q : List ℕ) → is_in q i ≡ true → r < length (commits_in prefix) → is_in (handed_on (record { room = r; pending = q }) es) i ≡ true)
     → is_in (handed_on (record { room = room; pending = p }) (e ∷ es)) i ≡ true
-then_one e es front x zero p i calm one there many more =
+then_one e es prefix x zero p i calm one there many more =
     let l : Ledger = record { room = 0; pending = p } in
     includes_left (handed_at (commits e) l) (handed_on (after_event l e) es) i (ap (λ cs. is_in (handed_at cs l) i) one ∙ there)
-then_one e es front x (suc room) p i calm one there many more =
+then_one e es prefix x (suc room) p i calm one there many more =
     let l : Ledger = record { room = suc room; pending = p } in
     includes_right (handed_at (commits e) l) (handed_on (after_event l e) es) i
     (ap (λ k. is_in (handed_on k es) i) (one_step l e x calm one) ∙ more room (p ++ settles e) (includes_left p (settles e) i there)
-    (one_fewer e front x room one many))
+    (one_fewer e prefix x room one many))
 
 then_none : (e : Event) (es : List Event) (l : Ledger) (i : ℕ) → Calm e → commits e ≡ [] → is_in (handed_on l es) i ≡ true
     → is_in (handed_on l (e ∷ es)) i ≡ true

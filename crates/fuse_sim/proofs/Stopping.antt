@@ -22,9 +22,9 @@ use Rattle.fuse_sim.proofs.Openings.{became_itself, deaths_first, deaths-append}
 
 -- ---- places
 
-pub get_middle : (front rest : List Event) (e : Event) → slice_get (front ++ e ∷ rest) (length front) ≡ Some e
+pub get_middle : (prefix rest : List Event) (e : Event) → slice_get (prefix ++ e ∷ rest) (length prefix) ≡ Some e
 get_middle [] rest e = refl
-get_middle (x ∷ front) rest e = get_middle front rest e
+get_middle (x ∷ prefix) rest e = get_middle prefix rest e
 
 pub get_dropped : (events : List Event) (at : ℕ) (e : Event) (rest : List Event) → drop at events ≡ e ∷ rest → slice_get events at ≡ Some e
 get_dropped events zero e rest is = ap (λ l. slice_get l 0) is
@@ -155,14 +155,14 @@ pub record DiesAt (events : List Event) (at n : ℕ) : Type 0 where
   pub calm : deaths (take n events) ≡ deaths (take at events)
   pub earlier : All IsFit (take at events) → All IsFit (take n events)
 
-dies_in : (events front earlier others : List Event) (e : Event) (at n : ℕ) → events ≡ front ++ ((earlier ++ e ∷ []) ++ others) → take at events ≡ front
-    → n ≡ length front + length earlier → All IsFit (earlier ++ e ∷ []) → dies e.fate ≡ true
+dies_in : (events prefix earlier others : List Event) (e : Event) (at n : ℕ) → events ≡ prefix ++ ((earlier ++ e ∷ []) ++ others) → take at events ≡ prefix
+    → n ≡ length prefix + length earlier → All IsFit (earlier ++ e ∷ []) → dies e.fate ≡ true
     → deaths earlier ≡ 0 → DiesAt events at n
-dies_in events front earlier others e at n parts first place fit died calm =
-    let pre = front ++ earlier in
-    let whole : events ≡ pre ++ e ∷ others = parts ∙ ap (λ (x : List Event). front ++ x) (append_assoc earlier (e ∷ []) others)
-    ∙ sym (append_assoc front earlier (e ∷ others)) in
-    let len : n ≡ length pre = place ∙ sym (length-append front earlier) in
+dies_in events prefix earlier others e at n parts first place fit died calm =
+    let pre = prefix ++ earlier in
+    let whole : events ≡ pre ++ e ∷ others = parts ∙ ap (λ (x : List Event). prefix ++ x) (append_assoc earlier (e ∷ []) others)
+    ∙ sym (append_assoc prefix earlier (e ∷ others)) in
+    let len : n ≡ length pre = place ∙ sym (length-append prefix earlier) in
     let up_to : take n events ≡ pre = ap (λ x. take n x) whole ∙ ap (λ m. take m (pre ++ e ∷ others)) len ∙ take-append_seam pre (e ∷ others) in
     let popped = All-pop IsFit (earlier ++ e ∷ []) earlier (Some e) refl fit in
     record {
@@ -170,9 +170,9 @@ dies_in events front earlier others e at n parts first place fit died calm =
       there = ap (λ x. slice_get x n) whole ∙ ap (slice_get (pre ++ e ∷ others)) len ∙ get_middle pre others e;
       fit = popped.1;
       died = died;
-      calm = omega (arith, ap deaths up_to, ap deaths first, deaths-append front earlier, calm);
+      calm = omega (arith, ap deaths up_to, ap deaths first, deaths-append prefix earlier, calm);
       earlier = λ each. subst (All IsFit) (sym up_to)
-          (All-append IsFit front earlier (subst (All IsFit) first each) popped.0);
+          (All-append IsFit prefix earlier (subst (All IsFit) first each) popped.0);
     }
 
 -- the group that begins at a place ends with an event at which the server dies

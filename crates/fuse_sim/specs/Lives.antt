@@ -24,7 +24,7 @@ pub record Lifetime : Type 0 where
 -- to be sent for them was sent
 pub record IsLife (M : Model) (s : M.State) (h : History) (life : Lifetime) : Type 0 where
   pub others : List (List ℕ)
-  pub front : (cut life.received).0 ≡ bytes_of life.worked ++ others
+  pub prefix : (cut life.received).0 ≡ bytes_of life.worked ++ others
   pub works : Works M s h life.worked
   pub unsent : List ℕ
   pub sends : out M s h life.worked ≡ life.sent ++ unsent

@@ -43,20 +43,20 @@ shorter e es size n fits is = record {
 }
 
 -- the longest prefix has the entries that fit one after the other
-pub front_is : (es : List Entry) (size n : ℕ) → IsLongest es size n → take n es ≡ fitting es size
-front_is [] size zero is = refl
-front_is [] size (suc n) is = absurd (omega (arith, is.within))
-front_is (e ∷ es) size zero is =
+pub prefix_is : (es : List Entry) (size n : ℕ) → IsLongest es size n → take n es ≡ fitting es size
+prefix_is [] size zero is = refl
+prefix_is [] size (suc n) is = absurd (omega (arith, is.within))
+prefix_is (e ∷ es) size zero is =
     let step : (b : Bool) → nat_le (packed_len e) size ≡ b → [] ≡ cond b (e ∷ fitting es (size - packed_len e)) [] =
     elim [
       | true ↦ λ fits. absurd (omega (arith, is.longest 1 (omega arith) (omega (arith, leb-true _ size fits, sum_by-cons packed_len e []))))
       | false ↦ λ past. refl
     ] in
     step (nat_le (packed_len e) size) refl
-front_is (e ∷ es) size (suc n) is =
+prefix_is (e ∷ es) size (suc n) is =
     let step : (b : Bool) → nat_le (packed_len e) size ≡ b → e ∷ take n es ≡ cond b (e ∷ fitting es (size - packed_len e)) [] =
     elim [
-      | true ↦ λ fits. ap (λ (xs : List Entry). e ∷ xs) (front_is es (size - packed_len e) n (shorter e es size n (leb-true _ size fits) is))
+      | true ↦ λ fits. ap (λ (xs : List Entry). e ∷ xs) (prefix_is es (size - packed_len e) n (shorter e es size n (leb-true _ size fits) is))
       | false ↦ λ past. absurd (omega (arith, is.fits, leb-false _ size past, sum_by-cons packed_len e (take n es)))
     ] in
     step (nat_le (packed_len e) size) refl
@@ -79,6 +79,6 @@ first_that_fits (e ∷ es) size fits =
     step (nat_le (packed_len e) size) refl
 
 -- the entries that are packed are those to be listed
-pub front_listed : (es : List Entry) (size n : ℕ) (body : List ℕ) → (FirstIsTooBig es size → ⊥) → IsLongest es size n
+pub prefix_listed : (es : List Entry) (size n : ℕ) (body : List ℕ) → (FirstIsTooBig es size → ⊥) → IsLongest es size n
     → body ≡ entries_bytes (take n es) → give body ≡ list es size
-front_listed es size n body fits is e = rw (first_that_fits es size fits) (ap give (e ∙ ap entries_bytes (front_is es size n is)))
+prefix_listed es size n body fits is e = rw (first_that_fits es size fits) (ap give (e ∙ ap entries_bytes (prefix_is es size n is)))

@@ -34,7 +34,7 @@ pub record FilesStay (k k' : KeeperState the_files) (old new : PortState) : Type
   pub others : List (List ℕ)
   pub marks : List Mark
   pub part : List ℕ
-  pub front : (cut received).0 ≡ bytes_of timed ++ others
+  pub prefix : (cut received).0 ≡ bytes_of timed ++ others
   pub replied : Replied old new marks part
   pub stay : (s : Option Settings) (h : History) (t : List ℕ) → StandsFor k s h t → NoneComesAgain old.confirms t (bytes_of timed) marks
       → is_some (after the_files s h) ≡ true → AnswersAs k' (after the_files s h)

@@ -62,7 +62,7 @@ fn after<'a, 'b>(dirents: &'b [Dirent<'a>], offset: u64) -> &'b [Dirent<'a>]
 }
 
 // As many entries as fit.
-#[tactic(auto, using(crate::proofs::Fronts::front_listed))]
+#[tactic(auto, using(crate::proofs::Prefixes::prefix_listed))]
 fn list_prefix(alloc: Global, dirents: &[Dirent<'_>], size: u32) -> Result<Answer, Memory>
     requires named { All (λ d. IsNamed (entry_of d)) dirents.now }
     requires size { size ≤ max_read }

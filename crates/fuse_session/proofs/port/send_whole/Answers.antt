@@ -1,11 +1,11 @@
 use Rattle.std.proofs.Common.{rules, ◌≡◌, [], arith}
 use Rattle.fuse_session.specs.declared.port.Sent.TheVariants.{Took, Failed}
-use Rattle.fuse_session.proofs.Bytes.{front_more, front_gone, front_failed, took_nothing}
+use Rattle.fuse_session.proofs.Bytes.{prefix_more, prefix_gone, prefix_failed, took_nothing}
 use Rattle.fuse_session.proofs.port.send_whole.Goals as goal
 
 pub loop-rest-preserved : goal.loop-rest-preserved
 loop-rest-preserved g c = record {
-  sent = front_more (g.P.Port.told c.args.port.now) (g.P.Port.told c.loop-rest.port) (g.P.Port.told c.send.new.self) c.args.bytes.now c.loop-rest.rest.now
+  sent = prefix_more (g.P.Port.told c.args.port.now) (g.P.Port.told c.loop-rest.port) (g.P.Port.told c.send.new.self) c.args.bytes.now c.loop-rest.rest.now
       c.in-Took.n c.if-taken-eq0.false c.loop-rest.invariant.sent c.in-Took.ensures.sent;
   same = (g.met.P.Port.path).onward c.args.port.now c.loop-rest.port c.send.new.self c.loop-rest.invariant.same c.in-Took.ensures.same;
 }
@@ -13,7 +13,7 @@ loop-rest-preserved g c = record {
 pub returns-then-taken-eq0-clause-err : goal.returns-then-taken-eq0-clause-err
 returns-then-taken-eq0-clause-err g c =
     let some : c.loop-rest.rest.now ≡ [] → ⊥ = search rules in
-    front_failed (g.P.Port.told c.args.port.now) (g.P.Port.told c.loop-rest.port) (g.P.Port.told c.send.new.self) c.args.bytes.now c.loop-rest.rest.now
+    prefix_failed (g.P.Port.told c.args.port.now) (g.P.Port.told c.loop-rest.port) (g.P.Port.told c.send.new.self) c.args.bytes.now c.loop-rest.rest.now
     (Took c.in-Took.n)
     (took_nothing c.in-Took.n c.loop-rest.rest.now _ _ c.if-taken-eq0.true some c.in-Took.ensures.sent.failures) c.in-Took.ensures.sent.gone
     c.loop-rest.invariant.sent c.in-Took.ensures.sent
@@ -21,11 +21,11 @@ returns-then-taken-eq0-clause-err g c =
 pub returns-in-Gone-clause-ok : goal.returns-in-Gone-clause-ok
 returns-in-Gone-clause-ok g c =
     let some : c.loop-rest.rest.now ≡ [] → ⊥ = search rules in
-    front_gone (g.P.Port.told c.args.port.now) (g.P.Port.told c.loop-rest.port) (g.P.Port.told c.send.new.self) c.args.bytes.now c.loop-rest.rest.now some
+    prefix_gone (g.P.Port.told c.args.port.now) (g.P.Port.told c.loop-rest.port) (g.P.Port.told c.send.new.self) c.args.bytes.now c.loop-rest.rest.now some
     c.loop-rest.invariant.sent c.in-Gone.ensures.sent
 
 pub returns-in-Failed-clause-err : goal.returns-in-Failed-clause-err
 returns-in-Failed-clause-err g c =
     let s = c.in-Failed.ensures.sent in
-    front_failed (g.P.Port.told c.args.port.now) (g.P.Port.told c.loop-rest.port) (g.P.Port.told c.send.new.self) c.args.bytes.now c.loop-rest.rest.now Failed
+    prefix_failed (g.P.Port.told c.args.port.now) (g.P.Port.told c.loop-rest.port) (g.P.Port.told c.send.new.self) c.args.bytes.now c.loop-rest.rest.now Failed
     (omega (arith, s.failures)) s.gone c.loop-rest.invariant.sent s

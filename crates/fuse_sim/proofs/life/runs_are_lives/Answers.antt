@@ -11,13 +11,13 @@ pub returns : goal.returns
 returns g c = record {
   ends = λ k k' clock clock' old new ended run s h t stands none clean.
       let b = run.broken in
-      run_lived g.K.Keeper.model _ _ s h t old new run.received b.timed b.others b.marks b.part run.came b.front b.moments b.replied
+      run_lived g.K.Keeper.model _ _ s h t old new run.received b.timed b.others b.marks b.part run.came b.prefix b.moments b.replied
       (b.life clean s h t stands (none_pending t) none);
   crashes = λ k k' clock clock' old new ended run s h t stands none honest firm.
       let b = run.broken in
       let left = b.crash honest firm s h t stands (none_pending t) none in (
         left.0,
-        λ x r may. run_lived g.K.Keeper.model _ _ s h t old new run.received b.timed b.others b.marks b.part run.came b.front b.moments b.replied
+        λ x r may. run_lived g.K.Keeper.model _ _ s h t old new run.received b.timed b.others b.marks b.part run.came b.prefix b.moments b.replied
             (left.1 x r may),
       );
 }

@@ -11,7 +11,7 @@ returns-clause-files g c =
       others = run.broken.others;
       marks = run.broken.marks;
       part = run.broken.part;
-      front = run.broken.front;
+      prefix = run.broken.prefix;
       replied = run.broken.replied;
       stay = λ s h t stands again some. lived_same _ s h _ t _ _ _ (run.broken.life tt s h t stands (λ i no. cc) again) some;
     }
