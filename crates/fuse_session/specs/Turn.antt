@@ -1,5 +1,5 @@
 -- One turn of a session, in the clauses of private functions alone (own profile).
-use Rattle.std.specs.Prelude.{◌≡◌, ◌≤◌, ◌^◌, ℕ, true, false, List, length, Option}
+use Rattle.std.specs.Prelude.{◌≡◌, ◌^◌, ℕ, true, false, List, Option}
 use Rattle.fuse_wire.specs.declared.moment.Moment.{Moment}
 use Rattle.fuse_request.specs.Framing.{Held}
 use Rattle.fuse_keeper.specs.Model.{Model}

@@ -1,4 +1,4 @@
-use Rattle.std.proofs.Common.{◌∙◌, ◌^◌, ap, arith, length, sym, subst, refl, All}
+use Rattle.std.proofs.Common.{◌∙◌, ◌^◌, ap, arith, length, sym, subst, All}
 use Rattle.fuse_request.specs.Stream.{IsMessage, joined}
 use Rattle.fuse_keeper.specs.Stands.{Records}
 use Rattle.fuse_keeper.specs.Group.{ids_of}
