@@ -16,7 +16,7 @@ use Rattle.fuse_store_tree.specs.Holding.{Holding, HeldFor}
 use Rattle.fuse_store_tree.specs.Lots.{LotsAreSame}
 use Rattle.fuse_store_tree.specs.Performing.{OneHolding, HoldingStands}
 use Rattle.fuse_store.specs.Mounting.{cleared_for}
-use Rattle.fuse_store.specs.Told.{IsOf, table_told}
+use Rattle.fuse_store.specs.TableState.{IsOf, table_told}
 use Rattle.fuse_store.proofs.Serving.{Settled, stands_on, holds_at, leaves_either}
 use Rattle.fuse_store.proofs.Grouping.{its_own}
 

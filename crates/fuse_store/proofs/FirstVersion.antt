@@ -6,9 +6,9 @@ use Rattle.fuse_tree.specs.Rows.{rowed}
 use Rattle.fuse_store_tables.specs.Content.{Content, Answer, value_at}
 use Rattle.fuse_store_tables.specs.Opening.{IsMetaFrom, IsOld, under, marked, migrated}
 use Rattle.fuse_store_tree.specs.Fits.{KeepsRecord}
-use Rattle.fuse_store_tree.specs.Store.{Reports, FitsSettings}
+use Rattle.fuse_store_tree.specs.Store.{Describes, FitsSettings}
 use Rattle.fuse_store_tree.specs.Holding.{TreesAreInOrder, store_of}
-use Rattle.fuse_store.specs.Opening.{TellsFirst, first_counters, First, opened_for}
+use Rattle.fuse_store.specs.Opening.{DescribesFirst, first_counters, First, opened_for}
 use Rattle.fuse_store.proofs.Fitting.{nodes_length, settings_low, all_less}
 
 meta_old : (s : State) → Tree s → FitsSettings (rowed s).settings → IsMetaFrom 1 10 (first_counters (rowed s).counters (rowed s).settings)
@@ -33,7 +33,7 @@ meta_old s tree fits =
       ),
     )
 
-pub old_for : TreesAreInOrder → (tree : State) (answers : List Answer) (c : Content) → Tree tree → TellsFirst (rowed tree) answers c → IsOld c
+pub old_for : TreesAreInOrder → (tree : State) (answers : List Answer) (c : Content) → Tree tree → DescribesFirst (rowed tree) answers c → IsOld c
 old_for ordered tree answers c good told = record {
   version = ap (λ cs. value_at 1 (record c { counters = cs })) told.counters;
   meta = subst (IsMetaFrom 1 10) (sym told.counters) (meta_old tree good told.settings);
@@ -49,9 +49,9 @@ kept_under [] all = tt
 kept_under (a ∷ answers) all = (all.0, kept_under answers all.1)
 
 -- the records are under lot 0, and the rest is as it was
-pub tells_migrated : (tree : State) (answers : List Answer) (c : Content) → TellsFirst (rowed tree) answers c
-    → Reports (store_of (opened_for (First tree answers))) (migrated c)
-tells_migrated tree answers c told = record {
+pub describes_migrated : (tree : State) (answers : List Answer) (c : Content) → DescribesFirst (rowed tree) answers c
+    → Describes (store_of (opened_for (First tree answers))) (migrated c)
+describes_migrated tree answers c told = record {
   counters = ap (λ cs. (marked (record c { counters = cs })).counters) told.counters;
   nodes = told.nodes;
   entries = told.entries;

@@ -1,4 +1,4 @@
--- What tables tell of a tree is within the bounds of a store.
+-- The tables of a tree are within the bounds of a store.
 use Rattle.std.proofs.Common.{◌≡◌, ◌≤◌, ◌<◌, ◌^◌, ℕ, suc, List, [], ◌∷◌, map, filter, length, Bool, true, false, cond, Some, None, Option}
 use Rattle.std.proofs.Common.{refl, sym, ap, subst, arith, ◌∙◌}
 use Rattle.std.specs.List.{AllByRecursion}
@@ -9,7 +9,7 @@ use Rattle.fuse_tree.specs.Rows.{rowed, full_of}
 use Rattle.fuse_store_tables.specs.Content.{Content, Kept, value_at, node_key}
 use Rattle.fuse_store_tables.specs.Opening.{IsMetaFrom, IsFit, IsSecond}
 use Rattle.fuse_store_tree.specs.Fits.{KeepsRecord}
-use Rattle.fuse_store_tree.specs.Store.{Reports, FitsSettings, counters_of, in_order, is_there, minor_of, readahead_of, flags_of}
+use Rattle.fuse_store_tree.specs.Store.{Describes, FitsSettings, counters_of, in_order, is_there, minor_of, readahead_of, flags_of}
 use Rattle.fuse_store_tree.specs.Holding.{Holding, HeldFor, TreesAreInOrder, store_of}
 
 -- ---- lists
@@ -104,7 +104,7 @@ meta_fits s tree fits next below =
 errnos_fit : (ks : List Kept) → AllByRecursion KeepsRecord ks → AllByRecursion (λ (k : Kept). k.said.errno < 2 ^ 32) ks
 errnos_fit ks all = all_less KeepsRecord (λ (k : Kept). k.said.errno < 2 ^ 32) ks (λ k keeps. keeps.errno) all
 
-pub fit_for : TreesAreInOrder → (y : Holding) (c : Content) → Tree y.tree → y.next_lot ≤ 2 ^ 62 → Reports (store_of y) c → IsFit c
+pub fit_for : TreesAreInOrder → (y : Holding) (c : Content) → Tree y.tree → y.next_lot ≤ 2 ^ 62 → Describes (store_of y) c → IsFit c
 fit_for ordered y c tree next told = record {
   version = ap (λ cs. value_at 1 (record c { counters = cs })) told.counters;
   meta = subst (IsMetaFrom 1 11) (sym told.counters) (meta_fits y.tree tree told.settings y.next_lot next);

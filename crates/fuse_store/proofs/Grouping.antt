@@ -14,11 +14,11 @@ use Rattle.fuse_keeper.specs.Lots.{Lots, SameLots, RecordsUnder, IsFree}
 use Rattle.fuse_tree.specs.TheTree.{the_tree}
 use Rattle.fuse_store_tables.specs.Moves.{ServesAs}
 use Rattle.fuse_store_tree.specs.Store.{records_of}
-use Rattle.fuse_store_tree.specs.Holding.{Holding, HeldFor, TellsAfter, lots_of}
+use Rattle.fuse_store_tree.specs.Holding.{Holding, HeldFor, ReportsAfter, lots_of}
 use Rattle.fuse_store_tree.specs.Group.{performed, all_dones, lot_for}
 use Rattle.fuse_store_tree.specs.Lots.{lots_in, LotsAreSame}
 use Rattle.fuse_store_tree.specs.Performing.{OneHolding, HoldingStands, CallsPerform}
-use Rattle.fuse_store.specs.Told.{IsOf, HoldsIn, table_told}
+use Rattle.fuse_store.specs.TableState.{IsOf, HoldsIn, table_told}
 use Rattle.fuse_store.proofs.Serving.{Settled, stands_on, moved, holds_at, leaves_either}
 
 pub its_own : (y : Holding) → IsOf y (rowed y.tree) (records_of y.kept)
@@ -26,7 +26,7 @@ its_own y = record { rows_are = refl; records_are = λ i. refl }
 
 module _ (one : OneHolding) (law : CallsPerform) (lot : Option ℕ) (ids : List ℕ) (es : List Entry) (a b : State) {X : Type 0} (x : X)
     (serves : ServesAs {E = StoreFault} HeldFor (λ y. HeldFor (performed lot ids es y)) a b (Ok x)) where
-  pub performs : (now : Option ℕ) (was is : Bool) (dones : List Done) → TellsAfter a b (λ y. dones ≡ all_dones lot ids es y)
+  pub performs : (now : Option ℕ) (was is : Bool) (dones : List Done) → ReportsAfter a b (λ y. dones ≡ all_dones lot ids es y)
       → Performs (table_told a lot was) (table_told b now is) ids es dones
   performs now was is dones told clean s h t so within each =
       let y = so.held.holding in
@@ -98,7 +98,7 @@ under_same old old' new new' records records' ids es o n r u = record {
 
 pub lots_so : LotsAreSame → CallsPerform → (lot : Option ℕ) (ids : List ℕ) (es : List Entry) (a b : State) {X : Type 0} (x : X)
     → ServesAs {E = StoreFault} HeldFor (λ y. HeldFor (performed lot ids es y)) a b (Ok x) → (taken : ℕ) (was is : Bool)
-    → TellsAfter a b (λ y. taken ≡ lot_for lot y) → KeepsLots (table_told a lot was) (table_told b (Some taken) is) ids es
+    → ReportsAfter a b (λ y. taken ≡ lot_for lot y) → KeepsLots (table_told a lot was) (table_told b (Some taken) is) ids es
 lots_so told law lot ids es a b x serves taken was is says clean rows records at rowed_so =
     let y = at.holding in
     let z = performed lot ids es y in

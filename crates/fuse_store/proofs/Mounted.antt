@@ -1,4 +1,4 @@
--- What the begin of a mount makes of the tables is told of what is left.
+-- The tables after the begin of a mount describe what is left.
 use Rattle.std.proofs.Common.{◌≡◌, ◌≤◌, ◌/◌, ◌%◌, ℕ, [], map, filter, length, not, cond, min, None}
 use Rattle.std.proofs.Common.{refl, sym, ap, subst, arith, ◌∙◌}
 use Rattle.std.proofs.lemmas.List.{length-map}
@@ -10,7 +10,7 @@ use Rattle.fuse_tree.specs.Clearing as trees
 use Rattle.fuse_store_tables.specs.Content.{Content, Holds, node_key, is_unnamed, set_counter}
 use Rattle.fuse_store_tables.specs.Clearing.{cleared, named, has_unnamed, counted_to, without_settings}
 use Rattle.fuse_store_tree.specs.Fits.{KeepsNode, IsWhole}
-use Rattle.fuse_store_tree.specs.Store.{Reports, counters_of, in_order, byte_at, bytes_of}
+use Rattle.fuse_store_tree.specs.Store.{Describes, counters_of, in_order, byte_at, bytes_of}
 use Rattle.fuse_store_tree.specs.Holding.{Holding, HeldFor, TreesAreInOrder, store_of}
 use Rattle.fuse_store.specs.Mounting.{cleared_for}
 use Rattle.fuse_store.proofs.Fitting.{filter_length, all_filter}
@@ -20,7 +20,7 @@ use Rattle.fuse_store.proofs.Retelling.{Retold}
 small_count : (n m : ℕ) → n ≤ m → m ≤ 65536 → min n 9223372036854775807 ≡ n
 small_count n m less few = omega (arith, less, few)
 
-module _ (clearing : trees.Clearing) (ordered : TreesAreInOrder) (y : Holding) (c : Content) (tree : Tree y.tree) (told : Reports (store_of y) c) where
+module _ (clearing : trees.Clearing) (ordered : TreesAreInOrder) (y : Holding) (c : Content) (tree : Tree y.tree) (told : Describes (store_of y) c) where
   -- the rows of the nodes, as the tables have them
   nodes_are : c.nodes ≡ map (λ f. f.row) (rowed y.tree).nodes
   nodes_are = told.nodes ∙ (ordered y.tree tree).nodes
@@ -60,9 +60,9 @@ module _ (clearing : trees.Clearing) (ordered : TreesAreInOrder) (y : Holding) (
       ∙ sym (ap (λ f. byte_at (content_of f) i) (found_left y.tree node y.tree.next_node y.tree.nodes tree.nodes tree.nodes_rise
       ∙ ap (λ ns. cond (has_unnamed ns node) None (full_at (rowed y.tree) node)) (sym nodes_are)))
 
-  pub tells_cleared : Reports (store_of (cleared_for y)) (cleared c)
-  tells_cleared =
-      subst (λ (r : Rows). Reports (record { rows = r; kept = []; lots = []; next_lot = y.next_lot }) (cleared c)) (sym (clearing y.tree tree).1)
+  pub describes_cleared : Describes (store_of (cleared_for y)) (cleared c)
+  describes_cleared =
+      subst (λ (r : Rows). Describes (record { rows = r; kept = []; lots = []; next_lot = y.next_lot }) (cleared c)) (sym (clearing y.tree tree).1)
       (record {
         counters = counters_are;
         nodes = named_are ∙ sym left_in_order;
@@ -92,6 +92,6 @@ mounted clearing ordered y d at = record {
     tree = (clearing y.tree at.tree).0;
     below = tt;
     next = at.next;
-    held = (cleared at.held.0, k, tells_cleared clearing ordered y at.held.0 at.tree at.held.2);
+    held = (cleared at.held.0, k, describes_cleared clearing ordered y at.held.0 at.tree at.held.2);
   };
 }

@@ -13,7 +13,7 @@ use Rattle.fuse_tree.specs.Plan.{NewStoreIsTree}
 use Rattle.fuse_store_tables.specs.Layout.{no_schema}
 use Rattle.fuse_store_tables.specs.Making.{IsBare, IsNew, new_store}
 use Rattle.fuse_store_tables.specs.Moves.{RestsAs, ServesAs}
-use Rattle.fuse_store_tree.specs.Store.{Reports, byte_at}
+use Rattle.fuse_store_tree.specs.Store.{Describes, byte_at}
 use Rattle.fuse_store_tree.specs.Holding.{HeldFor, store_of}
 use Rattle.fuse_store.specs.Creating.{IsBlank, new_holding}
 use Rattle.fuse_store.proofs.Retelling.{Retold}
@@ -22,7 +22,7 @@ no_bytes : (f : Full) (i j : ℕ) → f.content ≡ [] → (b : Bool) → byte_a
 no_bytes f i j none true = rw none refl
 no_bytes f i j none false = refl
 
-new_told : (now : Moment) → now.secs < 2 ^ 64 → Reports (store_of (new_holding now)) (new_store now)
+new_told : (now : Moment) → now.secs < 2 ^ 64 → Describes (store_of (new_holding now)) (new_store now)
 unfolding rowed
 new_told now low = record {
   counters = refl;

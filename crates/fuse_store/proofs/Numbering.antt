@@ -17,7 +17,7 @@ use Rattle.fuse_keeper.specs.Stands.{Records, CountsRecords}
 use Rattle.fuse_store_tables.specs.Content.{Kept, kept_key, kept_row, at_by, has_by}
 use Rattle.fuse_store_tree.specs.Store.{records_of}
 use Rattle.fuse_store_tree.specs.Holding.{Holding, HeldFor}
-use Rattle.fuse_store.specs.Told.{IsOf}
+use Rattle.fuse_store.specs.TableState.{IsOf}
 
 -- ---- the ids of the table rise, so none stands twice
 

@@ -16,7 +16,7 @@ use Rattle.fuse_store_tables.specs.Moves.{RestsAs, ServesAs}
 use Rattle.fuse_store_tree.specs.Holding.{Holding, HeldFor, lots_of}
 use Rattle.fuse_store_tree.specs.Lots.{lots_in, LotsAreSame}
 use Rattle.fuse_store_tree.specs.Performing.{OneHolding}
-use Rattle.fuse_store.specs.Told.{IsOf, HoldsIn, LeavesSome, MayLeave, table_told}
+use Rattle.fuse_store.specs.TableState.{IsOf, HoldsIn, LeavesSome, MayLeave, table_told}
 use Rattle.fuse_store.proofs.Serving.{Settled, left_either, one_left, kept_held, holds_at, same_both}
 
 or_true : (b : Bool) → (b || true) ≡ true

@@ -21,7 +21,7 @@ use Rattle.fuse_store_tables.specs.Opening.{IsLaid, HasMeta, IsStored, IsSecond,
 use Rattle.fuse_store_tree.specs.Holding.{Holding, HeldFor, TreesAreInOrder}
 use Rattle.fuse_store.specs.Opening.{Stored, First, Second, StoredFor, OpenedFor, FirstFor, WasFor}
 use Rattle.fuse_store.proofs.Fitting.{second_for}
-use Rattle.fuse_store.proofs.FirstVersion.{old_for, tells_migrated}
+use Rattle.fuse_store.proofs.FirstVersion.{old_for, describes_migrated}
 use Rattle.fuse_store.proofs.NewStore.{no_transaction}
 use Rattle.fuse_store.proofs.Retelling.{Retold}
 
@@ -60,7 +60,7 @@ stored_told ordered (First tree answers) d at =
         tree = at.tree;
         below = (omega arith, tt);
         next = omega arith;
-        held = (migrated at.held.0, (subst (λ x. IsSecond x e) (opened_first at.held.0 old.version) k).holds, tells_migrated tree answers at.held.0 at.held.2);
+        held = (migrated at.held.0, (subst (λ x. IsSecond x e) (opened_first at.held.0 old.version) k).holds, describes_migrated tree answers at.held.0 at.held.2);
       };
     }
 stored_told ordered (Second y) d at =

@@ -12,7 +12,7 @@ use Rattle.fuse_store_tree.specs.Lots.{lots_in, LotsAreSame}
 use Rattle.fuse_store_tree.specs.Performing.{OneHolding}
 use Rattle.fuse_store.specs.Opening.{Stored, WasFor, opened_for}
 use Rattle.fuse_store.specs.Opening.Stored.{Second}
-use Rattle.fuse_store.specs.Told.{IsOf, HoldsIn, LeavesSome, table_told}
+use Rattle.fuse_store.specs.TableState.{IsOf, HoldsIn, LeavesSome, table_told}
 use Rattle.fuse_store.specs.Laws.{one_held}
 use Rattle.fuse_store.proofs.Serving.{Settled, firm}
 
@@ -28,7 +28,7 @@ retold s y rows records at is = record {
   is_of = record { rows_are = is.rows_are ∙ at.is_of.rows_are; records_are = λ i. is.records_are i ∙ at.is_of.records_are i };
 }
 
--- what is told of an opening that went well, which leaves it with this lot
+-- an opening that succeeded, which leaves it with this lot
 pub record Opened (a b : State) (taken : Option ℕ) : Type 0 where
   pub holds : HasCleanDisk b → (z : Stored) → WasFor z a → HoldsIn b (rowed (opened_for z).tree) (records_of (opened_for z).kept)
   pub was : HasCleanDisk b → IsTrue a.is_open × (a.in_transaction ≡ false)

@@ -1,4 +1,4 @@
--- A whole transaction on a store, told in other words.
+-- A whole transaction on a store, in other words.
 use Rattle.std.proofs.Common.{Ok, Err, Result, OnOk, OnErr, IfErr, IsTrue}
 use Rattle.sqlite.specs.Effect.{Database}
 use Rattle.sqlite.specs.State.{State, HasCleanDisk, Survives}
@@ -8,7 +8,7 @@ use Rattle.fuse_store_tables.specs.Content.{LeftAs}
 use Rattle.fuse_store_tables.specs.Faults.{IsOutside}
 use Rattle.fuse_store_tables.specs.Moves.{RestsAs, ServesAs, IsSafe}
 
--- each database that is told so is one of the first words, and what these make of it is told so too
+-- each database in the second words is one in the first, and what these make of it is one in the second
 pub record Retold {C D : Type 0} (P Q : C → Database → Type 0) (P' Q' : D → Database → Type 0) (z : D) (d : Database) : Type 0 where
   pub content : C
   pub holds : P content d

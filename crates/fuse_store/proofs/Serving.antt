@@ -15,7 +15,7 @@ use Rattle.fuse_store_tables.specs.Moves.{RestsAs, ServesAs}
 use Rattle.fuse_store_tree.specs.Store.{records_of}
 use Rattle.fuse_store_tree.specs.Holding.{Holding, HeldFor}
 use Rattle.fuse_store_tree.specs.Performing.{OneHolding, HoldingStands}
-use Rattle.fuse_store.specs.Told.{IsOf, HoldsIn, LeavesSome, table_told}
+use Rattle.fuse_store.specs.TableState.{IsOf, HoldsIn, LeavesSome, table_told}
 
 -- while the connection is open, a crash leaves what was committed
 abbrev pub Settled : State → Type 0

@@ -1,4 +1,4 @@
--- A database in which nothing was made yet, and what a new store holds (own profile).
+-- A blank database, and a new store (own profile).
 use Rattle.std.specs.Prelude.{◌≡◌, [], false, IsTrue}
 use Rattle.sqlite.specs.Tree.{Trees}
 use Rattle.sqlite.specs.State.{State}
@@ -15,6 +15,6 @@ IsBlank s = (s.in_transaction ≡ false) × (s.now.schema ≡ no_schema)
 abbrev pub new_holding : Moment → Holding
 new_holding now = record { tree = new_store now; kept = []; lots = []; next_lot = 1 }
 
--- there was nothing, and these trees are those of a new store
+-- the database was blank, and these trees are those of a new store
 abbrev pub LeavesNew : Moment → State → Trees → Type 0
 LeavesNew now s db = IsBlank s × (IsTrue s.is_open → LeftAs (HeldFor (new_holding now)) db)

@@ -1,12 +1,12 @@
--- The laws of the keeper, for its `impl` (own profile). The proofs stand here, since an `impl` takes them from definitions alone.
+-- The laws of the `impl` of `Keeper` (own profile). The proofs are here because an `impl` takes them from definitions alone.
 use Rattle.std.proofs.Common.{◌≡◌, ℕ, sym, ap, ◌∙◌}
 use Rattle.sqlite.specs.State.{State}
 use Rattle.fuse_tree.specs.Rows.{Rows, rowed}
 use Rattle.fuse_keeper.specs.Stands.{Records}
 use Rattle.fuse_store_tree.specs.Store.{records_of}
-use Rattle.fuse_store.specs.Told.{HoldsIn}
+use Rattle.fuse_store.specs.TableState.{HoldsIn}
 
--- it holds just one thing
+-- it holds only one thing
 pub one_held : (s : State) (x y : Rows) (p q : Records) → HoldsIn s x p → HoldsIn s y q → (x ≡ y) × ((i : ℕ) → p i ≡ q i)
 one_held s x y p q a b =
     let same = a.alone b.holding b.rests.holds in (

@@ -1,7 +1,7 @@
 pub mod Creating
 pub mod Mounting
 pub mod Opening
-pub mod Told
+pub mod TableState
 pub mod TableKeeper
 pub mod Laws
 pub mod Starting

@@ -1,8 +1,8 @@
--- What the begin of a mount leaves (own profile).
+-- The store after the begin of a mount (own profile).
 use Rattle.std.specs.Prelude.{[]}
 use Rattle.fuse_tree.specs.Clearing.{cleared}
 use Rattle.fuse_store_tree.specs.Holding.{Holding}
 
--- records and lots are gone, and of the tree what belonged to the last mount
+-- without records and lots, and without the state of the last mount in the tree
 abbrev pub cleared_for : Holding → Holding
 cleared_for y = record { tree = cleared y.tree; kept = []; lots = []; next_lot = y.next_lot }

@@ -1,4 +1,4 @@
--- What a store holds in either version, and what it holds once it is opened (own profile).
+-- A store of either version, and the store after its opening (own profile).
 use Rattle.std.specs.Prelude.{◌≡◌, ℕ, false, IsTrue, List, [], ◌∷◌, map, Option}
 use Rattle.std.specs.List.{AllByRecursion}
 use Rattle.sqlite.specs.Effect.{Database}
@@ -23,8 +23,8 @@ first_counters c s =
     ∷ counter 8 (minor_of s) ∷ counter 9 (readahead_of s)
     ∷ counter 10 (flags_of s) ∷ []
 
--- its tables tell these rows of a tree, and these records, which have no lot
-pub record TellsFirst (rows : Rows) (records : List Answer) (c : Content) : Type 0 where
+-- its tables describe these rows of a tree, and these records, which have no lot
+pub record DescribesFirst (rows : Rows) (records : List Answer) (c : Content) : Type 0 where
   pub counters : c.counters ≡ first_counters rows.counters rows.settings
   pub nodes : c.nodes ≡ in_order node_key (map (λ f. f.row) rows.nodes)
   pub entries : c.entries ≡ in_order cookie_of rows.entries
@@ -40,11 +40,11 @@ pub record TellsFirst (rows : Rows) (records : List Answer) (c : Content) : Type
 -- a database of version 1 that holds this
 pub record FirstFor (s : TreeState) (records : List Answer) (d : Database) : Type 0 where
   pub tree : Tree s
-  pub held : (c : Content) × HoldsAs with_answers (stored c) d × TellsFirst (rowed s) records c
+  pub held : (c : Content) × HoldsAs with_answers (stored c) d × DescribesFirst (rowed s) records c
 
 -- ---- either version
 
--- a tree and its records, or all that version 2 holds
+-- a tree and its records in version 1, or a holding of version 2
 pub data Stored : Type 0 where
   First : TreeState → List Answer → Stored
   Second : Holding → Stored

@@ -1,4 +1,4 @@
--- What a start leaves of any database (own profile).
+-- Any database after a start (own profile).
 use Rattle.std.specs.Prelude.{◌⊎◌, ℕ, List, [], IsTrue}
 use Rattle.sqlite.specs.Tree.{Trees}
 use Rattle.sqlite.specs.Effect.{Database}
@@ -17,34 +17,34 @@ use Rattle.fuse_store.specs.Creating.{IsBlank, new_holding}
 use Rattle.fuse_store.specs.Mounting.{cleared_for}
 use Rattle.fuse_store.specs.Opening.{Stored, StoredFor, OpenedFor, WasFor, opened_for}
 
--- these trees are those of a new store, where there was nothing, and those of what is opened, where something was stored
+-- these trees are those of a new store, where the database was blank, and those of the opened store, where it had one
 pub record LeavesStarted (now : Moment) (s : State) (db : Trees) : Type 0 where
   pub made : IsBlank s → IsTrue s.is_open → LeftAs (HeldFor (new_holding now)) db
   pub opened : (z : Stored) → WasFor z s → LeftAs (OpenedFor z) db
 
 -- ---- with a mount that begins
 
--- what is opened, after the begin of a mount
+-- the opened store, after the begin of a mount
 abbrev pub begun_for : Stored → Holding
 begun_for z = cleared_for (opened_for z)
 
 abbrev pub BegunFor : Stored → Database → Type 0
 BegunFor z = HeldFor (begun_for z)
 
--- the opening and the begin of a mount are a transaction each: these trees are those after the first or after both
+-- the opening and the begin of a mount are one transaction each: these trees are those after the first or after both
 abbrev pub LeavesBegun : State → Trees → Type 0
 LeavesBegun s db = (z : Stored) → WasFor z s → LeftAs (OpenedFor z) db ⊎ LeftAs (BegunFor z) db
 
--- what was left is still there, or it is opened
+-- the store is as it was left, or opened
 abbrev pub IsLeftOrOpened : Stored → State → Type 0
 IsLeftOrOpened z s = RestsAs (StoredFor z) s ⊎ RestsAs (OpenedFor z) s
 
--- these trees are those of a new store, where there was nothing, and else those of what is opened, with or without the mount
+-- these trees are those of a new store, where the database was blank, and else those of the opened store, before or after the begin of the mount
 pub record LeavesFresh (now : Moment) (s : State) (db : Trees) : Type 0 where
   pub made : IsBlank s → IsTrue s.is_open → LeftAs (HeldFor (new_holding now)) db
   pub begun : LeavesBegun s db
 
--- a mount began of what is opened, whatever that stood for
+-- a mount began of the opened store, whatever history that stood for
 abbrev pub BeginsAfter : Stored → KeeperState the_tree → Type 0
 BeginsAfter z k = (s : the_tree.State) (h : History) (t : List ℕ)
     → Stands the_tree (rowed (opened_for z).tree) (records_of (opened_for z).kept) s h t

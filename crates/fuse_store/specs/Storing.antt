@@ -1,4 +1,4 @@
--- How the file of a store is opened (own profile).
+-- The fault of a file that is not opened (own profile).
 use Rattle.sqlite.specs.declared.error.Error.{Error}
 use Rattle.sqlite.specs.declared.error.Error.TheVariants.{SqliteFailure}
 use Rattle.sqlite.specs.declared.error.ErrorCode.{ErrorCode}
@@ -11,7 +11,7 @@ abbrev pub fault_of_code : ErrorCode → StoreFault
 fault_of_code NotADatabase = NotAStore
 fault_of_code code = fault_of (SqliteFailure code)
 
--- the fault of a file that isn't opened: what is no database is no store
+-- a file that is no database is no store
 abbrev pub opening_fault : Error → StoreFault
 opening_fault (SqliteFailure code) = fault_of_code code
 opening_fault e = fault_of e

@@ -1,15 +1,13 @@
-//! A keeper over the tables of `sqlite`: each change and its answer in one transaction. Below it a
-//! store over the tables of a database, in the words of what is held: made, opened and begun anew.
+//! `TableKeeper`, a keeper whose store is a database of SQLite.
 #![tactic(auto)]
 
-mod creating;
-mod keeper;
-mod mounting;
-mod opening;
-mod starting;
+mod creation;
+mod mount;
+mod setup;
+mod start;
+mod table_keeper;
 
-pub use creating::make_for;
-pub use keeper::TableKeeper;
-pub use mounting::begin_mount;
-pub use opening::set_up_for;
-pub use starting::{open_fresh, open_or_create, opening_fault};
+pub use fuse_keeper::{Done, Keeper, PlainKeeper, Restart, StoreCounts, StoreFault};
+pub use fuse_tree::PlainTree;
+pub use start::{open_fresh, open_or_create, opening_fault};
+pub use table_keeper::TableKeeper;

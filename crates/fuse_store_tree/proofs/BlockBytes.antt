@@ -13,7 +13,7 @@ use Rattle.std.proofs.Math.ListN.{get_or-append}
 use Rattle.std.proofs.Math.Seq.{get_or-append_right}
 use Rattle.fuse_store_tree.specs.Store.{whole_of, overlay, spliced}
 use Rattle.fuse_store_tree.proofs.Ranges.{whole_byte}
-use Rattle.fuse_store_tree.proofs.Told.{Rises, put_last, same_test, grouped}
+use Rattle.fuse_store_tree.proofs.Described.{Rises, put_last, same_test, grouped}
 
 abbrev slot : Block → ℕ
 slot b = b.slot

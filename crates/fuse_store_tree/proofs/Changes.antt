@@ -14,7 +14,7 @@ use Rattle.sqlite.specs.State.{State, HasCleanDisk}
 use Rattle.fuse_store_tables.specs.Moves.{InsideAs, Looked}
 use Rattle.fuse_store_tree.specs.Changing.{Changed, Keeps}
 use Rattle.fuse_store_tables.specs.Following.{earlier}
-use Rattle.fuse_store_tree.proofs.Told.{inside_of}
+use Rattle.fuse_store_tree.proofs.Described.{inside_of}
 use Rattle.fuse_store_tree.proofs.Steps.{keeps_of, keeps_then}
 
 pub changed_keeps : (f : Store → Store) (a b d : State) → Changed f a b → Keeps b d → Keeps a d

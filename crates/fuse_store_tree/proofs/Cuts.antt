@@ -1,4 +1,4 @@
--- The bytes of a node behind a place, taken away.
+-- The bytes of a node after a place, cut off.
 use Rattle.std.proofs.Common.{◌≡◌, ◌≤◌, ◌+◌, ◌-◌, ◌*◌, ◌/◌, ◌%◌, ◌==◌, ◌&&◌, inl, inr, ℕ, List, [], ◌∷◌, filter, find, length, replicate, not, nat_lt}
 use Rattle.std.proofs.Common.{Bool, true, false, cond, None, Ok, refl, sym, ap, subst, arith, ◌∙◌}
 use Rattle.std.specs.List.{list_any}
@@ -16,13 +16,13 @@ use Rattle.fuse_store_tables.specs.Content.{Content, without_blocks_from, node_k
 use Rattle.fuse_store_tables.specs.Moves.{Makes}
 use Rattle.fuse_store_tables.specs.Following.{earlier}
 use Rattle.fuse_store_tree.specs.Fits.{IsWhole}
-use Rattle.fuse_store_tree.specs.Store.{Store, Reports, TellsAs, byte_at, bytes_of, byte_in, cut, overlay, rows_bytes, in_order, with_change}
+use Rattle.fuse_store_tree.specs.Store.{Store, Describes, DescribesAs, byte_at, bytes_of, byte_in, cut, overlay, rows_bytes, in_order, with_change}
 use Rattle.fuse_store_tree.specs.Changing.{Changed, Cut, Overlaid, KeepsBytes}
 use Rattle.fuse_store_tree.proofs.Orders.{all_filter}
 use Rattle.fuse_store_tree.proofs.BlockBytes.{lower, upper, others_left}
 use Rattle.fuse_store_tree.proofs.Overlays.{byte_sized, sized_length, zero_at, beyond, low_test, high_test}
 use Rattle.fuse_store_tree.proofs.Steps.{bytes_keep, bytes_then}
-use Rattle.fuse_store_tree.proofs.Writes.{tells_same, rows_same, content_other, content_here, none_changed, none_there}
+use Rattle.fuse_store_tree.proofs.Writes.{describes_same, rows_same, content_other, content_here, none_changed, none_there}
 use Rattle.fuse_store_tree.proofs.RowChanges.{same_number}
 use Rattle.fuse_store_tree.proofs.Steps.{held_of}
 
@@ -157,7 +157,7 @@ cut_then node size end zeros a b d p are high q =
             holds = (
               last.holds.0,
               last.holds.1,
-              tells_same w.0 (overlay node size (replicate (end - size) 0) (cut node end w.1)) (cut node size w.1) last.holds.0 same last.holds.2,
+              describes_same w.0 (overlay node size (replicate (end - size) 0) (cut node end w.1)) (cut node size w.1) last.holds.0 same last.holds.2,
             );
           };
     }
@@ -174,7 +174,7 @@ either_zero : (b : Bool) → ◌≡◌ {A = ℕ} (cond b 0 0) 0
 either_zero true = refl
 either_zero false = refl
 
-sized_byte : (x : Store) (node size : ℕ) (c : Content) → TellsAs x (cut node size (rows_bytes x.rows)) c → (n i : ℕ)
+sized_byte : (x : Store) (node size : ℕ) (c : Content) → DescribesAs x (cut node size (rows_bytes x.rows)) c → (n i : ℕ)
     → byte_in c.blocks n i ≡ rows_bytes (with_change (changes.Sized node size) x).rows n i
 sized_byte x node size c told n i = elim (cases_Bool (n == node)) [
   | inr other ↦ told.bytes n i ∙ (rw other (ap (λ l. byte_at l i) (sym (content_other node (sized size) n x.rows.nodes other))))
@@ -193,8 +193,8 @@ sized_byte x node size c told n i = elim (cases_Bool (n == node)) [
       ]
 ]
 
-sized_told : (x : Store) (node size : ℕ) (c : Content) → TellsAs x (cut node size (rows_bytes x.rows)) c
-    → Reports (with_change (changes.Sized node size) x) c
+sized_told : (x : Store) (node size : ℕ) (c : Content) → DescribesAs x (cut node size (rows_bytes x.rows)) c
+    → Describes (with_change (changes.Sized node size) x) c
 sized_told x node size c told = record {
   counters = told.counters;
   nodes = told.nodes ∙ ap (in_order node_key) (sym (rows_same node (sized size) x.rows.nodes));

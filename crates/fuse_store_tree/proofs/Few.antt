@@ -10,7 +10,7 @@ use Rattle.fuse_tree.specs.declared.rows.EntryRow.{EntryRow}
 use Rattle.fuse_tree.specs.declared.rows.Full.{Full}
 use Rattle.fuse_store_tables.specs.Content.{at_by, node_key}
 use Rattle.fuse_store_tree.specs.Holding.{Holding, HeldFor, store_of}
-use Rattle.fuse_store_tree.proofs.Told.{entries_told, row_told, rows_full}
+use Rattle.fuse_store_tree.proofs.Described.{entries_told, row_told, rows_full}
 
 -- ---- entries
 

@@ -6,7 +6,7 @@ use Rattle.std.specs.declared.cmp.Ordering.{Ordering}
 use Rattle.std.proofs.lemmas.Bool.Decides.{nat_tests}
 use Rattle.fuse_keeper.specs.History.{is_in}
 use Rattle.fuse_store_tables.specs.Content.{Kept, kept_key, put_by, without_by, has_by, at_by}
-use Rattle.fuse_store_tree.proofs.Told.{same_test}
+use Rattle.fuse_store_tree.proofs.Described.{same_test}
 use Rattle.fuse_store_tree.specs.Holding.{Holding}
 use Rattle.fuse_store_tree.specs.Group.{without_record, without_settled}
 
@@ -45,7 +45,7 @@ module _ {X : Type 0} where
   nest true b p r = sym (both b p)
   nest false b p r = refl
 
--- ---- what is told of the record with an id
+-- ---- the record with an id
 
 module _ {X : Type 0} (f : Kept → X) where
   abbrev pub at_id : List Kept → ℕ → Option X

@@ -67,7 +67,7 @@ lot_settled (Some n) ids y = refl
 pub left_settled : (lot : Option ℕ) (ids : List ℕ) (y : Holding) → HasLotLeft lot y → HasLotLeft lot (without_settled ids y)
 left_settled lot ids y left none = subst (λ n. n < 2 ^ 62) (sym (same_next ids y)) (left none)
 
--- a group behind it, which goes under the lot that was taken
+-- a group after it, under the lot that was allocated
 pub grouped : (lot : Option ℕ) (n : ℕ) (ids : List ℕ) (es : List Entry) (a b d : State) → Turned (prepared lot ids) a b
     → (HasCleanDisk b → (y : Holding) → InsideFor y a → n ≡ lot_for lot y) → Turned (with_group n es) b d → Turned (performed lot ids es) a d
 grouped lot n ids es a b d p value q =

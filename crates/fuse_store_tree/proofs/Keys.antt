@@ -9,7 +9,7 @@ use Rattle.sqlite_trees.specs.Tree.{IsTable, rowid}
 use Rattle.sqlite_value.specs.Order.{value_cmp}
 use Rattle.sqlite_value.proofs.OrderLemmas.{value_cmp-Int}
 use Rattle.fuse_store_tables.specs.Blocks.{Block, block_row}
-use Rattle.fuse_store_tree.proofs.Told.{Rises}
+use Rattle.fuse_store_tree.proofs.Described.{Rises}
 
 same_order : (m n : ℕ) → int_cmp (pos m) (pos n) ≡ nat_cmp m n
 same_order m n = grind (arith, nat_tests)

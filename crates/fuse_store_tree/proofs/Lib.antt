@@ -1,5 +1,5 @@
 pub mod Looks
-pub mod Told
+pub mod Described
 pub mod Keys
 pub mod Ranges
 pub mod ListingLemmas

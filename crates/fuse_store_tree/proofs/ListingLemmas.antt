@@ -1,4 +1,4 @@
--- The entries behind a cookie, as rows were read.
+-- The entries after a cookie, as rows were read.
 use Rattle.std.proofs.Common.{◌≡◌, ◌≤◌, ◌<◌, ◌^◌, ◌+◌, ◌&&◌, inl, inr, ℕ, zero, suc, List, [], ◌∷◌, ◌++◌, map, filter, take, length, not, nat_lt, Bool, true}
 use Rattle.std.proofs.Common.{false, slice_index_or, refl, ap, arith, ◌∙◌}
 use Rattle.std.specs.List.{AllByRecursion}

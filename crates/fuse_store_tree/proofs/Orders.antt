@@ -7,7 +7,7 @@ use Rattle.std.specs.declared.cmp.Ordering.{Ordering}
 use Rattle.std.proofs.lemmas.Bool.Decides.{nat_tests}
 use Rattle.fuse_store_tables.specs.Content.{put_by, has_by, set_by, without_by}
 use Rattle.fuse_store_tree.specs.Store.{in_order}
-use Rattle.fuse_store_tree.proofs.Told.{Rises}
+use Rattle.fuse_store_tree.proofs.Described.{Rises}
 
 less_is : (a b : ℕ) → nat_cmp a b ≡ Less → a < b
 less_is a b is = grind (arith, nat_tests)

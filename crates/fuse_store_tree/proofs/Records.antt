@@ -15,7 +15,7 @@ use Rattle.fuse_store_tables.specs.Content.{Content, Kept, kept_key, put_by, wit
 use Rattle.fuse_store_tables.specs.Moves.{Makes, Inside, Looked}
 use Rattle.fuse_store_tables.specs.Following.{earlier}
 use Rattle.fuse_store_tree.specs.Fits.{Fits, KeepsRecord}
-use Rattle.fuse_store_tree.specs.Store.{Store, Reports, records_of, counters_of, value_of}
+use Rattle.fuse_store_tree.specs.Store.{Store, Describes, records_of, counters_of, value_of}
 use Rattle.fuse_store_tree.specs.Acting.{ActsInside}
 use Rattle.fuse_store_tree.specs.Changing.{Keeps}
 use Rattle.fuse_store_tree.specs.Laws.{looked_still}
@@ -29,7 +29,7 @@ use Rattle.fuse_store_tree.proofs.Turning.{lifted, looked_for, turned_known, tur
 
 -- ---- a record goes
 
-record_gone : (id : ℕ) (x : Store) (c : Content) → Reports x c → Reports (record x { kept = without_by kept_key id x.kept }) (without_kept id c)
+record_gone : (id : ℕ) (x : Store) (c : Content) → Describes x c → Describes (record x { kept = without_by kept_key id x.kept }) (without_kept id c)
 record_gone id x c at = record {
   counters = at.counters;
   nodes = at.nodes;
@@ -67,7 +67,7 @@ none_forgot id a high = turned_known (λ y. y) (without_record id) a a (λ clean
 
 -- ---- a record comes
 
-record_comes : (k : Kept) → KeepsRecord k → (x : Store) (c : Content) → Reports x c → Reports (record x { kept = put_by kept_key k x.kept }) (with_kept k c)
+record_comes : (k : Kept) → KeepsRecord k → (x : Store) (c : Content) → Describes x c → Describes (record x { kept = put_by kept_key k x.kept }) (with_kept k c)
 record_comes k fits x c at = record {
   counters = at.counters;
   nodes = at.nodes;
@@ -133,8 +133,8 @@ below_more : (next : ℕ) (lots : List ℕ) → AreBelow next lots → AreBelow 
 below_more next lots below =
     all_put (λ n. n) (λ n. n < next + 1) next lots (omega arith) (all_map (λ n. n < next) (λ n. n < next + 1) lots (λ n low. omega (arith, low)) below)
 
-lot_comes : (n : ℕ) (x : Store) (c : Content) → Reports x c → n ≡ value_of c.counters 10
-    → Reports (record x { lots = put_by (λ m. m) x.next_lot x.lots; next_lot = x.next_lot + 1 }) (set_counter 11 (n + 1) (with_lot n c))
+lot_comes : (n : ℕ) (x : Store) (c : Content) → Describes x c → n ≡ value_of c.counters 10
+    → Describes (record x { lots = put_by (λ m. m) x.next_lot x.lots; next_lot = x.next_lot + 1 }) (set_counter 11 (n + 1) (with_lot n c))
 lot_comes n x c at is =
     let same : n ≡ x.next_lot = is ∙ ap (λ cs. value_of cs 10) at.counters in
     record {
@@ -200,7 +200,7 @@ took_new id lot e a b d r looks found p = turned_known (acted_on lot e) (λ y. (
     (λ clean y at. ap (λ o. (taken_by o lot e y).holding) (found_is id e a r None (found (earlier b d _ p.stays.survives clean)) y at))
     (turned_then (λ y. y) (acted_on lot e) a b d (looked_for a b looks) p)
 
--- whether it went well or not, the request that acts is behind a look
+-- the request that is executed comes after a read, whether it succeeds or not
 pub done_new : (id lot : ℕ) (e : Entry) (a b d : State) (r : Option Said) (done : Done) → Looked a b → (HasCleanDisk b → IsFound id e a r None)
     → Turned (acted_on lot e) b d → HasCleanDisk d → ((y : Holding) → InsideFor y b → done ≡ answered (said_of e y)) → (y : Holding) → InsideFor y a
     → done ≡ (taken lot e y).done

@@ -12,7 +12,7 @@ use Rattle.fuse_store_tables.specs.Moves.{Rests, RestsAs, Serves, ServesAs, IsSa
 use Rattle.fuse_store_tables.specs.Following.{rests_less, rests_also, rests_told, rests_failed, safe_also}
 use Rattle.fuse_store_tree.specs.Fits.{KeepsRecord}
 use Rattle.fuse_store_tree.specs.Store.{records_of, counters_of}
-use Rattle.fuse_store_tree.specs.Holding.{Holding, HeldFor, TellsAfter}
+use Rattle.fuse_store_tree.specs.Holding.{Holding, HeldFor, ReportsAfter}
 use Rattle.fuse_store_tree.proofs.Looks.{all_map, none_found}
 
 -- a database holds it by its content alone
@@ -28,12 +28,12 @@ rests_for a b r p = rests_also Holds HeldFor has_content a b r p
 pub safe_for : {X : Type 0} (a b : State) (r : Result X StoreFault) → IsSafe Holds a b r → IsSafe HeldFor a b r
 safe_for a b r p = safe_also Holds HeldFor has_content a b r p
 
--- what is told of a content is told of what is held
-pub tells_for : {X : Type 0} (a b : State) (r : Result X StoreFault) (P : X → Content → Type 0) (Q : X → Holding → Type 0)
+-- a fact on the content is one on the holding
+pub describes_for : {X : Type 0} (a b : State) (r : Result X StoreFault) (P : X → Content → Type 0) (Q : X → Holding → Type 0)
     → ((x : X) (y : Holding) (at : RestsAs (HeldFor y) a) → P x at.holds.held.0 → Q x y)
-    → (HasCleanDisk b → IfOk r (λ x. (c : Content) → Rests c a → P x c)) → IfOk r (λ x. TellsAfter a b (Q x))
-tells_for a b (Ok x) P Q more told = λ clean y at. more x y at (told clean at.holds.held.0 (content_at y a at))
-tells_for a b (Err f) P Q more told = tt
+    → (HasCleanDisk b → IfOk r (λ x. (c : Content) → Rests c a → P x c)) → IfOk r (λ x. ReportsAfter a b (Q x))
+describes_for a b (Ok x) P Q more told = λ clean y at. more x y at (told clean at.holds.held.0 (content_at y a at))
+describes_for a b (Err f) P Q more told = tt
 
 -- what `?` returns of a read that failed
 pub fails_for : {X Y E : Type 0} (a b : State) (e : E) (r : Result Y StoreFault) → IsErr r → ServesAs {X = X} HeldFor HeldFor a b (Err e)
@@ -45,7 +45,7 @@ pub failed_for : {X Y : Type 0} (a b : State) (e : Error) (r : Result Y StoreFau
     → ServesAs HeldFor HeldFor a b r
 failed_for a b e r is p = fails_for a b e r is (rests_for a b (Err e) p)
 
--- a look that went well, whatever it told
+-- a read that succeeded
 pub read_for : {X Y : Type 0} (a b : State) (x : X) (r : Result Y StoreFault) → Serves {X = X} {E = Error} (λ c. c) a b (Ok x)
     → ServesAs HeldFor HeldFor a b r
 read_for a b x r p = rests_for a b r (rests_told Holds a b x r p)

@@ -1,4 +1,4 @@
--- Rows that come, change and go, told by what the tables tell.
+-- Rows that are added, changed and deleted, as the tables describe them.
 use Rattle.std.proofs.Common.{◌≡◌, inl, inr, ℕ, List, [], ◌∷◌, ◌++◌, ◌==◌, map, Bool, true, false}
 use Rattle.std.proofs.Common.{not, cond, Some, None, refl, sym, ap, subst, arith, ◌∙◌, ◌+◌, find, ◌||◌}
 use Rattle.std.specs.List.{list_any}
@@ -16,8 +16,8 @@ use Rattle.fuse_store_tables.specs.Content.{at_by, node_key, with_node, set_node
 use Rattle.fuse_store_tables.specs.Content.{without_by, cookie_of, fh_of, with_entry, with_entry_gone, with_handle, without_handle, set_counter}
 use Rattle.fuse_store_tree.specs.Fits.{KeepsNode}
 use Rattle.fuse_tree.specs.Columns.{FitsEntry, FitsHandle}
-use Rattle.fuse_store_tree.specs.Store.{Store, Reports, with_change, in_order, byte_at, FitsSettings}
-use Rattle.fuse_store_tree.proofs.Told.{Rises, same_test, filter_same}
+use Rattle.fuse_store_tree.specs.Store.{Store, Describes, with_change, in_order, byte_at, FitsSettings}
+use Rattle.fuse_store_tree.proofs.Described.{Rises, same_test, filter_same}
 use Rattle.fuse_store_tree.proofs.Orders.{all_put, all_filter, one_more, one_gone, one_replaced, repl, rises_in_order, set_is_put}
 
 -- ---- nodes
@@ -92,7 +92,7 @@ contents_put row number fs = elim (cases_Bool (list_any (λ f. f.row.node == row
   | inr not_there ↦ rw not_there (contents_behind row number fs)
 ]
 
-pub node_put : (row : NodeRow) → KeepsNode row → (s : Store) (c : Content) → Reports s c → Reports (with_change (changes.Node row) s) (with_node row c)
+pub node_put : (row : NodeRow) → KeepsNode row → (s : Store) (c : Content) → Describes s c → Describes (with_change (changes.Node row) s) (with_node row c)
 node_put row fits s c at = record {
   counters = at.counters;
   nodes = ap (put_by node_key row) at.nodes ∙ rows_put row s.rows.nodes;
@@ -124,16 +124,16 @@ same_node : (row x : NodeRow) → x.node ≡ row.node → renumbered row x ≡ r
 same_node row x is = ap (λ n. record row { node = n }) is
 
 -- the row of a node that is there is changed in its place
-pub node_set : (row n : NodeRow) → KeepsNode row → (s : Store) (c : Content) → Reports s c → Some n ≡ at_by node_key row.node c.nodes
-    → Reports (with_change (changes.Node row) s) (set_node row c)
+pub node_set : (row n : NodeRow) → KeepsNode row → (s : Store) (c : Content) → Describes s c → Some n ≡ at_by node_key row.node c.nodes
+    → Describes (with_change (changes.Node row) s) (set_node row c)
 node_set row n fits s c at found =
     let rises = subst (Rises node_key) (sym at.nodes) (rises_in_order node_key (map (λ f. f.row) s.rows.nodes)) in
     let same = set_is_put node_key row (renumbered row) (λ x is. same_node row x is) c.nodes rises (found_any row.node c.nodes n found) in
-    subst (λ ns. Reports (with_change (changes.Node row) s) (record c { nodes = ns })) (sym same) (node_put row fits s c at)
+    subst (λ ns. Describes (with_change (changes.Node row) s) (record c { nodes = ns })) (sym same) (node_put row fits s c at)
 
 -- ---- entries
 
-pub entry_comes : (e : EntryRow) → FitsEntry e → (s : Store) (c : Content) → Reports s c → Reports (with_change (changes.Entry e) s) (with_entry e c)
+pub entry_comes : (e : EntryRow) → FitsEntry e → (s : Store) (c : Content) → Describes s c → Describes (with_change (changes.Entry e) s) (with_entry e c)
 entry_comes e fits s c at = record {
   counters = at.counters;
   nodes = at.nodes;
@@ -154,7 +154,7 @@ entry_comes e fits s c at = record {
   };
 }
 
-pub entry_goes : (cookie : ℕ) → (s : Store) (c : Content) → Reports s c → Reports (with_change (changes.EntryGone cookie) s) (with_entry_gone cookie c)
+pub entry_goes : (cookie : ℕ) → (s : Store) (c : Content) → Describes s c → Describes (with_change (changes.EntryGone cookie) s) (with_entry_gone cookie c)
 entry_goes cookie s c at = record {
   counters = at.counters;
   nodes = at.nodes;
@@ -178,7 +178,7 @@ entry_goes cookie s c at = record {
 
 -- ---- handles
 
-pub handle_comes : (h : HandleRow) → FitsHandle h → (s : Store) (c : Content) → Reports s c → Reports (with_change (changes.Handle h) s) (with_handle h c)
+pub handle_comes : (h : HandleRow) → FitsHandle h → (s : Store) (c : Content) → Describes s c → Describes (with_change (changes.Handle h) s) (with_handle h c)
 handle_comes h fits s c at = record {
   counters = at.counters;
   nodes = at.nodes;
@@ -199,7 +199,7 @@ handle_comes h fits s c at = record {
   };
 }
 
-pub handle_goes : (fh : ℕ) → (s : Store) (c : Content) → Reports s c → Reports (with_change (changes.HandleGone fh) s) (without_handle fh c)
+pub handle_goes : (fh : ℕ) → (s : Store) (c : Content) → Describes s c → Describes (with_change (changes.HandleGone fh) s) (without_handle fh c)
 handle_goes fh s c at = record {
   counters = at.counters;
   nodes = at.nodes;
@@ -222,7 +222,7 @@ handle_goes fh s c at = record {
 
 -- ---- counters and settings
 
-pub counters_change : (n : CountersRow) → (s : Store) (c : Content) → Reports s c → Reports (with_change (changes.Counters n) s)
+pub counters_change : (n : CountersRow) → (s : Store) (c : Content) → Describes s c → Describes (with_change (changes.Counters n) s)
     (set_counter 6 n.handles (set_counter 5 n.nodes (set_counter 4 n.next_cookie (set_counter 3 n.next_fh (set_counter 2 n.next_node c)))))
 counters_change n s c at = record {
   counters = ap (λ cs. (set_counter 6 n.handles (set_counter 5 n.nodes (set_counter 4 n.next_cookie (set_counter 3 n.next_fh (set_counter 2 n.next_node
@@ -238,8 +238,8 @@ counters_change n s c at = record {
   fits = record { nodes = at.fits.nodes; entries = at.fits.entries; handles = at.fits.handles; blocks = at.fits.blocks; kept = at.fits.kept };
 }
 
-pub settings_change : (v : Settings) → FitsSettings (Some v) → (s : Store) (c : Content) → Reports s c
-    → Reports (with_change (changes.Settings v) s) (set_counter 10 v.flags.0 (set_counter 9 v.max_readahead (set_counter 8 v.minor (set_counter 7 1 c))))
+pub settings_change : (v : Settings) → FitsSettings (Some v) → (s : Store) (c : Content) → Describes s c
+    → Describes (with_change (changes.Settings v) s) (set_counter 10 v.flags.0 (set_counter 9 v.max_readahead (set_counter 8 v.minor (set_counter 7 1 c))))
 settings_change v fits s c at = record {
   counters = ap (λ cs. (set_counter 10 v.flags.0 (set_counter 9 v.max_readahead
       (set_counter 8 v.minor (set_counter 7 1 (record c { counters = cs }))))).counters) at.counters;

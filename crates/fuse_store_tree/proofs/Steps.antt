@@ -1,6 +1,6 @@
--- A statement, or several, as a step on what the tables tell.
+-- A statement, or several, as a step on a store.
 use Rattle.std.proofs.Common.{ℕ, Ok, Err, Result, OnOk, OnErr}
-use Rattle.fuse_store_tree.specs.Store.{HeldAs, rows_bytes, Store, Reports, Held}
+use Rattle.fuse_store_tree.specs.Store.{HeldAs, rows_bytes, Store, Describes, Held}
 use Rattle.sqlite.specs.State.{State, HasCleanDisk}
 use Rattle.sqlite.specs.declared.error.Error.{Error}
 use Rattle.fuse_store_tables.specs.Content.{Content, Holds}
@@ -8,7 +8,7 @@ use Rattle.fuse_store_tables.specs.Moves.{Inside, InsideAs, IsReady, Makes, Look
 use Rattle.fuse_store_tree.specs.Changing.{Changed, Keeps, KeepsBytes}
 use Rattle.sqlite.proofs.StateLemmas.{survives_weaker}
 use Rattle.fuse_store_tables.specs.Following.{earlier, stays_then}
-use Rattle.fuse_store_tree.proofs.Told.{inside_of}
+use Rattle.fuse_store_tree.proofs.Described.{inside_of}
 
 ready_of : (a : State) → IsReady HeldAs a → IsReady Holds a
 ready_of a (w, at) = (at.holds.0, record { is_open = at.is_open; in_transaction = at.in_transaction; holds = at.holds.1 })
@@ -30,7 +30,7 @@ held_of a b p = record {
 pub keeps_of : (a b : State) → Stays a b → Keeps a b
 keeps_of a b p = held_of a b (bytes_keep a b p)
 
--- a step behind one that leads from what tables tell to what tables tell
+-- a step after one that leads from the tables of a store to the tables of a store
 pub bytes_then : (a b d : State) → KeepsBytes a b → (HasCleanDisk b → (w : Store × (ℕ → ℕ → ℕ)) → InsideAs (HeldAs w) a → IsReady HeldAs b) → KeepsBytes b d
     → KeepsBytes a d
 bytes_then a b d p on q = stays_then HeldAs HeldAs a b d p (λ clean at. on clean at.0 at.1) q
@@ -48,8 +48,8 @@ looked_bytes a b d p q = bytes_then a b d (bytes_keep a b p.stays) (λ clean w a
     let now = p.same clean at.holds.0 (record { is_open = at.is_open; in_transaction = at.in_transaction; holds = at.holds.1 }) in
     (w, record { is_open = now.is_open; in_transaction = now.in_transaction; holds = (at.holds.0, now.holds, at.holds.2) })) q
 
--- what a statement makes of the tables, told by what they tell
-pub made : {X : Type 0} (f : Content → Content) (g : Store → Store) (a b : State) (x : X) → ((s : Store) (c : Content) → Reports s c → Reports (g s) (f c))
+-- the effect of a statement, on the store that the tables describe
+pub made : {X : Type 0} (f : Content → Content) (g : Store → Store) (a b : State) (x : X) → ((s : Store) (c : Content) → Describes s c → Describes (g s) (f c))
     → Makes {X = X} {E = Error} f a b (Ok x) → Changed g a b
 made f g a b x tells p = record {
   stays = keeps_of a b p.stays;
@@ -58,9 +58,9 @@ made f g a b x tells p = record {
       record { is_open = now.is_open; in_transaction = now.in_transaction; holds = (f at.holds.0, now.holds, tells s at.holds.0 at.holds.2) };
 }
 
--- the same behind a look
+-- the same after a read
 pub made_known : {X : Type 0} (f : Content → Content) (g : Store → Store) (a b d : State) (x : X) → Looked a b → Makes {X = X} {E = Error} f b d (Ok x)
-    → (HasCleanDisk b → (s : Store) (c : Content) → Inside c a → Reports s c → Reports (g s) (f c)) → Changed g a d
+    → (HasCleanDisk b → (s : Store) (c : Content) → Inside c a → Describes s c → Describes (g s) (f c)) → Changed g a d
 made_known f g a b d x p q tells = record {
   stays = looked_keeps a b d p (keeps_of b d q.stays);
   turns = λ clean s at.
@@ -70,7 +70,7 @@ made_known f g a b d x p q tells = record {
       record { is_open = now.is_open; in_transaction = now.in_transaction; holds = (f at.holds.0, now.holds, tells mid s at.holds.0 inside at.holds.2) };
 }
 
--- ---- told by what came of a call
+-- ---- by the result of a call
 
 pub on_error : {X F : Type 0} (r : Result X F) (P Q : Type 0) → (P → Q) → OnErr r P → OnErr r Q
 on_error (Ok x) P Q f p = tt

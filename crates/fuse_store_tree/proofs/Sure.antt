@@ -22,7 +22,7 @@ use Rattle.fuse_store_tree.specs.Holding.{Holding, HeldFor, InsideFor, KeepsFor,
 use Rattle.fuse_store_tree.specs.Group.{HasLotLeft, IsSureFor}
 use Rattle.fuse_store_tree.proofs.Turning.{told_in}
 
--- a fault behind a step: it begins with what the step makes
+-- a fault after a step: it begins with what the step makes
 pub fault_next : {C D : Type 0} (P : C → Database → Type 0) (Q : D → Database → Type 0) (a b d : State) (f : StoreFault) → StaysIn Q b d
     → (HasCleanDisk b → IsReady P a → IsReady Q b) → (HasCleanDisk d → IsReady Q b → IsOutside f) → HasCleanDisk d → IsReady P a → IsOutside f
 fault_next P Q a b d f stays on sure clean at = sure clean (on (earlier b d _ stays.survives clean) at)
@@ -85,18 +85,18 @@ no_plan_plain plans.NotATree was is a b none fails = tt
 no_plan_plain (plans.Look f) was None a b none fails = tt
 no_plan_plain (plans.Look f) was (Some g) a b none fails = fails.plain (none_before was none)
 
--- what is held is told
+-- a holding is a store
 pub ready_held : (a : State) → IsReady HeldFor a → IsReady Held a
 ready_held a (y, at) = (store_of y, told_in y a at)
 
 -- ---- a group
 
--- a fault behind a step on what is held
+-- a fault after a step on a holding
 pub turned_sure : {X : Type 0} (f : Holding → Holding) (a b d : State) (r : Result X StoreFault) → Turned f a b → OnErr r (KeepsFor b d)
     → IsSure HeldFor b d r → IsSure HeldFor a d r
 turned_sure f a b d r p keeps sure = sure_next HeldFor HeldFor a b d r keeps (λ clean (y, at). (f y, p.turns clean y at)) sure
 
--- the same where a lot may be wanting
+-- the same where no lot may be left
 pub left_sure : {X : Type 0} (lot : Option ℕ) (f : Holding → Holding) (a b d : State) (r : Result X StoreFault) → Turned f a b → OnErr r (KeepsFor b d)
     → ((y : Holding) → HasLotLeft lot y → HasLotLeft lot (f y)) → IsSureFor lot b d r → IsSureFor lot a d r
 left_sure lot f a b d (Ok x) p keeps on sure clean = tt

@@ -10,7 +10,7 @@ use Rattle.fuse_keeper.specs.Stands.{Stands, OthersStay}
 use Rattle.fuse_keeper.specs.Taking.{Took, TookBy, Acts, ActedOn, GroupsGrow}
 use Rattle.fuse_keeper.specs.declared.keeper.Done.{Done}
 use Rattle.fuse_store_tree.specs.Store.{records_of}
-use Rattle.fuse_store_tree.proofs.Told.{grouped}
+use Rattle.fuse_store_tree.proofs.Described.{grouped}
 use Rattle.fuse_store_tree.specs.Holding.{Holding}
 use Rattle.fuse_tree.specs.TheTree.{the_tree}
 use Rattle.fuse_store_tree.specs.Performing.{HasPerformed}

@@ -29,7 +29,7 @@ keeps_for a b p = record {
 pub stays_for : (a b : State) → Stays a b → KeepsFor a b
 stays_for a b p = keeps_for a b (keeps_of a b p)
 
--- what a step on what tables tell makes of what is held
+-- a step on a store as a step on a holding
 pub lifted : (f : Store → Store) (g : Holding → Holding) (a b : State)
     → (HasCleanDisk b → (y : Holding) → InsideFor y a
     → (f (store_of y) ≡ store_of (g y)) × Tree (g y).tree × AreBelow (g y).next_lot (g y).lots × ((g y).next_lot ≤ 2 ^ 62))
@@ -77,7 +77,7 @@ looked_for a b p = record {
       };
 }
 
--- of a call that went well: what it made tells more of what it gave
+-- of a call that succeeded: its effect determines more of its result
 pub ok_too : {X F : Type 0} (r : Result X F) (P : Type 0) (Q R : X → Type 0) → (P → (x : X) → Q x → R x) → OnOk r P → IfOk r Q → IfOk r R
 ok_too (Ok x) P Q R f p q = f p x q
 ok_too (Err e) P Q R f p q = tt

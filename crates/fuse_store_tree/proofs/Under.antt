@@ -8,7 +8,7 @@ use Rattle.fuse_keeper.specs.History.{Entry, entry_id, is_in, ids_in}
 use Rattle.fuse_keeper.specs.Lots.{RecordsUnder, TakesLot}
 use Rattle.fuse_store_tables.specs.Content.{put_by}
 use Rattle.fuse_store_tree.specs.Store.{records_of}
-use Rattle.fuse_store_tree.proofs.Told.{put_last}
+use Rattle.fuse_store_tree.proofs.Described.{put_last}
 use Rattle.fuse_store_tree.specs.Holding.{Holding, AreBelow, lots_of}
 use Rattle.fuse_store_tree.specs.Group.{said_of, acted_on, taken, taken_by, with_group, without_record, without_settled, with_lot_for, lot_for, prepared}
 use Rattle.fuse_store_tree.specs.Group.{performed}

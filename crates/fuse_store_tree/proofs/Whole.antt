@@ -5,7 +5,7 @@ use Rattle.sqlite.specs.declared.error.Error.{Error}
 use Rattle.fuse_keeper.specs.declared.fault.StoreFault.{StoreFault}
 use Rattle.fuse_store_tables.specs.Moves.{RestsAs, Begins, Ends, Takes}
 use Rattle.fuse_store_tables.specs.Following.{earlier}
-use Rattle.fuse_store_tree.specs.Holding.{Holding, HeldFor, InsideFor, KeepsFor, Turned, TellsAfter}
+use Rattle.fuse_store_tree.specs.Holding.{Holding, HeldFor, InsideFor, KeepsFor, Turned, ReportsAfter}
 
 -- what was held before the transaction, when it has begun
 pub begun_for : {X : Type 0} (a b : State) (x : X) → Begins {E = Error} a b (Ok x) → HasCleanDisk b → (y : Holding) → RestsAs (HeldFor y) a → InsideFor y b
@@ -21,9 +21,9 @@ takes_for f a b x p = record { stays = p.stays; turns = p.turns }
 pub fails_for : {X : Type 0} (f : Holding → Holding) (a b : State) (e : StoreFault) → KeepsFor a b → Takes {X = X} HeldFor (λ y. HeldFor (f y)) a b (Err e)
 fails_for f a b e keeps = record { stays = keeps; turns = tt }
 
--- what is known within the transaction is known behind it
+-- facts within the transaction hold after it
 pub told_after : {X Y : Type 0} (P : Holding → Type 0) (a b d e : State) (x : X) (y : Y) → Begins {E = Error} a b (Ok x) → KeepsFor b d
-    → (HasCleanDisk d → (z : Holding) → InsideFor z b → P z) → Ends {E = Error} d e (Ok y) → TellsAfter a e P
+    → (HasCleanDisk d → (z : Holding) → InsideFor z b → P z) → Ends {E = Error} d e (Ok y) → ReportsAfter a e P
 told_after P a b d e x y p keeps told q clean z at =
     let last = earlier d e _ q.survives clean in
     let first = earlier b d _ keeps.survives last in

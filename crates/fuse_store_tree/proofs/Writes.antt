@@ -1,4 +1,4 @@
--- Bytes that are written, told by what the tables tell.
+-- Bytes that are written, as the tables describe them.
 use Rattle.std.proofs.Common.{◌≡◌, ◌≤◌, inl, inr, ℕ, List, [], ◌∷◌, ◌++◌, ◌==◌, map, filter, Bool, true, false, not, cond, Some}
 use Rattle.std.proofs.Common.{None, Ok, refl, sym, ap, subst, arith, ◌∙◌, ◌+◌, ◌-◌, ◌/◌, ◌%◌, ◌&&◌, nat_lt, length, take, drop, find}
 use Rattle.std.specs.List.{AllByRecursion, list_any}
@@ -9,7 +9,7 @@ use Rattle.fuse_store_tables.specs.Blocks.{Block, block_at, is_at, new_block}
 use Rattle.fuse_store_tree.specs.Fits.{IsWhole, Fits}
 use Rattle.fuse_store_tables.specs.Content.{put_block, node_key, has_by, Content, Holds}
 use Rattle.fuse_store_tree.specs.Store.{overlay, spliced, whole_of, byte_in, bytes_of, rows_bytes}
-use Rattle.fuse_store_tree.specs.Store.{Store, Reports, TellsAs, with_change, in_order, byte_at}
+use Rattle.fuse_store_tree.specs.Store.{Store, Describes, DescribesAs, with_change, in_order, byte_at}
 use Rattle.fuse_store_tree.specs.Changing.{Overlaid, Changed, KeepsBytes}
 use Rattle.fuse_store_tree.proofs.Keys.{slots_rise}
 use Rattle.fuse_store_tree.proofs.BlockBytes.{part_put}
@@ -29,7 +29,7 @@ use Rattle.sqlite.specs.declared.error.Error.{Error}
 use Rattle.fuse_tree.specs.declared.rows.Change.TheVariants as changes
 use Rattle.fuse_store_tables.specs.Moves.{Inside, Makes, Looked}
 use Rattle.fuse_store_tables.specs.Following.{earlier}
-use Rattle.fuse_store_tree.proofs.Told.{Rises, same_test}
+use Rattle.fuse_store_tree.proofs.Described.{Rises, same_test}
 use Rattle.fuse_store_tree.proofs.Orders.{all_put, all_in_order, all_filter}
 use Rattle.fuse_store_tree.proofs.Steps.{bytes_keep, held_of, bytes_then, looked_bytes}
 use Rattle.fuse_store_tree.proofs.RowChanges.{same_number}
@@ -101,8 +101,8 @@ piece_written a b d x node here part old made_bytes p q found whole is within = 
       };
 }
 
-pub tells_same : (x : Store) (g h : ℕ → ℕ → ℕ) (c : Content) → ((n i : ℕ) → g n i ≡ h n i) → TellsAs x g c → TellsAs x h c
-tells_same x g h c same at = record {
+pub describes_same : (x : Store) (g h : ℕ → ℕ → ℕ) (c : Content) → ((n i : ℕ) → g n i ≡ h n i) → DescribesAs x g c → DescribesAs x h c
+describes_same x g h c same at = record {
   counters = at.counters;
   nodes = at.nodes;
   entries = at.entries;
@@ -121,7 +121,7 @@ nothing_overlaid node at a = record {
   turns = λ clean p now. record {
     is_open = now.is_open;
     in_transaction = now.in_transaction;
-    holds = (now.holds.0, now.holds.1, tells_same p.0 p.1 (overlay node at [] p.1) now.holds.0 (overlay_none node at p.1) now.holds.2);
+    holds = (now.holds.0, now.holds.1, describes_same p.0 p.1 (overlay node at [] p.1) now.holds.0 (overlay_none node at p.1) now.holds.2);
   };
 }
 
@@ -140,7 +140,7 @@ overlaid_then node at p q a b d first second = record {
         holds = (
           last.holds.0,
           last.holds.1,
-          tells_same w.0 (overlay node (at + length p) q (overlay node at p w.1)) (overlay node at (p ++ q) w.1) last.holds.0
+          describes_same w.0 (overlay node (at + length p) q (overlay node at p w.1)) (overlay node at (p ++ q) w.1) last.holds.0
               (overlay_more node at p q w.1) last.holds.2,
         );
       };
@@ -217,8 +217,8 @@ none_there number (x ∷ fs) none = elim (cases_Bool (x.row.node == number)) [
   | inr not_here ↦ rw not_here (none_there number fs (rw not_here at none))
 ]
 
--- The blocks of bytes that were written tell the content that is written to. Where there is no such node, a foreign key says that it has no block.
-written_byte : (x : Store) (node at : ℕ) (bytes : List ℕ) (c : Content) (d : Database) → Holds c d → TellsAs x (overlay node at bytes (rows_bytes x.rows)) c
+-- The blocks after a write describe the content after it. A node without a row has no block, by a foreign key.
+written_byte : (x : Store) (node at : ℕ) (bytes : List ℕ) (c : Content) (d : Database) → Holds c d → DescribesAs x (overlay node at bytes (rows_bytes x.rows)) c
     → (n i : ℕ) → byte_in c.blocks n i ≡ rows_bytes (with_change (changes.Written node at bytes) x).rows n i
 written_byte x node at bytes c d holds told n i = elim (cases_Bool (n == node)) [
   | inr other ↦ told.bytes n i ∙ (rw other (ap (λ l. byte_at l i) (sym (content_other node (written at bytes) n x.rows.nodes other))))
@@ -242,8 +242,8 @@ written_byte x node at bytes c d holds told n i = elim (cases_Bool (n == node)) 
       ]
 ]
 
-pub written_told : (x : Store) (node at : ℕ) (bytes : List ℕ) (c : Content) (d : Database) → Holds c d → TellsAs x (overlay node at bytes (rows_bytes x.rows)) c
-    → Reports (with_change (changes.Written node at bytes) x) c
+pub written_told : (x : Store) (node at : ℕ) (bytes : List ℕ) (c : Content) (d : Database) → Holds c d → DescribesAs x (overlay node at bytes (rows_bytes x.rows)) c
+    → Describes (with_change (changes.Written node at bytes) x) c
 written_told x node at bytes c d holds told = record {
   counters = told.counters;
   nodes = told.nodes ∙ ap (in_order node_key) (sym (rows_same node (written at bytes) x.rows.nodes));

@@ -19,7 +19,7 @@ use Rattle.fuse_store_tree.proofs.BlockBytes.{lower, upper}
 use Rattle.fuse_store_tree.proofs.Overlays.{zero_at}
 use Rattle.fuse_store_tree.proofs.RowChanges.{same_number}
 use Rattle.fuse_store_tree.proofs.Steps.{bytes_keep, looked_bytes}
-use Rattle.fuse_store_tree.proofs.Writes.{same_overlay, tells_same}
+use Rattle.fuse_store_tree.proofs.Writes.{same_overlay, describes_same}
 
 pub all_zero : (zeros : List ℕ) (n : ℕ) → zeros ≡ replicate n 0 → (i : ℕ) → byte_at zeros i ≡ 0
 all_zero zeros n are i = ap (λ l. byte_at l i) are ∙ zero_at n i
@@ -80,11 +80,11 @@ zeros_there node here zeros a b p none zero within = record {
       record {
         is_open = now.is_open;
         in_transaction = now.in_transaction;
-        holds = (c, now.holds, tells_same w.0 w.1 (overlay node here zeros w.1) c same was);
+        holds = (c, now.holds, describes_same w.0 w.1 (overlay node here zeros w.1) c same was);
       };
 }
 
--- ---- a step behind a look
+-- ---- a step after a read
 
 pub looked_over : (node here : ℕ) (part : List ℕ) (a b d : State) → Looked a b → Overlaid node here part b d → Overlaid node here part a d
 looked_over node here part a b d p q = record {

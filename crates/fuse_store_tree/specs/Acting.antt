@@ -1,4 +1,4 @@
--- What a request did within a transaction (own profile).
+-- The action of a request within a transaction (own profile).
 use Rattle.std.specs.Prelude.{◌≡◌}
 use Rattle.sqlite.specs.State.{State, HasCleanDisk}
 use Rattle.fuse_answer.specs.Said.{Said}
@@ -8,7 +8,7 @@ use Rattle.fuse_tree.specs.Rows.{rowed}
 use Rattle.fuse_store_tables.specs.Moves.{InsideAs}
 use Rattle.fuse_store_tree.specs.Store.{Store, Held, with_rows}
 
--- where the tables told the rows of this tree, they tell those of the tree after it, and the answer is the one said
+-- the tables held the rows of this tree, and hold those of the tree after the request; the answer is the one said
 pub record ActedInside (new : State) (x : Store) (d : Done) (answer : Said) : Type 0 where
   pub answer_is : answer ≡ d.said
   pub tree : Tree d.state

@@ -1,15 +1,15 @@
--- What a step within a transaction does to what the tables tell (own profile).
+-- The effect of a step within a transaction on the content of the tables (own profile).
 use Rattle.sqlite.specs.State.{State}
 use Rattle.fuse_store_tables.specs.Moves.{StaysIn, TurnsTo}
 use Rattle.std.specs.Prelude.{ℕ, List}
 use Rattle.fuse_store_tree.specs.Store.{Store, Held, HeldAs, overlay, cut}
 
--- Whether it went well or not, nothing is committed of a transaction whose tables tell something.
--- Only this composes over several statements: they are known to lead from what tables tell to what tables tell.
+-- Nothing is committed of a transaction whose tables hold a store, whether the step succeeds or not.
+-- Only this composes over several statements: each leads from the tables of a store to the tables of a store.
 abbrev pub Keeps : State → State → Type 0
 Keeps = StaysIn Held
 
--- the same, where the blocks tell any bytes
+-- the same, with any bytes in the blocks
 abbrev pub KeepsBytes : State → State → Type 0
 KeepsBytes = StaysIn HeldAs
 

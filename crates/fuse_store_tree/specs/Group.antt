@@ -1,4 +1,4 @@
--- What a group makes of what is held, and what it is answered (own profile).
+-- The effect of a group, and its answers (own profile).
 use Rattle.std.specs.Prelude.{◌≡◌, ◌<◌, ◌^◌, ◌+◌, ℕ, true, false, List, [], ◌∷◌, Option, Some, None, Result, IfErr}
 use Rattle.sqlite.specs.State.{State, HasCleanDisk}
 use Rattle.fuse_answer.specs.Said.{Said}
@@ -21,12 +21,12 @@ abbrev pub without_settled : List ℕ → Holding → Holding
 without_settled [] y = y
 without_settled (id ∷ ids) y = without_settled ids (without_record id y)
 
--- ---- the lot of this start
+-- ---- the lot of this opening
 
 abbrev pub with_new_lot : Holding → Holding
 with_new_lot y = record y { lots = put_by (λ n. n) y.next_lot y.lots; next_lot = y.next_lot + 1 }
 
--- the next one is taken where this start has none
+-- the next lot number is allocated where this opening has none
 abbrev pub with_lot_for : Option ℕ → Holding → Holding
 with_lot_for None y = with_new_lot y
 with_lot_for (Some lot) y = y
@@ -35,15 +35,15 @@ abbrev pub lot_for : Option ℕ → Holding → ℕ
 lot_for None y = y.next_lot
 lot_for (Some lot) y = lot
 
--- this start has one, or one is left for it
+-- this opening has a lot, or a lot number is left for it
 abbrev pub HasLotLeft : Option ℕ → Holding → Type 0
 HasLotLeft lot y = lot ≡ None → y.next_lot < 2 ^ 62
 
--- within a transaction: a fault says nothing of what is held, unless no lot is left
+-- within a transaction: a fault says nothing of the store, unless no lot number is left
 abbrev pub IsSureFor : {X : Type 0} → Option ℕ → State → State → Result X StoreFault → Type 0
 IsSureFor lot old new r = HasCleanDisk new → IfErr r (λ f. (y : Holding) → InsideFor y old → HasLotLeft lot y → IsOutside f)
 
--- the same of a whole one
+-- the same of a whole transaction
 abbrev pub IsSafeFor : {X : Type 0} → Option ℕ → State → State → Result X StoreFault → Type 0
 IsSafeFor lot old new r = HasCleanDisk new → IfErr r (λ f. (y : Holding) → RestsAs (HeldFor y) old → HasLotLeft lot y → IsOutside f)
 
@@ -55,18 +55,18 @@ answered said = record { answer = said; repeated = false }
 abbrev pub repeats : Said → Done
 repeats said = record { answer = said; repeated = true }
 
--- what an entry is answered
+-- the answer to an entry
 abbrev pub said_of : Entry → Holding → Said
 said_of e y = (done y.tree e.asked e.moment).said
 
--- what it does to the tree
+-- its effect on the tree
 abbrev pub with_act : Entry → Holding → Holding
 with_act e y = record y { tree = (done y.tree e.asked e.moment).state }
 
 abbrev pub with_record : ℕ → ℕ → Said → Holding → Holding
 with_record id lot said y = record y { kept = put_by kept_key (record { id = id; lot = lot; said = said }) y.kept }
 
--- the entry acted, and its answer is recorded under this lot
+-- the entry was executed, and its answer is recorded under this lot
 abbrev pub acted_on : ℕ → Entry → Holding → Holding
 acted_on lot e y = with_record (entry_id e) lot (said_of e y) (with_act e y)
 
@@ -92,7 +92,7 @@ abbrev pub dones_of : ℕ → List Entry → Holding → List Done
 dones_of lot [] y = []
 dones_of lot (e ∷ es) y = (taken lot e y).done ∷ dones_of lot es (taken lot e y).holding
 
--- all that a call does: the settled ids' records go, a lot is taken, the group acts
+-- a whole call: settled records are deleted, a lot number is allocated, the group is replayed or executed
 abbrev pub prepared : Option ℕ → List ℕ → Holding → Holding
 prepared lot settled y = with_lot_for lot (without_settled settled y)
 

@@ -1,4 +1,4 @@
--- What the tables tell where their rows are those of a tree (own profile).
+-- The content of the tables where their rows are those of a tree (own profile).
 use Rattle.std.specs.Prelude.{◌≡◌, ◌<◌, ◌≤◌, ◌^◌, ℕ, List, map, Option, option_map}
 use Rattle.std.specs.List.{AllByRecursion}
 use Rattle.sqlite.specs.Effect.{Database}
@@ -20,11 +20,11 @@ pub record Holding : Type 0 where
 abbrev pub store_of : Holding → Store
 store_of y = record { rows = rowed y.tree; kept = y.kept; lots = y.lots; next_lot = y.next_lot }
 
--- a lot that was taken comes before the next one
+-- the lots are below the next lot number
 abbrev pub AreBelow : ℕ → List ℕ → Type 0
 AreBelow next lots = AllByRecursion (λ n. n < next) lots
 
--- put into the order of their numbers, the rows are as they were
+-- the rows are in the order of their numbers
 pub record AreInOrder (rows : Rows) : Type 0 where
   pub nodes : in_order node_key (map (λ f. f.row) rows.nodes) ≡ map (λ f. f.row) rows.nodes
   pub entries : in_order cookie_of rows.entries ≡ rows.entries
@@ -44,23 +44,23 @@ pub record HeldFor (y : Holding) (d : Database) : Type 0 where
 abbrev pub InsideFor : Holding → State → Type 0
 InsideFor y = InsideAs (HeldFor y)
 
--- whether it went well or not, nothing is committed of a transaction whose tables hold something
+-- nothing is committed of a transaction whose tables hold something, whether the step succeeds or not
 abbrev pub KeepsFor : State → State → Type 0
 KeepsFor = StaysIn HeldFor
 
--- within a transaction, this was made of what was held
+-- within a transaction, the holding was changed so
 pub record Turned (f : Holding → Holding) (old new : State) : Type 0 where
   pub stays : KeepsFor old new
   pub turns : TurnsTo HeldFor (λ y. HeldFor (f y)) old new
 
--- of what was held before a whole transaction, where the store gave back what was written
-abbrev pub TellsAfter : State → State → (Holding → Type 0) → Type 0
-TellsAfter old new P = HasCleanDisk new → (y : Holding) → RestsAs (HeldFor y) old → P y
+-- of the holding before a whole transaction, if the disk returned what was written
+abbrev pub ReportsAfter : State → State → (Holding → Type 0) → Type 0
+ReportsAfter old new P = HasCleanDisk new → (y : Holding) → RestsAs (HeldFor y) old → P y
 
--- these lots and the one of this start, and under which of them these records stand
+-- these lots and the one of this opening, and the lot of each of these records
 abbrev pub lots_as : Option ℕ → List ℕ → List Kept → Lots
 lots_as current lots kept = record { numbers = lots; current = current; under = λ i. option_map (λ k. k.lot) (at_by kept_key i kept) }
 
--- the lots that the records are in, and the one of this start
+-- the lots of a holding, and the one of this opening
 abbrev pub lots_of : Option ℕ → Holding → Lots
 lots_of current y = lots_as current y.lots y.kept

@@ -1,4 +1,4 @@
--- The laws of looks, for the `impl` (own profile).
+-- The laws of the `impl` of `Look` (own profile).
 use Rattle.std.proofs.Common.{inl, refl, sym, subst, ◌∙◌}
 use Rattle.std.specs.Prelude.{Option, IfSome}
 use Rattle.std.proofs.Math.Nat.{le_refl}
@@ -52,7 +52,7 @@ looked_kept a b p clean rows (x, at, is) =
 
 -- ---- looks, and the fault
 
--- what is held behind a look
+-- a read keeps what is held
 pub looked_ready : (a b : State) → Looked a b → HasCleanDisk b → IsReady HeldFor a → IsReady HeldFor b
 looked_ready a b p clean (y, at) =
     let c = at.holds.held.0 in

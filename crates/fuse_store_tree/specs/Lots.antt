@@ -1,4 +1,4 @@
--- The lots and the records that a database tells, read off its rows (own profile).
+-- The lots and the records of a database, read from its rows (own profile).
 use Rattle.std.specs.Prelude.{◌≡◌, ℕ, ℤ, pos, List, [], map, Option}
 use Rattle.sqlite.specs.declared.types.Value.{Value}
 use Rattle.sqlite.specs.declared.types.Value.TheVariants.{Int, Blob}
@@ -8,7 +8,7 @@ use Rattle.fuse_keeper.specs.Lots.{Lots, SameLots}
 use Rattle.fuse_store_tables.specs.Content.{Kept}
 use Rattle.fuse_store_tree.specs.Holding.{Holding, HeldFor, lots_as, lots_of}
 
--- ---- columns, 0 and no bytes where the value is another one
+-- ---- columns; 0 and no bytes where the value has another type
 
 abbrev pub number_in : ℤ → ℕ
 number_in (pos n) = n
@@ -44,13 +44,13 @@ lots_read d = map lot_in (d.trees 9)
 abbrev pub kept_read : Database → List Kept
 kept_read d = map kept_in (d.trees 10)
 
--- the lots of a database, and the one of this start
+-- the lots of a database, and the one of this opening
 abbrev pub lots_in : Option ℕ → Database → Lots
 lots_in current d = lots_as current (lots_read d) (kept_read d)
 
 -- ---- laws
 
--- the lots of a database are those of what it holds
+-- the lots read from a database are those that it holds
 abbrev pub LotsAreRead : Type 0
 LotsAreRead = (current : Option ℕ) (y : Holding) (d : Database) → HeldFor y d → lots_in current d ≡ lots_of current y
 

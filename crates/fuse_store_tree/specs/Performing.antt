@@ -1,4 +1,4 @@
--- What holds of whatever a database holds, and of what a whole call makes of it: the laws, in the words of a keeper (own profile).
+-- Laws of the content of a database and of the effect of a call, in the words of a keeper (own profile).
 use Rattle.std.specs.Prelude.{◌≡◌, ℕ, List, All, Option, Some}
 use Rattle.sqlite.specs.Effect.{Database}
 use Rattle.fuse_tree.specs.State.{State, Tree}
@@ -12,28 +12,28 @@ use Rattle.fuse_store_tree.specs.Store.{records_of}
 use Rattle.fuse_store_tree.specs.Holding.{Holding, HeldFor, AreBelow, lots_of}
 use Rattle.fuse_store_tree.specs.Group.{lot_for, performed, all_dones}
 
--- one database holds just one thing
+-- a database holds only one thing
 abbrev pub OneHolding : Type 0
 OneHolding = (x y : Holding) (d : Database) → HeldFor x d → HeldFor y d → x ≡ y
 
--- what is held stands for a history
+-- the holding stands for a history
 abbrev pub HoldingStands : Holding → State → History → List ℕ → Type 0
 HoldingStands y s h t = Stands the_tree (rowed y.tree) (records_of y.kept) s h t
 
--- what is held stands for the history that grew by a group, and each answer is the one said in it
+-- the holding stands for the history extended by a group, and each answer is the one said in it
 abbrev pub HasPerformed : Holding → State → History → List ℕ → List Entry → List Done → Type 0
 HasPerformed y s h t es dones = PerformedBy the_tree (AreThese the_tree (rowed y.tree) (records_of y.kept)) s h t es dones
 
--- of a call with the lot of this start, settled ids and a group
+-- of a call with the lot of this opening, settled ids and a group
 pub record CallsPerform : Type 0 where
   -- a tree stays a tree
   pub tree : (lot : Option ℕ) (ids : List ℕ) (es : List Entry) (y : Holding) → Tree y.tree → Tree (performed lot ids es y).tree
   -- the group is performed
   pub group : (lot : Option ℕ) (ids : List ℕ) (es : List Entry) (y : Holding) (s : State) (h : History) (t : List ℕ) → Tree y.tree → Includes t ids
       → All (IsUnsettled t) es → HoldingStands y s h t → HasPerformed (performed lot ids es y) s h t es (all_dones lot ids es y)
-  -- the records of other ids are those of before, without the settled ones
+  -- the records of other ids stay, without the settled ones
   pub others : (lot : Option ℕ) (ids : List ℕ) (es : List Entry) (y : Holding)
       → OthersStay (records_of y.kept) ids es (records_of (performed lot ids es y).kept)
-  -- which lot the records of the group go under
+  -- the lot of the records of the group
   pub lots : (lot : Option ℕ) (ids : List ℕ) (es : List Entry) (y : Holding) → AreBelow y.next_lot y.lots
       → RecordsUnder (lots_of lot y) (lots_of (Some (lot_for lot y)) (performed lot ids es y)) (records_of y.kept) ids es

@@ -1,4 +1,4 @@
--- What the tables tell (own profile): the rows of a tree, and the records in their lots.
+-- A store as the tables describe it (own profile): the rows of a tree, and the records in their lots.
 use Rattle.std.specs.Prelude.{◌≡◌, ◌<◌, ◌^◌, ◌/◌, ◌%◌, ◌==◌, if◌then◌else◌, ◌+◌, replicate, ◌++◌, ◌&&◌, take, drop, length, not, zero, suc, nat_lt, min, ◌-◌, ℕ}
 use Rattle.std.specs.Prelude.{List, [], ◌∷◌, map, fold, option_map, Option, Some, None, slice_index_or}
 use Rattle.sqlite.specs.Effect.{Database}
@@ -59,7 +59,7 @@ pub record FitsSettings (s : Option Settings) : Type 0 where
   pub readahead : readahead_of s < 2 ^ 32
   pub flags : flags_of s < 2 ^ 63
 
--- the other way: the value at this place, and what values tell
+-- the other way: the value at this place, and the counters and the settings of these values
 abbrev pub value_of : List Counter → ℕ → ℕ
 value_of cs at = (slice_index_or cs at (counter 0 0)).value
 
@@ -69,7 +69,7 @@ counted_in cs = record { next_node = value_of cs 1; next_fh = value_of cs 2; nex
 abbrev pub agreed_in : List Counter → Option Settings
 agreed_in cs = if value_of cs 6 == 0 then None else Some (record { minor = value_of cs 7; max_readahead = value_of cs 8; flags = record { 0 = value_of cs 9 } })
 
--- the byte at this place, 0 behind the end
+-- the byte at this place, 0 after the end
 abbrev pub byte_at : List ℕ → ℕ → ℕ
 byte_at bytes i = slice_index_or bytes i 0
 
@@ -108,12 +108,12 @@ overlay node at part g n i = if (n == node) && (not (nat_lt i at) && nat_lt i (a
 abbrev pub cut : ℕ → ℕ → (ℕ → ℕ → ℕ) → ℕ → ℕ → ℕ
 cut node at g n i = if (n == node) && not (nat_lt i at) then 0 else g n i
 
--- the bytes of each node, and zeros behind them
+-- the bytes of each node, and zeros after them
 abbrev pub rows_bytes : Rows → ℕ → ℕ → ℕ
 rows_bytes rows node i = byte_at (content_of (full_at rows node)) i
 
--- The tables tell these rows, and the blocks these bytes of each node.
-pub record TellsAs (x : Store) (bytes_are : ℕ → ℕ → ℕ) (c : Content) : Type 0 where
+-- the tables describe these rows, and the blocks these bytes of each node
+pub record DescribesAs (x : Store) (bytes_are : ℕ → ℕ → ℕ) (c : Content) : Type 0 where
   pub counters : c.counters ≡ counters_of x.rows.counters x.rows.settings x.next_lot
   pub nodes : c.nodes ≡ in_order node_key (map (λ f. f.row) x.rows.nodes)
   pub entries : c.entries ≡ in_order cookie_of x.rows.entries
@@ -125,13 +125,13 @@ pub record TellsAs (x : Store) (bytes_are : ℕ → ℕ → ℕ) (c : Content) :
   pub settings : FitsSettings x.rows.settings
   pub fits : Fits c
 
--- Of a content the blocks tell the bytes and zeros behind them: how long it is, its row tells.
-abbrev pub Reports : Store → Content → Type 0
-Reports x = TellsAs x (rows_bytes x.rows)
+-- the blocks describe the bytes of each node, and zeros after them; the size is in the row
+abbrev pub Describes : Store → Content → Type 0
+Describes x = DescribesAs x (rows_bytes x.rows)
 
--- a database of the tables that tells this
+-- a database whose tables describe this
 abbrev pub HeldAs : Store × (ℕ → ℕ → ℕ) → Database → Type 0
-HeldAs p d = (c : Content) × Holds c d × TellsAs p.0 p.1 c
+HeldAs p d = (c : Content) × Holds c d × DescribesAs p.0 p.1 c
 
 abbrev pub Held : Store → Database → Type 0
 Held x = HeldAs (x, rows_bytes x.rows)

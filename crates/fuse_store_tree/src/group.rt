@@ -1,4 +1,4 @@
-// A group of requests, within the transaction that is open.
+// A group of requests, within the open transaction.
 ghost use Rattle.std.specs.Prelude.{◌≡◌, ◌<◌, ◌^◌, None, length, IfOk, IfErr, OnOk, OnErr};
 ghost use Rattle.std.specs.Prelude.{IfSome};
 ghost use Rattle.sqlite.specs.State.{HasCleanDisk};
@@ -14,22 +14,22 @@ ghost use Rattle.fuse_store_tree.specs.Group.{performed, all_dones, IsSureFor};
 
 use crate::look::TableLook;
 use crate::lots::take_lot;
-use crate::settling::settle;
-use crate::taking::take_one;
+use crate::request::take_one;
+use crate::settled_ids::settle;
 use fuse_keeper::{Done, StoreFault};
 use fuse_request::Request;
 use fuse_wire::{Id, Moment};
 use sqlite::{Alter, Connection};
 use std::alloc::Global;
 
-/// What a group is answered, and the lot under which its records stand.
+/// The answers of a group, and the lot of its records.
 #[derive(Drop)]
 pub struct Performed {
     pub lot: u64,
     pub dones: Vec<Done>,
 }
 
-// Takes the requests of a group, one after the other.
+// Replays or executes the requests of a group, one after the other.
 fn take_all<S: Alter>(
     alloc: Global,
     look: &mut TableLook<S>,
@@ -62,7 +62,7 @@ fn take_all<S: Alter>(
     Ok(dones)
 }
 
-// The settled ids' records go, and a lot is taken where this start has none.
+// Deletes the settled ids' records, and allocates this opening's lot number where it has none.
 fn prepare<S: Alter>(
     conn: &mut Connection<S>,
     lot: Option<u64>,
@@ -84,9 +84,9 @@ fn prepare<S: Alter>(
     }
 }
 
-/// Performs a group in the transaction that is open: the settled ids' records go, a lot is taken
-/// where this start has none, and each request whose id isn't recorded acts and is recorded.
-pub fn perform_in<S: Alter>(
+/// Performs a group in the open transaction: deletes settled records, allocates this opening's lot
+/// number, then replays or executes each request.
+pub(crate) fn perform_in<S: Alter>(
     alloc: Global,
     look: &mut TableLook<S>,
     lot: Option<u64>,
@@ -105,11 +105,11 @@ pub fn perform_in<S: Alter>(
     ensures dones { HasCleanDisk (state S.Store look.new.conn) → IfOk result (λ p. (y : Holding)
         → InsideFor y (state S.Store look.old.conn)
         → p.dones.items ≡ all_dones lot (ids_of settled.now) (entries_of group.now) y) }
-    // Whether it went well or not, nothing is committed.
+    // Nothing is committed, whether it succeeds or not.
     ensures fails { OnErr result (KeepsFor (state S.Store look.old.conn)
         (state S.Store look.new.conn)) }
     ensures ready { look_fault look.new.fault ≡ None }
-    // What is held stands: it is damaged only where no lot is left.
+    // Of a store that was sound, the fault is `Damaged` only where no lot number is left.
     ensures fault { IsSureFor lot (state S.Store look.old.conn) (state S.Store look.new.conn)
         result }
     ensures plain { IfErr result IsPlain }

@@ -1,19 +1,19 @@
-// What holds of whatever a database holds, and of what a call makes of it.
+// Laws of the content of a database, and of the effect of a call.
+ghost use Rattle.fuse_store_tree.specs.Holding.{TreesAreInOrder};
 ghost use Rattle.fuse_store_tree.specs.Lots.{LotsAreRead, LotsAreSame};
 ghost use Rattle.fuse_store_tree.specs.Performing.{OneHolding, CallsPerform};
 
 use fuse_keeper::groups_grow;
-use fuse_tree::PlainTree;
-use fuse_tree::{rows_tell_state, tree_kept};
+use fuse_tree::{PlainTree, rows_tell_state, tree_kept};
 
-/// One database holds just one thing.
+/// A database holds only one tree, with its records and lots.
 pub fn one_holding()
     ensures { OneHolding }
 {
     rows_tell_state();
 }
 
-/// What a call makes of what is held is what the group does to a history that it stands for.
+/// A call changes the tables as its group extends a history.
 pub fn calls_perform()
     ensures { CallsPerform }
 {
@@ -22,8 +22,13 @@ pub fn calls_perform()
     groups_grow::<PlainTree>();
 }
 
-/// The lots that are read off a database are those of what it holds.
+/// The lots read from the rows of a database are those that it holds.
 pub fn lots_are_read()
     ensures read { LotsAreRead }
     ensures same { LotsAreSame }
+{}
+
+/// The rows of a tree are in the order of their numbers, as those of a table.
+pub fn rows_in_order()
+    ensures { TreesAreInOrder }
 {}

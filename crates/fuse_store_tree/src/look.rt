@@ -1,13 +1,13 @@
-// Looks at the tables, for `plan`.
+// The reads of `plan`, from the tables.
 ghost use Rattle.std.specs.Prelude.{◌≡◌, ◌<◌, None, Some, Option};
 ghost use Rattle.sqlite.specs.State.{HasCleanDisk};
 ghost use Rattle.sqlite.specs.Held.{state};
 ghost use Rattle.fuse_store_tree.specs.Looking.{look_fault, told_as};
 
-use crate::contents::find_bytes;
-use crate::counting::{find_counters, find_settings};
-use crate::finding::{find_entry, find_handle, find_node};
-use crate::listing::find_after;
+use crate::block_reads::find_bytes;
+use crate::counters::{find_counters, find_settings};
+use crate::entries::find_after;
+use crate::rows::{find_entry, find_handle, find_node};
 use fuse_init::Settings;
 use fuse_keeper::StoreFault;
 use fuse_tree::{Counters, EntryRow, HandleRow, Look, LookFault, NodeRow};
@@ -15,17 +15,17 @@ use fuse_wire::ByteList;
 use sqlite::{Alter, Connection};
 use std::alloc::Global;
 
-/// The tables within a transaction.
+/// The tables within a transaction, as `plan` reads them.
 #[derive(Drop)]
 pub struct TableLook<S: Alter> {
-    /// Where what is looked up is made.
+    /// The allocator of the values that are read.
     pub alloc: Global,
     pub conn: Connection<S>,
-    /// The fault of a look, once there was one.
+    /// The fault of the first read that failed.
     pub fault: Option<StoreFault>,
 }
 
-// What a look tells of a fault.
+// The fault of a read, as `plan` gets it.
 fn told_fault(fault: &StoreFault) -> LookFault
     ensures { result ≡ told_as fault.now }
 {
@@ -39,7 +39,7 @@ fn told_fault(fault: &StoreFault) -> LookFault
 }
 
 impl<S: Alter> TableLook<S> {
-    /// No memory is taken.
+    /// Allocates nothing.
     pub fn new(alloc: Global, conn: Connection<S>) -> TableLook<S>
         ensures conn { result.conn ≡ conn }
         ensures fault { look_fault result.fault ≡ None }
@@ -51,7 +51,7 @@ impl<S: Alter> TableLook<S> {
         }
     }
 
-    /// The fault of a look, if there was one, which is forgotten.
+    /// The fault of the first read that failed, which is then forgotten.
     pub(crate) fn take_fault(&mut self) -> Option<StoreFault>
         ensures was { result ≡ self.old.fault }
         ensures fault { look_fault self.new.fault ≡ None }
@@ -66,9 +66,9 @@ impl<S: Alter> TableLook<S> {
         ensures fault { look_fault self.new.fault ≡ Some result }
         ensures conn { self.new.conn ≡ self.old.conn }
     {
-        let told = told_fault(&fault);
+        let known = told_fault(&fault);
         self.fault = Some(fault);
-        told
+        known
     }
 }
 

@@ -1,4 +1,4 @@
-// The lot under which the records of this start stand.
+// The lot number of an opening.
 ghost use Rattle.std.specs.Prelude.{◌≡◌, ◌+◌, ◌<◌, ◌≤◌, ◌^◌, List, length, map, IfOk, IfErr};
 ghost use Rattle.std.specs.Prelude.{OnOk, OnErr, IfSome, None};
 ghost use Rattle.sqlite.specs.State.{HasCleanDisk};
@@ -14,7 +14,7 @@ use fuse_keeper::StoreFault;
 use fuse_store_tables::{NEXT_LOT, insert_lot, number_at, select_counters, update_counter};
 use sqlite::{Alter, Connection, Error, Row};
 
-// No lot has a number from here on.
+// All lot numbers are below it.
 const END: u64 = 1 << 62;
 
 // The number of the next lot, among the counters.
@@ -31,7 +31,7 @@ fn next_lot_of(rows: &[Row]) -> Result<u64, StoreFault>
     }
 }
 
-// A lot comes, and the next one is behind it.
+// Adds a lot. The next lot number follows it.
 fn add_lot<S: Alter>(conn: &mut Connection<S>, lot: u64) -> Result<(), Error>
     requires { lot < 2 ^ 62 }
     ensures { Makes (λ c. set_counter 11 (lot + 1) (with_lot lot c)) (state S.Store conn.old)
@@ -41,7 +41,7 @@ fn add_lot<S: Alter>(conn: &mut Connection<S>, lot: u64) -> Result<(), Error>
     update_counter(conn, NEXT_LOT, lot + 1)
 }
 
-// The next lot is taken.
+// Allocates the next lot number.
 fn take_next<S: Alter>(conn: &mut Connection<S>) -> Result<u64, StoreFault>
     ensures turned { OnOk result (Turned with_new_lot (state S.Store conn.old)
         (state S.Store conn.new)) }
@@ -49,7 +49,7 @@ fn take_next<S: Alter>(conn: &mut Connection<S>) -> Result<u64, StoreFault>
     ensures value { HasCleanDisk (state S.Store conn.new) → IfOk result (λ lot. (y : Holding)
         → InsideFor y (state S.Store conn.old) → lot ≡ y.next_lot) }
     ensures low { IfOk result (λ lot. lot < 2 ^ 62) }
-    // It is damaged only where no lot is left.
+    // Of a store that was sound, the fault is `Damaged` only where no lot number is left.
     ensures fault { IsSureFor None (state S.Store conn.old) (state S.Store conn.new) result }
     ensures plain { IfErr result IsPlain }
 {
@@ -70,7 +70,7 @@ fn take_next<S: Alter>(conn: &mut Connection<S>) -> Result<u64, StoreFault>
     }
 }
 
-/// The lot of this start, which is taken where there is none.
+/// This opening's lot number, which is allocated where there is none.
 pub(crate) fn take_lot<S: Alter>(
     conn: &mut Connection<S>,
     lot: Option<u64>,

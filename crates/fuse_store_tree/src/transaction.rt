@@ -1,11 +1,11 @@
-// A group as a whole transaction.
+// A group of requests as a whole transaction.
 ghost use Rattle.std.specs.Prelude.{◌≡◌, ◌<◌, ◌^◌, None, length, IfOk, IfErr, IfSome};
 ghost use Rattle.sqlite.specs.Held.{state};
 ghost use Rattle.fuse_keeper.specs.Group.{entries_of, ids_of};
 ghost use Rattle.fuse_store_tables.specs.Moves.{PerformsAs, ServesAs};
 ghost use Rattle.fuse_store_tables.specs.Faults.{IsPlain};
 ghost use Rattle.fuse_store_tree.specs.Looking.{look_fault};
-ghost use Rattle.fuse_store_tree.specs.Holding.{HeldFor, TellsAfter};
+ghost use Rattle.fuse_store_tree.specs.Holding.{HeldFor, ReportsAfter};
 ghost use Rattle.fuse_store_tree.specs.Group.{performed, all_dones, lot_for, IsSafeFor};
 
 use crate::group::{Performed, perform_in};
@@ -17,7 +17,7 @@ use fuse_wire::{Id, Moment};
 use sqlite::Alter;
 use std::alloc::Global;
 
-// The whole transaction, which a fault may leave open.
+// The transaction. A fault may leave it open.
 fn transact<S: Alter>(
     alloc: Global,
     look: &mut TableLook<S>,
@@ -31,10 +31,10 @@ fn transact<S: Alter>(
     ensures performs { PerformsAs HeldFor
         (λ y. HeldFor (performed lot (ids_of settled.now) (entries_of group.now) y))
         (state S.Store look.old.conn) (state S.Store look.new.conn) result }
-    ensures lot { IfOk result (λ p. TellsAfter (state S.Store look.old.conn)
+    ensures lot { IfOk result (λ p. ReportsAfter (state S.Store look.old.conn)
         (state S.Store look.new.conn) (λ y. p.lot ≡ lot_for lot y)) }
     ensures low { IfOk result (λ p. p.lot < 2 ^ 62) }
-    ensures dones { IfOk result (λ p. TellsAfter (state S.Store look.old.conn)
+    ensures dones { IfOk result (λ p. ReportsAfter (state S.Store look.old.conn)
         (state S.Store look.new.conn) (λ y. p.dones.items
         ≡ all_dones lot (ids_of settled.now) (entries_of group.now) y)) }
     ensures ready { look_fault look.new.fault ≡ None }
@@ -56,8 +56,8 @@ fn transact<S: Alter>(
     }
 }
 
-/// Performs a group in one transaction, whose commit is the last call of the database. A fault
-/// leaves what was held, and a crash leaves that or what is held after the group.
+/// Performs a group in one transaction. Its commit is the last call of the database. A fault leaves
+/// the state before the group, and a crash leaves the state before or after it.
 pub fn perform<S: Alter>(
     alloc: Global,
     look: &mut TableLook<S>,
@@ -71,17 +71,17 @@ pub fn perform<S: Alter>(
     ensures serves { ServesAs HeldFor
         (λ y. HeldFor (performed lot (ids_of settled.now) (entries_of group.now) y))
         (state S.Store look.old.conn) (state S.Store look.new.conn) result }
-    ensures lot { IfOk result (λ p. TellsAfter (state S.Store look.old.conn)
+    ensures lot { IfOk result (λ p. ReportsAfter (state S.Store look.old.conn)
         (state S.Store look.new.conn) (λ y. p.lot ≡ lot_for lot y)) }
     ensures low { IfOk result (λ p. p.lot < 2 ^ 62) }
-    ensures dones { IfOk result (λ p. TellsAfter (state S.Store look.old.conn)
+    ensures dones { IfOk result (λ p. ReportsAfter (state S.Store look.old.conn)
         (state S.Store look.new.conn) (λ y. p.dones.items
         ≡ all_dones lot (ids_of settled.now) (entries_of group.now) y)) }
     ensures ready { look_fault look.new.fault ≡ None }
-    // Where something is held, it is never damaged, but where no lot is left.
+    // Of a store that was sound, the fault is `Damaged` only where no lot number is left.
     ensures fault { IsSafeFor lot (state S.Store look.old.conn) (state S.Store look.new.conn)
         result }
-    // It never says that there is no store, or one of another version.
+    // The fault is never `NotAStore` or `Version`.
     ensures plain { IfErr result IsPlain }
 {
     match transact(alloc, look, lot, group, settled) {

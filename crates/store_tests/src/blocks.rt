@@ -1,4 +1,4 @@
-//! Statements on a block that no request needs by itself.
+//! Statements on a block that no request uses alone.
 use crate::stores::number;
 use fuse_keeper::StoreFault;
 use fuse_store_tables::{delete_block, insert_block, make_store};
@@ -6,7 +6,7 @@ use fuse_wire::Moment;
 use sqlite::{Connection, MemStore};
 use std::alloc::Global;
 
-// How many blocks there are, and the sum of their numbers.
+// 100 times the number of blocks, plus the sum of their numbers.
 const BLOCKS: &str =
     "SELECT 100 * count(*) + sum(block) FROM blocks WHERE node = 1 AND bytes = x'6f6e65'";
 

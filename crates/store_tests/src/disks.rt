@@ -1,8 +1,8 @@
-//! Stores whose disks stop: a database and its log in memory, each behind a fuse.
+//! Stores whose disks stop: a database and its log in memory, each on a `Fuse`.
 ghost use Rattle.std.specs.Prelude.{IsTrue, IfOk};
 ghost use Rattle.sqlite_disk.specs.Memory.{memory_is_usable};
 
-use crate::stores::{State, Told, Work, make, run, told_of};
+use crate::stores::{Observed, State, Work, make, observed_of, run};
 use fuse_keeper::StoreFault;
 use sqlite::{Connection, Error, ErrorCode, FileStore, Files, Options};
 use sqlite_disk::{Crash, Disk, Fuse, Memory};
@@ -24,7 +24,7 @@ fn little(checkpoint_frames: usize) -> Options {
     }
 }
 
-/// What a file and its log hold.
+/// The bytes of a file and of its log.
 #[derive(Drop, PartialEq)]
 pub(crate) struct Held {
     pub log: Vec<u8>,
@@ -61,8 +61,8 @@ impl Stop {
         calls: u64::MAX,
     };
 
-    // How many calls the log and the file do, and how many frames the log has when it is copied:
-    // always some, where the file is to be written.
+    // The calls of the log and of the file, and the frames of the log at which it is copied: few where
+    // the file stops.
     fn limits(self) -> (u64, u64, usize) {
         match self.which {
             Which::Log => (self.calls, u64::MAX, 12),
@@ -89,8 +89,7 @@ fn filled(alloc: Global, bytes: &[u8]) -> Result<Memory, StoreFault>
     Ok(memory)
 }
 
-// The database of such files, on disks that stop so. Any other fault than that of a stop is a
-// fault.
+// The database of such files, on disks that stop so. Only an I/O error is a stop.
 fn connect(alloc: Global, held: &Held, stop: Stop) -> Result<Opened, StoreFault> {
     let (log_calls, file_calls, frames) = stop.limits();
     let log = filled(alloc, held.log.as_slice())?;
@@ -108,7 +107,7 @@ fn connect(alloc: Global, held: &Held, stop: Stop) -> Result<Opened, StoreFault>
     }
 }
 
-// The database of such files, on disks that don't stop.
+// The database of such files, on disks that do not stop.
 fn connect_again(alloc: Global, held: &Held) -> Result<Connection<Store>, StoreFault> {
     match connect(alloc, held, Stop::NEVER)? {
         Opened::Open(conn) => Ok(conn),
@@ -121,7 +120,7 @@ fn disks_of<D: Disk + Drop>(conn: Connection<FileStore<D>>) -> Files<D> {
     conn.into_store().close()
 }
 
-/// What is there where the process dies: all that was written.
+/// The files after the process dies: all that was written.
 pub(crate) fn written(alloc: Global, disks: &Disks) -> Result<Held, AllocError> {
     Ok(Held {
         log: Vec::from_slice(alloc, disks.log.inner().bytes())?,
@@ -129,7 +128,7 @@ pub(crate) fn written(alloc: Global, disks: &Disks) -> Result<Held, AllocError> 
     })
 }
 
-/// What is there where the machine dies: all that was synced.
+/// The files after the machine dies: all that was synced.
 pub(crate) fn synced(alloc: Global, mut disks: Disks) -> Result<Held, AllocError> {
     disks.log.crash();
     disks.db.crash();
@@ -176,7 +175,7 @@ pub(crate) fn stop_at(
     Ok(Stopped { steps, disks })
 }
 
-/// What a store in such a state holds in its files.
+/// The files of a store in such a state.
 pub(crate) fn files_in(alloc: Global, state: State) -> Result<Held, StoreFault> {
     let nothing = Held::nothing(alloc);
     if state.version == 0 {
@@ -186,7 +185,7 @@ pub(crate) fn files_in(alloc: Global, state: State) -> Result<Held, StoreFault> 
     Ok(written(alloc, &disks)?)
 }
 
-/// What is found in such files.
-pub(crate) fn told_in(alloc: Global, held: &Held) -> Result<Told, StoreFault> {
-    told_of(alloc, connect_again(alloc, held)?)
+/// The content of such files.
+pub(crate) fn observed_in(alloc: Global, held: &Held) -> Result<Observed, StoreFault> {
+    observed_of(alloc, connect_again(alloc, held)?)
 }

@@ -10,7 +10,7 @@ use fuse_keeper::{Done, Keeper, MAX_GROUP, StoreFault};
 use fuse_request::{Op, Request};
 use fuse_wire::{Id, Moment};
 
-// Whether a keeper can perform the request: those of the tests are of these kinds.
+// Whether a keeper can perform the request: the tests use these kinds.
 fn is_kept(request: &Request<'_>) -> bool
     ensures id { result ≡ true → id_of request.now.header.unique ≢ 0 }
     ensures kept { result ≡ true → IsKept (act request.now.op) }
@@ -60,7 +60,7 @@ fn ask_all<K: Keeper>(
     keeper.perform(group, settled)
 }
 
-/// Performs a group. `Damaged` where no keeper could, which no test comes to.
+/// Performs a group. `Damaged` where no keeper could; no test reaches that.
 pub(crate) fn perform<K: Keeper>(
     keeper: &mut K,
     group: &[(Request<'_>, Moment)],

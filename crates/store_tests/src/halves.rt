@@ -1,31 +1,29 @@
-//! Writes that are cut short: what a disk holds where half of a change arrived.
+//! Writes that are cut short: the bytes of a disk after half of a change.
 use std::alloc::{AllocError, Global};
 
-fn alike_at_the_front(one: &[u8], other: &[u8]) -> usize {
+fn common_prefix(one: &[u8], other: &[u8]) -> usize {
     let pairs = one.iter().zip(other);
     pairs.take_while(|(byte, at_it)| byte == at_it).count()
 }
 
-fn alike_at_the_back(one: &[u8], other: &[u8]) -> usize {
+fn common_suffix(one: &[u8], other: &[u8]) -> usize {
     let pairs = one.iter().rev().zip(other.iter().rev());
     pairs.take_while(|(byte, at_it)| byte == at_it).count()
 }
 
-// The place in the middle of what differs.
+// The place in the middle of the difference.
 fn middle(before: &[u8], after: &[u8]) -> usize {
-    let first = alike_at_the_front(before, after);
-    let behind = if before.len() == after.len() {
-        before
-            .len()
-            .saturating_sub(alike_at_the_back(before, after))
+    let first = common_prefix(before, after);
+    let end = if before.len() == after.len() {
+        before.len().saturating_sub(common_suffix(before, after))
     } else {
         before.len().max(after.len())
     };
-    first.saturating_add(behind.saturating_sub(first) / 2)
+    first.saturating_add(end.saturating_sub(first) / 2)
 }
 
-/// What is there after the first half of a change, and behind it what was there before. What a
-/// change cuts off is cut off from the middle on.
+/// The bytes after the first half of a change, followed by the bytes before it. A truncation cuts
+/// from the middle on.
 pub(crate) fn half(alloc: Global, before: &[u8], after: &[u8]) -> Result<Vec<u8>, AllocError> {
     let place = middle(before, after);
     if after.len() < before.len() {
@@ -41,7 +39,7 @@ fn is_half(alloc: Global, before: &str, after: &str, wanted: &str) -> Result<boo
     Ok(found.as_slice() == wanted.as_bytes())
 }
 
-// Writes within, over the end and behind the end, and a cut.
+// Writes within the bytes, over their end and after it, and a truncation.
 #[test]
 fn halves(rt: HostRuntime) -> Result<(), AllocError> {
     let alloc = rt.alloc();

@@ -1,7 +1,6 @@
 //! A keeper over the tables: each of its calls.
-use fuse_keeper::{Done, Keeper, Restart, StoreFault};
 use fuse_request::{InHeader, InitIn, Op, Request};
-use fuse_store::TableKeeper;
+use fuse_store::{Done, Keeper, Restart, StoreFault, TableKeeper};
 use fuse_wire::{Id, Moment};
 use sqlite::{Connection, MemStore};
 use std::alloc::Global;
@@ -41,7 +40,7 @@ fn asked(unique: u64, op: Op<'_>) -> (Request<'_>, Moment) {
     (request, AT_1000)
 }
 
-// The INIT of row init-agreed.
+// The INIT of case init-agreed.
 const INIT: Op<'static> = Op::Init(InitIn {
     major: 7,
     minor: 40,
@@ -64,14 +63,16 @@ fn perform(
     keeper.perform(group, settled)
 }
 
-// Whether a request had this error, and was a repeat.
-fn is_told(done: &Done, errno: u32, repeated: bool) -> bool {
+// Whether a request had this error number, and was a repeat or not.
+fn is_answered(done: &Done, errno: u32, repeated: bool) -> bool {
     done.answer.errno.0 == errno && done.repeated == repeated
 }
 
-fn are_told(dones: &[Done], told: &[(u32, bool)]) -> bool {
-    dones.len() == told.len()
-        && dones.iter().zip(told).all(|(done, (errno, repeated))| is_told(done, *errno, *repeated))
+fn are_answered(dones: &[Done], wanted: &[(u32, bool)]) -> bool {
+    dones.len() == wanted.len()
+        && dones.iter().zip(wanted).all(|(done, (errno, repeated))| is_answered(
+            done, *errno, *repeated,
+        ))
 }
 
 // INIT, and a directory made, resent, and made again: EEXIST.
@@ -82,15 +83,15 @@ fn performs_first(keeper: &mut MemKeeper) -> bool {
         asked(RESEND | 4, MKDIR_A),
         asked(6, MKDIR_A),
     ];
-    let told = [(0, false), (0, false), (0, true), (17, false)];
-    matches!(perform(keeper, &group, &[]), Ok(dones) if are_told(dones.as_slice(), &told))
+    let wanted = [(0, false), (0, false), (0, true), (17, false)];
+    matches!(perform(keeper, &group, &[]), Ok(dones) if are_answered(dones.as_slice(), &wanted))
 }
 
-// The directory resent to a keeper that knows it, and the record of id 2 settled.
+// The MKDIR resent to a keeper that has its record, and id 2 settled.
 fn performs_resent(keeper: &mut MemKeeper) -> bool {
     let group = [asked(RESEND | 4, MKDIR_A)];
-    let told = [(0, true)];
-    matches!(perform(keeper, &group, &[Id(2)]), Ok(dones) if are_told(dones.as_slice(), &told))
+    let wanted = [(0, true)];
+    matches!(perform(keeper, &group, &[Id(2)]), Ok(dones) if are_answered(dones.as_slice(), &wanted))
 }
 
 // Whether there are so many nodes, handles, records and lots.
@@ -108,7 +109,7 @@ fn remembers(keeper: &mut MemKeeper, wanted: bool) -> bool {
     answered && agreed
 }
 
-// Row new-counts, and a group.
+// Case new-counts, and a group.
 fn first_life(keeper: &mut MemKeeper) -> [bool; 5] {
     [
         counts(keeper, [1, 0, 0, 0]),
@@ -119,7 +120,7 @@ fn first_life(keeper: &mut MemKeeper) -> [bool; 5] {
     ]
 }
 
-// Its resend after another open, and the next mount.
+// The resend after a restart, and the next mount.
 fn second_life(keeper: &mut MemKeeper) -> [bool; 5] {
     [
         performs_resent(keeper),

@@ -1,5 +1,5 @@
-//! Tests of a store in tables: each call of a keeper over a connection in memory; over disks that
-//! stop at each of their calls, that what is opened behind that is what was committed.
+//! Tests of a store in tables: each call of a keeper over a connection in memory, and recovery over
+//! disks that stop at each of their calls: the store that is opened then has the committed steps.
 #![tactic(auto)]
 
 #[cfg(test)]
@@ -13,12 +13,12 @@ mod halves;
 #[cfg(test)]
 mod keepers;
 #[cfg(test)]
+mod observations;
+#[cfg(test)]
 mod requests;
 #[cfg(test)]
 mod stops;
 #[cfg(test)]
 mod stores;
-#[cfg(test)]
-mod telling;
 #[cfg(test)]
 mod works;

@@ -1,4 +1,4 @@
-//! The run, and what is asked behind it.
+//! The messages of the run, and the questions after it.
 use fuse_request::{InHeader, InitIn, Op, ReadIn, ReleaseIn, Request};
 use fuse_wire::Moment;
 
@@ -16,13 +16,13 @@ const AT_1000: Moment = Moment {
 /// How many messages the run has.
 pub(crate) const MESSAGES: usize = 8;
 
-/// How many messages there are with the one behind the run.
+/// How many messages there are with the one after the run.
 pub(crate) const MORE: usize = 9;
 
 /// Their ids.
 pub(crate) const IDS: [u64; MORE] = [2, 4, 6, 8, 10, 12, 14, 16, 18];
 
-// The INIT of row init-agreed.
+// The INIT of case init-agreed.
 const INIT: Op<'static> = Op::Init(InitIn {
     major: 7,
     minor: 40,
@@ -46,7 +46,7 @@ fn request(header: InHeader, op: Op<'static>) -> Timed {
     (request, AT_1000)
 }
 
-// A request on a node, with the header's end of the rows.
+// A request on a node, with the uid, gid and pid of the cases.
 fn asked(unique: u64, nodeid: u64, op: Op<'static>) -> Timed {
     let header = InHeader {
         unique,
@@ -58,7 +58,7 @@ fn asked(unique: u64, nodeid: u64, op: Op<'static>) -> Timed {
     request(header, op)
 }
 
-// The INIT of row init-agreed, of nobody.
+// The INIT of case init-agreed, with uid, gid and pid 0.
 fn init(unique: u64) -> Timed {
     let header = InHeader {
         unique,
@@ -125,9 +125,9 @@ fn release() -> Op<'static> {
     })
 }
 
-/// The run, under uniques with this bit: row init-agreed, MKNOD `f`, OPEN, WRITE `one`, READ,
-/// MKDIR `a`, RENAME `f` to `a/g`, RELEASE. LongAfter it UNLINK of `a/g`, so that node 2 stays until
-/// the next mount begins.
+/// The run, under uniques with this bit: INIT, MKNOD `f`, OPEN, WRITE `one`, READ, MKDIR `a`, RENAME
+/// `f` to `a/g`, RELEASE. After it UNLINK of `a/g`, which leaves node 2 without a name until the next
+/// mount begins.
 pub(crate) fn messages(bit: u64) -> [Timed; MORE] {
     [
         init(bit | 2),
@@ -151,8 +151,8 @@ fn getattr() -> Op<'static> {
     Op::Getattr { flags: 0, fh: 0 }
 }
 
-/// What is asked under new ids of whatever is held. The INIT comes first, so that the others are
-/// answered where none was performed before.
+/// Questions to any store, under new ids. The INIT is first: without one before, the others would
+/// be refused.
 pub(crate) fn questions() -> [Timed; 8] {
     [
         init(40),

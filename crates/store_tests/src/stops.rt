@@ -1,15 +1,15 @@
-//! Work that is stopped at each call of a disk, and what is then there.
-use crate::disks::{Held, Stop, Stopped, Which, files_in, stop_at, synced, told_in, written};
+//! Work that is stopped at each call of a disk, and the store that is found then.
+use crate::disks::{Held, Stop, Stopped, Which, files_in, observed_in, stop_at, synced, written};
 use crate::halves::half;
-use crate::stores::{Told, Work, wanted_in};
+use crate::stores::{Observed, Work, wanted_in};
 use fuse_keeper::StoreFault;
 use std::alloc::{AllocError, Global};
 
 // More calls than any work makes.
 const MOST: u64 = 2000;
 
-/// How many stops there were, how many calls were cut short, and how often what was there then was
-/// what the steps before leave, or these and the whole stopped one.
+/// The numbers of stops, of calls that were cut short, and of stores that were found with the steps
+/// before the stop, with these and the whole stopped step, and with neither.
 #[derive(Clone, Copy, Debug)]
 pub(crate) struct Tally {
     pub stops: u64,
@@ -17,7 +17,7 @@ pub(crate) struct Tally {
     pub before: u64,
     pub whole: u64,
     pub neither: u64,
-    /// The stop behind which neither was there first.
+    /// The first stop after which neither was found.
     pub wrong: Option<u64>,
     /// Whether the work came to its end, and its states differ.
     pub ended: bool,
@@ -57,7 +57,7 @@ enum Found {
     Neither,
 }
 
-// What is there behind a stop: as the process dies, and as the machine does.
+// The files after a stop: where the process dies, and where the machine does.
 #[derive(Drop)]
 struct Left {
     steps: usize,
@@ -78,34 +78,39 @@ fn is_same(one: &Left, other: &Left) -> bool {
     one.steps == other.steps && one.written == other.written && one.synced == other.synced
 }
 
-fn wanted_at(wanted: &[Told], place: usize, told: &Told) -> bool {
+fn wanted_at(wanted: &[Observed], place: usize, observed: &Observed) -> bool {
     match wanted.get(place) {
-        Some(wanted) => wanted == told,
+        Some(wanted) => wanted == observed,
         None => false,
     }
 }
 
-fn found_among(wanted: &[Told], steps: usize, told: &Told) -> Found {
-    if wanted_at(wanted, steps, told) {
+fn found_among(wanted: &[Observed], steps: usize, observed: &Observed) -> Found {
+    if wanted_at(wanted, steps, observed) {
         Found::Before
-    } else if wanted_at(wanted, steps.saturating_add(1), told) {
+    } else if wanted_at(wanted, steps.saturating_add(1), observed) {
         Found::Whole
     } else {
         Found::Neither
     }
 }
 
-// Files that can't be opened hold nothing.
-fn find(alloc: Global, wanted: &[Told], held: &Held, steps: usize) -> Result<Found, StoreFault> {
-    match told_in(alloc, held) {
-        Ok(told) => Ok(found_among(wanted, steps, &told)),
+// Files that are not opened hold neither.
+fn find(
+    alloc: Global,
+    wanted: &[Observed],
+    held: &Held,
+    steps: usize,
+) -> Result<Found, StoreFault> {
+    match observed_in(alloc, held) {
+        Ok(observed) => Ok(found_among(wanted, steps, &observed)),
         Err(StoreFault::Memory) => Err(StoreFault::Memory),
         Err(_) => Ok(Found::Neither),
     }
 }
 
-// What is there where the stopping disk's last call was cut short, and the other disk is as it was
-// before that call.
+// The files where the last call of the disk that stops was cut short, and the other disk is as it
+// was before that call.
 fn cut_short(alloc: Global, which: Which, last: &Held, now: &Held) -> Result<Held, AllocError> {
     let (log, file) = (last.log.as_slice(), last.file.as_slice());
     match which {
@@ -127,12 +132,12 @@ fn differs(which: Which, last: &Held, now: &Held) -> bool {
     }
 }
 
-/// What a work is judged by.
+/// The tally of a work, and the content that is expected after each of its steps.
 #[derive(Drop)]
 struct Judge {
     alloc: Global,
     which: Which,
-    wanted: Vec<Told>,
+    wanted: Vec<Observed>,
     tally: Tally,
 }
 
@@ -143,7 +148,7 @@ impl Judge {
         Ok(())
     }
 
-    // The last call, but half of it, where it changed something.
+    // Judges half of the last call, where that changed something.
     fn judge_half(&mut self, last: &Left, now: &Left) -> Result<(), StoreFault> {
         if !differs(self.which, &last.written, &now.written) {
             return Ok(());
@@ -158,7 +163,7 @@ impl Judge {
         self.find(&now.synced, now.steps)
     }
 
-    // Files that are what they were behind the stop before hold what they held then.
+    // Files that are the same as after the stop before have the same content.
     fn judge_all(&mut self, last: Option<Left>, now: &Left) -> Result<(), StoreFault> {
         self.tally.stops = self.tally.stops.saturating_add(1);
         match last {
@@ -172,7 +177,7 @@ impl Judge {
     }
 }
 
-fn all_wanted(alloc: Global, work: Work) -> Result<Vec<Told>, StoreFault> {
+fn all_wanted(alloc: Global, work: Work) -> Result<Vec<Observed>, StoreFault> {
     let mut wanted = Vec::new(alloc);
     for steps in 0..=work.steps() {
         wanted.push(wanted_in(alloc, work.after(steps))?)?;
@@ -180,15 +185,14 @@ fn all_wanted(alloc: Global, work: Work) -> Result<Vec<Told>, StoreFault> {
     Ok(wanted)
 }
 
-fn differ(wanted: &[Told]) -> bool {
+fn differ(wanted: &[Observed]) -> bool {
     wanted
         .iter()
         .zip(wanted.iter().skip(1))
         .all(|(one, next)| one != next)
 }
 
-/// Stops the work at each call of a disk, and counts the calls before the stop upwards until the
-/// work comes to its end.
+/// Stops the work at each call of a disk: at the first, then at the second, until the work ends.
 pub(crate) fn stop_at_each(alloc: Global, work: Work, which: Which) -> Result<Tally, StoreFault> {
     let held = files_in(alloc, work.first)?;
     let wanted = all_wanted(alloc, work)?;

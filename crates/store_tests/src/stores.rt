@@ -1,15 +1,13 @@
-//! The states of a store, and what leads from one to the next.
+//! The states of a store, and the steps from one to the next.
 use crate::groups::perform;
+use crate::observations::observe;
 use crate::requests::{START, messages, part};
-use crate::telling::tell;
-use fuse_keeper::{Keeper, PlainKeeper, StoreFault};
-use fuse_tree::PlainTree;
-use fuse_store::TableKeeper;
+use fuse_store::{Keeper, PlainKeeper, PlainTree, StoreFault, TableKeeper};
 use sqlite::{Alter, Connection, Error};
 use std::alloc::Global;
 
-/// The version of a store, 0 where there is none; how many messages were performed; and whether
-/// then the next mount began.
+/// The version of a store, 0 where there is none, the number of messages that were performed, and
+/// whether the next mount began then.
 #[derive(Clone, Copy)]
 pub(crate) struct State {
     pub version: i64,
@@ -87,19 +85,18 @@ impl Work {
     }
 }
 
-// Makes a store of version 2 one of version 1: without what that has more, and with its records
-// where that has them.
+// Turns a store of version 2 into one of version 1, with its records in the table of that version.
 const TO_FIRST: &str = "BEGIN; INSERT INTO answers SELECT id, errno, body FROM kept; \
     DROP INDEX entries_in_order; DROP TABLE kept; DROP TABLE lots; \
     DELETE FROM meta WHERE k = 11; UPDATE meta SET v = 1 WHERE k = 1; COMMIT";
 
-/// Makes a store of version 2 one of version 1, in one transaction.
+/// Turns a store of version 2 into one of version 1, in one transaction.
 pub(crate) fn make_first<S: Alter>(conn: &mut Connection<S>) -> Result<(), Error> {
     conn.execute_batch(TO_FIRST)
 }
 
-// The version, and how many rows of `meta`, records of version 1, and tables and indexes of version
-// 2 there are.
+// The version, and the numbers of rows of `meta`, of records of version 1, and of tables and indexes
+// of version 2.
 const SHAPE: [&str; 4] = [
     "SELECT v FROM meta WHERE k = 1",
     "SELECT count(*) FROM meta",
@@ -112,7 +109,7 @@ pub(crate) fn shape<S: Alter>(conn: &mut Connection<S>) -> [i64; 4] {
     SHAPE.map(|text| number(conn, text).unwrap_or(0))
 }
 
-/// The number that a statement shows.
+/// The number that a statement returns.
 pub(crate) fn number<S: Alter>(conn: &mut Connection<S>, text: &str) -> Result<i64, Error> {
     conn.query_row(text, &[])?.get(0)
 }
@@ -126,7 +123,7 @@ pub(crate) fn shape_of(version: i64) -> [i64; 4] {
     }
 }
 
-// A database's keeper, or what stood in its way and the database.
+// The keeper of a database, or the fault and the database.
 type Started<S> = Result<TableKeeper<S>, (StoreFault, Connection<S>)>;
 
 // The keeper of a store of this version, which is made where there is none.
@@ -151,7 +148,7 @@ fn go<K: Keeper>(keeper: &mut K, from: State, to: State) -> Result<(), StoreFaul
     Ok(())
 }
 
-// Whether a step was done. Another fault than that of a stop is one here.
+// Whether a step was done. A fault of SQL is a stop; any other is returned.
 fn is_done<K: Keeper>(keeper: &mut K, from: State, to: State) -> Result<bool, StoreFault> {
     match go(keeper, from, to) {
         Ok(()) => Ok(true),
@@ -165,7 +162,7 @@ fn does_step<K: Keeper>(keeper: &mut K, work: Work, place: usize) -> Result<bool
     is_done(keeper, work.after(place), work.after(next))
 }
 
-// Does the steps from this one on, up to a stop: how many there are then.
+// Does the steps from this one on, up to a stop, and returns how many are done then.
 fn go_on<K: Keeper>(keeper: &mut K, work: Work, first: usize) -> Result<usize, StoreFault> {
     for place in first..work.steps() {
         if !does_step(keeper, work, place)? {
@@ -184,7 +181,7 @@ fn run_on<S: Alter + Drop>(mut keeper: TableKeeper<S>, work: Work) -> Ran<S> {
     Ok((steps, keeper.into_connection()))
 }
 
-/// Does the work over a database, up to a stop. To make a store and to migrate it is a step.
+/// Does the work over a database, up to a stop. Making a store is a step, and so is a migration.
 pub(crate) fn run<S: Alter + Drop>(alloc: Global, conn: Connection<S>, work: Work) -> Ran<S> {
     match start(alloc, conn, work.first.version) {
         Ok(keeper) => run_on(keeper, work),
@@ -209,26 +206,30 @@ pub(crate) fn make<S: Alter + Drop>(
     Ok(conn)
 }
 
-/// What is told of a database: its shape, and what its keeper tells.
+/// The content of a database: its shape, and the values that its keeper returns.
 #[derive(Drop, PartialEq)]
-pub(crate) struct Told {
+pub(crate) struct Observed {
     pub shape: [i64; 4],
     pub by_keeper: Vec<u8>,
 }
 
-fn told_by<K: Keeper>(alloc: Global, mut keeper: K, shape: [i64; 4]) -> Result<Told, StoreFault> {
-    let by_keeper = tell(alloc, &mut keeper)?;
-    Ok(Told { shape, by_keeper })
+fn observed_by<K: Keeper>(
+    alloc: Global,
+    mut keeper: K,
+    shape: [i64; 4],
+) -> Result<Observed, StoreFault> {
+    let by_keeper = observe(alloc, &mut keeper)?;
+    Ok(Observed { shape, by_keeper })
 }
 
-/// What is found in a database.
-pub(crate) fn told_of<S: Alter + Drop>(
+/// The content of a database.
+pub(crate) fn observed_of<S: Alter + Drop>(
     alloc: Global,
     mut conn: Connection<S>,
-) -> Result<Told, StoreFault> {
+) -> Result<Observed, StoreFault> {
     let shape = shape(&mut conn);
     match start(alloc, conn, shape[0]) {
-        Ok(keeper) => told_by(alloc, keeper, shape),
+        Ok(keeper) => observed_by(alloc, keeper, shape),
         Err((fault, _)) => Err(fault),
     }
 }
@@ -243,7 +244,7 @@ fn lists_in(alloc: Global, state: State) -> Result<PlainKeeper<PlainTree>, Store
     Ok(lists)
 }
 
-/// What is to be found in such a state, by a keeper of lists.
-pub(crate) fn wanted_in(alloc: Global, state: State) -> Result<Told, StoreFault> {
-    told_by(alloc, lists_in(alloc, state)?, shape_of(state.version))
+/// The expected content in such a state, by a keeper of lists.
+pub(crate) fn wanted_in(alloc: Global, state: State) -> Result<Observed, StoreFault> {
+    observed_by(alloc, lists_in(alloc, state)?, shape_of(state.version))
 }

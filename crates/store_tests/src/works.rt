@@ -1,4 +1,4 @@
-//! Each work, stopped at each call of the log, and then of the file.
+//! Each work, stopped at each call of the log, and then at each call of the file.
 use crate::disks::Which;
 use crate::requests::{MESSAGES, MORE};
 use crate::stops::{Tally, stop_at_each};
@@ -17,7 +17,7 @@ const MOUNTED: State = State {
     mounted: true,
 };
 
-// At least so many stops and calls cut short, and, where the log is stopped, each step found whole.
+// Whether there were at least so many stops, calls cut short and whole steps, and never neither.
 fn is_right(tally: &Tally, least: [u64; 3]) -> bool {
     let [stops, halves, whole] = least;
     tally.ended
@@ -28,7 +28,7 @@ fn is_right(tally: &Tally, least: [u64; 3]) -> bool {
         && tally.whole >= whole
 }
 
-// Whether all is right where the log stops, and then where the file does. Prints what was found.
+// Whether all is right where the log stops, and where the file does. Prints the two tallies.
 fn stopped(rt: &HostRuntime, work: Work, log: [u64; 3], file: [u64; 3]) -> Result<bool, Fail> {
     let at_log = stop_at_each(rt.alloc(), work, Which::Log)?;
     println!(rt; "log: {at_log:?}")?;

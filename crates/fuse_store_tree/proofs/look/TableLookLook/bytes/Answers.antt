@@ -1,7 +1,7 @@
 use Rattle.std.proofs.Common.{sym, ap, subst, ◌∙◌}
 use Rattle.sqlite.specs.Held.{state}
 use Rattle.fuse_tree.specs.Rows.{Rows, IsRowed, bytes_at}
-use Rattle.fuse_store_tree.proofs.Told.{inside_of, bytes_are}
+use Rattle.fuse_store_tree.proofs.Described.{inside_of, bytes_are}
 use Rattle.fuse_store_tree.proofs.Turning.{content_in}
 use Rattle.fuse_store_tree.proofs.Sure.{failed_so}
 use Rattle.fuse_store_tree.proofs.Few.{sizes_fit}

@@ -1,7 +1,7 @@
 use Rattle.std.proofs.Common.{sym, ap, subst, ◌∙◌}
 use Rattle.sqlite.specs.Held.{state}
 use Rattle.fuse_tree.specs.Rows.{Rows, IsRowed, row_at}
-use Rattle.fuse_store_tree.proofs.Told.{inside_of, row_told}
+use Rattle.fuse_store_tree.proofs.Described.{inside_of, row_told}
 use Rattle.fuse_store_tree.proofs.look.TableLookLook.node.Goals as goal
 
 pub returns-in-Ok-clause-row : goal.returns-in-Ok-clause-row

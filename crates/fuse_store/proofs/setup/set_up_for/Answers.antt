@@ -1,0 +1,67 @@
+use Rattle.std.proofs.Common.{codes, refl, ap, ◌∙◌}
+use Rattle.sqlite.specs.Held.{state}
+use Rattle.sqlite.specs.Schema.{Schema}
+use Rattle.sqlite_schema.specs.Names.{table_named}
+use Rattle.fuse_store_tables.specs.Opening.{IsStored, IsOpened}
+use Rattle.fuse_store.specs.Opening.{StoredFor, OpenedFor, WasFor}
+use Rattle.fuse_store.proofs.Retelling.{served_so, safe_so, done_so, kept_so, crash_so, sure_so}
+use Rattle.fuse_store.proofs.Reopening.{stored_told, rests_was, has_meta, no_none, meta_whole}
+use Rattle.fuse_store.proofs.setup.set_up_for.Goals as goal
+
+-- ---- without `meta`
+
+pub returns-then-is_none-clause-kept : goal.returns-then-is_none-clause-kept
+returns-then-is_none-clause-kept g c = λ clean is_open z was.
+    rests_was z (state g.S.Store c.args.conn.now) c.schema.ensures.live (c.if-not-is_autocommit.ensures.settled refl) was
+
+pub returns-then-is_none-clause-fault : goal.returns-then-is_none-clause-fault
+returns-then-is_none-clause-fault g c = λ clean z at.
+    no_none c.table_named.result 0
+    (c.table_named.ensures ∙ ap (λ (s : Schema). table_named s (codes "meta")) c.schema.ensures.value
+    ∙ has_meta z (state g.S.Store c.args.conn.now).now at.holds) c.if-is_none.ensures
+
+pub returns-then-is_none-clause-sure : goal.returns-then-is_none-clause-sure
+returns-then-is_none-clause-sure g c = λ clean z was.
+    let a = state g.S.Store c.args.conn.now in
+    returns-then-is_none-clause-fault g c clean z (rests_was z a c.schema.ensures.live (c.if-not-is_autocommit.ensures.settled refl) was)
+
+-- ---- with it
+
+pub returns-clause-serves : goal.returns-clause-serves
+returns-clause-serves g c =
+    served_so IsStored IsOpened StoredFor OpenedFor (stored_told c.rows_in_order.ensures) (state g.S.Store c.args.conn.now)
+    (state g.S.Store c.set_up.new.conn) c.set_up.result c.set_up.ensures.serves
+
+pub returns-clause-fault : goal.returns-clause-fault
+returns-clause-fault g c =
+    safe_so IsStored IsOpened StoredFor OpenedFor (stored_told c.rows_in_order.ensures) (state g.S.Store c.args.conn.now)
+    (state g.S.Store c.set_up.new.conn) c.set_up.result c.set_up.ensures.fault
+
+pub returns-clause-ok : goal.returns-clause-ok
+returns-clause-ok g c =
+    let a = state g.S.Store c.args.conn.now in
+    done_so StoredFor OpenedFor (λ z. WasFor z a) a (state g.S.Store c.set_up.new.conn)
+    (λ z was. rests_was z a c.schema.ensures.live (c.if-not-is_autocommit.ensures.settled refl) was) c.set_up.result (returns-clause-serves g c)
+
+pub returns-clause-kept : goal.returns-clause-kept
+returns-clause-kept g c =
+    let a = state g.S.Store c.args.conn.now in
+    kept_so StoredFor OpenedFor (λ z. WasFor z a) a (state g.S.Store c.set_up.new.conn)
+    (λ z was. rests_was z a c.schema.ensures.live (c.if-not-is_autocommit.ensures.settled refl) was) c.set_up.result (returns-clause-serves g c)
+
+pub returns-clause-crash : goal.returns-clause-crash
+returns-clause-crash g c =
+    let a = state g.S.Store c.args.conn.now in
+    crash_so StoredFor OpenedFor (λ z. WasFor z a) a (state g.S.Store c.set_up.new.conn)
+    (λ z was. rests_was z a c.schema.ensures.live (c.if-not-is_autocommit.ensures.settled refl) was) c.set_up.result (returns-clause-serves g c)
+
+pub returns-clause-sure : goal.returns-clause-sure
+returns-clause-sure g c =
+    let a = state g.S.Store c.args.conn.now in
+    sure_so StoredFor OpenedFor (λ z. WasFor z a) a (state g.S.Store c.set_up.new.conn)
+    (λ z was. rests_was z a c.schema.ensures.live (c.if-not-is_autocommit.ensures.settled refl) was) c.set_up.result (returns-clause-fault g c)
+
+pub returns-clause-whole : goal.returns-clause-whole
+returns-clause-whole g c =
+    meta_whole (state g.S.Store c.args.conn.now) (state g.S.Store c.set_up.new.conn) c.set_up.result c.if-not-is_autocommit.ensures.value
+    (c.if-not-is_autocommit.ensures.settled refl) c.set_up.ensures.was c.set_up.ensures.whole

@@ -1,0 +1,77 @@
+use Rattle.std.proofs.lemmas.Result.{IfOk-weaker, IfErr-weaker}
+use Rattle.sqlite.specs.Held.{state}
+use Rattle.fuse_store.proofs.Begun.{fresh_made, fresh_begun}
+use Rattle.fuse_store.proofs.start.open_fresh.Goals as goal
+
+-- ---- nothing was made in it
+
+pub returns-then-blank-clause-stands : goal.returns-then-blank-clause-stands
+returns-then-blank-clause-stands g c =
+    IfOk-weaker c.create.result _ _ (λ k stands clean blank is_open. stands clean is_open) c.create.ensures.stands
+
+pub returns-then-blank-clause-holds : goal.returns-then-blank-clause-holds
+returns-then-blank-clause-holds g c =
+    IfOk-weaker c.create.result _ _ (λ k going clean z was. absurd (c.is_blank-blank.ensures.none c.if-blank.true z was)) c.create.ensures.going
+
+pub returns-then-blank-clause-begins : goal.returns-then-blank-clause-begins
+returns-then-blank-clause-begins g c =
+    IfOk-weaker c.create.result _ _ (λ k going clean z was. absurd (c.is_blank-blank.ensures.none c.if-blank.true z was)) c.create.ensures.going
+
+pub returns-then-blank-clause-lots : goal.returns-then-blank-clause-lots
+returns-then-blank-clause-lots g c =
+    IfOk-weaker c.create.result _ _ (λ k going clean z was. absurd (c.is_blank-blank.ensures.none c.if-blank.true z was)) c.create.ensures.going
+
+pub returns-then-blank-clause-crash : goal.returns-then-blank-clause-crash
+returns-then-blank-clause-crash g c =
+    IfErr-weaker c.create.result _ _
+    (λ r left. fresh_made c.args.now (state g.S.Store c.args.conn) (state g.S.Store r.1) (c.is_blank-blank.ensures.none c.if-blank.true) left)
+    c.create.ensures.crash
+
+pub returns-then-blank-clause-kept : goal.returns-then-blank-clause-kept
+returns-then-blank-clause-kept g c =
+    IfErr-weaker c.create.result _ _ (λ r left clean is_open z was. absurd (c.is_blank-blank.ensures.none c.if-blank.true z was)) c.create.ensures.crash
+
+pub returns-then-blank-clause-fault : goal.returns-then-blank-clause-fault
+returns-then-blank-clause-fault g c =
+    IfErr-weaker c.create.result _ _ (λ r left clean z was. absurd (c.is_blank-blank.ensures.none c.if-blank.true z was)) c.create.ensures.crash
+
+pub returns-then-blank-clause-was : goal.returns-then-blank-clause-was
+returns-then-blank-clause-was g c =
+    IfOk-weaker c.create.result _ _ (λ k is_open clean. (is_open clean, (c.is_blank-blank.ensures.blank.0 c.if-blank.true).0)) c.create.ensures.was
+
+pub returns-then-blank-clause-plain : goal.returns-then-blank-clause-plain
+returns-then-blank-clause-plain g c = IfErr-weaker c.create.result _ _ (λ r plain blank. plain) c.create.ensures.plain
+
+pub returns-then-blank-clause-absent : goal.returns-then-blank-clause-absent
+returns-then-blank-clause-absent g c = λ settled stored. absurd (stored (c.is_blank-blank.ensures.blank.0 c.if-blank.true))
+
+pub returns-then-blank-clause-whole : goal.returns-then-blank-clause-whole
+returns-then-blank-clause-whole g c =
+    IfOk-weaker c.create.result _ _ (λ k going clean stored. absurd (stored (c.is_blank-blank.ensures.blank.0 c.if-blank.true))) c.create.ensures.going
+
+pub returns-then-blank-clause-tabled : goal.returns-then-blank-clause-tabled
+returns-then-blank-clause-tabled g c =
+    IfOk-weaker c.create.result _ _ (λ k going clean stored. absurd (stored (c.is_blank-blank.ensures.blank.0 c.if-blank.true))) c.create.ensures.going
+
+-- ---- something was
+
+pub returns-clause-crash : goal.returns-clause-crash
+returns-clause-crash g c =
+    IfErr-weaker c.open_begun.result _ _
+    (λ r left. fresh_begun c.args.now (state g.S.Store c.args.conn) (state g.S.Store r.1)
+    (λ blank. let e = c.is_blank-blank.ensures.blank.1 blank in let n = c.if-blank.false in cc) left)
+    c.open_begun.ensures.crash
+
+pub returns-clause-plain : goal.returns-clause-plain
+returns-clause-plain g c =
+    IfErr-weaker c.open_begun.result _ _
+    (λ r left blank. let e = c.is_blank-blank.ensures.blank.1 blank in let n = c.if-blank.false in cc) c.open_begun.ensures.crash
+
+pub returns-clause-absent : goal.returns-clause-absent
+returns-clause-absent g c = λ settled stored. c.open_begun.ensures.absent settled
+
+pub returns-clause-whole : goal.returns-clause-whole
+returns-clause-whole g c = IfOk-weaker c.open_begun.result _ _ (λ k whole clean stored. whole clean) c.open_begun.ensures.whole
+
+pub returns-clause-tabled : goal.returns-clause-tabled
+returns-clause-tabled g c = IfOk-weaker c.open_begun.result _ _ (λ k tabled clean stored. tabled clean) c.open_begun.ensures.tabled

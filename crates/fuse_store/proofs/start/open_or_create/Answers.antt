@@ -1,0 +1,73 @@
+use Rattle.std.proofs.lemmas.Result.{IfOk-weaker, IfErr-weaker}
+use Rattle.sqlite.specs.Held.{state}
+use Rattle.fuse_store.proofs.Blank.{left_made, left_opened}
+use Rattle.fuse_store.proofs.start.open_or_create.Goals as goal
+
+-- ---- nothing was made in it
+
+pub returns-then-is_blank-clause-stands : goal.returns-then-is_blank-clause-stands
+returns-then-is_blank-clause-stands g c =
+    IfOk-weaker c.create.result _ _ (λ k stands clean blank is_open. stands clean is_open) c.create.ensures.stands
+
+pub returns-then-is_blank-clause-holds : goal.returns-then-is_blank-clause-holds
+returns-then-is_blank-clause-holds g c =
+    IfOk-weaker c.create.result _ _ (λ k going clean z was. absurd (c.is_blank.ensures.none c.if-is_blank.true z was)) c.create.ensures.going
+
+pub returns-then-is_blank-clause-lots : goal.returns-then-is_blank-clause-lots
+returns-then-is_blank-clause-lots g c =
+    IfOk-weaker c.create.result _ _ (λ k going clean z was. absurd (c.is_blank.ensures.none c.if-is_blank.true z was)) c.create.ensures.going
+
+pub returns-then-is_blank-clause-crash : goal.returns-then-is_blank-clause-crash
+returns-then-is_blank-clause-crash g c =
+    IfErr-weaker c.create.result _ _
+    (λ r left. left_made c.args.now (state g.S.Store c.args.conn) (state g.S.Store r.1) (c.is_blank.ensures.none c.if-is_blank.true) left)
+    c.create.ensures.crash
+
+pub returns-then-is_blank-clause-kept : goal.returns-then-is_blank-clause-kept
+returns-then-is_blank-clause-kept g c =
+    IfErr-weaker c.create.result _ _ (λ r left clean is_open z was. absurd (c.is_blank.ensures.none c.if-is_blank.true z was)) c.create.ensures.crash
+
+pub returns-then-is_blank-clause-fault : goal.returns-then-is_blank-clause-fault
+returns-then-is_blank-clause-fault g c =
+    IfErr-weaker c.create.result _ _ (λ r left clean z was. absurd (c.is_blank.ensures.none c.if-is_blank.true z was)) c.create.ensures.crash
+
+pub returns-then-is_blank-clause-was : goal.returns-then-is_blank-clause-was
+returns-then-is_blank-clause-was g c =
+    IfOk-weaker c.create.result _ _ (λ k is_open clean. (is_open clean, (c.is_blank.ensures.blank.0 c.if-is_blank.true).0)) c.create.ensures.was
+
+pub returns-then-is_blank-clause-plain : goal.returns-then-is_blank-clause-plain
+returns-then-is_blank-clause-plain g c = IfErr-weaker c.create.result _ _ (λ r plain blank. plain) c.create.ensures.plain
+
+pub returns-then-is_blank-clause-absent : goal.returns-then-is_blank-clause-absent
+returns-then-is_blank-clause-absent g c = λ settled stored. absurd (stored (c.is_blank.ensures.blank.0 c.if-is_blank.true))
+
+pub returns-then-is_blank-clause-whole : goal.returns-then-is_blank-clause-whole
+returns-then-is_blank-clause-whole g c =
+    IfOk-weaker c.create.result _ _ (λ k going clean stored. absurd (stored (c.is_blank.ensures.blank.0 c.if-is_blank.true))) c.create.ensures.going
+
+pub returns-then-is_blank-clause-tabled : goal.returns-then-is_blank-clause-tabled
+returns-then-is_blank-clause-tabled g c =
+    IfOk-weaker c.create.result _ _ (λ k going clean stored. absurd (stored (c.is_blank.ensures.blank.0 c.if-is_blank.true))) c.create.ensures.going
+
+-- ---- something was
+
+pub returns-else-is_blank-clause-crash : goal.returns-else-is_blank-clause-crash
+returns-else-is_blank-clause-crash g c =
+    IfErr-weaker c.open.result _ _
+    (λ r left. left_opened c.args.now (state g.S.Store c.args.conn) (state g.S.Store r.1)
+    (λ blank. let e = c.is_blank.ensures.blank.1 blank in let n = c.if-is_blank.false in cc) left)
+    c.open.ensures.crash
+
+pub returns-else-is_blank-clause-plain : goal.returns-else-is_blank-clause-plain
+returns-else-is_blank-clause-plain g c =
+    IfErr-weaker c.open.result _ _
+    (λ r left blank. let e = c.is_blank.ensures.blank.1 blank in let n = c.if-is_blank.false in cc) c.open.ensures.crash
+
+pub returns-else-is_blank-clause-absent : goal.returns-else-is_blank-clause-absent
+returns-else-is_blank-clause-absent g c = λ settled stored. c.open.ensures.absent settled
+
+pub returns-else-is_blank-clause-whole : goal.returns-else-is_blank-clause-whole
+returns-else-is_blank-clause-whole g c = IfOk-weaker c.open.result _ _ (λ k whole clean stored. whole clean) c.open.ensures.whole
+
+pub returns-else-is_blank-clause-tabled : goal.returns-else-is_blank-clause-tabled
+returns-else-is_blank-clause-tabled g c = IfOk-weaker c.open.result _ _ (λ k tabled clean stored. tabled clean) c.open.ensures.tabled

@@ -1,0 +1,37 @@
+use Rattle.std.proofs.Common.{None, false}
+use Rattle.sqlite.specs.Held.{state}
+use Rattle.fuse_tree.specs.Rows.{rowed}
+use Rattle.fuse_store_tables.specs.Following.{earlier}
+use Rattle.fuse_store_tree.specs.Store.{records_of}
+use Rattle.fuse_store.specs.Mounting.{cleared_for}
+use Rattle.fuse_store.specs.Opening.{opened_for}
+use Rattle.fuse_store.specs.Starting.{begun_for}
+use Rattle.fuse_store.proofs.Serving.{holds_at, firm}
+use Rattle.fuse_store.proofs.Grouping.{its_own}
+use Rattle.fuse_store.proofs.Beginning.{begun_after, clears_all}
+use Rattle.fuse_store.proofs.table_keeper.TableKeeper.open_begun.Goals as goal
+
+pub returns-in-Ok-clause-holds : goal.returns-in-Ok-clause-holds
+returns-in-Ok-clause-holds g c = λ clean z was.
+    holds_at c.one_holding.ensures (state g.S.Store c.set_up_begun.new.conn) (begun_for z) (rowed (begun_for z).tree) (records_of (begun_for z).kept)
+    (c.in-Ok.ensures.begun clean z was) (its_own (begun_for z))
+
+pub returns-in-Ok-clause-begins : goal.returns-in-Ok-clause-begins
+returns-in-Ok-clause-begins g c = λ clean z was s h t stands.
+    begun_after c.rows_tell_state.ensures cleared_for clears_all c.one_holding.ensures (state g.S.Store c.set_up_begun.new.conn) (opened_for z)
+    (c.in-Ok.ensures.begun clean z was) s h t stands None false
+
+pub returns-in-Ok-clause-lots : goal.returns-in-Ok-clause-lots
+returns-in-Ok-clause-lots g c = λ clean z was.
+    c.lots_are_read.ensures.same None (begun_for z) (state g.S.Store c.set_up_begun.new.conn).now (c.in-Ok.ensures.begun clean z was).holds
+
+pub returns-in-Ok-clause-honest : goal.returns-in-Ok-clause-honest
+returns-in-Ok-clause-honest g c = λ clean.
+    earlier (state g.S.Store c.args.conn) (state g.S.Store c.set_up_begun.new.conn) _ c.in-Ok.ensures.crash clean
+
+pub returns-in-Ok-clause-firm : goal.returns-in-Ok-clause-firm
+returns-in-Ok-clause-firm g c = λ clean.
+    firm c.one_holding.ensures (state g.S.Store c.set_up_begun.new.conn) None false (g.met.S.Store.settled c.set_up_begun.new.conn.store)
+
+pub returns-in-Ok-clause-absent : goal.returns-in-Ok-clause-absent
+returns-in-Ok-clause-absent g c = λ settled none. absurd (c.in-Ok.ensures.absent settled none)

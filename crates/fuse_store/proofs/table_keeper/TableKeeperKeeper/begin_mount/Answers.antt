@@ -1,0 +1,48 @@
+use Rattle.std.proofs.Common.{true, None, Ok, Err}
+use Rattle.sqlite.specs.Held.{state}
+use Rattle.fuse_store.specs.Mounting.{cleared_for}
+use Rattle.fuse_store.proofs.Serving.{firm}
+use Rattle.fuse_store.proofs.Beginning.{clears_all, begins_mount, drops_lots, leaves_mount}
+use Rattle.fuse_store.proofs.Peeking.{went_well, went_wrong, plain_where}
+use Rattle.fuse_store.proofs.table_keeper.TableKeeperKeeper.begin_mount.Goals as goal
+
+pub returns-in-Ok-clause-called : goal.returns-in-Ok-clause-called
+returns-in-Ok-clause-called g c =
+    went_well cleared_for (state g.S.Store c.args.self.now.look.conn) (state g.S.Store c.begin_mount.new.conn) tt tt c.in-Ok.ensures.serves
+    c.args.self.now.lot None c.args.self.now.failed
+
+pub returns-in-Ok-clause-ok : goal.returns-in-Ok-clause-ok
+returns-in-Ok-clause-ok g c =
+    begins_mount c.rows_tell_state.ensures cleared_for clears_all c.one_holding.ensures (state g.S.Store c.args.self.now.look.conn)
+    (state g.S.Store c.begin_mount.new.conn) tt c.in-Ok.ensures.serves c.args.self.now.lot None c.args.self.now.failed c.args.self.now.failed
+
+pub returns-in-Ok-clause-lots : goal.returns-in-Ok-clause-lots
+returns-in-Ok-clause-lots g c =
+    drops_lots c.rows_tell_state.ensures cleared_for clears_all c.one_holding.ensures (state g.S.Store c.args.self.now.look.conn)
+    (state g.S.Store c.begin_mount.new.conn) tt c.in-Ok.ensures.serves c.lots_are_read.ensures.same c.args.self.now.lot c.args.self.now.failed
+    c.args.self.now.failed
+
+pub returns-in-Ok-clause-crash : goal.returns-in-Ok-clause-crash
+returns-in-Ok-clause-crash g c =
+    leaves_mount c.rows_tell_state.ensures cleared_for clears_all (λ s tree. (c.clearing.ensures s tree).0) c.one_holding.ensures (state g.S.Store
+    c.args.self.now.look.conn)
+    (state g.S.Store c.begin_mount.new.conn) (g.met.S.Store.settled c.args.self.now.look.conn.store) (Ok tt) c.in-Ok.ensures.serves
+    c.args.self.now.lot None c.args.self.now.failed c.args.self.now.failed
+
+pub returns-in-Ok-clause-firm : goal.returns-in-Ok-clause-firm
+returns-in-Ok-clause-firm g c = λ clean.
+    firm c.one_holding.ensures (state g.S.Store c.begin_mount.new.conn) None c.args.self.now.failed (g.met.S.Store.settled c.begin_mount.new.conn.store)
+
+pub returns-in-Err-clause-called : goal.returns-in-Err-clause-called
+returns-in-Err-clause-called g c =
+    went_wrong c.one_holding.ensures c.lots_are_read.ensures.same cleared_for (state g.S.Store c.args.self.now.look.conn)
+    (state g.S.Store c.begin_mount.new.conn) c.in-Err.fault c.in-Err.ensures.serves (plain_where (state g.S.Store c.args.self.now.look.conn)
+    (state g.S.Store c.begin_mount.new.conn) c.in-Err.fault c.in-Err.ensures.fault)
+    c.args.self.now.lot c.args.self.now.failed
+
+pub returns-in-Err-clause-crash : goal.returns-in-Err-clause-crash
+returns-in-Err-clause-crash g c =
+    leaves_mount c.rows_tell_state.ensures cleared_for clears_all (λ s tree. (c.clearing.ensures s tree).0) c.one_holding.ensures (state g.S.Store
+    c.args.self.now.look.conn)
+    (state g.S.Store c.begin_mount.new.conn) (g.met.S.Store.settled c.args.self.now.look.conn.store) (Err c.in-Err.fault) c.in-Err.ensures.serves
+    c.args.self.now.lot c.args.self.now.lot c.args.self.now.failed true

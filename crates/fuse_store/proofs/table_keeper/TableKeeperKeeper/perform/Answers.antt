@@ -1,0 +1,57 @@
+use Rattle.std.proofs.Common.{true, Some, Ok, Err}
+use Rattle.sqlite.specs.Held.{state}
+use Rattle.fuse_keeper.specs.Group.{ids_of, entries_of}
+use Rattle.fuse_store_tree.specs.Group.{performed}
+use Rattle.fuse_store.proofs.Serving.{firm}
+use Rattle.fuse_store.proofs.Grouping.{performs, others_so, lots_so, leaves_group}
+use Rattle.fuse_store.proofs.Peeking.{went_well, went_wrong}
+use Rattle.fuse_store.proofs.table_keeper.TableKeeperKeeper.perform.Goals as goal
+
+pub returns-in-Ok-clause-called : goal.returns-in-Ok-clause-called
+returns-in-Ok-clause-called g c =
+    went_well (performed c.args.self.now.lot (ids_of c.args.settled.now) (entries_of c.args.group.now)) (state g.S.Store c.args.self.now.look.conn)
+    (state g.S.Store c.perform.new.look.conn) c.in-Ok.performed c.in-Ok.performed.dones c.in-Ok.ensures.serves c.args.self.now.lot
+    (Some c.in-Ok.performed.lot) c.args.self.now.failed
+
+pub returns-in-Ok-clause-ok : goal.returns-in-Ok-clause-ok
+returns-in-Ok-clause-ok g c =
+    performs c.one_holding.ensures c.calls_perform.ensures c.args.self.now.lot (ids_of c.args.settled.now) (entries_of c.args.group.now)
+    (state g.S.Store c.args.self.now.look.conn) (state g.S.Store c.perform.new.look.conn) c.in-Ok.performed c.in-Ok.ensures.serves
+    (Some c.in-Ok.performed.lot) c.args.self.now.failed c.args.self.now.failed c.in-Ok.performed.dones.items c.in-Ok.ensures.dones
+
+pub returns-in-Ok-clause-others : goal.returns-in-Ok-clause-others
+returns-in-Ok-clause-others g c =
+    others_so c.one_holding.ensures c.calls_perform.ensures c.args.self.now.lot (ids_of c.args.settled.now) (entries_of c.args.group.now)
+    (state g.S.Store c.args.self.now.look.conn) (state g.S.Store c.perform.new.look.conn) c.in-Ok.performed c.in-Ok.ensures.serves
+    (Some c.in-Ok.performed.lot) c.args.self.now.failed c.args.self.now.failed
+
+pub returns-in-Ok-clause-lots : goal.returns-in-Ok-clause-lots
+returns-in-Ok-clause-lots g c =
+    lots_so c.lots_are_read.ensures.same c.calls_perform.ensures c.args.self.now.lot (ids_of c.args.settled.now) (entries_of c.args.group.now)
+    (state g.S.Store c.args.self.now.look.conn) (state g.S.Store c.perform.new.look.conn) c.in-Ok.performed c.in-Ok.ensures.serves
+    c.in-Ok.performed.lot c.args.self.now.failed c.args.self.now.failed c.in-Ok.ensures.lot
+
+pub returns-in-Ok-clause-crash : goal.returns-in-Ok-clause-crash
+returns-in-Ok-clause-crash g c =
+    leaves_group c.one_holding.ensures c.calls_perform.ensures c.args.self.now.lot (ids_of c.args.settled.now) (entries_of c.args.group.now)
+    (state g.S.Store c.args.self.now.look.conn) (state g.S.Store c.perform.new.look.conn) (Ok c.in-Ok.performed)
+    (g.met.S.Store.settled c.args.self.now.look.conn.store) c.in-Ok.ensures.serves (Some c.in-Ok.performed.lot) c.args.self.now.failed
+    c.args.self.now.failed
+
+pub returns-in-Ok-clause-firm : goal.returns-in-Ok-clause-firm
+returns-in-Ok-clause-firm g c = λ clean.
+    firm c.one_holding.ensures (state g.S.Store c.perform.new.look.conn) (Some c.in-Ok.performed.lot) c.args.self.now.failed
+    (g.met.S.Store.settled c.perform.new.look.conn.store)
+
+pub returns-in-Err-clause-called : goal.returns-in-Err-clause-called
+returns-in-Err-clause-called g c =
+    went_wrong c.one_holding.ensures c.lots_are_read.ensures.same
+    (performed c.args.self.now.lot (ids_of c.args.settled.now) (entries_of c.args.group.now)) (state g.S.Store c.args.self.now.look.conn)
+    (state g.S.Store c.perform.new.look.conn) c.in-Err.fault c.in-Err.ensures.serves (λ clean y at. c.in-Err.ensures.plain) c.args.self.now.lot
+    c.args.self.now.failed
+
+pub returns-in-Err-clause-crash : goal.returns-in-Err-clause-crash
+returns-in-Err-clause-crash g c =
+    leaves_group c.one_holding.ensures c.calls_perform.ensures c.args.self.now.lot (ids_of c.args.settled.now) (entries_of c.args.group.now)
+    (state g.S.Store c.args.self.now.look.conn) (state g.S.Store c.perform.new.look.conn) (Err c.in-Err.fault)
+    (g.met.S.Store.settled c.args.self.now.look.conn.store) c.in-Err.ensures.serves c.args.self.now.lot c.args.self.now.failed true

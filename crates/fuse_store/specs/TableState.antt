@@ -1,0 +1,55 @@
+-- The state of a keeper over tables, by the state of its database (own profile).
+use Rattle.std.specs.Prelude.{◌≡◌, ℕ, Bool, IsTrue, Option}
+use Rattle.sqlite.specs.Tree.{Trees}
+use Rattle.sqlite.specs.State.{State, HasCleanDisk}
+use Rattle.fuse_tree.specs.Rows.{Rows, rowed}
+use Rattle.fuse_keeper.specs.Stands.{Records}
+use Rattle.fuse_keeper.specs.KeeperState.{KeeperState}
+use Rattle.fuse_tree.specs.TheTree.{the_tree}
+use Rattle.fuse_store_tables.specs.Content.{LeftAs}
+use Rattle.fuse_store_tables.specs.Faults.{IsPlain}
+use Rattle.fuse_store_tables.specs.Moves.{RestsAs}
+use Rattle.fuse_store_tree.specs.Store.{records_of}
+use Rattle.fuse_store_tree.specs.Holding.{Holding, HeldFor}
+use Rattle.fuse_store_tree.specs.Lots.{lots_in}
+
+-- these are the rows and the records of this holding
+pub record IsOf (y : Holding) (rows : Rows) (records : Records) : Type 0 where
+  pub rows_are : rows ≡ rowed y.tree
+  pub records_are : (i : ℕ) → records i ≡ records_of y.kept i
+
+-- outside a transaction, the tables hold these rows and these records, and nothing else
+pub record HoldsIn (s : State) (rows : Rows) (records : Records) : Type 0 where
+  pub holding : Holding
+  pub rests : RestsAs (HeldFor holding) s
+  pub alone : (z : Holding) → HeldFor z s.now → z ≡ holding
+  pub is_of : IsOf holding rows records
+
+-- the trees of a database that holds something
+pub record LeavesSome (db : Trees) : Type 0 where
+  pub holding : Holding
+  pub left : LeftAs (HeldFor holding) db
+
+-- the trees of a database that holds these
+pub record LeavesThese (db : Trees) (rows : Rows) (records : Records) : Type 0 where
+  pub some : LeavesSome db
+  pub is_of : IsOf some.holding rows records
+
+-- a crash now may leave these, where the disk returned what was written
+pub record MayLeave (s : State) (rows : Rows) (records : Records) : Type 0 where
+  pub clean : HasCleanDisk s
+  pub trees : Trees
+  pub may : s.may_leave trees
+  pub these : LeavesThese trees rows records
+
+abbrev pub table_told : State → Option ℕ → Bool → KeeperState the_tree
+table_told s lot failed = record {
+  holds = HoldsIn s;
+  is_honest = HasCleanDisk s;
+  is_clean = HasCleanDisk s × IsTrue s.is_open;
+  has_failed = failed;
+  leaves_whole = HasCleanDisk s → (db : Trees) → s.may_leave db → LeavesSome db;
+  may_leave = MayLeave s;
+  may_answer = IsPlain;
+  lots = lots_in lot s.now;
+}

@@ -1,0 +1,58 @@
+// The opening of a store.
+ghost use Rattle.std.specs.Prelude.{◌≡◌, false, None, codes, IsTrue, IfErr, IsErrAnd, OnOk, OnErr};
+ghost use Rattle.sqlite.specs.State.{HasCleanDisk, Survives};
+ghost use Rattle.sqlite.specs.Held.{state};
+ghost use Rattle.sqlite_schema.specs.Names.{table_named};
+ghost use Rattle.fuse_keeper.specs.declared.fault.StoreFault.TheVariants.{NotAStore};
+ghost use Rattle.fuse_store_tables.specs.Content.{Content, LeftAs};
+ghost use Rattle.fuse_store_tables.specs.Faults.{IsOutside};
+ghost use Rattle.fuse_store_tables.specs.Moves.{RestsAs, ServesAs, IsSafe};
+ghost use Rattle.fuse_store_tables.specs.Opening.{IsLaid, HasMeta};
+ghost use Rattle.fuse_store_tables.specs.Saying.{Says, IsTabled};
+ghost use Rattle.fuse_store.specs.Opening.{Stored, StoredFor, OpenedFor, WasFor};
+
+use fuse_keeper::StoreFault;
+use fuse_store_tables::set_up;
+use fuse_store_tree::rows_in_order;
+use sqlite::{Alter, Connection, Error};
+
+/// Opens a store: tests it, and migrates a store of version 1 to version 2. The commit is its last
+/// call of the database.
+pub(crate) fn set_up_for<S: Alter>(conn: &mut Connection<S>) -> Result<(), StoreFault>
+    ensures serves { ServesAs StoredFor OpenedFor (state S.Store conn.old) (state S.Store conn.new)
+        result }
+    ensures fault { IsSafe StoredFor (state S.Store conn.old) (state S.Store conn.new) result }
+    ensures was { HasCleanDisk (state S.Store conn.new) → OnOk result
+        (IsTrue (state S.Store conn.old).is_open
+        × ((state S.Store conn.old).in_transaction ≡ false)) }
+    ensures says { HasCleanDisk (state S.Store conn.new)
+        → IfErr result (Says (state S.Store conn.old).now) }
+    // A store with a damaged `meta` or without a table of its version is never opened. No missing
+    // table is made.
+    ensures whole { HasCleanDisk (state S.Store conn.new) → OnOk result ((c : Content)
+        → IsLaid c (state S.Store conn.old).now → HasMeta c) }
+    ensures tabled { HasCleanDisk (state S.Store conn.new)
+        → OnOk result (IsTabled (state S.Store conn.old).now) }
+    ensures absent { (state S.Store conn.old).in_transaction ≡ false
+        → table_named (state S.Store conn.old).now.schema (codes "meta") ≡ None
+        → IsErrAnd result (λ f. f ≡ NotAStore) }
+    // The same of a store that a crash left.
+    ensures ok { HasCleanDisk (state S.Store conn.new) → OnOk result ((z : Stored)
+        → WasFor z (state S.Store conn.old) → RestsAs (OpenedFor z) (state S.Store conn.new)) }
+    ensures crash { Survives (state S.Store conn.old) (state S.Store conn.new) (λ db. (z : Stored)
+        → WasFor z (state S.Store conn.old) → LeftAs (OpenedFor z) db) }
+    ensures kept { OnErr result (HasCleanDisk (state S.Store conn.new)
+        → IsTrue (state S.Store conn.new).is_open → (z : Stored)
+        → WasFor z (state S.Store conn.old) → RestsAs (StoredFor z) (state S.Store conn.new)) }
+    ensures sure { HasCleanDisk (state S.Store conn.new) → IfErr result (λ f. (z : Stored)
+        → WasFor z (state S.Store conn.old) → IsOutside f) }
+{
+    rows_in_order();
+    if !conn.is_autocommit() {
+        return Err(StoreFault::Sql(Error::InvalidQuery));
+    }
+    if conn.schema().table_named(b"meta").is_none() {
+        return Err(StoreFault::NotAStore);
+    }
+    set_up(conn)
+}

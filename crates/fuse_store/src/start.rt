@@ -1,0 +1,173 @@
+// The keeper over any database: of the store in it, or of a new one.
+ghost use Rattle.std.specs.Prelude.{◌≡◌, [], None, false, codes, IsTrue, ◌↔◌, IfOk, IfErr};
+ghost use Rattle.std.specs.Prelude.{IsErrAnd};
+ghost use Rattle.sqlite.specs.State.{HasCleanDisk, Survives};
+ghost use Rattle.sqlite.specs.Held.{state};
+ghost use Rattle.sqlite_schema.specs.Names.{table_named};
+ghost use Rattle.fuse_tree.specs.State.{new_store};
+ghost use Rattle.fuse_tree.specs.Rows.{rowed};
+ghost use Rattle.fuse_keeper.specs.declared.fault.StoreFault.TheVariants.{NotAStore};
+ghost use Rattle.fuse_keeper.specs.KeeperState.{IsFirm, StandsFor};
+ghost use Rattle.fuse_keeper.specs.Lots.{SameLots};
+ghost use Rattle.fuse_store_tables.specs.Content.{Content};
+ghost use Rattle.fuse_store_tables.specs.Faults.{IsOutside, IsPlain};
+ghost use Rattle.fuse_store_tables.specs.Layout.{no_schema};
+ghost use Rattle.fuse_store_tables.specs.Making.{IsBare};
+ghost use Rattle.fuse_store_tables.specs.Moves.{RestsAs};
+ghost use Rattle.fuse_store_tables.specs.Opening.{IsLaid, HasMeta};
+ghost use Rattle.fuse_store_tables.specs.Saying.{Says, IsTabled};
+ghost use Rattle.fuse_store_tree.specs.Store.{records_of};
+ghost use Rattle.fuse_store_tree.specs.Holding.{lots_of};
+ghost use Rattle.fuse_store.specs.Creating.{IsBlank};
+ghost use Rattle.fuse_store.specs.Opening.{Stored, StoredFor, WasFor, opened_for};
+ghost use Rattle.fuse_store.specs.Starting.{LeavesStarted, BeginsAfter};
+ghost use Rattle.fuse_store.specs.Starting.{LeavesFresh, IsLeftOrOpened, begun_for};
+ghost use Rattle.fuse_store.specs.Storing.{opening_fault};
+ghost use Rattle.fuse_store.specs.TableKeeper.{keeper_told};
+
+use crate::creation::is_empty;
+use crate::table_keeper::TableKeeper;
+use fuse_keeper::StoreFault;
+use fuse_wire::Moment;
+use sqlite::{Alter, Connection, Error, ErrorCode};
+use std::alloc::Global;
+
+// Whether a database is blank.
+fn is_blank<S: Alter>(conn: &Connection<S>) -> bool
+    ensures blank { IsTrue result ↔ IsBlank (state S.Store conn.now) }
+    ensures none { IsTrue result → (z : Stored) → WasFor z (state S.Store conn.now) → ⊥ }
+{
+    conn.is_autocommit() && is_empty(conn.schema())
+}
+
+/// The keeper over a database. A blank database gets a new store, made at this moment; any other is
+/// opened. A fault gives the connection back.
+pub fn open_or_create<S: Alter>(
+    alloc: Global,
+    conn: Connection<S>,
+    now: Moment,
+) -> Result<TableKeeper<S>, (StoreFault, Connection<S>)>
+    ensures stands { IfOk result (λ k. (keeper_told S.Store k).is_honest
+        → IsBlank (state S.Store conn) → IsTrue (state S.Store conn).is_open
+        → StandsFor (keeper_told S.Store k) (new_store now) [] []) }
+    ensures holds { IfOk result (λ k. (keeper_told S.Store k).is_honest → (z : Stored)
+        → WasFor z (state S.Store conn) → (keeper_told S.Store k).holds
+        (rowed (opened_for z).tree) (records_of (opened_for z).kept)) }
+    ensures lots { IfOk result (λ k. (keeper_told S.Store k).is_honest → (z : Stored)
+        → WasFor z (state S.Store conn)
+        → SameLots (lots_of None (opened_for z)) (keeper_told S.Store k).lots) }
+    ensures was { IfOk result (λ k. (keeper_told S.Store k).is_honest
+        → IsTrue (state S.Store conn).is_open × ((state S.Store conn).in_transaction ≡ false)) }
+    ensures honest { IfOk result (λ k. (keeper_told S.Store k).is_honest
+        → HasCleanDisk (state S.Store conn)) }
+    ensures going { IfOk result (λ k. (keeper_told S.Store k).has_failed ≡ false) }
+    ensures firm { IfOk result (λ k. (keeper_told S.Store k).is_honest
+        → IsFirm (keeper_told S.Store k)) }
+    ensures crash { IfErr result (λ r. Survives (state S.Store conn) (state S.Store r.1)
+        (LeavesStarted now (state S.Store conn))) }
+
+    // A fault leaves the database as it was, and says nothing of a sound store.
+    ensures bare { IfErr result (λ r. HasCleanDisk (state S.Store r.1)
+        → IsTrue (state S.Store r.1).is_open
+        → RestsAs (IsBare no_schema tt) (state S.Store conn)
+        → RestsAs (IsBare no_schema tt) (state S.Store r.1)) }
+    ensures kept { IfErr result (λ r. HasCleanDisk (state S.Store r.1)
+        → IsTrue (state S.Store r.1).is_open → (z : Stored) → WasFor z (state S.Store conn)
+        → RestsAs (StoredFor z) (state S.Store r.1)) }
+    ensures fault_bare { IfErr result (λ r. HasCleanDisk (state S.Store r.1)
+        → RestsAs (IsBare no_schema tt) (state S.Store conn) → IsOutside r.0) }
+    ensures fault { IfErr result (λ r. HasCleanDisk (state S.Store r.1) → (z : Stored)
+        → WasFor z (state S.Store conn) → IsOutside r.0) }
+    ensures says { IfErr result (λ r. HasCleanDisk (state S.Store r.1)
+        → (IsBlank (state S.Store conn) → ⊥) → Says (state S.Store conn).now r.0) }
+    ensures plain { IfErr result (λ r. IsBlank (state S.Store conn) → IsPlain r.0) }
+    // A database that is neither blank nor a store is refused.
+    ensures absent { (state S.Store conn).in_transaction ≡ false
+        → (IsBlank (state S.Store conn) → ⊥)
+        → table_named (state S.Store conn).now.schema (codes "meta") ≡ None
+        → IsErrAnd result (λ r. r.0 ≡ NotAStore) }
+    ensures whole { IfOk result (λ k. (keeper_told S.Store k).is_honest
+        → (IsBlank (state S.Store conn) → ⊥) → (c : Content)
+        → IsLaid c (state S.Store conn).now → HasMeta c) }
+    ensures tabled { IfOk result (λ k. (keeper_told S.Store k).is_honest
+        → (IsBlank (state S.Store conn) → ⊥) → IsTabled (state S.Store conn).now) }
+{
+    if is_blank(&conn) {
+        TableKeeper::create(alloc, conn, now)
+    } else {
+        TableKeeper::open(alloc, conn)
+    }
+}
+
+/// The keeper over a database, for a mount that begins. A blank database gets a new store, made at
+/// this moment; any other is opened, and a mount of it begins. A fault gives the connection back.
+pub fn open_fresh<S: Alter>(
+    alloc: Global,
+    conn: Connection<S>,
+    now: Moment,
+) -> Result<TableKeeper<S>, (StoreFault, Connection<S>)>
+    ensures stands { IfOk result (λ k. (keeper_told S.Store k).is_honest
+        → IsBlank (state S.Store conn) → IsTrue (state S.Store conn).is_open
+        → StandsFor (keeper_told S.Store k) (new_store now) [] []) }
+    ensures holds { IfOk result (λ k. (keeper_told S.Store k).is_honest → (z : Stored)
+        → WasFor z (state S.Store conn) → (keeper_told S.Store k).holds
+        (rowed (begun_for z).tree) (records_of (begun_for z).kept)) }
+    ensures begins { IfOk result (λ k. (keeper_told S.Store k).is_honest → (z : Stored)
+        → WasFor z (state S.Store conn) → BeginsAfter z (keeper_told S.Store k)) }
+    ensures lots { IfOk result (λ k. (keeper_told S.Store k).is_honest → (z : Stored)
+        → WasFor z (state S.Store conn)
+        → SameLots (lots_of None (begun_for z)) (keeper_told S.Store k).lots) }
+    ensures was { IfOk result (λ k. (keeper_told S.Store k).is_honest
+        → IsTrue (state S.Store conn).is_open × ((state S.Store conn).in_transaction ≡ false)) }
+    ensures honest { IfOk result (λ k. (keeper_told S.Store k).is_honest
+        → HasCleanDisk (state S.Store conn)) }
+    ensures firm { IfOk result (λ k. (keeper_told S.Store k).is_honest
+        → IsFirm (keeper_told S.Store k)) }
+    ensures going { IfOk result (λ k. (keeper_told S.Store k).has_failed ≡ false) }
+    ensures crash { IfErr result (λ r. Survives (state S.Store conn) (state S.Store r.1)
+        (LeavesFresh now (state S.Store conn))) }
+
+    // A fault leaves the database as it was, or migrated to version 2, and says nothing of a sound
+    // store.
+    ensures bare { IfErr result (λ r. HasCleanDisk (state S.Store r.1)
+        → IsTrue (state S.Store r.1).is_open
+        → RestsAs (IsBare no_schema tt) (state S.Store conn)
+        → RestsAs (IsBare no_schema tt) (state S.Store r.1)) }
+    ensures kept { IfErr result (λ r. HasCleanDisk (state S.Store r.1)
+        → IsTrue (state S.Store r.1).is_open → (z : Stored) → WasFor z (state S.Store conn)
+        → IsLeftOrOpened z (state S.Store r.1)) }
+    ensures fault_bare { IfErr result (λ r. HasCleanDisk (state S.Store r.1)
+        → RestsAs (IsBare no_schema tt) (state S.Store conn) → IsOutside r.0) }
+    ensures fault { IfErr result (λ r. HasCleanDisk (state S.Store r.1) → (z : Stored)
+        → WasFor z (state S.Store conn) → IsOutside r.0) }
+    ensures says { IfErr result (λ r. HasCleanDisk (state S.Store r.1)
+        → (IsBlank (state S.Store conn) → ⊥) → Says (state S.Store conn).now r.0) }
+    ensures plain { IfErr result (λ r. IsBlank (state S.Store conn) → IsPlain r.0) }
+    // A database that is neither blank nor a store is refused.
+    ensures absent { (state S.Store conn).in_transaction ≡ false
+        → (IsBlank (state S.Store conn) → ⊥)
+        → table_named (state S.Store conn).now.schema (codes "meta") ≡ None
+        → IsErrAnd result (λ r. r.0 ≡ NotAStore) }
+    ensures whole { IfOk result (λ k. (keeper_told S.Store k).is_honest
+        → (IsBlank (state S.Store conn) → ⊥) → (c : Content)
+        → IsLaid c (state S.Store conn).now → HasMeta c) }
+    ensures tabled { IfOk result (λ k. (keeper_told S.Store k).is_honest
+        → (IsBlank (state S.Store conn) → ⊥) → IsTabled (state S.Store conn).now) }
+{
+    let blank = is_blank(&conn);
+    if blank {
+        return TableKeeper::create(alloc, conn, now);
+    }
+    TableKeeper::open_begun(alloc, conn)
+}
+
+/// The fault of a store whose file is not opened: a file that is no database is no store.
+pub fn opening_fault(error: Error) -> StoreFault
+    ensures { result ≡ opening_fault error }
+{
+    if matches!(error, Error::SqliteFailure(ErrorCode::NotADatabase)) {
+        StoreFault::NotAStore
+    } else {
+        StoreFault::from(error)
+    }
+}

@@ -1,0 +1,54 @@
+use Rattle.std.proofs.Common.{refl, None}
+use Rattle.sqlite.specs.Held.{state}
+use Rattle.fuse_request.specs.Act.{asked}
+use Rattle.fuse_tree.specs.Do.{done}
+use Rattle.fuse_store_tree.proofs.Changes.{acted}
+use Rattle.fuse_store_tree.proofs.Steps.{keeps_of, looked_keeps}
+use Rattle.fuse_store_tables.specs.Following.{earlier}
+use Rattle.fuse_store_tree.specs.Laws.{looked_ready}
+use Rattle.fuse_store_tree.specs.Holding.{store_of}
+use Rattle.fuse_store_tree.proofs.Turning.{told_in}
+use Rattle.fuse_store_tree.proofs.Sure.{no_plan, no_plan_plain, ready_held}
+use Rattle.fuse_store_tree.proofs.action.act.Goals as goal
+
+pub returns-in-Ok-make_all-clause-acts : goal.returns-in-Ok-make_all-clause-acts
+returns-in-Ok-make_all-clause-acts g c = λ s tree.
+    acted (state g.S.Store c.args.look.now.conn) (state g.S.Store c.plan.new.look.conn) (state g.S.Store c.make_all.new.conn) s c.in-Ok.planned
+    (done s (asked c.args.request.now) c.args.now) (c.in-Ok.ensures.looks (refl {a = None})).looked
+    (rw c.as_slice-changes.ensures at c.in-Ok-make_all.ensures.changed) (λ mid sees. c.in-Ok.ensures.meets mid s tree sees)
+
+pub returns-in-Ok-make_all-clause-keeps : goal.returns-in-Ok-make_all-clause-keeps
+returns-in-Ok-make_all-clause-keeps g c =
+    looked_keeps (state g.S.Store c.args.look.now.conn) (state g.S.Store c.plan.new.look.conn) (state g.S.Store c.make_all.new.conn)
+    (c.in-Ok.ensures.looks (refl {a = None})).looked c.in-Ok-make_all.ensures.changed.stays
+
+pub returns-in-Err-make_all-clause-keeps : goal.returns-in-Err-make_all-clause-keeps
+returns-in-Err-make_all-clause-keeps g c =
+    looked_keeps (state g.S.Store c.args.look.now.conn) (state g.S.Store c.plan.new.look.conn) (state g.S.Store c.make_all.new.conn)
+    (c.in-Ok.ensures.looks (refl {a = None})).looked c.in-Err-make_all.ensures.fails
+
+pub returns-in-Err-clause-keeps : goal.returns-in-Err-clause-keeps
+returns-in-Err-clause-keeps g c =
+    rw c.take_fault.ensures.conn (keeps_of (state g.S.Store c.args.look.now.conn) (state g.S.Store c.plan.new.look.conn) c.in-Err.ensures.fails.stays)
+
+pub returns-in-Err-make_all-clause-sure : goal.returns-in-Err-make_all-clause-sure
+returns-in-Err-make_all-clause-sure g c clean (y, at) =
+    let a = state g.S.Store c.args.look.now.conn in
+    let b = state g.S.Store c.plan.new.look.conn in
+    let d = state g.S.Store c.make_all.new.conn in
+    let mid = earlier b d _ c.in-Err-make_all.ensures.fails.survives clean in
+    let meets = c.in-Ok.ensures.meets mid y.tree at.holds.tree (store_of y, told_in y a at, refl) in
+    let looked = (c.in-Ok.ensures.looks (refl {a = None})).looked in
+    (rw c.as_slice-changes.ensures at c.in-Err-make_all.ensures.fault) meets.fits clean (ready_held b (looked_ready a b looked mid (y, at)))
+
+pub returns-in-Err-clause-sure : goal.returns-in-Err-clause-sure
+returns-in-Err-clause-sure g c =
+    rw (c.take_fault.ensures.conn, c.fault_of_plan.ensures, c.take_fault.ensures.was)
+    (no_plan c.in-Err.fault c.args.look.now.fault c.plan.new.look.fault (state g.S.Store c.args.look.now.conn) (state g.S.Store c.plan.new.look.conn) c.requires
+    c.in-Err.ensures.fault c.in-Err.ensures.fails c.in-Err.ensures.not_a_tree)
+
+pub returns-in-Err-clause-plain : goal.returns-in-Err-clause-plain
+returns-in-Err-clause-plain g c =
+    rw (c.fault_of_plan.ensures, c.take_fault.ensures.was)
+    (no_plan_plain c.in-Err.fault c.args.look.now.fault c.plan.new.look.fault (state g.S.Store c.args.look.now.conn) (state g.S.Store c.plan.new.look.conn)
+    c.requires c.in-Err.ensures.fails)

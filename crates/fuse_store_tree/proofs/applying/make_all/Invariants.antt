@@ -1,8 +1,0 @@
-use Rattle.std.proofs.Common.{take}
-use Rattle.sqlite.specs.Held.{state}
-use Rattle.fuse_store_tree.specs.Changing.{Changed}
-use Rattle.fuse_store_tree.specs.Store.{with_changes}
-use Rattle.fuse_store_tree.proofs.applying.make_all.Given as goal
-
-abbrev pub invariant-loop-change : goal.invariant-loop-change
-invariant-loop-change g l = Changed (with_changes (take l.change-index l.changes)) (state g.S.Store l.fn.conn) (state g.S.Store l.conn)

@@ -1,5 +1,0 @@
-use Rattle.fuse_store_tree.proofs.Once.{tree_order}
-use Rattle.fuse_store_tree.proofs.ordering.rows_in_order.Goals as goal
-
-pub returns : goal.returns
-returns c = tree_order

@@ -1,0 +1,33 @@
+use Rattle.std.proofs.Common.{Ok, Err}
+use Rattle.sqlite.specs.Held.{state}
+use Rattle.fuse_store_tables.specs.Following.{rests_told, rests_then}
+use Rattle.fuse_store_tree.specs.Holding.{HeldFor}
+use Rattle.fuse_store_tree.proofs.Rests.{fails_for}
+use Rattle.fuse_store_tree.proofs.reads.counts_at_rest.Goals as goal
+
+pub returns-in_err-records-clause-serves : goal.returns-in_err-records-clause-serves
+returns-in_err-records-clause-serves g c =
+    let a = state g.S.Store c.args.conn.now in
+    let b = state g.S.Store c.counters_at_rest.new.conn in
+    let d = state g.S.Store c.records_at_rest.new.conn in
+    fails_for a d c.in_err-records.field-0.0 c.from_residual-in_err-records.result c.from_residual-in_err-records.ensures.0
+    (rests_then HeldFor a b d c.in_ok-counters.counters (Err c.in_err-records.field-0.0) c.in_ok-counters.ensures.serves c.in_err-records.ensures.serves)
+
+pub returns-in_err-lots-clause-serves : goal.returns-in_err-lots-clause-serves
+returns-in_err-lots-clause-serves g c =
+    let a = state g.S.Store c.args.conn.now in
+    let b = state g.S.Store c.counters_at_rest.new.conn in
+    let d = state g.S.Store c.records_at_rest.new.conn in
+    let e = state g.S.Store c.lots_at_rest.new.conn in
+    let two = rests_then HeldFor a b d c.in_ok-counters.counters (Ok c.in_ok-records.records) c.in_ok-counters.ensures.serves c.in_ok-records.ensures.serves in
+    fails_for a e c.in_err-lots.field-0.0 c.from_residual-in_err-lots.result c.from_residual-in_err-lots.ensures.0
+    (rests_then HeldFor a d e c.in_ok-records.records (Err c.in_err-lots.field-0.0) two c.in_err-lots.ensures.serves)
+
+pub returns-clause-serves : goal.returns-clause-serves
+returns-clause-serves g c =
+    let a = state g.S.Store c.args.conn.now in
+    let b = state g.S.Store c.counters_at_rest.new.conn in
+    let d = state g.S.Store c.records_at_rest.new.conn in
+    let e = state g.S.Store c.lots_at_rest.new.conn in
+    let two = rests_then HeldFor a b d c.in_ok-counters.counters (Ok c.in_ok-records.records) c.in_ok-counters.ensures.serves c.in_ok-records.ensures.serves in
+    rests_told HeldFor a e c.in_ok-lots.lots (Ok _) (rests_then HeldFor a d e c.in_ok-records.records (Ok c.in_ok-lots.lots) two c.in_ok-lots.ensures.serves)

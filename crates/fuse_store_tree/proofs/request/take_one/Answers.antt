@@ -1,0 +1,44 @@
+use Rattle.sqlite.specs.Held.{state}
+use Rattle.fuse_keeper.specs.Group.{entry_of}
+use Rattle.fuse_store_tree.proofs.Turning.{looked_for, turned_keeps, ok_too}
+use Rattle.fuse_store_tree.proofs.Steps.{on_ok, on_error}
+use Rattle.fuse_store_tree.proofs.Records.{took_known, took_new, done_known, done_new}
+use Rattle.fuse_store_tree.proofs.Sure.{turned_sure}
+use Rattle.fuse_store_tree.proofs.request.take_one.Goals as goal
+
+pub returns-in-Some-clause-turned : goal.returns-in-Some-clause-turned
+returns-in-Some-clause-turned g c =
+    took_known c.of.result.0 c.args.lot (entry_of (c.args.request.now, c.args.now)) (state g.S.Store c.args.look.now.conn)
+    (state g.S.Store c.find_answer.new.conn) c.in-Ok.known c.in-Some.answer c.in-Ok.ensures.looks
+    (λ clean. (c.in-Ok.ensures.value clean, c.of.ensures, c.in-Some.is))
+
+pub returns-in-Some-clause-done : goal.returns-in-Some-clause-done
+returns-in-Some-clause-done g c = λ clean.
+    done_known c.of.result.0 c.args.lot (entry_of (c.args.request.now, c.args.now)) (state g.S.Store c.args.look.now.conn) c.in-Ok.known c.in-Some.answer
+    (c.in-Ok.ensures.value clean, c.of.ensures, c.in-Some.is)
+
+pub returns-in-None-clause-turned : goal.returns-in-None-clause-turned
+returns-in-None-clause-turned g c =
+    on_ok c.act_and_record.result _ _ (took_new c.of.result.0 c.args.lot (entry_of (c.args.request.now, c.args.now)) (state g.S.Store c.args.look.now.conn)
+    (state g.S.Store c.find_answer.new.conn) (state g.S.Store c.act_and_record.new.look.conn) c.in-Ok.known c.in-Ok.ensures.looks
+    (λ clean. (c.in-Ok.ensures.value clean, c.of.ensures, c.in-None.is))) c.act_and_record.ensures.turned
+
+pub returns-in-None-clause-done : goal.returns-in-None-clause-done
+returns-in-None-clause-done g c = λ clean.
+    ok_too c.act_and_record.result _ _ _ (λ p done told. done_new c.of.result.0 c.args.lot (entry_of (c.args.request.now, c.args.now))
+    (state g.S.Store c.args.look.now.conn) (state g.S.Store c.find_answer.new.conn) (state g.S.Store c.act_and_record.new.look.conn) c.in-Ok.known done
+    c.in-Ok.ensures.looks (λ mid. (c.in-Ok.ensures.value mid, c.of.ensures, c.in-None.is)) p clean told) c.act_and_record.ensures.turned
+    (c.act_and_record.ensures.done clean)
+
+pub returns-in-None-clause-fails : goal.returns-in-None-clause-fails
+returns-in-None-clause-fails g c =
+    on_error c.act_and_record.result _ _ (turned_keeps (λ y. y) (state g.S.Store c.args.look.now.conn) (state g.S.Store c.find_answer.new.conn)
+    (state g.S.Store c.act_and_record.new.look.conn)
+    (looked_for (state g.S.Store c.args.look.now.conn) (state g.S.Store c.find_answer.new.conn) c.in-Ok.ensures.looks)) c.act_and_record.ensures.fails
+
+pub returns-in-None-clause-fault : goal.returns-in-None-clause-fault
+returns-in-None-clause-fault g c =
+    let a = state g.S.Store c.args.look.now.conn in
+    let b = state g.S.Store c.find_answer.new.conn in
+    turned_sure (λ y. y) a b (state g.S.Store c.act_and_record.new.look.conn) c.act_and_record.result (looked_for a b c.in-Ok.ensures.looks)
+    c.act_and_record.ensures.fails c.act_and_record.ensures.fault

@@ -1,0 +1,65 @@
+// The action of a request, within the open transaction.
+ghost use Rattle.std.specs.Prelude.{◌≡◌, None, IfOk, IfErr};
+ghost use Rattle.sqlite.specs.Held.{state};
+ghost use Rattle.fuse_request.specs.Act.{asked};
+ghost use Rattle.fuse_tree.specs.Do.{done};
+ghost use Rattle.fuse_tree.specs.State.{State, Tree};
+ghost use Rattle.fuse_store_tables.specs.Faults.{IsPlain};
+ghost use Rattle.fuse_store_tables.specs.Moves.{IsSure};
+ghost use Rattle.fuse_store_tree.specs.Acting.{ActsInside};
+ghost use Rattle.fuse_store_tree.specs.Changing.{Keeps};
+ghost use Rattle.fuse_store_tree.specs.Holding.{HeldFor};
+ghost use Rattle.fuse_store_tree.specs.Looking.{look_fault, why_no_plan};
+
+use crate::look::TableLook;
+use crate::plan_changes::make_all;
+use fuse_answer::Answer;
+use fuse_keeper::StoreFault;
+use fuse_request::Request;
+use fuse_tree::{PlanFault, plan};
+use fuse_wire::Moment;
+use sqlite::Alter;
+use std::alloc::Global;
+
+// The fault of a request without a plan.
+fn fault_of_plan(fault: PlanFault, looked: Option<StoreFault>) -> StoreFault
+    ensures { result ≡ why_no_plan fault looked }
+{
+    match fault {
+        PlanFault::Memory => StoreFault::Memory,
+        PlanFault::NotATree => StoreFault::Damaged,
+        PlanFault::Look(_) => match looked {
+            Some(fault) => fault,
+            None => StoreFault::Damaged,
+        },
+    }
+}
+
+/// Executes a request: plans it and makes the changes of the plan, in the open transaction.
+pub(crate) fn act<S: Alter>(
+    alloc: Global,
+    look: &mut TableLook<S>,
+    request: &Request<'_>,
+    now: Moment,
+) -> Result<Answer, StoreFault>
+    requires { look_fault look.old.fault ≡ None }
+    ensures acts { IfOk result (λ answer. (s : State) → Tree s
+        → ActsInside (state S.Store look.old.conn) (state S.Store look.new.conn) s
+        (done s (asked request.now) now) answer) }
+    // Nothing is committed, whether it succeeds or not.
+    ensures keeps { Keeps (state S.Store look.old.conn) (state S.Store look.new.conn) }
+    ensures fault { look_fault look.new.fault ≡ None }
+    ensures sure { IsSure HeldFor (state S.Store look.old.conn) (state S.Store look.new.conn)
+        result }
+    ensures plain { IfErr result IsPlain }
+{
+    let planned = match plan(alloc, look, request, now) {
+        Ok(planned) => planned,
+        Err(fault) => return Err(fault_of_plan(fault, look.take_fault())),
+    };
+    let changes = planned.changes.as_slice();
+    match make_all(&mut look.conn, alloc, changes) {
+        Ok(()) => Ok(planned.answer),
+        Err(fault) => Err(fault),
+    }
+}

@@ -1,0 +1,147 @@
+// Writes of the bytes of files, block by block.
+ghost use Rattle.std.specs.Prelude.{◌≡◌, ◌<◌, ◌≤◌, ◌^◌, ◌+◌, ◌%◌, ℕ, length};
+ghost use Rattle.std.specs.Prelude.{IfOk, IfErr, OnOk, OnErr};
+ghost use Rattle.sqlite.specs.State.{HasCleanDisk};
+ghost use Rattle.sqlite.specs.Held.{state};
+ghost use Rattle.fuse_tree.specs.Bounds.{block_bytes};
+ghost use Rattle.fuse_store_tables.specs.Faults.{IsOutside, IsPlain};
+ghost use Rattle.fuse_store_tree.specs.Changing.{Changed, Keeps, KeepsBytes, Overlaid};
+ghost use Rattle.fuse_tree.specs.declared.rows.Change.TheVariants as changes;
+ghost use Rattle.fuse_store_tables.specs.Content.{Content};
+ghost use Rattle.fuse_store_tree.specs.Fits.{Fits};
+ghost use Rattle.fuse_store_tables.specs.Moves.{Inside, IsSure};
+ghost use Rattle.fuse_store_tree.specs.Store.{Held, HeldAs, byte_at, spliced};
+ghost use Rattle.fuse_store_tree.specs.Store.{with_change};
+
+use crate::block_reads::{find_block, first_count, has_block};
+use fuse_keeper::StoreFault;
+use fuse_store_tables::write_block;
+use fuse_tree::BLOCK_SIZE;
+use sqlite::{Alter, Connection};
+use std::alloc::Global;
+
+// A block's bytes with a part written over them.
+fn splice(alloc: Global, old: &[u8], start: usize, part: &[u8]) -> Result<Vec<u8>, StoreFault>
+    requires { start + length part.now ≤ length old.now }
+    ensures value { IfOk result (λ v. v.items ≡ spliced old.now start part.now) }
+    ensures fault { IfErr result (λ f. IsOutside f) }
+    ensures plain { IfErr result IsPlain }
+{
+    let end = start + part.len();
+    let mut made = Vec::from_slice(alloc, &old[..start])?;
+    made.extend_from_slice(part)?;
+    made.extend_from_slice(&old[end..])?;
+    Ok(made)
+}
+
+/// Writes bytes within one block.
+pub(crate) fn write_piece<S: Alter>(
+    conn: &mut Connection<S>,
+    alloc: Global,
+    node: u64,
+    here: u64,
+    part: &[u8],
+) -> Result<(), StoreFault>
+    requires node { node < 2 ^ 63 }
+    requires here { here < 2 ^ 63 }
+    requires within { here % block_bytes + length part.now ≤ block_bytes }
+    ensures overlaid { OnOk result (Overlaid node here part.now (state S.Store conn.old)
+        (state S.Store conn.new)) }
+    ensures fails { OnErr result (KeepsBytes (state S.Store conn.old) (state S.Store conn.new)) }
+    ensures fault { HasCleanDisk (state S.Store conn.new) → IfErr result (λ f. (c : Content)
+        → Inside c (state S.Store conn.old) → Fits c → IsOutside f) }
+    ensures plain { IfErr result IsPlain }
+{
+    let block = here / u64::from(BLOCK_SIZE);
+    let old = match find_block(conn, alloc, node, block) {
+        Ok(old) => old,
+        Err(fault) => return Err(fault),
+    };
+    let start = (here % u64::from(BLOCK_SIZE)) as usize;
+    let made = match splice(alloc, old.as_slice(), start, part) {
+        Ok(made) => made,
+        Err(fault) => return Err(fault),
+    };
+    match write_block(conn, node, block, made.as_slice()) {
+        Ok(()) => Ok(()),
+        Err(error) => Err(StoreFault::from(error)),
+    }
+}
+
+/// Writes zeros within one block. No block is made: without one the bytes are zeros.
+pub(crate) fn write_zeros<S: Alter>(
+    conn: &mut Connection<S>,
+    alloc: Global,
+    node: u64,
+    here: u64,
+    zeros: &[u8],
+) -> Result<(), StoreFault>
+    requires node { node < 2 ^ 63 }
+    requires here { here < 2 ^ 63 }
+    requires within { here % block_bytes + length zeros.now ≤ block_bytes }
+    requires zeros { (i : ℕ) → byte_at zeros.now i ≡ 0 }
+    ensures overlaid { OnOk result (Overlaid node here zeros.now (state S.Store conn.old)
+        (state S.Store conn.new)) }
+    ensures fails { OnErr result (KeepsBytes (state S.Store conn.old) (state S.Store conn.new)) }
+    ensures fault { HasCleanDisk (state S.Store conn.new) → IfErr result (λ f. (c : Content)
+        → Inside c (state S.Store conn.old) → Fits c → IsOutside f) }
+    ensures plain { IfErr result IsPlain }
+{
+    let found = match has_block(conn, node, here / u64::from(BLOCK_SIZE)) {
+        Ok(found) => found,
+        Err(fault) => return Err(fault),
+    };
+    if found {
+        write_piece(conn, alloc, node, here, zeros)
+    } else {
+        Ok(())
+    }
+}
+
+/// Writes bytes of a node, from a place on.
+pub(crate) fn write_range<S: Alter>(
+    conn: &mut Connection<S>,
+    alloc: Global,
+    node: u64,
+    at: u64,
+    bytes: &[u8],
+) -> Result<(), StoreFault>
+    requires node { node < 2 ^ 63 }
+    requires end { at + length bytes.now < 2 ^ 63 }
+    ensures overlaid { OnOk result (Overlaid node at bytes.now (state S.Store conn.old)
+        (state S.Store conn.new)) }
+    ensures fails { OnErr result (KeepsBytes (state S.Store conn.old) (state S.Store conn.new)) }
+    ensures fault { IsSure HeldAs (state S.Store conn.old) (state S.Store conn.new) result }
+    ensures plain { IfErr result IsPlain }
+{
+    let mut done: usize = 0;
+    'pieces: while done < bytes.len() {
+        let here = at + done as u64;
+        let count = first_count(here, (bytes.len() - done) as u64) as usize;
+        match write_piece(conn, alloc, node, here, &bytes[done..done + count]) {
+            Ok(()) => {}
+            Err(fault) => return Err(fault),
+        }
+        done += count;
+    }
+    Ok(())
+}
+
+/// Writes bytes of a node. Where its content was shorter, the gap reads as zeros.
+pub(crate) fn write_content<S: Alter>(
+    conn: &mut Connection<S>,
+    alloc: Global,
+    node: u64,
+    at: u64,
+    bytes: &[u8],
+) -> Result<(), StoreFault>
+    requires node { node < 2 ^ 63 }
+    requires end { at + length bytes.now < 2 ^ 63 }
+    ensures changed { OnOk result (Changed (with_change (changes.Written node at bytes.now))
+        (state S.Store conn.old) (state S.Store conn.new)) }
+    ensures fails { OnErr result (Keeps (state S.Store conn.old) (state S.Store conn.new)) }
+    ensures fault { IsSure Held (state S.Store conn.old) (state S.Store conn.new) result }
+    ensures plain { IfErr result IsPlain }
+{
+    write_range(conn, alloc, node, at, bytes)
+}

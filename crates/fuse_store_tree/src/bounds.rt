@@ -1,0 +1,64 @@
+// The bounds of the numbers that the tables store.
+ghost use Rattle.std.specs.Prelude.{◌↔◌, ◌+◌, ◌≤◌, IsTrue};
+ghost use Rattle.fuse_tree.specs.Bounds.{file_limit};
+ghost use Rattle.fuse_tree.specs.Columns.{FitsNode, FitsEntry, FitsHandle, FitsCounters};
+ghost use Rattle.fuse_tree.specs.Columns.{FitsChange};
+
+use fuse_tree::{Change, Counters, EntryRow, HandleRow, MAX_FILE, NodeRow};
+
+// All numbers of nodes, handles, cookies and ids in the tables are below it: an INTEGER of SQLite
+// has 63 bits and a sign.
+pub(crate) const END: u64 = 1 << 63;
+
+fn node_fits(row: &NodeRow) -> bool
+    ensures { IsTrue result ↔ FitsNode row.now }
+{
+    row.node < END && row.up < END && row.size <= MAX_FILE
+}
+
+fn entry_fits(row: &EntryRow) -> bool
+    ensures { IsTrue result ↔ FitsEntry row.now }
+{
+    row.dir < END && row.child < END && row.cookie < END
+}
+
+fn handle_fits(row: &HandleRow) -> bool
+    ensures { IsTrue result ↔ FitsHandle row.now }
+{
+    row.fh < END && row.node < END
+}
+
+fn counters_fit(row: &Counters) -> bool
+    ensures { IsTrue result ↔ FitsCounters row.now }
+{
+    let given = row.next_node < END && row.next_fh < END && row.next_cookie < END;
+    given && row.nodes < END && row.handles < END
+}
+
+// Whether bytes at this offset end within the greatest size of a file.
+fn ends_within(offset: u64, count: usize) -> bool
+    ensures { IsTrue result ↔ (offset + count ≤ file_limit) }
+{
+    offset <= MAX_FILE && count as u64 <= MAX_FILE - offset
+}
+
+/// Whether the tables can store a change. The changes of a plan for a tree fit.
+pub(crate) fn change_fits(change: &Change) -> bool
+    ensures { IsTrue result ↔ FitsChange change.now }
+{
+    match change {
+        Change::Node(row) => node_fits(row),
+        Change::Entry(row) => entry_fits(row),
+        Change::EntryGone { cookie } => *cookie < END,
+        Change::Handle(row) => handle_fits(row),
+        Change::HandleGone { fh } => *fh < END,
+        Change::Written {
+            node,
+            offset,
+            bytes,
+        } => *node < END && ends_within(*offset, bytes.as_slice().len()),
+        Change::Sized { node, size } => *node < END && *size <= MAX_FILE,
+        Change::Counters(row) => counters_fit(row),
+        Change::Settings(settings) => settings.flags.0 < END,
+    }
+}

@@ -1,0 +1,74 @@
+// The changes of a plan, made in the tables.
+ghost use Rattle.std.specs.Prelude.{IfErr, OnOk, OnErr};
+ghost use Rattle.sqlite.specs.Held.{state};
+ghost use Rattle.fuse_tree.specs.Columns.{FitsChange, FitColumns};
+ghost use Rattle.fuse_store_tables.specs.Moves.{IsSure};
+ghost use Rattle.fuse_store_tables.specs.Faults.{IsPlain};
+ghost use Rattle.fuse_store_tree.specs.Changing.{Changed, Keeps};
+ghost use Rattle.fuse_store_tree.specs.Store.{Held, with_change, with_changes};
+
+use crate::block_writes::write_content;
+use crate::bounds::change_fits;
+use crate::truncation::set_size;
+use crate::updates::{
+    add_entry, add_handle, put_node, remove_entry, remove_handle, set_counters, set_settings,
+};
+use fuse_keeper::StoreFault;
+use fuse_tree::Change;
+use sqlite::{Alter, Connection};
+use std::alloc::Global;
+
+/// Makes one change.
+pub(crate) fn make_change<S: Alter>(
+    conn: &mut Connection<S>,
+    alloc: Global,
+    change: &Change,
+) -> Result<(), StoreFault>
+    ensures changed { OnOk result (Changed (with_change change.now) (state S.Store conn.old)
+        (state S.Store conn.new)) }
+    ensures fails { OnErr result (Keeps (state S.Store conn.old) (state S.Store conn.new)) }
+    ensures fault { FitsChange change.now
+        → IsSure Held (state S.Store conn.old) (state S.Store conn.new) result }
+    ensures plain { IfErr result IsPlain }
+{
+    if !change_fits(change) {
+        return Err(StoreFault::Damaged);
+    }
+    match change {
+        Change::Node(row) => put_node(conn, row),
+        Change::Entry(entry) => add_entry(conn, entry),
+        Change::EntryGone { cookie } => remove_entry(conn, *cookie),
+        Change::Handle(handle) => add_handle(conn, handle),
+        Change::HandleGone { fh } => remove_handle(conn, *fh),
+        Change::Written {
+            node,
+            offset,
+            bytes,
+        } => write_content(conn, alloc, *node, *offset, bytes.as_slice()),
+        Change::Sized { node, size } => set_size(conn, alloc, *node, *size),
+        Change::Counters(counters) => set_counters(conn, counters),
+        Change::Settings(settings) => set_settings(conn, *settings),
+    }
+}
+
+/// Makes the changes, one after the other.
+pub(crate) fn make_all<S: Alter>(
+    conn: &mut Connection<S>,
+    alloc: Global,
+    changes: &[Change],
+) -> Result<(), StoreFault>
+    ensures changed { OnOk result (Changed (with_changes changes.now) (state S.Store conn.old)
+        (state S.Store conn.new)) }
+    ensures fails { OnErr result (Keeps (state S.Store conn.old) (state S.Store conn.new)) }
+    ensures fault { FitColumns changes.now
+        → IsSure Held (state S.Store conn.old) (state S.Store conn.new) result }
+    ensures plain { IfErr result IsPlain }
+{
+    for change in changes {
+        match make_change(conn, alloc, change) {
+            Ok(()) => {}
+            Err(fault) => return Err(fault),
+        }
+    }
+    Ok(())
+}

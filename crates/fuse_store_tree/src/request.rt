@@ -1,0 +1,126 @@
+// One request of a group, within the open transaction.
+ghost use Rattle.std.specs.Prelude.{◌≡◌, ◌<◌, ◌^◌, None, IfOk, IfErr, OnOk, OnErr};
+ghost use Rattle.sqlite.specs.State.{HasCleanDisk};
+ghost use Rattle.sqlite.specs.Held.{state};
+ghost use Rattle.fuse_answer.specs.Said.{FitsAnswer};
+ghost use Rattle.fuse_keeper.specs.Group.{entry_of};
+ghost use Rattle.fuse_store_tables.specs.Faults.{IsOutside, IsPlain};
+ghost use Rattle.fuse_store_tables.specs.Moves.{IsSure};
+ghost use Rattle.fuse_store_tree.specs.Looking.{look_fault};
+ghost use Rattle.fuse_store_tree.specs.Holding.{Holding, HeldFor, InsideFor, KeepsFor};
+ghost use Rattle.fuse_store_tree.specs.Holding.{Turned};
+ghost use Rattle.fuse_store_tree.specs.Group.{acted_on, answered, taken, with_record};
+ghost use Rattle.fuse_store_tree.specs.Group.{said_of};
+
+use crate::action::act;
+use crate::look::TableLook;
+use crate::rows::find_answer;
+use crate::updates::narrow;
+use fuse_answer::Answer;
+use fuse_keeper::{Done, StoreFault};
+use fuse_request::Request;
+use fuse_store_tables::insert_kept;
+use fuse_wire::{Id, Moment};
+use sqlite::{Alter, Connection};
+use std::alloc::Global;
+
+// The error number of an answer is of 32 bits.
+fn law_of_errno(answer: &Answer)
+    ensures { answer.now.errno < 2 ^ 32 }
+{
+    narrow(answer.errno.0);
+}
+
+// Adds the record of an answer, under a lot.
+fn record<S: Alter>(
+    conn: &mut Connection<S>,
+    id: u64,
+    lot: u64,
+    answer: &Answer,
+) -> Result<(), StoreFault>
+    requires id { id < 2 ^ 63 }
+    requires lot { lot < 2 ^ 63 }
+    requires fits { FitsAnswer answer.now }
+    ensures turned { OnOk result (Turned (with_record id lot answer.now) (state S.Store conn.old)
+        (state S.Store conn.new)) }
+    ensures fails { OnErr result (KeepsFor (state S.Store conn.old) (state S.Store conn.new)) }
+    ensures fault { IfErr result IsOutside }
+    ensures plain { IfErr result IsPlain }
+{
+    law_of_errno(answer);
+    match insert_kept(conn, id, lot, answer) {
+        Ok(()) => Ok(()),
+        Err(error) => Err(StoreFault::from(error)),
+    }
+}
+
+// Executes a request and records its answer.
+fn act_and_record<S: Alter>(
+    alloc: Global,
+    look: &mut TableLook<S>,
+    lot: u64,
+    request: &Request<'_>,
+    now: Moment,
+) -> Result<Done, StoreFault>
+    requires ready { look_fault look.old.fault ≡ None }
+    requires lot { lot < 2 ^ 62 }
+    ensures turned { OnOk result (Turned (acted_on lot (entry_of (request.now, now)))
+        (state S.Store look.old.conn) (state S.Store look.new.conn)) }
+    ensures done { HasCleanDisk (state S.Store look.new.conn) → IfOk result (λ done.
+        (y : Holding) → InsideFor y (state S.Store look.old.conn)
+        → done ≡ answered (said_of (entry_of (request.now, now)) y)) }
+    ensures fails { OnErr result (KeepsFor (state S.Store look.old.conn)
+        (state S.Store look.new.conn)) }
+    ensures ready { look_fault look.new.fault ≡ None }
+    ensures fault { IsSure HeldFor (state S.Store look.old.conn) (state S.Store look.new.conn)
+        result }
+    ensures plain { IfErr result IsPlain }
+{
+    let answer = match act(alloc, look, request, now) {
+        Ok(answer) => answer,
+        Err(fault) => return Err(fault),
+    };
+    let id = Id::of(request.header.unique).0;
+    match record(&mut look.conn, id, lot, &answer) {
+        Ok(()) => Ok(Done {
+            answer,
+            repeated: false,
+        }),
+        Err(fault) => Err(fault),
+    }
+}
+
+/// Replays or executes one request: a request whose id has a record is a repeat.
+pub(crate) fn take_one<S: Alter>(
+    alloc: Global,
+    look: &mut TableLook<S>,
+    lot: u64,
+    request: &Request<'_>,
+    now: Moment,
+) -> Result<Done, StoreFault>
+    requires ready { look_fault look.old.fault ≡ None }
+    requires lot { lot < 2 ^ 62 }
+    ensures turned { OnOk result (Turned (λ y. (taken lot (entry_of (request.now, now)) y).holding)
+        (state S.Store look.old.conn) (state S.Store look.new.conn)) }
+    ensures done { HasCleanDisk (state S.Store look.new.conn) → IfOk result (λ done.
+        (y : Holding) → InsideFor y (state S.Store look.old.conn)
+        → done ≡ (taken lot (entry_of (request.now, now)) y).done) }
+    ensures fails { OnErr result (KeepsFor (state S.Store look.old.conn)
+        (state S.Store look.new.conn)) }
+    ensures ready { look_fault look.new.fault ≡ None }
+    ensures fault { IsSure HeldFor (state S.Store look.old.conn) (state S.Store look.new.conn)
+        result }
+    ensures plain { IfErr result IsPlain }
+{
+    let known = match find_answer(&mut look.conn, Id::of(request.header.unique).0) {
+        Ok(known) => known,
+        Err(fault) => return Err(fault),
+    };
+    match known {
+        Some(answer) => Ok(Done {
+            answer,
+            repeated: true,
+        }),
+        None => act_and_record(alloc, look, lot, request, now),
+    }
+}

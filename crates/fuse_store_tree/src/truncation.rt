@@ -1,0 +1,110 @@
+// Truncation of files, and extension with zeros.
+ghost use Rattle.std.specs.Prelude.{◌≡◌, ◌<◌, ◌≤◌, ◌^◌, ◌*◌, ◌%◌, ◌-◌, replicate};
+ghost use Rattle.std.specs.Prelude.{OnOk, OnErr, IfOk, IfErr};
+ghost use Rattle.sqlite.specs.Held.{state};
+ghost use Rattle.fuse_tree.specs.Bounds.{block_bytes, file_limit};
+ghost use Rattle.fuse_tree.specs.declared.rows.Change.TheVariants as changes;
+ghost use Rattle.fuse_store_tables.specs.Faults.{IsOutside, IsPlain};
+ghost use Rattle.fuse_store_tables.specs.Moves.{IsSure};
+ghost use Rattle.fuse_store_tree.specs.Changing.{Changed, Cut, Keeps, KeepsBytes};
+ghost use Rattle.fuse_store_tree.specs.Store.{Held, HeldAs, with_change};
+
+use crate::block_writes::write_zeros;
+use fuse_keeper::StoreFault;
+use fuse_store_tables::delete_blocks_from;
+use fuse_tree::BLOCK_SIZE;
+use sqlite::{Alter, Connection};
+use std::alloc::Global;
+
+// `count` zeros.
+fn some_zeros(alloc: Global, count: u64) -> Result<Vec<u8>, StoreFault>
+    requires { count ≤ block_bytes }
+    ensures value { IfOk result (λ v. v.items ≡ replicate count 0) }
+    ensures fault { IfErr result IsOutside }
+    ensures plain { IfErr result IsPlain }
+{
+    let mut zeros = Vec::new(alloc);
+    zeros.resize(count as usize, 0)?;
+    Ok(zeros)
+}
+
+// Deletes the blocks from this number on.
+fn drop_blocks<S: Alter>(conn: &mut Connection<S>, node: u64, from: u64) -> Result<(), StoreFault>
+    requires node { node < 2 ^ 63 }
+    requires from { from < 2 ^ 63 }
+    ensures cut { OnOk result (Cut node (from * block_bytes) (state S.Store conn.old)
+        (state S.Store conn.new)) }
+    ensures fails { OnErr result (KeepsBytes (state S.Store conn.old) (state S.Store conn.new)) }
+    ensures fault { IfErr result IsOutside }
+    ensures plain { IfErr result IsPlain }
+{
+    match delete_blocks_from(conn, node, from) {
+        Ok(()) => Ok(()),
+        Err(error) => Err(StoreFault::from(error)),
+    }
+}
+
+// Sets the bytes from a place within a block on to 0.
+fn cut_within<S: Alter>(
+    conn: &mut Connection<S>,
+    alloc: Global,
+    node: u64,
+    size: u64,
+) -> Result<(), StoreFault>
+    requires node { node < 2 ^ 63 }
+    requires size { size ≤ file_limit }
+    ensures cut { OnOk result (Cut node size (state S.Store conn.old) (state S.Store conn.new)) }
+    ensures fails { OnErr result (KeepsBytes (state S.Store conn.old) (state S.Store conn.new)) }
+    ensures fault { IsSure HeldAs (state S.Store conn.old) (state S.Store conn.new) result }
+    ensures plain { IfErr result IsPlain }
+{
+    let rest = u64::from(BLOCK_SIZE) - size % u64::from(BLOCK_SIZE);
+    let zeros = match some_zeros(alloc, rest) {
+        Ok(zeros) => zeros,
+        Err(fault) => return Err(fault),
+    };
+    match drop_blocks(conn, node, size / u64::from(BLOCK_SIZE) + 1) {
+        Ok(()) => write_zeros(conn, alloc, node, size, zeros.as_slice()),
+        Err(fault) => Err(fault),
+    }
+}
+
+// Sets the bytes from a place on to 0.
+fn cut_from<S: Alter>(
+    conn: &mut Connection<S>,
+    alloc: Global,
+    node: u64,
+    size: u64,
+) -> Result<(), StoreFault>
+    requires node { node < 2 ^ 63 }
+    requires size { size ≤ file_limit }
+    ensures cut { OnOk result (Cut node size (state S.Store conn.old) (state S.Store conn.new)) }
+    ensures fails { OnErr result (KeepsBytes (state S.Store conn.old) (state S.Store conn.new)) }
+    ensures fault { IsSure HeldAs (state S.Store conn.old) (state S.Store conn.new) result }
+    ensures plain { IfErr result IsPlain }
+{
+    let start = size % u64::from(BLOCK_SIZE);
+    if start == 0 {
+        drop_blocks(conn, node, size / u64::from(BLOCK_SIZE))
+    } else {
+        cut_within(conn, alloc, node, size)
+    }
+}
+
+/// Truncates the content of a node, or extends it with zeros.
+pub(crate) fn set_size<S: Alter>(
+    conn: &mut Connection<S>,
+    alloc: Global,
+    node: u64,
+    size: u64,
+) -> Result<(), StoreFault>
+    requires node { node < 2 ^ 63 }
+    requires size { size ≤ file_limit }
+    ensures changed { OnOk result (Changed (with_change (changes.Sized node size))
+        (state S.Store conn.old) (state S.Store conn.new)) }
+    ensures fails { OnErr result (Keeps (state S.Store conn.old) (state S.Store conn.new)) }
+    ensures fault { IsSure Held (state S.Store conn.old) (state S.Store conn.new) result }
+    ensures plain { IfErr result IsPlain }
+{
+    cut_from(conn, alloc, node, size)
+}
