@@ -292,8 +292,7 @@ def report(outcomes, words, took):
     for one in outcomes if words.only else ():
         print(f"hostile: {one.kind}: {one.name}: {one.opened}; {dict(one.faults)}; {one.seconds:.2f} s, {one.kilobytes} KB")
     if words.table:
-        print(*table(outcomes), sep="
-")
+        print(*table(outcomes), sep="\n")
     if outcomes:
         slowest = max(outcomes, key=lambda one: one.seconds)
         largest = max(outcomes, key=lambda one: one.kilobytes)
