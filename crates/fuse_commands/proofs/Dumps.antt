@@ -8,7 +8,7 @@ use Rattle.fuse_request.specs.Stream.{joined}
 use Rattle.fuse_commands.specs.declared.messages.Placed.{Placed}
 use Rattle.fuse_commands.specs.Dumping.{dump_line, dump_lines}
 use Rattle.fuse_commands.specs.Messages.{GaveMessage, WentSoFar}
-use Rattle.fuse_commands.specs.Printing.{line}
+use Rattle.fuse_commands.specs.Output.{line}
 use Rattle.fuse_commands.proofs.Tallies.{gave_more}
 
 -- the line of a message at this offset, with its line feed

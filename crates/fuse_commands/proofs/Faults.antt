@@ -12,7 +12,7 @@ use Rattle.fuse_commands.specs.declared.ending.Ending.{Ending}
 use Rattle.fuse_commands.specs.Endings.{stream_ending, GaveOut}
 use Rattle.fuse_commands.specs.Messages.{HasFault}
 
--- a bad length stays one, whatever follows
+-- a bad length stays one with more bytes after it
 longer_bad : (at : ℕ) (w r : List ℕ) (f : FrameFault) → bad_length at w ≡ Some f → bad_length at (w ++ r) ≡ Some f
 unfolding number_of
 longer_bad at [] r f e = absurd cc
@@ -40,20 +40,20 @@ not_whole at w f true is e =
     let high : ltb 135168 (number_of 4 w) ≡ false = le-ltb 135168 (number_of 4 w) (leb-true (number_of 4 w) 135168 h2.0) in
     absurd (let e' = rw (few, low, high) at e in cc)
 
-none_front : (at : ℕ) (w : List ℕ) (f : FrameFault) → CutSteps → bad_length at w ≡ Some f → HasNone w
-none_front at w f steps e = (steps w).1 (not_whole at w f (is_whole w) refl e)
+none_begins : (at : ℕ) (w : List ℕ) (f : FrameFault) → CutSteps → bad_length at w ≡ Some f → HasNone w
+none_begins at w f steps e = (steps w).1 (not_whole at w f (is_whole w) refl e)
 
 bad_end : (at : ℕ) (w : List ℕ) (f : FrameFault) → bad_length at w ≡ Some f → end_fault at w ≡ Some f
 bad_end at [] f e = absurd cc
 bad_end at (x ∷ w) f e = ap (λ o. option_or o (Some (Cut at (length (x ∷ w)) (needed (x ∷ w))))) e
 
--- where a bad length stands at the front of what is held, the stream has that fault
+-- if the held bytes begin with a bad length, the stream has that fault
 bad_known : (held : List ℕ) (rest : Option (List ℕ)) (at : ℕ) (f : FrameFault) → CutSteps → bad_length at held ≡ Some f
     → IfSome (prepend_known held rest) (λ left. HasNone left × (end_fault at left ≡ Some f))
 bad_known held None at f steps e = tt
 bad_known held (Some r) at f steps e =
     let longer = longer_bad at held r f e in
-    (none_front at (held ++ r) f steps longer, bad_end at (held ++ r) f longer)
+    (none_begins at (held ++ r) f steps longer, bad_end at (held ++ r) f longer)
 
 kept_known : (a b : Option (List ℕ)) (at : ℕ) (f : FrameFault) → Keeps a b → IfSome b (λ left. HasNone left × (end_fault at left ≡ Some f))
     → IfSome a (λ left. HasNone left × (end_fault at left ≡ Some f))
@@ -61,7 +61,7 @@ kept_known None b at f h g = tt
 kept_known (Some xs) None at f h g = absurd h
 kept_known (Some xs) (Some ys) at f h g = rw (sym h) g
 
--- what the framer's fault says of the stream
+-- the framer's fault is that of the stream
 pub faulty : (a : Option (List ℕ)) (old new : Held) (rest : Option (List ℕ)) (at : ℕ) (f : FrameFault) (ending : Ending) → CutSteps
     → Keeps a (prepend_known old.bytes rest) → old.at ≡ at
     → GivesNext old new (Err f) → ending ≡ stream_ending f → GaveOut ending ⊎ HasFault a at ending

@@ -1,4 +1,4 @@
--- Known bytes, as they are read and given out.
+-- Known bytes, as they are read and returned.
 use Rattle.std.proofs.Common.{◌≡◌, ℕ, List, ◌++◌, Option, Some, None, refl, sym, ap, ◌∙◌, append_assoc}
 use Rattle.std.proofs.lemmas.List.{append-nil}
 use Rattle.std.specs.Option.{IfSome}
@@ -26,19 +26,19 @@ consumes_then (Some xs) None c m n h g = absurd h
 consumes_then (Some xs) (Some ys) None m n h g = absurd g
 consumes_then (Some xs) (Some ys) (Some zs) m n h g = h ∙ ap (λ (x : List ℕ). m ++ x) g ∙ sym (append_assoc m n zs)
 
--- what was held and is given out
-pub gives_front : (held held' m : List ℕ) (rest : Option (List ℕ)) → held ≡ m ++ held' → Consumes (prepend_known held rest) (prepend_known held' rest) m
-gives_front held held' m None e = tt
-gives_front held held' m (Some r) e = ap (λ (x : List ℕ). x ++ r) e ∙ append_assoc m held' r
+-- held bytes are returned
+pub gives_prefix : (held held' m : List ℕ) (rest : Option (List ℕ)) → held ≡ m ++ held' → Consumes (prepend_known held rest) (prepend_known held' rest) m
+gives_prefix held held' m None e = tt
+gives_prefix held held' m (Some r) e = ap (λ (x : List ℕ). x ++ r) e ∙ append_assoc m held' r
 
--- what is read is held
+-- read bytes are held
 pub holds_piece : (held piece : List ℕ) (rest rest' : Option (List ℕ)) → Consumes rest rest' piece
     → Keeps (prepend_known held rest) (prepend_known (held ++ piece) rest')
 holds_piece held piece None rest' e = tt
 holds_piece held piece (Some r) None e = absurd e
 holds_piece held piece (Some r) (Some r') e = append_assoc held piece r' ∙ ap (λ (x : List ℕ). held ++ x) (sym e)
 
--- where nothing more is read, what is left is what is held
+-- at the end of the input the held bytes are the rest
 pub all_held : (a : Option (List ℕ)) (held : List ℕ) (rest : Option (List ℕ)) → Keeps a (prepend_known held rest) → IsAtEnd rest → IfSome a (λ xs. xs ≡ held)
 all_held None held rest h e = tt
 all_held (Some xs) held None h e = absurd h

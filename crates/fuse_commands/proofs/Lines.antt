@@ -10,9 +10,9 @@ use Rattle.hex.specs.Hex.{encode_lower}
 use Rattle.fuse_wire.specs.Bytes.{le, IsBytes, IsOneNumber}
 use Rattle.fuse_request.specs.Stream.{joined}
 use Rattle.fuse_answer.specs.Laws.{BeginsWithLen}
-use Rattle.fuse_commands.specs.Printing.{line, answer_lines, IsAnswer}
+use Rattle.fuse_commands.specs.Output.{line, answer_lines, IsAnswer}
 
--- the first answer that isn't nothing
+-- the first answer that is not empty
 pub record First (answers : List (List ℕ)) : Type 0 where
   pub answer : List ℕ
   pub others : List (List ℕ)
@@ -34,34 +34,34 @@ no_lines [] each none = refl
 no_lines ([] ∷ answers) each none = no_lines answers each.1 none
 no_lines ((x ∷ xs) ∷ answers) each none = absurd (cc none)
 
-take_front : (w : ℕ) (front rest : List ℕ) → length front ≡ w → take w (front ++ rest) ≡ front
-take_front w front rest is = take-append-le w front rest (omega arith) ∙ take_all w front (omega arith)
+take_prefix : (w : ℕ) (prefix rest : List ℕ) → length prefix ≡ w → take w (prefix ++ rest) ≡ prefix
+take_prefix w prefix rest is = take-append-le w prefix rest (omega arith) ∙ take_all w prefix (omega arith)
 
-drop_front : (w : ℕ) (front rest : List ℕ) → length front ≡ w → drop w (front ++ rest) ≡ rest
-drop_front zero [] rest is = refl
-drop_front zero (x ∷ front) rest is = absurd (omega arith)
-drop_front (suc w) [] rest is = absurd (omega arith)
-drop_front (suc w) (x ∷ front) rest is = drop_front w front rest (omega arith)
+drop_prefix : (w : ℕ) (prefix rest : List ℕ) → length prefix ≡ w → drop w (prefix ++ rest) ≡ rest
+drop_prefix zero [] rest is = refl
+drop_prefix zero (x ∷ prefix) rest is = absurd (omega arith)
+drop_prefix (suc w) [] rest is = absurd (omega arith)
+drop_prefix (suc w) (x ∷ prefix) rest is = drop_prefix w prefix rest (omega arith)
 
--- the bytes of a length at the front
+-- the bytes of the length of the first answer
 len_bytes : (sent answer others : List ℕ) → BeginsWithLen answer → sent ≡ answer ++ others → take 4 sent ≡ le 4 (length answer)
 len_bytes sent answer others begins parts =
     let own : List ℕ = le 4 (length answer) in
     let four : length own ≡ 4 = omega (arith, ap (length {A = ℕ}) begins.parts, length-append own begins.rest, begins.four) in
     let whole : sent ≡ own ++ (begins.rest ++ others) = parts ∙ ap (λ (x : List ℕ). x ++ others) begins.parts ∙ append_assoc own begins.rest others in
-    ap (take 4) whole ∙ take_front 4 own (begins.rest ++ others) four
+    ap (take 4) whole ∙ take_prefix 4 own (begins.rest ++ others) four
 
 same_number : IsOneNumber → (w : ℕ) (bytes : List ℕ) (m n : ℕ) → length bytes ≡ w → IsBytes bytes → m < 256 ^ w → n < 256 ^ w → le w m ≡ bytes → le w n ≡ bytes
     → m ≡ n
 same_number one w bytes m n len each fits fits' is is' = let k = one w bytes len each in k.3 m fits is ∙ sym (k.3 n fits' is')
 
--- the number at the front of an answer is its length
-pub len_at_front : IsOneNumber → (sent rest answer others : List ℕ) (len : ℕ) → IsBytes (take 4 sent) → len < 256 ^ 4 → sent ≡ le 4 len ++ rest
+-- an answer begins with its length
+pub len_at_start : IsOneNumber → (sent rest answer others : List ℕ) (len : ℕ) → IsBytes (take 4 sent) → len < 256 ^ 4 → sent ≡ le 4 len ++ rest
     → length sent ≡ 4 + length rest
     → BeginsWithLen answer → sent ≡ answer ++ others → len ≡ length answer
-len_at_front one sent rest answer others len bytes small read size begins parts =
+len_at_start one sent rest answer others len bytes small read size begins parts =
     let four : length (le 4 len) ≡ 4 = omega (arith, ap (length {A = ℕ}) read, length-append (le 4 len) rest, size) in
-    let here : take 4 sent ≡ le 4 len = ap (take 4) read ∙ take_front 4 (le 4 len) rest four in
+    let here : take 4 sent ≡ le 4 len = ap (take 4) read ∙ take_prefix 4 (le 4 len) rest four in
     same_number one 4 (take 4 sent) len (length answer) (ap (length {A = ℕ}) here ∙ four) bytes small (omega (arith, begins.fits)) (sym here)
     (sym (len_bytes sent answer others begins parts))
 
@@ -72,7 +72,7 @@ bytes_take n bytes each i =
       | inr le ↦ rw (get_or_past (take n bytes) i 0 (omega (arith, length-take n bytes))) (omega arith)
     ]
 
--- what is left of the answers, and what was written for the others
+-- the rest of the answers, and the lines of the others
 pub record Written (written written' : Option (List ℕ)) (answers : List (List ℕ)) (rest : List ℕ) : Type 0 where
   pub left : List (List ℕ)
   pub each : AllByRecursion IsAnswer left
@@ -85,17 +85,17 @@ pub written_none : (w : Option (List ℕ)) (answers : List (List ℕ)) (sent : L
     → Written w w answers sent
 written_none w answers sent each is = record { left = answers; each = each; bytes = is; lines = []; so_far = Appends-nil w; all = refl }
 
--- one line more; `len` is what was read at the front
-pub written_more : (a b c : Option (List ℕ)) (answers : List (List ℕ)) (rest front back : List ℕ) (len : ℕ) → (rest ≡ [] → ⊥) → front ≡ take len rest
+-- one more line; `len` is the number that the rest begins with
+pub written_more : (a b c : Option (List ℕ)) (answers : List (List ℕ)) (rest prefix back : List ℕ) (len : ℕ) → (rest ≡ [] → ⊥) → prefix ≡ take len rest
     → back ≡ drop len rest
     → ((answer others : List ℕ) → BeginsWithLen answer → rest ≡ answer ++ others → len ≡ length answer)
-    → Written a b answers rest → Appends b c (line (encode_lower front)) → Written a c answers back
-written_more a b c answers rest front back len some front_is back_is reads w more =
+    → Written a b answers rest → Appends b c (line (encode_lower prefix)) → Written a c answers back
+written_more a b c answers rest prefix back len some prefix_is back_is reads w more =
     let f = first w.left w.each (λ none. some (w.bytes ∙ none)) in
     let parts : rest ≡ f.answer ++ joined f.others = w.bytes ∙ f.bytes in
     let size : len ≡ length f.answer = reads f.answer (joined f.others) f.begins parts in
-    let taken : front ≡ f.answer = front_is ∙ ap (take len) parts ∙ take_front len f.answer (joined f.others) (sym size) in
-    let left : back ≡ joined f.others = back_is ∙ ap (drop len) parts ∙ drop_front len f.answer (joined f.others) (sym size) in
+    let taken : prefix ≡ f.answer = prefix_is ∙ ap (take len) parts ∙ take_prefix len f.answer (joined f.others) (sym size) in
+    let left : back ≡ joined f.others = back_is ∙ ap (drop len) parts ∙ drop_prefix len f.answer (joined f.others) (sym size) in
     record {
       left = f.others;
       each = f.each;

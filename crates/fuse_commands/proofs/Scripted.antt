@@ -15,7 +15,7 @@ use Rattle.std.proofs.lemmas.Str.Parse.{digits_value-take-le}
 use Rattle.fuse_sim.specs.declared.event.Event.{Event}
 use Rattle.fuse_sim.specs.declared.event.Fate.{Fate}
 use Rattle.fuse_sim.specs.declared.event.Fate.TheVariants.{Answered, AnswerLost, DiedBeforeCommit, DiedAfterCommit}
-use Rattle.fuse_commands.specs.Scripts.{lines_of, parts_in, word_of, Lacks, IsSeconds, HasParts, IsHexOf, Writes, Describes, TookLine, IsBad, FirstBad}
+use Rattle.fuse_commands.specs.Scripts.{lines_of, parts_in, word_of, Lacks, IsSeconds, HasParts, IsHexOf, Writes, WritesAll, TookLine, IsBad, FirstBad}
 
 -- ---- seconds
 
@@ -28,7 +28,7 @@ digit_at [] i all there = absurd (omega arith)
 digit_at (d ∷ ds) zero all there = all.0
 digit_at (d ∷ ds) (suc i) all there = digit_at ds i all.1 (omega arith)
 
--- one digit more was read
+-- one more digit was read
 pub digit_more : (text : List ℕ) (i secs digit more : ℕ) → i < length text → digit ≡ digit_value (get_or text i 0) → digit < 10 → more ≡ secs * 10 + digit
     → AllDigits 10 (take i text) × (secs ≡ digits_value 10 (take i text)) → AllDigits 10 (take (i + 1) text) × (more ≡ digits_value 10 (take (i + 1) text))
 digit_more text i secs digit more there value less sum so =
@@ -41,7 +41,7 @@ digit_more text i secs digit more there value less sum so =
 pub no_seconds : (text : List ℕ) (i : ℕ) → i < length text → 10 ≤ digit_value (get_or text i 0) → (secs : ℕ) → IsSeconds text secs → ⊥
 no_seconds text i there high secs s = let low = digit_at text i s.digits there in omega arith
 
--- the number that digits write is too large
+-- the value of the digits is too large
 pub too_large : (text : List ℕ) (i secs digit : ℕ) → i < length text → digit ≡ digit_value (get_or text i 0) → 2 ^ 64 ≤ secs * 10 + digit
     → secs ≡ digits_value 10 (take i text) → (n : ℕ) → IsSeconds text n → ⊥
 too_large text i secs digit there value large so n s =
@@ -119,47 +119,47 @@ no_message line text same none e w = none e.bytes (subst (λ x. IsHexOf x e.byte
 
 -- ---- line after line
 
-tells_more : (lines : List (List ℕ)) (line : List ℕ) (old new : List Event) → Describes lines old → TookLine line old new → Describes (lines ++ line ∷ []) new
-tells_more [] line old new none took = elim took [
+writes_more : (lines : List (List ℕ)) (line : List ℕ) (old new : List Event) → WritesAll lines old → TookLine line old new → WritesAll (lines ++ line ∷ []) new
+writes_more [] line old new none took = elim took [
   | inl nothing ↦ inl (nothing.0, nothing.1 ∙ none)
   | inr one ↦ inr (one.0, [], one.2 ∙ ap (λ (es : List Event). es ++ one.0 ∷ []) none, one.1, refl)
 ]
-tells_more (l ∷ lines) line old new so took = elim so [
-  | inl nothing ↦ inl (nothing.0, tells_more lines line old new nothing.1 took)
+writes_more (l ∷ lines) line old new so took = elim so [
+  | inl nothing ↦ inl (nothing.0, writes_more lines line old new nothing.1 took)
   | inr one ↦ elim took [
-    | inl passed ↦ inr (one.0, one.1, passed.1 ∙ one.2, one.3, tells_more lines line one.1 one.1 one.4 (inl (passed.0, refl)))
+    | inl passed ↦ inr (one.0, one.1, passed.1 ∙ one.2, one.3, writes_more lines line one.1 one.1 one.4 (inl (passed.0, refl)))
     | inr more ↦ inr (
       one.0,
       one.1 ++ more.0 ∷ [],
       more.2 ∙ ap (λ (es : List Event). es ++ more.0 ∷ []) one.2,
       one.3,
-      tells_more lines line one.1 (one.1 ++ more.0 ∷ []) one.4 (inr (more.0, more.1, refl)),
+      writes_more lines line one.1 (one.1 ++ more.0 ∷ []) one.4 (inr (more.0, more.1, refl)),
     )
   ]
 ]
 
-pub line_taken : (lines : List (List ℕ)) (i : ℕ) (old new : List Event) → i < length lines → Describes (take i lines) old → TookLine (get_or lines i []) old new
-    → Describes (take (i + 1) lines) new
+pub line_taken : (lines : List (List ℕ)) (i : ℕ) (old new : List Event) → i < length lines → WritesAll (take i lines) old → TookLine (get_or lines i []) old new
+    → WritesAll (take (i + 1) lines) new
 line_taken lines i old new there so took =
-    subst (λ x. Describes x new) (sym (take_more lines i [] there)) (tells_more (take i lines) (get_or lines i []) old new so took)
+    subst (λ x. WritesAll x new) (sym (take_more lines i [] there)) (writes_more (take i lines) (get_or lines i []) old new so took)
 
-pub all_taken : (lines : List (List ℕ)) (i : ℕ) (events : List Event) → length lines ≤ i → Describes (take i lines) events → Describes lines events
-all_taken lines i events all so = subst (λ x. Describes x events) (take_all i lines all) so
+pub all_taken : (lines : List (List ℕ)) (i : ℕ) (events : List Event) → length lines ≤ i → WritesAll (take i lines) events → WritesAll lines events
+all_taken lines i events all so = subst (λ x. WritesAll x events) (take_all i lines all) so
 
-bad_behind : (n : ℕ) (lines : List (List ℕ)) (bad : List ℕ) (more : List (List ℕ)) (events : List Event) → Describes lines events → IsBad bad
+bad_after : (n : ℕ) (lines : List (List ℕ)) (bad : List ℕ) (more : List (List ℕ)) (events : List Event) → WritesAll lines events → IsBad bad
     → FirstBad n (lines ++ bad ∷ more) (n + length lines)
-bad_behind n [] bad more events so is = inl (is, omega arith)
-bad_behind n (line ∷ lines) bad more events so is =
+bad_after n [] bad more events so is = inl (is, omega arith)
+bad_after n (line ∷ lines) bad more events so is =
     let next : suc n + length lines ≡ n + suc (length lines) = omega arith in
     elim so [
       | inl nothing ↦ inr (
         (λ wrong. wrong.0 nothing.0),
-        subst (FirstBad (suc n) (lines ++ bad ∷ more)) next (bad_behind (suc n) lines bad more events nothing.1 is),
+        subst (FirstBad (suc n) (lines ++ bad ∷ more)) next (bad_after (suc n) lines bad more events nothing.1 is),
       )
-      | inr one ↦ inr ((λ wrong. wrong.1 one.0 one.3), subst (FirstBad (suc n) (lines ++ bad ∷ more)) next (bad_behind (suc n) lines bad more one.1 one.4 is))
+      | inr one ↦ inr ((λ wrong. wrong.1 one.0 one.3), subst (FirstBad (suc n) (lines ++ bad ∷ more)) next (bad_after (suc n) lines bad more one.1 one.4 is))
     ]
 
-pub first_bad : (lines : List (List ℕ)) (i : ℕ) (events : List Event) → i < length lines → Describes (take i lines) events → IsBad (get_or lines i [])
+pub first_bad : (lines : List (List ℕ)) (i : ℕ) (events : List Event) → i < length lines → WritesAll (take i lines) events → IsBad (get_or lines i [])
     → FirstBad 1 lines (i + 1)
 first_bad lines i events there so is =
     let parts : take i lines ++ get_or lines i [] ∷ drop (suc i) lines ≡ lines = ap (λ x. take i lines ++ x) (sym (drop-cons lines i [] there))
@@ -168,9 +168,9 @@ first_bad lines i events there so is =
     let number : 1 + length (take i lines) ≡ i + 1 = omega arith in
     subst (λ x. FirstBad 1 x (i + 1)) parts
     (subst (FirstBad 1 (take i lines ++ get_or lines i [] ∷ drop (suc i) lines)) number
-    (bad_behind 1 (take i lines) (get_or lines i []) (drop (suc i) lines) events so is))
+    (bad_after 1 (take i lines) (get_or lines i []) (drop (suc i) lines) events so is))
 
--- ---- how a script is cut into lines
+-- ---- the lines of a script
 
 apart : (n : ℕ) → n ≢ 10 → (n == 10) ≡ false
 apart n isnt = grind arith
@@ -178,12 +178,12 @@ apart n isnt = grind arith
 no_feeds : (xs : List ℕ) → Lacks 10 xs → All (λ x. (x == 10) ≡ false) xs
 no_feeds xs none k d there = apart (get_or xs k d) (none k d there)
 
--- one line more was cut off
-pub line_cut : (lines : List (List ℕ)) (script rest line behind : List ℕ) → lines ++ lines_of rest ≡ lines_of script → rest ≡ line ++ 10 ∷ behind
-    → Lacks 10 line → (lines ++ line ∷ []) ++ lines_of behind ≡ lines_of script
-line_cut lines script rest line behind so is none =
-    let cut : lines_of rest ≡ line ∷ lines_of behind = ap lines_of is ∙ slice_split_at (λ (b : ℕ). b == 10) line 10 behind (no_feeds line none) refl in
-    append_assoc lines (line ∷ []) (lines_of behind) ∙ ap (λ (x : List (List ℕ)). lines ++ x) (sym cut) ∙ so
+-- one more line was cut off
+pub line_cut : (lines : List (List ℕ)) (script rest line after : List ℕ) → lines ++ lines_of rest ≡ lines_of script → rest ≡ line ++ 10 ∷ after
+    → Lacks 10 line → (lines ++ line ∷ []) ++ lines_of after ≡ lines_of script
+line_cut lines script rest line after so is none =
+    let cut : lines_of rest ≡ line ∷ lines_of after = ap lines_of is ∙ slice_split_at (λ (b : ℕ). b == 10) line 10 after (no_feeds line none) refl in
+    append_assoc lines (line ∷ []) (lines_of after) ∙ ap (λ (x : List (List ℕ)). lines ++ x) (sym cut) ∙ so
 
 -- no line feed is left
 pub last_line : (lines : List (List ℕ)) (script rest : List ℕ) → lines ++ lines_of rest ≡ lines_of script → Lacks 10 rest → lines ++ rest ∷ [] ≡ lines_of script
@@ -195,11 +195,11 @@ line_at parts i d there = get_or-map (λ (part : Bor (List ℕ)). part.now) part
 in_parts : (parts : List (Bor (List ℕ))) (i : ℕ) → i < length parts → i < length (parts_in parts)
 in_parts parts i there = omega (arith, length-map parts (λ (part : Bor (List ℕ)). part.now))
 
-pub part_taken : (parts : List (Bor (List ℕ))) (i : ℕ) (d : Bor (List ℕ)) (old new : List Event) → i < length parts → Describes (take i (parts_in parts)) old
-    → TookLine (get_or parts i d).now old new → Describes (take (i + 1) (parts_in parts)) new
+pub part_taken : (parts : List (Bor (List ℕ))) (i : ℕ) (d : Bor (List ℕ)) (old new : List Event) → i < length parts → WritesAll (take i (parts_in parts)) old
+    → TookLine (get_or parts i d).now old new → WritesAll (take (i + 1) (parts_in parts)) new
 part_taken parts i d old new there so took =
     line_taken (parts_in parts) i old new (in_parts parts i there) so (subst (λ x. TookLine x old new) (sym (line_at parts i d there)) took)
 
-pub part_bad : (parts : List (Bor (List ℕ))) (i : ℕ) (d : Bor (List ℕ)) (events : List Event) → i < length parts → Describes (take i (parts_in parts)) events
+pub part_bad : (parts : List (Bor (List ℕ))) (i : ℕ) (d : Bor (List ℕ)) (events : List Event) → i < length parts → WritesAll (take i (parts_in parts)) events
     → IsBad (get_or parts i d).now → FirstBad 1 (parts_in parts) (i + 1)
 part_bad parts i d events there so is = first_bad (parts_in parts) i events (in_parts parts i there) so (subst IsBad (sym (line_at parts i d there)) is)

@@ -1,4 +1,4 @@
--- What a session worked off of a stream.
+-- The messages of a stream that a session processed.
 use Rattle.std.proofs.Common.{◌≡◌, ◌⊎◌, inl, inr, ◌≤◌, ◌<◌, ◌+◌, ◌&&◌, nat_lt, nat_le, if◌then◌else◌, ℕ, Bool, true, false, List, [], ◌∷◌, ◌++◌, length, Option}
 use Rattle.std.proofs.Common.{Some, None, refl, sym, ap, subst, ◌∙◌, append_assoc, append-nil, arith, length-append}
 use Rattle.std.specs.Prelude.{IfSome}
@@ -34,10 +34,10 @@ use Rattle.fuse_session.specs.Ends.{EndsAs, SentExactly, ExactAt, counts_at}
 use Rattle.fuse_commands.specs.declared.ending.Ending.{Ending}
 use Rattle.fuse_commands.specs.declared.ending.Ending.TheVariants.{Done, ZeroUnique}
 use Rattle.fuse_commands.specs.Endings.{session_ending, stream_ending, store_ending, status_of, IsOfStream}
-use Rattle.fuse_commands.specs.Printing.{IsAnswer}
+use Rattle.fuse_commands.specs.Output.{IsAnswer}
 use Rattle.fuse_commands.specs.Replaying.{EndsAt, EndsFaulty, Replayed, Faulted, StandsForPrefix, Sends, Prints, PrintsAnswers}
 
--- ---- no answer was told to be awaited by nobody
+-- ---- a stream port reports no answer as gone
 
 abbrev IsTaken : Mark → Type 0
 IsTaken mark = mark.gone ≡ false
@@ -69,13 +69,13 @@ none_again t (m ∷ ms) (mark ∷ marks) each may =
     let same : t ++ settles false m mark ≡ t = ap (λ (x : List ℕ). t ++ x) (settles_nothing m mark each.0) ∙ append-nil t in
     (may.0, subst (λ (u : List ℕ). NoneComesAgain false u ms marks) (sym same) (none_again t ms marks each.1 may.1))
 
--- ---- what was sent, by a port that began with nothing sent
+-- ---- the bytes sent by a port that began with none
 
 sent_is : (o : Option (List ℕ)) (sent all : List ℕ) → o ≡ Some sent → Appends (Some []) o all → sent ≡ all
 sent_is None sent all is more = absurd (cc is)
 sent_is (Some xs) sent all is more = let same : xs ≡ sent = cc is in sym same ∙ more
 
--- what is known of messages that were worked off
+-- processed messages
 pub record Settled (M : Model) (stood : History → Type 0) (s : M.State) (h : History) (timed : List Timed) (going : Bool) (sent : List ℕ)
     (counts : SessionCounts) : Type 0 where
   pub works : Works M s h timed
@@ -84,19 +84,19 @@ pub record Settled (M : Model) (stood : History → Type 0) (s : M.State) (h : H
   pub stands : stood (grown h (kept_in timed))
   pub sends : Sends sent counts (answers M s (grown h (kept_in timed)) timed) (counted h timed)
 
--- what is told of a port that is at its end
-pub record Told (p : PortState) (sent : List ℕ) : Type 0 where
+-- the port at the end of the session
+pub record PortEnds (p : PortState) (sent : List ℕ) : Type 0 where
   pub gone : p.gone ≡ []
   pub sent_is : p.sent ≡ Some sent
 
 settled : {M : Model} (k k' : KeeperState M) (gave : List Moment → Type 0) (coming : Option (List ℕ)) (p : PortState) (ids ids' : List ℕ)
-    (front : List (List ℕ)) (going : Bool) (counts : SessionCounts) (sent : List ℕ) → ids ≡ []
-    → Told p sent → (turned : Turned k k' gave (fresh coming (Some []) false) p ids ids' front going counts) → k'.is_honest
+    (prefix : List (List ℕ)) (going : Bool) (counts : SessionCounts) (sent : List ℕ) → ids ≡ []
+    → PortEnds p sent → (turned : Turned k k' gave (fresh coming (Some []) false) p ids ids' prefix going counts) → k'.is_honest
     → (s : M.State) (h : History) (t : List ℕ) → StandsFor k s h t → AllByRecursion (MayCome t) (bytes_of turned.timed)
     → Settled M (λ g. StandsFor k' s g t) s h turned.timed going sent counts
-settled k k' gave coming p ids ids' front going counts sent none told turned honest s h t so may_come =
+settled k k' gave coming p ids ids' prefix going counts sent none port_ends turned honest s h t so may_come =
     let r = turned.replied in
-    let taken = all_taken (Some []) turned.marks r.places (sym r.gone ∙ told.gone) r.placed in
+    let taken = all_taken (Some []) turned.marks r.places (sym r.gone ∙ port_ends.gone) r.placed in
     let a = turned.all honest s h t so (λ i there. absurd (cc (ap (λ (x : List ℕ). x) none, there)))
     (none_again t (bytes_of turned.timed) turned.marks taken may_come) in
     let same : t ++ settled_in false (bytes_of turned.timed) turned.marks ≡ t =
@@ -107,7 +107,7 @@ settled k k' gave coming p ids ids' front going counts sent none told turned hon
       last = a.last;
       stands = subst (StandsFor k' s (grown h (kept_in turned.timed))) same a.stands;
       sends = (
-        sent_is p.sent sent (joined (replies turned.marks) ++ []) told.sent_is r.sent ∙ append-nil (joined (replies turned.marks)) ∙ ap joined a.sent,
+        sent_is p.sent sent (joined (replies turned.marks) ++ []) port_ends.sent_is r.sent ∙ append-nil (joined (replies turned.marks)) ∙ ap joined a.sent,
         a.counts_are,
       );
     }
@@ -160,7 +160,7 @@ bad_ends : (at : ℕ) (w : List ℕ) (f : FrameFault) → bad_length at w ≡ So
 bad_ends at [] f e = absurd (cc e)
 bad_ends at (x ∷ w) f e = ap (λ o. option_or o (Some (frame.Cut at (length (x ∷ w)) (needed (x ∷ w))))) e
 
--- ---- the input is what came, and what didn't come
+-- ---- the input: received bytes and the rest
 
 record Came (input received : List ℕ) (ended : Type 0) : Type 0 where
   pub later : List ℕ
@@ -179,7 +179,7 @@ cut_came joins input received later is = ap cut is ∙ joins received later
 all_came : (input received later : List ℕ) → input ≡ received ++ later → later ≡ [] → cut input ≡ cut received
 all_came input received later is none = ap cut (is ∙ ap (λ (x : List ℕ). received ++ x) none ∙ append-nil received)
 
--- what came ends in a bad length
+-- the received bytes end in a bad length
 bad_came : CutJoins → CutSteps → (input received later rest : List ℕ) (at : ℕ) (f : FrameFault) → input ≡ received ++ later → rest ≡ (cut received).1
     → bad_length at rest ≡ Some f
     → ((cut input).0 ≡ (cut received).0) × (end_fault at (cut input).1 ≡ Some f)
@@ -193,9 +193,9 @@ bad_came joins steps input received later rest at f is rest_is e =
           (bad_ends at w f here),
     )
 
-each_front : (P : Moment → Type 0) (xs ys : List Moment) → AllByRecursion P (xs ++ ys) → AllByRecursion P xs
-each_front P [] ys all = tt
-each_front P (x ∷ xs) ys all = (all.0, each_front P xs ys all.1)
+each_prefix : (P : Moment → Type 0) (xs ys : List Moment) → AllByRecursion P (xs ++ ys) → AllByRecursion P xs
+each_prefix P [] ys all = tt
+each_prefix P (x ∷ xs) ys all = (all.0, each_prefix P xs ys all.1)
 
 of_store : (f : StoreFault) → IsOfStream (store_ending f) → ⊥
 of_store store.Memory h = omega (arith, h)
@@ -204,29 +204,29 @@ of_store store.NotAStore h = omega (arith, h)
 of_store (store.Version n) h = omega (arith, h)
 of_store store.Damaged h = omega (arith, h)
 
--- the counts that are told where the stream was served as far as it goes
-pub counts_told : (e : Ended) (counts n : SessionCounts) (told : Option SessionCounts) → IsOfStream (session_ending e) → told ≡ counts_at e counts
-    → IfSome told (λ c. n ≡ c) → n ≡ counts
-counts_told session.End counts n told of_stream is so = subst (λ o. IfSome o (λ c. n ≡ c)) is so
-counts_told session.Destroyed counts n told of_stream is so = subst (λ o. IfSome o (λ c. n ≡ c)) is so
-counts_told session.Turns counts n told of_stream is so = subst (λ o. IfSome o (λ c. n ≡ c)) is so
-counts_told (session.Frame f) counts n told of_stream is so = subst (λ o. IfSome o (λ c. n ≡ c)) is so
-counts_told (session.ZeroUnique at) counts n told of_stream is so = subst (λ o. IfSome o (λ c. n ≡ c)) is so
-counts_told session.PortFailed counts n told of_stream is so = absurd (omega (arith, of_stream))
-counts_told (session.Store f) counts n told of_stream is so = absurd (of_store f of_stream)
-counts_told session.Memory counts n told of_stream is so = absurd (omega (arith, of_stream))
+-- the counts of a stream that was served to its end or first fault
+pub counts_shown : (e : Ended) (counts n : SessionCounts) (shown : Option SessionCounts) → IsOfStream (session_ending e) → shown ≡ counts_at e counts
+    → IfSome shown (λ c. n ≡ c) → n ≡ counts
+counts_shown session.End counts n shown of_stream is so = subst (λ o. IfSome o (λ c. n ≡ c)) is so
+counts_shown session.Destroyed counts n shown of_stream is so = subst (λ o. IfSome o (λ c. n ≡ c)) is so
+counts_shown session.Turns counts n shown of_stream is so = subst (λ o. IfSome o (λ c. n ≡ c)) is so
+counts_shown (session.Frame f) counts n shown of_stream is so = subst (λ o. IfSome o (λ c. n ≡ c)) is so
+counts_shown (session.ZeroUnique at) counts n shown of_stream is so = subst (λ o. IfSome o (λ c. n ≡ c)) is so
+counts_shown session.PortFailed counts n shown of_stream is so = absurd (omega (arith, of_stream))
+counts_shown (session.Store f) counts n shown of_stream is so = absurd (of_store f of_stream)
+counts_shown session.Memory counts n shown of_stream is so = absurd (omega (arith, of_stream))
 
 -- ---- each end
 
--- all that came was worked off
+-- all messages were processed
 rested : {M : Model} (k k' : KeeperState M) (moment : Moment) (gave : List Moment → Type 0)
     (each : (ts : List Moment) → gave ts → AllByRecursion (λ t. t ≡ moment) ts) (input sent : List ℕ) (p : PortState) (ids' rest : List ℕ) (place : ℕ)
-    (counts : SessionCounts) (ending : Ending) → Told p sent
+    (counts : SessionCounts) (ending : Ending) → PortEnds p sent
     → (w : Whole k k' gave (fresh (Some input) (Some []) false) p [] ids' [] rest 0 place counts) → (cut input).0 ≡ (cut w.received).0
     → ((s : M.State) (h : History) (timed : List Timed) → GoesOn M s h timed → place ≡ length (joined (bytes_of timed))
     → EndsAt M ending s h timed [] (length (joined (bytes_of timed))) (cut input).1)
     → Replayed k k' moment input ending (Sends sent counts)
-rested k k' moment gave each input sent p ids' rest place counts ending told w same ends =
+rested k k' moment gave each input sent p ids' rest place counts ending port_ends w same ends =
     let at : place ≡ length (joined (bytes_of w.turned.timed)) = omega (arith, w.at, ap (λ ms. length (joined ms)) w.turned.bytes) in
     record {
       timed = w.turned.timed;
@@ -234,7 +234,7 @@ rested k k' moment gave each input sent p ids' rest place counts ending told w s
       parts = same ∙ w.turned.bytes ∙ sym (append-nil (bytes_of w.turned.timed));
       moments = each (moments_in w.turned.timed) w.turned.moments;
       all = λ honest s h t so may.
-          let d = settled k k' gave (Some input) p [] ids' (cut w.received).0 true counts sent refl told w.turned honest s h t so may in
+          let d = settled k k' gave (Some input) p [] ids' (cut w.received).0 true counts sent refl port_ends w.turned honest s h t so may in
           record { works = d.works; ends = ends s h w.turned.timed (d.goes refl) at; stands = d.stands; gave = d.sends };
     }
 
@@ -242,18 +242,18 @@ zero_more : (ms more : List (List ℕ)) → StartsZero ms → StartsZero (ms ++ 
 zero_more [] more zero = absurd zero
 zero_more (m ∷ ms) more zero = zero
 
--- some of it was
+-- some were
 halted : CutJoins
     → {M : Model} (k k' : KeeperState M) (moment : Moment) (gave : List Moment → Type 0)
     (each : (ts : List Moment) → gave ts → AllByRecursion (λ t. t ≡ moment) ts) (input sent : List ℕ) (p : PortState) (ids' received : List ℕ)
-    (front others : List (List ℕ)) (going : Bool) (place : ℕ) (counts : SessionCounts) (ending : Ending)
-    → Told p sent → Consumes (Some input) p.coming received → (cut received).0 ≡ front ++ others → place ≡ 0 + length (joined front)
-    → Turned k k' gave (fresh (Some input) (Some []) false) p [] ids' front going counts
+    (prefix others : List (List ℕ)) (going : Bool) (place : ℕ) (counts : SessionCounts) (ending : Ending)
+    → PortEnds p sent → Consumes (Some input) p.coming received → (cut received).0 ≡ prefix ++ others → place ≡ 0 + length (joined prefix)
+    → Turned k k' gave (fresh (Some input) (Some []) false) p [] ids' prefix going counts
     → ((s : M.State) (h : History) (timed : List Timed) (more : List (List ℕ)) → (going ≡ true → GoesOn M s h timed) → (going ≡ false → EndsLast M s h timed)
     → place ≡ length (joined (bytes_of timed))
     → EndsAt M ending s h timed (others ++ more) (length (joined (bytes_of timed))) (cut input).1)
     → Replayed k k' moment input ending (Sends sent counts)
-halted joins k k' moment gave each input sent p ids' received front others going place counts ending told came_from parts place_is turned ends =
+halted joins k k' moment gave each input sent p ids' received prefix others going place counts ending port_ends came_from parts place_is turned ends =
     let c = came input p.coming received came_from in
     let more = (cut ((cut received).1 ++ c.later)).0 in
     let all = cut_came joins input received c.later c.parts in
@@ -266,7 +266,7 @@ halted joins k k' moment gave each input sent p ids' received front others going
           ∙ append_assoc (bytes_of timed) others more;
       moments = each (moments_in turned.timed) turned.moments;
       all = λ honest s h t so may.
-          let d = settled k k' gave (Some input) p [] ids' front going counts sent refl told turned honest s h t so may in
+          let d = settled k k' gave (Some input) p [] ids' prefix going counts sent refl port_ends turned honest s h t so may in
           record { works = d.works; ends = ends s h timed more d.goes d.last at; stands = d.stands; gave = d.sends };
     }
 
@@ -280,47 +280,47 @@ faulty M frame.Memory s h timed others place rest of_stream e = absurd (omega (a
 pub replayed : CutJoins → CutSteps
     → {M : Model} (k k' : KeeperState M) (moment : Moment) (gave : List Moment → Type 0)
     (each : (ts : List Moment) → gave ts → AllByRecursion (λ t. t ≡ moment) ts) (input sent : List ℕ) (p : PortState) (turns : ℕ) (e : Ended)
-    (counts : SessionCounts) → Told p sent
+    (counts : SessionCounts) → PortEnds p sent
     → EndsAs k k' gave (fresh (Some input) (Some []) false) p [] [] 0 turns e counts → IsOfStream (session_ending e)
     → Replayed k k' moment input (session_ending e) (Sends sent counts)
-replayed joins steps k k' moment gave each input sent p turns session.End counts told e of_stream =
+replayed joins steps k k' moment gave each input sent p turns session.End counts port_ends e of_stream =
     let r = e.1 in
     let c = came input p.coming r.whole.received r.whole.came in
     let same = all_came input r.whole.received c.later c.parts (c.over e.0.1) in
-    rested k k' moment gave each input sent p r.pending' r.rest r.place counts Done told r.whole (ap (λ (x : List (List ℕ) × List ℕ). x.0) same)
+    rested k k' moment gave each input sent p r.pending' r.rest r.place counts Done port_ends r.whole (ap (λ (x : List (List ℕ) × List ℕ). x.0) same)
     (λ s h timed goes at. inr (goes, refl, ap (λ (x : List (List ℕ) × List ℕ). x.1) same ∙ sym r.whole.rest_is ∙ r.so))
-replayed joins steps k k' moment gave each input sent p turns session.Destroyed counts told e of_stream =
+replayed joins steps k k' moment gave each input sent p turns session.Destroyed counts port_ends e of_stream =
     let w = e.1.stopped.worked in
-    halted joins k k' moment gave each input sent p e.1.pending' e.1.stopped.received w.prefix w.others false e.0 counts Done told e.1.stopped.came w.parts w.at
+    halted joins k k' moment gave each input sent p e.1.pending' e.1.stopped.received w.prefix w.others false e.0 counts Done port_ends e.1.stopped.came w.parts w.at
     w.turned (λ s h timed more goes last at. inl (last refl))
-replayed joins steps k k' moment gave each input sent p turns (session.Frame f) counts told r of_stream =
+replayed joins steps k k' moment gave each input sent p turns (session.Frame f) counts port_ends r of_stream =
     let c = came input p.coming r.whole.received r.whole.came in
     elim r.so [
       | inl length_bad ↦
           let b = bad_came joins steps input r.whole.received c.later r.rest r.place f c.parts r.whole.rest_is length_bad in
-          rested k k' moment gave each input sent p r.pending' r.rest r.place counts (stream_ending f) told r.whole b.0
+          rested k k' moment gave each input sent p r.pending' r.rest r.place counts (stream_ending f) port_ends r.whole b.0
           (λ s h timed goes at. faulty _ f s h timed [] (length (joined (bytes_of timed)))
           (cut input).1 of_stream (goes, refl, subst (λ n. end_fault n (cut input).1 ≡ Some f) at b.1))
       | inr cut_off ↦
           let same = all_came input r.whole.received c.later c.parts (c.over cut_off.0.1) in
           let fault : end_fault r.place (cut input).1 ≡ Some f =
           subst (λ w. end_fault r.place w ≡ Some f) (r.whole.rest_is ∙ sym (ap (λ (x : List (List ℕ) × List ℕ). x.1) same)) cut_off.2 in
-          rested k k' moment gave each input sent p r.pending' r.rest r.place counts (stream_ending f) told r.whole
+          rested k k' moment gave each input sent p r.pending' r.rest r.place counts (stream_ending f) port_ends r.whole
           (ap (λ (x : List (List ℕ) × List ℕ). x.0) same)
           (λ s h timed goes at. faulty _ f s h timed [] (length (joined (bytes_of timed)))
           (cut input).1 of_stream (goes, refl, subst (λ n. end_fault n (cut input).1 ≡ Some f) at fault))
     ]
-replayed joins steps k k' moment gave each input sent p turns (session.ZeroUnique at) counts told e of_stream =
+replayed joins steps k k' moment gave each input sent p turns (session.ZeroUnique at) counts port_ends e of_stream =
     let w = e.stopped.worked in
-    halted joins k k' moment gave each input sent p e.pending' e.stopped.received w.prefix w.others true at counts (ZeroUnique at) told e.stopped.came w.parts
+    halted joins k k' moment gave each input sent p e.pending' e.stopped.received w.prefix w.others true at counts (ZeroUnique at) port_ends e.stopped.came w.parts
     w.at w.turned
     (λ s h timed more goes last place. (goes refl, zero_more w.others more (w.zero refl), place))
-replayed joins steps k k' moment gave each input sent p turns session.Turns counts told e of_stream = absurd (omega (arith, of_stream))
-replayed joins steps k k' moment gave each input sent p turns session.PortFailed counts told e of_stream = absurd (omega (arith, of_stream))
-replayed joins steps k k' moment gave each input sent p turns (session.Store f) counts told e of_stream = absurd (of_store f of_stream)
-replayed joins steps k k' moment gave each input sent p turns session.Memory counts told e of_stream = absurd (omega (arith, of_stream))
+replayed joins steps k k' moment gave each input sent p turns session.Turns counts port_ends e of_stream = absurd (omega (arith, of_stream))
+replayed joins steps k k' moment gave each input sent p turns session.PortFailed counts port_ends e of_stream = absurd (omega (arith, of_stream))
+replayed joins steps k k' moment gave each input sent p turns (session.Store f) counts port_ends e of_stream = absurd (of_store f of_stream)
+replayed joins steps k k' moment gave each input sent p turns session.Memory counts port_ends e of_stream = absurd (omega (arith, of_stream))
 
--- the same for a port that begins so, and an ending that is told so
+-- the same for this port and this ending
 pub session_replayed : CutJoins → CutSteps
     → {M : Model} (k k' : KeeperState M) (moment : Moment) (gave : List Moment → Type 0)
     (each : (ts : List Moment) → gave ts → AllByRecursion (λ t. t ≡ moment) ts) (input sent : List ℕ) (q p : PortState) (turns : ℕ) (e : Ended)
@@ -328,39 +328,39 @@ pub session_replayed : CutJoins → CutSteps
     → ending ≡ session_ending e → q ≡ fresh (Some input) (Some []) false → p.gone ≡ [] → p.sent ≡ Some sent → EndsAs k k' gave q p [] [] 0 turns e counts
     → IsOfStream ending
     → Replayed k k' moment input ending (Sends sent counts)
-session_replayed joins steps k k' moment gave each input sent q p turns e counts ending is start gone told ends of_stream =
+session_replayed joins steps k k' moment gave each input sent q p turns e counts ending is start gone port_ends ends of_stream =
     subst (λ x. Replayed k k' moment input x (Sends sent counts)) (sym is)
-    (replayed joins steps k k' moment gave each input sent p turns e counts (record { gone = gone; sent_is = told })
+    (replayed joins steps k k' moment gave each input sent p turns e counts (record { gone = gone; sent_is = port_ends })
     (subst (λ x. EndsAs k k' gave x p [] [] 0 turns e counts) start ends) (subst IsOfStream is of_stream))
 
 -- ---- a fault of the store
 
 faulted : CutJoins → {M : Model} (k k' : KeeperState M) (fault : StoreFault) (moment : Moment) (gave : List Moment → Type 0)
     (each : (ts : List Moment) → gave ts → AllByRecursion (λ t. t ≡ moment) ts) (input sent : List ℕ) (p : PortState) → (k'.is_clean → k'.is_honest)
-    → Told p sent
+    → PortEnds p sent
     → SentExactly k k' (λ s g t. k'.is_clean → StandsFor k' s g t × k.may_answer fault) gave (fresh (Some input) (Some []) false) p [] []
     → Faulted k k' moment input (store_ending fault) (λ answers. sent ≡ joined answers)
-faulted joins k k' fault moment gave each input sent p clean_honest told life =
+faulted joins k k' fault moment gave each input sent p clean_honest port_ends life =
     let r = life.replied in
     let c = came input p.coming life.received life.came in
     let more = (cut ((cut life.received).1 ++ c.later)).0 in
-    let taken = all_taken (Some []) life.marks r.places (sym r.gone ∙ told.gone) r.placed in
-    let sent_so = sent_is p.sent sent (joined (replies life.marks) ++ []) told.sent_is r.sent in
+    let taken = all_taken (Some []) life.marks r.places (sym r.gone ∙ port_ends.gone) r.placed in
+    let sent_so = sent_is p.sent sent (joined (replies life.marks) ++ []) port_ends.sent_is r.sent in
     record {
       fault = fault;
-      told = refl;
+      ends_so = refl;
       timed = life.timed;
       others = life.others ++ more;
       parts = ap (λ (x : List (List ℕ) × List ℕ). x.0) (cut_came joins input life.received c.later c.parts) ∙ ap (λ ms. ms ++ more) life.prefix
           ∙ append_assoc (bytes_of life.timed) life.others more;
-      moments = each_front (λ t. t ≡ moment) (moments_in life.timed) life.moments.0 (each _ life.moments.1);
+      moments = each_prefix (λ t. t ≡ moment) (moments_in life.timed) life.moments.0 (each _ life.moments.1);
       all = λ clean s h t so may.
           let l = life.exactly (clean_honest clean) s h t so (λ i there. absurd (cc there)) (none_again t (bytes_of life.timed) life.marks taken may) in
           let g = grown h (kept_in l.worked) in
           let same : t ++ settled_in false (bytes_of l.worked) life.marks ≡ t =
           ap (λ (x : List ℕ). t ++ x) (settled_nothing (bytes_of l.worked) life.marks taken) ∙ append-nil t in (
             record {
-              worked = l.worked;
+              processed = l.worked;
               unprocessed = l.unprocessed;
               parts = l.parts;
               works = l.works;
@@ -375,21 +375,21 @@ faulted joins k k' fault moment gave each input sent p clean_honest told life =
 store_faulted : CutJoins
     → {M : Model} (k k' : KeeperState M) (moment : Moment) (gave : List Moment → Type 0)
     (each : (ts : List Moment) → gave ts → AllByRecursion (λ t. t ≡ moment) ts) (input sent : List ℕ) (p : PortState) (e : Ended) → (k'.is_clean → k'.is_honest)
-    → Told p sent
+    → PortEnds p sent
     → status_of (session_ending e) ≡ 3 → ExactAt k k' gave (fresh (Some input) (Some []) false) p [] [] e
     → Faulted k k' moment input (session_ending e) (λ answers. sent ≡ joined answers)
-store_faulted joins k k' moment gave each input sent p (session.Store f) clean_honest told is life =
-    faulted joins k k' f moment gave each input sent p clean_honest told life
-store_faulted joins k k' moment gave each input sent p session.End clean_honest told is life = absurd (omega (arith, is))
-store_faulted joins k k' moment gave each input sent p session.Destroyed clean_honest told is life = absurd (omega (arith, is))
-store_faulted joins k k' moment gave each input sent p session.Turns clean_honest told is life = absurd (omega (arith, is))
-store_faulted joins k k' moment gave each input sent p (session.Frame (frame.Short at len)) clean_honest told is life = absurd (omega (arith, is))
-store_faulted joins k k' moment gave each input sent p (session.Frame (frame.TooLong at len)) clean_honest told is life = absurd (omega (arith, is))
-store_faulted joins k k' moment gave each input sent p (session.Frame (frame.Cut at have need)) clean_honest told is life = absurd (omega (arith, is))
-store_faulted joins k k' moment gave each input sent p (session.Frame frame.Memory) clean_honest told is life = absurd (omega (arith, is))
-store_faulted joins k k' moment gave each input sent p (session.ZeroUnique at) clean_honest told is life = absurd (omega (arith, is))
-store_faulted joins k k' moment gave each input sent p session.PortFailed clean_honest told is life = absurd (omega (arith, is))
-store_faulted joins k k' moment gave each input sent p session.Memory clean_honest told is life = absurd (omega (arith, is))
+store_faulted joins k k' moment gave each input sent p (session.Store f) clean_honest port_ends is life =
+    faulted joins k k' f moment gave each input sent p clean_honest port_ends life
+store_faulted joins k k' moment gave each input sent p session.End clean_honest port_ends is life = absurd (omega (arith, is))
+store_faulted joins k k' moment gave each input sent p session.Destroyed clean_honest port_ends is life = absurd (omega (arith, is))
+store_faulted joins k k' moment gave each input sent p session.Turns clean_honest port_ends is life = absurd (omega (arith, is))
+store_faulted joins k k' moment gave each input sent p (session.Frame (frame.Short at len)) clean_honest port_ends is life = absurd (omega (arith, is))
+store_faulted joins k k' moment gave each input sent p (session.Frame (frame.TooLong at len)) clean_honest port_ends is life = absurd (omega (arith, is))
+store_faulted joins k k' moment gave each input sent p (session.Frame (frame.Cut at have need)) clean_honest port_ends is life = absurd (omega (arith, is))
+store_faulted joins k k' moment gave each input sent p (session.Frame frame.Memory) clean_honest port_ends is life = absurd (omega (arith, is))
+store_faulted joins k k' moment gave each input sent p (session.ZeroUnique at) clean_honest port_ends is life = absurd (omega (arith, is))
+store_faulted joins k k' moment gave each input sent p session.PortFailed clean_honest port_ends is life = absurd (omega (arith, is))
+store_faulted joins k k' moment gave each input sent p session.Memory clean_honest port_ends is life = absurd (omega (arith, is))
 
 pub session_faulted : CutJoins
     → {M : Model} (k k' : KeeperState M) (moment : Moment) (gave : List Moment → Type 0)
@@ -398,9 +398,9 @@ pub session_faulted : CutJoins
     → ending ≡ session_ending e → q ≡ fresh (Some input) (Some []) false → p.gone ≡ [] → p.sent ≡ Some sent → ExactAt k k' gave q p [] [] e
     → status_of ending ≡ 3
     → Faulted k k' moment input ending (λ answers. sent ≡ joined answers)
-session_faulted joins k k' moment gave each input sent q p e ending clean_honest is start gone told life three =
+session_faulted joins k k' moment gave each input sent q p e ending clean_honest is start gone port_ends life three =
     subst (λ x. Faulted k k' moment input x (λ answers. sent ≡ joined answers)) (sym is)
-    (store_faulted joins k k' moment gave each input sent p e clean_honest (record { gone = gone; sent_is = told }) (sym (ap status_of is) ∙ three)
+    (store_faulted joins k k' moment gave each input sent p e clean_honest (record { gone = gone; sent_is = port_ends }) (sym (ap status_of is) ∙ three)
     (subst (λ x. ExactAt k k' gave x p [] [] e) start life))
 
 -- ---- however it ended
@@ -418,13 +418,13 @@ kept joins k k' store memory may_fault moment gave each input p gone run =
       others = b.others ++ more;
       parts = ap (λ (x : List (List ℕ) × List ℕ). x.0) (cut_came joins input run.received c.later c.parts) ∙ ap (λ ms. ms ++ more) b.prefix
           ∙ append_assoc (bytes_of b.timed) b.others more;
-      moments = each_front (λ t. t ≡ moment) (moments_in b.timed) b.moments.0 (each _ b.moments.1);
+      moments = each_prefix (λ t. t ≡ moment) (moments_in b.timed) b.moments.0 (each _ b.moments.1);
       all = λ clean s h t so may.
           let l = b.life clean s h t so (λ i there. absurd (cc there)) (none_again t (bytes_of b.timed) b.marks taken may) in
           let same : t ++ settled_in false (bytes_of l.worked) b.marks ≡ t =
           ap (λ (x : List ℕ). t ++ x) (settled_nothing (bytes_of l.worked) b.marks taken) ∙ append-nil t in
           record {
-            worked = l.worked;
+            processed = l.worked;
             unprocessed = l.unprocessed;
             parts = l.parts;
             works = l.works;
@@ -439,7 +439,7 @@ pub session_kept : CutJoins → {M : Model} (k k' : KeeperState M) (store memory
 session_kept joins k k' store memory may_fault moment gave each input q p start gone run =
     kept joins k k' store memory may_fault moment gave each input p gone (subst (λ x. Run k k' gave x p [] [] store memory may_fault) start run)
 
--- ---- what is printed of it
+-- ---- the output
 
 begins_answer : (a : List ℕ) → BeginsWithLen a → IsAnswer a
 begins_answer [] b = tt
@@ -485,21 +485,21 @@ pub fault_printed : {M : Model} → LenStandsFirst → SaidFits M
     → Faulted k k' moment input ending (λ answers. sent ≡ joined answers) → Faulted k k' moment input ending (PrintsAnswers written written')
 fault_printed {M} len fits k k' moment input sent ending written written' prints f = record {
   fault = f.fault;
-  told = f.told;
+  ends_so = f.ends_so;
   timed = f.timed;
   others = f.others;
   parts = f.parts;
   moments = f.moments;
   all = λ clean s h t so may.
       let d = (f.all clean s h t so may).0 in
-      let g = grown h (kept_in d.worked) in (
+      let g = grown h (kept_in d.processed) in (
         record {
-          worked = d.worked;
+          processed = d.processed;
           unprocessed = d.unprocessed;
           parts = d.parts;
           works = d.works;
           stands = d.stands;
-          gave = prints (answers M s g d.worked) (answers_begin M len fits s g d.worked) d.gave;
+          gave = prints (answers M s g d.processed) (answers_begin M len fits s g d.processed) d.gave;
         },
         (f.all clean s h t so may).1,
       );

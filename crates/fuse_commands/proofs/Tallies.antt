@@ -1,4 +1,4 @@
--- Messages that were given out so far, and how they are counted.
+-- The messages returned so far, and their counts.
 use Rattle.std.proofs.Common.{All, ◌≡◌, ◌≤◌, ◌+◌, ℕ, Bool, true, false, cond, List, [], ◌∷◌, ◌++◌, length, Option, Some, None, Err, inl, inr, refl, sym, ap}
 use Rattle.std.proofs.Common.{subst, ◌∙◌, append_assoc, arith, length-append}
 use Rattle.std.specs.List.{filter, AllByRecursion}
@@ -74,7 +74,7 @@ went_whole (Some w) (Some rest) at P one steps some end =
     let e : cut w ≡ (some.messages, rest) = cut_known (Some w) (Some rest) at some.messages one steps some.gave none in
     rw (e, end) (refl, some.so)
 
--- what a fault of the stream leaves
+-- a fault of the stream
 pub went_err : (stream left left' : Option (List ℕ)) (at at' : ℕ) (P : List (List ℕ) → Type 0) (ending : Ending) → IsOneCut → CutSteps
     → WentSoFar stream left at P
     → GivesPlaced left left' at at' (Err ending) → WentThrough stream P (Err ending)

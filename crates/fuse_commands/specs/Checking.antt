@@ -1,4 +1,4 @@
--- How the messages of a stream are counted, and the line of counts (own profile).
+-- The counts of the messages of a stream, and their line (own profile).
 use Rattle.std.specs.Prelude.{◌≡◌, ◌&&◌, ℕ, zero, suc, Bool, true, false, List, ◌++◌, length, codes, decimal, Option, Some, None, is_some, is_none}
 use Rattle.std.specs.List.{filter}
 use Rattle.std.specs.Io.KnownBytes.{Appends}
@@ -12,9 +12,9 @@ use Rattle.fuse_commands.specs.declared.ending.Ending.{Ending}
 use Rattle.fuse_commands.specs.declared.ending.Ending.TheVariants.{Done, Malformed}
 use Rattle.fuse_commands.specs.Endings.{stream_ending}
 use Rattle.fuse_commands.specs.Messages.{fault_of}
-use Rattle.fuse_commands.specs.Printing.{line}
+use Rattle.fuse_commands.specs.Output.{line}
 
--- it spells no request
+-- the message spells no request
 abbrev pub is_malformed : List ℕ → Bool
 is_malformed m = is_some (first_fault m)
 
@@ -22,7 +22,7 @@ abbrev pub asks_unsupported : Act → Bool
 asks_unsupported (Unsupported opcode body) = true
 asks_unsupported _ = false
 
--- it spells a request outside the profile
+-- the message spells a request outside the profile
 abbrev pub is_unsupported : List ℕ → Bool
 is_unsupported m = is_none (first_fault m) && asks_unsupported (act_in m)
 
@@ -34,13 +34,13 @@ checked ms = record { messages = length ms; malformed = length (filter is_malfor
 abbrev pub check_line : MessageCounts → List ℕ
 check_line c = codes "messages=" ++ (decimal c.messages ++ (codes " malformed=" ++ (decimal c.malformed ++ (codes " unsupported=" ++ decimal c.unsupported))))
 
--- how a check ends: by the fault of the stream, and else by whether a message is malformed
+-- the ending of a check: the fault of the stream, or else whether a message is malformed
 abbrev pub check_ending : Option FrameFault → ℕ → Ending
 check_ending (Some fault) malformed = stream_ending fault
 check_ending None zero = Done
 check_ending None (suc n) = Malformed
 
--- the counts of a stream's messages were written, and this is how the check ends
+-- the counts of the messages of a stream were written, and the check ends with this
 pub record Checked (old new : Option (List ℕ)) (stream : List ℕ) (ending : Ending) : Type 0 where
   pub written : Appends old new (line (check_line (checked (cut stream).0)))
   pub ends : ending ≡ check_ending (fault_of stream) (checked (cut stream).0).malformed

@@ -1,4 +1,4 @@
--- What is printed of each message of a stream, a line each (own profile).
+-- The lines of the messages of a stream (own profile).
 use Rattle.std.specs.Prelude.{◌≡◌, ◌+◌, ℕ, List, [], ◌∷◌, ◌++◌, length, if◌then◌else◌, codes, decimal, Option, Some, None}
 use Rattle.std.specs.Io.KnownBytes.{Appends}
 use Rattle.fuse_wire.specs.Ids.{id_of, resent}
@@ -11,9 +11,9 @@ use Rattle.fuse_request.specs.Opcodes.{name_of}
 use Rattle.fuse_request.specs.Stream.{cut}
 use Rattle.fuse_commands.specs.declared.ending.Ending.{Ending}
 use Rattle.fuse_commands.specs.Messages.{fault_of, look_ending}
-use Rattle.fuse_commands.specs.Printing.{line}
+use Rattle.fuse_commands.specs.Output.{line}
 
--- an opcode by its name, and by its number where it is outside the profile
+-- an opcode as its name, or as its number if it is outside the profile
 abbrev pub text_by : Option (List ℕ) → ℕ → List ℕ
 text_by (Some name) opcode = name
 text_by None opcode = codes "OP(" ++ (decimal opcode ++ codes ")")
@@ -30,7 +30,7 @@ fault_text NoNul = codes "NoNul"
 fault_text AfterNul = codes "AfterNul"
 fault_text CountDiffers = codes "CountDiffers"
 
--- what is wrong with a message, at the end of its line
+-- the fault of a message, at the end of its line
 abbrev pub flaw_text : Option Malformed → List ℕ
 flaw_text None = []
 flaw_text (Some fault) = codes " malformed=" ++ fault_text fault
@@ -47,12 +47,12 @@ dump_line at header fault =
     ++ (codes " node=" ++ (decimal header.nodeid
     ++ (codes " len=" ++ (decimal header.len ++ flaw_text fault))))))))))
 
--- the lines of messages, of which the first begins at this offset
+-- the lines of messages, the first at this offset
 abbrev pub dump_lines : ℕ → List (List ℕ) → List ℕ
 dump_lines at [] = []
 dump_lines at (m ∷ ms) = line (dump_line at (raw_of m) (first_fault m)) ++ dump_lines (at + length m) ms
 
--- the lines of a stream's messages were written, and this is how the dump ends
+-- the lines of the messages of a stream were written, and the dump ends with this
 pub record Dumped (old new : Option (List ℕ)) (stream : List ℕ) (ending : Ending) : Type 0 where
   pub written : Appends old new (dump_lines 0 (cut stream).0)
   pub ends : ending ≡ look_ending (fault_of stream)

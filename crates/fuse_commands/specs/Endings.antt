@@ -34,15 +34,15 @@ status_of PortFailed = 4
 status_of PortTurns = 4
 status_of Memory = 5
 
--- the stream was served as far as it goes
+-- the stream was processed to its end or its first fault
 abbrev pub IsOfStream : Ending → Type 0
 IsOfStream ending = status_of ending ≤ 1
 
--- the input, the output or memory gave out
+-- the input, the output or memory failed
 abbrev pub GaveOut : Ending → Type 0
 GaveOut ending = 3 < status_of ending
 
--- the line, without its line feed; of words that are no command clap has said all, and of malformed messages the counts
+-- the line, without its line feed; at Usage clap prints the text, at Malformed the counts are printed
 abbrev pub line_of : Ending → Option (List ℕ)
 line_of Done = None
 line_of (Short at len) = Some (codes "stream: Short at " ++ (decimal at ++ (codes ": len " ++ decimal len)))
@@ -82,7 +82,7 @@ store_ending store.NotAStore = NotAStore
 store_ending (store.Version n) = Version n
 store_ending store.Damaged = Damaged
 
--- the ending of a run whose session ended so
+-- the ending of a command whose session ended this way
 abbrev pub session_ending : Ended → Ending
 session_ending session.End = Done
 session_ending session.Destroyed = Done

@@ -1,10 +1,10 @@
-pub mod Reading
-pub mod Scripts
-pub mod Simulating
 pub mod Checking
 pub mod Dumping
-pub mod Messages
 pub mod Endings
-pub mod Printing
+pub mod Input
+pub mod Messages
+pub mod Output
 pub mod Replaying
+pub mod Scripts
 pub mod ServingRuns
+pub mod Simulating

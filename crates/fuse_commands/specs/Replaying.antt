@@ -1,4 +1,4 @@
--- What a replay works off, answers and leaves (own profile).
+-- The messages, the answers and the state after a replay (own profile).
 use Rattle.std.specs.Prelude.{◌≡◌, ◌⊎◌, ℕ, List, [], ◌++◌, length, Option, Some}
 use Rattle.std.specs.List.{AllByRecursion}
 use Rattle.std.specs.Io.KnownBytes.{Appends}
@@ -18,13 +18,13 @@ use Rattle.fuse_session.specs.Counting.{counted}
 use Rattle.fuse_commands.specs.declared.ending.Ending.{Ending}
 use Rattle.fuse_commands.specs.declared.ending.Ending.TheVariants.{Done, Short, TooLong, Cut, ZeroUnique}
 use Rattle.fuse_commands.specs.Endings.{store_ending}
-use Rattle.fuse_commands.specs.Printing.{line, answer_lines, count_line}
+use Rattle.fuse_commands.specs.Output.{line, answer_lines, count_line}
 
--- all messages were worked off, and what is behind them at this place has this fault
+-- all messages were processed, and the rest after them at this offset has this fault
 abbrev pub EndsFaulty : (M : Model) → M.State → History → List Timed → List (List ℕ) → ℕ → List ℕ → FrameFault → Type 0
 EndsFaulty M s h timed others place rest fault = GoesOn M s h timed × (others ≡ []) × (end_fault place rest ≡ Some fault)
 
--- why no more messages were worked off: these others are behind them, at this place, and then the rest of the stream
+-- why no more messages were processed: these others follow at this offset, and then the rest of the stream
 abbrev pub EndsAt : (M : Model) → Ending → M.State → History → List Timed → List (List ℕ) → ℕ → List ℕ → Type 0
 EndsAt M Done s h timed others place rest = EndsLast M s h timed ⊎ (GoesOn M s h timed × (others ≡ []) × (rest ≡ []))
 EndsAt M (Short at len) s h timed others place rest = EndsFaulty M s h timed others place rest (frame.Short at len)
@@ -33,7 +33,7 @@ EndsAt M (Cut at have need) s h timed others place rest = EndsFaulty M s h timed
 EndsAt M (ZeroUnique at) s h timed others place rest = GoesOn M s h timed × StartsZero others × (at ≡ place)
 EndsAt M _ s h timed others place rest = ⊥
 
--- messages were worked off as far as the stream goes, and this is what their answers and counts gave
+-- messages were processed to the end or the first fault of the stream; Gave holds of their answers and counts
 pub record Replay (M : Model) (stood : History → Type 0) (s : M.State) (h : History) (timed : List Timed) (others : List (List ℕ)) (rest : List ℕ)
     (ending : Ending) (Gave : List (List ℕ) → SessionCounts → Type 0) : Type 0 where
   pub works : Works M s h timed
@@ -41,8 +41,8 @@ pub record Replay (M : Model) (stood : History → Type 0) (s : M.State) (h : Hi
   pub stands : stood (grown h (kept_in timed))
   pub gave : Gave (answers M s (grown h (kept_in timed)) timed) (counted h timed)
 
--- the first messages of the input were worked off, the kept ones at this moment, whatever the keeper stood for and
--- whatever was settled, where no message comes again
+-- a prefix of the messages of the input was processed, the kept ones at this moment, for any history of the keeper and any
+-- settled ids that do not come again
 pub record Replayed {M : Model} (k k' : KeeperState M) (moment : Moment) (input : List ℕ) (ending : Ending)
     (Gave : List (List ℕ) → SessionCounts → Type 0) : Type 0 where
   pub timed : List Timed
@@ -52,20 +52,20 @@ pub record Replayed {M : Model} (k k' : KeeperState M) (moment : Moment) (input 
   pub all : k'.is_honest → (s : M.State) (h : History) (t : List ℕ) → StandsFor k s h t → AllByRecursion (MayCome t) (bytes_of timed)
       → Replay M (λ g. StandsFor k' s g t) s h timed others (cut input).1 ending Gave
 
--- some of these messages were worked off, and this is what their answers gave
+-- a prefix of these messages was processed, and Gave holds of their answers
 pub record Part (M : Model) (stood : History → Type 0) (s : M.State) (h : History) (timed : List Timed) (Gave : List (List ℕ) → Type 0) : Type 0 where
-  pub worked : List Timed
+  pub processed : List Timed
   pub unprocessed : List Timed
-  pub parts : timed ≡ worked ++ unprocessed
-  pub works : Works M s h worked
-  pub stands : stood (grown h (kept_in worked))
-  pub gave : Gave (answers M s (grown h (kept_in worked)) worked)
+  pub parts : timed ≡ processed ++ unprocessed
+  pub works : Works M s h processed
+  pub stands : stood (grown h (kept_in processed))
+  pub gave : Gave (answers M s (grown h (kept_in processed)) processed)
 
--- the store answered a fault, which is one that the keeper may answer: of the first messages of the input some were worked
--- off, the kept ones at this moment
+-- the store returned a fault that the keeper may return, after a prefix of the messages of the input, the kept ones at this
+-- moment
 pub record Faulted {M : Model} (k k' : KeeperState M) (moment : Moment) (input : List ℕ) (ending : Ending) (Gave : List (List ℕ) → Type 0) : Type 0 where
   pub fault : StoreFault
-  pub told : ending ≡ store_ending fault
+  pub ends_so : ending ≡ store_ending fault
   pub timed : List Timed
   pub others : List (List ℕ)
   pub parts : (cut input).0 ≡ bytes_of timed ++ others
@@ -73,8 +73,8 @@ pub record Faulted {M : Model} (k k' : KeeperState M) (moment : Moment) (input :
   pub all : k'.is_clean → (s : M.State) (h : History) (t : List ℕ) → StandsFor k s h t → AllByRecursion (MayCome t) (bytes_of timed)
       → Part M (λ g. StandsFor k' s g t) s h timed Gave × k.may_answer fault
 
--- however it ended: of the first messages of the input some were worked off, the kept ones at this moment, and where its store is
--- clean the keeper stands for these
+-- however it ended: a prefix of the messages of the input was processed, the kept ones at this moment, and if its store is clean
+-- the keeper stands for these
 pub record StandsForPrefix {M : Model} (k k' : KeeperState M) (moment : Moment) (input : List ℕ) : Type 0 where
   pub timed : List Timed
   pub others : List (List ℕ)
@@ -83,7 +83,7 @@ pub record StandsForPrefix {M : Model} (k k' : KeeperState M) (moment : Moment) 
   pub all : k'.is_clean → (s : M.State) (h : History) (t : List ℕ) → StandsFor k s h t → AllByRecursion (MayCome t) (bytes_of timed)
       → Part M (λ g. StandsFor k' s g t) s h timed (λ _. Unit {0})
 
--- these answers were sent, and so it was counted
+-- these answers were sent, and these are the counts
 abbrev pub Sends : List ℕ → SessionCounts → List (List ℕ) → SessionCounts → Type 0
 Sends sent counts answers counts' = (sent ≡ joined answers) × (counts ≡ counts')
 

@@ -10,7 +10,7 @@ use Rattle.fuse_sim.specs.declared.event.Event.{Event}
 use Rattle.fuse_sim.specs.declared.event.Fate.{Fate}
 use Rattle.fuse_sim.specs.declared.event.Fate.TheVariants.{Answered, AnswerLost, DiedBeforeCommit, DiedAfterCommit}
 
--- each line ends with a line feed; where the last one does, an empty one stands behind it, which tells nothing
+-- the lines; after a last line feed there is an empty line, which is skipped
 abbrev pub lines_of : List ℕ → List (List ℕ)
 lines_of script = slice_split (λ b. b == 10) script
 
@@ -20,11 +20,11 @@ word_of AnswerLost = codes "lost"
 word_of DiedBeforeCommit = codes "before"
 word_of DiedAfterCommit = codes "after"
 
--- the byte isn't among these
+-- the byte is not among these
 abbrev pub Lacks : ℕ → List ℕ → Type 0
 Lacks b bytes = All (λ x. x ≢ b) bytes
 
--- decimal digits alone, and the number that they write
+-- decimal digits alone, and their value
 pub record IsSeconds (text : List ℕ) (secs : ℕ) : Type 0 where
   pub some : 0 < length text
   pub digits : AllDigits 10 text
@@ -37,7 +37,7 @@ pub record HasParts (line : List ℕ) (fate : Fate) (secs : ℕ) (text : List �
   pub parts : line ≡ word_of fate ++ 32 ∷ (digits ++ 32 ∷ text)
   pub seconds : IsSeconds digits secs
 
--- in hexadecimal, of either case, just one message, which can be answered
+-- one message with an id, in hexadecimal of either case
 pub record IsHexOf (text m : List ℕ) : Type 0 where
   pub decoded : decode_of text ≡ Ok m
   pub whole : cut m ≡ (m ∷ [], [])
@@ -50,29 +50,29 @@ pub record Writes (line : List ℕ) (e : Event) : Type 0 where
   pub nanos : e.moment.nanos ≡ 0
   pub message : IsHexOf text e.bytes
 
--- an empty line, and a comment, which begins with #
-abbrev pub DescribesNothing : List ℕ → Type 0
-DescribesNothing [] = Unit {0}
-DescribesNothing (b ∷ bs) = b ≡ 35
+-- an empty line, or a comment, which begins with #
+abbrev pub IsSkipped : List ℕ → Type 0
+IsSkipped [] = Unit {0}
+IsSkipped (b ∷ bs) = b ≡ 35
 
 -- the events of lines, in order
-abbrev pub Describes : List (List ℕ) → List Event → Type 0
-Describes [] events = events ≡ []
-Describes (line ∷ lines) events =
-    (DescribesNothing line × Describes lines events) ⊎ ((e : Event) × (rest : List Event) × (events ≡ e ∷ rest) × Writes line e × Describes lines rest)
+abbrev pub WritesAll : List (List ℕ) → List Event → Type 0
+WritesAll [] events = events ≡ []
+WritesAll (line ∷ lines) events =
+    (IsSkipped line × WritesAll lines events) ⊎ ((e : Event) × (rest : List Event) × (events ≡ e ∷ rest) × Writes line e × WritesAll lines rest)
 
--- a line of no right form
+-- a malformed line
 abbrev pub IsBad : List ℕ → Type 0
-IsBad line = (¬ DescribesNothing line) × ((e : Event) → ¬ Writes line e)
+IsBad line = (¬ IsSkipped line) × ((e : Event) → ¬ Writes line e)
 
--- the first bad one of lines that are counted from n
+-- the number of the first bad line, counted from n
 abbrev pub FirstBad : ℕ → List (List ℕ) → ℕ → Type 0
 FirstBad n [] bad = ⊥
 FirstBad n (line ∷ lines) bad = (IsBad line × (bad ≡ n)) ⊎ ((¬ IsBad line) × FirstBad (suc n) lines bad)
 
--- a line more was read, behind these events
+-- one more line was read after these events
 abbrev pub TookLine : List ℕ → List Event → List Event → Type 0
-TookLine line old new = (DescribesNothing line × (new ≡ old)) ⊎ ((e : Event) × Writes line e × (new ≡ old ++ e ∷ []))
+TookLine line old new = (IsSkipped line × (new ≡ old)) ⊎ ((e : Event) × Writes line e × (new ≡ old ++ e ∷ []))
 
 abbrev pub parts_in : List (Bor (List ℕ)) → List (List ℕ)
 parts_in parts = map (λ part. part.now) parts

@@ -1,4 +1,4 @@
--- What a run of serve does over a port: the notice first where a mount goes on, and then a session (own profile).
+-- What serving a port does: at Resume the resend notice, then a session (own profile).
 use Rattle.std.specs.Prelude.{◌≡◌, ◌⊎◌, ℕ, true, List, [], Option, None, Ok, Err}
 use Rattle.fuse_wire.specs.declared.moment.Moment.{Moment}
 use Rattle.fuse_keeper.specs.Model.{Model}
@@ -25,8 +25,7 @@ use Rattle.fuse_commands.specs.Endings.{session_ending, store_ending}
 abbrev pub most_turns : ℕ
 most_turns = 4294967295
 
--- a session went so from here: how it ended and was counted, what was answered and what the keeper stands for, however it
--- ended and whatever a crash leaves
+-- a session: its end and its counts, the answers, and the state of the keeper, however it ended and whatever a crash leaves
 pub record Session {M : Model} (k k' : KeeperState M) (gave : List Moment → Type 0) (old new : PortState) (ended : Ended)
     (counts : Option SessionCounts) : Type 0 where
   pub ends : SessionEnds k k' gave old new most_turns ended counts
@@ -37,35 +36,35 @@ pub record Session {M : Model} (k k' : KeeperState M) (gave : List Moment → Ty
   pub honest : k'.is_honest → k.is_honest
   pub may : AnswersNoMore k k'
 
--- the notice was sent, and the keeper only looked: it holds what it held, and is as firm
+-- the notice was sent; the keeper holds the same and is as firm
 pub record Notified {M : Model} (k k' : KeeperState M) (old new : PortState) : Type 0 where
   pub resumed : Resumed k k' old new
   pub looked : Looked k k' (of_store (Ok tt))
   pub firm : k'.is_honest → WhereHeld k (IsFirm k → IsFirm k')
 
--- what stands before the session: the notice where a mount goes on, else nothing
+-- the notice before the session, at Resume
 abbrev pub Begins : {M : Model} {K P : Type 0} → Begin → (K → KeeperState M) → (P → PortState) → K → K → P → P → Type 0
-Begins Resume keeps tells keeper begun port now = Notified (keeps keeper) (keeps begun) (tells port) (tells now)
-Begins Fresh keeps tells keeper begun port now = (begun ≡ keeper) × (now ≡ port)
+Begins Resume keeper_state port_state keeper begun port now = Notified (keeper_state keeper) (keeper_state begun) (port_state port) (port_state now)
+Begins Fresh keeper_state port_state keeper begun port now = (begun ≡ keeper) × (now ≡ port)
 
--- a session was served, which each turn answers before it receives more
-pub record Served {M : Model} {K P : Type 0} (keeps : K → KeeperState M) (tells : P → PortState) (became : P → P → Type 0) (gave : List Moment → Type 0)
+-- a session was served; each turn sends its answers before the next receive
+pub record Served {M : Model} {K P : Type 0} (keeper_state : K → KeeperState M) (port_state : P → PortState) (became : P → P → Type 0) (gave : List Moment → Type 0)
     (keeper keeper' : K) (port port' : P) (begin : Begin) (ending : Ending) (counts : Option SessionCounts) : Type 0 where
   pub begun : K
   pub now : P
-  pub begins : Begins begin keeps tells keeper begun port now
+  pub begins : Begins begin keeper_state port_state keeper begun port now
   pub ended : Ended
-  pub session : Session (keeps begun) (keeps keeper') gave (tells now) (tells port') ended counts
-  pub prompt : AnswersFirst tells became (keeps begun) (keeps keeper') now port'
+  pub session : Session (keeper_state begun) (keeper_state keeper') gave (port_state now) (port_state port') ended counts
+  pub prompt : AnswersFirst port_state became (keeper_state begun) (keeper_state keeper') now port'
   pub ending_is : ending ≡ session_ending ended
 
--- the ending of a run whose notice couldn't be sent
+-- the ending of a command whose notice could not be sent
 abbrev pub resume_ending : ResumeFault → Ending
 resume_ending resume.NotOffered = NotOffered
 resume_ending resume.PortFailed = PortFailed
 resume_ending (resume.Store fault) = store_ending fault
 
--- no session was served, since the notice couldn't be sent
+-- no session was served, since the notice could not be sent
 pub record NotServed {M : Model} (k k' : KeeperState M) (old new : PortState) (begin : Begin) (ending : Ending) (counts : Option SessionCounts) : Type 0 where
   pub asked : begin ≡ Resume
   pub fault : ResumeFault
@@ -76,16 +75,16 @@ pub record NotServed {M : Model} (k k' : KeeperState M) (old new : PortState) (b
 
 abbrev pub ServesPort : {M : Model} {K P : Type 0} → (K → KeeperState M) → (P → PortState) → (P → P → Type 0) → (List Moment → Type 0) → K → K → P → P
     → Begin → Ending → Option SessionCounts → Type 0
-ServesPort keeps tells became gave keeper keeper' port port' begin ending counts =
-    Served keeps tells became gave keeper keeper' port port' begin ending counts
-    ⊎ NotServed (keeps keeper) (keeps keeper') (tells port) (tells port') begin ending counts
+ServesPort keeper_state port_state became gave keeper keeper' port port' begin ending counts =
+    Served keeper_state port_state became gave keeper keeper' port port' begin ending counts
+    ⊎ NotServed (keeper_state keeper) (keeper_state keeper') (port_state port) (port_state port') begin ending counts
 
--- so over a new port of this reader and this writer, which are those of a FUSE device
-pub record ServesDevice {M : Model} {K R W : Type 0} (keeps : K → KeeperState M) (gave : List Moment → Type 0) (keeper keeper' : K) (reader : R) (writer : W)
+-- the same over a new DevicePort of this reader and this writer
+pub record ServesDevice {M : Model} {K R W : Type 0} (keeper_state : K → KeeperState M) (gave : List Moment → Type 0) (keeper keeper' : K) (reader : R) (writer : W)
     (begin : Begin) (ending : Ending) (counts : Option SessionCounts) : Type 0 where
   pub port : DevicePort R W
   pub port' : DevicePort R W
   pub reads : port.reader ≡ reader
   pub writes : port.writer ≡ writer
   pub new : device_told port ≡ fresh None None true
-  pub served : ServesPort keeps device_told (λ a b. Unit {0}) gave keeper keeper' port port' begin ending counts
+  pub served : ServesPort keeper_state device_told (λ a b. Unit {0}) gave keeper keeper' port port' begin ending counts

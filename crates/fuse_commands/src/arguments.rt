@@ -1,4 +1,4 @@
-//! The words of a command line.
+//! The command line.
 ghost use Rattle.std.specs.Prelude.{◌≡◌, ◌⊎◌, IfOk};
 ghost use Rattle.clap.specs.Values.{kind_of};
 
@@ -43,57 +43,57 @@ const SCRIPT: &str = "script";
 
 const PATH: &str = "path";
 
-/// The path of the directory at the top of a store.
+/// The path of the root directory of a store.
 const TOP: &str = "/";
 
 const STREAM_HELP: &str = "The file of the stream, or - for standard input";
 
-/// What the words of a command line ask for.
+/// What a command line asks for.
 #[derive(Clone, Copy)]
 pub enum Run<'a> {
-    /// To work on what a file holds, or on standard input (`STANDARD_INPUT`).
+    /// To process a file, or standard input (`STANDARD_INPUT`).
     Read {
         input: &'a str,
         work: Work<'a>,
     },
-    /// To serve requests as they come, over the store of a file. The words name no way to begin
-    /// where they name neither or both. Without a second the machine's clock is asked.
+    /// To serve requests from a device over the store in a file. `begin` is `None` where neither
+    /// way to begin is named, or both. Without `at` the moments are those of the machine's clock.
     Serve {
         db: &'a str,
         begin: Option<Begin>,
         at: Option<u64>,
     },
-    /// To tell what the store of a file holds.
+    /// To print a summary of the store in a file.
     Store {
         file: &'a str,
     },
-    /// To list a directory of the store of a file.
+    /// To list a directory of the store in a file.
     List {
         file: &'a str,
         path: &'a str,
     },
-    /// To print a file of the store of a file.
+    /// To print a file of the store in a file.
     Cat {
         file: &'a str,
         path: &'a str,
     },
 }
 
-/// What is done with an input.
+/// What a command does with its input.
 #[derive(Clone, Copy)]
 pub enum Work<'a> {
     /// To print a line for each message of a stream.
     Dump,
     /// To count the messages of a stream.
     Check,
-    /// To serve a recorded stream, each request at the same second, over the store of a file where
-    /// one is named, else over a new one in memory.
+    /// To serve a recorded stream, each request at the same second, over the store in the file
+    /// `db`, or else over a new store in memory.
     Replay { db: Option<&'a str>, at: u64 },
     /// To run the events of a script.
     Simulate,
 }
 
-// An argument that has to be there.
+// A required argument.
 fn needed_argument<'a>(
     alloc: Global,
     name: &'static str,
@@ -106,7 +106,7 @@ fn needed_argument<'a>(
         .help(help)
 }
 
-// A command that looks at the stream of one file.
+// A command over the stream in a file.
 fn file_command<'a>(
     alloc: Global,
     name: &'static str,
@@ -144,23 +144,24 @@ fn at_argument<'a>(alloc: Global) -> Arg<'a> {
 }
 
 fn db_argument<'a>(alloc: Global) -> Arg<'a> {
-    Arg::new(alloc, DB).long(DB).value_name("FILE").help(
-        "The file of the store, which is made where it is missing or empty",
-    )
+    Arg::new(alloc, DB)
+        .long(DB)
+        .value_name("FILE")
+        .help("The file of the store, created if it is missing or empty")
 }
 
 fn replay_command<'a>(alloc: Global) -> Result<Command<'a>, AllocError> {
     let example =
         "Example:\n  fusekeep replay --db notes.store --at 1000 examples/first-run.stream";
     Command::new(alloc, REPLAY)
-        .about("Serves a recorded stream over a new store in memory, or over that of a file")
+        .about("Serves a recorded stream over a new store in memory, or over the store in a file")
         .after_help(example)
         .arg(db_argument(alloc))?
         .arg(at_argument(alloc))?
         .arg(needed_argument(alloc, STREAM, "STREAM", STREAM_HELP))
 }
 
-// A word that may be there.
+// An optional flag.
 fn flag<'a>(alloc: Global, name: &'static str, help: &'static str) -> Arg<'a> {
     Arg::new(alloc, name)
         .long(name)
@@ -169,8 +170,8 @@ fn flag<'a>(alloc: Global, name: &'static str, help: &'static str) -> Arg<'a> {
 }
 
 fn serve_command<'a>(alloc: Global) -> Result<Command<'a>, AllocError> {
-    let fresh = "Begins a mount, over a new store where the file is missing or empty";
-    let resume = "Goes on with a mount: asks the kernel to send its pending requests again";
+    let fresh = "Begins a mount, over a new store if the file is missing or empty";
+    let resume = "Continues a mount: asks the kernel to resend its pending requests";
     let db = needed_argument(alloc, DB, "FILE", "The file of the store").long(DB);
     Command::new(alloc, SERVE)
         .about("Serves requests from standard input to standard output, as they come")
@@ -189,7 +190,7 @@ fn simulate_command<'a>(alloc: Global) -> Result<Command<'a>, AllocError> {
         .arg(needed_argument(alloc, SCRIPT, "SCRIPT", help))
 }
 
-// A command that only looks at the store of one file.
+// A read-only command over the store in a file.
 fn look_command<'a>(
     alloc: Global,
     name: &'static str,
@@ -204,7 +205,7 @@ fn look_command<'a>(
 }
 
 fn store_command<'a>(alloc: Global) -> Result<Command<'a>, AllocError> {
-    let about = "Reports what a store holds, without a mount";
+    let about = "Prints a summary of a store, without a mount";
     look_command(
         alloc,
         STORE,
@@ -215,7 +216,7 @@ fn store_command<'a>(alloc: Global) -> Result<Command<'a>, AllocError> {
 
 fn list_command<'a>(alloc: Global) -> Result<Command<'a>, AllocError> {
     let about = "Lists a directory of a store, without a mount";
-    let help = "The path of the directory, without it that at the top";
+    let help = "The path of the directory [default: the root]";
     let path = needed_argument(alloc, PATH, "PATH", help).required(false);
     look_command(alloc, LIST, about, "Example:\n  fusekeep ls notes.store a")?.arg(path)
 }
@@ -227,7 +228,7 @@ fn cat_command<'a>(alloc: Global) -> Result<Command<'a>, AllocError> {
     look_command(alloc, CAT, about, example)?.arg(path)
 }
 
-// The command with one more below it.
+// Adds a subcommand.
 fn with_command<'a>(
     command: Command<'a>,
     made: Result<Command<'a>, AllocError>,
@@ -235,7 +236,7 @@ fn with_command<'a>(
     command.subcommand(made?)
 }
 
-// The commands that only look at a store.
+// Adds the read-only commands over a store.
 fn with_looks<'a>(alloc: Global, command: Command<'a>) -> Result<Command<'a>, AllocError> {
     let command = with_command(command, store_command(alloc))?;
     let command = with_command(command, list_command(alloc))?;
@@ -255,7 +256,7 @@ fn program_command<'a>(alloc: Global) -> Result<Command<'a>, AllocError> {
     with_looks(alloc, command)
 }
 
-// Work on the file that this argument names.
+// A run over the input that this argument names.
 fn read_run<'a>(found: &ArgMatches<'a>, name: &str, work: Work<'a>) -> Option<Run<'a>> {
     let input = found.get_str(name)?;
     Some(Run::Read { input, work })
@@ -267,7 +268,7 @@ fn replay_run<'a>(found: &ArgMatches<'a>) -> Option<Run<'a>> {
     read_run(found, STREAM, Work::Replay { db, at })
 }
 
-// The one way to begin that the words name.
+// The way to begin, if exactly one is named.
 fn begin_of(found: &ArgMatches<'_>) -> Option<Begin> {
     match (found.get_flag(FRESH), found.get_flag(RESUME)) {
         (true, false) => Some(Begin::Fresh),
@@ -314,20 +315,20 @@ fn run_of<'a>(matches: &ArgMatches<'a>) -> Option<Run<'a>> {
     }
 }
 
-// A mistake that the program tells itself, with the usage.
-fn told(alloc: Global, kind: ErrorKind, text: &str) -> Result<Error, AllocError>
+// An error of the command line, with the usage.
+fn usage_error(alloc: Global, kind: ErrorKind, text: &str) -> Result<Error, AllocError>
     ensures { IfOk result (λ e. kind_of e ≡ kind) }
 {
     program_command(alloc)?.error(kind, text)
 }
 
-/// Reads the words of a command line, of which the first is the program's name. An `Err` is what is
-/// to be said of them: a mistake, the help that was asked for, or want of memory.
+/// Parses a command line, whose first word is the program's name. An `Err` is a mistake in it, the
+/// help that it asks for, or out of memory.
 pub fn parse<'a, S: AsStr>(alloc: Global, words: &'a [S]) -> Result<Run<'a>, Error> {
     let matches = program_command(alloc)?.try_get_matches_from(words)?;
     match run_of(&matches) {
         Some(run) => Ok(run),
-        None => Err(told(
+        None => Err(usage_error(
             alloc,
             ErrorKind::MissingRequiredArgument,
             "a word is missing",
@@ -335,11 +336,11 @@ pub fn parse<'a, S: AsStr>(alloc: Global, words: &'a [S]) -> Result<Run<'a>, Err
     }
 }
 
-/// What is to be said of words that are no text.
+/// The error for a command line that is not text.
 pub fn unreadable(alloc: Global) -> Error
     ensures { (kind_of result ≡ ErrorKind.InvalidValue) ⊎ (kind_of result ≡ ErrorKind.OutOfMemory) }
 {
-    match told(alloc, ErrorKind::InvalidValue, "a word is no text") {
+    match usage_error(alloc, ErrorKind::InvalidValue, "a word is no text") {
         Ok(error) => error,
         Err(refused) => Error::from(refused),
     }

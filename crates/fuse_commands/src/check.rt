@@ -1,11 +1,11 @@
-//! How many messages of a stream spell a request.
+//! Counts of the messages of a stream.
 ghost use Rattle.std.specs.Prelude.{◌≡◌, ◌≢◌, ◌<◌, ◌≤◌, ◌+◌, ◌^◌, [], None, if◌then◌else◌, IfSome};
 ghost use Rattle.std.specs.Prelude.{IfErr, OnOk};
 ghost use Rattle.std.specs.Io.KnownBytes.{Appends};
 ghost use Rattle.fuse_request.specs.Act.{act};
 ghost use Rattle.fuse_commands.specs.Endings.{status_of, GaveOut};
 ghost use Rattle.fuse_commands.specs.Messages.{left_in, place_in, WentThrough};
-ghost use Rattle.fuse_commands.specs.Printing.{line};
+ghost use Rattle.fuse_commands.specs.Output.{line};
 ghost use Rattle.fuse_commands.specs.Checking.{is_malformed, is_unsupported, asks_unsupported};
 ghost use Rattle.fuse_commands.specs.Checking.{checked, check_line, check_ending, Checked};
 
@@ -16,8 +16,7 @@ use std::alloc::Global;
 use std::fmt;
 use std::io::{Read, Write};
 
-// How many messages were looked at, how many of them spell no request, and how many one outside
-// the profile.
+// The number of messages, of malformed ones, and of requests outside the profile.
 #[derive(Clone, Copy, Debug, PartialEq, Eq, Drop)]
 struct MessageCounts {
     messages: u64,
@@ -39,7 +38,7 @@ impl MessageCounts {
         unsupported: 0,
     };
 
-    // Counts one message more.
+    // Counts one more message.
     fn count(&mut self, message: &[u8])
         requires messages { self.old.messages < 2 ^ 60 }
         requires malformed { self.old.malformed < 2 ^ 60 }
@@ -61,7 +60,7 @@ impl MessageCounts {
         }
     }
 
-    // How a check ends that met no fault of the stream.
+    // The ending of a check of a stream without a fault.
     fn ending(self) -> Ending
         ensures { result ≡ check_ending None self.malformed }
     {
@@ -88,7 +87,7 @@ impl fmt::Display for MessageCounts {
     }
 }
 
-// Counts all messages that are left.
+// Counts the remaining messages.
 fn count_all<R: Read + Drop>(
     messages: &mut Messages<R>,
     counts: &mut MessageCounts,
@@ -117,8 +116,7 @@ fn write_check<W: Write>(writer: &mut W, counts: MessageCounts) -> Result<(), En
     Ok(())
 }
 
-/// Counts the messages of the stream, and prints the counts. Where the stream has a fault, the
-/// messages before it are counted.
+/// Counts the messages of the stream, up to the first fault of the stream, and prints the counts.
 pub fn run_check<R: Read + Drop, W: Write>(alloc: Global, reader: R, writer: &mut W) -> Ending
     ensures checked { IfSome (R.remaining reader) (λ stream. status_of result ≤ 1
         → Checked (W.contents writer.old) (W.contents writer.new) stream result) }

@@ -2,13 +2,13 @@ use fuse_keeper::StoreCounts;
 use fuse_session::SessionCounts;
 use std::fmt;
 
-/// The line that tells how many messages a session worked off, by their class.
+/// The line with the number of messages that a session processed, by class.
 #[derive(Clone, Copy, Debug, PartialEq, Eq)]
 pub struct CountLine(pub SessionCounts);
 
 impl fmt::Display for CountLine {
     ghost use Rattle.std.specs.Prelude.{Some};
-    ghost use Rattle.fuse_commands.specs.Printing.{count_line};
+    ghost use Rattle.fuse_commands.specs.Output.{count_line};
 
     ghost output = { λ line. Some (count_line line.0) };
 
@@ -27,13 +27,13 @@ impl fmt::Display for CountLine {
     }
 }
 
-/// The line that tells how many nodes and open handles a store holds.
+/// The line with the number of nodes and open handles of a store.
 #[derive(Clone, Copy, Debug, PartialEq, Eq)]
 pub(crate) struct StoreLine(pub(crate) StoreCounts);
 
 impl fmt::Display for StoreLine {
     ghost use Rattle.std.specs.Prelude.{Some};
-    ghost use Rattle.fuse_commands.specs.Printing.{store_line};
+    ghost use Rattle.fuse_commands.specs.Output.{store_line};
 
     ghost output = { λ line. Some (store_line line.0.nodes line.0.handles) };
 

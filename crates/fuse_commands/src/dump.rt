@@ -1,4 +1,4 @@
-//! What each message of a stream is, a line for each.
+//! A line for each message of a stream.
 ghost use Rattle.std.specs.Prelude.{◌≡◌, ◌≢◌, ◌≤◌, IfSome, IfErr, OnOk};
 ghost use Rattle.std.specs.Io.KnownBytes.{Appends};
 ghost use Rattle.fuse_request.specs.Stream.{IsMessage};
@@ -6,7 +6,7 @@ ghost use Rattle.fuse_request.specs.Header.{raw_of};
 ghost use Rattle.fuse_request.specs.Faults.{first_fault};
 ghost use Rattle.fuse_commands.specs.Endings.{status_of, GaveOut};
 ghost use Rattle.fuse_commands.specs.Messages.{left_in, place_in, WentThrough};
-ghost use Rattle.fuse_commands.specs.Printing.{line};
+ghost use Rattle.fuse_commands.specs.Output.{line};
 ghost use Rattle.fuse_commands.specs.Dumping.{fault_text, dump_line, dump_lines, Dumped};
 
 use crate::ending::Ending;
@@ -18,8 +18,7 @@ use std::alloc::Global;
 use std::fmt;
 use std::io::{Read, Write};
 
-// An opcode, which is printed by its name in `fuse.h`, or by its number where it is outside the
-// profile.
+// An opcode, printed as its name in `fuse.h`, or as its number if it is outside the profile.
 #[derive(Clone, Copy)]
 struct Opcode(u32);
 
@@ -37,7 +36,7 @@ impl fmt::Display for Opcode {
     }
 }
 
-// What is wrong with a message, if anything is.
+// The fault of a message, if it has one.
 #[derive(Clone, Copy)]
 struct Flaw(Option<Malformed>);
 
@@ -69,7 +68,7 @@ impl fmt::Display for Flaw {
     }
 }
 
-// Whether a message was sent again.
+// The resend bit of a message.
 #[derive(Clone, Copy)]
 struct Resend(u64);
 
@@ -157,8 +156,7 @@ fn write_lines<R: Read + Drop, W: Write>(
     Ok(())
 }
 
-/// Prints a line for each message of the stream. Where the stream has a fault, the messages before
-/// it are printed.
+/// Prints a line for each message of the stream, up to the first fault of the stream.
 pub fn run_dump<R: Read + Drop, W: Write>(alloc: Global, reader: R, writer: &mut W) -> Ending
     ensures dumped { IfSome (R.remaining reader) (λ stream. status_of result ≤ 1
         → Dumped (W.contents writer.old) (W.contents writer.new) stream result) }

@@ -8,55 +8,55 @@ use fuse_session::Ended;
 use std::alloc::AllocError;
 use std::{fmt, io};
 
-/// How a run ended.
+/// How a command ended.
 #[derive(Clone, Copy, Debug, PartialEq, Eq)]
 pub enum Ending {
-    /// All that was asked for was done.
+    /// The command did all that was asked for.
     Done,
-    /// A message says that it is shorter than a header.
+    /// The length of a message is below that of a header.
     Short { at: u64, len: u32 },
-    /// A message says that it is longer than any may be.
+    /// The length of a message is above the limit.
     TooLong { at: u64, len: u32 },
     /// The stream ends within a message.
     Cut { at: u64, have: u64, need: u64 },
-    /// A message has no id to be answered under.
+    /// A message that needs an answer has the id 0.
     ZeroUnique { at: u64 },
-    /// Some messages of the stream spell no request.
+    /// The stream has malformed messages.
     Malformed,
-    /// A line of a script has no right form. Lines are counted from 1.
+    /// A line of a script is malformed. Lines are counted from 1.
     ScriptLine { line: u64 },
-    /// The words of the command line are no command, or ask for help.
+    /// The command line is wrong, or asks for help.
     Usage,
-    /// The words ask to serve, and name neither way to begin, or both.
+    /// The command line of `serve` has neither `--fresh` nor `--resume`, or both.
     Modes,
-    /// The database refused a statement, or its file can't be opened.
+    /// A statement failed, or the file of the database can't be opened.
     Sql,
-    /// The database is no store.
+    /// The database is not a store.
     NotAStore,
-    /// The store is of a version that the program doesn't know.
+    /// The store has an unknown version.
     Version(u64),
-    /// The store doesn't hold what a store holds.
+    /// The store is damaged.
     Damaged,
-    /// A server wrote the store each time that it was read.
+    /// A server wrote to the store during each attempt to read it.
     Busy,
-    /// By what INIT agreed on, the kernel doesn't know the notice that asks for a resend.
+    /// The kernel did not offer the resend notice at INIT.
     NotOffered,
-    /// A directory of the store has no entry of a name of the path.
+    /// A directory of the store has no entry with a name of the path.
     NoSuchPath,
-    /// What the path takes for a directory is none.
+    /// A node that the path uses as a directory is none.
     NotDirectory,
-    /// What the path leads to is no regular file.
+    /// The node at the path is no regular file.
     NotFile,
-    /// An input can't be read, or an output can't be written.
+    /// Reading the input or writing the output failed.
     PortFailed,
     /// The input goes on past the bound on reads.
     PortTurns,
-    /// A growth was refused.
+    /// Out of memory.
     Memory,
 }
 
 impl Ending {
-    /// The ending of a run that met this fault of its store.
+    /// The ending of a command whose store had this fault.
     pub fn of(fault: StoreFault) -> Ending
         ensures { result ≡ store_ending fault }
     {
@@ -69,7 +69,7 @@ impl Ending {
         }
     }
 
-    /// The ending of a run that met this fault of its stream.
+    /// The ending of a command whose stream had this fault.
     pub(crate) fn of_stream(fault: FrameFault) -> Ending
         ensures { result ≡ stream_ending fault }
     {
@@ -81,7 +81,7 @@ impl Ending {
         }
     }
 
-    /// The ending of a run whose session ended so.
+    /// The ending of a command whose session ended this way.
     pub(crate) fn of_session(ended: Ended) -> Ending
         ensures { result ≡ session_ending ended }
     {
@@ -96,7 +96,7 @@ impl Ending {
         }
     }
 
-    /// Whether the input was gone through as far as it goes.
+    /// Whether the input was processed to its end or its first fault.
     pub fn is_of_stream(self) -> bool
         ensures { result ≡ nat_le (status_of self) 1 }
     {
@@ -130,8 +130,8 @@ impl Ending {
         }
     }
 
-    /// What standard error is told: nothing where all went well, where clap has said it, and where
-    /// the counts say it.
+    /// The line for standard error. There is none for success, for `Usage`, where clap prints the
+    /// text, and for `Malformed`, where the counts show it.
     pub fn line(self) -> Option<FaultLine>
         ensures { result ≡ option_map (λ _. record { ending = self }) (line_of self) }
     {
@@ -164,7 +164,7 @@ impl From<io::Error> for Ending {
     }
 }
 
-/// The line on standard error that tells a fault.
+/// The line of a fault on standard error.
 #[derive(Clone, Copy, Debug, PartialEq, Eq)]
 pub struct FaultLine {
     ending: Ending,

@@ -1,5 +1,5 @@
-//! The commands of `fusekeep` over any reader, writer and keeper: what each prints, and how it
-//! ends.
+//! The commands of `fusekeep` over any reader, writer and keeper: the output and the ending of each,
+//! and the command line.
 #![tactic(auto)]
 
 mod arguments;
@@ -7,10 +7,10 @@ mod check;
 mod count_line;
 mod dump;
 mod ending;
+mod input;
 mod messages;
-mod printing;
+mod output;
 mod progress;
-mod reading;
 mod replay;
 mod script;
 mod serve;

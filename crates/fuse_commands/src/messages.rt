@@ -1,27 +1,26 @@
-//! The messages of a recorded stream, given out one after the other.
+//! The messages of a recorded stream, one after the other.
 ghost use Rattle.std.specs.Prelude.{◌≡◌, ◌+◌, ◌*◌, ◌<◌, ◌≤◌, ◌^◌, None, false, IfOk, IfErr, OnOk};
 ghost use Rattle.std.specs.Io.KnownBytes.{Keeps, IsAtEnd};
 ghost use Rattle.fuse_request.specs.Framing.{fed_of};
 ghost use Rattle.fuse_wire.specs.Bounds.{max_message_len};
-ghost use Rattle.fuse_commands.specs.declared.reading.TheConstants.{MAX_READS as max_reads};
+ghost use Rattle.fuse_commands.specs.declared.input.TheConstants.{MAX_READS as max_reads};
 ghost use Rattle.fuse_commands.specs.Endings.{GaveOut};
 
 use crate::ending::Ending;
-use crate::reading::PieceReader;
+use crate::input::PieceReader;
 use bytes::Bytes;
 use fuse_request::{Framer, cut_steps};
 use std::alloc::Global;
 use std::io::Read;
 
-/// A message, and the offset in the stream at which it begins.
+/// A message and its offset in the stream.
 #[derive(Drop)]
 pub(crate) struct Placed {
     pub(crate) at: u64,
     pub(crate) bytes: Bytes,
 }
 
-/// The messages of what a reader gives. No more of the stream is held than a piece and a message
-/// that isn't whole yet.
+/// The messages of a reader. It holds at most one piece and one incomplete message.
 #[derive(Drop)]
 pub(crate) struct Messages<R> {
     pieces: PieceReader<R>,
@@ -33,10 +32,10 @@ pub(crate) struct Messages<R> {
 
 impl<R: Read + Drop> Messages<R> {
     ghost use Rattle.fuse_request.specs.Framing.{HasNone};
-    ghost use Rattle.fuse_commands.specs.Reading.{left_to};
+    ghost use Rattle.fuse_commands.specs.Input.{left_to};
     ghost use Rattle.fuse_commands.specs.Messages.{left_in, place_in, work_in, EndsSo, GivesPlaced};
 
-    /// An `Err` is want of memory.
+    /// An `Err` is out of memory.
     pub(crate) fn new(alloc: Global, reader: R) -> Result<Messages<R>, Ending>
         ensures ok { IfOk result (λ messages. (left_in R.remaining messages ≡ R.remaining reader)
             × (place_in messages ≡ 0)) }
@@ -48,7 +47,7 @@ impl<R: Read + Drop> Messages<R> {
         })
     }
 
-    // Reads a piece of the stream. Whether there was one.
+    // Reads a piece of the stream. `false` is the end of the stream.
     fn read(&mut self) -> Result<bool, Ending>
         ensures left { OnOk result (Keeps (left_in R.remaining self.old)
             (left_in R.remaining self.new)) }
@@ -68,7 +67,7 @@ impl<R: Read + Drop> Messages<R> {
         }
     }
 
-    // What follows where the stream ends with what is held.
+    // The end of the stream, or its fault if bytes are left.
     fn end(&self) -> Result<Option<Placed>, Ending>
         requires { HasNone self.now.framer.bytes }
         ensures { EndsSo self.now.framer.at self.now.framer.bytes result }
@@ -79,8 +78,7 @@ impl<R: Read + Drop> Messages<R> {
         }
     }
 
-    /// The next message. `None` is the end of the stream, and an `Err` its fault, or that of
-    /// reading it.
+    /// The next message. `None` is the end of the stream, an `Err` its fault or a failed read.
     pub(crate) fn next(&mut self) -> Result<Option<Placed>, Ending>
         ensures next { GivesPlaced (left_in R.remaining self.old) (left_in R.remaining self.new)
             (place_in self.old) (place_in self.new) result }

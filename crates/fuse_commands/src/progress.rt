@@ -1,21 +1,20 @@
-//! How far a long stream is read, told on a terminal.
+//! Progress of reading a long stream, shown on a terminal.
 ghost use Rattle.std.specs.Prelude.{◌≡◌, IfOk};
 ghost use Rattle.std.specs.Io.{ReadsAtMost};
 ghost use Rattle.std.specs.Io.KnownBytes.{ReadConsumes};
-ghost use Rattle.fuse_commands.specs.Printing.{mebibytes};
-ghost use Rattle.fuse_commands.specs.Reading.{left_behind, line_of, read_more};
+ghost use Rattle.fuse_commands.specs.Output.{mebibytes};
+ghost use Rattle.fuse_commands.specs.Input.{remaining_in, line_of, read_more};
 
 use std::fmt;
 use std::io::{self, Eprint, Read};
 use std::rt::Clock;
 
-/// The line that tells how many bytes were read, in MiB of 2^20 bytes rounded down, and of how
-/// many, where that is known.
+/// The progress line: the bytes read and, if known, the total, in MiB of 2^20 bytes, rounded down.
 #[derive(Clone, Copy, Debug, PartialEq, Eq, Drop)]
 pub struct ProgressLine {
-    /// The bytes that were read.
+    /// The number of bytes read.
     pub read: u64,
-    /// The bytes that there are.
+    /// The size of the input.
     pub total: Option<u64>,
 }
 
@@ -28,7 +27,7 @@ fn mebibytes(bytes: u64) -> u64
 
 impl fmt::Display for ProgressLine {
     ghost use Rattle.std.specs.Prelude.{Some};
-    ghost use Rattle.fuse_commands.specs.Printing.{progress_line};
+    ghost use Rattle.fuse_commands.specs.Output.{progress_line};
 
     ghost output = { λ line. Some (progress_line line.read line.total) };
 
@@ -45,9 +44,9 @@ impl fmt::Display for ProgressLine {
     }
 }
 
-/// A reader that gives what another one gives, and tells a terminal once in a second how many bytes
-/// that were. The line is overwritten by the next one, and is cleared at the end of the input, or
-/// where no more is read.
+/// A reader that passes on the bytes of another reader and shows the progress line on a terminal,
+/// once in a second. Each line overwrites the one before. The last one is cleared at the end of the
+/// input, and when the reader is dropped.
 pub struct ProgressReader<R, T: Clock + Eprint> {
     reader: R,
     terminal: T,
@@ -57,10 +56,10 @@ pub struct ProgressReader<R, T: Clock + Eprint> {
 }
 
 impl<R: Read, T: Clock + Eprint> ProgressReader<R, T> {
-    /// Nothing is told before the clock's next second begins. `total` is how many bytes there are,
-    /// where that is known.
+    /// Nothing is shown before the clock's next second begins. `total` is the size of the input,
+    /// if known.
     pub fn new(reader: R, terminal: T, total: Option<u64>) -> ProgressReader<R, T>
-        ensures reader { left_behind R.remaining result ≡ R.remaining reader }
+        ensures reader { remaining_in R.remaining result ≡ R.remaining reader }
         ensures line { line_of result ≡ record { read = 0; total = total } }
     {
         let second = second_of(&terminal);
@@ -73,8 +72,8 @@ impl<R: Read, T: Clock + Eprint> ProgressReader<R, T> {
         }
     }
 
-    // Reports how much was read, where a second began since that was told.
-    fn tell(&mut self)
+    // Shows the line, if a second began since it was last shown.
+    fn show(&mut self)
         ensures reader { self.new.reader ≡ self.old.reader }
         ensures line { self.new.line ≡ self.old.line }
     {
@@ -88,7 +87,7 @@ impl<R: Read, T: Clock + Eprint> ProgressReader<R, T> {
         let _ = self.terminal.eprint('\r');
     }
 
-    // Clears the line, where one is shown.
+    // Clears the line, if one is shown.
     fn clear(&mut self)
         ensures reader { self.new.reader ≡ self.old.reader }
         ensures line { self.new.line ≡ self.old.line }
@@ -100,12 +99,12 @@ impl<R: Read, T: Clock + Eprint> ProgressReader<R, T> {
     }
 }
 
-// Clears what stands behind the cursor in its line.
+// Clears the line of the cursor from the cursor on.
 fn clear_line<T: Eprint>(terminal: &T) {
     let _ = terminal.eprint("\x1b[K");
 }
 
-// The second of a clock that only goes on, where it can be read.
+// The second of the monotonic clock, or 0 if it can't be read.
 fn second_of<C: Clock>(clock: &C) -> u64 {
     match clock.monotonic() {
         Ok(time) => time.as_secs(),
@@ -114,13 +113,13 @@ fn second_of<C: Clock>(clock: &C) -> u64 {
 }
 
 impl<R: Read, T: Clock + Eprint> Read for ProgressReader<R, T> {
-    ghost remaining = { left_behind R.remaining };
+    ghost remaining = { remaining_in R.remaining };
 
     fn read(&mut self, buf: &mut [u8]) -> io::Result<usize>
         ensures bound { ReadsAtMost result buf.new }
-        ensures bytes { ReadConsumes (left_behind R.remaining self.old)
-            (left_behind R.remaining self.new) result buf.new }
-        // What the line tells from here on.
+        ensures bytes { ReadConsumes (remaining_in R.remaining self.old)
+            (remaining_in R.remaining self.new) result buf.new }
+        // The line counts the bytes.
         ensures line { IfOk result (λ n. line_of self.new ≡ read_more (line_of self.old) n) }
     {
         let count = self.reader.read(buf)?;
@@ -128,7 +127,7 @@ impl<R: Read, T: Clock + Eprint> Read for ProgressReader<R, T> {
         if count == 0 {
             self.clear();
         } else {
-            self.tell();
+            self.show();
         }
         Ok(count)
     }

@@ -3,13 +3,13 @@ ghost use Rattle.std.specs.Prelude.{OnOk};
 ghost use Rattle.std.specs.List.{AllByRecursion};
 ghost use Rattle.fuse_request.specs.Stream.{joined};
 ghost use Rattle.fuse_commands.specs.Endings.{status_of, IsOfStream};
-ghost use Rattle.fuse_commands.specs.Printing.{IsAnswer};
+ghost use Rattle.fuse_commands.specs.Output.{IsAnswer};
 ghost use Rattle.fuse_commands.specs.Replaying.{Replayed, Faulted, StandsForPrefix, Sends, Prints};
 ghost use Rattle.fuse_commands.specs.Replaying.{PrintsAnswers};
 
 use crate::ending::Ending;
-use crate::printing::{write_answers, write_counts};
-use crate::reading::MAX_READS;
+use crate::input::MAX_READS;
+use crate::output::{write_answers, write_counts};
 use fuse_answer::len_stands_first;
 use fuse_keeper::{Keeper, said_fits};
 use fuse_request::{cut_joins, cut_steps};
@@ -18,7 +18,7 @@ use fuse_wire::Moment;
 use std::alloc::Global;
 use std::io::{Read, Write};
 
-// What was sent, how it was counted, and how it ended.
+// The answers, the counts and the ending of a session.
 #[derive(Drop)]
 struct Session {
     sent: Vec<u8>,
@@ -26,17 +26,17 @@ struct Session {
     ending: Ending,
 }
 
-// The counts, where they are told.
-fn counts_of(told: Option<SessionCounts>) -> SessionCounts
-    ensures { IfSome told (λ counts. result ≡ counts) }
+// The counts of a session that has them.
+fn counts_of(found: Option<SessionCounts>) -> SessionCounts
+    ensures { IfSome found (λ counts. result ≡ counts) }
 {
-    match told {
+    match found {
         Some(counts) => counts,
         None => SessionCounts::NONE,
     }
 }
 
-// Serves the stream that the reader gives, all at one moment.
+// Serves the stream of a reader, with one moment for all requests.
 fn serve_stream<K: Keeper, R: Read>(
     alloc: Global,
     keeper: &mut K,
@@ -69,7 +69,7 @@ fn serve_stream<K: Keeper, R: Read>(
     }
 }
 
-// Prints the answers, and the counts where the stream was served as far as it goes.
+// Prints the answers, and the counts if the stream was served to its end or its first fault.
 fn print_session<W: Write>(alloc: Global, writer: &mut W, session: &Session) -> Result<(), Ending>
     ensures fault { (IsOfStream session.now.ending → ⊥) → OnOk result ((answers : List (List ℕ))
         → AllByRecursion IsAnswer answers → session.now.sent.items ≡ joined answers
@@ -87,8 +87,8 @@ fn print_session<W: Write>(alloc: Global, writer: &mut W, session: &Session) -> 
     Ok(())
 }
 
-/// Serves the stream that the reader gives, all at one moment, and then prints the answers and,
-/// where it was served as far as it goes, the counts.
+/// Serves the stream of a reader, with one moment for all requests. Then prints the answers and, if
+/// the stream was served to its end or its first fault, the counts.
 pub fn run_replay<K: Keeper, R: Read + Drop, W: Write>(
     alloc: Global,
     keeper: &mut K,
@@ -97,18 +97,16 @@ pub fn run_replay<K: Keeper, R: Read + Drop, W: Write>(
     moment: Moment,
 ) -> Ending
     requires going { (K.told keeper.old).has_failed ≡ false }
-    // At status 0 or 1: what was worked off of the input, what is printed of it, and what the
-    // keeper then stands for.
+    // Status 0 or 1: the processed messages of the input, the output, and the state of the keeper.
     ensures replayed { IsOfStream result → (input : List ℕ) → R.remaining reader ≡ Some input
         → Replayed (K.told keeper.old) (K.told keeper.new) moment input result
         (Prints (W.contents writer.old) (W.contents writer.new)) }
 
-    // At a fault of the store, which is one that the keeper may answer, the answers before it are
-    // printed, and no counts.
+    // Status 3: the keeper may return this fault. The answers before it are printed, and no counts.
     ensures faulted { status_of result ≡ 3 → (input : List ℕ) → R.remaining reader ≡ Some input
         → Faulted (K.told keeper.old) (K.told keeper.new) moment input result
         (PrintsAnswers (W.contents writer.old) (W.contents writer.new)) }
-    // However it ends, the keeper stands for messages that were worked off.
+    // However it ends, the keeper stands for a prefix of the messages.
     ensures kept { (input : List ℕ) → R.remaining reader ≡ Some input
         → StandsForPrefix (K.told keeper.old) (K.told keeper.new) moment input }
     ensures store { status_of result ≡ 3 → (K.told keeper.new).has_failed ≡ true }

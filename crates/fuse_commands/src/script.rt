@@ -1,4 +1,4 @@
-//! Scripts: the events that the lines of a text tell.
+//! Scripts: an event on each line of a text.
 ghost use Rattle.std.specs.Prelude.{◌≡◌, ◌⊎◌, ◌≤◌, ◌<◌, ◌+◌, ◌*◌, ◌^◌, ◌++◌, ◌∷◌, [], ℕ, List};
 ghost use Rattle.std.specs.Prelude.{None, IsTrue, ◌↔◌, IfSome, IsSomeAnd, OnOk, IfOk};
 ghost use Rattle.std.specs.Prelude.{IfErr, MatchOption};
@@ -6,7 +6,7 @@ ghost use Rattle.std.specs.Char.{digit_value};
 ghost use Rattle.fuse_sim.specs.declared.event.Event.{Event as EventValue};
 ghost use Rattle.fuse_sim.specs.declared.event.Fate.{Fate as FateValue};
 ghost use Rattle.fuse_commands.specs.Scripts.{lines_of, parts_in, word_of, Lacks, IsSeconds};
-ghost use Rattle.fuse_commands.specs.Scripts.{HasParts, IsHexOf, Writes, DescribesNothing, Describes};
+ghost use Rattle.fuse_commands.specs.Scripts.{HasParts, IsHexOf, Writes, IsSkipped, WritesAll};
 ghost use Rattle.fuse_commands.specs.Scripts.{TookLine, IsBad, FirstBad};
 
 use crate::ending::Ending;
@@ -16,15 +16,15 @@ use fuse_wire::{ByteList, Moment};
 use hex::FromHexError;
 use std::alloc::{AllocError, Global};
 
-// Why a line gives no event.
+// Why a line is no event.
 #[derive(Clone, Copy, Debug, PartialEq, Eq)]
 enum LineFault {
-    // It has another form.
+    // It is malformed.
     Form,
     Memory,
 }
 
-// What stands before the first of these bytes, and what stands behind it.
+// The parts of a text before and after the first such byte.
 fn split_at(text: &[u8], byte: u8) -> Option<(&[u8], &[u8])>
     ensures some { IfSome result (λ parts. (text.now ≡ parts.0.now ++ byte ∷ parts.1.now)
         × Lacks byte parts.0.now) }
@@ -34,7 +34,7 @@ fn split_at(text: &[u8], byte: u8) -> Option<(&[u8], &[u8])>
     Some((&text[..place], &text[place + 1..]))
 }
 
-// The fate of a word.
+// The fate that a word names.
 fn fate_of(word: &[u8]) -> Option<Fate>
     ensures found { IfSome result (λ fate. word.now ≡ word_of fate) }
     ensures only { (fate : FateValue) → word.now ≡ word_of fate → result ≡ Some fate }
@@ -60,7 +60,7 @@ fn digit_of(b: u8) -> Option<u64>
     }
 }
 
-// The number that one digit more writes, where it fits.
+// The number with one more digit, if it fits.
 fn with_digit(number: u64, digit: u64) -> Option<u64>
     requires { digit < 10 }
     ensures found { IfSome result (λ more. (more ≡ number * 10 + digit) × (more < 2 ^ 64)) }
@@ -69,7 +69,7 @@ fn with_digit(number: u64, digit: u64) -> Option<u64>
     number.checked_mul(10)?.checked_add(digit)
 }
 
-// The number that decimal digits write, where it fits.
+// The value of decimal digits, if it fits.
 fn seconds_of(text: &[u8]) -> Option<u64>
     ensures found { IfSome result (λ secs. IsSeconds text.now secs) }
     ensures only { (secs : ℕ) → IsSeconds text.now secs → result ≡ Some secs }
@@ -95,7 +95,7 @@ fn parts_of(line: &[u8]) -> Option<(Fate, u64, &[u8])>
     Some((fate_of(word)?, seconds_of(digits)?, text))
 }
 
-// The message that a text has in hexadecimal, where it is just one and can be answered.
+// The message that a text has in hexadecimal, if it is exactly one and has an id.
 fn message_of(alloc: Global, text: &[u8]) -> Result<ByteList, LineFault>
     ensures found { IfOk result (λ m. IsHexOf text.now m) }
     ensures form { IfErr result (λ fault. fault ≡ LineFault.Form
@@ -112,7 +112,7 @@ fn message_of(alloc: Global, text: &[u8]) -> Result<ByteList, LineFault>
     Ok(ByteList::from_vec(bytes))
 }
 
-// The event that a line writes.
+// The event of a line.
 fn event_of(alloc: Global, line: &[u8]) -> Result<Event, LineFault>
     ensures found { IfOk result (λ e. Writes line.now e) }
     ensures form { IfErr result (λ fault. fault ≡ LineFault.Form
@@ -128,9 +128,9 @@ fn event_of(alloc: Global, line: &[u8]) -> Result<Event, LineFault>
     })
 }
 
-// Whether a line is passed over.
-fn tells_nothing(line: &[u8]) -> bool
-    ensures { IsTrue result ↔ DescribesNothing line.now }
+// Whether a line is empty or a comment.
+fn is_skipped(line: &[u8]) -> bool
+    ensures { IsTrue result ↔ IsSkipped line.now }
 {
     match line {
         [] => true,
@@ -138,19 +138,19 @@ fn tells_nothing(line: &[u8]) -> bool
     }
 }
 
-// The event that a line writes, where it isn't passed over.
+// The event of a line, if it is neither empty nor a comment.
 fn read_line(alloc: Global, line: &[u8]) -> Result<Option<Event>, LineFault>
-    ensures found { IfOk result (λ event. MatchOption event (DescribesNothing line.now)
+    ensures found { IfOk result (λ event. MatchOption event (IsSkipped line.now)
         (λ e. Writes line.now e)) }
     ensures form { IfErr result (λ fault. fault ≡ LineFault.Form → IsBad line.now) }
 {
-    if tells_nothing(line) {
+    if is_skipped(line) {
         return Ok(None);
     }
     Ok(Some(event_of(alloc, line)?))
 }
 
-// Reads a line, and puts its event behind those of the lines before it.
+// Reads a line, and appends its event.
 fn take_line(alloc: Global, line: &[u8], events: &mut Vec<Event>) -> Result<(), LineFault>
     ensures took { OnOk result (TookLine line.now events.old.items events.new.items) }
     ensures form { IfErr result (λ fault. fault ≡ LineFault.Form → IsBad line.now) }
@@ -167,18 +167,17 @@ fn split_lines(alloc: Global, script: &[u8]) -> Result<Vec<&[u8]>, AllocError>
 {
     let mut lines = Vec::new(alloc);
     let mut rest = script;
-    while let Some((line, behind)) = split_at(rest, b'\n') {
+    while let Some((line, after)) = split_at(rest, b'\n') {
         lines.push(line)?;
-        rest = behind;
+        rest = after;
     }
     lines.push(rest)?;
     Ok(lines)
 }
 
-/// The events that the lines of a script tell. An `Err` is its first line of no right form, or want
-/// of memory.
+/// The events of a script. An `Err` is its first malformed line, or out of memory.
 pub(crate) fn read_script(alloc: Global, script: &[u8]) -> Result<Vec<Event>, Ending>
-    ensures found { IfOk result (λ events. Describes (lines_of script.now) events.items) }
+    ensures found { IfOk result (λ events. WritesAll (lines_of script.now) events.items) }
     ensures bad { IfErr result (λ ending. (ending ≡ Ending.Memory)
         ⊎ ((n : ℕ) × (ending ≡ Ending.ScriptLine n) × FirstBad 1 (lines_of script.now) n)) }
 {

@@ -5,7 +5,7 @@ ghost use Rattle.fuse_commands.specs.ServingRuns.{ServesPort, ServesDevice, NotS
 ghost use Rattle.fuse_commands.specs.ServingRuns.{resume_ending};
 
 use crate::ending::Ending;
-use crate::reading::MAX_READS;
+use crate::input::MAX_READS;
 use fuse_keeper::Keeper;
 use fuse_session::{Clock, DevicePort, Port, ResumeFault, SessionCounts, resume, serve};
 use std::alloc::Global;
@@ -14,14 +14,13 @@ use std::io::{Read, Write};
 /// How a server begins.
 #[derive(Clone, Copy, Debug, PartialEq, Eq)]
 pub enum Begin {
-    /// A mount begins, of which nothing is recorded.
+    /// A new mount, without records.
     Fresh,
-    /// A mount goes on: the notice that asks the kernel to send its pending requests again comes
-    /// first.
+    /// The same mount goes on. First the resend notice is sent.
     Resume,
 }
 
-// The ending of a run whose notice couldn't be sent.
+// The ending of a command whose notice could not be sent.
 fn ending_of_resume(fault: ResumeFault) -> Ending
     ensures { result ≡ resume_ending fault }
 {
@@ -32,7 +31,7 @@ fn ending_of_resume(fault: ResumeFault) -> Ending
     }
 }
 
-// Sends the notice where a mount goes on.
+// Sends the resend notice at `Begin::Resume`.
 fn send_notice<K: Keeper, P: Port>(keeper: &mut K, port: &mut P, begin: Begin) -> Result<(), Ending>
     requires going { (K.told keeper.old).has_failed ≡ false }
     requires receives { (P.told port.old).receives < 2 ^ 62 }
@@ -58,8 +57,8 @@ fn send_notice<K: Keeper, P: Port>(keeper: &mut K, port: &mut P, begin: Begin) -
     }
 }
 
-/// Serves what a port gives, behind the notice that asks for a resend where a mount goes on. Beside
-/// the ending stand the counts, where no fault ended the session.
+/// Serves a port. At `Begin::Resume` it first sends the resend notice. Returns the ending, and the
+/// counts if no fault ended the session.
 pub fn serve_port<K: Keeper, P: Port, C: Clock>(
     alloc: Global,
     keeper: &mut K,
@@ -83,10 +82,9 @@ pub fn serve_port<K: Keeper, P: Port, C: Clock>(
     (Ending::of_session(served.ended), served.counts)
 }
 
-/// Serves the requests that a FUSE device gives: the reader and the writer are its two sides, of
-/// which one read is one message and one write one answer, so that neither may have a buffer. Where
-/// a mount goes on, it first asks the kernel to send its pending requests again. Beside the ending
-/// stand the counts, where no fault ended the session.
+/// Serves a FUSE device, of which the reader and the writer are the two sides. One read is one
+/// message and one write one answer, so neither may have a buffer. At `Begin::Resume` it first sends
+/// the resend notice. Returns the ending, and the counts if no fault ended the session.
 pub fn run_serve<K: Keeper, R: Read + Drop, W: Write + Drop, C: Clock>(
     alloc: Global,
     keeper: &mut K,

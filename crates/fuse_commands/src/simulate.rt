@@ -1,16 +1,16 @@
-//! Running the events of a script.
+//! A simulation of the events of a script.
 ghost use Rattle.std.specs.Prelude.{◌≡◌, ◌≢◌, ◌≤◌, ◌++◌, [], false, map, All, IsSomeAnd};
 ghost use Rattle.std.specs.Prelude.{IfSome, IfOk, IfErr, OnOk};
 ghost use Rattle.std.specs.Io.KnownBytes.{Appends};
 ghost use Rattle.fuse_sim.specs.Driving.{told_in, StandsIn, NoneReused, IsFit, bytes_given};
 ghost use Rattle.fuse_commands.specs.Endings.{status_of, GaveOut};
-ghost use Rattle.fuse_commands.specs.Printing.{line, store_line};
+ghost use Rattle.fuse_commands.specs.Output.{line, store_line};
 ghost use Rattle.fuse_commands.specs.Simulating.{Went, StoreEnded, RanScript, NotRun, Simulated};
 ghost use Rattle.fuse_commands.specs.Simulating.{outcome_line, outcome_lines, StoppedIn};
 
 use crate::ending::Ending;
-use crate::printing::{write_hex_line, write_store};
-use crate::reading::read_all;
+use crate::input::read_all;
+use crate::output::{write_hex_line, write_store};
 use crate::script::read_script;
 use fuse_keeper::{Restart, StoreCounts};
 use fuse_sim::{DriveFault, Event, Outcome, drive};
@@ -21,7 +21,7 @@ use std::io::{Read, Write};
 /// The moment at which a new store of `replay` or `simulate` is made.
 pub const START: Moment = Moment { secs: 0, nanos: 0 };
 
-// What events were answered, and how much the store holds then.
+// The outcomes of events, and the counts of the store after them.
 #[derive(Drop)]
 struct Simulation {
     outcomes: Vec<Option<Outcome>>,
@@ -60,7 +60,7 @@ fn run_events<K: Restart>(
     }
 }
 
-// Prints what the kernel takes for an event.
+// Prints the outcome of an event.
 fn write_outcome<W: Write>(
     alloc: Global,
     writer: &mut W,
@@ -80,7 +80,7 @@ fn write_outcome<W: Write>(
     write_hex_line(alloc, writer, answer.as_slice())
 }
 
-// Prints a line for each event, and then one for what the store holds.
+// Prints a line for each event, then the counts of the store.
 fn print_simulation<W: Write>(
     alloc: Global,
     writer: &mut W,
@@ -99,7 +99,7 @@ fn print_simulation<W: Write>(
     Ok(())
 }
 
-// Reads a script, and runs its events over a keeper.
+// Reads a script and runs its events over a keeper.
 fn simulate<K: Restart, R: Read + Drop>(
     alloc: Global,
     keeper: &mut Option<K>,
@@ -122,8 +122,8 @@ fn simulate<K: Restart, R: Read + Drop>(
     run_events(alloc, keeper, events.as_slice())
 }
 
-/// Runs the events of a script over a keeper, and then prints a line for each event and one for
-/// what the store holds. A script of which a line has no right form isn't run.
+/// Runs the events of a script over a keeper, then prints a line for each event and the counts of the
+/// store. A script with a malformed line is not run.
 pub fn run_simulate<K: Restart, R: Read + Drop, W: Write>(
     alloc: Global,
     keeper: &mut Option<K>,
@@ -131,15 +131,15 @@ pub fn run_simulate<K: Restart, R: Read + Drop, W: Write>(
     writer: &mut W,
 ) -> Ending
     requires going { IsSomeAnd keeper.old (λ k. (K.told k).has_failed ≡ false) }
-    // At status 0: what is printed, and what the keeper then stands for; at 1 nothing was done.
+    // Status 0: the output and the state of the keeper. Status 1: nothing was done.
     ensures simulated { IfSome (R.remaining reader) (λ script. status_of result ≤ 1
         → Simulated K.told keeper.old keeper.new (W.contents writer.old) (W.contents writer.new)
         script result) }
     ensures left { status_of result ≤ 1
         → IsSomeAnd keeper.new (λ k. (K.told k).has_failed ≡ false) }
     ensures usage { status_of result ≢ 2 }
-    // A fault of the store is one that a keeper answered on the way, or with which it refused to
-    // be opened again. Nothing is printed then.
+    // Status 3: a keeper returned the fault, or refused to be opened again with it. Nothing is
+    // printed.
     ensures store { IfSome (R.remaining reader) (λ script. status_of result ≡ 3
         → StoppedIn K.told K.became K.may_refuse keeper.old keeper.new script result) }
     ensures silent { status_of result ≡ 3 → W.contents writer.new ≡ W.contents writer.old }

@@ -1,4 +1,4 @@
--- What a run over any keeper says of one over lists.
+-- The promise of `run_simulate`, for a keeper over lists.
 use Rattle.std.proofs.Common.{◌≡◌, refl, arith, false, ℕ, ◌≤◌, List, [], Option, Some, None, ap, subst, ◌∙◌}
 use Rattle.std.specs.Prelude.{IfSome, IsSomeAnd}
 use Rattle.std.specs.Io.KnownBytes.{Appends}
@@ -21,7 +21,7 @@ use Rattle.spec_tests.specs.InLists.{start, tree_text, Reuses, SimulatedAnew}
 abbrev Kept : Type 0
 Kept = Option (PlainKeeper PlainTree)
 
--- lists give back what was written
+-- lists return what was written
 good : (keeper : Kept) → IsSomeAnd keeper (λ k. (tree_told k).has_failed ≡ false) → (told_in tree_told keeper).is_honest
 good None none = absurd none
 good (Some k) going = tt
@@ -43,7 +43,7 @@ simulated keeper keeper' None old new ending stands going so = tt
 simulated keeper keeper' (Some script) old new ending stands going so = λ low.
     anew old new script ending (from_start tree_told keeper keeper' old new script start ending (good keeper' (going low)) stands (so low))
 
--- lists have no fault but want of memory
+-- lists have no fault but out of memory
 not_stored : (ending : Ending) (fault : StoreFault) → status_of ending ≡ 3 → fault ≡ NoMemory → ending ≡ store_ending fault → ⊥
 not_stored ending fault is memory ends =
     let five : status_of ending ≡ 5 = ap status_of ends ∙ ap (λ f. status_of (store_ending f)) memory in
@@ -64,4 +64,4 @@ pub reused : (became : PlainKeeper PlainTree → PlainKeeper PlainTree → ℕ �
     → IfSome known (λ script. status_of ending ≡ 3 → Reuses script)
 reused became keeper keeper' None ending stands so = tt
 reused became keeper keeper' (Some script) ending stands so = λ is.
-    let stopped = so is in (stopped.events, stopped.tells, λ none. none_stored became keeper keeper' ending is (stopped.ended start stands none))
+    let stopped = so is in (stopped.events, stopped.described, λ none. none_stored became keeper keeper' ending is (stopped.ended start stands none))

@@ -1,4 +1,4 @@
--- The worked rows, computed.
+-- The worked cases, computed.
 use Rattle.std.proofs.Common.{refl}
 use Rattle.fuse_wire.specs.Bytes.{le, number_of}
 use Rattle.fuse_request.specs.Classes.{class_of}

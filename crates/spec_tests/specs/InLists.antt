@@ -1,4 +1,4 @@
--- What a script's events are answered over a new store of the tree in lists (own profile).
+-- The output of a script over a new store of the tree in lists (own profile).
 use Rattle.std.specs.Prelude.{◌≡◌, ℕ, List, [], ◌++◌, length, Option}
 use Rattle.std.specs.Io.KnownBytes.{Appends}
 use Rattle.fuse_tree.specs.State.{State, new_store}
@@ -7,26 +7,26 @@ use Rattle.fuse_sim.specs.declared.event.Event.{Event}
 use Rattle.fuse_sim.specs.Driving.{NoneReused}
 use Rattle.fuse_commands.specs.declared.ending.Ending.{Ending}
 use Rattle.fuse_commands.specs.declared.ending.Ending.TheVariants.{Done}
-use Rattle.fuse_commands.specs.Printing.{line, store_line}
-use Rattle.fuse_commands.specs.Scripts.{lines_of, Describes}
+use Rattle.fuse_commands.specs.Output.{line, store_line}
+use Rattle.fuse_commands.specs.Scripts.{lines_of, WritesAll}
 use Rattle.fuse_commands.specs.Simulating.{outcome_lines, outcomes_of, state_after, NotRun}
 
--- the new store that events begin at
+-- the new store
 abbrev pub start : State
 start = new_store (record { secs = 0; nanos = 0 })
 
--- a line for each event, and one for what the tree holds in the end
+-- a line for each event, then the counts of the tree
 abbrev pub tree_text : State → List Event → List ℕ
 tree_text s events =
     outcome_lines (outcomes_of the_tree s events)
     ++ line (store_line (length (state_after the_tree s events).nodes) (length (state_after the_tree s events).handles))
 
--- a message of a script comes again though its answer was taken
+-- a message of the script comes again whose answer was taken
 abbrev pub Reuses : List ℕ → Type 0
-Reuses script = (events : List Event) × Describes (lines_of script) events × (¬ NoneReused [] events)
+Reuses script = (events : List Event) × WritesAll (lines_of script) events × (¬ NoneReused [] events)
 
--- the events of a script were run to their end, where no message comes again whose answer was taken, and this is
--- printed of them; or its first bad line is told, and nothing is printed
+-- the events of a script were run to their end, if no message comes again whose answer was taken, with this output; or its
+-- first bad line is reported, and nothing is printed
 abbrev pub SimulatedAnew : Option (List ℕ) → Option (List ℕ) → List ℕ → Ending → Type 0
-SimulatedAnew old new script Done = (events : List Event) × Describes (lines_of script) events × (NoneReused [] events → Appends old new (tree_text start events))
+SimulatedAnew old new script Done = (events : List Event) × WritesAll (lines_of script) events × (NoneReused [] events → Appends old new (tree_text start events))
 SimulatedAnew old new script ending = NotRun script ending × (new ≡ old)

@@ -1,6 +1,6 @@
-pub mod AnswerRows
-pub mod InitRows
-pub mod RequestRows
+pub mod AnswerCases
+pub mod InitCases
+pub mod RequestCases
 pub mod Vectors
-pub mod WireRows
+pub mod WireCases
 pub mod InLists

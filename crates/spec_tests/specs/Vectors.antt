@@ -1,5 +1,5 @@
--- Worked rows (own profile): what `committed`, `outcome_of` and `settled_by` say of a short list of events, over the store
--- of row first-run.
+-- Worked cases (own profile): `committed`, `outcome_of` and `settled_by` of a short list of events, over the store of case
+-- first-run.
 use Rattle.std.specs.Prelude.{◌≡◌, ◌+◌, ◌^◌, ℕ, List, [], ◌∷◌, map, codes, Some, None}
 use Rattle.fuse_wire.specs.Hex.{hex}
 use Rattle.fuse_wire.specs.Errnos.{eexist, enosys}
@@ -20,7 +20,7 @@ mkdir_event unique fate = record { bytes = canon (asks unique 1 mkdir_a); moment
 abbrev pub entry : ℕ → Entry
 entry unique = record { asked = asks unique 1 mkdir_a; moment = at 1000 }
 
--- MKDIR of `a`, after which the server dies; the same sent again; one that is lost; and one under another id
+-- MKDIR of `a`, after which the server dies; the same resent; one that is lost; and one under another id
 abbrev pub events : List Event
 events = mkdir_event 6 DiedAfterCommit ∷ mkdir_event (2 ^ 63 + 6) Answered ∷ mkdir_event 8 DiedBeforeCommit ∷ mkdir_event 10 Answered ∷ []
 
@@ -30,7 +30,7 @@ Resent =
     × (map (outcome_of the_tree first (committed [] events)) events ≡ None ∷ Some (wire 0 entry_a (2 ^ 63 + 6)) ∷ None ∷ Some (wire eexist.0 [] 10) ∷ [])
     × (settled_by [] events ≡ 6 ∷ 10 ∷ [])
 
--- a message of an opcode outside the profile, and FORGET
+-- a message with an opcode outside the profile, and FORGET
 abbrev pub bare_and_silent : List Event
 bare_and_silent =
     record { bytes = hex (codes "28000000 23000000 0400000000000000 0100000000000000 e8030000 e8030000 4d000000 00000000"); moment = at 1000; fate = Answered }

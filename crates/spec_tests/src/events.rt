@@ -1,4 +1,4 @@
-//! The rows that events with their fates and a kernel make.
+//! Cases of events with their fates, and of a kernel.
 use crate::hex::hex;
 use crate::keepers::{AT_1000, START, TreeKeeper, held_in, new_keeper};
 use crate::run::Held;
@@ -34,7 +34,7 @@ fn events_of(alloc: Global, steps: &[Step]) -> Result<Vec<Event>, AllocError> {
     Ok(events)
 }
 
-// Appends events of this fate.
+// Appends events with this fate.
 fn push_messages(
     events: &mut Vec<Event>,
     messages: Vec<Vec<u8>>,
@@ -50,7 +50,7 @@ fn held_of(keeper: &mut Option<TreeKeeper>) -> Option<Held> {
     held_in(keeper.as_mut()?)
 }
 
-// How a run of events ended, where there was a keeper that hadn't failed.
+// The result of `drive`, if there was a keeper that had not failed.
 type Ended = Option<Result<Vec<Option<Outcome>>, DriveFault>>;
 
 fn drive_on<K: Restart>(alloc: Global, keeper: &mut Option<K>, events: &[Event]) -> Ended {
@@ -64,7 +64,7 @@ fn drive_on<K: Restart>(alloc: Global, keeper: &mut Option<K>, events: &[Event])
     Some(drive(alloc, keeper, events))
 }
 
-// Whether an outcome's bytes are those. No bytes stand for no answer.
+// Whether an outcome has these bytes. No bytes stand for no answer.
 fn is_answer(outcome: &Option<Outcome>, wanted: &[u8]) -> bool {
     match (outcome, wanted.split_at_checked(16)) {
         (Some(given), Some((head, body))) => {

@@ -1,4 +1,4 @@
-//! Hexadecimal as the rows have it.
+//! Hexadecimal as the cases have it.
 use std::alloc::{AllocError, Global};
 
 fn digit(c: u8) -> Option<u8> {
@@ -43,7 +43,7 @@ fn put_zeros(out: &mut Vec<u8>, count: usize) -> Result<(), AllocError> {
     Ok(())
 }
 
-/// Appends the bytes of a text, with spaces, and with `0*n` for n zero bytes.
+/// Appends the bytes of a text, which may have spaces, and `0*n` for n zero bytes.
 pub(crate) fn put_hex(out: &mut Vec<u8>, text: &str) -> Result<(), AllocError> {
     for word in text.split_whitespace() {
         match word.strip_prefix("0*") {
@@ -61,7 +61,7 @@ pub(crate) fn hex(alloc: Global, text: &str) -> Result<Vec<u8>, AllocError> {
     Ok(out)
 }
 
-/// Sets the bit that marks a resend in the message or the answer that begins here.
+/// Sets the resend bit in the message or the answer that begins here.
 pub(crate) fn mark_resent(bytes: &mut [u8], begin: usize) {
     if let Some(highest) = bytes.get_mut(begin.saturating_add(15)) {
         *highest |= 0x80;

@@ -1,4 +1,4 @@
-//! Keepers of the tree in lists, and what they hold.
+//! Keepers of the tree in lists, and their counts.
 use crate::run::{Held, holding};
 use fuse_keeper::{Keeper, PlainKeeper};
 use fuse_tree::PlainTree;
@@ -20,7 +20,7 @@ pub(crate) fn new_keeper(alloc: Global) -> Result<TreeKeeper, Memory> {
     PlainKeeper::new(alloc, START)
 }
 
-/// How much a keeper holds. None where it wants memory, or has a lot.
+/// The counts of a keeper. `None` if it is out of memory, or has a lot.
 pub(crate) fn held_in<K: Keeper>(keeper: &mut K) -> Option<Held> {
     let counts = keeper.counts().ok()?;
     if counts.lots != 0 {

@@ -1,6 +1,6 @@
-//! The worked rows of the specification: those of messages and of the tree by itself that no run of
-//! the program shows, and those that several crates make together, over a tree in memory. And tests
-//! of the commands and of the examples.
+//! Tests over the public functions of several crates: the worked cases of the specification that no
+//! run of the program shows, and tests of the commands and of the example crates. The library itself
+//! is one function, `simulate_in_lists`.
 #![tactic(auto)]
 
 #[cfg(test)]

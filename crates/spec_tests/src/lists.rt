@@ -1,4 +1,4 @@
-//! A script over a new store in lists: what `run_simulate` says of any keeper, said of this one.
+//! `run_simulate` over a new store in lists.
 ghost use Rattle.std.specs.Prelude.{◌≡◌, ◌≢◌, ◌≤◌, IfSome};
 ghost use Rattle.fuse_commands.specs.Endings.{status_of};
 ghost use Rattle.spec_tests.specs.InLists.{Reuses, SimulatedAnew};
@@ -18,7 +18,7 @@ pub fn simulate_in_lists<R: Read + Drop, W: Write>(
     ensures simulated { IfSome (R.remaining reader) (λ script. status_of result ≤ 1
         → SimulatedAnew (W.contents writer.old) (W.contents writer.new) script result) }
     ensures usage { status_of result ≢ 2 }
-    // Lists have no fault, where no message comes again whose answer was taken.
+    // Lists have no fault, unless a message comes again whose answer was taken.
     ensures store { IfSome (R.remaining reader) (λ script. status_of result ≡ 3 → Reuses script) }
 {
     let Ok(keeper) = PlainKeeper::<PlainTree>::new(alloc, START) else {

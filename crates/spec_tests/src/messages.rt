@@ -1,5 +1,5 @@
-// What messages and their answers are made of: vectors of the definitions, laws, and the worked
-// rows that no run of the program shows.
+// Messages and answers: vectors of the definitions, laws, and worked cases that no run of the
+// program shows.
 mod directories;
 mod encoding;
 mod framing;

@@ -1,7 +1,7 @@
-//! Requests of the rows as values.
+//! The requests of the cases as values.
 use fuse_request::{InHeader, Op, Request};
 
-/// A request on a node, with the header's end of the rows.
+/// A request on a node, with the uid, gid and pid of the cases.
 pub(crate) fn request(unique: u64, nodeid: u64, op: Op<'_>) -> Request<'_> {
     let header = InHeader {
         unique,

@@ -1,4 +1,4 @@
-//! The run over which memory is refused and ports fail: row init-agreed, MKNOD `f`, OPEN, WRITE
+//! The run in which allocations and ports fail: case init-agreed, MKNOD `f`, OPEN, WRITE
 //! `one`, READ, MKDIR `a`, RENAME `f` to `a/g`, RELEASE.
 use crate::texts::{AGREED, INIT_AGREED};
 
@@ -21,7 +21,7 @@ pub const OPEN: Pair = (
     "20000000 00000000 0600000000000000 0100000000000000 00000000 00000000",
 );
 
-/// Row write-bytes: WRITE `one` at 0 under id 8, and its answer.
+/// Case write-bytes: WRITE `one` at 0 under id 8, and its answer.
 pub const WRITE: Pair = (
     "53000000 10000000 0800000000000000 0200000000000000 e8030000 e8030000 4d000000 00000000
     0100000000000000 0*8 03000000 00000000 0*8 02000000 00000000 6f6e65",
@@ -114,7 +114,7 @@ const READ_AGAIN: Pair = (
     "13000000 00000000 1e00000000000000 6f6e65",
 );
 
-/// How many messages the run has.
+/// The number of messages of the run.
 pub const MESSAGES: usize = 8;
 
 /// The run.
@@ -129,12 +129,12 @@ pub const RUN: [Pair; MESSAGES] = [
     RELEASE,
 ];
 
-/// What is asked about the tree behind it, under new ids.
+/// Requests about the tree after the run, under new ids.
 pub const QUESTIONS: [Pair; 7] = [
     F_IS_GONE, A_IS_THERE, G_IS_THERE, ROOT, FH_IS_GONE, OPEN_AGAIN, READ_AGAIN,
 ];
 
-/// How many nodes, handles and records a store holds.
+/// The number of nodes, handles and records of a store.
 #[derive(Clone, Copy, PartialEq, Eq)]
 pub struct Held {
     pub nodes: u64,
@@ -150,8 +150,8 @@ pub(crate) fn holding(nodes: u64, handles: u64, records: u64) -> Held {
     }
 }
 
-/// What a store holds after so many messages of the run and then of the first four questions, where
-/// no id is settled.
+/// The counts of a store after `count` messages of the run and the first four questions, if no id is
+/// settled.
 pub(crate) fn held_after(count: usize) -> Held {
     match count {
         0 => holding(1, 0, 0),
@@ -166,7 +166,7 @@ pub(crate) fn held_after(count: usize) -> Held {
     }
 }
 
-/// What it holds after the run and all the questions.
+/// The counts after the run and all the questions.
 pub const ALL_HELD: Held = Held {
     nodes: 3,
     handles: 1,

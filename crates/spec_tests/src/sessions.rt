@@ -1,4 +1,4 @@
-//! The rows that a session over a keeper makes.
+//! Cases of sessions over a keeper.
 use crate::hex::hex;
 use crate::keepers::{AT_1000, TreeKeeper, held_in, new_keeper};
 use crate::run::Held;
@@ -14,14 +14,14 @@ mod mounts;
 mod ports;
 mod running;
 
-// The pieces in which bytes come, and what the port answers to each send.
+// The pieces in which bytes arrive, and the outcome of each send.
 #[derive(Drop)]
 struct Peer {
     arrivals: Vec<Arrival>,
     outcomes: Vec<Outcome>,
 }
 
-// A peer that sends all in one piece and takes all.
+// A peer that sends everything in one piece and takes everything.
 fn plain_peer(alloc: Global) -> Peer {
     Peer {
         arrivals: Vec::new(alloc),
@@ -29,7 +29,7 @@ fn plain_peer(alloc: Global) -> Peer {
     }
 }
 
-// What one session gets: bytes from this peer. And what is to be sent for them.
+// The input of one session, its peer, and the expected output.
 #[derive(Drop)]
 struct Session {
     input: Vec<u8>,
@@ -46,9 +46,9 @@ fn plain(alloc: Global, input: Vec<u8>, wanted: Vec<u8>) -> Session {
     }
 }
 
-// How a session or the asking before it ended, as far as it matters here.
+// How a session or `resume` ended, as far as the tests need it.
 #[derive(Clone, Copy, PartialEq, Eq)]
-enum Told {
+enum EndKind {
     End,
     PortFailed,
     StoreMemory,
@@ -58,62 +58,62 @@ enum Told {
     Other,
 }
 
-fn told_of_store(fault: &StoreFault) -> Told {
+fn kind_of_store(fault: &StoreFault) -> EndKind {
     match fault {
-        StoreFault::Memory => Told::StoreMemory,
-        _ => Told::Other,
+        StoreFault::Memory => EndKind::StoreMemory,
+        _ => EndKind::Other,
     }
 }
 
-fn told_of(ended: &Ended) -> Told {
+fn kind_of(ended: &Ended) -> EndKind {
     match ended {
-        Ended::End => Told::End,
-        Ended::PortFailed => Told::PortFailed,
-        Ended::Store(fault) => told_of_store(fault),
-        Ended::Memory => Told::Memory,
-        _ => Told::Other,
+        Ended::End => EndKind::End,
+        Ended::PortFailed => EndKind::PortFailed,
+        Ended::Store(fault) => kind_of_store(fault),
+        Ended::Memory => EndKind::Memory,
+        _ => EndKind::Other,
     }
 }
 
-fn told_of_resume(fault: &ResumeFault) -> Told {
+fn kind_of_resume(fault: &ResumeFault) -> EndKind {
     match fault {
-        ResumeFault::NotOffered => Told::Other,
-        ResumeFault::PortFailed => Told::PortFailed,
-        ResumeFault::Store(fault) => told_of_store(fault),
+        ResumeFault::NotOffered => EndKind::Other,
+        ResumeFault::PortFailed => EndKind::PortFailed,
+        ResumeFault::Store(fault) => kind_of_store(fault),
     }
 }
 
-// What a session did: how it ended, how many bytes it sent, where these are a front of what was
-// wanted, and how much the keeper holds then. Of numbers alone, so that a test has nothing to drop.
+// What a session did: how it ended, how many bytes it sent, if they are a prefix of the expected
+// ones, and the counts of the keeper. Numbers alone, so that a test has nothing to drop.
 #[derive(Clone, Copy)]
 struct Seen {
-    ended: Told,
+    ended: EndKind,
     sent: Option<usize>,
     wanted: usize,
     held: Option<Held>,
 }
 
 impl Seen {
-    // It ended so, just what was wanted was sent, and this is held.
-    fn is(&self, ended: Told, held: Held) -> bool {
+    // It ended this way with these counts, and exactly the expected bytes were sent.
+    fn is(&self, ended: EndKind, held: Held) -> bool {
         self.is_cut(ended, self.wanted, held)
     }
 
-    // It ended so, just so many bytes of what was wanted were sent, and this is held.
-    fn is_cut(&self, ended: Told, sent: usize, held: Held) -> bool {
+    // It ended this way with these counts, and a prefix of the expected bytes was sent.
+    fn is_cut(&self, ended: EndKind, sent: usize, held: Held) -> bool {
         self.ended == ended && self.sent == Some(sent) && self.held == Some(held)
     }
 }
 
-// Nothing was served, since the keeper had failed before.
+// No session was served, since the keeper had failed before.
 const FAILED: Seen = Seen {
-    ended: Told::Failed,
+    ended: EndKind::Failed,
     sent: None,
     wanted: 0,
     held: None,
 };
 
-// How many bytes were sent, where these are a front of what was wanted.
+// The number of bytes sent, if they are a prefix of the expected ones.
 fn sent_of(sent: &[u8], wanted: &[u8]) -> Option<usize> {
     if wanted.starts_with(sent) {
         Some(sent.len())
@@ -131,14 +131,14 @@ fn serve_on(alloc: Global, keeper: &mut TreeKeeper, session: Session) -> Seen {
     let mut port = MemoryPort::new(alloc, session.input, peer.arrivals, peer.outcomes, false);
     let served = serve(alloc, keeper, &mut port, &mut Fixed(AT_1000), 1000);
     Seen {
-        ended: told_of(&served.ended),
+        ended: kind_of(&served.ended),
         sent: sent_of(port.sent(), session.wanted.as_slice()),
         wanted: session.wanted.len(),
         held: held_in(keeper),
     }
 }
 
-// The same, behind the asking for what is pending, over the same port.
+// The same after `resume`, over the same port.
 fn resume_on(alloc: Global, keeper: &mut TreeKeeper, session: Session, now: Moment) -> Seen {
     if keeper.failed() {
         return FAILED;
@@ -146,8 +146,8 @@ fn resume_on(alloc: Global, keeper: &mut TreeKeeper, session: Session, now: Mome
     let peer = session.peer;
     let mut port = MemoryPort::new(alloc, session.input, peer.arrivals, peer.outcomes, false);
     let ended = match resume(keeper, &mut port) {
-        Ok(()) => told_of(&serve(alloc, keeper, &mut port, &mut Fixed(now), 1000).ended),
-        Err(fault) => told_of_resume(&fault),
+        Ok(()) => kind_of(&serve(alloc, keeper, &mut port, &mut Fixed(now), 1000).ended),
+        Err(fault) => kind_of_resume(&fault),
     };
     Seen {
         ended,
@@ -157,7 +157,7 @@ fn resume_on(alloc: Global, keeper: &mut TreeKeeper, session: Session, now: Mome
     }
 }
 
-// A new store in which this INIT was answered.
+// A new store after this INIT.
 fn begun(alloc: Global, init: &str) -> Result<TreeKeeper, StoreFault> {
     let mut keeper = new_keeper(alloc)?;
     let session = plain(alloc, hex(alloc, init)?, Vec::new(alloc));

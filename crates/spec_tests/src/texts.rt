@@ -1,28 +1,28 @@
-//! Messages and answers of the rows that several tests name.
+//! Messages and answers of the cases that several tests use.
 
-/// Row init-agreed, with its answer.
+/// Case init-agreed, with its answer.
 pub const INIT_AGREED: &str = "68000000 1a000000 0200000000000000 0*8 0*16
     07000000 28000000 00000200 21200040 80000000 0*44";
 
 pub const AGREED: &str = "50000000 00000000 0200000000000000
     07000000 28000000 00000200 21000040 0c000900 00000200 01000000 00000000 80000000 00000000 0*24";
 
-/// Row missing-lookup: LOOKUP `hello` under id 4, and its answer.
+/// Case missing-lookup: LOOKUP `hello` under id 4, and its answer.
 pub const LOOKUP_HELLO: &str = "2e000000 01000000 0400000000000000 0100000000000000
     e8030000 e8030000 4d000000 00000000 68656c6c6f00";
 
 pub const NOT_THERE: &str = "10000000 feffffff 0400000000000000";
 
-/// The same sent again.
+/// The same, resent.
 pub const LOOKUP_RESENT: &str = "2e000000 01000000 0400000000000080 0100000000000000
     e8030000 e8030000 4d000000 00000000 68656c6c6f00";
 
 pub const NOT_THERE_BEFORE: &str = "10000000 feffffff 0400000000000080";
 
-/// Row resume-notice.
+/// Case resume-notice.
 pub const NOTICE: &[u8; 16] = b"\x10\0\0\0\x07\0\0\0\0\0\0\0\0\0\0\0";
 
-/// Row first-run: MKDIR `a` under id 6, the same resent, and GETATTR of node 2 under id 8.
+/// Case first-run: MKDIR `a` under id 6, the same resent, and GETATTR of node 2 under id 8.
 pub const FIRST_RUN: &str = "32000000 09000000 0600000000000000 0100000000000000
     e8030000 e8030000 4d000000 00000000 ed010000 12000000 6100
     32000000 09000000 0600000000000080 0100000000000000

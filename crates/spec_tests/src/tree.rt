@@ -1,4 +1,4 @@
-// The worked rows that the tree makes by itself, over looks of the tests.
+// The worked cases of the tree by itself, over looks of the tests.
 mod definitions;
 mod limits;
 mod looks;

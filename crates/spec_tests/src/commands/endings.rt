@@ -4,9 +4,9 @@ use std::alloc::Global;
 use std::test::Fail;
 
 // An ending, its exit status, and the line on standard error, if there is one.
-type Row = (Ending, u8, &'static str);
+type Case = (Ending, u8, &'static str);
 
-fn of_streams() -> [Row; 7] {
+fn of_streams() -> [Case; 7] {
     [
         (Ending::Done, 0, ""),
         (
@@ -37,7 +37,7 @@ fn of_streams() -> [Row; 7] {
     ]
 }
 
-fn others() -> [Row; 14] {
+fn others() -> [Case; 14] {
     [
         (Ending::Usage, 2, ""),
         (Ending::Modes, 2, "usage: one of --fresh and --resume"),
@@ -56,7 +56,7 @@ fn others() -> [Row; 14] {
     ]
 }
 
-// What standard error is told.
+// The line on standard error.
 fn said(alloc: Global, ending: Ending) -> Result<String, Fail> {
     match ending.line() {
         Some(line) => Ok(format!(in alloc; "{line}")?),
@@ -64,14 +64,14 @@ fn said(alloc: Global, ending: Ending) -> Result<String, Fail> {
     }
 }
 
-// How many rows are so, from the first on.
-fn right_in(alloc: Global, rows: &[Row]) -> Result<usize, Fail> {
-    for (place, (ending, status, line)) in rows.iter().enumerate() {
+// The number of right cases, from the first on.
+fn right_in(alloc: Global, cases: &[Case]) -> Result<usize, Fail> {
+    for (place, (ending, status, line)) in cases.iter().enumerate() {
         if ending.status() != *status || said(alloc, *ending)?.as_str() != *line {
             return Ok(place);
         }
     }
-    Ok(rows.len())
+    Ok(cases.len())
 }
 
 #[test]

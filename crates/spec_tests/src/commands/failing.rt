@@ -1,4 +1,4 @@
-//! Commands whose reader or writer fails, and a script that is run to its end.
+//! Commands whose reader or writer fails, and a script that runs to its end.
 use super::fakes::{Failing, Full, Unflushed};
 use super::running::printed_to;
 use crate::hex::hex;
@@ -12,7 +12,7 @@ fn is_failure(ending: Ending) -> bool {
     matches!(ending, Ending::PortFailed)
 }
 
-// A reader fails behind LOOKUP: what is printed by then.
+// A reader that fails after LOOKUP: the line of LOOKUP is printed.
 fn replays(alloc: Global, stream: &[u8]) -> Result<[bool; 2], Fail> {
     let mut printed = Vec::new(alloc);
     let ending = printed_to(alloc, Failing { rest: stream }, &mut printed)?;
@@ -20,7 +20,7 @@ fn replays(alloc: Global, stream: &[u8]) -> Result<[bool; 2], Fail> {
     Ok([is_failure(ending), answered])
 }
 
-// Writers fail.
+// Writers that fail.
 fn replays_to(alloc: Global, stream: &[u8]) -> Result<[bool; 2], Fail> {
     let full = printed_to(alloc, stream, &mut Full)?;
     let unflushed = printed_to(alloc, stream, &mut Unflushed)?;
@@ -30,8 +30,8 @@ fn replays_to(alloc: Global, stream: &[u8]) -> Result<[bool; 2], Fail> {
 fn dumps(alloc: Global, stream: &[u8]) -> [bool; 2] {
     let mut printed = Vec::new(alloc);
     let ending = run_dump(alloc, Failing { rest: stream }, &mut printed);
-    let told = printed.as_slice() == b"0 LOOKUP id=4 resend=0 node=1 len=46\n".as_slice();
-    [is_failure(ending), told]
+    let is_printed = printed.as_slice() == b"0 LOOKUP id=4 resend=0 node=1 len=46\n".as_slice();
+    [is_failure(ending), is_printed]
 }
 
 fn dumps_to(alloc: Global, stream: &[u8]) -> [bool; 2] {
@@ -63,10 +63,10 @@ fn simulates(alloc: Global) -> [bool; 2] {
     let failing = simulate_in_lists(alloc, Failing { rest: COMMENT }, &mut printed);
     let nothing = printed.is_empty();
     let ending = simulate_in_lists(alloc, COMMENT, &mut printed);
-    let told = printed.as_slice() == b"nodes=1 handles=0\n".as_slice();
+    let is_printed = printed.as_slice() == b"nodes=1 handles=0\n".as_slice();
     [
         is_failure(failing) && nothing,
-        matches!(ending, Ending::Done) && told,
+        matches!(ending, Ending::Done) && is_printed,
     ]
 }
 

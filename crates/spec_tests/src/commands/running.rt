@@ -1,4 +1,4 @@
-//! Streams in hexadecimal that are replayed over a tree in memory.
+//! Replays of streams in hexadecimal over a tree in memory.
 use crate::hex::hex;
 use crate::keepers::{AT_1000, START, TreeKeeper};
 use crate::texts::INIT_AGREED;
@@ -8,7 +8,7 @@ use std::alloc::Global;
 use std::io::{Read, Write};
 use std::test::Fail;
 
-// A new store in which row init-agreed was answered: what the other rows begin with.
+// A new store after case init-agreed, with which the other cases begin.
 fn begun(alloc: Global) -> Result<TreeKeeper, Fail> {
     let mut keeper = TreeKeeper::new(alloc, START)?;
     let init = hex(alloc, INIT_AGREED)?;
@@ -17,7 +17,7 @@ fn begun(alloc: Global) -> Result<TreeKeeper, Fail> {
     Ok(keeper)
 }
 
-/// How a run ends behind row init-agreed, which prints here.
+/// The ending of a replay after case init-agreed, with its output.
 pub(crate) fn printed_to<R: Read + Drop, W: Write>(
     alloc: Global,
     reader: R,

@@ -1,4 +1,4 @@
-//! Events that can't be run, and what is left of the keeper.
+//! Events that can't be run, and the keeper after them.
 use super::*;
 use crate::texts::{AGREED, MKDIR_A, MKDIR_B};
 use fuse_answer::Answer;
@@ -77,7 +77,7 @@ fn closed_keeper(alloc: Global) -> Result<Option<Closed>, StoreFault> {
     Ok(Some(Closed { inner }))
 }
 
-// Whether a run ended at its second event, by a keeper that can't be opened again.
+// Whether `drive` ended at its second event, since the keeper can't be opened again.
 fn is_not_a_store(ended: &Ended) -> bool {
     matches!(
         ended,
@@ -88,8 +88,7 @@ fn is_not_a_store(ended: &Ended) -> bool {
     )
 }
 
-// INIT, and a MKDIR of this fate between others. Whether running them ends so, and no keeper is
-// left.
+// INIT, and a MKDIR with this fate between others. Whether `drive` ends so, with no keeper left.
 fn ends_closed(alloc: Global, fate: Fate) -> Result<bool, StoreFault> {
     let steps = [
         (INIT_AGREED, Fate::Answered, AGREED),
@@ -102,7 +101,7 @@ fn ends_closed(alloc: Global, fate: Fate) -> Result<bool, StoreFault> {
     Ok(is_not_a_store(&ended) && keeper.is_none())
 }
 
-// Row restart-fault. A `drive` that never restarts is proved, and fails here.
+// Case restart-fault. A `drive` that never restarts is proved, and fails here.
 #[test]
 fn restart_fault(rt: HostRuntime) -> Result<(), StoreFault> {
     let after = ends_closed(rt.alloc(), Fate::DiedAfterCommit)?;

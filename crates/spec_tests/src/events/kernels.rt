@@ -1,4 +1,4 @@
-//! The kernel's side: row resent-in-another-order.
+//! The kernel's side: case resent-in-another-order.
 use super::sending::{resend, send_all};
 use super::*;
 use crate::requests::mkdir;
@@ -8,7 +8,7 @@ use std::test::*;
 
 const INIT: Step = (INIT_AGREED, Fate::Answered, AGREED);
 
-// The answers to both when they are sent again: `b` is node 2 and `a` node 3.
+// The answers to both when they are resent: `b` is node 2 and `a` node 3.
 const ANSWERS: [&str; 2] = [
     "90000000 00000000 0600000000000080 0200000000000000 0*8 0100000000000000 0100000000000000 0*8
     0200000000000000 0*8 0*8 e803000000000000 e803000000000000 e803000000000000 0*12 ed410000
@@ -18,7 +18,7 @@ const ANSWERS: [&str; 2] = [
     02000000 e8030000 e8030000 00000000 00100000 00000000",
 ];
 
-// MKDIR `a` (id 4) and `b` (id 6) die before they are committed, and are sent again in the order
+// The server dies before MKDIR `a` (id 4) and `b` (id 6) are committed. They are resent in the order
 // second, first.
 fn resent_events(alloc: Global, kernel: &mut Kernel) -> Result<Vec<Event>, Fail> {
     let mut events = events_of(alloc, &[INIT])?;
@@ -28,7 +28,7 @@ fn resent_events(alloc: Global, kernel: &mut Kernel) -> Result<Vec<Event>, Fail>
     Ok(events)
 }
 
-// What came of them over a new store.
+// Their outcomes over a new store.
 fn run_resent(alloc: Global, events: &[Event]) -> Vec<Option<Outcome>> {
     let mut keeper = new_keeper(alloc).ok();
     match drive_on(alloc, &mut keeper, events) {

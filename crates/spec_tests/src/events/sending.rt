@@ -1,21 +1,21 @@
-//! Calls of a `Kernel`, where their conditions hold.
+//! Calls of a `Kernel` whose conditions hold.
 use super::*;
 use fuse_request::{Request, encode};
 use fuse_sim::Kernel;
 use fuse_wire::Id;
 
-/// Why a request wasn't sent.
+/// Why a request was not sent.
 #[derive(Clone, Copy, Debug)]
 pub enum Unsent {
     /// It may not be sent.
     MayNotBe,
-    /// There was no memory to test that.
+    /// Out of memory for that test.
     Untested,
-    /// There was no memory to send it.
+    /// Out of memory for sending.
     Memory,
 }
 
-/// Sends a request, where it may be sent.
+/// Sends a request, if it may be sent.
 pub(crate) fn send(
     alloc: Global,
     kernel: &mut Kernel,
@@ -35,7 +35,7 @@ pub(crate) fn send(
     }
 }
 
-/// Sends the requests at these places again, where they are places.
+/// Resends the requests at these places, if they exist.
 pub(crate) fn resend(kernel: &mut Kernel, order: &[usize]) -> Result<Vec<Vec<u8>>, Unsent> {
     let count = kernel.pending().len();
     if !order.iter().all(|place| *place < count) {

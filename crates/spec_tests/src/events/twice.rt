@@ -1,4 +1,4 @@
-//! Two lists of events in a row, in each of which the server dies.
+//! Two lists of events, one after the other, in each of which the server dies.
 use super::*;
 use crate::run::holding;
 use crate::texts::{AGREED, MKDIR_A, MKDIR_B};
@@ -11,8 +11,8 @@ const FIRST: [Step; 3] = [
     (MKDIR_B, Fate::AnswerLost, ""),
 ];
 
-// Both are sent again, so that `a` is node 2 and `b` node 3. MKDIR `c` under id 8 isn't committed
-// before the server dies.
+// Both are resent: `a` is node 2 and `b` node 3. The server dies before MKDIR `c` under id 8 is
+// committed.
 const SECOND: [Step; 3] = [
     (
         "32000000 09000000 0400000000000080 0100000000000000 e8030000 e8030000 4d000000 00000000
@@ -41,7 +41,7 @@ const SECOND: [Step; 3] = [
 // The outcomes of both lists.
 type Both = Option<(Vec<Option<Outcome>>, Vec<Option<Outcome>>)>;
 
-// Runs both lists, where there is a keeper that hasn't failed.
+// Runs both lists, if there is a keeper that has not failed.
 fn drive_both(
     alloc: Global,
     keeper: &mut Option<TreeKeeper>,
@@ -68,8 +68,8 @@ fn are_right(alloc: Global, both: &Both) -> Result<bool, AllocError> {
     }
 }
 
-// Runs both over a new store: whether all answers are right, and whether the root, `a` and `b` and
-// three records are held then.
+// Runs both over a new store: whether all answers are right, and whether the store has the root, `a`,
+// `b` and three records then.
 fn run(alloc: Global) -> Result<[bool; 2], StoreFault> {
     let events = events_of(alloc, &FIRST)?;
     let more = events_of(alloc, &SECOND)?;

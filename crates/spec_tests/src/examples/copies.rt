@@ -1,4 +1,4 @@
-//! What a commit leaves that answered a fault, and what opening the keeper again loses.
+//! The store after a commit that failed, and after opening the keeper again.
 ghost use Rattle.std.specs.Prelude.{◌≢◌};
 ghost use Rattle.fuse_wire.specs.Ids.{id_of};
 
@@ -16,7 +16,7 @@ const NOW: Moment = Moment {
 
 type Copies = TwoCopies<ThreeFiles>;
 
-// New files. So many commits go well between two that are refused.
+// New files. `between` commits succeed between two that fail.
 fn begun(alloc: Global, commits: u64) -> Result<Copies, Memory> {
     TwoCopies::new(alloc, NOW, commits)
 }
@@ -40,7 +40,7 @@ fn ask(keeper: &mut Copies, unique: u64) -> Result<Option<Done>, StoreFault>
     Ok(dones.pop())
 }
 
-// Whether it is answered EPROTO, since there was no INIT, for the first time or as a repeat.
+// Whether the answer is EPROTO, since there was no INIT, for the first time or as a repeat.
 fn answers(keeper: &mut Copies, unique: u64, repeated: bool) -> bool
     requires { id_of unique ≢ 0 }
 {
@@ -87,7 +87,7 @@ fn refuses(keeper: &mut Copies) -> [bool; 5] {
     ]
 }
 
-// It goes when the keeper is opened again; then it is performed as if it had never been.
+// It is gone when the keeper is opened again, and is performed as new.
 fn loses(keeper: &mut Copies) -> [bool; 3] {
     [
         is_opened(keeper, 1),
@@ -115,8 +115,8 @@ fn a_refused_commit_is_lost(rt: HostRuntime) -> Result<(), StoreFault> {
     Ok(())
 }
 
-// A commit that holds and answers a fault, once: when the keeper is opened again its group is a
-// repeat.
+// A commit that succeeds and still returns a fault, once: when the keeper is opened again its group is
+// a repeat.
 fn finds(keeper: &mut Copies) -> [bool; 4] {
     [
         has_records(keeper, 1),
@@ -143,7 +143,7 @@ fn begins_mount(keeper: &mut Copies) -> bool {
     keeper.begin_mount().is_ok()
 }
 
-// A mount that isn't committed leaves the records of the one before.
+// A mount that is not committed leaves the records of the one before.
 fn refused_mount(alloc: Global) -> Result<([bool; 3], [bool; 3]), StoreFault> {
     let mut keeper = begun(alloc, 1)?;
     let refused = [

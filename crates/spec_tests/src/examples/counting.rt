@@ -1,4 +1,4 @@
-//! What is counted in sessions, in a mount that begins, and in events at which the server dies.
+//! The counts of sessions, of a mount that begins, and of events at which the server dies.
 use counting_keeper::{CountingKeeper, Tally};
 use fuse_keeper::{Keeper, Restart, StoreFault};
 use fuse_session::{Arrival, Fixed, MemoryPort, serve};
@@ -15,7 +15,7 @@ const NOW: Moment = Moment {
 
 type Counted = CountingKeeper<TwoCopies<ThreeFiles>>;
 
-// So many commits go well between two that are refused.
+// The number of commits that succeed between two that fail.
 fn begun(alloc: Global, commits: u64) -> Result<Counted, Memory> {
     Ok(CountingKeeper::new(TwoCopies::new(alloc, NOW, commits)?))
 }
@@ -38,7 +38,7 @@ fn messages(alloc: Global, uniques: &[u64]) -> Result<Vec<u8>, AllocError> {
     Ok(out)
 }
 
-// Serves these messages, so many bytes at a time, where the keeper hasn't failed.
+// Serves these messages in pieces of `size` bytes, if the keeper has not failed.
 fn serve_on(
     alloc: Global,
     keeper: &mut Counted,
@@ -69,15 +69,14 @@ fn begins_mount(keeper: &mut Counted) -> bool {
     keeper.begin_mount().is_ok()
 }
 
-// Each message in a group of its own, of which the third isn't committed.
+// Each message in a group of its own. The third is not committed.
 fn first(alloc: Global) -> Result<Counted, StoreFault> {
     let mut keeper = begun(alloc, 2)?;
     serve_on(alloc, &mut keeper, &[4, 6, 8], MESSAGE)?;
     Ok(keeper)
 }
 
-// One group, in which one comes again and one is new. Then the next mount. What only looks isn't
-// counted.
+// One group, with one repeat and one new request. Then the next mount. Queries are not counted.
 fn second(alloc: Global, keeper: &mut Counted) -> Result<bool, StoreFault> {
     serve_on(alloc, keeper, &[UNIQUE_RESEND | 6, 8], 2 * MESSAGE)?;
     Ok(has_record(keeper, 8) && begins_mount(keeper) && !has_record(keeper, 8))
@@ -90,7 +89,7 @@ const BEFORE: Tally = Tally {
     ..Tally::NONE
 };
 
-const BEHIND: Tally = Tally {
+const LATER: Tally = Tally {
     groups: 3,
     requests: 4,
     repeated: 1,
@@ -104,7 +103,7 @@ fn sessions(alloc: Global) -> Result<[bool; 3], StoreFault> {
     let before = keeper.tally() == BEFORE;
     let mut opened = reopened(keeper)?;
     let looks = second(alloc, &mut opened)?;
-    Ok([before, looks, opened.tally() == BEHIND])
+    Ok([before, looks, opened.tally() == LATER])
 }
 
 #[test]
@@ -113,7 +112,7 @@ fn sessions_are_counted(rt: HostRuntime) -> Result<(), StoreFault> {
     Ok(())
 }
 
-// The server dies behind one commit and before another; both come again.
+// The server dies after one commit and before another; both requests are resent.
 const STEPS: [(u64, Fate); 5] = [
     (4, Fate::Answered),
     (6, Fate::DiedAfterCommit),
@@ -152,7 +151,7 @@ const DRIVEN: Tally = Tally {
     ..Tally::NONE
 };
 
-// Whether this was counted, and the keeper below was opened again so often.
+// Whether the counts are these, and the inner keeper was opened again this number of times.
 fn is_counted(keeper: Counted) -> bool {
     keeper.tally() == DRIVEN && keeper.into_inner().openings() == 2
 }

@@ -17,7 +17,7 @@ const NOW: Moment = Moment {
     nanos: 0,
 };
 
-// What comes in one session, and what is to be sent for it.
+// The input of one session, and the expected output.
 #[derive(Drop)]
 struct Session {
     input: Vec<u8>,
@@ -36,7 +36,7 @@ fn session_of(alloc: Global, pairs: &[Pair]) -> Result<Session, AllocError> {
     Ok(session)
 }
 
-// What is counted of so many messages, some of them repeated, all of them kept.
+// The counts of `messages` kept messages, some of them repeated.
 fn counts_of(kept: u64, repeated: u64) -> SessionCounts {
     SessionCounts {
         messages: kept,
@@ -46,8 +46,8 @@ fn counts_of(kept: u64, repeated: u64) -> SessionCounts {
     }
 }
 
-// A session of these, in one piece: whether it ended where its bytes do, just what was wanted was
-// sent, and just this was counted.
+// A session with this input in one piece: whether it ended at the end of its input, exactly the
+// expected bytes were sent, and the counts are these.
 fn serves(
     alloc: Global,
     keeper: &mut PlainKeeper<ThreeFiles>,
@@ -72,8 +72,8 @@ fn serves_new(alloc: Global, pairs: &[Pair], counts: SessionCounts) -> Result<bo
     Ok(serves(alloc, &mut keeper, pairs, counts)?)
 }
 
-// Files are read, nothing is changed, what is refused, and before INIT. The last of those that
-// change something is a resend, and gets the same bytes with the bit of a resend.
+// Reads, changes, refused requests, and requests before INIT. No change is made. The last of the
+// changes is a resend, and gets the same bytes with the resend bit.
 #[test]
 fn sessions(rt: HostRuntime) -> Result<(), Fail> {
     let alloc = rt.alloc();
@@ -96,7 +96,7 @@ fn holds_files(keeper: &mut PlainKeeper<ThreeFiles>) -> bool {
     matches!(keeper.counts(), Ok(counts) if counts.nodes == 4 && counts.handles == 0)
 }
 
-// A new mount has agreed on nothing yet, and the files are those of before.
+// A new mount has agreed on nothing yet, and has the files of before.
 fn two_mounts(alloc: Global) -> Result<[bool; 4], Fail> {
     let mut keeper: PlainKeeper<ThreeFiles> = PlainKeeper::new(alloc, NOW)?;
     let first = serves(alloc, &mut keeper, &CHANGING, counts_of(11, 1))?;

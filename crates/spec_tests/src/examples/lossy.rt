@@ -1,4 +1,4 @@
-//! Two lives of a server behind a port that loses answers.
+//! Two lives of a server over a port that loses answers.
 use crate::hex::put_hex;
 use fuse_keeper::{Keeper, PlainKeeper, Restart};
 use fuse_session::{Ended, Fixed, Port, SessionCounts, serve};
@@ -16,7 +16,7 @@ const NOW: Moment = Moment {
     nanos: 0,
 };
 
-// What comes in a life, what is to be sent for it, and what of that is to get through.
+// The input of a life, the expected output, and the part of it that gets through.
 #[derive(Drop)]
 struct Life {
     input: Vec<u8>,
@@ -38,7 +38,7 @@ fn life_of(alloc: Global, exchanges: &[Exchange]) -> Result<Life, AllocError> {
     Ok(life)
 }
 
-// What is counted of so many messages, some of them repeated, all of them kept.
+// The counts of `messages` kept messages, some of them repeated.
 fn counts_of(kept: u64, repeated: u64) -> SessionCounts {
     SessionCounts {
         messages: kept,
@@ -48,9 +48,9 @@ fn counts_of(kept: u64, repeated: u64) -> SessionCounts {
     }
 }
 
-// Serves a life over a port that loses each answer of this number: whether it ended where its bytes
-// do, just what was wanted was sent and got through, and just this was counted. The messages come
-// at once, and then there is no more.
+// Serves a life over a port that loses each answer with this number: whether it ended at the end of
+// its input, exactly the expected bytes were sent and got through, and the counts are these. All
+// messages arrive at once.
 fn serves(
     alloc: Global,
     keeper: &mut PlainKeeper<PlainTree>,
@@ -72,15 +72,15 @@ fn serves(
     ])
 }
 
-// Whether there are so many nodes and handles.
+// Whether the keeper has these numbers of nodes and handles.
 fn holds(keeper: &mut PlainKeeper<PlainTree>, nodes: u64, handles: u64) -> bool {
     matches!(keeper.counts(), Ok(counts) if counts.nodes == nodes && counts.handles == handles)
 }
 
-// The third answer of the first life is lost: nobody is told of handle 1. The second life opens the
-// same keeper, and loses nothing. What comes again gets the same bytes, be its answer lost or not,
-// and changes nothing: there are the root and f, handles 1 and 2, and the one that is new in the
-// second life.
+// The third answer of the first life is lost, the one with handle 1. The second life opens the same
+// keeper, and loses nothing. A repeated message gets the same bytes, whether its answer was lost or
+// not, and changes nothing: there are the root and f, handles 1 and 2, and the new one of the second
+// life.
 fn lives(alloc: Global) -> Result<([[bool; 4]; 2], bool), Fail> {
     let mut keeper: PlainKeeper<PlainTree> = PlainKeeper::new(alloc, NOW)?;
     let first = serves(alloc, &mut keeper, 3, &FIRST, counts_of(4, 0))?;

@@ -1,10 +1,10 @@
-//! The rows of `pack`.
+//! Cases of `pack`.
 ghost use Rattle.std.specs.Prelude.{◌≤◌, length};
 
 use fuse_answer::*;
 use std::alloc::Global;
 
-// How many bytes an entry of this name takes, and none where there is no room.
+// The size of an entry with this name, or 0 if there is no room.
 fn packed_size(alloc: Global, name: &[u8], size: u32) -> Result<usize, PackFault>
     requires some { 1 ≤ length name.now }
     requires few { length name.now ≤ 255 }
@@ -33,7 +33,7 @@ const DOTS: Dirent<'static> = Dirent {
     name: b"..",
 };
 
-// How many of the first two entries of the root fit, and how many bytes these are.
+// How many of the first two entries of the root fit, and their size.
 fn packed_dots(alloc: Global, size: u32) -> Result<(usize, usize), PackFault> {
     let packed = pack(alloc, &[DOT, DOTS], size)?;
     Ok((packed.taken, packed.body.as_slice().len()))

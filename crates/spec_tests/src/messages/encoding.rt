@@ -1,9 +1,9 @@
-//! Row longest-write.
+//! Case longest-write.
 use fuse_request::*;
 use std::alloc::Global;
 use std::test::*;
 
-// A WRITE of this payload.
+// A WRITE with this payload.
 fn write(payload: &[u8]) -> Request<'_> {
     let header = InHeader {
         unique: 8,
@@ -27,7 +27,7 @@ fn write(payload: &[u8]) -> Request<'_> {
     }
 }
 
-// Whether a WRITE of this payload is too long, and how many bytes there are then, where one was
+// Whether a WRITE with this payload is too long, and the length of the output then, if it was 1
 // before.
 fn written(alloc: Global, payload: &[u8]) -> Result<(bool, usize), Fail> {
     let mut out = Vec::from_slice(alloc, b"a")?;

@@ -1,11 +1,11 @@
-// What a framer answers to a length that no message has, and to the longest.
+// A framer over a length that no message has, and over the longest message.
 
 use fuse_request::*;
 use std::alloc::Global;
 use std::test::*;
 
-// Whether `next` over the four bytes of a length answers this fault, and so do `feed` of one byte
-// more and `next` again. And the fault of `end`.
+// Whether `next` over the four bytes of a length returns this fault, as do `feed` of one more byte
+// and `next` after it. And the fault of `end`.
 fn answers(
     alloc: Global,
     bytes: &[u8; 4],
@@ -32,7 +32,7 @@ const CUT: Option<FrameFault> = Some(FrameFault::Cut {
     need: 135_168,
 });
 
-// Rows length-bounds and feed-short.
+// Cases length-bounds and feed-short.
 fn bounds(alloc: Global) -> Result<[bool; 3], Fail> {
     Ok([
         answers(alloc, b"\x27\0\0\0", SHORT)? == (true, SHORT),

@@ -1,5 +1,5 @@
-ghost use Rattle.spec_tests.specs.InitRows.{ExtIn16, InitAgreed, InitNewerMajor};
-ghost use Rattle.spec_tests.specs.InitRows.{InitShort, InitTooOld, NewerMinor};
+ghost use Rattle.spec_tests.specs.InitCases.{ExtIn16, InitAgreed, InitNewerMajor};
+ghost use Rattle.spec_tests.specs.InitCases.{InitShort, InitTooOld, NewerMinor};
 
 use fuse_init::*;
 use std::test::*;
@@ -20,7 +20,7 @@ fn init_too_old()
     ensures { InitTooOld }
 {}
 
-fn newer_minor_row()
+fn newer_minor_case()
     ensures { NewerMinor }
 {}
 
@@ -35,7 +35,7 @@ fn vectors() {
     init_short();
     init_newer_major();
     init_too_old();
-    newer_minor_row();
+    newer_minor_case();
     ext_in_16();
     agreed_bits();
 }

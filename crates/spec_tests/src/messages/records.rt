@@ -1,5 +1,5 @@
-ghost use Rattle.spec_tests.specs.AnswerRows.{ErrorFields, FirstRun, Headers, Inits, Listing};
-ghost use Rattle.spec_tests.specs.AnswerRows.{OpenAndWrite, Reads, Refusals};
+ghost use Rattle.spec_tests.specs.AnswerCases.{ErrorFields, FirstRun, Headers, Inits, Listing};
+ghost use Rattle.spec_tests.specs.AnswerCases.{OpenAndWrite, Reads, Refusals};
 
 use fuse_answer::*;
 use fuse_wire::Memory;
@@ -80,7 +80,7 @@ const DIRECTORY_BYTES: &[u8] = b"\x02\0\0\0\0\0\0\0\0\0\0\0\0\0\0\0\0\0\0\0\0\0\
     \0\0\0\0\0\0\0\0\0\0\0\0\xed\x41\0\0\x02\0\0\0\xe8\x03\0\0\
     \xe8\x03\0\0\0\0\0\0\0\x10\0\0\0\0\0\0";
 
-// The notice that asks for resends, and its bytes.
+// The resend notice, and its bytes.
 const NOTICE: OutHeader = OutHeader {
     len: 16,
     error: 7,
@@ -89,7 +89,7 @@ const NOTICE: OutHeader = OutHeader {
 
 const NOTICE_BYTES: &[u8] = b"\x10\0\0\0\x07\0\0\0\0\0\0\0\0\0\0\0";
 
-// Records that no answer is by itself.
+// Records that are only parts of answers.
 #[test]
 fn bodies(rt: HostRuntime) -> Result<(), Memory> {
     let attributes = DIRECTORY.body_of(rt.alloc())?;

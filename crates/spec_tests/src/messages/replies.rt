@@ -20,8 +20,8 @@ fn size_of_write(rt: HostRuntime) {
     assert_eq!(rt; size, 3);
 }
 
-// The errors 511 and 512, the notice that asks for resends, a body behind an error, the same cut
-// short, and no body.
+// The errors 511 and 512, the resend notice, a body after an error, the same cut short, and no
+// body.
 const LAST_ERROR: &[u8] = b"\x10\0\0\0\x01\xfe\xff\xff\x04\0\0\0\0\0\0\0";
 
 const PAST_IT: &[u8] = b"\x10\0\0\0\0\xfe\xff\xff\x04\0\0\0\0\0\0\0";
@@ -37,7 +37,7 @@ const SHORT: &[u8] = b"\x11\0\0\0\xfe\xff\xff\xff\x04\0\0\0\0\0\0";
 const SUCCESS: &[u8] = b"\x10\0\0\0\0\0\0\0\x04\0\0\0\0\0\0\0";
 
 // The answer to READDIR of the root, of 32 bytes, without its last byte, with a name of no bytes,
-// and with padding that isn't 0.
+// and with padding other than 0.
 const CUT_LISTING: &[u8] = b"\x2f\0\0\0\0\0\0\0\x06\0\0\0\0\0\0\0\
     \x01\0\0\0\0\0\0\0\x01\0\0\0\0\0\0\0\x01\0\0\0\x04\0\0\0.\0\0\0\0\0\0";
 
@@ -47,37 +47,37 @@ const NAMELESS: &[u8] = b"\x30\0\0\0\0\0\0\0\x06\0\0\0\0\0\0\0\
 const PADDED: &[u8] = b"\x30\0\0\0\0\0\0\0\x06\0\0\0\0\0\0\0\
     \x01\0\0\0\0\0\0\0\x01\0\0\0\0\0\0\0\x01\0\0\0\x04\0\0\0.\0\0\0\0\0\0\x01";
 
-// Whether this is wrong with the bytes, or nothing where they are an answer.
-fn is_told(opcode: u32, bytes: &[u8], fault: Option<BadAnswer>) -> bool {
+// Whether `read_answer` finds this fault, or none.
+fn has_fault(opcode: u32, bytes: &[u8], fault: Option<BadAnswer>) -> bool {
     !is_silent(opcode) && read_answer(opcode, bytes).err() == fault
 }
 
 fn headers() -> [bool; 8] {
     [
-        is_told(LOOKUP, LAST_ERROR, None),
-        is_told(LOOKUP, PAST_IT, Some(BadAnswer::ErrorRange)),
-        is_told(LOOKUP, NOTICE, Some(BadAnswer::ErrorRange)),
-        is_told(READ, NOTICE, Some(BadAnswer::ErrorRange)),
-        is_told(4096, NOTICE, Some(BadAnswer::ErrorRange)),
-        is_told(LOOKUP, REFUSAL, Some(BadAnswer::BodyAfterError)),
-        is_told(LOOKUP, CUT_REFUSAL, Some(BadAnswer::LenDiffers)),
-        is_told(LOOKUP, SHORT, Some(BadAnswer::Short)),
+        has_fault(LOOKUP, LAST_ERROR, None),
+        has_fault(LOOKUP, PAST_IT, Some(BadAnswer::ErrorRange)),
+        has_fault(LOOKUP, NOTICE, Some(BadAnswer::ErrorRange)),
+        has_fault(READ, NOTICE, Some(BadAnswer::ErrorRange)),
+        has_fault(4096, NOTICE, Some(BadAnswer::ErrorRange)),
+        has_fault(LOOKUP, REFUSAL, Some(BadAnswer::BodyAfterError)),
+        has_fault(LOOKUP, CUT_REFUSAL, Some(BadAnswer::LenDiffers)),
+        has_fault(LOOKUP, SHORT, Some(BadAnswer::Short)),
     ]
 }
 
 fn bodies() -> [bool; 11] {
     [
-        is_told(LOOKUP, SUCCESS, Some(BadAnswer::BodyLength)),
-        is_told(GETATTR, SUCCESS, Some(BadAnswer::BodyLength)),
-        is_told(OPEN, SUCCESS, Some(BadAnswer::BodyLength)),
-        is_told(INIT, SUCCESS, Some(BadAnswer::BodyLength)),
-        is_told(READ, SUCCESS, None),
-        is_told(READDIR, SUCCESS, None),
-        is_told(RELEASE, SUCCESS, None),
-        is_told(4096, SUCCESS, None),
-        is_told(READDIR, CUT_LISTING, Some(BadAnswer::BadDirent)),
-        is_told(READDIR, NAMELESS, Some(BadAnswer::BadDirent)),
-        is_told(READDIR, PADDED, None),
+        has_fault(LOOKUP, SUCCESS, Some(BadAnswer::BodyLength)),
+        has_fault(GETATTR, SUCCESS, Some(BadAnswer::BodyLength)),
+        has_fault(OPEN, SUCCESS, Some(BadAnswer::BodyLength)),
+        has_fault(INIT, SUCCESS, Some(BadAnswer::BodyLength)),
+        has_fault(READ, SUCCESS, None),
+        has_fault(READDIR, SUCCESS, None),
+        has_fault(RELEASE, SUCCESS, None),
+        has_fault(4096, SUCCESS, None),
+        has_fault(READDIR, CUT_LISTING, Some(BadAnswer::BadDirent)),
+        has_fault(READDIR, NAMELESS, Some(BadAnswer::BadDirent)),
+        has_fault(READDIR, PADDED, None),
     ]
 }
 

@@ -1,4 +1,4 @@
-//! The machine's clock, where it gives a moment and where it gives none.
+//! The machine's clock, when it works and when it fails.
 use fuse_session::{Clock, System};
 use fuse_wire::Moment;
 use std::cell::Cell;
@@ -6,7 +6,7 @@ use std::test::*;
 use std::time::Duration;
 use std::{io, rt};
 
-// Gives 1,000 s and 5 ns so often, and then fails.
+// Gives 1,000 s and 5 ns `left` times, and then fails.
 #[derive(Drop)]
 struct Stopping {
     left: Cell<u32>,

@@ -1,4 +1,4 @@
-//! Devices: what the numbers mean with which a read or a write is refused (fuse(4)).
+//! Devices: the meaning of each error number of a read or a write (fuse(4)).
 use super::*;
 use crate::run::holding;
 use crate::texts::{LOOKUP_HELLO, NOT_THERE};
@@ -6,7 +6,7 @@ use fuse_session::DevicePort;
 use std::io;
 use std::io::{Read, Write};
 
-// What the next calls are refused with, if they are, call by call.
+// The error numbers of the next calls, or none, call by call.
 #[derive(Drop)]
 struct Refusals {
     numbers: &'static [Option<i32>],
@@ -25,7 +25,7 @@ impl Refusals {
     }
 }
 
-// Gives one message, and then no byte.
+// Gives one message, and then the end.
 #[derive(Drop)]
 struct Reader {
     refusals: Refusals,
@@ -41,7 +41,7 @@ impl Read for Reader {
     }
 }
 
-// Keeps what is written.
+// Keeps the written bytes.
 #[derive(Drop)]
 struct Writer {
     refusals: Refusals,
@@ -55,128 +55,130 @@ impl Write for Writer {
         Ok(buf.len())
     }
 
-    // A device has nothing to flush.
+    // A device has no buffer to flush.
     fn flush(&mut self) -> io::Result<()> {
         Err(io::Error::from(io::ErrorKind::Unsupported))
     }
 }
 
-// How a session ends in which these calls are refused, and whether its one answer is written.
+// How a session ends in which these calls fail, and whether its one answer is written.
 #[derive(Clone, Copy)]
-struct Row {
+struct Case {
     name: &'static str,
     reads: &'static [Option<i32>],
     writes: &'static [Option<i32>],
-    ended: Told,
+    ended: EndKind,
     answered: bool,
 }
 
-const ROWS: [Row; 9] = [
-    Row {
+const CASES: [Case; 9] = [
+    Case {
         name: "unmounted",
         reads: &[None, Some(19)],
         writes: &[],
-        ended: Told::End,
+        ended: EndKind::End,
         answered: true,
     },
-    Row {
+    Case {
         name: "no byte",
         reads: &[],
         writes: &[],
-        ended: Told::End,
+        ended: EndKind::End,
         answered: true,
     },
-    Row {
+    Case {
         name: "a request that ended before it was read",
         reads: &[Some(2), None, Some(2), Some(19)],
         writes: &[],
-        ended: Told::End,
+        ended: EndKind::End,
         answered: true,
     },
-    Row {
+    Case {
         name: "a signal",
         reads: &[Some(4), None, Some(4), Some(19)],
         writes: &[],
-        ended: Told::End,
+        ended: EndKind::End,
         answered: true,
     },
-    Row {
+    Case {
         name: "nothing waits",
         reads: &[Some(11), None, Some(11), Some(19)],
         writes: &[],
-        ended: Told::End,
+        ended: EndKind::End,
         answered: true,
     },
-    Row {
+    Case {
         name: "a read fails",
         reads: &[None, Some(5)],
         writes: &[],
-        ended: Told::PortFailed,
+        ended: EndKind::PortFailed,
         answered: true,
     },
-    Row {
+    Case {
         name: "nobody waits for the answer",
         reads: &[],
         writes: &[Some(2)],
-        ended: Told::End,
+        ended: EndKind::End,
         answered: false,
     },
-    Row {
+    Case {
         name: "a write fails",
         reads: &[],
         writes: &[Some(5)],
-        ended: Told::PortFailed,
+        ended: EndKind::PortFailed,
         answered: false,
     },
-    Row {
+    Case {
         name: "unmounted before the answer",
         reads: &[],
         writes: &[Some(19)],
-        ended: Told::PortFailed,
+        ended: EndKind::PortFailed,
         answered: false,
     },
 ];
 
-// How a session over this device ends, and what is written to it.
+// How a session over this device ends, and the bytes written to it.
 fn serve_device(
     alloc: Global,
     keeper: &mut TreeKeeper,
     reader: Reader,
     writer: Writer,
-) -> (Told, Vec<u8>) {
+) -> (EndKind, Vec<u8>) {
     if keeper.failed() {
-        return (Told::Failed, writer.written);
+        return (EndKind::Failed, writer.written);
     }
     let mut port = DevicePort::new(reader, writer);
     let served = serve(alloc, keeper, &mut port, &mut Fixed(AT_1000), 1000);
-    (told_of(&served.ended), port.into_writer().written)
+    (kind_of(&served.ended), port.into_writer().written)
 }
 
-fn is_right(alloc: Global, row: &Row) -> Result<bool, StoreFault> {
+fn is_right(alloc: Global, case: &Case) -> Result<bool, StoreFault> {
     let reader = Reader {
-        refusals: Refusals { numbers: row.reads },
+        refusals: Refusals {
+            numbers: case.reads,
+        },
         message: hex(alloc, LOOKUP_HELLO)?,
     };
     let writer = Writer {
         refusals: Refusals {
-            numbers: row.writes,
+            numbers: case.writes,
         },
         written: Vec::new(alloc),
     };
     let mut keeper = begun(alloc, INIT_AGREED)?;
     let (ended, written) = serve_device(alloc, &mut keeper, reader, writer);
-    let answer = hex(alloc, if row.answered { NOT_THERE } else { "" })?;
+    let answer = hex(alloc, if case.answered { NOT_THERE } else { "" })?;
     Ok(
-        ended == row.ended
+        ended == case.ended
             && written.as_slice() == answer.as_slice()
             && held_in(&mut keeper) == Some(holding(1, 0, 2)),
     )
 }
 
 #[test]
-fn device_rows(rt: HostRuntime) -> Result<(), StoreFault> {
-    for row in &ROWS {
-        assert!(rt; is_right(rt.alloc(), row)?, "{}", row.name);
+fn device_cases(rt: HostRuntime) -> Result<(), StoreFault> {
+    for case in &CASES {
+        assert!(rt; is_right(rt.alloc(), case)?, "{}", case.name);
     }
     Ok(())
 }

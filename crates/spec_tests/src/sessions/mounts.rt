@@ -1,4 +1,4 @@
-//! Row unlinked-open-file, and the mount behind it.
+//! Case unlinked-open-file, and the mount after it.
 use super::running::put_pairs;
 use super::*;
 use crate::run::{MKNOD, OPEN, Pair, WRITE, holding};
@@ -28,7 +28,7 @@ const BEFORE: [Pair; 6] = [
 ];
 
 // INIT under id 16, and GETATTR of node 2 under id 18: ESTALE.
-const BEHIND: [Pair; 2] = [
+const AFTER: [Pair; 2] = [
     (
         "68000000 1a000000 1000000000000000 0*8 0*16
         07000000 28000000 00000200 21200040 80000000 0*44",
@@ -53,15 +53,15 @@ fn begin_mount<K: Keeper>(keeper: &mut K) -> Result<(), StoreFault> {
     keeper.begin_mount()
 }
 
-// Whether all is as it should be before a mount and in it.
+// Whether the session before a mount is right, and the one in it.
 fn around_a_mount(alloc: Global) -> Result<[bool; 2], StoreFault> {
     let mut keeper = begun(alloc, INIT_AGREED)?;
     let before = serve_on(alloc, &mut keeper, session_of(alloc, &BEFORE)?);
     begin_mount(&mut keeper)?;
-    let behind = serve_on(alloc, &mut keeper, session_of(alloc, &BEHIND)?);
+    let after = serve_on(alloc, &mut keeper, session_of(alloc, &AFTER)?);
     Ok([
-        before.is(Told::End, holding(2, 1, 7)),
-        behind.is(Told::End, holding(1, 0, 2)),
+        before.is(EndKind::End, holding(2, 1, 7)),
+        after.is(EndKind::End, holding(1, 0, 2)),
     ])
 }
 

@@ -3,7 +3,7 @@ use super::*;
 use crate::hex::{mark_resent, put_hex};
 use crate::run::{MESSAGES, Pair, QUESTIONS, RUN};
 
-// How many bytes each message of the run has, and each answer.
+// The size of each message of the run, and of each answer.
 const LENGTHS: [usize; MESSAGES] = [104, 58, 48, 83, 80, 50, 52, 64];
 
 const ANSWER_LENGTHS: [usize; MESSAGES] = [80, 144, 32, 24, 19, 144, 16, 16];
@@ -15,7 +15,7 @@ pub enum Grouping {
     All,
 }
 
-/// The first messages in pieces, so that they are grouped so.
+/// The first messages in pieces, so that they form these groups.
 pub(crate) fn put_pieces(
     arrivals: &mut Vec<Arrival>,
     grouping: Grouping,
@@ -47,7 +47,7 @@ fn size_of_first(lengths: &[usize], count: usize) -> usize {
     size
 }
 
-/// How many bytes the first answers of the run have.
+/// The size of the first answers of the run.
 pub(crate) fn size_of_answers(count: usize) -> usize {
     size_of_first(&ANSWER_LENGTHS, count)
 }
@@ -64,7 +64,7 @@ pub(crate) fn run(alloc: Global, peer: Peer) -> Result<Session, AllocError> {
     })
 }
 
-// Appends a message or an answer with the bit that marks a resend.
+// Appends a message or an answer with the resend bit.
 fn put_resent(out: &mut Vec<u8>, text: &str) -> Result<(), AllocError> {
     let begin = out.len();
     put_hex(out, text)?;
@@ -85,8 +85,8 @@ pub(crate) fn put_pairs(
     Ok(())
 }
 
-/// What follows after the notice: what has no answer yet is resent, and then the tree is asked
-/// about.
+/// The session after the notice: the requests without an answer are resent, then the questions about
+/// the tree follow.
 pub(crate) fn resent_run(alloc: Global, answered: usize) -> Result<Session, AllocError> {
     let mut input = Vec::new(alloc);
     let mut wanted = NOTICE.to_vec(alloc)?;

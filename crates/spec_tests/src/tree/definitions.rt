@@ -1,19 +1,19 @@
-//! What the definitions answer in worked rows, computed.
+//! Worked cases, computed by the definitions.
 ghost use Rattle.fuse_tree.specs.Vectors.{Inits, FirstRun, Refusals};
 
-// The definitions answer INIT so.
+// INIT.
 #[tactic(auto, unfolding(fuse_tree::specs::Do::done))]
 fn inits()
     ensures { Inits }
 {}
 
-// They answer the first run so.
+// The first run.
 #[tactic(auto, unfolding(fuse_tree::specs::Do::done))]
 fn first_run()
     ensures { FirstRun }
 {}
 
-// And they refuse so.
+// Refused requests.
 #[tactic(auto, unfolding(fuse_tree::specs::Do::done))]
 fn refusals()
     ensures { Refusals }

@@ -1,4 +1,4 @@
-//! Row `limits`, over a `Look` of the test.
+//! Case limits, over a `Look` of the tests.
 use crate::tree::looks::{counting, planned_where};
 use fuse_request::Op;
 use std::alloc::Global;
@@ -25,7 +25,7 @@ const OPEN: Op<'static> = Op::OpenFile {
 // The next node, fh and cookie, how many nodes and handles there are, and the error number.
 type Limit = ([u64; 5], u32);
 
-// Of MKDIR and MKNOD in the root.
+// MKDIR and MKNOD in the root.
 const MADE: [Limit; 6] = [
     ([65_537, 1, 65_538, 65_535, 0], 0),
     ([65_537, 1, 65_538, 65_536, 0], 28),
@@ -35,7 +35,7 @@ const MADE: [Limit; 6] = [
     ([3, 1, 0x4000_0000_0000_0000, 2, 0], 28),
 ];
 
-// Of OPEN of the file.
+// OPEN of the file.
 const OPENED: [Limit; 4] = [
     ([3, 0x3fff_ffff_ffff_ffff, 4, 2, 65_535], 0),
     ([3, 65_537, 4, 2, 65_536], 23),
@@ -48,7 +48,7 @@ fn errno_where(alloc: Global, counters: [u64; 5], nodeid: u64, op: Op<'_>) -> Re
     Ok(planned.answer.errno.0)
 }
 
-// Whether what is asked of a node is answered so at each of these limits.
+// Whether the operation on a node has the right error number at each of these limits.
 fn are_limits(alloc: Global, limits: &[Limit], nodeid: u64, op: Op<'_>) -> Result<bool, Fail> {
     for (counters, errno) in limits {
         if errno_where(alloc, *counters, nodeid, op)? != *errno {

@@ -1,4 +1,4 @@
-//! A `Look` of the tests, which counts how often it is asked. Contracts say nothing of it.
+//! A `Look` of the tests that counts its calls, about which contracts say nothing.
 use crate::tree::requests::request_of;
 use fuse_init::Settings;
 use fuse_request::{Op, ReadIn};
@@ -10,14 +10,13 @@ use fuse_wire::{AccessMode, ByteList, InitFlags, Memory, Moment};
 use std::alloc::Global;
 use std::test::*;
 
-/// How often nodes, entries, listings and counters were looked at.
+/// The number of looks at nodes, entries, listings and counters.
 pub type Looks = [u64; 4];
 
-/// As many nodes and handles as the counters say, which are kept nowhere. Node 1 is the root, and
-/// the others stand in it: those of an even number are files, the others empty directories. A name
-/// `n2` is that of node 2, and no other name is found. The root lists as many entries as are asked
-/// for, all of node 2 and under a name of nine bytes. The handles of an even number are of file 2,
-/// the others of the root.
+/// As many computed nodes and handles as the counters say. Node 1 is the root and holds the others:
+/// even numbers are files, odd ones empty directories. The name `n2` is that of node 2, and so on to
+/// `n9`; no other name is found. The root lists as many entries as are asked for, all of node 2 and
+/// under a name of nine bytes. Even handles are of file 2, odd ones of the root.
 #[derive(Drop)]
 pub struct Many {
     pub alloc: Global,
@@ -181,7 +180,7 @@ pub(crate) fn counting(numbers: [u64; 5]) -> Counters {
     }
 }
 
-/// What is planned where these are the counters, and how often it was looked for that.
+/// The plan with these counters, and the number of looks that it took.
 pub(crate) fn planned_where(
     alloc: Global,
     counters: Counters,
@@ -200,7 +199,7 @@ pub(crate) fn planned_where(
     }
 }
 
-// How often is looked for what is asked of the root among nine nodes. None where it is refused.
+// The number of looks of an operation on the root among nine nodes. `None` if it is refused.
 fn looks_of(alloc: Global, op: Op<'_>) -> Result<Option<Looks>, Fail> {
     let (planned, looks) = planned_where(alloc, counting([10, 2, 10, 9, 1]), ROOT_ID, op)?;
     Ok((planned.answer.errno.0 == 0).then_some(looks))
@@ -232,8 +231,8 @@ fn readdir(offset: u64, size: u32) -> Op<'static> {
     })
 }
 
-// Within one directory no node is looked up twice, no file is asked for its entries, and the
-// counters are read once. A listing looks up the children that fit: 102 entries of 40 bytes.
+// Within one directory no node is looked up twice, no file is listed, and the counters are read
+// once. A listing looks up the children that fit: 102 entries of 40 bytes.
 fn all_looks() -> [(Op<'static>, Looks); 8] {
     [
         (rename(b"n2", b"x"), [2, 2, 0, 1]),
@@ -247,7 +246,7 @@ fn all_looks() -> [(Op<'static>, Looks); 8] {
     ]
 }
 
-// How many of them are so, from the first on.
+// The number of right ones, from the first on.
 fn looked(alloc: Global) -> Result<usize, Fail> {
     for (place, (op, looks)) in all_looks().iter().enumerate() {
         if looks_of(alloc, *op)? != Some(*looks) {

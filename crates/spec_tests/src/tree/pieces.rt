@@ -1,4 +1,4 @@
-//! Row `pieces`, and as many as the largest file has blocks.
+//! Case pieces, and as many pieces as the largest file has blocks.
 ghost use Rattle.std.specs.Prelude.{◌≤◌, ◌+◌};
 ghost use Rattle.fuse_tree.specs.declared.limits.TheConstants.{MAX_FILE as max_file};
 

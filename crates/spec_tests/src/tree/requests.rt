@@ -1,7 +1,7 @@
-//! What is asked of a tree.
+//! Requests to a tree.
 use fuse_request::{InHeader, Op, Request};
 
-/// A request with the ids of the worked rows.
+/// A request with the uid, gid and pid of the cases.
 pub(crate) fn request_of(nodeid: u64, op: Op<'_>) -> Request<'_> {
     let header = InHeader {
         unique: 6,

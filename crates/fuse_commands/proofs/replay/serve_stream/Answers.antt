@@ -5,16 +5,16 @@ use Rattle.fuse_commands.specs.Replaying.{Replayed, Sends}
 use Rattle.fuse_session.specs.Ends.{ended_store, ended_memory}
 use Rattle.fuse_session.specs.Port.{fresh}
 use Rattle.fuse_session.specs.Stream.{stream_told}
-use Rattle.fuse_commands.proofs.Streams.{session_replayed, session_faulted, session_kept, counts_told}
+use Rattle.fuse_commands.proofs.Streams.{session_replayed, session_faulted, session_kept, counts_shown}
 use Rattle.fuse_commands.proofs.replay.serve_stream.Goals as goal
 
 pub returns-clause-replayed : goal.returns-clause-replayed
-returns-clause-replayed g c = λ of_stream input told.
-    let start = c.new-port.ensures ∙ ap (λ o. fresh o (Some c.new.result.items) false) told
+returns-clause-replayed g c = λ of_stream input known.
+    let start = c.new-port.ensures ∙ ap (λ o. fresh o (Some c.new.result.items) false) known
     ∙ ap (λ (x : List ℕ). fresh (Some input) (Some x) false) c.new.ensures.items in
     let ends = c.serve-served.ensures.ends in
     let n =
-    counts_told c.serve-served.result.ended ends.counts c.counts_of.result c.serve-served.result.counts (subst IsOfStream c.of_session.ensures of_stream)
+    counts_shown c.serve-served.result.ended ends.counts c.counts_of.result c.serve-served.result.counts (subst IsOfStream c.of_session.ensures of_stream)
     ends.told_are c.counts_of.ensures in
     subst
     (λ m. Replayed (g.K.Keeper.told c.args.keeper.now) (g.K.Keeper.told c.serve-served.new.keeper) c.args.moment input c.of_session.result
@@ -27,8 +27,8 @@ returns-clause-replayed g c = λ of_stream input told.
     c.of_session.ensures start refl c.into_writer.ensures ends.ends of_stream)
 
 pub returns-clause-faulted : goal.returns-clause-faulted
-returns-clause-faulted g c = λ three input told.
-    let start = c.new-port.ensures ∙ ap (λ o. fresh o (Some c.new.result.items) false) told
+returns-clause-faulted g c = λ three input known.
+    let start = c.new-port.ensures ∙ ap (λ o. fresh o (Some c.new.result.items) false) known
     ∙ ap (λ (x : List ℕ). fresh (Some input) (Some x) false) c.new.ensures.items in
     session_faulted c.cut_joins.ensures (g.K.Keeper.told c.args.keeper.now)
     (g.K.Keeper.told c.serve-served.new.keeper) c.args.moment (λ ts. GaveFixed (record { 0 = c.args.moment }) c.serve-served.new.clock ts)
@@ -38,8 +38,8 @@ returns-clause-faulted g c = λ three input told.
     (g.met.K.Keeper.sound c.serve-served.new.keeper).clean_is_honest c.of_session.ensures start refl c.into_writer.ensures c.serve-served.ensures.exactly three
 
 pub returns-clause-kept : goal.returns-clause-kept
-returns-clause-kept g c = λ input told.
-    let start = c.new-port.ensures ∙ ap (λ o. fresh o (Some c.new.result.items) false) told
+returns-clause-kept g c = λ input known.
+    let start = c.new-port.ensures ∙ ap (λ o. fresh o (Some c.new.result.items) false) known
     ∙ ap (λ (x : List ℕ). fresh (Some input) (Some x) false) c.new.ensures.items in
     session_kept c.cut_joins.ensures (g.K.Keeper.told c.args.keeper.now)
     (g.K.Keeper.told c.serve-served.new.keeper) (ended_store c.serve-served.result.ended) (ended_memory c.serve-served.result.ended) _ c.args.moment

@@ -8,8 +8,8 @@ pub loop-line-preserved : goal.loop-line-preserved
 loop-line-preserved c =
     let one = c.in-Some.ensures.some in
     let pushed = ap parts_in c.in_ok-push.ensures.items ∙ map-append (λ part. part.now) c.loop-line.lines.items _ in
-    ap (λ x. x ++ lines_of c.in-Some.behind.now) pushed
-    ∙ line_cut (parts_in c.loop-line.lines.items) c.args.script.now c.loop-line.rest.now c.in-Some.line.now c.in-Some.behind.now c.loop-line.invariant one.0
+    ap (λ x. x ++ lines_of c.in-Some.after.now) pushed
+    ∙ line_cut (parts_in c.loop-line.lines.items) c.args.script.now c.loop-line.rest.now c.in-Some.line.now c.in-Some.after.now c.loop-line.invariant one.0
     one.1
 
 pub returns : goal.returns

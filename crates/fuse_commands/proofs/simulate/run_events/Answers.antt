@@ -1,5 +1,5 @@
 use Rattle.std.proofs.Common.{[]}
-use Rattle.fuse_commands.proofs.Simulations.{went, reused_front, drive_ended, counts_ended}
+use Rattle.fuse_commands.proofs.Simulations.{went, reused_prefix, drive_ended, counts_ended}
 use Rattle.fuse_commands.proofs.simulate.run_events.Goals as goal
 
 pub returns-in-Ok-counts-clause-ok : goal.returns-in-Ok-counts-clause-ok
@@ -14,7 +14,7 @@ returns-in-Err-Store-clause-store g c = λ is s so none.
     drive_ended g.K.Keeper.told g.K.Keeper.became g.K.Restart.may_refuse c.args.keeper.now c.drive.new.keeper c.args.events.now _ c.in-Err-Store.field-0
     c.in-Err-Store.fault c.of.result
     c.in-Err-Store.field-0-is c.in-Err-Store.ensures.emptied
-    (λ store good. c.in-Err-Store.ensures.store store good s [] [] so (reused_front [] _ c.args.events.now none)) c.of.ensures
+    (λ store good. c.in-Err-Store.ensures.store store good s [] [] so (reused_prefix [] _ c.args.events.now none)) c.of.ensures
 
 pub returns-in-Err-clause-store : goal.returns-in-Err-clause-store
 returns-in-Err-clause-store g c = λ is s so none clean.

@@ -3,12 +3,12 @@ use super::*;
 use fuse_sim::{Event, Fate, Outcome, drive};
 use fuse_wire::ByteList;
 
-// What becomes of a message, and the message with its answer, which the kernel takes only where it
-// is answered.
+// The fate of a message, the message and its answer. The kernel takes the answer at
+// `Fate::Answered` alone.
 type Step = (Fate, Pair);
 
-// The server dies before it commits MKDIR, and is asked again; its refusal is lost with the server,
-// and is asked for once more. Then it dies behind a READ, which is resent.
+// The server dies before it commits MKDIR, which is resent; its refusal is lost with the server, and
+// MKDIR is resent once more. Then the server dies after a READ, which is resent.
 const STEPS: [Step; 7] = [
     (Fate::Answered, INIT),
     (Fate::Answered, OPEN),
@@ -54,7 +54,7 @@ fn is_answer(outcome: &Option<Outcome>, wanted: &[u8]) -> bool {
     }
 }
 
-// How many of the outcomes are as wanted, from the first on.
+// The number of right outcomes, from the first on.
 fn right_in(alloc: Global, outcomes: &[Option<Outcome>], steps: &[Step]) -> Result<usize, Fail> {
     for (place, (fate, (_, answer))) in steps.iter().enumerate() {
         let taken = if *fate == Fate::Answered { *answer } else { "" };
@@ -67,7 +67,7 @@ fn right_in(alloc: Global, outcomes: &[Option<Outcome>], steps: &[Step]) -> Resu
     Ok(steps.len())
 }
 
-// Runs these steps over new files, and counts those that are answered as wanted.
+// Runs these steps over new files, and counts the right answers.
 fn right_after(alloc: Global, steps: &[Step]) -> Result<usize, Fail> {
     let events = events_of(alloc, steps)?;
     let files: PlainKeeper<ThreeFiles> = PlainKeeper::new(alloc, NOW)?;

@@ -1,6 +1,6 @@
 //! Messages and their answers, each as its layout says: header, then body.
 
-/// A message, and what is sent for it.
+/// A message and its answer.
 pub type Pair = (&'static str, &'static str);
 
 // INIT of 7.40 with HAS_RESEND, under id 2.
@@ -13,7 +13,7 @@ pub const INIT: Pair = (
     000000000000000000000000000000000000000000000000",
 );
 
-// LOOKUP of `readme`, OPEN, READ of 5 bytes from 6 on, RELEASE, OPENDIR, READDIR behind the dots
+// LOOKUP of `readme`, OPEN, READ of 5 bytes from 6 on, RELEASE, OPENDIR, READDIR after the dots
 // and of 95 bytes, GETATTR.
 pub const READING: [Pair; 9] = [
     INIT,
@@ -71,8 +71,8 @@ pub const READING: [Pair; 9] = [
     ),
 ];
 
-// All that would change something: SETATTR of the size, MKNOD, MKDIR, UNLINK, RMDIR, RENAME,
-// RENAME2, WRITE, OPEN for both, and MKDIR once more, with the bit of a resend.
+// All that would change a file: SETATTR of the size, MKNOD, MKDIR, UNLINK, RMDIR, RENAME,
+// RENAME2, WRITE, OPEN for both, and MKDIR once more, resent.
 pub const CHANGING: [Pair; 11] = [
     INIT,
     (

@@ -1,6 +1,6 @@
 //! Messages and their answers, each as its layout says: header, then body.
 
-/// A message, what is sent for it, and whether that gets through.
+/// A message, its answer, and whether the answer gets through.
 pub type Exchange = (&'static str, &'static str, bool);
 
 const INIT: &str =
@@ -37,7 +37,7 @@ const NEXT: &str =
 
 const NEXT_OPENED: &str = "20000000 00000000 0800000000000000 0200000000000000 00000000 00000000";
 
-// The first OPEN with the bit of a resend.
+// The first OPEN, resent.
 const AGAIN: &str =
     "30000000 0e000000 0600000000000080 0200000000000000 e8030000 e8030000 4d000000 00000000
     02000000 00000000";
@@ -59,7 +59,7 @@ pub const FIRST: [Exchange; 4] = [
     (NEXT, NEXT_OPENED, true),
 ];
 
-/// What was lost comes again with its bit, then all as it came first, then something new.
+/// The lost OPEN is resent with the resend bit, then all messages without it, then a new one.
 pub const SECOND: [Exchange; 6] = [
     (AGAIN, OPENED_AGAIN, true),
     (INIT, AGREED, true),

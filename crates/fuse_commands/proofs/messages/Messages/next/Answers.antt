@@ -4,7 +4,7 @@ use Rattle.fuse_request.specs.Framing.{Held, HasNone}
 use Rattle.fuse_commands.specs.declared.ending.Ending.{Ending}
 use Rattle.fuse_commands.specs.declared.messages.Placed.{Placed}
 use Rattle.fuse_commands.specs.Messages.{left_in, EndsSo, GivesPlaced}
-use Rattle.fuse_commands.proofs.Known.{keeps_same, keeps_then, keeps_consumes, gives_front, all_held}
+use Rattle.fuse_commands.proofs.Known.{keeps_same, keeps_then, keeps_consumes, gives_prefix, all_held}
 use Rattle.fuse_commands.proofs.Faults.{faulty}
 use Rattle.fuse_commands.proofs.messages.Messages.next.Goals as goal
 
@@ -21,7 +21,7 @@ returns-in-Ok-Some-clause-next g c =
       left =
           keeps_consumes (left_in g.R.Read.remaining c.args.self.now)
           (left_in g.R.Read.remaining c.loop-bytes.self) _ _ c.loop-bytes.invariant.left
-          (gives_front c.loop-bytes.self.framer.bytes c.next.new.self.bytes _ rest gives.rest);
+          (gives_prefix c.loop-bytes.self.framer.bytes c.next.new.self.bytes _ rest gives.rest);
       here = omega (arith, c.fed.ensures, c.held.ensures, placed);
       place = omega (arith, gives.at, placed);
     }
@@ -32,7 +32,7 @@ returns-in-Err-clause-next g c =
     c.in-Err.fault c.of_stream.result
     c.cut_steps.ensures c.loop-bytes.invariant.left c.loop-bytes.invariant.place c.in-Err.ensures.next c.of_stream.ensures
 
--- what follows at the end, where nothing more is read
+-- the end of the input
 ends_here : (a new : Option (List ℕ)) (held : List ℕ) (rest : Option (List ℕ)) (at at' place : ℕ) (result : Result (Option Placed) Ending)
     → Keeps a (prepend_known held rest) → IsAtEnd rest → HasNone held → place ≡ at → EndsSo place held result → GivesPlaced a new at at' result
 ends_here a new held rest at at' place (Ok (Some placed)) kept end none here h = absurd (let e = h.0 in cc)

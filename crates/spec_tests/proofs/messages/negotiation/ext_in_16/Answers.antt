@@ -1,5 +1,5 @@
-use Rattle.spec_tests.proofs.Agreements as rows
+use Rattle.spec_tests.proofs.Agreements as cases
 use Rattle.spec_tests.proofs.messages.negotiation.ext_in_16.Goals as goal
 
 pub returns : goal.returns
-returns c = rows.ext_in_16
+returns c = cases.ext_in_16

@@ -1,5 +1,5 @@
-use Rattle.spec_tests.proofs.Agreements as rows
+use Rattle.spec_tests.proofs.Agreements as cases
 use Rattle.spec_tests.proofs.messages.negotiation.init_agreed.Goals as goal
 
 pub returns : goal.returns
-returns c = rows.init_agreed
+returns c = cases.init_agreed

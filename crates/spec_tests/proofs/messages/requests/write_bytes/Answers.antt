@@ -1,5 +1,5 @@
-use Rattle.spec_tests.proofs.Spellings as rows
+use Rattle.spec_tests.proofs.Spellings as cases
 use Rattle.spec_tests.proofs.messages.requests.write_bytes.Goals as goal
 
 pub returns : goal.returns
-returns c = rows.write_bytes c.canon_spells.ensures
+returns c = cases.write_bytes c.canon_spells.ensures

@@ -1,8 +1,8 @@
 use Rattle.std.proofs.Common.{subst, sym, ap, append-nil, ◌∙◌, ◌++◌}
 use Rattle.std.specs.Io.KnownBytes.{Consumes}
-use Rattle.fuse_commands.specs.Reading.{left_to}
+use Rattle.fuse_commands.specs.Input.{left_to}
 use Rattle.fuse_commands.proofs.Simulations.{read_none, read_more, all_read}
-use Rattle.fuse_commands.proofs.reading.read_all.Goals as goal
+use Rattle.fuse_commands.proofs.input.read_all.Goals as goal
 
 pub loop-input-init : goal.loop-input-init
 loop-input-init g c =
@@ -13,8 +13,8 @@ pub returns-clause-ok : goal.returns-clause-ok
 returns-clause-ok g c =
     let end = c.in_ok-read.ensures.end c.if-branch.false in
     let input = c.loop-input.input.items in
-    let behind = sym (ap (λ x. input ++ x) end.0 ∙ append-nil input) in
-    all_read _ _ _ (read_more _ _ _ _ _ _ c.loop-input.invariant c.in_ok-read.ensures.came behind) end.1
+    let after = sym (ap (λ x. input ++ x) end.0 ∙ append-nil input) in
+    all_read _ _ _ (read_more _ _ _ _ _ _ c.loop-input.invariant c.in_ok-read.ensures.came after) end.1
 
 pub loop-input-preserved : goal.loop-input-preserved
 loop-input-preserved g c =

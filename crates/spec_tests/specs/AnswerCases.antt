@@ -1,4 +1,4 @@
--- Outside examples of records and answers. A text in hexadecimal stands as the example prints it.
+-- Cases of records and answers (fuse.h), in hexadecimal as outside examples print them.
 use Rattle.std.specs.Prelude.{◌≡◌, ℕ, List, [], ◌∷◌, ◌++◌, pos, negsuc, replicate, codes}
 use Rattle.fuse_wire.specs.Bytes.{le}
 use Rattle.fuse_wire.specs.Hex.{hex}
@@ -30,7 +30,7 @@ ErrorFields =
     × (le 4 (negated eproto.0) ≡ hex (codes "b9ffffff"))
     × (le 4 (negated estale.0) ≡ hex (codes "8cffffff"))
 
--- headers alone: LOOKUP of a name that isn't there, and the notice that asks for a resend
+-- headers alone: LOOKUP of a missing name, and the resend notice
 abbrev pub Headers : Type 0
 Headers =
     (header_bytes (record { len = 16; error = negsuc 1; unique = 4 }) ≡ hex (codes "10000000 feffffff 0400000000000000"))
@@ -105,7 +105,7 @@ FirstRun =
     × (wire 0 (entry_bytes made) 0x8000000000000006 ≡ hex (codes "90000000 00000000 0600000000000080") ++ made_bytes)
     × (wire 0 (attr_out_bytes asked) 8 ≡ hex (codes "78000000 00000000 0800000000000000 0100000000000000") ++ replicate 8 0 ++ directory_bytes)
 
--- OPEN, asked again after a crash, and WRITE of three bytes
+-- OPEN, resent after a crash, and WRITE of three bytes
 abbrev pub OpenAndWrite : Type 0
 OpenAndWrite =
     (wire 0 (open_bytes (record { fh = 1; open_flags = 0; backing_id = pos 0 })) 0x8000000000000006
@@ -113,7 +113,7 @@ OpenAndWrite =
     × (wire 0 (write_bytes (record { size = 3 })) 12 ≡ hex (codes "18000000 00000000 0c00000000000000 03000000 00000000"))
     × (open_bytes (record { fh = 1; open_flags = 0; backing_id = negsuc 1 }) ≡ hex (codes "0100000000000000 00000000 feffffff"))
 
--- INIT where the kernel offered these flags, and which were agreed
+-- INIT with these offered and agreed flags
 abbrev pub init : ℕ → ℕ → InitOut
 init flags flags2 = record {
   major = 7;

@@ -1,4 +1,4 @@
--- Outside examples of INIT: the worked rows init-agreed, init-short, init-newer-major, init-too-old, newer-minor and ext-in-16.
+-- Cases of INIT (fuse.h): init-agreed, init-short, init-newer-major, init-too-old, newer-minor and ext-in-16.
 use Rattle.std.specs.Prelude.{◌≡◌, ℕ, [], ◌++◌, Option, Some, None, codes, replicate}
 use Rattle.fuse_wire.specs.Hex.{hex}
 use Rattle.fuse_wire.specs.Layout.{form}
@@ -80,7 +80,7 @@ InitTooOld =
     × ((max_readahead : ℕ) → agree (offer 7 23 max_readahead 0x21 None) ≡ Agreed (out max_readahead 0x21 0) (settled 23 max_readahead 0x21))
     × (wire eproto.0 [] 2 ≡ hex (codes "10000000 b9ffffff 0200000000000000"))
 
--- bit 39 stands in flags2, and INIT_EXT isn't offered
+-- bit 39 is in flags2, and INIT_EXT is not offered
 abbrev pub NewerMinor : Type 0
 NewerMinor =
     (agree (offer 7 41 4096 0x21 (Some 0x80)) ≡ Agreed (out 4096 0x21 0) (settled 40 4096 0x21))

@@ -4,8 +4,8 @@ ghost use Rattle.std.specs.Io.KnownBytes.{Appends};
 ghost use Rattle.hex.specs.Hex.{encode_lower};
 ghost use Rattle.fuse_request.specs.Stream.{joined};
 ghost use Rattle.fuse_answer.specs.Laws.{BeginsWithLen};
-ghost use Rattle.fuse_commands.specs.Printing.{line, answer_lines, IsAnswer, count_line};
-ghost use Rattle.fuse_commands.specs.Printing.{store_line};
+ghost use Rattle.fuse_commands.specs.Output.{line, answer_lines, IsAnswer, count_line};
+ghost use Rattle.fuse_commands.specs.Output.{store_line};
 
 use crate::count_line::{CountLine, StoreLine};
 use crate::ending::Ending;
@@ -15,8 +15,8 @@ use fuse_wire::{Fields, one_number};
 use std::alloc::Global;
 use std::io::Write;
 
-// The length of the answer at the front: what its `len` says, and all where that can't be.
-fn front_len(sent: &[u8]) -> usize
+// The length of the first answer: its `len`, or all bytes if `len` is out of range.
+fn answer_len(sent: &[u8]) -> usize
     requires { 0 < length sent.now }
     ensures some { 0 < result }
     ensures there { result ≤ length sent.now }
@@ -30,7 +30,7 @@ fn front_len(sent: &[u8]) -> usize
     }
 }
 
-/// Writes one answer in hexadecimal, on a line of its own.
+/// Writes an answer in hexadecimal, on a line of its own.
 pub(crate) fn write_hex_line<W: Write>(
     alloc: Global,
     writer: &mut W,
@@ -45,8 +45,7 @@ pub(crate) fn write_hex_line<W: Write>(
     Ok(())
 }
 
-/// Writes the answers, which follow one another in `sent`, in hexadecimal, each on a line of its
-/// own.
+/// Writes each of the answers in `sent` in hexadecimal, on a line of its own.
 pub(crate) fn write_answers<W: Write>(
     alloc: Global,
     writer: &mut W,
@@ -59,7 +58,7 @@ pub(crate) fn write_answers<W: Write>(
 {
     let mut rest = sent;
     while !rest.is_empty() {
-        let (answer, others) = rest.split_at(front_len(rest));
+        let (answer, others) = rest.split_at(answer_len(rest));
         write_hex_line(alloc, writer, answer)?;
         rest = others;
     }
@@ -76,7 +75,7 @@ pub(crate) fn write_counts<W: Write>(writer: &mut W, counts: SessionCounts) -> R
     Ok(())
 }
 
-/// Writes the line of what a store holds.
+/// Writes the line of the counts of a store.
 pub(crate) fn write_store<W: Write>(writer: &mut W, counts: StoreCounts) -> Result<(), Ending>
     ensures ok { OnOk result (Appends (W.contents writer.old) (W.contents writer.new)
         (line (store_line counts.nodes counts.handles))) }

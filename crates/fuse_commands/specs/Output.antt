@@ -1,4 +1,4 @@
--- What is printed (own profile).
+-- The lines of the output (own profile).
 use Rattle.std.specs.Prelude.{◌/◌, ℕ, List, [], ◌∷◌, ◌++◌, Option, Some, None, codes, decimal}
 use Rattle.std.specs.List.{flat_map}
 use Rattle.hex.specs.Hex.{encode_lower}
@@ -9,7 +9,7 @@ use Rattle.fuse_session.specs.declared.counts.SessionCounts.{SessionCounts}
 abbrev pub line : List ℕ → List ℕ
 line text = text ++ 10 ∷ []
 
--- an answer in hexadecimal; a message that is answered nothing has no line
+-- an answer in hexadecimal; a message without an answer has no line
 abbrev pub answer_line : List ℕ → List ℕ
 answer_line [] = []
 answer_line (x ∷ xs) = line (encode_lower (x ∷ xs))
@@ -32,7 +32,7 @@ count_line c =
     ++ (codes " silent=" ++ (decimal c.silent
     ++ (codes " interrupts=" ++ decimal c.interrupts))))))))))
 
--- how much a store holds, without the line feed
+-- the counts of a store, without the line feed
 abbrev pub store_line : ℕ → ℕ → List ℕ
 store_line nodes handles = codes "nodes=" ++ (decimal nodes ++ (codes " handles=" ++ decimal handles))
 
@@ -40,7 +40,7 @@ store_line nodes handles = codes "nodes=" ++ (decimal nodes ++ (codes " handles=
 abbrev pub mebibytes : ℕ → ℕ
 mebibytes bytes = bytes / 1048576
 
--- how far a stream is read, and of how much where that is known, without the line feed
+-- the bytes read and, if known, the total, without the line feed
 abbrev pub progress_line : ℕ → Option ℕ → List ℕ
 progress_line read (Some total) =
     codes "read " ++ (decimal (mebibytes read) ++ (codes " of " ++ (decimal (mebibytes total) ++ codes " MiB")))

@@ -1,4 +1,4 @@
-//! Reading an input piece by piece.
+//! An input, read piece by piece.
 ghost use Rattle.std.specs.Prelude.{◌≡◌, ◌<◌, ◌≤◌, [], false, length, take, IfSome, OnOk, IfOk};
 ghost use Rattle.std.specs.Prelude.{IfErr};
 ghost use Rattle.std.specs.Io.KnownBytes.{Consumes, IsAtEnd};
@@ -10,10 +10,10 @@ use fuse_request::MAX_MESSAGE;
 use std::alloc::Global;
 use std::io::Read;
 
-/// The most reads of an input.
+/// The bound on reads of an input.
 pub(crate) const MAX_READS: u32 = 4_294_967_295;
 
-/// A reader, and the piece that it gave last.
+/// A reader and its last piece.
 #[derive(Drop)]
 pub(crate) struct PieceReader<R> {
     reader: R,
@@ -25,7 +25,7 @@ pub(crate) struct PieceReader<R> {
     ghost within: { len ≤ max_message_len },
 }
 
-// Reads into a buffer. How many bytes there were.
+// Reads into a buffer and returns the number of bytes.
 fn read_into<R: Read>(reader: &mut R, buffer: &mut Vec<u8>) -> Result<usize, Ending>
     requires { 0 < length buffer.old.items }
     ensures room { length buffer.new.items ≡ length buffer.old.items }
@@ -39,9 +39,9 @@ fn read_into<R: Read>(reader: &mut R, buffer: &mut Vec<u8>) -> Result<usize, End
 }
 
 impl<R: Read + Drop> PieceReader<R> {
-    ghost use Rattle.fuse_commands.specs.Reading.{left_to, piece_in};
+    ghost use Rattle.fuse_commands.specs.Input.{left_to, piece_in};
 
-    /// An `Err` is want of memory.
+    /// An `Err` is out of memory.
     pub(crate) fn new(alloc: Global, reader: R) -> Result<PieceReader<R>, Ending>
         ensures ok { IfOk result (λ pieces. left_to R.remaining pieces ≡ R.remaining reader) }
         ensures err { IfErr result (λ ending. ending ≡ Ending.Memory) }
@@ -54,7 +54,7 @@ impl<R: Read + Drop> PieceReader<R> {
         })
     }
 
-    /// Reads the next piece. Whether there is one.
+    /// Reads the next piece. `false` is the end of the input.
     pub(crate) fn read(&mut self) -> Result<bool, Ending>
         ensures came { OnOk result (Consumes (left_to R.remaining self.old)
             (left_to R.remaining self.new) (piece_in self.new)) }
@@ -72,7 +72,7 @@ impl<R: Read + Drop> PieceReader<R> {
         Ok(self.len > 0)
     }
 
-    /// The piece that was read last, of at most 135,168 bytes.
+    /// The last piece, at most 135,168 bytes.
     pub(crate) fn piece(&self) -> &[u8]
         ensures piece { result.now ≡ piece_in self.now }
         ensures short { length result.now ≤ max_message_len }
@@ -81,8 +81,7 @@ impl<R: Read + Drop> PieceReader<R> {
     }
 }
 
-/// All that a reader gives. An `Err` is that it fails, that it goes on past the bound on reads, or
-/// want of memory.
+/// All bytes of a reader. An `Err` is a failed read, the bound on reads, or out of memory.
 pub(crate) fn read_all<R: Read + Drop>(alloc: Global, reader: R) -> Result<Vec<u8>, Ending>
     ensures ok { IfOk result (λ input. IfSome (R.remaining reader) (λ known. input.items ≡ known)) }
     ensures err { IfErr result GaveOut }

@@ -1,10 +1,10 @@
--- Outside examples of the definitions.
+-- Cases of numbers and ids (fuse.h).
 use Rattle.std.specs.Prelude.{◌≡◌, true, false, codes}
 use Rattle.fuse_wire.specs.Bytes.{le, number_of}
 use Rattle.fuse_wire.specs.Hex.{hex}
 use Rattle.fuse_wire.specs.Ids.{id_of, resent}
 
--- the lowest byte is the first, and what goes past the width is left out
+-- the lowest byte is first; bits above the width are dropped
 abbrev pub LowestFirst : Type 0
 LowestFirst =
     (le 4 0x12345678 ≡ hex (codes "78563412"))

@@ -1,6 +1,6 @@
 use Rattle.std.specs.Io.KnownBytes.{Consumes}
-use Rattle.fuse_commands.specs.Reading.{left_to}
-use Rattle.fuse_commands.proofs.reading.read_all.Given as goal
+use Rattle.fuse_commands.specs.Input.{left_to}
+use Rattle.fuse_commands.proofs.input.read_all.Given as goal
 
 abbrev pub invariant-loop-input : goal.invariant-loop-input
 invariant-loop-input g l = Consumes (g.R.Read.remaining l.fn.reader) (left_to g.R.Read.remaining l.pieces) l.input.items

@@ -1,5 +1,5 @@
--- Messages whose bytes are known from outside: the worked rows missing-lookup, name-ends, first-run, rename-bytes, write-bytes
--- and exchange.
+-- Cases of messages with bytes from outside (fuse.h): missing-lookup, name-ends, first-run, rename-bytes, write-bytes and
+-- exchange.
 use Rattle.std.specs.Prelude.{◌≡◌, ℕ, List, [], ◌∷◌, ◌++◌, Some, None, codes, replicate}
 use Rattle.fuse_wire.specs.Hex.{hex}
 use Rattle.fuse_wire.specs.Opcodes.{fuse_forget, fuse_mkdir, fuse_rename, fuse_init, fuse_destroy, fuse_batch_forget}

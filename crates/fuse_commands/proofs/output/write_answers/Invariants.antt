@@ -1,9 +1,9 @@
 use Rattle.std.proofs.Common.{◌≡◌, ℕ, List, length}
 use Rattle.std.specs.List.{AllByRecursion}
 use Rattle.fuse_request.specs.Stream.{joined}
-use Rattle.fuse_commands.specs.Printing.{IsAnswer}
+use Rattle.fuse_commands.specs.Output.{IsAnswer}
 use Rattle.fuse_commands.proofs.Lines.{Written}
-use Rattle.fuse_commands.proofs.printing.write_answers.Given as goal
+use Rattle.fuse_commands.proofs.output.write_answers.Given as goal
 
 abbrev pub invariant-loop-rest : goal.invariant-loop-rest
 invariant-loop-rest g l = (answers : List (List ℕ)) → AllByRecursion IsAnswer answers → l.fn.sent ≡ joined answers
