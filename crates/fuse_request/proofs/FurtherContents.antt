@@ -1,15 +1,13 @@
 -- The bytes of a further body say one thing, and have no fault.
-use Rattle.std.proofs.Common.{◌≡◌, ℕ, true, false, subst, List, [], ◌∷◌, ◌++◌, length, drop, Option, Some, None, Result, Ok, Err, refl, sym, ap, ◌∙◌, arith}
-use Rattle.std.specs.Prelude.{IfOk, IfErr, IfSome, IsOkAnd, IsSomeAnd, is_some}
-use Rattle.std.specs.Option.{option_map, unwrap_or}
+use Rattle.std.proofs.Common.{◌≡◌, ℕ, true, false, subst, List, [], ◌∷◌, length, drop, Option, Some, None, Result, Ok, Err, refl, sym, ap, ◌∙◌}
+use Rattle.std.specs.Prelude.{IfOk, IfSome, IsOkAnd, IsSomeAnd, is_some}
 use Rattle.std.specs.Result.{result_err}
 use Rattle.std.proofs.lemmas.Bool.{eq-eqb}
 use Rattle.fuse_wire.specs.Bytes.{number_of, after_nul, IsBytes}
 use Rattle.fuse_wire.specs.Layout.{Lays, Placed, text, bytes}
-use Rattle.fuse_wire.specs.Laws.{LayoutsStand, NamesEnd}
+use Rattle.fuse_wire.specs.Laws.{NamesEnd}
 use Rattle.fuse_request.specs.declared.decoding.Malformed.{Malformed}
 use Rattle.fuse_request.specs.declared.further.Body.{Body}
-use Rattle.fuse_request.specs.declared.further.CopyFileRangeIn.{CopyFileRangeIn}
 use Rattle.fuse_request.specs.Bodies.{name_fault}
 use Rattle.fuse_request.specs.Places.{before_nul}
 use Rattle.fuse_request.specs.FurtherBodies.{Content, Readlink, Symlink, Link, Statfs, Fsync, Setxattr, Getxattr, Listxattr, Removexattr, Flush, FsyncDir, Access}

@@ -1,4 +1,4 @@
-use Rattle.std.proofs.Common.{refl, subst, [], ◌∷◌, sym, ◌∙◌}
+use Rattle.std.proofs.Common.{refl, subst, [], ◌∷◌, ◌∙◌}
 use Rattle.fuse_wire.specs.Layout.{Lays, text, bytes}
 use Rattle.fuse_request.proofs.further.setxattr_of.Goals as goal
 
