@@ -1,6 +1,6 @@
 -- Rows that are added, changed and deleted, as the tables describe them.
 use Rattle.std.proofs.Common.{◌≡◌, inl, inr, ℕ, List, [], ◌∷◌, ◌++◌, ◌==◌, map, Bool, true, false}
-use Rattle.std.proofs.Common.{not, cond, Some, None, refl, sym, ap, subst, arith, ◌∙◌, ◌+◌, find, ◌||◌}
+use Rattle.std.proofs.Common.{not, cond, Some, None, refl, sym, ap, subst, arith, ◌∙◌, find, ◌||◌}
 use Rattle.std.specs.List.{list_any}
 use Rattle.std.proofs.lemmas.Bool.{cases_Bool}
 use Rattle.std.proofs.lemmas.Bool.Decides.{nat_tests}
