@@ -14,9 +14,7 @@ use fuse_commands::{
     Ending, ProgressReader, Run, STANDARD_INPUT, START, Work, parse, run_check, run_dump,
     run_replay, unreadable,
 };
-use fuse_keeper::PlainKeeper;
-use fuse_store::open_or_create;
-use fuse_tree::PlainTree;
+use fuse_store::{PlainKeeper, PlainTree, open_or_create};
 use fuse_wire::Moment;
 use serve::serve_as_asked;
 use show::{Show, show_store};

@@ -9,9 +9,8 @@ ghost use Rattle.fuse_store_tree.specs.Store.{value_of};
 
 use crate::snapshot::open_snapshot;
 use fuse_commands::Ending;
-use fuse_keeper::StoreFault;
 use fuse_show::{ShowFault, SummaryFault, show_content, show_listing, show_summary};
-use fuse_store::TableKeeper;
+use fuse_store::{StoreFault, TableKeeper};
 use fuse_store_tables::{begin, number_at, select_counters};
 use fuse_store_tree::TableLook;
 use sqlite::{Alter, Connection, Row};

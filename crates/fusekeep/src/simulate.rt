@@ -8,8 +8,7 @@ ghost use Rattle.fuse_commands.specs.Simulating.{SimulatedFrom};
 ghost use Rattle.fusekeep.specs.NewStore.{start};
 
 use fuse_commands::{Ending, START, run_simulate};
-use fuse_keeper::StoreFault;
-use fuse_store::TableKeeper;
+use fuse_store::{StoreFault, TableKeeper};
 use sqlite::{Connection, MemStore};
 use std::alloc::Global;
 use std::io::{Read, Write};

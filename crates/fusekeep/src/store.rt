@@ -1,5 +1,4 @@
-use fuse_keeper::StoreFault;
-use fuse_store::opening_fault;
+use fuse_store::{StoreFault, opening_fault};
 use sqlite::{Connection, File, FileStore};
 
 /// Opens the database in a file, which is created if it is missing.
