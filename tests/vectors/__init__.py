@@ -1,1 +1,1 @@
-"""Streams of an independent model, run through the program."""
+"""Streams of an independent implementation, run through the program."""

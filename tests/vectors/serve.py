@@ -66,7 +66,7 @@ def read_message(stream, line):
 
 
 def read_stream(name):
-    """A stream with the model's answers and end."""
+    """A stream with the answers and the end of its files."""
     with open(f"{HERE}/{name}.stream", "rb") as file:
         content = file.read()
     *answers, served = lines_of(name, "replay")
