@@ -1,5 +1,7 @@
 """Compares the pages with the tree: docs [TOP]"""
+import os
 import sys
+from fnmatch import fnmatchcase
 from pathlib import Path
 
 from docs.crates import check_readmes
@@ -8,6 +10,15 @@ from docs.words import check_words
 from lib.counts import print_counts
 
 CHECKS = (check_links, check_readmes, check_spec, check_code, check_sizes, check_words)
+
+
+def matches(parts, pattern):
+    """Whether the parts of a path match those of a pattern, in which `**` stands for any number of folders."""
+    if not pattern or not parts:
+        return not pattern and not parts
+    if pattern[0] == "**":
+        return any(matches(parts[at:], pattern[1:]) for at in range(len(parts)))
+    return fnmatchcase(parts[0], pattern[0]) and matches(parts[1:], pattern[1:])
 
 
 class Tree:
@@ -26,9 +37,13 @@ class Tree:
         return path.relative_to(self.top).as_posix()
 
     def files(self, *patterns):
-        """The files of these patterns, without those that were built."""
-        found = {path for pattern in patterns for path in self.top.glob(pattern) if path.is_file()}
-        return sorted(path for path in found if not {"out", ".git"} & set(path.relative_to(self.top).parts))
+        """The files of these patterns, without those that were built. A build may go on meanwhile: its folders aren't entered."""
+        wanted = [it.split("/") for it in patterns]
+        found = []
+        for folder, folders, names in os.walk(self.top):
+            folders[:] = [it for it in folders if it not in ("out", ".git")]
+            found += [Path(folder, it) for it in names]
+        return sorted(path for path in found if any(matches(self.name_of(path).split("/"), it) for it in wanted))
 
     def pages(self):
         return self.files("*.md", "*/**/*.md")
