@@ -6,6 +6,9 @@ use Rattle.fuse_keeper.specs.declared.fault.StoreFault.{StoreFault}
 use Rattle.fuse_keeper.specs.declared.keeper.Done.{Done}
 use Rattle.counting_keeper.specs.declared.keeper.CountingKeeper.{CountingKeeper}
 use Rattle.counting_keeper.specs.declared.tally.Tally.{Tally}
+use Rattle.counting_keeper.specs.declared.log.Log.{Log}
+use Rattle.fuse_keeper.specs.Performance.{Performance}
+use Rattle.counting_keeper.specs.Logging.{Logged}
 
 -- the keeper that it stands on, whose state is its own
 abbrev pub inner_of : {K : Type 0} → CountingKeeper K → K
@@ -56,3 +59,11 @@ opened_then a b c m n before after = λ room. omega (arith, before (omega (arith
 -- it became so, and its openings are counted
 abbrev pub Became : {K : Type 0} → (K → K → ℕ → Type 0) → CountingKeeper K → CountingKeeper K → ℕ → Type 0
 Became became a b n = became a.inner b.inner n × Opened a.tally b.tally n
+
+-- the log of a keeper
+abbrev pub log_of : {K : Type 0} → CountingKeeper K → Log
+log_of k = k.log
+
+-- it was asked these, and they are logged
+abbrev pub Asked : {K : Type 0} → (K → K → List Performance → Type 0) → CountingKeeper K → CountingKeeper K → List Performance → Type 0
+Asked performed a b list = performed a.inner b.inner list × Logged a.log b.log list

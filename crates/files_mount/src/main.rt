@@ -1,14 +1,14 @@
-//! The program `files_mount`: serves the three files to `fusekeep-mount`, from memory.
+//! The program `files_mount`: serves the five files to `fusekeep-mount`, from memory.
 #![tactic(auto)]
 
 ghost use Rattle.std.specs.Prelude.{◌<◌, ◌^◌};
 
+use five_files::{FiveFiles, serve_files};
 use fuse_keeper::PlainKeeper;
 use fuse_session::{Clock, DevicePort, Ended, Port, System, resume};
 use std::alloc::Global;
 use std::env;
 use std::process::ExitCode;
-use three_files::{ThreeFiles, serve_files};
 
 const USAGE: &str = "usage: files_mount serve --db STORE (--fresh | --resume)";
 
@@ -49,7 +49,7 @@ fn serve_new_files<P: Port, C: Clock>(
     requires receives { (P.told port.old).receives < 2 ^ 62 }
     requires failures { (P.told port.old).failures < 2 ^ 62 }
 {
-    let Ok(mut keeper) = PlainKeeper::<ThreeFiles>::new(alloc, clock.now()) else {
+    let Ok(mut keeper) = PlainKeeper::<FiveFiles>::new(alloc, clock.now()) else {
         return Err("out of memory");
     };
     if resume(&mut keeper, port).is_err() {

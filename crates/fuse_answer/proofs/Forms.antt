@@ -5,7 +5,8 @@ use Rattle.std.proofs.lemmas.List.{length-append}
 use Rattle.fuse_wire.specs.Bytes.{le}
 use Rattle.fuse_wire.specs.Layout.{Part, number, unused, text, bytes, Lays, HasForm, form}
 use Rattle.fuse_wire.specs.Laws.{NumbersRead, LayoutsStand}
-use Rattle.fuse_wire.specs.Written.{AllFit, HasNoText}
+use Rattle.fuse_wire.specs.Written.{AllFit}
+use Rattle.fuse_answer.specs.inner.NoText.{HasNoText}
 use Rattle.fuse_answer.specs.Bodies.{header_parts, header_bytes}
 use Rattle.fuse_answer.specs.Laws.{BeginsWithLen}
 use Rattle.fuse_answer.specs.Wire.{negated, wire, wire_head}

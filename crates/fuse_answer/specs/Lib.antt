@@ -6,6 +6,6 @@ pub mod Notice
 pub mod Entries
 pub mod FirstEntry
 pub mod Replies
-pub mod Readers
 pub mod Laws
 pub mod FurtherAnswers
+pub mod inner

@@ -5,7 +5,7 @@ ghost use Rattle.fuse_answer.specs.Sizes.{attr_size};
 ghost use Rattle.fuse_answer.specs.Bodies.{attr_parts};
 ghost use Rattle.fuse_answer.specs.Replies.{kind_of, AnEntry, Attributes, AnOpen, AWrite, AnInit};
 ghost use Rattle.fuse_answer.specs.Replies.{Directory, Nothing as NothingKind};
-ghost use Rattle.fuse_answer.specs.Readers.{Reads};
+ghost use Rattle.fuse_answer.specs.inner.Readers.{Reads};
 
 use crate::init_out::InitOut;
 use crate::records::{Attr, AttrOut, EntryOut, OpenOut, WriteOut};

@@ -1,6 +1,7 @@
 ghost use Rattle.std.specs.Prelude.{◌≡◌, length, IfOk};
 ghost use Rattle.fuse_wire.specs.Layout.{Lays, form, widths};
-ghost use Rattle.fuse_wire.specs.Written.{HasNoText, laid};
+ghost use Rattle.fuse_wire.specs.Written.{laid};
+ghost use Rattle.fuse_answer.specs.inner.NoText.{HasNoText};
 
 use fuse_wire::{Field, Memory, layouts_stand, put_fields};
 use std::alloc::Global;

@@ -1,6 +1,7 @@
 ghost use Rattle.std.specs.Prelude.{◌≡◌, ◌++◌, length, IfOk};
 ghost use Rattle.fuse_wire.specs.Layout.{HasForm, Lays, form, widths};
-ghost use Rattle.fuse_wire.specs.Written.{HasNoText, Puts, laid};
+ghost use Rattle.fuse_wire.specs.Written.{Puts, laid};
+ghost use Rattle.fuse_answer.specs.inner.NoText.{HasNoText};
 ghost use Rattle.fuse_answer.specs.Bodies.{header_parts, attr_parts, entry_parts, attr_out_parts};
 ghost use Rattle.fuse_answer.specs.Bodies.{open_parts, write_parts, header_bytes, attr_bytes};
 ghost use Rattle.fuse_answer.specs.Bodies.{entry_bytes, attr_out_bytes, open_bytes, write_bytes};

@@ -31,7 +31,7 @@ pub enum ReplyBody<'a> {
     Directory(&'a [u8]),
     /// To opcodes that the header alone answers, and every error.
     Nothing,
-    /// To an opcode that the server doesn't serve.
+    /// To an opcode outside the profile.
     Unknown(&'a [u8]),
 }
 

@@ -14,13 +14,15 @@ use Rattle.fuse_request.specs.declared.class.Class.{Class}
 use Rattle.fuse_request.specs.declared.class.Class.TheVariants.{Silent, Bare, Kept}
 use Rattle.fuse_request.specs.Stream.{cut, joined, is_whole, CutJoins, CutSteps}
 use Rattle.fuse_request.specs.Framing.{bad_length, end_fault, needed}
-use Rattle.fuse_request.specs.Classes.{class_of}
+use Rattle.fuse_request.specs.Classes.{class_for}
+use Rattle.fuse_request.specs.Opcodes.{OpcodeSet}
 use Rattle.fuse_keeper.specs.declared.fault.StoreFault.{StoreFault}
 use Rattle.fuse_keeper.specs.declared.fault.StoreFault.TheVariants as store
 use Rattle.fuse_answer.specs.Said.{Said, FitsAnswer}
 use Rattle.fuse_answer.specs.Laws.{BeginsWithLen, LenStandsFirst}
 use Rattle.fuse_keeper.specs.Model.{Model}
 use Rattle.fuse_keeper.specs.History.{History, grown, said, SaidFits}
+use Rattle.fuse_keeper.specs.Stands.{Stands}
 use Rattle.fuse_keeper.specs.KeeperState.{KeeperState, StandsFor}
 use Rattle.fuse_session.specs.declared.counts.SessionCounts.{SessionCounts}
 use Rattle.fuse_session.specs.declared.ended.Ended.{Ended}
@@ -29,6 +31,7 @@ use Rattle.fuse_session.specs.Port.{PortState, fresh}
 use Rattle.fuse_session.specs.Processed.{Timed, bytes_of, kept_in, answers, answer_by, unique_of, GoesOn, Works, EndsLast, StartsZero, message_id, moments_in}
 use Rattle.fuse_session.specs.Settling.{Mark, replies, settles, settled_in, NoneComesAgain, MayCome, Places, PlaceFirst}
 use Rattle.fuse_session.specs.Counting.{counted}
+use Rattle.fuse_session.specs.Deeds.{Deeds, Hears}
 use Rattle.fuse_session.specs.Serving.{Turned, Whole, Run}
 use Rattle.fuse_session.specs.Ends.{EndsAs, SentExactly, ExactAt, counts_at}
 use Rattle.fuse_commands.specs.declared.ending.Ending.{Ending}
@@ -53,21 +56,21 @@ all_taken sent (m ∷ marks) places none p =
     let one = first_taken m.gone (append_known sent m.reply) (Places (append_known sent m.reply) marks) places none p in
     (one.0, all_taken _ marks places none one.1)
 
-settles_nothing : (m : List ℕ) (mark : Mark) → mark.gone ≡ false → settles false m mark ≡ []
-settles_nothing m mark is = rw is refl
+settles_nothing : (V : OpcodeSet) (m : List ℕ) (mark : Mark) → mark.gone ≡ false → settles V false m mark ≡ []
+settles_nothing V m mark is = rw is refl
 
-settled_nothing : (ms : List (List ℕ)) (marks : List Mark) → AllByRecursion IsTaken marks → settled_in false ms marks ≡ []
-settled_nothing [] marks each = refl
-settled_nothing (m ∷ ms) [] each = refl
-settled_nothing (m ∷ ms) (mark ∷ marks) each = rw (settles_nothing m mark each.0, settled_nothing ms marks each.1) refl
+settled_nothing : (V : OpcodeSet) (ms : List (List ℕ)) (marks : List Mark) → AllByRecursion IsTaken marks → settled_in V false ms marks ≡ []
+settled_nothing V [] marks each = refl
+settled_nothing V (m ∷ ms) [] each = refl
+settled_nothing V (m ∷ ms) (mark ∷ marks) each = rw (settles_nothing V m mark each.0, settled_nothing V ms marks each.1) refl
 
-none_again : (t : List ℕ) (ms : List (List ℕ)) (marks : List Mark) → AllByRecursion IsTaken marks → AllByRecursion (MayCome t) ms
-    → NoneComesAgain false t ms marks
-none_again t [] marks each may = tt
-none_again t (m ∷ ms) [] each may = (may.0, none_again t ms [] tt may.1)
-none_again t (m ∷ ms) (mark ∷ marks) each may =
-    let same : t ++ settles false m mark ≡ t = ap (λ (x : List ℕ). t ++ x) (settles_nothing m mark each.0) ∙ append-nil t in
-    (may.0, subst (λ (u : List ℕ). NoneComesAgain false u ms marks) (sym same) (none_again t ms marks each.1 may.1))
+none_again : (V : OpcodeSet) (t : List ℕ) (ms : List (List ℕ)) (marks : List Mark) → AllByRecursion IsTaken marks → AllByRecursion (MayCome V t) ms
+    → NoneComesAgain V false t ms marks
+none_again V t [] marks each may = tt
+none_again V t (m ∷ ms) [] each may = (may.0, none_again V t ms [] tt may.1)
+none_again V t (m ∷ ms) (mark ∷ marks) each may =
+    let same : t ++ settles V false m mark ≡ t = ap (λ (x : List ℕ). t ++ x) (settles_nothing V m mark each.0) ∙ append-nil t in
+    (may.0, subst (λ (u : List ℕ). NoneComesAgain V false u ms marks) (sym same) (none_again V t ms marks each.1 may.1))
 
 -- ---- the bytes sent by a port that began with none
 
@@ -81,31 +84,31 @@ pub record Settled (M : Model) (stood : History → Type 0) (s : M.State) (h : H
   pub works : Works M s h timed
   pub goes : going ≡ true → GoesOn M s h timed
   pub last : going ≡ false → EndsLast M s h timed
-  pub stands : stood (grown h (kept_in timed))
-  pub sends : Sends sent counts (answers M s (grown h (kept_in timed)) timed) (counted h timed)
+  pub stands : stood (grown h (kept_in M.serves timed))
+  pub sends : Sends sent counts (answers M s (grown h (kept_in M.serves timed)) timed) (counted M.serves h timed)
 
 -- the port at the end of the session
 pub record PortEnds (p : PortState) (sent : List ℕ) : Type 0 where
   pub gone : p.gone ≡ []
   pub sent_is : p.sent ≡ Some sent
 
-settled : {M : Model} (k k' : KeeperState M) (gave : List Moment → Type 0) (coming : Option (List ℕ)) (p : PortState) (ids ids' : List ℕ)
+settled : {M : Model} (k k' : KeeperState M) (did : Deeds → Type 0) (coming : Option (List ℕ)) (p : PortState) (ids ids' : List ℕ)
     (prefix : List (List ℕ)) (going : Bool) (counts : SessionCounts) (sent : List ℕ) → ids ≡ []
-    → PortEnds p sent → (turned : Turned k k' gave (fresh coming (Some []) false) p ids ids' prefix going counts) → k'.is_honest
-    → (s : M.State) (h : History) (t : List ℕ) → StandsFor k s h t → AllByRecursion (MayCome t) (bytes_of turned.timed)
+    → PortEnds p sent → (turned : Turned k k' did (fresh coming (Some []) false) p ids ids' prefix going counts) → k'.is_honest
+    → (s : M.State) (h : History) (t : List ℕ) → StandsFor k s h t → AllByRecursion (MayCome M.serves t) (bytes_of turned.timed)
     → Settled M (λ g. StandsFor k' s g t) s h turned.timed going sent counts
-settled k k' gave coming p ids ids' prefix going counts sent none port_ends turned honest s h t so may_come =
+settled {M} k k' did coming p ids ids' prefix going counts sent none port_ends turned honest s h t so may_come =
     let r = turned.replied in
     let taken = all_taken (Some []) turned.marks r.places (sym r.gone ∙ port_ends.gone) r.placed in
     let a = turned.all honest s h t so (λ i there. absurd (cc (ap (λ (x : List ℕ). x) none, there)))
-    (none_again t (bytes_of turned.timed) turned.marks taken may_come) in
-    let same : t ++ settled_in false (bytes_of turned.timed) turned.marks ≡ t =
-    ap (λ (x : List ℕ). t ++ x) (settled_nothing (bytes_of turned.timed) turned.marks taken) ∙ append-nil t in
+    (none_again M.serves t (bytes_of turned.timed) turned.marks taken may_come) in
+    let same : t ++ settled_in M.serves false (bytes_of turned.timed) turned.marks ≡ t =
+    ap (λ (x : List ℕ). t ++ x) (settled_nothing M.serves (bytes_of turned.timed) turned.marks taken) ∙ append-nil t in
     record {
       works = a.works;
       goes = a.goes;
       last = a.last;
-      stands = subst (StandsFor k' s (grown h (kept_in turned.timed))) same a.stands;
+      stands = subst (StandsFor k' s (grown h (kept_in M.serves turned.timed))) same a.stands;
       sends = (
         sent_is p.sent sent (joined (replies turned.marks) ++ []) port_ends.sent_is r.sent ∙ append-nil (joined (replies turned.marks)) ∙ ap joined a.sent,
         a.counts_are,
@@ -205,36 +208,37 @@ of_store (store.Version n) h = omega (arith, h)
 of_store store.Damaged h = omega (arith, h)
 
 -- the counts of a stream that was served to its end or first fault
-pub counts_shown : (e : Ended) (counts n : SessionCounts) (shown : Option SessionCounts) → IsOfStream (session_ending e) → shown ≡ counts_at e counts
+pub counts_shown : (e : Ended) (counts n : SessionCounts) (shown : Option SessionCounts) (unheard : Bool) → IsOfStream (session_ending e)
+    → shown ≡ counts_at unheard e counts
     → IfSome shown (λ c. n ≡ c) → n ≡ counts
-counts_shown session.End counts n shown of_stream is so = subst (λ o. IfSome o (λ c. n ≡ c)) is so
-counts_shown session.Destroyed counts n shown of_stream is so = subst (λ o. IfSome o (λ c. n ≡ c)) is so
-counts_shown session.Turns counts n shown of_stream is so = subst (λ o. IfSome o (λ c. n ≡ c)) is so
-counts_shown (session.Frame f) counts n shown of_stream is so = subst (λ o. IfSome o (λ c. n ≡ c)) is so
-counts_shown (session.ZeroUnique at) counts n shown of_stream is so = subst (λ o. IfSome o (λ c. n ≡ c)) is so
-counts_shown session.PortFailed counts n shown of_stream is so = absurd (omega (arith, of_stream))
-counts_shown (session.Store f) counts n shown of_stream is so = absurd (of_store f of_stream)
-counts_shown session.Memory counts n shown of_stream is so = absurd (omega (arith, of_stream))
+counts_shown session.End counts n shown unheard of_stream is so = subst (λ o. IfSome o (λ c. n ≡ c)) is so
+counts_shown session.Destroyed counts n shown unheard of_stream is so = subst (λ o. IfSome o (λ c. n ≡ c)) is so
+counts_shown session.Turns counts n shown unheard of_stream is so = subst (λ o. IfSome o (λ c. n ≡ c)) is so
+counts_shown (session.Frame f) counts n shown unheard of_stream is so = subst (λ o. IfSome o (λ c. n ≡ c)) is so
+counts_shown (session.ZeroUnique at) counts n shown unheard of_stream is so = subst (λ o. IfSome o (λ c. n ≡ c)) is so
+counts_shown session.PortFailed counts n shown unheard of_stream is so = absurd (omega (arith, of_stream))
+counts_shown (session.Store f) counts n shown unheard of_stream is so = absurd (of_store f of_stream)
+counts_shown session.Memory counts n shown unheard of_stream is so = absurd (omega (arith, of_stream))
 
 -- ---- each end
 
 -- all messages were processed
-rested : {M : Model} (k k' : KeeperState M) (moment : Moment) (gave : List Moment → Type 0)
-    (each : (ts : List Moment) → gave ts → AllByRecursion (λ t. t ≡ moment) ts) (input sent : List ℕ) (p : PortState) (ids' rest : List ℕ) (place : ℕ)
+rested : {M : Model} (k k' : KeeperState M) (moment : Moment) (did : Deeds → Type 0)
+    (each : (d : Deeds) → did d → AllByRecursion (λ t. t ≡ moment) d.moments) (input sent : List ℕ) (p : PortState) (ids' rest : List ℕ) (place : ℕ)
     (counts : SessionCounts) (ending : Ending) → PortEnds p sent
-    → (w : Whole k k' gave (fresh (Some input) (Some []) false) p [] ids' [] rest 0 place counts) → (cut input).0 ≡ (cut w.received).0
+    → (w : Whole k k' did (fresh (Some input) (Some []) false) p [] ids' [] rest 0 place counts) → (cut input).0 ≡ (cut w.received).0
     → ((s : M.State) (h : History) (timed : List Timed) → GoesOn M s h timed → place ≡ length (joined (bytes_of timed))
     → EndsAt M ending s h timed [] (length (joined (bytes_of timed))) (cut input).1)
     → Replayed k k' moment input ending (Sends sent counts)
-rested k k' moment gave each input sent p ids' rest place counts ending port_ends w same ends =
+rested {M} k k' moment did each input sent p ids' rest place counts ending port_ends w same ends =
     let at : place ≡ length (joined (bytes_of w.turned.timed)) = omega (arith, w.at, ap (λ ms. length (joined ms)) w.turned.bytes) in
     record {
       timed = w.turned.timed;
       others = [];
       parts = same ∙ w.turned.bytes ∙ sym (append-nil (bytes_of w.turned.timed));
-      moments = each (moments_in w.turned.timed) w.turned.moments;
+      moments = subst (AllByRecursion (λ t. t ≡ moment)) w.turned.moments (each w.turned.deeds w.turned.done.0);
       all = λ honest s h t so may.
-          let d = settled k k' gave (Some input) p [] ids' (cut w.received).0 true counts sent refl port_ends w.turned honest s h t so may in
+          let d = settled k k' (Hears did w.received) (Some input) p [] ids' (cut w.received).0 true counts sent refl port_ends w.turned honest s h t so may in
           record { works = d.works; ends = ends s h w.turned.timed (d.goes refl) at; stands = d.stands; gave = d.sends };
     }
 
@@ -244,16 +248,16 @@ zero_more (m ∷ ms) more zero = zero
 
 -- some were
 halted : CutJoins
-    → {M : Model} (k k' : KeeperState M) (moment : Moment) (gave : List Moment → Type 0)
-    (each : (ts : List Moment) → gave ts → AllByRecursion (λ t. t ≡ moment) ts) (input sent : List ℕ) (p : PortState) (ids' received : List ℕ)
+    → {M : Model} (k k' : KeeperState M) (moment : Moment) (did : Deeds → Type 0)
+    (each : (d : Deeds) → did d → AllByRecursion (λ t. t ≡ moment) d.moments) (input sent : List ℕ) (p : PortState) (ids' received : List ℕ)
     (prefix others : List (List ℕ)) (going : Bool) (place : ℕ) (counts : SessionCounts) (ending : Ending)
     → PortEnds p sent → Consumes (Some input) p.coming received → (cut received).0 ≡ prefix ++ others → place ≡ 0 + length (joined prefix)
-    → Turned k k' gave (fresh (Some input) (Some []) false) p [] ids' prefix going counts
+    → Turned k k' (Hears did received) (fresh (Some input) (Some []) false) p [] ids' prefix going counts
     → ((s : M.State) (h : History) (timed : List Timed) (more : List (List ℕ)) → (going ≡ true → GoesOn M s h timed) → (going ≡ false → EndsLast M s h timed)
     → place ≡ length (joined (bytes_of timed))
     → EndsAt M ending s h timed (others ++ more) (length (joined (bytes_of timed))) (cut input).1)
     → Replayed k k' moment input ending (Sends sent counts)
-halted joins k k' moment gave each input sent p ids' received prefix others going place counts ending port_ends came_from parts place_is turned ends =
+halted joins {M} k k' moment did each input sent p ids' received prefix others going place counts ending port_ends came_from parts place_is turned ends =
     let c = came input p.coming received came_from in
     let more = (cut ((cut received).1 ++ c.later)).0 in
     let all = cut_came joins input received c.later c.parts in
@@ -264,9 +268,9 @@ halted joins k k' moment gave each input sent p ids' received prefix others goin
       others = others ++ more;
       parts = ap (λ (x : List (List ℕ) × List ℕ). x.0) all ∙ ap (λ ms. ms ++ more) (parts ∙ ap (λ ms. ms ++ others) turned.bytes)
           ∙ append_assoc (bytes_of timed) others more;
-      moments = each (moments_in turned.timed) turned.moments;
+      moments = subst (AllByRecursion (λ t. t ≡ moment)) turned.moments (each turned.deeds turned.done.0);
       all = λ honest s h t so may.
-          let d = settled k k' gave (Some input) p [] ids' prefix going counts sent refl port_ends turned honest s h t so may in
+          let d = settled k k' (Hears did received) (Some input) p [] ids' prefix going counts sent refl port_ends turned honest s h t so may in
           record { works = d.works; ends = ends s h timed more d.goes d.last at; stands = d.stands; gave = d.sends };
     }
 
@@ -278,69 +282,69 @@ faulty M (frame.Cut at have need) s h timed others place rest of_stream e = e
 faulty M frame.Memory s h timed others place rest of_stream e = absurd (omega (arith, of_stream))
 
 pub replayed : CutJoins → CutSteps
-    → {M : Model} (k k' : KeeperState M) (moment : Moment) (gave : List Moment → Type 0)
-    (each : (ts : List Moment) → gave ts → AllByRecursion (λ t. t ≡ moment) ts) (input sent : List ℕ) (p : PortState) (turns : ℕ) (e : Ended)
+    → {M : Model} (k k' : KeeperState M) (moment : Moment) (did : Deeds → Type 0)
+    (each : (d : Deeds) → did d → AllByRecursion (λ t. t ≡ moment) d.moments) (input sent : List ℕ) (p : PortState) (turns : ℕ) (e : Ended)
     (counts : SessionCounts) → PortEnds p sent
-    → EndsAs k k' gave (fresh (Some input) (Some []) false) p [] [] 0 turns e counts → IsOfStream (session_ending e)
+    → EndsAs k k' did (fresh (Some input) (Some []) false) p [] [] 0 turns e counts → IsOfStream (session_ending e)
     → Replayed k k' moment input (session_ending e) (Sends sent counts)
-replayed joins steps k k' moment gave each input sent p turns session.End counts port_ends e of_stream =
+replayed joins steps k k' moment did each input sent p turns session.End counts port_ends e of_stream =
     let r = e.1 in
     let c = came input p.coming r.whole.received r.whole.came in
-    let same = all_came input r.whole.received c.later c.parts (c.over e.0.1) in
-    rested k k' moment gave each input sent p r.pending' r.rest r.place counts Done port_ends r.whole (ap (λ (x : List (List ℕ) × List ℕ). x.0) same)
+    let same = all_came input r.whole.received c.later c.parts (c.over e.0.0.1) in
+    rested k k' moment did each input sent p r.pending' r.rest r.place counts Done port_ends r.whole (ap (λ (x : List (List ℕ) × List ℕ). x.0) same)
     (λ s h timed goes at. inr (goes, refl, ap (λ (x : List (List ℕ) × List ℕ). x.1) same ∙ sym r.whole.rest_is ∙ r.so))
-replayed joins steps k k' moment gave each input sent p turns session.Destroyed counts port_ends e of_stream =
+replayed joins steps k k' moment did each input sent p turns session.Destroyed counts port_ends e of_stream =
     let w = e.1.stopped.worked in
-    halted joins k k' moment gave each input sent p e.1.pending' e.1.stopped.received w.prefix w.others false e.0 counts Done port_ends e.1.stopped.came w.parts w.at
+    halted joins k k' moment did each input sent p e.1.pending' e.1.stopped.received w.prefix w.others false e.0 counts Done port_ends e.1.stopped.came w.parts w.at
     w.turned (λ s h timed more goes last at. inl (last refl))
-replayed joins steps k k' moment gave each input sent p turns (session.Frame f) counts port_ends r of_stream =
+replayed joins steps k k' moment did each input sent p turns (session.Frame f) counts port_ends r of_stream =
     let c = came input p.coming r.whole.received r.whole.came in
     elim r.so [
       | inl length_bad ↦
           let b = bad_came joins steps input r.whole.received c.later r.rest r.place f c.parts r.whole.rest_is length_bad in
-          rested k k' moment gave each input sent p r.pending' r.rest r.place counts (stream_ending f) port_ends r.whole b.0
+          rested k k' moment did each input sent p r.pending' r.rest r.place counts (stream_ending f) port_ends r.whole b.0
           (λ s h timed goes at. faulty _ f s h timed [] (length (joined (bytes_of timed)))
           (cut input).1 of_stream (goes, refl, subst (λ n. end_fault n (cut input).1 ≡ Some f) at b.1))
       | inr cut_off ↦
-          let same = all_came input r.whole.received c.later c.parts (c.over cut_off.0.1) in
+          let same = all_came input r.whole.received c.later c.parts (c.over cut_off.0.0.1) in
           let fault : end_fault r.place (cut input).1 ≡ Some f =
           subst (λ w. end_fault r.place w ≡ Some f) (r.whole.rest_is ∙ sym (ap (λ (x : List (List ℕ) × List ℕ). x.1) same)) cut_off.2 in
-          rested k k' moment gave each input sent p r.pending' r.rest r.place counts (stream_ending f) port_ends r.whole
+          rested k k' moment did each input sent p r.pending' r.rest r.place counts (stream_ending f) port_ends r.whole
           (ap (λ (x : List (List ℕ) × List ℕ). x.0) same)
           (λ s h timed goes at. faulty _ f s h timed [] (length (joined (bytes_of timed)))
           (cut input).1 of_stream (goes, refl, subst (λ n. end_fault n (cut input).1 ≡ Some f) at fault))
     ]
-replayed joins steps k k' moment gave each input sent p turns (session.ZeroUnique at) counts port_ends e of_stream =
+replayed joins steps k k' moment did each input sent p turns (session.ZeroUnique at) counts port_ends e of_stream =
     let w = e.stopped.worked in
-    halted joins k k' moment gave each input sent p e.pending' e.stopped.received w.prefix w.others true at counts (ZeroUnique at) port_ends e.stopped.came w.parts
+    halted joins k k' moment did each input sent p e.pending' e.stopped.received w.prefix w.others true at counts (ZeroUnique at) port_ends e.stopped.came w.parts
     w.at w.turned
     (λ s h timed more goes last place. (goes refl, zero_more w.others more (w.zero refl), place))
-replayed joins steps k k' moment gave each input sent p turns session.Turns counts port_ends e of_stream = absurd (omega (arith, of_stream))
-replayed joins steps k k' moment gave each input sent p turns session.PortFailed counts port_ends e of_stream = absurd (omega (arith, of_stream))
-replayed joins steps k k' moment gave each input sent p turns (session.Store f) counts port_ends e of_stream = absurd (of_store f of_stream)
-replayed joins steps k k' moment gave each input sent p turns session.Memory counts port_ends e of_stream = absurd (omega (arith, of_stream))
+replayed joins steps k k' moment did each input sent p turns session.Turns counts port_ends e of_stream = absurd (omega (arith, of_stream))
+replayed joins steps k k' moment did each input sent p turns session.PortFailed counts port_ends e of_stream = absurd (omega (arith, of_stream))
+replayed joins steps k k' moment did each input sent p turns (session.Store f) counts port_ends e of_stream = absurd (of_store f of_stream)
+replayed joins steps k k' moment did each input sent p turns session.Memory counts port_ends e of_stream = absurd (omega (arith, of_stream))
 
 -- the same for this port and this ending
 pub session_replayed : CutJoins → CutSteps
-    → {M : Model} (k k' : KeeperState M) (moment : Moment) (gave : List Moment → Type 0)
-    (each : (ts : List Moment) → gave ts → AllByRecursion (λ t. t ≡ moment) ts) (input sent : List ℕ) (q p : PortState) (turns : ℕ) (e : Ended)
+    → {M : Model} (k k' : KeeperState M) (moment : Moment) (did : Deeds → Type 0)
+    (each : (d : Deeds) → did d → AllByRecursion (λ t. t ≡ moment) d.moments) (input sent : List ℕ) (q p : PortState) (turns : ℕ) (e : Ended)
     (counts : SessionCounts) (ending : Ending)
-    → ending ≡ session_ending e → q ≡ fresh (Some input) (Some []) false → p.gone ≡ [] → p.sent ≡ Some sent → EndsAs k k' gave q p [] [] 0 turns e counts
+    → ending ≡ session_ending e → q ≡ fresh (Some input) (Some []) false → p.gone ≡ [] → p.sent ≡ Some sent → EndsAs k k' did q p [] [] 0 turns e counts
     → IsOfStream ending
     → Replayed k k' moment input ending (Sends sent counts)
-session_replayed joins steps k k' moment gave each input sent q p turns e counts ending is start gone port_ends ends of_stream =
+session_replayed joins steps k k' moment did each input sent q p turns e counts ending is start gone port_ends ends of_stream =
     subst (λ x. Replayed k k' moment input x (Sends sent counts)) (sym is)
-    (replayed joins steps k k' moment gave each input sent p turns e counts (record { gone = gone; sent_is = port_ends })
-    (subst (λ x. EndsAs k k' gave x p [] [] 0 turns e counts) start ends) (subst IsOfStream is of_stream))
+    (replayed joins steps k k' moment did each input sent p turns e counts (record { gone = gone; sent_is = port_ends })
+    (subst (λ x. EndsAs k k' did x p [] [] 0 turns e counts) start ends) (subst IsOfStream is of_stream))
 
 -- ---- a fault of the store
 
-faulted : CutJoins → {M : Model} (k k' : KeeperState M) (fault : StoreFault) (moment : Moment) (gave : List Moment → Type 0)
-    (each : (ts : List Moment) → gave ts → AllByRecursion (λ t. t ≡ moment) ts) (input sent : List ℕ) (p : PortState) → (k'.is_clean → k'.is_honest)
+faulted : CutJoins → {M : Model} (k k' : KeeperState M) (fault : StoreFault) (moment : Moment) (did : Deeds → Type 0)
+    (each : (d : Deeds) → did d → AllByRecursion (λ t. t ≡ moment) d.moments) (input sent : List ℕ) (p : PortState) → (k'.is_clean → k'.is_honest)
     → PortEnds p sent
-    → SentExactly k k' (λ s g t. k'.is_clean → StandsFor k' s g t × k.may_answer fault) gave (fresh (Some input) (Some []) false) p [] []
+    → SentExactly k k' (λ s g t. k'.is_clean → StandsFor k' s g t × k.may_answer fault) did (fresh (Some input) (Some []) false) p [] []
     → Faulted k k' moment input (store_ending fault) (λ answers. sent ≡ joined answers)
-faulted joins k k' fault moment gave each input sent p clean_honest port_ends life =
+faulted joins {M} k k' fault moment did each input sent p clean_honest port_ends life =
     let r = life.replied in
     let c = came input p.coming life.received life.came in
     let more = (cut ((cut life.received).1 ++ c.later)).0 in
@@ -353,12 +357,14 @@ faulted joins k k' fault moment gave each input sent p clean_honest port_ends li
       others = life.others ++ more;
       parts = ap (λ (x : List (List ℕ) × List ℕ). x.0) (cut_came joins input life.received c.later c.parts) ∙ ap (λ ms. ms ++ more) life.prefix
           ∙ append_assoc (bytes_of life.timed) life.others more;
-      moments = each_prefix (λ t. t ≡ moment) (moments_in life.timed) life.moments.0 (each _ life.moments.1);
+      moments =
+          each_prefix (λ t. t ≡ moment) (moments_in M.serves life.timed) life.moments.0
+          (subst (AllByRecursion (λ t. t ≡ moment)) life.moments.1 (each life.deeds life.done.0));
       all = λ clean s h t so may.
-          let l = life.exactly (clean_honest clean) s h t so (λ i there. absurd (cc there)) (none_again t (bytes_of life.timed) life.marks taken may) in
-          let g = grown h (kept_in l.worked) in
-          let same : t ++ settled_in false (bytes_of l.worked) life.marks ≡ t =
-          ap (λ (x : List ℕ). t ++ x) (settled_nothing (bytes_of l.worked) life.marks taken) ∙ append-nil t in (
+          let l = life.exactly (clean_honest clean) s h t so (λ i there. absurd (cc there)) (none_again M.serves t (bytes_of life.timed) life.marks taken may) in
+          let g = grown h (kept_in M.serves l.worked) in
+          let same : t ++ settled_in M.serves false (bytes_of l.worked) life.marks ≡ t =
+          ap (λ (x : List ℕ). t ++ x) (settled_nothing M.serves (bytes_of l.worked) life.marks taken) ∙ append-nil t in (
             record {
               processed = l.worked;
               unprocessed = l.unprocessed;
@@ -373,42 +379,42 @@ faulted joins k k' fault moment gave each input sent p clean_honest port_ends li
 
 -- status 3 comes by a fault of the store alone
 store_faulted : CutJoins
-    → {M : Model} (k k' : KeeperState M) (moment : Moment) (gave : List Moment → Type 0)
-    (each : (ts : List Moment) → gave ts → AllByRecursion (λ t. t ≡ moment) ts) (input sent : List ℕ) (p : PortState) (e : Ended) → (k'.is_clean → k'.is_honest)
+    → {M : Model} (k k' : KeeperState M) (moment : Moment) (did : Deeds → Type 0)
+    (each : (d : Deeds) → did d → AllByRecursion (λ t. t ≡ moment) d.moments) (input sent : List ℕ) (p : PortState) (e : Ended) → (k'.is_clean → k'.is_honest)
     → PortEnds p sent
-    → status_of (session_ending e) ≡ 3 → ExactAt k k' gave (fresh (Some input) (Some []) false) p [] [] e
+    → status_of (session_ending e) ≡ 3 → ExactAt k k' did (fresh (Some input) (Some []) false) p [] [] e
     → Faulted k k' moment input (session_ending e) (λ answers. sent ≡ joined answers)
-store_faulted joins k k' moment gave each input sent p (session.Store f) clean_honest port_ends is life =
-    faulted joins k k' f moment gave each input sent p clean_honest port_ends life
-store_faulted joins k k' moment gave each input sent p session.End clean_honest port_ends is life = absurd (omega (arith, is))
-store_faulted joins k k' moment gave each input sent p session.Destroyed clean_honest port_ends is life = absurd (omega (arith, is))
-store_faulted joins k k' moment gave each input sent p session.Turns clean_honest port_ends is life = absurd (omega (arith, is))
-store_faulted joins k k' moment gave each input sent p (session.Frame (frame.Short at len)) clean_honest port_ends is life = absurd (omega (arith, is))
-store_faulted joins k k' moment gave each input sent p (session.Frame (frame.TooLong at len)) clean_honest port_ends is life = absurd (omega (arith, is))
-store_faulted joins k k' moment gave each input sent p (session.Frame (frame.Cut at have need)) clean_honest port_ends is life = absurd (omega (arith, is))
-store_faulted joins k k' moment gave each input sent p (session.Frame frame.Memory) clean_honest port_ends is life = absurd (omega (arith, is))
-store_faulted joins k k' moment gave each input sent p (session.ZeroUnique at) clean_honest port_ends is life = absurd (omega (arith, is))
-store_faulted joins k k' moment gave each input sent p session.PortFailed clean_honest port_ends is life = absurd (omega (arith, is))
-store_faulted joins k k' moment gave each input sent p session.Memory clean_honest port_ends is life = absurd (omega (arith, is))
+store_faulted joins k k' moment did each input sent p (session.Store f) clean_honest port_ends is life =
+    faulted joins k k' f moment did each input sent p clean_honest port_ends life
+store_faulted joins k k' moment did each input sent p session.End clean_honest port_ends is life = absurd (omega (arith, is))
+store_faulted joins k k' moment did each input sent p session.Destroyed clean_honest port_ends is life = absurd (omega (arith, is))
+store_faulted joins k k' moment did each input sent p session.Turns clean_honest port_ends is life = absurd (omega (arith, is))
+store_faulted joins k k' moment did each input sent p (session.Frame (frame.Short at len)) clean_honest port_ends is life = absurd (omega (arith, is))
+store_faulted joins k k' moment did each input sent p (session.Frame (frame.TooLong at len)) clean_honest port_ends is life = absurd (omega (arith, is))
+store_faulted joins k k' moment did each input sent p (session.Frame (frame.Cut at have need)) clean_honest port_ends is life = absurd (omega (arith, is))
+store_faulted joins k k' moment did each input sent p (session.Frame frame.Memory) clean_honest port_ends is life = absurd (omega (arith, is))
+store_faulted joins k k' moment did each input sent p (session.ZeroUnique at) clean_honest port_ends is life = absurd (omega (arith, is))
+store_faulted joins k k' moment did each input sent p session.PortFailed clean_honest port_ends is life = absurd (omega (arith, is))
+store_faulted joins k k' moment did each input sent p session.Memory clean_honest port_ends is life = absurd (omega (arith, is))
 
 pub session_faulted : CutJoins
-    → {M : Model} (k k' : KeeperState M) (moment : Moment) (gave : List Moment → Type 0)
-    (each : (ts : List Moment) → gave ts → AllByRecursion (λ t. t ≡ moment) ts) (input sent : List ℕ) (q p : PortState) (e : Ended) (ending : Ending)
+    → {M : Model} (k k' : KeeperState M) (moment : Moment) (did : Deeds → Type 0)
+    (each : (d : Deeds) → did d → AllByRecursion (λ t. t ≡ moment) d.moments) (input sent : List ℕ) (q p : PortState) (e : Ended) (ending : Ending)
     → (k'.is_clean → k'.is_honest)
-    → ending ≡ session_ending e → q ≡ fresh (Some input) (Some []) false → p.gone ≡ [] → p.sent ≡ Some sent → ExactAt k k' gave q p [] [] e
+    → ending ≡ session_ending e → q ≡ fresh (Some input) (Some []) false → p.gone ≡ [] → p.sent ≡ Some sent → ExactAt k k' did q p [] [] e
     → status_of ending ≡ 3
     → Faulted k k' moment input ending (λ answers. sent ≡ joined answers)
-session_faulted joins k k' moment gave each input sent q p e ending clean_honest is start gone port_ends life three =
+session_faulted joins k k' moment did each input sent q p e ending clean_honest is start gone port_ends life three =
     subst (λ x. Faulted k k' moment input x (λ answers. sent ≡ joined answers)) (sym is)
-    (store_faulted joins k k' moment gave each input sent p e clean_honest (record { gone = gone; sent_is = port_ends }) (sym (ap status_of is) ∙ three)
-    (subst (λ x. ExactAt k k' gave x p [] [] e) start life))
+    (store_faulted joins k k' moment did each input sent p e clean_honest (record { gone = gone; sent_is = port_ends }) (sym (ap status_of is) ∙ three)
+    (subst (λ x. ExactAt k k' did x p [] [] e) start life))
 
 -- ---- however it ended
 
-kept : CutJoins → {M : Model} (k k' : KeeperState M) (store memory : Bool) (may_fault : Type 0) (moment : Moment) (gave : List Moment → Type 0)
-    (each : (ts : List Moment) → gave ts → AllByRecursion (λ t. t ≡ moment) ts) (input : List ℕ) (p : PortState) → p.gone ≡ []
-    → Run k k' gave (fresh (Some input) (Some []) false) p [] [] store memory may_fault → StandsForPrefix k k' moment input
-kept joins k k' store memory may_fault moment gave each input p gone run =
+kept : CutJoins → {M : Model} (k k' : KeeperState M) (store memory : Bool) (may_fault : Type 0) (moment : Moment) (did : Deeds → Type 0)
+    (each : (d : Deeds) → did d → AllByRecursion (λ t. t ≡ moment) d.moments) (input : List ℕ) (p : PortState) → p.gone ≡ []
+    → Run k k' did (fresh (Some input) (Some []) false) p [] [] store memory may_fault → StandsForPrefix k k' moment input
+kept joins {M} k k' store memory may_fault moment did each input p gone run =
     let b = run.broken in
     let c = came input p.coming run.received run.came in
     let more = (cut ((cut run.received).1 ++ c.later)).0 in
@@ -418,26 +424,44 @@ kept joins k k' store memory may_fault moment gave each input p gone run =
       others = b.others ++ more;
       parts = ap (λ (x : List (List ℕ) × List ℕ). x.0) (cut_came joins input run.received c.later c.parts) ∙ ap (λ ms. ms ++ more) b.prefix
           ∙ append_assoc (bytes_of b.timed) b.others more;
-      moments = each_prefix (λ t. t ≡ moment) (moments_in b.timed) b.moments.0 (each _ b.moments.1);
+      moments =
+          each_prefix (λ t. t ≡ moment) (moments_in M.serves b.timed) b.moments.0
+          (subst (AllByRecursion (λ t. t ≡ moment)) b.moments.1 (each b.deeds b.done.0));
       all = λ clean s h t so may.
-          let l = b.life clean s h t so (λ i there. absurd (cc there)) (none_again t (bytes_of b.timed) b.marks taken may) in
-          let same : t ++ settled_in false (bytes_of l.worked) b.marks ≡ t =
-          ap (λ (x : List ℕ). t ++ x) (settled_nothing (bytes_of l.worked) b.marks taken) ∙ append-nil t in
+          let l = b.life clean s h t so (λ i there. absurd (cc there)) (none_again M.serves t (bytes_of b.timed) b.marks taken may) in
+          let same : t ++ settled_in M.serves false (bytes_of l.worked) b.marks ≡ t =
+          ap (λ (x : List ℕ). t ++ x) (settled_nothing M.serves (bytes_of l.worked) b.marks taken) ∙ append-nil t in
           record {
             processed = l.worked;
             unprocessed = l.unprocessed;
             parts = l.parts;
             works = l.works;
-            stands = subst (StandsFor k' s (grown h (kept_in l.worked))) same l.stands;
+            stands = subst (StandsFor k' s (grown h (kept_in M.serves l.worked))) same l.stands;
             gave = tt;
           };
+      crash = λ honest firm s h t so may.
+          let left = b.crash honest firm s h t so (λ i there. absurd (cc there)) (none_again M.serves t (bytes_of b.timed) b.marks taken may) in (
+            left.0,
+            λ x r may_leave.
+                let l = left.1 x r may_leave in
+                let same : t ++ settled_in M.serves false (bytes_of l.worked) b.marks ≡ t =
+                ap (λ (y : List ℕ). t ++ y) (settled_nothing M.serves (bytes_of l.worked) b.marks taken) ∙ append-nil t in
+                record {
+                  processed = l.worked;
+                  unprocessed = l.unprocessed;
+                  parts = l.parts;
+                  works = l.works;
+                  stands = subst (Stands M x r s (grown h (kept_in M.serves l.worked))) same l.stands;
+                  gave = tt;
+                },
+          );
     }
 
-pub session_kept : CutJoins → {M : Model} (k k' : KeeperState M) (store memory : Bool) (may_fault : Type 0) (moment : Moment) (gave : List Moment → Type 0)
-    (each : (ts : List Moment) → gave ts → AllByRecursion (λ t. t ≡ moment) ts) (input : List ℕ) (q p : PortState)
-    → q ≡ fresh (Some input) (Some []) false → p.gone ≡ [] → Run k k' gave q p [] [] store memory may_fault → StandsForPrefix k k' moment input
-session_kept joins k k' store memory may_fault moment gave each input q p start gone run =
-    kept joins k k' store memory may_fault moment gave each input p gone (subst (λ x. Run k k' gave x p [] [] store memory may_fault) start run)
+pub session_kept : CutJoins → {M : Model} (k k' : KeeperState M) (store memory : Bool) (may_fault : Type 0) (moment : Moment) (did : Deeds → Type 0)
+    (each : (d : Deeds) → did d → AllByRecursion (λ t. t ≡ moment) d.moments) (input : List ℕ) (q p : PortState)
+    → q ≡ fresh (Some input) (Some []) false → p.gone ≡ [] → Run k k' did q p [] [] store memory may_fault → StandsForPrefix k k' moment input
+session_kept joins k k' store memory may_fault moment did each input q p start gone run =
+    kept joins k k' store memory may_fault moment did each input p gone (subst (λ x. Run k k' did x p [] [] store memory may_fault) start run)
 
 -- ---- the output
 
@@ -454,7 +478,7 @@ answer_begins len Kept (Some a) unique fits = begins_answer _ (len a.errno a.bod
 answers_begin : (M : Model) → LenStandsFirst → SaidFits M → (s : M.State) (g : History) (timed : List Timed) → AllByRecursion IsAnswer (answers M s g timed)
 answers_begin M len fits s g [] = tt
 answers_begin M len fits s g (t ∷ timed) = (
-  answer_begins len (class_of t.bytes) (said M s g (message_id t.bytes)) (unique_of t.bytes) (fits s g (message_id t.bytes)),
+  answer_begins len (class_for M.serves t.bytes) (said M s g (message_id t.bytes)) (unique_of t.bytes) (fits s g (message_id t.bytes)),
   answers_begin M len fits s g timed,
 )
 
@@ -469,7 +493,7 @@ printed {M} len fits k k' moment input sent counts ending written written' print
   moments = r.moments;
   all = λ honest s h t so may.
       let d = r.all honest s h t so may in
-      let g = grown h (kept_in r.timed) in
+      let g = grown h (kept_in M.serves r.timed) in
       record {
         works = d.works;
         ends = d.ends;
@@ -492,7 +516,7 @@ fault_printed {M} len fits k k' moment input sent ending written written' prints
   moments = f.moments;
   all = λ clean s h t so may.
       let d = (f.all clean s h t so may).0 in
-      let g = grown h (kept_in d.processed) in (
+      let g = grown h (kept_in M.serves d.processed) in (
         record {
           processed = d.processed;
           unprocessed = d.unprocessed;

@@ -12,6 +12,10 @@ left_to remaining p = remaining p.reader
 abbrev pub piece_in : {R : Type 0} → PieceReader R → List ℕ
 piece_in p = take p.len p.buffer.items
 
+-- the inner reader
+abbrev pub reader_in : {R : Type 0} → {T : Type 0} → ProgressReader R T → R
+reader_in p = p.reader
+
 -- the unread bytes of the inner reader, if known
 abbrev pub remaining_in : {R : Type 0} → {T : Type 0} → (R → Option (List ℕ)) → ProgressReader R T → Option (List ℕ)
 remaining_in remaining p = remaining p.reader

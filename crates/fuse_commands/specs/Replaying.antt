@@ -10,7 +10,8 @@ use Rattle.fuse_request.specs.Framing.{end_fault}
 use Rattle.fuse_keeper.specs.declared.fault.StoreFault.{StoreFault}
 use Rattle.fuse_keeper.specs.Model.{Model}
 use Rattle.fuse_keeper.specs.History.{History, grown}
-use Rattle.fuse_keeper.specs.KeeperState.{KeeperState, StandsFor}
+use Rattle.fuse_keeper.specs.Stands.{Stands}
+use Rattle.fuse_keeper.specs.KeeperState.{KeeperState, StandsFor, Leaves, IsFirm}
 use Rattle.fuse_session.specs.declared.counts.SessionCounts.{SessionCounts}
 use Rattle.fuse_session.specs.Processed.{Timed, bytes_of, kept_in, answers, GoesOn, Works, EndsLast, StartsZero, moments_in}
 use Rattle.fuse_session.specs.Settling.{MayCome}
@@ -38,8 +39,8 @@ pub record Replay (M : Model) (stood : History → Type 0) (s : M.State) (h : Hi
     (ending : Ending) (Gave : List (List ℕ) → SessionCounts → Type 0) : Type 0 where
   pub works : Works M s h timed
   pub ends : EndsAt M ending s h timed others (length (joined (bytes_of timed))) rest
-  pub stands : stood (grown h (kept_in timed))
-  pub gave : Gave (answers M s (grown h (kept_in timed)) timed) (counted h timed)
+  pub stands : stood (grown h (kept_in M.serves timed))
+  pub gave : Gave (answers M s (grown h (kept_in M.serves timed)) timed) (counted M.serves h timed)
 
 -- a prefix of the messages of the input was processed, the kept ones at this moment, for any history of the keeper and any
 -- settled ids that do not come again
@@ -48,8 +49,8 @@ pub record Replayed {M : Model} (k k' : KeeperState M) (moment : Moment) (input 
   pub timed : List Timed
   pub others : List (List ℕ)
   pub parts : (cut input).0 ≡ bytes_of timed ++ others
-  pub moments : AllByRecursion (λ t. t ≡ moment) (moments_in timed)
-  pub all : k'.is_honest → (s : M.State) (h : History) (t : List ℕ) → StandsFor k s h t → AllByRecursion (MayCome t) (bytes_of timed)
+  pub moments : AllByRecursion (λ t. t ≡ moment) (moments_in M.serves timed)
+  pub all : k'.is_honest → (s : M.State) (h : History) (t : List ℕ) → StandsFor k s h t → AllByRecursion (MayCome M.serves t) (bytes_of timed)
       → Replay M (λ g. StandsFor k' s g t) s h timed others (cut input).1 ending Gave
 
 -- a prefix of these messages was processed, and Gave holds of their answers
@@ -58,8 +59,8 @@ pub record Part (M : Model) (stood : History → Type 0) (s : M.State) (h : Hist
   pub unprocessed : List Timed
   pub parts : timed ≡ processed ++ unprocessed
   pub works : Works M s h processed
-  pub stands : stood (grown h (kept_in processed))
-  pub gave : Gave (answers M s (grown h (kept_in processed)) processed)
+  pub stands : stood (grown h (kept_in M.serves processed))
+  pub gave : Gave (answers M s (grown h (kept_in M.serves processed)) processed)
 
 -- the store returned a fault that the keeper may return, after a prefix of the messages of the input, the kept ones at this
 -- moment
@@ -69,19 +70,21 @@ pub record Faulted {M : Model} (k k' : KeeperState M) (moment : Moment) (input :
   pub timed : List Timed
   pub others : List (List ℕ)
   pub parts : (cut input).0 ≡ bytes_of timed ++ others
-  pub moments : AllByRecursion (λ t. t ≡ moment) (moments_in timed)
-  pub all : k'.is_clean → (s : M.State) (h : History) (t : List ℕ) → StandsFor k s h t → AllByRecursion (MayCome t) (bytes_of timed)
+  pub moments : AllByRecursion (λ t. t ≡ moment) (moments_in M.serves timed)
+  pub all : k'.is_clean → (s : M.State) (h : History) (t : List ℕ) → StandsFor k s h t → AllByRecursion (MayCome M.serves t) (bytes_of timed)
       → Part M (λ g. StandsFor k' s g t) s h timed Gave × k.may_answer fault
 
--- however it ended: a prefix of the messages of the input was processed, the kept ones at this moment, and if its store is clean
--- the keeper stands for these
+-- however it ended: a prefix of the messages of the input was processed, the kept ones at this moment. If its store is clean the
+-- keeper stands for these; and if it was firm at first, so does whatever a crash now leaves
 pub record StandsForPrefix {M : Model} (k k' : KeeperState M) (moment : Moment) (input : List ℕ) : Type 0 where
   pub timed : List Timed
   pub others : List (List ℕ)
   pub parts : (cut input).0 ≡ bytes_of timed ++ others
-  pub moments : AllByRecursion (λ t. t ≡ moment) (moments_in timed)
-  pub all : k'.is_clean → (s : M.State) (h : History) (t : List ℕ) → StandsFor k s h t → AllByRecursion (MayCome t) (bytes_of timed)
+  pub moments : AllByRecursion (λ t. t ≡ moment) (moments_in M.serves timed)
+  pub all : k'.is_clean → (s : M.State) (h : History) (t : List ℕ) → StandsFor k s h t → AllByRecursion (MayCome M.serves t) (bytes_of timed)
       → Part M (λ g. StandsFor k' s g t) s h timed (λ _. Unit {0})
+  pub crash : k'.is_honest → IsFirm k → (s : M.State) (h : History) (t : List ℕ) → StandsFor k s h t
+      → AllByRecursion (MayCome M.serves t) (bytes_of timed) → Leaves k' (λ x r. Part M (λ g. Stands M x r s g t) s h timed (λ _. Unit {0}))
 
 -- these answers were sent, and these are the counts
 abbrev pub Sends : List ℕ → SessionCounts → List (List ℕ) → SessionCounts → Type 0

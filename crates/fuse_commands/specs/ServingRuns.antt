@@ -1,62 +1,104 @@
 -- What serving a port does: at Resume the resend notice, then a session (own profile).
-use Rattle.std.specs.Prelude.{◌≡◌, ◌⊎◌, ℕ, true, List, [], Option, None, Ok, Err}
+use Rattle.std.specs.Prelude.{◌≡◌, ◌↔◌, ◌⊎◌, ◌<◌, ◌≤◌, ◌+◌, ℕ, true, false, List, [], Option, None, Ok, Err, OnOk}
 use Rattle.fuse_wire.specs.declared.moment.Moment.{Moment}
 use Rattle.fuse_keeper.specs.Model.{Model}
+use Rattle.fuse_keeper.specs.Performance.{Performance}
 use Rattle.fuse_keeper.specs.KeeperState.{KeeperState, Looked, WhereHeld, OfHeld, IsFirm, AnswersNoMore}
 use Rattle.fuse_session.specs.declared.counts.SessionCounts.{SessionCounts}
-use Rattle.fuse_session.specs.declared.ended.Ended.{Ended}
+use Rattle.fuse_session.specs.declared.ended.Ended.TheVariants as session
+use Rattle.fuse_session.specs.declared.ended.Served.{Served}
 use Rattle.fuse_session.specs.declared.resend.ResumeFault.{ResumeFault}
 use Rattle.fuse_session.specs.declared.resend.ResumeFault.TheVariants as resume
 use Rattle.fuse_session.specs.declared.device.DevicePort.{DevicePort}
 use Rattle.fuse_session.specs.Port.{PortState, fresh}
+use Rattle.fuse_session.specs.Transcript.{PortEvent}
+use Rattle.fuse_session.specs.Deeds.{Deeds, Did}
 use Rattle.fuse_session.specs.DevicePort.{device_told}
 use Rattle.fuse_session.specs.Settling.{AtMostMore}
-use Rattle.fuse_session.specs.Serving.{Run, FewSettled}
+use Rattle.fuse_session.specs.Serving.{Run, FewSettled, KeepsFirm}
 use Rattle.fuse_session.specs.Ends.{SessionEnds, ExactAt, MayEnd, ended_store, ended_memory}
-use Rattle.fuse_session.specs.Prompt.{AnswersFirst}
-use Rattle.fuse_session.specs.Resuming.{Resumed, NotResumed, of_store}
+use Rattle.fuse_session.specs.Prompt.{Prompt}
+use Rattle.fuse_session.specs.Starts.{HoldsUnder}
+use Rattle.fuse_session.specs.Resuming.{Resumed, NotResumed, NoticeHanded, of_store}
 use Rattle.fuse_commands.specs.declared.ending.Ending.{Ending}
 use Rattle.fuse_commands.specs.declared.serve.Begin.{Begin}
 use Rattle.fuse_commands.specs.declared.serve.Begin.TheVariants.{Fresh, Resume}
 use Rattle.fuse_commands.specs.declared.ending.Ending.TheVariants.{NotOffered, PortFailed}
 use Rattle.fuse_commands.specs.Endings.{session_ending, store_ending}
 
+-- how contracts see a keeper and a port
+pub record Views (M : Model) (K P : Type 0) : Type 1 where
+  pub keeper : K → KeeperState M
+  pub performed : K → K → List Performance → Type 0
+  pub port : P → PortState
+  pub became : P → P → List PortEvent → Type 0
+
+-- a keeper and a port, before and after
+pub record Between (K P : Type 0) : Type 0 where
+  pub keeper : K
+  pub keeper' : K
+  pub port : P
+  pub port' : P
+
+abbrev pub views : {M : Model} {K P : Type 0} → (K → KeeperState M) → (K → K → List Performance → Type 0) → (P → PortState)
+    → (P → P → List PortEvent → Type 0) → Views M K P
+views keeper performed port became = record { keeper = keeper; performed = performed; port = port; became = became }
+
+abbrev pub between : {K P : Type 0} → K → K → P → P → Between K P
+between keeper keeper' port port' = record { keeper = keeper; keeper' = keeper'; port = port; port' = port' }
+
 -- the bound on turns
 abbrev pub most_turns : ℕ
 most_turns = 4294967295
 
--- a session: its end and its counts, the answers, and the state of the keeper, however it ended and whatever a crash leaves
-pub record Session {M : Model} (k k' : KeeperState M) (gave : List Moment → Type 0) (old new : PortState) (ended : Ended)
-    (counts : Option SessionCounts) : Type 0 where
-  pub ends : SessionEnds k k' gave old new most_turns ended counts
-  pub life : Run k k' gave old new [] [] (ended_store ended) (ended_memory ended) (MayEnd k.may_answer ended)
-  pub exactly : ExactAt k k' gave old new [] [] ended
+-- a session, with all that `serve` promises of it
+pub record Session {M : Model} (k k' : KeeperState M) (did : Deeds → Type 0) (old new : PortState) (served : Served) : Type 0 where
+  -- which messages were processed and answered at each end, and their counts
+  pub ends : SessionEnds k k' did old new most_turns served.ended served.counts
+  -- however it ended, and whatever a crash leaves
+  pub life : Run k k' did old new [] [] (ended_store served.ended) (ended_memory served.ended) (MayEnd k.may_answer served.ended)
+  -- all that came is answered before more is received
+  pub prompt : Prompt k k' did old.confirms
+  -- what was sent at a fault of the store, or out of memory
+  pub exactly : ExactAt k k' did old new [] [] served.ended
+  -- the records that stay, and under which lots
   pub at_most : old.confirms ≡ true → k'.is_clean → OfHeld k (λ rows records. AtMostMore records k')
-  pub settled : k'.is_clean → FewSettled k k' gave old new
+  pub lots : old.confirms ≡ true → k'.is_clean → OfHeld k (λ rows records. HoldsUnder (record { records = records; lots = k.lots }) k')
+  pub settled : k'.is_clean → FewSettled k k' did old new
+  -- how often it received, and that it ended by the port and by the store exactly where they failed
+  pub turns : new.receives ≤ old.receives + most_turns
+  pub failed : (served.ended ≡ session.PortFailed) ↔ (old.failures < new.failures)
+  pub store : k'.has_failed ≡ ended_store served.ended
+  -- the keeper and its medium afterwards
+  pub firm : ended_store served.ended ≡ false → KeepsFirm k k'
   pub honest : k'.is_honest → k.is_honest
+  pub medium : k.in_memory → k'.in_memory
   pub may : AnswersNoMore k k'
 
--- the notice was sent; the keeper holds the same and is as firm
-pub record Notified {M : Model} (k k' : KeeperState M) (old new : PortState) : Type 0 where
-  pub resumed : Resumed k k' old new
-  pub looked : Looked k k' (of_store (Ok tt))
-  pub firm : k'.is_honest → WhereHeld k (IsFirm k → IsFirm k')
+-- the notice was handed to the port, and nothing else; the keeper holds the same, is as firm and was asked to perform nothing
+pub record Notified {M : Model} {K P : Type 0} (v : Views M K P) (b : Between K P) : Type 0 where
+  pub resumed : Resumed (v.keeper b.keeper) (v.keeper b.keeper') (v.port b.port) (v.port b.port')
+  pub looked : Looked (v.keeper b.keeper) (v.keeper b.keeper') (of_store (Ok tt))
+  pub firm : (v.keeper b.keeper').is_honest → WhereHeld (v.keeper b.keeper) (IsFirm (v.keeper b.keeper) → IsFirm (v.keeper b.keeper'))
+  pub handed : NoticeHanded (v.became b.port b.port') (Ok tt)
+  pub unasked : v.performed b.keeper b.keeper' []
 
 -- the notice before the session, at Resume
-abbrev pub Begins : {M : Model} {K P : Type 0} → Begin → (K → KeeperState M) → (P → PortState) → K → K → P → P → Type 0
-Begins Resume keeper_state port_state keeper begun port now = Notified (keeper_state keeper) (keeper_state begun) (port_state port) (port_state now)
-Begins Fresh keeper_state port_state keeper begun port now = (begun ≡ keeper) × (now ≡ port)
+abbrev pub Begins : {M : Model} {K P : Type 0} → Begin → Views M K P → Between K P → Type 0
+Begins Resume v b = Notified v b
+Begins Fresh v b = (b.keeper' ≡ b.keeper) × (b.port' ≡ b.port)
 
--- a session was served; each turn sends its answers before the next receive
-pub record Served {M : Model} {K P : Type 0} (keeper_state : K → KeeperState M) (port_state : P → PortState) (became : P → P → Type 0) (gave : List Moment → Type 0)
-    (keeper keeper' : K) (port port' : P) (begin : Begin) (ending : Ending) (counts : Option SessionCounts) : Type 0 where
+-- a session was served after it, and how it ended is the ending
+pub record SessionServed {M : Model} {K P : Type 0} (v : Views M K P) (gave : List Moment → Type 0) (b : Between K P) (begin : Begin) (ending : Ending)
+    (counts : Option SessionCounts) : Type 0 where
   pub begun : K
   pub now : P
-  pub begins : Begins begin keeper_state port_state keeper begun port now
-  pub ended : Ended
-  pub session : Session (keeper_state begun) (keeper_state keeper') gave (port_state now) (port_state port') ended counts
-  pub prompt : AnswersFirst port_state became (keeper_state begun) (keeper_state keeper') now port'
-  pub ending_is : ending ≡ session_ending ended
+  pub begins : Begins begin v (record { keeper = b.keeper; keeper' = begun; port = b.port; port' = now })
+  pub served : Served
+  pub session : Session (v.keeper begun) (v.keeper b.keeper') (Did gave (v.performed begun b.keeper') (v.became now b.port')) (v.port now) (v.port b.port')
+      served
+  pub ending_is : ending ≡ session_ending served.ended
+  pub counts_are : counts ≡ served.counts
 
 -- the ending of a command whose notice could not be sent
 abbrev pub resume_ending : ResumeFault → Ending
@@ -65,26 +107,27 @@ resume_ending resume.PortFailed = PortFailed
 resume_ending (resume.Store fault) = store_ending fault
 
 -- no session was served, since the notice could not be sent
-pub record NotServed {M : Model} (k k' : KeeperState M) (old new : PortState) (begin : Begin) (ending : Ending) (counts : Option SessionCounts) : Type 0 where
-  pub asked : begin ≡ Resume
+pub record NotServed {M : Model} {K P : Type 0} (v : Views M K P) (b : Between K P) (begin : Begin) (ending : Ending) (counts : Option SessionCounts)
+    : Type 0 where
+  pub resumes : begin ≡ Resume
   pub fault : ResumeFault
-  pub not_resumed : NotResumed k k' old new fault
-  pub looked : Looked k k' (of_store (Err fault))
+  pub not_resumed : NotResumed (v.keeper b.keeper) (v.keeper b.keeper') (v.port b.port) (v.port b.port') fault
+  pub looked : Looked (v.keeper b.keeper) (v.keeper b.keeper') (of_store (Err fault))
+  pub firm : OnOk (of_store (Err fault))
+      ((v.keeper b.keeper').is_honest → WhereHeld (v.keeper b.keeper) (IsFirm (v.keeper b.keeper) → IsFirm (v.keeper b.keeper')))
+  pub handed : NoticeHanded (v.became b.port b.port') (Err fault)
+  pub unasked : v.performed b.keeper b.keeper' []
   pub ending_is : ending ≡ resume_ending fault
   pub uncounted : counts ≡ None
 
-abbrev pub ServesPort : {M : Model} {K P : Type 0} → (K → KeeperState M) → (P → PortState) → (P → P → Type 0) → (List Moment → Type 0) → K → K → P → P
-    → Begin → Ending → Option SessionCounts → Type 0
-ServesPort keeper_state port_state became gave keeper keeper' port port' begin ending counts =
-    Served keeper_state port_state became gave keeper keeper' port port' begin ending counts
-    ⊎ NotServed (keeper_state keeper) (keeper_state keeper') (port_state port) (port_state port') begin ending counts
+abbrev pub ServesPort : {M : Model} {K P : Type 0} → Views M K P → (List Moment → Type 0) → Between K P → Begin → Ending → Option SessionCounts → Type 0
+ServesPort v gave b begin ending counts = SessionServed v gave b begin ending counts ⊎ NotServed v b begin ending counts
 
--- the same over a new DevicePort of this reader and this writer
-pub record ServesDevice {M : Model} {K R W : Type 0} (keeper_state : K → KeeperState M) (gave : List Moment → Type 0) (keeper keeper' : K) (reader : R) (writer : W)
-    (begin : Begin) (ending : Ending) (counts : Option SessionCounts) : Type 0 where
+-- so it is of a new port over these two sides of a device, and of what it became
+pub record OverDevice {R W : Type 0} (reader : R) (writer : W) (So : DevicePort R W → DevicePort R W → Type 0) : Type 0 where
   pub port : DevicePort R W
   pub port' : DevicePort R W
   pub reads : port.reader ≡ reader
   pub writes : port.writer ≡ writer
   pub new : device_told port ≡ fresh None None true
-  pub served : ServesPort keeper_state device_told (λ a b. Unit {0}) gave keeper keeper' port port' begin ending counts
+  pub so : So port port'

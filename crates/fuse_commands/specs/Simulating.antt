@@ -1,14 +1,19 @@
 -- The outcomes of the events of a script, and the output (own profile).
-use Rattle.std.specs.Prelude.{◌≡◌, ℕ, codes, List, [], ◌++◌, map, Option, Some, None}
+use Rattle.std.specs.Prelude.{◌≡◌, ℕ, codes, List, [], ◌++◌, map, length, take, Option, Some, None}
 use Rattle.std.specs.List.{flat_map}
-use Rattle.std.specs.Io.KnownBytes.{Appends}
 use Rattle.hex.specs.Hex.{encode_lower}
+use Rattle.fuse_request.specs.Opcodes.{OpcodeSet}
 use Rattle.fuse_keeper.specs.declared.fault.StoreFault.{StoreFault}
 use Rattle.fuse_keeper.specs.Model.{Model}
 use Rattle.fuse_keeper.specs.History.{after}
+use Rattle.fuse_keeper.specs.Performance.{Performance}
 use Rattle.fuse_keeper.specs.KeeperState.{KeeperState}
 use Rattle.fuse_sim.specs.declared.event.Event.{Event}
-use Rattle.fuse_sim.specs.Driving.{committed, settled_by, outcome_of, bytes_given, NoneReused, told_in, became_in, StandsIn}
+use Rattle.fuse_sim.specs.declared.event.DriveFault.TheVariants.{Store}
+use Rattle.fuse_sim.specs.Driving.{committed, settled_by, outcome_of, bytes_given, NoneReused, told_in, became_in, performed_in, StandsIn, OutcomesBegin}
+use Rattle.fuse_sim.specs.Driving.{MayRefuse, OfRestart}
+use Rattle.fuse_sim.specs.HandedOn.{performances, AskedSome}
+use Rattle.fuse_sim.specs.Twice.{Seen}
 use Rattle.fuse_commands.specs.declared.ending.Ending.{Ending}
 use Rattle.fuse_commands.specs.declared.ending.Ending.TheVariants.{Done, ScriptLine}
 use Rattle.fuse_commands.specs.declared.simulate.Simulation.{Simulation}
@@ -24,24 +29,35 @@ outcome_line (Some answer) = line (encode_lower answer)
 abbrev pub outcome_lines : List (Option (List ℕ)) → List ℕ
 outcome_lines outcomes = flat_map outcome_line outcomes
 
+-- how contracts see keepers that can be opened again
+abbrev pub driven : {M : Model} {K R : Type 0} → (K → KeeperState M) → (K → K → ℕ → Type 0) → (K → K → List Performance → Type 0)
+    → (K → StoreFault → R → Type 0) → Seen M K
+driven told became performed refuses = record { told = told; became = became; performed = performed; may_refuse = MayRefuse refuses }
+
 -- the state after events from a start, and the outcome of each
 abbrev pub state_after : (M : Model) → M.State → List Event → M.State
-state_after M s events = after M s (committed [] events)
+state_after M s events = after M s (committed M.serves [] events)
 
 abbrev pub outcomes_of : (M : Model) → M.State → List Event → List (Option (List ℕ))
-outcomes_of M s events = map (outcome_of M s (committed [] events)) events
+outcomes_of M s events = map (outcome_of M s (committed M.serves [] events)) events
 
 -- the keeper stands for the requests that events from a start committed
 abbrev pub StandsAfter : {M : Model} {K : Type 0} → (K → KeeperState M) → Option K → M.State → List Event → Type 0
-StandsAfter state_of keeper s events = StandsIn state_of keeper s (committed [] events) (settled_by [] events)
+StandsAfter {M} told keeper s events = StandsIn told keeper s (committed M.serves [] events) (settled_by M.serves [] events)
 
 -- events from a start had these outcomes and counts, and the keeper stands for them
-pub record Went {M : Model} {K : Type 0} (state_of : K → KeeperState M) (keeper : Option K) (s : M.State) (events : List Event) (simulation : Simulation)
+pub record Went {M : Model} {K : Type 0} (told : K → KeeperState M) (keeper : Option K) (s : M.State) (events : List Event) (simulation : Simulation)
     : Type 0 where
   pub outcomes : map bytes_given simulation.outcomes.items ≡ outcomes_of M s events
   pub nodes : simulation.counts.nodes ≡ M.nodes (M.held_for (state_after M s events))
   pub handles : simulation.counts.handles ≡ M.handles (M.held_for (state_after M s events))
-  pub stands : StandsAfter state_of keeper s events
+  pub stands : StandsAfter told keeper s events
+
+-- the outcomes of the first events from a start are those that these lead to, up to a message that comes again though its answer was
+-- taken
+abbrev pub BeginSo : {M : Model} {K : Type 0} → (K → KeeperState M) → Option K → Option K → List Event → List (Option (List ℕ)) → Type 0
+BeginSo {M} told old new events outcomes = (told_in told new).is_honest → (earlier later : List Event) → events ≡ earlier ++ later
+    → (s : M.State) → StandsIn told old s [] [] → NoneReused M.serves [] earlier → OutcomesBegin M s [] earlier outcomes
 
 -- a line for each event, then the counts of the store
 abbrev pub simulation_text : (M : Model) → M.State → List Event → List ℕ
@@ -49,35 +65,54 @@ simulation_text M s events =
     outcome_lines (outcomes_of M s events)
     ++ line (store_line (M.nodes (M.held_for (state_after M s events))) (M.handles (M.held_for (state_after M s events))))
 
--- the events of a script were run to their end, if no message comes again whose answer was taken
-pub record RanScript {M : Model} {K : Type 0} (state_of : K → KeeperState M) (old new : Option K) (script : List ℕ) (simulation : Simulation) : Type 0 where
+-- the events of a script were run to their end; what they led to, if no message comes again whose answer was taken; and the keeper was
+-- asked to perform just what they ask for
+pub record RanScript {M : Model} {K : Type 0} (k : Seen M K) (old new : Option K) (script : List ℕ) (simulation : Simulation) : Type 0 where
   pub events : List Event
   pub described : WritesAll (lines_of script) events
-  pub went : (told_in state_of new).is_honest → (s : M.State) → StandsIn state_of old s [] [] → NoneReused [] events → Went state_of new s events simulation
+  pub count : length simulation.outcomes.items ≡ length events
+  pub begin : BeginSo k.told old new events (map bytes_given simulation.outcomes.items)
+  pub asked : performed_in k.performed old new (performances M.serves events)
+  pub went : (told_in k.told new).is_honest → (s : M.State) → StandsIn k.told old s [] [] → NoneReused M.serves [] events
+      → Went k.told new s events simulation
 
 -- a keeper that the first one became returned a fault, and is left
-pub record AnsweredFault {M : Model} {K : Type 0} (state_of : K → KeeperState M) (became : K → K → ℕ → Type 0) (old new : Option K) (ending : Ending) : Type 0 where
+pub record AnsweredFault {M : Model} {K : Type 0} (k : Seen M K) (old new : Option K) (ending : Ending) : Type 0 where
   pub keeper : Option K
   pub often : ℕ
-  pub before : became_in became old keeper often
-  pub after : became_in became keeper new 0
+  pub before : became_in k.became old keeper often
+  pub after : became_in k.became keeper new 0
   pub fault : StoreFault
-  pub may : (told_in state_of keeper).may_answer fault
+  pub may : (told_in k.told keeper).may_answer fault
+  pub ends : ending ≡ store_ending fault
+
+-- the server died at one of the events, and the keeper that was in place refused with a fault to be opened again
+pub record RefusedAgain {M : Model} {K : Type 0} (k : Seen M K) (old : Option K) (events : List Event) (ending : Ending) : Type 0 where
+  pub at : ℕ
+  pub fault : StoreFault
+  pub refused : OfRestart k.became k.may_refuse old (take at events) events (Store at fault)
   pub ends : ending ≡ store_ending fault
 
 -- a fault of the store ended it: one that the keeper left could return, if its store is clean, or, if none is left, one with
 -- which a keeper refused to be opened again
-abbrev pub StoreEnded : {M : Model} {K : Type 0} → (K → KeeperState M) → (K → K → ℕ → Type 0) → (K → StoreFault → Type 0) → Option K → Option K → Ending
-    → Type 0
-StoreEnded state_of became may_refuse old None ending = (k : _) × (f : StoreFault) × may_refuse k f × (ending ≡ store_ending f)
-StoreEnded state_of became may_refuse old (Some k') ending = (state_of k').is_clean → AnsweredFault state_of became old (Some k') ending
+abbrev pub StoreEnded : {M : Model} {K : Type 0} → Seen M K → Option K → Option K → List Event → Ending → Type 0
+StoreEnded k old None events ending = RefusedAgain k old events ending
+StoreEnded k old (Some left) events ending = (k.told left).is_clean → AnsweredFault k old (Some left) ending
 
--- a fault of the store ended the events of a script, if no message comes again whose answer was taken
-pub record StoppedIn {M : Model} {K : Type 0} (state_of : K → KeeperState M) (became : K → K → ℕ → Type 0) (may_refuse : K → StoreFault → Type 0)
-    (old new : Option K) (script : List ℕ) (ending : Ending) : Type 0 where
+-- what the first of these events ask for
+pub record AreOfFirst (V : OpcodeSet) (events : List Event) (asked : List Performance) : Type 0 where
+  pub first : List Event
+  pub rest : List Event
+  pub parts : events ≡ first ++ rest
+  pub asked_are : asked ≡ performances V first
+
+-- a fault of the store ended the events of a script, if no message comes again whose answer was taken. A keeper that is left was asked
+-- to perform just what the first of them ask for
+pub record StoppedIn {M : Model} {K : Type 0} (k : Seen M K) (old new : Option K) (script : List ℕ) (ending : Ending) : Type 0 where
   pub events : List Event
   pub described : WritesAll (lines_of script) events
-  pub ended : (s : M.State) → StandsIn state_of old s [] [] → NoneReused [] events → StoreEnded state_of became may_refuse old new ending
+  pub asked : ¬ (new ≡ None) → AskedSome k.performed old new (AreOfFirst M.serves events)
+  pub ended : (s : M.State) → StandsIn k.told old s [] [] → NoneReused M.serves [] events → StoreEnded k old new events ending
 
 -- a script was not run: its first bad line
 abbrev pub NotRun : List ℕ → Ending → Type 0
@@ -85,28 +120,40 @@ NotRun script (ScriptLine n) = FirstBad 1 (lines_of script) n
 NotRun script _ = ⊥
 
 -- the output of events from a start, and the keeper stands for them
-pub record Shown {M : Model} {K : Type 0} (state_of : K → KeeperState M) (keeper : Option K) (old new : Option (List ℕ)) (s : M.State) (events : List Event)
+pub record Shown {M : Model} {K : Type 0} (told : K → KeeperState M) (keeper : Option K) (prints : List ℕ → Type 0) (s : M.State) (events : List Event)
     : Type 0 where
-  pub printed : Appends old new (simulation_text M s events)
-  pub stands : StandsAfter state_of keeper s events
+  pub printed : prints (simulation_text M s events)
+  pub stands : StandsAfter told keeper s events
 
--- the events of a script were run to their end over the first keeper, if no message comes again whose answer was taken, with
--- this output; or its first bad line is reported, and nothing was done or printed
-abbrev pub Simulated : {M : Model} {K : Type 0} → (K → KeeperState M) → Option K → Option K → Option (List ℕ) → Option (List ℕ) → List ℕ → Ending → Type 0
-Simulated {M} state_of keeper keeper' old new script Done =
-    (events : List Event) × WritesAll (lines_of script) events
-    × ((told_in state_of keeper').is_honest → (s : M.State) → StandsIn state_of keeper s [] [] → NoneReused [] events → Shown state_of keeper' old new s events)
-Simulated state_of keeper keeper' old new script ending = NotRun script ending × (keeper' ≡ keeper) × (new ≡ old)
+-- the events of a script were run to their end over the first keeper. A line for each was printed, and then the counts: those that the
+-- events lead to, if no message comes again whose answer was taken, and up to such a one in any case
+pub record SimulatedAll {M : Model} {K : Type 0} (k : Seen M K) (old new : Option K) (prints : List ℕ → Type 0) (script : List ℕ) : Type 0 where
+  pub events : List Event
+  pub described : WritesAll (lines_of script) events
+  pub shown : (told_in k.told new).is_honest → (s : M.State) → StandsIn k.told old s [] [] → NoneReused M.serves [] events
+      → Shown k.told new prints s events
+  pub asked : performed_in k.performed old new (performances M.serves events)
+  pub outcomes : List (Option (List ℕ))
+  pub nodes : ℕ
+  pub handles : ℕ
+  pub printed : prints (outcome_lines outcomes ++ line (store_line nodes handles))
+  pub count : length outcomes ≡ length events
+  pub begin : BeginSo k.told old new events outcomes
+
+-- so it was; or the first bad line of the script is reported, and nothing was done
+abbrev pub Simulated : {M : Model} {K : Type 0} → Seen M K → Option K → Option K → (List ℕ → Type 0) → List ℕ → Ending → Type 0
+Simulated k old new prints script Done = SimulatedAll k old new prints script
+Simulated k old new prints script ending = NotRun script ending × (new ≡ old)
 
 -- the same of events from a start, for any keeper
-abbrev pub SimulatedFrom : (M : Model) → M.State → Option (List ℕ) → Option (List ℕ) → List ℕ → Ending → Type 0
-SimulatedFrom M s old new script Done =
-    (events : List Event) × WritesAll (lines_of script) events × (NoneReused [] events → Appends old new (simulation_text M s events))
-SimulatedFrom M s old new script ending = NotRun script ending × (new ≡ old)
+abbrev pub SimulatedFrom : (M : Model) → M.State → (List ℕ → Type 0) → List ℕ → Ending → Type 0
+SimulatedFrom M s prints script Done =
+    (events : List Event) × WritesAll (lines_of script) events × (NoneReused M.serves [] events → prints (simulation_text M s events))
+SimulatedFrom M s prints script ending = NotRun script ending
 
 -- Simulated implies SimulatedFrom for a keeper that stands for the start and whose storage returned what was written
-pub from_start : {M : Model} {K : Type 0} (state_of : K → KeeperState M) (keeper keeper' : Option K) (old new : Option (List ℕ)) (script : List ℕ) (s : M.State)
-    (ending : Ending) → (told_in state_of keeper').is_honest → StandsIn state_of keeper s [] [] → Simulated state_of keeper keeper' old new script ending
-    → SimulatedFrom M s old new script ending
-from_start state_of keeper keeper' old new script s Done honest stands so = (so.0, so.1, λ none. (so.2 honest s stands none).printed)
-from_start state_of keeper keeper' old new script s ending honest stands so = (so.0, so.2)
+pub from_start : {M : Model} {K : Type 0} (k : Seen M K) (old new : Option K) (prints : List ℕ → Type 0) (script : List ℕ) (s : M.State)
+    (ending : Ending) → (told_in k.told new).is_honest → StandsIn k.told old s [] [] → Simulated k old new prints script ending
+    → SimulatedFrom M s prints script ending
+from_start k old new prints script s Done honest stands so = (so.events, so.described, λ none. (so.shown honest s stands none).printed)
+from_start k old new prints script s ending honest stands so = so.0

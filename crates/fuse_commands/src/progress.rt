@@ -3,8 +3,9 @@ ghost use Rattle.std.specs.Prelude.{◌≡◌, IfOk};
 ghost use Rattle.std.specs.Io.{ReadsAtMost};
 ghost use Rattle.std.specs.Io.KnownBytes.{ReadConsumes};
 ghost use Rattle.fuse_commands.specs.Output.{mebibytes};
-ghost use Rattle.fuse_commands.specs.Input.{remaining_in, line_of, read_more};
+ghost use Rattle.fuse_commands.specs.Input.{reader_in, remaining_in, line_of, read_more};
 
+use fuse_session::Source;
 use std::fmt;
 use std::io::{self, Eprint, Read};
 use std::rt::Clock;
@@ -55,7 +56,7 @@ pub struct ProgressReader<R, T: Clock + Eprint> {
     is_shown: bool,
 }
 
-impl<R: Read, T: Clock + Eprint> ProgressReader<R, T> {
+impl<R: Source, T: Clock + Eprint> ProgressReader<R, T> {
     /// Nothing is shown before the clock's next second begins. `total` is the size of the input,
     /// if known.
     pub fn new(reader: R, terminal: T, total: Option<u64>) -> ProgressReader<R, T>
@@ -112,17 +113,22 @@ fn second_of<C: Clock>(clock: &C) -> u64 {
     }
 }
 
-impl<R: Read, T: Clock + Eprint> Read for ProgressReader<R, T> {
+impl<R: Source, T: Clock + Eprint> Read for ProgressReader<R, T> {
     ghost remaining = { remaining_in R.remaining };
 
     fn read(&mut self, buf: &mut [u8]) -> io::Result<usize>
         ensures bound { ReadsAtMost result buf.new }
         ensures bytes { ReadConsumes (remaining_in R.remaining self.old)
             (remaining_in R.remaining self.new) result buf.new }
+        // The inner reader was read once, and its result and bytes are passed on.
+        ensures once { R.was_read (reader_in self.old) (reader_in self.new) result buf.new }
         // The line counts the bytes.
         ensures line { IfOk result (λ n. line_of self.new ≡ read_more (line_of self.old) n) }
     {
-        let count = self.reader.read(buf)?;
+        let count = match self.reader.read_once(buf) {
+            Ok(count) => count,
+            Err(error) => return Err(error),
+        };
         self.line.read = self.line.read.saturating_add(count as u64);
         if count == 0 {
             self.clear();

@@ -2,6 +2,7 @@ ghost use Rattle.std.specs.Prelude.{◌≡◌, ◌≢◌, ◌⊎◌, ◌≤◌, 
 ghost use Rattle.std.specs.Prelude.{OnOk};
 ghost use Rattle.std.specs.List.{AllByRecursion};
 ghost use Rattle.fuse_request.specs.Stream.{joined};
+ghost use Rattle.fuse_session.specs.Serving.{KeepsFirm};
 ghost use Rattle.fuse_commands.specs.Endings.{status_of, IsOfStream};
 ghost use Rattle.fuse_commands.specs.Output.{IsAnswer};
 ghost use Rattle.fuse_commands.specs.Replaying.{Replayed, Faulted, StandsForPrefix, Sends, Prints};
@@ -54,6 +55,9 @@ fn serve_stream<K: Keeper, R: Read>(
         (λ answers. result.sent.items ≡ joined answers) }
     ensures kept { (input : List ℕ) → R.remaining reader.old ≡ Some input
         → StandsForPrefix (K.told keeper.old) (K.told keeper.new) moment input }
+    ensures firm { (K.told keeper.new).has_failed ≡ false
+        → KeepsFirm (K.told keeper.old) (K.told keeper.new) }
+    ensures medium { (K.told keeper.old).in_memory → (K.told keeper.new).in_memory }
     ensures store { status_of result.ending ≡ 3 → (K.told keeper.new).has_failed ≡ true }
     ensures failed { (K.told keeper.new).has_failed ≡ true → 3 ≤ status_of result.ending }
     ensures usage { status_of result.ending ≢ 2 }
@@ -106,9 +110,14 @@ pub fn run_replay<K: Keeper, R: Read + Drop, W: Write>(
     ensures faulted { status_of result ≡ 3 → (input : List ℕ) → R.remaining reader ≡ Some input
         → Faulted (K.told keeper.old) (K.told keeper.new) moment input result
         (PrintsAnswers (W.contents writer.old) (W.contents writer.new)) }
-    // However it ends, the keeper stands for a prefix of the messages.
+    // However it ends, the keeper stands for a prefix of the messages, and so does whatever a crash
+    // leaves.
     ensures kept { (input : List ℕ) → R.remaining reader ≡ Some input
         → StandsForPrefix (K.told keeper.old) (K.told keeper.new) moment input }
+    // A keeper that has not failed is as firm as before.
+    ensures firm { (K.told keeper.new).has_failed ≡ false
+        → KeepsFirm (K.told keeper.old) (K.told keeper.new) }
+    ensures medium { (K.told keeper.old).in_memory → (K.told keeper.new).in_memory }
     ensures store { status_of result ≡ 3 → (K.told keeper.new).has_failed ≡ true }
     ensures failed { (K.told keeper.new).has_failed ≡ true → 3 ≤ status_of result }
     ensures usage { status_of result ≢ 2 }

@@ -1,15 +1,19 @@
 ghost use Rattle.std.specs.Prelude.{◌≡◌, ◌≢◌, ◌≤◌, ◌<◌, ◌^◌, true, false, None};
 ghost use Rattle.std.specs.Prelude.{IfErr, OnOk};
+ghost use Rattle.fuse_keeper.specs.KeeperState.{WhereHeld};
+ghost use Rattle.fuse_session.specs.DevicePort.{device_told};
+ghost use Rattle.fuse_session.specs.Serving.{KeepsFirm};
 ghost use Rattle.fuse_commands.specs.Endings.{status_of};
-ghost use Rattle.fuse_commands.specs.ServingRuns.{ServesPort, ServesDevice, NotServed, Begins};
-ghost use Rattle.fuse_commands.specs.ServingRuns.{resume_ending};
+ghost use Rattle.fuse_commands.specs.ServingRuns.{views, between, ServesPort, OverDevice};
+ghost use Rattle.fuse_commands.specs.ServingRuns.{Begins, NotServed, resume_ending};
 
 use crate::ending::Ending;
 use crate::input::MAX_READS;
 use fuse_keeper::Keeper;
-use fuse_session::{Clock, DevicePort, Port, ResumeFault, SessionCounts, resume, serve};
+use fuse_session::{
+    Clock, DevicePort, Port, ResumeFault, SessionCounts, Sink, Source, resume, serve,
+};
 use std::alloc::Global;
-use std::io::{Read, Write};
 
 /// How a server begins.
 #[derive(Clone, Copy, Debug, PartialEq, Eq)]
@@ -36,13 +40,13 @@ fn send_notice<K: Keeper, P: Port>(keeper: &mut K, port: &mut P, begin: Begin) -
     requires going { (K.told keeper.old).has_failed ≡ false }
     requires receives { (P.told port.old).receives < 2 ^ 62 }
     requires failures { (P.told port.old).failures < 2 ^ 62 }
-    ensures ok { OnOk result (Begins begin K.told P.told keeper.old keeper.new
-        port.old port.new) }
+    ensures ok { OnOk result (Begins begin (views K.told K.performed P.told P.became)
+        (between keeper.old keeper.new port.old port.new)) }
     ensures still { OnOk result (((P.told port.new).receives ≡ (P.told port.old).receives)
         × ((P.told port.new).failures ≡ (P.told port.old).failures)) }
     ensures going { OnOk result ((K.told keeper.new).has_failed ≡ false) }
-    ensures err { IfErr result (λ ending. NotServed (K.told keeper.old) (K.told keeper.new)
-        (P.told port.old) (P.told port.new) begin ending None) }
+    ensures err { IfErr result (λ ending. NotServed (views K.told K.performed P.told P.became)
+        (between keeper.old keeper.new port.old port.new) begin ending None) }
     ensures store { IfErr result (λ ending. (K.told keeper.new).has_failed ≡ true
         → 3 ≤ status_of ending) }
     ensures usage { IfErr result (λ ending. status_of ending ≢ 2) }
@@ -58,7 +62,7 @@ fn send_notice<K: Keeper, P: Port>(keeper: &mut K, port: &mut P, begin: Begin) -
 }
 
 /// Serves a port. At `Begin::Resume` it first sends the resend notice. Returns the ending, and the
-/// counts if no fault ended the session.
+/// counts as the session has them.
 pub fn serve_port<K: Keeper, P: Port, C: Clock>(
     alloc: Global,
     keeper: &mut K,
@@ -69,8 +73,13 @@ pub fn serve_port<K: Keeper, P: Port, C: Clock>(
     requires going { (K.told keeper.old).has_failed ≡ false }
     requires receives { (P.told port.old).receives < 2 ^ 62 }
     requires failures { (P.told port.old).failures < 2 ^ 62 }
-    ensures served { ServesPort K.told P.told P.became (C.gave clock.old clock.new)
-        keeper.old keeper.new port.old port.new begin result.0 result.1 }
+    ensures served { ServesPort (views K.told K.performed P.told P.became)
+        (C.gave clock.old clock.new) (between keeper.old keeper.new port.old port.new) begin
+        result.0 result.1 }
+
+    // A keeper that has not failed is as firm as before, for the next session.
+    ensures firm { (K.told keeper.new).has_failed ≡ false → WhereHeld (K.told keeper.old)
+        (KeepsFirm (K.told keeper.old) (K.told keeper.new)) }
     ensures failed { (K.told keeper.new).has_failed ≡ true → 3 ≤ status_of result.0 }
     ensures usage { status_of result.0 ≢ 2 }
     ensures same { K.became keeper.old keeper.new 0 }
@@ -84,8 +93,8 @@ pub fn serve_port<K: Keeper, P: Port, C: Clock>(
 
 /// Serves a FUSE device, of which the reader and the writer are the two sides. One read is one
 /// message and one write one answer, so neither may have a buffer. At `Begin::Resume` it first sends
-/// the resend notice. Returns the ending, and the counts if no fault ended the session.
-pub fn run_serve<K: Keeper, R: Read + Drop, W: Write + Drop, C: Clock>(
+/// the resend notice. Returns the ending, and the counts as the session has them.
+pub fn run_serve<K: Keeper, R: Source, W: Sink, C: Clock>(
     alloc: Global,
     keeper: &mut K,
     reader: R,
@@ -94,8 +103,13 @@ pub fn run_serve<K: Keeper, R: Read + Drop, W: Write + Drop, C: Clock>(
     begin: Begin,
 ) -> (Ending, Option<SessionCounts>)
     requires going { (K.told keeper.old).has_failed ≡ false }
-    ensures served { ServesDevice K.told (C.gave clock.old clock.new) keeper.old keeper.new
-        reader writer begin result.0 result.1 }
+    // The port that is served is the one over this reader and this writer.
+    ensures served { OverDevice reader writer (λ port port'. ServesPort
+        (views K.told K.performed device_told ⟦<DevicePort<R, W> as Port>⟧.became)
+        (C.gave clock.old clock.new) (between keeper.old keeper.new port port') begin
+        result.0 result.1) }
+    ensures firm { (K.told keeper.new).has_failed ≡ false → WhereHeld (K.told keeper.old)
+        (KeepsFirm (K.told keeper.old) (K.told keeper.new)) }
     ensures failed { (K.told keeper.new).has_failed ≡ true → 3 ≤ status_of result.0 }
     ensures usage { status_of result.0 ≢ 2 }
     ensures same { K.became keeper.old keeper.new 0 }

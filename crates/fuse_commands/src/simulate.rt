@@ -1,12 +1,16 @@
 //! A simulation of the events of a script.
-ghost use Rattle.std.specs.Prelude.{◌≡◌, ◌≢◌, ◌≤◌, ◌++◌, [], false, map, All, IsSomeAnd};
-ghost use Rattle.std.specs.Prelude.{IfSome, IfOk, IfErr, OnOk};
+ghost use Rattle.std.specs.Prelude.{◌≡◌, ◌≢◌, ◌≤◌, ◌++◌, [], false, None, map, length, All};
+ghost use Rattle.std.specs.Prelude.{IsSomeAnd, IfSome, IfOk, IfErr, OnOk, OnErr};
 ghost use Rattle.std.specs.Io.KnownBytes.{Appends};
-ghost use Rattle.fuse_sim.specs.Driving.{told_in, StandsIn, NoneReused, IsFit, bytes_given};
+ghost use Rattle.fuse_keeper.specs.KeeperState.{IsFirm};
+ghost use Rattle.fuse_sim.specs.Driving.{told_in, performed_in, StandsIn, NoneReused, IsFit};
+ghost use Rattle.fuse_sim.specs.Driving.{KeepsMedium, bytes_given};
+ghost use Rattle.fuse_sim.specs.HandedOn.{performances, AskedSome};
 ghost use Rattle.fuse_commands.specs.Endings.{status_of, GaveOut};
 ghost use Rattle.fuse_commands.specs.Output.{line, store_line};
-ghost use Rattle.fuse_commands.specs.Simulating.{Went, StoreEnded, RanScript, NotRun, Simulated};
-ghost use Rattle.fuse_commands.specs.Simulating.{outcome_line, outcome_lines, StoppedIn};
+ghost use Rattle.fuse_commands.specs.Simulating.{driven, Went, BeginSo, StoreEnded, AreOfFirst};
+ghost use Rattle.fuse_commands.specs.Simulating.{RanScript, NotRun, Simulated, StoppedIn};
+ghost use Rattle.fuse_commands.specs.Simulating.{outcome_line, outcome_lines};
 
 use crate::ending::Ending;
 use crate::input::read_all;
@@ -37,13 +41,27 @@ fn run_events<K: Restart>(
     requires going { IsSomeAnd keeper.old (λ k. (K.told k).has_failed ≡ false) }
     requires fit { All IsFit events.now }
     ensures ok { IfOk result (λ simulation. (told_in K.told keeper.new).is_honest
-        → (s : K.model.State) → StandsIn K.told keeper.old s [] [] → NoneReused [] events.now
+        → (s : K.model.State) → StandsIn K.told keeper.old s [] []
+        → NoneReused K.model.serves [] events.now
         → Went K.told keeper.new s events.now simulation) }
+    ensures count { IfOk result
+        (λ simulation. length simulation.outcomes.items ≡ length events.now) }
+    ensures begin { IfOk result (λ simulation. BeginSo K.told keeper.old keeper.new events.now
+        (map bytes_given simulation.outcomes.items)) }
+    ensures asked { OnOk result (performed_in K.performed keeper.old keeper.new
+        (performances K.model.serves events.now)) }
+    ensures firm { OnOk result ((told_in K.told keeper.new).is_honest
+        → IsFirm (told_in K.told keeper.old) → IsFirm (told_in K.told keeper.new)) }
+    ensures medium { KeepsMedium K.told keeper.old keeper.new }
     ensures left { OnOk result (IsSomeAnd keeper.new (λ k. (K.told k).has_failed ≡ false)) }
     ensures err { IfErr result (λ ending. 3 ≤ status_of ending) }
     ensures store { IfErr result (λ ending. status_of ending ≡ 3
-        → (s : K.model.State) → StandsIn K.told keeper.old s [] [] → NoneReused [] events.now
-        → StoreEnded K.told K.became K.may_refuse keeper.old keeper.new ending) }
+        → (s : K.model.State) → StandsIn K.told keeper.old s [] []
+        → NoneReused K.model.serves [] events.now
+        → StoreEnded (driven K.told K.became K.performed K.refuses) keeper.old keeper.new
+        events.now ending) }
+    ensures err_asked { OnErr result (¬ (keeper.new ≡ None) → AskedSome K.performed
+        keeper.old keeper.new (AreOfFirst K.model.serves events.now)) }
 {
     let outcomes = match drive(alloc, keeper, events) {
         Ok(outcomes) => outcomes,
@@ -107,7 +125,11 @@ fn simulate<K: Restart, R: Read + Drop>(
 ) -> Result<Simulation, Ending>
     requires going { IsSomeAnd keeper.old (λ k. (K.told k).has_failed ≡ false) }
     ensures ok { IfOk result (λ simulation. IfSome (R.remaining reader)
-        (λ script. RanScript K.told keeper.old keeper.new script simulation)) }
+        (λ script. RanScript (driven K.told K.became K.performed K.refuses)
+        keeper.old keeper.new script simulation)) }
+    ensures firm { OnOk result ((told_in K.told keeper.new).is_honest
+        → IsFirm (told_in K.told keeper.old) → IsFirm (told_in K.told keeper.new)) }
+    ensures medium { KeepsMedium K.told keeper.old keeper.new }
     ensures left { OnOk result (IsSomeAnd keeper.new (λ k. (K.told k).has_failed ≡ false)) }
     ensures not_run { IfErr result (λ ending. status_of ending ≤ 1 → keeper.new ≡ keeper.old) }
     ensures bad { IfErr result (λ ending. IfSome (R.remaining reader) (λ script.
@@ -115,7 +137,8 @@ fn simulate<K: Restart, R: Read + Drop>(
     ensures usage { IfErr result (λ ending. status_of ending ≢ 2) }
     ensures store { IfErr result (λ ending. IfSome (R.remaining reader) (λ script.
         status_of ending ≡ 3
-        → StoppedIn K.told K.became K.may_refuse keeper.old keeper.new script ending)) }
+        → StoppedIn (driven K.told K.became K.performed K.refuses)
+        keeper.old keeper.new script ending)) }
 {
     let script = read_all(alloc, reader)?;
     let events = read_script(alloc, script.as_slice())?;
@@ -131,18 +154,24 @@ pub fn run_simulate<K: Restart, R: Read + Drop, W: Write>(
     writer: &mut W,
 ) -> Ending
     requires going { IsSomeAnd keeper.old (λ k. (K.told k).has_failed ≡ false) }
-    // Status 0: the output and the state of the keeper. Status 1: nothing was done.
+    // Status 0: the output, the state of the keeper and what it was asked to perform. Status 1:
+    // nothing was done.
     ensures simulated { IfSome (R.remaining reader) (λ script. status_of result ≤ 1
-        → Simulated K.told keeper.old keeper.new (W.contents writer.old) (W.contents writer.new)
-        script result) }
+        → Simulated (driven K.told K.became K.performed K.refuses) keeper.old keeper.new
+        (Appends (W.contents writer.old) (W.contents writer.new)) script result) }
     ensures left { status_of result ≤ 1
         → IsSomeAnd keeper.new (λ k. (K.told k).has_failed ≡ false) }
+    ensures firm { status_of result ≤ 1 → (told_in K.told keeper.new).is_honest
+        → IsFirm (told_in K.told keeper.old) → IsFirm (told_in K.told keeper.new) }
+    ensures medium { KeepsMedium K.told keeper.old keeper.new }
     ensures usage { status_of result ≢ 2 }
-    // Status 3: a keeper returned the fault, or refused to be opened again with it. Nothing is
-    // printed.
+    // Status 3: a keeper returned the fault, or refused to be opened again with it.
     ensures store { IfSome (R.remaining reader) (λ script. status_of result ≡ 3
-        → StoppedIn K.told K.became K.may_refuse keeper.old keeper.new script result) }
-    ensures silent { status_of result ≡ 3 → W.contents writer.new ≡ W.contents writer.old }
+        → StoppedIn (driven K.told K.became K.performed K.refuses) keeper.old keeper.new
+        script result) }
+    // Nothing is printed at status 1 and 3.
+    ensures silent { 1 ≤ status_of result → status_of result ≤ 3
+        → W.contents writer.new ≡ W.contents writer.old }
 {
     let simulation = match simulate(alloc, keeper, reader) {
         Ok(simulation) => simulation,

@@ -2,6 +2,7 @@ pub mod Histories
 pub mod Standing
 pub mod Performing
 pub mod Overlays
+pub mod InARow
 pub mod Counting
 pub mod Copying
 pub mod Keeping

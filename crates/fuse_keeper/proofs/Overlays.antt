@@ -8,10 +8,10 @@ use Rattle.fuse_keeper.specs.Model.{Model, IsRowed}
 use Rattle.fuse_keeper.specs.declared.group.Record.{Record}
 use Rattle.fuse_keeper.specs.declared.keeper.Done.{Done}
 use Rattle.fuse_keeper.specs.History.{Entry, entry_id, History, next_state, is_in, ids_in, Includes}
-use Rattle.fuse_keeper.specs.Stands.{Records, Stands, StandsBy, AreThese, PerformedBy, OthersStay}
+use Rattle.fuse_keeper.specs.Stands.{Records, Stands, StandsBy, AreThese, PerformedBy, OthersStay, without}
 use Rattle.fuse_keeper.specs.Group.{entry_of}
 use Rattle.fuse_keeper.specs.Taking.{Acts, Took, TookBy}
-use Rattle.fuse_keeper.specs.Plain.{listed, first_of, over, without, record_ids}
+use Rattle.fuse_keeper.specs.Plain.{listed, first_of, over, record_ids}
 use Rattle.fuse_keeper.proofs.Histories.{tested, map-append}
 use Rattle.fuse_keeper.proofs.Standing.{same_number, unsettled_too, Stands-without}
 use Rattle.fuse_keeper.proofs.Performing.{is_in-append, these_stand, none_yet, PerformedBy-same}

@@ -5,6 +5,7 @@ use Rattle.fuse_wire.specs.declared.moment.Moment.{Moment}
 use Rattle.fuse_request.specs.declared.request.Request.{Request}
 use Rattle.fuse_request.specs.Act.{asked}
 use Rattle.fuse_request.specs.Act as act
+use Rattle.fuse_keeper.specs.Model.{Model}
 use Rattle.fuse_keeper.specs.History.{Entry, entry_id}
 
 -- a request and its moment, wherever the request lies
@@ -18,9 +19,9 @@ entries_of group = map entry_of group
 abbrev pub HasId : Entry → Type 0
 HasId e = entry_id e ≢ 0
 
--- its message is kept
-abbrev pub IsKept : Entry → Type 0
-IsKept e = act.IsKept e.asked.act
+-- its message is kept by this file system
+abbrev pub IsKept : Model → Entry → Type 0
+IsKept M e = act.IsKeptFor M.serves e.asked.act
 
 -- the numbers of ids
 abbrev pub ids_of : List Id → List ℕ

@@ -5,7 +5,8 @@ use Rattle.fuse_keeper.specs.declared.keeper.Done.{Done}
 use Rattle.fuse_keeper.specs.Model.{Model, IsRowed}
 use Rattle.fuse_keeper.specs.History.{Entry, History, after, grown, Includes, IsUnsettled}
 use Rattle.fuse_keeper.specs.Lots.{Lots, SameLots, RecordsUnder, AreGone, AreReopened}
-use Rattle.fuse_keeper.specs.Stands.{Records, StandsBy, PerformedBy, LeavesBy, IsFirmBy, KeepsHeldBy, StandsForEither, OthersStay}
+use Rattle.fuse_keeper.specs.Taking.{TakesAll}
+use Rattle.fuse_keeper.specs.Stands.{Records, without, StandsBy, PerformedBy, LeavesBy, IsFirmBy, KeepsHeldBy, StandsForEither, OthersStay}
 
 pub record KeeperState (M : Model) : Type 1 where
   -- it holds these rows and these records now
@@ -14,6 +15,8 @@ pub record KeeperState (M : Model) : Type 1 where
   pub is_honest : Type 0
   -- it is honest, and no write is open or half done
   pub is_clean : Type 0
+  -- it lies in memory alone, which always gives back what was written
+  pub in_memory : Type 0
   -- a call has failed since it was made or opened
   pub has_failed : Bool
   -- whatever a crash now leaves holds some rows and records
@@ -58,14 +61,16 @@ WhereHeld {M} k P = (rows : M.Rows) (records : Records) → k.holds rows records
 abbrev pub OfHeld : {M : Model} → KeeperState M → (M.Rows → Records → Type 0) → Type 0
 OfHeld {M} k P = (rows : M.Rows) (records : Records) → k.holds rows records → IsRowed M rows → P rows records
 
--- no fault may come now that couldn't before
+-- no fault may come now that couldn't before, where the store is honest
 abbrev pub AnswersNoMore : {M : Model} → KeeperState M → KeeperState M → Type 0
-AnswersNoMore old new = (f : StoreFault) → new.may_answer f → old.may_answer f
+AnswersNoMore old new = new.is_honest → (f : StoreFault) → new.may_answer f → old.may_answer f
 
--- of any call: a fault keeps what is held, and is one that it may answer
+-- of any call: its medium stays; an Ok leaves it clean; a fault keeps what is held, and is one that it may answer
 pub record Called {M : Model} {A : Type 0} (old new : KeeperState M) (result : Result A StoreFault) : Type 0 where
   pub failed : new.has_failed ≡ (old.has_failed || is_err result)
   pub honest : new.is_honest → old.is_honest
+  pub medium : old.in_memory → new.in_memory
+  pub clean : OnOk result (old.is_clean → new.is_honest → new.is_clean)
   pub err : OnErr result (new.is_clean → KeepsHeld old new)
   pub err_lots : OnErr result (new.is_clean → WhereHeld old (SameLots old.lots new.lots))
   pub fault : new.is_clean → (s : M.State) (h : History) (t : List ℕ) → StandsFor old s h t → IfErr result old.may_answer
@@ -87,6 +92,17 @@ Reports old new P = new.is_honest → OfHeld old P
 abbrev pub Performs : {M : Model} → KeeperState M → KeeperState M → List ℕ → List Entry → List Done → Type 0
 Performs {M} old new settled group dones = new.is_honest → (s : M.State) (h : History) (t : List ℕ) → StandsFor old s h t
     → Includes t settled → All (IsUnsettled t) group → Performed new s h t group dones
+
+-- it holds rows and records to which the group leads over these, entry after entry
+pub record HoldsTaken {M : Model} (k : KeeperState M) (before : M.Rows) (others : Records) (group : List Entry) (dones : List Done) : Type 0 where
+  pub rows : M.Rows
+  pub records : Records
+  pub held : k.holds rows records
+  pub taken : TakesAll M before others group rows records dones
+
+-- the settled records go first, then the entries act or repeat in order, whatever history it stands for
+abbrev pub ActsOn : {M : Model} → KeeperState M → KeeperState M → List ℕ → List Entry → List Done → Type 0
+ActsOn old new settled group dones = Reports old new (λ rows records. HoldsTaken new rows (without settled records) group dones)
 
 -- it holds something of a good state, and the records of other ids are those of before, without the settled ones
 pub record HoldsOthers {M : Model} (k : KeeperState M) (before : Records) (settled : List ℕ) (group : List Entry) : Type 0 where
@@ -131,6 +147,7 @@ pub record Reopened {M : Model} (old new : KeeperState M) : Type 0 where
   pub firm : new.is_honest → IsFirm new
   pub lots : new.is_honest → WhereHeld old (AreReopened old.lots new.lots)
   pub honest : new.is_honest → old.is_honest
+  pub medium : old.in_memory → new.in_memory
   pub going : new.has_failed ≡ false
 
 -- `became a b n`: b is a later state of a, which was opened again n times on the way

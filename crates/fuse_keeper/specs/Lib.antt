@@ -7,5 +7,6 @@ pub mod Stands
 pub mod KeeperState
 pub mod Group
 pub mod Taking
+pub mod Performance
 pub mod Plain
 pub mod PlainKeeper

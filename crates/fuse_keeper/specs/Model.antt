@@ -3,6 +3,7 @@ use Rattle.std.specs.Prelude.{◌≡◌, ℕ, Option}
 use Rattle.fuse_wire.specs.declared.moment.Moment.{Moment}
 use Rattle.fuse_request.specs.Act.{Asked}
 use Rattle.fuse_request.specs.Act as act
+use Rattle.fuse_request.specs.Opcodes.{OpcodeSet}
 use Rattle.fuse_answer.specs.Said.{Said, FitsAnswer}
 use Rattle.fuse_init.specs.declared.settings.Settings.{Settings}
 
@@ -10,6 +11,8 @@ pub record Model : Type 1 where
   pub State : Type 0
   -- the rows that a keeper holds for a state, which may be the state itself
   pub Rows : Type 0
+  -- the opcodes that it serves beside those of the profile
+  pub serves : OpcodeSet
   -- a new store, made at a moment
   pub start : Moment → State
   -- the state after a request at a moment, and its answer
@@ -29,7 +32,7 @@ pub record Model : Type 1 where
 pub record IsSoundModel (M : Model) : Type 0 where
   pub fits : (s : M.State) (asked : Asked) (now : Moment) → FitsAnswer (M.answer s asked now)
   pub starts : (now : Moment) → M.IsGood (M.start now)
-  pub goes_on : (s : M.State) (asked : Asked) (now : Moment) → act.IsKept asked.act → M.IsGood s → M.IsGood (M.next s asked now)
+  pub goes_on : (s : M.State) (asked : Asked) (now : Moment) → act.IsKeptFor M.serves asked.act → M.IsGood s → M.IsGood (M.next s asked now)
   pub clears : (s : M.State) → M.IsGood s → M.IsGood (M.cleared s)
 
 -- the rows are those of a good state

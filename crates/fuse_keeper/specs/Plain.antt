@@ -3,7 +3,6 @@ use Rattle.std.specs.Prelude.{ℕ, nat_eq, ◌==◌, if◌then◌else◌, List, 
 use Rattle.std.specs.HashMap.{HashMap, get}
 use Rattle.fuse_answer.specs.Said.{Said}
 use Rattle.fuse_keeper.specs.declared.group.Record.{Record}
-use Rattle.fuse_keeper.specs.History.{is_in}
 use Rattle.fuse_keeper.specs.Stands.{Records}
 
 -- the records of a map
@@ -22,10 +21,6 @@ first_of None o = o
 -- the records of a list, and of the other ids these
 abbrev pub over : List Record → Records → Records
 over added records i = first_of (listed added i) (records i)
-
--- the records of ids that aren't settled
-abbrev pub without : List ℕ → Records → Records
-without settled records i = if is_in settled i then None else records i
 
 abbrev pub record_ids : List Record → List ℕ
 record_ids records = map (λ r. r.id) records

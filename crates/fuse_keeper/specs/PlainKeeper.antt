@@ -17,6 +17,7 @@ plain_told M held k = record {
   holds = plain_holds M held k;
   is_honest = Unit {0};
   is_clean = Unit {0};
+  in_memory = Unit {0};
   has_failed = k.failed;
   leaves_whole = Unit {0};
   may_leave = plain_holds M held k;
@@ -27,3 +28,7 @@ plain_told M held k = record {
 -- the same, where no call has failed
 abbrev pub unfailed : {F : Type 0} → PlainKeeper F → PlainKeeper F
 unfailed k = record k { failed = false }
+
+-- the records that it holds
+abbrev pub plain_records : {F : Type 0} → PlainKeeper F → Records
+plain_records k = mapped k.records

@@ -10,6 +10,10 @@ use Rattle.fuse_keeper.specs.History.{Entry, entry_id, History, after, said, Dis
 abbrev pub Records : Type 0
 Records = ℕ → Option Said
 
+-- the records of ids that aren't settled
+abbrev pub without : List ℕ → Records → Records
+without settled records i = if is_in settled i then None else records i
+
 -- the rows are those of the state after the history; each record is the answer to its id, and each
 -- id of the history that isn't settled has one
 pub record Stands (M : Model) (rows : M.Rows) (records : Records) (s : M.State) (h : History) (settled : List ℕ) : Type 0 where

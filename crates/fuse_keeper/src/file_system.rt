@@ -22,6 +22,11 @@ pub trait FileSystem: Drop {
     /// It may act.
     ghost is_ready: { Self → Type 0 };
 
+    /// Whether it serves an opcode that isn't of the profile. It gets such a request as
+    /// `Op::Unsupported`, with the body as bytes.
+    fn serves(opcode: u32) -> bool
+        ensures { result ≡ model.serves opcode };
+
     /// A new one, made at this moment.
     fn start(alloc: Global, now: Moment) -> Result<Self, Memory>
         ensures { IfOk result (λ files. held files ≡ model.held_for (model.start now)) };
@@ -34,7 +39,7 @@ pub trait FileSystem: Drop {
         now: Moment,
     ) -> Result<Answer, StoreFault>
         requires ready { is_ready self.old }
-        requires kept { IsKept (entry_of (request.now, now)) }
+        requires kept { IsKept model (entry_of (request.now, now)) }
         ensures acts { IfOk result (λ answer. Acts model (held self.old)
             (entry_of (request.now, now)) (held self.new) answer) }
         ensures ready { OnOk result (is_ready self.new) }

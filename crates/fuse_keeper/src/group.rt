@@ -7,10 +7,10 @@ ghost use Rattle.std.specs.Option.{option_copied};
 ghost use Rattle.fuse_keeper.specs.History.{History, entry_id, is_in, ids_in, Includes};
 ghost use Rattle.fuse_keeper.specs.History.{IsUnsettled};
 ghost use Rattle.fuse_keeper.specs.Model.{IsRowed};
-ghost use Rattle.fuse_keeper.specs.Stands.{AreThese, Stands, PerformedBy};
+ghost use Rattle.fuse_keeper.specs.Stands.{AreThese, Stands, PerformedBy, without};
 ghost use Rattle.fuse_keeper.specs.Group.{entry_of, entries_of, IsKept, ids_of};
-ghost use Rattle.fuse_keeper.specs.Taking.{Took};
-ghost use Rattle.fuse_keeper.specs.Plain.{mapped, listed, over, without, record_ids};
+ghost use Rattle.fuse_keeper.specs.Taking.{Took, TakesAll};
+ghost use Rattle.fuse_keeper.specs.Plain.{mapped, listed, over, record_ids};
 
 use crate::fault::StoreFault;
 use crate::file_system::FileSystem;
@@ -88,7 +88,7 @@ fn take_one<F: FileSystem>(
     now: Moment,
 ) -> Result<Done, StoreFault>
     requires ready { F.is_ready draft.old.rows }
-    requires kept { IsKept (entry_of (request.now, now)) }
+    requires kept { IsKept F.model (entry_of (request.now, now)) }
     ensures took { IfOk result (λ done. Took F.model (F.held draft.old.rows)
         (over draft.old.added.items (without (ids_of settled.now) (mapped records.now)))
         (entry_of (request.now, now))
@@ -132,13 +132,18 @@ pub(crate) fn take_all<F: FileSystem>(
     settled: &[Id],
     group: &[(Request<'_>, Moment)],
 ) -> Result<Taken<F>, StoreFault>
-    requires { All IsKept (entries_of group.now) }
+    requires { All (IsKept F.model) (entries_of group.now) }
     ensures performed { IfOk result (λ taken. (s : F.model.State) (h : History) (t : List ℕ)
         → Stands F.model (F.held rows.now) (without (ids_of settled.now) (mapped records.now)) s h t
         → All (IsUnsettled t) (entries_of group.now)
         → PerformedBy F.model (AreThese F.model (F.held taken.draft.rows)
         (over taken.draft.added.items (without (ids_of settled.now) (mapped records.now)))) s h t
         (entries_of group.now) taken.dones.items) }
+    ensures taken { IfOk result (λ taken. TakesAll F.model (F.held rows.now)
+        (without (ids_of settled.now) (mapped records.now)) (entries_of group.now)
+        (F.held taken.draft.rows)
+        (over taken.draft.added.items (without (ids_of settled.now) (mapped records.now)))
+        taken.dones.items) }
     ensures count { IfOk result (λ taken. length taken.dones.items ≡ length group.now) }
     ensures ready { IfOk result (λ taken. F.is_ready taken.draft.rows) }
     ensures ids { IfOk result (λ taken. Includes (ids_in (entries_of group.now))

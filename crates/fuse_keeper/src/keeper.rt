@@ -1,11 +1,12 @@
-ghost use Rattle.std.specs.Prelude.{◌≡◌, ◌≤◌, ℕ, length, All, IfOk, OnOk};
+ghost use Rattle.std.specs.Prelude.{◌≡◌, ◌≤◌, ℕ, List, [], ◌∷◌, length, All, IfOk, OnOk};
 ghost use Rattle.fuse_keeper.specs.Model.{Model, IsSoundModel};
 ghost use Rattle.fuse_keeper.specs.Stands.{Records, CountsRecords};
 ghost use Rattle.fuse_keeper.specs.KeeperState.{KeeperState, IsSound, IsFirm, IsCount, Reports};
 ghost use Rattle.fuse_keeper.specs.KeeperState.{AnswersNoMore, Called, Looked, Performs};
-ghost use Rattle.fuse_keeper.specs.KeeperState.{KeepsOthers, KeepsLots, LeavesGroup};
+ghost use Rattle.fuse_keeper.specs.KeeperState.{ActsOn, KeepsOthers, KeepsLots, LeavesGroup};
 ghost use Rattle.fuse_keeper.specs.KeeperState.{BeginsMount, DropsLots, LeavesMount};
 ghost use Rattle.fuse_keeper.specs.Group.{entries_of, HasId, IsKept, ids_of};
+ghost use Rattle.fuse_keeper.specs.Performance.{Performance, IsPerformanceLog};
 
 use crate::fault::StoreFault;
 use fuse_answer::Answer;
@@ -51,6 +52,14 @@ pub trait Keeper: Drop {
     /// For a keeper that doesn't count, this always holds.
     ghost became: { Self → Self → ℕ → Type 0 };
 
+    /// The second keeper is a later state of the first, which was asked to perform these on the
+    /// way, and nothing else. For a keeper that keeps no log, this always holds.
+    ghost performed: { Self → Self → List Performance → Type 0 };
+
+    /// Whether its file system serves an opcode that isn't of the profile.
+    fn serves(opcode: u32) -> bool
+        ensures { result ≡ model.serves opcode };
+
     /// Removes the records of settled ids, then performs a group, all in one transaction. A request
     /// whose id is recorded, in the group too, is a repeat.
     fn perform(
@@ -61,11 +70,14 @@ pub trait Keeper: Drop {
         requires short { length group.now ≤ MAX_GROUP }
         requires few { length settled.now ≤ MAX_SETTLED }
         requires named { All HasId (entries_of group.now) }
-        requires kept { All IsKept (entries_of group.now) }
+        requires kept { All (IsKept model) (entries_of group.now) }
         ensures count { IfOk result (λ dones. length dones.items ≡ length group.now) }
         ensures called { Called (told self.old) (told self.new) result }
         ensures may { AnswersNoMore (told self.old) (told self.new) }
         ensures ok { IfOk result (λ dones. Performs (told self.old) (told self.new)
+            (ids_of settled.now) (entries_of group.now) dones.items) }
+        // The settled records go first: an id that is settled and in the group acts anew.
+        ensures acts { IfOk result (λ dones. ActsOn (told self.old) (told self.new)
             (ids_of settled.now) (entries_of group.now) dones.items) }
         ensures others { OnOk result (KeepsOthers (told self.old) (told self.new)
             (ids_of settled.now) (entries_of group.now)) }
@@ -75,7 +87,10 @@ pub trait Keeper: Drop {
         ensures crash { LeavesGroup (told self.old) (told self.new)
             (ids_of settled.now) (entries_of group.now) }
         ensures firm { OnOk result ((told self.new).is_honest → IsFirm (told self.new)) }
-        ensures same { became self.old self.new 0 };
+        ensures same { became self.old self.new 0 }
+        // A fault too: it was asked once.
+        ensures asked { performed self.old self.new
+            (record { group = entries_of group.now; settled = ids_of settled.now } ∷ []) };
 
     /// Begins a mount: in one transaction it deletes the records of the mount before, and the parts
     /// of the file system that don't outlive a mount.
@@ -85,7 +100,8 @@ pub trait Keeper: Drop {
         ensures lots { OnOk result (DropsLots (told self.old) (told self.new)) }
         ensures crash { LeavesMount (told self.old) (told self.new) }
         ensures firm { OnOk result ((told self.new).is_honest → IsFirm (told self.new)) }
-        ensures same { became self.old self.new 0 };
+        ensures same { became self.old self.new 0 }
+        ensures unasked { performed self.old self.new [] };
 
     /// The recorded answer of an id.
     fn answer_of(&mut self, id: Id) -> Result<Option<Answer>, StoreFault>
@@ -93,14 +109,16 @@ pub trait Keeper: Drop {
         ensures ok { IfOk result (λ answer. (told self.new).is_honest
             → (rows : model.Rows) (records : Records) → (told self.old).holds rows records
             → answer ≡ records id.0) }
-        ensures same { became self.old self.new 0 };
+        ensures same { became self.old self.new 0 }
+        ensures unasked { performed self.old self.new [] };
 
     /// The settings that INIT agreed on in this mount.
     fn settings(&mut self) -> Result<Option<Settings>, StoreFault>
         ensures looked { Looked (told self.old) (told self.new) result }
         ensures ok { IfOk result (λ settings. Reports (told self.old) (told self.new)
             (λ rows records. settings ≡ model.settings rows)) }
-        ensures same { became self.old self.new 0 };
+        ensures same { became self.old self.new 0 }
+        ensures unasked { performed self.old self.new [] };
 
     /// How much it holds.
     fn counts(&mut self) -> Result<StoreCounts, StoreFault>
@@ -113,7 +131,8 @@ pub trait Keeper: Drop {
             (λ rows records. CountsRecords records counts.records)) }
         ensures lots { IfOk result (λ counts. Reports (told self.old) (told self.new)
             (λ rows records. counts.lots ≡ length (told self.old).lots.numbers)) }
-        ensures same { became self.old self.new 0 };
+        ensures same { became self.old self.new 0 }
+        ensures unasked { performed self.old self.new [] };
 
     /// Whether a call has failed since the keeper was made or opened. Takes no memory.
     fn failed(&self) -> bool
@@ -125,5 +144,10 @@ pub trait Keeper: Drop {
 
     ghost sound: { (k : Self) → IsSound (told k) };
 
+    /// A law: memory gives back what was written, and holds nothing half done.
+    ghost memory_is_clean: { (k : Self) → (told k).in_memory → (told k).is_clean };
+
     ghost counted: { IsCount became };
+
+    ghost log: { IsPerformanceLog performed };
 }

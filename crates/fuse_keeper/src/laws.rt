@@ -23,6 +23,11 @@ pub fn groups_grow<F: FileSystem>()
     ensures { GroupsGrow F.model }
 {}
 
+/// The same, for the file system of a keeper.
+pub fn kept_groups_grow<K: Keeper>()
+    ensures { GroupsGrow K.model }
+{}
+
 /// The most requests of a group, and the most settled ids of a call.
 pub fn group_bounds()
     ensures requests { MAX_GROUP ≡ bounds.max_group_len }

@@ -2,6 +2,7 @@
 //! keeper in memory.
 #![tactic(auto)]
 
+mod class;
 mod fault;
 mod file_system;
 mod group;
@@ -11,10 +12,11 @@ mod pending;
 mod plain;
 mod restart;
 
+pub use class::classify;
 pub use fault::StoreFault;
 pub use file_system::FileSystem;
 pub use keeper::{Done, Keeper, MAX_GROUP, MAX_SETTLED, StoreCounts};
-pub use laws::{group_bounds, groups_grow, histories_grow, said_fits};
+pub use laws::{group_bounds, groups_grow, histories_grow, kept_groups_grow, said_fits};
 pub use pending::perform_group;
 pub use plain::PlainKeeper;
 pub use restart::Restart;

@@ -2,9 +2,11 @@
 ghost use Rattle.std.specs.Prelude.{◌≡◌, ◌≤◌, ◌<◌, ◌⊎◌, [], length, All, vec_capacity};
 ghost use Rattle.std.specs.Prelude.{IfOk, IsOk, OnOk, OnErr};
 ghost use Rattle.fuse_keeper.specs.KeeperState.{IsFirm, Called, AnswersNoMore};
-ghost use Rattle.fuse_keeper.specs.KeeperState.{Performs, KeepsOthers, KeepsLots, LeavesGroup};
+ghost use Rattle.fuse_keeper.specs.KeeperState.{Performs, ActsOn};
+ghost use Rattle.fuse_keeper.specs.KeeperState.{KeepsOthers, KeepsLots, LeavesGroup};
 ghost use Rattle.fuse_keeper.specs.Group.{entries_of, HasId, IsKept, ids_of};
 ghost use Rattle.fuse_keeper.specs.Group.{handed_to, left_pending};
+ghost use Rattle.fuse_keeper.specs.Performance.{performances_of};
 ghost use Rattle.fuse_keeper.specs.declared.keeper.TheConstants.{MAX_GROUP as max_group};
 ghost use Rattle.fuse_keeper.specs.declared.keeper.TheConstants.{MAX_SETTLED as max_settled};
 
@@ -26,11 +28,14 @@ pub fn perform_group<K: Keeper>(
     requires short { length group.now ≤ max_group }
     requires few { length pending.old.items ≤ max_settled }
     requires named { All HasId (entries_of group.now) }
-    requires kept { All IsKept (entries_of group.now) }
+    requires kept { All (IsKept K.model) (entries_of group.now) }
     ensures count { IfOk result (λ dones. length dones.items ≡ length group.now) }
     ensures called { Called (K.told keeper.old) (K.told keeper.new) result }
     ensures may { AnswersNoMore (K.told keeper.old) (K.told keeper.new) }
     ensures ok { IfOk result (λ dones. Performs (K.told keeper.old) (K.told keeper.new)
+        (handed_to (entries_of group.now) (ids_of pending.old.items))
+        (entries_of group.now) dones.items) }
+    ensures acts { IfOk result (λ dones. ActsOn (K.told keeper.old) (K.told keeper.new)
         (handed_to (entries_of group.now) (ids_of pending.old.items))
         (entries_of group.now) dones.items) }
     ensures others { OnOk result (KeepsOthers (K.told keeper.old) (K.told keeper.new)
@@ -42,6 +47,8 @@ pub fn perform_group<K: Keeper>(
     ensures firm { OnOk result ((K.told keeper.new).is_honest
         → IsFirm (K.told keeper.old) ⊎ (0 < length group.now) → IsFirm (K.told keeper.new)) }
     ensures same { K.became keeper.old keeper.new 0 }
+    ensures asked { K.performed keeper.old keeper.new
+        (performances_of (entries_of group.now) (ids_of pending.old.items)) }
 
     // An empty group changes nothing.
     ensures none { group.now ≡ [] → IsOk result × (keeper.new ≡ keeper.old) }

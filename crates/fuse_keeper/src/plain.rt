@@ -1,9 +1,11 @@
 // A keeper in memory.
 ghost use Rattle.std.specs.Prelude.{◌≡◌, ℕ, List, false, [], length, All, IfOk, OnOk, OnErr};
-ghost use Rattle.std.specs.Prelude.{IfErr, Ok};
+ghost use Rattle.std.specs.Prelude.{IfErr, IsOk, Ok, None};
 ghost use Rattle.fuse_keeper.specs.History.{History, Includes, IsUnsettled};
 ghost use Rattle.fuse_keeper.specs.Model.{IsRowed};
 ghost use Rattle.fuse_keeper.specs.Stands.{StandsBy, PerformedBy, KeepsHeldBy, OthersStay};
+ghost use Rattle.fuse_keeper.specs.Stands.{without};
+ghost use Rattle.fuse_keeper.specs.Taking.{TakesAll};
 ghost use Rattle.fuse_keeper.specs.Group.{entries_of, ids_of, IsKept};
 ghost use Rattle.fuse_keeper.specs.Plain.{mapped};
 
@@ -48,6 +50,7 @@ impl<F: FileSystem> PlainKeeper<F> {
         ensures stands { IfOk result (λ k. StandsFor (plain_told F.model F.held k)
             (F.model.start now) [] []) }
         ensures going { IfOk result (λ k. (plain_told F.model F.held k).has_failed ≡ false) }
+        ensures medium { IfOk result (λ k. (plain_told F.model F.held k).in_memory) }
     {
         F::model_is_sound();
         let rows = F::start(alloc, now)?;
@@ -59,6 +62,7 @@ impl<F: FileSystem> PlainKeeper<F> {
         ensures stands { (s : F.model.State) → F.model.IsGood s → F.held rows ≡ F.model.held_for s
             → StandsFor (plain_told F.model F.held result) s [] [] }
         ensures going { (plain_told F.model F.held result).has_failed ≡ false }
+        ensures medium { (plain_told F.model F.held result).in_memory }
     {
         PlainKeeper {
             alloc,
@@ -75,6 +79,7 @@ impl<F: FileSystem> PlainKeeper<F> {
         ensures no_more { IfOk result (λ copy. KeepsHeld
             (plain_told F.model F.held copy) (plain_told F.model F.held self.now)) }
         ensures going { IfOk result (λ copy. (plain_told F.model F.held copy).has_failed ≡ false) }
+        ensures medium { IfOk result (λ copy. (plain_told F.model F.held copy).in_memory) }
     {
         let rows = self.rows.to_copy()?;
         Ok(PlainKeeper {
@@ -91,13 +96,16 @@ impl<F: FileSystem> PlainKeeper<F> {
         group: &[(Request<'_>, Moment)],
         settled: &[Id],
     ) -> Result<Vec<Done>, StoreFault>
-        requires { All IsKept (entries_of group.now) }
+        requires { All (IsKept F.model) (entries_of group.now) }
         ensures count { IfOk result (λ dones. length dones.items ≡ length group.now) }
         ensures ok { IfOk result (λ dones. (s : F.model.State) (h : History) (t : List ℕ)
             → StandsBy F.model (plain_holds F.model F.held self.old) s h t
             → Includes t (ids_of settled.now) → All (IsUnsettled t) (entries_of group.now)
             → PerformedBy F.model (plain_holds F.model F.held self.new) s h t (entries_of group.now)
             dones.items) }
+        ensures acts { IfOk result (λ dones. TakesAll F.model (F.held self.old.rows)
+            (without (ids_of settled.now) (mapped self.old.records)) (entries_of group.now)
+            (F.held self.new.rows) (mapped self.new.records) dones.items) }
         ensures rowed { OnOk result (IsRowed F.model (F.held self.old.rows)
             → IsRowed F.model (F.held self.new.rows)) }
         ensures others { OnOk result (OthersStay (mapped self.old.records) (ids_of settled.now)
@@ -118,13 +126,22 @@ impl<F: FileSystem> PlainKeeper<F> {
 
 impl<F: FileSystem> Keeper for PlainKeeper<F> {
     ghost use Rattle.std.proofs.Common.{sym, ◌∙◌};
-    ghost use Rattle.fuse_keeper.specs.PlainKeeper.{plain_told};
+    ghost use Rattle.fuse_keeper.specs.PlainKeeper.{plain_told, plain_records};
+    ghost use Rattle.fuse_keeper.specs.KeeperState.{IsFirm, Reports, Called, Looked};
+    ghost use Rattle.fuse_keeper.specs.KeeperState.{BeginsMount, DropsLots, LeavesMount};
+    ghost use Rattle.fuse_keeper.specs.Stands.{Records, CountsRecords};
 
     ghost model = { F.model };
 
     ghost told = { plain_told F.model F.held };
 
     ghost became = { λ a b n. Unit {0} };
+
+    ghost performed = { λ a b list. Unit {0} };
+
+    fn serves(opcode: u32) -> bool {
+        F::serves(opcode)
+    }
 
     fn perform(
         &mut self,
@@ -140,13 +157,34 @@ impl<F: FileSystem> Keeper for PlainKeeper<F> {
         }
     }
 
-    fn begin_mount(&mut self) -> Result<(), StoreFault> {
+    /// Takes no memory.
+    fn begin_mount(&mut self) -> Result<(), StoreFault>
+        ensures called { Called (plain_told F.model F.held self.old)
+            (plain_told F.model F.held self.new) result }
+        ensures ok { OnOk result (BeginsMount (plain_told F.model F.held self.old)
+            (plain_told F.model F.held self.new)) }
+        ensures lots { OnOk result (DropsLots (plain_told F.model F.held self.old)
+            (plain_told F.model F.held self.new)) }
+        ensures crash { LeavesMount (plain_told F.model F.held self.old)
+            (plain_told F.model F.held self.new) }
+        ensures firm { OnOk result ((plain_told F.model F.held self.new).is_honest
+            → IsFirm (plain_told F.model F.held self.new)) }
+        ensures no_fault { IsOk result }
+    {
         self.rows.begin_mount();
         self.records.clear();
         Ok(())
     }
 
-    fn answer_of(&mut self, id: Id) -> Result<Option<Answer>, StoreFault> {
+    fn answer_of(&mut self, id: Id) -> Result<Option<Answer>, StoreFault>
+        ensures looked { Looked (plain_told F.model F.held self.old)
+            (plain_told F.model F.held self.new) result }
+        ensures ok { IfOk result (λ answer. (plain_told F.model F.held self.new).is_honest
+            → (rows : F.model.Rows) (records : Records)
+            → (plain_told F.model F.held self.old).holds rows records → answer ≡ records id.0) }
+        ensures fault { IfErr result (λ f. f ≡ StoreFault.Memory) }
+        ensures no_fault { plain_records self.old id.0 ≡ None → IsOk result }
+    {
         let Some(answer) = self.records.get(&id.0) else {
             return Ok(None);
         };
@@ -159,11 +197,35 @@ impl<F: FileSystem> Keeper for PlainKeeper<F> {
         }
     }
 
-    fn settings(&mut self) -> Result<Option<Settings>, StoreFault> {
+    /// Takes no memory.
+    fn settings(&mut self) -> Result<Option<Settings>, StoreFault>
+        ensures looked { Looked (plain_told F.model F.held self.old)
+            (plain_told F.model F.held self.new) result }
+        ensures ok { IfOk result (λ settings. Reports (plain_told F.model F.held self.old)
+            (plain_told F.model F.held self.new)
+            (λ rows records. settings ≡ F.model.settings rows)) }
+        ensures no_fault { IsOk result }
+    {
         Ok(self.rows.agreed())
     }
 
-    fn counts(&mut self) -> Result<StoreCounts, StoreFault> {
+    /// Takes no memory.
+    fn counts(&mut self) -> Result<StoreCounts, StoreFault>
+        ensures looked { Looked (plain_told F.model F.held self.old)
+            (plain_told F.model F.held self.new) result }
+        ensures nodes { IfOk result (λ counts. Reports (plain_told F.model F.held self.old)
+            (plain_told F.model F.held self.new)
+            (λ rows records. counts.nodes ≡ F.model.nodes rows)) }
+        ensures handles { IfOk result (λ counts. Reports (plain_told F.model F.held self.old)
+            (plain_told F.model F.held self.new)
+            (λ rows records. counts.handles ≡ F.model.handles rows)) }
+        ensures records { IfOk result (λ counts. Reports (plain_told F.model F.held self.old)
+            (plain_told F.model F.held self.new)
+            (λ rows records. CountsRecords records counts.records)) }
+        ensures lots { IfOk result (λ counts. Reports (plain_told F.model F.held self.old)
+            (plain_told F.model F.held self.new) (λ rows records. counts.lots ≡ 0)) }
+        ensures no_fault { IsOk result }
+    {
         let counters = self.rows.counted();
         Ok(StoreCounts {
             nodes: counters.0,
@@ -186,16 +248,22 @@ impl<F: FileSystem> Keeper for PlainKeeper<F> {
       clean_is_honest = λ clean. clean;
     } };
 
+    ghost memory_is_clean = { λ k memory. memory };
+
     ghost counted = { record { none = λ k. tt; then = λ a b c m n before after. tt } };
+
+    ghost log = { record { none = λ k. tt; onward = λ a b c before after one two. tt } };
 }
 
 impl<F: FileSystem> Restart for PlainKeeper<F> {
     ghost use Rattle.fuse_keeper.specs.PlainKeeper.{unfailed};
 
-    ghost may_refuse = { λ _ _. ⊥ };
+    type Rest = ();
+
+    ghost refuses = { λ _ _ _. ⊥ };
 
     /// The same keeper, as if no call of it had failed. Takes no memory.
-    fn restart(mut self) -> Result<PlainKeeper<F>, StoreFault>
+    fn restart(mut self) -> Result<PlainKeeper<F>, (StoreFault, ())>
         ensures { result ≡ Ok (unfailed self) }
     {
         self.failed = false;

@@ -1,5 +1,5 @@
 // Opening a keeper again.
-ghost use Rattle.std.specs.Prelude.{IfOk, IfErr};
+ghost use Rattle.std.specs.Prelude.{IfOk, IfErr, []};
 ghost use Rattle.fuse_keeper.specs.declared.fault.StoreFault.{StoreFault};
 ghost use Rattle.fuse_keeper.specs.KeeperState.{Reopened};
 
@@ -8,12 +8,16 @@ use crate::keeper::Keeper;
 
 /// A keeper that can be opened again, as after a crash.
 pub trait Restart: Keeper {
-    /// The faults with which it may refuse to be opened again.
-    ghost may_refuse: { Self → StoreFault → Type 0 };
+    /// What is left of a keeper that refuses to be opened again.
+    type Rest: Drop;
 
-    /// Opens its store again. A fault leaves no keeper.
-    fn restart(self) -> Result<Self, StoreFault>
+    /// The faults with which it may refuse, and what is then left.
+    ghost refuses: { Self → StoreFault → Self.Rest → Type 0 };
+
+    /// Opens its store again. A fault leaves no keeper, and what is left of it.
+    fn restart(self) -> Result<Self, (StoreFault, Self::Rest)>
         ensures reopened { IfOk result (λ k. Reopened (Self.told self) (Self.told k)) }
-        ensures refused { IfErr result (Self.may_refuse self) }
-        ensures once { IfOk result (λ k. Self.became self k 1) };
+        ensures refused { IfErr result (λ e. refuses self e.0 e.1) }
+        ensures once { IfOk result (λ k. Self.became self k 1) }
+        ensures unasked { IfOk result (λ k. Self.performed self k []) };
 }

@@ -13,7 +13,7 @@ use Rattle.fuse_request.specs.Act.{Act, Lookup, Mknod, Mkdir, Unlink, Rmdir, Ren
 use Rattle.fuse_request.specs.Spelling.{parts, flags2_parts, header_parts, IsSpellable, Spells}
 use Rattle.fuse_request.specs.Canon.{len_of, canon, no_nul, sayable_act, sayable, CanonSpells}
 use Rattle.fuse_wire.specs.Written.{AllFit}
-use Rattle.fuse_request.specs.Encoding.{HasNumbers}
+use Rattle.fuse_request.specs.inner.Writing.{HasNumbers}
 
 pub canon_spells : LayoutsStand → CanonSpells
 canon_spells laws v h =

@@ -1,6 +1,7 @@
 -- The bytes of a further body say one thing, and have no fault.
 use Rattle.std.proofs.Common.{◌≡◌, ℕ, true, false, subst, List, [], ◌∷◌, length, drop, Option, Some, None, Result, Ok, Err, refl, sym, ap, ◌∙◌}
 use Rattle.std.specs.Prelude.{IfOk, IfSome, IsOkAnd, IsSomeAnd, is_some}
+use Rattle.std.specs.Option.{option_map}
 use Rattle.std.specs.Result.{result_err}
 use Rattle.std.proofs.lemmas.Bool.{eq-eqb}
 use Rattle.fuse_wire.specs.Bytes.{number_of, after_nul, IsBytes}
@@ -14,7 +15,7 @@ use Rattle.fuse_request.specs.FurtherBodies.{Content, Readlink, Symlink, Link, S
 use Rattle.fuse_request.specs.FurtherBodies.{Create, Fallocate, Lseek, CopyFileRange, content, further_opcode, content_parts, copy_file_range_parts, SpellsBody}
 use Rattle.fuse_request.specs.FurtherBodies.{value_fault, copy_file_range_at, further_fault, content_at, is_further, further, find_further, FurtherOpcode}
 use Rattle.fuse_request.specs.FurtherBodies.{fault_in}
-use Rattle.fuse_request.specs.FurtherReaders.{ReadsAny}
+use Rattle.fuse_request.specs.inner.FurtherReaders.{ReadsAny}
 use Rattle.fuse_request.proofs.Laid.{all_bytes}
 use Rattle.fuse_request.proofs.BodyFaults.{fixed_none, at_least_after, one_name, both_names, before_nul-text}
 use Rattle.fuse_request.proofs.Acts.{Laws}
@@ -140,6 +141,17 @@ body_only laws opcode b (Ok (Some x)) fits reads v s =
     cc
 body_only laws opcode b (Ok None) fits reads v s = let there = spelled_in opcode v b s in absurd cc
 body_only laws opcode b (Err m) fits reads v s = let there = (spelled_one laws opcode v b s).1 in absurd cc
+
+-- outside the table a body says nothing
+nothing_at : (o : Option FurtherOpcode) (b : List ℕ) → is_some o ≡ false → ◌≡◌ {A = Option Content} None (option_map (λ x. x.says b) o)
+nothing_at None b none = refl
+nothing_at (Some o) b none = absurd cc
+
+pub body_placed : Laws → (opcode : ℕ) (b : List ℕ) (r : Result (Option Body) Malformed) → IsBytes b → ReadsAny opcode b r
+    → IfOk r (λ o. option_map (λ x. content x) o ≡ content_at opcode b)
+body_placed laws opcode b (Ok (Some x)) fits reads = sym (spelled_one laws opcode (content x) b (body_found laws opcode b (Ok (Some x)) fits reads)).0
+body_placed laws opcode b (Ok None) fits reads = nothing_at (find_further opcode further) b reads
+body_placed laws opcode b (Err m) fits reads = tt
 
 pub body_fault_read : Laws → (opcode : ℕ) (b : List ℕ) (r : Result (Option Body) Malformed) → IsBytes b → ReadsAny opcode b r
     → result_err r ≡ further_fault opcode b

@@ -5,28 +5,33 @@ use Rattle.fuse_wire.specs.Ids.{id_of}
 use Rattle.fuse_request.specs.declared.class.Class.{Class}
 use Rattle.fuse_request.specs.declared.class.Class.TheVariants.{Silent, Bare, Kept}
 use Rattle.fuse_request.specs.declared.decoding.Malformed.{Malformed}
-use Rattle.fuse_request.specs.Act.{Asked, IsInProfile}
+use Rattle.fuse_request.specs.Act.{Asked, IsServedFor}
 use Rattle.fuse_request.specs.Header.{raw_of}
 use Rattle.fuse_wire.specs.Opcodes.{silent}
-use Rattle.fuse_request.specs.Opcodes.{in_profile}
+use Rattle.fuse_request.specs.Opcodes.{OpcodeSet, is_served, no_others}
 use Rattle.fuse_request.specs.Faults.{first_fault}
 use Rattle.fuse_request.specs.Spelling.{Spells}
 
--- by its fault, and else by whether its opcode is of the profile
-abbrev pub class_by : Option Malformed → ℕ → Class
-class_by (Some m) opcode = Bare einval
-class_by None opcode = if in_profile opcode then Kept else Bare enosys
+-- by its fault, and else by whether its opcode is served
+abbrev pub class_by : OpcodeSet → Option Malformed → ℕ → Class
+class_by V (Some m) opcode = Bare einval
+class_by V None opcode = if is_served V opcode then Kept else Bare enosys
 
-unfoldable pub class_of : List ℕ → Class
-class_of b = if silent (raw_of b).opcode then Silent else class_by (first_fault b) (raw_of b).opcode
+-- the class of a message where these opcodes are served beside the profile
+unfoldable pub class_for : OpcodeSet → List ℕ → Class
+class_for V b = if silent (raw_of b).opcode then Silent else class_by V (first_fault b) (raw_of b).opcode
+
+-- the same where no others are
+abbrev pub class_of : List ℕ → Class
+class_of = class_for no_others
 
 -- how a class follows from the requests that the message spells
-abbrev pub IsOfClass : Class → List ℕ → Type 0
-IsOfClass Silent b = silent (raw_of b).opcode ≡ true
-IsOfClass (Bare errno) b =
+abbrev pub IsOfClass : OpcodeSet → Class → List ℕ → Type 0
+IsOfClass V Silent b = silent (raw_of b).opcode ≡ true
+IsOfClass V (Bare errno) b =
     (silent (raw_of b).opcode ≡ false)
-    × (((errno ≡ einval) × ((r : Asked) → ¬ (Spells r b))) ⊎ ((errno ≡ enosys) × ((r : Asked) × Spells r b × ¬ (IsInProfile r.act))))
-IsOfClass Kept b = (silent (raw_of b).opcode ≡ false) × ((r : Asked) × Spells r b × IsInProfile r.act)
+    × (((errno ≡ einval) × ((r : Asked) → ¬ (Spells r b))) ⊎ ((errno ≡ enosys) × ((r : Asked) × Spells r b × ¬ (IsServedFor V r.act))))
+IsOfClass V Kept b = (silent (raw_of b).opcode ≡ false) × ((r : Asked) × Spells r b × IsServedFor V r.act)
 
 -- it must be answered, and its id is 0
 abbrev pub is_zero : List ℕ → Bool

@@ -34,6 +34,7 @@ pub data Content : Type 0 where
   Lseek : ℕ → ℕ → ℕ → Content
   CopyFileRange : CopyFileRangeIn → Content
 
+-- what a body that was read says
 abbrev pub content : Body → Content
 content bodies.Readlink = Readlink
 content (bodies.Symlink name target) = Symlink name.now target.now
@@ -52,6 +53,7 @@ content (bodies.Fallocate fh offset len mode) = Fallocate fh offset len mode
 content (bodies.Lseek fh offset whence) = Lseek fh offset whence
 content (bodies.CopyFileRange x) = CopyFileRange x
 
+-- the opcode of each content
 abbrev pub further_opcode : Content → ℕ
 further_opcode Readlink = fuse_readlink
 further_opcode (Symlink name target) = fuse_symlink
@@ -75,7 +77,7 @@ abbrev pub copy_file_range_parts : CopyFileRangeIn → List Part
 copy_file_range_parts x =
     number 8 x.fh_in ∷ number 8 x.off_in ∷ number 8 x.nodeid_out ∷ number 8 x.fh_out ∷ number 8 x.off_out ∷ number 8 x.len ∷ number 8 x.flags ∷ []
 
--- the layout of each body; fuse_setxattr_in without the fields of FUSE_SETXATTR_EXT, which is never agreed
+-- the layout of each body; fuse_setxattr_in without the fields of FUSE_SETXATTR_EXT, on which fuse_init never agrees
 abbrev pub content_parts : Content → List Part
 content_parts Readlink = []
 content_parts (Symlink name target) = text name ∷ text target ∷ []
@@ -104,6 +106,7 @@ abbrev pub value_fault : ℕ → Option (List ℕ) → Option Malformed
 value_fault size None = Some NoNul
 value_fault size (Some value) = if length value == size then None else Some CountDiffers
 
+-- the fault of fuse_setxattr_in, a name and a value
 abbrev pub setxattr_fault : List ℕ → Option Malformed
 setxattr_fault b = at_least compat_setxattr_in_size (λ rest. value_fault (number_of 4 b) (after_nul rest)) b
 
@@ -113,9 +116,11 @@ pub record FurtherOpcode : Type 0 where
   pub fault : List ℕ → Option Malformed
   pub says : List ℕ → Content
 
+-- a row of the table
 abbrev pub further_row : ℕ → (List ℕ → Option Malformed) → (List ℕ → Content) → FurtherOpcode
 further_row opcode fault says = record { opcode = opcode; fault = fault; says = says }
 
+-- what fuse_copy_file_range_in says at its places
 abbrev pub copy_file_range_at : List ℕ → CopyFileRangeIn
 copy_file_range_at b = record {
   fh_in = number_of 8 b;
@@ -127,6 +132,7 @@ copy_file_range_at b = record {
   flags = number_of 8 (drop 48 b);
 }
 
+-- each opcode outside the profile whose bodies are read
 abbrev pub further : List FurtherOpcode
 further =
     further_row fuse_readlink (fixed 0) (λ b. Readlink)
@@ -148,6 +154,7 @@ further =
     ∷ further_row fuse_copy_file_range (fixed copy_file_range_in_size) (λ b. CopyFileRange (copy_file_range_at b))
     ∷ []
 
+-- the row of an opcode
 abbrev pub find_further : ℕ → List FurtherOpcode → Option FurtherOpcode
 find_further opcode [] = None
 find_further opcode (o ∷ os) = if opcode == o.opcode then Some o else find_further opcode os
@@ -156,6 +163,7 @@ find_further opcode (o ∷ os) = if opcode == o.opcode then Some o else find_fur
 abbrev pub is_further : ℕ → Bool
 is_further opcode = is_some (find_further opcode further)
 
+-- the fault of a body by its row
 abbrev pub fault_in : Option FurtherOpcode → List ℕ → Option Malformed
 fault_in None b = None
 fault_in (Some o) b = o.fault b
@@ -164,5 +172,6 @@ fault_in (Some o) b = o.fault b
 abbrev pub further_fault : ℕ → List ℕ → Option Malformed
 further_fault opcode b = fault_in (find_further opcode further) b
 
+-- what a body says at the places of its opcode
 abbrev pub content_at : ℕ → List ℕ → Option Content
 content_at opcode b = option_map (λ o. o.says b) (find_further opcode further)

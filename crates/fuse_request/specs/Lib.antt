@@ -5,7 +5,6 @@ pub mod Header
 pub mod Act
 pub mod Spelling
 pub mod Faults
-pub mod Readers
 pub mod Places
 pub mod Classes
 pub mod Canon
@@ -13,4 +12,4 @@ pub mod Encoding
 pub mod Stream
 pub mod Framing
 pub mod FurtherBodies
-pub mod FurtherReaders
+pub mod inner

@@ -1,5 +1,5 @@
 -- The requests of the profile (fuse.h; the choice is own).
-use Rattle.std.specs.Prelude.{◌==◌, ◌&&◌, ℕ, Bool, not, if◌then◌else◌, List, [], ◌∷◌, Option, Some, None, is_some, codes}
+use Rattle.std.specs.Prelude.{◌==◌, ◌&&◌, ◌||◌, ℕ, Bool, false, not, if◌then◌else◌, List, [], ◌∷◌, Option, Some, None, is_some, codes}
 use Rattle.std.specs.Option.{option_map}
 use Rattle.fuse_request.specs.declared.decoding.Malformed.{Malformed}
 use Rattle.fuse_request.specs.Lengths.{forget_in_size, getattr_in_size, setattr_in_size, mknod_in_size, mkdir_in_size, rename_in_size, rename2_in_size}
@@ -53,9 +53,24 @@ in_profile opcode = is_some (find opcode profile)
 abbrev pub name_of : ℕ → Option (List ℕ)
 name_of opcode = option_map (λ o. o.name) (find opcode profile)
 
--- well-formed messages of this opcode are kept
+-- opcodes outside the profile that a file system serves; what it holds of others says nothing
+abbrev pub OpcodeSet : Type 0
+OpcodeSet = ℕ → Bool
+
+abbrev pub no_others : OpcodeSet
+no_others opcode = false
+
+-- it is in this set or of the profile
+abbrev pub is_served : OpcodeSet → ℕ → Bool
+is_served V opcode = V opcode || in_profile opcode
+
+-- well-formed messages of this opcode are kept where these others are served
+abbrev pub is_kept_for : OpcodeSet → ℕ → Bool
+is_kept_for V opcode = not (silent opcode) && is_served V opcode
+
+-- the same where no others are
 abbrev pub is_kept : ℕ → Bool
-is_kept opcode = not (silent opcode) && in_profile opcode
+is_kept = is_kept_for no_others
 
 abbrev pub fault_by : Option Opcode → List ℕ → Option Malformed
 fault_by None b = None

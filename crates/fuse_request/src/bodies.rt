@@ -3,7 +3,7 @@ ghost use Rattle.std.specs.Prelude.{◌≡◌, ◌≤◌, length};
 ghost use Rattle.fuse_wire.specs.Opcodes as opcodes;
 ghost use Rattle.fuse_request.specs.Lengths as lengths;
 ghost use Rattle.fuse_request.specs.Places as places;
-ghost use Rattle.fuse_request.specs.Readers.{GivesLastName, GivesTwoNames, Reads};
+ghost use Rattle.fuse_request.specs.inner.Readers.{GivesLastName, GivesTwoNames, Reads};
 
 use crate::decoding::Malformed;
 use crate::lengths::{

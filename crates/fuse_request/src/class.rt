@@ -1,7 +1,9 @@
-ghost use Rattle.std.specs.Prelude.{◌≡◌, ◌≤◌, length};
+ghost use Rattle.std.specs.Prelude.{◌≡◌, ◌≤◌, ◌||◌, length};
 ghost use Rattle.fuse_wire.specs.Bounds.{min_message_len};
 ghost use Rattle.fuse_wire.specs.Bytes.{number_of};
-ghost use Rattle.fuse_request.specs.Classes.{class_of, IsOfClass, is_zero};
+ghost use Rattle.fuse_request.specs.Classes.{class_for, class_of, IsOfClass, is_zero};
+ghost use Rattle.fuse_request.specs.Header.{raw_of};
+ghost use Rattle.fuse_request.specs.Opcodes.{OpcodeSet, in_profile, no_others};
 
 use crate::decoding::decode;
 use crate::header::MIN_MESSAGE;
@@ -19,13 +21,23 @@ pub enum Class {
     Kept,
 }
 
-/// The class of a whole message. Takes no memory.
-pub fn classify(message: &[u8]) -> Class
+// Whether an opcode is of the profile or served beside it.
+fn is_served(opcode: u32, served: bool) -> bool
+    ensures { result ≡ (served || in_profile opcode) }
+{
+    served || is_in_profile(opcode)
+}
+
+/// The class of a whole message where further opcodes are served beside the profile; `served` is
+/// whether its opcode is one of them. Takes no memory.
+pub fn classify_for(message: &[u8], served: bool) -> Class
     requires header { min_message_len ≤ length message.now }
     requires len { number_of 4 message.now ≡ length message.now }
-    ensures class { result ≡ class_of message.now }
+    ensures class { (V : OpcodeSet) → V (raw_of message.now).opcode ≡ served
+        → result ≡ class_for V message.now }
     // How the class follows from the request that the message spells.
-    ensures spells { IsOfClass result message.now }
+    ensures spells { (V : OpcodeSet) → V (raw_of message.now).opcode ≡ served
+        → IsOfClass V result message.now }
 {
     layouts_stand();
     names_end();
@@ -36,10 +48,21 @@ pub fn classify(message: &[u8]) -> Class
     let Ok(_request) = decode(message) else {
         return Class::Bare(Errno::EINVAL);
     };
-    if !is_in_profile(opcode) {
+    if !is_served(opcode, served) {
         return Class::Bare(Errno::ENOSYS);
     }
     Class::Kept
+}
+
+/// The class of a whole message where only the profile is served. Takes no memory.
+pub fn classify(message: &[u8]) -> Class
+    requires header { min_message_len ≤ length message.now }
+    requires len { number_of 4 message.now ≡ length message.now }
+    ensures class { result ≡ class_of message.now }
+    // How the class follows from the request that the message spells.
+    ensures spells { IsOfClass no_others result message.now }
+{
+    classify_for(message, false)
 }
 
 /// Whether a message must be answered and has the id 0, which an answer can't bear.

@@ -2,12 +2,14 @@
 ghost use Rattle.std.specs.Prelude.{◌≡◌, ◌<◌, ◌≤◌, ◌+◌, ◌^◌, ◌↔◌, ◌++◌, Err, OnOk, OnErr};
 ghost use Rattle.std.specs.Prelude.{length, true};
 ghost use Rattle.fuse_wire.specs.Layout.{widths};
-ghost use Rattle.fuse_wire.specs.Written.{Extends, Puts};
+ghost use Rattle.fuse_wire.specs.Written.{Puts};
+ghost use Rattle.fuse_wire.specs.inner.Growing.{Extends};
 ghost use Rattle.fuse_wire.specs.Bounds.{max_message_len, min_message_len};
 ghost use Rattle.fuse_request.specs.Act.{act, asked};
 ghost use Rattle.fuse_request.specs.Act as acts;
 ghost use Rattle.fuse_request.specs.Canon.{canon, len_of, sayable};
-ghost use Rattle.fuse_request.specs.Encoding.{HasNumbers, ReadsAs};
+ghost use Rattle.fuse_request.specs.Encoding.{ReadsAs};
+ghost use Rattle.fuse_request.specs.inner.Writing.{HasNumbers};
 ghost use Rattle.fuse_request.specs.Spelling.{Spells, header_parts, parts};
 
 use crate::header::{MAX_MESSAGE, MIN_MESSAGE};

@@ -1,10 +1,11 @@
 // Bodies of opcodes outside the profile, read for a file system that serves them.
 ghost use Rattle.std.specs.Prelude.{◌≡◌, length, Some, IsOkAnd, IfOk, IfSome, is_some, IsSomeAnd};
+ghost use Rattle.std.specs.Option.{option_map};
 ghost use Rattle.std.specs.Result.{result_err};
 ghost use Rattle.fuse_wire.specs.Opcodes as opcodes;
 ghost use Rattle.fuse_request.specs.FurtherBodies as further;
 ghost use Rattle.fuse_request.specs.FurtherBodies.{Content, SpellsBody};
-ghost use Rattle.fuse_request.specs.FurtherReaders.{GivesValue, ReadsAny, ReadsBody};
+ghost use Rattle.fuse_request.specs.inner.FurtherReaders.{GivesValue, ReadsAny, ReadsBody};
 
 use crate::bodies::{last_name, two_names};
 use crate::decoding::Malformed;
@@ -351,6 +352,10 @@ pub fn decode_body(opcode: u32, body: &[u8]) -> Result<Option<Body<'_>>, Malform
     // What is spelled is read.
     ensures only { (v : Content) → SpellsBody opcode v body.now
         → IsOkAnd result (λ o. IsSomeAnd o (λ x. further.content x ≡ v)) }
+
+    // It is what stands at the places of the opcode.
+    ensures placed { IfOk result (λ o.
+        option_map (λ x. further.content x) o ≡ further.content_at opcode body.now) }
 
     // Which fault it is. There is none exactly where a body is spelled or the opcode isn't read.
     ensures fault { result_err result ≡ further.further_fault opcode body.now }

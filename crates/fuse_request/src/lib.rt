@@ -16,7 +16,7 @@ mod request;
 mod sayable;
 mod writing;
 
-pub use class::{Class, classify, has_zero_unique};
+pub use class::{Class, classify, classify_for, has_zero_unique};
 pub use decoding::{Malformed, decode};
 pub use encoding::{EncodeFault, encode};
 pub use framer::{FrameFault, Framer, MAX_FED};

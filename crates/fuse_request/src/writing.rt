@@ -5,7 +5,7 @@ ghost use Rattle.fuse_wire.specs.Layout.{widths};
 ghost use Rattle.fuse_wire.specs.Written.{Puts};
 ghost use Rattle.fuse_request.specs.Act.{act};
 ghost use Rattle.fuse_request.specs.Act as acts;
-ghost use Rattle.fuse_request.specs.Encoding.{EndsWithName};
+ghost use Rattle.fuse_request.specs.inner.Writing.{EndsWithName};
 ghost use Rattle.fuse_request.specs.Spelling.{parts};
 
 use crate::lengths::FORGET_ONE;

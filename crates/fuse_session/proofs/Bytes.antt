@@ -41,13 +41,14 @@ keeps_consumes (Some p) None k = absurd k
 keeps_consumes (Some p) (Some q) k = sym k
 
 pub quiet_none : (p : PortState) → IsQuiet p p
-quiet_none p = record { coming = refl; receives = refl; has_ended = refl; receive_failures = refl; confirms = refl }
+quiet_none p = record { coming = refl; receives = refl; has_ended = refl; ends = refl; receive_failures = refl; confirms = refl }
 
 pub quiet_more : (a b c : PortState) → IsQuiet a b → IsQuiet b c → IsQuiet a c
 quiet_more a b c one two = record {
   coming = two.coming ∙ one.coming;
   receives = two.receives ∙ one.receives;
   has_ended = two.has_ended ∙ one.has_ended;
+  ends = two.ends ∙ one.ends;
   receive_failures = two.receive_failures ∙ one.receive_failures;
   confirms = two.confirms ∙ one.confirms;
 }
@@ -63,7 +64,7 @@ isnt_zero n isnt = grind arith
 no_failure : (n len old new : ℕ) → (n ≡ 0 → ⊥) → new ≡ old + (if n == 0 then (if len == 0 then 0 else 1) else 0) → new ≡ old
 no_failure n len old new isnt is = is ∙ ap (λ b. old + (if b then (if len == 0 then 0 else 1) else 0)) (isnt_zero n isnt) ∙ omega arith
 
-rest_is : (rest : List ℕ) (n : ℕ) → take (length rest - n) (drop n rest) ≡ drop n rest
+pub rest_is : (rest : List ℕ) (n : ℕ) → take (length rest - n) (drop n rest) ≡ drop n rest
 rest_is rest n = take_all (length rest - n) (drop n rest) (omega (arith, length-drop n rest))
 
 -- more of it was taken

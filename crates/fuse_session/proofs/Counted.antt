@@ -2,9 +2,10 @@
 use Rattle.std.proofs.Common.{◌≡◌, ◌+◌, ◌≤◌, ◌<◌, ℕ, Bool, true, false, List, [], ◌∷◌, ◌++◌, length, drop, refl, sym, ap, subst, ◌∙◌, arith, add-one}
 use Rattle.std.proofs.lemmas.List.{get_or-map}
 use Rattle.std.proofs.Math.Nat.{zero-add, add-zero, add_assoc}
+use Rattle.fuse_request.specs.Opcodes.{OpcodeSet}
 use Rattle.fuse_request.specs.declared.class.Class.{Class}
 use Rattle.fuse_request.specs.declared.class.Class.TheVariants.{Silent, Bare, Kept}
-use Rattle.fuse_request.specs.Classes.{class_of}
+use Rattle.fuse_request.specs.Classes.{class_for}
 use Rattle.std.proofs.Common.{zero, suc, get_or}
 use Rattle.fuse_keeper.specs.declared.keeper.Done.{Done}
 use Rattle.fuse_keeper.specs.History.{Entry, entry_id, History, has, grown, repeats}
@@ -23,14 +24,14 @@ none_plus a = simp zero-add
 pub plus_none : (a : SessionCounts) → plus a none_counted ≡ a
 plus_none a = simp add-zero
 
-pub counted-append : (h : History) (xs ys : List Timed) → counted h (xs ++ ys) ≡ plus (counted h xs) (counted (grown h (kept_in xs)) ys)
-counted-append h [] ys = sym (none_plus (counted h ys))
-counted-append h (x ∷ xs) ys =
-    let g = grown h (entries_at x) in
-    let one = counted_one (class_of x.bytes) (has h (entry_id (timed_entry x))) (is_interrupt x.bytes) in
-    ap (plus one) (counted-append g xs ys)
-    ∙ ap (λ f. plus one (plus (counted g xs) (counted f ys))) (sym (grown-append h (entries_at x) (kept_in xs)))
-    ∙ sym (plus_assoc one (counted g xs) (counted (grown h (entries_at x ++ kept_in xs)) ys))
+pub counted-append : (V : OpcodeSet) → (h : History) (xs ys : List Timed) → counted V h (xs ++ ys) ≡ plus (counted V h xs) (counted V (grown h (kept_in V xs)) ys)
+counted-append V h [] ys = sym (none_plus (counted V h ys))
+counted-append V h (x ∷ xs) ys =
+    let g = grown h (entries_at V x) in
+    let one = counted_one (class_for V x.bytes) (has h (entry_id (timed_entry x))) (is_interrupt x.bytes) in
+    ap (plus one) (counted-append V g xs ys)
+    ∙ ap (λ f. plus one (plus (counted V g xs) (counted V f ys))) (sym (grown-append h (entries_at V x) (kept_in V xs)))
+    ∙ sym (plus_assoc one (counted V g xs) (counted V (grown h (entries_at V x ++ kept_in V xs)) ys))
 
 tally_one : (h : History) (e : Entry) (es : List Entry) (class : Class) (i : Bool)
     → counted_one class (head_repeat (repeats h (entry_if class e ++ es))) i ≡ counted_one class (has h (entry_id e)) i
@@ -45,15 +46,15 @@ tally_left h e es (Bare errno) = refl
 tally_left h e es Kept = refl
 
 -- what each message is by the answers is what it is by the history
-pub tallied_is : (ts : List Timed) (h : History) → tallied (bytes_of ts) (repeats h (kept_in ts)) ≡ counted h ts
-tallied_is [] h = refl
-tallied_is (t ∷ ts) h =
-    let class = class_of t.bytes in
+pub tallied_is : (V : OpcodeSet) → (ts : List Timed) (h : History) → tallied V (bytes_of ts) (repeats h (kept_in V ts)) ≡ counted V h ts
+tallied_is V [] h = refl
+tallied_is V (t ∷ ts) h =
+    let class = class_for V t.bytes in
     let one = counted_one class (has h (entry_id (timed_entry t))) (is_interrupt t.bytes) in
-    ap (λ c. plus c (tallied (bytes_of ts) (left_by class (repeats h (entries_at t ++ kept_in ts)))))
-    (tally_one h (timed_entry t) (kept_in ts) class (is_interrupt t.bytes))
-    ∙ ap (λ r. plus one (tallied (bytes_of ts) r)) (tally_left h (timed_entry t) (kept_in ts) class)
-    ∙ ap (plus one) (tallied_is ts (grown h (entries_at t)))
+    ap (λ c. plus c (tallied V (bytes_of ts) (left_by class (repeats h (entries_at V t ++ kept_in V ts)))))
+    (tally_one h (timed_entry t) (kept_in V ts) class (is_interrupt t.bytes))
+    ∙ ap (λ r. plus one (tallied V (bytes_of ts) r)) (tally_left h (timed_entry t) (kept_in V ts) class)
+    ∙ ap (plus one) (tallied_is V ts (grown h (entries_at V t)))
 
 one_if_below : (b : Bool) → one_if b ≤ 1
 one_if_below true = omega arith
@@ -112,16 +113,16 @@ pub one_counted_below : (c : SessionCounts) (class : Class) (b i : Bool) → c �
 one_counted_below c class b i is = subst (λ x. IsBelow x 1) (sym is) (one_below class b i)
 
 -- one message more
-pub tallied_more : (ms rest : List (List ℕ)) (repeated repeated' : List Bool) (m : List ℕ) (counts one counts' all : SessionCounts) → ms ≡ m ∷ rest
-    → one ≡ counted_one (class_of m) (head_repeat repeated) (is_interrupt m)
-    → counts' ≡ plus counts one → repeated' ≡ left_by (class_of m) repeated → plus counts (tallied ms repeated) ≡ all
-    → plus counts' (tallied rest repeated') ≡ all
-tallied_more ms rest repeated repeated' m counts one counts' all is one_is now left so_far =
-    ap (λ c. plus c (tallied rest repeated')) now
-    ∙ ap (λ r. plus (plus counts one) (tallied rest r)) left
-    ∙ plus_assoc counts one (tallied rest (left_by (class_of m) repeated))
-    ∙ ap (λ x. plus counts (plus x (tallied rest (left_by (class_of m) repeated)))) one_is
-    ∙ ap (λ x. plus counts (tallied x repeated)) (sym is)
+pub tallied_more : (V : OpcodeSet) → (ms rest : List (List ℕ)) (repeated repeated' : List Bool) (m : List ℕ) (counts one counts' all : SessionCounts) → ms ≡ m ∷ rest
+    → one ≡ counted_one (class_for V m) (head_repeat repeated) (is_interrupt m)
+    → counts' ≡ plus counts one → repeated' ≡ left_by (class_for V m) repeated → plus counts (tallied V ms repeated) ≡ all
+    → plus counts' (tallied V rest repeated') ≡ all
+tallied_more V ms rest repeated repeated' m counts one counts' all is one_is now left so_far =
+    ap (λ c. plus c (tallied V rest repeated')) now
+    ∙ ap (λ r. plus (plus counts one) (tallied V rest r)) left
+    ∙ plus_assoc counts one (tallied V rest (left_by (class_for V m) repeated))
+    ∙ ap (λ x. plus counts (plus x (tallied V rest (left_by (class_for V m) repeated)))) one_is
+    ∙ ap (λ x. plus counts (tallied V x repeated)) (sym is)
     ∙ so_far
 
 -- ---- whether the next kept message is a repeat
@@ -148,7 +149,7 @@ used_kept class dones n is lt = subst (λ k. drop (n + 1) (repeats_in dones) ≡
 
 -- ---- the class at a place
 
-pub class_at : (ms : List (List ℕ)) (classes : List Class) (i : ℕ) (m bytes : List ℕ) (d : Class) → classes ≡ classes_in ms → i < length ms → m ≡ get_or ms i m
+pub class_at : (V : OpcodeSet) → (ms : List (List ℕ)) (classes : List Class) (i : ℕ) (m bytes : List ℕ) (d : Class) → classes ≡ classes_in V ms → i < length ms → m ≡ get_or ms i m
     → bytes ≡ m
-    → get_or classes i d ≡ class_of bytes
-class_at ms classes i m bytes d are lt at is = ap (λ cs. get_or cs i d) are ∙ get_or-map class_of ms i m d lt ∙ ap class_of (sym (is ∙ at))
+    → get_or classes i d ≡ class_for V bytes
+class_at V ms classes i m bytes d are lt at is = ap (λ cs. get_or cs i d) are ∙ get_or-map (class_for V) ms i m d lt ∙ ap (class_for V) (sym (is ∙ at))

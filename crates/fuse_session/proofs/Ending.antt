@@ -3,7 +3,7 @@ use Rattle.std.proofs.Common.{◌≡◌, inl, inr, ℕ, Bool, true, false, ◌==
 use Rattle.fuse_answer.specs.Said.{Said}
 use Rattle.fuse_request.specs.declared.class.Class.{Class}
 use Rattle.fuse_request.specs.declared.class.Class.TheVariants.{Silent, Bare, Kept}
-use Rattle.fuse_request.specs.Classes.{class_of}
+use Rattle.fuse_request.specs.Classes.{class_for}
 use Rattle.fuse_request.specs.Header.{raw_of}
 use Rattle.fuse_keeper.specs.Model.{Model}
 use Rattle.fuse_keeper.specs.History.{entry_id, History, add, said, grown}
@@ -16,17 +16,17 @@ two_ways : (b : Bool) → b ≡ true → b ≡ false → ⊥
 two_ways true t f = cc
 two_ways false t f = cc
 
-pub goes_none : (M : Model) → (s : M.State) (h : History) (ts : List Timed) → NoZero ts → NoDestroy ts → GoesOn M s h ts
+pub goes_none : (M : Model) → (s : M.State) (h : History) (ts : List Timed) → NoZero ts → NoDestroy M.serves ts → GoesOn M s h ts
 goes_none M s h [] zero none = tt
-goes_none M s h (t ∷ ts) named none = (named.0, λ ends. two_ways (destroys t.bytes) ends.0 none.0, goes_none M s (grown h (entries_at t)) ts named.1 none.1)
+goes_none M s h (t ∷ ts) named none = (named.0, λ ends. two_ways (destroys M.serves t.bytes) ends.0 none.0, goes_none M s (grown h (entries_at M.serves t)) ts named.1 none.1)
 
-pub works_group : (M : Model) → (s : M.State) (h : History) (ts : List Timed) → NoZero ts → DestroyLast ts → Works M s h ts
+pub works_group : (M : Model) → (s : M.State) (h : History) (ts : List Timed) → NoZero ts → DestroyLast M.serves ts → Works M s h ts
 works_group M s h [] named only = tt
 works_group M s h (t ∷ ts) named only = (
   named.0,
-  elim only.0 [ inl empty ↦ inl empty | inr none ↦ inr (λ ends. two_ways (destroys t.bytes) ends.0 none) ],
+  elim only.0 [ inl empty ↦ inl empty | inr none ↦ inr (λ ends. two_ways (destroys M.serves t.bytes) ends.0 none) ],
   works_group M s
-      (grown h (entries_at t)) ts named.1 only.1,
+      (grown h (entries_at M.serves t)) ts named.1 only.1,
 )
 
 last_tail : (a : Said) (list : List Said) → last_zero (a ∷ list) ≡ false → last_zero list ≡ false
@@ -36,11 +36,11 @@ last_tail a (b ∷ list) h = h
 -- the answers to what follows a message
 pub record Following (M : Model) (s : M.State) (g : History) (ts : List Timed) : Type 0 where
   pub list : List Said
-  pub are : map (λ a. Some a) list ≡ told M s g (kept_in ts)
+  pub are : map (λ a. Some a) list ≡ told M s g (kept_in M.serves ts)
   pub last : last_zero list ≡ false
 
 following : (M : Model) → (s : M.State) (h : History) (t : Timed) (ts : List Timed) (class : Class) (list : List Said)
-    → map (λ a. Some a) list ≡ told M s h (entry_if class (timed_entry t) ++ kept_in ts)
+    → map (λ a. Some a) list ≡ told M s h (entry_if class (timed_entry t) ++ kept_in M.serves ts)
     → last_zero list ≡ false → Following M s (grown h (entry_if class (timed_entry t))) ts
 following M s h t ts Silent list are last = record { list = list; are = are; last = last }
 following M s h t ts (Bare errno) list are last = record { list = list; are = are; last = last }
@@ -59,17 +59,17 @@ not_ending M s h t Kept (a ∷ []) are last d z =
     two_ways (a.errno == 0) (sym (ap says_zero here) ∙ z) last
 not_ending M s h t Kept (a ∷ b ∷ list) are last d z = cc are
 
-pub goes_last : (M : Model) → (s : M.State) (h : History) (ts : List Timed) (list : List Said) → NoZero ts → DestroyLast ts
-    → map (λ a. Some a) list ≡ told M s h (kept_in ts) → last_zero list ≡ false → GoesOn M s h ts
+pub goes_last : (M : Model) → (s : M.State) (h : History) (ts : List Timed) (list : List Said) → NoZero ts → DestroyLast M.serves ts
+    → map (λ a. Some a) list ≡ told M s h (kept_in M.serves ts) → last_zero list ≡ false → GoesOn M s h ts
 goes_last M s h [] list named only are last = tt
 goes_last M s h (t ∷ ts) list named only are last =
-    let f = following M s h t ts (class_of t.bytes) list are last in
-    let rest = goes_last M s (grown h (entries_at t)) ts f.list named.1 only.1 f.are f.last in (
+    let f = following M s h t ts (class_for M.serves t.bytes) list are last in
+    let rest = goes_last M s (grown h (entries_at M.serves t)) ts f.list named.1 only.1 f.are f.last in (
       named.0,
       elim only.0 [
-        | inl empty ↦ λ ends. not_ending M s h t (class_of t.bytes) list (are ∙ ap (λ (r : List Timed). told M s h (entries_at t ++ kept_in r)) empty) last
+        | inl empty ↦ λ ends. not_ending M s h t (class_for M.serves t.bytes) list (are ∙ ap (λ (r : List Timed). told M s h (entries_at M.serves t ++ kept_in M.serves r)) empty) last
             ends.0 ends.1
-        | inr none ↦ λ ends. two_ways (destroys t.bytes) ends.0 none
+        | inr none ↦ λ ends. two_ways (destroys M.serves t.bytes) ends.0 none
       ],
       rest,
     )
@@ -88,17 +88,17 @@ kept_if Silent opcode is = absurd (cc is)
 kept_if (Bare errno) opcode is = absurd (cc is)
 kept_if Kept opcode is = refl
 
-pub ends_last : (M : Model) → (s : M.State) (h : History) (timed : List Timed) (list : List Said) → LastDestroys timed
-    → map (λ a. Some a) list ≡ told M s h (kept_in timed) → last_zero list ≡ true → EndsLast M s h timed
+pub ends_last : (M : Model) → (s : M.State) (h : History) (timed : List Timed) (list : List Said) → LastDestroys M.serves timed
+    → map (λ a. Some a) list ≡ told M s h (kept_in M.serves timed) → last_zero list ≡ true → EndsLast M s h timed
 ends_last M s h timed list l are zero =
     let e = timed_entry l.one in
-    let g = grown h (kept_in l.earlier) in
-    let kept = kept_if (class_of l.one.bytes) (raw_of l.one.bytes).opcode l.destroy in
-    let entries : kept_in timed ≡ kept_in l.earlier ++ e ∷ [] = ap kept_in l.parts ∙ kept_in-append l.earlier (l.one ∷ [])
-    ∙ ap (λ c. kept_in l.earlier ++ (entry_if c e ++ [])) kept in
-    let says = last_of list (told M s h (kept_in l.earlier)) (said M s (add g e) (entry_id e))
-    (are ∙ ap (told M s h) entries ∙ told-append M s h (kept_in l.earlier) e) in
-    let last : grown h (kept_in timed) ≡ add g e = ap (grown h) entries ∙ grown-append h (kept_in l.earlier) (e ∷ []) in
+    let g = grown h (kept_in M.serves l.earlier) in
+    let kept = kept_if (class_for M.serves l.one.bytes) (raw_of l.one.bytes).opcode l.destroy in
+    let entries : kept_in M.serves timed ≡ kept_in M.serves l.earlier ++ e ∷ [] = ap (kept_in M.serves) l.parts ∙ kept_in-append M.serves l.earlier (l.one ∷ [])
+    ∙ ap (λ c. kept_in M.serves l.earlier ++ (entry_if c e ++ [])) kept in
+    let says = last_of list (told M s h (kept_in M.serves l.earlier)) (said M s (add g e) (entry_id e))
+    (are ∙ ap (told M s h) entries ∙ told-append M s h (kept_in M.serves l.earlier) e) in
+    let last : grown h (kept_in M.serves timed) ≡ add g e = ap (grown h) entries ∙ grown-append h (kept_in M.serves l.earlier) (e ∷ []) in
     record {
       earlier = l.earlier;
       one = l.one;

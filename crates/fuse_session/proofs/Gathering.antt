@@ -3,19 +3,21 @@ use Rattle.std.proofs.Common.{◌≡◌, ◌≢◌, inl, inr, ℕ, ◌+◌, ◌<
 use Rattle.std.proofs.Common.{All, refl, sym, ap, subst, ◌∙◌, append_assoc, arith}
 use Rattle.std.proofs.lemmas.List.{take_more, append-nil, map-append, map_more}
 use Rattle.std.proofs.lemmas.List.Elements.{All-append}
+use Rattle.fuse_request.specs.Opcodes.{OpcodeSet}
 use Rattle.fuse_wire.specs.Ids.{id_of}
 use Rattle.fuse_wire.specs.declared.moment.Moment.{Moment}
 use Rattle.fuse_request.specs.declared.request.Request.{Request}
 use Rattle.fuse_request.specs.declared.class.Class.{Class}
 use Rattle.fuse_request.specs.declared.class.Class.TheVariants.{Silent, Bare, Kept}
-use Rattle.fuse_request.specs.Classes.{class_of, class_by, is_zero}
+use Rattle.fuse_request.specs.Classes.{class_for, class_by, is_zero}
 use Rattle.fuse_request.specs.Faults.{first_fault}
 use Rattle.fuse_request.specs.Header.{raw_of}
 use Rattle.fuse_wire.specs.Opcodes.{silent}
 use Rattle.fuse_keeper.specs.History.{Entry}
+use Rattle.fuse_keeper.specs.Model.{Model}
 use Rattle.fuse_keeper.specs.Group.{entry_of, entries_of, HasId, IsKept}
 use Rattle.fuse_wire.specs.declared.opcode.TheConstants.{DESTROY}
-use Rattle.fuse_session.specs.Processed.{Timed, kept_in, entry_if, message_entry, destroys, destroys_by, moment_if, moments_in, GaveFirst}
+use Rattle.fuse_session.specs.Processed.{Timed, kept_in, entry_if, message_entry, destroys, destroys_by, moment_if, moments_in}
 use Rattle.fuse_session.specs.Group.{NoZero, NoDestroy, DestroyLast, Gathers, classes_in}
 use Rattle.fuse_session.proofs.Outs.{kept_in-append}
 use Rattle.fuse_session.proofs.Settled.{only_one}
@@ -24,43 +26,27 @@ NoZero-append : (xs : List Timed) (t : Timed) → NoZero xs → is_zero t.bytes 
 NoZero-append [] t each here = (here, tt)
 NoZero-append (x ∷ xs) t each here = (each.0, NoZero-append xs t each.1 here)
 
-NoDestroy-append : (xs : List Timed) (t : Timed) → NoDestroy xs → destroys t.bytes ≡ false → NoDestroy (xs ++ t ∷ [])
-NoDestroy-append [] t each here = (here, tt)
-NoDestroy-append (x ∷ xs) t each here = (each.0, NoDestroy-append xs t each.1 here)
+NoDestroy-append : (V : OpcodeSet) → (xs : List Timed) (t : Timed) → NoDestroy V xs → destroys V t.bytes ≡ false → NoDestroy V (xs ++ t ∷ [])
+NoDestroy-append V [] t each here = (here, tt)
+NoDestroy-append V (x ∷ xs) t each here = (each.0, NoDestroy-append V xs t each.1 here)
 
-DestroyLast-append : (xs : List Timed) (t : Timed) → NoDestroy xs → DestroyLast (xs ++ t ∷ [])
-DestroyLast-append [] t each = (inl refl, tt)
-DestroyLast-append (x ∷ xs) t each = (inr each.0, DestroyLast-append xs t each.1)
+DestroyLast-append : (V : OpcodeSet) → (xs : List Timed) (t : Timed) → NoDestroy V xs → DestroyLast V (xs ++ t ∷ [])
+DestroyLast-append V [] t each = (inl refl, tt)
+DestroyLast-append V (x ∷ xs) t each = (inr each.0, DestroyLast-append V xs t each.1)
 
-pub moments-append : (xs ys : List Timed) → moments_in (xs ++ ys) ≡ moments_in xs ++ moments_in ys
-moments-append [] ys = refl
-moments-append (x ∷ xs) ys =
-    ap (λ (r : List Moment). moment_if (class_of x.bytes) x.moment ++ r) (moments-append xs ys)
-    ∙ sym (append_assoc (moment_if (class_of x.bytes) x.moment) (moments_in xs) (moments_in ys))
+pub moments-append : (V : OpcodeSet) → (xs ys : List Timed) → moments_in V (xs ++ ys) ≡ moments_in V xs ++ moments_in V ys
+moments-append V [] ys = refl
+moments-append V (x ∷ xs) ys =
+    ap (λ (r : List Moment). moment_if (class_for V x.bytes) x.moment ++ r) (moments-append V xs ys)
+    ∙ sym (append_assoc (moment_if (class_for V x.bytes) x.moment) (moments_in V xs) (moments_in V ys))
 
 -- what was given for these messages, and joins for those
-pub gave_more : (gave gave' gave'' : List Moment → Type 0) (xs ys : List Timed) → ((one two : List Moment) → gave one → gave' two → gave'' (one ++ two))
-    → gave (moments_in xs) → gave' (moments_in ys) → gave'' (moments_in (xs ++ ys))
-gave_more gave gave' gave'' xs ys joins one two = subst gave'' (sym (moments-append xs ys)) (joins (moments_in xs) (moments_in ys) one two)
+pub gave_more : (V : OpcodeSet) → (gave gave' gave'' : List Moment → Type 0) (xs ys : List Timed) → ((one two : List Moment) → gave one → gave' two → gave'' (one ++ two))
+    → gave (moments_in V xs) → gave' (moments_in V ys) → gave'' (moments_in V (xs ++ ys))
+gave_more V gave gave' gave'' xs ys joins one two = subst gave'' (sym (moments-append V xs ys)) (joins (moments_in V xs) (moments_in V ys) one two)
 
-pub gave_first : (gave gave' gave'' : List Moment → Type 0) (xs ys : List Timed) → ((one two : List Moment) → gave one → gave' two → gave'' (one ++ two))
-    → gave (moments_in xs) → GaveFirst gave' ys → GaveFirst gave'' (xs ++ ys)
-gave_first gave gave' gave'' xs ys joins one two = (
-  two.0,
-  subst gave'' (sym (append_assoc (moments_in xs) (moments_in ys) two.0) ∙ ap (λ (r : List Moment). r ++ two.0) (sym (moments-append xs ys)))
-      (joins (moments_in xs) (moments_in ys ++ two.0) one two.1),
-)
-
--- all that was given
-pub gave_all : (gave : List Moment → Type 0) (xs : List Timed) → gave (moments_in xs) → GaveFirst gave xs
-gave_all gave xs given = ([], subst gave (sym (append-nil (moments_in xs))) given)
-
--- nothing was given before
-pub gave_later : (gave : List Moment → Type 0) (one two : List Moment) → one ≡ [] → gave two → gave (one ++ two)
-gave_later gave one two none given = subst gave (ap (λ (r : List Moment). r ++ two) (sym none)) given
-
-pub none_yet_gathered : (gave : List Moment → Type 0) (taken : List (Request × Moment)) → gave [] → taken ≡ [] → Gathers gave [] taken false
-none_yet_gathered gave taken none is = record {
+pub none_yet_gathered : (V : OpcodeSet) → (gave : List Moment → Type 0) (taken : List (Request × Moment)) → gave [] → taken ≡ [] → Gathers V gave [] taken false
+none_yet_gathered V gave taken none is = record {
   timed = [];
   bytes = refl;
   entries = ap entries_of is;
@@ -71,21 +57,21 @@ none_yet_gathered gave taken none is = record {
   ended = λ isnt. absurd (cc isnt);
 }
 
-one_more_gathered : (gave gave' gave'' : List Moment → Type 0) → ((one two : List Moment) → gave one → gave' two → gave'' (one ++ two))
-    → (prefix : List (List ℕ)) (taken taken' : List (Request × Moment)) (m : List ℕ) (t : Moment) (b : Bool) → Gathers gave prefix taken false → is_zero m ≡ false
-    → entries_of taken' ≡ entries_of taken ++ entry_if (class_of m) (message_entry m t) → (b ≡ false → destroys m ≡ false) → (b ≡ true → destroys m ≡ true)
-    → gave' (moment_if (class_of m) t) → Gathers gave'' (prefix ++ m ∷ []) taken' b
-one_more_gathered gave gave' gave'' joins prefix taken taken' m t b so_far named entries last it moment =
+one_more_gathered : (V : OpcodeSet) → (gave gave' gave'' : List Moment → Type 0) → ((one two : List Moment) → gave one → gave' two → gave'' (one ++ two))
+    → (prefix : List (List ℕ)) (taken taken' : List (Request × Moment)) (m : List ℕ) (t : Moment) (b : Bool) → Gathers V gave prefix taken false → is_zero m ≡ false
+    → entries_of taken' ≡ entries_of taken ++ entry_if (class_for V m) (message_entry m t) → (b ≡ false → destroys V m ≡ false) → (b ≡ true → destroys V m ≡ true)
+    → gave' (moment_if (class_for V m) t) → Gathers V gave'' (prefix ++ m ∷ []) taken' b
+one_more_gathered V gave gave' gave'' joins prefix taken taken' m t b so_far named entries last it moment =
     let one : Timed = record { bytes = m; moment = t } in
     record {
       timed = so_far.timed ++ one ∷ [];
       bytes = ap (λ r. r ++ m ∷ []) so_far.bytes ∙ sym (map-append (λ (x : Timed). x.bytes) so_far.timed (one ∷ []));
-      entries = entries ∙ ap (λ r. r ++ entry_if (class_of m) (message_entry m t)) so_far.entries
-          ∙ ap (λ r. kept_in so_far.timed ++ r) (sym (append-nil (entry_if (class_of m) (message_entry m t)))) ∙ sym (kept_in-append so_far.timed (one ∷ []));
-      moments = gave_more gave gave' gave'' so_far.timed (one ∷ []) joins so_far.moments (subst gave' (sym (append-nil (moment_if (class_of m) t))) moment);
+      entries = entries ∙ ap (λ r. r ++ entry_if (class_for V m) (message_entry m t)) so_far.entries
+          ∙ ap (λ r. kept_in V so_far.timed ++ r) (sym (append-nil (entry_if (class_for V m) (message_entry m t)))) ∙ sym (kept_in-append V so_far.timed (one ∷ []));
+      moments = gave_more V gave gave' gave'' so_far.timed (one ∷ []) joins so_far.moments (subst gave' (sym (append-nil (moment_if (class_for V m) t))) moment);
       no_zero = NoZero-append so_far.timed one so_far.no_zero named;
-      none = λ is. NoDestroy-append so_far.timed one (so_far.none refl) (last is);
-      only = DestroyLast-append so_far.timed one (so_far.none refl);
+      none = λ is. NoDestroy-append V so_far.timed one (so_far.none refl) (last is);
+      only = DestroyLast-append V so_far.timed one (so_far.none refl);
       ended = λ is. record { earlier = so_far.timed; one = one; parts = refl; destroy = it is };
     }
 
@@ -100,36 +86,36 @@ is_kept (Bare errno) x e is = absurd (cc is)
 is_kept Kept x e is = (refl, cc is)
 
 -- a message that isn't kept
-pub gathers_none : (gave gave' gave'' : List Moment → Type 0) → ((one two : List Moment) → gave one → gave' two → gave'' (one ++ two))
+pub gathers_none : (V : OpcodeSet) → (gave gave' gave'' : List Moment → Type 0) → ((one two : List Moment) → gave one → gave' two → gave'' (one ++ two))
     → (ms : List (List ℕ)) (i : ℕ) (m bytes : List ℕ) (taken : List (Request × Moment)) (t : Moment) → i < length ms → m ≡ get_or ms i m → bytes ≡ m
-    → Gathers gave (take i ms) taken false
-    → is_zero bytes ≡ false → [] ≡ entry_if (class_of bytes) (message_entry bytes t) → gave' (moment_if (class_of bytes) t)
-    → Gathers gave'' (take (i + 1) ms) taken false
-gathers_none gave gave' gave'' joins ms i m bytes taken t lt at is so_far named none moment =
-    let grown = one_more_gathered gave gave' gave'' joins (take i ms) taken taken bytes t false so_far named (sym (append-nil (entries_of taken))
+    → Gathers V gave (take i ms) taken false
+    → is_zero bytes ≡ false → [] ≡ entry_if (class_for V bytes) (message_entry bytes t) → gave' (moment_if (class_for V bytes) t)
+    → Gathers V gave'' (take (i + 1) ms) taken false
+gathers_none V gave gave' gave'' joins ms i m bytes taken t lt at is so_far named none moment =
+    let grown = one_more_gathered V gave gave' gave'' joins (take i ms) taken taken bytes t false so_far named (sym (append-nil (entries_of taken))
     ∙ ap (λ r. entries_of taken ++ r) none)
-    (λ _. not_kept (class_of bytes) (message_entry bytes t) (raw_of bytes).opcode none) (λ isnt. absurd (cc isnt)) moment in
-    subst (λ prefix. Gathers gave'' prefix taken false) (ap (λ x. take i ms ++ x ∷ []) (is ∙ at) ∙ sym (take_more ms i m lt)) grown
+    (λ _. not_kept (class_for V bytes) (message_entry bytes t) (raw_of bytes).opcode none) (λ isnt. absurd (cc isnt)) moment in
+    subst (λ prefix. Gathers V gave'' prefix taken false) (ap (λ x. take i ms ++ x ∷ []) (is ∙ at) ∙ sym (take_more ms i m lt)) grown
 
 -- one that is
-pub gathers_some : (gave gave' gave'' : List Moment → Type 0) → ((one two : List Moment) → gave one → gave' two → gave'' (one ++ two))
+pub gathers_some : (V : OpcodeSet) → (gave gave' gave'' : List Moment → Type 0) → ((one two : List Moment) → gave one → gave' two → gave'' (one ++ two))
     → (ms : List (List ℕ)) (i : ℕ) (m bytes : List ℕ) (taken taken' : List (Request × Moment)) (one : Request × Moment) (t : Moment) (b : Bool) → i < length ms
-    → m ≡ get_or ms i m → bytes ≡ m → Gathers gave (take i ms) taken false
-    → is_zero bytes ≡ false → entry_of one ∷ [] ≡ entry_if (class_of bytes) (message_entry bytes t) → taken' ≡ taken ++ one ∷ []
-    → b ≡ ((raw_of bytes).opcode == DESTROY) → gave' (moment_if (class_of bytes) t) → Gathers gave'' (take (i + 1) ms) taken' b
-gathers_some gave gave' gave'' joins ms i m bytes taken taken' one t b lt at is so_far named some pushed last moment =
-    let kept = is_kept (class_of bytes) (entry_of one) (message_entry bytes t) some in
-    let grown = one_more_gathered gave gave' gave'' joins (take i ms) taken taken' bytes t b so_far named
+    → m ≡ get_or ms i m → bytes ≡ m → Gathers V gave (take i ms) taken false
+    → is_zero bytes ≡ false → entry_of one ∷ [] ≡ entry_if (class_for V bytes) (message_entry bytes t) → taken' ≡ taken ++ one ∷ []
+    → b ≡ ((raw_of bytes).opcode == DESTROY) → gave' (moment_if (class_for V bytes) t) → Gathers V gave'' (take (i + 1) ms) taken' b
+gathers_some V gave gave' gave'' joins ms i m bytes taken taken' one t b lt at is so_far named some pushed last moment =
+    let kept = is_kept (class_for V bytes) (entry_of one) (message_entry bytes t) some in
+    let grown = one_more_gathered V gave gave' gave'' joins (take i ms) taken taken' bytes t b so_far named
     (ap entries_of pushed ∙ map-append entry_of taken (one ∷ []) ∙ ap (λ r. entries_of taken ++ r) some)
     (λ isnt. subst (λ c. destroys_by c (raw_of bytes).opcode ≡ false) (sym kept.0) (sym last ∙ isnt))
     (λ is_so. subst (λ c. destroys_by c (raw_of bytes).opcode ≡ true) (sym kept.0) (sym last ∙ is_so)) moment in
-    subst (λ prefix. Gathers gave'' prefix taken' b) (ap (λ x. take i ms ++ x ∷ []) (is ∙ at) ∙ sym (take_more ms i m lt)) grown
+    subst (λ prefix. Gathers V gave'' prefix taken' b) (ap (λ x. take i ms ++ x ∷ []) (is ∙ at) ∙ sym (take_more ms i m lt)) grown
 
 -- a kept message is answered
-kept_speaks : (b : List ℕ) → class_of b ≡ Kept → silent (raw_of b).opcode ≡ false
-unfolding class_of
-kept_speaks b kept =
-    elim (silent (raw_of b).opcode) as (λ s. (if s then Silent else class_by (first_fault b) (raw_of b).opcode) ≡ Kept → s ≡ false)
+kept_speaks : (V : OpcodeSet) → (b : List ℕ) → class_for V b ≡ Kept → silent (raw_of b).opcode ≡ false
+unfolding class_for
+kept_speaks V b kept =
+    elim (silent (raw_of b).opcode) as (λ s. (if s then Silent else class_by V (first_fault b) (raw_of b).opcode) ≡ Kept → s ≡ false)
     [ true ↦ λ isnt. absurd (cc isnt) | false ↦ λ _. refl ] kept
 
 not_zero : (n : ℕ) → (n == 0) ≡ false → n ≢ 0
@@ -139,28 +125,28 @@ spoken : (s e : Bool) → s ≡ false → (not s && e) ≡ false → e ≡ false
 spoken true e isnt both = absurd (cc isnt)
 spoken false e isnt both = both
 
-has_id : (m : List ℕ) (t : Moment) → class_of m ≡ Kept → is_zero m ≡ false → HasId (message_entry m t)
-has_id m t kept named = not_zero (id_of (raw_of m).unique) (spoken (silent (raw_of m).opcode) (id_of (raw_of m).unique == 0) (kept_speaks m kept) named)
+has_id : (V : OpcodeSet) → (m : List ℕ) (t : Moment) → class_for V m ≡ Kept → is_zero m ≡ false → HasId (message_entry m t)
+has_id V m t kept named = not_zero (id_of (raw_of m).unique) (spoken (silent (raw_of m).opcode) (id_of (raw_of m).unique == 0) (kept_speaks V m kept) named)
 
-pub named_some : (bytes : List ℕ) (taken taken' : List (Request × Moment)) (one : Request × Moment) (t : Moment) → All HasId (entries_of taken)
+pub named_some : (V : OpcodeSet) → (bytes : List ℕ) (taken taken' : List (Request × Moment)) (one : Request × Moment) (t : Moment) → All HasId (entries_of taken)
     → is_zero bytes ≡ false
-    → entry_of one ∷ [] ≡ entry_if (class_of bytes) (message_entry bytes t) → taken' ≡ taken ++ one ∷ [] → All HasId (entries_of taken')
-named_some bytes taken taken' one t each named some pushed =
-    let kept = is_kept (class_of bytes) (entry_of one) (message_entry bytes t) some in
-    let here : HasId (entry_of one) = subst HasId (sym kept.1) (has_id bytes t kept.0 named) in
+    → entry_of one ∷ [] ≡ entry_if (class_for V bytes) (message_entry bytes t) → taken' ≡ taken ++ one ∷ [] → All HasId (entries_of taken')
+named_some V bytes taken taken' one t each named some pushed =
+    let kept = is_kept (class_for V bytes) (entry_of one) (message_entry bytes t) some in
+    let here : HasId (entry_of one) = subst HasId (sym kept.1) (has_id V bytes t kept.0 named) in
     subst (All HasId) (sym (ap entries_of pushed ∙ map-append entry_of taken (one ∷ [])))
     (All-append HasId (entries_of taken) (entry_of one ∷ []) each (only_one HasId (entry_of one) here))
 
-pub kept_some : (taken taken' : List (Request × Moment)) (one : Request × Moment) → All IsKept (entries_of taken) → All IsKept (entry_of one ∷ [])
-    → taken' ≡ taken ++ one ∷ [] → All IsKept (entries_of taken')
-kept_some taken taken' one each here pushed =
-    subst (All IsKept) (sym (ap entries_of pushed ∙ map-append entry_of taken (one ∷ []))) (All-append IsKept (entries_of taken) (entry_of one ∷ []) each here)
+pub kept_some : (M : Model) → (taken taken' : List (Request × Moment)) (one : Request × Moment) → All (IsKept M) (entries_of taken) → All (IsKept M) (entry_of one ∷ [])
+    → taken' ≡ taken ++ one ∷ [] → All (IsKept M) (entries_of taken')
+kept_some M taken taken' one each here pushed =
+    subst (All (IsKept M)) (sym (ap entries_of pushed ∙ map-append entry_of taken (one ∷ []))) (All-append (IsKept M) (entries_of taken) (entry_of one ∷ []) each here)
 
 -- the class of one message more
-pub classes_more : (ms : List (List ℕ)) (i : ℕ) (m bytes : List ℕ) (classes classes' : List Class) (class : Class) → i < length ms → m ≡ get_or ms i m
+pub classes_more : (V : OpcodeSet) → (ms : List (List ℕ)) (i : ℕ) (m bytes : List ℕ) (classes classes' : List Class) (class : Class) → i < length ms → m ≡ get_or ms i m
     → bytes ≡ m
-    → classes ≡ classes_in (take i ms) → class ≡ class_of bytes → classes' ≡ classes ++ class ∷ [] → classes' ≡ classes_in (take (i + 1) ms)
-classes_more ms i m bytes classes classes' class lt at is so here pushed =
+    → classes ≡ classes_in V (take i ms) → class ≡ class_for V bytes → classes' ≡ classes ++ class ∷ [] → classes' ≡ classes_in V (take (i + 1) ms)
+classes_more V ms i m bytes classes classes' class lt at is so here pushed =
     pushed ∙ ap (λ (cs : List Class). cs ++ class ∷ []) so
-    ∙ ap (λ (k : Class). classes_in (take i ms) ++ k ∷ []) (here ∙ ap class_of (is ∙ at))
-    ∙ sym (map_more class_of ms i m lt)
+    ∙ ap (λ (k : Class). classes_in V (take i ms) ++ k ∷ []) (here ∙ ap (class_for V) (is ∙ at))
+    ∙ sym (map_more (class_for V) ms i m lt)

@@ -2,12 +2,13 @@
 use Rattle.std.proofs.Common.{◌≡◌, ◌⊎◌, inl, inr, ⊎_elim, ℕ, suc, ◌-◌, ◌≤◌, ◌<◌, Bool, true, false, ◌&&◌, ◌||◌, ◌==◌, List, [], ◌∷◌, ◌++◌, ◌+◌, length, map}
 use Rattle.std.proofs.Common.{take, drop, All, Some, slice_get, refl, sym, ap, subst, ◌∙◌, arith}
 use Rattle.std.proofs.lemmas.List.{append-nil, take-append-drop, length-map}
+use Rattle.fuse_request.specs.Opcodes.{OpcodeSet}
 use Rattle.fuse_wire.specs.declared.moment.Moment.{Moment}
 use Rattle.fuse_answer.specs.Said.{Said}
 use Rattle.fuse_request.specs.declared.request.Request.{Request}
 use Rattle.fuse_request.specs.declared.class.Class.{Class}
 use Rattle.fuse_request.specs.declared.class.Class.TheVariants.{Silent, Bare, Kept}
-use Rattle.fuse_request.specs.Classes.{class_of}
+use Rattle.fuse_request.specs.Classes.{class_for}
 use Rattle.fuse_request.specs.Stream.{joined}
 use Rattle.fuse_keeper.specs.declared.keeper.Done.{Done}
 use Rattle.fuse_keeper.specs.History.{Entry, History, grown, is_in, ids_in, Includes, IsUnsettled, repeats, HistoriesGrow}
@@ -82,8 +83,8 @@ lived_none M stood s h c t timed so = record {
 -- all of it was
 pub lived_all : (M : Model) → (stood : History → List ℕ → Type 0) (s : M.State) (h : History) (c : Bool) (t : List ℕ) (timed : List Timed) (marks : List Mark)
     (part unsent : List ℕ) (later : List (List ℕ))
-    → Works M s h timed → stood (grown h (kept_in timed)) (t ++ settled_in c (bytes_of timed) marks)
-    → answers M s (grown h (kept_in timed)) timed ≡ replies marks ++ later → joined later ≡ part ++ unsent → BeginsNext later part
+    → Works M s h timed → stood (grown h (kept_in M.serves timed)) (t ++ settled_in M.serves c (bytes_of timed) marks)
+    → answers M s (grown h (kept_in M.serves timed)) timed ≡ replies marks ++ later → joined later ≡ part ++ unsent → BeginsNext later part
     → Lived M stood s h c t timed marks part
 lived_all M stood s h c t timed marks part unsent later works so sent begun next = record {
   worked = timed;
@@ -112,8 +113,8 @@ exact_none M stood s h c t timed so = record {
 
 -- exactly all of it was
 pub exact_all : (M : Model) → (stood : History → List ℕ → Type 0) (s : M.State) (h : History) (c : Bool) (t : List ℕ) (timed : List Timed) (marks : List Mark)
-    → Works M s h timed → stood (grown h (kept_in timed)) (t ++ settled_in c (bytes_of timed) marks)
-    → replies marks ≡ answers M s (grown h (kept_in timed)) timed → Exact M stood s h c t timed marks
+    → Works M s h timed → stood (grown h (kept_in M.serves timed)) (t ++ settled_in M.serves c (bytes_of timed) marks)
+    → replies marks ≡ answers M s (grown h (kept_in M.serves timed)) timed → Exact M stood s h c t timed marks
 exact_all M stood s h c t timed marks works so sent = record {
   worked = timed;
   unprocessed = [];
@@ -147,33 +148,33 @@ broken_none M holds holds' gave p q pending messages exact whole faulted inexact
 
 -- ---- a group that wasn't performed
 
-stored : (M : Model) → (s : M.State) (h : History) (c : Bool) (t : List ℕ) (ts : List Timed) (es : List Entry) (x : M.Rows) (r : Records) → es ≡ kept_in ts
+stored : (M : Model) → (s : M.State) (h : History) (c : Bool) (t : List ℕ) (ts : List Timed) (es : List Entry) (x : M.Rows) (r : Records) → es ≡ kept_in M.serves ts
     → Works M s h ts → StandsForEither M s h t s (grown h es) t x r
     → Lived M (Stands M x r s) s h c t ts [] []
 stored M s h c t ts es x r is works either = ⊎_elim
     (λ before. lived_none M (Stands M x r s) s h c t ts before)
-    (λ after. lived_all M (Stands M x r s) s h c t ts [] [] (joined (answers M s (grown h (kept_in ts)) ts)) (answers M s (grown h (kept_in ts)) ts) works
-    (subst (λ u. Stands M x r s (grown h (kept_in ts)) u) (sym (ap (λ (q : List ℕ). t ++ q) (settled_none c (bytes_of ts)) ∙ append-nil t))
-    (subst (λ l. Stands M x r s (grown h l) t) is after)) refl refl (begins_none (answers M s (grown h (kept_in ts)) ts)))
+    (λ after. lived_all M (Stands M x r s) s h c t ts [] [] (joined (answers M s (grown h (kept_in M.serves ts)) ts)) (answers M s (grown h (kept_in M.serves ts)) ts) works
+    (subst (λ u. Stands M x r s (grown h (kept_in M.serves ts)) u) (sym (ap (λ (q : List ℕ). t ++ q) (settled_none M.serves c (bytes_of ts)) ∙ append-nil t))
+    (subst (λ l. Stands M x r s (grown h l) t) is after)) refl refl (begins_none (answers M s (grown h (kept_in M.serves ts)) ts)))
     either
 
 pub broken_store : (M : Model) → (holds holds' : KeeperState M) (gave : List Moment → Type 0) (p : PortState) (pending : List ℕ)
     (messages : List (List ℕ)) (count : ℕ) (taken : List (Request × Moment)) (ends : Bool) (group : List (Request × Moment)) (faulted : Type 0)
-    → Gathers gave (take count messages) taken ends → group ≡ taken → (holds'.is_clean → KeepsHeld holds holds')
+    → Gathers M.serves gave (take count messages) taken ends → group ≡ taken → (holds'.is_clean → KeepsHeld holds holds')
     → (holds'.is_clean → (s : M.State) (h : History) (t : List ℕ) → StandsFor holds s h t → faulted)
     → ((s : M.State) (h : History) (t : List ℕ) → StandsFor holds s h t → Includes t pending → All (IsUnsettled t) (entries_of group) → IsFirm holds
     → Leaves holds' (StandsForEither M s h t s (grown h (entries_of group)) t))
     → Broken holds holds' gave p p pending messages true false faulted
 broken_store M holds holds' gave p pending messages count taken ends group faulted gathers same keeps fault crash =
     let ts = gathers.timed in
-    let es : entries_of group ≡ kept_in ts = ap entries_of same ∙ gathers.entries in
+    let es : entries_of group ≡ kept_in M.serves ts = ap entries_of same ∙ gathers.entries in
     record {
       timed = ts;
       others = drop count messages;
       marks = [];
       part = [];
       prefix = sym (take-append-drop count messages) ∙ ap (λ f. f ++ drop count messages) gathers.bytes;
-      moments = gave_all gave gathers.timed gathers.moments;
+      moments = gave_all M.serves gave gathers.timed gathers.moments;
       replied = replied_none p;
       no_part = λ _. refl;
       exactly = λ _ honest s h t so within again. exact_none M (λ g u. true ≡ true → holds'.is_clean → StandsFor holds' s g u × faulted) s h p.confirms t ts
@@ -182,7 +183,7 @@ broken_store M holds holds' gave p pending messages count taken ends group fault
       crash = λ honest firm s h t so within again.
           leaves_map M holds' (StandsForEither M s h t s (grown h (entries_of group)) t) (λ x r. Lived M (Stands M x r s) s h p.confirms t ts [] [])
           (λ x r either. stored M s h p.confirms t ts (entries_of group) x r es (works_group M s h ts gathers.no_zero gathers.only) either)
-          (crash s h t so within (subst (All (IsUnsettled t)) (sym es) (group_unsettled p.confirms t ts [] again)) firm);
+          (crash s h t so within (subst (All (IsUnsettled t)) (sym es) (group_unsettled M.serves p.confirms t ts [] again)) firm);
       few = λ honest clean t again h. (pending, few_same M holds' p.confirms t pending ts (few_kept M holds holds' t pending (keeps (clean refl)) h));
     }
 
@@ -193,20 +194,20 @@ same_answers [] = refl
 same_answers (d ∷ dones) = ap (λ r. Some d.answer ∷ r) (same_answers dones)
 
 says_told : (M : Model) → HistoriesGrow M → (holds : KeeperState M) (s : M.State) (h : History) (t : List ℕ) (es : List Entry) (ts : List Timed)
-    (dones : List Done) → Performed holds s h t es dones → es ≡ kept_in ts
-    → map (λ a. Some a) (answers_in dones) ≡ told M s h (kept_in ts)
+    (dones : List Done) → Performed holds s h t es dones → es ≡ kept_in M.serves ts
+    → map (λ a. Some a) (answers_in dones) ≡ told M s h (kept_in M.serves ts)
 says_told M grows holds s h t es ts dones done is = same_answers dones ∙ done.answers ∙ told_is M grows s h es ∙ ap (told M s h) is
 
 sent_are : (M : Model) → HistoriesGrow M → (holds : KeeperState M) (s : M.State) (h : History) (t : List ℕ) (es : List Entry) (ts : List Timed)
-    (prefix : List (List ℕ)) (dones : List Done) → Performed holds s h t es dones → es ≡ kept_in ts
-    → prefix ≡ bytes_of ts → wires prefix (answers_in dones) ≡ answers M s (grown h (kept_in ts)) ts
-sent_are M grows holds s h t es ts prefix dones done is bytes = ap (λ f. wires f (answers_in dones)) bytes ∙ wires_are M grows s h ts (answers_in dones)
+    (prefix : List (List ℕ)) (dones : List Done) → Performed holds s h t es dones → es ≡ kept_in M.serves ts
+    → prefix ≡ bytes_of ts → wires M.serves prefix (answers_in dones) ≡ answers M s (grown h (kept_in M.serves ts)) ts
+sent_are M grows holds s h t es ts prefix dones done is bytes = ap (λ f. wires M.serves f (answers_in dones)) bytes ∙ wires_are M grows s h ts (answers_in dones)
     (says_told M grows holds s h t es ts dones done is)
 
 now_stands : (M : Model) → (holds : KeeperState M) (s : M.State) (h : History) (t more : List ℕ) (es : List Entry) (ts : List Timed) (dones : List Done)
-    → Performed holds s h t es dones → es ≡ kept_in ts
-    → StandsFor holds s (grown h (kept_in ts)) (t ++ more)
-now_stands M holds s h t more es ts dones done is = stands_later M holds s (grown h (kept_in ts)) t (t ++ more) (includes_left t more)
+    → Performed holds s h t es dones → es ≡ kept_in M.serves ts
+    → StandsFor holds s (grown h (kept_in M.serves ts)) (t ++ more)
+now_stands M holds s h t more es ts dones done is = stands_later M holds s (grown h (kept_in M.serves ts)) t (t ++ more) (includes_left t more)
     (subst (λ l. StandsFor holds s (grown h l) t) is done.stands)
 
 memory_is : (fault : Fault) → is_memory fault ≡ true → fault ≡ Memory
@@ -218,23 +219,23 @@ memory_is Memory is = refl
 pub broken_sent : (M : Model) → HistoriesGrow M → (holds holds' : KeeperState M) (gave : List Moment → Type 0) (p q : PortState) (pending mid : List ℕ)
     (messages : List (List ℕ)) (count : ℕ) (taken : List (Request × Moment)) (ends : Bool) (group : List (Request × Moment)) (prefix : List (List ℕ))
     (dones list : List Done) (fault : Fault) (faulted : Type 0)
-    → Gathers gave (take count messages) taken ends → group ≡ taken → prefix ≡ take count messages → (holds'.is_clean → holds'.is_honest)
+    → Gathers M.serves gave (take count messages) taken ends → group ≡ taken → prefix ≡ take count messages → (holds'.is_clean → holds'.is_honest)
     → (holds'.is_honest → (s : M.State) (h : History) (t : List ℕ) → StandsFor holds s h t → Includes t pending → All (IsUnsettled t) (entries_of group)
     → Performed holds' s h t (entries_of group) dones)
     → (holds'.is_honest → IsFirm holds → IsFirm holds')
     → (holds'.is_honest → (u : List ℕ) → All (IsUnsettled u) (entries_of group) → FewHave holds u pending → FewHave holds' u mid)
     → length mid + length (entries_of group) ≤ 16
-    → list ≡ dones → SentSome p q (wires prefix (answers_in list)) fault
+    → list ≡ dones → SentSome p q (wires M.serves prefix (answers_in list)) fault
     → Broken holds holds' gave p q pending messages (is_store fault) (is_memory fault) faulted
 broken_sent M grows holds holds' gave p q pending mid messages count taken ends group prefix dones list fault faulted gathers same same_prefix
     clean_honest performed firm_still few size same_list sent =
-    let some = subst (λ l. SentSome p q (wires prefix (answers_in l)) fault) same_list sent in
+    let some = subst (λ l. SentSome p q (wires M.serves prefix (answers_in l)) fault) same_list sent in
     let ts = gathers.timed in
-    let es : entries_of group ≡ kept_in ts = ap entries_of same ∙ gathers.entries in
+    let es : entries_of group ≡ kept_in M.serves ts = ap entries_of same ∙ gathers.entries in
     let bytes : prefix ≡ bytes_of ts = same_prefix ∙ gathers.bytes in
     let done = λ (honest : holds'.is_honest) (s : M.State) (h : History) (t : List ℕ) (so : StandsFor holds s h t) (within : Includes t pending)
-    (again : NoneComesAgain p.confirms t (bytes_of ts) some.marks).
-    performed honest s h t so within (subst (All (IsUnsettled t)) (sym es) (group_unsettled p.confirms t ts some.marks again)) in
+    (again : NoneComesAgain M.serves p.confirms t (bytes_of ts) some.marks).
+    performed honest s h t so within (subst (All (IsUnsettled t)) (sym es) (group_unsettled M.serves p.confirms t ts some.marks again)) in
     let works = λ (s : M.State) (h : History). works_group M s h ts gathers.no_zero gathers.only in
     record {
       timed = ts;
@@ -242,7 +243,7 @@ broken_sent M grows holds holds' gave p q pending mid messages count taken ends 
       marks = some.marks;
       part = some.part;
       prefix = sym (take-append-drop count messages) ∙ ap (λ f. f ++ drop count messages) gathers.bytes;
-      moments = gave_all gave gathers.timed gathers.moments;
+      moments = gave_all M.serves gave gathers.timed gathers.moments;
       replied = some.replied;
       no_part = λ is. some.memory (memory_is fault (ap (λ b. b || is_memory fault) (sym some.sends) ∙ is));
       exactly = λ _ honest s h t so within again.
@@ -264,16 +265,16 @@ broken_sent M grows holds holds' gave p q pending mid messages count taken ends 
           (sym (sent_are M grows holds' s h t (entries_of group) ts prefix dones d es bytes) ∙ some.whole) some.begun some.next;
       crash = λ honest firm s h t so within again.
           let d = done honest s h t so within again in
-          leaves_map M holds' (λ x r. Stands M x r s (grown h (kept_in ts)) (t ++ settled_in p.confirms (bytes_of ts) some.marks))
+          leaves_map M holds' (λ x r. Stands M x r s (grown h (kept_in M.serves ts)) (t ++ settled_in M.serves p.confirms (bytes_of ts) some.marks))
           (λ x r. Lived M (Stands M x r s) s h p.confirms t ts some.marks some.part)
           (λ x r stands. lived_all M (Stands M x r s) s h p.confirms t ts some.marks some.part some.unsent some.later (works s h) stands
           (sym (sent_are M grows holds' s h t (entries_of group) ts prefix dones d es bytes) ∙ some.whole) some.begun some.next)
-          (firm_leaves M holds' s (grown h (kept_in ts)) _ (firm_still honest firm)
-          (now_stands M holds' s h t (settled_in p.confirms (bytes_of ts) some.marks) (entries_of group) ts dones d es));
+          (firm_leaves M holds' s (grown h (kept_in M.serves ts)) _ (firm_still honest firm)
+          (now_stands M holds' s h t (settled_in M.serves p.confirms (bytes_of ts) some.marks) (entries_of group) ts dones d es));
       few = λ honest clean t again h. (
         mid ++ ids_in (entries_of group),
         few_unsent M holds' p.confirms t mid (entries_of group) ts some.marks es size
-            (few honest t (subst (All (IsUnsettled t)) (sym es) (group_unsettled p.confirms t ts some.marks again)) h),
+            (few honest t (subst (All (IsUnsettled t)) (sym es) (group_unsettled M.serves p.confirms t ts some.marks again)) h),
       );
     }
 
@@ -305,19 +306,19 @@ pub turned : (M : Model) → HistoriesGrow M → (holds holds' : KeeperState M) 
     (messages : List (List ℕ)) (count : ℕ)
     (taken : List (Request × Moment)) (ends : Bool) (group : List (Request × Moment)) (prefix : List (List ℕ)) (dones list : List Done) (stuck : Bool)
     (rest : Next) (counts : SessionCounts)
-    → Gathers gave (take count messages) taken ends → group ≡ taken → prefix ≡ take count messages
+    → Gathers M.serves gave (take count messages) taken ends → group ≡ taken → prefix ≡ take count messages
     → (holds'.is_honest → (s : M.State) (h : History) (t : List ℕ) → StandsFor holds s h t → Includes t pending → All (IsUnsettled t) (entries_of group)
     → Performed holds' s h t (entries_of group) dones)
     → ((u : List ℕ) → Includes u pending → Includes u mid)
     → (holds'.is_honest → (u : List ℕ) → All (IsUnsettled u) (entries_of group) → FewHave holds u pending → FewHave holds' u mid) → length pending' ≤ 16
-    → SentAll p q prefix (wires prefix (answers_in list)) mid pending' → list ≡ dones → rest ≡ rest_by (ends && last_zero (answers_in list)) stuck
-    → counts ≡ tallied prefix (repeats_in list)
+    → SentAll M.serves p q prefix (wires M.serves prefix (answers_in list)) mid pending' → list ≡ dones → rest ≡ rest_by (ends && last_zero (answers_in list)) stuck
+    → counts ≡ tallied M.serves prefix (repeats_in list)
     → Turned holds holds' gave p q pending pending' (take count messages) (lasts rest) counts
 turned M grows holds holds' gave p q pending mid pending' messages count taken ends group prefix dones list stuck rest counts gathers same same_prefix performed
     handed few size sent same_list is counts_are =
-    let all = subst (λ l. SentAll p q prefix (wires prefix (answers_in l)) mid pending') same_list sent in
+    let all = subst (λ l. SentAll M.serves p q prefix (wires M.serves prefix (answers_in l)) mid pending') same_list sent in
     let ts = gathers.timed in
-    let es : entries_of group ≡ kept_in ts = ap entries_of same ∙ gathers.entries in
+    let es : entries_of group ≡ kept_in M.serves ts = ap entries_of same ∙ gathers.entries in
     let bytes : prefix ≡ bytes_of ts = same_prefix ∙ gathers.bytes in
     record {
       timed = ts;
@@ -326,10 +327,10 @@ turned M grows holds holds' gave p q pending mid pending' messages count taken e
       full = all.full ∙ ap length bytes ∙ length-map ts (λ (t : Timed). t.bytes);
       moments = gathers.moments;
       replied = all.replied;
-      handed = λ t within. both_included t pending mid (settled_in p.confirms (bytes_of ts) all.marks) pending' within handed
-          (all.handed ∙ ap (λ f. mid ++ settled_in p.confirms f all.marks) bytes);
+      handed = λ t within. both_included t pending mid (settled_in M.serves p.confirms (bytes_of ts) all.marks) pending' within handed
+          (all.handed ∙ ap (λ f. mid ++ settled_in M.serves p.confirms f all.marks) bytes);
       all = λ honest s h t so within again.
-          let d = performed honest s h t so within (subst (All (IsUnsettled t)) (sym es) (group_unsettled p.confirms t ts all.marks again)) in
+          let d = performed honest s h t so within (subst (All (IsUnsettled t)) (sym es) (group_unsettled M.serves p.confirms t ts all.marks again)) in
           let says = says_told M grows holds' s h t (entries_of group) ts dones d es in
           record {
             works = works_group M s h ts gathers.no_zero gathers.only;
@@ -344,12 +345,12 @@ turned M grows holds holds' gave p q pending mid pending' messages count taken e
                 ends_last M s h ts (answers_in dones) (gathers.ended both.0) says (sym (ap (λ l. last_zero (answers_in l)) same_list) ∙ both.1);
             stands = now_stands M holds' s h t _ (entries_of group) ts dones d es;
             sent = all.whole ∙ sent_are M grows holds' s h t (entries_of group) ts prefix dones d es bytes;
-            counts_are = counts_are ∙ ap (λ l. tallied prefix (repeats_in l)) same_list ∙ ap (λ f. tallied f (repeats_in dones)) bytes
-                ∙ ap (tallied (bytes_of ts)) (d.repeated ∙ ap (repeats h) es) ∙ tallied_is ts h;
+            counts_are = counts_are ∙ ap (λ l. tallied M.serves prefix (repeats_in l)) same_list ∙ ap (λ f. tallied M.serves f (repeats_in dones)) bytes
+                ∙ ap (tallied M.serves (bytes_of ts)) (d.repeated ∙ ap (repeats h) es) ∙ tallied_is M.serves ts h;
           };
       few = λ honest t again h.
           few_sent M holds' p.confirms t mid pending' prefix ts all.marks bytes all.handed size
-          (few honest t (subst (All (IsUnsettled t)) (sym es) (group_unsettled p.confirms t ts all.marks again)) h);
+          (few honest t (subst (All (IsUnsettled t)) (sym es) (group_unsettled M.serves p.confirms t ts all.marks again)) h);
     }
 
 pub stuck_zero : (ended stuck : Bool) → rest_by ended stuck ≡ ZeroUnique → stuck ≡ true
@@ -377,21 +378,21 @@ enough_by (Bare errno) e es list is = (λ isnt. absurd (cc isnt), is)
 enough_by Kept e es [] is = absurd (omega arith)
 enough_by Kept e es (a ∷ list) is = (λ _. omega arith, omega arith)
 
-enough : (ts : List Timed) (list : List Said) → length list ≡ length (kept_in ts) → AreEnough (bytes_of ts) list
-enough [] list is = tt
-enough (t ∷ ts) list is =
-    let p = enough_by (class_of t.bytes) (timed_entry t) (kept_in ts) list is in
-    (p.0, enough ts (left_by (class_of t.bytes) list) p.1)
+enough : (V : OpcodeSet) → (ts : List Timed) (list : List Said) → length list ≡ length (kept_in V ts) → AreEnough V (bytes_of ts) list
+enough V [] list is = tt
+enough V (t ∷ ts) list is =
+    let p = enough_by (class_for V t.bytes) (timed_entry t) (kept_in V ts) list is in
+    (p.0, enough V ts (left_by (class_for V t.bytes) list) p.1)
 
-pub are_enough : (gave : List Moment → Type 0) (prefix : List (List ℕ)) (taken : List (Request × Moment)) (ends : Bool) (slice : List (List ℕ))
+pub are_enough : (V : OpcodeSet) → (gave : List Moment → Type 0) (prefix : List (List ℕ)) (taken : List (Request × Moment)) (ends : Bool) (slice : List (List ℕ))
     (group : List (Request × Moment)) (dones list : List Done)
-    → Gathers gave prefix taken ends → slice ≡ prefix → group ≡ taken → length dones ≡ length group → list ≡ dones → AreEnough slice (answers_in list)
-are_enough gave prefix taken ends slice group dones list gathers same same_group count same_list =
-    subst (λ f. AreEnough f (answers_in list)) (sym (same ∙ gathers.bytes))
-    (enough gathers.timed (answers_in list) (length-map list (λ (d : Done). d.answer) ∙ ap length same_list ∙ count ∙ ap length same_group
+    → Gathers V gave prefix taken ends → slice ≡ prefix → group ≡ taken → length dones ≡ length group → list ≡ dones → AreEnough V slice (answers_in list)
+are_enough V gave prefix taken ends slice group dones list gathers same same_group count same_list =
+    subst (λ f. AreEnough V f (answers_in list)) (sym (same ∙ gathers.bytes))
+    (enough V gathers.timed (answers_in list) (length-map list (λ (d : Done). d.answer) ∙ ap length same_list ∙ count ∙ ap length same_group
     ∙ sym (length-map taken entry_of) ∙ ap length gathers.entries))
 
 -- a group was read off so many messages
-pub gathers_to : (gave : List Moment → Type 0) (messages : List (List ℕ)) (n count : ℕ) (taken : List (Request × Moment)) (ends : Bool) → count ≡ n
-    → Gathers gave (take n messages) taken ends → Gathers gave (take count messages) taken ends
-gathers_to gave messages n count taken ends is gathers = subst (λ k. Gathers gave (take k messages) taken ends) (sym is) gathers
+pub gathers_to : (V : OpcodeSet) → (gave : List Moment → Type 0) (messages : List (List ℕ)) (n count : ℕ) (taken : List (Request × Moment)) (ends : Bool) → count ≡ n
+    → Gathers V gave (take n messages) taken ends → Gathers V gave (take count messages) taken ends
+gathers_to V gave messages n count taken ends is gathers = subst (λ k. Gathers V gave (take k messages) taken ends) (sym is) gathers

@@ -78,14 +78,14 @@ at_most_kept M before holds holds' pending keeps h = record {
 -- where the port confirms, the answers to a group settle all its ids
 pub hands_group : (M : Model) → (before : Records) (holds : KeeperState M) (gave : List Moment → Type 0) (p q : PortState) (mid pending' : List ℕ)
     (messages : List (List ℕ)) (taken : List (Request × Moment)) (ends : Bool)
-    (group : List (Request × Moment)) (prefix answers' : List (List ℕ)) → Gathers gave messages taken ends → group ≡ taken → prefix ≡ messages → p.confirms ≡ true
-    → SentAll p q prefix answers' mid pending'
+    (group : List (Request × Moment)) (prefix answers' : List (List ℕ)) → Gathers M.serves gave messages taken ends → group ≡ taken → prefix ≡ messages → p.confirms ≡ true
+    → SentAll M.serves p q prefix answers' mid pending'
     → HandsOn before holds (mid ++ ids_in (entries_of group)) → HandsOn before holds pending'
 hands_group M before holds gave p q mid pending' messages taken ends group prefix answers' gathers same same_prefix confirms all h =
     let bytes : prefix ≡ bytes_of gathers.timed = same_prefix ∙ gathers.bytes in
     let full : length all.marks ≡ length gathers.timed = all.full ∙ ap length bytes ∙ length-map gathers.timed (λ (t : Timed). t.bytes) in
-    subst (HandsOn before holds) (sym (all.handed ∙ ap (λ c. mid ++ settled_in c prefix all.marks) confirms ∙ ap (λ f. mid ++ settled_in true f all.marks) bytes
-    ∙ ap (λ (x : List ℕ). mid ++ x) (all_settled gathers.timed all.marks full ∙ ap ids_in (sym gathers.entries ∙ sym (ap entries_of same))))) h
+    subst (HandsOn before holds) (sym (all.handed ∙ ap (λ c. mid ++ settled_in M.serves c prefix all.marks) confirms ∙ ap (λ f. mid ++ settled_in M.serves true f all.marks) bytes
+    ∙ ap (λ (x : List ℕ). mid ++ x) (all_settled M.serves gathers.timed all.marks full ∙ ap ids_in (sym gathers.entries ∙ sym (ap entries_of same))))) h
 
 -- at first nothing is to be handed on
 pub hands_start : (M : Model) → (holds : KeeperState M) (pending : List ℕ) (rows : M.Rows) (records : Records) → holds.holds rows records → IsRowed M rows
@@ -151,26 +151,26 @@ few_more M holds u mid new more few old_too new_too h = record {
 
 -- no ids more are
 pub few_same : (M : Model) → (holds : KeeperState M) (c : Bool) (u more : List ℕ) (ts : List Timed) → FewHave holds u more
-    → FewHave holds (u ++ settled_in c (bytes_of ts) []) more
-few_same M holds c u more ts h = subst (λ x. FewHave holds x more) (sym (ap (λ (q : List ℕ). u ++ q) (settled_none c (bytes_of ts)) ∙ append-nil u)) h
+    → FewHave holds (u ++ settled_in M.serves c (bytes_of ts) []) more
+few_same M holds c u more ts h = subst (λ x. FewHave holds x more) (sym (ap (λ (q : List ℕ). u ++ q) (settled_none M.serves c (bytes_of ts)) ∙ append-nil u)) h
 
 -- the answers to a group were sent, all of them or some
 pub few_sent : (M : Model) → (holds : KeeperState M) (c : Bool) (u mid pending' : List ℕ) (prefix : List (List ℕ)) (ts : List Timed) (marks : List Mark)
-    → prefix ≡ bytes_of ts → pending' ≡ mid ++ settled_in c prefix marks → length pending' ≤ 16
-    → FewHave holds u mid → FewHave holds (u ++ settled_in c (bytes_of ts) marks) pending'
+    → prefix ≡ bytes_of ts → pending' ≡ mid ++ settled_in M.serves c prefix marks → length pending' ≤ 16
+    → FewHave holds u mid → FewHave holds (u ++ settled_in M.serves c (bytes_of ts) marks) pending'
 few_sent M holds c u mid pending' prefix ts marks bytes handed few h =
-    let new = settled_in c (bytes_of ts) marks in
-    let is : pending' ≡ mid ++ new = handed ∙ ap (λ f. mid ++ settled_in c f marks) bytes in
+    let new = settled_in M.serves c (bytes_of ts) marks in
+    let is : pending' ≡ mid ++ new = handed ∙ ap (λ f. mid ++ settled_in M.serves c f marks) bytes in
     subst (FewHave holds (u ++ new)) (sym is) (few_more M holds u mid new (mid ++ new) (subst (λ x. length x ≤ 16) is few) (includes_left mid new)
     (includes_right mid new) h)
 
 pub few_unsent : (M : Model) → (holds : KeeperState M) (c : Bool) (u mid : List ℕ) (group : List Entry) (ts : List Timed) (marks : List Mark)
-    → group ≡ kept_in ts → length mid + length group ≤ 16
-    → FewHave holds u mid → FewHave holds (u ++ settled_in c (bytes_of ts) marks) (mid ++ ids_in group)
+    → group ≡ kept_in M.serves ts → length mid + length group ≤ 16
+    → FewHave holds u mid → FewHave holds (u ++ settled_in M.serves c (bytes_of ts) marks) (mid ++ ids_in group)
 few_unsent M holds c u mid group ts marks is few h =
-    few_more M holds u mid (settled_in c (bytes_of ts) marks) (mid ++ ids_in group)
+    few_more M holds u mid (settled_in M.serves c (bytes_of ts) marks) (mid ++ ids_in group)
     (omega (arith, length-append mid (ids_in group), length-map group entry_id, few)) (includes_left mid (ids_in group))
-    (λ i there. includes_right mid (ids_in group) i (ap (λ g. is_in (ids_in g) i) is ∙ settled_within c ts marks i there)) h
+    (λ i there. includes_right mid (ids_in group) i (ap (λ g. is_in (ids_in g) i) is ∙ settled_within M.serves c ts marks i there)) h
 
 -- at first nothing was settled
 pub few_start : (M : Model) → (holds : KeeperState M) (rows : M.Rows) (records : Records) → holds.holds rows records → IsRowed M rows → FewHave holds [] []

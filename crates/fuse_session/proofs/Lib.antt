@@ -1,10 +1,14 @@
 pub mod Bytes
+pub mod Transcripts
+pub mod Devices
+pub mod Rooms
 pub mod Standing
 pub mod Pieces
 pub mod Replies
 pub mod Outs
 pub mod Ending
 pub mod Settled
+pub mod Batching
 pub mod Gathering
 pub mod Counted
 pub mod Sends

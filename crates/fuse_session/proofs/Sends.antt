@@ -3,19 +3,25 @@ use Rattle.std.proofs.Common.{◌≡◌, ℕ, zero, suc, ◌+◌, ◌<◌, true,
 use Rattle.std.proofs.Common.{append_assoc, arith, add-one, drop-cons, length-append}
 use Rattle.std.proofs.lemmas.List.{append-nil, take_more}
 use Rattle.std.proofs.Common.{Bool, ◌||◌, Result, Ok, Err, IfOk}
-use Rattle.std.specs.Prelude.{IfErr}
+use Rattle.std.specs.Prelude.{IfErr, OnOk}
+use Rattle.fuse_request.specs.Opcodes.{OpcodeSet}
 use Rattle.fuse_wire.specs.declared.errno.Errno.{Errno}
 use Rattle.fuse_answer.specs.Wire.{wire}
 use Rattle.fuse_answer.specs.Said.{Said}
 use Rattle.fuse_request.specs.declared.class.Class.TheVariants.{Silent, Bare, Kept}
-use Rattle.fuse_request.specs.Classes.{class_of}
+use Rattle.fuse_request.specs.Classes.{class_for}
 use Rattle.fuse_request.specs.Stream.{joined}
 use Rattle.fuse_keeper.specs.declared.keeper.Done.{Done}
 use Rattle.fuse_session.specs.declared.fault.Fault.{Fault}
 use Rattle.fuse_session.specs.declared.fault.Fault.TheVariants.{PortFailed, Store, Memory}
 use Rattle.fuse_session.specs.Port.{PortState, IsYoung, IsQuiet, SentWhole}
 use Rattle.fuse_session.specs.Processed.{unique_of, message_id}
-use Rattle.fuse_session.specs.Settling.{replies, settles, settles_if, settled_in, Replied, BeginsNext}
+use Rattle.fuse_session.specs.declared.port.Sent.{Sent}
+use Rattle.fuse_session.specs.Transcript.{PortEvent, sends_of, Hands}
+use Rattle.fuse_session.specs.Slices.{RestsOfAll, RestsOfSome, HandsSlices}
+use Rattle.fuse_session.proofs.Transcripts.{sends_more}
+use Rattle.fuse_session.proofs.Batching.{rests_more, rests_one, some_all}
+use Rattle.fuse_session.specs.Settling.{Mark, replies, settles, settles_if, settled_in, Replied, BeginsNext}
 use Rattle.fuse_session.specs.Group.{answers_in, head_wire, left_by, wires, AreEnough, SendFails, SentNext, SentFirst, SentAll, SentSome}
 use Rattle.fuse_session.proofs.Bytes.{appends_none, quiet_none, quiet_more}
 use Rattle.fuse_session.proofs.Replies.{begins_none, replied_none, replied_more, replied_one, replied_part, replies-append}
@@ -25,30 +31,57 @@ pub young_still : (a b : PortState) → b.failures ≡ a.failures → IsQuiet a 
 young_still a b same quiet young = record { receives = omega (arith, quiet.receives, young.receives); failures = omega (arith, same, young.failures) }
 
 -- nothing is sent for a message that isn't answered
-pub sent_nothing : (p : PortState) (m : List ℕ) (pending : List ℕ) → settles p.confirms m (record { reply = []; gone = false }) ≡ []
-    → SentNext p p m [] pending pending
-sent_nothing p m pending none = record {
+pub sent_nothing : (V : OpcodeSet) (became : List PortEvent → Type 0) → became [] → (p : PortState) (m : List ℕ) (pending : List ℕ) → settles V p.confirms m (record { reply = []; gone = false }) ≡ []
+    → SentNext V became p p m [] pending pending
+sent_nothing V became nothing p m pending none = record {
   mark = record { reply = []; gone = false };
   reply = refl;
   sent = record { sent = appends_none p.sent; some = λ _. refl; failures = refl; gone = refl; quiet = quiet_none p };
+  hands = record { slices = []; calls = nothing; rests = tt; left = refl };
   handed = sym (ap (λ (r : List ℕ). pending ++ r) none ∙ append-nil pending);
 }
 
-pub sent_first_none : (p : PortState) (messages answers : List (List ℕ)) (pending : List ℕ) → SentFirst p p [] answers answers pending pending
-sent_first_none p messages answers pending = record {
+pub sent_first_none : (V : OpcodeSet) (became : List PortEvent → Type 0) → became [] → (p : PortState) (messages answers : List (List ℕ)) (pending : List ℕ)
+    → SentFirst V became p p [] answers answers pending pending
+sent_first_none V became nothing p messages answers pending = record {
   marks = [];
   whole = refl;
   full = refl;
   replied = replied_none p;
   failures = refl;
   quiet = quiet_none p;
+  hands = record { slices = []; calls = nothing; kind = refl };
   handed = sym (append-nil pending);
 }
 
-pub sent_first_more : (a b c : PortState) (prefix answers left left' : List (List ℕ)) (m bytes : List ℕ) (p q r : List ℕ) → left ≡ bytes ∷ left'
-    → SentFirst a b prefix answers left p q → SentNext b c m bytes q r
-    → SentFirst a c (prefix ++ m ∷ []) answers left' p r
-sent_first_more a b c prefix answers left left' m bytes p q r is one two = record {
+-- the slices of answers, and then those of one more
+hands_next : (became became' became'' : List PortEvent → Type 0) → ((xs ys : List PortEvent) → became xs → became' ys → became'' (xs ++ ys)) → (marks : List Mark) (mark : Mark)
+    → HandsSlices became (RestsOfAll marks) → Hands became' mark.reply true → HandsSlices became'' (RestsOfAll (marks ++ mark ∷ []))
+hands_next became became' became'' joins marks mark one two = record {
+  slices = one.slices ++ two.slices;
+  calls = subst became'' (sym (sends_more one.slices two.slices)) (joins (sends_of one.slices) (sends_of two.slices) one.calls two.calls);
+  kind = rests_more marks (mark ∷ []) one.slices two.slices one.kind (rests_one mark two.slices (two.rests, two.left));
+}
+
+hands_some : (became became' became'' : List PortEvent → Type 0) → ((xs ys : List PortEvent) → became xs → became' ys → became'' (xs ++ ys)) → (marks : List Mark) (part rest : List ℕ)
+    → HandsSlices became (RestsOfAll marks) → Hands became' (part ++ rest) false → HandsSlices became'' (RestsOfSome marks part)
+hands_some became became' became'' joins marks part rest one two = record {
+  slices = one.slices ++ two.slices;
+  calls = subst became'' (sym (sends_more one.slices two.slices)) (joins (sends_of one.slices) (sends_of two.slices) one.calls two.calls);
+  kind = record { whole = one.slices; last = two.slices; parts = refl; answers = one.kind; unsent = rest; begun = two.rests };
+}
+
+hands_same : (became became' became'' : List PortEvent → Type 0) → ((xs ys : List PortEvent) → became xs → became' ys → became'' (xs ++ ys)) → (Kind : List (List ℕ × Sent) → Type 0) → HandsSlices became Kind → became' [] → HandsSlices became'' Kind
+hands_same became became' became'' joins Kind one nothing = record {
+  slices = one.slices;
+  calls = subst became'' (append-nil (sends_of one.slices)) (joins (sends_of one.slices) [] one.calls nothing);
+  kind = one.kind;
+}
+
+pub sent_first_more : (V : OpcodeSet) (became became' became'' : List PortEvent → Type 0) → ((xs ys : List PortEvent) → became xs → became' ys → became'' (xs ++ ys)) → (a b c : PortState) (prefix answers left left' : List (List ℕ)) (m bytes : List ℕ) (p q r : List ℕ) → left ≡ bytes ∷ left'
+    → SentFirst V became a b prefix answers left p q → SentNext V became' b c m bytes q r
+    → SentFirst V became'' a c (prefix ++ m ∷ []) answers left' p r
+sent_first_more V became became' became'' joins a b c prefix answers left left' m bytes p q r is one two = record {
   marks = one.marks ++ two.mark ∷ [];
   whole = one.whole ∙ ap (λ l. replies one.marks ++ l) (is ∙ ap (λ x. x ∷ left') (sym two.reply))
       ∙ sym (append_assoc (replies one.marks) (two.mark.reply ∷ []) left') ∙ ap (λ x. x ++ left') (sym (replies-append one.marks (two.mark ∷ [])));
@@ -56,11 +89,12 @@ sent_first_more a b c prefix answers left left' m bytes p q r is one two = recor
   replied = replied_more a b c one.marks (two.mark ∷ []) [] one.replied (replied_one b c two.mark two.sent);
   failures = two.sent.failures ∙ one.failures;
   quiet = quiet_more a b c one.quiet two.sent.quiet;
-  handed = two.handed ∙ ap (λ (x : List ℕ). x ++ settles b.confirms m two.mark) one.handed ∙ append_assoc p (settled_in a.confirms prefix one.marks)
-      (settles b.confirms m two.mark)
-      ∙ ap (λ x. p ++ (settled_in a.confirms prefix one.marks ++ settles x m two.mark)) one.quiet.confirms
-      ∙ ap (λ (x : List ℕ). p ++ (settled_in a.confirms prefix one.marks ++ x)) (sym (append-nil (settles a.confirms m two.mark)))
-      ∙ ap (λ (x : List ℕ). p ++ x) (sym (settled-append a.confirms prefix (m ∷ []) one.marks (two.mark ∷ []) one.full));
+  hands = hands_next became became' became'' joins one.marks two.mark one.hands two.hands;
+  handed = two.handed ∙ ap (λ (x : List ℕ). x ++ settles V b.confirms m two.mark) one.handed ∙ append_assoc p (settled_in V a.confirms prefix one.marks)
+      (settles V b.confirms m two.mark)
+      ∙ ap (λ x. p ++ (settled_in V a.confirms prefix one.marks ++ settles V x m two.mark)) one.quiet.confirms
+      ∙ ap (λ (x : List ℕ). p ++ (settled_in V a.confirms prefix one.marks ++ x)) (sym (append-nil (settles V a.confirms m two.mark)))
+      ∙ ap (λ (x : List ℕ). p ++ x) (sym (settled-append V a.confirms prefix (m ∷ []) one.marks (two.mark ∷ []) one.full));
 }
 
 -- at the message at i
@@ -70,71 +104,84 @@ left_at ms i m bytes lt at is = rw (add-one) (drop-cons ms i m lt) ∙ ap (λ x.
 pub taken_at : (ms : List (List ℕ)) (i : ℕ) (m bytes : List ℕ) → i < length ms → m ≡ get_or ms i m → bytes ≡ m → take i ms ++ bytes ∷ [] ≡ take (i + 1) ms
 taken_at ms i m bytes lt at is = ap (λ x. take i ms ++ x ∷ []) (is ∙ at) ∙ sym (take_more ms i m lt)
 
-pub sent_more : (a b c : PortState) (ms : List (List ℕ)) (i : ℕ) (m bytes : List ℕ) (list list' : List Said) (all : List (List ℕ)) (p q r : List ℕ)
+pub sent_more : (V : OpcodeSet) (became became' became'' : List PortEvent → Type 0) → ((xs ys : List PortEvent) → became xs → became' ys → became'' (xs ++ ys)) → (a b c : PortState) (ms : List (List ℕ)) (i : ℕ) (m bytes : List ℕ) (list list' : List Said) (all : List (List ℕ)) (p q r : List ℕ)
     → i < length ms → m ≡ get_or ms i m → bytes ≡ m
-    → list' ≡ left_by (class_of bytes) list → SentFirst a b (take i ms) all (wires (drop i ms) list) p q
-    → SentNext b c bytes (head_wire (class_of bytes) (unique_of bytes) list) q r
-    → SentFirst a c (take (i + 1) ms) all (wires (drop (i + 1) ms) list') p r
-sent_more a b c ms i m bytes list list' all p q r lt at is left one two =
-    let step = sent_first_more a b c (take i ms) all (wires (drop i ms) list) (wires (drop (i + 1) ms) list') bytes
-    (head_wire (class_of bytes) (unique_of bytes) list) p q r
-    (ap (λ x. wires x list) (left_at ms i m bytes lt at is) ∙ ap (λ x. head_wire (class_of bytes) (unique_of bytes) list ∷ wires (drop (i + 1) ms) x)
+    → list' ≡ left_by (class_for V bytes) list → SentFirst V became a b (take i ms) all (wires V (drop i ms) list) p q
+    → SentNext V became' b c bytes (head_wire (class_for V bytes) (unique_of bytes) list) q r
+    → SentFirst V became'' a c (take (i + 1) ms) all (wires V (drop (i + 1) ms) list') p r
+sent_more V became became' became'' joins a b c ms i m bytes list list' all p q r lt at is left one two =
+    let step = sent_first_more V became became' became'' joins a b c (take i ms) all (wires V (drop i ms) list) (wires V (drop (i + 1) ms) list') bytes
+    (head_wire (class_for V bytes) (unique_of bytes) list) p q r
+    (ap (λ x. wires V x list) (left_at ms i m bytes lt at is) ∙ ap (λ x. head_wire (class_for V bytes) (unique_of bytes) list ∷ wires V (drop (i + 1) ms) x)
     (sym left)) one two in
-    subst (λ f. SentFirst a c f all (wires (drop (i + 1) ms) list') p r) (taken_at ms i m bytes lt at is) step
+    subst (λ f. SentFirst V became'' a c f all (wires V (drop (i + 1) ms) list') p r) (taken_at ms i m bytes lt at is) step
 
 -- an answer wasn't sent whole
-some_by : (fault : Fault) (a b c : PortState) (prefix answers left left' : List (List ℕ)) (bytes : List ℕ) (p q : List ℕ) → left ≡ bytes ∷ left'
-    → SentFirst a b prefix answers left p q → SendFails fault b c bytes
-    → SentSome a c answers fault
-some_by Memory a b c prefix answers left left' bytes p q is one same = record {
-  marks = one.marks;
-  later = left;
-  part = [];
-  unsent = joined left;
-  whole = one.whole;
-  begun = refl;
-  next = begins_none left;
-  replied = subst (λ x. Replied a x one.marks []) (sym same) one.replied;
-  memory = λ _. refl;
-  sends = refl;
-  failed = ap (λ (x : PortState). x.failures) same ∙ one.failures;
-  quiet = subst (IsQuiet a) (sym same) one.quiet;
-}
-some_by PortFailed a b c prefix answers left left' bytes p q is one two = record {
-  marks = one.marks;
-  later = left;
-  part = two.part;
-  unsent = two.rest ++ joined left';
-  whole = one.whole;
-  begun = ap joined is ∙ ap (λ (x : List ℕ). x ++ joined left') two.parts ∙ append_assoc two.part two.rest (joined left');
-  next = subst (λ l. BeginsNext l two.part) (sym is) (two.rest, two.parts);
-  replied = subst (λ x. Replied a c x two.part) (append-nil one.marks) (replied_more a b c one.marks [] two.part one.replied (replied_part b c bytes two));
-  memory = λ isnt. absurd (cc isnt);
-  sends = refl;
-  failed = omega (arith, two.failures, one.failures);
-  quiet = quiet_more a b c one.quiet two.quiet;
-}
-some_by (Store x) a b c prefix answers left left' bytes p q is one two = absurd two
+some_by : (V : OpcodeSet) (became became' became'' : List PortEvent → Type 0) → ((xs ys : List PortEvent) → became xs → became' ys → became'' (xs ++ ys)) → (fault : Fault) (a b c : PortState) (prefix answers left left' : List (List ℕ)) (bytes : List ℕ) (p q : List ℕ) → left ≡ bytes ∷ left'
+    → SentFirst V became a b prefix answers left p q → SendFails fault became' b c bytes
+    → SentSome became'' a c answers fault
+some_by V became became' became'' joins Memory a b c prefix answers left left' bytes p q is one same =
+    let all = hands_same became became' became'' joins (RestsOfAll one.marks) one.hands same.1 in
+    record {
+      marks = one.marks;
+      later = left;
+      part = [];
+      unsent = joined left;
+      whole = one.whole;
+      begun = refl;
+      next = begins_none left;
+      replied = subst (λ x. Replied a x one.marks []) (sym same.0) one.replied;
+      memory = λ _. refl;
+      hands = record {
+        slices = all.slices;
+        calls = all.calls;
+        kind = some_all one.marks all.slices all.kind;
+      };
+      all = λ _. all;
+      sends = refl;
+      failed = ap (λ (x : PortState). x.failures) same.0 ∙ one.failures;
+      quiet = subst (IsQuiet a) (sym same.0) one.quiet;
+    }
+some_by V became became' became'' joins PortFailed a b c prefix answers left left' bytes p q is one sent =
+    let two = sent.0 in
+    record {
+      marks = one.marks;
+      later = left;
+      part = two.part;
+      unsent = two.rest ++ joined left';
+      whole = one.whole;
+      begun = ap joined is ∙ ap (λ (x : List ℕ). x ++ joined left') two.parts ∙ append_assoc two.part two.rest (joined left');
+      next = subst (λ l. BeginsNext l two.part) (sym is) (two.rest, two.parts);
+      replied = subst (λ x. Replied a c x two.part) (append-nil one.marks) (replied_more a b c one.marks [] two.part one.replied (replied_part b c bytes two));
+      memory = λ isnt. absurd (cc isnt);
+      hands = hands_some became became' became'' joins one.marks two.part two.rest one.hands (subst (λ b. Hands became' b false) two.parts sent.1);
+      all = λ isnt. absurd (cc isnt);
+      sends = refl;
+      failed = omega (arith, two.failures, one.failures);
+      quiet = quiet_more a b c one.quiet two.quiet;
+    }
+some_by V became became' became'' joins (Store x) a b c prefix answers left left' bytes p q is one two = absurd two
 
-pub sent_some : (fault : Fault) (a b c : PortState) (ms : List (List ℕ)) (i : ℕ) (m bytes : List ℕ) (list : List Said) (all : List (List ℕ)) (p q : List ℕ)
+pub sent_some : (V : OpcodeSet) (became became' became'' : List PortEvent → Type 0) → ((xs ys : List PortEvent) → became xs → became' ys → became'' (xs ++ ys)) → (fault : Fault) (a b c : PortState) (ms : List (List ℕ)) (i : ℕ) (m bytes : List ℕ) (list : List Said) (all : List (List ℕ)) (p q : List ℕ)
     → i < length ms → m ≡ get_or ms i m → bytes ≡ m
-    → SentFirst a b (take i ms) all (wires (drop i ms) list) p q → SendFails fault b c (head_wire (class_of bytes) (unique_of bytes) list)
-    → SentSome a c all fault
-sent_some fault a b c ms i m bytes list all p q lt at is one two =
-    some_by fault a b c (take i ms) all (wires (drop i ms) list) (wires (drop (i + 1) ms) (left_by (class_of bytes) list))
-    (head_wire (class_of bytes) (unique_of bytes) list) p q
-    (ap (λ x. wires x list) (left_at ms i m bytes lt at is)) one two
+    → SentFirst V became a b (take i ms) all (wires V (drop i ms) list) p q → SendFails fault became' b c (head_wire (class_for V bytes) (unique_of bytes) list)
+    → SentSome became'' a c all fault
+sent_some V became became' became'' joins fault a b c ms i m bytes list all p q lt at is one two =
+    some_by V became became' became'' joins fault a b c (take i ms) all (wires V (drop i ms) list) (wires V (drop (i + 1) ms) (left_by (class_for V bytes) list))
+    (head_wire (class_for V bytes) (unique_of bytes) list) p q
+    (ap (λ x. wires V x list) (left_at ms i m bytes lt at is)) one two
 
-pub sent_all : (a b : PortState) (ms left all : List (List ℕ)) (prefix : List (List ℕ)) (p q : List ℕ) → left ≡ [] → prefix ≡ ms
-    → SentFirst a b prefix all left p q → SentAll a b ms all p q
-sent_all a b ms left all prefix p q none same one = record {
+pub sent_all : (V : OpcodeSet) (became : List PortEvent → Type 0) → (a b : PortState) (ms left all : List (List ℕ)) (prefix : List (List ℕ)) (p q : List ℕ) → left ≡ [] → prefix ≡ ms
+    → SentFirst V became a b prefix all left p q → SentAll V became a b ms all p q
+sent_all V became a b ms left all prefix p q none same one = record {
   marks = one.marks;
   whole = sym (one.whole ∙ ap (λ x. replies one.marks ++ x) none ∙ append-nil (replies one.marks));
   full = one.full ∙ ap length same;
   replied = one.replied;
   failures = one.failures;
   quiet = one.quiet;
-  handed = one.handed ∙ ap (λ f. p ++ settled_in a.confirms f one.marks) same;
+  hands = one.hands;
+  handed = one.handed ∙ ap (λ f. p ++ settled_in V a.confirms f one.marks) same;
 }
 
 -- ---- the answers that are left
@@ -156,19 +203,19 @@ length_left (d ∷ dones) zero lt = omega arith
 length_left (d ∷ dones) (suc n) lt = let more = length_left dones n lt in omega arith
 
 -- the message at i uses an answer that is there
-pub enough_at : (ms : List (List ℕ)) (i : ℕ) (m bytes : List ℕ) (dones : List Done) (n : ℕ) → i < length ms → m ≡ get_or ms i m → bytes ≡ m
-    → AreEnough (drop i ms) (drop n (answers_in dones))
-    → class_of bytes ≡ Kept → n < length dones
-enough_at ms i m bytes dones n lt at is enough kept =
-    let here = subst (λ x. AreEnough x (drop n (answers_in dones))) (left_at ms i m bytes lt at is) enough in
+pub enough_at : (V : OpcodeSet) → (ms : List (List ℕ)) (i : ℕ) (m bytes : List ℕ) (dones : List Done) (n : ℕ) → i < length ms → m ≡ get_or ms i m → bytes ≡ m
+    → AreEnough V (drop i ms) (drop n (answers_in dones))
+    → class_for V bytes ≡ Kept → n < length dones
+enough_at V ms i m bytes dones n lt at is (enough) kept =
+    let here = subst (λ x. AreEnough V x (drop n (answers_in dones))) (left_at ms i m bytes lt at is) (enough) in
     length_left dones n (here.0 kept)
 
-pub enough_more : (ms : List (List ℕ)) (i : ℕ) (m bytes : List ℕ) (list list' : List Said) → i < length ms → m ≡ get_or ms i m → bytes ≡ m
-    → AreEnough (drop i ms) list → list' ≡ left_by (class_of bytes) list
-    → AreEnough (drop (i + 1) ms) list'
-enough_more ms i m bytes list list' lt at is enough left =
-    let here = subst (λ x. AreEnough x list) (left_at ms i m bytes lt at is) enough in
-    subst (AreEnough (drop (i + 1) ms)) (sym left) here.1
+pub enough_more : (V : OpcodeSet) → (ms : List (List ℕ)) (i : ℕ) (m bytes : List ℕ) (list list' : List Said) → i < length ms → m ≡ get_or ms i m → bytes ≡ m
+    → AreEnough V (drop i ms) list → list' ≡ left_by (class_for V bytes) list
+    → AreEnough V (drop (i + 1) ms) list'
+enough_more V ms i m bytes list list' lt at is (enough) left =
+    let here = subst (λ x. AreEnough V x list) (left_at ms i m bytes lt at is) (enough) in
+    subst (AreEnough V (drop (i + 1) ms)) (sym left) here.1
 
 -- ---- one message
 
@@ -180,56 +227,57 @@ bare_settles : (b : Bool) (e : Errno) (i : ℕ) → settles_if b (Bare e) i ≡ 
 bare_settles true e i = refl
 bare_settles false e i = refl
 
-pub next_silent : (p : PortState) (m : List ℕ) (list : List Said) (pending : List ℕ) → Silent ≡ class_of m
-    → SentNext p p m (head_wire (class_of m) (unique_of m) list) pending pending
-next_silent p m list pending is =
-    subst (λ k. SentNext p p m (head_wire k (unique_of m) list) pending pending) is
-    (sent_nothing p m pending (subst (λ k. settles_if (p.confirms || false) k (message_id m) ≡ []) is (silent_settles (p.confirms || false) (message_id m))))
+pub next_silent : (V : OpcodeSet) (became : List PortEvent → Type 0) → became [] → (p : PortState) (m : List ℕ) (list : List Said) (pending : List ℕ) → Silent ≡ class_for V m
+    → SentNext V became p p m (head_wire (class_for V m) (unique_of m) list) pending pending
+next_silent V became nothing p m list pending is =
+    subst (λ k. SentNext V became p p m (head_wire k (unique_of m) list) pending pending) is
+    (sent_nothing V became nothing p m pending (subst (λ k. settles_if (p.confirms || false) k (message_id m) ≡ []) is (silent_settles (p.confirms || false) (message_id m))))
 
-pub left_silent : (m : List ℕ) (list : List Said) → Silent ≡ class_of m → list ≡ left_by (class_of m) list
-left_silent m list is = subst (λ k. list ≡ left_by k list) is refl
+pub left_silent : (V : OpcodeSet) → (m : List ℕ) (list : List Said) → Silent ≡ class_for V m → list ≡ left_by (class_for V m) list
+left_silent V m list is = subst (λ k. list ≡ left_by k list) is refl
 
-pub left_bare : (m : List ℕ) (e : Errno) (list : List Said) → Bare e ≡ class_of m → list ≡ left_by (class_of m) list
-left_bare m e list is = subst (λ k. list ≡ left_by k list) is refl
+pub left_bare : (V : OpcodeSet) → (m : List ℕ) (e : Errno) (list : List Said) → Bare e ≡ class_for V m → list ≡ left_by (class_for V m) list
+left_bare V m e list is = subst (λ k. list ≡ left_by k list) is refl
 
-pub next_bare : (a b : PortState) (m : List ℕ) (e : Errno) (gone : Bool) (list : List Said) (pending : List ℕ) → Bare e ≡ class_of m
-    → SentWhole a b (wire e.0 [] (unique_of m)) gone
-    → SentNext a b m (head_wire (class_of m) (unique_of m) list) pending pending
-next_bare a b m e gone list pending is sent =
-    let none : settles_if (a.confirms || gone) (class_of m) (message_id m) ≡ [] = subst (λ k. settles_if (a.confirms || gone) k (message_id m) ≡ []) is
+pub next_bare : (V : OpcodeSet) (became : List PortEvent → Type 0) → (a b : PortState) (m : List ℕ) (e : Errno) (gone : Bool) (list : List Said) (pending : List ℕ) → Bare e ≡ class_for V m
+    → SentWhole a b (wire e.0 [] (unique_of m)) gone → Hands became (wire e.0 [] (unique_of m)) true
+    → SentNext V became a b m (head_wire (class_for V m) (unique_of m) list) pending pending
+next_bare V became a b m e gone list pending is sent hands =
+    let none : settles_if (a.confirms || gone) (class_for V m) (message_id m) ≡ [] = subst (λ k. settles_if (a.confirms || gone) k (message_id m) ≡ []) is
     (bare_settles (a.confirms || gone) e (message_id m)) in
-    subst (λ k. SentNext a b m (head_wire k (unique_of m) list) pending pending) is
+    subst (λ k. SentNext V became a b m (head_wire k (unique_of m) list) pending pending) is
     (record {
       mark = record { reply = wire e.0 [] (unique_of m); gone = gone };
       reply = refl;
       sent = sent;
+      hands = hands;
       handed = sym (ap (λ (r : List ℕ). pending ++ r) none ∙ append-nil pending);
     })
 
-pub fails_bare : (fault : Fault) (a b : PortState) (m : List ℕ) (e : Errno) (list : List Said) → Bare e ≡ class_of m
-    → SendFails fault a b (wire e.0 [] (unique_of m)) → SendFails fault a b (head_wire (class_of m) (unique_of m) list)
-fails_bare fault a b m e list is f = subst (λ k. SendFails fault a b (head_wire k (unique_of m) list)) is f
+pub fails_bare : (V : OpcodeSet) (fault : Fault) (became : List PortEvent → Type 0) (a b : PortState) (m : List ℕ) (e : Errno) (list : List Said) → Bare e ≡ class_for V m
+    → SendFails fault became a b (wire e.0 [] (unique_of m)) → SendFails fault became a b (head_wire (class_for V m) (unique_of m) list)
+fails_bare V fault became a b m e list is f = subst (λ k. SendFails fault became a b (head_wire k (unique_of m) list)) is f
 
 -- a kept message, and the answer at its place
-head_kept : (m : List ℕ) (dones : List Done) (n : ℕ) (d : Done) (a : Said) → Kept ≡ class_of m → n < length dones → d ≡ get_or dones n d → a ≡ d.answer
-    → wire a.errno a.body (unique_of m) ≡ head_wire (class_of m) (unique_of m) (drop n (answers_in dones))
-head_kept m dones n d a is lt at same =
+head_kept : (V : OpcodeSet) → (m : List ℕ) (dones : List Done) (n : ℕ) (d : Done) (a : Said) → Kept ≡ class_for V m → n < length dones → d ≡ get_or dones n d → a ≡ d.answer
+    → wire a.errno a.body (unique_of m) ≡ head_wire (class_for V m) (unique_of m) (drop n (answers_in dones))
+head_kept V m dones n d a is lt at same =
     ap (λ (x : Said). wire x.errno x.body (unique_of m)) same ∙ ap (head_wire Kept (unique_of m)) (sym (drop_answers dones n d lt at))
     ∙ ap (λ k. head_wire k (unique_of m) (drop n (answers_in dones))) is
 
-pub next_kept : (a b : PortState) (m : List ℕ) (dones : List Done) (n : ℕ) (d : Done) (said : Said) (p q : List ℕ) → Kept ≡ class_of m → n < length dones
+pub next_kept : (V : OpcodeSet) (became : List PortEvent → Type 0) → (a b : PortState) (m : List ℕ) (dones : List Done) (n : ℕ) (d : Done) (said : Said) (p q : List ℕ) → Kept ≡ class_for V m → n < length dones
     → d ≡ get_or dones n d → said ≡ d.answer
-    → SentNext a b m (wire said.errno said.body (unique_of m)) p q → SentNext a b m (head_wire (class_of m) (unique_of m) (drop n (answers_in dones))) p q
-next_kept a b m dones n d said p q is lt at same sent = subst (λ w. SentNext a b m w p q) (head_kept m dones n d said is lt at same) sent
+    → SentNext V became a b m (wire said.errno said.body (unique_of m)) p q → SentNext V became a b m (head_wire (class_for V m) (unique_of m) (drop n (answers_in dones))) p q
+next_kept V became a b m dones n d said p q is lt at same sent = subst (λ w. SentNext V became a b m w p q) (head_kept V m dones n d said is lt at same) sent
 
-pub fails_kept : (fault : Fault) (a b : PortState) (m : List ℕ) (dones : List Done) (n : ℕ) (d : Done) (said : Said) → Kept ≡ class_of m → n < length dones
+pub fails_kept : (V : OpcodeSet) (fault : Fault) (became : List PortEvent → Type 0) (a b : PortState) (m : List ℕ) (dones : List Done) (n : ℕ) (d : Done) (said : Said) → Kept ≡ class_for V m → n < length dones
     → d ≡ get_or dones n d → said ≡ d.answer
-    → SendFails fault a b (wire said.errno said.body (unique_of m)) → SendFails fault a b (head_wire (class_of m) (unique_of m) (drop n (answers_in dones)))
-fails_kept fault a b m dones n d said is lt at same f = subst (SendFails fault a b) (head_kept m dones n d said is lt at same) f
+    → SendFails fault became a b (wire said.errno said.body (unique_of m)) → SendFails fault became a b (head_wire (class_for V m) (unique_of m) (drop n (answers_in dones)))
+fails_kept V fault became a b m dones n d said is lt at same f = subst (SendFails fault became a b) (head_kept V m dones n d said is lt at same) f
 
-pub left_kept : (m : List ℕ) (dones : List Done) (n : ℕ) (d : Done) → Kept ≡ class_of m → n < length dones → d ≡ get_or dones n d
-    → drop (n + 1) (answers_in dones) ≡ left_by (class_of m) (drop n (answers_in dones))
-left_kept m dones n d is lt at = subst (λ k. drop (n + 1) (answers_in dones) ≡ left_by k (drop n (answers_in dones))) is
+pub left_kept : (V : OpcodeSet) → (m : List ℕ) (dones : List Done) (n : ℕ) (d : Done) → Kept ≡ class_for V m → n < length dones → d ≡ get_or dones n d
+    → drop (n + 1) (answers_in dones) ≡ left_by (class_for V m) (drop n (answers_in dones))
+left_kept V m dones n d is lt at = subst (λ k. drop (n + 1) (answers_in dones) ≡ left_by k (drop n (answers_in dones))) is
     (ap (left_by Kept) (sym (drop_answers dones n d lt at)))
 
 -- the id of a kept message that was answered is pending, where the answer settles it
@@ -237,13 +285,14 @@ kept_pending : (b : Bool) (i : ℕ) (p q : List ℕ) → (b ≡ true → q ≡ p
 kept_pending true i p q when_so when_not = when_so refl
 kept_pending false i p q when_so when_not = when_not refl ∙ sym (append-nil p)
 
-pub kept_next : (a b : PortState) (m bytes : List ℕ) (gone : Bool) (p q : List ℕ) → class_of m ≡ Kept → SentWhole a b bytes gone
+pub kept_next : (V : OpcodeSet) (became : List PortEvent → Type 0) → (a b : PortState) (m bytes : List ℕ) (gone : Bool) (p q : List ℕ) → class_for V m ≡ Kept → SentWhole a b bytes gone → Hands became bytes true
     → ((b.confirms || gone) ≡ true → q ≡ p ++ message_id m ∷ []) → ((b.confirms || gone) ≡ false → q ≡ p)
-    → SentNext a b m bytes p q
-kept_next a b m bytes gone p q is sent when_so when_not = record {
+    → SentNext V became a b m bytes p q
+kept_next V became a b m bytes gone p q is sent hands when_so when_not = record {
   mark = record { reply = bytes; gone = gone };
   reply = refl;
   sent = sent;
+  hands = hands;
   handed = kept_pending (b.confirms || gone) (message_id m) p q when_so when_not ∙ ap (λ c. p ++ settles_if (c || gone) Kept (message_id m)) sent.quiet.confirms
       ∙ ap (λ k. p ++ settles_if (a.confirms || gone) k (message_id m)) (sym is);
 }
@@ -256,9 +305,13 @@ pub bare_sent : (a b : PortState) (answer : Said) (e : Errno) (u v : ℕ) (gone 
     → SentWhole a b (wire answer.errno answer.body u) gone → SentWhole a b (wire e.0 [] v) gone
 bare_sent a b answer e u v gone is same sent = subst (λ w. SentWhole a b w gone) (bare_wire answer e u v is same) sent
 
-pub bare_fails : (fault : Fault) (a b : PortState) (answer : Said) (e : Errno) (u v : ℕ) → answer ≡ record { errno = e.0; body = [] } → u ≡ v
-    → SendFails fault a b (wire answer.errno answer.body u) → SendFails fault a b (wire e.0 [] v)
-bare_fails fault a b answer e u v is same f = subst (SendFails fault a b) (bare_wire answer e u v is same) f
+pub bare_hands : (became : List PortEvent → Type 0) → (answer : Said) (e : Errno) (u v : ℕ) → answer ≡ record { errno = e.0; body = [] } → u ≡ v
+    → Hands became (wire answer.errno answer.body u) true → Hands became (wire e.0 [] v) true
+bare_hands became answer e u v is same hands = subst (λ w. Hands became w true) (bare_wire answer e u v is same) hands
+
+pub bare_fails : (fault : Fault) (became : List PortEvent → Type 0) → (a b : PortState) (answer : Said) (e : Errno) (u v : ℕ) → answer ≡ record { errno = e.0; body = [] } → u ≡ v
+    → SendFails fault became a b (wire answer.errno answer.body u) → SendFails fault became a b (wire e.0 [] v)
+bare_fails fault became a b answer e u v is same f = subst (SendFails fault became a b) (bare_wire answer e u v is same) f
 
 pub if_ok : {A E : Type 0} (r : Result A E) (P Q : A → Type 0) → ((x : A) → P x → Q x) → IfOk r P → IfOk r Q
 if_ok (Ok x) P Q f p = f x p
@@ -267,3 +320,7 @@ if_ok (Err e) P Q f p = p
 pub if_err : {A E : Type 0} (r : Result A E) (P Q : E → Type 0) → ((x : E) → P x → Q x) → IfErr r P → IfErr r Q
 if_err (Ok x) P Q f p = p
 if_err (Err e) P Q f p = f e p
+
+pub on_ok : {A E : Type 0} (r : Result A E) (P Q : Type 0) → (P → Q) → OnOk r P → OnOk r Q
+on_ok (Ok x) P Q f p = f p
+on_ok (Err e) P Q f p = p

@@ -467,9 +467,9 @@ few_settled M holds new gave p q store memory faulted clean_honest is l =
       moments = b.moments;
       replied = b.replied;
       few = λ s h t so again.
-          let f = b.few (clean_honest is) (λ _. is) [] (again_fewer p.confirms t [] (bytes_of b.timed) b.marks (λ i there. absurd (cc there)) again)
+          let f = b.few (clean_honest is) (λ _. is) [] (again_fewer M.serves p.confirms t [] (bytes_of b.timed) b.marks (λ i there. absurd (cc there)) again)
           (few_start M holds so.rows so.records so.held (rowed_by M so.rows so.records s h t so.stands)) in
-          lived_map M (StandsFor new s) (λ g u. StandsFor new s g u × FewRecorded new (settled_in p.confirms (bytes_of b.timed) b.marks)) s h p.confirms t
+          lived_map M (StandsFor new s) (λ g u. StandsFor new s g u × FewRecorded new (settled_in M.serves p.confirms (bytes_of b.timed) b.marks)) s h p.confirms t
           b.timed b.marks b.part (λ g u stands. (stands, f))
           (b.life is s h t so (λ i there. absurd (cc there)) again);
     }

@@ -4,9 +4,10 @@ use Rattle.std.proofs.Common.{append_assoc, arith}
 use Rattle.std.proofs.lemmas.List.{append-nil, map-append}
 use Rattle.std.proofs.lemmas.Bool.{eqb-true}
 use Rattle.std.proofs.lemmas.List.Elements.{All-append, All-nil, All-cons, All-head, All-tail}
+use Rattle.fuse_request.specs.Opcodes.{OpcodeSet}
 use Rattle.fuse_request.specs.declared.class.Class.{Class}
 use Rattle.fuse_request.specs.declared.class.Class.TheVariants.{Silent, Bare, Kept}
-use Rattle.fuse_request.specs.Classes.{class_of}
+use Rattle.fuse_request.specs.Classes.{class_for}
 use Rattle.fuse_keeper.specs.History.{Entry, entry_id, is_in, ids_in, Includes, IsUnsettled}
 use Rattle.fuse_session.proofs.Standing.{unsettled_too}
 use Rattle.fuse_session.specs.Processed.{Timed, bytes_of, kept_in, entries_at, entry_if, timed_entry, message_id}
@@ -42,28 +43,28 @@ includes_left t more i there = is_in-append t more i ∙ or_left (is_in t i) (is
 pub includes_right : (t more : List ℕ) → Includes (t ++ more) more
 includes_right t more i there = is_in-append t more i ∙ or_true (is_in t i) (is_in more i) there
 
-pub settled-append : (c : Bool) (xs ys : List (List ℕ)) (ms ns : List Mark) → length ms ≡ length xs → settled_in c (xs ++ ys) (ms ++ ns) ≡ settled_in c xs ms
-    ++ settled_in c ys ns
-settled-append c [] ys [] ns same = refl
-settled-append c [] ys (m ∷ ms) ns same = absurd (omega arith)
-settled-append c (x ∷ xs) ys [] ns same = absurd (omega arith)
-settled-append c (x ∷ xs) ys (m ∷ ms) ns same =
-    ap (λ (r : List ℕ). settles c x m ++ r) (settled-append c xs ys ms ns (omega arith))
-    ∙ sym (append_assoc (settles c x m) (settled_in c xs ms) (settled_in c ys ns))
+pub settled-append : (V : OpcodeSet) → (c : Bool) (xs ys : List (List ℕ)) (ms ns : List Mark) → length ms ≡ length xs → settled_in V c (xs ++ ys) (ms ++ ns) ≡ settled_in V c xs ms
+    ++ settled_in V c ys ns
+settled-append V c [] ys [] ns same = refl
+settled-append V c [] ys (m ∷ ms) ns same = absurd (omega arith)
+settled-append V c (x ∷ xs) ys [] ns same = absurd (omega arith)
+settled-append V c (x ∷ xs) ys (m ∷ ms) ns same =
+    ap (λ (r : List ℕ). settles V c x m ++ r) (settled-append V c xs ys ms ns (omega arith))
+    ∙ sym (append_assoc (settles V c x m) (settled_in V c xs ms) (settled_in V c ys ns))
 
-pub settled_none : (c : Bool) (xs : List (List ℕ)) → settled_in c xs [] ≡ []
-settled_none c [] = refl
-settled_none c (x ∷ xs) = refl
+pub settled_none : (V : OpcodeSet) → (c : Bool) (xs : List (List ℕ)) → settled_in V c xs [] ≡ []
+settled_none V c [] = refl
+settled_none V c (x ∷ xs) = refl
 
 -- messages, and then others
-pub again-parts : (c : Bool) (t : List ℕ) (xs ys : List (List ℕ)) (ms ns : List Mark) → length ms ≡ length xs → NoneComesAgain c t (xs ++ ys) (ms ++ ns)
-    → NoneComesAgain c t xs ms × NoneComesAgain c (t ++ settled_in c xs ms) ys ns
-again-parts c t [] ys [] ns same each = (tt, subst (λ (u : List ℕ). NoneComesAgain c u ys ns) (sym (append-nil t)) each)
-again-parts c t [] ys (m ∷ ms) ns same each = absurd (omega arith)
-again-parts c t (x ∷ xs) ys [] ns same each = absurd (omega arith)
-again-parts c t (x ∷ xs) ys (m ∷ ms) ns same each =
-    let rest = again-parts c (t ++ settles c x m) xs ys ms ns (omega arith) each.1 in
-    ((each.0, rest.0), subst (λ (u : List ℕ). NoneComesAgain c u ys ns) (append_assoc t (settles c x m) (settled_in c xs ms)) rest.1)
+pub again-parts : (V : OpcodeSet) → (c : Bool) (t : List ℕ) (xs ys : List (List ℕ)) (ms ns : List Mark) → length ms ≡ length xs → NoneComesAgain V c t (xs ++ ys) (ms ++ ns)
+    → NoneComesAgain V c t xs ms × NoneComesAgain V c (t ++ settled_in V c xs ms) ys ns
+again-parts V c t [] ys [] ns same each = (tt, subst (λ (u : List ℕ). NoneComesAgain V c u ys ns) (sym (append-nil t)) each)
+again-parts V c t [] ys (m ∷ ms) ns same each = absurd (omega arith)
+again-parts V c t (x ∷ xs) ys [] ns same each = absurd (omega arith)
+again-parts V c t (x ∷ xs) ys (m ∷ ms) ns same each =
+    let rest = again-parts V c (t ++ settles V c x m) xs ys ms ns (omega arith) each.1 in
+    ((each.0, rest.0), subst (λ (u : List ℕ). NoneComesAgain V c u ys ns) (append_assoc t (settles V c x m) (settled_in V c xs ms)) rest.1)
 
 fewer : (t more : List ℕ) (es : List Entry) → All (IsUnsettled (t ++ more)) es → All (IsUnsettled t) es
 fewer t more es each k d lt = unsettled_too (t ++ more) t _ (includes_left t more) (each k d lt)
@@ -78,13 +79,13 @@ one_unsettled t m (Bare errno) may = All-nil (IsUnsettled t)
 one_unsettled t m Kept may = only_one (IsUnsettled t) (timed_entry m) may
 
 -- none of a group's entries has an id that was settled before the group
-pub group_unsettled : (c : Bool) (t : List ℕ) (ts : List Timed) (marks : List Mark) → NoneComesAgain c t (bytes_of ts) marks → All (IsUnsettled t) (kept_in ts)
-group_unsettled c t [] marks each = All-nil (IsUnsettled t)
-group_unsettled c t (m ∷ ts) [] each =
-    All-append (IsUnsettled t) (entries_at m) (kept_in ts) (one_unsettled t m (class_of m.bytes) each.0) (group_unsettled c t ts [] each.1)
-group_unsettled c t (m ∷ ts) (mark ∷ marks) each =
-    All-append (IsUnsettled t) (entries_at m) (kept_in ts) (one_unsettled t m (class_of m.bytes) each.0)
-    (fewer t (settles c m.bytes mark) (kept_in ts) (group_unsettled c (t ++ settles c m.bytes mark) ts marks each.1))
+pub group_unsettled : (V : OpcodeSet) → (c : Bool) (t : List ℕ) (ts : List Timed) (marks : List Mark) → NoneComesAgain V c t (bytes_of ts) marks → All (IsUnsettled t) (kept_in V ts)
+group_unsettled V c t [] marks each = All-nil (IsUnsettled t)
+group_unsettled V c t (m ∷ ts) [] each =
+    All-append (IsUnsettled t) (entries_at V m) (kept_in V ts) (one_unsettled t m (class_for V m.bytes) each.0) (group_unsettled V c t ts [] each.1)
+group_unsettled V c t (m ∷ ts) (mark ∷ marks) each =
+    All-append (IsUnsettled t) (entries_at V m) (kept_in V ts) (one_unsettled t m (class_for V m.bytes) each.0)
+    (fewer t (settles V c m.bytes mark) (kept_in V ts) (group_unsettled V c (t ++ settles V c m.bytes mark) ts marks each.1))
 
 -- ---- what is settled by a group
 
@@ -97,13 +98,13 @@ kept_settled t m Kept = refl
 ids-append : (xs ys : List Entry) → ids_in (xs ++ ys) ≡ ids_in xs ++ ids_in ys
 ids-append xs ys = map-append entry_id xs ys
 
-pub all_settled : (ts : List Timed) (marks : List Mark) → length marks ≡ length ts → settled_in true (bytes_of ts) marks ≡ ids_in (kept_in ts)
-all_settled [] [] same = refl
-all_settled [] (m ∷ marks) same = absurd (omega arith)
-all_settled (t ∷ ts) [] same = absurd (omega arith)
-all_settled (t ∷ ts) (m ∷ marks) same =
-    ap (λ (r : List ℕ). r ++ settled_in true (bytes_of ts) marks) (kept_settled t m (class_of t.bytes))
-    ∙ ap (λ (r : List ℕ). ids_in (entries_at t) ++ r) (all_settled ts marks (omega arith)) ∙ sym (ids-append (entries_at t) (kept_in ts))
+pub all_settled : (V : OpcodeSet) → (ts : List Timed) (marks : List Mark) → length marks ≡ length ts → settled_in V true (bytes_of ts) marks ≡ ids_in (kept_in V ts)
+all_settled V [] [] same = refl
+all_settled V [] (m ∷ marks) same = absurd (omega arith)
+all_settled V (t ∷ ts) [] same = absurd (omega arith)
+all_settled V (t ∷ ts) (m ∷ marks) same =
+    ap (λ (r : List ℕ). r ++ settled_in V true (bytes_of ts) marks) (kept_settled t m (class_for V t.bytes))
+    ∙ ap (λ (r : List ℕ). ids_in (entries_at V t) ++ r) (all_settled V ts marks (omega arith)) ∙ sym (ids-append (entries_at V t) (kept_in V ts))
 
 one_within : (b : Bool) (t : Timed) (class : Class) (i : ℕ) → is_in (settles_if b class (message_id t.bytes)) i ≡ true
     → is_in (ids_in (entry_if class (timed_entry t))) i ≡ true
@@ -113,16 +114,16 @@ one_within true t (Bare errno) i there = there
 one_within true t Kept i there = there
 
 -- only the ids of kept messages are settled
-pub settled_within : (c : Bool) (ts : List Timed) (marks : List Mark) → Includes (ids_in (kept_in ts)) (settled_in c (bytes_of ts) marks)
-settled_within c [] marks i there = absurd (cc there)
-settled_within c (t ∷ ts) [] i there = absurd (cc there)
-settled_within c (t ∷ ts) (m ∷ marks) i there =
-    let here = ids_in (entries_at t) in
-    let rest = ids_in (kept_in ts) in
-    ap (λ x. is_in x i) (ids-append (entries_at t) (kept_in ts))
-    ∙ (elim (in_either (settles c t.bytes m) (settled_in c (bytes_of ts) marks) i there) [
-      | inl one ↦ includes_left here rest i (one_within (c || m.gone) t (class_of t.bytes) i one)
-      | inr more ↦ includes_right here rest i (settled_within c ts marks i more)
+pub settled_within : (V : OpcodeSet) → (c : Bool) (ts : List Timed) (marks : List Mark) → Includes (ids_in (kept_in V ts)) (settled_in V c (bytes_of ts) marks)
+settled_within V c [] marks i there = absurd (cc there)
+settled_within V c (t ∷ ts) [] i there = absurd (cc there)
+settled_within V c (t ∷ ts) (m ∷ marks) i there =
+    let here = ids_in (entries_at V t) in
+    let rest = ids_in (kept_in V ts) in
+    ap (λ x. is_in x i) (ids-append (entries_at V t) (kept_in V ts))
+    ∙ (elim (in_either (settles V c t.bytes m) (settled_in V c (bytes_of ts) marks) i there) [
+      | inl one ↦ includes_left here rest i (one_within (c || m.gone) t (class_for V t.bytes) i one)
+      | inr more ↦ includes_right here rest i (settled_within V c ts marks i more)
     ])
 
 -- an id that was settled before is none of a group's
@@ -145,11 +146,11 @@ includes_more t u more within i there = elim (in_either u more i there) [
 ]
 
 -- where fewer were settled before, none comes again either
-pub again_fewer : (c : Bool) (t u : List ℕ) (xs : List (List ℕ)) (ms : List Mark) → Includes t u → NoneComesAgain c t xs ms → NoneComesAgain c u xs ms
-again_fewer c t u [] ms within each = tt
-again_fewer c t u (x ∷ xs) [] within each = (comes_fewer t u (class_of x) (message_id x) within each.0, again_fewer c t u xs [] within each.1)
-again_fewer c t u (x ∷ xs) (m ∷ ms) within each = (
-  comes_fewer t u (class_of x) (message_id x) within each.0,
-  again_fewer c (t ++ settles c x m) (u ++ settles c x m) xs ms
-      (includes_more t u (settles c x m) within) each.1,
+pub again_fewer : (V : OpcodeSet) → (c : Bool) (t u : List ℕ) (xs : List (List ℕ)) (ms : List Mark) → Includes t u → NoneComesAgain V c t xs ms → NoneComesAgain V c u xs ms
+again_fewer V c t u [] ms within each = tt
+again_fewer V c t u (x ∷ xs) [] within each = (comes_fewer t u (class_for V x) (message_id x) within each.0, again_fewer V c t u xs [] within each.1)
+again_fewer V c t u (x ∷ xs) (m ∷ ms) within each = (
+  comes_fewer t u (class_for V x) (message_id x) within each.0,
+  again_fewer V c (t ++ settles V c x m) (u ++ settles V c x m) xs ms
+      (includes_more t u (settles V c x m) within) each.1,
 )

@@ -3,6 +3,7 @@ use Rattle.std.proofs.Common.{◌≡◌, ℕ, ◌+◌, ◌-◌, ◌≤◌, Bool,
 use Rattle.std.proofs.Common.{append_assoc, arith, length-append, length-drop}
 use Rattle.std.proofs.lemmas.List.{append-nil, take-append-drop, take_all, take_more, drop-drop, map-append, length-map}
 use Rattle.std.proofs.Math.Seq.{take-add}
+use Rattle.fuse_request.specs.Opcodes.{OpcodeSet}
 use Rattle.fuse_wire.specs.declared.moment.Moment.{Moment}
 use Rattle.fuse_request.specs.Stream.{joined}
 use Rattle.fuse_keeper.specs.History.{History, grown, said, Includes, HistoriesGrow}
@@ -54,22 +55,22 @@ pub turned_none : (M : Model) → (holds : KeeperState M) (gave : List Moment �
 turned_none M holds gave p pending none = turned_quiet M holds gave p p pending none (replied_none p)
 
 -- the settled ids of two rows of messages
-settled_both : (c c' : Bool) (t : List ℕ) (xs ys : List Timed) (ms ns : List Mark) → c' ≡ c → length ms ≡ length xs
-    → (t ++ settled_in c (bytes_of xs) ms) ++ settled_in c' (bytes_of ys) ns ≡ t ++ settled_in c (bytes_of (xs ++ ys)) (ms ++ ns)
-settled_both c c' t xs ys ms ns same full =
-    append_assoc t (settled_in c (bytes_of xs) ms) (settled_in c' (bytes_of ys) ns)
-    ∙ ap (λ b. t ++ (settled_in c (bytes_of xs) ms ++ settled_in b (bytes_of ys) ns)) same
-    ∙ ap (λ (q : List ℕ). t ++ q) (sym (settled-append c (bytes_of xs) (bytes_of ys) ms ns (full ∙ sym (length-map xs (λ (t : Timed). t.bytes))))
-    ∙ ap (λ b. settled_in c b (ms ++ ns)) (sym (bytes-append xs ys)))
+settled_both : (V : OpcodeSet) → (c c' : Bool) (t : List ℕ) (xs ys : List Timed) (ms ns : List Mark) → c' ≡ c → length ms ≡ length xs
+    → (t ++ settled_in V c (bytes_of xs) ms) ++ settled_in V c' (bytes_of ys) ns ≡ t ++ settled_in V c (bytes_of (xs ++ ys)) (ms ++ ns)
+settled_both V c c' t xs ys ms ns same full =
+    append_assoc t (settled_in V c (bytes_of xs) ms) (settled_in V c' (bytes_of ys) ns)
+    ∙ ap (λ b. t ++ (settled_in V c (bytes_of xs) ms ++ settled_in V b (bytes_of ys) ns)) same
+    ∙ ap (λ (q : List ℕ). t ++ q) (sym (settled-append V c (bytes_of xs) (bytes_of ys) ms ns (full ∙ sym (length-map xs (λ (t : Timed). t.bytes))))
+    ∙ ap (λ b. settled_in V c b (ms ++ ns)) (sym (bytes-append xs ys)))
 
 -- none of two rows of messages comes again
-again_both : (c c' : Bool) (t : List ℕ) (xs ys : List Timed) (ms ns : List Mark) → c' ≡ c → length ms ≡ length xs
-    → NoneComesAgain c t (bytes_of (xs ++ ys)) (ms ++ ns)
-    → NoneComesAgain c t (bytes_of xs) ms × NoneComesAgain c' (t ++ settled_in c (bytes_of xs) ms) (bytes_of ys) ns
-again_both c c' t xs ys ms ns same full each =
-    let parts = again-parts c t (bytes_of xs) (bytes_of ys) ms ns (full ∙ sym (length-map xs (λ (t : Timed). t.bytes)))
-    (subst (λ b. NoneComesAgain c t b (ms ++ ns)) (bytes-append xs ys) each) in
-    (parts.0, subst (λ b. NoneComesAgain b (t ++ settled_in c (bytes_of xs) ms) (bytes_of ys) ns) (sym same) parts.1)
+again_both : (V : OpcodeSet) → (c c' : Bool) (t : List ℕ) (xs ys : List Timed) (ms ns : List Mark) → c' ≡ c → length ms ≡ length xs
+    → NoneComesAgain V c t (bytes_of (xs ++ ys)) (ms ++ ns)
+    → NoneComesAgain V c t (bytes_of xs) ms × NoneComesAgain V c' (t ++ settled_in V c (bytes_of xs) ms) (bytes_of ys) ns
+again_both V c c' t xs ys ms ns same full each =
+    let parts = again-parts V c t (bytes_of xs) (bytes_of ys) ms ns (full ∙ sym (length-map xs (λ (t : Timed). t.bytes)))
+    (subst (λ b. NoneComesAgain V c t b (ms ++ ns)) (bytes-append xs ys) each) in
+    (parts.0, subst (λ b. NoneComesAgain V b (t ++ settled_in V c (bytes_of xs) ms) (bytes_of ys) ns) (sym same) parts.1)
 
 -- messages, and then others
 pub turned_more : (M : Model) → HistoriesGrow M → (holds mid new : KeeperState M) (gave gave' gave'' : List Moment → Type 0) (p q r : PortState)
@@ -83,17 +84,17 @@ turned_more M grows holds mid new gave gave' gave'' p q r ids ids' ids'' prefix 
   bytes = ap (λ f. f ++ prefix') one.bytes ∙ ap (λ f. bytes_of one.timed ++ f) two.bytes ∙ sym (bytes-append one.timed two.timed);
   full = length-append one.marks two.marks ∙ ap (λ n. n + length two.marks) one.full ∙ ap (λ n. length one.timed + n) two.full
       ∙ sym (length-append one.timed two.timed);
-  moments = gave_more gave gave' gave'' one.timed two.timed moments one.moments two.moments;
+  moments = gave_more M.serves gave gave' gave'' one.timed two.timed moments one.moments two.moments;
   replied = replied_more p q r one.marks two.marks [] one.replied two.replied;
   handed = λ t within. subst (λ (u : List ℕ). Includes u ids'')
-      (settled_both p.confirms q.confirms t one.timed two.timed one.marks two.marks one.replied.confirms one.full)
-      (two.handed (t ++ settled_in p.confirms (bytes_of one.timed) one.marks) (one.handed t within));
+      (settled_both M.serves p.confirms q.confirms t one.timed two.timed one.marks two.marks one.replied.confirms one.full)
+      (two.handed (t ++ settled_in M.serves p.confirms (bytes_of one.timed) one.marks) (one.handed t within));
   all = λ is s h t so within again.
       let c = p.confirms in
-      let parts = again_both c q.confirms t one.timed two.timed one.marks two.marks one.replied.confirms one.full again in
+      let parts = again_both M.serves c q.confirms t one.timed two.timed one.marks two.marks one.replied.confirms one.full again in
       let a = one.all (honest_too is) s h t so within parts.0 in
-      let g = grown h (kept_in one.timed) in
-      let u = t ++ settled_in c (bytes_of one.timed) one.marks in
+      let g = grown h (kept_in M.serves one.timed) in
+      let u = t ++ settled_in M.serves c (bytes_of one.timed) one.marks in
       let b = two.all is s g u a.stands (one.handed t within) parts.1 in
       record {
         works = Works-append M s h one.timed two.timed (a.goes refl) b.works;
@@ -104,40 +105,40 @@ turned_more M grows holds mid new gave gave' gave'' p q r ids ids' ids'' prefix 
               earlier = one.timed ++ l.earlier;
               one = l.one;
               parts = ap (λ f. one.timed ++ f) l.parts ∙ sym (append_assoc one.timed l.earlier (l.one ∷ []));
-              ends = (l.ends.0, ap (λ x. says_zero (said M s x (message_id l.one.bytes))) (grown_kept h one.timed two.timed) ∙ l.ends.1);
+              ends = (l.ends.0, ap (λ x. says_zero (said M s x (message_id l.one.bytes))) (grown_kept M.serves h one.timed two.timed) ∙ l.ends.1);
             };
-        stands = subst (λ x. StandsFor new s x (t ++ settled_in c (bytes_of (one.timed ++ two.timed)) (one.marks ++ two.marks)))
-            (sym (grown_kept h one.timed two.timed))
-            (subst (StandsFor new s (grown g (kept_in two.timed)))
-            (settled_both c q.confirms t one.timed two.timed one.marks two.marks one.replied.confirms one.full) b.stands);
+        stands = subst (λ x. StandsFor new s x (t ++ settled_in M.serves c (bytes_of (one.timed ++ two.timed)) (one.marks ++ two.marks)))
+            (sym (grown_kept M.serves h one.timed two.timed))
+            (subst (StandsFor new s (grown g (kept_in M.serves two.timed)))
+            (settled_both M.serves c q.confirms t one.timed two.timed one.marks two.marks one.replied.confirms one.full) b.stands);
         sent = replies-append one.marks two.marks ∙ ap (λ x. x ++ replies two.marks) a.sent ∙ ap (λ x. answers M s g one.timed ++ x) b.sent
             ∙ sym (answers-append M grows s h one.timed two.timed);
-        counts_are = ap (λ x. plus x counts') a.counts_are ∙ ap (plus (counted h one.timed)) b.counts_are ∙ sym (counted-append h one.timed two.timed);
+        counts_are = ap (λ x. plus x counts') a.counts_are ∙ ap (plus (counted M.serves h one.timed)) b.counts_are ∙ sym (counted-append M.serves h one.timed two.timed);
       };
   few = λ is t again h.
       let c = p.confirms in
-      let parts = again_both c q.confirms t one.timed two.timed one.marks two.marks one.replied.confirms one.full again in
-      subst (λ (u : List ℕ). FewHave new u ids'') (settled_both c q.confirms t one.timed two.timed one.marks two.marks one.replied.confirms one.full)
-      (two.few is (t ++ settled_in c (bytes_of one.timed) one.marks) parts.1 (one.few (honest_too is) t parts.0 h));
+      let parts = again_both M.serves c q.confirms t one.timed two.timed one.marks two.marks one.replied.confirms one.full again in
+      subst (λ (u : List ℕ). FewHave new u ids'') (settled_both M.serves c q.confirms t one.timed two.timed one.marks two.marks one.replied.confirms one.full)
+      (two.few is (t ++ settled_in M.serves c (bytes_of one.timed) one.marks) parts.1 (one.few (honest_too is) t parts.0 h));
 }
 
 -- a life after messages that were answered
 lived_more : (M : Model) → HistoriesGrow M → (stood : History → List ℕ → Type 0) (s : M.State) (h : History) (c c' : Bool) (t : List ℕ) (xs ys : List Timed)
     (ms ns : List Mark) (part : List ℕ) → c' ≡ c → length ms ≡ length xs
-    → GoesOn M s h xs → replies ms ≡ answers M s (grown h (kept_in xs)) xs
-    → Lived M stood s (grown h (kept_in xs)) c' (t ++ settled_in c (bytes_of xs) ms) ys ns part
+    → GoesOn M s h xs → replies ms ≡ answers M s (grown h (kept_in M.serves xs)) xs
+    → Lived M stood s (grown h (kept_in M.serves xs)) c' (t ++ settled_in M.serves c (bytes_of xs) ms) ys ns part
     → Lived M stood s h c t (xs ++ ys) (ms ++ ns) part
 lived_more M grows stood s h c c' t xs ys ms ns part same full goes sent l =
-    let g = grown h (kept_in xs) in
+    let g = grown h (kept_in M.serves xs) in
     record {
       worked = xs ++ l.worked;
       unprocessed = l.unprocessed;
       parts = ap (λ f. xs ++ f) l.parts ∙ sym (append_assoc xs l.worked l.unprocessed);
       works = Works-append M s h xs l.worked goes l.works;
-      stands = subst (λ x. stood x (t ++ settled_in c (bytes_of (xs ++ l.worked)) (ms ++ ns))) (sym (grown_kept h xs l.worked))
-          (subst (stood (grown g (kept_in l.worked))) (settled_both c c' t xs l.worked ms ns same full) l.stands);
+      stands = subst (λ x. stood x (t ++ settled_in M.serves c (bytes_of (xs ++ l.worked)) (ms ++ ns))) (sym (grown_kept M.serves h xs l.worked))
+          (subst (stood (grown g (kept_in M.serves l.worked))) (settled_both M.serves c c' t xs l.worked ms ns same full) l.stands);
       later = l.later;
-      sent = answers-append M grows s h xs l.worked ∙ ap (λ x. x ++ answers M s (grown g (kept_in l.worked)) l.worked) (sym sent)
+      sent = answers-append M grows s h xs l.worked ∙ ap (λ x. x ++ answers M s (grown g (kept_in M.serves l.worked)) l.worked) (sym sent)
           ∙ ap (λ x. replies ms ++ x) l.sent
           ∙ sym (append_assoc (replies ms) (replies ns) l.later) ∙ ap (λ x. x ++ l.later) (sym (replies-append ms ns));
       unsent = l.unsent;
@@ -147,18 +148,18 @@ lived_more M grows stood s h c c' t xs ys ms ns part same full goes sent l =
 
 exact_more : (M : Model) → HistoriesGrow M → (stood stood' : History → List ℕ → Type 0) (s : M.State) (h : History) (c c' : Bool) (t : List ℕ)
     (xs ys : List Timed) (ms ns : List Mark) → c' ≡ c → length ms ≡ length xs
-    → GoesOn M s h xs → replies ms ≡ answers M s (grown h (kept_in xs)) xs → ((g : History) (u : List ℕ) → stood g u → stood' g u)
-    → Exact M stood s (grown h (kept_in xs)) c' (t ++ settled_in c (bytes_of xs) ms) ys ns
+    → GoesOn M s h xs → replies ms ≡ answers M s (grown h (kept_in M.serves xs)) xs → ((g : History) (u : List ℕ) → stood g u → stood' g u)
+    → Exact M stood s (grown h (kept_in M.serves xs)) c' (t ++ settled_in M.serves c (bytes_of xs) ms) ys ns
     → Exact M stood' s h c t (xs ++ ys) (ms ++ ns)
 exact_more M grows stood stood' s h c c' t xs ys ms ns same full goes sent f e =
-    let g = grown h (kept_in xs) in
+    let g = grown h (kept_in M.serves xs) in
     record {
       worked = xs ++ e.worked;
       unprocessed = e.unprocessed;
       parts = ap (λ f. xs ++ f) e.parts ∙ sym (append_assoc xs e.worked e.unprocessed);
       works = Works-append M s h xs e.worked goes e.works;
-      stands = subst (λ x. stood' x (t ++ settled_in c (bytes_of (xs ++ e.worked)) (ms ++ ns))) (sym (grown_kept h xs e.worked))
-          (subst (stood' (grown g (kept_in e.worked))) (settled_both c c' t xs e.worked ms ns same full) (f _ _ e.stands));
+      stands = subst (λ x. stood' x (t ++ settled_in M.serves c (bytes_of (xs ++ e.worked)) (ms ++ ns))) (sym (grown_kept M.serves h xs e.worked))
+          (subst (stood' (grown g (kept_in M.serves e.worked))) (settled_both M.serves c c' t xs e.worked ms ns same full) (f _ _ e.stands));
       sent = replies-append ms ns ∙ ap (λ x. x ++ replies ns) sent ∙ ap (λ x. answers M s g xs ++ x) e.sent ∙ sym (answers-append M grows s h xs e.worked);
     }
 
@@ -182,27 +183,27 @@ turned_broken M grows holds mid new gave gave' gave'' p q r ids ids' prefix mess
       prefix = ap (λ f. f ++ messages) one.bytes ∙ ap (λ f. bytes_of one.timed ++ f) two.prefix
           ∙ sym (append_assoc (bytes_of one.timed) (bytes_of two.timed) two.others)
           ∙ ap (λ f. f ++ two.others) (sym (bytes-append one.timed two.timed));
-      moments = gave_first gave gave' gave'' one.timed two.timed moments one.moments two.moments;
+      moments = gave_first M.serves gave gave' gave'' one.timed two.timed moments one.moments two.moments;
       replied = replied_more p q r one.marks two.marks two.part one.replied two.replied;
       no_part = two.no_part;
       exactly = λ how is s h t so within again.
-          let parts = again_both c q.confirms t one.timed two.timed one.marks two.marks one.replied.confirms one.full again in
+          let parts = again_both M.serves c q.confirms t one.timed two.timed one.marks two.marks one.replied.confirms one.full again in
           let a = one.all (honest_too is) s h t so within parts.0 in
           exact_more M grows (λ g u. exact ≡ true → new.is_clean → StandsFor new s g u × faulted') (λ g u. exact ≡ true → new.is_clean → StandsFor new s g u
           × faulted)
           s h c q.confirms t one.timed two.timed one.marks two.marks one.replied.confirms one.full (a.goes refl) a.sent
           (λ g u stands store clean. ((stands store clean).0, faulted_too (stands store clean).1))
-          (two.exactly how is s (grown h (kept_in one.timed)) (t ++ settled_in c (bytes_of one.timed) one.marks) a.stands (one.handed t within) parts.1);
+          (two.exactly how is s (grown h (kept_in M.serves one.timed)) (t ++ settled_in M.serves c (bytes_of one.timed) one.marks) a.stands (one.handed t within) parts.1);
       life = λ clean s h t so within again.
-          let parts = again_both c q.confirms t one.timed two.timed one.marks two.marks one.replied.confirms one.full again in
+          let parts = again_both M.serves c q.confirms t one.timed two.timed one.marks two.marks one.replied.confirms one.full again in
           let a = one.all (honest_too (clean_honest clean)) s h t so within parts.0 in
           lived_more M grows (StandsFor new s) s h c q.confirms t one.timed two.timed one.marks two.marks two.part one.replied.confirms one.full
           (a.goes refl) a.sent
-          (two.life clean s (grown h (kept_in one.timed)) (t ++ settled_in c (bytes_of one.timed) one.marks) a.stands (one.handed t within) parts.1);
+          (two.life clean s (grown h (kept_in M.serves one.timed)) (t ++ settled_in M.serves c (bytes_of one.timed) one.marks) a.stands (one.handed t within) parts.1);
       crash = λ is firm s h t so within again.
-          let parts = again_both c q.confirms t one.timed two.timed one.marks two.marks one.replied.confirms one.full again in
-          let g = grown h (kept_in one.timed) in
-          let u = t ++ settled_in c (bytes_of one.timed) one.marks in
+          let parts = again_both M.serves c q.confirms t one.timed two.timed one.marks two.marks one.replied.confirms one.full again in
+          let g = grown h (kept_in M.serves one.timed) in
+          let u = t ++ settled_in M.serves c (bytes_of one.timed) one.marks in
           let a = one.all (honest_too is) s h t so within parts.0 in
           leaves_map M new (λ x r. Lived M (Stands M x r s) s g q.confirms u two.timed two.marks two.part)
           (λ x r. Lived M (Stands M x r s) s h c t ts marks two.part)
@@ -210,10 +211,10 @@ turned_broken M grows holds mid new gave gave' gave'' p q r ids ids' prefix mess
           (a.goes refl) a.sent l)
           (two.crash is (firm_too (honest_too is) firm) s g u a.stands (one.handed t within) parts.1);
       few = λ is clean t again h.
-          let parts = again_both c q.confirms t one.timed two.timed one.marks two.marks one.replied.confirms one.full again in
-          let f = two.few is clean (t ++ settled_in c (bytes_of one.timed) one.marks) parts.1 (one.few (honest_too is) t parts.0 h) in (
+          let parts = again_both M.serves c q.confirms t one.timed two.timed one.marks two.marks one.replied.confirms one.full again in
+          let f = two.few is clean (t ++ settled_in M.serves c (bytes_of one.timed) one.marks) parts.1 (one.few (honest_too is) t parts.0 h) in (
             f.0,
-            subst (λ (u : List ℕ). FewHave new u f.0) (settled_both c q.confirms t one.timed two.timed one.marks two.marks one.replied.confirms one.full)
+            subst (λ (u : List ℕ). FewHave new u f.0) (settled_both M.serves c q.confirms t one.timed two.timed one.marks two.marks one.replied.confirms one.full)
                 f.1,
           );
     }
@@ -230,7 +231,7 @@ turned_life M holds new gave p q ids ids' prefix others messages going counts ex
   marks = one.marks;
   part = [];
   prefix = parts ∙ ap (λ f. f ++ others) one.bytes;
-  moments = gave_all gave one.timed one.moments;
+  moments = gave_all M.serves gave one.timed one.moments;
   replied = one.replied;
   no_part = λ _. refl;
   exactly = λ _ is s h t so within again.
@@ -242,11 +243,11 @@ turned_life M holds new gave p q ids ids' prefix others messages going counts ex
       lived_all M (StandsFor new s) s h p.confirms t one.timed one.marks [] [] [] a.works a.stands (sym (append-nil (replies one.marks) ∙ a.sent)) refl refl;
   crash = λ is firm s h t so within again.
       let a = one.all is s h t so within again in
-      leaves_map M new (λ x r. Stands M x r s (grown h (kept_in one.timed)) (t ++ settled_in p.confirms (bytes_of one.timed) one.marks))
+      leaves_map M new (λ x r. Stands M x r s (grown h (kept_in M.serves one.timed)) (t ++ settled_in M.serves p.confirms (bytes_of one.timed) one.marks))
       (λ x r. Lived M (Stands M x r s) s h p.confirms t one.timed one.marks [])
       (λ x r stands. lived_all M (Stands M x r s) s h p.confirms t one.timed one.marks [] [] [] a.works stands (sym (append-nil (replies one.marks) ∙ a.sent))
       refl refl)
-      (firm_leaves M new s (grown h (kept_in one.timed)) (t ++ settled_in p.confirms (bytes_of one.timed) one.marks) (firm_still is firm) a.stands);
+      (firm_leaves M new s (grown h (kept_in M.serves one.timed)) (t ++ settled_in M.serves p.confirms (bytes_of one.timed) one.marks) (firm_still is firm) a.stands);
   few = λ is clean t again h. (ids', one.few is t again h);
 }
 

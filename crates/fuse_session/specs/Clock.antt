@@ -20,6 +20,7 @@ abbrev pub last_of : Moment → List Moment → Moment
 last_of before [] = before
 last_of before (t ∷ ts) = last_of t ts
 
--- the machine's clock keeps the last moment that it gave
-abbrev pub GaveSystem : {T : Type 0} → System T → System T → List Moment → Type 0
-GaveSystem a b ts = b.last ≡ last_of a.last ts
+-- the machine's clock keeps the last moment that it gave, and asks the same runtime
+pub record GaveSystem {T : Type 0} (a b : System T) (ts : List Moment) : Type 0 where
+  pub last : b.last ≡ last_of a.last ts
+  pub runtime : b.rt ≡ a.rt

@@ -3,7 +3,8 @@ use Rattle.std.specs.Prelude.{ℕ, ◌+◌, ◌≤◌, ◌==◌, ◌&&◌, Bool,
 use Rattle.fuse_request.specs.declared.class.Class.{Class}
 use Rattle.fuse_request.specs.declared.class.Class.TheVariants.{Silent, Bare, Kept}
 use Rattle.fuse_wire.specs.Opcodes.{fuse_interrupt}
-use Rattle.fuse_request.specs.Classes.{class_of}
+use Rattle.fuse_request.specs.Classes.{class_for}
+use Rattle.fuse_request.specs.Opcodes.{OpcodeSet}
 use Rattle.fuse_request.specs.Faults.{first_fault}
 use Rattle.fuse_request.specs.Header.{raw_of}
 use Rattle.fuse_session.specs.declared.counts.SessionCounts.{SessionCounts}
@@ -42,9 +43,10 @@ plus_if a None = None
 plus_if a (Some b) = Some (plus a b)
 
 -- the messages by class, where h was the history before
-abbrev pub counted : History → List Timed → SessionCounts
-counted h [] = none_counted
-counted h (t ∷ ts) = plus (counted_one (class_of t.bytes) (has h (entry_id (timed_entry t))) (is_interrupt t.bytes)) (counted (grown h (entries_at t)) ts)
+abbrev pub counted : OpcodeSet → History → List Timed → SessionCounts
+counted V h [] = none_counted
+counted V h (t ∷ ts) =
+    plus (counted_one (class_for V t.bytes) (has h (entry_id (timed_entry t))) (is_interrupt t.bytes)) (counted V (grown h (entries_at V t)) ts)
 
 -- no count is above n
 pub record IsBelow (c : SessionCounts) (n : ℕ) : Type 0 where

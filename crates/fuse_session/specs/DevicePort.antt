@@ -1,5 +1,5 @@
 -- The state of a port over a FUSE device (own profile).
-use Rattle.std.specs.Prelude.{◌≡◌, ℕ, ◌-◌, ◌^◌, ◌==◌, if◌then◌else◌, true, List, replicate, Option, None, Result}
+use Rattle.std.specs.Prelude.{◌≡◌, ℕ, nat_lt, ◌-◌, ◌^◌, ◌==◌, if◌then◌else◌, true, List, replicate, Option, None, Result}
 use Rattle.std.specs.Io.{ReadsAtMost, WritesAtMost}
 use Rattle.std.specs.Io.KnownBytes.{ReadConsumes, WriteAppends}
 use Rattle.std.specs.declared.io.Error.{Error}
@@ -16,29 +16,16 @@ device_told p = record {
   coming = None;
   sent = None;
   receives = p.receives;
-  has_ended = p.ended;
+  has_ended = nat_lt 0 p.ends;
+  ends = p.ends;
   failures = p.failures;
   receive_failures = p.receive_failures;
   confirms = true;
   gone = replicate p.gone 0;
 }
 
--- its reader was read once, with this answer
-pub record WasRead (old new : Option (List ℕ)) (result : Received) (buffer : List ℕ) : Type 0 where
-  pub read : Result ℕ Error
-  pub within : ReadsAtMost read buffer
-  pub bytes : ReadConsumes old new read buffer
-  pub is : result ≡ read_told read
-
 -- a slice that nobody waits for is Gone, unless 2^64 - 1 slices were before
 abbrev pub counted_gone : ℕ → Sent → Sent
 counted_gone before Gone = if before == 2 ^ 64 - 1 then Failed else Gone
 counted_gone before (Took n) = Took n
 counted_gone before Failed = Failed
-
--- its writer was written to once, with this answer
-pub record WasWritten (old new : Option (List ℕ)) (gone : ℕ) (result : Sent) (bytes : List ℕ) : Type 0 where
-  pub write : Result ℕ Error
-  pub within : WritesAtMost write bytes
-  pub appended : WriteAppends old new write bytes
-  pub is : result ≡ counted_gone gone (write_told write)

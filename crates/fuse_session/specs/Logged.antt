@@ -27,6 +27,9 @@ last_more m (x ∷ xs) ys = last_more x xs ys
 
 pub system_logged : {T : Type 0} → IsLog (λ (a b : System T). GaveSystem a b)
 system_logged = record {
-  none = λ c. refl;
-  onward = λ a b c xs ys one two. two ∙ ap (λ m. last_of m ys) one ∙ sym (last_more a.last xs ys);
+  none = λ c. record { last = refl; runtime = refl };
+  onward = λ a b c xs ys one two. record {
+    last = two.last ∙ ap (λ m. last_of m ys) one.last ∙ sym (last_more a.last xs ys);
+    runtime = two.runtime ∙ one.runtime;
+  };
 }

@@ -1,5 +1,5 @@
 -- The state of a port in memory (own profile).
-use Rattle.std.specs.Prelude.{ℕ, ◌-◌, ◌==◌, if◌then◌else◌, min, List, [], ◌∷◌, drop, length, Some}
+use Rattle.std.specs.Prelude.{◌≡◌, ◌⊎◌, ◌<◌, ◌+◌, ℕ, nat_lt, ◌-◌, ◌==◌, if◌then◌else◌, min, List, [], ◌∷◌, drop, length, Some, vec_capacity, vec_len}
 use Rattle.fuse_session.specs.declared.memory.Arrival.{Arrival}
 use Rattle.fuse_session.specs.declared.memory.Arrival.TheVariants as arrivals
 use Rattle.fuse_session.specs.declared.memory.MemoryPort.{MemoryPort}
@@ -16,7 +16,8 @@ memory_told p = record {
   coming = Some (drop p.at p.input.items);
   sent = Some p.sent.items;
   receives = p.receives;
-  has_ended = p.ended;
+  has_ended = nat_lt 0 p.ends;
+  ends = p.ends;
   failures = p.failures;
   receive_failures = p.receive_failures;
   confirms = p.confirms;
@@ -53,3 +54,17 @@ abbrev pub sent_by : Outcome → ℕ → Sent
 sent_by (outcomes.Take most) len = sent.Took (min len most)
 sent_by outcomes.Gone len = sent.Gone
 sent_by outcomes.Failed len = sent.Failed
+
+-- how many bytes of a slice it is to keep
+abbrev pub kept_by : Outcome → ℕ → ℕ
+kept_by (outcomes.Take most) len = min len most
+kept_by outcomes.Gone len = len
+kept_by outcomes.Failed len = 0
+
+-- so many more bytes, or one more place, don't fit what it has allocated
+abbrev pub LacksRoom : MemoryPort → ℕ → Type 0
+LacksRoom p n = (vec_capacity p.sent < vec_len p.sent + n) ⊎ (vec_capacity p.gone < vec_len p.gone + 1)
+
+-- the outcome decides the result; but where memory is missing, it fails
+abbrev pub Answers : MemoryPort → Outcome → ℕ → Sent → Type 0
+Answers p o len result = (result ≡ sent_by o len) ⊎ ((result ≡ sent.Failed) × LacksRoom p (kept_by o len))

@@ -1,25 +1,19 @@
 -- How the steps of a session move a keeper, and the ids that they hand on, in the clauses of private functions alone (own profile).
-use Rattle.std.specs.Prelude.{◌≡◌, ◌<◌, ◌≤◌, Bool, true, false, List, ℕ, length}
+use Rattle.std.specs.Prelude.{◌≡◌, ◌<◌, Bool, true, false, List, ℕ}
 use Rattle.fuse_keeper.specs.History.{Includes}
 use Rattle.fuse_keeper.specs.Model.{Model, IsRowed}
 use Rattle.fuse_keeper.specs.Stands.{Records}
-use Rattle.fuse_keeper.specs.KeeperState.{KeeperState, IsFirm}
-use Rattle.fuse_session.specs.Settling.{SomeAndMore}
-
--- it is firm if it was
-abbrev pub KeepsFirm : {M : Model} → KeeperState M → KeeperState M → Type 0
-KeepsFirm old new = new.is_honest → IsFirm old → IsFirm new
+use Rattle.fuse_keeper.specs.KeeperState.{KeeperState}
+use Rattle.fuse_session.specs.Starts.{Kept, UnderAtMostMore}
 
 -- the records that are held are some of those of before, and of at most 16 ids more, which are to be handed on
-pub record HandsOn {M : Model} (before : Records) (k : KeeperState M) (pending : List ℕ) : Type 0 where
+pub record HandsOn {M : Model} (before : Kept) (k : KeeperState M) (pending : List ℕ) : Type 0 where
   pub rows : M.Rows
   pub records : Records
   pub held : k.holds rows records
   pub rowed : IsRowed M rows
-  pub more : List ℕ
-  pub few : length more ≤ 16
-  pub some : SomeAndMore before more records
-  pub all : Includes pending more
+  pub under : UnderAtMostMore before (record { records = records; lots = k.lots })
+  pub all : Includes pending under.more
 
 -- the port failed exactly where this is so
 abbrev pub FailedBy : Bool → ℕ → ℕ → Type 0

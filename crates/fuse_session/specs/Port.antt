@@ -8,14 +8,15 @@ use Rattle.fuse_session.specs.declared.port.Received.TheVariants.{Got, End, Fail
 use Rattle.fuse_session.specs.declared.port.Sent.{Sent}
 use Rattle.fuse_session.specs.declared.port.Sent.TheVariants.{Took, Gone, Failed}
 
--- the bytes to come and the bytes sent, where they are known; how often it was asked to receive and whether it has
--- ended; how often it failed, and how often in receiving; whether an answer taken whole counts as taken by the
--- kernel; at which places in the bytes sent a slice ends that was answered Gone
+-- the bytes to come and the bytes sent, where they are known; how often it was asked to receive; whether it has ended,
+-- and how often a receive said so; how often it failed, and how often in receiving; whether an answer taken whole
+-- counts as taken by the kernel; at which places in the bytes sent a slice ends that was answered Gone
 pub record PortState : Type 0 where
   pub coming : Option (List ℕ)
   pub sent : Option (List ℕ)
   pub receives : ℕ
   pub has_ended : Bool
+  pub ends : ℕ
   pub failures : ℕ
   pub receive_failures : ℕ
   pub confirms : Bool
@@ -41,6 +42,11 @@ ended_by (Got n) ended = ended
 ended_by End ended = true
 ended_by ReceiveFailed ended = ended
 
+abbrev pub ends_of : Received → ℕ
+ends_of (Got n) = 0
+ends_of End = 1
+ends_of ReceiveFailed = 0
+
 abbrev pub receive_failures_of : Received → ℕ
 receive_failures_of (Got n) = 0
 receive_failures_of End = 0
@@ -51,6 +57,7 @@ pub record Receives (old new : PortState) (result : Received) (buffer : List ℕ
   pub sent : new.sent ≡ old.sent
   pub receives : new.receives ≡ old.receives + 1
   pub has_ended : new.has_ended ≡ ended_by result old.has_ended
+  pub ends : new.ends ≡ old.ends + ends_of result
   pub failures : new.failures ≡ old.failures + receive_failures_of result
   pub receive_failures : new.receive_failures ≡ old.receive_failures + receive_failures_of result
   pub confirms : new.confirms ≡ old.confirms
@@ -83,6 +90,7 @@ pub record IsQuiet (old new : PortState) : Type 0 where
   pub coming : new.coming ≡ old.coming
   pub receives : new.receives ≡ old.receives
   pub has_ended : new.has_ended ≡ old.has_ended
+  pub ends : new.ends ≡ old.ends
   pub receive_failures : new.receive_failures ≡ old.receive_failures
   pub confirms : new.confirms ≡ old.confirms
 
@@ -127,11 +135,6 @@ pub record SentPrefix (old new : PortState) (bytes rest : List ℕ) : Type 0 whe
   pub gone : new.gone ≡ old.gone
   pub quiet : IsQuiet old new
 
--- `became a b`: b is what became of a
-pub record IsPath {P : Type 0} (became : P → P → Type 0) : Type 0 where
-  pub none : (p : P) → became p p
-  pub onward : (a b c : P) → became a b → became b c → became a c
-
 -- a port that was not used yet
 abbrev pub fresh : Option (List ℕ) → Option (List ℕ) → Bool → PortState
 fresh coming sent confirms = record {
@@ -139,6 +142,7 @@ fresh coming sent confirms = record {
   sent = sent;
   receives = 0;
   has_ended = false;
+  ends = 0;
   failures = 0;
   receive_failures = 0;
   confirms = confirms;

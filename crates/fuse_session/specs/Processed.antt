@@ -6,8 +6,9 @@ use Rattle.fuse_answer.specs.Said.{Said}
 use Rattle.fuse_answer.specs.Wire.{wire}
 use Rattle.fuse_request.specs.declared.class.Class.{Class}
 use Rattle.fuse_request.specs.declared.class.Class.TheVariants.{Silent, Bare, Kept}
-use Rattle.fuse_request.specs.Classes.{class_of, is_zero}
+use Rattle.fuse_request.specs.Classes.{class_for, is_zero}
 use Rattle.fuse_request.specs.Header.{raw_of}
+use Rattle.fuse_request.specs.Opcodes.{OpcodeSet}
 use Rattle.fuse_request.specs.Places.{asked_at}
 use Rattle.fuse_request.specs.Stream.{joined}
 use Rattle.fuse_wire.specs.Opcodes.{fuse_destroy}
@@ -40,12 +41,13 @@ entry_if Silent e = []
 entry_if (Bare errno) e = []
 entry_if Kept e = e ∷ []
 
-abbrev pub entries_at : Timed → List Entry
-entries_at t = entry_if (class_of t.bytes) (timed_entry t)
+-- `V` are the opcodes that the file system serves beyond the profile
+abbrev pub entries_at : OpcodeSet → Timed → List Entry
+entries_at V t = entry_if (class_for V t.bytes) (timed_entry t)
 
-abbrev pub kept_in : List Timed → List Entry
-kept_in [] = []
-kept_in (t ∷ ts) = entries_at t ++ kept_in ts
+abbrev pub kept_in : OpcodeSet → List Timed → List Entry
+kept_in V [] = []
+kept_in V (t ∷ ts) = entries_at V t ++ kept_in V ts
 
 -- the answer of a class, by the one said of the id
 abbrev pub answer_by : Class → Option Said → ℕ → List ℕ
@@ -56,14 +58,14 @@ answer_by Kept (Some a) unique = wire a.errno a.body unique
 
 -- the answer to a message, where the history is g
 abbrev pub answered : (M : Model) → M.State → History → Timed → List ℕ
-answered M s g t = answer_by (class_of t.bytes) (said M s g (message_id t.bytes)) (unique_of t.bytes)
+answered M s g t = answer_by (class_for M.serves t.bytes) (said M s g (message_id t.bytes)) (unique_of t.bytes)
 
 abbrev pub answers : (M : Model) → M.State → History → List Timed → List (List ℕ)
 answers M s g ts = map (answered M s g) ts
 
 -- the bytes that are to be sent for messages
 abbrev pub out : (M : Model) → M.State → History → List Timed → List ℕ
-out M s h ts = joined (answers M s (grown h (kept_in ts)) ts)
+out M s h ts = joined (answers M s (grown h (kept_in M.serves ts)) ts)
 
 -- a kept DESTROY, and one that is answered without an error
 abbrev pub destroys_by : Class → ℕ → Bool
@@ -71,32 +73,32 @@ destroys_by Silent opcode = false
 destroys_by (Bare errno) opcode = false
 destroys_by Kept opcode = opcode == fuse_destroy
 
-abbrev pub destroys : List ℕ → Bool
-destroys bytes = destroys_by (class_of bytes) (raw_of bytes).opcode
+abbrev pub destroys : OpcodeSet → List ℕ → Bool
+destroys V bytes = destroys_by (class_for V bytes) (raw_of bytes).opcode
 
 abbrev pub says_zero : Option Said → Bool
 says_zero None = false
 says_zero (Some a) = a.errno == 0
 
 abbrev pub Ends : (M : Model) → M.State → History → Timed → Type 0
-Ends M s g t = (destroys t.bytes ≡ true) × (says_zero (said M s g (message_id t.bytes)) ≡ true)
+Ends M s g t = (destroys M.serves t.bytes ≡ true) × (says_zero (said M s g (message_id t.bytes)) ≡ true)
 
 -- processed to the end: none is zero, and none ends the session
 abbrev pub GoesOn : (M : Model) → M.State → History → List Timed → Type 0
 GoesOn M s h [] = Unit {0}
-GoesOn M s h (t ∷ ts) = (is_zero t.bytes ≡ false) × (¬ Ends M s (grown h (entries_at t)) t) × GoesOn M s (grown h (entries_at t)) ts
+GoesOn M s h (t ∷ ts) = (is_zero t.bytes ≡ false) × (¬ Ends M s (grown h (entries_at M.serves t)) t) × GoesOn M s (grown h (entries_at M.serves t)) ts
 
 -- processed: none is zero, and nothing comes after one that ends the session
 abbrev pub Works : (M : Model) → M.State → History → List Timed → Type 0
 Works M s h [] = Unit {0}
-Works M s h (t ∷ ts) = (is_zero t.bytes ≡ false) × ((ts ≡ []) ⊎ (¬ Ends M s (grown h (entries_at t)) t)) × Works M s (grown h (entries_at t)) ts
+Works M s h (t ∷ ts) = (is_zero t.bytes ≡ false) × ((ts ≡ []) ⊎ (¬ Ends M s (grown h (entries_at M.serves t)) t)) × Works M s (grown h (entries_at M.serves t)) ts
 
 -- the last message ends the session
 pub record EndsLast (M : Model) (s : M.State) (h : History) (timed : List Timed) : Type 0 where
   pub earlier : List Timed
   pub one : Timed
   pub parts : timed ≡ earlier ++ one ∷ []
-  pub ends : Ends M s (grown h (kept_in timed)) one
+  pub ends : Ends M s (grown h (kept_in M.serves timed)) one
 
 -- the next message is zero
 abbrev pub StartsZero : List (List ℕ) → Type 0
@@ -109,10 +111,10 @@ moment_if Silent t = []
 moment_if (Bare errno) t = []
 moment_if Kept t = t ∷ []
 
-abbrev pub moments_in : List Timed → List Moment
-moments_in [] = []
-moments_in (t ∷ ts) = moment_if (class_of t.bytes) t.moment ++ moments_in ts
+abbrev pub moments_in : OpcodeSet → List Timed → List Moment
+moments_in V [] = []
+moments_in V (t ∷ ts) = moment_if (class_for V t.bytes) t.moment ++ moments_in V ts
 
 -- their moments are the first that were given
-abbrev pub GaveFirst : (List Moment → Type 0) → List Timed → Type 0
-GaveFirst gave timed = (more : List Moment) × gave (moments_in timed ++ more)
+abbrev pub GaveFirst : OpcodeSet → (List Moment → Type 0) → List Timed → Type 0
+GaveFirst V gave timed = (more : List Moment) × gave (moments_in V timed ++ more)

@@ -1,5 +1,5 @@
 -- How the kernel is asked to send its pending requests again (fuse.h: FUSE_NOTIFY_RESEND, FUSE_HAS_RESEND).
-use Rattle.std.specs.Prelude.{◌≡◌, Bool, true, false, ◌==◌, bit_and, Result, Ok, Err, Option, Some, None}
+use Rattle.std.specs.Prelude.{◌≡◌, Bool, true, false, List, [], ◌==◌, bit_and, Result, Ok, Err, Option, Some, None}
 use Rattle.fuse_wire.specs.declared.init_flags.InitFlags.{InitFlags}
 use Rattle.fuse_answer.specs.Notice.{resend_bytes}
 use Rattle.fuse_init.specs.declared.settings.Settings.{Settings}
@@ -10,6 +10,7 @@ use Rattle.fuse_keeper.specs.KeeperState.{KeeperState}
 use Rattle.fuse_session.specs.declared.resend.ResumeFault.{ResumeFault}
 use Rattle.fuse_session.specs.declared.resend.ResumeFault.TheVariants.{NotOffered, PortFailed, Store}
 use Rattle.fuse_session.specs.Port.{PortState, SentWhole, SentPart}
+use Rattle.fuse_session.specs.Transcript.{PortEvent, Hands}
 
 -- FUSE_HAS_RESEND, bit 39 of the flags
 abbrev pub has_resend : InitFlags → Bool
@@ -42,3 +43,10 @@ of_store (Ok done) = Ok done
 of_store (Err NotOffered) = Ok tt
 of_store (Err PortFailed) = Ok tt
 of_store (Err (Store fault)) = Err fault
+
+-- the slices that were handed to the port: those of the notice and no others
+abbrev pub NoticeHanded : (List PortEvent → Type 0) → Result (Unit {0}) ResumeFault → Type 0
+NoticeHanded became (Ok done) = Hands became resend_bytes true
+NoticeHanded became (Err NotOffered) = became []
+NoticeHanded became (Err PortFailed) = Hands became resend_bytes false
+NoticeHanded became (Err (Store fault)) = became []

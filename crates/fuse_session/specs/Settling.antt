@@ -3,7 +3,8 @@ use Rattle.std.specs.Prelude.{◌≡◌, ◌⊎◌, ◌≤◌, ◌||◌, ℕ, Bo
 use Rattle.std.specs.Io.KnownBytes.{Appends, append_known}
 use Rattle.fuse_request.specs.declared.class.Class.{Class}
 use Rattle.fuse_request.specs.declared.class.Class.TheVariants.{Silent, Bare, Kept}
-use Rattle.fuse_request.specs.Classes.{class_of}
+use Rattle.fuse_request.specs.Classes.{class_for}
+use Rattle.fuse_request.specs.Opcodes.{OpcodeSet}
 use Rattle.fuse_request.specs.Stream.{joined}
 use Rattle.fuse_keeper.specs.History.{is_in}
 use Rattle.fuse_keeper.specs.Model.{Model, IsRowed}
@@ -27,14 +28,14 @@ settles_if true Silent i = []
 settles_if true (Bare errno) i = []
 settles_if true Kept i = i ∷ []
 
-abbrev pub settles : Bool → List ℕ → Mark → List ℕ
-settles confirms m mark = settles_if (confirms || mark.gone) (class_of m) (message_id m)
+abbrev pub settles : OpcodeSet → Bool → List ℕ → Mark → List ℕ
+settles V confirms m mark = settles_if (confirms || mark.gone) (class_for V m) (message_id m)
 
 -- the ids that are settled by the answers to the first of these messages
-abbrev pub settled_in : Bool → List (List ℕ) → List Mark → List ℕ
-settled_in confirms [] marks = []
-settled_in confirms (m ∷ ms) [] = []
-settled_in confirms (m ∷ ms) (mark ∷ marks) = settles confirms m mark ++ settled_in confirms ms marks
+abbrev pub settled_in : OpcodeSet → Bool → List (List ℕ) → List Mark → List ℕ
+settled_in V confirms [] marks = []
+settled_in V confirms (m ∷ ms) [] = []
+settled_in V confirms (m ∷ ms) (mark ∷ marks) = settles V confirms m mark ++ settled_in V confirms ms marks
 
 -- whether a kept message comes though its id is settled
 abbrev pub comes_again : List ℕ → Class → ℕ → Bool
@@ -42,14 +43,14 @@ comes_again t Silent i = false
 comes_again t (Bare errno) i = false
 comes_again t Kept i = is_in t i
 
-abbrev pub MayCome : List ℕ → List ℕ → Type 0
-MayCome t m = comes_again t (class_of m) (message_id m) ≡ false
+abbrev pub MayCome : OpcodeSet → List ℕ → List ℕ → Type 0
+MayCome V t m = comes_again t (class_for V m) (message_id m) ≡ false
 
 -- no kept message has an id that was settled before, or by the answer to an earlier message
-abbrev pub NoneComesAgain : Bool → List ℕ → List (List ℕ) → List Mark → Type 0
-NoneComesAgain confirms t [] marks = Unit {0}
-NoneComesAgain confirms t (m ∷ ms) [] = MayCome t m × NoneComesAgain confirms t ms []
-NoneComesAgain confirms t (m ∷ ms) (mark ∷ marks) = MayCome t m × NoneComesAgain confirms (t ++ settles confirms m mark) ms marks
+abbrev pub NoneComesAgain : OpcodeSet → Bool → List ℕ → List (List ℕ) → List Mark → Type 0
+NoneComesAgain V confirms t [] marks = Unit {0}
+NoneComesAgain V confirms t (m ∷ ms) [] = MayCome V t m × NoneComesAgain V confirms t ms []
+NoneComesAgain V confirms t (m ∷ ms) (mark ∷ marks) = MayCome V t m × NoneComesAgain V confirms (t ++ settles V confirms m mark) ms marks
 
 -- one place for each answer that was answered Gone: where it ends in the bytes sent, if those are known
 abbrev pub PlaceFirst : Bool → Option (List ℕ) → (List ℕ → Type 0) → List ℕ → Type 0

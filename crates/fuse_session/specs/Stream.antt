@@ -1,5 +1,5 @@
 -- The state of a port over a reader and a writer (own profile).
-use Rattle.std.specs.Prelude.{ℕ, List, [], Option}
+use Rattle.std.specs.Prelude.{ℕ, nat_lt, List, [], Option}
 use Rattle.fuse_session.specs.declared.stream.StreamPort.{StreamPort}
 use Rattle.fuse_session.specs.Port.{PortState}
 
@@ -9,7 +9,8 @@ stream_told remaining contents p = record {
   coming = remaining p.reader;
   sent = contents p.writer;
   receives = p.receives;
-  has_ended = p.ended;
+  has_ended = nat_lt 0 p.ends;
+  ends = p.ends;
   failures = p.failures;
   receive_failures = p.receive_failures;
   confirms = p.confirms;

@@ -1,12 +1,13 @@
 // The answers of a group, and how they are sent.
-ghost use Rattle.std.specs.Prelude.{◌≡◌, ◌≤◌, ◌<◌, ◌+◌, ◌||◌, [], length, drop, All, IfOk, IfErr};
+ghost use Rattle.std.specs.Prelude.{◌≡◌, ◌≤◌, ◌<◌, ◌+◌, ◌||◌, [], true, length, drop, All, IfOk, IfErr};
 ghost use Rattle.std.specs.Prelude.{OnOk};
 ghost use Rattle.fuse_answer.specs.Wire.{wire};
 ghost use Rattle.fuse_request.specs.Stream.{IsMessage};
-ghost use Rattle.fuse_request.specs.Classes.{class_of};
+ghost use Rattle.fuse_request.specs.Classes.{class_for};
 ghost use Rattle.fuse_session.specs.Processed.{unique_of};
 ghost use Rattle.fuse_keeper.specs.Group.{ids_of};
 ghost use Rattle.fuse_session.specs.Port.{IsYoung, SentWhole, reports_gone};
+ghost use Rattle.fuse_session.specs.Transcript.{Hands};
 ghost use Rattle.fuse_session.specs.Group.{answers_in, wires, AreEnough, head_wire, left_by};
 ghost use Rattle.fuse_session.specs.Group.{SendFails, SentNext, SentAll, SentSome, classes_in};
 
@@ -14,7 +15,7 @@ use crate::fault::Fault;
 use crate::port::{Passed, Port, PortFailed, send_whole};
 use bytes::Bytes;
 use fuse_answer::{Answer, write_answer};
-use fuse_keeper::Done;
+use fuse_keeper::{Done, Keeper};
 use fuse_request::Class;
 use fuse_wire::{Errno, Id};
 use std::alloc::Global;
@@ -29,9 +30,10 @@ fn send_reply<P: Port>(
     requires young { IsYoung (P.told port.old) }
     ensures ok { IfOk result (λ passed. SentWhole (P.told port.old) (P.told port.new)
         (wire answer.now.errno answer.now.body unique) (reports_gone passed)) }
-    ensures err { IfErr result (λ fault. SendFails fault (P.told port.old) (P.told port.new)
+    ensures hands { OnOk result (Hands (P.became port.old port.new)
+        (wire answer.now.errno answer.now.body unique) true) }
+    ensures err { IfErr result (λ fault. SendFails fault (P.became port.old port.new) (P.told port.old) (P.told port.new)
         (wire answer.now.errno answer.now.body unique)) }
-    ensures same { P.became port.old port.new }
 {
     let mut bytes = Vec::new(alloc);
     if write_answer(unique, answer, &mut bytes).is_err() {
@@ -54,7 +56,7 @@ fn is_settled<P: Port>(port: &P, passed: Passed) -> bool
 }
 
 // Sends a recorded answer. Its id is pending then, where the answer settles it.
-fn send_kept<P: Port>(
+fn send_kept<K: Keeper, P: Port>(
     alloc: Global,
     port: &mut P,
     message: &[u8],
@@ -62,15 +64,14 @@ fn send_kept<P: Port>(
     pending: &mut Vec<Id>,
 ) -> Result<(), Fault>
     requires message { IsMessage message.now }
-    requires kept { class_of message.now ≡ Class.Kept }
+    requires kept { class_for K.model.serves message.now ≡ Class.Kept }
     requires young { IsYoung (P.told port.old) }
-    ensures ok { OnOk result (SentNext (P.told port.old) (P.told port.new) message.now
+    ensures ok { OnOk result (SentNext K.model.serves (P.became port.old port.new) (P.told port.old) (P.told port.new) message.now
         (wire answer.now.errno answer.now.body (unique_of message.now))
         (ids_of pending.old.items) (ids_of pending.new.items)) }
     ensures few { length pending.new.items ≤ length pending.old.items + 1 }
-    ensures err { IfErr result (λ fault. SendFails fault (P.told port.old) (P.told port.new)
+    ensures err { IfErr result (λ fault. SendFails fault (P.became port.old port.new) (P.told port.old) (P.told port.new)
         (wire answer.now.errno answer.now.body (unique_of message.now))) }
-    ensures same { P.became port.old port.new }
 {
     if pending.reserve(1).is_err() {
         return Err(Fault::Memory);
@@ -97,16 +98,17 @@ fn send_bare<P: Port>(
     requires young { IsYoung (P.told port.old) }
     ensures ok { IfOk result (λ passed. SentWhole (P.told port.old) (P.told port.new)
         (wire errno.0 [] (unique_of message.now)) (reports_gone passed)) }
-    ensures err { IfErr result (λ fault. SendFails fault (P.told port.old) (P.told port.new)
+    ensures hands { OnOk result (Hands (P.became port.old port.new)
+        (wire errno.0 [] (unique_of message.now)) true) }
+    ensures err { IfErr result (λ fault. SendFails fault (P.became port.old port.new) (P.told port.old) (P.told port.new)
         (wire errno.0 [] (unique_of message.now))) }
-    ensures same { P.became port.old port.new }
 {
     let answer = Answer::refusal(alloc, errno);
     send_reply(alloc, port, fuse_request::unique_of(message), &answer)
 }
 
 // Sends the answer to one message of this class, and says how many answers are used then.
-fn send_next<P: Port>(
+fn send_next<K: Keeper, P: Port>(
     alloc: Global,
     port: &mut P,
     message: &[u8],
@@ -116,23 +118,22 @@ fn send_next<P: Port>(
     pending: &mut Vec<Id>,
 ) -> Result<usize, Fault>
     requires message { IsMessage message.now }
-    requires class { class ≡ class_of message.now }
+    requires class { class ≡ class_for K.model.serves message.now }
     requires next { next ≤ length dones.now }
-    requires enough { class_of message.now ≡ Class.Kept → next < length dones.now }
+    requires enough { class_for K.model.serves message.now ≡ Class.Kept → next < length dones.now }
     requires young { IsYoung (P.told port.old) }
     ensures next { IfOk result (λ n. n ≤ length dones.now) }
     ensures left { IfOk result (λ n. drop n (answers_in dones.now)
-        ≡ left_by (class_of message.now) (drop next (answers_in dones.now))) }
-    ensures ok { OnOk result (SentNext (P.told port.old) (P.told port.new) message.now
-        (head_wire (class_of message.now) (unique_of message.now)
+        ≡ left_by (class_for K.model.serves message.now) (drop next (answers_in dones.now))) }
+    ensures ok { OnOk result (SentNext K.model.serves (P.became port.old port.new) (P.told port.old) (P.told port.new) message.now
+        (head_wire (class_for K.model.serves message.now) (unique_of message.now)
         (drop next (answers_in dones.now)))
         (ids_of pending.old.items) (ids_of pending.new.items)) }
     ensures few { IfOk result
         (λ n. length pending.new.items + next ≤ length pending.old.items + n) }
-    ensures err { IfErr result (λ fault. SendFails fault (P.told port.old) (P.told port.new)
-        (head_wire (class_of message.now) (unique_of message.now)
+    ensures err { IfErr result (λ fault. SendFails fault (P.became port.old port.new) (P.told port.old) (P.told port.new)
+        (head_wire (class_for K.model.serves message.now) (unique_of message.now)
         (drop next (answers_in dones.now)))) }
-    ensures same { P.became port.old port.new }
 {
     match class {
         Class::Silent => Ok(next),
@@ -140,7 +141,7 @@ fn send_next<P: Port>(
             Ok(_) => Ok(next),
             Err(fault) => Err(fault),
         },
-        Class::Kept => match send_kept(alloc, port, message, &dones[next].answer, pending) {
+        Class::Kept => match send_kept::<K, P>(alloc, port, message, &dones[next].answer, pending) {
             Ok(()) => Ok(next + 1),
             Err(fault) => Err(fault),
         },
@@ -149,7 +150,7 @@ fn send_next<P: Port>(
 
 /// Sends the answers to messages of these classes, in order. The ids that they settle are pending
 /// then.
-pub(crate) fn send_answers<P: Port>(
+pub(crate) fn send_answers<K: Keeper, P: Port>(
     alloc: Global,
     port: &mut P,
     messages: &[Bytes],
@@ -158,22 +159,21 @@ pub(crate) fn send_answers<P: Port>(
     pending: &mut Vec<Id>,
 ) -> Result<(), Fault>
     requires messages { All IsMessage messages.now }
-    requires classes { classes.now ≡ classes_in messages.now }
-    requires enough { AreEnough messages.now (answers_in dones.now) }
+    requires classes { classes.now ≡ classes_in K.model.serves messages.now }
+    requires enough { AreEnough K.model.serves messages.now (answers_in dones.now) }
     requires young { IsYoung (P.told port.old) }
-    ensures ok { OnOk result (SentAll (P.told port.old) (P.told port.new) messages.now
-        (wires messages.now (answers_in dones.now))
+    ensures ok { OnOk result (SentAll K.model.serves (P.became port.old port.new) (P.told port.old) (P.told port.new) messages.now
+        (wires K.model.serves messages.now (answers_in dones.now))
         (ids_of pending.old.items) (ids_of pending.new.items)) }
     ensures few { OnOk result
         (length pending.new.items ≤ length pending.old.items + length dones.now) }
-    ensures err { IfErr result (λ fault. SentSome (P.told port.old) (P.told port.new)
-        (wires messages.now (answers_in dones.now)) fault) }
-    ensures same { P.became port.old port.new }
+    ensures err { IfErr result (λ fault. SentSome (P.became port.old port.new) (P.told port.old) (P.told port.new)
+        (wires K.model.serves messages.now (answers_in dones.now)) fault) }
 {
     let mut next = 0;
     for (place, message) in messages.iter().enumerate() {
         let bytes = message.as_slice();
-        match send_next(alloc, port, bytes, classes[place], dones, next, pending) {
+        match send_next::<K, P>(alloc, port, bytes, classes[place], dones, next, pending) {
             Ok(used) => next = used,
             Err(fault) => return Err(fault),
         }

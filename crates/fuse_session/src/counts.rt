@@ -7,7 +7,7 @@ ghost use Rattle.fuse_session.specs.Group.{tallied, repeats_in, head_repeat, lef
 
 use crate::gather::has_opcode;
 use bytes::Bytes;
-use fuse_keeper::Done;
+use fuse_keeper::{Done, Keeper};
 use fuse_request::opcode::INTERRUPT;
 use fuse_request::{Class, decode};
 
@@ -127,11 +127,15 @@ fn used_after(class: Class, dones: &[Done], next: usize) -> usize
 }
 
 /// Counts the messages of a group, which are of these classes, by the answers to them.
-pub(crate) fn count_all(messages: &[Bytes], classes: &[Class], dones: &[Done]) -> SessionCounts
+pub(crate) fn count_all<K: Keeper>(
+    messages: &[Bytes],
+    classes: &[Class],
+    dones: &[Done],
+) -> SessionCounts
     requires messages { All IsMessage messages.now }
-    requires classes { classes.now ≡ classes_in messages.now }
+    requires classes { classes.now ≡ classes_in K.model.serves messages.now }
     requires few { length messages.now < 2 ^ 60 }
-    ensures tallied { result ≡ tallied messages.now (repeats_in dones.now) }
+    ensures tallied { result ≡ tallied K.model.serves messages.now (repeats_in dones.now) }
     ensures below { IsBelow result (length messages.now) }
 {
     let mut counts = SessionCounts::NONE;

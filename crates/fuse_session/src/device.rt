@@ -4,8 +4,8 @@ ghost use Rattle.fuse_session.specs.Device.{os_number, read_refused, write_refus
 ghost use Rattle.fuse_session.specs.Device.{read_told, write_told};
 
 use crate::port::{Port, Received, Sent};
+use crate::source::{Sink, Source};
 use std::io;
-use std::io::{Read, Write};
 
 // The request has ended: before it was read, or before it was answered.
 const ENOENT: u32 = 2;
@@ -82,13 +82,14 @@ pub struct DevicePort<R, W> {
     receives: u64,
     failures: u64,
     receive_failures: u64,
-    ended: bool,
+    ends: u64,
     gone: u64,
 
+    ghost ended: { ends ≤ receives },
     ghost fewer: { receive_failures ≤ failures },
 }
 
-impl<R: Read + Drop, W: Write + Drop> DevicePort<R, W> {
+impl<R: Source, W: Sink> DevicePort<R, W> {
     ghost use Rattle.std.specs.Prelude.{None, true};
     ghost use Rattle.fuse_session.specs.DevicePort.{device_told};
     ghost use Rattle.fuse_session.specs.Port.{fresh};
@@ -105,7 +106,7 @@ impl<R: Read + Drop, W: Write + Drop> DevicePort<R, W> {
             receives: 0,
             failures: 0,
             receive_failures: 0,
-            ended: false,
+            ends: 0,
             gone: 0,
         }
     }
@@ -118,14 +119,17 @@ impl<R: Read + Drop, W: Write + Drop> DevicePort<R, W> {
     }
 }
 
-impl<R: Read + Drop, W: Write + Drop> Port for DevicePort<R, W> {
-    ghost use Rattle.fuse_session.specs.DevicePort.{device_told, WasRead, WasWritten};
+impl<R: Source, W: Sink> Port for DevicePort<R, W> {
+    ghost use Rattle.fuse_session.specs.DevicePort.{device_told, counted_gone};
+    ghost use Rattle.fuse_session.specs.Calls.{WasRead, WasWritten};
     ghost use Rattle.fuse_session.specs.Port.{IsYoung, Receives, Sends};
     ghost use Rattle.fuse_request.specs.declared.header.TheConstants.{MAX_MESSAGE as max_message};
+    ghost use Rattle.fuse_session.specs.DeviceSteps.{DeviceSteps, device_path, device_tells};
+    ghost use Rattle.fuse_session.specs.Transcript.{one_receive, one_send};
 
     ghost told = { device_told };
 
-    ghost became = { λ a b. Unit {0} };
+    ghost became = { DeviceSteps R.was_read W.was_written };
 
     // One read.
     fn receive(&mut self, buffer: &mut [u8]) -> Received
@@ -133,16 +137,18 @@ impl<R: Read + Drop, W: Write + Drop> Port for DevicePort<R, W> {
         requires room { max_message ≤ length buffer.old }
         ensures received { Receives (device_told self.old) (device_told self.new)
             result buffer.new }
-        ensures same { Unit {0} }
+        ensures same { DeviceSteps R.was_read W.was_written self.old self.new
+            (one_receive result buffer.new) }
         // By the result of the read.
-        ensures read { WasRead (R.remaining self.old.reader) (R.remaining self.new.reader) result
-            buffer.new }
+        ensures read { WasRead (R.was_read self.old.reader self.new.reader) read_told
+            (R.remaining self.old.reader) (R.remaining self.new.reader) result buffer.new }
+        ensures writer { self.new.writer ≡ self.old.writer }
     {
         self.receives += 1;
-        let received = received_by(self.reader.read(buffer));
+        let received = received_by(self.reader.read_once(buffer));
         match received {
             Received::Got(_) => {}
-            Received::End => self.ended = true,
+            Received::End => self.ends += 1,
             Received::Failed => {
                 self.failures += 1;
                 self.receive_failures += 1;
@@ -155,12 +161,15 @@ impl<R: Read + Drop, W: Write + Drop> Port for DevicePort<R, W> {
     fn send(&mut self, bytes: &[u8]) -> Sent
         requires young { IsYoung (device_told self.old) }
         ensures sent { Sends (device_told self.old) (device_told self.new) result bytes.now }
-        ensures same { Unit {0} }
+        ensures same { DeviceSteps R.was_read W.was_written self.old self.new
+            (one_send bytes.now result) }
         // By the result of the write.
-        ensures written { WasWritten (W.contents self.old.writer) (W.contents self.new.writer)
-            self.old.gone result bytes.now }
+        ensures written { WasWritten (W.was_written self.old.writer self.new.writer)
+            (λ write. counted_gone self.old.gone (write_told write))
+            (W.contents self.old.writer) (W.contents self.new.writer) result bytes.now }
+        ensures reader { self.new.reader ≡ self.old.reader }
     {
-        let sent = sent_by(self.writer.write(bytes));
+        let sent = sent_by(self.writer.write_once(bytes));
         match sent {
             Sent::Took(n) => {
                 if n == 0 && !bytes.is_empty() {
@@ -187,5 +196,7 @@ impl<R: Read + Drop, W: Write + Drop> Port for DevicePort<R, W> {
         (self.receives, self.failures)
     }
 
-    ghost path = { record { none = λ p. tt; onward = λ a b c before after. tt } };
+    ghost path = { device_path R.was_read W.was_written };
+
+    ghost tells = { device_tells R.was_read W.was_written };
 }

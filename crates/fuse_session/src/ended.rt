@@ -24,8 +24,8 @@ pub enum Ended {
     Memory,
 }
 
-/// How serving ended, and the counts of the messages that it processed. There are none where the
-/// port, the store or a lack of memory ended it.
+/// How serving ended, and the counts of the messages that it processed. There are none where a
+/// send, the store or a lack of memory ended it.
 #[derive(Drop)]
 pub struct Served {
     pub ended: Ended,

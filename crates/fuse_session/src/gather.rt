@@ -2,7 +2,7 @@
 ghost use Rattle.std.specs.Prelude.{◌≡◌, ◌≤◌, ◌==◌, List, length, take, All, IfOk};
 ghost use Rattle.fuse_wire.specs.declared.moment.Moment.{Moment as MomentValue};
 ghost use Rattle.fuse_request.specs.Stream.{IsMessage};
-ghost use Rattle.fuse_request.specs.Classes.{class_of};
+ghost use Rattle.fuse_request.specs.Classes.{class_for};
 ghost use Rattle.fuse_request.specs.Header.{raw_of};
 ghost use Rattle.fuse_keeper.specs.Group.{entries_of, HasId, IsKept};
 ghost use Rattle.fuse_keeper.specs.declared.keeper.TheConstants.{MAX_GROUP as max_group};
@@ -11,9 +11,9 @@ ghost use Rattle.fuse_session.specs.Group.{Gathers, IsStuck, listed, classes_in}
 
 use crate::clock::Clock;
 use bytes::Bytes;
-use fuse_keeper::MAX_GROUP;
+use fuse_keeper::{Keeper, MAX_GROUP, classify};
 use fuse_request::opcode::DESTROY;
-use fuse_request::{Class, Request, classify, decode, has_zero_unique, header_of};
+use fuse_request::{Class, Request, decode, has_zero_unique, header_of};
 use fuse_wire::Moment;
 use std::alloc::{AllocError, Global};
 
@@ -38,17 +38,17 @@ pub(crate) fn has_opcode(message: &[u8], opcode: u32) -> bool
 }
 
 // The request of a message of this class, and its moment: only a kept one has it.
-fn read_one<'a, C: Clock>(
+fn read_one<'a, K: Keeper, C: Clock>(
     clock: &mut C,
     message: &'a [u8],
     class: Class,
 ) -> Option<(Request<'a>, Moment)>
     requires message { IsMessage message.now }
-    requires class { class ≡ class_of message.now }
+    requires class { class ≡ class_for K.model.serves message.now }
     ensures entry { (t : MomentValue) × (entries_of (listed result)
-        ≡ entry_if (class_of message.now) (message_entry message.now t))
-        × C.gave clock.old clock.new (moment_if (class_of message.now) t) }
-    ensures kept { All IsKept (entries_of (listed result)) }
+        ≡ entry_if (class_for K.model.serves message.now) (message_entry message.now t))
+        × C.gave clock.old clock.new (moment_if (class_for K.model.serves message.now) t) }
+    ensures kept { All (IsKept K.model) (entries_of (listed result)) }
 {
     match class {
         Class::Kept => match decode(message) {
@@ -62,7 +62,7 @@ fn read_one<'a, C: Clock>(
 
 /// Reads a group off the first messages: at most 16 kept ones, up to one that is zero, and none
 /// after a DESTROY.
-pub(crate) fn gather<'a, C: Clock>(
+pub(crate) fn gather<'a, K: Keeper, C: Clock>(
     alloc: Global,
     clock: &mut C,
     messages: &'a [Bytes],
@@ -70,12 +70,12 @@ pub(crate) fn gather<'a, C: Clock>(
     requires { All IsMessage messages.now }
     ensures within { IfOk result (λ r. length r.classes.items ≤ length messages.now) }
     ensures classes { IfOk result (λ r.
-        r.classes.items ≡ classes_in (take (length r.classes.items) messages.now)) }
-    ensures gathers { IfOk result (λ r. Gathers (C.gave clock.old clock.new)
+        r.classes.items ≡ classes_in K.model.serves (take (length r.classes.items) messages.now)) }
+    ensures gathers { IfOk result (λ r. Gathers K.model.serves (C.gave clock.old clock.new)
         (take (length r.classes.items) messages.now) r.taken.items r.ends) }
     ensures few { IfOk result (λ r. length r.taken.items ≤ max_group) }
     ensures named { IfOk result (λ r. All HasId (entries_of r.taken.items)) }
-    ensures kept { IfOk result (λ r. All IsKept (entries_of r.taken.items)) }
+    ensures kept { IfOk result (λ r. All (IsKept K.model) (entries_of r.taken.items)) }
     ensures stuck { IfOk result (λ r. length r.classes.items ≡ 0 → IsStuck messages.now) }
     ensures logged { (given : List MomentValue) × C.gave clock.old clock.new given }
 {
@@ -90,9 +90,9 @@ pub(crate) fn gather<'a, C: Clock>(
                 ends: false,
             });
         }
-        let class = classify(bytes);
+        let class = classify::<K>(bytes);
         classes.push(class)?;
-        if let Some(one) = read_one(clock, bytes, class) {
+        if let Some(one) = read_one::<K, C>(clock, bytes, class) {
             let ends = has_opcode(bytes, DESTROY);
             taken.push(one)?;
             if ends {

@@ -2,19 +2,19 @@
 ghost use Rattle.std.specs.Prelude.{◌≡◌, ◌≤◌, ◌<◌, ◌&&◌, ◌==◌, [], true, false, length, take};
 ghost use Rattle.std.specs.Prelude.{drop, ◌^◌, All, IfOk, IfErr, OnOk, OnErr};
 ghost use Rattle.fuse_request.specs.Stream.{IsMessage};
-ghost use Rattle.fuse_keeper.specs.declared.fault.StoreFault.{StoreFault as StoreFaultValue};
-ghost use Rattle.fuse_keeper.specs.Stands.{Records};
+ghost use Rattle.fuse_keeper.specs.KeeperState.{AnswersNoMore};
 ghost use Rattle.fuse_keeper.specs.Group.{ids_of};
 ghost use Rattle.fuse_keeper.specs.declared.keeper.TheConstants.{MAX_SETTLED as max_settled};
 ghost use Rattle.fuse_session.specs.Faults.{is_port, is_store, is_memory, MayFault};
 ghost use Rattle.fuse_session.specs.Loans.{SameLoans};
-ghost use Rattle.fuse_session.specs.Moves.{FailedBy, KeepsFirm, HandsOn};
+ghost use Rattle.fuse_session.specs.Moves.{FailedBy, HandsOn};
 ghost use Rattle.fuse_session.specs.Port.{IsYoung, IsQuiet};
 ghost use Rattle.fuse_session.specs.Processed.{StartsZero};
-ghost use Rattle.fuse_session.specs.Settling.{AtMostMore};
+ghost use Rattle.fuse_session.specs.Deeds.{Did, Mute};
+ghost use Rattle.fuse_session.specs.Starts.{Kept, HoldsUnder};
 ghost use Rattle.fuse_session.specs.Counting.{IsBelow};
 ghost use Rattle.fuse_session.specs.Group.{answers_in, last_zero, rest_by};
-ghost use Rattle.fuse_session.specs.Serving.{Turned, Broken, lasts, goes_on};
+ghost use Rattle.fuse_session.specs.Serving.{KeepsFirm, Turned, Broken, lasts, goes_on};
 
 use crate::answers::send_answers;
 use crate::clock::Clock;
@@ -96,7 +96,9 @@ impl<K: Keeper, P: Port, C: Clock> Session<'_, '_, '_, '_, K, P, C> {
         ensures zero { IfOk result (λ progress. progress.next ≡ Next.ZeroUnique
             → StartsZero (drop progress.count messages.now)) }
         ensures ok { IfOk result (λ progress. Turned (K.told self.old.keeper.now)
-            (K.told self.new.keeper.now) (C.gave self.old.clock.now self.new.clock.now)
+            (K.told self.new.keeper.now) (Mute (Did (C.gave self.old.clock.now self.new.clock.now)
+            (K.performed self.old.keeper.now self.new.keeper.now)
+            (P.became self.old.port.now self.new.port.now)))
             (P.told self.old.port.now) (P.told self.new.port.now)
             (ids_of self.old.pending.now.items) (ids_of self.new.pending.now.items)
             (take progress.count messages.now) (lasts progress.next) progress.counts) }
@@ -105,23 +107,28 @@ impl<K: Keeper, P: Port, C: Clock> Session<'_, '_, '_, '_, K, P, C> {
         ensures going { OnOk result ((K.told self.new.keeper.now).has_failed ≡ false) }
         ensures firm { OnOk result
             (KeepsFirm (K.told self.old.keeper.now) (K.told self.new.keeper.now)) }
+        ensures firm_still { IfErr result (λ fault. is_store fault ≡ false
+            → KeepsFirm (K.told self.old.keeper.now) (K.told self.new.keeper.now)) }
         ensures more { OnOk result ((P.told self.old.port.now).confirms ≡ true
-            → (K.told self.new.keeper.now).is_honest → (before : Records)
+            → (K.told self.new.keeper.now).is_honest → (before : Kept)
             → HandsOn before (K.told self.old.keeper.now) (ids_of self.old.pending.now.items)
             → HandsOn before (K.told self.new.keeper.now) (ids_of self.new.pending.now.items)) }
         ensures failures { OnOk result
             ((P.told self.new.port.now).failures ≡ (P.told self.old.port.now).failures) }
         ensures err { IfErr result (λ fault. Broken (K.told self.old.keeper.now)
-            (K.told self.new.keeper.now) (C.gave self.old.clock.now self.new.clock.now)
+            (K.told self.new.keeper.now) (Mute (Did (C.gave self.old.clock.now self.new.clock.now)
+            (K.performed self.old.keeper.now self.new.keeper.now)
+            (P.became self.old.port.now self.new.port.now)))
             (P.told self.old.port.now) (P.told self.new.port.now)
             (ids_of self.old.pending.now.items) messages.now (is_store fault) (is_memory fault)
             (MayFault (K.told self.old.keeper.now).may_answer fault)) }
-        ensures may { (f : StoreFaultValue) → (K.told self.new.keeper.now).may_answer f
-            → (K.told self.old.keeper.now).may_answer f }
+        ensures may { AnswersNoMore (K.told self.old.keeper.now) (K.told self.new.keeper.now) }
+        ensures medium { (K.told self.old.keeper.now).in_memory
+            → (K.told self.new.keeper.now).in_memory }
         ensures at_most { OnErr result ((K.told self.new.keeper.now).is_clean
-            → (before : Records)
+            → (before : Kept)
             → HandsOn before (K.told self.old.keeper.now) (ids_of self.old.pending.now.items)
-            → AtMostMore before (K.told self.new.keeper.now)) }
+            → HoldsUnder before (K.told self.new.keeper.now)) }
         ensures failed { IfErr result (λ fault. FailedBy (is_port fault)
             (P.told self.old.port.now).failures (P.told self.new.port.now).failures) }
         ensures store { IfErr result
@@ -129,12 +136,11 @@ impl<K: Keeper, P: Port, C: Clock> Session<'_, '_, '_, '_, K, P, C> {
         ensures honest { (K.told self.new.keeper.now).is_honest
             → (K.told self.old.keeper.now).is_honest }
         ensures quiet { IsQuiet (P.told self.old.port.now) (P.told self.new.port.now) }
-        ensures same { P.became self.old.port.now self.new.port.now }
         ensures unopened { K.became self.old.keeper.now self.new.keeper.now 0 }
         ensures loans { SameLoans self.old self.new }
     {
         histories_grow::<K>();
-        let Ok(gathered) = gather(self.alloc, self.clock, messages) else {
+        let Ok(gathered) = gather::<K, C>(self.alloc, self.clock, messages) else {
             return Err(Fault::Memory);
         };
         let count = gathered.classes.len();
@@ -146,7 +152,7 @@ impl<K: Keeper, P: Port, C: Clock> Session<'_, '_, '_, '_, K, P, C> {
             Err(fault) => return Err(Fault::Store(fault)),
         };
         let answered = dones.as_slice();
-        match send_answers(
+        match send_answers::<K, P>(
             self.alloc,
             self.port,
             first,
@@ -157,7 +163,7 @@ impl<K: Keeper, P: Port, C: Clock> Session<'_, '_, '_, '_, K, P, C> {
             Ok(()) => Ok(Progress {
                 count,
                 next: next_of(gathered.ends, answered, is_stuck(count, messages)),
-                counts: count_all(first, classes, answered),
+                counts: count_all::<K>(first, classes, answered),
             }),
             Err(fault) => Err(fault),
         }

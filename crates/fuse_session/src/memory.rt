@@ -39,10 +39,11 @@ pub struct MemoryPort {
     receives: u64,
     failures: u64,
     receive_failures: u64,
-    ended: bool,
+    ends: u64,
     confirms: bool,
 
     ghost within: { at ≤ length input.items },
+    ghost ended: { ends ≤ receives },
     ghost fewer: { receive_failures ≤ failures },
 }
 
@@ -76,7 +77,7 @@ impl MemoryPort {
             receives: 0,
             failures: 0,
             receive_failures: 0,
-            ended: false,
+            ends: 0,
             confirms,
         }
     }
@@ -107,6 +108,8 @@ impl MemoryPort {
         ensures first { result ≡ first_outcome (outcomes_left self.old) }
         ensures left { outcomes_left self.new ≡ drop 1 (outcomes_left self.old) }
         ensures others { arrivals_left self.new ≡ arrivals_left self.old }
+        ensures sent { self.new.sent ≡ self.old.sent }
+        ensures gone { self.new.gone ≡ self.old.gone }
     {
         if self.answered < self.outcomes.len() {
             let outcome = self.outcomes[self.answered];
@@ -120,18 +123,20 @@ impl MemoryPort {
 impl Port for MemoryPort {
     ghost use Rattle.fuse_session.specs.Memory.{memory_told, arrivals_left, outcomes_left};
     ghost use Rattle.fuse_session.specs.Memory.{bytes_left};
-    ghost use Rattle.fuse_session.specs.Memory.{first_arrival, first_outcome, received_by, sent_by};
+    ghost use Rattle.fuse_session.specs.Memory.{first_arrival, first_outcome, received_by, Answers};
     ghost use Rattle.fuse_session.specs.Port.{IsYoung, Receives, Sends};
+    ghost use Rattle.fuse_session.specs.Stepping.{Stepped, stepped_path};
+    ghost use Rattle.fuse_session.specs.Transcript.{one_receive, one_send};
 
     ghost told = { memory_told };
 
-    ghost became = { λ a b. Unit {0} };
+    ghost became = { Stepped memory_told };
 
     fn receive(&mut self, buffer: &mut [u8]) -> Received
         requires young { IsYoung (memory_told self.old) }
         ensures received { Receives (memory_told self.old) (memory_told self.new)
             result buffer.new }
-        ensures same { Unit {0} }
+        ensures same { Stepped memory_told self.old self.new (one_receive result buffer.new) }
         // By its list of arrivals, which is then one shorter.
         ensures arrives { result ≡ received_by (first_arrival (arrivals_left self.old))
             (bytes_left self.old) (length buffer.old) }
@@ -146,7 +151,7 @@ impl Port for MemoryPort {
         };
         let left = self.input.len() - self.at;
         if left == 0 {
-            self.ended = true;
+            self.ends += 1;
             return Received::End;
         }
         let n = left.min(most).min(buffer.len());
@@ -155,15 +160,14 @@ impl Port for MemoryPort {
         Received::Got(n)
     }
 
-    // A growth that is refused is a failure.
+    // It grows where it must, and a growth that is refused is a failure.
     fn send(&mut self, bytes: &[u8]) -> Sent
         requires young { IsYoung (memory_told self.old) }
         ensures sent { Sends (memory_told self.old) (memory_told self.new) result bytes.now }
-        ensures same { Unit {0} }
+        ensures same { Stepped memory_told self.old self.new (one_send bytes.now result) }
         // By its list of outcomes, which is then one shorter.
-        ensures answers { (result ≡ sent_by (first_outcome (outcomes_left self.old))
-            (length bytes.now))
-            ⊎ (result ≡ Sent.Failed) }
+        ensures answers { Answers self.old (first_outcome (outcomes_left self.old))
+            (length bytes.now) result }
         ensures left { outcomes_left self.new ≡ drop 1 (outcomes_left self.old) }
         ensures others { arrivals_left self.new ≡ arrivals_left self.old }
     {
@@ -175,11 +179,12 @@ impl Port for MemoryPort {
         };
         if outcome == Outcome::Failed
             || self.gone.reserve(1).is_err()
-            || self.sent.extend_from_slice(taken).is_err()
+            || self.sent.reserve(taken.len()).is_err()
         {
             self.failures += 1;
             return Sent::Failed;
         }
+        self.sent.extend_from_slice(taken).unwrap();
         if outcome == Outcome::Gone {
             self.gone.push(self.sent.len() as u64).unwrap();
             return Sent::Gone;
@@ -198,5 +203,7 @@ impl Port for MemoryPort {
         (self.receives, self.failures)
     }
 
-    ghost path = { record { none = λ p. tt; onward = λ a b c before after. tt } };
+    ghost path = { stepped_path memory_told };
+
+    ghost tells = { λ a b events steps. steps };
 }

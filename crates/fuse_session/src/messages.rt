@@ -2,17 +2,17 @@
 ghost use Rattle.std.specs.Prelude.{◌≡◌, ◌≤◌, ◌<◌, ◌+◌, ◌^◌, ℕ, true, false, not, length, take};
 ghost use Rattle.std.specs.Prelude.{All, IfOk, IfErr, OnOk, OnErr};
 ghost use Rattle.fuse_request.specs.Stream.{IsMessage, joined};
-ghost use Rattle.fuse_keeper.specs.declared.fault.StoreFault.{StoreFault as StoreFaultValue};
-ghost use Rattle.fuse_keeper.specs.Stands.{Records};
+ghost use Rattle.fuse_keeper.specs.KeeperState.{AnswersNoMore};
 ghost use Rattle.fuse_keeper.specs.Group.{ids_of};
 ghost use Rattle.fuse_keeper.specs.declared.keeper.TheConstants.{MAX_SETTLED as max_settled};
 ghost use Rattle.fuse_session.specs.Faults.{is_port, is_store, is_memory, MayFault};
 ghost use Rattle.fuse_session.specs.Loans.{SameLoans};
-ghost use Rattle.fuse_session.specs.Moves.{FailedBy, KeepsFirm, HandsOn};
+ghost use Rattle.fuse_session.specs.Moves.{FailedBy, HandsOn};
 ghost use Rattle.fuse_session.specs.Port.{IsYoung, IsQuiet};
-ghost use Rattle.fuse_session.specs.Settling.{AtMostMore};
+ghost use Rattle.fuse_session.specs.Deeds.{Did, Mute};
+ghost use Rattle.fuse_session.specs.Starts.{Kept, HoldsUnder};
 ghost use Rattle.fuse_session.specs.Counting.{IsBelow};
-ghost use Rattle.fuse_session.specs.Serving.{ProcessedAll, Broken, goes_on};
+ghost use Rattle.fuse_session.specs.Serving.{KeepsFirm, ProcessedAll, Broken, goes_on};
 
 use crate::clock::Clock;
 use crate::counts::{SessionCounts, sum_of};
@@ -57,7 +57,9 @@ impl<K: Keeper, P: Port, C: Clock> Session<'_, '_, '_, '_, K, P, C> {
         ensures within { IfOk result (λ progress. progress.count ≤ length messages.now) }
         ensures ok { IfOk result (λ progress. (begin : ℕ)
             → ProcessedAll (K.told self.old.keeper.now) (K.told self.new.keeper.now)
-            (C.gave self.old.clock.now self.new.clock.now)
+            (Mute (Did (C.gave self.old.clock.now self.new.clock.now)
+            (K.performed self.old.keeper.now self.new.keeper.now)
+            (P.became self.old.port.now self.new.port.now)))
             (P.told self.old.port.now) (P.told self.new.port.now)
             (ids_of self.old.pending.now.items) (ids_of self.new.pending.now.items) messages.now
             progress.next begin (begin + length (joined (take progress.count messages.now)))
@@ -67,23 +69,28 @@ impl<K: Keeper, P: Port, C: Clock> Session<'_, '_, '_, '_, K, P, C> {
         ensures going { OnOk result ((K.told self.new.keeper.now).has_failed ≡ false) }
         ensures firm { OnOk result
             (KeepsFirm (K.told self.old.keeper.now) (K.told self.new.keeper.now)) }
+        ensures firm_still { IfErr result (λ fault. is_store fault ≡ false
+            → KeepsFirm (K.told self.old.keeper.now) (K.told self.new.keeper.now)) }
         ensures more { OnOk result ((P.told self.old.port.now).confirms ≡ true
-            → (K.told self.new.keeper.now).is_honest → (before : Records)
+            → (K.told self.new.keeper.now).is_honest → (before : Kept)
             → HandsOn before (K.told self.old.keeper.now) (ids_of self.old.pending.now.items)
             → HandsOn before (K.told self.new.keeper.now) (ids_of self.new.pending.now.items)) }
         ensures failures { OnOk result
             ((P.told self.new.port.now).failures ≡ (P.told self.old.port.now).failures) }
         ensures err { IfErr result (λ fault. Broken (K.told self.old.keeper.now)
-            (K.told self.new.keeper.now) (C.gave self.old.clock.now self.new.clock.now)
+            (K.told self.new.keeper.now) (Mute (Did (C.gave self.old.clock.now self.new.clock.now)
+            (K.performed self.old.keeper.now self.new.keeper.now)
+            (P.became self.old.port.now self.new.port.now)))
             (P.told self.old.port.now) (P.told self.new.port.now)
             (ids_of self.old.pending.now.items) messages.now (is_store fault) (is_memory fault)
             (MayFault (K.told self.old.keeper.now).may_answer fault)) }
-        ensures may { (f : StoreFaultValue) → (K.told self.new.keeper.now).may_answer f
-            → (K.told self.old.keeper.now).may_answer f }
+        ensures may { AnswersNoMore (K.told self.old.keeper.now) (K.told self.new.keeper.now) }
+        ensures medium { (K.told self.old.keeper.now).in_memory
+            → (K.told self.new.keeper.now).in_memory }
         ensures at_most { OnErr result ((P.told self.old.port.now).confirms ≡ true
-            → (K.told self.new.keeper.now).is_clean → (before : Records)
+            → (K.told self.new.keeper.now).is_clean → (before : Kept)
             → HandsOn before (K.told self.old.keeper.now) (ids_of self.old.pending.now.items)
-            → AtMostMore before (K.told self.new.keeper.now)) }
+            → HoldsUnder before (K.told self.new.keeper.now)) }
         ensures failed { IfErr result (λ fault. FailedBy (is_port fault)
             (P.told self.old.port.now).failures (P.told self.new.port.now).failures) }
         ensures store { IfErr result
@@ -91,7 +98,6 @@ impl<K: Keeper, P: Port, C: Clock> Session<'_, '_, '_, '_, K, P, C> {
         ensures honest { (K.told self.new.keeper.now).is_honest
             → (K.told self.old.keeper.now).is_honest }
         ensures quiet { IsQuiet (P.told self.old.port.now) (P.told self.new.port.now) }
-        ensures same { P.became self.old.port.now self.new.port.now }
         ensures unopened { K.became self.old.keeper.now self.new.keeper.now 0 }
         ensures loans { SameLoans self.old self.new }
     {

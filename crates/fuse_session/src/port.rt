@@ -1,8 +1,10 @@
 // Where messages come from and answers go to.
-ghost use Rattle.std.specs.Prelude.{◌≡◌, ◌≢◌, ◌≤◌, [], length, IfOk, OnErr};
+ghost use Rattle.std.specs.Prelude.{◌≡◌, ◌≢◌, ◌≤◌, [], length, List, IfOk, OnErr, is_ok};
 ghost use Rattle.fuse_request.specs.declared.header.TheConstants.{MAX_MESSAGE as max_message};
-ghost use Rattle.fuse_session.specs.Port.{PortState, IsYoung, IsPath, Receives, Sends};
+ghost use Rattle.fuse_session.specs.Port.{PortState, IsYoung, Receives, Sends};
 ghost use Rattle.fuse_session.specs.Port.{SentWhole, SentPart, reports_gone};
+ghost use Rattle.fuse_session.specs.Transcript.{PortEvent, IsTranscript, Tells, Hands};
+ghost use Rattle.fuse_session.specs.Transcript.{one_receive, one_send};
 
 /// The result of a call of `receive`.
 #[derive(Clone, Copy, Debug, PartialEq, Eq)]
@@ -31,8 +33,8 @@ pub trait Port: Drop {
     /// Its state.
     ghost told: { Self → PortState };
 
-    /// The second is what became of the first. A port that records nothing lets all be so.
-    ghost became: { Self → Self → Type 0 };
+    /// The second is what became of the first by these calls.
+    ghost became: { Self → Self → List PortEvent → Type 0 };
 
     /// Receives bytes into a buffer with room for the longest message, once. The rest of the buffer
     /// has no meaning.
@@ -40,14 +42,14 @@ pub trait Port: Drop {
         requires young { IsYoung (told self.old) }
         requires room { max_message ≤ length buffer.old }
         ensures received { Receives (told self.old) (told self.new) result buffer.new }
-        ensures same { became self.old self.new };
+        ensures same { became self.old self.new (one_receive result buffer.new) };
 
     /// Sends the bytes that are left of one answer, once.
     fn send(&mut self, bytes: &[u8]) -> Sent
         requires young { IsYoung (told self.old) }
         requires some { bytes.now ≢ [] }
         ensures sent { Sends (told self.old) (told self.new) result bytes.now }
-        ensures same { became self.old self.new };
+        ensures same { became self.old self.new (one_send bytes.now result) };
 
     /// Whether an answer taken whole counts as taken by the kernel. Allocates nothing.
     fn confirms(&self) -> bool
@@ -58,7 +60,9 @@ pub trait Port: Drop {
         ensures receives { result.0 ≡ (told self.now).receives }
         ensures failures { result.1 ≡ (told self.now).failures };
 
-    ghost path: { IsPath became };
+    ghost path: { IsTranscript became };
+
+    ghost tells: { Tells told became };
 }
 
 /// How all of an answer was sent.
@@ -79,7 +83,7 @@ pub(crate) fn send_whole<P: Port>(port: &mut P, bytes: &[u8]) -> Result<Passed, 
     ensures ok { IfOk result (λ passed. SentWhole (P.told port.old) (P.told port.new)
         bytes.now (reports_gone passed)) }
     ensures err { OnErr result (SentPart (P.told port.old) (P.told port.new) bytes.now) }
-    ensures same { P.became port.old port.new }
+    ensures same { Hands (P.became port.old port.new) bytes.now (is_ok result) }
 {
     let mut rest = bytes;
     while !rest.is_empty() {

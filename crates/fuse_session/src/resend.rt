@@ -1,7 +1,8 @@
 // The notice by which the kernel sends its pending requests again.
-ghost use Rattle.std.specs.Prelude.{◌≡◌, ◌<◌, ◌^◌, false, IfErr, OnOk};
+ghost use Rattle.std.specs.Prelude.{◌≡◌, ◌<◌, ◌^◌, false, [], IfErr, OnOk};
 ghost use Rattle.fuse_keeper.specs.KeeperState.{Looked, WhereHeld, IsFirm};
-ghost use Rattle.fuse_session.specs.Resuming.{Resumed, NotResumed, may_ask, of_store};
+ghost use Rattle.fuse_session.specs.Resuming.{Resumed, NotResumed, NoticeHanded};
+ghost use Rattle.fuse_session.specs.Resuming.{may_ask, of_store};
 
 use crate::port::{Port, PortFailed, send_whole};
 use bitflags::Flags;
@@ -52,6 +53,10 @@ pub fn resume<K: Keeper, P: Port>(keeper: &mut K, port: &mut P) -> Result<(), Re
     ensures firm { OnOk (of_store result) ((K.told keeper.new).is_honest
         → WhereHeld (K.told keeper.old) (IsFirm (K.told keeper.old) → IsFirm (K.told keeper.new))) }
     ensures same { K.became keeper.old keeper.new 0 }
+    ensures unasked { K.performed keeper.old keeper.new [] }
+
+    // The notice was handed to the port, each time all that was left of it, and nothing else.
+    ensures handed { NoticeHanded (P.became port.old port.new) result }
 {
     let settings = match keeper.settings() {
         Ok(settings) => settings,

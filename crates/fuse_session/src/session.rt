@@ -4,21 +4,22 @@ ghost use Rattle.std.specs.Prelude.{length, take, IfOk, IfErr, OnOk, IfSome};
 ghost use Rattle.fuse_request.specs.Framing.{fed_of};
 ghost use Rattle.fuse_request.specs.Stream.{joined};
 ghost use Rattle.fuse_request.specs.declared.header.TheConstants.{MAX_MESSAGE as max_message};
-ghost use Rattle.fuse_keeper.specs.declared.fault.StoreFault.{StoreFault as StoreFaultValue};
 ghost use Rattle.fuse_keeper.specs.KeeperState.{OfHeld, AnswersNoMore};
 ghost use Rattle.fuse_keeper.specs.Group.{ids_of};
 ghost use Rattle.fuse_keeper.specs.declared.keeper.TheConstants.{MAX_SETTLED as max_settled};
 ghost use Rattle.fuse_session.specs.Faults.{is_port, is_store, is_memory};
 ghost use Rattle.fuse_session.specs.Loans.{SameLoans};
 ghost use Rattle.fuse_session.specs.Port.{IsYoung};
+ghost use Rattle.fuse_session.specs.Deeds.{Did};
 ghost use Rattle.fuse_session.specs.Settling.{AtMostMore};
+ghost use Rattle.fuse_session.specs.Starts.{HoldsUnder};
 ghost use Rattle.fuse_session.specs.Counting.{IsBelow, plus_if};
 ghost use Rattle.fuse_session.specs.Receiving.{IsOpen};
-ghost use Rattle.fuse_session.specs.Serving.{Run, FewSettled};
+ghost use Rattle.fuse_session.specs.Serving.{Run, FewSettled, KeepsFirm};
 ghost use Rattle.fuse_session.specs.Ends.{ExactAt, MayEnd, SessionEnds, counts_at};
 ghost use Rattle.fuse_session.specs.Ends.{ended_store, ended_memory, ended_port};
 ghost use Rattle.fuse_session.specs.Finishing.{FinishedBy, IsFault, ended_at};
-ghost use Rattle.fuse_session.specs.Prompt.{AnswersFirst};
+ghost use Rattle.fuse_session.specs.Prompt.{Prompt};
 ghost use Rattle.fuse_session.specs.Turn.{TurnPassed, TurnEnded};
 
 use crate::clock::Clock;
@@ -60,9 +61,9 @@ fn ended_of(fault: Fault) -> Ended
     }
 }
 
-// The counts that are returned at an end.
+// The counts that are returned at an end before a message was processed.
 fn counts_of(ended: &Ended, counts: SessionCounts) -> Option<SessionCounts>
-    ensures { result ≡ counts_at ended.now counts }
+    ensures { result ≡ counts_at true ended.now counts }
 {
     match ended {
         Ended::End => Some(counts),
@@ -70,7 +71,7 @@ fn counts_of(ended: &Ended, counts: SessionCounts) -> Option<SessionCounts>
         Ended::Turns => Some(counts),
         Ended::Frame(_) => Some(counts),
         Ended::ZeroUnique { .. } => Some(counts),
-        Ended::PortFailed => None,
+        Ended::PortFailed => Some(counts),
         Ended::Store(_) => None,
         Ended::Memory => None,
     }
@@ -151,12 +152,16 @@ impl<K: Keeper, P: Port, C: Clock> Session<'_, '_, '_, '_, K, P, C> {
         requires room { length buffer.old ≡ max_message }
         requires fed { fed_of framer.old + length buffer.old ≤ 2 ^ 59 }
         ensures ok { IfOk result (λ counts. TurnPassed (K.told self.old.keeper.now)
-            (K.told self.new.keeper.now) (C.gave self.old.clock.now self.new.clock.now)
+            (K.told self.new.keeper.now) (Did (C.gave self.old.clock.now self.new.clock.now)
+            (K.performed self.old.keeper.now self.new.keeper.now)
+            (P.became self.old.port.now self.new.port.now))
             (P.told self.old.port.now) (P.told self.new.port.now)
             (ids_of self.old.pending.now.items) (ids_of self.new.pending.now.items)
             framer.old framer.new counts) }
         ensures err { IfErr result (λ served. TurnEnded (K.told self.old.keeper.now)
-            (K.told self.new.keeper.now) (C.gave self.old.clock.now self.new.clock.now)
+            (K.told self.new.keeper.now) (Did (C.gave self.old.clock.now self.new.clock.now)
+            (K.performed self.old.keeper.now self.new.keeper.now)
+            (P.became self.old.port.now self.new.port.now))
             (P.told self.old.port.now) (P.told self.new.port.now)
             (ids_of self.old.pending.now.items) framer.old served.ended served.counts) }
         ensures few { OnOk result (length self.new.pending.now.items ≤ max_settled) }
@@ -166,11 +171,11 @@ impl<K: Keeper, P: Port, C: Clock> Session<'_, '_, '_, '_, K, P, C> {
             ≡ (P.told self.old.port.now).confirms }
         ensures fed { fed_of framer.new ≤ fed_of framer.old + length buffer.old }
         ensures buffer { length buffer.new ≡ length buffer.old }
-        ensures may { (f : StoreFaultValue) → (K.told self.new.keeper.now).may_answer f
-            → (K.told self.old.keeper.now).may_answer f }
+        ensures may { AnswersNoMore (K.told self.old.keeper.now) (K.told self.new.keeper.now) }
+        ensures medium { (K.told self.old.keeper.now).in_memory
+            → (K.told self.new.keeper.now).in_memory }
         ensures honest { (K.told self.new.keeper.now).is_honest
             → (K.told self.old.keeper.now).is_honest }
-        ensures same { P.became self.old.port.now self.new.port.now }
         ensures unopened { K.became self.old.keeper.now self.new.keeper.now 0 }
         ensures loans { SameLoans self.old self.new }
     {
@@ -218,20 +223,21 @@ fn one_turn<K: Keeper, P: Port, C: Clock>(
     requires room { length buffer.old ≡ max_message }
     requires fed { fed_of framer.old + length buffer.old ≤ 2 ^ 59 }
     ensures ok { IfOk result (λ counts. TurnPassed (K.told keeper.old) (K.told keeper.new)
-        (C.gave clock.old clock.new) (P.told port.old) (P.told port.new)
+        (Did (C.gave clock.old clock.new) (K.performed keeper.old keeper.new)
+        (P.became port.old port.new)) (P.told port.old) (P.told port.new)
         (ids_of pending.old.items) (ids_of pending.new.items) framer.old framer.new counts) }
     ensures err { IfErr result (λ served. TurnEnded (K.told keeper.old) (K.told keeper.new)
-        (C.gave clock.old clock.new) (P.told port.old) (P.told port.new)
+        (Did (C.gave clock.old clock.new) (K.performed keeper.old keeper.new)
+        (P.became port.old port.new)) (P.told port.old) (P.told port.new)
         (ids_of pending.old.items) framer.old served.ended served.counts) }
     ensures few { OnOk result (length pending.new.items ≤ max_settled) }
     ensures receives { (P.told port.new).receives ≡ (P.told port.old).receives + 1 }
     ensures confirms { (P.told port.new).confirms ≡ (P.told port.old).confirms }
     ensures fed { fed_of framer.new ≤ fed_of framer.old + length buffer.old }
     ensures buffer { length buffer.new ≡ length buffer.old }
-    ensures may { (f : StoreFaultValue) → (K.told keeper.new).may_answer f
-        → (K.told keeper.old).may_answer f }
+    ensures may { AnswersNoMore (K.told keeper.old) (K.told keeper.new) }
+    ensures medium { (K.told keeper.old).in_memory → (K.told keeper.new).in_memory }
     ensures honest { (K.told keeper.new).is_honest → (K.told keeper.old).is_honest }
-    ensures same { P.became port.old port.new }
     ensures unopened { K.became keeper.old keeper.new 0 }
 {
     let mut session = Session {
@@ -257,34 +263,50 @@ pub fn serve<K: Keeper, P: Port, C: Clock>(
     requires going { (K.told keeper.old).has_failed ≡ false }
     requires receives { (P.told port.old).receives < 2 ^ 62 }
     requires failures { (P.told port.old).failures < 2 ^ 62 }
-    // The messages that were processed and answered at each of the ends, and their counts.
-    ensures ends { SessionEnds (K.told keeper.old) (K.told keeper.new) (C.gave clock.old clock.new)
-        (P.told port.old) (P.told port.new) turns result.ended result.counts }
+    // The messages that were processed and answered at each of the ends, and their counts; what the
+    // keeper was asked to perform, batch by batch, with which settled ids; and the slices that the
+    // port was handed, each all that is left of one answer.
+    ensures ends { SessionEnds (K.told keeper.old) (K.told keeper.new) (Did
+        (C.gave clock.old clock.new) (K.performed keeper.old keeper.new)
+        (P.became port.old port.new)) (P.told port.old) (P.told port.new) turns
+        result.ended result.counts }
 
     // However it ends, the bytes sent are a prefix of those to be sent for messages that the
-    // keeper stands for, and that whatever a crash leaves stands for.
-    ensures life { Run (K.told keeper.old) (K.told keeper.new) (C.gave clock.old clock.new)
-        (P.told port.old) (P.told port.new) [] [] (ended_store result.ended)
-        (ended_memory result.ended) (MayEnd (K.told keeper.old).may_answer result.ended) }
+    // keeper stands for, and that whatever a crash leaves stands for. The keeper was asked to
+    // perform these messages with the settled ids, and nothing else.
+    ensures life { Run (K.told keeper.old) (K.told keeper.new) (Did
+        (C.gave clock.old clock.new) (K.performed keeper.old keeper.new)
+        (P.became port.old port.new)) (P.told port.old) (P.told port.new) [] []
+        (ended_store result.ended) (ended_memory result.ended)
+        (MayEnd (K.told keeper.old).may_answer result.ended) }
 
     // Before more is received, all that came is answered.
-    ensures prompt { AnswersFirst P.told P.became (K.told keeper.old) (K.told keeper.new)
-        port.old port.new }
+    ensures prompt { Prompt (K.told keeper.old) (K.told keeper.new) (Did
+        (C.gave clock.old clock.new) (K.performed keeper.old keeper.new)
+        (P.became port.old port.new)) (P.told port.old).confirms }
 
     // Where the store or a lack of memory ended it, exactly the answers to some of the messages
     // were sent. The store's fault is one that the keeper may answer, and the keeper stands for
     // those messages, where its store is clean.
-    ensures exactly { ExactAt (K.told keeper.old) (K.told keeper.new) (C.gave clock.old clock.new)
-        (P.told port.old) (P.told port.new) [] [] result.ended }
+    ensures exactly { ExactAt (K.told keeper.old) (K.told keeper.new) (Did
+        (C.gave clock.old clock.new) (K.performed keeper.old keeper.new)
+        (P.became port.old port.new)) (P.told port.old) (P.told port.new) [] [] result.ended }
 
-    // On a port that confirms few records stay.
+    // On a port that confirms few records stay,
     ensures at_most { (P.told port.old).confirms ≡ true → (K.told keeper.new).is_clean
         → OfHeld (K.told keeper.old) (λ rows records. AtMostMore records (K.told keeper.new)) }
+
+    // and but for at most 16 under the current lot they stay under the lots of before.
+    ensures lots { (P.told port.old).confirms ≡ true → (K.told keeper.new).is_clean
+        → OfHeld (K.told keeper.old) (λ rows records. HoldsUnder
+        (record { records = records; lots = (K.told keeper.old).lots }) (K.told keeper.new)) }
 
     // On any port few of the ids that the answers settled have a record, whether the port confirms
     // or answered Gone.
     ensures settled { (K.told keeper.new).is_clean → FewSettled (K.told keeper.old)
-        (K.told keeper.new) (C.gave clock.old clock.new) (P.told port.old) (P.told port.new) }
+        (K.told keeper.new) (Did (C.gave clock.old clock.new)
+        (K.performed keeper.old keeper.new) (P.became port.old port.new))
+        (P.told port.old) (P.told port.new) }
 
     // It receives no more often than it may.
     ensures turns { (P.told port.new).receives ≤ (P.told port.old).receives + turns }
@@ -294,11 +316,14 @@ pub fn serve<K: Keeper, P: Port, C: Clock>(
         ↔ ((P.told port.old).failures < (P.told port.new).failures) }
     ensures store { (K.told keeper.new).has_failed ≡ ended_store result.ended }
 
-    // The keeper and the port afterwards.
+    // The keeper afterwards: unless the store ended it, a crash leaves no more than is held, if so
+    // it was before.
+    ensures firm { ended_store result.ended ≡ false
+        → KeepsFirm (K.told keeper.old) (K.told keeper.new) }
     ensures honest { (K.told keeper.new).is_honest → (K.told keeper.old).is_honest }
+    ensures medium { (K.told keeper.old).in_memory → (K.told keeper.new).in_memory }
     ensures may { AnswersNoMore (K.told keeper.old) (K.told keeper.new) }
     ensures unopened { K.became keeper.old keeper.new 0 }
-    ensures same { P.became port.old port.new }
 {
     cut_joins();
     histories_grow::<K>();

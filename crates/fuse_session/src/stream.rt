@@ -1,8 +1,8 @@
 // A port over a reader and a writer.
-ghost use Rattle.std.specs.Prelude.{◌≡◌, ◌≤◌};
+ghost use Rattle.std.specs.Prelude.{◌≡◌, ◌≤◌, length};
 
 use crate::port::{Port, Received, Sent};
-use std::io::{Read, Write};
+use crate::source::{Sink, Source};
 
 /// Receives from a reader and sends to a writer. It never answers `Gone`.
 #[derive(Drop)]
@@ -12,13 +12,14 @@ pub struct StreamPort<R, W> {
     receives: u64,
     failures: u64,
     receive_failures: u64,
-    ended: bool,
+    ends: u64,
     confirms: bool,
 
+    ghost ended: { ends ≤ receives },
     ghost fewer: { receive_failures ≤ failures },
 }
 
-impl<R: Read + Drop, W: Write + Drop> StreamPort<R, W> {
+impl<R: Source, W: Sink> StreamPort<R, W> {
     ghost use Rattle.fuse_session.specs.Stream.{stream_told};
     ghost use Rattle.fuse_session.specs.Port.{fresh};
 
@@ -33,7 +34,7 @@ impl<R: Read + Drop, W: Write + Drop> StreamPort<R, W> {
             receives: 0,
             failures: 0,
             receive_failures: 0,
-            ended: false,
+            ends: 0,
             confirms,
         }
     }
@@ -46,19 +47,35 @@ impl<R: Read + Drop, W: Write + Drop> StreamPort<R, W> {
     }
 }
 
-impl<R: Read + Drop, W: Write + Drop> Port for StreamPort<R, W> {
+impl<R: Source, W: Sink> Port for StreamPort<R, W> {
     ghost use Rattle.fuse_session.specs.Stream.{stream_told};
+    ghost use Rattle.fuse_session.specs.Stepping.{Stepped, stepped_path};
+    ghost use Rattle.fuse_session.specs.Transcript.{one_receive, one_send};
+    ghost use Rattle.fuse_session.specs.Calls.{WasRead, WasSent, stream_read};
+    ghost use Rattle.fuse_session.specs.Port.{IsYoung, Receives, Sends};
+    ghost use Rattle.fuse_request.specs.declared.header.TheConstants.{MAX_MESSAGE as max_message};
 
     ghost told = { stream_told R.remaining W.contents };
 
-    ghost became = { λ a b. Unit {0} };
+    ghost became = { Stepped (stream_told R.remaining W.contents) };
 
     // One read.
-    fn receive(&mut self, buffer: &mut [u8]) -> Received {
+    fn receive(&mut self, buffer: &mut [u8]) -> Received
+        requires young { IsYoung (stream_told R.remaining W.contents self.old) }
+        requires room { max_message ≤ length buffer.old }
+        ensures received { Receives (stream_told R.remaining W.contents self.old)
+            (stream_told R.remaining W.contents self.new) result buffer.new }
+        ensures same { Stepped (stream_told R.remaining W.contents) self.old self.new
+            (one_receive result buffer.new) }
+        // By the result of the read.
+        ensures read { WasRead (R.was_read self.old.reader self.new.reader) stream_read
+            (R.remaining self.old.reader) (R.remaining self.new.reader) result buffer.new }
+        ensures writer { self.new.writer ≡ self.old.writer }
+    {
         self.receives += 1;
-        match self.reader.read(buffer) {
+        match self.reader.read_once(buffer) {
             Ok(0) => {
-                self.ended = true;
+                self.ends += 1;
                 Received::End
             }
             Ok(n) => Received::Got(n),
@@ -71,12 +88,22 @@ impl<R: Read + Drop, W: Write + Drop> Port for StreamPort<R, W> {
     }
 
     // One write and one flush. Bytes written before a flush that failed count as sent.
-    fn send(&mut self, bytes: &[u8]) -> Sent {
-        let Ok(n) = self.writer.write(bytes) else {
+    fn send(&mut self, bytes: &[u8]) -> Sent
+        requires young { IsYoung (stream_told R.remaining W.contents self.old) }
+        ensures sent { Sends (stream_told R.remaining W.contents self.old)
+            (stream_told R.remaining W.contents self.new) result bytes.now }
+        ensures same { Stepped (stream_told R.remaining W.contents) self.old self.new
+            (one_send bytes.now result) }
+        // By the results of both.
+        ensures written { WasSent W.was_written W.was_flushed self.old.writer self.new.writer
+            result bytes.now }
+        ensures reader { self.new.reader ≡ self.old.reader }
+    {
+        let Ok(n) = self.writer.write_once(bytes) else {
             self.failures += 1;
             return Sent::Failed;
         };
-        if self.writer.flush().is_err() {
+        if self.writer.flush_once().is_err() {
             self.failures += 1;
             return Sent::Failed;
         }
@@ -94,5 +121,7 @@ impl<R: Read + Drop, W: Write + Drop> Port for StreamPort<R, W> {
         (self.receives, self.failures)
     }
 
-    ghost path = { record { none = λ p. tt; onward = λ a b c before after. tt } };
+    ghost path = { stepped_path (stream_told R.remaining W.contents) };
+
+    ghost tells = { λ a b events steps. steps };
 }

@@ -17,7 +17,7 @@ use Rattle.fuse_show.specs.declared.fault.ShowFault.{ShowFault}
 use Rattle.fuse_show.specs.declared.fault.ShowFault.TheVariants.{Look, NotATree, NoSuchPath, NotDirectory, NotFile, Output}
 use Rattle.fuse_show.specs.Looks.{WritesOut, look_fault}
 use Rattle.fuse_show.specs.Listing.{line_of, listing}
-use Rattle.fuse_show.specs.Pages.{entries_following, lines_after, lines_left, cookie_at, is_higher, WritesPrefix, WritesPage}
+use Rattle.fuse_show.specs.inner.Pages.{entries_following, lines_after, lines_left, cookie_at, is_higher, WritesPrefix, WritesPage}
 use Rattle.fuse_show.proofs.Trees.{filtered}
 
 -- ---- on lists

@@ -4,7 +4,7 @@ pub mod Looks
 pub mod Lookup
 pub mod Modes
 pub mod Names
-pub mod Pages
 pub mod Paths
 pub mod Shown
 pub mod Summary
+pub mod inner

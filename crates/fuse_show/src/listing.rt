@@ -5,7 +5,7 @@ ghost use Rattle.std.specs.Io.KnownBytes.{Appends};
 ghost use Rattle.fuse_show.specs.Looks.{ReadOff, OnlyLooked, WritesOut, is_of_path};
 ghost use Rattle.fuse_tree.specs.RowsOfTrees.{LeadsToRow};
 ghost use Rattle.fuse_show.specs.Listing.{links_of_row, entry_line, line_of, listing};
-ghost use Rattle.fuse_show.specs.Pages.{cookie_at, is_higher, WritesPage};
+ghost use Rattle.fuse_show.specs.inner.Pages.{cookie_at, is_higher, WritesPage};
 ghost use Rattle.fuse_show.specs.Paths.{names_of};
 ghost use Rattle.fuse_show.specs.Shown.{ShowsListing};
 

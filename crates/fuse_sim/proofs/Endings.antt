@@ -4,6 +4,7 @@ use Rattle.std.proofs.Common.{refl, sym, ap, subst, ◌∙◌, arith}
 use Rattle.std.proofs.Math.Seq.{take-add}
 use Rattle.std.proofs.lemmas.List.{take_all}
 use Rattle.std.proofs.lemmas.List.Elements.{All-append, All-nil}
+use Rattle.fuse_request.specs.Opcodes.{OpcodeSet}
 use Rattle.fuse_keeper.specs.declared.fault.StoreFault.{StoreFault}
 use Rattle.fuse_keeper.specs.History.{History, HistoriesGrow, Includes, is_in, said}
 use Rattle.fuse_keeper.specs.Model.{Model}
@@ -14,9 +15,10 @@ use Rattle.fuse_sim.specs.declared.event.Outcome.{Outcome}
 use Rattle.fuse_sim.specs.declared.event.DriveFault.{DriveFault}
 use Rattle.fuse_sim.specs.Driving.{committed, outcome_of, bytes_given, settled_by, NoneReused, told_in, StandsIn, became_in, deaths, Opened, AnsweredBy}
 use Rattle.fuse_sim.specs.Driving.{OfRestart, IsFit, event_of, before, is_store, LeftBy}
-use Rattle.fuse_sim.specs.HandedOn.{Ledger, empty_ledger, ledger_after, handed_on}
+use Rattle.fuse_sim.specs.HandedOn.{Ledger, empty_ledger}
+use Rattle.fuse_sim.specs.inner.HandedBy.{ledger_after, handed_on}
 use Rattle.fuse_sim.specs.LeftRecords.{SettledBefore, RecordsLeft, HoldsRecords}
-use Rattle.fuse_sim.specs.Running.{Moved, MayBegin, Opens, Stops}
+use Rattle.fuse_sim.specs.inner.Running.{Moved, MayBegin, Opens, Stops}
 use Rattle.fuse_sim.proofs.Settled.{tested, is_in-append, stands_later, stands_kept}
 use Rattle.fuse_sim.proofs.Driven.{ledger-append, pending_settled, settled_all, includes_none, handed_came}
 use Rattle.fuse_sim.proofs.Removed.{settled_handed, handed_settled}
@@ -26,13 +28,13 @@ use Rattle.fuse_sim.proofs.Openings.{became_then, opened_more, opened_still}
 -- events, and then others
 moved_parts : (M : Model) → HistoriesGrow M → (holds mid holds' : KeeperState M) (es es' others others' : List Event) (p p' : List ℕ)
     (new new' : List (Option Outcome)) → (holds'.is_honest → mid.is_honest)
-    → Moved holds mid empty_ledger es others p [] new → Moved mid holds' (ledger_after empty_ledger es) es' others' p' new new'
+    → Moved holds mid empty_ledger es others p [] new → Moved mid holds' (ledger_after M.serves empty_ledger es) es' others' p' new new'
     → Moved holds holds' empty_ledger (es ++ es') others' p' [] new'
 moved_parts M grows holds mid holds' es es' others others' p p' new new' was one two = record {
   fit = All-append IsFit es es' one.fit two.fit;
   ran = ran_more M grows holds mid holds' empty_ledger es es' [] new new' was one.ran two.ran;
-  pending = two.pending ∙ ap (λ (l : Ledger). l.pending) (sym (ledger-append empty_ledger es es'));
-  begin = subst (λ l. MayBegin l others') (sym (ledger-append empty_ledger es es')) two.begin;
+  pending = two.pending ∙ ap (λ (l : Ledger). l.pending) (sym (ledger-append M.serves empty_ledger es es'));
+  begin = subst (λ l. MayBegin l others') (sym (ledger-append M.serves empty_ledger es es')) two.begin;
 }
 
 pub moved_more : (M : Model) → HistoriesGrow M → (holds mid holds' : KeeperState M) (events : List Event) (at n : ℕ) (p p' : List ℕ)
@@ -43,48 +45,48 @@ pub moved_more : (M : Model) → HistoriesGrow M → (holds mid holds' : KeeperS
 moved_more M grows holds mid holds' events at n p p' new new' was one next =
     subst (λ es. Moved holds holds' empty_ledger es (drop (at + n) events) p' [] new') (sym (take-add at n events))
     (moved_parts M grows holds mid holds' (take at events) (take n (drop at events)) (drop at events) (drop (at + n) events) p p' new new' was one
-    (next (ledger_after empty_ledger (take at events)) (sym one.pending) one.begin))
+    (next (ledger_after M.serves empty_ledger (take at events)) (sym one.pending) one.begin))
 
 -- none were run yet
-pub moved_none : (M : Model) → (k : KeeperState M) (others : List Event) (p : List ℕ) (new : List (Option Outcome)) → p ≡ [] → new ≡ []
+pub moved_none : (M : Model) (k : KeeperState M) (others : List Event) (p : List ℕ) (new : List (Option Outcome)) → p ≡ [] → new ≡ []
     → Moved k k empty_ledger [] others p [] new
 moved_none M k others p new same is = record { fit = All-nil IsFit; ran = ran_none M k empty_ledger [] new is; pending = same; begin = inl refl }
 
 -- what is pending was settled by the events
-pending_within : (l : Ledger) (p : List ℕ) (es : List Event) → l ≡ ledger_after empty_ledger es → p ≡ l.pending → (t : List ℕ) → Includes (settled_by t es) p
-pending_within l p es is same t = subst (Includes (settled_by t es)) (sym (same ∙ ap (λ (x : Ledger). x.pending) is))
-    (pending_settled t empty_ledger es (includes_none t))
+pending_within : (V : OpcodeSet) (l : Ledger) (p : List ℕ) (es : List Event) → l ≡ ledger_after V empty_ledger es → p ≡ l.pending → (t : List ℕ) → Includes (settled_by V t es) p
+pending_within V l p es is same t = subst (Includes (settled_by V t es)) (sym (same ∙ ap (λ (x : Ledger). x.pending) is))
+    (pending_settled V t empty_ledger es (includes_none t))
 
 -- all were run
-pub moved_all : (M : Model) → (holds holds' : KeeperState M) (events others : List Event) (at : ℕ) (p : List ℕ) (new : List (Option Outcome))
+pub moved_all : (M : Model) (holds holds' : KeeperState M) (events others : List Event) (at : ℕ) (p : List ℕ) (new : List (Option Outcome))
     → length events ≤ at
     → Moved holds holds' empty_ledger (take at events) others p [] new → Moved holds holds' empty_ledger events others p [] new
 moved_all M holds holds' events others at p new past moved = subst (λ es. Moved holds holds' empty_ledger es others p [] new) (take_all at events past) moved
 
 -- what stands in the end
-moved_kept : (M : Model) → (holds holds' : KeeperState M) (es others : List Event) (p : List ℕ) (new : List (Option Outcome))
+moved_kept : (M : Model) (holds holds' : KeeperState M) (es others : List Event) (p : List ℕ) (new : List (Option Outcome))
     → Moved holds holds' empty_ledger es others p [] new
-    → holds'.is_honest → (s : M.State) (h : History) (t : List ℕ) → StandsFor holds s h t → NoneReused t es
-    → StandsFor holds' s (committed h es) (t ++ handed_on empty_ledger es)
+    → holds'.is_honest → (s : M.State) (h : History) (t : List ℕ) → StandsFor holds s h t → NoneReused M.serves t es
+    → StandsFor holds' s (committed M.serves h es) (t ++ handed_on M.serves empty_ledger es)
 moved_kept M holds holds' es others p new moved is s h t so none = moved.ran.stands is s h t t so (λ i there. there) (includes_none t) none
 
-pub moved_stands : (M : Model) → (holds holds' : KeeperState M) (es others : List Event) (p : List ℕ) (new : List (Option Outcome))
+pub moved_stands : (M : Model) (holds holds' : KeeperState M) (es others : List Event) (p : List ℕ) (new : List (Option Outcome))
     → Moved holds holds' empty_ledger es others p [] new
-    → holds'.is_honest → (s : M.State) (h : History) (t : List ℕ) → StandsFor holds s h t → NoneReused t es
-    → StandsFor holds' s (committed h es) (settled_by t es)
+    → holds'.is_honest → (s : M.State) (h : History) (t : List ℕ) → StandsFor holds s h t → NoneReused M.serves t es
+    → StandsFor holds' s (committed M.serves h es) (settled_by M.serves t es)
 moved_stands M holds holds' es others p new moved is s h t so none =
-    stands_later M holds' s (committed h es) (t ++ handed_on empty_ledger es) (settled_by t es)
-    (settled_all t t empty_ledger es (λ i there. there) (includes_none t))
+    stands_later M holds' s (committed M.serves h es) (t ++ handed_on M.serves empty_ledger es) (settled_by M.serves t es)
+    (settled_all M.serves t t empty_ledger es (λ i there. there) (includes_none t))
     (moved_kept M holds holds' es others p new moved is s h t so none)
 
-pub moved_outcomes : (M : Model) → (holds holds' : KeeperState M) (es others : List Event) (p : List ℕ) (new : List (Option Outcome))
+pub moved_outcomes : (M : Model) (holds holds' : KeeperState M) (es others : List Event) (p : List ℕ) (new : List (Option Outcome))
     → Moved holds holds' empty_ledger es others p [] new
-    → holds'.is_honest → (s : M.State) (h : History) (t : List ℕ) → StandsFor holds s h t → NoneReused t es
-    → map bytes_given new ≡ map (outcome_of M s (committed h es)) es
+    → holds'.is_honest → (s : M.State) (h : History) (t : List ℕ) → StandsFor holds s h t → NoneReused M.serves t es
+    → map bytes_given new ≡ map (outcome_of M s (committed M.serves h es)) es
 moved_outcomes M holds holds' es others p new moved is s h t so none = ap (map bytes_given) moved.ran.items
     ∙ moved.ran.outcomes is s h t t so (λ i there. there) (includes_none t) none
 
-pub moved_count : (M : Model) → (holds holds' : KeeperState M) (es others : List Event) (p : List ℕ) (new : List (Option Outcome))
+pub moved_count : (M : Model) (holds holds' : KeeperState M) (es others : List Event) (p : List ℕ) (new : List (Option Outcome))
     → Moved holds holds' empty_ledger es others p [] new → length new ≡ length es
 moved_count M holds holds' es others p new moved = ap length moved.ran.items ∙ moved.ran.count
 
@@ -95,7 +97,7 @@ pub moved_opened : (M : Model) → {K : Type 0} (told : K → KeeperState M) (be
 moved_opened M told became law old mid new events at n p outcomes moved opened opens =
     subst (Opened told became old new) (sym (take-add at n events))
     (opened_more M told became law old mid new (take at events) (take n (drop at events)) p
-    (pending_within (ledger_after empty_ledger (take at events)) p (take at events) refl moved.pending)
+    (pending_within M.serves (ledger_after M.serves empty_ledger (take at events)) p (take at events) refl moved.pending)
     (moved_stands M (told_in told old) (told_in told mid) (take at events) (drop at events) p outcomes moved) opened opens)
 
 -- which records are left
@@ -103,9 +105,9 @@ kept_or_gone : {A : Type 0} (b : Bool) (o now : Option A) → now ≡ (if b then
 kept_or_gone true o now is isnt = absurd (isnt refl)
 kept_or_gone false o now is isnt = is
 
-pub moved_records : (M : Model) → (holds holds' : KeeperState M) (es others : List Event) (p : List ℕ) (new : List (Option Outcome))
+pub moved_records : (M : Model) (holds holds' : KeeperState M) (es others : List Event) (p : List ℕ) (new : List (Option Outcome))
     → Moved holds holds' empty_ledger es others p [] new
-    → NoneReused [] es → Reports holds holds' (λ rows records. HoldsRecords holds' (RecordsLeft es records))
+    → NoneReused M.serves [] es → Reports holds holds' (λ rows records. HoldsRecords holds' (RecordsLeft M.serves es records))
 moved_records M holds holds' es others p new moved none is rows records held rowed =
     let done = moved.ran.records is rows records held rowed in
     record {
@@ -114,15 +116,15 @@ moved_records M holds holds' es others p new moved none is rows records held row
       held = done.held;
       rowed = done.rowed;
       left = record {
-        gone = λ i was. done.left.gone [] (includes_none []) none i (settled_handed es i was);
-        others = λ i isnt. kept_or_gone (is_in (handed_on empty_ledger es) i) (records i) (done.records i) (done.left.others i isnt)
-            (λ there. absurd (let came = handed_came es i there in cc (came, isnt)));
+        gone = λ i was. done.left.gone [] (includes_none []) none i (settled_handed M.serves es i was);
+        others = λ i isnt. kept_or_gone (is_in (handed_on M.serves empty_ledger es) i) (records i) (done.records i) (done.left.others i isnt)
+            (λ there. absurd (let came = handed_came M.serves es i there in cc (came, isnt)));
       };
     }
 
-not_handed : (es : List Event) (i : ℕ) → ¬ SettledBefore 1 es i → is_in (handed_on empty_ledger es) i ≡ false
-not_handed es i isnt = elim (tested (is_in (handed_on empty_ledger es) i)) [
-  | inl there ↦ absurd (isnt (handed_settled es i there))
+not_handed : (V : OpcodeSet) (es : List Event) (i : ℕ) → ¬ SettledBefore V 1 es i → is_in (handed_on V empty_ledger es) i ≡ false
+not_handed V es i isnt = elim (tested (is_in (handed_on V empty_ledger es) i)) [
+  | inl there ↦ absurd (isnt (handed_settled V es i there))
   | inr absent ↦ absent
 ]
 
@@ -139,13 +141,13 @@ pub moved_left : (M : Model) → {K : Type 0} (told : K → KeeperState M) (old 
     (outcomes : List (Option Outcome))
     → ((k : K) (x y : M.Rows) (p q : Records) → (told k).holds x p → (told k).holds y q → (x ≡ y) × ((i : ℕ) → p i ≡ q i))
     → Moved (told_in told old) (told_in told new) empty_ledger es others p [] outcomes
-    → (told_in told new).is_honest → (s : M.State) (h : History) (t : List ℕ) → StandsIn told old s h t → NoneReused t es → (rows : M.Rows) (records : Records)
+    → (told_in told new).is_honest → (s : M.State) (h : History) (t : List ℕ) → StandsIn told old s h t → NoneReused M.serves t es → (rows : M.Rows) (records : Records)
     → (told_in told new).holds rows records
-    → (i : ℕ) → is_in t i ≡ false → ¬ SettledBefore 1 es i → records i ≡ said M s (committed h es) i
+    → (i : ℕ) → is_in t i ≡ false → ¬ SettledBefore M.serves 1 es i → records i ≡ said M s (committed M.serves h es) i
 moved_left M told old new es others p outcomes one moved is s h t so none rows records held i unsettled isnt =
     let left = moved_kept M (told_in told old) (told_in told new) es others p outcomes moved is s h t so none in
     same_records M told new rows left.rows records left.records one held left.held i
-    ∙ left.stands.kept i (not_in_both t (handed_on empty_ledger es) i unsettled (not_handed es i isnt))
+    ∙ left.stands.kept i (not_in_both t (handed_on M.serves empty_ledger es) i unsettled (not_handed M.serves es i isnt))
 
 -- ---- a fault
 
@@ -165,24 +167,24 @@ stopped_at : (M : Model) → {K : Type 0} (told : K → KeeperState M) (old mid 
     (outcomes : List (Option Outcome))
     → Moved (told_in told old) (told_in told mid) empty_ledger (take at events) (drop at events) p [] outcomes → event_of fault ≡ at
     → (told_in told mid).is_honest
-    → (s : M.State) (h : History) (t : List ℕ) → StandsIn told old s h t → NoneReused t (before fault events)
-    → StandsIn told mid s (committed h (before fault events)) (settled_by t (before fault events))
+    → (s : M.State) (h : History) (t : List ℕ) → StandsIn told old s h t → NoneReused M.serves t (before fault events)
+    → StandsIn told mid s (committed M.serves h (before fault events)) (settled_by M.serves t (before fault events))
 stopped_at M told old mid events at fault p outcomes moved place is s h t so none =
     let same : before fault events ≡ take at events = ap (λ n. take n events) place in
-    subst (λ es. StandsIn told mid s (committed h es) (settled_by t es)) (sym same)
-    (moved_stands M (told_in told old) (told_in told mid) (take at events) (drop at events) p outcomes moved is s h t so (subst (NoneReused t) same none))
+    subst (λ es. StandsIn told mid s (committed M.serves h es) (settled_by M.serves t es)) (sym same)
+    (moved_stands M (told_in told old) (told_in told mid) (take at events) (drop at events) p outcomes moved is s h t so (subst (NoneReused M.serves t) same none))
 
 pub stopped : (M : Model) → {K : Type 0} (told : K → KeeperState M) (became : K → K → ℕ → Type 0) (refuses : K → StoreFault → Type 0) (old mid new : Option K)
     (events : List Event) (at : ℕ) (fault : DriveFault) (p : List ℕ) (outcomes : List (Option Outcome))
     → ((k : K) → (told k).is_clean → (told k).is_honest) → Moved (told_in told old) (told_in told mid) empty_ledger (take at events) (drop at events) p []
     outcomes → Stops told became refuses mid new events at fault
-    → (s : M.State) (h : History) (t : List ℕ) → StandsIn told old s h t → NoneReused t (before fault events)
-    → LeftBy (told_in told new) (is_store fault) (StandsIn told new s (committed h (before fault events)) (settled_by t (before fault events)))
+    → (s : M.State) (h : History) (t : List ℕ) → StandsIn told old s h t → NoneReused M.serves t (before fault events)
+    → LeftBy (told_in told new) (is_store fault) (StandsIn told new s (committed M.serves h (before fault events)) (settled_by M.serves t (before fault events)))
 stopped M told became refuses old mid new events at fault p outcomes too moved stops s h t so none =
     left_map M told (is_store fault) new ((event_of fault ≡ at) × KeepsHeld (told_in told mid) (told_in told new))
-    (StandsIn told new s (committed h (before fault events)) (settled_by t (before fault events)))
+    (StandsIn told new s (committed M.serves h (before fault events)) (settled_by M.serves t (before fault events)))
     (clean_too M told new too) stops.left (λ is left.
-    stands_kept M (told_in told mid) (told_in told new) s (committed h (before fault events)) (settled_by t (before fault events)) left.1
+    stands_kept M (told_in told mid) (told_in told new) s (committed M.serves h (before fault events)) (settled_by M.serves t (before fault events)) left.1
     (stopped_at M told old mid events at fault p outcomes moved left.0 (stops.was_honest is) s h t so none))
 
 -- which fault of the store it was
@@ -195,7 +197,7 @@ pub stopped_store : (M : Model) → {K : Type 0} (told : K → KeeperState M) (b
     → ((k : K) → (told k).is_clean → (told k).is_honest) → Moved (told_in told old) (told_in told mid) empty_ledger (take at events) (drop at events) p []
     outcomes
     → Opened told became old mid (take at events) → Stops told became refuses mid new events at fault → is_store fault ≡ true → (told_in told new).is_clean
-    → (s : M.State) (h : History) (t : List ℕ) → StandsIn told old s h t → NoneReused t (before fault events)
+    → (s : M.State) (h : History) (t : List ℕ) → StandsIn told old s h t → NoneReused M.serves t (before fault events)
     → AnsweredBy told became old new (before fault events) fault
 stopped_store M told became refuses old mid new events at fault p outcomes too moved opened stops store is s h t so none =
     let stayed = stops.stayed (there_is M told new is) in
@@ -204,7 +206,7 @@ stopped_store M told became refuses old mid new events at fault p outcomes too m
       keeper = mid;
       before = subst (λ n. became_in became old mid (deaths (take n events))) (sym stayed.0) opened.often;
       after = stayed.1;
-      may = stops.answered store is s (committed h (before fault events)) (settled_by t (before fault events))
+      may = stops.answered store is s (committed M.serves h (before fault events)) (settled_by M.serves t (before fault events))
           (stopped_at M told old mid events at fault p outcomes moved stayed.0 was s h t so none);
     }
 

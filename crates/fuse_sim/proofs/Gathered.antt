@@ -3,16 +3,18 @@ use Rattle.std.proofs.Common.{◌≡◌, ◌≢◌, ◌⊎◌, inl, inr, ℕ, �
 use Rattle.std.proofs.Common.{drop, get_or, All, refl, sym, ap, subst, ◌∙◌, arith, append_assoc, length-append, drop-cons}
 use Rattle.std.proofs.lemmas.List.{take_more, append-nil, map-append, length-map, length-take-le, drop_all}
 use Rattle.std.proofs.lemmas.List.Elements.{All-append, All-cons, All-nil}
+use Rattle.fuse_request.specs.Opcodes.{OpcodeSet}
 use Rattle.fuse_wire.specs.Ids.{id_of}
 use Rattle.fuse_wire.specs.Opcodes.{silent}
 use Rattle.fuse_wire.specs.declared.moment.Moment.{Moment}
 use Rattle.fuse_request.specs.declared.request.Request.{Request}
 use Rattle.fuse_request.specs.declared.class.Class.{Class}
 use Rattle.fuse_request.specs.declared.class.Class.TheVariants.{Silent, Bare, Kept}
-use Rattle.fuse_request.specs.Classes.{class_of, class_by, is_zero}
+use Rattle.fuse_request.specs.Classes.{class_for, class_for, class_by, is_zero}
 use Rattle.fuse_request.specs.Faults.{first_fault}
 use Rattle.fuse_request.specs.Header.{raw_of}
 use Rattle.fuse_keeper.specs.History.{Entry}
+use Rattle.fuse_keeper.specs.Model.{Model}
 use Rattle.fuse_keeper.specs.declared.keeper.TheConstants.{MAX_GROUP}
 use Rattle.fuse_keeper.specs.Group.{entry_of, entries_of, HasId, IsKept}
 use Rattle.fuse_session.specs.Processed.{entry_if, message_entry}
@@ -20,14 +22,14 @@ use Rattle.fuse_sim.specs.declared.event.Fate.{Fate}
 use Rattle.fuse_sim.specs.declared.event.Fate.TheVariants.{Answered, AnswerLost, DiedBeforeCommit, DiedAfterCommit}
 use Rattle.fuse_sim.specs.declared.event.Event.{Event}
 use Rattle.fuse_sim.specs.Driving.{commits, commits_by, commits_in, dies, IsFit}
-use Rattle.fuse_sim.specs.Running.{dies_before, IsRun, StartsNone, EndsWith, StopsAt, Gathers, Joins}
+use Rattle.fuse_sim.specs.inner.Running.{dies_before, IsRun, StartsNone, EndsWith, StopsAt, Gathers, Joins}
 
 pub only_one : {A : Type 0} (P : A → Type 0) (x : A) → P x → All P (x ∷ [])
 only_one P x p = All-cons P x [] p (All-nil P)
 
-pub commits-append : (xs ys : List Event) → commits_in (xs ++ ys) ≡ commits_in xs ++ commits_in ys
-commits-append [] ys = refl
-commits-append (x ∷ xs) ys = ap (λ r. commits x ++ r) (commits-append xs ys) ∙ sym (append_assoc (commits x) (commits_in xs) (commits_in ys))
+pub commits-append : (V : OpcodeSet) (xs ys : List Event) → commits_in V (xs ++ ys) ≡ commits_in V xs ++ commits_in V ys
+commits-append V [] ys = refl
+commits-append V (x ∷ xs) ys = ap (λ r. commits V x ++ r) (commits-append V xs ys) ∙ sym (append_assoc (commits V x) (commits_in V xs) (commits_in V ys))
 
 -- an event that isn't lost commits its message
 pub commits_kept : (fate : Fate) (es : List Entry) → dies_before fate ≡ false → commits_by fate es ≡ es
@@ -45,59 +47,59 @@ run_more (x ∷ xs) e b so is died = elim so [
   | inr last ↦ absurd (cc last.0)
 ]
 
-pub none_gathered : (classes : List Class) (taken : List (Request × Moment)) → classes ≡ [] → taken ≡ [] → Gathers [] classes taken false
-none_gathered classes taken none is = record {
+pub none_gathered : (M : Model) (classes : List Class) (taken : List (Request × Moment)) → classes ≡ [] → taken ≡ [] → Gathers M [] classes taken false
+none_gathered M classes taken none is = record {
   fit = All-nil IsFit;
   goes = refl;
   classes_are = none;
   entries = ap entries_of is;
   few = omega (arith, ap length is);
   named = subst (λ (t : List (Request × Moment)). All HasId (entries_of t)) (sym is) (All-nil HasId);
-  kept = subst (λ (t : List (Request × Moment)). All IsKept (entries_of t)) (sym is) (All-nil IsKept);
+  kept = subst (λ (t : List (Request × Moment)). All (IsKept M) (entries_of t)) (sym is) (All-nil (IsKept M));
 }
 
 -- one more
-pub gathers_next : (events : List Event) (i : ℕ) (e : Event) (classes classes' : List Class) (taken taken' : List (Request × Moment)) (died died' : Bool)
+pub gathers_next : (M : Model) (events : List Event) (i : ℕ) (e : Event) (classes classes' : List Class) (taken taken' : List (Request × Moment)) (died died' : Bool)
     → i < length events → e ≡ get_or events i e
-    → Gathers (take i events) classes taken died → Joins e classes taken died classes' taken' died' → Gathers (take (i + 1) events) classes' taken' died'
-gathers_next events i e classes classes' taken taken' died died' lt at so_far joins =
+    → Gathers M (take i events) classes taken died → Joins M e classes taken died classes' taken' died' → Gathers M (take (i + 1) events) classes' taken' died'
+gathers_next M events i e classes classes' taken taken' died died' lt at so_far joins =
     let more : take i events ++ e ∷ [] ≡ take (i + 1) events = ap (λ x. take i events ++ x ∷ []) at ∙ sym (take_more events i e lt) in
-    subst (λ run. Gathers run classes' taken' died') more (joins.1 (take i events) (subst (Gathers (take i events) classes taken) joins.0 so_far))
+    subst (λ run. Gathers M run classes' taken' died') more (joins.1 (take i events) (subst (Gathers M (take i events) classes taken) joins.0 so_far))
 
-pub gathers_count : (events : List Event) (i : ℕ) (classes : List Class) (taken : List (Request × Moment)) (died : Bool) → i ≤ length events
-    → Gathers (take i events) classes taken died → length classes ≡ i
-gathers_count events i classes taken died le g = ap length g.classes_are ∙ length-map (take i events) (λ (e : Event). class_of e.bytes)
+pub gathers_count : (M : Model) (events : List Event) (i : ℕ) (classes : List Class) (taken : List (Request × Moment)) (died : Bool) → i ≤ length events
+    → Gathers M (take i events) classes taken died → length classes ≡ i
+gathers_count M events i classes taken died le g = ap length g.classes_are ∙ length-map (take i events) (λ (e : Event). class_for M.serves e.bytes)
     ∙ length-take-le i events le
 
-pub gathers_counted : (events : List Event) (i : ℕ) (classes : List Class) (taken : List (Request × Moment)) (died : Bool) → i ≤ length events
-    → Gathers (take i events) classes taken died → Gathers (take (length classes) events) classes taken died
-gathers_counted events i classes taken died le g = subst (λ n. Gathers (take n events) classes taken died)
-    (sym (gathers_count events i classes taken died le g)) g
+pub gathers_counted : (M : Model) (events : List Event) (i : ℕ) (classes : List Class) (taken : List (Request × Moment)) (died : Bool) → i ≤ length events
+    → Gathers M (take i events) classes taken died → Gathers M (take (length classes) events) classes taken died
+gathers_counted M events i classes taken died le g = subst (λ n. Gathers M (take n events) classes taken died)
+    (sym (gathers_count M events i classes taken died le g)) g
 
 -- a group ends where the server died, where it is full, or before an event that stands apart
-pub ends_here : (events : List Event) (i : ℕ) (e : Event) (classes : List Class) (taken : List (Request × Moment)) (died : Bool) → i < length events
+pub ends_here : (M : Model) (events : List Event) (i : ℕ) (e : Event) (classes : List Class) (taken : List (Request × Moment)) (died : Bool) → i < length events
     → e ≡ get_or events i e
-    → Gathers (take i events) classes taken died → EndsWith taken died e → StopsAt taken died (drop (length classes) events)
-ends_here events i e classes taken died lt at g ends alive = elim ends [
+    → Gathers M (take i events) classes taken died → EndsWith taken died e → StopsAt taken died (drop (length classes) events)
+ends_here M events i e classes taken died lt at g ends alive = elim ends [
   | inl dead ↦ absurd (cc (alive, dead))
   | inr so ↦ elim so [
     | inl full ↦ inl full
-    | inr apart ↦ inr (subst (λ k. StartsNone (drop k events)) (sym (gathers_count events i classes taken died (omega (arith, lt)) g))
+    | inr apart ↦ inr (subst (λ k. StartsNone (drop k events)) (sym (gathers_count M events i classes taken died (omega (arith, lt)) g))
         (subst StartsNone (sym (drop-cons events i e lt)) (subst (λ (x : Event). (dies_before x.fate ≡ true) ⊎ (¬ IsFit x)) at apart)))
   ]
 ]
 
-pub stops_at_end : (events : List Event) (i : ℕ) (classes : List Class) (taken : List (Request × Moment)) (died : Bool) → i ≤ length events → length events ≤ i
-    → Gathers (take i events) classes taken died → StopsAt taken died (drop (length classes) events)
-stops_at_end events i classes taken died le past g alive =
-    let n = gathers_count events i classes taken died le g in
+pub stops_at_end : (M : Model) (events : List Event) (i : ℕ) (classes : List Class) (taken : List (Request × Moment)) (died : Bool) → i ≤ length events → length events ≤ i
+    → Gathers M (take i events) classes taken died → StopsAt taken died (drop (length classes) events)
+stops_at_end M events i classes taken died le past g alive =
+    let n = gathers_count M events i classes taken died le g in
     inr (subst StartsNone (sym (drop_all (length classes) events (omega (arith, n, past)))) tt)
 
 -- a kept message is answered
-kept_speaks : (b : List ℕ) → class_of b ≡ Kept → silent (raw_of b).opcode ≡ false
-unfolding class_of
-kept_speaks b kept =
-    elim (silent (raw_of b).opcode) as (λ s. (if s then Silent else class_by (first_fault b) (raw_of b).opcode) ≡ Kept → s ≡ false)
+kept_speaks : (V : OpcodeSet) (b : List ℕ) → class_for V b ≡ Kept → silent (raw_of b).opcode ≡ false
+unfolding class_for
+kept_speaks V b kept =
+    elim (silent (raw_of b).opcode) as (λ s. (if s then Silent else class_by V (first_fault b) (raw_of b).opcode) ≡ Kept → s ≡ false)
     [ true ↦ λ isnt. absurd (cc isnt) | false ↦ λ _. refl ] kept
 
 not_zero : (n : ℕ) → (n == 0) ≡ false → n ≢ 0
@@ -107,74 +109,74 @@ spoken : (s e : Bool) → s ≡ false → (not s && e) ≡ false → e ≡ false
 spoken true e isnt both = absurd (cc isnt)
 spoken false e isnt both = both
 
-has_id : (m : List ℕ) (t : Moment) → class_of m ≡ Kept → is_zero m ≡ false → HasId (message_entry m t)
-has_id m t kept named = not_zero (id_of (raw_of m).unique) (spoken (silent (raw_of m).opcode) (id_of (raw_of m).unique == 0) (kept_speaks m kept) named)
+has_id : (V : OpcodeSet) (m : List ℕ) (t : Moment) → class_for V m ≡ Kept → is_zero m ≡ false → HasId (message_entry m t)
+has_id V m t kept named = not_zero (id_of (raw_of m).unique) (spoken (silent (raw_of m).opcode) (id_of (raw_of m).unique == 0) (kept_speaks V m kept) named)
 
 one_kept : (class : Class) (x e : Entry) → x ∷ [] ≡ entry_if class e → (class ≡ Kept) × (x ≡ e)
 one_kept Silent x e is = absurd (cc is)
 one_kept (Bare errno) x e is = absurd (cc is)
 one_kept Kept x e is = (refl, cc is)
 
-named_more : (bytes : List ℕ) (taken taken' : List (Request × Moment)) (one : Request × Moment) (t : Moment) → is_zero bytes ≡ false
-    → entry_of one ∷ [] ≡ entry_if (class_of bytes) (message_entry bytes t) → taken' ≡ taken ++ one ∷ [] → All HasId (entries_of taken)
+named_more : (V : OpcodeSet) (bytes : List ℕ) (taken taken' : List (Request × Moment)) (one : Request × Moment) (t : Moment) → is_zero bytes ≡ false
+    → entry_of one ∷ [] ≡ entry_if (class_for V bytes) (message_entry bytes t) → taken' ≡ taken ++ one ∷ [] → All HasId (entries_of taken)
     → All HasId (entries_of taken')
-named_more bytes taken taken' one t named some pushed each =
-    let kept = one_kept (class_of bytes) (entry_of one) (message_entry bytes t) some in
-    let here : HasId (entry_of one) = subst HasId (sym kept.1) (has_id bytes t kept.0 named) in
+named_more V bytes taken taken' one t named some pushed each =
+    let kept = one_kept (class_for V bytes) (entry_of one) (message_entry bytes t) some in
+    let here : HasId (entry_of one) = subst HasId (sym kept.1) (has_id V bytes t kept.0 named) in
     subst (All HasId) (sym (ap entries_of pushed ∙ map-append entry_of taken (one ∷ [])))
     (All-append HasId (entries_of taken) (entry_of one ∷ []) each (only_one HasId (entry_of one) here))
 
-kept_more : (taken taken' : List (Request × Moment)) (one : Request × Moment) → All IsKept (entry_of one ∷ []) → taken' ≡ taken ++ one ∷ []
-    → All IsKept (entries_of taken) → All IsKept (entries_of taken')
-kept_more taken taken' one here pushed each =
-    subst (All IsKept) (sym (ap entries_of pushed ∙ map-append entry_of taken (one ∷ []))) (All-append IsKept (entries_of taken) (entry_of one ∷ []) each here)
+kept_more : (M : Model) (taken taken' : List (Request × Moment)) (one : Request × Moment) → All (IsKept M) (entry_of one ∷ []) → taken' ≡ taken ++ one ∷ []
+    → All (IsKept M) (entries_of taken) → All (IsKept M) (entries_of taken')
+kept_more M taken taken' one here pushed each =
+    subst (All (IsKept M)) (sym (ap entries_of pushed ∙ map-append entry_of taken (one ∷ []))) (All-append (IsKept M) (entries_of taken) (entry_of one ∷ []) each here)
 
-entries_one : (run : List Event) (e : Event) (es : List Entry) → dies_before e.fate ≡ false → es ≡ entry_if (class_of e.bytes) (message_entry e.bytes e.moment)
-    → commits_in run ++ es ≡ commits_in (run ++ e ∷ [])
-entries_one run e es goes is =
-    ap (λ r. commits_in run ++ r) (is ∙ sym (append-nil (commits e) ∙ commits_kept e.fate (entry_if (class_of e.bytes) (message_entry e.bytes e.moment)) goes))
-    ∙ sym (commits-append run (e ∷ []))
+entries_one : (V : OpcodeSet) (run : List Event) (e : Event) (es : List Entry) → dies_before e.fate ≡ false → es ≡ entry_if (class_for V e.bytes) (message_entry e.bytes e.moment)
+    → commits_in V run ++ es ≡ commits_in V (run ++ e ∷ [])
+entries_one V run e es goes is =
+    ap (λ r. commits_in V run ++ r) (is ∙ sym (append-nil (commits V e) ∙ commits_kept e.fate (entry_if (class_for V e.bytes) (message_entry e.bytes e.moment)) goes))
+    ∙ sym (commits-append V run (e ∷ []))
 
 few_more : (n m : ℕ) → n ≤ MAX_GROUP → (n ≡ MAX_GROUP → ⊥) → m ≡ n + 1 → m ≤ MAX_GROUP
 few_more n m few room is = grind (arith, few, room, is)
 
 -- an event with its request
-pub joins_kept : (e : Event) (classes classes' : List Class) (taken taken' : List (Request × Moment)) (one : Request × Moment) (died died' : Bool)
+pub joins_kept : (M : Model) (e : Event) (classes classes' : List Class) (taken taken' : List (Request × Moment)) (one : Request × Moment) (died died' : Bool)
     → died ≡ false → IsFit e → dies_before e.fate ≡ false
-    → entry_of one ∷ [] ≡ entry_if (class_of e.bytes) (message_entry e.bytes e.moment) → All IsKept (entry_of one ∷ []) → (length taken ≡ MAX_GROUP → ⊥)
-    → classes' ≡ classes ++ class_of e.bytes ∷ [] → taken' ≡ taken ++ one ∷ [] → dies e.fate ≡ died' → (died' ≡ true → e.fate ≡ DiedAfterCommit)
-    → Joins e classes taken died classes' taken' died'
-joins_kept e classes classes' taken taken' one died died' alive fit goes some kept room classed pushed is dead = (
+    → entry_of one ∷ [] ≡ entry_if (class_for M.serves e.bytes) (message_entry e.bytes e.moment) → All (IsKept M) (entry_of one ∷ []) → (length taken ≡ MAX_GROUP → ⊥)
+    → classes' ≡ classes ++ class_for M.serves e.bytes ∷ [] → taken' ≡ taken ++ one ∷ [] → dies e.fate ≡ died' → (died' ≡ true → e.fate ≡ DiedAfterCommit)
+    → Joins M e classes taken died classes' taken' died'
+joins_kept M e classes classes' taken taken' one died died' alive fit goes some kept room classed pushed is dead = (
   alive,
   λ run g. record {
     fit = All-append IsFit run (e ∷ []) g.fit (only_one IsFit e fit);
     goes = run_more run e died' g.goes is dead;
-    classes_are = classed ∙ ap (λ (cs : List Class). cs ++ class_of e.bytes ∷ []) g.classes_are
-        ∙ sym (map-append (λ (x : Event). class_of x.bytes) run (e ∷ []));
+    classes_are = classed ∙ ap (λ (cs : List Class). cs ++ class_for M.serves e.bytes ∷ []) g.classes_are
+        ∙ sym (map-append (λ (x : Event). class_for M.serves x.bytes) run (e ∷ []));
     entries = ap entries_of pushed ∙ map-append entry_of taken (one ∷ []) ∙ ap (λ r. r ++ entry_of one ∷ []) g.entries
-        ∙ entries_one run e (entry_of one ∷ []) goes some;
+        ∙ entries_one M.serves run e (entry_of one ∷ []) goes some;
     few = few_more (length taken) (length taken') g.few room (ap length pushed ∙ length-append taken (one ∷ []));
-    named = named_more e.bytes taken taken' one e.moment fit.named some pushed g.named;
-    kept = kept_more taken taken' one kept pushed g.kept;
+    named = named_more M.serves e.bytes taken taken' one e.moment fit.named some pushed g.named;
+    kept = kept_more M taken taken' one kept pushed g.kept;
   },
 )
 
 -- an event without one
-pub joins_bare : (e : Event) (classes classes' : List Class) (taken taken' : List (Request × Moment)) (died died' : Bool) → died ≡ false → IsFit e
+pub joins_bare : (M : Model) (e : Event) (classes classes' : List Class) (taken taken' : List (Request × Moment)) (died died' : Bool) → died ≡ false → IsFit e
     → dies_before e.fate ≡ false
-    → [] ≡ entry_if (class_of e.bytes) (message_entry e.bytes e.moment)
-    → classes' ≡ classes ++ class_of e.bytes ∷ [] → taken' ≡ taken → dies e.fate ≡ died' → (died' ≡ true → e.fate ≡ DiedAfterCommit)
-    → Joins e classes taken died classes' taken' died'
-joins_bare e classes classes' taken taken' died died' alive fit goes none classed same is dead = (
+    → [] ≡ entry_if (class_for M.serves e.bytes) (message_entry e.bytes e.moment)
+    → classes' ≡ classes ++ class_for M.serves e.bytes ∷ [] → taken' ≡ taken → dies e.fate ≡ died' → (died' ≡ true → e.fate ≡ DiedAfterCommit)
+    → Joins M e classes taken died classes' taken' died'
+joins_bare M e classes classes' taken taken' died died' alive fit goes none classed same is dead = (
   alive,
   λ run g. record {
     fit = All-append IsFit run (e ∷ []) g.fit (only_one IsFit e fit);
     goes = run_more run e died' g.goes is dead;
-    classes_are = classed ∙ ap (λ (cs : List Class). cs ++ class_of e.bytes ∷ []) g.classes_are
-        ∙ sym (map-append (λ (x : Event). class_of x.bytes) run (e ∷ []));
-    entries = ap entries_of same ∙ g.entries ∙ sym (append-nil (commits_in run)) ∙ entries_one run e [] goes none;
+    classes_are = classed ∙ ap (λ (cs : List Class). cs ++ class_for M.serves e.bytes ∷ []) g.classes_are
+        ∙ sym (map-append (λ (x : Event). class_for M.serves x.bytes) run (e ∷ []));
+    entries = ap entries_of same ∙ g.entries ∙ sym (append-nil (commits_in M.serves run)) ∙ entries_one M.serves run e [] goes none;
     few = omega (arith, g.few, ap length same);
     named = subst (λ (t : List (Request × Moment)). All HasId (entries_of t)) (sym same) g.named;
-    kept = subst (λ (t : List (Request × Moment)). All IsKept (entries_of t)) (sym same) g.kept;
+    kept = subst (λ (t : List (Request × Moment)). All (IsKept M) (entries_of t)) (sym same) g.kept;
   },
 )

@@ -4,6 +4,7 @@ pub mod Outcomes
 pub mod Settled
 pub mod Groups
 pub mod Ledgers
+pub mod Asking
 pub mod Driven
 pub mod Removed
 pub mod Moves

@@ -149,7 +149,7 @@ gave_prefix gave xs ys given = (
       given.1,
 )
 
-pub run_lived : (M : Model) → (stood : History → List ℕ → Type 0) (gave : List Moment → Type 0) (s : M.State) (h : History) (t : List ℕ) (old new : PortState)
+pub run_lived : (M : Model) (stood : History → List ℕ → Type 0) (gave : List Moment → Type 0) (s : M.State) (h : History) (t : List ℕ) (old new : PortState)
     (received : List ℕ) (timed : List Timed) (others : List (List ℕ)) (marks : List Mark) (part : List ℕ)
     → Consumes old.coming new.coming received → (cut received).0 ≡ bytes_of timed ++ others → GaveFirst gave timed → Replied old new marks part
     → Lived M stood s h old.confirms t timed marks part → RanAsLife M stood gave s h t old new

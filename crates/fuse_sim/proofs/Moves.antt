@@ -3,12 +3,13 @@ use Rattle.std.proofs.Common.{◌≡◌, ◌⊎◌, inl, inr, ℕ, suc, ◌≤�
 use Rattle.std.proofs.Common.{get_or, All, Option, None, refl, sym, ap, subst, ◌∙◌, append_assoc, length-append, drop-cons, arith}
 use Rattle.std.proofs.lemmas.List.{append-nil, map-append, length-map}
 use Rattle.std.proofs.lemmas.List.Elements.{All-nil, All-cons}
+use Rattle.fuse_request.specs.Opcodes.{OpcodeSet}
 use Rattle.fuse_wire.specs.declared.moment.Moment.{Moment}
 use Rattle.fuse_wire.specs.declared.id.Id.{Id}
 use Rattle.fuse_answer.specs.Said.{Said}
 use Rattle.fuse_request.specs.declared.request.Request.{Request}
 use Rattle.fuse_request.specs.declared.class.Class.{Class}
-use Rattle.fuse_request.specs.Classes.{class_of}
+use Rattle.fuse_request.specs.Classes.{class_for}
 use Rattle.fuse_keeper.specs.History.{Entry, entry_id, HistoriesGrow, grown, is_in, ids_in, Includes, IsUnsettled}
 use Rattle.fuse_keeper.specs.Model.{Model}
 use Rattle.fuse_keeper.specs.Stands.{Records}
@@ -21,9 +22,10 @@ use Rattle.fuse_sim.specs.declared.event.Event.{Event}
 use Rattle.fuse_sim.specs.declared.event.Outcome.{Outcome}
 use Rattle.fuse_sim.specs.Driving.{commits, commits_by, commits_in, committed, outcome_of, bytes_given, is_taken, where_taken, answer_in, settles, settled_by}
 use Rattle.fuse_sim.specs.Driving.{NoneReused, IsFit, dies}
-use Rattle.fuse_sim.specs.HandedOn.{Ledger, empty_ledger, after_commit, crashed_if, handed_at, handed_on, ledger_after}
-use Rattle.fuse_sim.specs.Running.{dies_before, IsRun, StartsNone, StopsAt, Begins, Gathers, NoneDiesBefore, settles_in, RecordsRan}
-use Rattle.fuse_sim.specs.Running.{Ran, MayBegin, Moved, Worked}
+use Rattle.fuse_sim.specs.HandedOn.{Ledger, empty_ledger, after_commit, crashed_if}
+use Rattle.fuse_sim.specs.inner.HandedBy.{handed_at, handed_on, ledger_after}
+use Rattle.fuse_sim.specs.inner.Running.{dies_before, IsRun, StartsNone, StopsAt, Begins, Gathers, NoneDiesBefore, settles_in, RecordsRan}
+use Rattle.fuse_sim.specs.inner.Running.{Ran, MayBegin, Moved, Worked}
 use Rattle.fuse_sim.proofs.Gathered.{commits-append, only_one}
 use Rattle.fuse_sim.proofs.Settled.{is_in-append, tested, includes_both, in_either, stands_kept}
 use Rattle.fuse_sim.proofs.Ledgers.{RunLedger, run_begins, few_pending}
@@ -63,55 +65,129 @@ not_among t (e ∷ es) i each there = elim (tested (entry_id e == i)) [
   | inr other ↦ ap (λ b. if b then true else is_in (ids_in es) i) other ∙ not_among t es i (λ k d lt. each (suc k) d (omega (arith, lt))) there
 ]
 
-records_more : (l : Ledger) (es es' : List Event) (r r' r'' : Records) → RecordsRan l es r r' → RecordsRan (ledger_after l es) es' r' r''
-    → RecordsRan l (es ++ es') r r''
-records_more l es es' r r' r'' one two =
-    let l' = ledger_after l es in
-    let ids : ids_in (commits_in (es ++ es')) ≡ ids_in (commits_in es) ++ ids_in (commits_in es') = ap ids_in (commits-append es es')
-    ∙ ids-append (commits_in es) (commits_in es') in
+records_more : (V : OpcodeSet) (l : Ledger) (es es' : List Event) (r r' r'' : Records) → RecordsRan V l es r r' → RecordsRan V (ledger_after V l es) es' r' r''
+    → RecordsRan V l (es ++ es') r r''
+records_more V l es es' r r' r'' one two =
+    let l' = ledger_after V l es in
+    let ids : ids_in (commits_in V (es ++ es')) ≡ ids_in (commits_in V es) ++ ids_in (commits_in V es') = ap ids_in (commits-append V es es')
+    ∙ ids-append (commits_in V es) (commits_in V es') in
     record {
       others = λ i isnt.
-          let both = or_false (is_in (ids_in (commits_in es)) i) (is_in (ids_in (commits_in es')) i)
-          (sym (ap (λ x. is_in x i) ids ∙ is_in-append (ids_in (commits_in es)) (ids_in (commits_in es')) i) ∙ isnt) in
-          two.others i both.1 ∙ ap (λ (o : Option Said). if is_in (handed_on l' es') i then None else o) (one.others i both.0)
-          ∙ or_none (is_in (handed_on l es) i) (is_in (handed_on l' es') i) (r i)
-          ∙ ap (λ b. if b then None else r i) (sym (ap (λ x. is_in x i) (handed-append l es es') ∙ is_in-append (handed_on l es) (handed_on l' es') i));
+          let both = or_false (is_in (ids_in (commits_in V es)) i) (is_in (ids_in (commits_in V es')) i)
+          (sym (ap (λ x. is_in x i) ids ∙ is_in-append (ids_in (commits_in V es)) (ids_in (commits_in V es')) i) ∙ isnt) in
+          two.others i both.1 ∙ ap (λ (o : Option Said). if is_in (handed_on V l' es') i then None else o) (one.others i both.0)
+          ∙ or_none (is_in (handed_on V l es) i) (is_in (handed_on V l' es') i) (r i)
+          ∙ ap (λ b. if b then None else r i) (sym (ap (λ x. is_in x i) (handed-append V l es es') ∙ is_in-append (handed_on V l es) (handed_on V l' es') i));
       gone = λ u within none i there.
-          let parts = reused-parts u es es' none in
-          let u' = settled_by u es in
-          elim (in_either (handed_on l es) (handed_on l' es') i (sym (ap (λ x. is_in x i) (handed-append l es es')) ∙ there)) [
+          let parts = reused-parts V u es es' none in
+          let u' = settled_by V u es in
+          elim (in_either (handed_on V l es) (handed_on V l' es') i (sym (ap (λ x. is_in x i) (handed-append V l es es')) ∙ there)) [
             | inl before ↦
-                two.others i (not_among u' (commits_in es') i (none_reused u' es' parts.1) (handed_settled u l es within i before))
-                ∙ none_if (is_in (handed_on l' es') i) (r' i) (one.gone u within parts.0 i before)
-            | inr later ↦ two.gone u' (pending_settled u l es within) parts.1 i later
+                two.others i (not_among u' (commits_in V es') i (none_reused V u' es' parts.1) (handed_settled V u l es within i before))
+                ∙ none_if (is_in (handed_on V l' es') i) (r' i) (one.gone u within parts.0 i before)
+            | inr later ↦ two.gone u' (pending_settled V u l es within) parts.1 i later
           ];
     }
 
 -- ---- events, and then others
 
+-- where the events that are meant end within the first ones, or among the others
+begin_with : (M : Model) (s : M.State) (h : History) (earlier : List Event) (xs ys : List (Option (List ℕ))) → OutcomesBegin M s h earlier xs
+    → OutcomesBegin M s h earlier (xs ++ ys)
+begin_with M s h earlier xs ys begins = (
+  begins.0 ++ ys,
+  ap (λ (os : List (Option (List ℕ))). os ++ ys) begins.1
+      ∙ append_assoc (map (outcome_of M s (committed M.serves h earlier)) earlier) begins.0 ys,
+)
+
+begin_later : (M : Model) → HistoriesGrow M → (s : M.State) (h : History) (es prefix : List Event) (xs ys : List (Option (List ℕ)))
+    → xs ≡ map (outcome_of M s (committed M.serves h es)) es → OutcomesBegin M s (committed M.serves h es) prefix ys
+    → OutcomesBegin M s h (es ++ prefix) (xs ++ ys)
+begin_later M grows s h es prefix xs ys is begins =
+    let first = map (outcome_of M s (committed M.serves h es)) es in
+    let second = map (outcome_of M s (committed M.serves (committed M.serves h es) prefix)) prefix in
+    (
+      begins.0,
+      ap (λ (os : List (Option (List ℕ))). os ++ ys) is ∙ ap (λ (os : List (Option (List ℕ))). first ++ os) begins.1
+          ∙ sym (append_assoc first second begins.0)
+          ∙ ap (λ (os : List (Option (List ℕ))). os ++ begins.0) (sym (outcomes-append M grows s h es prefix)),
+    )
+
+none_left : {A : Type 0} (xs ys : List A) → length xs ≡ length (xs ++ ys) → ys ≡ []
+none_left [] [] is = refl
+none_left [] (y ∷ ys) is = absurd (omega (arith, is))
+none_left (x ∷ xs) ys is = none_left xs ys (omega (arith, is))
+
+-- all of them
+pub begin_all : (M : Model) (s : M.State) (h : History) (es : List Event) (xs : List (Option (List ℕ))) → length xs ≡ length es → OutcomesBegin M s h es xs
+    → xs ≡ map (outcome_of M s (committed M.serves h es)) es
+begin_all M s h es xs count begins =
+    let first = map (outcome_of M s (committed M.serves h es)) es in
+    begins.1 ∙ ap (λ (os : List (Option (List ℕ))). first ++ os) (none_left first begins.0
+    (length-map es (outcome_of M s (committed M.serves h es)) ∙ sym count ∙ ap length begins.1)) ∙ append-nil first
+
+record SplitIn (xs ys earlier later : List Event) : Type 0 where
+  pub more : List Event
+  pub parts : xs ≡ earlier ++ more
+  pub rest : later ≡ more ++ ys
+
+record SplitAfter (xs ys earlier later : List Event) : Type 0 where
+  pub prefix : List Event
+  pub begin : earlier ≡ xs ++ prefix
+  pub parts : ys ≡ prefix ++ later
+
+split_one : (x : Event) (xs ys earlier later : List Event) → SplitIn xs ys earlier later ⊎ SplitAfter xs ys earlier later
+    → SplitIn (x ∷ xs) ys (x ∷ earlier) later ⊎ SplitAfter (x ∷ xs) ys (x ∷ earlier) later
+split_one x xs ys earlier later parts = elim parts [
+  | inl first ↦ inl (record { more = first.more; parts = ap (λ (z : List Event). x ∷ z) first.parts; rest = first.rest })
+  | inr second ↦ inr (record { prefix = second.prefix; begin = ap (λ (z : List Event). x ∷ z) second.begin; parts = second.parts })
+]
+
+pub split_in : (xs ys earlier later : List Event) → xs ++ ys ≡ earlier ++ later → SplitIn xs ys earlier later ⊎ SplitAfter xs ys earlier later
+split_in [] ys earlier later is = inr (record { prefix = earlier; begin = refl; parts = is })
+split_in (x ∷ xs) ys [] later is = inl (record { more = x ∷ xs; parts = refl; rest = sym is })
+split_in (x ∷ xs) ys (y ∷ earlier) later is =
+    let same : x ≡ y = cc is in
+    let rest : xs ++ ys ≡ earlier ++ later = cc is in
+    subst (λ (z : Event). SplitIn (x ∷ xs) ys (z ∷ earlier) later ⊎ SplitAfter (x ∷ xs) ys (z ∷ earlier) later) same
+    (split_one x xs ys earlier later (split_in xs ys earlier later rest))
+
+outcomes_more : (M : Model) → HistoriesGrow M → (holds mid holds' : KeeperState M) (l : Ledger) (es es' : List Event) (old new new' : List (Option Outcome))
+    → (holds'.is_honest → mid.is_honest) → (one : Ran holds mid l es old new) → (two : Ran mid holds' (ledger_after M.serves l es) es' new new')
+    → holds'.is_honest → (earlier later : List Event) → es ++ es' ≡ earlier ++ later → (s : M.State) (h : History) (t u : List ℕ) → StandsFor holds s h t
+    → Includes u t → Includes u l.pending → NoneReused M.serves u earlier → OutcomesBegin M s h earlier (map bytes_given (one.added ++ two.added))
+outcomes_more M grows holds mid holds' l es es' old new new' was one two is earlier later parts s h t u so within pending none =
+    let first = map bytes_given one.added in
+    let second = map bytes_given two.added in
+    subst (OutcomesBegin M s h earlier) (sym (map-append bytes_given one.added two.added)) (elim (split_in es es' earlier later parts) [
+      | inl here ↦ begin_with M s h earlier first second (one.outcomes (was is) earlier here.more here.parts s h t u so within pending none)
+      | inr after ↦
+          let reused = reused-parts M.serves u es after.prefix (subst (NoneReused M.serves u) after.begin none) in
+          let stands = one.stands (was is) s h t u so within pending reused.0 in
+          let whole = one.outcomes (was is) es [] (sym (append-nil es)) s h t u so within pending reused.0 in
+          subst (λ (x : List Event). OutcomesBegin M s h x (first ++ second)) (sym after.begin)
+          (begin_later M grows s h es after.prefix first second
+          (begin_all M s h es first (length-map one.added bytes_given ∙ one.count) whole)
+          (two.outcomes is after.prefix later after.parts s (committed M.serves h es) (t ++ handed_on M.serves l es) (settled_by M.serves u es) stands
+          (settled_all M.serves u t l es within pending) (pending_settled M.serves u l es pending) reused.1))
+    ])
+
 pub ran_more : (M : Model) → HistoriesGrow M → (holds mid holds' : KeeperState M) (l : Ledger) (es es' : List Event) (old new new' : List (Option Outcome))
     → (holds'.is_honest → mid.is_honest)
-    → Ran holds mid l es old new → Ran mid holds' (ledger_after l es) es' new new' → Ran holds holds' l (es ++ es') old new'
+    → Ran holds mid l es old new → Ran mid holds' (ledger_after M.serves l es) es' new new' → Ran holds holds' l (es ++ es') old new'
 ran_more M grows holds mid holds' l es es' old new new' was one two = record {
   added = one.added ++ two.added;
   items = two.items ∙ ap (λ x. x ++ two.added) one.items ∙ append_assoc old one.added two.added;
   count = omega (arith, one.count, two.count, length-append one.added two.added, length-append es es');
   stands = λ is s h t u so within pending none.
-      let parts = reused-parts u es es' none in
+      let parts = reused-parts M.serves u es es' none in
       let first = one.stands (was is) s h t u so within pending parts.0 in
-      let second = two.stands is s (committed h es) (t ++ handed_on l es) (settled_by u es) first (settled_all u t l es within pending)
-      (pending_settled u l es pending) parts.1 in
-      subst (λ g. StandsFor holds' s g (t ++ handed_on l (es ++ es'))) (sym (committed-append h es es'))
-      (subst (StandsFor holds' s (committed (committed h es) es')) (append_assoc t (handed_on l es) (handed_on (ledger_after l es) es')
-      ∙ ap (λ (x : List ℕ). t ++ x) (sym (handed-append l es es'))) second);
-  outcomes = λ is s h t u so within pending none.
-      let parts = reused-parts u es es' none in
-      let first = one.stands (was is) s h t u so within pending parts.0 in
-      map-append bytes_given one.added two.added
-      ∙ ap (λ x. x ++ map bytes_given two.added) (one.outcomes (was is) s h t u so within pending parts.0)
-      ∙ ap (λ x. map (outcome_of M s (committed h es)) es ++ x) (two.outcomes is s (committed h es) (t ++ handed_on l es) (settled_by u es) first
-      (settled_all u t l es within pending) (pending_settled u l es pending) parts.1)
-      ∙ sym (outcomes-append M grows s h es es');
+      let second = two.stands is s (committed M.serves h es) (t ++ handed_on M.serves l es) (settled_by M.serves u es) first (settled_all M.serves u t l es within pending)
+      (pending_settled M.serves u l es pending) parts.1 in
+      subst (λ g. StandsFor holds' s g (t ++ handed_on M.serves l (es ++ es'))) (sym (committed-append M.serves h es es'))
+      (subst (StandsFor holds' s (committed M.serves (committed M.serves h es) es')) (append_assoc t (handed_on M.serves l es) (handed_on M.serves (ledger_after M.serves l es) es')
+      ∙ ap (λ (x : List ℕ). t ++ x) (sym (handed-append M.serves l es es'))) second);
+  outcomes = outcomes_more M grows holds mid holds' l es es' old new new' was one two;
   records = λ is rows records held rowed.
       let first = one.records (was is) rows records held rowed in
       let second = two.records is first.rows first.records first.held first.rowed in
@@ -120,18 +196,24 @@ ran_more M grows holds mid holds' l es es' old new new' was one two = record {
         records = second.records;
         held = second.held;
         rowed = second.rowed;
-        left = records_more l es es' records first.records
+        left = records_more M.serves l es es' records first.records
             second.records first.left second.left;
       };
+  firm = λ is so. two.firm is (one.firm (was is) so);
 }
 
-pub ran_none : (M : Model) → (holds : KeeperState M) (l : Ledger) (old new : List (Option Outcome)) → new ≡ old → Ran holds holds l [] old new
+-- none of no events
+none_begin : (M : Model) (s : M.State) (h : History) (earlier later : List Event) → [] ≡ earlier ++ later → OutcomesBegin M s h earlier []
+none_begin M s h [] later is = ([], refl)
+none_begin M s h (e ∷ earlier) later is = absurd (cc is)
+
+pub ran_none : (M : Model) (holds : KeeperState M) (l : Ledger) (old new : List (Option Outcome)) → new ≡ old → Ran holds holds l [] old new
 ran_none M holds l old new is = record {
   added = [];
   items = is ∙ sym (append-nil old);
   count = refl;
   stands = λ _ s h t u so _ _ _. subst (StandsFor holds s h) (sym (append-nil t)) so;
-  outcomes = λ _ s h t u so _ _ _. refl;
+  outcomes = λ _ earlier later parts s h t u so _ _ _. none_begin M s h earlier later parts;
   records = λ _ rows records held rowed. record {
     rows = rows;
     records = records;
@@ -140,6 +222,7 @@ ran_none M holds l old new is = record {
     left = record
         { others = λ i _. refl; gone = λ u _ _ i there. absurd (cc there) };
   };
+  firm = λ _ so. so;
 }
 
 -- ---- a group
@@ -165,23 +248,25 @@ none_dies died (e ∷ run) so = elim so [
   | inr last ↦ All-cons goes e run (ap dies_before last.1) (subst NoneDiesBefore (sym last.2) (All-nil goes))
 ]
 
-pub group_ran : (M : Model) → (holds mid holds' : KeeperState M) (died : Bool) (run : List Event) (p p' : List ℕ) (old new : List (Option Outcome))
-    → RunLedger died (record { room = 0; pending = p }) run (handed_to (commits_in run) p) (left_pending (commits_in run) p ++ settles_in run) 16
+pub group_ran : (M : Model) (holds mid holds' : KeeperState M) (died : Bool) (run : List Event) (p p' : List ℕ) (old new : List (Option Outcome))
+    → RunLedger M.serves died (record { room = 0; pending = p }) run (handed_to (commits_in M.serves run) p) (left_pending (commits_in M.serves run) p ++ settles_in M.serves run) 16
     → Worked holds mid run p p' old new → (holds'.is_honest → KeepsHeld mid holds') → (holds'.is_honest → mid.is_honest)
     → Ran holds holds' (record { room = 0; pending = p }) run old new
 group_ran M holds mid holds' died run p p' old new ledger worked keeps was =
     let l : Ledger = record { room = 0; pending = p } in
-    let cs = commits_in run in
-    let fresh_ids = λ (t u : List ℕ) (within : Includes u t) (pending : Includes u p) (none : NoneReused u run).
-    all_unsettled_too u (t ++ handed_to cs p) cs (includes_both u t (handed_to cs p) within (handed_within u p cs pending)) (none_reused u run none) in
+    let cs = commits_in M.serves run in
+    let fresh_ids = λ (t u : List ℕ) (within : Includes u t) (pending : Includes u p) (none : NoneReused M.serves u run).
+    all_unsettled_too u (t ++ handed_to cs p) cs (includes_both u t (handed_to cs p) within (handed_within u p cs pending)) (none_reused M.serves u run none) in
     record {
       added = worked.added;
       items = worked.items;
       count = worked.count;
       stands = λ is s h t u so within pending none.
-          subst (λ (x : List ℕ). StandsFor holds' s (committed h run) (t ++ x)) (sym ledger.handed_is)
-          (stands_kept M mid holds' s (committed h run) (t ++ handed_to cs p) (keeps is) (worked.stands (was is) s h t so (fresh_ids t u within pending none)));
-      outcomes = λ is s h t u so within pending none. worked.outcomes (was is) s h t so (fresh_ids t u within pending none);
+          subst (λ (x : List ℕ). StandsFor holds' s (committed M.serves h run) (t ++ x)) (sym ledger.handed_is)
+          (stands_kept M mid holds' s (committed M.serves h run) (t ++ handed_to cs p) (keeps is) (worked.stands (was is) s h t so (fresh_ids t u within pending none)));
+      outcomes = λ is earlier later parts s h t u so within pending none. worked.outcomes (was is) earlier later parts s h t so
+          (all_unsettled_too u (t ++ handed_to cs p) (commits_in M.serves earlier)
+          (includes_both u t (handed_to cs p) within (handed_within u p cs pending)) (none_reused M.serves u earlier none));
       records = λ is rows records held rowed.
           let done = worked.records (was is) rows records held rowed in
           record {
@@ -193,33 +278,34 @@ group_ran M holds mid holds' died run p p' old new ledger worked keeps was =
               others = λ i isnt. done.others i isnt ∙ ap (λ x. if is_in x i then None else records i) (sym ledger.handed_is);
               gone = λ u within none i there.
                   let handed = sym (ap (λ x. is_in x i) ledger.handed_is) ∙ there in
-                  done.others i (not_among u cs i (none_reused u run none) (handed_within u p cs within i handed))
+                  done.others i (not_among u cs i (none_reused M.serves u run none) (handed_within u p cs within i handed))
                   ∙ ap (λ b. if b then None else records i) handed;
             };
           };
+      firm = λ is so. keeps_firm is (worked.firm (was is) so);
     }
 
 -- ---- an event that is lost
 
-commits_lost : (e : Event) → e.fate ≡ DiedBeforeCommit → commits e ≡ []
-commits_lost e is = ap (λ f. commits_by f (entry_if (class_of e.bytes) (message_entry e.bytes e.moment))) is
+commits_lost : (V : OpcodeSet) (e : Event) → e.fate ≡ DiedBeforeCommit → commits V e ≡ []
+commits_lost V e is = ap (λ f. commits_by f (entry_if (class_for V e.bytes) (message_entry e.bytes e.moment))) is
 
-pub lost_ran : (M : Model) → (holds holds' : KeeperState M) (l : Ledger) (e : Event) (old new : List (Option Outcome)) → e.fate ≡ DiedBeforeCommit
+pub lost_ran : (M : Model) (holds holds' : KeeperState M) (l : Ledger) (e : Event) (old new : List (Option Outcome)) → e.fate ≡ DiedBeforeCommit
     → new ≡ old ++ None ∷ [] → (holds'.is_honest → KeepsHeld holds holds')
     → Ran holds holds' l (e ∷ []) old new
 lost_ran M holds holds' l e old new lost pushed keeps =
-    let none : commits_in (e ∷ []) ≡ [] = ap (λ (cs : List Entry). cs ++ []) (commits_lost e lost) in
-    let unhanded : handed_on l (e ∷ []) ≡ [] = ap (λ cs. handed_at cs l ++ []) (commits_lost e lost) in
+    let none : commits_in M.serves (e ∷ []) ≡ [] = ap (λ (cs : List Entry). cs ++ []) (commits_lost M.serves e lost) in
+    let unhanded : handed_on M.serves l (e ∷ []) ≡ [] = ap (λ cs. handed_at cs l ++ []) (commits_lost M.serves e lost) in
     record {
       added = None ∷ [];
       items = pushed;
       count = refl;
       stands = λ is s h t u so within pending again.
-          subst (λ (x : List ℕ). StandsFor holds' s (committed h (e ∷ [])) (t ++ x)) (sym unhanded)
-          (subst (StandsFor holds' s (committed h (e ∷ []))) (sym (append-nil t))
+          subst (λ (x : List ℕ). StandsFor holds' s (committed M.serves h (e ∷ [])) (t ++ x)) (sym unhanded)
+          (subst (StandsFor holds' s (committed M.serves h (e ∷ []))) (sym (append-nil t))
           (subst (λ g. StandsFor holds' s g t) (ap (grown h) (sym none)) (stands_kept M holds holds' s h t (keeps is) so)));
       outcomes = λ is s h t u so within pending again. ap (λ f. where_taken (is_taken f)
-          (answer_in M s (committed h (e ∷ [])) (class_of e.bytes) (unique_of e.bytes)) ∷ []) (sym lost);
+          (answer_in M s (committed M.serves h (e ∷ [])) (class_for M.serves e.bytes) (unique_of e.bytes)) ∷ []) (sym lost);
       records = λ is rows records held rowed. record {
         rows = rows;
         records = records;
@@ -234,39 +320,39 @@ lost_ran M holds holds' l e old new lost pushed keeps =
 
 -- ---- what is said of it
 
-may_begin : (died : Bool) (l : Ledger) (run others : List Event) (handed pending : List ℕ) → RunLedger died l run handed pending 16
-    → (died ≡ false → (length (commits_in run) ≡ 16) ⊎ StartsNone others) → MayBegin (ledger_after l run) others
-may_begin true l run others handed pending ledger stops = inl (ledger.crashed refl)
-may_begin false l run others handed pending ledger stops = elim (stops refl) [
+may_begin : (V : OpcodeSet) (died : Bool) (l : Ledger) (run others : List Event) (handed pending : List ℕ) → RunLedger V died l run handed pending 16
+    → (died ≡ false → (length (commits_in V run) ≡ 16) ⊎ StartsNone others) → MayBegin (ledger_after V l run) others
+may_begin V true l run others handed pending ledger stops = inl (ledger.crashed refl)
+may_begin V false l run others handed pending ledger stops = elim (stops refl) [
   | inl all ↦ inl (ledger.full refl all)
   | inr ends ↦ inr ends
 ]
 
-stops_at : (run others : List Event) (taken : List (Request × Moment)) (died : Bool) → entries_of taken ≡ commits_in run → StopsAt taken died others
-    → died ≡ false → (length (commits_in run) ≡ 16) ⊎ StartsNone others
-stops_at run others taken died entries stops alive = elim (stops alive) [
+stops_at : (V : OpcodeSet) (run others : List Event) (taken : List (Request × Moment)) (died : Bool) → entries_of taken ≡ commits_in V run → StopsAt taken died others
+    → died ≡ false → (length (commits_in V run) ≡ 16) ⊎ StartsNone others
+stops_at V run others taken died entries stops alive = elim (stops alive) [
   | inl all ↦ inl (sym (ap length entries) ∙ length-map taken entry_of ∙ all)
   | inr ends ↦ inr ends
 ]
 
-pub few_taken : (run : List Event) (taken : List (Request × Moment)) (n : ℕ) → entries_of taken ≡ commits_in run → length taken ≤ n
-    → length (commits_in run) ≤ n
-few_taken run taken n entries few = omega (arith, few, ap length entries, length-map taken entry_of)
+pub few_taken : (V : OpcodeSet) (run : List Event) (taken : List (Request × Moment)) (n : ℕ) → entries_of taken ≡ commits_in V run → length taken ≤ n
+    → length (commits_in V run) ≤ n
+few_taken V run taken n entries few = omega (arith, few, ap length entries, length-map taken entry_of)
 
-pub group_moved : (M : Model) → (holds mid holds' : KeeperState M) (died : Bool) (run slice others : List Event) (classes : List Class)
+pub group_moved : (M : Model) (holds mid holds' : KeeperState M) (died : Bool) (run slice others : List Event) (classes : List Class)
     (taken : List (Request × Moment)) (p p_mid p' : List ℕ) (old new : List (Option Outcome))
-    → Gathers run classes taken died → slice ≡ run → StopsAt taken died others
+    → Gathers M run classes taken died → slice ≡ run → StopsAt taken died others
     → Worked holds mid slice p p_mid old new → (holds'.is_honest → KeepsHeld mid holds') → (holds'.is_honest → mid.is_honest)
     → p' ≡ (if died then [] else p_mid)
     → Moved holds holds' (record { room = 0; pending = p }) run others p' old new
 group_moved M holds mid holds' died run slice others classes taken p p_mid p' old new gathers same stops all keeps was left =
     let worked = subst (λ x. Worked holds mid x p p_mid old new) same all in
-    let ledger = run_begins died run p gathers.goes (few_taken run taken 16 gathers.entries gathers.few) in
+    let ledger = run_begins M.serves died run p gathers.goes (few_taken M.serves run taken 16 gathers.entries gathers.few) in
     record {
       fit = gathers.fit;
       ran = group_ran M holds mid holds' died run p p_mid old new ledger worked keeps was;
       pending = left ∙ ap (λ (x : List ℕ). if died then [] else x) worked.handed ∙ sym ledger.pending_is;
-      begin = may_begin died (record { room = 0; pending = p }) run others _ _ ledger (stops_at run others taken died gathers.entries stops);
+      begin = may_begin M.serves died (record { room = 0; pending = p }) run others _ _ ledger (stops_at M.serves run others taken died gathers.entries stops);
     }
 
 pub ids_left : (died : Bool) (pending' pending : List Id) → pending' ≡ (if died then [] else pending) → ids_of pending' ≡ (if died then [] else ids_of pending)
@@ -278,15 +364,15 @@ few_if true pending' pending n is few = omega (arith, ap length is)
 few_if false pending' pending n is few = omega (arith, ap length is, few)
 
 -- no more than 16 are pending
-pub few_left : (died : Bool) (run : List Event) (old pending pending' : List Id) (n : ℕ) → pending' ≡ (if died then [] else pending)
-    → ids_of pending ≡ left_pending (commits_in run) (ids_of old) ++ settles_in run
-    → length old ≤ n → length (commits_in run) ≤ n → length pending' ≤ n
-few_left died run old pending pending' n left handed few many = few_if died pending' pending n left
+pub few_left : (V : OpcodeSet) (died : Bool) (run : List Event) (old pending pending' : List Id) (n : ℕ) → pending' ≡ (if died then [] else pending)
+    → ids_of pending ≡ left_pending (commits_in V run) (ids_of old) ++ settles_in V run
+    → length old ≤ n → length (commits_in V run) ≤ n → length pending' ≤ n
+few_left V died run old pending pending' n left handed few many = few_if died pending' pending n left
     (omega (
       arith,
       ap length handed,
       length-map pending (λ (id : Id). id.0),
-      few_pending run (ids_of old) n (omega (arith, few, length-map old (λ (id : Id). id.0))) many,
+      few_pending V run (ids_of old) n (omega (arith, few, length-map old (λ (id : Id). id.0))) many,
     ))
 
 -- ---- what comes next
@@ -308,7 +394,7 @@ pub begins_at : (events : List Event) (at : ℕ) (e : Event) → at < length eve
 begins_at events at e lt is fit goes_on = subst Begins (sym (drop-cons events at e lt))
     (subst (λ (x : Event). IsFit x × (dies_before x.fate ≡ false)) is (fit, goes_on))
 
-pub next_moved : (M : Model) → (holds holds' : KeeperState M) (p p' : List ℕ) (run others rest : List Event) (old new : List (Option Outcome)) → Begins others
+pub next_moved : (M : Model) (holds holds' : KeeperState M) (p p' : List ℕ) (run others rest : List Event) (old new : List (Option Outcome)) → Begins others
     → Moved holds holds' (record { room = 0; pending = p }) run rest p' old new → (l : Ledger) → l.pending ≡ p → MayBegin l others
     → Moved holds holds' l run rest p' old new
 next_moved M holds holds' p p' run others rest old new begins moved l same may =
@@ -320,7 +406,7 @@ is_lost AnswerLost is = absurd (cc is)
 is_lost DiedBeforeCommit is = refl
 is_lost DiedAfterCommit is = absurd (cc is)
 
-pub lost_moved : (M : Model) → (holds holds' : KeeperState M) (l : Ledger) (events rest : List Event) (at : ℕ) (e : Event) (p' : List ℕ)
+pub lost_moved : (M : Model) (holds holds' : KeeperState M) (l : Ledger) (events rest : List Event) (at : ℕ) (e : Event) (p' : List ℕ)
     (old new : List (Option Outcome))
     → at < length events → e ≡ get_or events at e → IsFit e → dies_before e.fate ≡ true → new ≡ old ++ None ∷ [] → p' ≡ []
     → (holds'.is_honest → KeepsHeld holds holds')
@@ -328,7 +414,7 @@ pub lost_moved : (M : Model) → (holds holds' : KeeperState M) (l : Ledger) (ev
 lost_moved M holds holds' l events rest at e p' old new lt is fit before pushed none keeps =
     let lost = is_lost e.fate before in
     let one : e ∷ [] ≡ take 1 (drop at events) = ap (λ (x : Event). x ∷ []) is ∙ ap (take 1) (sym (drop-cons events at e lt)) in
-    let crashed : ledger_after l (e ∷ []) ≡ empty_ledger = ap (λ f. crashed_if (dies f) (after_commit (commits e) l (settles e))) lost in
+    let crashed : ledger_after M.serves l (e ∷ []) ≡ empty_ledger = ap (λ f. crashed_if (dies f) (after_commit (commits M.serves e) l (settles M.serves e))) lost in
     subst (λ run. Moved holds holds' l run rest p' old new) one (record {
       fit = only_one IsFit e fit;
       ran = lost_ran M holds holds' l e old new lost pushed keeps;

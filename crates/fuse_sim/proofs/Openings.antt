@@ -5,7 +5,7 @@ use Rattle.std.proofs.lemmas.List.{append-nil}
 use Rattle.fuse_wire.specs.declared.moment.Moment.{Moment}
 use Rattle.fuse_request.specs.declared.request.Request.{Request}
 use Rattle.fuse_request.specs.declared.class.Class.{Class}
-use Rattle.fuse_request.specs.Classes.{class_of}
+use Rattle.fuse_request.specs.Classes.{class_for}
 use Rattle.fuse_keeper.specs.History.{History, grown, Includes}
 use Rattle.fuse_keeper.specs.Model.{Model}
 use Rattle.fuse_keeper.specs.KeeperState.{KeeperState, KeepsHeld, IsCount}
@@ -17,7 +17,7 @@ use Rattle.fuse_sim.specs.declared.event.Event.{Event}
 use Rattle.fuse_sim.specs.declared.event.Outcome.{Outcome}
 use Rattle.fuse_sim.specs.Driving.{commits_by, commits_in, committed, dies, deaths, settles, settled_by, NoneReused, told_in, StandsIn, became_in, OpenedAt}
 use Rattle.fuse_sim.specs.Driving.{Opened}
-use Rattle.fuse_sim.specs.Running.{dies_before, IsRun, DiesLast, Gathers, Worked, Opens}
+use Rattle.fuse_sim.specs.inner.Running.{dies_before, IsRun, DiesLast, Gathers, Worked, Opens}
 use Rattle.fuse_sim.proofs.Settled.{includes_left, includes_both, stands_later}
 use Rattle.fuse_sim.proofs.Driven.{committed-append, settled-append, settled_still, reused-parts, all_unsettled_too, none_reused}
 use Rattle.fuse_sim.proofs.Moves.{handed_within, is_lost}
@@ -138,22 +138,22 @@ in_which (x ∷ xs) ys (y ∷ earlier) e later is =
 -- ---- events, and then others
 
 abbrev Stood : {M : Model} {K : Type 0} → (K → KeeperState M) → Option K → Option K → List Event → Type 0
-Stood {M} told old new es = (told_in told new).is_honest → (s : M.State) (h : History) (t : List ℕ) → StandsIn told old s h t → NoneReused t es
-    → StandsIn told new s (committed h es) (settled_by t es)
+Stood {M} told old new es = (told_in told new).is_honest → (s : M.State) (h : History) (t : List ℕ) → StandsIn told old s h t → NoneReused M.serves t es
+    → StandsIn told new s (committed M.serves h es) (settled_by M.serves t es)
 
 -- what stood after the first events, and then for the second, stands for both
 stood_more : (M : Model) → {K : Type 0} (told : K → KeeperState M) (old mid new : Option K) (xs ys : List Event) (p : List ℕ)
-    → ((t : List ℕ) → Includes (settled_by t xs) p)
-    → ((s : M.State) (h : History) (t : List ℕ) → StandsIn told old s h t → NoneReused t xs → StandsIn told mid s (committed h xs) (settled_by t xs))
-    → ((s : M.State) (h : History) (t : List ℕ) → StandsIn told mid s h t → Includes t p → NoneReused t ys
-    → StandsIn told new s (committed h ys) (settled_by t ys))
-    → (s : M.State) (h : History) (t : List ℕ) → StandsIn told old s h t → NoneReused t (xs ++ ys)
-    → StandsIn told new s (committed h (xs ++ ys)) (settled_by t (xs ++ ys))
+    → ((t : List ℕ) → Includes (settled_by M.serves t xs) p)
+    → ((s : M.State) (h : History) (t : List ℕ) → StandsIn told old s h t → NoneReused M.serves t xs → StandsIn told mid s (committed M.serves h xs) (settled_by M.serves t xs))
+    → ((s : M.State) (h : History) (t : List ℕ) → StandsIn told mid s h t → Includes t p → NoneReused M.serves t ys
+    → StandsIn told new s (committed M.serves h ys) (settled_by M.serves t ys))
+    → (s : M.State) (h : History) (t : List ℕ) → StandsIn told old s h t → NoneReused M.serves t (xs ++ ys)
+    → StandsIn told new s (committed M.serves h (xs ++ ys)) (settled_by M.serves t (xs ++ ys))
 stood_more M told old mid new xs ys p within one two s h t so none =
-    let parts = reused-parts t xs ys none in
-    let stands = two s (committed h xs) (settled_by t xs) (one s h t so parts.0) (within t) parts.1 in
-    subst (λ g. StandsIn told new s g (settled_by t (xs ++ ys))) (sym (committed-append h xs ys))
-    (subst (StandsIn told new s (committed (committed h xs) ys)) (sym (settled-append t xs ys)) stands)
+    let parts = reused-parts M.serves t xs ys none in
+    let stands = two s (committed M.serves h xs) (settled_by M.serves t xs) (one s h t so parts.0) (within t) parts.1 in
+    subst (λ g. StandsIn told new s g (settled_by M.serves t (xs ++ ys))) (sym (committed-append M.serves h xs ys))
+    (subst (StandsIn told new s (committed M.serves (committed M.serves h xs) ys)) (sym (settled-append M.serves t xs ys)) stands)
 
 opened_before : (M : Model) → {K : Type 0} (told : K → KeeperState M) (became : K → K → ℕ → Type 0) → IsCount became
     → (old mid new : Option K) (ys earlier : List Event) (e : Event) (more later : List Event)
@@ -171,7 +171,7 @@ opened_before M told became law old mid new ys earlier e more later rest further
 
 opened_last : (M : Model) → {K : Type 0} (told : K → KeeperState M) (became : K → K → ℕ → Type 0) → IsCount became
     → (old mid new : Option K) (xs ys : List Event) (p : List ℕ) (earlier prefix : List Event) (e : Event) (later : List Event)
-    → ((t : List ℕ) → Includes (settled_by t xs) p) → Stood told old mid xs → became_in became old mid (deaths xs) → (two : Opens told became mid new p ys)
+    → ((t : List ℕ) → Includes (settled_by M.serves t xs) p) → Stood told old mid xs → became_in became old mid (deaths xs) → (two : Opens told became mid new p ys)
     → ys ≡ prefix ++ e ∷ later → earlier ≡ xs ++ prefix → AtLast two.died prefix later → OpenedAt told became old new earlier e later
 opened_last M told became law old mid new xs ys p earlier prefix e later within stood often two parts begin last =
     let once : became_in became two.left new 1 = subst (λ b. became_in became two.left new (if b then 1 else 0)) last.died_is two.after in
@@ -186,14 +186,14 @@ opened_last M told became law old mid new xs ys p earlier prefix e later within 
       once = once;
       after = subst (became_in became new new) (ap deaths (sym last.ends)) (became_last became law two.left new 1 once);
       kept = two.kept;
-      stood = λ is. subst (λ es. (s : M.State) (h : History) (t : List ℕ) → StandsIn told old s h t → NoneReused t es
-          → StandsIn told two.left s (committed h es) (settled_by t es)) (sym whole)
+      stood = λ is. subst (λ es. (s : M.State) (h : History) (t : List ℕ) → StandsIn told old s h t → NoneReused M.serves t es
+          → StandsIn told two.left s (committed M.serves h es) (settled_by M.serves t es)) (sym whole)
           (stood_more M told old mid two.left xs ys p within (stood (two.was_honest (two.honest is))) (two.stood (two.honest is)));
     }
 
 opened_place : (M : Model) → {K : Type 0} (told : K → KeeperState M) (became : K → K → ℕ → Type 0) → IsCount became
     → (old mid new : Option K) (xs ys : List Event) (p : List ℕ)
-    → ((t : List ℕ) → Includes (settled_by t xs) p) → Stood told old mid xs → became_in became mid new (deaths ys)
+    → ((t : List ℕ) → Includes (settled_by M.serves t xs) p) → Stood told old mid xs → became_in became mid new (deaths ys)
     → ((told_in told new).is_honest → (told_in told mid).is_honest)
     → Opened told became old mid xs → Opens told became mid new p ys
     → (earlier : List Event) (e : Event) (later : List Event) → xs ++ ys ≡ earlier ++ e ∷ later → dies e.fate ≡ true
@@ -206,7 +206,7 @@ opened_place M told became law old mid new xs ys p within stood further was one 
 
 pub opened_more : (M : Model) → {K : Type 0} (told : K → KeeperState M) (became : K → K → ℕ → Type 0) → IsCount became
     → (old mid new : Option K) (xs ys : List Event) (p : List ℕ)
-    → ((t : List ℕ) → Includes (settled_by t xs) p) → Stood told old mid xs → Opened told became old mid xs → Opens told became mid new p ys
+    → ((t : List ℕ) → Includes (settled_by M.serves t xs) p) → Stood told old mid xs → Opened told became old mid xs → Opens told became mid new p ys
     → Opened told became old new (xs ++ ys)
 opened_more M told became law old mid new xs ys p within stood one two =
     let further : became_in became mid new (deaths ys) =
@@ -219,10 +219,10 @@ opened_more M told became law old mid new xs ys p within stood one two =
 
 -- two lists in a row
 pub stands_twice : (M : Model) → {K : Type 0} (told : K → KeeperState M) (old mid new : Option K) (xs ys : List Event)
-    → ((s : M.State) (h : History) (t : List ℕ) → StandsIn told old s h t → NoneReused t xs → StandsIn told mid s (committed h xs) (settled_by t xs))
-    → ((s : M.State) (h : History) (t : List ℕ) → StandsIn told mid s h t → NoneReused t ys → StandsIn told new s (committed h ys) (settled_by t ys))
-    → (s : M.State) (h : History) (t : List ℕ) → StandsIn told old s h t → NoneReused t (xs ++ ys)
-    → StandsIn told new s (committed h (xs ++ ys)) (settled_by t (xs ++ ys))
+    → ((s : M.State) (h : History) (t : List ℕ) → StandsIn told old s h t → NoneReused M.serves t xs → StandsIn told mid s (committed M.serves h xs) (settled_by M.serves t xs))
+    → ((s : M.State) (h : History) (t : List ℕ) → StandsIn told mid s h t → NoneReused M.serves t ys → StandsIn told new s (committed M.serves h ys) (settled_by M.serves t ys))
+    → (s : M.State) (h : History) (t : List ℕ) → StandsIn told old s h t → NoneReused M.serves t (xs ++ ys)
+    → StandsIn told new s (committed M.serves h (xs ++ ys)) (settled_by M.serves t (xs ++ ys))
 stands_twice M told old mid new xs ys one two =
     stood_more M told old mid new xs ys [] (λ t i there. absurd (cc there)) one (λ s h t so within none. two s h t so none)
 
@@ -240,8 +240,8 @@ opened_second M told became law old mid new xs ys earlier prefix e later was sto
       once = at.once;
       after = at.after;
       kept = at.kept;
-      stood = λ is. subst (λ es. (s : M.State) (h : History) (t : List ℕ) → StandsIn told old s h t → NoneReused t es
-          → StandsIn told at.left s (committed h es) (settled_by t es)) (sym whole)
+      stood = λ is. subst (λ es. (s : M.State) (h : History) (t : List ℕ) → StandsIn told old s h t → NoneReused M.serves t es
+          → StandsIn told at.left s (committed M.serves h es) (settled_by M.serves t es)) (sym whole)
           (stands_twice M told old mid at.left xs (prefix ++ e ∷ []) (stood (was is)) (at.stood is));
     }
 
@@ -290,14 +290,14 @@ run_last died (e ∷ run) is = elim is [
 
 pub group_opens : (M : Model) → {K : Type 0} (told : K → KeeperState M) (became : K → K → ℕ → Type 0) (old mid new : Option K) (died : Bool)
     (run slice : List Event) (classes : List Class) (taken : List (Request × Moment)) (p p' : List ℕ) (outs outs' : List (Option Outcome))
-    → Gathers run classes taken died → slice ≡ run → Worked (told_in told old) (told_in told mid) slice p p' outs outs' → became_in became old mid 0
+    → Gathers M run classes taken died → slice ≡ run → Worked (told_in told old) (told_in told mid) slice p p' outs outs' → became_in became old mid 0
     → became_in became mid new (if died then 1 else 0)
     → ((told_in told new).is_honest → KeepsHeld (told_in told mid) (told_in told new))
     → ((told_in told new).is_honest → (told_in told mid).is_honest) → ((told_in told mid).is_honest → (told_in told old).is_honest)
     → Opens told became old new p run
 group_opens M told became old mid new died run slice classes taken p p' outs outs' gathers same all before after keeps honest was =
     let worked = subst (λ x. Worked (told_in told old) (told_in told mid) x p p' outs outs') same all in
-    let cs = commits_in run in
+    let cs = commits_in M.serves run in
     record {
       died = died;
       last = run_last died run gathers.goes;
@@ -309,9 +309,9 @@ group_opens M told became old mid new died run slice classes taken p p' outs out
       kept = keeps;
       stood = λ is s h t so within none.
           let handed = handed_within t p cs within in
-          let fresh = all_unsettled_too t (t ++ handed_to cs p) cs (includes_both t t (handed_to cs p) (λ i there. there) handed) (none_reused t run none) in
-          stands_later M (told_in told mid) s (committed h run) (t ++ handed_to cs p) (settled_by t run)
-          (includes_both (settled_by t run) t (handed_to cs p) (settled_still t run) (λ i there. settled_still t run i (handed i there)))
+          let fresh = all_unsettled_too t (t ++ handed_to cs p) cs (includes_both t t (handed_to cs p) (λ i there. there) handed) (none_reused M.serves t run none) in
+          stands_later M (told_in told mid) s (committed M.serves h run) (t ++ handed_to cs p) (settled_by M.serves t run)
+          (includes_both (settled_by M.serves t run) t (handed_to cs p) (settled_still M.serves t run) (λ i there. settled_still M.serves t run i (handed i there)))
           (worked.stands is s h t so fresh);
     }
 
@@ -323,7 +323,7 @@ pub lost_opens : (M : Model) → {K : Type 0} (told : K → KeeperState M) (beca
 lost_opens M told became law old new events at e p lt is before once keeps honest =
     let lost = is_lost e.fate before in
     let one : e ∷ [] ≡ take 1 (drop at events) = ap (λ (x : Event). x ∷ []) is ∙ ap (take 1) (sym (drop-cons events at e lt)) in
-    let none : commits_in (e ∷ []) ≡ [] = ap (λ f. commits_by f (entry_if (class_of e.bytes) (message_entry e.bytes e.moment)) ++ []) lost in
+    let none : commits_in M.serves (e ∷ []) ≡ [] = ap (λ f. commits_by f (entry_if (class_for M.serves e.bytes) (message_entry e.bytes e.moment)) ++ []) lost in
     subst (Opens told became old new p) one (record {
       died = true;
       last = inr (refl, ap dies lost, refl);
@@ -334,6 +334,6 @@ lost_opens M told became law old new events at e p lt is before once keeps hones
       was_honest = λ is. is;
       kept = keeps;
       stood = λ is s h t so within unused.
-          subst (λ cs. StandsIn told old s (grown h cs) (settled_by t (e ∷ []))) (sym none)
-          (stands_later M (told_in told old) s h t (settled_by t (e ∷ [])) (includes_left t (settles e)) so);
+          subst (λ cs. StandsIn told old s (grown h cs) (settled_by M.serves t (e ∷ []))) (sym none)
+          (stands_later M (told_in told old) s h t (settled_by M.serves t (e ∷ [])) (includes_left t (settles M.serves e)) so);
     })

@@ -51,7 +51,7 @@ unsettled_too all some i within isnt = elim (tested (is_in some i)) [
 
 -- ---- what stands
 
-Stands-settled : (M : Model) → (rows : M.Rows) (records : Records) (s : M.State) (h : History) (t more : List ℕ) → Includes more t → Stands M rows records s h t
+Stands-settled : (M : Model) (rows : M.Rows) (records : Records) (s : M.State) (h : History) (t more : List ℕ) → Includes more t → Stands M rows records s h t
     → Stands M rows records s h more
 Stands-settled M rows records s h t more within so = record {
   tree = so.tree;
@@ -62,7 +62,7 @@ Stands-settled M rows records s h t more within so = record {
 }
 
 -- more may be settled
-pub stands_later : (M : Model) → (holds : KeeperState M) (s : M.State) (h : History) (t u : List ℕ) → Includes u t → StandsFor holds s h t
+pub stands_later : (M : Model) (holds : KeeperState M) (s : M.State) (h : History) (t u : List ℕ) → Includes u t → StandsFor holds s h t
     → StandsFor holds s h u
 stands_later M holds s h t u more so = record {
   rows = so.rows;
@@ -73,12 +73,12 @@ stands_later M holds s h t u more so = record {
 }
 
 -- what stands is still held
-pub stands_kept : (M : Model) → (holds holds' : KeeperState M) (s : M.State) (h : History) (t : List ℕ) → KeepsHeld holds holds' → StandsFor holds s h t
+pub stands_kept : (M : Model) (holds holds' : KeeperState M) (s : M.State) (h : History) (t : List ℕ) → KeepsHeld holds holds' → StandsFor holds s h t
     → StandsFor holds' s h t
 stands_kept M holds holds' s h t keeps so = record { rows = so.rows; records = so.records; held = keeps so.rows so.records so.held; stands = so.stands }
 
 -- ids that are handed on with a group may be settled before it
-pub performs_later : (M : Model) → (holds holds' : KeeperState M) (handed : List ℕ) (es : List Entry) (dones : List Done)
+pub performs_later : (M : Model) (holds holds' : KeeperState M) (handed : List ℕ) (es : List Entry) (dones : List Done)
     → Performs holds holds' handed es dones
     → holds'.is_honest → (s : M.State) (h : History) (t : List ℕ) → StandsFor holds s h t → All (IsUnsettled (t ++ handed)) es
     → Performed holds' s h (t ++ handed) es dones

@@ -17,7 +17,7 @@ use Rattle.fuse_sim.specs.declared.event.Event.{Event}
 use Rattle.fuse_sim.specs.declared.event.DriveFault.{DriveFault}
 use Rattle.fuse_sim.specs.declared.event.DriveFault.TheVariants.{NotAMessage, ZeroUnique, Store, Memory}
 use Rattle.fuse_sim.specs.Driving.{told_in, IsFit, event_of, StandsIn, became_in, CausedBy, is_store, IsStoreFault, LeftBy, dies, deaths, Calm}
-use Rattle.fuse_sim.specs.Running.{dies_before, IsRun, Begins, Gathers, StopsAt, Refuses, Stops}
+use Rattle.fuse_sim.specs.inner.Running.{dies_before, IsRun, Begins, Gathers, StopsAt, Refuses, Stops}
 use Rattle.fuse_sim.proofs.Openings.{became_itself, deaths_first, deaths-append}
 
 -- ---- places
@@ -198,11 +198,11 @@ pub run_slice : (events : List Event) (at count : ℕ) → take (at + count - at
 run_slice events at count = let same : at + count - at ≡ count = omega arith in ap (λ n. take n (drop at events)) same
 
 -- what was read off the rest of the events
-pub group_read : (events : List Event) (at count : ℕ) (classes : List Class) (taken : List (Request × Moment)) (died : Bool) → count ≡ length classes
-    → Gathers (take (length classes) (take (length events - at) (drop at events))) classes taken died → Gathers (take count (drop at events)) classes taken died
-group_read events at count classes taken died same g =
-    subst (λ n. Gathers (take n (drop at events)) classes taken died) (sym same)
-    (subst (λ x. Gathers (take (length classes) x) classes taken died) (whole_rest events at) g)
+pub group_read : (M : Model) (events : List Event) (at count : ℕ) (classes : List Class) (taken : List (Request × Moment)) (died : Bool) → count ≡ length classes
+    → Gathers M (take (length classes) (take (length events - at) (drop at events))) classes taken died → Gathers M (take count (drop at events)) classes taken died
+group_read M events at count classes taken died same g =
+    subst (λ n. Gathers M (take n (drop at events)) classes taken died) (sym same)
+    (subst (λ x. Gathers M (take (length classes) x) classes taken died) (whole_rest events at) g)
 
 pub group_stops : (events : List Event) (at count : ℕ) (classes : List Class) (taken : List (Request × Moment)) (died : Bool) → count ≡ length classes
     → StopsAt taken died (drop (length classes) (take (length events - at) (drop at events))) → StopsAt taken died (drop (at + count) events)

@@ -1,18 +1,22 @@
 -- The effect of events on a keeper, and the answers to them (own profile).
-use Rattle.std.specs.Prelude.{◌≡◌, ℕ, suc, Bool, true, false, if◌then◌else◌, List, [], ◌∷◌, ◌++◌, take, Option, Some, None, IsSomeAnd, slice_get, All}
+use Rattle.std.specs.Prelude.{◌≡◌, ◌≤◌, ◌⊎◌, ℕ, suc, Bool, true, false, if◌then◌else◌, List, [], ◌∷◌, ◌++◌, length, map, take, Option, Some, None, IsSomeAnd, IfSome}
+use Rattle.std.specs.Prelude.{slice_get, All}
 use Rattle.std.specs.List.{flat_map}
 use Rattle.std.specs.Option.{option_map}
 use Rattle.fuse_wire.specs.Ids.{id_of}
 use Rattle.fuse_answer.specs.Wire.{wire}
 use Rattle.fuse_request.specs.declared.class.Class.{Class}
 use Rattle.fuse_request.specs.declared.class.Class.TheVariants.{Silent, Bare, Kept}
-use Rattle.fuse_request.specs.Classes.{class_of, is_zero}
+use Rattle.fuse_request.specs.Classes.{class_for, is_zero}
+use Rattle.fuse_request.specs.Opcodes.{OpcodeSet}
 use Rattle.fuse_request.specs.Stream.{cut}
 use Rattle.fuse_keeper.specs.declared.fault.StoreFault.{StoreFault}
 use Rattle.fuse_keeper.specs.History.{Entry, History, grown, said}
 use Rattle.fuse_keeper.specs.Model.{Model}
 use Rattle.fuse_keeper.specs.Lots.{no_lots}
 use Rattle.fuse_keeper.specs.KeeperState.{KeeperState, StandsFor, KeepsHeld}
+use Rattle.fuse_keeper.specs.Bounds.{max_group_len}
+use Rattle.fuse_keeper.specs.Performance.{Performance}
 use Rattle.fuse_session.specs.Processed.{unique_of, message_id, message_entry, entry_if}
 use Rattle.fuse_session.specs.Settling.{settles_if, MayCome}
 use Rattle.fuse_sim.specs.declared.event.Fate.{Fate}
@@ -21,6 +25,8 @@ use Rattle.fuse_sim.specs.declared.event.Event.{Event}
 use Rattle.fuse_sim.specs.declared.event.Outcome.{Outcome}
 use Rattle.fuse_sim.specs.declared.event.DriveFault.{DriveFault}
 use Rattle.fuse_sim.specs.declared.event.DriveFault.TheVariants.{NotAMessage, ZeroUnique, Store, Memory}
+
+-- `V` is the set of opcodes that the file system serves beside those of the profile
 
 -- ---- what is committed
 
@@ -31,15 +37,15 @@ commits_by AnswerLost es = es
 commits_by DiedBeforeCommit es = []
 commits_by DiedAfterCommit es = es
 
-abbrev pub commits : Event → List Entry
-commits e = commits_by e.fate (entry_if (class_of e.bytes) (message_entry e.bytes e.moment))
+abbrev pub commits : OpcodeSet → Event → List Entry
+commits V e = commits_by e.fate (entry_if (class_for V e.bytes) (message_entry e.bytes e.moment))
 
-abbrev pub commits_in : List Event → List Entry
-commits_in events = flat_map commits events
+abbrev pub commits_in : OpcodeSet → List Event → List Entry
+commits_in V events = flat_map (commits V) events
 
 -- the history with each of them added, unless its id is there
-abbrev pub committed : History → List Event → History
-committed h events = grown h (commits_in events)
+abbrev pub committed : OpcodeSet → History → List Event → History
+committed V h events = grown h (commits_in V events)
 
 -- the server dies at the event, and starts again
 abbrev pub dies : Fate → Bool
@@ -76,7 +82,12 @@ where_taken true answer = answer
 where_taken false answer = None
 
 abbrev pub outcome_of : (M : Model) → M.State → History → Event → Option (List ℕ)
-outcome_of M s h e = where_taken (is_taken e.fate) (answer_in M s h (class_of e.bytes) (unique_of e.bytes))
+outcome_of M s h e = where_taken (is_taken e.fate) (answer_in M s h (class_for M.serves e.bytes) (unique_of e.bytes))
+
+-- the outcomes begin with those of these events, each the one that the history says which they lead to
+abbrev pub OutcomesBegin : (M : Model) → M.State → History → List Event → List (Option (List ℕ)) → Type 0
+OutcomesBegin M s h events outcomes =
+    (others : List (Option (List ℕ))) × (outcomes ≡ map (outcome_of M s (committed M.serves h events)) events ++ others)
 
 -- the bytes of an outcome: the head, then the body
 abbrev pub bytes_given : Option Outcome → Option (List ℕ)
@@ -85,18 +96,18 @@ bytes_given o = option_map (λ x. x.head ++ x.body) o
 -- ---- what is settled
 
 -- the id of a kept message whose answer is taken
-abbrev pub settles : Event → List ℕ
-settles e = settles_if (is_taken e.fate) (class_of e.bytes) (message_id e.bytes)
+abbrev pub settles : OpcodeSet → Event → List ℕ
+settles V e = settles_if (is_taken e.fate) (class_for V e.bytes) (message_id e.bytes)
 
 -- the ids that were settled before, and those that events settle
-abbrev pub settled_by : List ℕ → List Event → List ℕ
-settled_by t [] = t
-settled_by t (e ∷ es) = settled_by (t ++ settles e) es
+abbrev pub settled_by : OpcodeSet → List ℕ → List Event → List ℕ
+settled_by V t [] = t
+settled_by V t (e ∷ es) = settled_by V (t ++ settles V e) es
 
 -- no kept message has an id that was settled before, or by an earlier event
-abbrev pub NoneReused : List ℕ → List Event → Type 0
-NoneReused t [] = Unit {0}
-NoneReused t (e ∷ es) = MayCome t e.bytes × NoneReused (t ++ settles e) es
+abbrev pub NoneReused : OpcodeSet → List ℕ → List Event → Type 0
+NoneReused V t [] = Unit {0}
+NoneReused V t (e ∷ es) = MayCome V t e.bytes × NoneReused V (t ++ settles V e) es
 
 -- ---- the keeper that is driven
 
@@ -106,6 +117,7 @@ told_in told None = record {
   holds = λ rows records. ⊥;
   is_honest = ⊥;
   is_clean = ⊥;
+  in_memory = ⊥;
   has_failed = false;
   leaves_whole = ⊥;
   may_leave = λ rows records. ⊥;
@@ -116,6 +128,10 @@ told_in told (Some k) = told k
 
 abbrev pub StandsIn : {M : Model} {K : Type 0} → (K → KeeperState M) → Option K → M.State → History → List ℕ → Type 0
 StandsIn told keeper = StandsFor (told_in told keeper)
+
+-- there is one, and it lies in memory alone where the first one did
+abbrev pub KeepsMedium : {M : Model} {K : Type 0} → (K → KeeperState M) → Option K → Option K → Type 0
+KeepsMedium told old new = (told_in told old).in_memory → IfSome new (λ k. (told k).in_memory)
 
 -- ---- how often it was opened again
 
@@ -135,14 +151,43 @@ pub record OpenedAt {M : Model} {K : Type 0} (told : K → KeeperState M) (becam
   pub once : became_in became left opened 1
   pub after : became_in became opened new (deaths later)
   pub kept : (told_in told new).is_honest → KeepsHeld (told_in told left) (told_in told opened)
-  pub stood : (told_in told new).is_honest → (s : M.State) (h : History) (t : List ℕ) → StandsIn told old s h t → NoneReused t (earlier ++ one ∷ [])
-      → StandsIn told left s (committed h (earlier ++ one ∷ [])) (settled_by t (earlier ++ one ∷ []))
+  pub stood : (told_in told new).is_honest → (s : M.State) (h : History) (t : List ℕ) → StandsIn told old s h t → NoneReused M.serves t (earlier ++ one ∷ [])
+      → StandsIn told left s (committed M.serves h (earlier ++ one ∷ [])) (settled_by M.serves t (earlier ++ one ∷ []))
 
 -- the keeper was opened again once for each event at which the server died, after what that event committed
 pub record Opened {M : Model} {K : Type 0} (told : K → KeeperState M) (became : K → K → ℕ → Type 0) (old new : Option K) (events : List Event) : Type 0 where
   pub often : became_in became old new (deaths events)
   pub each : (earlier : List Event) (one : Event) (later : List Event) → events ≡ earlier ++ one ∷ later → dies one.fate ≡ true
       → OpenedAt told became old new earlier one later
+
+-- ---- what stood on the way
+
+-- a keeper on the way stood for the first of some events; the others, at most 16 kept ones, were performed with the group that
+-- came next
+pub record StoodAt {M : Model} {K : Type 0} (told : K → KeeperState M) (became : K → K → ℕ → Type 0) (old new : Option K) (earlier later : List Event)
+    : Type 0 where
+  pub begun : List Event
+  pub rest : List Event
+  pub parts : earlier ≡ begun ++ rest
+  pub few : length (commits_in M.serves rest) ≤ max_group_len
+  pub keeper : Option K
+  pub before : became_in became old keeper (deaths begun)
+  pub after : became_in became keeper new (deaths (rest ++ later))
+  pub stood : (s : M.State) (h : History) (t : List ℕ) → StandsIn told old s h t → NoneReused M.serves t begun
+      → StandsIn told keeper s (committed M.serves h begun) (settled_by M.serves t begun)
+
+-- so it was of the first events of these, however many, where the store gave back the bytes that were written
+abbrev pub StoodBefore : {M : Model} {K : Type 0} → (K → KeeperState M) → (K → K → ℕ → Type 0) → Option K → Option K → List Event → Type 0
+StoodBefore told became old new events = (told_in told new).is_honest → (earlier later : List Event) → events ≡ earlier ++ later
+    → StoodAt told became old new earlier later
+
+-- ---- what it was asked to perform
+
+-- there are both, and the second is a later state of the first, which was asked to perform just these on the way
+abbrev pub performed_in : {K : Type 0} → (K → K → List Performance → Type 0) → Option K → Option K → List Performance → Type 0
+performed_in performed None new list = ⊥
+performed_in performed (Some a) None list = ⊥
+performed_in performed (Some a) (Some b) list = performed a b list
 
 -- ---- faults
 
@@ -195,12 +240,17 @@ pub record AnsweredBy {M : Model} {K : Type 0} (told : K → KeeperState M) (bec
   pub after : became_in became keeper new 0
   pub may : IsStoreFault (told_in told keeper).may_answer fault
 
--- the server died at the event that is named, and the keeper that was in place refused with this fault to be opened again
+-- a keeper refuses with this fault to be opened again, and something is left of it
+abbrev pub MayRefuse : {K R : Type 0} → (K → StoreFault → R → Type 0) → K → StoreFault → Type 0
+MayRefuse {R = R} refuses k fault = (rest : R) × refuses k fault rest
+
+-- the server died at the event of the list that is named, and the keeper that was in place after these refused with this fault
+-- to be opened again
 pub record OfRestart {K : Type 0} (became : K → K → ℕ → Type 0) (may_refuse : K → StoreFault → Type 0)
-    (old : Option K) (events : List Event) (fault : DriveFault) : Type 0 where
-  pub died : IsSomeAnd (slice_get events (event_of fault)) (λ e. dies e.fate ≡ true)
+    (old : Option K) (done list : List Event) (fault : DriveFault) : Type 0 where
+  pub died : IsSomeAnd (slice_get list (event_of fault)) (λ e. dies e.fate ≡ true)
   pub keeper : Option K
-  pub often : became_in became old keeper (deaths (before fault events))
+  pub often : became_in became old keeper (deaths done)
   pub refused : IsSomeAnd keeper (λ k. IsStoreFault (may_refuse k) fault)
 
 -- a keeper that is left stands for the events before the fault: where the store answered it, if the store is clean,

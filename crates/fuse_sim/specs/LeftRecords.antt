@@ -1,35 +1,36 @@
 -- The records that are deleted by events (own profile).
-use Rattle.std.specs.Prelude.{◌≡◌, ◌≤◌, ℕ, false, List, [], ◌∷◌, ◌++◌, length, All, None}
-use Rattle.fuse_keeper.specs.Bounds.{max_group_len}
+use Rattle.std.specs.Prelude.{◌≡◌, ◌≤◌, ℕ, true, false, List, [], ◌∷◌, ◌++◌, length, All, None}
+use Rattle.fuse_request.specs.Opcodes.{OpcodeSet}
 use Rattle.fuse_keeper.specs.History.{is_in, ids_in}
 use Rattle.fuse_keeper.specs.Model.{Model, IsRowed}
 use Rattle.fuse_keeper.specs.Stands.{Records}
 use Rattle.fuse_keeper.specs.KeeperState.{KeeperState}
 use Rattle.fuse_sim.specs.declared.event.Event.{Event}
 use Rattle.fuse_sim.specs.Driving.{commits_in, settles, Calm}
+use Rattle.fuse_sim.specs.HandedOn.{performances, handed_in}
 
 -- at least so many requests are committed by these events up to one of them, before which the server doesn't die
-pub record Follow (n : ℕ) (events : List Event) : Type 0 where
+pub record Follow (V : OpcodeSet) (n : ℕ) (events : List Event) : Type 0 where
   pub between : List Event
   pub last : Event
   pub later : List Event
   pub parts : events ≡ between ++ last ∷ later
   pub calm : All Calm between
-  pub many : n ≤ length (commits_in (between ++ last ∷ []))
+  pub many : n ≤ length (commits_in V (between ++ last ∷ []))
 
 -- the answer to this id was taken, and so many requests were committed after it before the server died
-pub record SettledBefore (n : ℕ) (events : List Event) (i : ℕ) : Type 0 where
+pub record SettledBefore (V : OpcodeSet) (n : ℕ) (events : List Event) (i : ℕ) : Type 0 where
   pub earlier : List Event
   pub one : Event
   pub later : List Event
   pub parts : events ≡ earlier ++ one ∷ later
-  pub settled : settles one ≡ i ∷ []
-  pub follow : Follow n later
+  pub settled : settles V one ≡ i ∷ []
+  pub follow : Follow V n later
 
--- a record is deleted with the 16th request committed after its answer at the latest; those of ids that didn't come stay
-pub record RecordsLeft (events : List Event) (records records' : Records) : Type 0 where
-  pub gone : (i : ℕ) → SettledBefore max_group_len events i → records' i ≡ None
-  pub others : (i : ℕ) → is_in (ids_in (commits_in events)) i ≡ false → records' i ≡ records i
+-- the records of the ids that are handed on are deleted; those of ids that didn't come stay
+pub record RecordsLeft (V : OpcodeSet) (events : List Event) (records records' : Records) : Type 0 where
+  pub gone : (i : ℕ) → is_in (handed_in (performances V events)) i ≡ true → records' i ≡ None
+  pub others : (i : ℕ) → is_in (ids_in (commits_in V events)) i ≡ false → records' i ≡ records i
 
 -- it holds something of a good state, with such records
 pub record HoldsRecords {M : Model} (k : KeeperState M) (P : Records → Type 0) : Type 0 where

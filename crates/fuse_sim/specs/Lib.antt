@@ -1,7 +1,8 @@
 pub mod Driving
-pub mod LeftRecords
 pub mod HandedOn
-pub mod Running
-pub mod Pending
 pub mod KeptMessages
+pub mod LeftRecords
 pub mod Lives
+pub mod Pending
+pub mod Twice
+pub mod inner

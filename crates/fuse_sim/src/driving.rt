@@ -5,20 +5,24 @@ ghost use Rattle.std.specs.Prelude.{None, IsSome, IsSomeAnd, IfSome, is_err};
 ghost use Rattle.std.specs.Prelude.{IfOk, IfErr, OnOk, OnErr, MatchResult};
 ghost use Rattle.fuse_keeper.specs.History.{History, said, is_in};
 ghost use Rattle.fuse_keeper.specs.Stands.{Records};
-ghost use Rattle.fuse_keeper.specs.KeeperState.{Called, KeepsHeld, Reports};
+ghost use Rattle.fuse_keeper.specs.KeeperState.{Called, KeepsHeld, IsFirm, Reports};
 ghost use Rattle.fuse_keeper.specs.Group.{ids_of};
 ghost use Rattle.fuse_keeper.specs.declared.keeper.TheConstants.{MAX_SETTLED as max_settled};
 ghost use Rattle.fuse_sim.specs.Driving.{told_in, StandsIn, committed, outcome_of, bytes_given};
 ghost use Rattle.fuse_sim.specs.Driving.{settled_by, NoneReused, IsFit, Names, event_of, before};
 ghost use Rattle.fuse_sim.specs.Driving.{is_store, IsStoreFault, LeftBy, OfRestart};
-ghost use Rattle.fuse_sim.specs.Driving.{became_in, Opened, AnsweredBy};
-ghost use Rattle.fuse_sim.specs.LeftRecords.{SettledBefore, RecordsLeft, HoldsRecords};
-ghost use Rattle.fuse_sim.specs.HandedOn.{Ledger};
-ghost use Rattle.fuse_sim.specs.Running.{Gathers, Begins, Worked, Moved, MayBegin, Opens, Stops};
+ghost use Rattle.fuse_sim.specs.Driving.{became_in, performed_in, Opened, AnsweredBy, StoodBefore};
+ghost use Rattle.fuse_sim.specs.Driving.{MayRefuse, KeepsMedium, OutcomesBegin};
+ghost use Rattle.fuse_sim.specs.declared.event.Event.{Event as EventValue};
+ghost use Rattle.fuse_sim.specs.LeftRecords.{RecordsLeft, HoldsRecords};
+ghost use Rattle.fuse_sim.specs.HandedOn.{Ledger, performances, handed_in, AsksUpTo, AskedSome};
+ghost use Rattle.fuse_sim.specs.Twice.{Seen, StoppedAt};
+ghost use Rattle.fuse_sim.specs.inner.Running.{Gathers, Begins, Worked, Moved, MayBegin, Opens, Stops};
+ghost use Rattle.fuse_sim.specs.inner.Running.{AsksRun, AsksFrom, StopsAsking};
 
 use crate::event::{DriveFault, Event, Outcome};
 use crate::group::{Group, answer_group, gather, is_before_commit, test_event};
-use fuse_keeper::{Restart, StoreFault, histories_grow, perform_group};
+use fuse_keeper::{Restart, StoreFault, histories_grow, kept_groups_grow, perform_group};
 use fuse_wire::Id;
 use std::alloc::{AllocError, Global};
 
@@ -30,12 +34,22 @@ fn reopen<K: Restart>(keeper: &mut Option<K>) -> Result<(), StoreFault>
     ensures honest { (told_in K.told keeper.new).is_honest → (told_in K.told keeper.old).is_honest }
     ensures going { OnOk result (IsSomeAnd keeper.new (λ k. (K.told k).has_failed ≡ false)) }
     ensures err { OnErr result (keeper.new ≡ None) }
-    ensures refused { IfErr result (λ f. IsSomeAnd keeper.old (λ k. K.may_refuse k f)) }
+    ensures refused { IfErr result
+        (λ f. IsSomeAnd keeper.old (λ k. MayRefuse K.refuses k f)) }
     ensures once { OnOk result (became_in K.became keeper.old keeper.new 1) }
+    ensures unasked { OnOk result (performed_in K.performed keeper.old keeper.new []) }
+    ensures firm { OnOk result ((told_in K.told keeper.new).is_honest
+        → IsFirm (told_in K.told keeper.new)) }
+    ensures medium { OnOk result (KeepsMedium K.told keeper.old keeper.new) }
 {
     let old = keeper.take().unwrap();
-    *keeper = Some(old.restart()?);
-    Ok(())
+    match old.restart() {
+        Ok(opened) => {
+            *keeper = Some(opened);
+            Ok(())
+        }
+        Err((fault, _rest)) => Err(fault),
+    }
 }
 
 // Where the server dies at an event, of this number, it starts again, and nothing is pending.
@@ -55,9 +69,13 @@ fn end_group<K: Restart>(
     ensures err { OnErr result ((keeper.new ≡ None) × (dies ≡ true)) }
     ensures fault { IfErr result (λ f. (is_store f ≡ true) × (event_of f ≡ event)) }
     ensures refused { IfErr result
-        (λ f. IsSomeAnd keeper.old (λ k. IsStoreFault (K.may_refuse k) f)) }
+        (λ f. IsSomeAnd keeper.old (λ k. IsStoreFault (MayRefuse K.refuses k) f)) }
     ensures opened { OnOk result
         (became_in K.became keeper.old keeper.new (if dies then 1 else 0)) }
+    ensures unasked { OnOk result (performed_in K.performed keeper.old keeper.new []) }
+    ensures firm { OnOk result ((told_in K.told keeper.new).is_honest
+        → IsFirm (told_in K.told keeper.old) → IsFirm (told_in K.told keeper.new)) }
+    ensures medium { OnOk result (KeepsMedium K.told keeper.old keeper.new) }
 {
     if !dies {
         return Ok(());
@@ -95,7 +113,7 @@ fn work_group<K: Restart>(
     pending: &mut Vec<Id>,
     outcomes: &mut Vec<Option<Outcome>>,
 ) -> Result<(), StoreFault>
-    requires gathers { Gathers run.now group.now.classes.items group.now.taken.items
+    requires gathers { Gathers K.model run.now group.now.classes.items group.now.taken.items
         group.now.died }
     requires few { length pending.old.items ≤ max_settled }
     requires going { IsSomeAnd keeper.old (λ k. (K.told k).has_failed ≡ false) }
@@ -108,10 +126,13 @@ fn work_group<K: Restart>(
     ensures called { Called (told_in K.told keeper.old) (told_in K.told keeper.new) result }
     ensures same { became_in K.became keeper.old keeper.new 0 }
     ensures failed { IsSomeAnd keeper.new (λ k. (K.told k).has_failed ≡ is_err result) }
+    ensures asked { AsksRun K.model.serves K.performed keeper.old keeper.new
+        (ids_of pending.old.items) run.now }
+    ensures some { OnErr result (0 < length group.now.taken.items) }
 {
     let inner = keeper.as_mut().unwrap();
     let dones = perform_group(alloc, inner, group.taken.as_slice(), pending)?;
-    answer_group(
+    answer_group::<K>(
         alloc,
         run,
         group.classes.as_slice(),
@@ -147,9 +168,15 @@ fn run_group<K: Restart>(
     ensures going { OnOk result (IsSomeAnd keeper.new (λ k. (K.told k).has_failed ≡ false)) }
     ensures honest { (told_in K.told keeper.new).is_honest → (told_in K.told keeper.old).is_honest }
     ensures err { IfErr result
-        (Stops K.told K.became K.may_refuse keeper.old keeper.new events.now at) }
+        (Stops K.told K.became (MayRefuse K.refuses) keeper.old keeper.new events.now at) }
+    ensures asks { IfOk result (λ n. AsksFrom K.model.serves (ids_of pending.old.items)
+        (take n (drop at events.now)) (drop at events.now)) }
+    ensures asked { IfOk result (λ n. AsksRun K.model.serves K.performed keeper.old keeper.new
+        (ids_of pending.old.items) (take n (drop at events.now))) }
+    ensures err_asked { IfErr result (StopsAsking K.model.serves K.performed
+        keeper.old keeper.new (ids_of pending.old.items) (drop at events.now)) }
 {
-    let Ok(group) = gather(alloc, &events[at..]) else {
+    let Ok(group) = gather::<K>(alloc, &events[at..]) else {
         return Err(DriveFault::Memory { event: at });
     };
     let count = group.classes.len();
@@ -189,7 +216,13 @@ fn run_next<K: Restart>(
     ensures going { OnOk result (IsSomeAnd keeper.new (λ k. (K.told k).has_failed ≡ false)) }
     ensures honest { (told_in K.told keeper.new).is_honest → (told_in K.told keeper.old).is_honest }
     ensures err { IfErr result
-        (Stops K.told K.became K.may_refuse keeper.old keeper.new events.now at) }
+        (Stops K.told K.became (MayRefuse K.refuses) keeper.old keeper.new events.now at) }
+    ensures asks { IfOk result (λ n. AsksFrom K.model.serves (ids_of pending.old.items)
+        (take n (drop at events.now)) (drop at events.now)) }
+    ensures asked { IfOk result (λ n. AsksRun K.model.serves K.performed keeper.old keeper.new
+        (ids_of pending.old.items) (take n (drop at events.now))) }
+    ensures err_asked { IfErr result (StopsAsking K.model.serves K.performed
+        keeper.old keeper.new (ids_of pending.old.items) (drop at events.now)) }
 {
     let event = &events[at];
     test_event(event, at)?;
@@ -221,20 +254,38 @@ pub fn drive<K: Restart>(
     // in the order of their first commit.
     ensures tree_stands { OnOk result ((told_in K.told keeper.new).is_honest
         → (start : K.model.State) (h : History) (settled : List ℕ)
-        → StandsIn K.told keeper.old start h settled → NoneReused settled events.now
-        → StandsIn K.told keeper.new start (committed h events.now)
-        (settled_by settled events.now)) }
+        → StandsIn K.told keeper.old start h settled
+        → NoneReused K.model.serves settled events.now
+        → StandsIn K.told keeper.new start (committed K.model.serves h events.now)
+        (settled_by K.model.serves settled events.now)) }
 
     // Each answer, that to a resend too, is the one that this history says of its id.
     ensures outcomes { IfOk result (λ outcomes. (told_in K.told keeper.new).is_honest
         → (start : K.model.State) (h : History) (settled : List ℕ)
-        → StandsIn K.told keeper.old start h settled → NoneReused settled events.now
+        → StandsIn K.told keeper.old start h settled
+        → NoneReused K.model.serves settled events.now
         → map bytes_given outcomes.items
-        ≡ map (outcome_of K.model start (committed h events.now)) events.now) }
+        ≡ map (outcome_of K.model start (committed K.model.serves h events.now)) events.now) }
     ensures count { IfOk result (λ outcomes. length outcomes.items ≡ length events.now) }
+
+    // Where a message comes again whose answer was taken, all this is so up to that message: the
+    // answers to the events before it are those that these say,
+    ensures outcomes_before { IfOk result (λ outcomes. (told_in K.told keeper.new).is_honest
+        → (earlier later : List EventValue) → events.now ≡ earlier ++ later
+        → (start : K.model.State) (h : History) (settled : List ℕ)
+        → StandsIn K.told keeper.old start h settled → NoneReused K.model.serves settled earlier
+        → OutcomesBegin K.model start h earlier (map bytes_given outcomes.items)) }
+    // and a keeper stood for them.
+    ensures stood_before { OnOk result
+        (StoodBefore K.told K.became keeper.old keeper.new events.now) }
 
     // The keeper is opened again once for each event at which the server dies, after its commit.
     ensures opened { OnOk result (Opened K.told K.became keeper.old keeper.new events.now) }
+
+    // It is asked to perform just what the ledger of the events says: the groups, and with each the
+    // ids whose answers were taken before it.
+    ensures asked { OnOk result
+        (performed_in K.performed keeper.old keeper.new (performances K.model.serves events.now)) }
 
     // Why it faults; and where it does not, each event can be run.
     ensures fault_causes { MatchResult result
@@ -243,45 +294,68 @@ pub fn drive<K: Restart>(
     // The keeper that a fault leaves stands for the events before the one that is named,
     ensures after_fault { IfErr result (λ fault.
         (start : K.model.State) (h : History) (settled : List ℕ)
-        → StandsIn K.told keeper.old start h settled → NoneReused settled (before fault events.now)
+        → StandsIn K.told keeper.old start h settled
+        → NoneReused K.model.serves settled (before fault events.now)
         → LeftBy (told_in K.told keeper.new) (is_store fault)
-        (StandsIn K.told keeper.new start (committed h (before fault events.now))
-        (settled_by settled (before fault events.now)))) }
+        (StandsIn K.told keeper.new start
+        (committed K.model.serves h (before fault events.now))
+        (settled_by K.model.serves settled (before fault events.now)))) }
     // was opened again once for each of these at which the server died,
     ensures opened_before { IfErr result (λ fault. ¬ (keeper.new ≡ None)
         → Opened K.told K.became keeper.old keeper.new (before fault events.now)) }
+    // stood for each first part of them on the way,
+    ensures stood_at_fault { IfErr result (λ fault. ¬ (keeper.new ≡ None)
+        → StoodBefore K.told K.became keeper.old keeper.new (before fault events.now)) }
+    // was asked for what these ask for and, where the store answered the fault, for one group more,
+    ensures asked_before { IfErr result (λ fault. ¬ (keeper.new ≡ None)
+        → AskedSome K.performed keeper.old keeper.new
+        (AsksUpTo K.model.serves events.now fault)) }
     // and a fault of the store is one that the keeper may answer which was in place.
     ensures store { IfErr result (λ fault. is_store fault ≡ true
         → (told_in K.told keeper.new).is_clean
         → (start : K.model.State) (h : History) (settled : List ℕ)
-        → StandsIn K.told keeper.old start h settled → NoneReused settled (before fault events.now)
+        → StandsIn K.told keeper.old start h settled
+        → NoneReused K.model.serves settled (before fault events.now)
         → AnsweredBy K.told K.became keeper.old keeper.new (before fault events.now) fault) }
     // No keeper is left only where the one in place refused with this fault to be opened again.
     ensures emptied { IfErr result (λ fault. keeper.new ≡ None
-        → OfRestart K.became K.may_refuse keeper.old events.now fault) }
+        → OfRestart K.became (MayRefuse K.refuses) keeper.old
+        (before fault events.now) events.now fault) }
 
     // A keeper that is left has failed exactly where the store answered the fault.
     ensures going { OnOk result (IsSomeAnd keeper.new (λ k. (K.told k).has_failed ≡ false)) }
     ensures failed { IfErr result
         (λ fault. IfSome keeper.new (λ k. (K.told k).has_failed ≡ is_store fault)) }
 
-    // A store that gave back the bytes that were written did so before.
+    // A store that gave back the bytes that were written did so before, and a keeper that lay in
+    // memory alone does so.
     ensures honest { (told_in K.told keeper.new).is_honest → (told_in K.told keeper.old).is_honest }
+    ensures medium { KeepsMedium K.told keeper.old keeper.new }
 
-    // The records that are left. That of an answered id is deleted with the 16th request committed
-    // after it at the latest, and with the first at the earliest, unless the server dies before.
-    ensures records { OnOk result (NoneReused [] events.now
+    // A keeper of which a crash could leave nothing but what it holds is such a one still, unless its
+    // store answered a fault.
+    ensures firm { MatchResult result (λ _. (told_in K.told keeper.new).is_honest
+        → IsFirm (told_in K.told keeper.old) → IsFirm (told_in K.told keeper.new))
+        (λ fault. is_store fault ≡ false → (told_in K.told keeper.new).is_honest
+        → IsFirm (told_in K.told keeper.old) → IsFirm (told_in K.told keeper.new)) }
+
+    // The records that are left: those of the ids that the ledger hands on are deleted.
+    ensures records { OnOk result (NoneReused K.model.serves [] events.now
         → Reports (told_in K.told keeper.old) (told_in K.told keeper.new) (λ rows records.
-        HoldsRecords (told_in K.told keeper.new) (RecordsLeft events.now records))) }
+        HoldsRecords (told_in K.told keeper.new)
+        (RecordsLeft K.model.serves events.now records))) }
     ensures kept { OnOk result ((told_in K.told keeper.new).is_honest
         → (start : K.model.State) (h : History) (settled : List ℕ)
-        → StandsIn K.told keeper.old start h settled → NoneReused settled events.now
+        → StandsIn K.told keeper.old start h settled
+        → NoneReused K.model.serves settled events.now
         → (rows : K.model.Rows) (records : Records)
         → (told_in K.told keeper.new).holds rows records
-        → (i : ℕ) → is_in settled i ≡ false → ¬ SettledBefore 1 events.now i
-        → records i ≡ said K.model start (committed h events.now) i) }
+        → (i : ℕ) → is_in settled i ≡ false
+        → is_in (handed_in (performances K.model.serves events.now)) i ≡ false
+        → records i ≡ said K.model start (committed K.model.serves h events.now) i) }
 {
     histories_grow::<K>();
+    kept_groups_grow::<K>();
     let mut outcomes = Vec::new(alloc);
     let mut pending = Vec::new(alloc);
     let mut at = 0;
@@ -291,7 +365,8 @@ pub fn drive<K: Restart>(
     Ok(outcomes)
 }
 
-/// Runs events, and then more of them. The clauses of `drive` for one list hold of both in a row.
+/// Runs events, and then more of them. Where it goes to the end, the clauses of `drive` for one list
+/// hold of both in a row; but the second begins a ledger of its own.
 /// A fault names an event of the list that it came at.
 pub fn drive_twice<K: Restart>(
     alloc: Global,
@@ -302,25 +377,39 @@ pub fn drive_twice<K: Restart>(
     requires present { IsSomeAnd keeper.old (λ k. (K.told k).has_failed ≡ false) }
     ensures tree_stands { OnOk result ((told_in K.told keeper.new).is_honest
         → (start : K.model.State) (h : History) (settled : List ℕ)
-        → StandsIn K.told keeper.old start h settled → NoneReused settled (events.now ++ more.now)
-        → StandsIn K.told keeper.new start (committed h (events.now ++ more.now))
-        (settled_by settled (events.now ++ more.now))) }
+        → StandsIn K.told keeper.old start h settled
+        → NoneReused K.model.serves settled (events.now ++ more.now)
+        → StandsIn K.told keeper.new start
+        (committed K.model.serves h (events.now ++ more.now))
+        (settled_by K.model.serves settled (events.now ++ more.now))) }
     ensures outcomes { IfOk result (λ both. (told_in K.told keeper.new).is_honest
         → (start : K.model.State) (h : History) (settled : List ℕ)
-        → StandsIn K.told keeper.old start h settled → NoneReused settled (events.now ++ more.now)
+        → StandsIn K.told keeper.old start h settled
+        → NoneReused K.model.serves settled (events.now ++ more.now)
         → map bytes_given (both.0.items ++ both.1.items) ≡ map
-        (outcome_of K.model start (committed h (events.now ++ more.now)))
+        (outcome_of K.model start (committed K.model.serves h (events.now ++ more.now)))
         (events.now ++ more.now)) }
     ensures first { IfOk result (λ both. length both.0.items ≡ length events.now) }
     ensures second { IfOk result (λ both. length both.1.items ≡ length more.now) }
+    ensures stood_before { OnOk result
+        (StoodBefore K.told K.became keeper.old keeper.new (events.now ++ more.now)) }
     ensures opened { OnOk result
         (Opened K.told K.became keeper.old keeper.new (events.now ++ more.now)) }
-    ensures fault_causes { IfErr result
-        (λ fault. Names fault events.now ⊎ Names fault more.now) }
+    ensures asked { OnOk result (performed_in K.performed keeper.old keeper.new
+        (performances K.model.serves events.now ++ performances K.model.serves more.now)) }
+    ensures fit { OnOk result (All IsFit (events.now ++ more.now)) }
+
+    // The fault came at the first list, or at the second one after all of the first.
+    ensures stopped { IfErr result (StoppedAt (record {
+        told = K.told; became = K.became; performed = K.performed; may_refuse = MayRefuse K.refuses
+        }) keeper.old keeper.new events.now more.now) }
     ensures going { OnOk result (IsSomeAnd keeper.new (λ k. (K.told k).has_failed ≡ false)) }
     ensures failed { IfErr result
         (λ fault. IfSome keeper.new (λ k. (K.told k).has_failed ≡ is_store fault)) }
     ensures honest { (told_in K.told keeper.new).is_honest → (told_in K.told keeper.old).is_honest }
+    ensures medium { KeepsMedium K.told keeper.old keeper.new }
+    ensures firm { OnOk result ((told_in K.told keeper.new).is_honest
+        → IsFirm (told_in K.told keeper.old) → IsFirm (told_in K.told keeper.new)) }
 {
     histories_grow::<K>();
     let first = drive(alloc, keeper, events)?;

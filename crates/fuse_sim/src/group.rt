@@ -5,21 +5,21 @@ ghost use Rattle.std.specs.Prelude.{IfOk, IfErr, OnOk};
 ghost use Rattle.std.specs.Vec.Iter.{into_iter_items};
 ghost use Rattle.fuse_answer.specs.Wire.{wire};
 ghost use Rattle.fuse_request.specs.Stream.{IsMessage};
-ghost use Rattle.fuse_request.specs.Classes.{class_of};
+ghost use Rattle.fuse_request.specs.Classes.{class_for};
 ghost use Rattle.fuse_keeper.specs.Group.{entries_of, IsKept, ids_of};
 ghost use Rattle.fuse_session.specs.Processed.{entry_if, message_entry};
 ghost use Rattle.fuse_session.specs.Group.{listed, left_by};
 ghost use Rattle.fuse_sim.specs.Driving.{IsFit, CausedBy, event_of, is_store, dies};
 ghost use Rattle.fuse_sim.specs.Driving.{bytes_given, settles, is_taken};
-ghost use Rattle.fuse_sim.specs.Running.{dies_before, Gathers, EndsWith, StopsAt, Joins};
-ghost use Rattle.fuse_sim.specs.Running.{classes_in, settles_in};
-ghost use Rattle.fuse_sim.specs.Running.{answers_in, head_outcome, outcomes_by, HasAnswers, Adds};
+ghost use Rattle.fuse_sim.specs.inner.Running.{dies_before, Gathers, EndsWith, StopsAt, Joins};
+ghost use Rattle.fuse_sim.specs.inner.Running.{classes_in, settles_in};
+ghost use Rattle.fuse_sim.specs.inner.Running.{answers_in, head_outcome, outcomes_by, HasAnswers, Adds};
 
 use crate::event::{DriveFault, Event, Fate, Outcome};
 use fuse_answer::{Answer, head_of};
-use fuse_keeper::{Done, MAX_GROUP};
+use fuse_keeper::{Done, Keeper, MAX_GROUP, classify};
 use fuse_request::{
-    Class, Request, classify, decode, has_zero_unique, is_message, one_cut, unique_of,
+    Class, Request, decode, has_zero_unique, is_message, one_cut, unique_of,
 };
 use fuse_wire::{Id, Moment};
 use std::alloc::{AllocError, Global};
@@ -82,12 +82,12 @@ fn stands_apart(event: &Event) -> bool
 }
 
 // The request of an event whose message is of this class, and its moment: only a kept one has it.
-fn read_one<'a>(event: &'a Event, class: Class) -> Option<(Request<'a>, Moment)>
+fn read_one<'a, K: Keeper>(event: &'a Event, class: Class) -> Option<(Request<'a>, Moment)>
     requires message { IsMessage event.now.bytes }
-    requires class { class ≡ class_of event.now.bytes }
-    ensures entry { entries_of (listed result) ≡ entry_if (class_of event.now.bytes)
+    requires class { class ≡ class_for K.model.serves event.now.bytes }
+    ensures entry { entries_of (listed result) ≡ entry_if (class_for K.model.serves event.now.bytes)
         (message_entry event.now.bytes event.now.moment) }
-    ensures kept { All IsKept (entries_of (listed result)) }
+    ensures kept { All (IsKept K.model) (entries_of (listed result)) }
 {
     match class {
         Class::Kept => match decode(event.bytes.as_slice()) {
@@ -101,8 +101,8 @@ fn read_one<'a>(event: &'a Event, class: Class) -> Option<(Request<'a>, Moment)>
 
 // Takes an event into a group. False where the group ends before it: the server died, the event
 // stands apart, or it is a kept one and the group is full.
-fn take_in<'a>(group: &mut Group<'a>, event: &'a Event) -> Result<bool, AllocError>
-    ensures joins { IfOk result (λ joins. joins ≡ true → Joins event.now
+fn take_in<'a, K: Keeper>(group: &mut Group<'a>, event: &'a Event) -> Result<bool, AllocError>
+    ensures joins { IfOk result (λ joins. joins ≡ true → Joins K.model event.now
         group.old.classes.items group.old.taken.items group.old.died
         group.new.classes.items group.new.taken.items group.new.died) }
     ensures ends { IfOk result (λ joins. joins ≡ false
@@ -111,8 +111,8 @@ fn take_in<'a>(group: &mut Group<'a>, event: &'a Event) -> Result<bool, AllocErr
     if group.died || stands_apart(event) {
         return Ok(false);
     }
-    let class = classify(event.bytes.as_slice());
-    if let Some(one) = read_one(event, class) {
+    let class = classify::<K>(event.bytes.as_slice());
+    if let Some(one) = read_one::<K>(event, class) {
         if group.taken.len() == MAX_GROUP {
             return Ok(false);
         }
@@ -125,9 +125,9 @@ fn take_in<'a>(group: &mut Group<'a>, event: &'a Event) -> Result<bool, AllocErr
 
 /// Reads a group off the first events: at most 16 kept ones, up to one that stands apart, and none
 /// after a crash.
-pub(crate) fn gather<'a>(alloc: Global, events: &'a [Event]) -> Result<Group<'a>, AllocError>
+pub(crate) fn gather<'a, K: Keeper>(alloc: Global, events: &'a [Event]) -> Result<Group<'a>, AllocError>
     ensures within { IfOk result (λ r. length r.classes.items ≤ length events.now) }
-    ensures gathers { IfOk result (λ r. Gathers (take (length r.classes.items) events.now)
+    ensures gathers { IfOk result (λ r. Gathers K.model (take (length r.classes.items) events.now)
         r.classes.items r.taken.items r.died) }
     ensures stops { IfOk result (λ r.
         StopsAt r.taken.items r.died (drop (length r.classes.items) events.now)) }
@@ -138,7 +138,7 @@ pub(crate) fn gather<'a>(alloc: Global, events: &'a [Event]) -> Result<Group<'a>
         died: false,
     };
     for event in events {
-        if !take_in(&mut group, event)? {
+        if !take_in::<K>(&mut group, event)? {
             return Ok(group);
         }
     }
@@ -164,20 +164,20 @@ fn outcome_with(unique: u64, answer: Answer) -> Outcome
 
 // The answer that the kernel takes to an event whose message is of this class. A kept one uses
 // the next answer.
-fn outcome_of_event(
+fn outcome_of_event<K: Keeper>(
     alloc: Global,
     event: &Event,
     class: Class,
     answers: &mut IntoIter<Done>,
 ) -> Option<Outcome>
     requires message { IsMessage event.now.bytes }
-    requires class { class ≡ class_of event.now.bytes }
-    requires enough { class_of event.now.bytes ≡ Class.Kept
+    requires class { class ≡ class_for K.model.serves event.now.bytes }
+    requires enough { class_for K.model.serves event.now.bytes ≡ Class.Kept
         → 0 < length (into_iter_items answers.old) }
     ensures outcome { bytes_given result
-        ≡ head_outcome event.now (answers_in (into_iter_items answers.old)) }
+        ≡ head_outcome K.model.serves event.now (answers_in (into_iter_items answers.old)) }
     ensures left { answers_in (into_iter_items answers.new)
-        ≡ left_by (class_of event.now.bytes) (answers_in (into_iter_items answers.old)) }
+        ≡ left_by (class_for K.model.serves event.now.bytes) (answers_in (into_iter_items answers.old)) }
 {
     let answer = match class {
         Class::Silent => return None,
@@ -192,12 +192,13 @@ fn outcome_of_event(
 }
 
 // Adds the id that an event settles to the pending ones.
-fn settle(pending: &mut Vec<Id>, event: &Event, class: Class)
+fn settle<K: Keeper>(pending: &mut Vec<Id>, event: &Event, class: Class)
     requires message { IsMessage event.now.bytes }
-    requires class { class ≡ class_of event.now.bytes }
-    requires place { class_of event.now.bytes ≡ Class.Kept
+    requires class { class ≡ class_for K.model.serves event.now.bytes }
+    requires place { class_for K.model.serves event.now.bytes ≡ Class.Kept
         → length pending.old.items < vec_capacity pending.old }
-    ensures settled { ids_of pending.new.items ≡ ids_of pending.old.items ++ settles event.now }
+    ensures settled { ids_of pending.new.items ≡ ids_of pending.old.items
+        ++ settles K.model.serves event.now }
     ensures capacity { vec_capacity pending.new ≡ vec_capacity pending.old }
 {
     let taken = is_answered(event.fate);
@@ -213,7 +214,7 @@ fn settle(pending: &mut Vec<Id>, event: &Event, class: Class)
 
 /// Gives the events of a group, whose messages are of these classes, their outcomes by the answers
 /// to the kept ones, and hands on the ids that they settle. Allocates nothing.
-pub(crate) fn answer_group(
+pub(crate) fn answer_group<K: Keeper>(
     alloc: Global,
     run: &[Event],
     classes: &[Class],
@@ -222,19 +223,20 @@ pub(crate) fn answer_group(
     outcomes: &mut Vec<Option<Outcome>>,
 )
     requires fit { All IsFit run.now }
-    requires classes { classes.now ≡ classes_in run.now }
-    requires enough { HasAnswers run.now (answers_in dones.items) }
+    requires classes { classes.now ≡ classes_in K.model.serves run.now }
+    requires enough { HasAnswers K.model.serves run.now (answers_in dones.items) }
     requires room { length outcomes.old.items + length run.now ≤ vec_capacity outcomes.old }
     requires places { length pending.old.items + length dones.items ≤ vec_capacity pending.old }
     ensures outcomes { Adds outcomes.old.items outcomes.new.items
-        (outcomes_by run.now (answers_in dones.items)) }
-    ensures pending { ids_of pending.new.items ≡ ids_of pending.old.items ++ settles_in run.now }
+        (outcomes_by K.model.serves run.now (answers_in dones.items)) }
+    ensures pending { ids_of pending.new.items ≡ ids_of pending.old.items
+        ++ settles_in K.model.serves run.now }
 {
     one_cut();
     let mut answers = dones.into_iter();
     for (place, event) in run.iter().enumerate() {
         let class = classes[place];
-        outcomes.push_reserved(outcome_of_event(alloc, event, class, &mut answers));
-        settle(pending, event, class);
+        outcomes.push_reserved(outcome_of_event::<K>(alloc, event, class, &mut answers));
+        settle::<K>(pending, event, class);
     }
 }

@@ -8,8 +8,9 @@ use Rattle.fuse_keeper.specs.Model.{IsRowed}
 use Rattle.fuse_keeper.specs.declared.keeper.Done.{Done}
 use Rattle.fuse_keeper.specs.declared.fault.StoreFault.{StoreFault}
 use Rattle.fuse_keeper.specs.History.{Entry, is_in, grown}
-use Rattle.fuse_keeper.specs.Stands.{Records, PerformedBy}
-use Rattle.fuse_keeper.specs.KeeperState.{Performs, KeepsOthers, KeepsLots, LeavesGroup}
+use Rattle.fuse_keeper.specs.Stands.{Records, PerformedBy, without}
+use Rattle.fuse_keeper.specs.Taking.{TakesAll}
+use Rattle.fuse_keeper.specs.KeeperState.{Performs, ActsOn, KeepsOthers, KeepsLots, LeavesGroup}
 use Rattle.fuse_keeper.specs.Lots.{Lots, SameLots, RecordsUnder, IsFree}
 use Rattle.fuse_tree.specs.TheTree.{the_tree}
 use Rattle.fuse_store_tables.specs.Moves.{ServesAs}
@@ -58,6 +59,20 @@ module _ (one : OneHolding) (law : CallsPerform) (lot : Option ℕ) (ids : List 
         held = holds_at one b z (rowed z.tree) (records_of z.kept) after (its_own z);
         rowed = (z.tree, after.holds.tree, refl);
         others = λ i off. law.others lot ids es y i off ∙ ap (λ o. if is_in ids i then None else o) (sym (at.is_of.records_are i));
+      }
+
+  pub acts_so : (now : Option ℕ) (was is : Bool) (dones : List Done) → ReportsAfter a b (λ y. dones ≡ all_dones lot ids es y)
+      → ActsOn (table_told a lot was) (table_told b now is) ids es dones
+  acts_so now was is dones told clean rows records at rowed_so =
+      let y = at.holding in
+      let z = performed lot ids es y in
+      let same : dones ≡ all_dones lot ids es y = told clean y at.rests in
+      record {
+        rows = rowed z.tree;
+        records = records_of z.kept;
+        held = holds_at one b z (rowed z.tree) (records_of z.kept) (serves.done clean y at.rests) (its_own z);
+        taken = subst (λ ds. TakesAll the_tree rows (without ids records) es (rowed z.tree) (records_of z.kept) ds) (sym same)
+            (law.acts lot ids es y rows records at.rests.holds.tree (at.is_of.rows_are, at.is_of.records_are));
       }
 
 -- a crash leaves the group out or in

@@ -1,22 +1,24 @@
 -- A look at what a keeper holds, and a fault of any call.
-use Rattle.std.proofs.Common.{◌≡◌, ℕ, Bool, true, false, Option, Ok, Err, Result, inl, inr, refl, sym, ap}
+use Rattle.std.proofs.Common.{◌≡◌, ◌≤◌, ◌⊎◌, ◌^◌, ℕ, Bool, true, false, Option, Some, None, Ok, Err, Result, inl, inr, refl, sym, ap}
+use Rattle.std.proofs.lemmas.Bool.{cases_lt}
 use Rattle.std.proofs.Common.{subst, IsTrue}
 use Rattle.std.specs.Prelude.{◌||◌}
 use Rattle.sqlite.specs.Tree.{Trees}
 use Rattle.sqlite.specs.State.{State, HasCleanDisk}
 use Rattle.fuse_tree.specs.Rows.{Rows}
 use Rattle.fuse_keeper.specs.Stands.{Records}
-use Rattle.fuse_keeper.specs.KeeperState.{Called, Looked}
+use Rattle.fuse_keeper.specs.KeeperState.{Called, Looked, AnswersNoMore}
 use Rattle.fuse_keeper.specs.declared.fault.StoreFault.{StoreFault}
 use Rattle.fuse_store_tables.specs.Content.{LeftAs}
 use Rattle.fuse_keeper.specs.declared.fault.StoreFault.TheVariants.{Memory, Sql, NotAStore, Version, Damaged}
 use Rattle.fuse_store_tables.specs.Faults.{IsPlain, IsOutside}
 use Rattle.fuse_store_tables.specs.Following.{earlier}
-use Rattle.fuse_store_tables.specs.Moves.{RestsAs, ServesAs}
+use Rattle.fuse_store_tables.specs.Moves.{RestsAs, ServesAs, StaysOpen}
 use Rattle.fuse_store_tree.specs.Holding.{Holding, HeldFor, lots_of}
 use Rattle.fuse_store_tree.specs.Lots.{lots_in, LotsAreSame}
 use Rattle.fuse_store_tree.specs.Performing.{OneHolding}
-use Rattle.fuse_store.specs.TableState.{IsOf, HoldsIn, LeavesSome, MayLeave, table_told}
+use Rattle.fuse_store_tree.specs.Group.{HasLotLeft}
+use Rattle.fuse_store.specs.TableState.{IsOf, HoldsIn, LeavesSome, MayLeave, MayAnswer, table_told}
 use Rattle.fuse_store.proofs.Serving.{Settled, left_either, one_left, kept_held, holds_at, same_both}
 
 or_true : (b : Bool) → (b || true) ≡ true
@@ -29,42 +31,97 @@ or_false false = refl
 
 -- ---- any call
 
--- where it held something, a fault is plain
-abbrev pub IsPlainWhere : State → State → StoreFault → Type 0
-IsPlainWhere a b e = HasCleanDisk b → (y : Holding) → RestsAs (HeldFor y) a → IsPlain e
+-- where it held something, the fault is one that it may answer
+abbrev pub MayWhere : Option ℕ → State → State → StoreFault → Type 0
+MayWhere lot a b e = HasCleanDisk b → (y : Holding) → RestsAs (HeldFor y) a → MayAnswer lot a e
 
-outside_is_plain : (e : StoreFault) → IsOutside e → IsPlain e
-outside_is_plain Memory is = tt
-outside_is_plain (Sql e) is = tt
-outside_is_plain NotAStore is = absurd is
-outside_is_plain (Version n) is = absurd is
-outside_is_plain Damaged is = absurd is
+outside_may : (lot : Option ℕ) (s : State) (e : StoreFault) → IsOutside e → MayAnswer lot s e
+outside_may lot s Memory is = tt
+outside_may lot s (Sql e) is = tt
+outside_may lot s NotAStore is = absurd is
+outside_may lot s (Version n) is = absurd is
+outside_may lot s Damaged is = absurd is
 
-pub plain_where : (a b : State) (e : StoreFault) → (HasCleanDisk b → (y : Holding) → RestsAs (HeldFor y) a → IsOutside e) → IsPlainWhere a b e
-plain_where a b e safe clean y at = outside_is_plain e (safe clean y at)
+pub may_where : (lot : Option ℕ) (a b : State) (e : StoreFault) → (HasCleanDisk b → (y : Holding) → RestsAs (HeldFor y) a → IsOutside e) → MayWhere lot a b e
+may_where lot a b e safe clean y at = outside_may lot a e (safe clean y at)
+
+-- a lot is left, or none was taken and no number is left
+is_left : (lot : Option ℕ) (y : Holding) → HasLotLeft lot y ⊎ ((lot ≡ None) × (2 ^ 62 ≤ y.next_lot))
+is_left (Some n) y = inl (λ none. absurd cc)
+is_left None y = elim (cases_lt y.next_lot (2 ^ 62)) [
+  | inl low ↦ inl (λ none. low)
+  | inr high ↦ inr (refl, high)
+]
+
+-- the fault of a group: where a lot is left it says nothing of the store
+pub lot_may : OneHolding → (lot : Option ℕ) (a b : State) (e : StoreFault) → IsPlain e
+    → (HasCleanDisk b → (y : Holding) → RestsAs (HeldFor y) a → HasLotLeft lot y → IsOutside e) → MayWhere lot a b e
+lot_may one lot a b Memory plain safe clean y at = tt
+lot_may one lot a b (Sql e) plain safe clean y at = tt
+lot_may one lot a b NotAStore plain safe clean y at = absurd plain
+lot_may one lot a b (Version n) plain safe clean y at = absurd plain
+lot_may one lot a b Damaged plain safe clean y at = elim (is_left lot y) [
+  | inl left ↦ absurd (safe clean y at left)
+  | inr used ↦ record {
+    is_open = at.is_open;
+    none = used.0;
+    used_up = λ z there. subst (λ w. 2 ^ 62 ≤ w.next_lot) (one y z a.now at.holds there.holds) used.1;
+  }
+]
+
+-- what may be answered later could be answered before
+still_may : (lot : Option ℕ) (a b : State) → (IsTrue b.is_open → IsTrue a.is_open)
+    → (IsTrue b.is_open → (y : Holding) → RestsAs (HeldFor y) a → RestsAs (HeldFor y) b) → (f : StoreFault) → MayAnswer lot b f → MayAnswer lot a f
+still_may lot a b was kept Memory may = tt
+still_may lot a b was kept (Sql e) may = tt
+still_may lot a b was kept NotAStore may = absurd may
+still_may lot a b was kept (Version n) may = absurd may
+still_may lot a b was kept Damaged may =
+    record { is_open = was may.is_open; none = may.none; used_up = λ y at. may.used_up y (kept may.is_open y at) }
+
+-- with a lot, damage is no answer
+lotted_may : (taken : ℕ) (lot : Option ℕ) (a b : State) (f : StoreFault) → MayAnswer (Some taken) b f → MayAnswer lot a f
+lotted_may taken lot a b Memory may = tt
+lotted_may taken lot a b (Sql e) may = tt
+lotted_may taken lot a b NotAStore may = absurd may
+lotted_may taken lot a b (Version n) may = absurd may
+lotted_may taken lot a b Damaged may = absurd (let none = may.none in cc)
+
+pub took_may : (taken : ℕ) (lot : Option ℕ) (a b : State) (was is : Bool) → AnswersNoMore (table_told a lot was) (table_told b (Some taken) is)
+took_may taken lot a b was is clean f may = lotted_may taken lot a b f may
+
+pub failed_may : {X : Type 0} (f : Holding → Holding) (a b : State) (e : StoreFault) → ServesAs {X = X} HeldFor (λ y. HeldFor (f y)) a b (Err e)
+    → StaysOpen {X = X} a b (Err e) → (lot : Option ℕ) (was is : Bool) → AnswersNoMore (table_told a lot was) (table_told b lot is)
+failed_may f a b e serves open lot was is clean fault may =
+    still_may lot a b (λ is_open. open.was clean is_open) (λ is_open y at. serves.kept clean is_open y at) fault may
 
 pub went_well : {A X : Type 0} → (f : Holding → Holding) (a b : State) (x : X) (y : A) → ServesAs {E = StoreFault} HeldFor (λ y. HeldFor (f y)) a b (Ok x)
-    → (lot now : Option ℕ) (failed : Bool) → Called {A = A} (table_told a lot failed) (table_told b now failed) (Ok y)
-went_well f a b x y serves lot now failed = record {
+    → StaysOpen {E = StoreFault} a b (Ok x) → (lot now : Option ℕ) (failed : Bool)
+    → Called {A = A} (table_told a lot failed) (table_told b now failed) (Ok y)
+went_well f a b x y serves open lot now failed = record {
   failed = sym (or_false failed);
   honest = λ clean. earlier a b _ serves.survives clean;
+  medium = λ memory. memory;
+  clean = λ was clean. (clean, open.still clean was.1);
   err = tt;
   err_lots = tt;
   fault = λ clean s h t so. tt;
 }
 
 pub went_wrong : {A X : Type 0} → OneHolding → LotsAreSame → (f : Holding → Holding) (a b : State) (e : StoreFault)
-    → ServesAs {X = X} HeldFor (λ y. HeldFor (f y)) a b (Err e) → IsPlainWhere a b e → (lot : Option ℕ) (failed : Bool)
+    → ServesAs {X = X} HeldFor (λ y. HeldFor (f y)) a b (Err e) → (lot : Option ℕ) → MayWhere lot a b e → (failed : Bool)
     → Called {A = A} (table_told a lot failed) (table_told b lot true) (Err e)
-went_wrong one told f a b e serves plain lot failed = record {
+went_wrong one told f a b e serves lot may failed = record {
   failed = sym (or_true failed);
   honest = λ clean. earlier a b _ serves.survives clean;
+  medium = λ memory. memory;
+  clean = tt;
   err = λ clean rows records at. kept_held one f a b e rows records serves clean.0 clean.1 at;
   err_lots = λ clean rows records at.
       let y = at.holding in
       same_both (lots_of lot y) (lots_in lot a.now) (lots_in lot b.now) (told lot y a.now at.rests.holds) (told lot y b.now
       (serves.kept clean.0 clean.1 y at.rests).holds);
-  fault = λ clean s h t so. plain clean.0 so.held.holding so.held.rests;
+  fault = λ clean s h t so. may clean.0 so.held.holding so.held.rests;
 }
 
 -- ---- a look
@@ -106,11 +163,11 @@ module _ (one : OneHolding) (a b : State) (settled : Settled a) (stays : IsTrue 
       holds_at one b at.holding rows records (well.done clean at.holding at.rests) at.is_of
 
 module _ (one : OneHolding) (told : LotsAreSame) (a b : State) (settled : Settled a) (stays : IsTrue a.is_open → a.may_leave a.committed.trees) where
-  pub looked_well : {X : Type 0} → (x : X) → ServesAs {E = StoreFault} HeldFor HeldFor a b (Ok x) → (lot : Option ℕ) (failed : Bool)
-      → Looked {A = X} (table_told a lot failed) (table_told b lot failed) (Ok x)
-  looked_well x serves lot failed = record {
-    called = went_well (λ z. z) a b x x serves lot lot failed;
-    may = λ f plain. plain;
+  pub looked_well : {X : Type 0} → (x : X) → ServesAs {E = StoreFault} HeldFor HeldFor a b (Ok x) → StaysOpen {E = StoreFault} a b (Ok x)
+      → (lot : Option ℕ) (failed : Bool) → Looked {A = X} (table_told a lot failed) (table_told b lot failed) (Ok x)
+  looked_well x serves open lot failed = record {
+    called = went_well (λ z. z) a b x x serves open lot lot failed;
+    may = λ clean f is. still_may lot a b (λ is_open. open.was clean is_open) (λ is_open y at. serves.done clean y at) f is;
     same = λ clean rows records at. still_held one a b settled stays (Ok x) serves x refl clean rows records at;
     lots = λ clean rows records at.
         let y = at.holding in
@@ -120,11 +177,12 @@ module _ (one : OneHolding) (told : LotsAreSame) (a b : State) (settled : Settle
     crash = λ x' q rows records at left. left_before one a b settled stays (Ok x) serves x' q rows records at left;
   }
 
-  pub looked_wrong : {X : Type 0} → (e : StoreFault) → ServesAs {X = X} HeldFor HeldFor a b (Err e) → IsPlainWhere a b e → (lot : Option ℕ) (failed : Bool)
+  pub looked_wrong : {X : Type 0} → (e : StoreFault) → ServesAs {X = X} HeldFor HeldFor a b (Err e) → StaysOpen {X = X} a b (Err e)
+      → (HasCleanDisk b → (y : Holding) → RestsAs (HeldFor y) a → IsOutside e) → (lot : Option ℕ) (failed : Bool)
       → Looked {A = X} (table_told a lot failed) (table_told b lot true) (Err e)
-  looked_wrong e serves plain lot failed = record {
-    called = went_wrong one told (λ z. z) a b e serves plain lot failed;
-    may = λ f plain. plain;
+  looked_wrong e serves open safe lot failed = record {
+    called = went_wrong one told (λ z. z) a b e serves lot (may_where lot a b e safe) failed;
+    may = failed_may (λ z. z) a b e serves open lot failed true;
     same = tt;
     lots = tt;
     whole = λ rows records at was. whole_still one a b settled stays (Err e) serves rows records at;

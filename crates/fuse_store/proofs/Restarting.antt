@@ -66,5 +66,6 @@ module _ (one : OneHolding) (told : LotsAreSame) (a b : State) (settled : Settle
         let old = told lot y a.now at.rests.holds in
         record { numbers = new.numbers ∙ sym old.numbers; current = new.current; under = λ i. new.under i ∙ sym (old.under i) };
     honest = o.honest;
+    medium = λ memory. memory;
     going = is_going;
   }

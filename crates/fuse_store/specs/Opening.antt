@@ -2,14 +2,18 @@
 use Rattle.std.specs.Prelude.{◌≡◌, ℕ, false, IsTrue, List, [], ◌∷◌, map, Option}
 use Rattle.std.specs.List.{AllByRecursion}
 use Rattle.sqlite.specs.Effect.{Database}
-use Rattle.sqlite.specs.State.{State}
+use Rattle.sqlite.specs.State.{State, HasCleanDisk, Survives}
 use Rattle.fuse_init.specs.declared.settings.Settings.{Settings}
 use Rattle.fuse_tree.specs.declared.rows.Counters.{Counters as CountersRow}
 use Rattle.fuse_tree.specs.State.{State as TreeState, Tree}
 use Rattle.fuse_tree.specs.Rows.{Rows, rowed}
 use Rattle.fuse_store_tables.specs.Layout.{with_answers}
 use Rattle.fuse_store_tables.specs.Content.{Content, Counter, Answer, HoldsAs, LeftAs, stored, node_key, cookie_of, fh_of}
+use Rattle.fuse_keeper.specs.declared.fault.StoreFault.{StoreFault}
+use Rattle.fuse_store_tables.specs.Faults.{IsOutside}
+use Rattle.fuse_store_tables.specs.Moves.{RestsAs}
 use Rattle.fuse_store_tables.specs.Opening.{under}
+use Rattle.fuse_store_tables.specs.Saying.{Says}
 use Rattle.fuse_store_tree.specs.Fits.{Fits, KeepsRecord}
 use Rattle.fuse_store_tree.specs.Store.{FitsSettings, in_order, counter, is_there, minor_of, readahead_of, flags_of, byte_in, rows_bytes}
 use Rattle.fuse_store_tree.specs.Holding.{Holding, HeldFor}
@@ -64,3 +68,12 @@ OpenedFor z = HeldFor (opened_for z)
 -- a store that is open, outside a transaction, and was left so
 abbrev pub WasFor : Stored → State → Type 0
 WasFor z s = IsTrue s.is_open × (s.in_transaction ≡ false) × LeftAs (StoredFor z) s.committed.trees
+
+-- an opening that was refused, and the connection that is left
+pub record OpenRefused (old left : State) (f : StoreFault) : Type 0 where
+  -- a crash then leaves the same trees as before, or those of the opened store
+  pub crash : Survives old left (λ db. (z : Stored) → WasFor z old → LeftAs (OpenedFor z) db)
+  pub kept : HasCleanDisk left → IsTrue left.is_open → (z : Stored) → WasFor z old → RestsAs (StoredFor z) left
+  -- the fault says nothing of a sound store, and else only what is so
+  pub outside : HasCleanDisk left → (z : Stored) → WasFor z old → IsOutside f
+  pub says : HasCleanDisk left → Says old.now f

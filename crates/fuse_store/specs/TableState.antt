@@ -1,13 +1,14 @@
 -- The state of a keeper over tables, by the state of its database (own profile).
-use Rattle.std.specs.Prelude.{◌≡◌, ℕ, Bool, IsTrue, Option}
+use Rattle.std.specs.Prelude.{◌≡◌, ◌≤◌, ◌^◌, ℕ, ⊤, Bool, IsTrue, Option, None}
 use Rattle.sqlite.specs.Tree.{Trees}
 use Rattle.sqlite.specs.State.{State, HasCleanDisk}
 use Rattle.fuse_tree.specs.Rows.{Rows, rowed}
 use Rattle.fuse_keeper.specs.Stands.{Records}
 use Rattle.fuse_keeper.specs.KeeperState.{KeeperState}
+use Rattle.fuse_keeper.specs.declared.fault.StoreFault.{StoreFault}
+use Rattle.fuse_keeper.specs.declared.fault.StoreFault.TheVariants.{Memory, Sql, Damaged}
 use Rattle.fuse_tree.specs.TheTree.{the_tree}
 use Rattle.fuse_store_tables.specs.Content.{LeftAs}
-use Rattle.fuse_store_tables.specs.Faults.{IsPlain}
 use Rattle.fuse_store_tables.specs.Moves.{RestsAs}
 use Rattle.fuse_store_tree.specs.Store.{records_of}
 use Rattle.fuse_store_tree.specs.Holding.{Holding, HeldFor}
@@ -42,14 +43,29 @@ pub record MayLeave (s : State) (rows : Rows) (records : Records) : Type 0 where
   pub may : s.may_leave trees
   pub these : LeavesThese trees rows records
 
+-- no lot was taken since the opening, and in what the tables hold no number is left for one
+pub record IsOutOfLots (lot : Option ℕ) (s : State) : Type 0 where
+  pub is_open : IsTrue s.is_open
+  pub none : lot ≡ None
+  pub used_up : (y : Holding) → RestsAs (HeldFor y) s → 2 ^ 62 ≤ y.next_lot
+
+-- the faults of a call: out of memory, of SQL, or damage where no lot is left
+abbrev pub MayAnswer : Option ℕ → State → StoreFault → Type 0
+MayAnswer lot s Memory = ⊤
+MayAnswer lot s (Sql e) = ⊤
+MayAnswer lot s Damaged = IsOutOfLots lot s
+MayAnswer lot s _ = ⊥
+
+-- the store lies on its connection's disk, and is honest and clean as that is
 abbrev pub table_told : State → Option ℕ → Bool → KeeperState the_tree
 table_told s lot failed = record {
   holds = HoldsIn s;
   is_honest = HasCleanDisk s;
   is_clean = HasCleanDisk s × IsTrue s.is_open;
+  in_memory = ⊥;
   has_failed = failed;
   leaves_whole = HasCleanDisk s → (db : Trees) → s.may_leave db → LeavesSome db;
   may_leave = MayLeave s;
-  may_answer = IsPlain;
+  may_answer = MayAnswer lot s;
   lots = lots_in lot s.now;
 }

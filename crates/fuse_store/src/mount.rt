@@ -6,7 +6,7 @@ ghost use Rattle.sqlite_schema.specs.Names.{table_named};
 ghost use Rattle.fuse_keeper.specs.declared.fault.StoreFault.TheVariants.{NotAStore};
 ghost use Rattle.fuse_store_tables.specs.Content.{Content};
 ghost use Rattle.fuse_store_tables.specs.Faults.{IsOutside, IsPlain};
-ghost use Rattle.fuse_store_tables.specs.Moves.{RestsAs, ServesAs, IsSafe};
+ghost use Rattle.fuse_store_tables.specs.Moves.{RestsAs, ServesAs, StaysOpen, IsSafe};
 ghost use Rattle.fuse_store_tables.specs.Opening.{IsLaid, HasMeta};
 ghost use Rattle.fuse_store_tables.specs.Saying.{Says, IsTabled};
 ghost use Rattle.fuse_store_tree.specs.Holding.{HeldFor};
@@ -25,6 +25,7 @@ use sqlite::{Alter, Connection};
 pub(crate) fn begin_mount<S: Alter>(conn: &mut Connection<S>) -> Result<(), StoreFault>
     ensures serves { ServesAs HeldFor (λ y. HeldFor (cleared_for y)) (state S.Store conn.old)
         (state S.Store conn.new) result }
+    ensures open { StaysOpen (state S.Store conn.old) (state S.Store conn.new) result }
     ensures fault { IsSafe HeldFor (state S.Store conn.old) (state S.Store conn.new) result }
     // The fault is never `NotAStore` or `Version`.
     ensures plain { IfErr result IsPlain }

@@ -53,11 +53,11 @@ impl<S: Alter> TableKeeper<S> {
     ghost use Rattle.fuse_store_tree.specs.Lots.{lots_in};
     ghost use Rattle.fuse_store.specs.Creating.{IsBlank, LeavesNew, new_holding};
     ghost use Rattle.fuse_store.specs.Opening.{Stored, StoredFor, OpenedFor, WasFor};
-    ghost use Rattle.fuse_store.specs.Opening.{opened_for};
+    ghost use Rattle.fuse_store.specs.Opening.{OpenRefused, opened_for};
     ghost use Rattle.fuse_store.specs.Starting.{LeavesBegun, IsLeftOrOpened, begun_for};
     ghost use Rattle.fuse_store.specs.Starting.{BeginsAfter};
     ghost use Rattle.fuse_store.specs.TableState.{HoldsIn, MayLeave};
-    ghost use Rattle.fuse_store.specs.TableKeeper.{keeper_told};
+    ghost use Rattle.fuse_store.specs.TableKeeper.{keeper_told, LiesOnDisk};
 
     /// A new store in a blank database, made at this moment in one transaction. A fault gives the
     /// connection back.
@@ -69,6 +69,7 @@ impl<S: Alter> TableKeeper<S> {
         ensures stands { IfOk result (λ k. (keeper_told S.Store k).is_honest
             → IsTrue (state S.Store conn).is_open
             → StandsFor (keeper_told S.Store k) (new_store now) [] []) }
+        ensures medium { IfOk result (LiesOnDisk S.Store) }
         ensures going { IfOk result (λ k. (keeper_told S.Store k).has_failed ≡ false) }
         ensures firm { IfOk result (λ k. (keeper_told S.Store k).is_honest
             → IsFirm (keeper_told S.Store k)) }
@@ -127,18 +128,12 @@ impl<S: Alter> TableKeeper<S> {
             × ((state S.Store conn).in_transaction ≡ false)) }
         ensures honest { IfOk result (λ k. (keeper_told S.Store k).is_honest
             → HasCleanDisk (state S.Store conn)) }
+        ensures medium { IfOk result (LiesOnDisk S.Store) }
         ensures going { IfOk result (λ k. (keeper_told S.Store k).has_failed ≡ false) }
         ensures firm { IfOk result (λ k. (keeper_told S.Store k).is_honest
             → IsFirm (keeper_told S.Store k)) }
-        ensures crash { IfErr result (λ r. Survives (state S.Store conn) (state S.Store r.1) (λ db.
-            (z : Stored) → WasFor z (state S.Store conn) → LeftAs (OpenedFor z) db)) }
-        ensures kept { IfErr result (λ r. HasCleanDisk (state S.Store r.1)
-            → IsTrue (state S.Store r.1).is_open → (z : Stored) → WasFor z (state S.Store conn)
-            → RestsAs (StoredFor z) (state S.Store r.1)) }
-        ensures fault { IfErr result (λ r. HasCleanDisk (state S.Store r.1) → (z : Stored)
-            → WasFor z (state S.Store conn) → IsOutside r.0) }
-        ensures says { IfErr result (λ r. HasCleanDisk (state S.Store r.1)
-            → Says (state S.Store conn).now r.0) }
+        ensures refused { IfErr result (λ r. OpenRefused (state S.Store conn) (state S.Store r.1)
+            r.0) }
         ensures absent { (state S.Store conn).in_transaction ≡ false
             → table_named (state S.Store conn).now.schema (codes "meta") ≡ None
             → IsErrAnd result (λ r. r.0 ≡ NotAStore) }
@@ -182,6 +177,7 @@ impl<S: Alter> TableKeeper<S> {
             × ((state S.Store conn).in_transaction ≡ false)) }
         ensures honest { IfOk result (λ k. (keeper_told S.Store k).is_honest
             → HasCleanDisk (state S.Store conn)) }
+        ensures medium { IfOk result (LiesOnDisk S.Store) }
         ensures going { IfOk result (λ k. (keeper_told S.Store k).has_failed ≡ false) }
         ensures firm { IfOk result (λ k. (keeper_told S.Store k).is_honest
             → IsFirm (keeper_told S.Store k)) }
@@ -262,6 +258,13 @@ impl<S: Alter + Drop> Keeper for TableKeeper<S> {
 
     ghost became = { λ a b n. Unit {0} };
 
+    ghost performed = { λ a b list. Unit {0} };
+
+    /// The tree serves the opcodes of the profile alone.
+    fn serves(_opcode: u32) -> bool {
+        false
+    }
+
     fn perform(
         &mut self,
         group: &[(Request<'_>, Moment)],
@@ -273,6 +276,10 @@ impl<S: Alter + Drop> Keeper for TableKeeper<S> {
         ensures may { AnswersNoMore (keeper_told S.Store self.old)
             (keeper_told S.Store self.new) }
         ensures ok { IfOk result (λ dones. Performs (keeper_told S.Store self.old)
+            (keeper_told S.Store self.new) (ids_of settled.now) (entries_of group.now)
+            dones.items) }
+        // The settled records go first: an id that is settled and in the group acts anew.
+        ensures acts { IfOk result (λ dones. ActsOn (keeper_told S.Store self.old)
             (keeper_told S.Store self.new) (ids_of settled.now) (entries_of group.now)
             dones.items) }
         ensures others { OnOk result (KeepsOthers (keeper_told S.Store self.old)
@@ -416,21 +423,27 @@ impl<S: Alter + Drop> Keeper for TableKeeper<S> {
       clean_is_honest = λ clean. clean.0;
     } };
 
+    ghost memory_is_clean = { λ k memory. absurd memory };
+
     ghost counted = { record { none = λ k. tt; then = λ a b c m n before after. tt } };
+
+    ghost log = { record { none = λ k. tt; onward = λ a b c before after one two. tt } };
 }
 
 impl<S: Alter + Drop> Restart for TableKeeper<S> {
     ghost use Rattle.fuse_store.specs.TableKeeper.{Refuses};
 
-    ghost may_refuse = { Refuses S.Store };
+    type Rest = Connection<S>;
+
+    ghost refuses = { Refuses S.Store };
 
     /// Opens the same connection again, without a lot number.
-    fn restart(self) -> Result<TableKeeper<S>, StoreFault> {
+    fn restart(self) -> Result<TableKeeper<S>, (StoreFault, Connection<S>)> {
         one_holding();
         lots_are_read();
         match TableKeeper::open(self.look.alloc, self.look.conn) {
             Ok(keeper) => Ok(keeper),
-            Err((fault, _)) => Err(fault),
+            Err((fault, conn)) => Err((fault, conn)),
         }
     }
 }

@@ -7,11 +7,11 @@ use Rattle.sqlite.specs.declared.error.Error.{Error}
 use Rattle.sqlite.specs.Listing.{understood}
 use Rattle.sqlite.specs.Effect.{Database}
 use Rattle.sqlite.specs.State.{State, HasCleanDisk, Survives, Shown, FailsToQuery, FailsToShow, CommitsShowing, IsUnchanged, IsRolledBack}
-use Rattle.sqlite.specs.State.{IsNotRun, RunsCommand}
+use Rattle.sqlite.specs.State.{IsNotRun, RunsCommand, ShowsRows}
 use Rattle.sqlite.specs.Clock.{timed}
 use Rattle.sqlite.proofs.StateLemmas.{survives_weaker}
 use Rattle.sqlite.proofs.Callers.{IsPlain, never_commits}
-use Rattle.fuse_store_tables.specs.Moves.{RestsAs, ServesAs}
+use Rattle.fuse_store_tables.specs.Moves.{RestsAs, ServesAs, StaysOpen}
 
 -- ---- what rests stays
 
@@ -54,6 +54,44 @@ module _ (P : Database → Type 0) (old new : State) (at : RestsAs P old) where
       shown : (r : _) → FailsToShow old new sql h.0 (timed params h.0.formats h.1.now) e r → RestsAs P new
       shown None it = unchanged_rests it.3
       shown (Some what) it = command_rests sql _ e h.0 is_open it
+
+-- ---- the connection
+
+module _ (old new : State) where
+  not_run_open : (sql : List ℕ) (params : Row) (e : Error) → IsTrue new.is_open → IsNotRun old new sql params e → IsTrue old.is_open
+  unfolding IsNotRun
+  not_run_open sql params e is_open (inl h) = h.1.0.was_open
+  not_run_open sql params e is_open (inr h) = h.3.was_open is_open
+
+  command_open : (sql : List ℕ) (params : Row) (e : Error) (c : _) → IsTrue new.is_open → RunsCommand old new sql c params (Err e) → IsTrue old.is_open
+  command_open sql params e c is_open (inl h) = h.1.0.was_open
+  command_open sql params e c is_open (inr h) = h.3.was_open is_open
+
+  failed_open : (sql : List ℕ) (params : Row) (e : Error) → IsTrue new.is_open → FailsToQuery sql params old new e → IsTrue old.is_open
+  unfolding FailsToQuery
+  failed_open sql params e is_open (inl h) = not_run_open sql params e is_open h
+  failed_open sql params e is_open (inr h) = shown h.0.returning h.2
+    where
+      shown : (r : _) → FailsToShow old new sql h.0 (timed params h.0.formats h.1.now) e r → IsTrue old.is_open
+      shown None it = it.3.0.was_open
+      shown (Some what) it = command_open sql _ e h.0 is_open it
+
+  shown_open : (sql : List ℕ) (params : Row) (rows : List Row) → Shown sql params old new rows → IsTrue old.is_open × IsTrue new.is_open
+  unfolding Shown
+  shown_open sql params rows h = shown h.0.returning h.2
+    where
+      shown : (r : _) → ShowsRows old new sql h.0 (timed params h.0.formats h.1.now) rows r → IsTrue old.is_open × IsTrue new.is_open
+      shown None it = (it.3.0.was_open, it.3.0.is_open)
+      shown (Some what) it = (it.1.shown.was_open, it.1.shown.is_open)
+
+pub peeks_open : (sql : List ℕ) (params : Row) {X : Type 0} (items : X → List Row) (old new : State) (r : Result X Error)
+    → (HasCleanDisk new → IfOk r (λ x. Shown sql params old new (items x))) → (HasCleanDisk new → IfErr r (FailsToQuery sql params old new))
+    → StaysOpen old new r
+peeks_open sql params items old new (Ok x) ok err = record {
+  was = λ clean is_open. (shown_open old new sql params (items x) (ok clean)).0;
+  still = λ clean is_open. (shown_open old new sql params (items x) (ok clean)).1;
+}
+peeks_open sql params items old new (Err e) ok err = record { was = λ clean is_open. failed_open old new sql params e is_open (err clean); still = tt }
 
 -- ---- a query
 

@@ -10,7 +10,8 @@ use Rattle.sqlite.proofs.StateLemmas.{survives_then, survives_weaker}
 use Rattle.sqlite.proofs.InsideLemmas.{keeps_then}
 use Rattle.fuse_keeper.specs.declared.fault.StoreFault.{StoreFault}
 use Rattle.fuse_store_tables.specs.Content.{Content, Holds, LeftAs}
-use Rattle.fuse_store_tables.specs.Moves.{IsReady, RestsAs, StaysIn, Takes, Makes, ServesAs, IsSafe}
+use Rattle.std.specs.Result.{IsErr}
+use Rattle.fuse_store_tables.specs.Moves.{IsReady, RestsAs, StaysIn, Takes, Makes, ServesAs, IsSafe, StaysOpen}
 
 -- a disk that is clean after a call was so before it
 pub earlier : (a b : State) (P : Trees → Type 0) → Survives a b P → HasCleanDisk b → HasCleanDisk a
@@ -59,6 +60,27 @@ taken_from P Q f a b (Err e) p = record {
 pub makes_then : {X Y E F : Type 0} (f g : Content → Content) (a b d : State) (x : X) (r : Result Y F) → Makes {X = X} {E = E} f a b (Ok x) → Makes g b d r
     → Makes (λ c. g (f c)) a d r
 makes_then f g a b d x r p q = then_as Holds (λ c. Holds (f c)) (λ c. Holds (g (f c))) a b d x r p (taken_from Holds (λ c. Holds (g c)) f b d r q)
+
+-- ---- the connection
+
+-- the same, with what was read
+pub open_told : {X Y E F : Type 0} (a b : State) (x : X) (r : Result Y F) → StaysOpen {E = E} a b (Ok x) → StaysOpen a b r
+open_told a b x (Ok y) p = record { was = p.was; still = p.still }
+open_told a b x (Err f) p = record { was = p.was; still = tt }
+
+-- what `?` returns of a call that failed
+pub open_fails : {X Y E F : Type 0} (a b : State) (e : E) (r : Result Y F) → IsErr r → StaysOpen {X = X} a b (Err e) → StaysOpen a b r
+open_fails a b e (Ok y) is p = absurd cc
+open_fails a b e (Err f) is p = record { was = p.was; still = tt }
+
+-- one call after another
+pub open_then : {X Y E F : Type 0} (a b d : State) (x : X) (r : Result Y F) → StaysOpen {E = E} a b (Ok x) → {K : Trees → Type 0} → Survives b d K
+    → StaysOpen b d r → StaysOpen a d r
+open_then a b d x (Ok y) p s q = record {
+  was = λ clean is_open. p.was (earlier b d _ s clean) (q.was clean is_open);
+  still = λ clean was_open. q.still clean (p.still (earlier b d _ s clean) was_open);
+}
+open_then a b d x (Err f) p s q = record { was = λ clean is_open. p.was (earlier b d _ s clean) (q.was clean is_open); still = tt }
 
 -- ---- reads outside a transaction
 

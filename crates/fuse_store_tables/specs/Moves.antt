@@ -97,6 +97,11 @@ pub record Looked (old new : State) : Type 0 where
   pub stays : Stays old new
   pub same : Turns (λ c. c) old new
 
+-- a call never opens a connection, and where it succeeds one that was open is open
+pub record StaysOpen {X E : Type 0} (old new : State) (result : Result X E) : Type 0 where
+  pub was : HasCleanDisk new → IsTrue new.is_open → IsTrue old.is_open
+  pub still : OnOk result (HasCleanDisk new → IsTrue old.is_open → IsTrue new.is_open)
+
 -- of a call that began with one of these databases, a fault says nothing of the store
 abbrev pub IsSure : {C X : Type 0} → (C → Database → Type 0) → State → State → Result X StoreFault → Type 0
 IsSure P old new r = HasCleanDisk new → IfErr r (λ f. IsReady P old → IsOutside f)

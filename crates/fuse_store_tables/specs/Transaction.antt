@@ -1,12 +1,13 @@
 -- A whole transaction, of the steps between its begin and its end (own profile). The proofs are here because the crates above cite them.
 use Rattle.std.proofs.Common.{◌≡◌, sym, subst, ◌∙◌}
-use Rattle.std.specs.Prelude.{Result, Ok, Err}
+use Rattle.std.specs.Prelude.{IsTrue, Result, Ok, Err}
+use Rattle.sqlite.specs.Tree.{Trees}
 use Rattle.sqlite.specs.Effect.{Database}
 use Rattle.sqlite.specs.State.{State, HasCleanDisk, Survives, KeepsCommit}
 use Rattle.sqlite.proofs.StateLemmas.{survives_weaker, survives_then}
 use Rattle.sqlite.proofs.InsideLemmas.{keeps_then}
 use Rattle.fuse_store_tables.specs.Content.{LeftAs}
-use Rattle.fuse_store_tables.specs.Moves.{RestsAs, InsideAs, Takes, Begins, Ends, PerformsAs, Undoes, ServesAs}
+use Rattle.fuse_store_tables.specs.Moves.{RestsAs, InsideAs, Takes, Begins, Ends, PerformsAs, Undoes, ServesAs, StaysOpen}
 use Rattle.fuse_store_tables.specs.Following.{earlier}
 
 -- ---- a whole transaction
@@ -94,3 +95,30 @@ module _ {C : Type 0} (P Q : C → Database → Type 0) where
         };
     done = tt;
   }
+
+-- ---- the connection
+
+-- a transaction that began had an open connection
+was_open : {X E : Type 0} (a b d : State) (x : X) {K : Trees → Type 0} → Begins {E = E} a b (Ok x) → Survives b d K → HasCleanDisk d → IsTrue a.is_open
+was_open a b d x p s clean = let mid = earlier b d _ s clean in (p.kept mid).was_open (p.begun mid).0
+
+pub open_first : {X Y E F : Type 0} (a b : State) (e : E) (h : F) → Begins {X = X} a b (Err e) → StaysOpen {X = Y} a b (Err h)
+open_first a b e h p = record { was = λ clean is_open. (p.kept clean).was_open is_open; still = tt }
+
+pub open_inside : {X Y E F : Type 0} (a b d : State) (x : X) (h : F) {K : Trees → Type 0} → Begins {E = E} a b (Ok x) → Survives b d K
+    → StaysOpen {X = Y} a d (Err h)
+open_inside a b d x h p s = record { was = λ clean is_open. was_open a b d x p s clean; still = tt }
+
+pub open_failed : {X Y Z E F G : Type 0} (a b d e : State) (x : X) (f : F) (h : G) {K : Trees → Type 0} → Begins {E = E} a b (Ok x) → Survives b d K
+    → Ends {X = Z} d e (Err f) → StaysOpen {X = Y} a e (Err h)
+open_failed a b d e x f h p s t = record { was = λ clean is_open. was_open a b d x p s (earlier d e _ t.survives clean); still = tt }
+
+pub open_committed : {X Y Z E F G : Type 0} (a b d e : State) (x : X) (z : Z) (y : Y) {K : Trees → Type 0} → Begins {E = E} a b (Ok x) → Survives b d K
+    → Ends {E = F} d e (Ok z) → StaysOpen {E = G} a e (Ok y)
+open_committed a b d e x z y p s t = record {
+  was = λ clean is_open. was_open a b d x p s (earlier d e _ t.survives clean);
+  still = λ clean is_open. (t.ended clean).0;
+}
+
+pub open_undone : {X Y E F : Type 0} (a b d : State) (e : E) (h : F) → StaysOpen {X = X} a b (Err e) → Undoes b d → StaysOpen {X = Y} a d (Err h)
+open_undone a b d e h p u = record { was = λ clean is_open. p.was (earlier b d _ u.survives clean) (u.undone clean is_open).0; still = tt }

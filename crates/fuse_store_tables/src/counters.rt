@@ -3,6 +3,7 @@ ghost use Rattle.std.specs.Prelude.{◌≡◌, ◌<◌, ◌^◌, map, IfOk, OnOk
 ghost use Rattle.sqlite.specs.State.{HasCleanDisk};
 ghost use Rattle.sqlite.specs.Held.{state};
 ghost use Rattle.fuse_store_tables.specs.Moves.{Inside, Rests, Makes, Looked, Stays, Serves};
+ghost use Rattle.fuse_store_tables.specs.Moves.{StaysOpen};
 ghost use Rattle.fuse_store_tables.specs.Content.{Content, with_counter, set_counter, shown_counter};
 
 use crate::statements::run;
@@ -79,6 +80,7 @@ pub fn select_counters<S: Alter>(conn: &mut Connection<S>) -> Result<Vec<Row>, E
     ensures found { HasCleanDisk (state S.Store conn.new) → IfOk result (λ rows. (c : Content)
         → Inside c (state S.Store conn.old) → rows.items ≡ map shown_counter c.counters) }
     ensures rests { Serves (λ c. c) (state S.Store conn.old) (state S.Store conn.new) result }
+    ensures open { StaysOpen (state S.Store conn.old) (state S.Store conn.new) result }
     ensures found_at_rest { HasCleanDisk (state S.Store conn.new) → IfOk result (λ rows.
         (c : Content) → Rests c (state S.Store conn.old)
         → rows.items ≡ map shown_counter c.counters) }

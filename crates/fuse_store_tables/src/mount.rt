@@ -10,6 +10,7 @@ ghost use Rattle.fuse_store_tables.specs.Clearing.{without_all_handles, without_
 ghost use Rattle.fuse_store_tables.specs.Clearing.{cleared};
 ghost use Rattle.fuse_store_tables.specs.Opening.{IsSecond};
 ghost use Rattle.fuse_store_tables.specs.Moves.{Makes, Performs, Serves, ServesAs, IsSure, IsSafe};
+ghost use Rattle.fuse_store_tables.specs.Moves.{StaysOpen};
 
 use crate::blocks::delete_blocks_from;
 use crate::columns::number_at;
@@ -118,6 +119,7 @@ fn clear<S: Alter>(conn: &mut Connection<S>) -> Result<(), StoreFault>
 // The transaction. A fault may leave it open.
 fn transact<S: Alter>(conn: &mut Connection<S>) -> Result<(), StoreFault>
     ensures performs { Performs cleared (state S.Store conn.old) (state S.Store conn.new) result }
+    ensures open { StaysOpen (state S.Store conn.old) (state S.Store conn.new) result }
     ensures fault { IsSafe Holds (state S.Store conn.old) (state S.Store conn.new) result }
     ensures plain { IfErr result IsPlain }
 {
@@ -133,6 +135,7 @@ pub fn begin_mount<S: Alter>(conn: &mut Connection<S>) -> Result<(), StoreFault>
     ensures serves { Serves cleared (state S.Store conn.old) (state S.Store conn.new) result }
     ensures fit { ServesAs IsSecond (λ c. IsSecond (cleared c)) (state S.Store conn.old)
         (state S.Store conn.new) result }
+    ensures open { StaysOpen (state S.Store conn.old) (state S.Store conn.new) result }
     ensures fault { IsSafe Holds (state S.Store conn.old) (state S.Store conn.new) result }
     // The fault is never `NotAStore` or `Version`.
     ensures plain { IfErr result IsPlain }

@@ -7,6 +7,7 @@ ghost use Rattle.sqlite.specs.State.{HasCleanDisk};
 ghost use Rattle.sqlite.specs.Held.{state};
 ghost use Rattle.sqlite.specs.Values.{bound};
 ghost use Rattle.fuse_store_tables.specs.Moves.{Inside, Rests, Makes, Looked, Stays, Serves, IsSafe};
+ghost use Rattle.fuse_store_tables.specs.Moves.{StaysOpen};
 ghost use Rattle.fuse_store_tables.specs.Clearing.{shown_number, counted_to};
 ghost use Rattle.fuse_store_tables.specs.Content.{Content, Holds, kept_key, at_by, with_kept};
 ghost use Rattle.fuse_store_tables.specs.Content.{without_kept};
@@ -115,6 +116,7 @@ pub fn select_kept<S: Alter>(conn: &mut Connection<S>, id: u64) -> Result<Vec<Ro
         → Inside c (state S.Store conn.old)
         → rows.items ≡ map shown_kept (option_to_list (at_by kept_key id c.kept))) }
     ensures rests { Serves (λ c. c) (state S.Store conn.old) (state S.Store conn.new) result }
+    ensures open { StaysOpen (state S.Store conn.old) (state S.Store conn.new) result }
     ensures found_at_rest { HasCleanDisk (state S.Store conn.new) → IfOk result (λ rows.
         (c : Content) → Rests c (state S.Store conn.old)
         → rows.items ≡ map shown_kept (option_to_list (at_by kept_key id c.kept))) }
@@ -126,6 +128,7 @@ pub fn select_kept<S: Alter>(conn: &mut Connection<S>, id: u64) -> Result<Vec<Ro
 // The number of records: one row.
 fn select_count<S: Alter>(conn: &mut Connection<S>) -> Result<Vec<Row>, Error>
     ensures rests { Serves (λ c. c) (state S.Store conn.old) (state S.Store conn.new) result }
+    ensures open { StaysOpen (state S.Store conn.old) (state S.Store conn.new) result }
     ensures found { HasCleanDisk (state S.Store conn.new) → IfOk result (λ rows. (c : Content)
         → Rests c (state S.Store conn.old) → rows.items ≡ shown_number (counted_to c.kept) ∷ []) }
 {
@@ -135,6 +138,7 @@ fn select_count<S: Alter>(conn: &mut Connection<S>) -> Result<Vec<Row>, Error>
 // The number of lots: one row.
 fn select_lot_count<S: Alter>(conn: &mut Connection<S>) -> Result<Vec<Row>, Error>
     ensures rests { Serves (λ c. c) (state S.Store conn.old) (state S.Store conn.new) result }
+    ensures open { StaysOpen (state S.Store conn.old) (state S.Store conn.new) result }
     ensures found { HasCleanDisk (state S.Store conn.new) → IfOk result (λ rows. (c : Content)
         → Rests c (state S.Store conn.old) → rows.items ≡ shown_number (counted_to c.lots) ∷ []) }
 {
@@ -144,6 +148,7 @@ fn select_lot_count<S: Alter>(conn: &mut Connection<S>) -> Result<Vec<Row>, Erro
 /// The number of records, outside a transaction.
 pub fn count_kept<S: Alter>(conn: &mut Connection<S>) -> Result<u64, StoreFault>
     ensures rests { Serves (λ c. c) (state S.Store conn.old) (state S.Store conn.new) result }
+    ensures open { StaysOpen (state S.Store conn.old) (state S.Store conn.new) result }
     ensures value { HasCleanDisk (state S.Store conn.new) → IfOk result (λ n. (c : Content)
         → Rests c (state S.Store conn.old) → n ≡ length c.kept) }
     ensures fault { IsSafe Holds (state S.Store conn.old) (state S.Store conn.new) result }
@@ -156,6 +161,7 @@ pub fn count_kept<S: Alter>(conn: &mut Connection<S>) -> Result<u64, StoreFault>
 /// The number of lots, outside a transaction.
 pub fn count_lots<S: Alter>(conn: &mut Connection<S>) -> Result<u64, StoreFault>
     ensures rests { Serves (λ c. c) (state S.Store conn.old) (state S.Store conn.new) result }
+    ensures open { StaysOpen (state S.Store conn.old) (state S.Store conn.new) result }
     ensures value { HasCleanDisk (state S.Store conn.new) → IfOk result (λ n. (c : Content)
         → Rests c (state S.Store conn.old) → n ≡ length c.lots) }
     ensures fault { IsSafe Holds (state S.Store conn.old) (state S.Store conn.new) result }

@@ -3,16 +3,17 @@ use Rattle.std.proofs.Common.{◌≡◌, ℕ, List, [], ◌∷◌, Bool, true, f
 use Rattle.std.proofs.Common.{refl, sym, ap, subst, ◌∙◌}
 use Rattle.fuse_answer.specs.Said.{Said}
 use Rattle.fuse_tree.specs.State.{State, Tree}
-use Rattle.fuse_tree.specs.Rows.{rowed}
+use Rattle.fuse_tree.specs.Rows.{Rows, rowed}
 use Rattle.fuse_keeper.specs.History.{Entry, History, IsUnsettled, Includes, is_in}
-use Rattle.fuse_keeper.specs.Stands.{Stands}
+use Rattle.fuse_keeper.specs.Stands.{Records, Stands, AreThese, without}
+use Rattle.fuse_keeper.specs.Taking.{TakesAll}
 use Rattle.fuse_store_tree.specs.Store.{records_of}
 use Rattle.fuse_store_tree.specs.Holding.{Holding}
 use Rattle.fuse_tree.specs.TheTree.{the_tree}
 use Rattle.fuse_store_tree.specs.Group.{without_record, without_settled, with_lot_for, lot_for, performed, all_dones}
 use Rattle.fuse_store_tree.proofs.Finds.{found_settled}
 use Rattle.fuse_store_tree.specs.Performing.{HasPerformed}
-use Rattle.fuse_store_tree.proofs.Took.{Below, group_tree, group_performed}
+use Rattle.fuse_store_tree.proofs.Took.{Below, group_tree, group_performed, group_taken, kept_for}
 
 -- ---- settled ids
 
@@ -65,3 +66,19 @@ call_performed g lot ids es y s h t tree within each so =
     let z = without_settled ids y in
     group_performed g (lot_for lot y) es (with_lot_for lot z) s h t (prepared_tree lot ids y tree) each
     (lotted_stand lot z s h t (settled_stand ids y s h t within so))
+
+-- the entries of the group are taken over the records that aren't settled
+pub call_taken : Below → (lot : Option ℕ) (ids : List ℕ) (es : List Entry) (y : Holding) (rows : Rows) (records : Records) → Tree y.tree
+    → AreThese the_tree (rowed y.tree) (records_of y.kept) rows records
+    → TakesAll the_tree rows (without ids records) es (rowed (performed lot ids es y).tree) (records_of (performed lot ids es y).kept)
+    (all_dones lot ids es y)
+call_taken g lot ids es y rows records tree are =
+    let z = without_settled ids y in
+    let before = with_lot_for lot z in
+    (g.grow).same_taken (rowed before.tree) (records_of before.kept) rows (without ids records) es (rowed (performed lot ids es y).tree)
+    (records_of (performed lot ids es y).kept) (all_dones lot ids es y)
+    (
+      are.0 ∙ sym (ap rowed (lotted_tree lot z ∙ same_tree ids y)),
+      λ i. ap (λ o. cond (is_in ids i) None o) (are.1 i) ∙ sym (ap (λ ks. records_of ks i) (kept_for lot z) ∙ found_settled (λ k. k.said) ids y i),
+    )
+    (group_taken g (lot_for lot y) es before (prepared_tree lot ids y tree))

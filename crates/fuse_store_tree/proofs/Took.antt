@@ -7,7 +7,7 @@ use Rattle.fuse_tree.specs.Do.{done}
 use Rattle.fuse_tree.specs.Plan.{TreeKept, RowsTellState}
 use Rattle.fuse_keeper.specs.History.{Entry, entry_id, History, IsUnsettled, is_in, ids_in}
 use Rattle.fuse_keeper.specs.Stands.{Stands, OthersStay}
-use Rattle.fuse_keeper.specs.Taking.{Took, TookBy, Acts, ActedOn, GroupsGrow}
+use Rattle.fuse_keeper.specs.Taking.{Took, TookBy, TakesAll, Acts, ActedOn, GroupsGrow}
 use Rattle.fuse_keeper.specs.declared.keeper.Done.{Done}
 use Rattle.fuse_store_tree.specs.Store.{records_of}
 use Rattle.fuse_store_tree.proofs.Described.{grouped}
@@ -48,6 +48,13 @@ tree_by g None lot e y tree = g.tree_kept y.tree e.asked e.moment tree
 pub group_tree : Below → (lot : ℕ) (es : List Entry) (y : Holding) → Tree y.tree → Tree (with_group lot es y).tree
 group_tree g lot [] y tree = tree
 group_tree g lot (e ∷ es) y tree = group_tree g lot es (taken lot e y).holding (tree_by g (records_of y.kept (entry_id e)) lot e y tree)
+
+pub group_taken : Below → (lot : ℕ) (es : List Entry) (y : Holding) → Tree y.tree
+    → TakesAll the_tree (rowed y.tree) (records_of y.kept) es (rowed (with_group lot es y).tree) (records_of (with_group lot es y).kept) (dones_of lot es y)
+group_taken g lot [] y tree = (refl, λ i. refl)
+group_taken g lot (e ∷ es) y tree =
+    let z = (taken lot e y).holding in
+    (rowed z.tree, records_of z.kept, took g lot e y tree, group_taken g lot es z (tree_by g (records_of y.kept (entry_id e)) lot e y tree))
 
 no_more : {X : Type 0} (xs : List X) → xs ≡ xs ++ []
 no_more [] = refl

@@ -2,9 +2,10 @@
 use Rattle.std.specs.Prelude.{◌≡◌, ℕ, List, All, Option, Some}
 use Rattle.sqlite.specs.Effect.{Database}
 use Rattle.fuse_tree.specs.State.{State, Tree}
-use Rattle.fuse_tree.specs.Rows.{rowed}
+use Rattle.fuse_tree.specs.Rows.{Rows, rowed}
 use Rattle.fuse_keeper.specs.History.{Entry, History, Includes, IsUnsettled}
-use Rattle.fuse_keeper.specs.Stands.{Stands, AreThese, PerformedBy, OthersStay}
+use Rattle.fuse_keeper.specs.Stands.{Records, Stands, AreThese, PerformedBy, OthersStay, without}
+use Rattle.fuse_keeper.specs.Taking.{TakesAll}
 use Rattle.fuse_keeper.specs.Lots.{RecordsUnder}
 use Rattle.fuse_keeper.specs.declared.keeper.Done.{Done}
 use Rattle.fuse_tree.specs.TheTree.{the_tree}
@@ -31,6 +32,11 @@ pub record CallsPerform : Type 0 where
   -- the group is performed
   pub group : (lot : Option ℕ) (ids : List ℕ) (es : List Entry) (y : Holding) (s : State) (h : History) (t : List ℕ) → Tree y.tree → Includes t ids
       → All (IsUnsettled t) es → HoldingStands y s h t → HasPerformed (performed lot ids es y) s h t es (all_dones lot ids es y)
+  -- the entries are taken one after the other over the records that aren't settled
+  pub acts : (lot : Option ℕ) (ids : List ℕ) (es : List Entry) (y : Holding) (rows : Rows) (records : Records) → Tree y.tree
+      → AreThese the_tree (rowed y.tree) (records_of y.kept) rows records
+      → TakesAll the_tree rows (without ids records) es (rowed (performed lot ids es y).tree) (records_of (performed lot ids es y).kept)
+      (all_dones lot ids es y)
   -- the records of other ids stay, without the settled ones
   pub others : (lot : Option ℕ) (ids : List ℕ) (es : List Entry) (y : Holding)
       → OthersStay (records_of y.kept) ids es (records_of (performed lot ids es y).kept)

@@ -3,7 +3,7 @@ ghost use Rattle.std.specs.Prelude.{◌≡◌, length, IfOk, IfErr};
 ghost use Rattle.sqlite.specs.Held.{state};
 ghost use Rattle.fuse_tree.specs.Rows.{rowed};
 ghost use Rattle.fuse_store_tables.specs.Faults.{IsPlain};
-ghost use Rattle.fuse_store_tables.specs.Moves.{ServesAs, IsSafe};
+ghost use Rattle.fuse_store_tables.specs.Moves.{ServesAs, StaysOpen, IsSafe};
 ghost use Rattle.fuse_store_tree.specs.Store.{records_of};
 ghost use Rattle.fuse_store_tree.specs.Holding.{HeldFor, ReportsAfter};
 
@@ -24,6 +24,7 @@ pub fn answer_at_rest<S: Alter>(
 ) -> Result<Option<Answer>, StoreFault>
     ensures serves { ServesAs HeldFor HeldFor (state S.Store conn.old) (state S.Store conn.new)
         result }
+    ensures open { StaysOpen (state S.Store conn.old) (state S.Store conn.new) result }
     ensures value { IfOk result (λ r. ReportsAfter (state S.Store conn.old)
         (state S.Store conn.new) (λ y. r ≡ records_of y.kept id)) }
     ensures fault { IsSafe HeldFor (state S.Store conn.old) (state S.Store conn.new) result }
@@ -41,6 +42,7 @@ pub fn answer_at_rest<S: Alter>(
 pub fn settings_at_rest<S: Alter>(conn: &mut Connection<S>) -> Result<Option<Settings>, StoreFault>
     ensures serves { ServesAs HeldFor HeldFor (state S.Store conn.old) (state S.Store conn.new)
         result }
+    ensures open { StaysOpen (state S.Store conn.old) (state S.Store conn.new) result }
     ensures value { IfOk result (λ r. ReportsAfter (state S.Store conn.old)
         (state S.Store conn.new) (λ y. r ≡ (rowed y.tree).settings)) }
     ensures fault { IsSafe HeldFor (state S.Store conn.old) (state S.Store conn.new) result }
@@ -54,6 +56,7 @@ pub fn settings_at_rest<S: Alter>(conn: &mut Connection<S>) -> Result<Option<Set
 fn counters_at_rest<S: Alter>(conn: &mut Connection<S>) -> Result<Counters, StoreFault>
     ensures serves { ServesAs HeldFor HeldFor (state S.Store conn.old) (state S.Store conn.new)
         result }
+    ensures open { StaysOpen (state S.Store conn.old) (state S.Store conn.new) result }
     ensures value { IfOk result (λ r. ReportsAfter (state S.Store conn.old)
         (state S.Store conn.new) (λ y. r ≡ (rowed y.tree).counters)) }
     ensures fault { IsSafe HeldFor (state S.Store conn.old) (state S.Store conn.new) result }
@@ -67,6 +70,7 @@ fn counters_at_rest<S: Alter>(conn: &mut Connection<S>) -> Result<Counters, Stor
 fn records_at_rest<S: Alter>(conn: &mut Connection<S>) -> Result<u64, StoreFault>
     ensures serves { ServesAs HeldFor HeldFor (state S.Store conn.old) (state S.Store conn.new)
         result }
+    ensures open { StaysOpen (state S.Store conn.old) (state S.Store conn.new) result }
     ensures value { IfOk result (λ n. ReportsAfter (state S.Store conn.old)
         (state S.Store conn.new) (λ y. n ≡ length y.kept)) }
     ensures fault { IsSafe HeldFor (state S.Store conn.old) (state S.Store conn.new) result }
@@ -79,6 +83,7 @@ fn records_at_rest<S: Alter>(conn: &mut Connection<S>) -> Result<u64, StoreFault
 fn lots_at_rest<S: Alter>(conn: &mut Connection<S>) -> Result<u64, StoreFault>
     ensures serves { ServesAs HeldFor HeldFor (state S.Store conn.old) (state S.Store conn.new)
         result }
+    ensures open { StaysOpen (state S.Store conn.old) (state S.Store conn.new) result }
     ensures value { IfOk result (λ n. ReportsAfter (state S.Store conn.old)
         (state S.Store conn.new) (λ y. n ≡ length y.lots)) }
     ensures fault { IsSafe HeldFor (state S.Store conn.old) (state S.Store conn.new) result }
@@ -91,6 +96,7 @@ fn lots_at_rest<S: Alter>(conn: &mut Connection<S>) -> Result<u64, StoreFault>
 pub fn counts_at_rest<S: Alter>(conn: &mut Connection<S>) -> Result<StoreCounts, StoreFault>
     ensures serves { ServesAs HeldFor HeldFor (state S.Store conn.old) (state S.Store conn.new)
         result }
+    ensures open { StaysOpen (state S.Store conn.old) (state S.Store conn.new) result }
     ensures nodes { IfOk result (λ counts. ReportsAfter (state S.Store conn.old)
         (state S.Store conn.new) (λ y. counts.nodes ≡ (rowed y.tree).counters.nodes)) }
     ensures handles { IfOk result (λ counts. ReportsAfter (state S.Store conn.old)

@@ -2,7 +2,7 @@
 ghost use Rattle.std.specs.Prelude.{◌≡◌, ◌<◌, ◌^◌, None, length, IfOk, IfErr, IfSome};
 ghost use Rattle.sqlite.specs.Held.{state};
 ghost use Rattle.fuse_keeper.specs.Group.{entries_of, ids_of};
-ghost use Rattle.fuse_store_tables.specs.Moves.{PerformsAs, ServesAs};
+ghost use Rattle.fuse_store_tables.specs.Moves.{PerformsAs, ServesAs, StaysOpen};
 ghost use Rattle.fuse_store_tables.specs.Faults.{IsPlain};
 ghost use Rattle.fuse_store_tree.specs.Looking.{look_fault};
 ghost use Rattle.fuse_store_tree.specs.Holding.{HeldFor, ReportsAfter};
@@ -31,6 +31,7 @@ fn transact<S: Alter>(
     ensures performs { PerformsAs HeldFor
         (λ y. HeldFor (performed lot (ids_of settled.now) (entries_of group.now) y))
         (state S.Store look.old.conn) (state S.Store look.new.conn) result }
+    ensures open { StaysOpen (state S.Store look.old.conn) (state S.Store look.new.conn) result }
     ensures lot { IfOk result (λ p. ReportsAfter (state S.Store look.old.conn)
         (state S.Store look.new.conn) (λ y. p.lot ≡ lot_for lot y)) }
     ensures low { IfOk result (λ p. p.lot < 2 ^ 62) }
@@ -71,6 +72,7 @@ pub fn perform<S: Alter>(
     ensures serves { ServesAs HeldFor
         (λ y. HeldFor (performed lot (ids_of settled.now) (entries_of group.now) y))
         (state S.Store look.old.conn) (state S.Store look.new.conn) result }
+    ensures open { StaysOpen (state S.Store look.old.conn) (state S.Store look.new.conn) result }
     ensures lot { IfOk result (λ p. ReportsAfter (state S.Store look.old.conn)
         (state S.Store look.new.conn) (λ y. p.lot ≡ lot_for lot y)) }
     ensures low { IfOk result (λ p. p.lot < 2 ^ 62) }

@@ -22,8 +22,8 @@ use Rattle.fuse_tree.specs.Rows.{row_of, rowed, rows_of_state, row_at, entry_at}
 use Rattle.fuse_tree.specs.Do.{lookup_child, lookup_entry, lookup, done, do_at, do_act, names_node, do_agreed, do_offered, offer_of}
 use Rattle.fuse_tree.specs.Plan.{Meets, TreeKept, look_fault, AnswersAreRead}
 use Rattle.fuse_tree.specs.Renaming.{asking}
-use Rattle.fuse_tree.specs.Reading.{Reports, child_of}
-use Rattle.fuse_tree.specs.Planning.{plan_lookup, plan_of, plan_offered, plan_agreed, plan_at, plan_act, plan_child}
+use Rattle.fuse_tree.specs.inner.Reading.{Reports, child_of}
+use Rattle.fuse_tree.specs.inner.Planning.{plan_lookup, plan_of, plan_offered, plan_agreed, plan_at, plan_act, plan_child}
 use Rattle.fuse_tree.proofs.Agreement.{Agrees, refused_agrees, both, both_for}
 use Rattle.fuse_tree.proofs.MakingAgrees.{mkdir_agrees, mknod_agrees}
 use Rattle.fuse_tree.proofs.SettingAgrees.{setattr_agrees}

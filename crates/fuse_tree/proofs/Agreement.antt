@@ -6,7 +6,7 @@ use Rattle.fuse_tree.specs.declared.rows.Planned.{Planned}
 use Rattle.fuse_tree.specs.State.{State, Tree}
 use Rattle.fuse_tree.specs.Rows.{rows_of_state, apply}
 use Rattle.fuse_tree.specs.Done.{Done, refuse, refuse_for}
-use Rattle.fuse_tree.specs.Reading.{refused, refused_for}
+use Rattle.fuse_tree.specs.inner.Reading.{refused, refused_for}
 
 pub record Agrees (s : State) (p : Planned) (d : Done) : Type 0 where
   pub answer : p.answer ≡ d.said

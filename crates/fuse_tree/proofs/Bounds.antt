@@ -11,7 +11,7 @@ use Rattle.fuse_tree.specs.declared.rows.NodeRow.{NodeRow}
 use Rattle.fuse_tree.specs.State.{State, Node, Tree, IsNode, IsEntry, is_below, has_number, node_at, is_entry}
 use Rattle.fuse_tree.specs.Rows.{Rows, IsRowed, row_of, rowed, rows_of_state, row_at, entry_at, is_after, entries_after}
 use Rattle.fuse_tree.specs.Handles.{is_open}
-use Rattle.fuse_tree.specs.Reading.{IsWithin}
+use Rattle.fuse_tree.specs.inner.Reading.{IsWithin}
 use Rattle.fuse_tree.specs.Removing.{has_entries}
 use Rattle.fuse_tree.proofs.Lists.{all_more, found, any_gives, none_found, length_filtered}
 use Rattle.fuse_tree.proofs.Puts.{row_found}

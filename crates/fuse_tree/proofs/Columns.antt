@@ -40,19 +40,19 @@ use Rattle.fuse_tree.specs.Removing.{has_entries}
 use Rattle.fuse_tree.specs.Listing.{first_fits}
 use Rattle.fuse_tree.specs.Opening.{open_fault, not_for_dirs, for_dirs_alone}
 use Rattle.fuse_tree.specs.Columns.{FitsNode, FitColumns}
-use Rattle.fuse_tree.specs.Planning.{plan_child, plan_lookup, plan_act, plan_at, plan_offered, plan_of}
-use Rattle.fuse_tree.specs.PlanInit.{plan_init}
-use Rattle.fuse_tree.specs.PlanMaking.{plan_new, plan_make, plan_mkdir, plan_mknod}
-use Rattle.fuse_tree.specs.PlanSetting.{set_row, plan_setattr}
-use Rattle.fuse_tree.specs.PlanWriting.{plan_written, plan_write, plan_read}
-use Rattle.fuse_tree.specs.PlanListing.{rows_after, plan_read_dir}
-use Rattle.fuse_tree.specs.PlanOpening.{plan_opened, plan_open_node, plan_open_for, plan_open, plan_open_dir, plan_closed, plan_close}
-use Rattle.fuse_tree.specs.PlanRemoving.{link_at, plan_gone, plan_unlink_link, plan_unlink, plan_rmdir_link, plan_rmdir}
-use Rattle.fuse_tree.specs.PlanRenaming.{is_same_link, row_holds, other_at, new_dir_at, link_fault, lost_changes, dir_row, dirs_changes, rename_changes}
-use Rattle.fuse_tree.specs.PlanRenaming.{exchange_changes, is_dir_link, is_dir_other, plan_rename_link, plan_exchange_link, plan_rename_from}
-use Rattle.fuse_tree.specs.PlanRenaming.{plan_rename_between, plan_rename}
+use Rattle.fuse_tree.specs.inner.Planning.{plan_child, plan_lookup, plan_act, plan_at, plan_offered, plan_of}
+use Rattle.fuse_tree.specs.inner.PlanInit.{plan_init}
+use Rattle.fuse_tree.specs.inner.PlanMaking.{plan_new, plan_make, plan_mkdir, plan_mknod}
+use Rattle.fuse_tree.specs.inner.PlanSetting.{set_row, plan_setattr}
+use Rattle.fuse_tree.specs.inner.PlanWriting.{plan_written, plan_write, plan_read}
+use Rattle.fuse_tree.specs.inner.PlanListing.{rows_after, plan_read_dir}
+use Rattle.fuse_tree.specs.inner.PlanOpening.{plan_opened, plan_open_node, plan_open_for, plan_open, plan_open_dir, plan_closed, plan_close}
+use Rattle.fuse_tree.specs.inner.PlanRemoving.{link_at, plan_gone, plan_unlink_link, plan_unlink, plan_rmdir_link, plan_rmdir}
+use Rattle.fuse_tree.specs.inner.PlanRenaming.{is_same_link, row_holds, other_at, new_dir_at, link_fault, lost_changes, dir_row, dirs_changes, rename_changes}
+use Rattle.fuse_tree.specs.inner.PlanRenaming.{exchange_changes, is_dir_link, is_dir_other, plan_rename_link, plan_exchange_link, plan_rename_from}
+use Rattle.fuse_tree.specs.inner.PlanRenaming.{plan_rename_between, plan_rename}
 use Rattle.fuse_tree.specs.Renaming.{Renaming, is_exchange, is_no_replace, asking, asked_fault}
-use Rattle.fuse_tree.specs.Reading.{child_at}
+use Rattle.fuse_tree.specs.inner.Reading.{child_at}
 use Rattle.fuse_tree.proofs.Lists.{cond_found}
 use Rattle.fuse_tree.proofs.SmallRows.{SmallCounters, Small, small}
 use Rattle.fuse_tree.proofs.SmallRows.{found_small, FitsLink, FitsFound, link_small, open_small, Fit, nothing, past}

@@ -15,8 +15,8 @@ use Rattle.fuse_tree.specs.Modes.{s_ifdir}
 use Rattle.fuse_tree.specs.State.{type_of}
 use Rattle.fuse_tree.specs.Rows.{Rows}
 use Rattle.fuse_tree.specs.Listing.{most}
-use Rattle.fuse_tree.specs.Reading.{refused, told}
-use Rattle.fuse_tree.specs.PlanListing.{row_above, row_entry, row_len, dots_after, plan_prefix, IsCut}
+use Rattle.fuse_tree.specs.inner.Reading.{refused, told}
+use Rattle.fuse_tree.specs.inner.PlanListing.{row_above, row_entry, row_len, dots_after, plan_prefix, IsCut}
 use Rattle.fuse_tree.proofs.Prefixes.{longest, prefix_upto, first_cut}
 
 -- ---- one entry after the other

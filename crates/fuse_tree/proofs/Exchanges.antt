@@ -16,7 +16,7 @@ use Rattle.fuse_tree.specs.Rows.{full_of, row_of, rows_of_state, counters_of, en
 use Rattle.fuse_tree.specs.Done.{touched, touch}
 use Rattle.fuse_tree.specs.Removing.{marked, mark, without}
 use Rattle.fuse_tree.specs.Renaming.{Renaming, placed, exchanged}
-use Rattle.fuse_tree.specs.PlanRenaming.{dir_row, moved_row, exchange_changes}
+use Rattle.fuse_tree.specs.inner.PlanRenaming.{dir_row, moved_row, exchange_changes}
 use Rattle.fuse_tree.proofs.Lists.{all_more, or_false}
 use Rattle.fuse_tree.proofs.Puts.{node_found}
 use Rattle.fuse_tree.proofs.Making.{tree_touched}

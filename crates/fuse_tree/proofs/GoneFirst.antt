@@ -36,18 +36,18 @@ use Rattle.fuse_tree.specs.Removing.{has_entries}
 use Rattle.fuse_tree.specs.Listing.{first_fits}
 use Rattle.fuse_tree.specs.Opening.{open_fault, not_for_dirs, for_dirs_alone}
 use Rattle.fuse_tree.specs.Plan.{makes_entry, takes_entry, GoneFirst}
-use Rattle.fuse_tree.specs.Planning.{plan_child, plan_lookup, plan_act, plan_at, plan_offered, plan_of}
-use Rattle.fuse_tree.specs.PlanInit.{plan_init}
-use Rattle.fuse_tree.specs.PlanMaking.{plan_make, plan_mkdir, plan_mknod}
-use Rattle.fuse_tree.specs.PlanSetting.{set_row, plan_setattr}
-use Rattle.fuse_tree.specs.PlanWriting.{plan_write, plan_read}
-use Rattle.fuse_tree.specs.PlanListing.{rows_after, plan_read_dir}
-use Rattle.fuse_tree.specs.PlanOpening.{plan_open_node, plan_open_for, plan_open, plan_open_dir, plan_close}
-use Rattle.fuse_tree.specs.PlanRemoving.{link_at, plan_unlink_link, plan_unlink, plan_rmdir_link, plan_rmdir}
-use Rattle.fuse_tree.specs.PlanRenaming.{is_same_link, row_holds, other_at, new_dir_at, link_fault, rename_changes, exchange_changes, plan_rename_link}
-use Rattle.fuse_tree.specs.PlanRenaming.{plan_exchange_link, plan_rename_by, plan_rename_from, plan_rename_between, plan_rename}
+use Rattle.fuse_tree.specs.inner.Planning.{plan_child, plan_lookup, plan_act, plan_at, plan_offered, plan_of}
+use Rattle.fuse_tree.specs.inner.PlanInit.{plan_init}
+use Rattle.fuse_tree.specs.inner.PlanMaking.{plan_make, plan_mkdir, plan_mknod}
+use Rattle.fuse_tree.specs.inner.PlanSetting.{set_row, plan_setattr}
+use Rattle.fuse_tree.specs.inner.PlanWriting.{plan_write, plan_read}
+use Rattle.fuse_tree.specs.inner.PlanListing.{rows_after, plan_read_dir}
+use Rattle.fuse_tree.specs.inner.PlanOpening.{plan_open_node, plan_open_for, plan_open, plan_open_dir, plan_close}
+use Rattle.fuse_tree.specs.inner.PlanRemoving.{link_at, plan_unlink_link, plan_unlink, plan_rmdir_link, plan_rmdir}
+use Rattle.fuse_tree.specs.inner.PlanRenaming.{is_same_link, row_holds, other_at, new_dir_at, link_fault, rename_changes, exchange_changes, plan_rename_link}
+use Rattle.fuse_tree.specs.inner.PlanRenaming.{plan_exchange_link, plan_rename_by, plan_rename_from, plan_rename_between, plan_rename}
 use Rattle.fuse_tree.specs.Renaming.{Renaming, is_exchange, is_no_replace, asking, asked_fault}
-use Rattle.fuse_tree.specs.Reading.{refused_for, child_at}
+use Rattle.fuse_tree.specs.inner.Reading.{refused_for, child_at}
 use Rattle.fuse_tree.proofs.Lists.{and_true}
 
 record Orders (p : Planned) : Type 0 where

@@ -13,7 +13,7 @@ use Rattle.fuse_tree.specs.State.{State, Node, Tree, IsNode, IsEntry, Apart, is_
 use Rattle.fuse_tree.specs.Rows.{full_of, row_of, rows_of_state, counters_of, with_row, put_node, apply}
 use Rattle.fuse_tree.specs.Done.{touched, touch}
 use Rattle.fuse_tree.specs.Removing.{marked, mark, without, entry_gone, has_entries}
-use Rattle.fuse_tree.specs.PlanRemoving.{left_row, unnamed_row, gone_changes}
+use Rattle.fuse_tree.specs.inner.PlanRemoving.{left_row, unnamed_row, gone_changes}
 use Rattle.fuse_tree.proofs.Lists.{all_more, all_both, any_found, any_gives, cond_found, found, count_mapped, length_kept, and_true, and_false, or_false}
 use Rattle.fuse_tree.proofs.Ups.{up_in}
 use Rattle.fuse_tree.proofs.Trees.{SamePlace, tree_mapped}

@@ -5,7 +5,7 @@ use Rattle.fuse_init.specs.declared.negotiation.Negotiated.TheVariants.{Agreed, 
 use Rattle.fuse_init.specs.declared.settings.Settings.{Settings}
 use Rattle.fuse_tree.specs.State.{State, Tree, Limits}
 use Rattle.fuse_tree.specs.Init.{init}
-use Rattle.fuse_tree.specs.PlanInit.{plan_init}
+use Rattle.fuse_tree.specs.inner.PlanInit.{plan_init}
 use Rattle.fuse_tree.proofs.Agreement.{Agrees, refused_agrees}
 
 limits_settled : (s : State) (settings : Option Settings) → Limits s → Limits (record s { settings = settings })

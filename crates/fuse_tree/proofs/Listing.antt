@@ -13,7 +13,7 @@ use Rattle.fuse_tree.specs.State.{State, Node, Tree, Apart, IsEntry, AreApart, n
 use Rattle.fuse_tree.specs.Rows.{rows_of_state, row_of, is_after}
 use Rattle.fuse_tree.specs.Listing.{dots, above_or_root, kind_of, told_entry, entries_in, is_following, entries_following, longest_prefix, first_fits}
 use Rattle.fuse_tree.specs.Listing.{ListingIsLongest}
-use Rattle.fuse_tree.specs.PlanListing.{row_kind, row_entry, enough, dots_after, rows_after}
+use Rattle.fuse_tree.specs.inner.PlanListing.{row_kind, row_entry, enough, dots_after, rows_after}
 use Rattle.fuse_tree.proofs.Lists.{all_more, all_kept, apart_filtered}
 use Rattle.fuse_tree.proofs.Puts.{row_found}
 use Rattle.fuse_tree.proofs.Shown.{name_fits}

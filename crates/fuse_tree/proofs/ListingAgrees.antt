@@ -8,7 +8,7 @@ use Rattle.fuse_tree.specs.State.{State, Node, Tree, is_dir, is_named}
 use Rattle.fuse_tree.specs.Rows.{row_of, rows_of_state}
 use Rattle.fuse_tree.specs.Handles.{is_open}
 use Rattle.fuse_tree.specs.Listing.{entries_following, first_fits, list_prefix, read_dir}
-use Rattle.fuse_tree.specs.PlanListing.{plan_list, plan_read_dir}
+use Rattle.fuse_tree.specs.inner.PlanListing.{plan_list, plan_read_dir}
 use Rattle.fuse_tree.proofs.Agreement.{Agrees, refused_agrees, both}
 use Rattle.fuse_tree.proofs.Listing.{same_prefix, same_first}
 

@@ -13,7 +13,7 @@ use Rattle.fuse_tree.specs.State.{State, Node, Tree, HasMode, IsNode, is_dir, is
 use Rattle.fuse_tree.specs.Rows.{full_of, counters_of, rows_of_state, row_of, entry_at, put_node, apply}
 use Rattle.fuse_tree.specs.Done.{touched, touch}
 use Rattle.fuse_tree.specs.Making.{new_node, new_entry, with_node, is_full}
-use Rattle.fuse_tree.specs.PlanMaking.{new_row, dir_row, changes_of}
+use Rattle.fuse_tree.specs.inner.PlanMaking.{new_row, dir_row, changes_of}
 use Rattle.fuse_tree.proofs.Lists.{all_more, any_mapped, and_false, or_false}
 use Rattle.fuse_tree.proofs.Ups.{up_more, up_new}
 use Rattle.fuse_tree.proofs.Counts.{subdirs_grown, no_subdirs}

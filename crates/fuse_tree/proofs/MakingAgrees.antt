@@ -9,8 +9,8 @@ use Rattle.fuse_tree.specs.declared.rows.Full.{Full}
 use Rattle.fuse_tree.specs.State.{State, Node, Tree, HasMode, is_dir, type_bits, node_at, is_named, name_fault}
 use Rattle.fuse_tree.specs.Rows.{row_of, rows_of_state, entry_at}
 use Rattle.fuse_tree.specs.Making.{make, mkdir, mknod, begun, dir_mode, may_make, node_mode, node_rdev, is_full}
-use Rattle.fuse_tree.specs.Reading.{entry_body}
-use Rattle.fuse_tree.specs.PlanMaking.{plan_make, plan_mkdir, plan_mknod}
+use Rattle.fuse_tree.specs.inner.Reading.{entry_body}
+use Rattle.fuse_tree.specs.inner.PlanMaking.{plan_make, plan_mkdir, plan_mknod}
 use Rattle.fuse_tree.proofs.Agreement.{Agrees, refused_agrees, both, both_for, not_false, none_some}
 use Rattle.fuse_tree.proofs.Making.{new_full, make_rows, make_tree}
 use Rattle.fuse_tree.proofs.Modes.{made_dir, made_node}

@@ -5,7 +5,7 @@ use Rattle.std.specs.Prelude.{find, filter}
 use Rattle.std.specs.List.{AllByRecursion}
 use Rattle.std.proofs.lemmas.Bool.{eqb-true, eqb-false, ne_eqb, eq-eqb}
 use Rattle.fuse_tree.specs.State.{Node, Apart}
-use Rattle.fuse_tree.specs.PlanRenaming.{more, fewer}
+use Rattle.fuse_tree.specs.inner.PlanRenaming.{more, fewer}
 use Rattle.fuse_tree.proofs.Lists.{cond_found}
 
 abbrev pub one_if : Bool → ℕ

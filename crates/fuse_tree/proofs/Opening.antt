@@ -13,7 +13,7 @@ use Rattle.fuse_tree.specs.State.{State, Node, Tree, Apart, IsHandle, is_open_at
 use Rattle.fuse_tree.specs.Rows.{rows_of_state, counters_of, handle_at, apply}
 use Rattle.fuse_tree.specs.Handles.{access_in, is_open}
 use Rattle.fuse_tree.specs.Opening.{open_fault, new_handle, opened, closed}
-use Rattle.fuse_tree.specs.PlanOpening.{opened_changes, plan_closed}
+use Rattle.fuse_tree.specs.inner.PlanOpening.{opened_changes, plan_closed}
 use Rattle.fuse_tree.proofs.Agreement.{no_fault}
 use Rattle.fuse_tree.proofs.Lists.{or_true, all_more, all_grown, all_kept, apart_grown, apart_filtered, length_filtered, cond_found}
 use Rattle.fuse_tree.proofs.Trees.{handle_moved}

@@ -10,7 +10,7 @@ use Rattle.fuse_tree.specs.State.{State, Node, Tree, is_dir, is_file, is_open_at
 use Rattle.fuse_tree.specs.Rows.{row_of, rows_of_state}
 use Rattle.fuse_tree.specs.Handles.{is_open}
 use Rattle.fuse_tree.specs.Opening.{open_fault, new_handle, open_node, open_for, open_file, open_dir, close, release, release_dir, not_for_dirs, for_dirs_alone}
-use Rattle.fuse_tree.specs.PlanOpening.{plan_open_node, plan_open_for, plan_open, plan_open_dir, plan_close, plan_release, plan_release_dir}
+use Rattle.fuse_tree.specs.inner.PlanOpening.{plan_open_node, plan_open_for, plan_open, plan_open_dir, plan_close, plan_release, plan_release_dir}
 use Rattle.fuse_tree.proofs.Agreement.{Agrees, refused_agrees, both, both_for, not_false}
 use Rattle.fuse_tree.proofs.Lists.{or_true}
 use Rattle.fuse_tree.proofs.Opening.{room, any_there, open_rows, tree_opened, tree_closed, close_rows}

@@ -10,7 +10,7 @@ use Rattle.std.proofs.lemmas.List.Quantifiers.{position-Some}
 use Rattle.fuse_tree.specs.declared.rows.NodeRow.{NodeRow}
 use Rattle.fuse_tree.specs.declared.rows.Full.{Full}
 use Rattle.fuse_tree.specs.Rows.{put_node, at_node}
-use Rattle.fuse_tree.specs.NumbersOnce.{are_distinct}
+use Rattle.fuse_tree.specs.inner.NumbersOnce.{are_distinct}
 use Rattle.fuse_tree.proofs.Lists.{and_true, or_false, any_mapped}
 
 -- ---- tests

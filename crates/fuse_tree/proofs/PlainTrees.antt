@@ -11,7 +11,7 @@ use Rattle.fuse_keeper.specs.Taking.{Clears}
 use Rattle.fuse_keeper.specs.declared.fault.StoreFault.{StoreFault}
 use Rattle.fuse_keeper.specs.declared.fault.StoreFault.TheVariants.{Memory}
 use Rattle.fuse_tree.specs.TheTree.{the_tree}
-use Rattle.fuse_tree.specs.Causing.{CausedBy}
+use Rattle.fuse_tree.specs.inner.Causing.{CausedBy}
 
 -- over the rows of a tree the only fault of a plan in lists is out of memory
 pub caused : (fault : PlanFault) (f : StoreFault) (rows : Rows) → CausedBy fault f → (fault ≡ plans.NotATree → (s : State) → Tree s → rows ≡ rowed s → ⊥)

@@ -7,8 +7,8 @@ use Rattle.std.proofs.lemmas.List.{length-take, take-take}
 use Rattle.std.proofs.lemmas.List.Sums.{sum_by-cons}
 use Rattle.fuse_answer.specs.Entries.{Entry, IsNamed, packed_len, entries_bytes, IsLongest, FirstIsTooBig}
 use Rattle.fuse_tree.specs.Listing.{most, longest_prefix, first_fits}
-use Rattle.fuse_tree.specs.Reading.{told}
-use Rattle.fuse_tree.specs.PlanListing.{plan_prefix}
+use Rattle.fuse_tree.specs.inner.Reading.{told}
+use Rattle.fuse_tree.specs.inner.PlanListing.{plan_prefix}
 
 most_within : (es : List Entry) (size n : ℕ) → most es size n ≤ n
 most_within es size zero = omega arith

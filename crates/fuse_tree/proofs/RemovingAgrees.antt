@@ -12,7 +12,7 @@ use Rattle.fuse_tree.specs.State.{State, Node, Tree, IsEntry, is_dir, is_entry, 
 use Rattle.fuse_tree.specs.Rows.{row_of, rows_of_state, entry_at}
 use Rattle.fuse_tree.specs.Done.{answer}
 use Rattle.fuse_tree.specs.Removing.{entry_gone, has_entries, unlink_child, unlink_entry, unlink, rmdir_child, rmdir_entry, rmdir}
-use Rattle.fuse_tree.specs.PlanRemoving.{link_of, plan_gone, plan_unlink_link, plan_unlink, plan_rmdir_link, plan_rmdir}
+use Rattle.fuse_tree.specs.inner.PlanRemoving.{link_of, plan_gone, plan_unlink_link, plan_unlink, plan_rmdir_link, plan_rmdir}
 use Rattle.fuse_tree.proofs.Agreement.{Agrees, refused_agrees, both, both_for}
 use Rattle.fuse_tree.proofs.Lists.{found, and_true}
 use Rattle.fuse_tree.proofs.Puts.{row_found, node_found}

@@ -16,13 +16,13 @@ use Rattle.fuse_tree.specs.declared.rows.Planned.{Planned}
 use Rattle.fuse_tree.specs.State.{State, Node, Tree, IsNode, IsEntry, Reaches, is_dir, is_dir_of, has_number, is_entry, is_named, name_fault, node_at, above}
 use Rattle.fuse_tree.specs.Rows.{row_of, rows_of_state, row_at, entry_at}
 use Rattle.fuse_tree.specs.Done.{Done, refuse_for}
-use Rattle.fuse_tree.specs.Reading.{refused_for}
+use Rattle.fuse_tree.specs.inner.Reading.{refused_for}
 use Rattle.fuse_tree.specs.Removing.{has_entries}
 use Rattle.fuse_tree.specs.Renaming.{Renaming, is_exchange, is_no_replace, leads_to, lies_in, is_dir_at, holds, asked_fault, earlier, kinds_fault, place_fault}
 use Rattle.fuse_tree.specs.Renaming.{rename_entry, exchange_entry, rename_by, rename_from, rename_between, rename}
-use Rattle.fuse_tree.specs.PlanRemoving.{link_of}
-use Rattle.fuse_tree.specs.PlanRenaming.{row_holds, link_fault, other_at, new_dir_at, plan_rename_link, plan_exchange_link, plan_rename_by, plan_rename_from}
-use Rattle.fuse_tree.specs.PlanRenaming.{plan_rename_between, plan_rename}
+use Rattle.fuse_tree.specs.inner.PlanRemoving.{link_of}
+use Rattle.fuse_tree.specs.inner.PlanRenaming.{row_holds, link_fault, other_at, new_dir_at, plan_rename_link, plan_exchange_link, plan_rename_by, plan_rename_from}
+use Rattle.fuse_tree.specs.inner.PlanRenaming.{plan_rename_between, plan_rename}
 use Rattle.fuse_tree.proofs.Agreement.{Agrees, refused_agrees, both, both_for}
 use Rattle.fuse_tree.proofs.Lists.{any_gives, found, and_true, and_false, or_false}
 use Rattle.fuse_tree.proofs.Puts.{row_found, node_found, only_one, dir_there}

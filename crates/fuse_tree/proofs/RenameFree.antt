@@ -12,7 +12,7 @@ use Rattle.fuse_tree.specs.Rows.{full_of, row_of, rows_of_state, counters_of, en
 use Rattle.fuse_tree.specs.Done.{touched, touch}
 use Rattle.fuse_tree.specs.Removing.{marked, mark, without}
 use Rattle.fuse_tree.specs.Renaming.{Renaming, placed, renamed}
-use Rattle.fuse_tree.specs.PlanRenaming.{dir_row, moved_row, rename_changes}
+use Rattle.fuse_tree.specs.inner.PlanRenaming.{dir_row, moved_row, rename_changes}
 use Rattle.fuse_tree.proofs.Lists.{all_more, all_kept, none_found}
 use Rattle.fuse_tree.proofs.Trees.{named_climbs}
 use Rattle.fuse_tree.proofs.Puts.{node_found, dir_there}

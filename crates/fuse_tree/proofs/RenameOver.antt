@@ -15,9 +15,9 @@ use Rattle.fuse_tree.specs.State.{State, Node, Tree, IsNode, above, is_dir, is_e
 use Rattle.fuse_tree.specs.Rows.{full_of, row_of, rows_of_state, counters_of, entry_at, apply}
 use Rattle.fuse_tree.specs.Done.{touched, touch}
 use Rattle.fuse_tree.specs.Removing.{marked, mark, without}
-use Rattle.fuse_tree.specs.PlanRemoving.{unnamed_row}
+use Rattle.fuse_tree.specs.inner.PlanRemoving.{unnamed_row}
 use Rattle.fuse_tree.specs.Renaming.{Renaming, placed, renamed}
-use Rattle.fuse_tree.specs.PlanRenaming.{dir_row, moved_row, rename_changes}
+use Rattle.fuse_tree.specs.inner.PlanRenaming.{dir_row, moved_row, rename_changes}
 use Rattle.fuse_tree.proofs.Lists.{all_more, all_kept, cond_found, found, or_false}
 use Rattle.fuse_tree.proofs.Ups.{up_in, up_more, above_same}
 use Rattle.fuse_tree.proofs.Trees.{named_climbs}

@@ -9,7 +9,7 @@ use Rattle.fuse_tree.specs.declared.rows.Full.{Full}
 use Rattle.fuse_tree.specs.declared.rows.NodeRow.{NodeRow}
 use Rattle.fuse_tree.specs.State.{State, Node, Tree, IsNode, node_at, up_of, subdirs_of}
 use Rattle.fuse_tree.specs.Rows.{full_of, row_of, rows_of_state, counters_of}
-use Rattle.fuse_tree.specs.PlanRenaming.{more, fewer, dir_row, moved_row}
+use Rattle.fuse_tree.specs.inner.PlanRenaming.{more, fewer, dir_row, moved_row}
 use Rattle.fuse_tree.proofs.Lists.{found, or_false}
 use Rattle.fuse_tree.proofs.Puts.{node_found}
 use Rattle.fuse_tree.proofs.Making.{twice}

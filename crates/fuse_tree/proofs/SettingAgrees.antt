@@ -11,8 +11,8 @@ use Rattle.fuse_tree.specs.declared.rows.Change.TheVariants as changes
 use Rattle.fuse_tree.specs.State.{State, Node, Tree, IsNode, is_file, type_of, node_at}
 use Rattle.fuse_tree.specs.Rows.{Rows, full_of, row_of, rows_of_state, put_node, at_node, sized, apply}
 use Rattle.fuse_tree.specs.Setting.{has, mode_after, size_fault, set_fault, set_node, with_set, setattr}
-use Rattle.fuse_tree.specs.PlanSetting.{set_row, set_changes, plan_setattr}
-use Rattle.fuse_tree.specs.Reading.{attr_body}
+use Rattle.fuse_tree.specs.inner.PlanSetting.{set_row, set_changes, plan_setattr}
+use Rattle.fuse_tree.specs.inner.Reading.{attr_body}
 use Rattle.fuse_tree.proofs.Lists.{found}
 use Rattle.fuse_tree.proofs.Agreement.{Agrees, both_for}
 use Rattle.fuse_tree.proofs.Lengths.{length_sized}

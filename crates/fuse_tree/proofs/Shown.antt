@@ -9,7 +9,7 @@ use Rattle.fuse_answer.specs.Entries.{Entry, entry_of}
 use Rattle.fuse_tree.specs.declared.rows.EntryRow.{EntryRow}
 use Rattle.fuse_tree.specs.State.{State, Tree, IsEntry, name_fault, is_odd_name}
 use Rattle.fuse_tree.specs.Rows.{Rows, IsRowed, rows_of_state, is_after, entries_after}
-use Rattle.fuse_tree.specs.PlanListing.{row_entry, IsShown}
+use Rattle.fuse_tree.specs.inner.PlanListing.{row_entry, IsShown}
 use Rattle.fuse_tree.proofs.Agreement.{no_fault}
 use Rattle.fuse_tree.proofs.Lists.{all_more, all_kept, or_false}
 use Rattle.fuse_tree.proofs.Bounds.{rowed_is, child_there}

@@ -18,8 +18,8 @@ use Rattle.fuse_tree.specs.State.{State, Node, Tree, IsNode, IsEntry, IsHandle, 
 use Rattle.fuse_tree.specs.Rows.{Rows, rows_of_state, full_of, full_at, row_at, entry_at, handle_at}
 use Rattle.fuse_tree.specs.Handles.{access_in}
 use Rattle.fuse_tree.specs.Columns.{FitsNode, FitsEntry, FitsHandle, FitColumns}
-use Rattle.fuse_tree.specs.PlanRemoving.{link_of, link_at}
-use Rattle.fuse_tree.specs.Reading.{refused_for}
+use Rattle.fuse_tree.specs.inner.PlanRemoving.{link_of, link_at}
+use Rattle.fuse_tree.specs.inner.Reading.{refused_for}
 use Rattle.fuse_tree.proofs.Lists.{and_true, any_gives, found}
 use Rattle.fuse_tree.proofs.Trees.{nodes_below, children_below, dirs_below}
 

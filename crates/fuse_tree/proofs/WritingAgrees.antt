@@ -15,8 +15,8 @@ use Rattle.fuse_tree.specs.State.{State, Node, Tree, IsNode, IsHandle, is_dir, i
 use Rattle.fuse_tree.specs.Rows.{full_of, row_of, rows_of_state, handle_at, content_of, bytes_at, written, apply}
 use Rattle.fuse_tree.specs.Handles.{access_in, access_at}
 use Rattle.fuse_tree.specs.Writing.{may_write, wrote, with_bytes, write, may_read, read}
-use Rattle.fuse_tree.specs.PlanWriting.{written_row, write_changes, plan_write, plan_read}
-use Rattle.fuse_tree.specs.Reading.{told}
+use Rattle.fuse_tree.specs.inner.PlanWriting.{written_row, write_changes, plan_write, plan_read}
+use Rattle.fuse_tree.specs.inner.Reading.{told}
 use Rattle.fuse_tree.proofs.Lists.{found, any_gives, and_true, and_false}
 use Rattle.fuse_tree.proofs.Agreement.{Agrees, refused_agrees, both, not_false}
 use Rattle.fuse_tree.proofs.Lengths.{length_written}

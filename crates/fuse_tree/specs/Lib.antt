@@ -4,7 +4,6 @@ pub mod State
 pub mod Rows
 pub mod RowsOfTrees
 pub mod Handles
-pub mod NumbersOnce
 pub mod PlainRows
 pub mod Clearing
 pub mod Pieces
@@ -21,18 +20,7 @@ pub mod Listing
 pub mod Do
 pub mod Columns
 pub mod Plan
-pub mod Reading
-pub mod PlanInit
-pub mod PlanMaking
-pub mod PlanSetting
-pub mod PlanWriting
-pub mod PlanRemoving
-pub mod PlanOpening
-pub mod PlanListing
-pub mod PlanRenaming
-pub mod Planning
 pub mod TheTree
-pub mod Causing
 pub mod PlainTree
 pub mod Bytes
-pub mod Vectors
+pub mod inner

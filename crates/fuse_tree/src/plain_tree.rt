@@ -3,7 +3,7 @@ ghost use Rattle.std.specs.Prelude.{◌≡◌, None};
 ghost use Rattle.fuse_tree.specs.PlainRows.{fault_of};
 ghost use Rattle.fuse_tree.specs.TheTree.{the_tree};
 ghost use Rattle.fuse_tree.specs.PlainTree.{tree_held};
-ghost use Rattle.fuse_tree.specs.Causing.{CausedBy};
+ghost use Rattle.fuse_tree.specs.inner.Causing.{CausedBy};
 
 use crate::laws::{answers_fit, new_store_is_tree, tree_kept};
 use crate::mount::clearing;
@@ -39,6 +39,11 @@ impl FileSystem for PlainTree {
     ghost held = { tree_held };
 
     ghost is_ready = { λ t. fault_of t.rows ≡ None };
+
+    /// The tree serves the opcodes of the profile.
+    fn serves(opcode: u32) -> bool {
+        false
+    }
 
     fn start(alloc: Global, now: Moment) -> Result<PlainTree, Memory> {
         let rows = PlainRows::new(alloc, now)?;

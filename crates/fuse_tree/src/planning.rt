@@ -5,9 +5,9 @@ ghost use Rattle.fuse_tree.specs.State.{State, Tree};
 ghost use Rattle.fuse_tree.specs.Rows.{rowed};
 ghost use Rattle.fuse_tree.specs.Do.{done};
 ghost use Rattle.fuse_tree.specs.Plan.{Meets, look_fault};
-ghost use Rattle.fuse_tree.specs.Reading.{IsWithin, LooksUp};
-ghost use Rattle.fuse_tree.specs.Planning.{tells_name, plan_act, plan_agreed as planned_agreed};
-ghost use Rattle.fuse_tree.specs.Planning.{plan_of};
+ghost use Rattle.fuse_tree.specs.inner.Reading.{IsWithin, LooksUp};
+ghost use Rattle.fuse_tree.specs.inner.Planning.{tells_name, plan_act, plan_agreed as planned_agreed};
+ghost use Rattle.fuse_tree.specs.inner.Planning.{plan_of};
 
 mod answers;
 mod attributes;

@@ -7,5 +7,5 @@ pub mod Layout
 pub mod Written
 pub mod Laws
 pub mod Flags
-pub mod Hex
 pub mod Opcodes
+pub mod inner

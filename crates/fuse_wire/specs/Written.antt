@@ -25,20 +25,8 @@ AllFit (unused w ∷ ps) = AllFit ps
 AllFit (text t ∷ ps) = AllFit ps
 AllFit (bytes xs ∷ ps) = AllFit ps
 
--- nothing but more bytes
-abbrev pub Extends : List ℕ → List ℕ → Type 0
-Extends old new = (more : List ℕ) × (new ≡ old ++ more)
-
 -- the parts are appended, and their numbers fit; with an error nothing changes
 pub record Puts {T E : Type 0} (ps : List Part) (old new : List ℕ) (result : Result T E) : Type 0 where
   pub ok : OnOk result (new ≡ old ++ form ps)
   pub fits : OnOk result (AllFit ps)
   pub err : OnErr result (new ≡ old)
-
--- no name is among the parts
-abbrev pub HasNoText : List Part → Type 0
-HasNoText [] = Unit {0}
-HasNoText (number w n ∷ ps) = HasNoText ps
-HasNoText (unused w ∷ ps) = HasNoText ps
-HasNoText (text t ∷ ps) = ⊥
-HasNoText (bytes xs ∷ ps) = HasNoText ps

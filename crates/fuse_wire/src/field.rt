@@ -1,6 +1,7 @@
 ghost use Rattle.std.specs.Prelude.{◌≡◌, ◌++◌, ◌∷◌, [], OnErr, OnOk, replicate};
 ghost use Rattle.fuse_wire.specs.Layout.{form};
-ghost use Rattle.fuse_wire.specs.Written.{AllFit, Extends, Puts, laid, part_of};
+ghost use Rattle.fuse_wire.specs.Written.{AllFit, Puts, laid, part_of};
+ghost use Rattle.fuse_wire.specs.inner.Growing.{Extends};
 
 use crate::memory::Memory;
 use crate::put::{put_bytes, put_u16, put_u32, put_u64};

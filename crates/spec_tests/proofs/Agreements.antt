@@ -3,7 +3,7 @@ use Rattle.std.proofs.Common.{refl}
 use Rattle.fuse_wire.specs.Bytes.{le}
 use Rattle.fuse_answer.specs.Bodies.{init_bytes}
 use Rattle.fuse_answer.specs.Wire.{wire, wire_head}
-use Rattle.spec_tests.specs.InitCases.{InitAgreed, InitShort, InitNewerMajor, InitTooOld, NewerMinor, ExtIn16}
+use Rattle.spec_tests.specs.inner.InitCases.{InitAgreed, InitShort, InitNewerMajor, InitTooOld, NewerMinor, ExtIn16}
 
 pub init_agreed : InitAgreed
 unfolding le init_bytes wire wire_head

@@ -6,8 +6,8 @@ use Rattle.fuse_wire.specs.Bytes.{le, HasNoNul}
 use Rattle.fuse_request.specs.Act.{Asked}
 use Rattle.fuse_request.specs.Spelling.{Spells}
 use Rattle.fuse_request.specs.Canon.{canon, CanonSpells, HasCanon}
-use Rattle.spec_tests.specs.RequestCases.{hello, lookup_hello, lookup_bytes, mkdir_a, mkdir_bytes, MissingLookup, FirstRun, rename_a, rename_text}
-use Rattle.spec_tests.specs.RequestCases.{RenameBytes, write_one, write_text, WriteBytes, exchange_a, exchange_text, Exchange}
+use Rattle.spec_tests.specs.inner.RequestCases.{hello, lookup_hello, lookup_bytes, mkdir_a, mkdir_bytes, MissingLookup, FirstRun, rename_a, rename_text}
+use Rattle.spec_tests.specs.inner.RequestCases.{RenameBytes, write_one, write_text, WriteBytes, exchange_a, exchange_text, Exchange}
 
 spelled : CanonSpells → (v : Asked) (b : List ℕ) → HasCanon v → canon v ≡ b → (canon v ≡ b) × Spells v b
 spelled law v b h e = (e, subst (Spells v) e (law v h))

@@ -1,6 +1,7 @@
 -- The output of a script over a new store of the tree in lists (own profile).
 use Rattle.std.specs.Prelude.{◌≡◌, ℕ, List, [], ◌++◌, length, Option}
 use Rattle.std.specs.Io.KnownBytes.{Appends}
+use Rattle.fuse_request.specs.Opcodes.{no_others}
 use Rattle.fuse_tree.specs.State.{State, new_store}
 use Rattle.fuse_tree.specs.TheTree.{the_tree}
 use Rattle.fuse_sim.specs.declared.event.Event.{Event}
@@ -23,10 +24,10 @@ tree_text s events =
 
 -- a message of the script comes again whose answer was taken
 abbrev pub Reuses : List ℕ → Type 0
-Reuses script = (events : List Event) × WritesAll (lines_of script) events × (¬ NoneReused [] events)
+Reuses script = (events : List Event) × WritesAll (lines_of script) events × (¬ NoneReused no_others [] events)
 
 -- the events of a script were run to their end, if no message comes again whose answer was taken, with this output; or its
 -- first bad line is reported, and nothing is printed
 abbrev pub SimulatedAnew : Option (List ℕ) → Option (List ℕ) → List ℕ → Ending → Type 0
-SimulatedAnew old new script Done = (events : List Event) × WritesAll (lines_of script) events × (NoneReused [] events → Appends old new (tree_text start events))
+SimulatedAnew old new script Done = (events : List Event) × WritesAll (lines_of script) events × (NoneReused no_others [] events → Appends old new (tree_text start events))
 SimulatedAnew old new script ending = NotRun script ending × (new ≡ old)

@@ -1,6 +1,2 @@
-pub mod AnswerCases
-pub mod InitCases
-pub mod RequestCases
-pub mod Vectors
-pub mod WireCases
+pub mod inner
 pub mod InLists

@@ -1,4 +1,4 @@
-//! Tests of the examples: `lossy_port`, `three_files`, `two_copies` and `counting_keeper`.
+//! Tests of the examples: `lossy_port`, `five_files`, `two_copies` and `counting_keeper`.
 mod copies;
 mod counting;
 mod files;

@@ -135,7 +135,10 @@ fn second_life(keeper: &mut MemKeeper) -> [bool; 5] {
 fn two_lives(rt: HostRuntime) -> Result<(), StoreFault> {
     let mut keeper = made(rt.alloc())?;
     let first = first_life(&mut keeper);
-    let mut opened = keeper.restart()?;
+    let mut opened = match keeper.restart() {
+        Ok(opened) => opened,
+        Err((fault, _)) => return Err(fault),
+    };
     let second = second_life(&mut opened);
     assert_eq!(rt; [first, second], [[true; 5]; 2]);
     Ok(())

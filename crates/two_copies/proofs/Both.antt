@@ -9,7 +9,7 @@ use Rattle.fuse_keeper.specs.Lots.{no_lots, SameLots}
 use Rattle.fuse_keeper.specs.Stands.{Records, Stands}
 use Rattle.fuse_keeper.specs.Plain.{mapped}
 use Rattle.fuse_keeper.specs.PlainKeeper.{plain_told}
-use Rattle.fuse_keeper.specs.KeeperState.{StandsFor, Performed, IsFirm, KeepsHeld, Leaves, Called, Looked, HoldsOthers, Reopened}
+use Rattle.fuse_keeper.specs.KeeperState.{StandsFor, Performed, IsFirm, KeepsHeld, Leaves, Called, Looked, HoldsTaken, HoldsOthers, Reopened}
 use Rattle.two_copies.specs.declared.copies.TwoCopies.{TwoCopies}
 use Rattle.two_copies.specs.TwoCopies.{HoldsAlike, two_told}
 
@@ -88,6 +88,15 @@ module _ {F : Type 0} (M : Model) (held : F → M.Rows) where
       → Performed (plain_told M held w) s h t es dones → Performed (two_told M held k) s h t es dones
   both_performed w k s h t es dones made does = record { stands = both_stand w k s _ t made does.stands; answers = does.answers; repeated = does.repeated }
 
+  pub both_taken : (w : PlainKeeper F) (k : TwoCopies F) (rows : M.Rows) (others : Records) (es : List Entry) (dones : List Done) → Commits w k
+      → HoldsTaken (plain_told M held w) rows others es dones → HoldsTaken (two_told M held k) rows others es dones
+  both_taken w k rows others es dones made so = record {
+    rows = so.rows;
+    records = so.records;
+    held = both_hold w k so.rows so.records made so.held;
+    taken = so.taken;
+  }
+
   pub both_others : (w : PlainKeeper F) (k : TwoCopies F) (before : Records) (settled : List ℕ) (es : List Entry) → Commits w k
       → HoldsOthers (plain_told M held w) before settled es → HoldsOthers (two_told M held k) before settled es
   both_others w k before settled es made so = record {
@@ -106,6 +115,8 @@ module _ {F : Type 0} (M : Model) (held : F → M.Rows) where
   called_open old new fault is = record {
     failed = ap (λ b. b || (plain_told M held new.working).has_failed) is ∙ sym (or-true (old.in_doubt || (plain_told M held old.working).has_failed));
     honest = λ honest. honest;
+    medium = λ memory. memory;
+    clean = tt;
     err = λ clean. absurd (let e = clean in cc);
     err_lots = λ clean. absurd (let e = clean in cc);
     fault = λ clean. absurd (let e = clean in cc);
@@ -121,6 +132,8 @@ module _ {F : Type 0} (M : Model) (held : F → M.Rows) where
     failed = done_failed old.in_doubt new.in_doubt (plain_told M held old.working).has_failed (plain_told M held new.working).has_failed
         closed made.closed (ap (λ p. (plain_told M held p).has_failed) made.working ∙ failed);
     honest = λ honest. honest;
+    medium = λ memory. memory;
+    clean = λ clean honest. made.closed;
     err = tt;
     err_lots = tt;
     fault = λ clean s h t so. tt;
@@ -134,6 +147,8 @@ module _ {F : Type 0} (M : Model) (held : F → M.Rows) where
     failed = ap (λ b. b || (plain_told M held new.working).has_failed) alike ∙ ap (λ b. old.in_doubt || b) called.failed
         ∙ or-append old.in_doubt (plain_told M held old.working).has_failed false;
     honest = λ honest. honest;
+    medium = λ memory. memory;
+    clean = λ clean honest. alike ∙ clean;
     err = tt;
     err_lots = tt;
     fault = λ clean s h t so. tt;
@@ -142,6 +157,8 @@ module _ {F : Type 0} (M : Model) (held : F → M.Rows) where
     failed = ap (λ b. b || (plain_told M held new.working).has_failed) alike ∙ ap (λ b. old.in_doubt || b) called.failed
         ∙ or-append old.in_doubt (plain_told M held old.working).has_failed true;
     honest = λ honest. honest;
+    medium = λ memory. memory;
+    clean = tt;
     err = λ clean x r so. (subst (λ p. (plain_told M held p).holds x r) (sym committed) so.0, called.err tt x r so.1, alike ∙ so.2);
     err_lots = λ clean x r so. lots_stay;
     fault = λ clean s h t so. called.fault tt s h t (working_stands old s h t so);
@@ -189,5 +206,6 @@ module _ {F : Type 0} (M : Model) (held : F → M.Rows) where
     firm = λ honest. copies_firm new;
     lots = λ honest x r so. record { numbers = refl; current = refl; under = λ i. refl };
     honest = λ honest. honest;
+    medium = λ memory. memory;
     going = rw (closed, going) refl;
   }

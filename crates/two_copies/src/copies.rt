@@ -41,6 +41,9 @@ impl<F: FileSystem> TwoCopies<F> {
             StandsFor (two_told F.model F.held k) (F.model.start now) [] []) }
         ensures going { IfOk result (λ k. (two_told F.model F.held k).has_failed ≡ false) }
         ensures unopened { IfOk result (λ k. k.openings ≡ 0) }
+        // Its medium gives back what was written, and no write is open.
+        ensures medium { IfOk result (λ k. (two_told F.model F.held k).is_honest) }
+        ensures clean { IfOk result (λ k. (two_told F.model F.held k).is_clean) }
     {
         let working = PlainKeeper::new(alloc, now)?;
         Ok(TwoCopies {
@@ -106,6 +109,12 @@ impl<F: FileSystem> Keeper for TwoCopies<F> {
 
     ghost became = { λ a b n. b.openings ≡ a.openings + n };
 
+    ghost performed = { λ a b list. Unit {0} };
+
+    fn serves(opcode: u32) -> bool {
+        F::serves(opcode)
+    }
+
     /// Where the commit is refused the group is in the working copy alone: a crash then loses it.
     fn perform(
         &mut self,
@@ -162,24 +171,33 @@ impl<F: FileSystem> Keeper for TwoCopies<F> {
       clean_is_honest = λ clean. tt;
     } };
 
+    ghost memory_is_clean = { λ k memory. absurd memory };
+
     ghost counted = { record {
       none = λ k. omega arith;
       then = λ a b c m n before after. omega (arith, before, after);
     } };
+
+    ghost log = { record { none = λ k. tt; onward = λ a b c before after one two. tt } };
 }
 
 impl<F: FileSystem> Restart for TwoCopies<F> {
     ghost use Rattle.fuse_keeper.specs.declared.fault.StoreFault.TheVariants.{Memory as NoMemory};
 
+    type Rest = ();
+
     // Out of memory, or where the openings can't be counted any further.
-    ghost may_refuse = { λ k fault. (fault ≡ NoMemory) ⊎ (k.openings + 1 ≡ 2 ^ 64) };
+    ghost refuses = { λ k fault rest. (fault ≡ NoMemory) ⊎ (k.openings + 1 ≡ 2 ^ 64) };
 
     /// Makes the working copy anew from the committed one. Uncommitted changes are lost.
-    fn restart(mut self) -> Result<TwoCopies<F>, StoreFault> {
+    fn restart(mut self) -> Result<TwoCopies<F>, (StoreFault, ())> {
         let Some(openings) = self.openings.checked_add(1) else {
-            return Err(StoreFault::Damaged);
+            return Err((StoreFault::Damaged, ()));
         };
-        self.working = self.committed.to_copy()?;
+        self.working = match self.committed.to_copy() {
+            Ok(copy) => copy,
+            Err(Memory) => return Err((StoreFault::Memory, ())),
+        };
         self.openings = openings;
         self.in_doubt = false;
         Ok(self)

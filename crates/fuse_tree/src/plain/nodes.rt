@@ -15,7 +15,7 @@ pub struct NodeList {
 impl Model for NodeList {
     ghost use Rattle.std.specs.Prelude.{◌≡◌, List, true};
     ghost use Rattle.fuse_tree.specs.declared.rows.Full.{Full};
-    ghost use Rattle.fuse_tree.specs.NumbersOnce.{are_distinct};
+    ghost use Rattle.fuse_tree.specs.inner.NumbersOnce.{are_distinct};
 
     ghost Value = { List Full };
 

@@ -1,6 +1,6 @@
 ghost use Rattle.std.specs.Prelude.{◌≡◌, [], IfOk};
-ghost use Rattle.fuse_tree.specs.Reading as planning;
-ghost use Rattle.fuse_tree.specs.Reading.{IsWithin, entry_body, attr_body, told};
+ghost use Rattle.fuse_tree.specs.inner.Reading as planning;
+ghost use Rattle.fuse_tree.specs.inner.Reading.{IsWithin, entry_body, attr_body, told};
 
 use super::attributes::attributes_of;
 use crate::limits::VALID_SECS;

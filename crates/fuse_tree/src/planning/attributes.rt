@@ -1,6 +1,6 @@
 ghost use Rattle.std.specs.Prelude.{◌≡◌};
 ghost use Rattle.fuse_tree.specs.State.{is_dir, is_file};
-ghost use Rattle.fuse_tree.specs.Reading.{IsWithin, row_links, row_attr};
+ghost use Rattle.fuse_tree.specs.inner.Reading.{IsWithin, row_links, row_attr};
 
 use crate::limits::{BLOCK_SIZE, SECTOR_SIZE};
 use crate::mode::{S_IFDIR, S_IFREG, TYPE_UNIT, TYPES};

@@ -1,7 +1,7 @@
 ghost use Rattle.std.specs.Prelude.{◌≡◌, ◌||◌, None};
-ghost use Rattle.fuse_tree.specs.Reading.{IsWithin, LooksUp};
-ghost use Rattle.fuse_tree.specs.PlanRenaming.{renaming_of, row_holds, plan_exchange_link};
-ghost use Rattle.fuse_tree.specs.PlanRenaming.{plan_exchange_apart, plan_exchange_with_room};
+ghost use Rattle.fuse_tree.specs.inner.Reading.{IsWithin, LooksUp};
+ghost use Rattle.fuse_tree.specs.inner.PlanRenaming.{renaming_of, row_holds, plan_exchange_link};
+ghost use Rattle.fuse_tree.specs.inner.PlanRenaming.{plan_exchange_apart, plan_exchange_with_room};
 
 use super::answers::{done_nothing, refused};
 use super::fault::PlanFault;

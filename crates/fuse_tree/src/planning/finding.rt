@@ -1,9 +1,9 @@
 ghost use Rattle.std.specs.Prelude.{◌≡◌, None, is_some, IfOk, IfSome};
 ghost use Rattle.fuse_tree.specs.Rows.{row_at, entry_at, handle_at};
 ghost use Rattle.fuse_tree.specs.Handles.{access_at, is_open};
-ghost use Rattle.fuse_tree.specs.Reading.{IsWithin, child_at, LooksUp};
+ghost use Rattle.fuse_tree.specs.inner.Reading.{IsWithin, child_at, LooksUp};
 ghost use Rattle.fuse_tree.specs.Removing as removing;
-ghost use Rattle.fuse_tree.specs.PlanRemoving.{link_at};
+ghost use Rattle.fuse_tree.specs.inner.PlanRemoving.{link_at};
 
 use super::fault::PlanFault;
 use crate::limits::{MAX_FILE, MAX_NODES};

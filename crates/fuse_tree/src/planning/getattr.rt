@@ -1,5 +1,5 @@
 ghost use Rattle.std.specs.Prelude.{◌≡◌, IfOk};
-ghost use Rattle.fuse_tree.specs.Reading.{IsWithin, attr_body, told};
+ghost use Rattle.fuse_tree.specs.inner.Reading.{IsWithin, attr_body, told};
 
 use super::answers::{attr_answer, unchanged};
 use crate::rows::{NodeRow, Planned};

@@ -1,8 +1,8 @@
 ghost use Rattle.std.specs.Prelude.{◌≡◌, [], ◌∷◌, IfOk};
 ghost use Rattle.fuse_answer.specs.Bodies.{init_bytes};
 ghost use Rattle.fuse_init.specs.Agree.{agree};
-ghost use Rattle.fuse_tree.specs.PlanInit as planning;
-ghost use Rattle.fuse_tree.specs.Reading.{told};
+ghost use Rattle.fuse_tree.specs.inner.PlanInit as planning;
+ghost use Rattle.fuse_tree.specs.inner.Reading.{told};
 
 use super::answers::{refused, unchanged};
 use crate::rows::{Change, ChangeList, Planned};

@@ -1,7 +1,7 @@
 ghost use Rattle.std.specs.Prelude.{◌≡◌, None};
-ghost use Rattle.fuse_tree.specs.Planning as planning;
-ghost use Rattle.fuse_tree.specs.Reading.{LooksUp};
-ghost use Rattle.fuse_tree.specs.Planning.{plan_lookup_named};
+ghost use Rattle.fuse_tree.specs.inner.Planning as planning;
+ghost use Rattle.fuse_tree.specs.inner.Reading.{LooksUp};
+ghost use Rattle.fuse_tree.specs.inner.Planning.{plan_lookup_named};
 
 use super::answers::{entry_answer, refused, unchanged};
 use super::attributes::is_directory;

@@ -1,9 +1,9 @@
 ghost use Rattle.std.specs.Prelude.{◌≡◌, None, false, IfOk};
 ghost use Rattle.fuse_tree.specs.Making.{is_full};
-ghost use Rattle.fuse_tree.specs.PlanMaking as planning;
-ghost use Rattle.fuse_tree.specs.Reading.{IsWithin, LooksUp};
-ghost use Rattle.fuse_tree.specs.PlanMaking.{dir_row, new_row, changes_of, plan_new};
-ghost use Rattle.fuse_tree.specs.PlanMaking.{plan_make_with_room};
+ghost use Rattle.fuse_tree.specs.inner.PlanMaking as planning;
+ghost use Rattle.fuse_tree.specs.inner.Reading.{IsWithin, LooksUp};
+ghost use Rattle.fuse_tree.specs.inner.PlanMaking.{dir_row, new_row, changes_of, plan_new};
+ghost use Rattle.fuse_tree.specs.inner.PlanMaking.{plan_make_with_room};
 
 use super::answers::{entry_answer, refused};
 use super::attributes::is_directory;

@@ -1,6 +1,6 @@
 ghost use Rattle.std.specs.Prelude.{◌≡◌, None};
-ghost use Rattle.fuse_tree.specs.PlanMaking as planning;
-ghost use Rattle.fuse_tree.specs.Reading.{IsWithin, LooksUp};
+ghost use Rattle.fuse_tree.specs.inner.PlanMaking as planning;
+ghost use Rattle.fuse_tree.specs.inner.Reading.{IsWithin, LooksUp};
 
 use super::answers::refused;
 use super::attributes::is_directory;

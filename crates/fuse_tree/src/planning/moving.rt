@@ -1,10 +1,10 @@
 ghost use Rattle.std.specs.Prelude.{◌≡◌, ◌<◌, ◌+◌, ◌≤◌, ◌++◌, false, IfOk, OnOk};
 ghost use Rattle.fuse_tree.specs.declared.limits.TheConstants.{COUNTER_END as counter_end};
-ghost use Rattle.fuse_tree.specs.Reading.{IsWithin};
-ghost use Rattle.fuse_tree.specs.PlanRenaming as planning;
-ghost use Rattle.fuse_tree.specs.PlanRenaming.{renaming_of, is_dir_other, dirs_changes};
-ghost use Rattle.fuse_tree.specs.PlanRenaming.{entry_change, lost_changes, rename_changes};
-ghost use Rattle.fuse_tree.specs.PlanRenaming.{exchange_changes};
+ghost use Rattle.fuse_tree.specs.inner.Reading.{IsWithin};
+ghost use Rattle.fuse_tree.specs.inner.PlanRenaming as planning;
+ghost use Rattle.fuse_tree.specs.inner.PlanRenaming.{renaming_of, is_dir_other, dirs_changes};
+ghost use Rattle.fuse_tree.specs.inner.PlanRenaming.{entry_change, lost_changes, rename_changes};
+ghost use Rattle.fuse_tree.specs.inner.PlanRenaming.{exchange_changes};
 
 use super::attributes::is_directory;
 use super::finding::Link;

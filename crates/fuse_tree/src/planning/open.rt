@@ -1,8 +1,8 @@
 ghost use Rattle.std.specs.Prelude.{◌≡◌, None, IfOk};
 ghost use Rattle.fuse_tree.specs.Opening.{open_fault};
-ghost use Rattle.fuse_tree.specs.PlanOpening as planning;
-ghost use Rattle.fuse_tree.specs.PlanOpening.{opened_changes, plan_opened, plan_open_node};
-ghost use Rattle.fuse_tree.specs.Reading.{LooksUp};
+ghost use Rattle.fuse_tree.specs.inner.PlanOpening as planning;
+ghost use Rattle.fuse_tree.specs.inner.PlanOpening.{opened_changes, plan_opened, plan_open_node};
+ghost use Rattle.fuse_tree.specs.inner.Reading.{LooksUp};
 
 use super::answers::refused;
 use super::attributes::{is_directory, is_regular_file};

@@ -2,8 +2,8 @@ ghost use Rattle.std.specs.Prelude.{◌≡◌, ◌≤◌, None, length, IfOk};
 ghost use Rattle.fuse_answer.specs.declared.answer.TheConstants.{MAX_BODY as max_body};
 ghost use Rattle.fuse_tree.specs.Rows.{bytes_at};
 ghost use Rattle.fuse_tree.specs.Writing as writing;
-ghost use Rattle.fuse_tree.specs.PlanWriting as planning;
-ghost use Rattle.fuse_tree.specs.Reading.{LooksUp};
+ghost use Rattle.fuse_tree.specs.inner.PlanWriting as planning;
+ghost use Rattle.fuse_tree.specs.inner.Reading.{LooksUp};
 
 use super::answers::{refused, unchanged};
 use super::attributes::is_directory;

@@ -6,11 +6,11 @@ ghost use Rattle.fuse_answer.specs.Entries.{entry_of, packed_len, IsNamed};
 ghost use Rattle.fuse_tree.specs.State.{type_of};
 ghost use Rattle.fuse_tree.specs.Rows.{Rows, IsRowed, entries_after};
 ghost use Rattle.fuse_tree.specs.Plan.{look_fault};
-ghost use Rattle.fuse_tree.specs.PlanListing as planning;
-ghost use Rattle.fuse_tree.specs.PlanListing.{dots_after, row_above, row_entry, row_len};
-ghost use Rattle.fuse_tree.specs.PlanListing.{plan_prefix, plan_list, ReadsBy, IsCut, IsShown};
-ghost use Rattle.fuse_tree.specs.Reading as planned;
-ghost use Rattle.fuse_tree.specs.Reading.{Reports, told, LooksUp, Looked};
+ghost use Rattle.fuse_tree.specs.inner.PlanListing as planning;
+ghost use Rattle.fuse_tree.specs.inner.PlanListing.{dots_after, row_above, row_entry, row_len};
+ghost use Rattle.fuse_tree.specs.inner.PlanListing.{plan_prefix, plan_list, ReadsBy, IsCut, IsShown};
+ghost use Rattle.fuse_tree.specs.inner.Reading as planned;
+ghost use Rattle.fuse_tree.specs.inner.Reading.{Reports, told, LooksUp, Looked};
 ghost use Rattle.fuse_tree.specs.declared.limits.TheConstants.{MAX_READ as max_read};
 ghost use Rattle.fuse_tree.specs.declared.mode.TheConstants.{S_IFDIR as s_ifdir};
 

@@ -1,7 +1,7 @@
 ghost use Rattle.std.specs.Prelude.{◌≡◌, ◌≢◌, None, IfOk};
-ghost use Rattle.fuse_tree.specs.PlanOpening as planning;
-ghost use Rattle.fuse_tree.specs.PlanOpening.{plan_closed, plan_close};
-ghost use Rattle.fuse_tree.specs.Reading.{LooksUp};
+ghost use Rattle.fuse_tree.specs.inner.PlanOpening as planning;
+ghost use Rattle.fuse_tree.specs.inner.PlanOpening.{plan_closed, plan_close};
+ghost use Rattle.fuse_tree.specs.inner.Reading.{LooksUp};
 
 use super::answers::refused;
 use super::attributes::is_directory;

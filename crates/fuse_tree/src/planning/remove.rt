@@ -1,6 +1,6 @@
 ghost use Rattle.std.specs.Prelude.{◌≡◌, IfOk};
-ghost use Rattle.fuse_tree.specs.PlanRemoving as planning;
-ghost use Rattle.fuse_tree.specs.PlanRemoving.{gone_changes, left_row, unnamed_row};
+ghost use Rattle.fuse_tree.specs.inner.PlanRemoving as planning;
+ghost use Rattle.fuse_tree.specs.inner.PlanRemoving.{gone_changes, left_row, unnamed_row};
 
 use super::answers::done_nothing;
 use super::attributes::is_directory;

@@ -2,15 +2,15 @@ ghost use Rattle.std.specs.Prelude.{◌≡◌, ◌==◌, ◌&&◌, nat_eq, None,
 ghost use Rattle.std.specs.Cmp.Lexicographic.{pointwise};
 ghost use Rattle.fuse_tree.specs.State.{is_dir};
 ghost use Rattle.fuse_tree.specs.Rows.{row_is_named};
-ghost use Rattle.fuse_tree.specs.Reading.{IsWithin, LooksUp};
-ghost use Rattle.fuse_tree.specs.PlanRemoving.{link_at};
+ghost use Rattle.fuse_tree.specs.inner.Reading.{IsWithin, LooksUp};
+ghost use Rattle.fuse_tree.specs.inner.PlanRemoving.{link_at};
 ghost use Rattle.fuse_tree.specs.Renaming as renaming;
 ghost use Rattle.fuse_tree.specs.Renaming.{asked_fault};
-ghost use Rattle.fuse_tree.specs.PlanRenaming as planning;
-ghost use Rattle.fuse_tree.specs.PlanRenaming.{renaming_of, is_same_link, row_holds, link_fault};
-ghost use Rattle.fuse_tree.specs.PlanRenaming.{new_dir_at, other_at, plan_rename_from};
-ghost use Rattle.fuse_tree.specs.PlanRenaming.{plan_rename_by, plan_rename_link};
-ghost use Rattle.fuse_tree.specs.PlanRenaming.{plan_rename_fitting, plan_rename_with_room};
+ghost use Rattle.fuse_tree.specs.inner.PlanRenaming as planning;
+ghost use Rattle.fuse_tree.specs.inner.PlanRenaming.{renaming_of, is_same_link, row_holds, link_fault};
+ghost use Rattle.fuse_tree.specs.inner.PlanRenaming.{new_dir_at, other_at, plan_rename_from};
+ghost use Rattle.fuse_tree.specs.inner.PlanRenaming.{plan_rename_by, plan_rename_link};
+ghost use Rattle.fuse_tree.specs.inner.PlanRenaming.{plan_rename_fitting, plan_rename_with_room};
 
 use super::answers::{done_nothing, refused};
 use super::attributes::is_directory;

@@ -1,9 +1,9 @@
 ghost use Rattle.std.specs.Prelude.{◌≡◌, ◌∷◌, IfOk};
 ghost use Rattle.fuse_tree.specs.Setting as setting;
 ghost use Rattle.fuse_tree.specs.Setting.{set_fault};
-ghost use Rattle.fuse_tree.specs.PlanSetting as planning;
-ghost use Rattle.fuse_tree.specs.PlanSetting.{set_row, size_changes};
-ghost use Rattle.fuse_tree.specs.Reading.{IsWithin};
+ghost use Rattle.fuse_tree.specs.inner.PlanSetting as planning;
+ghost use Rattle.fuse_tree.specs.inner.PlanSetting.{set_row, size_changes};
+ghost use Rattle.fuse_tree.specs.inner.Reading.{IsWithin};
 
 use super::answers::{attr_answer, refused};
 use super::attributes::{is_directory, is_regular_file};

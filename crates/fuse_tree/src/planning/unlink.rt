@@ -1,7 +1,7 @@
 ghost use Rattle.std.specs.Prelude.{◌≡◌, None};
-ghost use Rattle.fuse_tree.specs.PlanRemoving as planning;
-ghost use Rattle.fuse_tree.specs.PlanRemoving.{plan_unlink_named};
-ghost use Rattle.fuse_tree.specs.Reading.{LooksUp};
+ghost use Rattle.fuse_tree.specs.inner.PlanRemoving as planning;
+ghost use Rattle.fuse_tree.specs.inner.PlanRemoving.{plan_unlink_named};
+ghost use Rattle.fuse_tree.specs.inner.Reading.{LooksUp};
 
 use super::answers::refused;
 use super::attributes::is_directory;

@@ -3,7 +3,7 @@ ghost use Rattle.fuse_tree.specs.State.{up_of, above};
 ghost use Rattle.fuse_tree.specs.Rows.{Rows, IsRowed};
 ghost use Rattle.fuse_tree.specs.Plan.{look_fault};
 ghost use Rattle.fuse_tree.specs.Renaming.{leads_to};
-ghost use Rattle.fuse_tree.specs.Reading.{Reports, LooksUp, Looked};
+ghost use Rattle.fuse_tree.specs.inner.Reading.{Reports, LooksUp, Looked};
 
 use super::fault::PlanFault;
 use super::finding::{find_counters, find_node};

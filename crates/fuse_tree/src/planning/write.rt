@@ -2,9 +2,9 @@ ghost use Rattle.std.specs.Prelude.{◌≡◌, ◌+◌, None, length, nat_lt, fa
 ghost use Rattle.fuse_tree.specs.declared.limits.TheConstants.{MAX_FILE as max_file};
 ghost use Rattle.fuse_tree.specs.Writing as writing;
 ghost use Rattle.fuse_tree.specs.Writing.{count_body};
-ghost use Rattle.fuse_tree.specs.PlanWriting as planning;
-ghost use Rattle.fuse_tree.specs.PlanWriting.{written_row, write_changes, plan_written};
-ghost use Rattle.fuse_tree.specs.Reading.{told, LooksUp};
+ghost use Rattle.fuse_tree.specs.inner.PlanWriting as planning;
+ghost use Rattle.fuse_tree.specs.inner.PlanWriting.{written_row, write_changes, plan_written};
+ghost use Rattle.fuse_tree.specs.inner.Reading.{told, LooksUp};
 
 use super::answers::{refused, unchanged};
 use super::fault::PlanFault;

@@ -24,6 +24,12 @@ impl Keeper for Closed {
 
     ghost became = { λ _ _ _. Unit {0} };
 
+    ghost performed = { λ _ _ _. Unit {0} };
+
+    fn serves(opcode: u32) -> bool {
+        TreeKeeper::serves(opcode)
+    }
+
     fn perform(
         &mut self,
         group: &[(Request<'_>, Moment)],
@@ -61,14 +67,20 @@ impl Keeper for Closed {
       clean_is_honest = λ clean. clean;
     } };
 
+    ghost memory_is_clean = { λ k memory. memory };
+
     ghost counted = { record { none = λ k. tt; then = λ a b c m n before after. tt } };
+
+    ghost log = { record { none = λ k. tt; onward = λ a b c before after one two. tt } };
 }
 
 impl Restart for Closed {
-    ghost may_refuse = { λ _ _. Unit {0} };
+    type Rest = TreeKeeper;
 
-    fn restart(self) -> Result<Closed, StoreFault> {
-        Err(StoreFault::NotAStore)
+    ghost refuses = { λ _ _ _. Unit {0} };
+
+    fn restart(self) -> Result<Closed, (StoreFault, TreeKeeper)> {
+        Err((StoreFault::NotAStore, self.inner))
     }
 }
 

@@ -2,11 +2,11 @@
 ghost use Rattle.std.specs.Prelude.{◌≢◌};
 ghost use Rattle.fuse_wire.specs.Ids.{id_of};
 
+use five_files::FiveFiles;
 use fuse_keeper::{Done, Keeper, Restart, StoreFault};
 use fuse_request::{InHeader, Op, Request};
 use fuse_wire::{Errno, Id, Memory, Moment};
 use std::alloc::Global;
-use three_files::ThreeFiles;
 use two_copies::TwoCopies;
 
 const NOW: Moment = Moment {
@@ -14,7 +14,7 @@ const NOW: Moment = Moment {
     nanos: 0,
 };
 
-type Copies = TwoCopies<ThreeFiles>;
+type Copies = TwoCopies<FiveFiles>;
 
 // New files. `between` commits succeed between two that fail.
 fn begun(alloc: Global, commits: u64) -> Result<Copies, Memory> {
@@ -73,7 +73,7 @@ fn is_opened(keeper: &Copies, times: u64) -> bool {
 }
 
 fn reopened(keeper: Copies) -> Result<Copies, StoreFault> {
-    keeper.restart()
+    keeper.restart().map_err(|refused| refused.0)
 }
 
 // The first group is committed. The second one is in the working copy alone.

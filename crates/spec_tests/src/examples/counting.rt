@@ -1,11 +1,11 @@
 //! The counts of sessions, of a mount that begins, and of events at which the server dies.
 use counting_keeper::{CountingKeeper, Tally};
+use five_files::FiveFiles;
 use fuse_keeper::{Keeper, Restart, StoreFault};
 use fuse_session::{Arrival, Fixed, MemoryPort, serve};
 use fuse_sim::{Event, Fate, drive};
 use fuse_wire::{ByteList, Id, Memory, Moment, UNIQUE_RESEND};
 use std::alloc::{AllocError, Global};
-use three_files::ThreeFiles;
 use two_copies::TwoCopies;
 
 const NOW: Moment = Moment {
@@ -13,11 +13,11 @@ const NOW: Moment = Moment {
     nanos: 0,
 };
 
-type Counted = CountingKeeper<TwoCopies<ThreeFiles>>;
+type Counted = CountingKeeper<TwoCopies<FiveFiles>>;
 
 // The number of commits that succeed between two that fail.
 fn begun(alloc: Global, commits: u64) -> Result<Counted, Memory> {
-    Ok(CountingKeeper::new(TwoCopies::new(alloc, NOW, commits)?))
+    Ok(CountingKeeper::new(alloc, TwoCopies::new(alloc, NOW, commits)?))
 }
 
 // A GETATTR of the directory has 56 bytes.
@@ -58,7 +58,7 @@ fn serve_on(
 }
 
 fn reopened(keeper: Counted) -> Result<Counted, StoreFault> {
-    keeper.restart()
+    keeper.restart().map_err(|refused| refused.0)
 }
 
 fn has_record(keeper: &mut Counted, id: u64) -> bool {

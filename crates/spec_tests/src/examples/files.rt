@@ -1,13 +1,13 @@
-//! Sessions over the three files, and mounts with crashes.
+//! Sessions over the five files, and mounts with crashes.
 
 use crate::hex::put_hex;
+use five_files::{FiveFiles, serve_files};
 use fuse_keeper::{Keeper, PlainKeeper};
 use fuse_session::{Ended, Fixed, MemoryPort, SessionCounts};
 use fuse_wire::Moment;
 use std::alloc::{AllocError, Global};
 use std::test::*;
 use texts::*;
-use three_files::{ThreeFiles, serve_files};
 
 mod mounts;
 mod texts;
@@ -50,7 +50,7 @@ fn counts_of(kept: u64, repeated: u64) -> SessionCounts {
 // expected bytes were sent, and the counts are these.
 fn serves(
     alloc: Global,
-    keeper: &mut PlainKeeper<ThreeFiles>,
+    keeper: &mut PlainKeeper<FiveFiles>,
     pairs: &[Pair],
     counts: SessionCounts,
 ) -> Result<bool, AllocError> {
@@ -68,7 +68,7 @@ fn serves(
 
 // The same over new files.
 fn serves_new(alloc: Global, pairs: &[Pair], counts: SessionCounts) -> Result<bool, Fail> {
-    let mut keeper: PlainKeeper<ThreeFiles> = PlainKeeper::new(alloc, NOW)?;
+    let mut keeper: PlainKeeper<FiveFiles> = PlainKeeper::new(alloc, NOW)?;
     Ok(serves(alloc, &mut keeper, pairs, counts)?)
 }
 
@@ -87,18 +87,18 @@ fn sessions(rt: HostRuntime) -> Result<(), Fail> {
     Ok(())
 }
 
-fn begin_mount(keeper: &mut PlainKeeper<ThreeFiles>) -> bool {
+fn begin_mount(keeper: &mut PlainKeeper<FiveFiles>) -> bool {
     keeper.begin_mount().is_ok()
 }
 
 // Whether there are four nodes and no handle.
-fn holds_files(keeper: &mut PlainKeeper<ThreeFiles>) -> bool {
+fn holds_files(keeper: &mut PlainKeeper<FiveFiles>) -> bool {
     matches!(keeper.counts(), Ok(counts) if counts.nodes == 4 && counts.handles == 0)
 }
 
 // A new mount has agreed on nothing yet, and has the files of before.
 fn two_mounts(alloc: Global) -> Result<[bool; 4], Fail> {
-    let mut keeper: PlainKeeper<ThreeFiles> = PlainKeeper::new(alloc, NOW)?;
+    let mut keeper: PlainKeeper<FiveFiles> = PlainKeeper::new(alloc, NOW)?;
     let first = serves(alloc, &mut keeper, &CHANGING, counts_of(11, 1))?;
     let begun = begin_mount(&mut keeper);
     let again = serves(alloc, &mut keeper, &BEFORE_INIT, counts_of(2, 0))?;

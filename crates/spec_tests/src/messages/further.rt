@@ -1,9 +1,9 @@
-// Bodies of opcodes outside the profile, and answers to them: the bytes of the cases of CREATE,
-// SYMLINK and STATFS in the specification, and of structs of fuse.h.
+// Messages of opcodes outside the profile, their bodies, and answers to them: the bytes of the
+// cases of CREATE, SYMLINK and STATFS in the specification, and of structs of fuse.h.
 use fuse_answer::{Attr, CreateOut, EntryOut, LseekOut, OpenOut, StatfsOut, XattrOut};
-use fuse_request::opcode::{CREATE, LOOKUP, LSEEK, SETXATTR, SYMLINK};
-use fuse_request::{Body, Malformed, decode_body};
-use fuse_wire::Memory;
+use fuse_request::opcode::{CREATE, LOOKUP, LSEEK, READLINK, SETXATTR, SYMLINK};
+use fuse_request::{Body, Class, Malformed, Op, classify_for, decode, decode_body, is_message};
+use fuse_wire::{Errno, Memory};
 use std::alloc::Global;
 use std::test::*;
 
@@ -176,4 +176,40 @@ fn further_answers(rt: HostRuntime) -> Result<(), Memory> {
     let numbers = writes_numbers(rt.alloc())?;
     assert!(rt; room && created && numbers);
     Ok(())
+}
+
+// READLINK of node 2, and NOTIFY_REPLY.
+const READLINK_BYTES: &[u8] = b"\x28\0\0\0\x05\0\0\0\x06\0\0\0\0\0\0\0\x02\0\0\0\0\0\0\0\
+    \xe8\x03\0\0\xe8\x03\0\0\x4d\0\0\0\0\0\0\0";
+
+const NOTIFY_REPLY_BYTES: &[u8] = b"\x28\0\0\0\x29\0\0\0\x06\0\0\0\0\0\0\0\x02\0\0\0\0\0\0\0\
+    \xe8\x03\0\0\xe8\x03\0\0\x4d\0\0\0\0\0\0\0";
+
+// The class of a whole message, and none of other bytes.
+fn class_of_message(bytes: &[u8], served: bool) -> Option<Class> {
+    if !is_message(bytes) {
+        return None;
+    }
+    Some(classify_for(bytes, served))
+}
+
+fn is_readlink(message: &[u8]) -> bool {
+    match decode(message) {
+        Ok(request) => match request.op {
+            Op::Unsupported { opcode, body } => opcode == READLINK && body.is_empty(),
+            _ => false,
+        },
+        Err(_fault) => false,
+    }
+}
+
+#[test]
+fn further_classes(rt: HostRuntime) {
+    let kept = class_of_message(READLINK_BYTES, true);
+    let bare = class_of_message(READLINK_BYTES, false);
+    let silent = class_of_message(NOTIFY_REPLY_BYTES, true);
+    assert!(rt; kept == Some(Class::Kept));
+    assert!(rt; bare == Some(Class::Bare(Errno::ENOSYS)));
+    assert!(rt; silent == Some(Class::Silent));
+    assert!(rt; is_readlink(READLINK_BYTES));
 }

@@ -1,5 +1,5 @@
-ghost use Rattle.spec_tests.specs.InitCases.{ExtIn16, InitAgreed, InitNewerMajor};
-ghost use Rattle.spec_tests.specs.InitCases.{InitShort, InitTooOld, NewerMinor};
+ghost use Rattle.spec_tests.specs.inner.InitCases.{ExtIn16, InitAgreed, InitNewerMajor};
+ghost use Rattle.spec_tests.specs.inner.InitCases.{InitShort, InitTooOld, NewerMinor};
 
 use fuse_init::*;
 use std::test::*;

@@ -1,5 +1,5 @@
-ghost use Rattle.spec_tests.specs.AnswerCases.{ErrorFields, FirstRun, Headers, Inits, Listing};
-ghost use Rattle.spec_tests.specs.AnswerCases.{OpenAndWrite, Reads, Refusals};
+ghost use Rattle.spec_tests.specs.inner.AnswerCases.{ErrorFields, FirstRun, Headers, Inits, Listing};
+ghost use Rattle.spec_tests.specs.inner.AnswerCases.{OpenAndWrite, Reads, Refusals};
 
 use fuse_answer::*;
 use fuse_wire::Memory;

@@ -1,6 +1,6 @@
-ghost use Rattle.spec_tests.specs.RequestCases.{BodyFaults, Exchange, Faults, FirstRun};
-ghost use Rattle.spec_tests.specs.RequestCases.{MissingLookup};
-ghost use Rattle.spec_tests.specs.RequestCases.{RenameBytes, WriteBytes};
+ghost use Rattle.spec_tests.specs.inner.RequestCases.{BodyFaults, Exchange, Faults, FirstRun};
+ghost use Rattle.spec_tests.specs.inner.RequestCases.{MissingLookup};
+ghost use Rattle.spec_tests.specs.inner.RequestCases.{RenameBytes, WriteBytes};
 
 use fuse_request::*;
 use std::test::*;

@@ -1,4 +1,4 @@
-ghost use Rattle.spec_tests.specs.WireCases.{LowestFirst, ReadBack, SameId};
+ghost use Rattle.spec_tests.specs.inner.WireCases.{LowestFirst, ReadBack, SameId};
 
 use fuse_wire::*;
 use std::test::*;

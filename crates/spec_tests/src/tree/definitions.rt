@@ -1,5 +1,5 @@
 //! Worked cases, computed by the definitions.
-ghost use Rattle.fuse_tree.specs.Vectors.{Inits, FirstRun, Refusals};
+ghost use Rattle.fuse_tree.specs.inner.Vectors.{Inits, FirstRun, Refusals};
 
 // INIT.
 #[tactic(auto, unfolding(fuse_tree::specs::Do::done))]

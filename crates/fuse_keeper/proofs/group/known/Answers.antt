@@ -1,6 +1,7 @@
 use Rattle.std.proofs.Common.{◌∙◌, sym}
 use Rattle.fuse_keeper.specs.Group.{ids_of}
-use Rattle.fuse_keeper.specs.Plain.{mapped, without}
+use Rattle.fuse_keeper.specs.Stands.{without}
+use Rattle.fuse_keeper.specs.Plain.{mapped}
 use Rattle.fuse_keeper.proofs.Overlays.{known_added, known_settled, known_old}
 use Rattle.fuse_keeper.proofs.group.known.Goals as goal
 

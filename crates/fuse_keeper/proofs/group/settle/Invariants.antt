@@ -1,7 +1,8 @@
 use Rattle.std.proofs.Common.{◌≡◌, ◌≤◌, ℕ, drop}
 use Rattle.std.specs.HashMap.{spare}
 use Rattle.fuse_keeper.specs.Group.{ids_of}
-use Rattle.fuse_keeper.specs.Plain.{mapped, without}
+use Rattle.fuse_keeper.specs.Stands.{without}
+use Rattle.fuse_keeper.specs.Plain.{mapped}
 use Rattle.fuse_keeper.proofs.group.settle.Given as goal
 
 abbrev pub invariant-loop-id : goal.invariant-loop-id

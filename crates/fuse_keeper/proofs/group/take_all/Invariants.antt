@@ -1,9 +1,10 @@
 use Rattle.std.proofs.Common.{◌≡◌, ℕ, List, take, length, All}
 use Rattle.fuse_keeper.specs.History.{History, Includes, IsUnsettled, ids_in}
 use Rattle.fuse_keeper.specs.Model.{IsRowed}
-use Rattle.fuse_keeper.specs.Stands.{Stands, AreThese, PerformedBy}
+use Rattle.fuse_keeper.specs.Stands.{Stands, AreThese, PerformedBy, without}
 use Rattle.fuse_keeper.specs.Group.{entries_of, ids_of}
-use Rattle.fuse_keeper.specs.Plain.{mapped, over, without, record_ids}
+use Rattle.fuse_keeper.specs.Taking.{TakesAll}
+use Rattle.fuse_keeper.specs.Plain.{mapped, over, record_ids}
 use Rattle.fuse_keeper.proofs.group.take_all.Given as goal
 
 abbrev pub invariant-loop-one : goal.invariant-loop-one
@@ -13,6 +14,8 @@ invariant-loop-one g l = record {
       → All (IsUnsettled t) (entries_of l.group)
       → PerformedBy g.F.FileSystem.model (AreThese g.F.FileSystem.model (g.F.FileSystem.held l.draft.rows)
       (over l.draft.added.items (without (ids_of l.settled) (mapped l.records)))) s h t (entries_of (take l.one-index l.group)) l.dones.items;
+  taken : TakesAll g.F.FileSystem.model (g.F.FileSystem.held l.rows) (without (ids_of l.settled) (mapped l.records)) (entries_of (take l.one-index l.group))
+      (g.F.FileSystem.held l.draft.rows) (over l.draft.added.items (without (ids_of l.settled) (mapped l.records))) l.dones.items;
   count : length l.dones.items ≡ l.one-index;
   ready : g.F.FileSystem.is_ready l.draft.rows;
   rowed : IsRowed g.F.FileSystem.model (g.F.FileSystem.held l.rows) → IsRowed g.F.FileSystem.model (g.F.FileSystem.held l.draft.rows);

@@ -1,6 +1,6 @@
 use Rattle.std.proofs.Common.{refl, arith}
 use Rattle.fuse_request.specs.Act.{asked}
-use Rattle.fuse_request.specs.Encoding.{HasNumbers}
+use Rattle.fuse_request.specs.inner.Writing.{HasNumbers}
 use Rattle.fuse_request.specs.Canon.{canon}
 use Rattle.fuse_request.proofs.Canons.{spelled_again, well}
 use Rattle.fuse_request.proofs.Acts.{Laws}

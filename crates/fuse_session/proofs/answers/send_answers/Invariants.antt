@@ -6,9 +6,8 @@ use Rattle.fuse_session.proofs.answers.send_answers.Given as goal
 abbrev pub invariant-loop-place : goal.invariant-loop-place
 invariant-loop-place g l = record {
   next : l.next ≤ length l.dones;
-  enough : AreEnough (drop l.place l.messages) (drop l.next (answers_in l.dones));
-  sent : SentFirst (g.P.Port.told l.fn.port) (g.P.Port.told l.port) (take l.place l.messages) (wires l.messages (answers_in l.dones))
-      (wires (drop l.place l.messages) (drop l.next (answers_in l.dones))) (ids_of l.fn.pending.items) (ids_of l.pending.items);
-  same : g.P.Port.became l.fn.port l.port;
+  enough : AreEnough g.K.Keeper.model.serves (drop l.place l.messages) (drop l.next (answers_in l.dones));
+  sent : SentFirst g.K.Keeper.model.serves (g.P.Port.became l.fn.port l.port) (g.P.Port.told l.fn.port) (g.P.Port.told l.port) (take l.place l.messages) (wires g.K.Keeper.model.serves l.messages (answers_in l.dones))
+      (wires g.K.Keeper.model.serves (drop l.place l.messages) (drop l.next (answers_in l.dones))) (ids_of l.fn.pending.items) (ids_of l.pending.items);
   few : length l.pending.items ≤ length l.fn.pending.items + l.next;
 }

@@ -10,17 +10,17 @@ pub loop-message-init : goal.loop-message-init
 loop-message-init g c = record {
   count = ap length c.new-classes.ensures.items;
   classes = c.new-classes.ensures.items;
-  gathers = none_yet_gathered (g.C.Clock.gave c.args.clock.now c.args.clock.now) c.new-taken.result.items ((g.met.C.Clock.logged).none c.args.clock.now)
+  gathers = none_yet_gathered g.K.Keeper.model.serves (g.C.Clock.gave c.args.clock.now c.args.clock.now) c.new-taken.result.items ((g.met.C.Clock.logged).none c.args.clock.now)
       c.new-taken.ensures.items;
   few = omega (arith, ap length c.new-taken.ensures.items);
   named = subst (All HasId) (sym (ap entries_of c.new-taken.ensures.items)) (All-nil HasId);
-  kept = subst (All IsKept) (sym (ap entries_of c.new-taken.ensures.items)) (All-nil IsKept);
+  kept = subst (All (IsKept g.K.Keeper.model)) (sym (ap entries_of c.new-taken.ensures.items)) (All-nil (IsKept g.K.Keeper.model));
 }
 
 pub returns-then-ends-clause-gathers : goal.returns-then-ends-clause-gathers
 returns-then-ends-clause-gathers g c =
     let some = c.in-Some.ensures.entry in
-    subst (λ n. Gathers (g.C.Clock.gave c.args.clock.now c.read_one.new.clock) (take n c.args.messages.now) c.push-in-Some.new.self.items
+    subst (λ n. Gathers g.K.Keeper.model.serves (g.C.Clock.gave c.args.clock.now c.read_one.new.clock) (take n c.args.messages.now) c.push-in-Some.new.self.items
     c.has_opcode-ends.result)
     (omega (
       arith,
@@ -29,7 +29,7 @@ returns-then-ends-clause-gathers g c =
           (c.classify-class.result ∷ []),
       c.loop-message.invariant.count,
     ))
-    (gathers_some (g.C.Clock.gave c.args.clock.now c.loop-message.clock) (g.C.Clock.gave c.loop-message.clock c.read_one.new.clock)
+    (gathers_some g.K.Keeper.model.serves (g.C.Clock.gave c.args.clock.now c.loop-message.clock) (g.C.Clock.gave c.loop-message.clock c.read_one.new.clock)
     (g.C.Clock.gave c.args.clock.now c.read_one.new.clock) ((g.met.C.Clock.logged).onward c.args.clock.now c.loop-message.clock c.read_one.new.clock)
     c.args.messages.now c.loop-message.message-index c.message-item.result c.as_slice-bytes.result.now c.loop-message.taken.items
     c.push-in-Some.new.self.items c.in-Some.one some.0 c.has_opcode-ends.result
@@ -39,11 +39,11 @@ returns-then-ends-clause-gathers g c =
 pub returns-then-ends-clause-named : goal.returns-then-ends-clause-named
 returns-then-ends-clause-named g c =
     let some = c.in-Some.ensures.entry in
-    named_some c.as_slice-bytes.result.now c.loop-message.taken.items c.push-in-Some.new.self.items c.in-Some.one some.0 c.loop-message.invariant.named
+    named_some g.K.Keeper.model.serves c.as_slice-bytes.result.now c.loop-message.taken.items c.push-in-Some.new.self.items c.in-Some.one some.0 c.loop-message.invariant.named
     (sym c.if-has_zero_unique.ensures) some.1 c.in_ok-push-2.ensures.items
 
 pub returns-then-ends-clause-kept : goal.returns-then-ends-clause-kept
-returns-then-ends-clause-kept g c = kept_some c.loop-message.taken.items c.push-in-Some.new.self.items c.in-Some.one c.loop-message.invariant.kept
+returns-then-ends-clause-kept g c = kept_some g.K.Keeper.model c.loop-message.taken.items c.push-in-Some.new.self.items c.in-Some.one c.loop-message.invariant.kept
     c.in-Some.ensures.kept c.in_ok-push-2.ensures.items
 
 pub loop-message-preserved : goal.loop-message-preserved
@@ -59,11 +59,11 @@ loop-message-preserved g c = elim c.match-read_one.branch [
               (c.classify-class.result ∷ []),
           c.loop-message.invariant.count,
         );
-        classes = classes_more c.args.messages.now c.loop-message.message-index c.message-item.result c.as_slice-bytes.result.now c.loop-message.classes.items
+        classes = classes_more g.K.Keeper.model.serves c.args.messages.now c.loop-message.message-index c.message-item.result c.as_slice-bytes.result.now c.loop-message.classes.items
             c.push.new.self.items
             c.classify-class.result c.loop-message-test.true c.message-item.is c.as_slice-bytes.ensures c.loop-message.invariant.classes
-            c.classify-class.ensures.class c.in_ok-push.ensures.items;
-        gathers = gathers_some (g.C.Clock.gave c.args.clock.now c.loop-message.clock) (g.C.Clock.gave c.loop-message.clock c.read_one.new.clock)
+            c.classify-class.ensures c.in_ok-push.ensures.items;
+        gathers = gathers_some g.K.Keeper.model.serves (g.C.Clock.gave c.args.clock.now c.loop-message.clock) (g.C.Clock.gave c.loop-message.clock c.read_one.new.clock)
             (g.C.Clock.gave c.args.clock.now c.read_one.new.clock) ((g.met.C.Clock.logged).onward c.args.clock.now c.loop-message.clock c.read_one.new.clock)
             c.args.messages.now c.loop-message.message-index c.message-item.result c.as_slice-bytes.result.now c.loop-message.taken.items
             c.match-read_one.taken.items w.in-Some.one some.0 false
@@ -77,9 +77,9 @@ loop-message-preserved g c = elim c.match-read_one.branch [
           c.loop-message.taken.ok.0,
           c.if-len-ge-MAX_GROUP.false,
         );
-        named = named_some c.as_slice-bytes.result.now c.loop-message.taken.items c.match-read_one.taken.items w.in-Some.one some.0
+        named = named_some g.K.Keeper.model.serves c.as_slice-bytes.result.now c.loop-message.taken.items c.match-read_one.taken.items w.in-Some.one some.0
             c.loop-message.invariant.named (sym c.if-has_zero_unique.ensures) some.1 pushed;
-        kept = kept_some c.loop-message.taken.items c.match-read_one.taken.items w.in-Some.one c.loop-message.invariant.kept w.in-Some.ensures.kept pushed;
+        kept = kept_some g.K.Keeper.model c.loop-message.taken.items c.match-read_one.taken.items w.in-Some.one c.loop-message.invariant.kept w.in-Some.ensures.kept pushed;
       }
   | in_default w ↦
       let none = w.in_default.ensures.entry in
@@ -92,19 +92,19 @@ loop-message-preserved g c = elim c.match-read_one.branch [
               (c.classify-class.result ∷ []),
           c.loop-message.invariant.count,
         );
-        classes = classes_more c.args.messages.now c.loop-message.message-index c.message-item.result c.as_slice-bytes.result.now c.loop-message.classes.items
+        classes = classes_more g.K.Keeper.model.serves c.args.messages.now c.loop-message.message-index c.message-item.result c.as_slice-bytes.result.now c.loop-message.classes.items
             c.push.new.self.items
             c.classify-class.result c.loop-message-test.true c.message-item.is c.as_slice-bytes.ensures c.loop-message.invariant.classes
-            c.classify-class.ensures.class c.in_ok-push.ensures.items;
-        gathers = subst (λ xs. Gathers (g.C.Clock.gave c.args.clock.now c.read_one.new.clock) (take (c.loop-message.message-index + 1) c.args.messages.now) xs
-            false) (sym same) (gathers_none (g.C.Clock.gave c.args.clock.now c.loop-message.clock) (g.C.Clock.gave c.loop-message.clock c.read_one.new.clock)
+            c.classify-class.ensures c.in_ok-push.ensures.items;
+        gathers = subst (λ xs. Gathers g.K.Keeper.model.serves (g.C.Clock.gave c.args.clock.now c.read_one.new.clock) (take (c.loop-message.message-index + 1) c.args.messages.now) xs
+            false) (sym same) (gathers_none g.K.Keeper.model.serves (g.C.Clock.gave c.args.clock.now c.loop-message.clock) (g.C.Clock.gave c.loop-message.clock c.read_one.new.clock)
             (g.C.Clock.gave c.args.clock.now c.read_one.new.clock) ((g.met.C.Clock.logged).onward c.args.clock.now c.loop-message.clock c.read_one.new.clock)
             c.args.messages.now c.loop-message.message-index c.message-item.result c.as_slice-bytes.result.now c.loop-message.taken.items none.0
             c.loop-message-test.true c.message-item.is c.as_slice-bytes.ensures c.loop-message.invariant.gathers
             (sym c.if-has_zero_unique.ensures) none.1 none.2);
         few = omega (arith, ap length same, c.loop-message.invariant.few);
         named = subst (λ xs. All HasId (entries_of xs)) (sym same) c.loop-message.invariant.named;
-        kept = subst (λ xs. All IsKept (entries_of xs)) (sym same) c.loop-message.invariant.kept;
+        kept = subst (λ xs. All (IsKept g.K.Keeper.model) (entries_of xs)) (sym same) c.loop-message.invariant.kept;
       }
 ]
 
@@ -127,7 +127,7 @@ returns-in_err-push-clause-logged g c = (_, c.loop-message.invariant.gathers.mom
 
 pub returns-then-ends-clause-classes : goal.returns-then-ends-clause-classes
 returns-then-ends-clause-classes g c =
-    subst (λ n. c.push.new.self.items ≡ classes_in (take n c.args.messages.now))
+    subst (λ n. c.push.new.self.items ≡ classes_in g.K.Keeper.model.serves (take n c.args.messages.now))
     (omega (
       arith,
       ap length c.in_ok-push.ensures.items,
@@ -135,7 +135,7 @@ returns-then-ends-clause-classes g c =
           (c.classify-class.result ∷ []),
       c.loop-message.invariant.count,
     ))
-    (classes_more c.args.messages.now c.loop-message.message-index c.message-item.result c.as_slice-bytes.result.now c.loop-message.classes.items
+    (classes_more g.K.Keeper.model.serves c.args.messages.now c.loop-message.message-index c.message-item.result c.as_slice-bytes.result.now c.loop-message.classes.items
     c.push.new.self.items
-    c.classify-class.result c.loop-message-test.true c.message-item.is c.as_slice-bytes.ensures c.loop-message.invariant.classes c.classify-class.ensures.class
+    c.classify-class.result c.loop-message-test.true c.message-item.is c.as_slice-bytes.ensures c.loop-message.invariant.classes c.classify-class.ensures
     c.in_ok-push.ensures.items)

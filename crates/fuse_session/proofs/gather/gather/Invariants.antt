@@ -6,9 +6,9 @@ use Rattle.fuse_session.proofs.gather.gather.Given as goal
 abbrev pub invariant-loop-message : goal.invariant-loop-message
 invariant-loop-message g l = record {
   count : length l.classes.items ≡ l.message-index;
-  classes : l.classes.items ≡ classes_in (take l.message-index l.messages);
-  gathers : Gathers (g.C.Clock.gave l.fn.clock l.clock) (take l.message-index l.messages) l.taken.items false;
+  classes : l.classes.items ≡ classes_in g.K.Keeper.model.serves (take l.message-index l.messages);
+  gathers : Gathers g.K.Keeper.model.serves (g.C.Clock.gave l.fn.clock l.clock) (take l.message-index l.messages) l.taken.items false;
   few : length l.taken.items ≤ 16;
   named : All HasId (entries_of l.taken.items);
-  kept : All IsKept (entries_of l.taken.items);
+  kept : All (IsKept g.K.Keeper.model) (entries_of l.taken.items);
 }

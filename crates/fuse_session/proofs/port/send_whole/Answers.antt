@@ -1,13 +1,15 @@
-use Rattle.std.proofs.Common.{rules, ◌≡◌, [], arith}
-use Rattle.fuse_session.specs.declared.port.Sent.TheVariants.{Took, Failed}
-use Rattle.fuse_session.proofs.Bytes.{prefix_more, prefix_gone, prefix_failed, took_nothing}
+use Rattle.std.proofs.Common.{rules, ◌≡◌, [], length, true, false, refl, arith}
+use Rattle.fuse_session.specs.declared.port.Sent.TheVariants.{Took, Gone, Failed}
+use Rattle.fuse_session.proofs.Bytes.{nothing_sent, prefix_more, prefix_gone, prefix_failed, took_nothing}
+use Rattle.fuse_session.proofs.Transcripts.{hands_none, hands_more, hands_last, hands_all, left_at_zero}
 use Rattle.fuse_session.proofs.port.send_whole.Goals as goal
 
 pub loop-rest-preserved : goal.loop-rest-preserved
 loop-rest-preserved g c = record {
   sent = prefix_more (g.P.Port.told c.args.port.now) (g.P.Port.told c.loop-rest.port) (g.P.Port.told c.send.new.self) c.args.bytes.now c.loop-rest.rest.now
       c.in-Took.n c.if-taken-eq0.false c.loop-rest.invariant.sent c.in-Took.ensures.sent;
-  same = (g.met.P.Port.path).onward c.args.port.now c.loop-rest.port c.send.new.self c.loop-rest.invariant.same c.in-Took.ensures.same;
+  same = hands_more g.P.Port.became g.met.P.Port.path c.args.port.now c.loop-rest.port c.send.new.self c.args.bytes.now c.loop-rest.rest.now
+      c.in-Took.n c.if-taken-eq0.false (search rules) c.loop-rest.invariant.same c.in-Took.ensures.same;
 }
 
 pub returns-then-taken-eq0-clause-err : goal.returns-then-taken-eq0-clause-err
@@ -29,3 +31,32 @@ returns-in-Failed-clause-err g c =
     let s = c.in-Failed.ensures.sent in
     prefix_failed (g.P.Port.told c.args.port.now) (g.P.Port.told c.loop-rest.port) (g.P.Port.told c.send.new.self) c.args.bytes.now c.loop-rest.rest.now Failed
     (omega (arith, s.failures)) s.gone c.loop-rest.invariant.sent s
+
+pub returns-then-taken-eq0-clause-same : goal.returns-then-taken-eq0-clause-same
+returns-then-taken-eq0-clause-same g c =
+    let some : c.loop-rest.rest.now ≡ [] → ⊥ = search rules in
+    hands_last g.P.Port.became g.met.P.Port.path c.args.port.now c.loop-rest.port c.send.new.self c.args.bytes.now c.loop-rest.rest.now
+    (Took c.in-Took.n) false some (left_at_zero c.loop-rest.rest.now c.in-Took.n c.if-taken-eq0.true some) c.loop-rest.invariant.same c.in-Took.ensures.same
+
+pub returns-in-Gone-clause-same : goal.returns-in-Gone-clause-same
+returns-in-Gone-clause-same g c =
+    let some : c.loop-rest.rest.now ≡ [] → ⊥ = search rules in
+    hands_last g.P.Port.became g.met.P.Port.path c.args.port.now c.loop-rest.port c.send.new.self c.args.bytes.now c.loop-rest.rest.now
+    Gone true some refl c.loop-rest.invariant.same c.in-Gone.ensures.same
+
+pub returns-in-Failed-clause-same : goal.returns-in-Failed-clause-same
+returns-in-Failed-clause-same g c =
+    let some : c.loop-rest.rest.now ≡ [] → ⊥ = search rules in
+    hands_last g.P.Port.became g.met.P.Port.path c.args.port.now c.loop-rest.port c.send.new.self c.args.bytes.now c.loop-rest.rest.now
+    Failed false some some c.loop-rest.invariant.same c.in-Failed.ensures.same
+
+pub returns-clause-same : goal.returns-clause-same
+returns-clause-same g c =
+    let none : length c.loop-rest.rest.now ≡ 0 = search rules in
+    hands_all (g.P.Port.became c.args.port.now c.loop-rest.port) c.args.bytes.now c.loop-rest.rest.now none c.loop-rest.invariant.same
+
+pub loop-rest-init : goal.loop-rest-init
+loop-rest-init g c = record {
+  sent = nothing_sent (g.P.Port.told c.args.port.now) c.args.bytes.now;
+  same = hands_none g.P.Port.became g.met.P.Port.path c.args.port.now c.args.bytes.now;
+}

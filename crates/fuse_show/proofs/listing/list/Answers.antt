@@ -1,6 +1,6 @@
 use Rattle.std.proofs.Common.{refl, subst, Option, ℕ, [], Some}
 use Rattle.fuse_show.specs.Listing.{listing}
-use Rattle.fuse_show.specs.Pages.{lines_left, WritesPrefix}
+use Rattle.fuse_show.specs.inner.Pages.{lines_left, WritesPrefix}
 use Rattle.fuse_show.proofs.Lines.{none_written}
 use Rattle.fuse_show.proofs.Pages.{all_left, prefix_more, prefix_all, page_fails}
 use Rattle.fuse_show.proofs.listing.list.Goals as goal

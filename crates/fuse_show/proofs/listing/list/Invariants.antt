@@ -1,7 +1,7 @@
 use Rattle.std.proofs.Common.{◌≡◌, None}
 use Rattle.fuse_show.specs.Looks.{ReadOff}
 use Rattle.fuse_show.specs.Listing.{listing}
-use Rattle.fuse_show.specs.Pages.{lines_left, WritesPrefix}
+use Rattle.fuse_show.specs.inner.Pages.{lines_left, WritesPrefix}
 use Rattle.fuse_show.proofs.Pages.{cookies_left}
 use Rattle.fuse_show.proofs.listing.list.Given as goal
 

@@ -1,7 +1,7 @@
 use Rattle.std.proofs.Common.{◌≡◌, ◌++◌, ℕ, Option, true, false, refl, sym, ap, ◌∙◌}
 use Rattle.std.specs.List.{flat_map}
 use Rattle.fuse_show.specs.Listing.{line_of}
-use Rattle.fuse_show.specs.Pages.{cookie_at, is_higher, lines_left}
+use Rattle.fuse_show.specs.inner.Pages.{cookie_at, is_higher, lines_left}
 use Rattle.fuse_show.proofs.Pages.{page_lines, page_higher, fails_page}
 use Rattle.fuse_show.proofs.Trees.{page_shown}
 use Rattle.fuse_show.proofs.listing.list_page.Goals as goal

@@ -2,7 +2,7 @@ use Rattle.std.proofs.Common.{◌≡◌, ◌≤◌, ◌-◌, length, take, drop,
 use Rattle.fuse_keeper.specs.Group.{ids_of}
 use Rattle.fuse_sim.specs.Driving.{told_in, Opened}
 use Rattle.fuse_sim.specs.HandedOn.{empty_ledger}
-use Rattle.fuse_sim.specs.Running.{Moved}
+use Rattle.fuse_sim.specs.inner.Running.{Moved}
 use Rattle.fuse_sim.proofs.driving.drive.Given as goal
 
 abbrev pub invariant-loop-at : goal.invariant-loop-at

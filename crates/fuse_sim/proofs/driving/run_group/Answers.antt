@@ -2,7 +2,7 @@ use Rattle.std.proofs.Common.{◌+◌, ◌-◌, ◌≤◌, refl, sym, ap, subst,
 use Rattle.std.proofs.lemmas.Result.{err_from_is_err_and}
 use Rattle.fuse_keeper.specs.Group.{ids_of}
 use Rattle.fuse_sim.specs.Driving.{told_in, commits_in}
-use Rattle.fuse_sim.specs.Running.{Gathers, Worked}
+use Rattle.fuse_sim.specs.inner.Running.{Gathers, Worked}
 use Rattle.fuse_sim.proofs.Moves.{group_moved, ids_left, few_taken, few_left}
 use Rattle.fuse_sim.proofs.Openings.{group_opens}
 use Rattle.fuse_sim.proofs.Stopping.{stops_here, stops_store, stops_restart, dies_at, begins_fit, within_rest, run_slice, group_read, group_stops}

@@ -1,7 +1,7 @@
 use Rattle.std.proofs.Common.{◌+◌, ◌++◌, ◌∷◌, [], sym, ap, subst, ◌∙◌, length, length-append, vec_capacity, drop, arith}
 use Rattle.std.specs.Vec.Iter.{into_iter_items}
 use Rattle.fuse_keeper.specs.Group.{ids_of}
-use Rattle.fuse_sim.specs.Running.{answers_in, outcomes_by, HasAnswers, settles_in}
+use Rattle.fuse_sim.specs.inner.Running.{answers_in, outcomes_by, HasAnswers, settles_in}
 use Rattle.fuse_sim.proofs.Outcomes.{adds_one, settled_one, answers_here, places_left}
 use Rattle.fuse_sim.proofs.group.answer_group.Goals as goal
 

@@ -1,7 +1,7 @@
 use Rattle.std.proofs.Common.{◌≡◌, ◌≤◌, ◌+◌, ◌++◌, length, drop, vec_capacity}
 use Rattle.std.specs.Vec.Iter.{into_iter_items}
 use Rattle.fuse_keeper.specs.Group.{ids_of}
-use Rattle.fuse_sim.specs.Running.{answers_in, outcomes_by, HasAnswers, settles_in}
+use Rattle.fuse_sim.specs.inner.Running.{answers_in, outcomes_by, HasAnswers, settles_in}
 use Rattle.fuse_sim.proofs.Outcomes.{AddsFirst}
 use Rattle.fuse_sim.proofs.group.answer_group.Given as goal
 

@@ -1,5 +1,5 @@
 use Rattle.std.proofs.Common.{◌≤◌, length, take}
-use Rattle.fuse_sim.specs.Running.{Gathers}
+use Rattle.fuse_sim.specs.inner.Running.{Gathers}
 use Rattle.fuse_sim.proofs.group.gather.Given as goal
 
 abbrev pub invariant-loop-event : goal.invariant-loop-event

@@ -16,3 +16,6 @@ pub returns-clause-fault : goal.returns-clause-fault
 returns-clause-fault g c =
     safe_so Holds (λ k. Holds (cleared k)) HeldFor (λ y. HeldFor (cleared_for y)) (mounted c.clearing.ensures c.rows_in_order.ensures)
     (state g.S.Store c.args.conn.now) (state g.S.Store c.begin_mount.new.conn) c.begin_mount.result c.begin_mount.ensures.fault
+
+pub returns-clause-open : goal.returns-clause-open
+returns-clause-open g c = c.begin_mount.ensures.open

@@ -53,7 +53,13 @@ pub returns-then-blank-clause-tabled : goal.returns-then-blank-clause-tabled
 returns-then-blank-clause-tabled g c =
     IfOk-weaker c.create.result _ _ (λ k going clean stored. absurd (stored (c.is_blank-blank.ensures.blank.0 c.if-blank.true))) c.create.ensures.going
 
+pub returns-then-blank-clause-medium : goal.returns-then-blank-clause-medium
+returns-then-blank-clause-medium g c = c.create.ensures.medium
+
 -- ---- something was
+
+pub returns-clause-medium : goal.returns-clause-medium
+returns-clause-medium g c = c.open_begun.ensures.medium
 
 pub returns-clause-crash : goal.returns-clause-crash
 returns-clause-crash g c =

@@ -49,19 +49,34 @@ pub returns-then-is_blank-clause-tabled : goal.returns-then-is_blank-clause-tabl
 returns-then-is_blank-clause-tabled g c =
     IfOk-weaker c.create.result _ _ (λ k going clean stored. absurd (stored (c.is_blank.ensures.blank.0 c.if-is_blank.true))) c.create.ensures.going
 
+pub returns-then-is_blank-clause-medium : goal.returns-then-is_blank-clause-medium
+returns-then-is_blank-clause-medium g c = c.create.ensures.medium
+
 -- ---- something was
 
 pub returns-else-is_blank-clause-crash : goal.returns-else-is_blank-clause-crash
 returns-else-is_blank-clause-crash g c =
     IfErr-weaker c.open.result _ _
-    (λ r left. left_opened c.args.now (state g.S.Store c.args.conn) (state g.S.Store r.1)
-    (λ blank. let e = c.is_blank.ensures.blank.1 blank in let n = c.if-is_blank.false in cc) left)
-    c.open.ensures.crash
+    (λ r refused. left_opened c.args.now (state g.S.Store c.args.conn) (state g.S.Store r.1)
+    (λ blank. let e = c.is_blank.ensures.blank.1 blank in let n = c.if-is_blank.false in cc) refused.crash)
+    c.open.ensures.refused
+
+pub returns-else-is_blank-clause-kept : goal.returns-else-is_blank-clause-kept
+returns-else-is_blank-clause-kept g c = IfErr-weaker c.open.result _ _ (λ r refused. refused.kept) c.open.ensures.refused
+
+pub returns-else-is_blank-clause-fault : goal.returns-else-is_blank-clause-fault
+returns-else-is_blank-clause-fault g c = IfErr-weaker c.open.result _ _ (λ r refused. refused.outside) c.open.ensures.refused
+
+pub returns-else-is_blank-clause-says : goal.returns-else-is_blank-clause-says
+returns-else-is_blank-clause-says g c = IfErr-weaker c.open.result _ _ (λ r refused clean stored. refused.says clean) c.open.ensures.refused
+
+pub returns-else-is_blank-clause-medium : goal.returns-else-is_blank-clause-medium
+returns-else-is_blank-clause-medium g c = c.open.ensures.medium
 
 pub returns-else-is_blank-clause-plain : goal.returns-else-is_blank-clause-plain
 returns-else-is_blank-clause-plain g c =
     IfErr-weaker c.open.result _ _
-    (λ r left blank. let e = c.is_blank.ensures.blank.1 blank in let n = c.if-is_blank.false in cc) c.open.ensures.crash
+    (λ r refused blank. let e = c.is_blank.ensures.blank.1 blank in let n = c.if-is_blank.false in cc) c.open.ensures.refused
 
 pub returns-else-is_blank-clause-absent : goal.returns-else-is_blank-clause-absent
 returns-else-is_blank-clause-absent g c = λ settled stored. c.open.ensures.absent settled

@@ -1,6 +1,7 @@
 use Rattle.sqlite.specs.Held.{state}
 use Rattle.fuse_store_tables.proofs.Looks.{looked, failed}
 use Rattle.fuse_store_tables.proofs.CounterRows.{look_makes, look_finds, peek_serves, peek_finds}
+use Rattle.fuse_store_tables.proofs.Resting.{peeks_open}
 use Rattle.fuse_store_tables.proofs.counters.select_counters.Goals as goal
 
 pub returns-clause-looks : goal.returns-clause-looks
@@ -25,3 +26,8 @@ returns-clause-rests g c =
 pub returns-clause-found_at_rest : goal.returns-clause-found_at_rest
 returns-clause-found_at_rest g c =
     peek_finds (λ rows. rows.items) (state g.S.Store c.args.conn.now) (state g.S.Store c.query_all.new.self) c.query_all.result c.query_all.ensures.ok
+
+pub returns-clause-open : goal.returns-clause-open
+returns-clause-open g c =
+    peeks_open _ _ (λ rows. rows.items) (state g.S.Store c.args.conn.now) (state g.S.Store c.query_all.new.self) c.query_all.result c.query_all.ensures.ok
+    c.query_all.ensures.err

@@ -6,6 +6,7 @@ use Rattle.fuse_store_tables.specs.Clearing.{cleared}
 use Rattle.fuse_store_tables.specs.Moves.{Serves}
 use Rattle.fuse_store_tables.proofs.Joining.{served, undone}
 use Rattle.fuse_store_tables.proofs.Fitting.{fit_cleared, second_serves}
+use Rattle.fuse_store_tables.specs.Transaction.{open_undone}
 use Rattle.fuse_store_tables.proofs.mount.begin_mount.Goals as goal
 
 pub returns-in-Ok-clause-fit : goal.returns-in-Ok-clause-fit
@@ -18,3 +19,8 @@ pub returns-in-Err-clause-fit : goal.returns-in-Err-clause-fit
 returns-in-Err-clause-fit g c =
     second_serves cleared fit_cleared (state g.S.Store c.args.conn.now) (state g.S.Store c.undo.new.conn) (Err c.in-Err.fault)
     (undone Holds (λ k. Holds (cleared k)) _ _ _ _ _ c.in-Err.ensures.performs c.undo.ensures)
+
+pub returns-in-Err-clause-open : goal.returns-in-Err-clause-open
+returns-in-Err-clause-open g c =
+    open_undone (state g.S.Store c.args.conn.now) (state g.S.Store c.transact.new.conn) (state g.S.Store c.undo.new.conn) _ c.in-Err.fault
+    c.in-Err.ensures.open c.undo.ensures

@@ -5,6 +5,7 @@ use Rattle.fuse_store_tables.specs.Moves.{Rests, Serves}
 use Rattle.fuse_store_tables.specs.Following.{rests_told, rests_failed}
 use Rattle.fuse_store_tables.proofs.Joining.{on_err}
 use Rattle.fuse_store_tables.proofs.RecordCounts.{told_value, told_fault}
+use Rattle.fuse_store_tables.specs.Following.{open_told, open_fails}
 use Rattle.fuse_store_tables.proofs.records.count_kept.Goals as goal
 
 pub returns-in_err-rows-clause-rests : goal.returns-in_err-rows-clause-rests
@@ -23,3 +24,12 @@ returns-clause-value g c clean = told_value c.the_count.result c.as_slice.result
 pub returns-clause-fault : goal.returns-clause-fault
 returns-clause-fault g c clean = told_fault c.the_count.result c.as_slice.result.now (λ k. Rests k (state g.S.Store c.args.conn.now)) (λ k. length k.kept)
     (λ k at. c.as_slice.ensures.value ∙ c.in_ok-rows.ensures.found clean k at) c.the_count.ensures.fault
+
+pub returns-in_err-rows-clause-open : goal.returns-in_err-rows-clause-open
+returns-in_err-rows-clause-open g c =
+    open_fails (state g.S.Store c.args.conn.now) (state g.S.Store c.select_count.new.conn) _ c.from_residual.result c.from_residual.ensures.0
+    c.in_err-rows.ensures.open
+
+pub returns-clause-open : goal.returns-clause-open
+returns-clause-open g c =
+    open_told (state g.S.Store c.args.conn.now) (state g.S.Store c.select_count.new.conn) c.in_ok-rows.rows c.the_count.result c.in_ok-rows.ensures.open

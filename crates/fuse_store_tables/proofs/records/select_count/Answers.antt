@@ -1,5 +1,6 @@
 use Rattle.sqlite.specs.Held.{state}
 use Rattle.fuse_store_tables.proofs.RecordCounts.{kept_count_serves, kept_count_finds}
+use Rattle.fuse_store_tables.proofs.Resting.{peeks_open}
 use Rattle.fuse_store_tables.proofs.records.select_count.Goals as goal
 
 pub returns-clause-rests : goal.returns-clause-rests
@@ -10,3 +11,8 @@ returns-clause-rests g c =
 pub returns-clause-found : goal.returns-clause-found
 returns-clause-found g c =
     kept_count_finds (λ rows. rows.items) (state g.S.Store c.args.conn.now) (state g.S.Store c.query_all.new.self) c.query_all.result c.query_all.ensures.ok
+
+pub returns-clause-open : goal.returns-clause-open
+returns-clause-open g c =
+    peeks_open _ _ (λ rows. rows.items) (state g.S.Store c.args.conn.now) (state g.S.Store c.query_all.new.self) c.query_all.result c.query_all.ensures.ok
+    c.query_all.ensures.err

@@ -1,6 +1,7 @@
 use Rattle.sqlite.specs.Held.{state}
 use Rattle.fuse_store_tables.proofs.Looks.{looked, failed}
 use Rattle.fuse_store_tables.proofs.KeptRows.{look_makes, look_finds, peek_serves, peek_finds}
+use Rattle.fuse_store_tables.proofs.Resting.{peeks_open}
 use Rattle.fuse_store_tables.proofs.records.select_kept.Goals as goal
 
 pub returns-clause-looks : goal.returns-clause-looks
@@ -28,3 +29,8 @@ pub returns-clause-found_at_rest : goal.returns-clause-found_at_rest
 returns-clause-found_at_rest g c =
     peek_finds (λ rows. rows.items) c.args.id (state g.S.Store c.args.conn.now) (state g.S.Store c.query_all.new.self) c.query_all.result
     (rw c.number-values.ensures at c.query_all.ensures.ok)
+
+pub returns-clause-open : goal.returns-clause-open
+returns-clause-open g c =
+    peeks_open _ _ (λ rows. rows.items) (state g.S.Store c.args.conn.now) (state g.S.Store c.query_all.new.self) c.query_all.result c.query_all.ensures.ok
+    c.query_all.ensures.err

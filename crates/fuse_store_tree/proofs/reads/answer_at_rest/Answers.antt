@@ -5,6 +5,7 @@ use Rattle.fuse_store_tree.specs.Fits.{KeepsRecord}
 use Rattle.fuse_store_tree.specs.Store.{records_of}
 use Rattle.fuse_store_tree.proofs.Looks.{found_is, map_ok, map_err, drop_second}
 use Rattle.fuse_store_tree.proofs.Rests.{content_at, failed_for, read_for, none_kept}
+use Rattle.fuse_store_tables.specs.Following.{open_told, open_fails}
 use Rattle.fuse_store_tree.proofs.reads.answer_at_rest.Goals as goal
 
 pub returns-then-id-ge-END-clause-value : goal.returns-then-id-ge-END-clause-value
@@ -31,3 +32,15 @@ returns-clause-fault g c clean =
     (drop_second _ _ (at_by kept_key c.args.id at.holds.held.0.kept) (found_is kept_key c.args.id KeepsRecord at.holds.held.0.kept at.holds.held.2.fits.kept))
     (c.as_slice.ensures.value ∙ c.in_ok-rows.ensures.found_at_rest clean at.holds.held.0 (content_at y (state g.S.Store c.args.conn.now) at)))
     c.read_answer.ensures.fault
+
+pub returns-then-id-ge-END-clause-open : goal.returns-then-id-ge-END-clause-open
+returns-then-id-ge-END-clause-open g c = record { was = λ clean is_open. is_open; still = λ clean is_open. is_open }
+
+pub returns-in_err-rows-clause-open : goal.returns-in_err-rows-clause-open
+returns-in_err-rows-clause-open g c =
+    open_fails (state g.S.Store c.args.conn.now) (state g.S.Store c.select_kept.new.conn) _ c.from_residual.result c.from_residual.ensures.0
+    c.in_err-rows.ensures.open
+
+pub returns-clause-open : goal.returns-clause-open
+returns-clause-open g c =
+    open_told (state g.S.Store c.args.conn.now) (state g.S.Store c.select_kept.new.conn) c.in_ok-rows.rows c.read_answer.result c.in_ok-rows.ensures.open

@@ -2,6 +2,7 @@ use Rattle.std.proofs.Common.{arith, ◌∙◌}
 use Rattle.sqlite.specs.Held.{state}
 use Rattle.fuse_store_tree.proofs.Looks.{map_ok, map_err}
 use Rattle.fuse_store_tree.proofs.Rests.{counters_held, counters_shown, failed_for, read_for}
+use Rattle.fuse_store_tables.specs.Following.{open_told, open_fails}
 use Rattle.fuse_store_tree.proofs.reads.counters_at_rest.Goals as goal
 
 pub returns-in_err-rows-clause-serves : goal.returns-in_err-rows-clause-serves
@@ -22,3 +23,12 @@ pub returns-clause-fault : goal.returns-clause-fault
 returns-clause-fault g c clean =
     map_err c.read_counters.result _ _ (λ f told y at. told (counters_held y) (counters_shown y (state g.S.Store c.args.conn.now) c.as_slice.result.now
     (λ k here. c.as_slice.ensures.value ∙ c.in_ok-rows.ensures.found_at_rest clean k here) at) (omega arith)) c.read_counters.ensures.fault
+
+pub returns-in_err-rows-clause-open : goal.returns-in_err-rows-clause-open
+returns-in_err-rows-clause-open g c =
+    open_fails (state g.S.Store c.args.conn.now) (state g.S.Store c.select_counters.new.conn) _ c.from_residual.result c.from_residual.ensures.0
+    c.in_err-rows.ensures.open
+
+pub returns-clause-open : goal.returns-clause-open
+returns-clause-open g c =
+    open_told (state g.S.Store c.args.conn.now) (state g.S.Store c.select_counters.new.conn) c.in_ok-rows.rows c.read_counters.result c.in_ok-rows.ensures.open

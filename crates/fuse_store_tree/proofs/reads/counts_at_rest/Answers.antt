@@ -3,6 +3,7 @@ use Rattle.sqlite.specs.Held.{state}
 use Rattle.fuse_store_tables.specs.Following.{rests_told, rests_then}
 use Rattle.fuse_store_tree.specs.Holding.{HeldFor}
 use Rattle.fuse_store_tree.proofs.Rests.{fails_for}
+use Rattle.fuse_store_tables.specs.Following.{open_told, open_fails, open_then}
 use Rattle.fuse_store_tree.proofs.reads.counts_at_rest.Goals as goal
 
 pub returns-in_err-records-clause-serves : goal.returns-in_err-records-clause-serves
@@ -31,3 +32,39 @@ returns-clause-serves g c =
     let e = state g.S.Store c.lots_at_rest.new.conn in
     let two = rests_then HeldFor a b d c.in_ok-counters.counters (Ok c.in_ok-records.records) c.in_ok-counters.ensures.serves c.in_ok-records.ensures.serves in
     rests_told HeldFor a e c.in_ok-lots.lots (Ok _) (rests_then HeldFor a d e c.in_ok-records.records (Ok c.in_ok-lots.lots) two c.in_ok-lots.ensures.serves)
+
+pub returns-in_err-counters-clause-open : goal.returns-in_err-counters-clause-open
+returns-in_err-counters-clause-open g c =
+    open_fails (state g.S.Store c.args.conn.now) (state g.S.Store c.counters_at_rest.new.conn) _ c.from_residual.result c.from_residual.ensures.0
+    c.in_err-counters.ensures.open
+
+pub returns-in_err-records-clause-open : goal.returns-in_err-records-clause-open
+returns-in_err-records-clause-open g c =
+    let a = state g.S.Store c.args.conn.now in
+    let b = state g.S.Store c.counters_at_rest.new.conn in
+    let d = state g.S.Store c.records_at_rest.new.conn in
+    open_fails a d c.in_err-records.field-0.0 c.from_residual-in_err-records.result c.from_residual-in_err-records.ensures.0
+    (open_then a b d c.in_ok-counters.counters (Err c.in_err-records.field-0.0) c.in_ok-counters.ensures.open c.in_err-records.ensures.serves.survives
+    c.in_err-records.ensures.open)
+
+pub returns-in_err-lots-clause-open : goal.returns-in_err-lots-clause-open
+returns-in_err-lots-clause-open g c =
+    let a = state g.S.Store c.args.conn.now in
+    let b = state g.S.Store c.counters_at_rest.new.conn in
+    let d = state g.S.Store c.records_at_rest.new.conn in
+    let e = state g.S.Store c.lots_at_rest.new.conn in
+    let two = open_then a b d c.in_ok-counters.counters (Ok c.in_ok-records.records) c.in_ok-counters.ensures.open c.in_ok-records.ensures.serves.survives
+    c.in_ok-records.ensures.open in
+    open_fails a e c.in_err-lots.field-0.0 c.from_residual-in_err-lots.result c.from_residual-in_err-lots.ensures.0
+    (open_then a d e c.in_ok-records.records (Err c.in_err-lots.field-0.0) two c.in_err-lots.ensures.serves.survives c.in_err-lots.ensures.open)
+
+pub returns-clause-open : goal.returns-clause-open
+returns-clause-open g c =
+    let a = state g.S.Store c.args.conn.now in
+    let b = state g.S.Store c.counters_at_rest.new.conn in
+    let d = state g.S.Store c.records_at_rest.new.conn in
+    let e = state g.S.Store c.lots_at_rest.new.conn in
+    let two = open_then a b d c.in_ok-counters.counters (Ok c.in_ok-records.records) c.in_ok-counters.ensures.open c.in_ok-records.ensures.serves.survives
+    c.in_ok-records.ensures.open in
+    open_told a e c.in_ok-lots.lots (Ok _)
+    (open_then a d e c.in_ok-records.records (Ok c.in_ok-lots.lots) two c.in_ok-lots.ensures.serves.survives c.in_ok-lots.ensures.open)

@@ -14,3 +14,6 @@ returns-clause-value g c =
 
 pub returns-clause-fault : goal.returns-clause-fault
 returns-clause-fault g c = safe_for (state g.S.Store c.args.conn.now) (state g.S.Store c.count_lots.new.conn) c.count_lots.result c.count_lots.ensures.fault
+
+pub returns-clause-open : goal.returns-clause-open
+returns-clause-open g c = c.count_lots.ensures.open

@@ -14,3 +14,6 @@ returns-clause-value g c =
 
 pub returns-clause-fault : goal.returns-clause-fault
 returns-clause-fault g c = safe_for (state g.S.Store c.args.conn.now) (state g.S.Store c.count_kept.new.conn) c.count_kept.result c.count_kept.ensures.fault
+
+pub returns-clause-open : goal.returns-clause-open
+returns-clause-open g c = c.count_kept.ensures.open

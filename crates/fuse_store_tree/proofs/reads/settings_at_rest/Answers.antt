@@ -4,6 +4,7 @@ use Rattle.fuse_tree.specs.Rows.{rowed}
 use Rattle.fuse_store_tree.proofs.Looks.{map_ok, map_err}
 use Rattle.fuse_store_tree.proofs.Once.{agreed_back}
 use Rattle.fuse_store_tree.proofs.Rests.{counters_held, counters_shown, failed_for, read_for}
+use Rattle.fuse_store_tables.specs.Following.{open_told, open_fails}
 use Rattle.fuse_store_tree.proofs.reads.settings_at_rest.Goals as goal
 
 pub returns-in_err-rows-clause-serves : goal.returns-in_err-rows-clause-serves
@@ -26,3 +27,12 @@ returns-clause-fault g c clean =
     map_err c.read_settings.result _ _ (λ f told y at. told (counters_held y) (counters_shown y (state g.S.Store c.args.conn.now) c.as_slice.result.now
     (λ k here. c.as_slice.ensures.value ∙ c.in_ok-rows.ensures.found_at_rest clean k here) at)
     (omega arith) at.holds.held.2.settings.minor at.holds.held.2.settings.readahead) c.read_settings.ensures.fault
+
+pub returns-in_err-rows-clause-open : goal.returns-in_err-rows-clause-open
+returns-in_err-rows-clause-open g c =
+    open_fails (state g.S.Store c.args.conn.now) (state g.S.Store c.select_counters.new.conn) _ c.from_residual.result c.from_residual.ensures.0
+    c.in_err-rows.ensures.open
+
+pub returns-clause-open : goal.returns-clause-open
+returns-clause-open g c =
+    open_told (state g.S.Store c.args.conn.now) (state g.S.Store c.select_counters.new.conn) c.in_ok-rows.rows c.read_settings.result c.in_ok-rows.ensures.open

@@ -4,6 +4,7 @@ use Rattle.fuse_store_tables.specs.Transaction.{served, undone}
 use Rattle.fuse_store_tree.specs.Holding.{HeldFor}
 use Rattle.fuse_store_tree.specs.Group.{performed}
 use Rattle.fuse_store_tables.specs.Following.{earlier}
+use Rattle.fuse_store_tables.specs.Transaction.{open_undone}
 use Rattle.fuse_store_tree.proofs.transaction.perform.Goals as goal
 
 pub returns-in-Ok-clause-serves : goal.returns-in-Ok-clause-serves
@@ -19,3 +20,11 @@ returns-in-Err-clause-serves g c =
 pub returns-in-Err-clause-fault : goal.returns-in-Err-clause-fault
 returns-in-Err-clause-fault g c clean =
     c.in-Err.ensures.fault (earlier (state g.S.Store c.transact.new.look.conn) (state g.S.Store c.undo.new.conn) _ c.undo.ensures.survives clean)
+
+pub returns-in-Ok-clause-open : goal.returns-in-Ok-clause-open
+returns-in-Ok-clause-open g c = c.in-Ok.ensures.open
+
+pub returns-in-Err-clause-open : goal.returns-in-Err-clause-open
+returns-in-Err-clause-open g c =
+    open_undone (state g.S.Store c.args.look.now.conn) (state g.S.Store c.transact.new.look.conn) (state g.S.Store c.undo.new.conn) c.in-Err.fault
+    c.in-Err.fault c.in-Err.ensures.open c.undo.ensures

@@ -7,6 +7,7 @@ use Rattle.fuse_store_tree.specs.Group.{performed, all_dones, lot_for}
 use Rattle.fuse_store_tree.proofs.Whole.{takes_for, fails_for, told_after}
 use Rattle.fuse_store_tables.specs.Following.{earlier}
 use Rattle.fuse_store_tree.proofs.Whole.{begun_for}
+use Rattle.fuse_store_tables.specs.Transaction.{open_first, open_inside, open_failed, open_committed}
 use Rattle.fuse_store_tree.proofs.transaction.transact.Goals as goal
 
 pub returns-in-Err-clause-performs : goal.returns-in-Err-clause-performs
@@ -60,3 +61,24 @@ returns-in-Err-perform_in-clause-fault g c clean y at left =
     let d = state g.S.Store c.perform_in.new.look.conn in
     let mid = earlier b d _ c.in-Err-perform_in.ensures.fails.survives clean in
     c.in-Err-perform_in.ensures.fault clean y (begun_for (state g.S.Store c.args.look.now.conn) b _ c.in-Ok.ensures mid y at) left
+
+pub returns-in-Err-clause-open : goal.returns-in-Err-clause-open
+returns-in-Err-clause-open g c =
+    open_first (state g.S.Store c.args.look.now.conn) (state g.S.Store c.begin.new.conn) c.in-Err.error c.from.result c.in-Err.ensures
+
+pub returns-in-Err-perform_in-clause-open : goal.returns-in-Err-perform_in-clause-open
+returns-in-Err-perform_in-clause-open g c =
+    open_inside (state g.S.Store c.args.look.now.conn) (state g.S.Store c.begin.new.conn) (state g.S.Store c.perform_in.new.look.conn) _
+    c.in-Err-perform_in.fault c.in-Ok.ensures c.in-Err-perform_in.ensures.fails.survives
+
+pub returns-in-Err-commit-clause-open : goal.returns-in-Err-commit-clause-open
+returns-in-Err-commit-clause-open g c =
+    open_failed (state g.S.Store c.args.look.now.conn) (state g.S.Store c.begin.new.conn) (state g.S.Store c.perform_in.new.look.conn)
+    (state g.S.Store c.commit.new.conn) _ c.in-Err-commit.error c.from-in-Err-commit.result c.in-Ok.ensures
+    c.in-Ok-perform_in.ensures.turned.stays.survives c.in-Err-commit.ensures
+
+pub returns-in-Ok-commit-clause-open : goal.returns-in-Ok-commit-clause-open
+returns-in-Ok-commit-clause-open g c =
+    open_committed (state g.S.Store c.args.look.now.conn) (state g.S.Store c.begin.new.conn) (state g.S.Store c.perform_in.new.look.conn)
+    (state g.S.Store c.commit.new.conn) _ _ c.in-Ok-perform_in.performed c.in-Ok.ensures c.in-Ok-perform_in.ensures.turned.stays.survives
+    c.in-Ok-commit.ensures

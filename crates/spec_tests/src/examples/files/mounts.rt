@@ -70,7 +70,7 @@ fn right_in(alloc: Global, outcomes: &[Option<Outcome>], steps: &[Step]) -> Resu
 // Runs these steps over new files, and counts the right answers.
 fn right_after(alloc: Global, steps: &[Step]) -> Result<usize, Fail> {
     let events = events_of(alloc, steps)?;
-    let files: PlainKeeper<ThreeFiles> = PlainKeeper::new(alloc, NOW)?;
+    let files: PlainKeeper<FiveFiles> = PlainKeeper::new(alloc, NOW)?;
     if files.failed() {
         return Ok(0);
     }

@@ -3,6 +3,7 @@ use Rattle.fuse_keeper.specs.Group.{ids_of, entries_of}
 use Rattle.fuse_keeper.specs.Model.{IsRowed}
 use Rattle.fuse_keeper.specs.Plain.{mapped}
 use Rattle.fuse_keeper.proofs.Overlays.{without-same}
+use Rattle.fuse_keeper.proofs.InARow.{named_taken}
 use Rattle.fuse_keeper.proofs.Keeping.{left_new, left_old, rowed_where, or-true, no_lot, lots_stay}
 use Rattle.fuse_keeper.proofs.plain.PlainKeeperKeeper.perform.Goals as goal
 
@@ -13,6 +14,16 @@ returns-in-Ok-clause-others g c = λ honest rows records held rowed. record {
   held = (refl, λ i. refl);
   rowed = c.in-Ok.ensures.rowed (subst (IsRowed g.F.FileSystem.model) held.0 rowed);
   others = λ i isnt. c.in-Ok.ensures.others i isnt ∙ without-same (ids_of c.args.settled.now) (mapped c.args.self.now.records) records i (sym (held.1 i));
+}
+
+pub returns-in-Ok-clause-acts : goal.returns-in-Ok-clause-acts
+returns-in-Ok-clause-acts g c = λ honest rows records held rowed. record {
+  rows = g.F.FileSystem.held c.perform_group.new.self.rows;
+  records = mapped c.perform_group.new.self.records;
+  held = (refl, λ i. refl);
+  taken = named_taken g.F.FileSystem.model (g.F.FileSystem.held c.args.self.now.rows) (mapped c.args.self.now.records) (ids_of c.args.settled.now) rows records
+      (entries_of c.args.group.now) (g.F.FileSystem.held c.perform_group.new.self.rows) (mapped c.perform_group.new.self.records) c.in-Ok.dones.items held
+      c.in-Ok.ensures.acts;
 }
 
 pub returns-in-Ok-clause-lots : goal.returns-in-Ok-clause-lots
@@ -36,6 +47,8 @@ pub returns-in-Err-clause-called : goal.returns-in-Err-clause-called
 returns-in-Err-clause-called g c = record {
   failed = sym (or-true c.args.self.now.failed);
   honest = λ honest. honest;
+  medium = λ memory. memory;
+  clean = tt;
   err = λ clean. c.in-Err.ensures.err;
   err_lots = λ clean rows records held. lots_stay;
   fault = λ clean s h t so. c.in-Err.ensures.fault (rowed_where g.F.FileSystem.model (g.F.FileSystem.held c.args.self.now.rows)

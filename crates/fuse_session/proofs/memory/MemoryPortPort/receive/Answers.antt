@@ -1,6 +1,7 @@
 use Rattle.std.proofs.Common.{ap, ◌≤◌, ◌-◌, length, arith}
 use Rattle.fuse_session.specs.Port.{PortState}
 use Rattle.fuse_session.proofs.Pieces.{piece_from, copied_is, copied_length, room}
+use Rattle.fuse_session.proofs.Transcripts.{one_received}
 use Rattle.fuse_session.proofs.memory.MemoryPortPort.receive.Goals as goal
 
 pub returns-clause-received : goal.returns-clause-received
@@ -20,8 +21,12 @@ returns-clause-received c =
       sent = ap (λ (t : PortState). t.sent) same;
       receives = ap (λ (t : PortState). t.receives) same;
       has_ended = ap (λ (t : PortState). t.has_ended) same;
+      ends = omega (arith, ap (λ (t : PortState). t.ends) same);
       failures = omega (arith, ap (λ (t : PortState). t.failures) same);
       receive_failures = omega (arith, ap (λ (t : PortState). t.receive_failures) same);
       confirms = ap (λ (t : PortState). t.confirms) same;
       gone = ap (λ (t : PortState). t.gone) same;
     }
+
+pub returns-clause-same : goal.returns-clause-same
+returns-clause-same c = one_received _ _ _ _ (returns-clause-received c)

@@ -28,28 +28,28 @@ returns-in-Err-clause-err g c =
     let pending = ids_of c.args.self.now.pending.now.items in
     broken_store g.K.Keeper.model k k' gave (g.P.Port.told c.args.self.now.port.now) pending c.args.messages.now c.len-count.result group.taken.items group.ends
     c.as_slice-group.result.now _
-    (gathers_to gave c.args.messages.now (length group.classes.items) c.len-count.result group.taken.items group.ends len c.in-Ok.ensures.gathers)
+    (gathers_to g.K.Keeper.model.serves gave c.args.messages.now (length group.classes.items) c.len-count.result group.taken.items group.ends len c.in-Ok.ensures.gathers)
     c.as_slice-group.ensures.value c.in-Err.ensures.called.err c.in-Err.ensures.called.fault
     (leaves_all g.K.Keeper.model k k' pending (entries_of c.as_slice-group.result.now) c.perform_group.ensures.crash)
 
 pub send_answers-requires-clause-classes : goal.send_answers-requires-clause-classes
 send_answers-requires-clause-classes g c =
     let len : c.len-count.result ≡ length c.in-Ok.gathered.classes.items = omega (arith, c.len-count.ensures, c.in-Ok.gathered.classes.ok) in
-    c.as_slice-classes.ensures.value ∙ c.in-Ok.ensures.classes ∙ ap (λ n. classes_in (take n c.args.messages.now)) (sym len)
+    c.as_slice-classes.ensures.value ∙ c.in-Ok.ensures.classes ∙ ap (λ n. classes_in g.K.Keeper.model.serves (take n c.args.messages.now)) (sym len)
 
 pub count_all-requires-clause-classes : goal.count_all-requires-clause-classes
 count_all-requires-clause-classes g c =
     let len : c.len-count.result ≡ length c.in-Ok.gathered.classes.items = omega (arith, c.len-count.ensures, c.in-Ok.gathered.classes.ok) in
-    c.as_slice-classes.ensures.value ∙ c.in-Ok.ensures.classes ∙ ap (λ n. classes_in (take n c.args.messages.now)) (sym len)
+    c.as_slice-classes.ensures.value ∙ c.in-Ok.ensures.classes ∙ ap (λ n. classes_in g.K.Keeper.model.serves (take n c.args.messages.now)) (sym len)
 
 pub send_answers-requires-clause-enough : goal.send_answers-requires-clause-enough
 send_answers-requires-clause-enough g c =
     let group = c.in-Ok.gathered in
     let gave = g.C.Clock.gave c.args.self.now.clock.now c.gather.new.clock in
     let len : c.len-count.result ≡ length group.classes.items = omega (arith, c.len-count.ensures, group.classes.ok) in
-    are_enough gave (take c.len-count.result c.args.messages.now) group.taken.items group.ends _ c.as_slice-group.result.now c.in-Ok-perform_group.dones.items
+    are_enough g.K.Keeper.model.serves gave (take c.len-count.result c.args.messages.now) group.taken.items group.ends _ c.as_slice-group.result.now c.in-Ok-perform_group.dones.items
     c.as_slice-answered.result.now
-    (gathers_to gave c.args.messages.now (length group.classes.items) c.len-count.result group.taken.items group.ends len c.in-Ok.ensures.gathers)
+    (gathers_to g.K.Keeper.model.serves gave c.args.messages.now (length group.classes.items) c.len-count.result group.taken.items group.ends len c.in-Ok.ensures.gathers)
     refl c.as_slice-group.ensures.value c.in-Ok-perform_group.ensures.count c.as_slice-answered.ensures.value
 
 pub returns-in-Ok-send_answers-clause-zero : goal.returns-in-Ok-send_answers-clause-zero
@@ -75,7 +75,7 @@ returns-in-Ok-send_answers-clause-ok g c =
     turned M c.histories_grow.ensures k k' gave (g.P.Port.told c.args.self.now.port.now) _ pending left _ c.args.messages.now
     c.len-count.result group.taken.items group.ends c.as_slice-group.result.now (take c.len-count.result c.args.messages.now)
     c.in-Ok-perform_group.dones.items c.as_slice-answered.result.now c.is_stuck.result c.next_of.result c.count_all.result
-    (gathers_to gave c.args.messages.now (length group.classes.items) c.len-count.result group.taken.items group.ends len c.in-Ok.ensures.gathers)
+    (gathers_to g.K.Keeper.model.serves gave c.args.messages.now (length group.classes.items) c.len-count.result group.taken.items group.ends len c.in-Ok.ensures.gathers)
     c.as_slice-group.ensures.value refl (performs_all M k k' pending es c.in-Ok-perform_group.dones.items done.ok)
     (left_within pending left es done.pending)
     (λ honest u un have. few_left M k k' u pending left es done.pending (omega (arith, few)) (done.others honest) un have)
@@ -107,7 +107,7 @@ returns-in-Ok-send_answers-clause-more g c = λ confirms honest (before : Record
     (omega (arith, length-map c.as_slice-group.result.now entry_of, ap length c.as_slice-group.ensures.value, c.in-Ok.ensures.few)) in
     hands_group M before k' gave (g.P.Port.told c.args.self.now.port.now) _ left _ (take c.len-count.result c.args.messages.now)
     group.taken.items group.ends c.as_slice-group.result.now (take c.len-count.result c.args.messages.now) _
-    (gathers_to gave c.args.messages.now (length group.classes.items) c.len-count.result group.taken.items group.ends len c.in-Ok.ensures.gathers)
+    (gathers_to g.K.Keeper.model.serves gave c.args.messages.now (length group.classes.items) c.len-count.result group.taken.items group.ends len c.in-Ok.ensures.gathers)
     c.as_slice-group.ensures.value refl confirms c.in-Ok-send_answers.ensures.ok
     (hands_on M before k k' pending left es done.pending (omega
     (arith, length-map c.as_slice-group.result.now entry_of, ap length c.as_slice-group.ensures.value, c.in-Ok.ensures.few)) (done.others honest) h)
@@ -129,7 +129,7 @@ returns-clause-err g c =
     broken_sent M c.histories_grow.ensures k k' gave (g.P.Port.told c.args.self.now.port.now) _ pending left c.args.messages.now
     c.len-count.result group.taken.items group.ends c.as_slice-group.result.now (take c.len-count.result c.args.messages.now)
     c.in-Ok-perform_group.dones.items c.as_slice-answered.result.now _ _
-    (gathers_to gave c.args.messages.now (length group.classes.items) c.len-count.result group.taken.items group.ends len c.in-Ok.ensures.gathers)
+    (gathers_to g.K.Keeper.model.serves gave c.args.messages.now (length group.classes.items) c.len-count.result group.taken.items group.ends len c.in-Ok.ensures.gathers)
     c.as_slice-group.ensures.value refl (g.met.K.Keeper.sound c.perform_group.new.keeper).clean_is_honest
     (performs_all M k k' pending es c.in-Ok-perform_group.dones.items done.ok) (λ honest firm. done.firm honest (inl firm))
     (λ honest u un have. few_left M k k' u pending left es done.pending (omega (arith, few)) (done.others honest) un have)

@@ -35,3 +35,6 @@ returns-in-Ok-clause-firm g c = λ clean.
 
 pub returns-in-Ok-clause-absent : goal.returns-in-Ok-clause-absent
 returns-in-Ok-clause-absent g c = λ settled none. absurd (c.in-Ok.ensures.absent settled none)
+
+pub returns-in-Ok-clause-medium : goal.returns-in-Ok-clause-medium
+returns-in-Ok-clause-medium g c = record { honest = (λ honest. honest, λ clean. clean); disk = λ memory. memory }

@@ -3,13 +3,13 @@ use Rattle.sqlite.specs.Held.{state}
 use Rattle.fuse_store.specs.Mounting.{cleared_for}
 use Rattle.fuse_store.proofs.Serving.{firm}
 use Rattle.fuse_store.proofs.Beginning.{clears_all, begins_mount, drops_lots, leaves_mount}
-use Rattle.fuse_store.proofs.Peeking.{went_well, went_wrong, plain_where}
+use Rattle.fuse_store.proofs.Peeking.{went_well, went_wrong, may_where}
 use Rattle.fuse_store.proofs.table_keeper.TableKeeperKeeper.begin_mount.Goals as goal
 
 pub returns-in-Ok-clause-called : goal.returns-in-Ok-clause-called
 returns-in-Ok-clause-called g c =
     went_well cleared_for (state g.S.Store c.args.self.now.look.conn) (state g.S.Store c.begin_mount.new.conn) tt tt c.in-Ok.ensures.serves
-    c.args.self.now.lot None c.args.self.now.failed
+    c.in-Ok.ensures.open c.args.self.now.lot None c.args.self.now.failed
 
 pub returns-in-Ok-clause-ok : goal.returns-in-Ok-clause-ok
 returns-in-Ok-clause-ok g c =
@@ -36,9 +36,9 @@ returns-in-Ok-clause-firm g c = λ clean.
 pub returns-in-Err-clause-called : goal.returns-in-Err-clause-called
 returns-in-Err-clause-called g c =
     went_wrong c.one_holding.ensures c.lots_are_read.ensures.same cleared_for (state g.S.Store c.args.self.now.look.conn)
-    (state g.S.Store c.begin_mount.new.conn) c.in-Err.fault c.in-Err.ensures.serves (plain_where (state g.S.Store c.args.self.now.look.conn)
-    (state g.S.Store c.begin_mount.new.conn) c.in-Err.fault c.in-Err.ensures.fault)
-    c.args.self.now.lot c.args.self.now.failed
+    (state g.S.Store c.begin_mount.new.conn) c.in-Err.fault c.in-Err.ensures.serves c.args.self.now.lot
+    (may_where c.args.self.now.lot (state g.S.Store c.args.self.now.look.conn) (state g.S.Store c.begin_mount.new.conn) c.in-Err.fault
+    c.in-Err.ensures.fault) c.args.self.now.failed
 
 pub returns-in-Err-clause-crash : goal.returns-in-Err-clause-crash
 returns-in-Err-clause-crash g c =

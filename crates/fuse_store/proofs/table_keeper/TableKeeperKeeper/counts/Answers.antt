@@ -1,6 +1,6 @@
 use Rattle.std.proofs.Common.{sym, ap, length, ◌∙◌}
 use Rattle.sqlite.specs.Held.{state}
-use Rattle.fuse_store.proofs.Peeking.{looked_well, looked_wrong, plain_where}
+use Rattle.fuse_store.proofs.Peeking.{looked_well, looked_wrong}
 use Rattle.fuse_store.proofs.Numbering.{counts_records}
 use Rattle.fuse_store.proofs.table_keeper.TableKeeperKeeper.counts.Goals as goal
 
@@ -8,14 +8,13 @@ pub returns-in-Ok-clause-looked : goal.returns-in-Ok-clause-looked
 returns-in-Ok-clause-looked g c =
     looked_well c.one_holding.ensures c.lots_are_read.ensures.same (state g.S.Store c.args.self.now.look.conn) (state g.S.Store c.counts_at_rest.new.conn)
     (g.met.S.Store.settled c.args.self.now.look.conn.store) (g.met.S.Store.stays c.args.self.now.look.conn.store) c.in-Ok.counts c.in-Ok.ensures.serves
-    c.args.self.now.lot c.args.self.now.failed
+    c.in-Ok.ensures.open c.args.self.now.lot c.args.self.now.failed
 
 pub returns-in-Err-clause-looked : goal.returns-in-Err-clause-looked
 returns-in-Err-clause-looked g c =
     looked_wrong c.one_holding.ensures c.lots_are_read.ensures.same (state g.S.Store c.args.self.now.look.conn) (state g.S.Store c.counts_at_rest.new.conn)
     (g.met.S.Store.settled c.args.self.now.look.conn.store) (g.met.S.Store.stays c.args.self.now.look.conn.store) c.in-Err.fault c.in-Err.ensures.serves
-    (plain_where (state g.S.Store c.args.self.now.look.conn) (state g.S.Store c.counts_at_rest.new.conn) c.in-Err.fault c.in-Err.ensures.fault)
-    c.args.self.now.lot c.args.self.now.failed
+    c.in-Err.ensures.open c.in-Err.ensures.fault c.args.self.now.lot c.args.self.now.failed
 
 pub returns-in-Ok-clause-nodes : goal.returns-in-Ok-clause-nodes
 returns-in-Ok-clause-nodes g c = λ clean rows records at rowed.

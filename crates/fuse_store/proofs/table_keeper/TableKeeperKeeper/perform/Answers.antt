@@ -3,19 +3,30 @@ use Rattle.sqlite.specs.Held.{state}
 use Rattle.fuse_keeper.specs.Group.{ids_of, entries_of}
 use Rattle.fuse_store_tree.specs.Group.{performed}
 use Rattle.fuse_store.proofs.Serving.{firm}
-use Rattle.fuse_store.proofs.Grouping.{performs, others_so, lots_so, leaves_group}
-use Rattle.fuse_store.proofs.Peeking.{went_well, went_wrong}
+use Rattle.fuse_store.proofs.Grouping.{performs, acts_so, others_so, lots_so, leaves_group}
+use Rattle.fuse_store.proofs.Peeking.{went_well, went_wrong, lot_may, took_may, failed_may}
 use Rattle.fuse_store.proofs.table_keeper.TableKeeperKeeper.perform.Goals as goal
 
 pub returns-in-Ok-clause-called : goal.returns-in-Ok-clause-called
 returns-in-Ok-clause-called g c =
     went_well (performed c.args.self.now.lot (ids_of c.args.settled.now) (entries_of c.args.group.now)) (state g.S.Store c.args.self.now.look.conn)
-    (state g.S.Store c.perform.new.look.conn) c.in-Ok.performed c.in-Ok.performed.dones c.in-Ok.ensures.serves c.args.self.now.lot
+    (state g.S.Store c.perform.new.look.conn) c.in-Ok.performed c.in-Ok.performed.dones c.in-Ok.ensures.serves c.in-Ok.ensures.open c.args.self.now.lot
     (Some c.in-Ok.performed.lot) c.args.self.now.failed
 
 pub returns-in-Ok-clause-ok : goal.returns-in-Ok-clause-ok
 returns-in-Ok-clause-ok g c =
     performs c.one_holding.ensures c.calls_perform.ensures c.args.self.now.lot (ids_of c.args.settled.now) (entries_of c.args.group.now)
+    (state g.S.Store c.args.self.now.look.conn) (state g.S.Store c.perform.new.look.conn) c.in-Ok.performed c.in-Ok.ensures.serves
+    (Some c.in-Ok.performed.lot) c.args.self.now.failed c.args.self.now.failed c.in-Ok.performed.dones.items c.in-Ok.ensures.dones
+
+pub returns-in-Ok-clause-may : goal.returns-in-Ok-clause-may
+returns-in-Ok-clause-may g c =
+    took_may c.in-Ok.performed.lot c.args.self.now.lot (state g.S.Store c.args.self.now.look.conn) (state g.S.Store c.perform.new.look.conn)
+    c.args.self.now.failed c.args.self.now.failed
+
+pub returns-in-Ok-clause-acts : goal.returns-in-Ok-clause-acts
+returns-in-Ok-clause-acts g c =
+    acts_so c.one_holding.ensures c.calls_perform.ensures c.args.self.now.lot (ids_of c.args.settled.now) (entries_of c.args.group.now)
     (state g.S.Store c.args.self.now.look.conn) (state g.S.Store c.perform.new.look.conn) c.in-Ok.performed c.in-Ok.ensures.serves
     (Some c.in-Ok.performed.lot) c.args.self.now.failed c.args.self.now.failed c.in-Ok.performed.dones.items c.in-Ok.ensures.dones
 
@@ -47,8 +58,14 @@ pub returns-in-Err-clause-called : goal.returns-in-Err-clause-called
 returns-in-Err-clause-called g c =
     went_wrong c.one_holding.ensures c.lots_are_read.ensures.same
     (performed c.args.self.now.lot (ids_of c.args.settled.now) (entries_of c.args.group.now)) (state g.S.Store c.args.self.now.look.conn)
-    (state g.S.Store c.perform.new.look.conn) c.in-Err.fault c.in-Err.ensures.serves (λ clean y at. c.in-Err.ensures.plain) c.args.self.now.lot
-    c.args.self.now.failed
+    (state g.S.Store c.perform.new.look.conn) c.in-Err.fault c.in-Err.ensures.serves c.args.self.now.lot
+    (lot_may c.one_holding.ensures c.args.self.now.lot (state g.S.Store c.args.self.now.look.conn) (state g.S.Store c.perform.new.look.conn) c.in-Err.fault
+    c.in-Err.ensures.plain c.in-Err.ensures.fault) c.args.self.now.failed
+
+pub returns-in-Err-clause-may : goal.returns-in-Err-clause-may
+returns-in-Err-clause-may g c =
+    failed_may (performed c.args.self.now.lot (ids_of c.args.settled.now) (entries_of c.args.group.now)) (state g.S.Store c.args.self.now.look.conn)
+    (state g.S.Store c.perform.new.look.conn) c.in-Err.fault c.in-Err.ensures.serves c.in-Err.ensures.open c.args.self.now.lot c.args.self.now.failed true
 
 pub returns-in-Err-clause-crash : goal.returns-in-Err-clause-crash
 returns-in-Err-clause-crash g c =

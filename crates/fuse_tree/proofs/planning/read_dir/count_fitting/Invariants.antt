@@ -1,6 +1,6 @@
 use Rattle.std.proofs.Common.{◌≡◌, ◌+◌, take}
 use Rattle.std.specs.List.{sum_by}
-use Rattle.fuse_tree.specs.PlanListing.{row_len}
+use Rattle.fuse_tree.specs.inner.PlanListing.{row_len}
 use Rattle.fuse_tree.proofs.planning.read_dir.count_fitting.Given as goal
 
 abbrev pub invariant-loop-entry : goal.invariant-loop-entry

@@ -3,7 +3,7 @@ use Rattle.std.specs.List.{sum_by}
 use Rattle.std.proofs.lemmas.Bool.{eqb-false}
 use Rattle.std.proofs.lemmas.List.{length-map}
 use Rattle.fuse_answer.specs.Entries.{Entry, entry_of, packed_len}
-use Rattle.fuse_tree.specs.PlanListing.{plan_prefix}
+use Rattle.fuse_tree.specs.inner.PlanListing.{plan_prefix}
 use Rattle.fuse_tree.proofs.Cuts.{same_told}
 use Rattle.fuse_tree.proofs.Shown.{all_taken}
 use Rattle.fuse_tree.proofs.planning.read_dir.list_after.Goals as goal

@@ -1,7 +1,7 @@
 use Rattle.std.proofs.Common.{map, None, refl, sym}
 use Rattle.std.proofs.lemmas.List.Elements.{All-push}
 use Rattle.fuse_answer.specs.Entries.{entry_of, IsNamed}
-use Rattle.fuse_tree.specs.PlanListing.{IsShown}
+use Rattle.fuse_tree.specs.inner.PlanListing.{IsShown}
 use Rattle.fuse_tree.proofs.Shown.{all_at, one_more}
 use Rattle.fuse_tree.proofs.planning.read_dir.push_entries.Goals as goal
 

@@ -2,7 +2,7 @@ use Rattle.std.proofs.Common.{◌≡◌, ◌++◌, None, All, map, take}
 use Rattle.std.specs.List.{AllByRecursion}
 use Rattle.fuse_answer.specs.Entries.{entry_of, IsNamed}
 use Rattle.fuse_tree.specs.Rows.{Rows, IsRowed}
-use Rattle.fuse_tree.specs.PlanListing.{row_entry, IsShown}
+use Rattle.fuse_tree.specs.inner.PlanListing.{row_entry, IsShown}
 use Rattle.fuse_tree.proofs.planning.read_dir.push_entries.Given as goal
 
 abbrev pub invariant-loop-entry : goal.invariant-loop-entry

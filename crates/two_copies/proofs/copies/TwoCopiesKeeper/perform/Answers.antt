@@ -1,6 +1,7 @@
 use Rattle.std.proofs.Common.{refl, inl}
 use Rattle.fuse_keeper.specs.Group.{ids_of, entries_of}
-use Rattle.two_copies.proofs.Both.{Commits, plain_firm, working_stands, leaves_old, leaves_either, both_performed, both_others, called_working}
+use Rattle.fuse_keeper.specs.Stands.{without}
+use Rattle.two_copies.proofs.Both.{Commits, plain_firm, working_stands, leaves_old, leaves_either, both_performed, both_taken, both_others, called_working}
 use Rattle.two_copies.proofs.copies.TwoCopiesKeeper.perform.Goals as goal
 
 pub returns-in_ok-commit-in-Ok-clause-ok : goal.returns-in_ok-commit-in-Ok-clause-ok
@@ -12,6 +13,16 @@ returns-in_ok-commit-in-Ok-clause-ok g c = λ honest s h t so within fresh.
     } in
     both_performed g.F.FileSystem.model g.F.FileSystem.held c.perform.new.self c.commit.new.self s h t (entries_of c.args.group.now) c.in-Ok.dones.items made
     (c.in-Ok.ensures.ok tt s h t (working_stands g.F.FileSystem.model g.F.FileSystem.held c.args.self.now s h t so) within fresh)
+
+pub returns-in_ok-commit-in-Ok-clause-acts : goal.returns-in_ok-commit-in-Ok-clause-acts
+returns-in_ok-commit-in-Ok-clause-acts g c = λ honest rows records so rowed.
+    let made : Commits g.F.FileSystem.model g.F.FileSystem.held c.perform.new.self c.commit.new.self = record {
+      working = c.in_ok-commit-in-Ok.ensures.working;
+      closed = c.in_ok-commit-in-Ok.ensures.in_doubt;
+      alike = c.in_ok-commit-in-Ok.ensures.ok;
+    } in
+    both_taken g.F.FileSystem.model g.F.FileSystem.held c.perform.new.self c.commit.new.self rows (without (ids_of c.args.settled.now) records)
+    (entries_of c.args.group.now) c.in-Ok.dones.items made (c.in-Ok.ensures.acts tt rows records so.1 rowed)
 
 pub returns-in_ok-commit-in-Ok-clause-others : goal.returns-in_ok-commit-in-Ok-clause-others
 returns-in_ok-commit-in-Ok-clause-others g c = λ honest rows records so rowed.

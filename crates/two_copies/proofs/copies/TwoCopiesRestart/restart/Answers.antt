@@ -5,5 +5,5 @@ use Rattle.two_copies.proofs.copies.TwoCopiesRestart.restart.Goals as goal
 pub returns-clause-reopened : goal.returns-clause-reopened
 returns-clause-reopened g c =
     reopens g.F.FileSystem.model g.F.FileSystem.held c.args.self
-    (record c.args.self { working = c.in_ok-self.field-0; in_doubt = false; openings = c.in-Some.openings })
-    refl refl c.in_ok-self.ensures.going c.in_ok-self.ensures.same
+    (record c.args.self { working = c.in-Ok.copy; in_doubt = false; openings = c.in-Some.openings })
+    refl refl c.in-Ok.ensures.going c.in-Ok.ensures.same

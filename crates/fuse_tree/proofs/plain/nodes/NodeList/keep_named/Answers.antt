@@ -1,6 +1,6 @@
 use Rattle.std.proofs.Common.{◌∙◌, ap, filter, rules}
 use Rattle.std.proofs.lemmas.Fn.{filter_same}
-use Rattle.fuse_tree.specs.NumbersOnce.{are_distinct}
+use Rattle.fuse_tree.specs.inner.NumbersOnce.{are_distinct}
 use Rattle.fuse_tree.specs.Clearing.{is_named_row}
 use Rattle.fuse_tree.proofs.Placed.{once_kept}
 use Rattle.fuse_tree.proofs.plain.nodes.NodeList.keep_named.Goals as goal

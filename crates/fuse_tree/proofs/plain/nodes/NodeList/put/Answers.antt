@@ -1,6 +1,6 @@
 use Rattle.std.proofs.Common.{◌≡◌, ◌==◌, ◌∙◌, Some, None, sym, ap}
 use Rattle.std.specs.Prelude.{position}
-use Rattle.fuse_tree.specs.NumbersOnce.{are_distinct}
+use Rattle.fuse_tree.specs.inner.NumbersOnce.{are_distinct}
 use Rattle.fuse_tree.specs.Rows.{put_node}
 use Rattle.fuse_tree.proofs.Placed.{row_in_place, row_there, row_last, once_last, no_place}
 use Rattle.fuse_tree.proofs.plain.nodes.NodeList.put.Goals as goal

@@ -1,0 +1,58 @@
+ghost use Rattle.five_files.specs.TheFiles.{the_files};
+
+use crate::asking::answer;
+use fuse_answer::{Answer, record_sizes};
+use fuse_init::Settings;
+use fuse_keeper::{FileSystem, StoreFault};
+use fuse_request::Request;
+use fuse_wire::{Memory, Moment};
+use std::alloc::Global;
+
+/// A directory of five files, for reading alone.
+#[derive(Drop)]
+pub struct FiveFiles {
+    agreed: Option<Settings>,
+}
+
+impl FileSystem for FiveFiles {
+    ghost model = { the_files };
+
+    ghost held = { λ files. files.agreed };
+
+    ghost is_ready = { λ files. Unit {0} };
+
+    fn start(_alloc: Global, _now: Moment) -> Result<FiveFiles, Memory> {
+        Ok(FiveFiles { agreed: None })
+    }
+
+    fn act(
+        &mut self,
+        alloc: Global,
+        request: &Request<'_>,
+        _now: Moment,
+    ) -> Result<Answer, StoreFault> {
+        Ok(answer(alloc, &mut self.agreed, request)?)
+    }
+
+    fn to_copy(&self) -> Result<FiveFiles, Memory> {
+        Ok(FiveFiles {
+            agreed: self.agreed,
+        })
+    }
+
+    fn begin_mount(&mut self) {
+        self.agreed = None;
+    }
+
+    fn agreed(&self) -> Option<Settings> {
+        self.agreed
+    }
+
+    fn counted(&self) -> (u64, u64) {
+        (4, 0)
+    }
+
+    fn model_is_sound() {
+        record_sizes();
+    }
+}

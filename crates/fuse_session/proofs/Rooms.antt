@@ -1,0 +1,27 @@
+-- Where a port in memory lacks room.
+use Rattle.std.proofs.Common.{◌≡◌, ◌⊎◌, inl, inr, ◌<◌, ◌+◌, ℕ, true, List, Result, Ok, Err, refl, sym, ap, subst, ◌∙◌}
+use Rattle.std.specs.Prelude.{OnErr, is_err, vec_capacity, vec_len}
+use Rattle.fuse_session.specs.declared.memory.MemoryPort.{MemoryPort}
+use Rattle.fuse_session.specs.declared.memory.Outcome.{Outcome}
+use Rattle.fuse_session.specs.declared.memory.Outcome.TheVariants as outcomes
+use Rattle.fuse_session.specs.declared.port.Sent.TheVariants as sent
+use Rattle.fuse_session.specs.Memory.{kept_by, sent_by, Answers}
+
+pub refused : {A E : Type 0} (r : Result A E) (P : Type 0) → OnErr r P → is_err r ≡ true → P
+refused (Ok x) P full is = absurd (cc is)
+refused (Err e) P full is = full
+
+pub answers_failed : (p : MemoryPort) (o x : Outcome) (len : ℕ) → x ≡ outcomes.Failed → x ≡ o → Answers p o len sent.Failed
+answers_failed p o x len is same = inl (ap (λ y. sent_by y len) (sym is ∙ same))
+
+pub answers_no_place : (p q : MemoryPort) (o : Outcome) (len : ℕ) → q.gone ≡ p.gone → vec_capacity q.gone < vec_len q.gone + 1 → Answers p o len sent.Failed
+answers_no_place p q o len same full = inr (refl, inr (subst (λ v. vec_capacity v < vec_len v + 1) same full))
+
+pub answers_no_room : (p q : MemoryPort) (o x : Outcome) (len n : ℕ) → q.sent ≡ p.sent → x ≡ o → n ≡ kept_by x len
+    → vec_capacity q.sent < vec_len q.sent + n → Answers p o len sent.Failed
+answers_no_room p q o x len n same by is full =
+    inr (
+      refl,
+      inl (subst (λ v. vec_capacity v < vec_len v + kept_by o len) same
+          (subst (λ k. vec_capacity q.sent < vec_len q.sent + k) (is ∙ ap (λ y. kept_by y len) by) full)),
+    )

@@ -1,0 +1,156 @@
+-- What the calls of a port come to.
+use Rattle.std.proofs.Common.{◌≡◌, ℕ, ◌+◌, ◌-◌, ◌≤◌, Bool, true, false, List, [], ◌∷◌, ◌++◌, length, map, take, drop, Option, refl, sym, ap, subst, ◌∙◌}
+use Rattle.std.proofs.Common.{append_assoc, arith}
+use Rattle.std.specs.Io.KnownBytes.{Appends, Consumes}
+use Rattle.fuse_session.specs.declared.port.Received.{Received as Receipt}
+use Rattle.fuse_session.specs.declared.port.Received.TheVariants.{Got, End, Failed as ReceiveFailed}
+use Rattle.fuse_session.specs.declared.port.Sent.{Sent}
+use Rattle.fuse_session.specs.declared.port.Sent.TheVariants.{Took, Gone, Failed}
+use Rattle.fuse_session.specs.Port.{PortState, Receives, Sends, GaveBytes, ends_of, receive_failures_of}
+use Rattle.fuse_session.specs.Transcript.{PortEvent, Received, Handed, bytes_got, one_receive, one_send, Gives, Step, Steps, came_with, received_in}
+use Rattle.fuse_session.specs.Transcript.{handed_with, handed_in, IsTranscript, Tells, sends_of, left_after, left_of, StopsAfter, RestsOf, IsLeft, Hands}
+use Rattle.fuse_session.proofs.Bytes.{appends_none, appends_more, consumes_none, consumes_more, keeps_consumes, rest_is}
+
+-- ---- one call
+
+pub one_received : (old new : PortState) (result : Receipt) (buffer : List ℕ) → Receives old new result buffer → Steps old new (one_receive result buffer)
+one_received old new result buffer receives = (new, record { buffer = buffer; came = refl; receives = receives }, refl)
+
+pub one_sent : (old new : PortState) (slice : List ℕ) (result : Sent) → Sends old new result slice → Steps old new (one_send slice result)
+one_sent old new slice result sends = (new, sends, refl)
+
+-- ---- parts of a transcript
+
+pub received_more : (xs ys : List PortEvent) → received_in (xs ++ ys) ≡ received_in xs ++ received_in ys
+received_more [] ys = refl
+received_more (x ∷ xs) ys = ap (λ (l : List ℕ). came_with x ++ l) (received_more xs ys) ∙ sym (append_assoc (came_with x) (received_in xs) (received_in ys))
+
+pub handed_more : (xs ys : List PortEvent) → handed_in (xs ++ ys) ≡ handed_in xs ++ handed_in ys
+handed_more [] ys = refl
+handed_more (x ∷ xs) ys = ap (λ (l : List (List ℕ × Sent)). handed_with x ++ l) (handed_more xs ys)
+    ∙ sym (append_assoc (handed_with x) (handed_in xs) (handed_in ys))
+
+pub sends_more : (xs ys : List (List ℕ × Sent)) → sends_of (xs ++ ys) ≡ sends_of xs ++ sends_of ys
+sends_more [] ys = refl
+sends_more (x ∷ xs) ys = ap (λ l. Handed x.0 x.1 ∷ l) (sends_more xs ys)
+
+pub handed_sends : (slices : List (List ℕ × Sent)) → handed_in (sends_of slices) ≡ slices
+handed_sends [] = refl
+handed_sends (x ∷ xs) = ap (λ (l : List (List ℕ × Sent)). x ∷ l) (handed_sends xs)
+
+pub received_sends : (slices : List (List ℕ × Sent)) → received_in (sends_of slices) ≡ []
+received_sends [] = refl
+received_sends (x ∷ xs) = received_sends xs
+
+-- ---- the slices of one answer
+
+TookSome : Sent → Type 0
+TookSome (Took n) = n ≡ 0 → ⊥
+TookSome Gone = ⊥
+TookSome Failed = ⊥
+
+AllTook : List (List ℕ × Sent) → Type 0
+AllTook [] = Unit {0}
+AllTook (h ∷ more) = TookSome h.1 × AllTook more
+
+goes_on : (s : Sent) (more : List (List ℕ × Sent)) → TookSome s → StopsAfter s more
+unfolding TookSome
+goes_on (Took n) more some = λ none. absurd (some none)
+goes_on Gone more some = absurd some
+goes_on Failed more some = absurd some
+
+stops : (s : Sent) → StopsAfter s []
+stops (Took n) = λ none. refl
+stops Gone = refl
+stops Failed = refl
+
+rests_more : (bytes : List ℕ) (xs : List (List ℕ × Sent)) (s : Sent) → RestsOf bytes xs → AllTook xs → (left_of bytes xs ≡ [] → ⊥)
+    → RestsOf bytes (xs ++ (left_of bytes xs, s) ∷ [])
+unfolding AllTook
+rests_more bytes [] s rests took some = (some, refl, stops s, tt)
+rests_more bytes (x ∷ xs) s rests took some =
+    (rests.0, rests.1, goes_on x.1 (xs ++ (left_of (left_after x.1 bytes) xs, s) ∷ []) took.0, rests_more (left_after x.1 bytes) xs s rests.3 took.1 some)
+
+left_more : (bytes slice : List ℕ) (xs : List (List ℕ × Sent)) (s : Sent) → left_of bytes (xs ++ (slice, s) ∷ []) ≡ left_after s (left_of bytes xs)
+left_more bytes slice [] s = refl
+left_more bytes slice (x ∷ xs) s = left_more (left_after x.1 bytes) slice xs s
+
+took_more : (xs : List (List ℕ × Sent)) (slice : List ℕ) (s : Sent) → AllTook xs → TookSome s → AllTook (xs ++ (slice, s) ∷ [])
+unfolding AllTook
+took_more [] slice s all some = (some, tt)
+took_more (x ∷ xs) slice s all some = (all.0, took_more xs slice s all.1 some)
+
+-- an answer was handed over slice by slice, as far as this rest
+pub record HandsSome (became : List PortEvent → Type 0) (bytes rest : List ℕ) : Type 0 where
+  slices : List (List ℕ × Sent)
+  calls : became (sends_of slices)
+  rests : RestsOf bytes slices
+  took : AllTook slices
+  left : left_of bytes slices ≡ rest
+
+pub hands_none : {P : Type 0} (became : P → P → List PortEvent → Type 0) → IsTranscript became → (p : P) (bytes : List ℕ) → HandsSome (became p p) bytes bytes
+unfolding AllTook
+hands_none became path p bytes = record { slices = []; calls = path.none p; rests = tt; took = tt; left = refl }
+
+-- one slice more, with this result
+next_call : {P : Type 0} (became : P → P → List PortEvent → Type 0) → IsTranscript became → (a b c : P) (bytes rest : List ℕ) (s : Sent)
+    → (one : HandsSome (became a b) bytes rest) → became b c (one_send rest s) → became a c (sends_of (one.slices ++ (rest, s) ∷ []))
+next_call became path a b c bytes rest s one two =
+    subst (became a c) (sym (sends_more one.slices ((rest, s) ∷ []))) (path.onward a b c (sends_of one.slices) (one_send rest s) one.calls two)
+
+next_rests : (became : List PortEvent → Type 0) (bytes rest : List ℕ) (s : Sent) → (one : HandsSome became bytes rest) → (rest ≡ [] → ⊥)
+    → RestsOf bytes (one.slices ++ (rest, s) ∷ [])
+next_rests became bytes rest s one some =
+    subst (λ r. RestsOf bytes (one.slices ++ (r, s) ∷ [])) one.left (rests_more bytes one.slices s one.rests one.took (λ none. some (sym one.left ∙ none)))
+
+pub hands_more : {P : Type 0} (became : P → P → List PortEvent → Type 0) → IsTranscript became → (a b c : P) (bytes rest : List ℕ) (n : ℕ)
+    → (n ≡ 0 → ⊥) → (rest ≡ [] → ⊥) → HandsSome (became a b) bytes rest → became b c (one_send rest (Took n))
+    → HandsSome (became a c) bytes (take (length rest - n) (drop n rest))
+unfolding TookSome
+hands_more became path a b c bytes rest n isnt some one two = record {
+  slices = one.slices ++ (rest, Took n) ∷ [];
+  calls = next_call became path a b c bytes rest (Took n) one two;
+  rests = next_rests (became a b) bytes rest (Took n) one some;
+  took = took_more one.slices rest (Took n) one.took isnt;
+  left = left_more bytes rest one.slices (Took n) ∙ ap (drop n) one.left ∙ sym (rest_is rest n);
+}
+
+pub hands_last : {P : Type 0} (became : P → P → List PortEvent → Type 0) → IsTranscript became → (a b c : P) (bytes rest : List ℕ) (s : Sent) (whole : Bool)
+    → (rest ≡ [] → ⊥) → IsLeft whole (left_after s rest) → HandsSome (became a b) bytes rest → became b c (one_send rest s) → Hands (became a c) bytes whole
+hands_last became path a b c bytes rest s whole some left one two = record {
+  slices = one.slices ++ (rest, s) ∷ [];
+  calls = next_call became path a b c bytes rest s one two;
+  rests = next_rests (became a b) bytes rest s one some;
+  left = subst (IsLeft whole) (sym (left_more bytes rest one.slices s ∙ ap (left_after s) one.left)) left;
+}
+
+-- nothing was taken of the last
+pub left_at_zero : (rest : List ℕ) (n : ℕ) → n ≡ 0 → (rest ≡ [] → ⊥) → drop n rest ≡ [] → ⊥
+left_at_zero rest n zero some none = some (sym (ap (λ k. drop k rest) zero) ∙ none)
+
+nothing_left : (rest : List ℕ) → length rest ≡ 0 → rest ≡ []
+nothing_left [] none = refl
+nothing_left (b ∷ rest) none = absurd (omega arith)
+
+pub hands_all : (became : List PortEvent → Type 0) (bytes rest : List ℕ) → length rest ≡ 0 → HandsSome became bytes rest → Hands became bytes true
+hands_all became bytes rest none one = record { slices = one.slices; calls = one.calls; rests = one.rests; left = one.left ∙ nothing_left rest none }
+
+-- ---- the counts of a port after several calls
+
+pub receives_with : PortEvent → ℕ
+receives_with (Received result bytes) = 1
+receives_with (Handed slice result) = 0
+
+-- how often it was asked to receive
+pub receives_in : List PortEvent → ℕ
+receives_in [] = 0
+receives_in (e ∷ es) = receives_with e + receives_in es
+
+pub ends_with : PortEvent → ℕ
+ends_with (Received result bytes) = ends_of result
+ends_with (Handed slice result) = 0
+
+-- how often a receive said that it has ended
+pub ends_in : List PortEvent → ℕ
+ends_in [] = 0
+ends_in (e ∷ es) = ends_with e + ends_in es

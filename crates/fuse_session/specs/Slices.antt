@@ -1,0 +1,30 @@
+-- The slices in which answers are handed to a port: each is all that is left of one answer (own profile).
+use Rattle.std.specs.Prelude.{◌≡◌, ℕ, List, [], ◌∷◌, ◌++◌}
+use Rattle.fuse_session.specs.declared.port.Sent.{Sent}
+use Rattle.fuse_session.specs.Transcript.{PortEvent, sends_of, RestsOf, left_of}
+use Rattle.fuse_session.specs.Settling.{Mark}
+
+-- all of an answer was handed over so
+abbrev pub RestsOfWhole : List ℕ → List (List ℕ × Sent) → Type 0
+RestsOfWhole bytes slices = RestsOf bytes slices × (left_of bytes slices ≡ [])
+
+-- the slices of these answers, one answer after the other
+abbrev pub RestsOfAll : List Mark → List (List ℕ × Sent) → Type 0
+RestsOfAll [] slices = slices ≡ []
+RestsOfAll (m ∷ marks) slices =
+    (first : List (List ℕ × Sent)) × (later : List (List ℕ × Sent)) × (slices ≡ first ++ later) × RestsOfWhole m.reply first × RestsOfAll marks later
+
+-- the slices of these answers, and then those of one of which this part was sent
+pub record RestsOfSome (marks : List Mark) (part : List ℕ) (slices : List (List ℕ × Sent)) : Type 0 where
+  pub whole : List (List ℕ × Sent)
+  pub last : List (List ℕ × Sent)
+  pub parts : slices ≡ whole ++ last
+  pub answers : RestsOfAll marks whole
+  pub unsent : List ℕ
+  pub begun : RestsOf (part ++ unsent) last
+
+-- slices of this kind were handed over, and nothing else happened at the port
+pub record HandsSlices (became : List PortEvent → Type 0) (Kind : List (List ℕ × Sent) → Type 0) : Type 0 where
+  pub slices : List (List ℕ × Sent)
+  pub calls : became (sends_of slices)
+  pub kind : Kind slices

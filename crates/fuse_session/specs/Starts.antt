@@ -1,0 +1,74 @@
+-- The lots of records: over a session, and over starts (own profile).
+use Rattle.std.specs.Prelude.{◌≡◌, ◌⊎◌, ◌≤◌, ℕ, Bool, true, false, List, [], ◌∷◌, length, Option, Some, None, is_some}
+use Rattle.std.specs.List.{AllByRecursion}
+use Rattle.fuse_keeper.specs.History.{is_in}
+use Rattle.fuse_keeper.specs.Lots.{Lots, TakesLot, AreGone, AreReopened}
+use Rattle.fuse_keeper.specs.Model.{Model}
+use Rattle.fuse_keeper.specs.Stands.{Records}
+use Rattle.fuse_keeper.specs.KeeperState.{KeeperState}
+use Rattle.fuse_session.specs.Settling.{SomeAndMore}
+
+-- records, and the lots that they are in
+pub record Kept : Type 0 where
+  pub records : Records
+  pub lots : Lots
+
+-- at most one lot is taken, where there is none
+pub record TakesAtMostOne (old new : Lots) : Type 0 where
+  pub kept : (lot : ℕ) → old.current ≡ Some lot → (new.current ≡ Some lot) × (new.numbers ≡ old.numbers)
+  pub taken : old.current ≡ None → TakesLot old new ⊎ ((new.current ≡ None) × (new.numbers ≡ old.numbers))
+
+-- the id had a record before, under the same lot
+abbrev pub WasThere : Kept → Kept → ℕ → Type 0
+WasThere old new i = (is_some (old.records i) ≡ true) × (new.lots.under i ≡ old.lots.under i)
+
+-- at most one lot is taken. Under the current lot are the records of at most 16 ids more than before; all others are some of those
+-- of before, under the lots of before
+pub record UnderAtMostMore (old new : Kept) : Type 0 where
+  pub more : List ℕ
+  pub few : length more ≤ 16
+  pub some : SomeAndMore old.records more new.records
+  pub takes : TakesAtMostOne old.lots new.lots
+  pub each : (i : ℕ) → is_some (new.records i) ≡ true
+      → WasThere old new i ⊎ ((is_in more i ≡ true) × (new.lots.under i ≡ new.lots.current))
+
+-- so it is of the records that are held
+pub record HoldsUnder {M : Model} (before : Kept) (k : KeeperState M) : Type 0 where
+  pub rows : M.Rows
+  pub records : Records
+  pub held : k.holds rows records
+  pub under : UnderAtMostMore before (record { records = records; lots = k.lots })
+
+-- the store was opened again: the records are the same, or some of them, under their lots
+pub record OpenedAgain (old new : Kept) : Type 0 where
+  pub lots : AreReopened old.lots new.lots
+  pub some : (i : ℕ) → is_some (new.records i) ≡ true → is_some (old.records i) ≡ true
+
+-- a mount began: there is no record and no lot
+pub record BeganMount (new : Kept) : Type 0 where
+  pub lots : AreGone new.lots
+  pub none : (i : ℕ) → new.records i ≡ None
+
+-- a start: the store is opened again, or a mount begins
+abbrev pub Starts : Kept → Kept → Type 0
+Starts old new = OpenedAgain old new ⊎ BeganMount new
+
+-- a start, and what one session on a port that confirms leaves
+pub record Start : Type 0 where
+  pub begun : Kept
+  pub left : Kept
+
+-- starts, one after the other, each over what the one before left
+abbrev pub AreStarts : Kept → List Start → Type 0
+AreStarts kept [] = Unit {0}
+AreStarts kept (x ∷ starts) = Starts kept x.begun × UnderAtMostMore x.begun x.left × AreStarts x.left starts
+
+-- the records are under lots that there are, and each lot but 0 has those of at most 16 ids
+pub record HasFewEach (kept : Kept) : Type 0 where
+  pub there : (i lot : ℕ) → is_some (kept.records i) ≡ true → kept.lots.under i ≡ Some lot → is_in kept.lots.numbers lot ≡ true
+  pub few : (lot : ℕ) → (lot ≡ 0 → ⊥) → (ids : List ℕ) × (length ids ≤ 16)
+      × ((i : ℕ) → is_some (kept.records i) ≡ true → kept.lots.under i ≡ Some lot → is_in ids i ≡ true)
+
+-- if it is so at first, it is so after each start
+abbrev pub LotsOverStarts : Type 0
+LotsOverStarts = (kept : Kept) (starts : List Start) → HasFewEach kept → AreStarts kept starts → AllByRecursion (λ (x : Start). HasFewEach x.left) starts

@@ -1,0 +1,3 @@
+-- What the code does on its way: no public contract cites it (own profile).
+pub mod HandedBy
+pub mod Running

@@ -1,0 +1,225 @@
+-- Events as they are run, group after group (own profile).
+use Rattle.std.specs.Prelude.{◌≡◌, ◌≤◌, ◌<◌, ◌⊎◌, ℕ, Bool, true, false, if◌then◌else◌, List, [], ◌∷◌, ◌++◌, length, map, take, All, Option, Some, None}
+use Rattle.std.specs.Prelude.{slice_get, IfSome, IsSomeAnd}
+use Rattle.std.specs.List.{flat_map}
+use Rattle.fuse_wire.specs.declared.moment.Moment.{Moment}
+use Rattle.fuse_answer.specs.Said.{Said}
+use Rattle.fuse_answer.specs.Wire.{wire}
+use Rattle.fuse_request.specs.declared.request.Request.{Request}
+use Rattle.fuse_request.specs.declared.class.Class.{Class}
+use Rattle.fuse_request.specs.declared.class.Class.TheVariants.{Silent, Bare, Kept}
+use Rattle.fuse_request.specs.Classes.{class_for}
+use Rattle.fuse_request.specs.Opcodes.{OpcodeSet}
+use Rattle.fuse_keeper.specs.History.{History, is_in, ids_in, Includes, IsUnsettled}
+use Rattle.fuse_keeper.specs.declared.fault.StoreFault.{StoreFault}
+use Rattle.fuse_keeper.specs.declared.keeper.Done.{Done}
+use Rattle.fuse_keeper.specs.Model.{Model}
+use Rattle.fuse_keeper.specs.Stands.{Records}
+use Rattle.fuse_keeper.specs.KeeperState.{KeeperState, StandsFor, IsFirm, KeepsHeld, KeepsOthers, Reports}
+use Rattle.fuse_keeper.specs.Bounds.{max_group_len}
+use Rattle.fuse_keeper.specs.Group.{entries_of, HasId, IsKept, handed_to, left_pending}
+use Rattle.fuse_keeper.specs.Performance.{Performance, performances_of}
+use Rattle.fuse_session.specs.Processed.{unique_of}
+use Rattle.fuse_session.specs.Group.{left_by}
+use Rattle.fuse_sim.specs.declared.event.Fate.{Fate}
+use Rattle.fuse_sim.specs.declared.event.Fate.TheVariants.{Answered, AnswerLost, DiedBeforeCommit, DiedAfterCommit}
+use Rattle.fuse_sim.specs.declared.event.Event.{Event}
+use Rattle.fuse_sim.specs.declared.event.Outcome.{Outcome}
+use Rattle.fuse_sim.specs.declared.event.DriveFault.{DriveFault}
+use Rattle.fuse_sim.specs.Driving.{commits_in, committed, settles, OutcomesBegin, bytes_given, is_taken, where_taken, dies, deaths, Calm, NoneReused, IsFit}
+use Rattle.fuse_sim.specs.Driving.{settled_by}
+use Rattle.fuse_sim.specs.Driving.{told_in, StandsIn, KeepsMedium, became_in, performed_in, event_of, before, CausedBy, IsStoreFault, is_store, LeftBy}
+use Rattle.fuse_sim.specs.HandedOn.{Ledger}
+use Rattle.fuse_sim.specs.inner.HandedBy.{ledger_after, handed_on, AsksOne}
+use Rattle.fuse_sim.specs.LeftRecords.{HoldsRecords}
+
+abbrev pub dies_before : Fate → Bool
+dies_before Answered = false
+dies_before AnswerLost = false
+dies_before DiedBeforeCommit = true
+dies_before DiedAfterCommit = false
+
+-- the events of a group: no server dies but after the last of them, where one does
+abbrev pub IsRun : Bool → List Event → Type 0
+IsRun died [] = died ≡ false
+IsRun died (e ∷ es) = (Calm e × IsRun died es) ⊎ ((died ≡ true) × (e.fate ≡ DiedAfterCommit) × (es ≡ []))
+
+-- no group begins here
+abbrev pub StartsNone : List Event → Type 0
+StartsNone [] = Unit {0}
+StartsNone (e ∷ es) = (dies_before e.fate ≡ true) ⊎ ¬ IsFit e
+
+-- a group begins here
+abbrev pub Begins : List Event → Type 0
+Begins [] = ⊥
+Begins (e ∷ es) = IsFit e × (dies_before e.fate ≡ false)
+
+-- no event of a group is lost
+abbrev pub NoneDiesBefore : List Event → Type 0
+NoneDiesBefore run = All (λ e. dies_before e.fate ≡ false) run
+
+-- the class of each message
+abbrev pub classes_in : OpcodeSet → List Event → List Class
+classes_in V run = map (λ e. class_for V e.bytes) run
+
+-- a group with these requests, after which the server died or not, ends before an event
+abbrev pub EndsWith : List (Request × Moment) → Bool → Event → Type 0
+EndsWith taken died e = (died ≡ true) ⊎ ((length taken ≡ max_group_len) ⊎ ((dies_before e.fate ≡ true) ⊎ ¬ IsFit e))
+
+-- it ends before these events
+abbrev pub StopsAt : List (Request × Moment) → Bool → List Event → Type 0
+StopsAt taken died others = died ≡ false → (length taken ≡ max_group_len) ⊎ StartsNone others
+
+-- a group was read off events
+pub record Gathers (M : Model) (run : List Event) (classes : List Class) (taken : List (Request × Moment)) (died : Bool) : Type 0 where
+  pub fit : All IsFit run
+  pub goes : IsRun died run
+  pub classes_are : classes ≡ classes_in M.serves run
+  pub entries : entries_of taken ≡ commits_in M.serves run
+  pub few : length taken ≤ max_group_len
+  pub named : All HasId (entries_of taken)
+  pub kept : All (IsKept M) (entries_of taken)
+
+-- one more event joined it
+abbrev pub Joins : Model → Event → List Class → List (Request × Moment) → Bool → List Class → List (Request × Moment) → Bool → Type 0
+Joins M e classes taken died classes' taken' died' = (died ≡ false)
+    × ((run : List Event) → Gathers M run classes taken false → Gathers M (run ++ e ∷ []) classes' taken' died')
+
+abbrev pub answers_in : List Done → List Said
+answers_in dones = map (λ d. d.answer) dones
+
+-- the answer to a message, where these answers to kept ones are left
+abbrev pub head_answer : Class → ℕ → List Said → Option (List ℕ)
+head_answer Silent unique answers = None
+head_answer (Bare errno) unique answers = Some (wire errno.0 [] unique)
+head_answer Kept unique [] = None
+head_answer Kept unique (a ∷ answers) = Some (wire a.errno a.body unique)
+
+-- the part of it that the kernel takes
+abbrev pub head_outcome : OpcodeSet → Event → List Said → Option (List ℕ)
+head_outcome V e answers = where_taken (is_taken e.fate) (head_answer (class_for V e.bytes) (unique_of e.bytes) answers)
+
+-- the outcomes of a group's events, by the answers to its kept messages
+abbrev pub outcomes_by : OpcodeSet → List Event → List Said → List (Option (List ℕ))
+outcomes_by V [] answers = []
+outcomes_by V (e ∷ es) answers = head_outcome V e answers ∷ outcomes_by V es (left_by (class_for V e.bytes) answers)
+
+-- there is an answer for each kept message
+abbrev pub HasAnswers : OpcodeSet → List Event → List Said → Type 0
+HasAnswers V [] answers = Unit {0}
+HasAnswers V (e ∷ es) answers = (class_for V e.bytes ≡ Kept → 0 < length answers) × HasAnswers V es (left_by (class_for V e.bytes) answers)
+
+abbrev pub settles_in : OpcodeSet → List Event → List ℕ
+settles_in V events = flat_map (settles V) events
+
+-- outcomes were added
+pub record Adds (old new : List (Option Outcome)) (outcomes : List (Option (List ℕ))) : Type 0 where
+  pub added : List (Option Outcome)
+  pub items : new ≡ old ++ added
+  pub are : map bytes_given added ≡ outcomes
+
+-- a group was performed, and its outcomes were added, by any keeper
+pub record Worked {M : Model} (k k' : KeeperState M) (run : List Event) (pending pending' : List ℕ) (old new : List (Option Outcome)) : Type 0 where
+  pub added : List (Option Outcome)
+  pub items : new ≡ old ++ added
+  pub count : length added ≡ length run
+  pub stands : k'.is_honest → (s : M.State) (h : History) (t : List ℕ) → StandsFor k s h t
+      → All (IsUnsettled (t ++ handed_to (commits_in M.serves run) pending)) (commits_in M.serves run)
+      → StandsFor k' s (committed M.serves h run) (t ++ handed_to (commits_in M.serves run) pending)
+  pub outcomes : k'.is_honest → (earlier later : List Event) → run ≡ earlier ++ later → (s : M.State) (h : History) (t : List ℕ) → StandsFor k s h t
+      → All (IsUnsettled (t ++ handed_to (commits_in M.serves run) pending)) (commits_in M.serves earlier)
+      → OutcomesBegin M s h earlier (map bytes_given added)
+  pub records : KeepsOthers k k' (handed_to (commits_in M.serves run) pending) (commits_in M.serves run)
+  pub handed : pending' ≡ left_pending (commits_in M.serves run) pending ++ settles_in M.serves run
+  pub firm : k'.is_honest → IsFirm k → IsFirm k'
+
+-- the records: those of ids that are handed on are deleted, and of the other ids those that don't come stay
+pub record RecordsRan (V : OpcodeSet) (l : Ledger) (es : List Event) (records records' : Records) : Type 0 where
+  pub others : (i : ℕ) → is_in (ids_in (commits_in V es)) i ≡ false → records' i ≡ (if is_in (handed_on V l es) i then None else records i)
+  pub gone : (u : List ℕ) → Includes u l.pending → NoneReused V u es → (i : ℕ) → is_in (handed_on V l es) i ≡ true → records' i ≡ None
+
+-- events were run, from a ledger on
+pub record Ran {M : Model} (k k' : KeeperState M) (l : Ledger) (es : List Event) (old new : List (Option Outcome)) : Type 0 where
+  pub added : List (Option Outcome)
+  pub items : new ≡ old ++ added
+  pub count : length added ≡ length es
+  pub stands : k'.is_honest → (s : M.State) (h : History) (t u : List ℕ) → StandsFor k s h t → Includes u t → Includes u l.pending
+      → NoneReused M.serves u es → StandsFor k' s (committed M.serves h es) (t ++ handed_on M.serves l es)
+  pub outcomes : k'.is_honest → (earlier later : List Event) → es ≡ earlier ++ later → (s : M.State) (h : History) (t u : List ℕ) → StandsFor k s h t
+      → Includes u t → Includes u l.pending → NoneReused M.serves u earlier → OutcomesBegin M s h earlier (map bytes_given added)
+  pub records : Reports k k' (λ rows records. HoldsRecords k' (RecordsRan M.serves l es records))
+  pub firm : k'.is_honest → IsFirm k → IsFirm k'
+
+-- no more kept messages are in the group that was begun, or none begins here
+abbrev pub MayBegin : Ledger → List Event → Type 0
+MayBegin l others = (l.room ≡ 0) ⊎ StartsNone others
+
+-- the first events were run, and these are pending
+pub record Moved {M : Model} (k k' : KeeperState M) (l : Ledger) (es others : List Event) (pending' : List ℕ) (old new : List (Option Outcome)) : Type 0 where
+  pub fit : All IsFit es
+  pub ran : Ran k k' l es old new
+  pub pending : pending' ≡ (ledger_after M.serves l es).pending
+  pub begin : MayBegin (ledger_after M.serves l es) others
+
+-- the server dies at none of these events but the last, where it does
+abbrev pub DiesLast : Bool → List Event → Type 0
+DiesLast died [] = died ≡ false
+DiesLast died (e ∷ es) = (Calm e × DiesLast died es) ⊎ ((died ≡ true) × (dies e.fate ≡ true) × (es ≡ []))
+
+-- events were run, and where the server died at the last of them, the keeper that stood for all of them was opened again, once
+pub record Opens {M : Model} {K : Type 0} (told : K → KeeperState M) (became : K → K → ℕ → Type 0)
+    (old new : Option K) (pending : List ℕ) (run : List Event) : Type 0 where
+  pub died : Bool
+  pub last : DiesLast died run
+  pub left : Option K
+  pub before : became_in became old left 0
+  pub after : became_in became left new (if died then 1 else 0)
+  pub honest : (told_in told new).is_honest → (told_in told left).is_honest
+  pub was_honest : (told_in told left).is_honest → (told_in told old).is_honest
+  pub kept : (told_in told new).is_honest → KeepsHeld (told_in told left) (told_in told new)
+  pub stood : (told_in told left).is_honest → (s : M.State) (h : History) (t : List ℕ) → StandsIn told old s h t → Includes t pending
+      → NoneReused M.serves t run → StandsIn told left s (committed M.serves h run) (settled_by M.serves t run)
+  pub few : length (commits_in M.serves run) ≤ max_group_len
+  pub medium : KeepsMedium told old new
+
+-- the server died at the event that is named, and the keeper that these events had left refused to be opened again
+pub record Refuses {K : Type 0} (became : K → K → ℕ → Type 0) (refuses : K → StoreFault → Type 0)
+    (old : Option K) (events : List Event) (at : ℕ) (fault : DriveFault) : Type 0 where
+  pub died : IsSomeAnd (slice_get events (event_of fault)) (λ e. dies e.fate ≡ true)
+  pub keeper : Option K
+  pub same : became_in became old keeper 0
+  pub calm : deaths (before fault events) ≡ deaths (take at events)
+  pub refused : IsSomeAnd keeper (λ k. IsStoreFault (refuses k) fault)
+
+-- a fault came at the events that begin at a place: the event that it names, and the keeper that it leaves
+pub record Stops {M : Model} {K : Type 0} (told : K → KeeperState M) (became : K → K → ℕ → Type 0) (refuses : K → StoreFault → Type 0)
+    (old new : Option K) (events : List Event) (at : ℕ) (fault : DriveFault) : Type 0 where
+  pub named : IsSomeAnd (slice_get events (event_of fault)) (CausedBy fault)
+  pub earlier : All IsFit (take at events) → All IsFit (before fault events)
+  pub left : LeftBy (told_in told new) (is_store fault) ((event_of fault ≡ at) × KeepsHeld (told_in told old) (told_in told new))
+  pub answered : is_store fault ≡ true → (told_in told new).is_clean → (s : M.State) (h : History) (t : List ℕ) → StandsIn told old s h t
+      → IsStoreFault (told_in told old).may_answer fault
+  pub stayed : (new ≡ None → ⊥) → (event_of fault ≡ at) × became_in became old new 0
+  pub emptied : new ≡ None → Refuses became refuses old events at fault
+  pub has_failed : IfSome new (λ k. (told k).has_failed ≡ is_store fault)
+  pub was_honest : (told_in told new).is_honest → (told_in told old).is_honest
+  pub firm : is_store fault ≡ false → (told_in told new).is_honest → IsFirm (told_in told old) → IsFirm (told_in told new)
+  pub medium : (new ≡ None → ⊥) → KeepsMedium told old new
+
+-- events were asked for as one group
+abbrev pub AsksRun : {K : Type 0} → OpcodeSet → (K → K → List Performance → Type 0) → Option K → Option K → List ℕ → List Event → Type 0
+AsksRun V performed old new pending run = performed_in performed old new (performances_of (commits_in V run) pending)
+
+-- they are so from every ledger from which they may be a group
+abbrev pub AsksFrom : OpcodeSet → List ℕ → List Event → List Event → Type 0
+AsksFrom V pending run events = (l : Ledger) → l.pending ≡ pending → MayBegin l events → AsksOne V l run
+
+-- a fault came at these events: a group with which they begin was asked for, where the store answered it
+pub record StopsAsking {K : Type 0} (V : OpcodeSet) (performed : K → K → List Performance → Type 0) (old new : Option K) (pending : List ℕ)
+    (events : List Event) (fault : DriveFault) : Type 0 where
+  pub run : List Event
+  pub rest : List Event
+  pub parts : events ≡ run ++ rest
+  pub asks : AsksFrom V pending run events
+  pub asked : (new ≡ None → ⊥) → AsksRun V performed old new pending run
+  pub count : (new ≡ None → ⊥) → length (performances_of (commits_in V run) pending) ≡ (if is_store fault then 1 else 0)

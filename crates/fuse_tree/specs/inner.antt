@@ -1,0 +1,13 @@
+pub mod NumbersOnce
+pub mod Reading
+pub mod PlanInit
+pub mod PlanMaking
+pub mod PlanSetting
+pub mod PlanWriting
+pub mod PlanRemoving
+pub mod PlanOpening
+pub mod PlanListing
+pub mod PlanRenaming
+pub mod Planning
+pub mod Causing
+pub mod Vectors

@@ -1,0 +1,81 @@
+-- The plan of READDIR over the rows (own profile), in the order of its checks.
+-- Not part of what is trusted: neither `done` nor the public clauses of `plan` speak of it.
+use Rattle.std.specs.Prelude.{◌≡◌, ◌≢◌, ◌<◌, ◌≤◌, ◌+◌, ◌/◌, ◌==◌, ℕ, not, nat_lt, if◌then◌else◌, List, ◌++◌, length, map, take, filter, Option, Some, None}
+use Rattle.std.specs.Prelude.{Result, IfOk, IfErr}
+use Rattle.std.specs.List.{sum_by}
+use Rattle.fuse_wire.specs.Errnos.{enoent, ebadf, enotdir, einval}
+use Rattle.fuse_request.specs.declared.request.ReadIn.{ReadIn}
+use Rattle.fuse_answer.specs.Entries.{Entry, entry_len, entries_bytes}
+use Rattle.fuse_tree.specs.Bounds.{read_limit, name_limit, fuse_root_id, least_entry}
+use Rattle.fuse_tree.specs.declared.planning.fault.PlanFault.{PlanFault}
+use Rattle.fuse_tree.specs.declared.planning.fault.PlanFault.TheVariants as faults
+use Rattle.fuse_tree.specs.declared.rows.NodeRow.{NodeRow}
+use Rattle.fuse_tree.specs.declared.rows.EntryRow.{EntryRow}
+use Rattle.fuse_tree.specs.declared.rows.Planned.{Planned}
+use Rattle.fuse_tree.specs.State.{is_dir, type_of}
+use Rattle.fuse_tree.specs.Rows.{Rows, IsRowed, row_at, entries_after, row_is_named}
+use Rattle.fuse_tree.specs.Handles.{is_open}
+use Rattle.fuse_tree.specs.Plan.{look_fault}
+use Rattle.fuse_tree.specs.Listing.{dots, is_following, longest_prefix, first_fits}
+use Rattle.fuse_tree.specs.inner.Reading.{refused, told}
+
+-- ---- the entries of a directory
+
+abbrev pub row_above : NodeRow → ℕ
+row_above row = if row.node == fuse_root_id then fuse_root_id else row.up
+
+abbrev pub row_kind : Option NodeRow → ℕ
+row_kind None = 0
+row_kind (Some row) = type_of row.mode
+
+abbrev pub row_entry : Rows → EntryRow → Entry
+row_entry rows e = record { ino = e.child; off = e.cookie; kind = row_kind (row_at rows e.child); name = e.name }
+
+-- more entries than can fit
+abbrev pub enough : ℕ → ℕ
+enough size = size / least_entry + 1
+
+abbrev pub dots_after : ℕ → NodeRow → List Entry
+dots_after offset row = filter (is_following offset) (dots row.node (row_above row))
+
+abbrev pub rows_after : ℕ → ℕ → NodeRow → Rows → List Entry
+rows_after offset size row rows = dots_after offset row ++ map (row_entry rows) (entries_after rows row.node offset (enough size))
+
+-- how many bytes the entry takes in a listing
+abbrev pub row_len : EntryRow → ℕ
+row_len e = entry_len (length e.name)
+
+-- the first n entries are followed by one that ends past so many bytes, or they are all
+pub record IsCut (es : List EntryRow) (left n : ℕ) : Type 0 where
+  pub within : n ≤ length es
+  pub past : n < length es → left < sum_by row_len (take (n + 1) es)
+
+-- ---- READDIR
+
+abbrev pub plan_prefix : List Entry → ℕ → Planned
+plan_prefix es size = if not (first_fits es size) then refused einval else told (entries_bytes (longest_prefix es size))
+
+abbrev pub plan_list : ℕ → ℕ → NodeRow → Rows → Planned
+plan_list offset size row rows = plan_prefix (rows_after offset size row rows) size
+
+abbrev pub plan_read_dir : ReadIn → NodeRow → Rows → Planned
+plan_read_dir asked row rows =
+    if not (is_open rows.handles asked.fh row.node) then refused ebadf
+    else if not (is_dir row.mode) then refused enotdir
+    else if nat_lt read_limit asked.size then refused einval
+    else if not (row_is_named row) then refused enoent
+    else plan_list asked.offset asked.size row rows
+
+-- ---- the answers of the parts
+
+-- `Reads`, of what is seen of the answer
+abbrev pub ReadsBy : {X Y : Type 0} → (X → Y) → Type 0 → (Rows → Type 0) → Result X PlanFault → (Rows → Y) → Type 0
+ReadsBy view clean sees result told =
+    look_fault result ≡ None → clean → (rows : Rows) → IsRowed rows → sees rows
+    → IfOk result (λ x. view x ≡ told rows) × IfErr result (λ fault. fault ≢ faults.NotATree)
+
+-- an entry has a name of 1 to 255 bytes, and leads to a row
+pub record IsShown (rows : Rows) (e : EntryRow) : Type 0 where
+  pub some : 1 ≤ length e.name
+  pub short : length e.name ≤ name_limit
+  pub there : row_at rows e.child ≢ None

@@ -1,0 +1,73 @@
+-- The plans of OPEN, OPENDIR, RELEASE and RELEASEDIR over the rows (own profile), in the order of their checks.
+-- Not part of what is trusted: neither `done` nor the public clauses of `plan` speak of it.
+use Rattle.std.specs.Prelude.{◌+◌, ◌-◌, ℕ, not, if◌then◌else◌, List, [], ◌∷◌, Option, Some, None}
+use Rattle.fuse_wire.specs.declared.access_mode.AccessMode.{AccessMode}
+use Rattle.fuse_wire.specs.declared.access_mode.AccessMode.TheVariants.{ReadOnly}
+use Rattle.fuse_wire.specs.declared.errno.Errno.{Errno}
+use Rattle.fuse_wire.specs.Errnos.{ebadf, enotdir, eisdir, einval}
+use Rattle.fuse_wire.specs.Flags.{access_of}
+use Rattle.fuse_answer.specs.Bodies.{open_bytes}
+use Rattle.fuse_tree.specs.declared.rows.NodeRow.{NodeRow}
+use Rattle.fuse_tree.specs.declared.rows.Counters.{Counters as CountersRow}
+use Rattle.fuse_tree.specs.declared.rows.Change.{Change}
+use Rattle.fuse_tree.specs.declared.rows.Change.TheVariants as changes
+use Rattle.fuse_tree.specs.declared.rows.Planned.{Planned}
+use Rattle.fuse_tree.specs.State.{is_dir, is_file}
+use Rattle.fuse_tree.specs.Rows.{Rows}
+use Rattle.fuse_tree.specs.Handles.{is_open}
+use Rattle.fuse_tree.specs.Opening.{open_fault, new_handle, open_of, not_for_dirs, for_dirs_alone}
+use Rattle.fuse_tree.specs.inner.Reading.{refused, refused_for}
+
+-- ---- a handle more
+
+abbrev pub counters_opened : CountersRow → CountersRow
+counters_opened counters = record counters { next_fh = counters.next_fh + 1; handles = counters.handles + 1 }
+
+abbrev pub opened_changes : CountersRow → AccessMode → ℕ → List Change
+opened_changes counters access node = changes.Handle (new_handle counters.next_fh node access) ∷ changes.Counters (counters_opened counters) ∷ []
+
+abbrev pub plan_opened : CountersRow → AccessMode → ℕ → Planned
+plan_opened counters access node =
+    record { answer = record { errno = 0; body = open_bytes (open_of counters.next_fh) }; changes = opened_changes counters access node }
+
+abbrev pub plan_open_node : AccessMode → ℕ → Rows → Planned
+plan_open_node access node rows = refused_for (open_fault rows.counters.handles rows.counters.next_fh) (plan_opened rows.counters access node)
+
+-- ---- OPEN
+
+abbrev pub plan_open_for : Option AccessMode → NodeRow → Rows → Planned
+plan_open_for None row rows = refused einval
+plan_open_for (Some access) row rows = plan_open_node access row.node rows
+
+abbrev pub plan_open : ℕ → NodeRow → Rows → Planned
+plan_open flags row rows =
+    if is_dir row.mode then refused eisdir
+    else if not (is_file row.mode) then refused einval
+    else plan_open_for (access_of flags) row rows
+
+-- ---- OPENDIR
+
+abbrev pub plan_open_dir : NodeRow → Rows → Planned
+plan_open_dir row rows = if not (is_dir row.mode) then refused enotdir else plan_open_node ReadOnly row.node rows
+
+-- ---- a handle less
+
+abbrev pub counters_closed : CountersRow → CountersRow
+counters_closed counters = record counters { handles = counters.handles - 1 }
+
+abbrev pub plan_closed : CountersRow → ℕ → Planned
+plan_closed counters fh =
+    record { answer = record { errno = 0; body = [] }; changes = changes.HandleGone fh ∷ changes.Counters (counters_closed counters) ∷ [] }
+
+abbrev pub plan_close : ℕ → Option Errno → ℕ → Rows → Planned
+plan_close fh kind_fault node rows =
+    if not (is_open rows.handles fh node) then refused ebadf
+    else refused_for kind_fault (plan_closed rows.counters fh)
+
+-- ---- RELEASE and RELEASEDIR
+
+abbrev pub plan_release : ℕ → NodeRow → Rows → Planned
+plan_release fh row rows = plan_close fh (not_for_dirs row.mode) row.node rows
+
+abbrev pub plan_release_dir : ℕ → NodeRow → Rows → Planned
+plan_release_dir fh row rows = plan_close fh (for_dirs_alone row.mode) row.node rows

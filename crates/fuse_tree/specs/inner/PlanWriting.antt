@@ -1,0 +1,46 @@
+-- The plans of WRITE and READ over the rows (own profile), in the order of their checks.
+-- Not part of what is trusted: neither `done` nor the public clauses of `plan` speak of it.
+use Rattle.std.specs.Prelude.{◌+◌, ◌==◌, ℕ, max, not, nat_lt, if◌then◌else◌, List, [], ◌∷◌, length}
+use Rattle.fuse_wire.specs.Errnos.{ebadf, eisdir, einval, efbig}
+use Rattle.fuse_wire.specs.declared.moment.Moment.{Moment}
+use Rattle.fuse_request.specs.declared.request.ReadIn.{ReadIn}
+use Rattle.fuse_tree.specs.Bounds.{file_limit, read_limit}
+use Rattle.fuse_tree.specs.declared.rows.NodeRow.{NodeRow}
+use Rattle.fuse_tree.specs.declared.rows.Change.{Change}
+use Rattle.fuse_tree.specs.declared.rows.Change.TheVariants as changes
+use Rattle.fuse_tree.specs.declared.rows.Planned.{Planned}
+use Rattle.fuse_tree.specs.State.{is_dir}
+use Rattle.fuse_tree.specs.Rows.{Rows, bytes_at}
+use Rattle.fuse_tree.specs.Handles.{access_at}
+use Rattle.fuse_tree.specs.Writing.{may_write, may_read, count_body}
+use Rattle.fuse_tree.specs.inner.Reading.{refused, told}
+
+-- ---- WRITE
+
+-- a file's row when bytes that end here are written
+abbrev pub written_row : ℕ → Moment → NodeRow → NodeRow
+written_row end now row = record row { size = max row.size end; mtime = now; ctime = now }
+
+abbrev pub write_changes : ℕ → List ℕ → Moment → NodeRow → List Change
+write_changes offset payload now row =
+    changes.Node (written_row (offset + length payload) now row) ∷ changes.Written row.node offset payload ∷ []
+
+abbrev pub plan_written : ℕ → List ℕ → Moment → NodeRow → Planned
+plan_written offset payload now row =
+    record { answer = record { errno = 0; body = count_body (length payload) }; changes = write_changes offset payload now row }
+
+abbrev pub plan_write : ℕ → ℕ → List ℕ → Moment → NodeRow → Rows → Planned
+plan_write fh offset payload now row rows =
+    if not (may_write (access_at rows.handles fh row.node)) then refused ebadf
+    else if length payload == 0 then told (count_body 0)
+    else if nat_lt file_limit (offset + length payload) then refused efbig
+    else plan_written offset payload now row
+
+-- ---- READ
+
+abbrev pub plan_read : ReadIn → NodeRow → Rows → Planned
+plan_read asked row rows =
+    if not (may_read (access_at rows.handles asked.fh row.node)) then refused ebadf
+    else if is_dir row.mode then refused eisdir
+    else if nat_lt read_limit asked.size then refused einval
+    else told (bytes_at rows row.node asked.offset asked.size)

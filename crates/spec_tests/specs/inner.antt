@@ -1,0 +1,6 @@
+pub mod AnswerCases
+pub mod InitCases
+pub mod RequestCases
+pub mod Vectors
+pub mod Hex
+pub mod WireCases

@@ -1,5 +1,0 @@
-use Rattle.three_files.proofs.Fits.{files_are_sound}
-use Rattle.three_files.proofs.files.ThreeFilesFileSystem.model_is_sound.Goals as goal
-
-pub returns : goal.returns
-returns c = files_are_sound c.record_sizes.ensures
