@@ -30,7 +30,15 @@ pub refused_first : {M : Model} {A : Type 0} (a b : KeeperState M) (f : StoreFau
 refused_first {A = A} a b f one =
     let call = one.called in
     record {
-      called = record { failed = call.failed; honest = call.honest; err = call.err; err_lots = call.err_lots; fault = call.fault };
+      called = record {
+        failed = call.failed;
+        honest = call.honest;
+        medium = call.medium;
+        clean = tt;
+        err = call.err;
+        err_lots = call.err_lots;
+        fault = call.fault;
+      };
       may = one.may;
       held = tt;
       lots = tt;
@@ -65,14 +73,16 @@ refused_second a b c x f sound one two =
       called = record {
         failed = two.called.failed ∙ ap (λ (p : Bool). p || true) (one.called.failed ∙ or_none a.has_failed);
         honest = λ honest. one.called.honest (mid honest);
+        medium = λ memory. two.called.medium (one.called.medium memory);
+        clean = tt;
         err = λ clean rows records held. two.called.err clean rows records (one.same (clean_mid clean) rows records held);
         err_lots = λ clean rows records held.
             same_then a.lots b.lots c.lots (one.lots (clean_mid clean) rows records held)
             (two.called.err_lots clean rows records (one.same (clean_mid clean) rows records held));
         fault = λ clean s h t stood.
-            one.may f (two.called.fault clean s h t (stands_still a b s h t (one.same (clean_mid clean)) stood));
+            one.may (clean_mid clean) f (two.called.fault clean s h t (stands_still a b s h t (one.same (clean_mid clean)) stood));
       };
-      may = λ g now. one.may g (two.may g now);
+      may = λ honest g now. one.may (mid honest) g (two.may honest g now);
       held = tt;
       lots = tt;
       whole = λ honest rows records held all. two.whole rows records (one.same (mid honest) rows records held) (one.whole rows records held all);
@@ -89,11 +99,13 @@ answered_both a b c x y done one two =
       called = record {
         failed = two.called.failed ∙ ap (λ (p : Bool). p || false) (one.called.failed ∙ or_none a.has_failed);
         honest = λ honest. one.called.honest (mid honest);
+        medium = λ memory. two.called.medium (one.called.medium memory);
+        clean = λ clean honest. two.called.clean (one.called.clean clean (mid honest)) honest;
         err = tt;
         err_lots = tt;
         fault = λ clean s h t stood. tt;
       };
-      may = λ g now. one.may g (two.may g now);
+      may = λ honest g now. one.may (mid honest) g (two.may honest g now);
       held = λ honest rows records held. two.same honest rows records (one.same (mid honest) rows records held);
       lots = λ honest rows records held.
           same_then a.lots b.lots c.lots (one.lots (mid honest) rows records held)
