@@ -1,5 +1,7 @@
 -- The state of a keeper with two copies (own profile).
-use Rattle.std.specs.Prelude.{◌≡◌, ◌||◌, false}
+use Rattle.std.specs.Prelude.{◌≡◌, ◌⊎◌, ◌<◌, ◌-◌, ◌+◌, ◌||◌, ℕ, Bool, true, false, Result, MatchResult}
+use Rattle.fuse_keeper.specs.declared.fault.StoreFault.{StoreFault}
+use Rattle.fuse_keeper.specs.declared.fault.StoreFault.TheVariants.{Damaged}
 use Rattle.fuse_keeper.specs.Model.{Model}
 use Rattle.fuse_keeper.specs.KeeperState.{KeeperState, KeepsHeld}
 use Rattle.fuse_keeper.specs.PlainKeeper.{plain_told}
@@ -25,3 +27,58 @@ two_told M held k = record {
   may_answer = (plain_told M held k.working).may_answer;
   lots = no_lots;
 }
+
+-- how its commits go
+pub record CommitPlan : Type 0 where
+  -- so many go well between two that are refused
+  pub between : ℕ
+  -- so many of them are left
+  pub left : ℕ
+  -- the next one that isn't refused holds and answers a fault
+  pub faults : Bool
+
+abbrev pub plan_of : {F : Type 0} → TwoCopies F → CommitPlan
+plan_of k = record { between = k.commits; left = k.left; faults = k.faults }
+
+-- of a new keeper
+abbrev pub new_plan : ℕ → CommitPlan
+new_plan commits = record { between = commits; left = commits; faults = false }
+
+-- no commit was tried, or there was no memory for it
+pub record Untried {F : Type 0} (old new : TwoCopies F) : Type 0 where
+  pub plan : plan_of new ≡ plan_of old
+  pub committed : new.committed ≡ old.committed
+
+-- the commit was refused, and the plan begins anew
+pub record Refused {F : Type 0} (old new : TwoCopies F) (fault : StoreFault) : Type 0 where
+  pub none_left : old.left ≡ 0
+  pub damaged : fault ≡ Damaged
+  pub plan : plan_of new ≡ record (plan_of old) { left = old.commits }
+  pub committed : new.committed ≡ old.committed
+
+-- the commit held, and answered a fault
+pub record Faulted {F : Type 0} (M : Model) (held : F → M.Rows) (old new : TwoCopies F) (fault : StoreFault) : Type 0 where
+  pub some_left : 0 < old.left
+  pub faults : old.faults ≡ true
+  pub damaged : fault ≡ Damaged
+  pub plan : plan_of new ≡ record (plan_of old) { left = old.left - 1; faults = false }
+  pub committed : HoldsAlike (plain_told M held new.working) (plain_told M held new.committed)
+
+-- the commit went well
+pub record WentWell {F : Type 0} (old new : TwoCopies F) : Type 0 where
+  pub some_left : 0 < old.left
+  pub no_fault : old.faults ≡ false
+  pub plan : plan_of new ≡ record (plan_of old) { left = old.left - 1 }
+
+-- the commit failed as it was planned
+abbrev pub FailedAsPlanned : {F : Type 0} → (M : Model) → (F → M.Rows) → TwoCopies F → TwoCopies F → StoreFault → Type 0
+FailedAsPlanned M held old new fault = Refused old new fault ⊎ Faulted M held old new fault
+
+-- a call that commits goes by the plan
+abbrev pub Follows : {F A : Type 0} → (M : Model) → (F → M.Rows) → TwoCopies F → TwoCopies F → Result A StoreFault → Type 0
+Follows M held old new result =
+    MatchResult result (λ _. WentWell old new) (λ fault. Untried old new ⊎ FailedAsPlanned M held old new fault)
+
+-- a later state, opened again so often on the way, with the same number of commits between two that are refused
+abbrev pub IsLater : {F : Type 0} → TwoCopies F → TwoCopies F → ℕ → Type 0
+IsLater a b n = (b.openings ≡ a.openings + n) × (b.commits ≡ a.commits)

@@ -1,8 +1,16 @@
 // A keeper in memory with two copies.
-ghost use Rattle.std.specs.Prelude.{◌≡◌, ◌+◌, ◌^◌, ◌⊎◌, true, false, [], IfOk, OnOk, OnErr, is_err};
-ghost use Rattle.fuse_keeper.specs.KeeperState.{StandsFor};
+ghost use Rattle.std.specs.Prelude.{◌≡◌, ◌+◌, ◌^◌, ◌≤◌, ◌⊎◌, ℕ, List, true, false, [], length, All};
+ghost use Rattle.std.specs.Prelude.{IfOk, IfErr, OnOk, OnErr, is_err};
+ghost use Rattle.fuse_keeper.specs.History.{History};
+ghost use Rattle.fuse_keeper.specs.Stands.{Records, CountsRecords};
+ghost use Rattle.fuse_keeper.specs.Group.{entries_of, HasId, IsKept, ids_of};
+ghost use Rattle.fuse_keeper.specs.KeeperState.{StandsFor, IsFirm, Reports, Reopened};
+ghost use Rattle.fuse_keeper.specs.KeeperState.{AnswersNoMore, Called, Looked, Performs};
+ghost use Rattle.fuse_keeper.specs.KeeperState.{ActsOn, KeepsOthers, KeepsLots, LeavesGroup};
+ghost use Rattle.fuse_keeper.specs.KeeperState.{BeginsMount, DropsLots, LeavesMount};
 ghost use Rattle.fuse_keeper.specs.PlainKeeper.{plain_told};
-ghost use Rattle.two_copies.specs.TwoCopies.{HoldsAlike, two_told};
+ghost use Rattle.two_copies.specs.TwoCopies.{HoldsAlike, two_told, plan_of, new_plan};
+ghost use Rattle.two_copies.specs.TwoCopies.{FailedAsPlanned, Follows, IsLater};
 
 use fuse_answer::Answer;
 use fuse_init::Settings;
@@ -44,6 +52,7 @@ impl<F: FileSystem> TwoCopies<F> {
         // Its medium gives back what was written, and no write is open.
         ensures medium { IfOk result (λ k. (two_told F.model F.held k).is_honest) }
         ensures clean { IfOk result (λ k. (two_told F.model F.held k).is_clean) }
+        ensures plan { IfOk result (λ k. plan_of k ≡ new_plan commits) }
     {
         let working = PlainKeeper::new(alloc, now)?;
         Ok(TwoCopies {
@@ -83,6 +92,9 @@ impl<F: FileSystem> TwoCopies<F> {
         ensures err { OnErr result ((self.new.committed ≡ self.old.committed)
             ⊎ HoldsAlike (plain_told F.model F.held self.old.working)
             (plain_told F.model F.held self.new.committed)) }
+        ensures follows { Follows F.model F.held self.old self.new result }
+        ensures by_plan { IfErr result (λ fault. (fault ≡ StoreFault.Memory)
+            ⊎ FailedAsPlanned F.model F.held self.old self.new fault) }
     {
         self.in_doubt = true;
         if self.left == 0 {
@@ -101,13 +113,15 @@ impl<F: FileSystem> TwoCopies<F> {
 }
 
 impl<F: FileSystem> Keeper for TwoCopies<F> {
-    ghost use Rattle.std.proofs.Common.{sym, ◌∙◌, arith};
+    ghost use Rattle.std.proofs.Common.{refl, sym, ◌∙◌, arith};
+    ghost use Rattle.fuse_keeper.specs.declared.keeper.TheConstants.{MAX_GROUP as max_group};
+    ghost use Rattle.fuse_keeper.specs.declared.keeper.TheConstants.{MAX_SETTLED as max_settled};
 
     ghost model = { F.model };
 
     ghost told = { two_told F.model F.held };
 
-    ghost became = { λ a b n. b.openings ≡ a.openings + n };
+    ghost became = { IsLater };
 
     ghost performed = { λ a b list. Unit {0} };
 
@@ -120,7 +134,34 @@ impl<F: FileSystem> Keeper for TwoCopies<F> {
         &mut self,
         group: &[(Request<'_>, Moment)],
         settled: &[Id],
-    ) -> Result<Vec<Done>, StoreFault> {
+    ) -> Result<Vec<Done>, StoreFault>
+        requires short { length group.now ≤ max_group }
+        requires few { length settled.now ≤ max_settled }
+        requires named { All HasId (entries_of group.now) }
+        requires kept { All (IsKept F.model) (entries_of group.now) }
+        ensures count { IfOk result (λ dones. length dones.items ≡ length group.now) }
+        ensures called { Called (two_told F.model F.held self.old) (two_told F.model F.held self.new) result }
+        ensures may { AnswersNoMore (two_told F.model F.held self.old) (two_told F.model F.held self.new) }
+        ensures ok { IfOk result (λ dones. Performs (two_told F.model F.held self.old)
+            (two_told F.model F.held self.new) (ids_of settled.now) (entries_of group.now) dones.items) }
+        ensures acts { IfOk result (λ dones. ActsOn (two_told F.model F.held self.old)
+            (two_told F.model F.held self.new) (ids_of settled.now) (entries_of group.now) dones.items) }
+        ensures others { OnOk result (KeepsOthers (two_told F.model F.held self.old)
+            (two_told F.model F.held self.new) (ids_of settled.now) (entries_of group.now)) }
+        ensures lots { OnOk result (KeepsLots (two_told F.model F.held self.old)
+            (two_told F.model F.held self.new) (ids_of settled.now) (entries_of group.now)) }
+        ensures crash { LeavesGroup (two_told F.model F.held self.old) (two_told F.model F.held self.new)
+            (ids_of settled.now) (entries_of group.now) }
+        ensures firm { OnOk result ((two_told F.model F.held self.new).is_honest
+            → IsFirm (two_told F.model F.held self.new)) }
+        ensures same { IsLater self.old self.new 0 }
+        ensures follows { Follows F.model F.held self.old self.new result }
+        // Where it stands, a fault is want of memory, or that of a commit that was planned to fail.
+        ensures by_plan { (s : F.model.State) (h : History) (t : List ℕ)
+            → StandsFor (two_told F.model F.held self.old) s h t
+            → IfErr result (λ fault. (fault ≡ StoreFault.Memory)
+            ⊎ FailedAsPlanned F.model F.held self.old self.new fault) }
+    {
         if self.in_doubt {
             return Err(StoreFault::Damaged);
         }
@@ -133,7 +174,24 @@ impl<F: FileSystem> Keeper for TwoCopies<F> {
         }
     }
 
-    fn begin_mount(&mut self) -> Result<(), StoreFault> {
+    fn begin_mount(&mut self) -> Result<(), StoreFault>
+        ensures called { Called (two_told F.model F.held self.old) (two_told F.model F.held self.new) result }
+        ensures ok { OnOk result (BeginsMount (two_told F.model F.held self.old)
+            (two_told F.model F.held self.new)) }
+        ensures lots { OnOk result (DropsLots (two_told F.model F.held self.old)
+            (two_told F.model F.held self.new)) }
+        ensures crash { LeavesMount (two_told F.model F.held self.old)
+            (two_told F.model F.held self.new) }
+        ensures firm { OnOk result ((two_told F.model F.held self.new).is_honest
+            → IsFirm (two_told F.model F.held self.new)) }
+        ensures same { IsLater self.old self.new 0 }
+        ensures follows { Follows F.model F.held self.old self.new result }
+        // Where it stands, a fault is want of memory, or that of a commit that was planned to fail.
+        ensures by_plan { (s : F.model.State) (h : History) (t : List ℕ)
+            → StandsFor (two_told F.model F.held self.old) s h t
+            → IfErr result (λ fault. (fault ≡ StoreFault.Memory)
+            ⊎ FailedAsPlanned F.model F.held self.old self.new fault) }
+    {
         if self.in_doubt {
             return Err(StoreFault::Damaged);
         }
@@ -146,15 +204,43 @@ impl<F: FileSystem> Keeper for TwoCopies<F> {
         }
     }
 
-    fn answer_of(&mut self, id: Id) -> Result<Option<Answer>, StoreFault> {
+    fn answer_of(&mut self, id: Id) -> Result<Option<Answer>, StoreFault>
+        ensures looked { Looked (two_told F.model F.held self.old)
+            (two_told F.model F.held self.new) result }
+        ensures ok { IfOk result (λ answer. (two_told F.model F.held self.new).is_honest
+            → (rows : F.model.Rows) (records : Records)
+            → (two_told F.model F.held self.old).holds rows records → answer ≡ records id.0) }
+        ensures same { IsLater self.old self.new 0 }
+        ensures plan { plan_of self.new ≡ plan_of self.old }
+    {
         self.working.answer_of(id)
     }
 
-    fn settings(&mut self) -> Result<Option<Settings>, StoreFault> {
+    fn settings(&mut self) -> Result<Option<Settings>, StoreFault>
+        ensures looked { Looked (two_told F.model F.held self.old)
+            (two_told F.model F.held self.new) result }
+        ensures ok { IfOk result (λ settings. Reports (two_told F.model F.held self.old)
+            (two_told F.model F.held self.new) (λ rows records. settings ≡ F.model.settings rows)) }
+        ensures same { IsLater self.old self.new 0 }
+        ensures plan { plan_of self.new ≡ plan_of self.old }
+    {
         self.working.settings()
     }
 
-    fn counts(&mut self) -> Result<StoreCounts, StoreFault> {
+    fn counts(&mut self) -> Result<StoreCounts, StoreFault>
+        ensures looked { Looked (two_told F.model F.held self.old)
+            (two_told F.model F.held self.new) result }
+        ensures nodes { IfOk result (λ counts. Reports (two_told F.model F.held self.old)
+            (two_told F.model F.held self.new) (λ rows records. counts.nodes ≡ F.model.nodes rows)) }
+        ensures handles { IfOk result (λ counts. Reports (two_told F.model F.held self.old)
+            (two_told F.model F.held self.new) (λ rows records. counts.handles ≡ F.model.handles rows)) }
+        ensures records { IfOk result (λ counts. Reports (two_told F.model F.held self.old)
+            (two_told F.model F.held self.new) (λ rows records. CountsRecords records counts.records)) }
+        ensures lots { IfOk result (λ counts. Reports (two_told F.model F.held self.old)
+            (two_told F.model F.held self.new) (λ rows records. counts.lots ≡ 0)) }
+        ensures same { IsLater self.old self.new 0 }
+        ensures plan { plan_of self.new ≡ plan_of self.old }
+    {
         self.working.counts()
     }
 
@@ -174,8 +260,11 @@ impl<F: FileSystem> Keeper for TwoCopies<F> {
     ghost memory_is_clean = { λ k memory. absurd memory };
 
     ghost counted = { record {
-      none = λ k. omega arith;
-      then = λ a b c m n before after. omega (arith, before, after);
+      none = λ k. (omega arith, refl);
+      then = λ a b c m n before after. (
+        omega (arith, before.0, after.0),
+        after.1 ∙ before.1,
+      );
     } };
 
     ghost log = { record { none = λ k. tt; onward = λ a b c before after one two. tt } };
@@ -190,7 +279,13 @@ impl<F: FileSystem> Restart for TwoCopies<F> {
     ghost refuses = { λ k fault rest. (fault ≡ NoMemory) ⊎ (k.openings + 1 ≡ 2 ^ 64) };
 
     /// Makes the working copy anew from the committed one. Uncommitted changes are lost.
-    fn restart(mut self) -> Result<TwoCopies<F>, (StoreFault, ())> {
+    fn restart(mut self) -> Result<TwoCopies<F>, (StoreFault, ())>
+        ensures reopened { IfOk result
+            (λ k. Reopened (two_told F.model F.held self) (two_told F.model F.held k)) }
+        ensures refused { IfErr result (λ e. (e.0 ≡ NoMemory) ⊎ (self.openings + 1 ≡ 2 ^ 64)) }
+        ensures once { IfOk result (λ k. IsLater self k 1) }
+        ensures plan { IfOk result (λ k. plan_of k ≡ plan_of self) }
+    {
         let Some(openings) = self.openings.checked_add(1) else {
             return Err((StoreFault::Damaged, ()));
         };

@@ -58,3 +58,7 @@ returns-in-Err-clause-called g c =
 pub returns-in-Err-clause-crash : goal.returns-in-Err-clause-crash
 returns-in-Err-clause-crash g c = λ s h t so within fresh firm.
     (tt, λ x r left. inl (leaves_old g.F.FileSystem.model g.F.FileSystem.held c.args.self.now c.args.self.now s h t x r refl so left))
+
+pub returns-in-Err-clause-by_plan : goal.returns-in-Err-clause-by_plan
+returns-in-Err-clause-by_plan g c = λ s h t so.
+    inl (c.in-Err.ensures.called.fault tt s h t (working_stands g.F.FileSystem.model g.F.FileSystem.held c.args.self.now s h t so))
