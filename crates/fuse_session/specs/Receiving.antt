@@ -1,13 +1,16 @@
 -- The bytes that were received, and the messages that wait then (own profile).
-use Rattle.std.specs.Prelude.{◌≡◌, ◌<◌, ◌≤◌, ◌+◌, ℕ, List, [], ◌++◌, length, All, Option, Some, None}
+use Rattle.std.specs.Prelude.{◌≡◌, ◌<◌, ◌≤◌, ◌+◌, ℕ, List, [], ◌∷◌, ◌++◌, length, All, Option, Some, None}
 use Rattle.std.specs.Io.KnownBytes.{Consumes}
 use Rattle.fuse_request.specs.declared.framer.FrameFault.{FrameFault}
 use Rattle.fuse_wire.specs.Bounds.{max_message_len}
 use Rattle.fuse_request.specs.Stream.{cut, joined, IsMessage}
 use Rattle.fuse_request.specs.Framing.{Held, HasNone, bad_length, end_fault}
 use Rattle.fuse_session.specs.declared.ended.Ended.{Ended}
-use Rattle.fuse_session.specs.declared.ended.Ended.TheVariants.{End, Destroyed, Turns, Frame, ZeroUnique, PortFailed, Store, Memory}
+use Rattle.fuse_session.specs.declared.ended.Ended.TheVariants.{End as ByEnd, Destroyed, Turns, Frame, ZeroUnique, PortFailed, Store, Memory}
 use Rattle.fuse_session.specs.Port.{PortState, HasEnded}
+use Rattle.fuse_session.specs.declared.port.Received.{Received as Receipt}
+use Rattle.fuse_session.specs.declared.port.Received.TheVariants.{End, Failed as ReceiveFailed}
+use Rattle.fuse_session.specs.Transcript.{PortEvent, Received}
 
 -- it returned no fault so far, and its bytes begin with neither a whole message nor a bad length
 pub record IsOpen (h : Held) : Type 0 where
@@ -41,28 +44,52 @@ pub record IsHearing (old new : PortState) : Type 0 where
   pub confirms : new.confirms ≡ old.confirms
   pub gone : new.gone ≡ old.gone
 
--- bytes came, and these are the messages that wait then
-pub record Heard (old new : PortState) (before after : Held) (messages : List (List ℕ)) (fault : Option FrameFault) : Type 0 where
-  pub received : List ℕ
-  pub came : Consumes old.coming new.coming received
-  pub took : TookAll (record before { bytes = before.bytes ++ received }) after messages fault
+-- bytes came by one receive, which neither failed nor ended
+pub record Comes (became : List PortEvent → Type 0) (old new : PortState) (received : List ℕ) : Type 0 where
+  pub result : Receipt
+  pub once : became (Received result received ∷ [])
+  pub bytes : Consumes old.coming new.coming received
+  pub ends : new.ends ≡ old.ends
   pub has_ended : new.has_ended ≡ old.has_ended
   pub failures : new.failures ≡ old.failures
   pub receive_failures : new.receive_failures ≡ old.receive_failures
 
+-- bytes came so, and these are the messages that wait then
+pub record Heard (comes : List ℕ → Type 0) (before after : Held) (messages : List (List ℕ)) (fault : Option FrameFault) : Type 0 where
+  pub received : List ℕ
+  pub came : comes received
+  pub took : TookAll (record before { bytes = before.bytes ++ received }) after messages fault
+
+-- one receive said that the port has ended
+pub record SaidEnd (became : List PortEvent → Type 0) (old new : PortState) : Type 0 where
+  pub once : became (Received End [] ∷ [])
+  pub has_ended : HasEnded new
+  pub ends : new.ends ≡ old.ends + 1
+  pub bytes : Consumes old.coming new.coming []
+  pub failures : new.failures ≡ old.failures
+  pub receive_failures : new.receive_failures ≡ old.receive_failures
+
+-- one receive failed
+pub record FailedOnce (became : List PortEvent → Type 0) (old new : PortState) : Type 0 where
+  pub once : became (Received ReceiveFailed [] ∷ [])
+  pub ends : new.ends ≡ old.ends
+  pub has_ended : new.has_ended ≡ old.has_ended
+  pub bytes : Consumes old.coming new.coming []
+  pub failures : old.failures < new.failures
+  pub receive_failures : old.receive_failures < new.receive_failures
+
 -- why nothing was heard
-abbrev pub NotHeard : Ended → PortState → PortState → Held → Type 0
-NotHeard End old new h = HasEnded new × (h.bytes ≡ []) × Consumes old.coming new.coming [] × (new.failures ≡ old.failures)
-NotHeard (Frame f) old new h = HasEnded new × (end_fault h.at h.bytes ≡ Some f) × Consumes old.coming new.coming [] × (new.failures ≡ old.failures)
-NotHeard PortFailed old new h = (old.failures < new.failures) × (old.receive_failures < new.receive_failures) × (new.has_ended ≡ old.has_ended)
-    × Consumes old.coming new.coming []
-NotHeard Memory old new h = (received : List ℕ) × Consumes old.coming new.coming received × (new.failures ≡ old.failures)
-NotHeard Destroyed old new h = ⊥
-NotHeard Turns old new h = ⊥
-NotHeard (ZeroUnique at) old new h = ⊥
-NotHeard (Store fault) old new h = ⊥
+abbrev pub NotHeard : Ended → (List PortEvent → Type 0) → PortState → PortState → Held → Type 0
+NotHeard ByEnd became old new h = SaidEnd became old new × (h.bytes ≡ [])
+NotHeard (Frame f) became old new h = SaidEnd became old new × (end_fault h.at h.bytes ≡ Some f)
+NotHeard PortFailed became old new h = FailedOnce became old new
+NotHeard Memory became old new h = (received : List ℕ) × Comes became old new received
+NotHeard Destroyed became old new h = ⊥
+NotHeard Turns became old new h = ⊥
+NotHeard (ZeroUnique at) became old new h = ⊥
+NotHeard (Store fault) became old new h = ⊥
 
 abbrev pub EndsSo : Ended → Held → Type 0
-EndsSo End h = h.bytes ≡ []
+EndsSo ByEnd h = h.bytes ≡ []
 EndsSo (Frame f) h = end_fault h.at h.bytes ≡ Some f
 EndsSo _ h = ⊥

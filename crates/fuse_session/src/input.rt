@@ -5,7 +5,8 @@ ghost use Rattle.fuse_request.specs.Framing.{fed_of};
 ghost use Rattle.fuse_request.specs.declared.framer.TheConstants.{MAX_FED as max_fed};
 ghost use Rattle.fuse_request.specs.declared.header.TheConstants.{MAX_MESSAGE as max_message};
 ghost use Rattle.fuse_session.specs.Port.{IsYoung};
-ghost use Rattle.fuse_session.specs.Receiving.{IsOpen, TookAll, IsHearing, Heard, NotHeard, EndsSo};
+ghost use Rattle.fuse_session.specs.Receiving.{IsOpen, TookAll, IsHearing, EndsSo};
+ghost use Rattle.fuse_session.specs.Receiving.{Comes, Heard, NotHeard};
 
 use crate::ended::Ended;
 use crate::port::{Port, Received};
@@ -104,13 +105,12 @@ pub(crate) fn receive_messages<P: Port>(
     requires room { length buffer.old ≡ max_message }
     requires opened { IsOpen framer.old }
     requires fed { fed_of framer.old + length buffer.old ≤ 2 ^ 60 }
-    ensures ok { IfOk result (λ w. Heard (P.told port.old) (P.told port.new) framer.old framer.new
-        w.messages.items w.fault) }
-    ensures err { IfErr result (λ ended. NotHeard ended (P.told port.old) (P.told port.new)
-        framer.old) }
+    ensures ok { IfOk result (λ w. Heard (Comes (P.became port.old port.new) (P.told port.old)
+        (P.told port.new)) framer.old framer.new w.messages.items w.fault) }
+    ensures err { IfErr result (λ ended. NotHeard ended (P.became port.old port.new)
+        (P.told port.old) (P.told port.new) framer.old) }
     ensures hearing { IsHearing (P.told port.old) (P.told port.new) }
     ensures fed { fed_of framer.new ≤ fed_of framer.old + length buffer.old }
-    ensures same { P.became port.old port.new }
 {
     match port.receive(buffer) {
         Received::Failed => Err(Ended::PortFailed),
