@@ -1,0 +1,85 @@
+-- What a session did, step after step.
+use Rattle.std.proofs.Common.{◌≡◌, ℕ, List, [], ◌∷◌, ◌++◌, refl, sym, ap, ◌∙◌}
+use Rattle.std.proofs.lemmas.List.{append-nil}
+use Rattle.fuse_wire.specs.declared.moment.Moment.{Moment}
+use Rattle.fuse_keeper.specs.Performance.{Performance, IsPerformanceLog}
+use Rattle.fuse_session.specs.declared.port.Received.{Received as Receipt}
+use Rattle.fuse_session.specs.declared.port.Sent.{Sent}
+use Rattle.fuse_session.specs.Clock.{IsLog}
+use Rattle.fuse_session.specs.Transcript.{PortEvent, Received, received_in, sends_of, IsTranscript}
+use Rattle.fuse_session.specs.Deeds.{Deeds, no_deeds, then_did, Did, Hears, Mute}
+use Rattle.fuse_session.specs.Turn.{OneTurn}
+use Rattle.fuse_session.proofs.Transcripts.{received_more, sends_more, received_sends}
+
+-- nothing was done
+pub did_none : {K P C : Type 0} (gave : C → C → List Moment → Type 0) (performed : K → K → List Performance → Type 0) (became : P → P → List PortEvent → Type 0)
+    → IsLog gave → IsPerformanceLog performed → IsTranscript became → (c : C) (k : K) (p : P) → Did (gave c c) (performed k k) (became p p) no_deeds
+did_none gave performed became log asks path c k p = record { moments = log.none c; asked = asks.none k; events = path.none p }
+
+-- these, and then those
+pub did_more : {K P C : Type 0} (gave : C → C → List Moment → Type 0) (performed : K → K → List Performance → Type 0) (became : P → P → List PortEvent → Type 0)
+    → IsLog gave → IsPerformanceLog performed → IsTranscript became → (c c' c'' : C) (k k' k'' : K) (p p' p'' : P) (a b : Deeds)
+    → Did (gave c c') (performed k k') (became p p') a → Did (gave c' c'') (performed k' k'') (became p' p'') b
+    → Did (gave c c'') (performed k k'') (became p p'') (then_did a b)
+did_more gave performed became log asks path c c' c'' k k' k'' p p' p'' a b one two = record {
+  moments = log.onward c c' c'' a.moments b.moments one.moments two.moments;
+  asked = asks.onward k k' k'' a.asked b.asked one.asked two.asked;
+  events = path.onward p p' p'' a.events b.events one.events two.events;
+}
+
+pub mute_none : (did : Deeds → Type 0) → did no_deeds → Mute did no_deeds
+mute_none did done = record { done = done; slices = []; events = refl }
+
+pub mute_more : {K P C : Type 0} (gave : C → C → List Moment → Type 0) (performed : K → K → List Performance → Type 0) (became : P → P → List PortEvent → Type 0)
+    → IsLog gave → IsPerformanceLog performed → IsTranscript became → (c c' c'' : C) (k k' k'' : K) (p p' p'' : P) (a b : Deeds)
+    → Mute (Did (gave c c') (performed k k') (became p p')) a → Mute (Did (gave c' c'') (performed k' k'') (became p' p'')) b
+    → Mute (Did (gave c c'') (performed k k'') (became p p'')) (then_did a b)
+mute_more gave performed became log asks path c c' c'' k k' k'' p p' p'' a b one two = record {
+  done = did_more gave performed became log asks path c c' c'' k k' k'' p p' p'' a b one.done two.done;
+  slices = one.slices ++ two.slices;
+  events = ap (λ (l : List PortEvent). l ++ b.events) one.events ∙ ap (λ (l : List PortEvent). sends_of one.slices ++ l) two.events
+      ∙ sym (sends_more one.slices two.slices);
+}
+
+-- what came, and then what came after it
+pub hears_more : (did' did'' : Deeds → Type 0) (a b : Deeds) (r1 r2 : List ℕ) → received_in a.events ≡ r1 → (did' b → did'' (then_did a b)) → Hears did' r2 b
+    → Hears did'' (r1 ++ r2) (then_did a b)
+hears_more did' did'' a b r1 r2 one f two = (
+  f two.0,
+  received_more a.events b.events ∙ ap (λ (l : List ℕ). l ++ received_in b.events) one ∙ ap (λ (l : List ℕ). r1 ++ l) two.1,
+)
+
+-- one receive
+abbrev pub one_heard : Receipt → List ℕ → Deeds
+one_heard result bytes = record { moments = []; asked = []; events = Received result bytes ∷ [] }
+
+-- a receive, and the sends after it
+pub turn_of : {P : Type 0} (gave : List Moment → Type 0) (performed : List Performance → Type 0) (became : P → P → List PortEvent → Type 0) → IsTranscript became
+    → (p q r : P) (result : Receipt) (bytes : List ℕ) (b : Deeds) → became p q (Received result bytes ∷ []) → Mute (Did gave performed (became q r)) b
+    → OneTurn (Did gave performed (became p r)) (then_did (one_heard result bytes) b)
+turn_of gave performed became path p q r result bytes b one two = record {
+  done = record {
+    moments = two.done.moments;
+    asked = two.done.asked;
+    events = path.onward p q r (Received result bytes ∷ []) b.events one two.done.events;
+  };
+  result = result;
+  bytes = bytes;
+  slices = two.slices;
+  events = ap (λ (l : List PortEvent). Received result bytes ∷ l) two.events;
+}
+
+pub heard_by : (result : Receipt) (bytes : List ℕ) → received_in (one_heard result bytes).events ≡ bytes
+heard_by result bytes = append-nil bytes
+
+-- nothing came by sends alone
+pub mute_hears : (did : Deeds → Type 0) (b : Deeds) → Mute did b → Hears (Mute did) [] b
+mute_hears did b m = (m, ap received_in m.events ∙ received_sends m.slices)
+
+pub turn_none : {P : Type 0} (gave : List Moment → Type 0) (performed : List Performance → Type 0) (became : P → P → List PortEvent → Type 0)
+    → (p q : P) (result : Receipt) (bytes : List ℕ) → gave [] → performed [] → became p q (Received result bytes ∷ [])
+    → Hears (OneTurn (Did gave performed (became p q))) bytes (one_heard result bytes)
+turn_none gave performed became p q result bytes none unasked one = (
+  record { done = record { moments = none; asked = unasked; events = one }; result = result; bytes = bytes; slices = []; events = refl },
+  heard_by result bytes,
+)
