@@ -1,24 +1,19 @@
 -- What serving a port does: at Resume the resend notice, then a session (own profile).
-use Rattle.std.specs.Prelude.{◌≡◌, ◌↔◌, ◌⊎◌, ◌<◌, ◌≤◌, ◌+◌, ℕ, true, false, List, [], Option, None, Ok, Err, OnOk}
+use Rattle.std.specs.Prelude.{◌≡◌, ◌⊎◌, ℕ, true, List, [], Option, None, Ok, Err, OnOk}
 use Rattle.fuse_wire.specs.declared.moment.Moment.{Moment}
 use Rattle.fuse_keeper.specs.Model.{Model}
 use Rattle.fuse_keeper.specs.Performance.{Performance}
-use Rattle.fuse_keeper.specs.KeeperState.{KeeperState, Looked, WhereHeld, OfHeld, IsFirm, AnswersNoMore}
+use Rattle.fuse_keeper.specs.KeeperState.{KeeperState, Looked, WhereHeld, IsFirm}
 use Rattle.fuse_session.specs.declared.counts.SessionCounts.{SessionCounts}
-use Rattle.fuse_session.specs.declared.ended.Ended.TheVariants as session
 use Rattle.fuse_session.specs.declared.ended.Served.{Served}
 use Rattle.fuse_session.specs.declared.resend.ResumeFault.{ResumeFault}
 use Rattle.fuse_session.specs.declared.resend.ResumeFault.TheVariants as resume
 use Rattle.fuse_session.specs.declared.device.DevicePort.{DevicePort}
 use Rattle.fuse_session.specs.Port.{PortState, fresh}
 use Rattle.fuse_session.specs.Transcript.{PortEvent}
-use Rattle.fuse_session.specs.Deeds.{Deeds, Did}
+use Rattle.fuse_session.specs.Deeds.{Did}
 use Rattle.fuse_session.specs.DevicePort.{device_told}
-use Rattle.fuse_session.specs.Settling.{AtMostMore}
-use Rattle.fuse_session.specs.Serving.{Run, FewSettled, KeepsFirm}
-use Rattle.fuse_session.specs.Ends.{SessionEnds, ExactAt, MayEnd, ended_store, ended_memory}
-use Rattle.fuse_session.specs.Prompt.{Prompt}
-use Rattle.fuse_session.specs.Starts.{HoldsUnder}
+use Rattle.fuse_session.specs.Session.{Session, passage}
 use Rattle.fuse_session.specs.Resuming.{Resumed, NotResumed, NoticeHanded, of_store}
 use Rattle.fuse_commands.specs.declared.ending.Ending.{Ending}
 use Rattle.fuse_commands.specs.declared.serve.Begin.{Begin}
@@ -51,30 +46,6 @@ between keeper keeper' port port' = record { keeper = keeper; keeper' = keeper';
 abbrev pub most_turns : ℕ
 most_turns = 4294967295
 
--- a session, with all that `serve` promises of it
-pub record Session {M : Model} (k k' : KeeperState M) (did : Deeds → Type 0) (old new : PortState) (served : Served) : Type 0 where
-  -- which messages were processed and answered at each end, and their counts
-  pub ends : SessionEnds k k' did old new most_turns served.ended served.counts
-  -- however it ended, and whatever a crash leaves
-  pub life : Run k k' did old new [] [] (ended_store served.ended) (ended_memory served.ended) (MayEnd k.may_answer served.ended)
-  -- all that came is answered before more is received
-  pub prompt : Prompt k k' did old.confirms
-  -- what was sent at a fault of the store, or out of memory
-  pub exactly : ExactAt k k' did old new [] [] served.ended
-  -- the records that stay, and under which lots
-  pub at_most : old.confirms ≡ true → k'.is_clean → OfHeld k (λ rows records. AtMostMore records k')
-  pub lots : old.confirms ≡ true → k'.is_clean → OfHeld k (λ rows records. HoldsUnder (record { records = records; lots = k.lots }) k')
-  pub settled : k'.is_clean → FewSettled k k' did old new
-  -- how often it received, and that it ended by the port and by the store exactly where they failed
-  pub turns : new.receives ≤ old.receives + most_turns
-  pub failed : (served.ended ≡ session.PortFailed) ↔ (old.failures < new.failures)
-  pub store : k'.has_failed ≡ ended_store served.ended
-  -- the keeper and its medium afterwards
-  pub firm : ended_store served.ended ≡ false → KeepsFirm k k'
-  pub honest : k'.is_honest → k.is_honest
-  pub medium : k.in_memory → k'.in_memory
-  pub may : AnswersNoMore k k'
-
 -- the notice was handed to the port, and nothing else; the keeper holds the same, is as firm and was asked to perform nothing
 pub record Notified {M : Model} {K P : Type 0} (v : Views M K P) (b : Between K P) : Type 0 where
   pub resumed : Resumed (v.keeper b.keeper) (v.keeper b.keeper') (v.port b.port) (v.port b.port')
@@ -95,8 +66,8 @@ pub record SessionServed {M : Model} {K P : Type 0} (v : Views M K P) (gave : Li
   pub now : P
   pub begins : Begins begin v (record { keeper = b.keeper; keeper' = begun; port = b.port; port' = now })
   pub served : Served
-  pub session : Session (v.keeper begun) (v.keeper b.keeper') (Did gave (v.performed begun b.keeper') (v.became now b.port')) (v.port now) (v.port b.port')
-      served
+  pub session : Session (passage (v.keeper begun) (v.keeper b.keeper') (v.port now) (v.port b.port')
+      (Did gave (v.performed begun b.keeper') (v.became now b.port'))) most_turns served
   pub ending_is : ending ≡ session_ending served.ended
   pub counts_are : counts ≡ served.counts
 

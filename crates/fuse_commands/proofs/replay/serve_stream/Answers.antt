@@ -1,5 +1,7 @@
 use Rattle.std.proofs.Common.{ℕ, List, Some, false, refl, ap, sym, subst, ◌∙◌}
 use Rattle.fuse_session.specs.Clock.{GaveFixed}
+use Rattle.fuse_session.specs.Deeds.{Did}
+use Rattle.fuse_session.specs.Stepping.{Stepped}
 use Rattle.fuse_commands.specs.Endings.{IsOfStream}
 use Rattle.fuse_commands.specs.Replaying.{Replayed, Sends}
 use Rattle.fuse_session.specs.Ends.{ended_store, ended_memory}
@@ -14,14 +16,14 @@ returns-clause-replayed g c = λ of_stream input known.
     ∙ ap (λ (x : List ℕ). fresh (Some input) (Some x) false) c.new.ensures.items in
     let ends = c.serve-served.ensures.ends in
     let n =
-    counts_shown c.serve-served.result.ended ends.counts c.counts_of.result c.serve-served.result.counts (subst IsOfStream c.of_session.ensures of_stream)
+    counts_shown c.serve-served.result.ended ends.counts c.counts_of.result c.serve-served.result.counts _ (subst IsOfStream c.of_session.ensures of_stream)
     ends.told_are c.counts_of.ensures in
     subst
     (λ m. Replayed (g.K.Keeper.told c.args.keeper.now) (g.K.Keeper.told c.serve-served.new.keeper) c.args.moment input c.of_session.result
     (Sends c.into_writer.result.items m)) (sym n)
     (session_replayed c.cut_joins.ensures c.cut_steps.ensures (g.K.Keeper.told c.args.keeper.now)
-    (g.K.Keeper.told c.serve-served.new.keeper) c.args.moment (λ ts. GaveFixed (record { 0 = c.args.moment }) c.serve-served.new.clock ts)
-    (λ ts given. given.each) input c.into_writer.result.items
+    (g.K.Keeper.told c.serve-served.new.keeper) c.args.moment (Did (GaveFixed (record { 0 = c.args.moment }) c.serve-served.new.clock) (g.K.Keeper.performed c.args.keeper.now c.serve-served.new.keeper)
+    (Stepped (stream_told (λ r. g.R.Read.remaining r.now) (λ w. Some w.items)) c.new-port.result c.serve-served.new.port)) (λ d done. done.moments.each) input c.into_writer.result.items
     (stream_told (λ r. g.R.Read.remaining r.now) (λ w. Some w.items) c.new-port.result)
     (stream_told (λ r. g.R.Read.remaining r.now) (λ w. Some w.items) c.serve-served.new.port) _ c.serve-served.result.ended ends.counts c.of_session.result
     c.of_session.ensures start refl c.into_writer.ensures ends.ends of_stream)
@@ -31,8 +33,8 @@ returns-clause-faulted g c = λ three input known.
     let start = c.new-port.ensures ∙ ap (λ o. fresh o (Some c.new.result.items) false) known
     ∙ ap (λ (x : List ℕ). fresh (Some input) (Some x) false) c.new.ensures.items in
     session_faulted c.cut_joins.ensures (g.K.Keeper.told c.args.keeper.now)
-    (g.K.Keeper.told c.serve-served.new.keeper) c.args.moment (λ ts. GaveFixed (record { 0 = c.args.moment }) c.serve-served.new.clock ts)
-    (λ ts given. given.each) input c.into_writer.result.items
+    (g.K.Keeper.told c.serve-served.new.keeper) c.args.moment (Did (GaveFixed (record { 0 = c.args.moment }) c.serve-served.new.clock) (g.K.Keeper.performed c.args.keeper.now c.serve-served.new.keeper)
+    (Stepped (stream_told (λ r. g.R.Read.remaining r.now) (λ w. Some w.items)) c.new-port.result c.serve-served.new.port)) (λ d done. done.moments.each) input c.into_writer.result.items
     (stream_told (λ r. g.R.Read.remaining r.now) (λ w. Some w.items) c.new-port.result)
     (stream_told (λ r. g.R.Read.remaining r.now) (λ w. Some w.items) c.serve-served.new.port) c.serve-served.result.ended c.of_session.result
     (g.met.K.Keeper.sound c.serve-served.new.keeper).clean_is_honest c.of_session.ensures start refl c.into_writer.ensures c.serve-served.ensures.exactly three
@@ -43,6 +45,7 @@ returns-clause-kept g c = λ input known.
     ∙ ap (λ (x : List ℕ). fresh (Some input) (Some x) false) c.new.ensures.items in
     session_kept c.cut_joins.ensures (g.K.Keeper.told c.args.keeper.now)
     (g.K.Keeper.told c.serve-served.new.keeper) (ended_store c.serve-served.result.ended) (ended_memory c.serve-served.result.ended) _ c.args.moment
-    (λ ts. GaveFixed (record { 0 = c.args.moment }) c.serve-served.new.clock ts) (λ ts given. given.each) input
+    (Did (GaveFixed (record { 0 = c.args.moment }) c.serve-served.new.clock) (g.K.Keeper.performed c.args.keeper.now c.serve-served.new.keeper)
+    (Stepped (stream_told (λ r. g.R.Read.remaining r.now) (λ w. Some w.items)) c.new-port.result c.serve-served.new.port)) (λ d done. done.moments.each) input
     (stream_told (λ r. g.R.Read.remaining r.now) (λ w. Some w.items) c.new-port.result)
     (stream_told (λ r. g.R.Read.remaining r.now) (λ w. Some w.items) c.serve-served.new.port) start refl c.serve-served.ensures.life
