@@ -6,11 +6,13 @@ use Rattle.fuse_wire.specs.declared.access_mode.AccessMode.{AccessMode}
 use Rattle.fuse_wire.specs.declared.access_mode.AccessMode.TheVariants.{ReadOnly, WriteOnly, ReadWrite}
 use Rattle.fuse_wire.specs.declared.errno.Errno.{Errno}
 use Rattle.fuse_wire.specs.Flags.{access_of}
+use Rattle.fuse_wire.specs.Opcodes.{fuse_readlink, fuse_statfs}
 use Rattle.fuse_request.specs.declared.request.InitIn.{InitIn}
 use Rattle.fuse_request.specs.declared.request.ReadIn.{ReadIn}
 use Rattle.fuse_request.specs.Act.{Act, Asked}
 use Rattle.fuse_request.specs.Act as acts
 use Rattle.fuse_answer.specs.Entries.{Entry}
+use Rattle.fuse_answer.specs.FurtherAnswers.{statfs_bytes}
 use Rattle.fuse_answer.specs.Laws.{RecordSizes}
 use Rattle.fuse_answer.specs.Said.{Said, FitsAnswer}
 use Rattle.fuse_init.specs.Agree.{agree}
@@ -19,9 +21,10 @@ use Rattle.fuse_init.specs.declared.negotiation.Negotiated.TheVariants.{Agreed, 
 use Rattle.fuse_init.specs.declared.settings.Settings.{Settings}
 use Rattle.fuse_keeper.specs.Model.{IsSoundModel}
 use Rattle.five_files.specs.declared.node.Node.{Node}
-use Rattle.five_files.specs.Nodes.{number_of, node_at, is_dir, content_of}
-use Rattle.five_files.specs.Answers.{refuse, give, refuse_for, entry_out, attr_out, open_out, give_entry, give_attr, give_open}
-use Rattle.five_files.specs.Asking.{name_fault, file_named, found, lookup, open_for, release, release_dir, read, said_at}
+use Rattle.five_files.specs.declared.node.Node.TheVariants.{Directory, Readme, Licence, Hours, Times}
+use Rattle.five_files.specs.Nodes.{number_of, node_at, is_dir, is_link, content_of}
+use Rattle.five_files.specs.Answers.{refuse, give, refuse_for, entry_out, attr_out, open_out, statfs_out, give_entry, give_attr, give_open}
+use Rattle.five_files.specs.Asking.{name_fault, file_named, found, lookup, open_for, open_file, release, release_dir, read, read_link, stat_fs, further, said_at}
 use Rattle.five_files.specs.Asking.{said_for, names_node, said_init, offer_of, said_offered, said}
 use Rattle.five_files.specs.Listing.{entries_following, fitting, first_fits, list, read_dir}
 use Rattle.five_files.specs.TheFiles.{the_files}
@@ -66,8 +69,13 @@ open_for_fits sizes (Some ReadOnly) n = opened_fits sizes n
 open_for_fits sizes (Some WriteOnly) n = refused _
 open_for_fits sizes (Some ReadWrite) n = refused _
 
+open_file_fits : RecordSizes → (flags : ℕ) (n : Node) → FitsAnswer (open_file flags n)
+open_file_fits sizes flags n =
+    chosen (is_dir n) _ _ (refused _) (λ file. chosen (is_link n) _ _ (refused _) (λ regular. open_for_fits sizes (access_of flags) n))
+
 release_fits : (fh : ℕ) (n : Node) → FitsAnswer (release fh n)
-release_fits fh n = chosen (not (fh == number_of n)) _ _ (refused _) (λ here. chosen (is_dir n) _ _ (refused _) (λ file. given [] (omega arith)))
+release_fits fh n = chosen (not (fh == number_of n)) _ _ (refused _) (λ here. chosen (is_dir n) _ _ (refused _) (λ file.
+    chosen (is_link n) _ _ (refused _) (λ regular. given [] (omega arith))))
 
 release_dir_fits : (fh : ℕ) (n : Node) → FitsAnswer (release_dir fh n)
 release_dir_fits fh n = chosen (not (fh == number_of n)) _ _ (refused _) (λ here. chosen (not (is_dir n)) _ _ (refused _) (λ dir. given [] (omega arith)))
@@ -76,8 +84,9 @@ read_fits : (asked : ReadIn) (n : Node) → FitsAnswer (read asked n)
 read_fits asked n =
     chosen (not (asked.fh == number_of n)) _ _ (refused _) (λ here.
     chosen (is_dir n) _ _ (refused _) (λ file.
+    chosen (is_link n) _ _ (refused _) (λ regular.
     chosen (nat_lt 1048576 asked.size) _ _ (refused _) (λ few.
-    given _ (omega (arith, ltb-false 1048576 asked.size few, length-take asked.size (drop asked.offset (content_of n)))))))
+    given _ (omega (arith, ltb-false 1048576 asked.size few, length-take asked.size (drop asked.offset (content_of n))))))))
 
 list_fits : RecordSizes → (es : List Entry) (size : ℕ) → size ≤ 1048576 → FitsAnswer (list es size)
 list_fits sizes es size few =
@@ -90,17 +99,41 @@ read_dir_fits sizes asked n =
     chosen (nat_lt 1048576 asked.size) _ _ (refused _) (λ few.
     list_fits sizes (entries_following asked.offset) asked.size (ltb-false 1048576 asked.size few))))
 
+target_fits : (n : Node) → length (content_of n) ≤ 1048576
+target_fits Directory = omega arith
+target_fits Readme = omega arith
+target_fits Licence = omega arith
+target_fits Hours = omega arith
+target_fits Times = omega arith
+
+read_link_fits : (body : List ℕ) (n : Node) → FitsAnswer (read_link body n)
+read_link_fits body n =
+    chosen (not (length body == 0)) _ _ (refused _) (λ empty. chosen (not (is_link n)) _ _ (refused _) (λ link. given _ (target_fits n)))
+
+space_len : length (statfs_bytes statfs_out) ≡ 80
+unfolding statfs_bytes
+space_len = refl
+
+stat_fs_fits : (body : List ℕ) → FitsAnswer (stat_fs body)
+stat_fs_fits body = chosen (not (length body == 0)) _ _ (refused _) (λ empty. given _ (omega (arith, space_len)))
+
+further_fits : (opcode : ℕ) (body : List ℕ) (n : Node) → FitsAnswer (further opcode body n)
+further_fits opcode body n =
+    chosen (opcode == fuse_readlink) _ _ (read_link_fits body n) (λ other.
+    chosen (opcode == fuse_statfs) _ _ (stat_fs_fits body) (λ another. refused _))
+
 -- ---- all requests
 
 at_fits : RecordSizes → (act : Act) (n : Node) → FitsAnswer (said_at act n)
 at_fits sizes (acts.Lookup name) n = lookup_fits sizes name n
 at_fits sizes (acts.Getattr flags fh) n = attr_fits sizes n
-at_fits sizes (acts.OpenFile flags open_flags) n = chosen (is_dir n) _ _ (refused _) (λ file. open_for_fits sizes (access_of flags) n)
+at_fits sizes (acts.OpenFile flags open_flags) n = open_file_fits sizes flags n
 at_fits sizes (acts.Read asked) n = read_fits asked n
 at_fits sizes (acts.Release x) n = release_fits x.fh n
 at_fits sizes (acts.OpenDir flags open_flags) n = chosen (not (is_dir n)) _ _ (refused _) (λ dir. opened_fits sizes n)
 at_fits sizes (acts.ReadDir asked) n = read_dir_fits sizes asked n
 at_fits sizes (acts.ReleaseDir x) n = release_dir_fits x.fh n
+at_fits sizes (acts.Unsupported opcode body) n = further_fits opcode body n
 at_fits sizes _ n = refused _
 
 for_fits : RecordSizes → (act : Act) (o : Option Node) → FitsAnswer (said_for act o)

@@ -12,14 +12,15 @@ use Rattle.five_files.specs.Listing.{entries, entries_following, fitting, first_
 
 -- ---- after an offset
 
-past : (offset : ℕ) → 5 ≤ offset → [] ≡ entries_following offset
+past : (offset : ℕ) → 6 ≤ offset → [] ≡ entries_following offset
 past offset many =
     let one : nat_lt offset 1 ≡ false = le-ltb offset 1 (omega arith) in
     let two : nat_lt offset 2 ≡ false = le-ltb offset 2 (omega arith) in
     let three : nat_lt offset 3 ≡ false = le-ltb offset 3 (omega arith) in
     let four : nat_lt offset 4 ≡ false = le-ltb offset 4 (omega arith) in
     let five : nat_lt offset 5 ≡ false = le-ltb offset 5 (omega arith) in
-    rw (one, two, three, four, five) refl
+    let six : nat_lt offset 6 ≡ false = le-ltb offset 6 (omega arith) in
+    rw (one, two, three, four, five, six) refl
 
 -- the offset of an entry is its place
 dropped : (offset : ℕ) → drop offset entries ≡ entries_following offset
@@ -28,7 +29,9 @@ dropped (suc zero) = refl
 dropped (suc (suc zero)) = refl
 dropped (suc (suc (suc zero))) = refl
 dropped (suc (suc (suc (suc zero)))) = refl
-dropped (suc (suc (suc (suc (suc n))))) = drop_all (suc (suc (suc (suc (suc n))))) entries (omega arith) ∙ past (suc (suc (suc (suc (suc n))))) (omega arith)
+dropped (suc (suc (suc (suc (suc zero))))) = refl
+dropped (suc (suc (suc (suc (suc (suc n)))))) =
+    drop_all (suc (suc (suc (suc (suc (suc n)))))) entries (omega arith) ∙ past (suc (suc (suc (suc (suc (suc n)))))) (omega arith)
 
 pub after_is : (ds : List Dirent) (offset : ℕ) → map entry_of ds ≡ entries → map entry_of (drop offset ds) ≡ entries_following offset
 after_is ds offset is = sym (drop-map entry_of offset ds) ∙ ap (drop offset) is ∙ dropped offset

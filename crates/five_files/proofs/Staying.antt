@@ -1,14 +1,17 @@
 -- The settings stay while requests are processed.
-use Rattle.std.proofs.Common.{◌≡◌, ℕ, Bool, true, false, cond, List, [], ◌∷◌, ◌++◌, Option, is_some, ap, ◌∙◌}
+use Rattle.std.proofs.Common.{◌≡◌, ◌≤◌, ◌+◌, ℕ, Bool, true, false, cond, List, [], ◌∷◌, ◌++◌, length, map, take, drop, Option, is_some, refl, sym, ap, ◌∙◌}
+use Rattle.std.proofs.Common.{subst, arith}
+use Rattle.std.proofs.lemmas.List.{take-append-drop, take-append-le, length-append, length-map, append-assoc}
+use Rattle.fuse_request.specs.Opcodes.{OpcodeSet}
 use Rattle.fuse_init.specs.declared.settings.Settings.{Settings}
 use Rattle.fuse_keeper.specs.History.{Entry, entry_id, History, after, has, add, grown}
 use Rattle.fuse_keeper.specs.KeeperState.{KeeperState, StandsFor}
-use Rattle.fuse_session.specs.Settling.{Mark}
-use Rattle.fuse_session.specs.Processed.{Timed, kept_in}
+use Rattle.fuse_session.specs.Settling.{Mark, replies}
+use Rattle.fuse_session.specs.Processed.{Timed, kept_in, entries_at, answered, answers}
 use Rattle.fuse_session.specs.Serving.{Lived}
-use Rattle.five_files.specs.Asking.{said, agreed_after}
+use Rattle.five_files.specs.Asking.{said, agreed_after, serves_further}
 use Rattle.five_files.specs.TheFiles.{the_files}
-use Rattle.five_files.specs.Serving.{AnswersAs}
+use Rattle.five_files.specs.Serving.{AnswersAs, StayAsAgreed}
 use Rattle.five_files.proofs.Same.{same_said, some_next}
 
 some_pushed : (s : Option Settings) (h : History) (e : Entry) → is_some (after the_files s h) ≡ true → is_some (after the_files s (h ++ e ∷ [])) ≡ true
@@ -25,15 +28,47 @@ some_grown : (s : Option Settings) (h : History) (es : List Entry) → is_some (
 some_grown s h [] some = some
 some_grown s h (e ∷ es) some = some_grown s (add h e) es (some_added s h e some)
 
--- what messages leave answers as before
+-- ---- the first of the messages, and then the others
+
+grown_more : (h : History) (xs ys : List Entry) → grown h (xs ++ ys) ≡ grown (grown h xs) ys
+grown_more h [] ys = refl
+grown_more h (x ∷ xs) ys = grown_more (add h x) xs ys
+
+kept_more : (V : OpcodeSet) (xs ys : List Timed) → kept_in V (xs ++ ys) ≡ kept_in V xs ++ kept_in V ys
+kept_more V [] ys = refl
+kept_more V (x ∷ xs) ys = ap (λ (es : List Entry). entries_at V x ++ es) (kept_more V xs ys) ∙ sym (append-assoc (entries_at V x) (kept_in V xs) (kept_in V ys))
+
+grown_parts : (h : History) (n : ℕ) (xs : List Timed)
+    → grown (grown h (kept_in serves_further (take n xs))) (kept_in serves_further (drop n xs)) ≡ grown h (kept_in serves_further xs)
+grown_parts h n xs =
+    sym (grown_more h (kept_in serves_further (take n xs)) (kept_in serves_further (drop n xs)))
+    ∙ ap (grown h) (sym (kept_more serves_further (take n xs) (drop n xs)) ∙ ap (kept_in serves_further) (take-append-drop n xs))
+
+-- what was answered was worked on
+few_marks : (s : Option Settings) (g : History) (worked : List Timed) (marks : List Mark) (later : List (List ℕ))
+    → answers the_files s g worked ≡ replies marks ++ later → length marks ≤ length worked
+few_marks s g worked marks later e =
+    omega (arith, ap length e, length-append (replies marks) later, length-map (λ (m : Mark). m.reply) marks, length-map (answered the_files s g) worked)
+
+-- what messages leave answers as it did since INIT
 pub lived_same : (k : KeeperState the_files) (s : Option Settings) (h : History) (confirms : Bool) (t : List ℕ) (timed : List Timed) (marks : List Mark)
-    (part : List ℕ) → Lived the_files (StandsFor k s) s h confirms t timed marks part → is_some (after the_files s h) ≡ true → AnswersAs k (after the_files s h)
-lived_same k s h confirms t timed marks part lived some =
-    let g : History = grown h (kept_in lived.worked) in
-    record {
-      rows = lived.stands.rows;
-      records = lived.stands.records;
-      held = lived.stands.held;
-      same = λ e. ap (λ (rows : Option Settings). said rows e.asked) lived.stands.stands.rows_are
-          ∙ same_said (after the_files s h) (after the_files s g) e.asked some (some_grown s h (kept_in lived.worked) some);
-    }
+    (part : List ℕ) → Lived the_files (StandsFor k s) s h confirms t timed marks part → StayAsAgreed k s h timed marks
+lived_same k s h confirms t timed marks part lived = record {
+  since = λ n few some.
+      let g : History = grown h (kept_in serves_further lived.worked) in
+      let f : History = grown h (kept_in serves_further (take n timed)) in
+      let within : n ≤ length lived.worked = omega (arith, few, few_marks s g lived.worked marks lived.later lived.sent) in
+      let first : take n timed ≡ take n lived.worked = ap (take n) lived.parts ∙ take-append-le n lived.worked lived.unprocessed within in
+      let grows : grown f (kept_in serves_further (drop n lived.worked)) ≡ g =
+          ap (λ (xs : List Timed). grown (grown h (kept_in serves_further xs)) (kept_in serves_further (drop n lived.worked))) first
+          ∙ grown_parts h n lived.worked in
+      let some' : is_some (after the_files s g) ≡ true =
+          subst (λ (x : History). is_some (after the_files s x) ≡ true) grows (some_grown s f (kept_in serves_further (drop n lived.worked)) some) in
+      record {
+        rows = lived.stands.rows;
+        records = lived.stands.records;
+        held = lived.stands.held;
+        same = λ e. ap (λ (rows : Option Settings). said rows e.asked) lived.stands.stands.rows_are
+            ∙ same_said (after the_files s f) (after the_files s g) e.asked some some';
+      };
+}

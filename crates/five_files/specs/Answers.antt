@@ -3,6 +3,8 @@ use Rattle.std.specs.Prelude.{ℕ, List, [], Option, Some, None, pos}
 use Rattle.fuse_wire.specs.declared.errno.Errno.{Errno}
 use Rattle.fuse_answer.specs.Said.{Said}
 use Rattle.fuse_answer.specs.Bodies.{entry_bytes, attr_out_bytes, open_bytes}
+use Rattle.fuse_answer.specs.FurtherAnswers.{statfs_bytes}
+use Rattle.fuse_answer.specs.declared.further.StatfsOut.{StatfsOut}
 use Rattle.fuse_answer.specs.declared.records.AttrOut.{AttrOut}
 use Rattle.fuse_answer.specs.declared.records.EntryOut.{EntryOut}
 use Rattle.fuse_answer.specs.declared.records.OpenOut.{OpenOut}
@@ -43,3 +45,10 @@ give_attr n = give (attr_out_bytes (attr_out n))
 
 abbrev pub give_open : Node → Said
 give_open n = give (open_bytes (open_out n))
+
+-- of the whole file system: a unit of 512 bytes for each node that has a content, and five nodes; nothing is free
+abbrev pub statfs_out : StatfsOut
+statfs_out = record { blocks = 4; bfree = 0; bavail = 0; files = 5; ffree = 0; bsize = 4096; namelen = 255; frsize = 512 }
+
+abbrev pub give_statfs : Said
+give_statfs = give (statfs_bytes statfs_out)

@@ -8,10 +8,12 @@ use Rattle.fuse_wire.specs.declared.access_mode.AccessMode.TheVariants.{ReadOnly
 use Rattle.fuse_wire.specs.declared.errno.Errno.{Errno}
 use Rattle.fuse_wire.specs.Errnos.{enoent, ebadf, enotdir, eisdir, einval, enametoolong, enosys, eproto, estale}
 use Rattle.fuse_wire.specs.Flags.{access_of}
+use Rattle.fuse_wire.specs.Opcodes.{fuse_readlink, fuse_statfs}
 use Rattle.fuse_request.specs.declared.request.InitIn.{InitIn}
 use Rattle.fuse_request.specs.declared.request.ReadIn.{ReadIn}
 use Rattle.fuse_request.specs.Act.{Act, Asked}
 use Rattle.fuse_request.specs.Act as acts
+use Rattle.fuse_request.specs.Opcodes.{OpcodeSet}
 use Rattle.fuse_answer.specs.Said.{Said}
 use Rattle.fuse_answer.specs.Bodies.{init_bytes}
 use Rattle.fuse_init.specs.Agree.{agree}
@@ -19,9 +21,9 @@ use Rattle.fuse_init.specs.declared.negotiation.Negotiated.{Negotiated}
 use Rattle.fuse_init.specs.declared.negotiation.Negotiated.TheVariants.{Agreed, Again, Refused}
 use Rattle.fuse_init.specs.declared.settings.Settings.{Settings}
 use Rattle.five_files.specs.declared.node.Node.{Node}
-use Rattle.five_files.specs.declared.node.Node.TheVariants.{Readme, Licence, Hours}
-use Rattle.five_files.specs.Nodes.{number_of, node_at, is_dir, name_of, content_of}
-use Rattle.five_files.specs.Answers.{erofs, refuse, give, refuse_for, give_entry, give_attr, give_open}
+use Rattle.five_files.specs.declared.node.Node.TheVariants.{Readme, Licence, Hours, Times}
+use Rattle.five_files.specs.Nodes.{number_of, node_at, is_dir, is_link, name_of, content_of}
+use Rattle.five_files.specs.Answers.{erofs, refuse, give, refuse_for, give_entry, give_attr, give_open, give_statfs}
 use Rattle.five_files.specs.Listing.{read_dir}
 
 -- ---- LOOKUP
@@ -41,6 +43,7 @@ file_named name =
     if pointwise nat_eq name (name_of Readme) then Some Readme
     else if pointwise nat_eq name (name_of Licence) then Some Licence
     else if pointwise nat_eq name (name_of Hours) then Some Hours
+    else if pointwise nat_eq name (name_of Times) then Some Times
     else None
 
 abbrev pub found : Option Node → Said
@@ -54,7 +57,7 @@ lookup name n =
 
 -- ---- OPEN, OPENDIR, RELEASE, RELEASEDIR
 
--- no file is opened for writing
+-- no file is opened for writing, and the link not at all
 abbrev pub open_for : Option AccessMode → Node → Said
 open_for None n = refuse einval
 open_for (Some ReadOnly) n = give_open n
@@ -62,7 +65,10 @@ open_for (Some WriteOnly) n = refuse erofs
 open_for (Some ReadWrite) n = refuse erofs
 
 abbrev pub open_file : ℕ → Node → Said
-open_file flags n = if is_dir n then refuse eisdir else open_for (access_of flags) n
+open_file flags n =
+    if is_dir n then refuse eisdir
+    else if is_link n then refuse einval
+    else open_for (access_of flags) n
 
 abbrev pub open_dir : Node → Said
 open_dir n = if not (is_dir n) then refuse enotdir else give_open n
@@ -71,6 +77,7 @@ abbrev pub release : ℕ → Node → Said
 release fh n =
     if not (fh == number_of n) then refuse ebadf
     else if is_dir n then refuse eisdir
+    else if is_link n then refuse einval
     else give []
 
 abbrev pub release_dir : ℕ → Node → Said
@@ -86,8 +93,31 @@ abbrev pub read : ReadIn → Node → Said
 read asked n =
     if not (asked.fh == number_of n) then refuse ebadf
     else if is_dir n then refuse eisdir
+    else if is_link n then refuse einval
     else if nat_lt 1048576 asked.size then refuse einval
     else give (take asked.size (drop asked.offset (content_of n)))
+
+-- ---- READLINK, STATFS
+
+-- the opcodes that are served beside those of the profile
+abbrev pub serves_further : OpcodeSet
+serves_further opcode = (opcode == fuse_readlink) || (opcode == fuse_statfs)
+
+-- neither has a body; and only a symbolic link has a target
+abbrev pub read_link : List ℕ → Node → Said
+read_link body n =
+    if not (length body == 0) then refuse einval
+    else if not (is_link n) then refuse einval
+    else give (content_of n)
+
+abbrev pub stat_fs : List ℕ → Said
+stat_fs body = if not (length body == 0) then refuse einval else give_statfs
+
+abbrev pub further : ℕ → List ℕ → Node → Said
+further opcode body n =
+    if opcode == fuse_readlink then read_link body n
+    else if opcode == fuse_statfs then stat_fs body
+    else refuse enosys
 
 -- ---- all requests
 
@@ -110,6 +140,7 @@ said_at (acts.Rmdir name) n = refuse erofs
 said_at (acts.Rename new_dir old_name new_name) n = refuse erofs
 said_at (acts.Write fh offset write_flags lock_owner flags payload) n = refuse erofs
 said_at (acts.Rename2 new_dir flags old_name new_name) n = refuse erofs
+said_at (acts.Unsupported opcode body) n = further opcode body n
 said_at _ n = refuse enosys
 
 abbrev pub said_for : Act → Option Node → Said

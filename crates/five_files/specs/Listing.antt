@@ -5,13 +5,17 @@ use Rattle.fuse_request.specs.declared.request.ReadIn.{ReadIn}
 use Rattle.fuse_answer.specs.Said.{Said}
 use Rattle.fuse_answer.specs.Entries.{Entry, packed_len, entries_bytes}
 use Rattle.five_files.specs.declared.node.Node.{Node}
-use Rattle.five_files.specs.declared.node.Node.TheVariants.{Readme, Licence, Hours}
+use Rattle.five_files.specs.declared.node.Node.TheVariants.{Readme, Licence, Hours, Times}
 use Rattle.five_files.specs.Nodes.{number_of, name_of, is_dir}
 use Rattle.five_files.specs.Answers.{refuse, give}
 
 -- the type of a directory is 4, that of a regular file 8
 abbrev pub file_entry : Node → ℕ → Entry
 file_entry n cookie = record { ino = number_of n; off = cookie; kind = 8; name = name_of n }
+
+-- a symbolic link is 10
+abbrev pub link_entry : Node → ℕ → Entry
+link_entry n cookie = record { ino = number_of n; off = cookie; kind = 10; name = name_of n }
 
 -- the directory is the root, so that the one above it is itself
 abbrev pub entries : List Entry
@@ -21,6 +25,7 @@ entries =
     ∷ file_entry Readme 3
     ∷ file_entry Licence 4
     ∷ file_entry Hours 5
+    ∷ link_entry Times 6
     ∷ []
 
 abbrev pub entries_following : ℕ → List Entry

@@ -2,13 +2,14 @@
 use Rattle.std.specs.Prelude.{Option, None}
 use Rattle.fuse_init.specs.declared.settings.Settings.{Settings}
 use Rattle.fuse_keeper.specs.Model.{Model}
-use Rattle.five_files.specs.Asking.{said, agreed_after}
+use Rattle.five_files.specs.Asking.{said, agreed_after, serves_further}
 
 -- names and contents stay, so that a state is no more than what INIT agreed on, and each one is good
 abbrev pub the_files : Model
 the_files = record {
   State = Option Settings;
   Rows = Option Settings;
+  serves = serves_further;
   start = λ now. None;
   next = λ s a now. agreed_after s a;
   answer = λ s a now. said s a;
@@ -16,6 +17,6 @@ the_files = record {
   held_for = λ s. s;
   cleared = λ s. None;
   settings = λ rows. rows;
-  nodes = λ rows. 4;
+  nodes = λ rows. 5;
   handles = λ rows. 0;
 }

@@ -6,6 +6,7 @@ ghost use Rattle.five_files.specs.Asking.{name_fault, file_named};
 ghost use Rattle.five_files.specs.Asking.{said, said_agreed, said_at, agreed_after};
 
 use crate::attributes::{attr_answer, entry_answer};
+use crate::further::further;
 use crate::init::init;
 use crate::limits::EROFS;
 use crate::listing::read_dir;
@@ -41,6 +42,8 @@ fn file_of_name(name: &[u8]) -> Option<Node>
         Some(Node::Licence)
     } else if name == Node::Hours.name() {
         Some(Node::Hours)
+    } else if name == Node::Times.name() {
+        Some(Node::Times)
     } else {
         None
     }
@@ -83,6 +86,7 @@ fn answer_at(alloc: Global, op: &Op<'_>, node: Node) -> Result<Answer, Memory>
         | Op::Rename { .. }
         | Op::Rename2 { .. }
         | Op::Write { .. } => Ok(Answer::refusal(alloc, EROFS)),
+        Op::Unsupported { opcode, body } => further(alloc, *opcode, body, node),
         _ => Ok(Answer::refusal(alloc, Errno::ENOSYS)),
     }
 }

@@ -1,6 +1,7 @@
 ghost use Rattle.five_files.specs.TheFiles.{the_files};
 
 use crate::asking::answer;
+use crate::further::is_further;
 use fuse_answer::{Answer, record_sizes};
 use fuse_init::Settings;
 use fuse_keeper::{FileSystem, StoreFault};
@@ -8,7 +9,7 @@ use fuse_request::Request;
 use fuse_wire::{Memory, Moment};
 use std::alloc::Global;
 
-/// A directory of five files, for reading alone.
+/// Five files for reading alone: a directory, and in it three regular files and a symbolic link.
 #[derive(Drop)]
 pub struct FiveFiles {
     agreed: Option<Settings>,
@@ -20,6 +21,10 @@ impl FileSystem for FiveFiles {
     ghost held = { λ files. files.agreed };
 
     ghost is_ready = { λ files. Unit {0} };
+
+    fn serves(opcode: u32) -> bool {
+        is_further(opcode)
+    }
 
     fn start(_alloc: Global, _now: Moment) -> Result<FiveFiles, Memory> {
         Ok(FiveFiles { agreed: None })
@@ -49,7 +54,7 @@ impl FileSystem for FiveFiles {
     }
 
     fn counted(&self) -> (u64, u64) {
-        (4, 0)
+        (5, 0)
     }
 
     fn model_is_sound() {

@@ -4,6 +4,7 @@
 mod asking;
 mod attributes;
 mod files;
+mod further;
 mod init;
 mod laws;
 mod limits;

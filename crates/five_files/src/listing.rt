@@ -2,7 +2,7 @@
 ghost use Rattle.std.specs.Prelude.{◌≡◌, ◌≤◌, All, map, drop, IfOk};
 ghost use Rattle.fuse_answer.specs.Entries.{entry_of, IsNamed};
 ghost use Rattle.five_files.specs.Listing as listing;
-ghost use Rattle.five_files.specs.Listing.{file_entry, entries, entries_following};
+ghost use Rattle.five_files.specs.Listing.{file_entry, link_entry, entries, entries_following};
 ghost use Rattle.five_files.specs.declared.limits.TheConstants.{MAX_READ as max_read};
 
 use crate::limits::MAX_READ;
@@ -12,10 +12,12 @@ use fuse_request::ReadIn;
 use fuse_wire::{Errno, Memory};
 use std::alloc::Global;
 
-// The types of directories and of regular files.
+// The types of directories, of regular files and of symbolic links.
 const DIRECTORY: u32 = 4;
 
 const REGULAR_FILE: u32 = 8;
+
+const SYMBOLIC_LINK: u32 = 10;
 
 fn file_dirent<'a>(node: Node, cookie: u64) -> Dirent<'a>
     ensures { entry_of result ≡ file_entry node cookie }
@@ -24,6 +26,17 @@ fn file_dirent<'a>(node: Node, cookie: u64) -> Dirent<'a>
         ino: node.number(),
         off: cookie,
         kind: REGULAR_FILE,
+        name: node.name(),
+    }
+}
+
+fn link_dirent<'a>(node: Node, cookie: u64) -> Dirent<'a>
+    ensures { entry_of result ≡ link_entry node cookie }
+{
+    Dirent {
+        ino: node.number(),
+        off: cookie,
+        kind: SYMBOLIC_LINK,
         name: node.name(),
     }
 }
@@ -40,7 +53,7 @@ fn dots<'a>(cookie: u64, name: &'a [u8]) -> Dirent<'a>
 }
 
 // All entries. The offset of each is its place, counted from 1.
-fn all_dirents<'a>() -> [Dirent<'a>; 5]
+fn all_dirents<'a>() -> [Dirent<'a>; 6]
     ensures entries { map entry_of result ≡ entries }
     ensures named { All (λ d. IsNamed (entry_of d)) result }
 {
@@ -50,6 +63,7 @@ fn all_dirents<'a>() -> [Dirent<'a>; 5]
         file_dirent(Node::Readme, 3),
         file_dirent(Node::Licence, 4),
         file_dirent(Node::Hours, 5),
+        link_dirent(Node::Times, 6),
     ]
 }
 

@@ -1,13 +1,14 @@
 ghost use Rattle.std.specs.Prelude.{◌≡◌};
-ghost use Rattle.five_files.specs.Nodes.{number_of, node_at, is_dir, name_of, content_of, mode_of};
+ghost use Rattle.five_files.specs.Nodes.{number_of, node_at, is_dir, is_link, name_of, content_of, mode_of};
 
-/// A node: the directory, or one of the files in it.
+/// A node: the directory, or one of the files in it. `Times` is a symbolic link to `Hours`.
 #[derive(Clone, Copy, Debug, PartialEq, Eq)]
 pub enum Node {
     Directory,
     Readme,
     Licence,
     Hours,
+    Times,
 }
 
 impl Node {
@@ -20,6 +21,7 @@ impl Node {
             2 => Some(Node::Readme),
             3 => Some(Node::Licence),
             4 => Some(Node::Hours),
+            5 => Some(Node::Times),
             _ => None,
         }
     }
@@ -33,6 +35,7 @@ impl Node {
             Node::Readme => 2,
             Node::Licence => 3,
             Node::Hours => 4,
+            Node::Times => 5,
         }
     }
 
@@ -41,6 +44,13 @@ impl Node {
         ensures { result ≡ is_dir self }
     {
         self == Node::Directory
+    }
+
+    /// Whether it is the symbolic link.
+    pub fn is_symlink(self) -> bool
+        ensures { result ≡ is_link self }
+    {
+        self == Node::Times
     }
 
     /// Its name.
@@ -52,10 +62,11 @@ impl Node {
             Node::Readme => b"readme",
             Node::Licence => b"licence",
             Node::Hours => b"hours",
+            Node::Times => b"times",
         }
     }
 
-    /// Its content.
+    /// Its content: of the symbolic link the target.
     pub fn content(self) -> &'static [u8]
         ensures { result.now ≡ content_of self }
     {
@@ -64,15 +75,18 @@ impl Node {
             Node::Readme => b"Three files to read.",
             Node::Licence => b"Copy them freely.",
             Node::Hours => b"9 to 5",
+            Node::Times => b"hours",
         }
     }
 
-    /// Its type and permissions: reading alone.
+    /// Its type and permissions: reading alone, and of the symbolic link all.
     pub fn mode(self) -> u32
         ensures { result ≡ mode_of self }
     {
         if self.is_directory() {
             0o040555
+        } else if self.is_symlink() {
+            0o120777
         } else {
             0o100444
         }

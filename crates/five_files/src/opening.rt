@@ -36,6 +36,9 @@ pub(crate) fn open_file(alloc: Global, flags: u32, node: Node) -> Result<Answer,
     if node.is_directory() {
         return Ok(Answer::refusal(alloc, Errno::EISDIR));
     }
+    if node.is_symlink() {
+        return Ok(Answer::refusal(alloc, Errno::EINVAL));
+    }
     match AccessMode::of(flags) {
         None => Ok(Answer::refusal(alloc, Errno::EINVAL)),
         Some(AccessMode::ReadOnly) => open_answer(alloc, node),
@@ -61,6 +64,9 @@ pub(crate) fn release(alloc: Global, fh: u64, node: Node) -> Answer
     if node.is_directory() {
         return Answer::refusal(alloc, Errno::EISDIR);
     }
+    if node.is_symlink() {
+        return Answer::refusal(alloc, Errno::EINVAL);
+    }
     done_nothing(alloc)
 }
 
@@ -84,6 +90,9 @@ pub(crate) fn read(alloc: Global, asked: &ReadIn, node: Node) -> Result<Answer, 
     }
     if node.is_directory() {
         return Ok(Answer::refusal(alloc, Errno::EISDIR));
+    }
+    if node.is_symlink() {
+        return Ok(Answer::refusal(alloc, Errno::EINVAL));
     }
     if asked.size > MAX_READ {
         return Ok(Answer::refusal(alloc, Errno::EINVAL));

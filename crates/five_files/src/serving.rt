@@ -1,10 +1,11 @@
 // The five files, served over a port.
 ghost use Rattle.std.specs.Prelude.{◌≡◌, ◌<◌, ◌^◌, false};
-ghost use Rattle.fuse_session.specs.Ends.{SessionEnds};
+ghost use Rattle.fuse_session.specs.Deeds.{Did};
+ghost use Rattle.fuse_session.specs.Session.{Session, passage};
 ghost use Rattle.five_files.specs.Serving.{files_told, FilesStay};
 
 use crate::files::FiveFiles;
-use fuse_keeper::PlainKeeper;
+use fuse_keeper::{Keeper, PlainKeeper};
 use fuse_session::{Clock, Port, Served, serve};
 use std::alloc::Global;
 
@@ -20,12 +21,13 @@ pub fn serve_files<P: Port, C: Clock>(
     requires going { (files_told keeper.old).has_failed ≡ false }
     requires receives { (P.told port.old).receives < 2 ^ 62 }
     requires failures { (P.told port.old).failures < 2 ^ 62 }
-    // The messages that were processed and answered at each of the ends, as `serve` says.
-    ensures ends { SessionEnds (files_told keeper.old) (files_told keeper.new)
-        (C.gave clock.old clock.new) (P.told port.old) (P.told port.new) turns result.ended
-        result.counts }
+    // All that `serve` promises.
+    ensures session { Session (passage (files_told keeper.old) (files_told keeper.new)
+        (P.told port.old) (P.told port.new) (Did (C.gave clock.old clock.new)
+        (⟦<PlainKeeper<FiveFiles> as Keeper>⟧.performed keeper.old keeper.new)
+        (P.became port.old port.new))) turns result }
 
-    // No request changes anything of the files.
+    // From INIT on, no request changes anything of the files.
     ensures files { FilesStay (files_told keeper.old) (files_told keeper.new)
         (P.told port.old) (P.told port.new) }
 {

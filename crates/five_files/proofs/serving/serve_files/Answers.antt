@@ -13,5 +13,5 @@ returns-clause-files g c =
       part = run.broken.part;
       prefix = run.broken.prefix;
       replied = run.broken.replied;
-      stay = λ s h t stands again some. lived_same _ s h _ t _ _ _ (run.broken.life tt s h t stands (λ i no. cc) again) some;
+      stay = λ s h t stands again. lived_same _ s h _ t _ _ _ (run.broken.life tt s h t stands (λ i no. cc) again);
     }
