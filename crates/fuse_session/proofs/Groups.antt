@@ -15,7 +15,12 @@ use Rattle.fuse_keeper.specs.History.{Entry, History, grown, is_in, ids_in, Incl
 use Rattle.fuse_keeper.specs.Model.{Model}
 use Rattle.fuse_keeper.specs.Stands.{Records, Stands, StandsForEither, AreThese}
 use Rattle.fuse_keeper.specs.KeeperState.{KeeperState, StandsFor, Performed, Leaves, IsFirm, KeepsHeld}
-use Rattle.fuse_keeper.specs.Group.{entry_of, entries_of}
+use Rattle.fuse_keeper.specs.Group.{entry_of, entries_of, left_pending}
+use Rattle.fuse_keeper.specs.Performance.{Performance, performances_of}
+use Rattle.fuse_session.specs.Transcript.{PortEvent, sends_of, handed_in}
+use Rattle.fuse_session.specs.Slices.{RestsOfAll, RestsOfSome}
+use Rattle.fuse_session.specs.Deeds.{Deeds, Did, Mute}
+use Rattle.fuse_session.specs.declared.port.Sent.{Sent}
 use Rattle.fuse_session.proofs.Standing.{Stands-same, Stands-settled}
 use Rattle.fuse_session.specs.declared.counts.SessionCounts.{SessionCounts}
 use Rattle.fuse_session.specs.declared.group.Next.{Next}
@@ -23,13 +28,14 @@ use Rattle.fuse_session.specs.declared.group.Next.TheVariants.{ZeroUnique}
 use Rattle.fuse_session.specs.declared.fault.Fault.{Fault}
 use Rattle.fuse_session.specs.declared.fault.Fault.TheVariants.{PortFailed, Store, Memory}
 use Rattle.fuse_session.specs.Port.{PortState}
-use Rattle.fuse_session.specs.Processed.{Timed, bytes_of, kept_in, entry_if, timed_entry, answers, Works, StartsZero}
+use Rattle.fuse_session.specs.Processed.{Timed, bytes_of, kept_in, entry_if, timed_entry, answers, Works, StartsZero, moments_in}
 use Rattle.fuse_session.specs.Settling.{Mark, replies, settled_in, NoneComesAgain, Replied, BeginsNext, FewHave}
 use Rattle.fuse_session.specs.Group.{Gathers, IsStuck, answers_in, repeats_in, wires, left_by, told, tallied, rest_by, last_zero, AreEnough, SentAll, SentSome}
 use Rattle.fuse_session.specs.Serving.{Turned, Lived, Exact, Broken, lasts}
 use Rattle.fuse_session.specs.Faults.{is_store, is_memory}
 use Rattle.fuse_session.proofs.Replies.{begins_none, replied_none}
-use Rattle.fuse_session.proofs.Gathering.{gave_all}
+use Rattle.fuse_session.proofs.Batching.{one_batch, are_one, asked_one, left_one, some_all}
+use Rattle.fuse_session.proofs.Transcripts.{handed_sends}
 use Rattle.fuse_session.proofs.Outs.{wires_are, told_is, answers_are_outs, outs_prefix}
 use Rattle.fuse_session.proofs.Ending.{works_group, goes_none, goes_last, ends_last}
 use Rattle.fuse_session.proofs.Settled.{includes_left, includes_right, in_either, group_unsettled, settled_none}
@@ -125,17 +131,25 @@ exact_all M stood s h c t timed marks works so sent = record {
 }
 
 -- nothing was done at all
-pub broken_none : (M : Model) → (holds holds' : KeeperState M) (gave : List Moment → Type 0) (p q : PortState) (pending : List ℕ) (messages : List (List ℕ))
-    (exact whole : Bool) (faulted : Type 0) → exact ≡ false → (given : List Moment) × gave given → Replied p q [] []
+pub broken_none : (M : Model) → (holds holds' : KeeperState M) (did : Deeds → Type 0) (p q : PortState) (pending : List ℕ) (messages : List (List ℕ))
+    (exact whole : Bool) (faulted : Type 0) → exact ≡ false → (deeds : Deeds) → did deeds → deeds.asked ≡ [] → handed_in deeds.events ≡ [] → Replied p q [] []
     → KeepsHeld holds holds' → ((IsFirm holds) → (s : M.State) (h : History) (t : List ℕ) → StandsFor holds s h t → Leaves holds' (λ x r. Stands M x r s h t))
-    → Broken holds holds' gave p q pending messages exact whole faulted
-broken_none M holds holds' gave p q pending messages exact whole faulted inexact given replied keeps leaves = record {
+    → Broken holds holds' did p q pending messages exact whole faulted
+broken_none M holds holds' did p q pending messages exact whole faulted inexact deeds done unasked unhanded replied keeps leaves = record {
   timed = [];
   others = messages;
   marks = [];
   part = [];
   prefix = refl;
-  moments = given;
+  deeds = deeds;
+  done = done;
+  moments = (deeds.moments, refl);
+  batches = [];
+  are = record { messages = refl; answers = refl };
+  answered = tt;
+  asked = unasked;
+  slices = some_all [] (handed_in deeds.events) unhanded;
+  all_slices = λ _. unhanded;
   replied = replied;
   no_part = λ _. refl;
   exactly = λ _ honest s h t so within again. exact_none M (λ g u. exact ≡ true → holds'.is_clean → StandsFor holds' s g u × faulted) s h p.confirms t []
@@ -158,14 +172,16 @@ stored M s h c t ts es x r is works either = ⊎_elim
     (subst (λ l. Stands M x r s (grown h l) t) is after)) refl refl (begins_none (answers M s (grown h (kept_in M.serves ts)) ts)))
     either
 
-pub broken_store : (M : Model) → (holds holds' : KeeperState M) (gave : List Moment → Type 0) (p : PortState) (pending : List ℕ)
+pub broken_store : (M : Model) → (holds holds' : KeeperState M) (gave : List Moment → Type 0) (performed : List Performance → Type 0)
+    (became : List PortEvent → Type 0) (p : PortState) (pending : List ℕ)
     (messages : List (List ℕ)) (count : ℕ) (taken : List (Request × Moment)) (ends : Bool) (group : List (Request × Moment)) (faulted : Type 0)
-    → Gathers M.serves gave (take count messages) taken ends → group ≡ taken → (holds'.is_clean → KeepsHeld holds holds')
+    → Gathers M.serves gave (take count messages) taken ends → group ≡ taken → performed (performances_of (entries_of group) pending) → became []
+    → (holds'.is_clean → KeepsHeld holds holds')
     → (holds'.is_clean → (s : M.State) (h : History) (t : List ℕ) → StandsFor holds s h t → faulted)
     → ((s : M.State) (h : History) (t : List ℕ) → StandsFor holds s h t → Includes t pending → All (IsUnsettled t) (entries_of group) → IsFirm holds
     → Leaves holds' (StandsForEither M s h t s (grown h (entries_of group)) t))
-    → Broken holds holds' gave p p pending messages true false faulted
-broken_store M holds holds' gave p pending messages count taken ends group faulted gathers same keeps fault crash =
+    → Broken holds holds' (Mute (Did gave performed became)) p p pending messages true false faulted
+broken_store M holds holds' gave performed became p pending messages count taken ends group faulted gathers same asked unsent keeps fault crash =
     let ts = gathers.timed in
     let es : entries_of group ≡ kept_in M.serves ts = ap entries_of same ∙ gathers.entries in
     record {
@@ -174,7 +190,15 @@ broken_store M holds holds' gave p pending messages count taken ends group fault
       marks = [];
       part = [];
       prefix = sym (take-append-drop count messages) ∙ ap (λ f. f ++ drop count messages) gathers.bytes;
-      moments = gave_all M.serves gave gathers.timed gathers.moments;
+      deeds = record { moments = moments_in M.serves ts; asked = performances_of (entries_of group) pending; events = [] };
+      done = record { done = record { moments = gathers.moments; asked = asked; events = unsent }; slices = []; events = refl };
+      moments = ([], sym (append-nil (moments_in M.serves ts)));
+      batches = one_batch ts [];
+      are = are_one ts [];
+      answered = (inl refl, tt);
+      asked = asked_one M.serves p.confirms pending ts [] (entries_of group) (performances_of (entries_of group) pending) es refl;
+      slices = some_all [] [] refl;
+      all_slices = λ _. refl;
       replied = replied_none p;
       no_part = λ _. refl;
       exactly = λ _ honest s h t so within again. exact_none M (λ g u. true ≡ true → holds'.is_clean → StandsFor holds' s g u × faulted) s h p.confirms t ts
@@ -215,21 +239,46 @@ memory_is PortFailed is = absurd (cc is)
 memory_is (Store x) is = absurd (cc is)
 memory_is Memory is = refl
 
+-- the slices of the answers that were sent
+record SentSlices (became : List PortEvent → Type 0) (marks : List Mark) (part : List ℕ) (fault : Fault) : Type 0 where
+  slices : List (List ℕ × Sent)
+  calls : became (sends_of slices)
+  kind : RestsOfSome marks part slices
+  all : fault ≡ Memory → RestsOfAll marks slices
+
+sent_slices : (became : List PortEvent → Type 0) (p q : PortState) (answers : List (List ℕ)) (fault : Fault) → (x : SentSome became p q answers fault)
+    → SentSlices became x.marks x.part fault
+sent_slices became p q answers Memory x =
+    let a = x.all refl in
+    record {
+      slices = a.slices;
+      calls = a.calls;
+      kind = subst (λ part. RestsOfSome x.marks part a.slices) (sym (x.memory refl)) (some_all x.marks a.slices a.kind);
+      all = λ _. a.kind;
+    }
+sent_slices became p q answers PortFailed x =
+    record { slices = x.hands.slices; calls = x.hands.calls; kind = x.hands.kind; all = λ isnt. absurd (cc isnt) }
+sent_slices became p q answers (Store f) x =
+    record { slices = x.hands.slices; calls = x.hands.calls; kind = x.hands.kind; all = λ isnt. absurd (cc isnt) }
+
 -- its answers weren't all sent
-pub broken_sent : (M : Model) → HistoriesGrow M → (holds holds' : KeeperState M) (gave : List Moment → Type 0) (p q : PortState) (pending mid : List ℕ)
+pub broken_sent : (M : Model) → HistoriesGrow M → (holds holds' : KeeperState M) (gave : List Moment → Type 0) (performed_so : List Performance → Type 0)
+    (became : List PortEvent → Type 0) (p q : PortState) (pending mid : List ℕ)
     (messages : List (List ℕ)) (count : ℕ) (taken : List (Request × Moment)) (ends : Bool) (group : List (Request × Moment)) (prefix : List (List ℕ))
     (dones list : List Done) (fault : Fault) (faulted : Type 0)
-    → Gathers M.serves gave (take count messages) taken ends → group ≡ taken → prefix ≡ take count messages → (holds'.is_clean → holds'.is_honest)
+    → Gathers M.serves gave (take count messages) taken ends → group ≡ taken → performed_so (performances_of (entries_of group) pending)
+    → prefix ≡ take count messages → (holds'.is_clean → holds'.is_honest)
     → (holds'.is_honest → (s : M.State) (h : History) (t : List ℕ) → StandsFor holds s h t → Includes t pending → All (IsUnsettled t) (entries_of group)
     → Performed holds' s h t (entries_of group) dones)
     → (holds'.is_honest → IsFirm holds → IsFirm holds')
     → (holds'.is_honest → (u : List ℕ) → All (IsUnsettled u) (entries_of group) → FewHave holds u pending → FewHave holds' u mid)
     → length mid + length (entries_of group) ≤ 16
-    → list ≡ dones → SentSome p q (wires M.serves prefix (answers_in list)) fault
-    → Broken holds holds' gave p q pending messages (is_store fault) (is_memory fault) faulted
-broken_sent M grows holds holds' gave p q pending mid messages count taken ends group prefix dones list fault faulted gathers same same_prefix
+    → list ≡ dones → SentSome became p q (wires M.serves prefix (answers_in list)) fault
+    → Broken holds holds' (Mute (Did gave performed_so became)) p q pending messages (is_store fault) (is_memory fault) faulted
+broken_sent M grows holds holds' gave performed_so became p q pending mid messages count taken ends group prefix dones list fault faulted gathers same asked same_prefix
     clean_honest performed firm_still few size same_list sent =
-    let some = subst (λ l. SentSome p q (wires M.serves prefix (answers_in l)) fault) same_list sent in
+    let some = subst (λ l. SentSome became p q (wires M.serves prefix (answers_in l)) fault) same_list sent in
+    let sl = sent_slices became p q (wires M.serves prefix (answers_in dones)) fault some in
     let ts = gathers.timed in
     let es : entries_of group ≡ kept_in M.serves ts = ap entries_of same ∙ gathers.entries in
     let bytes : prefix ≡ bytes_of ts = same_prefix ∙ gathers.bytes in
@@ -243,7 +292,16 @@ broken_sent M grows holds holds' gave p q pending mid messages count taken ends 
       marks = some.marks;
       part = some.part;
       prefix = sym (take-append-drop count messages) ∙ ap (λ f. f ++ drop count messages) gathers.bytes;
-      moments = gave_all M.serves gave gathers.timed gathers.moments;
+      deeds = record { moments = moments_in M.serves ts; asked = performances_of (entries_of group) pending; events = sends_of sl.slices };
+      done = record { done = record { moments = gathers.moments; asked = asked; events = sl.calls }; slices = sl.slices; events = refl };
+      moments = ([], sym (append-nil (moments_in M.serves ts)));
+      batches = one_batch ts some.marks;
+      are = are_one ts some.marks;
+      answered = (inl refl, tt);
+      asked = asked_one M.serves p.confirms pending ts some.marks (entries_of group) (performances_of (entries_of group) pending) es refl;
+      slices = subst (RestsOfSome some.marks some.part) (sym (handed_sends sl.slices)) sl.kind;
+      all_slices = λ is. subst (RestsOfAll some.marks) (sym (handed_sends sl.slices))
+          (sl.all (memory_is fault (ap (λ b. b || is_memory fault) (sym some.sends) ∙ is)));
       replied = some.replied;
       no_part = λ is. some.memory (memory_is fault (ap (λ b. b || is_memory fault) (sym some.sends) ∙ is));
       exactly = λ _ honest s h t so within again.
@@ -302,21 +360,23 @@ both_included : (t pending mid more pending' : List ℕ) → Includes t pending 
 both_included t pending mid more pending' within f is i there =
     ⊎_elim (λ old. includes_left t more i (f t within i old)) (λ new. includes_right t more i new) (in_either mid more i (sym (ap (λ x. is_in x i) is) ∙ there))
 
-pub turned : (M : Model) → HistoriesGrow M → (holds holds' : KeeperState M) (gave : List Moment → Type 0) (p q : PortState) (pending mid pending' : List ℕ)
+pub turned : (M : Model) → HistoriesGrow M → (holds holds' : KeeperState M) (gave : List Moment → Type 0) (performed_so : List Performance → Type 0)
+    (became : List PortEvent → Type 0) (p q : PortState) (pending mid pending' : List ℕ)
     (messages : List (List ℕ)) (count : ℕ)
     (taken : List (Request × Moment)) (ends : Bool) (group : List (Request × Moment)) (prefix : List (List ℕ)) (dones list : List Done) (stuck : Bool)
     (rest : Next) (counts : SessionCounts)
-    → Gathers M.serves gave (take count messages) taken ends → group ≡ taken → prefix ≡ take count messages
+    → Gathers M.serves gave (take count messages) taken ends → group ≡ taken → performed_so (performances_of (entries_of group) pending)
+    → mid ≡ left_pending (entries_of group) pending → prefix ≡ take count messages
     → (holds'.is_honest → (s : M.State) (h : History) (t : List ℕ) → StandsFor holds s h t → Includes t pending → All (IsUnsettled t) (entries_of group)
     → Performed holds' s h t (entries_of group) dones)
     → ((u : List ℕ) → Includes u pending → Includes u mid)
     → (holds'.is_honest → (u : List ℕ) → All (IsUnsettled u) (entries_of group) → FewHave holds u pending → FewHave holds' u mid) → length pending' ≤ 16
-    → SentAll M.serves p q prefix (wires M.serves prefix (answers_in list)) mid pending' → list ≡ dones → rest ≡ rest_by (ends && last_zero (answers_in list)) stuck
+    → SentAll M.serves became p q prefix (wires M.serves prefix (answers_in list)) mid pending' → list ≡ dones → rest ≡ rest_by (ends && last_zero (answers_in list)) stuck
     → counts ≡ tallied M.serves prefix (repeats_in list)
-    → Turned holds holds' gave p q pending pending' (take count messages) (lasts rest) counts
-turned M grows holds holds' gave p q pending mid pending' messages count taken ends group prefix dones list stuck rest counts gathers same same_prefix performed
+    → Turned holds holds' (Mute (Did gave performed_so became)) p q pending pending' (take count messages) (lasts rest) counts
+turned M grows holds holds' gave performed_so became p q pending mid pending' messages count taken ends group prefix dones list stuck rest counts gathers same asked left same_prefix performed
     handed few size sent same_list is counts_are =
-    let all = subst (λ l. SentAll M.serves p q prefix (wires M.serves prefix (answers_in l)) mid pending') same_list sent in
+    let all = subst (λ l. SentAll M.serves became p q prefix (wires M.serves prefix (answers_in l)) mid pending') same_list sent in
     let ts = gathers.timed in
     let es : entries_of group ≡ kept_in M.serves ts = ap entries_of same ∙ gathers.entries in
     let bytes : prefix ≡ bytes_of ts = same_prefix ∙ gathers.bytes in
@@ -325,7 +385,15 @@ turned M grows holds holds' gave p q pending mid pending' messages count taken e
       marks = all.marks;
       bytes = gathers.bytes;
       full = all.full ∙ ap length bytes ∙ length-map ts (λ (t : Timed). t.bytes);
-      moments = gathers.moments;
+      deeds = record { moments = moments_in M.serves ts; asked = performances_of (entries_of group) pending; events = sends_of all.hands.slices };
+      done = record { done = record { moments = gathers.moments; asked = asked; events = all.hands.calls }; slices = all.hands.slices; events = refl };
+      moments = refl;
+      batches = one_batch ts all.marks;
+      are = are_one ts all.marks;
+      answered = (all.full ∙ ap length bytes ∙ length-map ts (λ (t : Timed). t.bytes), tt);
+      asked = asked_one M.serves p.confirms pending ts all.marks (entries_of group) (performances_of (entries_of group) pending) es refl;
+      left = left_one M.serves p.confirms pending mid pending' ts all.marks (entries_of group) prefix es left bytes all.handed;
+      slices = subst (RestsOfAll all.marks) (sym (handed_sends all.hands.slices)) all.hands.kind;
       replied = all.replied;
       handed = λ t within. both_included t pending mid (settled_in M.serves p.confirms (bytes_of ts) all.marks) pending' within handed
           (all.handed ∙ ap (λ f. mid ++ settled_in M.serves p.confirms f all.marks) bytes);

@@ -1,5 +1,5 @@
 -- Which records stay, group after group, and which ids are to be handed on.
-use Rattle.std.proofs.Common.{◌≡◌, ◌⊎◌, inl, inr, ℕ, ◌≤◌, ◌+◌, Bool, true, false, if◌then◌else◌, List, [], ◌∷◌, ◌++◌, length, All, Option, None, refl, sym, ap}
+use Rattle.std.proofs.Common.{◌≡◌, ◌⊎◌, inl, inr, ℕ, ◌≤◌, ◌+◌, Bool, true, false, if◌then◌else◌, List, [], ◌∷◌, ◌++◌, length, All, Option, Some, None, is_some, refl, sym, ap}
 use Rattle.std.proofs.Common.{subst, ◌∙◌, arith, length-append}
 use Rattle.std.proofs.lemmas.List.{append-nil, length-map}
 use Rattle.fuse_wire.specs.declared.moment.Moment.{Moment}
@@ -9,11 +9,14 @@ use Rattle.fuse_keeper.specs.History.{Entry, entry_id, is_in, ids_in, Includes, 
 use Rattle.fuse_keeper.specs.Model.{Model, IsRowed}
 use Rattle.fuse_keeper.specs.Stands.{Records, OthersStay}
 use Rattle.fuse_keeper.specs.declared.keeper.Done.{Done}
-use Rattle.fuse_keeper.specs.KeeperState.{KeeperState, KeepsHeld, OfHeld, HoldsOthers, Performs, LeavesGroup}
+use Rattle.fuse_keeper.specs.KeeperState.{KeeperState, KeepsHeld, OfHeld, WhereHeld, HoldsOthers, Performs, LeavesGroup}
 use Rattle.fuse_keeper.specs.Group.{entries_of, handed_to, left_pending}
 use Rattle.fuse_session.specs.Port.{PortState}
 use Rattle.fuse_session.specs.Processed.{Timed, bytes_of, kept_in}
 use Rattle.fuse_session.specs.Settling.{Mark, settled_in, SomeAndMore, AtMostMore, FewHave}
+use Rattle.fuse_session.specs.Starts.{Kept, TakesAtMostOne, HoldsUnder}
+use Rattle.fuse_session.specs.Transcript.{PortEvent}
+use Rattle.fuse_keeper.specs.Lots.{Lots, SameLots, TakesLot, RecordsUnder}
 use Rattle.fuse_session.specs.Moves.{HandsOn}
 use Rattle.fuse_session.specs.Group.{Gathers, SentAll}
 use Rattle.fuse_session.proofs.Standing.{unsettled_too}
@@ -30,58 +33,129 @@ pub more_step : (before old new : Records) (last settled : List ℕ) (group : Li
 more_step before old new last settled group some all others i isnt =
     left_of (is_in settled i) (old i) (new i) (before i) (others i isnt) (λ absent. some i (unsettled_too settled last i all absent))
 
-pub hands_more : (M : Model) → (before : Records) (holds holds' : KeeperState M) (pending mid : List ℕ) (group : List Entry) → length group ≤ 16
-    → OfHeld holds (λ rows records. HoldsOthers holds' records pending group)
+-- ---- the lots of the records
+
+is_absent : {A : Type 0} (o o' : Option A) → is_some o ≡ true → o ≡ o' → o' ≡ None → ⊥
+is_absent None o' some is none = cc some
+is_absent (Some a) o' some is none = cc (is, none)
+
+-- the records are those of before or under the current lot: where a lot is taken, there was none
+pub takes_more : (a b c : Lots) → TakesAtMostOne a b → ((lot : ℕ) → b.current ≡ Some lot → (c.current ≡ Some lot) × (c.numbers ≡ b.numbers))
+    → (b.current ≡ None → TakesLot b c ⊎ ((c.current ≡ None) × (c.numbers ≡ b.numbers))) → TakesAtMostOne a c
+takes_more a b c one kept taken = record {
+  kept = λ lot is.
+      let mid = one.kept lot is in
+      let last = kept lot mid.0 in
+      (last.0, last.1 ∙ mid.1);
+  taken = λ none. elim (one.taken none) [
+    | inl took ↦ let last = kept took.lot took.current in
+        inl (record { lot = took.lot; is_new = took.is_new; numbers = last.1 ∙ took.numbers; current = last.0 })
+    | inr not ↦ elim (taken not.0) [
+      | inl took ↦ inl (record {
+        lot = took.lot;
+        is_new = subst (λ ns. is_in ns took.lot ≡ false) not.1 took.is_new;
+        numbers = took.numbers ∙ ap (λ (ns : List ℕ). ns ++ took.lot ∷ []) not.1;
+        current = took.current;
+      })
+      | inr still ↦ inr (still.0, still.1 ∙ not.1)
+    ]
+  ];
+}
+
+takes_none : (a : Lots) → TakesAtMostOne a a
+takes_none a = record { kept = λ lot is. (is, refl); taken = λ none. inr (none, refl) }
+
+-- a record after a group, by whether its id was settled, whether it had one, and whether it is of the group
+under_one : (before : Kept) (last settled : List ℕ) (old : Records) (under current under' current' : Option ℕ) (b g : Bool) (o now : Option Said) (i : ℕ)
+    → (b ≡ true → g ≡ true → under' ≡ current') → (o ≡ None → g ≡ true → under' ≡ current')
+    → ((a : Said) → o ≡ Some a → b ≡ false → under' ≡ under)
+    → (is_some o ≡ true → ((is_some (before.records i) ≡ true) × (under ≡ before.lots.under i)) ⊎ (is_in last i ≡ true))
+    → (is_in last i ≡ true → b ≡ true)
+    → (g ≡ false → now ≡ (if b then None else o)) → is_some now ≡ true
+    → ((is_some (before.records i) ≡ true) × (under' ≡ before.lots.under i)) ⊎ ((g ≡ true) × (under' ≡ current'))
+under_one before last settled old under current under' current' true true o now i settled_so absent stays each within others some = inr (refl, settled_so refl refl)
+under_one before last settled old under current under' current' true false o now i settled_so absent stays each within others some =
+    absurd (is_absent now None some (others refl) refl)
+under_one before last settled old under current under' current' false true None now i settled_so absent stays each within others some = inr (refl, absent refl refl)
+under_one before last settled old under current under' current' false false None now i settled_so absent stays each within others some =
+    absurd (is_absent now None some (others refl) refl)
+under_one before last settled old under current under' current' false g (Some a) now i settled_so absent stays each within others some = elim (each refl) [
+  | inl was ↦ inl (was.0, stays a refl refl ∙ was.1)
+  | inr more ↦ absurd (cc (within more))
+]
+
+pub hands_more : (M : Model) → (before : Kept) (holds holds' : KeeperState M) (pending mid : List ℕ) (group : List Entry) → length group ≤ 16
+    → OfHeld holds (λ rows records. HoldsOthers holds' records pending group) → OfHeld holds (λ rows records. RecordsUnder holds.lots holds'.lots records pending group)
     → HandsOn before holds pending → HandsOn before holds' (mid ++ ids_in group)
-hands_more M before holds holds' pending mid group few others h =
+hands_more M before holds holds' pending mid group few others lots h =
     let o = others h.rows h.records h.held h.rowed in
+    let l = lots h.rows h.records h.held h.rowed in
+    let u = h.under in
     record {
       rows = o.rows;
       records = o.records;
       held = o.held;
       rowed = o.rowed;
-      more = ids_in group;
-      few = subst (λ n. n ≤ 16) (sym (length-map group entry_id)) few;
-      some = more_step before h.records o.records h.more pending group h.some h.all o.others;
+      under = record {
+        more = ids_in group;
+        few = subst (λ n. n ≤ 16) (sym (length-map group entry_id)) few;
+        some = more_step before.records h.records o.records u.more pending group u.some h.all o.others;
+        takes = takes_more before.lots holds.lots holds'.lots u.takes l.kept l.taken;
+        each = λ i some.
+            under_one before u.more pending h.records (holds.lots.under i) holds.lots.current (holds'.lots.under i) holds'.lots.current (is_in pending i)
+            (is_in (ids_in group) i) (h.records i) (o.records i) i (λ was here. l.added i here (inr was)) (λ none here. l.added i here (inl none)) (l.others i)
+            (λ was. elim (u.each i was) [ inl there ↦ inl there | inr one ↦ inr one.0 ]) (h.all i) (o.others i) some;
+      };
       all = includes_right mid (ids_in group);
     }
 
-pub hands_same : (M : Model) → (before : Records) (holds : KeeperState M) (pending more : List ℕ) → HandsOn before holds pending
-    → HandsOn before holds (pending ++ more)
-hands_same M before holds pending more h = record {
+-- more is to be handed on
+pub hands_same : (M : Model) → (before : Kept) (holds : KeeperState M) (pending all : List ℕ) → Includes all pending → HandsOn before holds pending
+    → HandsOn before holds all
+hands_same M before holds pending all within h = record {
   rows = h.rows;
   records = h.records;
   held = h.held;
   rowed = h.rowed;
-  more = h.more;
-  few = h.few;
-  some =
-      h.some;
-  all = λ i there. includes_left pending more i (h.all i there);
+  under = h.under;
+  all = λ i there. within i (h.all i there);
 }
 
-pub at_most : (M : Model) → (before : Records) (holds : KeeperState M) (pending : List ℕ) → HandsOn before holds pending → AtMostMore before holds
-at_most M before holds pending h = record { rows = h.rows; records = h.records; held = h.held; more = h.more; few = h.few; some = h.some }
+pub holds_under : (M : Model) → (before : Kept) (holds : KeeperState M) (pending : List ℕ) → HandsOn before holds pending → HoldsUnder before holds
+holds_under M before holds pending h = record { rows = h.rows; records = h.records; held = h.held; under = h.under }
 
-pub at_most_kept : (M : Model) → (before : Records) (holds holds' : KeeperState M) (pending : List ℕ) → KeepsHeld holds holds' → HandsOn before holds pending
-    → AtMostMore before holds'
-at_most_kept M before holds holds' pending keeps h = record {
-  rows = h.rows;
-  records = h.records;
-  held = keeps h.rows h.records h.held;
-  more = h.more;
-  few =
-      h.few;
-  some = h.some;
-}
+pub at_most : (M : Model) → (before : Kept) (holds : KeeperState M) → HoldsUnder before holds → AtMostMore before.records holds
+at_most M before holds h = record { rows = h.rows; records = h.records; held = h.held; more = h.under.more; few = h.under.few; some = h.under.some }
+
+-- a fault keeps the records, and their lots
+pub under_kept : (M : Model) → (before : Kept) (holds holds' : KeeperState M) (pending : List ℕ) → KeepsHeld holds holds'
+    → WhereHeld holds (SameLots holds.lots holds'.lots) → HandsOn before holds pending → HoldsUnder before holds'
+under_kept M before holds holds' pending keeps lots h =
+    let same = lots h.rows h.records h.held in
+    let u = h.under in
+    record {
+      rows = h.rows;
+      records = h.records;
+      held = keeps h.rows h.records h.held;
+      under = record {
+        more = u.more;
+        few = u.few;
+        some = u.some;
+        takes = takes_more before.lots holds.lots holds'.lots u.takes (λ lot is. (same.current ∙ is, same.numbers)) (λ none. inr (same.current ∙ none, same.numbers));
+        each = λ i some. elim (u.each i some) [
+          | inl there ↦ inl (there.0, same.under i ∙ there.1)
+          | inr one ↦ inr (one.0, same.under i ∙ one.1 ∙ sym same.current)
+        ];
+      };
+    }
 
 -- where the port confirms, the answers to a group settle all its ids
-pub hands_group : (M : Model) → (before : Records) (holds : KeeperState M) (gave : List Moment → Type 0) (p q : PortState) (mid pending' : List ℕ)
+pub hands_group : (M : Model) → (before : Kept) (holds : KeeperState M) (gave : List Moment → Type 0) (became : List PortEvent → Type 0) (p q : PortState) (mid pending' : List ℕ)
     (messages : List (List ℕ)) (taken : List (Request × Moment)) (ends : Bool)
     (group : List (Request × Moment)) (prefix answers' : List (List ℕ)) → Gathers M.serves gave messages taken ends → group ≡ taken → prefix ≡ messages → p.confirms ≡ true
-    → SentAll M.serves p q prefix answers' mid pending'
+    → SentAll M.serves became p q prefix answers' mid pending'
     → HandsOn before holds (mid ++ ids_in (entries_of group)) → HandsOn before holds pending'
-hands_group M before holds gave p q mid pending' messages taken ends group prefix answers' gathers same same_prefix confirms all h =
+hands_group M before holds gave became p q mid pending' messages taken ends group prefix answers' gathers same same_prefix confirms all h =
     let bytes : prefix ≡ bytes_of gathers.timed = same_prefix ∙ gathers.bytes in
     let full : length all.marks ≡ length gathers.timed = all.full ∙ ap length bytes ∙ length-map gathers.timed (λ (t : Timed). t.bytes) in
     subst (HandsOn before holds) (sym (all.handed ∙ ap (λ c. mid ++ settled_in M.serves c prefix all.marks) confirms ∙ ap (λ f. mid ++ settled_in M.serves true f all.marks) bytes
@@ -89,16 +163,19 @@ hands_group M before holds gave p q mid pending' messages taken ends group prefi
 
 -- at first nothing is to be handed on
 pub hands_start : (M : Model) → (holds : KeeperState M) (pending : List ℕ) (rows : M.Rows) (records : Records) → holds.holds rows records → IsRowed M rows
-    → HandsOn records holds pending
+    → HandsOn (record { records = records; lots = holds.lots }) holds pending
 hands_start M holds pending rows records held rowed = record {
   rows = rows;
   records = records;
   held = held;
   rowed = rowed;
-  more = [];
-  few = omega arith;
-  some =
-      λ i _. inr refl;
+  under = record {
+    more = [];
+    few = omega arith;
+    some = λ i _. inr refl;
+    takes = takes_none holds.lots;
+    each = λ i some. inl (some, refl);
+  };
   all = λ i there. absurd (cc there);
 }
 
@@ -208,22 +285,18 @@ pub left_few : (pending left : List ℕ) (es : List Entry) → left ≡ left_pen
 left_few pending left [] is few short = omega (arith, ap length is, few)
 left_few pending left (e ∷ es) is few short = omega (arith, ap length is, short)
 
-pub hands_on : (M : Model) → (before : Records) (holds holds' : KeeperState M) (pending left : List ℕ) (es : List Entry) → left ≡ left_pending es pending
+pub no_entries : (group : List (Request × Moment)) → entries_of group ≡ [] → group ≡ []
+no_entries [] is = refl
+no_entries (one ∷ group) is = absurd (cc is)
+
+-- an empty group isn't performed
+pub hands_on : (M : Model) → (before : Kept) (holds holds' : KeeperState M) (pending left : List ℕ) (es : List Entry) → left ≡ left_pending es pending
     → length es ≤ 16 → OfHeld holds (λ rows records. HoldsOthers holds' records (handed_to es pending) es)
-    → HandsOn before holds pending → HandsOn before holds' (left ++ ids_in es)
-hands_on M before holds holds' pending left [] is few others h =
-    let o = others h.rows h.records h.held h.rowed in
-    record {
-      rows = o.rows;
-      records = o.records;
-      held = o.held;
-      rowed = o.rowed;
-      more = h.more;
-      few = h.few;
-      some = λ i isnt. left_of false (h.records i) (o.records i) (before i) (o.others i refl) (λ _. h.some i isnt);
-      all = λ i there. subst (λ (l : List ℕ). is_in (l ++ []) i ≡ true) (sym is) (includes_left pending [] i (h.all i there));
-    }
-hands_on M before holds holds' pending left (e ∷ es) is few others h = hands_more M before holds holds' pending left (e ∷ es) few others h
+    → OfHeld holds (λ rows records. RecordsUnder holds.lots holds'.lots records (handed_to es pending) es)
+    → (es ≡ [] → HandsOn before holds pending → HandsOn before holds' pending) → HandsOn before holds pending → HandsOn before holds' (left ++ ids_in es)
+hands_on M before holds holds' pending left [] is few others lots none h =
+    hands_same M before holds' pending (left ++ []) (λ i there. subst (λ (l : List ℕ). is_in (l ++ []) i ≡ true) (sym is) (includes_left pending [] i there)) (none refl h)
+hands_on M before holds holds' pending left (e ∷ es) is few others lots none h = hands_more M before holds holds' pending left (e ∷ es) few others lots h
 
 pub few_left : (M : Model) → (holds holds' : KeeperState M) (u pending left : List ℕ) (es : List Entry) → left ≡ left_pending es pending → length left ≤ 16
     → OfHeld holds (λ rows records. HoldsOthers holds' records (handed_to es pending) es)

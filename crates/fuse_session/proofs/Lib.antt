@@ -9,6 +9,7 @@ pub mod Outs
 pub mod Ending
 pub mod Settled
 pub mod Batching
+pub mod Doing
 pub mod Gathering
 pub mod Counted
 pub mod Sends

@@ -57,7 +57,7 @@ ended_port Memory = false
 abbrev pub receive_failed : PortState → PortState → Bool
 receive_failed old new = not (new.receive_failures == old.receive_failures)
 
--- the counts, where no fault ended it but that of a receive, which is told by the first
+-- the counts, where no fault ended it but that of a receive, which the first argument says
 abbrev pub counts_at : Bool → Ended → SessionCounts → Option SessionCounts
 counts_at unheard End counts = Some counts
 counts_at unheard Destroyed counts = Some counts

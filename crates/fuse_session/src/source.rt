@@ -9,7 +9,7 @@ ghost use Rattle.fuse_session.specs.Source.{ReadsOnce, WritesOnce, FlushesOnce};
 use std::io;
 use std::io::{Read, Write};
 
-/// Where bytes are read from: any reader. What is said of one read tells it from none and from two.
+/// Where bytes are read from: any reader. What is said of one read distinguishes it from none and from two.
 pub trait Source: Drop {
     /// The bytes that reads will give from here on, where they are known.
     ghost remaining: { Self → Option (List ℕ) };
@@ -38,7 +38,7 @@ impl<R: Read + Drop> Source for R {
     ghost consumed = { λ a b result buffer once. once };
 }
 
-/// Where bytes are written to: any writer. What is said of one call tells it from none and from two.
+/// Where bytes are written to: any writer. What is said of one call distinguishes it from none and from two.
 pub trait Sink: Drop {
     /// The bytes that it holds, where they are known.
     ghost contents: { Self → Option (List ℕ) };

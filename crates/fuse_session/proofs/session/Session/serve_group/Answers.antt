@@ -1,22 +1,40 @@
-use Rattle.std.proofs.Common.{◌≡◌, ◌++◌, inl, true, false, sym, ap, refl, ◌∙◌, take, length, arith}
+use Rattle.std.proofs.Common.{◌≡◌, ◌++◌, inl, true, false, sym, ap, refl, ◌∙◌, take, length, arith, [], subst}
 use Rattle.std.proofs.lemmas.List.{length-map}
 use Rattle.fuse_wire.specs.declared.id.Id.{Id}
 use Rattle.fuse_keeper.specs.History.{ids_in}
-use Rattle.fuse_keeper.specs.Stands.{Records}
+use Rattle.fuse_session.specs.Starts.{Kept}
+use Rattle.fuse_session.specs.Moves.{HandsOn}
 use Rattle.fuse_keeper.specs.Group.{ids_of, entry_of, entries_of}
 use Rattle.fuse_session.specs.Group.{classes_in}
 use Rattle.fuse_session.proofs.Replies.{replied_none}
 use Rattle.fuse_session.proofs.Groups.{broken_none, broken_store, broken_sent, turned, firm_leaves, are_enough, stuck_zero, starts_zero, gathers_to}
-use Rattle.fuse_session.proofs.Handing.{hands_group, at_most, performs_all, leaves_all, left_within, left_few, hands_on, few_left}
+use Rattle.fuse_session.proofs.Handing.{hands_group, holds_under, under_kept, no_entries, performs_all, leaves_all, left_within, left_few, hands_on, few_left}
 use Rattle.fuse_session.proofs.session.Session.serve_group.Goals as goal
 
 pub returns-in_default-clause-err : goal.returns-in_default-clause-err
 returns-in_default-clause-err g c =
     let k = c.args.self.now.keeper.now in
-    let p = g.P.Port.told c.args.self.now.port.now in
+    let port = c.args.self.now.port.now in
+    let p = g.P.Port.told port in
+    let given = c.in_default.ensures.logged in
     broken_none g.K.Keeper.model (g.K.Keeper.told k) (g.K.Keeper.told k) _ p p (ids_of c.args.self.now.pending.now.items) c.args.messages.now false true _ refl
-    c.in_default.ensures.logged (replied_none p)
+    (record { moments = given.0; asked = []; events = [] })
+    (record {
+      done = record { moments = given.1; asked = (g.met.K.Keeper.log).none k; events = (g.met.P.Port.path).none port };
+      slices = [];
+      events = refl;
+    }) refl refl (replied_none p)
     (λ rows records held. held) (λ firm s h t so. firm_leaves g.K.Keeper.model (g.K.Keeper.told k) s h t firm so)
+
+pub returns-in_default-clause-at_most : goal.returns-in_default-clause-at_most
+returns-in_default-clause-at_most g c = λ clean (before : Kept) h.
+    holds_under g.K.Keeper.model before (g.K.Keeper.told c.args.self.now.keeper.now) (ids_of c.args.self.now.pending.now.items) h
+
+pub returns-in-Err-clause-at_most : goal.returns-in-Err-clause-at_most
+returns-in-Err-clause-at_most g c = λ clean (before : Kept) h.
+    let called = c.in-Err.ensures.called in
+    under_kept g.K.Keeper.model before (g.K.Keeper.told c.args.self.now.keeper.now) (g.K.Keeper.told c.perform_group.new.keeper)
+    (ids_of c.args.self.now.pending.now.items) (called.err clean) (called.err_lots clean) h
 
 pub returns-in-Err-clause-err : goal.returns-in-Err-clause-err
 returns-in-Err-clause-err g c =
@@ -26,10 +44,12 @@ returns-in-Err-clause-err g c =
     let gave = g.C.Clock.gave c.args.self.now.clock.now c.gather.new.clock in
     let len : c.len-count.result ≡ length group.classes.items = omega (arith, c.len-count.ensures, group.classes.ok) in
     let pending = ids_of c.args.self.now.pending.now.items in
-    broken_store g.K.Keeper.model k k' gave (g.P.Port.told c.args.self.now.port.now) pending c.args.messages.now c.len-count.result group.taken.items group.ends
+    broken_store g.K.Keeper.model k k' gave (g.K.Keeper.performed c.args.self.now.keeper.now c.perform_group.new.keeper) _
+    (g.P.Port.told c.args.self.now.port.now) pending c.args.messages.now c.len-count.result group.taken.items group.ends
     c.as_slice-group.result.now _
     (gathers_to g.K.Keeper.model.serves gave c.args.messages.now (length group.classes.items) c.len-count.result group.taken.items group.ends len c.in-Ok.ensures.gathers)
-    c.as_slice-group.ensures.value c.in-Err.ensures.called.err c.in-Err.ensures.called.fault
+    c.as_slice-group.ensures.value c.perform_group.ensures.asked ((g.met.P.Port.path).none c.args.self.now.port.now)
+    c.in-Err.ensures.called.err c.in-Err.ensures.called.fault
     (leaves_all g.K.Keeper.model k k' pending (entries_of c.as_slice-group.result.now) c.perform_group.ensures.crash)
 
 pub send_answers-requires-clause-classes : goal.send_answers-requires-clause-classes
@@ -72,11 +92,12 @@ returns-in-Ok-send_answers-clause-ok g c =
     let done = c.in-Ok-perform_group.ensures in
     let few = left_few pending left es done.pending (omega (arith, length-map c.args.self.now.pending.now.items (λ (x : Id). x.0), c.requires.few))
     (omega (arith, length-map c.as_slice-group.result.now entry_of, ap length c.as_slice-group.ensures.value, c.in-Ok.ensures.few)) in
-    turned M c.histories_grow.ensures k k' gave (g.P.Port.told c.args.self.now.port.now) _ pending left _ c.args.messages.now
+    turned M c.histories_grow.ensures k k' gave (g.K.Keeper.performed c.args.self.now.keeper.now c.perform_group.new.keeper)
+    (g.P.Port.became c.args.self.now.port.now c.send_answers.new.port) (g.P.Port.told c.args.self.now.port.now) _ pending left _ c.args.messages.now
     c.len-count.result group.taken.items group.ends c.as_slice-group.result.now (take c.len-count.result c.args.messages.now)
     c.in-Ok-perform_group.dones.items c.as_slice-answered.result.now c.is_stuck.result c.next_of.result c.count_all.result
     (gathers_to g.K.Keeper.model.serves gave c.args.messages.now (length group.classes.items) c.len-count.result group.taken.items group.ends len c.in-Ok.ensures.gathers)
-    c.as_slice-group.ensures.value refl (performs_all M k k' pending es c.in-Ok-perform_group.dones.items done.ok)
+    c.as_slice-group.ensures.value c.perform_group.ensures.asked done.pending refl (performs_all M k k' pending es c.in-Ok-perform_group.dones.items done.ok)
     (left_within pending left es done.pending)
     (λ honest u un have. few_left M k k' u pending left es done.pending (omega (arith, few)) (done.others honest) un have)
     (omega (
@@ -92,7 +113,7 @@ returns-in-Ok-send_answers-clause-ok g c =
     c.in-Ok-send_answers.ensures.ok c.as_slice-answered.ensures.value c.next_of.ensures c.count_all.ensures.tallied
 
 pub returns-in-Ok-send_answers-clause-more : goal.returns-in-Ok-send_answers-clause-more
-returns-in-Ok-send_answers-clause-more g c = λ confirms honest (before : Records) h.
+returns-in-Ok-send_answers-clause-more g c = λ confirms honest (before : Kept) h.
     let M = g.K.Keeper.model in
     let k = g.K.Keeper.told c.args.self.now.keeper.now in
     let k' = g.K.Keeper.told c.perform_group.new.keeper in
@@ -105,12 +126,13 @@ returns-in-Ok-send_answers-clause-more g c = λ confirms honest (before : Record
     let done = c.in-Ok-perform_group.ensures in
     let few = left_few pending left es done.pending (omega (arith, length-map c.args.self.now.pending.now.items (λ (x : Id). x.0), c.requires.few))
     (omega (arith, length-map c.as_slice-group.result.now entry_of, ap length c.as_slice-group.ensures.value, c.in-Ok.ensures.few)) in
-    hands_group M before k' gave (g.P.Port.told c.args.self.now.port.now) _ left _ (take c.len-count.result c.args.messages.now)
+    hands_group M before k' gave (g.P.Port.became c.args.self.now.port.now c.send_answers.new.port) (g.P.Port.told c.args.self.now.port.now) _ left _ (take c.len-count.result c.args.messages.now)
     group.taken.items group.ends c.as_slice-group.result.now (take c.len-count.result c.args.messages.now) _
     (gathers_to g.K.Keeper.model.serves gave c.args.messages.now (length group.classes.items) c.len-count.result group.taken.items group.ends len c.in-Ok.ensures.gathers)
     c.as_slice-group.ensures.value refl confirms c.in-Ok-send_answers.ensures.ok
     (hands_on M before k k' pending left es done.pending (omega
-    (arith, length-map c.as_slice-group.result.now entry_of, ap length c.as_slice-group.ensures.value, c.in-Ok.ensures.few)) (done.others honest) h)
+    (arith, length-map c.as_slice-group.result.now entry_of, ap length c.as_slice-group.ensures.value, c.in-Ok.ensures.few)) (done.others honest) (done.lots honest)
+    (λ none h. subst (λ x. HandsOn before (g.K.Keeper.told x) pending) (sym (c.perform_group.ensures.none (no_entries c.as_slice-group.result.now none)).1) h) h)
 
 pub returns-clause-err : goal.returns-clause-err
 returns-clause-err g c =
@@ -126,27 +148,31 @@ returns-clause-err g c =
     let done = c.in-Ok-perform_group.ensures in
     let few = left_few pending left es done.pending (omega (arith, length-map c.args.self.now.pending.now.items (λ (x : Id). x.0), c.requires.few))
     (omega (arith, length-map c.as_slice-group.result.now entry_of, ap length c.as_slice-group.ensures.value, c.in-Ok.ensures.few)) in
-    broken_sent M c.histories_grow.ensures k k' gave (g.P.Port.told c.args.self.now.port.now) _ pending left c.args.messages.now
+    broken_sent M c.histories_grow.ensures k k' gave (g.K.Keeper.performed c.args.self.now.keeper.now c.perform_group.new.keeper)
+    (g.P.Port.became c.args.self.now.port.now c.send_answers.new.port) (g.P.Port.told c.args.self.now.port.now) _ pending left c.args.messages.now
     c.len-count.result group.taken.items group.ends c.as_slice-group.result.now (take c.len-count.result c.args.messages.now)
     c.in-Ok-perform_group.dones.items c.as_slice-answered.result.now _ _
     (gathers_to g.K.Keeper.model.serves gave c.args.messages.now (length group.classes.items) c.len-count.result group.taken.items group.ends len c.in-Ok.ensures.gathers)
-    c.as_slice-group.ensures.value refl (g.met.K.Keeper.sound c.perform_group.new.keeper).clean_is_honest
+    c.as_slice-group.ensures.value c.perform_group.ensures.asked refl (g.met.K.Keeper.sound c.perform_group.new.keeper).clean_is_honest
     (performs_all M k k' pending es c.in-Ok-perform_group.dones.items done.ok) (λ honest firm. done.firm honest (inl firm))
     (λ honest u un have. few_left M k k' u pending left es done.pending (omega (arith, few)) (done.others honest) un have)
     few c.as_slice-answered.ensures.value c.in-Err-send_answers.ensures.err
 
 pub returns-clause-at_most : goal.returns-clause-at_most
-returns-clause-at_most g c = λ clean (before : Records) h.
+returns-clause-at_most g c = λ clean (before : Kept) h.
     let M = g.K.Keeper.model in
     let k = g.K.Keeper.told c.args.self.now.keeper.now in
     let k' = g.K.Keeper.told c.perform_group.new.keeper in
     let es = entries_of c.as_slice-group.result.now in
+    let pending = ids_of c.args.self.now.pending.now.items in
     let left = ids_of c.perform_group.new.pending.items in
     let done = c.in-Ok-perform_group.ensures in
-    at_most M before k' (left ++ ids_in es)
-    (hands_on M before k k' (ids_of c.args.self.now.pending.now.items) left es done.pending
+    let honest = (g.met.K.Keeper.sound c.perform_group.new.keeper).clean_is_honest clean in
+    holds_under M before k' (left ++ ids_in es)
+    (hands_on M before k k' pending left es done.pending
     (omega (arith, length-map c.as_slice-group.result.now entry_of, ap length c.as_slice-group.ensures.value, c.in-Ok.ensures.few))
-    (done.others ((g.met.K.Keeper.sound c.perform_group.new.keeper).clean_is_honest clean)) h)
+    (done.others honest) (done.lots honest)
+    (λ none h. subst (λ x. HandsOn before (g.K.Keeper.told x) pending) (sym (c.perform_group.ensures.none (no_entries c.as_slice-group.result.now none)).1) h) h)
 
 pub returns-in-Ok-send_answers-clause-firm : goal.returns-in-Ok-send_answers-clause-firm
 returns-in-Ok-send_answers-clause-firm g c = λ honest firm. c.in-Ok-perform_group.ensures.firm honest (inl firm)
