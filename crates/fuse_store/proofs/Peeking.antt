@@ -92,17 +92,17 @@ took_may taken lot a b was is clean f may = lotted_may taken lot a b f may
 
 pub failed_may : {X : Type 0} (f : Holding → Holding) (a b : State) (e : StoreFault) → ServesAs {X = X} HeldFor (λ y. HeldFor (f y)) a b (Err e)
     → StaysOpen {X = X} a b (Err e) → (lot : Option ℕ) (was is : Bool) → AnswersNoMore (table_told a lot was) (table_told b lot is)
-failed_may f a b e serves open lot was is clean fault may =
-    still_may lot a b (λ is_open. open.was clean is_open) (λ is_open y at. serves.kept clean is_open y at) fault may
+failed_may f a b e serves connection lot was is clean fault may =
+    still_may lot a b (λ is_open. connection.was clean is_open) (λ is_open y at. serves.kept clean is_open y at) fault may
 
 pub went_well : {A X : Type 0} → (f : Holding → Holding) (a b : State) (x : X) (y : A) → ServesAs {E = StoreFault} HeldFor (λ y. HeldFor (f y)) a b (Ok x)
     → StaysOpen {E = StoreFault} a b (Ok x) → (lot now : Option ℕ) (failed : Bool)
     → Called {A = A} (table_told a lot failed) (table_told b now failed) (Ok y)
-went_well f a b x y serves open lot now failed = record {
+went_well f a b x y serves connection lot now failed = record {
   failed = sym (or_false failed);
   honest = λ clean. earlier a b _ serves.survives clean;
   medium = λ memory. memory;
-  clean = λ was clean. (clean, open.still clean was.1);
+  clean = λ was clean. (clean, connection.still clean was.1);
   err = tt;
   err_lots = tt;
   fault = λ clean s h t so. tt;
@@ -165,9 +165,9 @@ module _ (one : OneHolding) (a b : State) (settled : Settled a) (stays : IsTrue 
 module _ (one : OneHolding) (told : LotsAreSame) (a b : State) (settled : Settled a) (stays : IsTrue a.is_open → a.may_leave a.committed.trees) where
   pub looked_well : {X : Type 0} → (x : X) → ServesAs {E = StoreFault} HeldFor HeldFor a b (Ok x) → StaysOpen {E = StoreFault} a b (Ok x)
       → (lot : Option ℕ) (failed : Bool) → Looked {A = X} (table_told a lot failed) (table_told b lot failed) (Ok x)
-  looked_well x serves open lot failed = record {
-    called = went_well (λ z. z) a b x x serves open lot lot failed;
-    may = λ clean f is. still_may lot a b (λ is_open. open.was clean is_open) (λ is_open y at. serves.done clean y at) f is;
+  looked_well x serves connection lot failed = record {
+    called = went_well (λ z. z) a b x x serves connection lot lot failed;
+    may = λ clean f is. still_may lot a b (λ is_open. connection.was clean is_open) (λ is_open y at. serves.done clean y at) f is;
     same = λ clean rows records at. still_held one a b settled stays (Ok x) serves x refl clean rows records at;
     lots = λ clean rows records at.
         let y = at.holding in
@@ -180,9 +180,9 @@ module _ (one : OneHolding) (told : LotsAreSame) (a b : State) (settled : Settle
   pub looked_wrong : {X : Type 0} → (e : StoreFault) → ServesAs {X = X} HeldFor HeldFor a b (Err e) → StaysOpen {X = X} a b (Err e)
       → (HasCleanDisk b → (y : Holding) → RestsAs (HeldFor y) a → IsOutside e) → (lot : Option ℕ) (failed : Bool)
       → Looked {A = X} (table_told a lot failed) (table_told b lot true) (Err e)
-  looked_wrong e serves open safe lot failed = record {
+  looked_wrong e serves connection safe lot failed = record {
     called = went_wrong one told (λ z. z) a b e serves lot (may_where lot a b e safe) failed;
-    may = failed_may (λ z. z) a b e serves open lot failed true;
+    may = failed_may (λ z. z) a b e serves connection lot failed true;
     same = tt;
     lots = tt;
     whole = λ rows records at was. whole_still one a b settled stays (Err e) serves rows records at;

@@ -18,7 +18,7 @@ ghost use Rattle.fuse_store_tables.specs.Opening.{IsLaid, HasMeta};
 ghost use Rattle.fuse_store_tables.specs.Saying.{Says, IsTabled};
 ghost use Rattle.fuse_store_tree.specs.Store.{records_of};
 ghost use Rattle.fuse_store_tree.specs.Holding.{lots_of};
-ghost use Rattle.fuse_store.specs.Creating.{IsBlank};
+ghost use Rattle.fuse_store.specs.Creating.{IsBlank, new_holding};
 ghost use Rattle.fuse_store.specs.Opening.{Stored, StoredFor, WasFor, opened_for};
 ghost use Rattle.fuse_store.specs.Starting.{LeavesStarted, BeginsAfter};
 ghost use Rattle.fuse_store.specs.Starting.{LeavesFresh, IsLeftOrOpened, begun_for};
@@ -56,6 +56,9 @@ pub fn open_or_create<S: Alter>(
     ensures lots { IfOk result (λ k. (keeper_told S.Store k).is_honest → (z : Stored)
         → WasFor z (state S.Store conn)
         → SameLots (lots_of None (opened_for z)) (keeper_told S.Store k).lots) }
+    ensures new_lots { IfOk result (λ k. (keeper_told S.Store k).is_honest
+        → IsBlank (state S.Store conn) → IsTrue (state S.Store conn).is_open
+        → SameLots (lots_of None (new_holding now)) (keeper_told S.Store k).lots) }
     ensures was { IfOk result (λ k. (keeper_told S.Store k).is_honest
         → IsTrue (state S.Store conn).is_open × ((state S.Store conn).in_transaction ≡ false)) }
     ensures honest { IfOk result (λ k. (keeper_told S.Store k).is_honest
@@ -118,6 +121,9 @@ pub fn open_fresh<S: Alter>(
     ensures lots { IfOk result (λ k. (keeper_told S.Store k).is_honest → (z : Stored)
         → WasFor z (state S.Store conn)
         → SameLots (lots_of None (begun_for z)) (keeper_told S.Store k).lots) }
+    ensures new_lots { IfOk result (λ k. (keeper_told S.Store k).is_honest
+        → IsBlank (state S.Store conn) → IsTrue (state S.Store conn).is_open
+        → SameLots (lots_of None (new_holding now)) (keeper_told S.Store k).lots) }
     ensures was { IfOk result (λ k. (keeper_told S.Store k).is_honest
         → IsTrue (state S.Store conn).is_open × ((state S.Store conn).in_transaction ≡ false)) }
     ensures honest { IfOk result (λ k. (keeper_told S.Store k).is_honest

@@ -242,7 +242,7 @@ impl<S: Alter + Drop> Keeper for TableKeeper<S> {
     ghost use Rattle.std.specs.Prelude.{length, IfOk, IfErr, OnOk};
     ghost use Rattle.fuse_tree.specs.Rows.{Rows};
     ghost use Rattle.fuse_keeper.specs.KeeperState.{AnswersNoMore, Called, Looked};
-    ghost use Rattle.fuse_keeper.specs.KeeperState.{IsFirm, Performs, Reports};
+    ghost use Rattle.fuse_keeper.specs.KeeperState.{ActsOn, IsFirm, Performs, Reports};
     ghost use Rattle.fuse_keeper.specs.KeeperState.{KeepsLots, KeepsOthers, LeavesGroup};
     ghost use Rattle.fuse_keeper.specs.KeeperState.{BeginsMount, DropsLots, LeavesMount};
     ghost use Rattle.fuse_keeper.specs.Group.{entries_of, ids_of};

@@ -76,8 +76,7 @@ call_taken g lot ids es y rows records tree are =
     let z = without_settled ids y in
     let before = with_lot_for lot z in
     (g.grow).same_taken (rowed before.tree) (records_of before.kept) rows (without ids records) es (rowed (performed lot ids es y).tree)
-    (records_of (performed lot ids es y).kept) (all_dones lot ids es y)
-    (
+    (records_of (performed lot ids es y).kept) (all_dones lot ids es y) (
       are.0 ∙ sym (ap rowed (lotted_tree lot z ∙ same_tree ids y)),
       λ i. ap (λ o. cond (is_in ids i) None o) (are.1 i) ∙ sym (ap (λ ks. records_of ks i) (kept_for lot z) ∙ found_settled (λ k. k.said) ids y i),
     )

@@ -21,6 +21,10 @@ pub returns-then-blank-clause-lots : goal.returns-then-blank-clause-lots
 returns-then-blank-clause-lots g c =
     IfOk-weaker c.create.result _ _ (λ k going clean z was. absurd (c.is_blank-blank.ensures.none c.if-blank.true z was)) c.create.ensures.going
 
+pub returns-then-blank-clause-new_lots : goal.returns-then-blank-clause-new_lots
+returns-then-blank-clause-new_lots g c =
+    IfOk-weaker c.create.result _ _ (λ k lots clean blank is_open. lots clean is_open) c.create.ensures.lots
+
 pub returns-then-blank-clause-crash : goal.returns-then-blank-clause-crash
 returns-then-blank-clause-crash g c =
     IfErr-weaker c.create.result _ _
@@ -72,6 +76,11 @@ pub returns-clause-plain : goal.returns-clause-plain
 returns-clause-plain g c =
     IfErr-weaker c.open_begun.result _ _
     (λ r left blank. let e = c.is_blank-blank.ensures.blank.1 blank in let n = c.if-blank.false in cc) c.open_begun.ensures.crash
+
+pub returns-clause-new_lots : goal.returns-clause-new_lots
+returns-clause-new_lots g c =
+    IfOk-weaker c.open_begun.result _ _
+    (λ k going clean blank. let e = c.is_blank-blank.ensures.blank.1 blank in let n = c.if-blank.false in cc) c.open_begun.ensures.going
 
 pub returns-clause-absent : goal.returns-clause-absent
 returns-clause-absent g c = λ settled stored. c.open_begun.ensures.absent settled

@@ -17,6 +17,10 @@ pub returns-then-is_blank-clause-lots : goal.returns-then-is_blank-clause-lots
 returns-then-is_blank-clause-lots g c =
     IfOk-weaker c.create.result _ _ (λ k going clean z was. absurd (c.is_blank.ensures.none c.if-is_blank.true z was)) c.create.ensures.going
 
+pub returns-then-is_blank-clause-new_lots : goal.returns-then-is_blank-clause-new_lots
+returns-then-is_blank-clause-new_lots g c =
+    IfOk-weaker c.create.result _ _ (λ k lots clean blank is_open. lots clean is_open) c.create.ensures.lots
+
 pub returns-then-is_blank-clause-crash : goal.returns-then-is_blank-clause-crash
 returns-then-is_blank-clause-crash g c =
     IfErr-weaker c.create.result _ _
@@ -77,6 +81,11 @@ pub returns-else-is_blank-clause-plain : goal.returns-else-is_blank-clause-plain
 returns-else-is_blank-clause-plain g c =
     IfErr-weaker c.open.result _ _
     (λ r refused blank. let e = c.is_blank.ensures.blank.1 blank in let n = c.if-is_blank.false in cc) c.open.ensures.refused
+
+pub returns-else-is_blank-clause-new_lots : goal.returns-else-is_blank-clause-new_lots
+returns-else-is_blank-clause-new_lots g c =
+    IfOk-weaker c.open.result _ _
+    (λ k going clean blank. let e = c.is_blank.ensures.blank.1 blank in let n = c.if-is_blank.false in cc) c.open.ensures.going
 
 pub returns-else-is_blank-clause-absent : goal.returns-else-is_blank-clause-absent
 returns-else-is_blank-clause-absent g c = λ settled stored. c.open.ensures.absent settled
