@@ -156,7 +156,7 @@ impl<F: FileSystem> Keeper for TwoCopies<F> {
             → IsFirm (two_told F.model F.held self.new)) }
         ensures same { IsLater self.old self.new 0 }
         ensures follows { Follows F.model F.held self.old self.new result }
-        // Where it stands, a fault is want of memory, or that of a commit that was planned to fail.
+        // Where it stands, a fault is out of memory, or that of a commit that was planned to fail.
         ensures by_plan { (s : F.model.State) (h : History) (t : List ℕ)
             → StandsFor (two_told F.model F.held self.old) s h t
             → IfErr result (λ fault. (fault ≡ StoreFault.Memory)
@@ -186,7 +186,7 @@ impl<F: FileSystem> Keeper for TwoCopies<F> {
             → IsFirm (two_told F.model F.held self.new)) }
         ensures same { IsLater self.old self.new 0 }
         ensures follows { Follows F.model F.held self.old self.new result }
-        // Where it stands, a fault is want of memory, or that of a commit that was planned to fail.
+        // Where it stands, a fault is out of memory, or that of a commit that was planned to fail.
         ensures by_plan { (s : F.model.State) (h : History) (t : List ℕ)
             → StandsFor (two_told F.model F.held self.old) s h t
             → IfErr result (λ fault. (fault ≡ StoreFault.Memory)
