@@ -5,6 +5,7 @@ use Rattle.std.proofs.lemmas.List.{length-take}
 use Rattle.fuse_wire.specs.declared.access_mode.AccessMode.{AccessMode}
 use Rattle.fuse_wire.specs.declared.access_mode.AccessMode.TheVariants.{ReadOnly, WriteOnly, ReadWrite}
 use Rattle.fuse_wire.specs.declared.errno.Errno.{Errno}
+use Rattle.fuse_wire.specs.Bytes as wire_bytes
 use Rattle.fuse_wire.specs.Flags.{access_of}
 use Rattle.fuse_wire.specs.Opcodes.{fuse_readlink, fuse_statfs}
 use Rattle.fuse_request.specs.declared.request.InitIn.{InitIn}
@@ -111,7 +112,7 @@ read_link_fits body n =
     chosen (not (length body == 0)) _ _ (refused _) (λ empty. chosen (not (is_link n)) _ _ (refused _) (λ link. given _ (target_fits n)))
 
 space_len : length (statfs_bytes statfs_out) ≡ 80
-unfolding statfs_bytes
+unfolding statfs_bytes wire_bytes.le
 space_len = refl
 
 stat_fs_fits : (body : List ℕ) → FitsAnswer (stat_fs body)

@@ -1,7 +1,7 @@
 -- The settings stay while requests are processed.
 use Rattle.std.proofs.Common.{◌≡◌, ◌≤◌, ◌+◌, ℕ, Bool, true, false, cond, List, [], ◌∷◌, ◌++◌, length, map, take, drop, Option, is_some, refl, sym, ap, ◌∙◌}
 use Rattle.std.proofs.Common.{subst, arith}
-use Rattle.std.proofs.lemmas.List.{take-append-drop, take-append-le, length-append, length-map, append-assoc}
+use Rattle.std.proofs.lemmas.List.{take-append-drop, take-append-le, length-append, length-map, append_assoc}
 use Rattle.fuse_request.specs.Opcodes.{OpcodeSet}
 use Rattle.fuse_init.specs.declared.settings.Settings.{Settings}
 use Rattle.fuse_keeper.specs.History.{Entry, entry_id, History, after, has, add, grown}
@@ -36,7 +36,7 @@ grown_more h (x ∷ xs) ys = grown_more (add h x) xs ys
 
 kept_more : (V : OpcodeSet) (xs ys : List Timed) → kept_in V (xs ++ ys) ≡ kept_in V xs ++ kept_in V ys
 kept_more V [] ys = refl
-kept_more V (x ∷ xs) ys = ap (λ (es : List Entry). entries_at V x ++ es) (kept_more V xs ys) ∙ sym (append-assoc (entries_at V x) (kept_in V xs) (kept_in V ys))
+kept_more V (x ∷ xs) ys = ap (λ (es : List Entry). entries_at V x ++ es) (kept_more V xs ys) ∙ sym (append_assoc (entries_at V x) (kept_in V xs) (kept_in V ys))
 
 grown_parts : (h : History) (n : ℕ) (xs : List Timed)
     → grown (grown h (kept_in serves_further (take n xs))) (kept_in serves_further (drop n xs)) ≡ grown h (kept_in serves_further xs)
@@ -48,7 +48,7 @@ grown_parts h n xs =
 few_marks : (s : Option Settings) (g : History) (worked : List Timed) (marks : List Mark) (later : List (List ℕ))
     → answers the_files s g worked ≡ replies marks ++ later → length marks ≤ length worked
 few_marks s g worked marks later e =
-    omega (arith, ap length e, length-append (replies marks) later, length-map (λ (m : Mark). m.reply) marks, length-map (answered the_files s g) worked)
+    omega (arith, ap length e, length-append (replies marks) later, length-map marks (λ (m : Mark). m.reply), length-map worked (answered the_files s g))
 
 -- what messages leave answers as it did since INIT
 pub lived_same : (k : KeeperState the_files) (s : Option Settings) (h : History) (confirms : Bool) (t : List ℕ) (timed : List Timed) (marks : List Mark)
@@ -60,10 +60,10 @@ lived_same k s h confirms t timed marks part lived = record {
       let within : n ≤ length lived.worked = omega (arith, few, few_marks s g lived.worked marks lived.later lived.sent) in
       let first : take n timed ≡ take n lived.worked = ap (take n) lived.parts ∙ take-append-le n lived.worked lived.unprocessed within in
       let grows : grown f (kept_in serves_further (drop n lived.worked)) ≡ g =
-          ap (λ (xs : List Timed). grown (grown h (kept_in serves_further xs)) (kept_in serves_further (drop n lived.worked))) first
-          ∙ grown_parts h n lived.worked in
+      ap (λ (xs : List Timed). grown (grown h (kept_in serves_further xs)) (kept_in serves_further (drop n lived.worked))) first
+      ∙ grown_parts h n lived.worked in
       let some' : is_some (after the_files s g) ≡ true =
-          subst (λ (x : History). is_some (after the_files s x) ≡ true) grows (some_grown s f (kept_in serves_further (drop n lived.worked)) some) in
+      subst (λ (x : History). is_some (after the_files s x) ≡ true) grows (some_grown s f (kept_in serves_further (drop n lived.worked)) some) in
       record {
         rows = lived.stands.rows;
         records = lived.stands.records;

@@ -54,12 +54,7 @@ fn stat_fs(alloc: Global, body: &[u8]) -> Result<Answer, Memory>
     space_answer(alloc)
 }
 
-pub(crate) fn further(
-    alloc: Global,
-    opcode: u32,
-    body: &[u8],
-    node: Node,
-) -> Result<Answer, Memory>
+pub(crate) fn further(alloc: Global, opcode: u32, body: &[u8], node: Node) -> Result<Answer, Memory>
     ensures { IfOk result (λ answer. answer ≡ asking.further opcode body.now node) }
 {
     if opcode == READLINK {
