@@ -1,5 +1,5 @@
 -- Answers that are sent on a line, of which some are lost (own profile).
-use Rattle.std.specs.Prelude.{◌≡◌, ℕ, ◌-◌, ◌==◌, if◌then◌else◌, List, [], ◌∷◌, ◌++◌, length}
+use Rattle.std.specs.Prelude.{◌≡◌, ◌⊎◌, ◌<◌, ◌+◌, ℕ, ◌-◌, ◌==◌, if◌then◌else◌, List, [], ◌∷◌, ◌++◌, vec_capacity, vec_len}
 use Rattle.fuse_request.specs.Stream.{joined}
 use Rattle.lossy_port.specs.declared.line.Line.{Line}
 
@@ -41,12 +41,6 @@ pub record Delivers (old new : Line) (answers : List (List ℕ)) : Type 0 where
   pub every : new.every ≡ old.every
   pub left : new.left ≡ lost_after old.every old.left answers
 
--- none of them is empty
-abbrev pub HaveBytes : List (List ℕ) → Type 0
-HaveBytes [] = Unit {0}
-HaveBytes (answer ∷ more) = (¬ (length answer ≡ 0)) × HaveBytes more
-
--- an empty slice is no answer
-abbrev pub answers_in : List ℕ → List (List ℕ)
-answers_in [] = []
-answers_in (b ∷ more) = (b ∷ more) ∷ []
+-- so many more bytes don't fit what it has allocated
+abbrev pub LacksRoom : Line → ℕ → Type 0
+LacksRoom l n = (vec_capacity l.sent < vec_len l.sent + n) ⊎ (vec_capacity l.delivered < vec_len l.delivered + n)

@@ -1,15 +1,19 @@
 -- The state of a port that loses answers, and its laws (own profile).
-use Rattle.std.specs.Prelude.{◌≡◌, ℕ, false, List, [], ◌∷◌, ◌++◌, length, drop, Some, refl}
-use Rattle.std.proofs.Common.{sym, ap, ◌∙◌}
+use Rattle.std.specs.Prelude.{◌≡◌, ℕ, nat_lt, ◌-◌, ◌==◌, if◌then◌else◌, min, false, List, [], ◌∷◌, ◌++◌, length, drop, Some, refl}
+use Rattle.std.proofs.Common.{sym, ap, subst, ◌∙◌}
 use Rattle.std.proofs.lemmas.List.{append_assoc, append-nil}
 use Rattle.std.proofs.lemmas.Grind.{flat_map-append}
 use Rattle.fuse_request.specs.Stream.{joined}
+use Rattle.fuse_session.specs.declared.port.Received.{Received as Receipt}
+use Rattle.fuse_session.specs.declared.port.Received.TheVariants.{Got, End}
 use Rattle.fuse_session.specs.declared.port.Sent.{Sent}
 use Rattle.fuse_session.specs.declared.port.Sent.TheVariants.{Took, Gone, Failed}
-use Rattle.fuse_session.specs.Port.{PortState, IsPath}
+use Rattle.fuse_session.specs.Port.{PortState}
+use Rattle.fuse_session.specs.Stepping.{Stepped, steps_more}
+use Rattle.fuse_session.specs.Transcript.{PortEvent, Received, Handed, IsTranscript, Tells}
 use Rattle.lossy_port.specs.declared.line.Line.{Line}
 use Rattle.lossy_port.specs.declared.port.LossyPort.{LossyPort}
-use Rattle.lossy_port.specs.Losing.{through_of, lost_then, through, lost_after, Stays, Delivers, HaveBytes, answers_in}
+use Rattle.lossy_port.specs.Losing.{through_of, lost_then, through, lost_after, Stays, Delivers, LacksRoom}
 
 -- an answer that is lost after the port was sent all the same; so that an answer was sent does not settle it
 abbrev pub lossy_told : LossyPort → PortState
@@ -17,12 +21,21 @@ lossy_told p = record {
   coming = Some (drop p.at p.input.items);
   sent = Some p.line.sent.items;
   receives = p.receives;
-  has_ended = p.ended;
+  has_ended = nat_lt 0 p.ends;
+  ends = p.ends;
   failures = p.failures;
   receive_failures = 0;
   confirms = false;
   gone = [];
 }
+
+-- how many bytes are to come
+abbrev pub bytes_left : LossyPort → ℕ
+bytes_left p = length p.input.items - p.at
+
+-- the result of a receive, of so many bytes that are left, into a buffer with so much room
+abbrev pub received_by : ℕ → ℕ → Receipt
+received_by left room = if left == 0 then End else Got (min left room)
 
 -- the bytes that got through
 abbrev pub delivered_of : LossyPort → List ℕ
@@ -36,21 +49,36 @@ every_of p = p.line.every
 abbrev pub next_lost : LossyPort → ℕ
 next_lost p = p.line.left
 
--- a slice is taken whole, or nothing of it
+-- a slice is taken whole; or nothing of it, where it doesn't fit what is allocated
 abbrev pub Passes : LossyPort → LossyPort → List ℕ → Sent → Type 0
-Passes old new bytes (Took n) = (n ≡ length bytes) × Delivers old.line new.line (answers_in bytes)
+Passes old new bytes (Took n) = (n ≡ length bytes) × Delivers old.line new.line (bytes ∷ [])
 Passes old new bytes Gone = ⊥
-Passes old new bytes Failed = Delivers old.line new.line []
+Passes old new bytes Failed = Delivers old.line new.line [] × LacksRoom old.line (length bytes)
 
--- on the way from the first to the second these answers were sent, and those got through that weren't lost
-abbrev pub Delivered : LossyPort → LossyPort → Type 0
-Delivered old new = (answers : List (List ℕ)) × HaveBytes answers × Delivers old.line new.line answers
+-- the answers that were taken by these calls
+abbrev pub taken_by : Sent → List ℕ → List (List ℕ)
+taken_by (Took n) slice = slice ∷ []
+taken_by Gone slice = []
+taken_by Failed slice = []
+
+abbrev pub taken_with : PortEvent → List (List ℕ)
+taken_with (Received result bytes) = []
+taken_with (Handed slice result) = taken_by result slice
+
+abbrev pub taken_in : List PortEvent → List (List ℕ)
+taken_in [] = []
+taken_in (e ∷ es) = taken_with e ++ taken_in es
+
+-- the second is what became of the first by these calls, and of the answers that were taken those got through that weren't lost
+pub record Delivered (old new : LossyPort) (events : List PortEvent) : Type 0 where
+  pub steps : Stepped lossy_told old new events
+  pub delivers : Delivers old.line new.line (taken_in events)
 
 -- ---- its laws
 
-pub have_more : (xs ys : List (List ℕ)) → HaveBytes xs → HaveBytes ys → HaveBytes (xs ++ ys)
-have_more [] ys none more = more
-have_more (x ∷ xs) ys some more = (some.0, have_more xs ys some.1 more)
+pub taken_more : (xs ys : List PortEvent) → taken_in (xs ++ ys) ≡ taken_in xs ++ taken_in ys
+taken_more [] ys = refl
+taken_more (x ∷ xs) ys = ap (λ (l : List (List ℕ)). taken_with x ++ l) (taken_more xs ys) ∙ sym (append_assoc (taken_with x) (taken_in xs) (taken_in ys))
 
 pub through_more : (every left : ℕ) (xs ys : List (List ℕ))
     → through every left (xs ++ ys) ≡ through every left xs ++ through every (lost_after every left xs) ys
@@ -84,12 +112,15 @@ delivers_none a b stays = record {
   left = stays.left;
 }
 
-pub delivered_path : IsPath Delivered
+pub delivered_path : IsTranscript Delivered
 delivered_path = record {
-  none = λ p. ([], tt, delivers_none p.line p.line (record { sent = refl; delivered = refl; every = refl; left = refl }));
-  onward = λ a b c before after. (
-    before.0 ++ after.0,
-    have_more before.0 after.0 before.1 after.1,
-    delivers_more a.line b.line c.line before.0 after.0 before.2 after.2,
-  );
+  none = λ p. record { steps = refl; delivers = delivers_none p.line p.line (record { sent = refl; delivered = refl; every = refl; left = refl }) };
+  onward = λ a b c xs ys one two. record {
+    steps = steps_more (lossy_told a) (lossy_told b) (lossy_told c) xs ys one.steps two.steps;
+    delivers = subst (Delivers a.line c.line) (sym (taken_more xs ys))
+        (delivers_more a.line b.line c.line (taken_in xs) (taken_in ys) one.delivers two.delivers);
+  };
 }
+
+pub delivered_tells : Tells lossy_told Delivered
+delivered_tells a b events one = one.steps

@@ -1,6 +1,6 @@
 // A line on which answers are lost.
-ghost use Rattle.std.specs.Prelude.{◌≡◌, [], OnOk, OnErr};
-ghost use Rattle.lossy_port.specs.Losing.{Takes, Stays};
+ghost use Rattle.std.specs.Prelude.{◌≡◌, [], OnOk, OnErr, length};
+ghost use Rattle.lossy_port.specs.Losing.{Takes, Stays, LacksRoom};
 
 use std::alloc::{AllocError, Global};
 
@@ -47,9 +47,11 @@ impl Line {
     pub(crate) fn take(&mut self, answer: &[u8]) -> Result<(), AllocError>
         ensures ok { OnOk result (Takes self.old self.new answer.now) }
         ensures err { OnErr result (Stays self.old self.new) }
+        ensures full { OnErr result (LacksRoom self.old (length answer.now)) }
     {
         self.delivered.reserve(answer.len())?;
-        self.sent.extend_from_slice(answer)?;
+        self.sent.reserve(answer.len())?;
+        self.sent.extend_from_slice(answer).unwrap();
         if self.left == 1 {
             self.left = self.every;
             return Ok(());

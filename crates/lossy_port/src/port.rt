@@ -1,5 +1,5 @@
 // A port that loses answers.
-ghost use Rattle.std.specs.Prelude.{◌≡◌, ◌≤◌, [], Some, false, length};
+ghost use Rattle.std.specs.Prelude.{◌≡◌, ◌≢◌, ◌≤◌, [], Some, false, length};
 
 use crate::line::Line;
 use fuse_session::{Port, Received, Sent};
@@ -14,9 +14,10 @@ pub struct LossyPort {
     line: Line,
     receives: u64,
     failures: u64,
-    ended: bool,
+    ends: u64,
 
     ghost within: { at ≤ length input.items },
+    ghost ended: { ends ≤ receives },
 }
 
 impl LossyPort {
@@ -37,7 +38,7 @@ impl LossyPort {
             line: Line::new(alloc, every),
             receives: 0,
             failures: 0,
-            ended: false,
+            ends: 0,
         }
     }
 
@@ -57,19 +58,27 @@ impl LossyPort {
 }
 
 impl Port for LossyPort {
-    ghost use Rattle.fuse_session.specs.Port.{IsYoung, Sends};
-    ghost use Rattle.lossy_port.specs.Lossy.{lossy_told, Delivered, Passes, delivered_path};
+    ghost use Rattle.fuse_session.specs.Port.{IsYoung, Receives, Sends};
+    ghost use Rattle.fuse_session.specs.Transcript.{one_receive, one_send};
+    ghost use Rattle.lossy_port.specs.Lossy.{lossy_told, bytes_left, received_by, Passes};
+    ghost use Rattle.lossy_port.specs.Lossy.{Delivered, delivered_path, delivered_tells};
 
     ghost told = { lossy_told };
 
     ghost became = { Delivered };
 
-    // As many bytes as there are and fit.
-    fn receive(&mut self, buffer: &mut [u8]) -> Received {
+    fn receive(&mut self, buffer: &mut [u8]) -> Received
+        requires young { IsYoung (lossy_told self.old) }
+        ensures received { Receives (lossy_told self.old) (lossy_told self.new)
+            result buffer.new }
+        ensures same { Delivered self.old self.new (one_receive result buffer.new) }
+        // As many bytes as there are and fit.
+        ensures arrives { result ≡ received_by (bytes_left self.old) (length buffer.old) }
+    {
         self.receives += 1;
         let left = self.input.len() - self.at;
         if left == 0 {
-            self.ended = true;
+            self.ends += 1;
             return Received::End;
         }
         let n = left.min(buffer.len());
@@ -81,14 +90,12 @@ impl Port for LossyPort {
     // It fails where it is out of memory.
     fn send(&mut self, bytes: &[u8]) -> Sent
         requires young { IsYoung (lossy_told self.old) }
+        requires some { bytes.now ≢ [] }
         ensures sent { Sends (lossy_told self.old) (lossy_told self.new) result bytes.now }
-        ensures same { Delivered self.old self.new }
-        // All of it is taken or nothing, and gets through unless it is lost.
+        ensures same { Delivered self.old self.new (one_send bytes.now result) }
+        // All of it is taken, and gets through unless it is lost; or where it lacks room, nothing.
         ensures passes { Passes self.old self.new bytes.now result }
     {
-        if bytes.is_empty() {
-            return Sent::Took(0);
-        }
         match self.line.take(bytes) {
             Ok(()) => Sent::Took(bytes.len()),
             Err(_) => {
@@ -108,4 +115,6 @@ impl Port for LossyPort {
     }
 
     ghost path = { delivered_path };
+
+    ghost tells = { delivered_tells };
 }

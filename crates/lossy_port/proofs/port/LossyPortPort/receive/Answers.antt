@@ -1,10 +1,14 @@
 use Rattle.std.proofs.Common.{refl, ◌≤◌, ◌-◌, length, arith}
-use Rattle.lossy_port.specs.Lossy.{delivered_path}
+use Rattle.std.proofs.lemmas.Grind.{common_steps}
 use Rattle.lossy_port.proofs.Pieces.{piece_came, copied_is, copied_length, room}
+use Rattle.lossy_port.proofs.Slices.{one_received}
 use Rattle.lossy_port.proofs.port.LossyPortPort.receive.Goals as goal
 
+pub returns-then-left-eq0-clause-received : goal.returns-then-left-eq0-clause-received
+returns-then-left-eq0-clause-received c = grind (arith, common_steps)
+
 pub returns-then-left-eq0-clause-same : goal.returns-then-left-eq0-clause-same
-returns-then-left-eq0-clause-same c = delivered_path.none c.args.self.now
+returns-then-left-eq0-clause-same c = one_received _ _ _ _ (returns-then-left-eq0-clause-received c) refl
 
 pub returns-clause-received : goal.returns-clause-received
 returns-clause-received c =
@@ -18,6 +22,7 @@ returns-clause-received c =
       sent = refl;
       receives = refl;
       has_ended = refl;
+      ends = omega arith;
       failures = omega arith;
       receive_failures = refl;
       confirms = refl;
@@ -25,4 +30,4 @@ returns-clause-received c =
     }
 
 pub returns-clause-same : goal.returns-clause-same
-returns-clause-same c = delivered_path.none c.args.self.now
+returns-clause-same c = one_received _ _ _ _ (returns-clause-received c) refl
