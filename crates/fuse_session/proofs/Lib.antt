@@ -20,3 +20,5 @@ pub mod Waiting
 pub mod Growing
 pub mod Sessions
 pub mod Prompting
+pub mod Doing
+pub mod Lots
