@@ -1,31 +1,36 @@
 -- The runs of scripts, and their output.
-use Rattle.std.proofs.Common.{◌≡◌, inl, inr, refl, true, ℕ, zero, suc, ◌+◌, ◌<◌, ◌≤◌, List, [], ◌∷◌, ◌++◌, take, map, get_or, length, All, Option, Some, None}
-use Rattle.std.proofs.Common.{sym, ap, subst, ◌∙◌, Result, Ok, Err}
-use Rattle.std.specs.Prelude.{IfSome, IfOk, IfErr, IsSomeAnd}
+use Rattle.std.proofs.Common.{◌≡◌, ◌⊎◌, inl, inr, refl, Bool, true, false, ℕ, zero, suc, ◌+◌, ◌<◌, ◌≤◌, List, [], ◌∷◌, ◌++◌, take, drop, map, get_or, length, All}
+use Rattle.std.proofs.Common.{Option, Some, None, sym, ap, subst, ◌∙◌, Result, Ok, Err, append_assoc}
+use Rattle.std.specs.Prelude.{IfSome, IfOk, IfErr, OnOk, IsSomeAnd, slice_get}
 use Rattle.std.specs.List.{AllByRecursion}
 use Rattle.std.specs.Io.KnownBytes.{Appends, Consumes, IsAtEnd}
 use Rattle.std.proofs.KnownBytes.{Appends-trans}
-use Rattle.std.proofs.lemmas.List.{append-nil, map-append, take_more}
+use Rattle.std.proofs.lemmas.List.{append-nil, map-append, length-map, take_more, take-append-drop}
 use Rattle.std.proofs.lemmas.List.Concat.{flat_map-append}
-use Rattle.std.proofs.lemmas.List.Elements.{All-from_recursion}
+use Rattle.std.proofs.lemmas.List.Elements.{All-from_recursion, recursion_from_All}
+use Rattle.fuse_request.specs.Classes.{is_zero}
+use Rattle.fuse_request.specs.Opcodes.{OpcodeSet}
 use Rattle.fuse_keeper.specs.declared.fault.StoreFault.{StoreFault}
 use Rattle.fuse_keeper.specs.Model.{Model, IsRowed}
 use Rattle.fuse_keeper.specs.History.{History, after}
-use Rattle.fuse_keeper.specs.KeeperState.{KeeperState, StandsFor, KeepsHeld}
-use Rattle.fuse_keeper.specs.KeeperState.{Reports}
+use Rattle.fuse_keeper.specs.Performance.{Performance, IsPerformanceLog}
+use Rattle.fuse_keeper.specs.Stands.{Records}
+use Rattle.fuse_keeper.specs.KeeperState.{KeeperState, StandsFor, KeepsHeld, IsSound, IsFirm, WhereHeld, Looked, Reports}
 use Rattle.fuse_sim.specs.declared.event.Event.{Event}
 use Rattle.fuse_sim.specs.declared.event.Outcome.{Outcome}
 use Rattle.fuse_sim.specs.declared.event.DriveFault.{DriveFault}
-use Rattle.fuse_sim.specs.declared.event.DriveFault.TheVariants.{Store}
-use Rattle.fuse_sim.specs.Driving.{IsFit, StandsIn, OfRestart, AnsweredBy, is_store, settles, committed, outcome_of, settled_by, bytes_given, NoneReused}
-use Rattle.fuse_sim.specs.Driving.{IsStoreFault, told_in, became_in, Opened, deaths, before}
+use Rattle.fuse_sim.specs.declared.event.DriveFault.TheVariants.{NotAMessage, ZeroUnique, Store, Memory}
+use Rattle.fuse_sim.specs.Driving.{IsFit, CausedBy, Names, StandsIn, OfRestart, AnsweredBy, is_store, settles, committed, outcome_of, settled_by, bytes_given}
+use Rattle.fuse_sim.specs.Driving.{NoneReused, told_in, became_in, performed_in, Opened, deaths, before, event_of, LeftBy}
+use Rattle.fuse_sim.specs.HandedOn.{performances, AsksUpTo, AskedSome}
+use Rattle.fuse_sim.specs.Twice.{Seen}
 use Rattle.fuse_commands.specs.declared.ending.Ending.{Ending}
 use Rattle.fuse_commands.specs.declared.simulate.Simulation.{Simulation}
 use Rattle.fuse_commands.specs.Endings.{status_of, store_ending}
 use Rattle.fuse_commands.specs.Scripts.{lines_of, WritesAll}
 use Rattle.fuse_commands.specs.Output.{line, store_line}
-use Rattle.fuse_commands.specs.Simulating.{outcome_line, outcome_lines, state_after, StandsAfter, Went, AnsweredFault, StoreEnded}
-use Rattle.fuse_commands.specs.Simulating.{StoppedIn, RanScript, Shown}
+use Rattle.fuse_commands.specs.Simulating.{outcome_line, outcome_lines, state_after, StandsAfter, Went, BeginSo, AnsweredFault, StoreEnded, AreOfFirst}
+use Rattle.fuse_commands.specs.Simulating.{LeftBySome, LeftByScript, StoppedIn, RanScript, Shown, SimulatedAll}
 use Rattle.fuse_commands.proofs.Known.{consumes_then}
 
 -- ---- the input
@@ -57,6 +62,32 @@ fit_each (l ∷ lines) events described = elim described [
 pub all_fit : (lines : List (List ℕ)) (events : List Event) → WritesAll lines events → All IsFit events
 all_fit lines events described = All-from_recursion IsFit events (fit_each lines events described)
 
+-- the event that the fault names can't be run
+abbrev pub IsUnfit : DriveFault → Type 0
+IsUnfit (NotAMessage n) = Unit {0}
+IsUnfit (ZeroUnique n) = Unit {0}
+IsUnfit (Store n fault) = ⊥
+IsUnfit (Memory n) = ⊥
+
+-- no event of these is such a one
+unfit_at : (fault : DriveFault) (events : List Event) (n : ℕ) → AllByRecursion IsFit events → IsSomeAnd (slice_get events n) (CausedBy fault)
+    → (e : Event) × IsFit e × CausedBy fault e
+unfit_at fault [] n fit named = absurd named
+unfit_at fault (e ∷ events) zero fit named = (e, fit.0, named)
+unfit_at fault (e ∷ events) (suc n) fit named = unfit_at fault events n fit.1 named
+
+pub never_unfit : (fault : DriveFault) (events : List Event) → All IsFit events → Names fault events → IsUnfit fault → ⊥
+never_unfit (NotAMessage n) events fit named unfit =
+    let e = unfit_at (NotAMessage n) events n (recursion_from_All IsFit events fit) named.named in
+    e.2 e.1.message
+never_unfit (ZeroUnique n) events fit named unfit =
+    let e = unfit_at (ZeroUnique n) events n (recursion_from_All IsFit events fit) named.named in
+    let zero : is_zero e.0.bytes ≡ true = e.2.1 in
+    let named : is_zero e.0.bytes ≡ false = e.1.named in
+    absurd (cc (zero, named))
+never_unfit (Store n fault) events fit named unfit = unfit
+never_unfit (Memory n) events fit named unfit = unfit
+
 -- the counts of a keeper that stands for a history
 counted : {M : Model} (k : KeeperState M) (count : M.Rows → ℕ) (s : M.State) (h : History) (t : List ℕ) (n : ℕ) → StandsFor k s h t
     → ((rows : M.Rows) (records : _) → k.holds rows records → IsRowed M rows → n ≡ count rows) → n ≡ count (M.held_for (after M s h))
@@ -66,102 +97,206 @@ counted {M} k count s h t n so counts = counts so.rows so.records so.held (after
 stands_kept : {M : Model} (k k' : KeeperState M) (s : M.State) (h : History) (t : List ℕ) → KeepsHeld k k' → StandsFor k s h t → StandsFor k' s h t
 stands_kept k k' s h t keeps so = record { rows = so.rows; records = so.records; held = keeps so.rows so.records so.held; stands = so.stands }
 
-pub went : {M : Model} {K : Type 0} (state_of : K → KeeperState M) (left : Option K) (k k' : K) (s : M.State) (events : List Event) (simulation : Simulation)
-    → left ≡ Some k → ((state_of k').is_honest → (state_of k).is_honest) → (state_of k').is_honest → ((state_of k').is_honest → KeepsHeld (state_of k) (state_of k'))
-    → ((told_in state_of left).is_honest → map bytes_given simulation.outcomes.items ≡ map (outcome_of M s (committed [] events)) events)
-    → ((told_in state_of left).is_honest → StandsAfter state_of left s events)
-    → Reports (state_of k) (state_of k') (λ rows records. simulation.counts.nodes ≡ M.nodes rows)
-    → Reports (state_of k) (state_of k') (λ rows records. simulation.counts.handles ≡ M.handles rows)
-    → Went state_of (Some k') s events simulation
-went {M} state_of left k k' s events simulation is honest last keeps answers stands nodes handles =
-    let good : (told_in state_of left).is_honest = subst (λ o. (told_in state_of o).is_honest) (sym is) (honest last) in
-    let so = subst (λ o. StandsAfter state_of o s events) is (stands good) in
+-- a keeper that only looked is firm if it was
+looked_firm : {M : Model} (old new : KeeperState M) (rows : M.Rows) (records : Records) → IsSound new → KeepsHeld old new
+    → WhereHeld old (old.leaves_whole → new.leaves_whole)
+    → ((x : M.Rows) (r : Records) → WhereHeld old (new.may_leave x r → old.may_leave x r)) → old.holds rows records → IsFirm old → IsFirm new
+looked_firm old new rows records sound keeps whole crash held firm x r holds =
+    let left = firm rows records held in
+    let same = sound.one_holding rows x records r (keeps rows records held) holds in
+    (whole rows records held left.0, λ y q may. let is = left.1 y q (crash y q rows records held may) in (is.0 ∙ same.0, λ i. is.1 i ∙ same.1 i))
+
+-- drive ran them, and then the counts were looked up
+pub went : {M : Model} {K : Type 0} (told : K → KeeperState M) (old left : Option K) (k k' : K) (s : M.State) (events : List Event)
+    (simulation : Simulation) → left ≡ Some k → Looked (told k) (told k') (Ok simulation.counts) → IsSound (told k') → (told k').is_honest
+    → ((told_in told left).is_honest → map bytes_given simulation.outcomes.items ≡ map (outcome_of M s (committed M.serves [] events)) events)
+    → ((told_in told left).is_honest → StandsAfter told left s events)
+    → ((told_in told left).is_honest → IsFirm (told_in told old) → IsFirm (told_in told left))
+    → Reports (told k) (told k') (λ rows records. simulation.counts.nodes ≡ M.nodes rows)
+    → Reports (told k) (told k') (λ rows records. simulation.counts.handles ≡ M.handles rows)
+    → Went told old (Some k') s events simulation
+went {M} told old left k k' s events simulation is looked sound last answers stands firm nodes handles =
+    let good : (told_in told left).is_honest = subst (λ o. (told_in told o).is_honest) (sym is) (looked.called.honest last) in
+    let so : StandsFor (told k) s (committed M.serves [] events) (settled_by M.serves [] events) = subst (λ o. StandsAfter told o s events) is (stands good) in
     record {
       outcomes = answers good;
-      nodes = counted (state_of k) M.nodes s (committed [] events) (settled_by [] events) simulation.counts.nodes so (nodes last);
-      handles = counted (state_of k) M.handles s (committed [] events) (settled_by [] events) simulation.counts.handles so (handles last);
-      stands = stands_kept (state_of k) (state_of k') s (committed [] events) (settled_by [] events) (keeps last) so;
+      nodes = counted (told k) M.nodes s (committed M.serves [] events) (settled_by M.serves [] events) simulation.counts.nodes so (nodes last);
+      handles = counted (told k) M.handles s (committed M.serves [] events) (settled_by M.serves [] events) simulation.counts.handles so (handles last);
+      stands = stands_kept (told k) (told k') s (committed M.serves [] events) (settled_by M.serves [] events) (looked.same last) so;
+      firm = λ was. looked_firm (told k) (told k') so.rows so.records sound (looked.same last) looked.whole looked.crash so.held
+          (subst (λ o. IsFirm (told_in told o)) is (firm good was));
     }
 
+-- it was asked for nothing more then
+pub asked_all : {K : Type 0} (performed : K → K → List Performance → Type 0) (old left : Option K) (k k' : K) (asked : List Performance)
+    → IsPerformanceLog performed → left ≡ Some k → performed_in performed old left asked → performed k k' [] → performed_in performed old (Some k') asked
+asked_all performed None left k k' asked log is so last = absurd so
+asked_all performed (Some a) left k k' asked log is so last =
+    let there : performed a k asked = subst (λ o. performed_in performed (Some a) o asked) is so in
+    subst (performed a k') (append-nil asked) (log.onward a k k' asked [] there last)
+
+-- ---- what is left
+
+-- where the store is clean, it is honest
+clean_in : {M : Model} {K : Type 0} (told : K → KeeperState M) → ((k : K) → IsSound (told k)) → (o : Option K) → (told_in told o).is_clean
+    → (told_in told o).is_honest
+clean_in told sound None clean = absurd clean
+clean_in told sound (Some k) clean = (sound k).clean_is_honest clean
+
+left_by : {M : Model} (k : KeeperState M) (by_store : Bool) (P : Type 0) → LeftBy k by_store P → k.is_clean → k.is_honest → P
+left_by k true P so clean honest = so clean
+left_by k false P so clean honest = so honest
+
+asks_first : {K : Type 0} (V : OpcodeSet) (performed : K → K → List Performance → Type 0) (old new : Option K) (events : List Event) (fault : DriveFault)
+    → AskedSome performed old new (AsksUpTo V events fault) → AskedSome performed old new (AreOfFirst V events)
+asks_first V performed old new events fault a = (
+  a.0,
+  record {
+    first = before fault events ++ a.1.run;
+    rest = a.1.rest;
+    parts = a.1.parts ∙ sym (append_assoc (before fault events) a.1.run a.1.rest);
+    asked_are = a.1.asked_are;
+  },
+  a.2,
+)
+
+-- at a fault of drive: the events before the one that it names
+pub fault_left : {M : Model} {K : Type 0} (k : Seen M K) (old new : Option K) (events : List Event) (fault : DriveFault)
+    → ((x : K) → IsSound (k.told x))
+    → ((s : M.State) (h : History) (t : List ℕ) → StandsIn k.told old s h t → NoneReused M.serves t (before fault events)
+    → LeftBy (told_in k.told new) (is_store fault) (StandsIn k.told new s (committed M.serves h (before fault events))
+    (settled_by M.serves t (before fault events))))
+    → (¬ (new ≡ None) → AskedSome k.performed old new (AsksUpTo M.serves events fault))
+    → LeftBySome k old new events
+fault_left {M} k old new events fault sound stands asked = record {
+  first = before fault events;
+  rest = drop (event_of fault) events;
+  parts = sym (take-append-drop (event_of fault) events);
+  stands = λ clean s so none.
+      left_by (told_in k.told new) (is_store fault)
+      (StandsIn k.told new s (committed M.serves [] (before fault events)) (settled_by M.serves [] (before fault events)))
+      (stands s [] [] so none) clean (clean_in k.told sound new clean);
+  asked = λ some. asks_first M.serves k.performed old new events fault (asked some);
+}
+
+-- after drive, whatever the counts returned: all events
+pub all_left : {M : Model} {K : Type 0} (k : Seen M K) (old left : Option K) (x x' : K) (events : List Event)
+    → left ≡ Some x → IsSound (k.told x') → ((k.told x').is_honest → (k.told x).is_honest) → ((k.told x').is_clean → KeepsHeld (k.told x) (k.told x'))
+    → ((told_in k.told left).is_honest → (s : M.State) (h : History) (t : List ℕ) → StandsIn k.told old s h t → NoneReused M.serves t events
+    → StandsIn k.told left s (committed M.serves h events) (settled_by M.serves t events))
+    → performed_in k.performed old (Some x') (performances M.serves events)
+    → LeftBySome k old (Some x') events
+all_left {M} k old left x x' events is sound honest keeps stands asked = record {
+  first = events;
+  rest = [];
+  parts = sym (append-nil events);
+  stands = λ clean s so none.
+      let good : (told_in k.told left).is_honest = subst (λ o. (told_in k.told o).is_honest) (sym is) (honest (sound.clean_is_honest clean)) in
+      stands_kept (k.told x) (k.told x') s (committed M.serves [] events) (settled_by M.serves [] events) (keeps clean)
+      (subst (λ o. StandsAfter k.told o s events) is (stands good s [] [] so none));
+  asked = λ some. (
+    performances M.serves events,
+    record { first = events; rest = []; parts = sym (append-nil events); asked_are = refl },
+    asked,
+  );
+}
+
+-- whatever a look returned, it keeps what is held, where the store is clean
+pub keeps_by : {M : Model} {A : Type 0} (old new : KeeperState M) (r : Result A StoreFault) → IsSound new → Looked old new r → new.is_clean → KeepsHeld old new
+keeps_by old new (Ok a) sound looked clean = looked.same (sound.clean_is_honest clean)
+keeps_by old new (Err f) sound looked clean = looked.called.err clean
+
+-- the same of the events of a script
+pub script_left : {M : Model} {K : Type 0} (k : Seen M K) (old new : Option K) (known : Option (List ℕ)) (script slice : List ℕ) (items events : List Event)
+    → IfSome known (λ xs. script ≡ xs) → slice ≡ script → WritesAll (lines_of slice) items → events ≡ items → LeftBySome k old new events
+    → (input : List ℕ) → known ≡ Some input → (new ≡ old) ⊎ LeftByScript k old new input
+script_left k old new known script slice items events all same described is left input knows =
+    let whole : script ≡ input = subst (λ o. IfSome o (λ xs. script ≡ xs)) knows all in
+    inr (record {
+      events = events;
+      described = subst (λ x. WritesAll (lines_of x) events) (same ∙ whole) (subst (WritesAll (lines_of slice)) (sym is) described);
+      left = left;
+    })
+
 -- the events of a script were run
-pub ran : {M : Model} {K : Type 0} (state_of : K → KeeperState M) (old new : Option K) (r : Result Simulation Ending) (known : Option (List ℕ))
+pub ran : {M : Model} {K : Type 0} (k : Seen M K) (old new : Option K) (r : Result Simulation Ending) (known : Option (List ℕ))
     (script slice : List ℕ) (items events : List Event)
-    → IfOk r (λ simulation. (told_in state_of new).is_honest → (s : M.State) → StandsIn state_of old s [] [] → NoneReused [] events → Went state_of new s events simulation)
+    → IfOk r (λ simulation. (told_in k.told new).is_honest → (s : M.State) → StandsIn k.told old s [] [] → NoneReused M.serves [] events
+    → Went k.told old new s events simulation)
+    → IfOk r (λ simulation. length simulation.outcomes.items ≡ length events)
+    → IfOk r (λ simulation. BeginSo k.told old new events (map bytes_given simulation.outcomes.items))
+    → OnOk r (performed_in k.performed old new (performances M.serves events))
     → IfSome known (λ xs. script ≡ xs) → slice ≡ script → WritesAll (lines_of slice) items → events ≡ items
-    → IfOk r (λ simulation. IfSome known (λ xs. RanScript state_of old new xs simulation))
-ran state_of old new (Err ending) known script slice items events went all same described is = tt
-ran state_of old new (Ok simulation) None script slice items events went all same described is = tt
-ran state_of old new (Ok simulation) (Some xs) script slice items events went all same described is =
+    → IfOk r (λ simulation. IfSome known (λ xs. RanScript k old new xs simulation))
+ran k old new (Err ending) known script slice items events went count begin asked all same described is = tt
+ran k old new (Ok simulation) None script slice items events went count begin asked all same described is = tt
+ran k old new (Ok simulation) (Some xs) script slice items events went count begin asked all same described is =
     record {
       events = events;
       described = subst (λ x. WritesAll (lines_of x) events) (same ∙ all) (subst (WritesAll (lines_of slice)) (sym is) described);
+      count = count;
+      begin = begin;
+      asked = asked;
       went = went;
     }
 
 -- a fault of the store ended them
-pub stopped : {M : Model} {K : Type 0} (state_of : K → KeeperState M) (became : K → K → ℕ → Type 0) (may_refuse : K → StoreFault → Type 0) (old new : Option K)
-    (r : Result Simulation Ending) (known : Option (List ℕ)) (script slice : List ℕ) (items events : List Event)
-    → IfErr r (λ ending. status_of ending ≡ 3 → (s : M.State) → StandsIn state_of old s [] [] → NoneReused [] events
-    → StoreEnded state_of became may_refuse old new ending)
+pub stopped : {M : Model} {K : Type 0} (k : Seen M K) (old new : Option K) (r : Result Simulation Ending) (known : Option (List ℕ))
+    (script slice : List ℕ) (items events : List Event)
+    → IfErr r (λ ending. status_of ending ≡ 3 → (s : M.State) → StandsIn k.told old s [] [] → NoneReused M.serves [] events
+    → StoreEnded k old new events ending)
+    → LeftBySome k old new events
     → IfSome known (λ xs. script ≡ xs) → slice ≡ script → WritesAll (lines_of slice) items → events ≡ items
-    → IfErr r (λ ending. IfSome known (λ xs. status_of ending ≡ 3 → StoppedIn state_of became may_refuse old new xs ending))
-stopped state_of became may_refuse old new (Ok simulation) known script slice items events ended all same described is = tt
-stopped state_of became may_refuse old new (Err ending) None script slice items events ended all same described is = tt
-stopped state_of became may_refuse old new (Err ending) (Some xs) script slice items events ended all same described is = λ three.
+    → IfErr r (λ ending. IfSome known (λ xs. status_of ending ≡ 3 → StoppedIn k old new xs ending))
+stopped k old new (Ok simulation) known script slice items events ended left all same described is = tt
+stopped k old new (Err ending) None script slice items events ended left all same described is = tt
+stopped k old new (Err ending) (Some xs) script slice items events ended left all same described is = λ three.
     record {
       events = events;
       described = subst (λ x. WritesAll (lines_of x) events) (same ∙ all) (subst (WritesAll (lines_of slice)) (sym is) described);
+      asked = left.asked;
       ended = ended three;
     }
 
 -- ---- faults of the store
 
 -- the events before one
-pub reused_prefix : (t : List ℕ) (n : ℕ) (events : List Event) → NoneReused t events → NoneReused t (take n events)
-reused_prefix t zero events none = tt
-reused_prefix t (suc n) [] none = tt
-reused_prefix t (suc n) (e ∷ events) none = (none.0, reused_prefix (t ++ settles e) n events none.1)
-
--- the keeper that refused to be opened
-refuser : {K : Type 0} (may_refuse : K → StoreFault → Type 0) (o : Option K) (fault : StoreFault) (n : ℕ)
-    → IsSomeAnd o (λ k. IsStoreFault (may_refuse k) (Store n fault)) → (k : K) × may_refuse k fault
-refuser may_refuse None fault n none = absurd none
-refuser may_refuse (Some k) fault n refused = (k, refused)
+pub reused_prefix : (V : OpcodeSet) (t : List ℕ) (n : ℕ) (events : List Event) → NoneReused V t events → NoneReused V t (take n events)
+reused_prefix V t zero events none = tt
+reused_prefix V t (suc n) [] none = tt
+reused_prefix V t (suc n) (e ∷ events) none = (none.0, reused_prefix V (t ++ settles V e) n events none.1)
 
 -- drive returned the fault
-ended_by : {M : Model} {K : Type 0} (state_of : K → KeeperState M) (became : K → K → ℕ → Type 0) (may_refuse : K → StoreFault → Type 0) (old new : Option K)
-    (events : List Event) (n : ℕ) (fault : StoreFault) (ending : Ending)
-    → (new ≡ None → OfRestart became may_refuse old events (Store n fault))
-    → ((told_in state_of new).is_clean → AnsweredBy state_of became old new (before (Store n fault) events) (Store n fault)) → ending ≡ store_ending fault
-    → StoreEnded state_of became may_refuse old new ending
-ended_by state_of became may_refuse old None events n fault ending emptied answered is =
-    let r = emptied refl in
-    let k = refuser may_refuse r.keeper fault n r.refused in
-    (k.0, fault, k.1, is)
-ended_by state_of became may_refuse old (Some k) events n fault ending emptied answered is = λ good.
+ended_by : {M : Model} {K : Type 0} (k : Seen M K) (old new : Option K) (events : List Event) (n : ℕ) (fault : StoreFault) (ending : Ending)
+    → (new ≡ None → OfRestart k.became k.may_refuse old (before (Store n fault) events) events (Store n fault))
+    → ((told_in k.told new).is_clean → AnsweredBy k.told k.became old new (before (Store n fault) events) (Store n fault)) → ending ≡ store_ending fault
+    → StoreEnded k old new events ending
+ended_by k old None events n fault ending emptied answered is = record { at = n; fault = fault; refused = emptied refl; ends = is }
+ended_by k old (Some x) events n fault ending emptied answered is = λ good.
     let a = answered good in
     record { keeper = a.keeper; often = deaths (before (Store n fault) events); before = a.before; after = a.after; fault = fault; may = a.may; ends = is }
 
-pub drive_ended : {M : Model} {K : Type 0} (state_of : K → KeeperState M) (became : K → K → ℕ → Type 0) (may_refuse : K → StoreFault → Type 0) (old new : Option K)
+pub drive_ended : {M : Model} {K : Type 0} (k : Seen M K) (old new : Option K)
     (events : List Event) (n : ℕ) (of : DriveFault) (fault : StoreFault) (ending : Ending)
-    → of ≡ Store n fault → (new ≡ None → OfRestart became may_refuse old events of)
-    → (is_store of ≡ true → (told_in state_of new).is_clean → AnsweredBy state_of became old new (before of events) of) → ending ≡ store_ending fault
-    → StoreEnded state_of became may_refuse old new ending
-drive_ended state_of became may_refuse old new events n of fault ending same emptied answered is =
-    ended_by state_of became may_refuse old new events n fault ending (subst (λ f. new ≡ None → OfRestart became may_refuse old events f) same emptied)
-    (subst (λ f. is_store f ≡ true → (told_in state_of new).is_clean → AnsweredBy state_of became old new (before f events) f) same answered refl) is
+    → of ≡ Store n fault → (new ≡ None → OfRestart k.became k.may_refuse old (before of events) events of)
+    → (is_store of ≡ true → (told_in k.told new).is_clean → AnsweredBy k.told k.became old new (before of events) of) → ending ≡ store_ending fault
+    → StoreEnded k old new events ending
+drive_ended k old new events n of fault ending same emptied answered is =
+    ended_by k old new events n fault ending (subst (λ f. new ≡ None → OfRestart k.became k.may_refuse old (before f events) events f) same emptied)
+    (subst (λ f. is_store f ≡ true → (told_in k.told new).is_clean → AnsweredBy k.told k.became old new (before f events) f) same answered refl) is
 
 -- counts returned the fault, after drive
-pub counts_ended : {M : Model} {K : Type 0} (state_of : K → KeeperState M) (became : K → K → ℕ → Type 0) (old left : Option K) (k k' : K) (events : List Event)
+pub counts_ended : {M : Model} {K : Type 0} (k : Seen M K) (old left : Option K) (x x' : K) (events : List Event)
     (s : M.State) (h : History) (t : List ℕ) (fault : StoreFault) (ending : Ending)
-    → left ≡ Some k → (state_of k).is_honest → ((told_in state_of left).is_honest → StandsIn state_of left s h t) → (StandsFor (state_of k) s h t → (state_of k).may_answer fault)
-    → Opened state_of became old left events → became k k' 0 → ending ≡ store_ending fault → AnsweredFault state_of became old (Some k') ending
-counts_ended state_of became old left k k' events s h t fault ending is good stands answered opened same ends =
-    let so = subst (λ o. StandsIn state_of o s h t) is (stands (subst (λ o. (told_in state_of o).is_honest) (sym is) good)) in
+    → left ≡ Some x → (k.told x).is_honest → ((told_in k.told left).is_honest → StandsIn k.told left s h t)
+    → (StandsFor (k.told x) s h t → (k.told x).may_answer fault)
+    → Opened k.told k.became old left events → k.became x x' 0 → ending ≡ store_ending fault → AnsweredFault k old (Some x') ending
+counts_ended k old left x x' events s h t fault ending is good stands answered opened same ends =
+    let so = subst (λ o. StandsIn k.told o s h t) is (stands (subst (λ o. (told_in k.told o).is_honest) (sym is) good)) in
     record {
-      keeper = Some k;
+      keeper = Some x;
       often = deaths events;
-      before = subst (λ o. became_in became old o (deaths events)) is opened.often;
+      before = subst (λ o. became_in k.became old o (deaths events)) is opened.often;
       after = same;
       fault = fault;
       may = answered so;
@@ -183,11 +318,11 @@ printed_more old mid new outcomes i d there so one =
     subst (Appends old new) (sym text) (Appends-trans old mid new _ _ so one)
 
 -- the output of these events
-shown : {M : Model} {K : Type 0} (state_of : K → KeeperState M) (keeper : Option K) (old new : Option (List ℕ)) (s : M.State) (events : List Event)
-    (simulation : Simulation) → Went state_of keeper s events simulation
+shown : {M : Model} {K : Type 0} (told : K → KeeperState M) (keeper keeper' : Option K) (old new : Option (List ℕ)) (s : M.State) (events : List Event)
+    (simulation : Simulation) → Went told keeper keeper' s events simulation
     → Appends old new (outcome_lines (map bytes_given simulation.outcomes.items) ++ line (store_line simulation.counts.nodes simulation.counts.handles))
-    → Shown state_of keeper old new s events
-shown {M} state_of keeper old new s events simulation w printed =
+    → Shown told keeper keeper' (Appends old new) s events
+shown {M} told keeper keeper' old new s events simulation w printed =
     let held = M.held_for (state_after M s events) in
     record {
       printed =
@@ -196,17 +331,25 @@ shown {M} state_of keeper old new s events simulation w printed =
           (subst (λ n. Appends old new (outcome_lines (map bytes_given simulation.outcomes.items) ++ line (store_line n simulation.counts.handles))) w.nodes
           printed));
       stands = w.stands;
+      firm = w.firm;
     }
 
 -- the output of a script that was run
-pub simulated : {M : Model} {K : Type 0} (state_of : K → KeeperState M) (keeper keeper' : Option K) (known : Option (List ℕ)) (simulation : Simulation)
-    (old new : Option (List ℕ)) → IfSome known (λ script. RanScript state_of keeper keeper' script simulation)
+pub simulated : {M : Model} {K : Type 0} (k : Seen M K) (keeper keeper' : Option K) (known : Option (List ℕ)) (simulation : Simulation)
+    (old new : Option (List ℕ)) → IfSome known (λ script. RanScript k keeper keeper' script simulation)
     → Appends old new (outcome_lines (map bytes_given simulation.outcomes.items) ++ line (store_line simulation.counts.nodes simulation.counts.handles))
-    → IfSome known (λ script. 0 ≤ 1 → (events : List Event) × WritesAll (lines_of script) events
-    × ((told_in state_of keeper').is_honest → (s : M.State) → StandsIn state_of keeper s [] [] → NoneReused [] events → Shown state_of keeper' old new s events))
-simulated state_of keeper keeper' None simulation old new ran printed = tt
-simulated state_of keeper keeper' (Some script) simulation old new ran printed = λ small. (
-  ran.events,
-  ran.described,
-  λ honest s so none. shown state_of keeper' old new s ran.events simulation (ran.went honest s so none) printed,
-)
+    → IfSome known (λ script. 0 ≤ 1 → SimulatedAll k keeper keeper' (Appends old new) script)
+simulated k keeper keeper' None simulation old new ran printed = tt
+simulated k keeper keeper' (Some script) simulation old new ran printed = λ small.
+    record {
+      events = ran.events;
+      described = ran.described;
+      shown = λ honest s so none. shown k.told keeper keeper' old new s ran.events simulation (ran.went honest s so none) printed;
+      asked = ran.asked;
+      outcomes = map bytes_given simulation.outcomes.items;
+      nodes = simulation.counts.nodes;
+      handles = simulation.counts.handles;
+      printed = printed;
+      count = length-map simulation.outcomes.items bytes_given ∙ ran.count;
+      begin = ran.begin;
+    }

@@ -7,7 +7,7 @@ use Rattle.fuse_keeper.specs.declared.fault.StoreFault.{StoreFault}
 use Rattle.fuse_keeper.specs.Model.{Model}
 use Rattle.fuse_keeper.specs.History.{after}
 use Rattle.fuse_keeper.specs.Performance.{Performance}
-use Rattle.fuse_keeper.specs.KeeperState.{KeeperState}
+use Rattle.fuse_keeper.specs.KeeperState.{KeeperState, IsFirm}
 use Rattle.fuse_sim.specs.declared.event.Event.{Event}
 use Rattle.fuse_sim.specs.declared.event.DriveFault.TheVariants.{Store}
 use Rattle.fuse_sim.specs.Driving.{committed, settled_by, outcome_of, bytes_given, NoneReused, told_in, became_in, performed_in, StandsIn, OutcomesBegin}
@@ -45,13 +45,14 @@ outcomes_of M s events = map (outcome_of M s (committed M.serves [] events)) eve
 abbrev pub StandsAfter : {M : Model} {K : Type 0} → (K → KeeperState M) → Option K → M.State → List Event → Type 0
 StandsAfter {M} told keeper s events = StandsIn told keeper s (committed M.serves [] events) (settled_by M.serves [] events)
 
--- events from a start had these outcomes and counts, and the keeper stands for them
-pub record Went {M : Model} {K : Type 0} (told : K → KeeperState M) (keeper : Option K) (s : M.State) (events : List Event) (simulation : Simulation)
+-- events from a start had these outcomes and counts, and the keeper stands for them and is as firm as before
+pub record Went {M : Model} {K : Type 0} (told : K → KeeperState M) (old new : Option K) (s : M.State) (events : List Event) (simulation : Simulation)
     : Type 0 where
   pub outcomes : map bytes_given simulation.outcomes.items ≡ outcomes_of M s events
   pub nodes : simulation.counts.nodes ≡ M.nodes (M.held_for (state_after M s events))
   pub handles : simulation.counts.handles ≡ M.handles (M.held_for (state_after M s events))
-  pub stands : StandsAfter told keeper s events
+  pub stands : StandsAfter told new s events
+  pub firm : IsFirm (told_in told old) → IsFirm (told_in told new)
 
 -- the outcomes of the first events from a start are those that these lead to, up to a message that comes again though its answer was
 -- taken
@@ -74,7 +75,7 @@ pub record RanScript {M : Model} {K : Type 0} (k : Seen M K) (old new : Option K
   pub begin : BeginSo k.told old new events (map bytes_given simulation.outcomes.items)
   pub asked : performed_in k.performed old new (performances M.serves events)
   pub went : (told_in k.told new).is_honest → (s : M.State) → StandsIn k.told old s [] [] → NoneReused M.serves [] events
-      → Went k.told new s events simulation
+      → Went k.told old new s events simulation
 
 -- a keeper that the first one became returned a fault, and is left
 pub record AnsweredFault {M : Model} {K : Type 0} (k : Seen M K) (old new : Option K) (ending : Ending) : Type 0 where
@@ -114,16 +115,32 @@ pub record StoppedIn {M : Model} {K : Type 0} (k : Seen M K) (old new : Option K
   pub asked : ¬ (new ≡ None) → AskedSome k.performed old new (AreOfFirst M.serves events)
   pub ended : (s : M.State) → StandsIn k.told old s [] [] → NoneReused M.serves [] events → StoreEnded k old new events ending
 
+-- some of the first events were committed, and a keeper that is left and whose store is clean stands for these. It was asked to
+-- perform just what first ones ask for: up to one group more, which its store refused
+pub record LeftBySome {M : Model} {K : Type 0} (k : Seen M K) (old new : Option K) (events : List Event) : Type 0 where
+  pub first : List Event
+  pub rest : List Event
+  pub parts : events ≡ first ++ rest
+  pub stands : (told_in k.told new).is_clean → (s : M.State) → StandsIn k.told old s [] [] → NoneReused M.serves [] first → StandsAfter k.told new s first
+  pub asked : ¬ (new ≡ None) → AskedSome k.performed old new (AreOfFirst M.serves events)
+
+-- so it is of the events of a script, however it ended
+pub record LeftByScript {M : Model} {K : Type 0} (k : Seen M K) (old new : Option K) (script : List ℕ) : Type 0 where
+  pub events : List Event
+  pub described : WritesAll (lines_of script) events
+  pub left : LeftBySome k old new events
+
 -- a script was not run: its first bad line
 abbrev pub NotRun : List ℕ → Ending → Type 0
 NotRun script (ScriptLine n) = FirstBad 1 (lines_of script) n
 NotRun script _ = ⊥
 
--- the output of events from a start, and the keeper stands for them
-pub record Shown {M : Model} {K : Type 0} (told : K → KeeperState M) (keeper : Option K) (prints : List ℕ → Type 0) (s : M.State) (events : List Event)
-    : Type 0 where
+-- the output of events from a start, and the keeper stands for them and is as firm as before
+pub record Shown {M : Model} {K : Type 0} (told : K → KeeperState M) (old new : Option K) (prints : List ℕ → Type 0) (s : M.State)
+    (events : List Event) : Type 0 where
   pub printed : prints (simulation_text M s events)
-  pub stands : StandsAfter told keeper s events
+  pub stands : StandsAfter told new s events
+  pub firm : IsFirm (told_in told old) → IsFirm (told_in told new)
 
 -- the events of a script were run to their end over the first keeper. A line for each was printed, and then the counts: those that the
 -- events lead to, if no message comes again whose answer was taken, and up to such a one in any case
@@ -131,7 +148,7 @@ pub record SimulatedAll {M : Model} {K : Type 0} (k : Seen M K) (old new : Optio
   pub events : List Event
   pub described : WritesAll (lines_of script) events
   pub shown : (told_in k.told new).is_honest → (s : M.State) → StandsIn k.told old s [] [] → NoneReused M.serves [] events
-      → Shown k.told new prints s events
+      → Shown k.told old new prints s events
   pub asked : performed_in k.performed old new (performances M.serves events)
   pub outcomes : List (Option (List ℕ))
   pub nodes : ℕ

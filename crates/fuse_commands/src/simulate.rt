@@ -1,15 +1,15 @@
 //! A simulation of the events of a script.
-ghost use Rattle.std.specs.Prelude.{◌≡◌, ◌≢◌, ◌≤◌, ◌++◌, [], false, None, map, length, All};
-ghost use Rattle.std.specs.Prelude.{IsSomeAnd, IfSome, IfOk, IfErr, OnOk, OnErr};
+ghost use Rattle.std.specs.Prelude.{◌≡◌, ◌≢◌, ◌⊎◌, ◌≤◌, ◌++◌, ℕ, List, [], false, Some, map, length, All};
+ghost use Rattle.std.specs.Prelude.{IsSomeAnd, IfSome, IfOk, IfErr, OnOk};
 ghost use Rattle.std.specs.Io.KnownBytes.{Appends};
-ghost use Rattle.fuse_keeper.specs.KeeperState.{IsFirm};
 ghost use Rattle.fuse_sim.specs.Driving.{told_in, performed_in, StandsIn, NoneReused, IsFit};
 ghost use Rattle.fuse_sim.specs.Driving.{KeepsMedium, bytes_given};
-ghost use Rattle.fuse_sim.specs.HandedOn.{performances, AskedSome};
+ghost use Rattle.fuse_sim.specs.HandedOn.{performances};
 ghost use Rattle.fuse_commands.specs.Endings.{status_of, GaveOut};
 ghost use Rattle.fuse_commands.specs.Output.{line, store_line};
-ghost use Rattle.fuse_commands.specs.Simulating.{driven, Went, BeginSo, StoreEnded, AreOfFirst};
+ghost use Rattle.fuse_commands.specs.Simulating.{driven, Went, BeginSo, StoreEnded, LeftBySome};
 ghost use Rattle.fuse_commands.specs.Simulating.{RanScript, NotRun, Simulated, StoppedIn};
+ghost use Rattle.fuse_commands.specs.Simulating.{LeftByScript};
 ghost use Rattle.fuse_commands.specs.Simulating.{outcome_line, outcome_lines};
 
 use crate::ending::Ending;
@@ -43,15 +43,13 @@ fn run_events<K: Restart>(
     ensures ok { IfOk result (λ simulation. (told_in K.told keeper.new).is_honest
         → (s : K.model.State) → StandsIn K.told keeper.old s [] []
         → NoneReused K.model.serves [] events.now
-        → Went K.told keeper.new s events.now simulation) }
+        → Went K.told keeper.old keeper.new s events.now simulation) }
     ensures count { IfOk result
         (λ simulation. length simulation.outcomes.items ≡ length events.now) }
     ensures begin { IfOk result (λ simulation. BeginSo K.told keeper.old keeper.new events.now
         (map bytes_given simulation.outcomes.items)) }
     ensures asked { OnOk result (performed_in K.performed keeper.old keeper.new
         (performances K.model.serves events.now)) }
-    ensures firm { OnOk result ((told_in K.told keeper.new).is_honest
-        → IsFirm (told_in K.told keeper.old) → IsFirm (told_in K.told keeper.new)) }
     ensures medium { KeepsMedium K.told keeper.old keeper.new }
     ensures left { OnOk result (IsSomeAnd keeper.new (λ k. (K.told k).has_failed ≡ false)) }
     ensures err { IfErr result (λ ending. 3 ≤ status_of ending) }
@@ -60,14 +58,15 @@ fn run_events<K: Restart>(
         → NoneReused K.model.serves [] events.now
         → StoreEnded (driven K.told K.became K.performed K.refuses) keeper.old keeper.new
         events.now ending) }
-    ensures err_asked { OnErr result (¬ (keeper.new ≡ None) → AskedSome K.performed
-        keeper.old keeper.new (AreOfFirst K.model.serves events.now)) }
+    ensures kept { LeftBySome (driven K.told K.became K.performed K.refuses)
+        keeper.old keeper.new events.now }
 {
     let outcomes = match drive(alloc, keeper, events) {
         Ok(outcomes) => outcomes,
         Err(DriveFault::Store { fault, .. }) => return Err(Ending::of(fault)),
         Err(DriveFault::Memory { .. }) => return Err(Ending::Memory),
-        Err(DriveFault::NotAMessage { .. } | DriveFault::ZeroUnique { .. }) => unreachable!(),
+        Err(DriveFault::NotAMessage { .. }) => unreachable!(),
+        Err(DriveFault::ZeroUnique { .. }) => unreachable!(),
     };
     let Some(keeper) = keeper else {
         unreachable!();
@@ -127,8 +126,6 @@ fn simulate<K: Restart, R: Read + Drop>(
     ensures ok { IfOk result (λ simulation. IfSome (R.remaining reader)
         (λ script. RanScript (driven K.told K.became K.performed K.refuses)
         keeper.old keeper.new script simulation)) }
-    ensures firm { OnOk result ((told_in K.told keeper.new).is_honest
-        → IsFirm (told_in K.told keeper.old) → IsFirm (told_in K.told keeper.new)) }
     ensures medium { KeepsMedium K.told keeper.old keeper.new }
     ensures left { OnOk result (IsSomeAnd keeper.new (λ k. (K.told k).has_failed ≡ false)) }
     ensures not_run { IfErr result (λ ending. status_of ending ≤ 1 → keeper.new ≡ keeper.old) }
@@ -139,6 +136,9 @@ fn simulate<K: Restart, R: Read + Drop>(
         status_of ending ≡ 3
         → StoppedIn (driven K.told K.became K.performed K.refuses)
         keeper.old keeper.new script ending)) }
+    ensures kept { (script : List ℕ) → R.remaining reader ≡ Some script
+        → (keeper.new ≡ keeper.old) ⊎ LeftByScript (driven K.told K.became K.performed K.refuses)
+        keeper.old keeper.new script }
 {
     let script = read_all(alloc, reader)?;
     let events = read_script(alloc, script.as_slice())?;
@@ -161,14 +161,16 @@ pub fn run_simulate<K: Restart, R: Read + Drop, W: Write>(
         (Appends (W.contents writer.old) (W.contents writer.new)) script result) }
     ensures left { status_of result ≤ 1
         → IsSomeAnd keeper.new (λ k. (K.told k).has_failed ≡ false) }
-    ensures firm { status_of result ≤ 1 → (told_in K.told keeper.new).is_honest
-        → IsFirm (told_in K.told keeper.old) → IsFirm (told_in K.told keeper.new) }
     ensures medium { KeepsMedium K.told keeper.old keeper.new }
     ensures usage { status_of result ≢ 2 }
     // Status 3: a keeper returned the fault, or refused to be opened again with it.
     ensures store { IfSome (R.remaining reader) (λ script. status_of result ≡ 3
         → StoppedIn (driven K.told K.became K.performed K.refuses) keeper.old keeper.new
         script result) }
+    // However it ends, nothing was done, or the keeper stands for the first events.
+    ensures kept { (script : List ℕ) → R.remaining reader ≡ Some script
+        → (keeper.new ≡ keeper.old) ⊎ LeftByScript (driven K.told K.became K.performed K.refuses)
+        keeper.old keeper.new script }
     // Nothing is printed at status 1 and 3.
     ensures silent { 1 ≤ status_of result → status_of result ≤ 3
         → W.contents writer.new ≡ W.contents writer.old }
