@@ -30,8 +30,12 @@ relative_path() {
 files_from_memory() {
   export FUSEKEEP=$files_mount
   start store mnt log || return 1
-  expect "its files are listed" [ "$(ls mnt | xargs)" = "hours licence readme" ] || return 1
+  expect "its files are listed" [ "$(ls mnt | xargs)" = "hours licence readme times" ] || return 1
   expect "they are read" [ "$(cat mnt/readme mnt/licence mnt/hours)" = "Three files to read.Copy them freely.9 to 5" ] || return 1
+  expect "the link has its target" [ "$(readlink mnt/times)" = hours ] || return 1
+  expect "it is followed" [ "$(cat mnt/times)" = "9 to 5" ] || return 1
+  expect "statfs has its numbers" [ "$(stat -f -c '%b %f %a %c %d %l %s %S' mnt)" = "4 0 0 5 0 255 4096 512" ] || return 1
+  expect "df has them" [ "$(df --output=size,used,avail,itotal,iused mnt | tail -n 1 | xargs)" = "2 2 0 5 5" ] || return 1
   expect "none is made" is_read_only mnt/new || return 1
   unmount_and_end mnt && start store mnt log-again || return 1
   expect "the next mount has them, too" [ "$(cat mnt/hours)" = "9 to 5" ] || return 1

@@ -81,9 +81,20 @@ fn sessions(rt: HostRuntime) -> Result<(), Fail> {
         serves_new(alloc, &READING, counts_of(9, 0))?,
         serves_new(alloc, &CHANGING, counts_of(11, 1))?,
         serves_new(alloc, &REFUSED, counts_of(16, 0))?,
-        serves_new(alloc, &BEFORE_INIT, counts_of(2, 0))?,
+        serves_new(alloc, &BEFORE_INIT, counts_of(3, 0))?,
     ];
     assert_eq!(rt; right, [true; 4]);
+    Ok(())
+}
+
+// READLINK and STATFS. Their refusals are recorded too.
+#[test]
+fn further_opcodes(rt: HostRuntime) -> Result<(), Fail> {
+    let counts = SessionCounts {
+        messages: 14,
+        ..counts_of(13, 3)
+    };
+    assert_eq!(rt; serves_new(rt.alloc(), &FURTHER, counts)?, true);
     Ok(())
 }
 
@@ -91,9 +102,9 @@ fn begin_mount(keeper: &mut PlainKeeper<FiveFiles>) -> bool {
     keeper.begin_mount().is_ok()
 }
 
-// Whether there are four nodes and no handle.
+// Whether there are five nodes and no handle.
 fn holds_files(keeper: &mut PlainKeeper<FiveFiles>) -> bool {
-    matches!(keeper.counts(), Ok(counts) if counts.nodes == 4 && counts.handles == 0)
+    matches!(keeper.counts(), Ok(counts) if counts.nodes == 5 && counts.handles == 0)
 }
 
 // A new mount has agreed on nothing yet, and has the files of before.
@@ -101,7 +112,7 @@ fn two_mounts(alloc: Global) -> Result<[bool; 4], Fail> {
     let mut keeper: PlainKeeper<FiveFiles> = PlainKeeper::new(alloc, NOW)?;
     let first = serves(alloc, &mut keeper, &CHANGING, counts_of(11, 1))?;
     let begun = begin_mount(&mut keeper);
-    let again = serves(alloc, &mut keeper, &BEFORE_INIT, counts_of(2, 0))?;
+    let again = serves(alloc, &mut keeper, &BEFORE_INIT, counts_of(3, 0))?;
     Ok([first, begun, again, holds_files(&mut keeper)])
 }
 
