@@ -72,14 +72,19 @@ turn_of gave performed became path p q r result bytes b one two = record {
 pub heard_by : (result : Receipt) (bytes : List ℕ) → received_in (one_heard result bytes).events ≡ bytes
 heard_by result bytes = append-nil bytes
 
--- nothing came by sends alone
-pub mute_hears : (did : Deeds → Type 0) (b : Deeds) → Mute did b → Hears (Mute did) [] b
-mute_hears did b m = (m, ap received_in m.events ∙ received_sends m.slices)
-
 pub turn_none : {P : Type 0} (gave : List Moment → Type 0) (performed : List Performance → Type 0) (became : P → P → List PortEvent → Type 0)
     → (p q : P) (result : Receipt) (bytes : List ℕ) → gave [] → performed [] → became p q (Received result bytes ∷ [])
     → Hears (OneTurn (Did gave performed (became p q))) bytes (one_heard result bytes)
 turn_none gave performed became p q result bytes none unasked one = (
   record { done = record { moments = none; asked = unasked; events = one }; result = result; bytes = bytes; slices = []; events = refl },
   heard_by result bytes,
+)
+
+-- a receive and the sends after it, and what came
+pub turn_hears : {P : Type 0} (gave : List Moment → Type 0) (performed : List Performance → Type 0) (became : P → P → List PortEvent → Type 0)
+    → IsTranscript became → (p q r : P) (result : Receipt) (bytes : List ℕ) (b : Deeds) → became p q (Received result bytes ∷ [])
+    → Mute (Did gave performed (became q r)) b → Hears (OneTurn (Did gave performed (became p r))) bytes (then_did (one_heard result bytes) b)
+turn_hears gave performed became path p q r result bytes b one two = (
+  turn_of gave performed became path p q r result bytes b one two,
+  ap (λ (l : List PortEvent). bytes ++ received_in l) two.events ∙ ap (λ (l : List ℕ). bytes ++ l) (received_sends two.slices) ∙ append-nil bytes,
 )

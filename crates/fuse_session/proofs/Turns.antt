@@ -14,14 +14,19 @@ use Rattle.fuse_session.specs.declared.counts.SessionCounts.{SessionCounts}
 use Rattle.fuse_session.specs.declared.group.Next.{Next}
 use Rattle.fuse_session.specs.declared.group.Next.TheVariants.{GoesOn as GoesOnHere, Destroyed, ZeroUnique}
 use Rattle.fuse_session.specs.Port.{PortState}
-use Rattle.fuse_session.specs.Processed.{Timed, bytes_of, kept_in, answers, says_zero, message_id, StartsZero, GoesOn}
+use Rattle.fuse_session.specs.Processed.{Timed, bytes_of, kept_in, answers, says_zero, message_id, StartsZero, GoesOn, moments_in}
 use Rattle.fuse_session.specs.Settling.{Mark, replies, settled_in, NoneComesAgain, Replied, FewHave}
 use Rattle.fuse_session.specs.Counting.{plus, none_counted, counted}
 use Rattle.fuse_session.specs.Serving.{Turned, Lived, Exact, Broken, ProcessedAll, lasts, goes_on}
 use Rattle.fuse_session.proofs.Replies.{replied_none, replied_more, joined-append, replies-append}
 use Rattle.fuse_session.proofs.Outs.{answers-append, grown_kept, Works-append, GoesOn-append}
 use Rattle.fuse_session.proofs.Settled.{settled-append, again-parts}
-use Rattle.fuse_session.proofs.Gathering.{gave_more, gave_first, gave_all}
+use Rattle.fuse_session.proofs.Gathering.{moments-append}
+use Rattle.fuse_session.proofs.Batching.{are_more, answered_more, answered_last, answered_all, asked_both, left_both, rests_more, some_more, some_all}
+use Rattle.fuse_session.proofs.Transcripts.{handed_more}
+use Rattle.fuse_session.specs.Deeds.{Deeds, no_deeds, then_did}
+use Rattle.fuse_session.specs.Transcript.{PortEvent, handed_in}
+use Rattle.fuse_session.specs.Slices.{RestsOfAll, RestsOfSome}
 use Rattle.fuse_session.proofs.Counted.{counted-append}
 use Rattle.fuse_session.proofs.Groups.{leaves_map, firm_leaves, lived_all, exact_all}
 
@@ -29,14 +34,23 @@ bytes-append : (xs ys : List Timed) → bytes_of (xs ++ ys) ≡ bytes_of xs ++ b
 bytes-append xs ys = map-append (λ (t : Timed). t.bytes) xs ys
 
 -- nothing was processed
-pub turned_quiet : (M : Model) → (holds : KeeperState M) (gave : List Moment → Type 0) (p q : PortState) (pending : List ℕ) → gave [] → Replied p q [] []
-    → Turned holds holds gave p q pending pending [] true none_counted
-turned_quiet M holds gave p q pending none replied = record {
+pub turned_quiet : (M : Model) → (holds : KeeperState M) (did : Deeds → Type 0) (p q : PortState) (pending : List ℕ) (deeds : Deeds) → did deeds
+    → deeds.moments ≡ [] → deeds.asked ≡ [] → handed_in deeds.events ≡ [] → Replied p q [] []
+    → Turned holds holds did p q pending pending [] true none_counted
+turned_quiet M holds did p q pending deeds done none unasked unhanded replied = record {
   timed = [];
   marks = [];
   bytes = refl;
   full = refl;
+  deeds = deeds;
+  done = done;
   moments = none;
+  batches = [];
+  are = record { messages = refl; answers = refl };
+  answered = tt;
+  asked = unasked;
+  left = refl;
+  slices = unhanded;
   replied = replied;
   handed = λ t within. subst (λ (u : List ℕ). Includes u pending) (sym (append-nil t)) within;
   all = λ honest s h t so within again. record {
@@ -50,9 +64,21 @@ turned_quiet M holds gave p q pending none replied = record {
   few = λ honest t again h. subst (λ (u : List ℕ). FewHave holds u pending) (sym (append-nil t)) h;
 }
 
-pub turned_none : (M : Model) → (holds : KeeperState M) (gave : List Moment → Type 0) (p : PortState) (pending : List ℕ) → gave []
-    → Turned holds holds gave p p pending pending [] true none_counted
-turned_none M holds gave p pending none = turned_quiet M holds gave p p pending none (replied_none p)
+pub turned_none : (M : Model) → (holds : KeeperState M) (did : Deeds → Type 0) (p : PortState) (pending : List ℕ) → did no_deeds
+    → Turned holds holds did p p pending pending [] true none_counted
+turned_none M holds did p pending none = turned_quiet M holds did p p pending no_deeds none refl refl refl (replied_none p)
+
+-- the moments of two rows of messages
+moments_both : (V : OpcodeSet) → (xs ys : List Timed) (a b more : List Moment) → a ≡ moments_in V xs → b ≡ moments_in V ys ++ more
+    → a ++ b ≡ moments_in V (xs ++ ys) ++ more
+moments_both V xs ys a b more one two =
+    ap (λ (l : List Moment). l ++ b) one ∙ ap (λ (l : List Moment). moments_in V xs ++ l) two
+    ∙ sym (append_assoc (moments_in V xs) (moments_in V ys) more) ∙ ap (λ (l : List Moment). l ++ more) (sym (moments-append V xs ys))
+
+-- the slices of two rows of answers
+slices_both : (ms ns : List Mark) (a b : List PortEvent) → RestsOfAll ms (handed_in a) → RestsOfAll ns (handed_in b) → RestsOfAll (ms ++ ns) (handed_in (a ++ b))
+slices_both ms ns a b one two =
+    subst (RestsOfAll (ms ++ ns)) (sym (handed_more a b)) (rests_more ms ns (handed_in a) (handed_in b) one two)
 
 -- the settled ids of two rows of messages
 settled_both : (V : OpcodeSet) → (c c' : Bool) (t : List ℕ) (xs ys : List Timed) (ms ns : List Mark) → c' ≡ c → length ms ≡ length xs
@@ -73,18 +99,28 @@ again_both V c c' t xs ys ms ns same full each =
     (parts.0, subst (λ b. NoneComesAgain V b (t ++ settled_in V c (bytes_of xs) ms) (bytes_of ys) ns) (sym same) parts.1)
 
 -- messages, and then others
-pub turned_more : (M : Model) → HistoriesGrow M → (holds mid new : KeeperState M) (gave gave' gave'' : List Moment → Type 0) (p q r : PortState)
+pub turned_more : (M : Model) → HistoriesGrow M → (holds mid new : KeeperState M) (did did' did'' : Deeds → Type 0) (p q r : PortState)
     (ids ids' ids'' : List ℕ) (prefix prefix' : List (List ℕ)) (going : Bool) (counts counts' : SessionCounts)
-    → Turned holds mid gave p q ids ids' prefix true counts → Turned mid new gave' q r ids' ids'' prefix' going counts' → (new.is_honest → mid.is_honest)
-    → ((xs ys : List Moment) → gave xs → gave' ys → gave'' (xs ++ ys))
-    → Turned holds new gave'' p r ids ids'' (prefix ++ prefix') going (plus counts counts')
-turned_more M grows holds mid new gave gave' gave'' p q r ids ids' ids'' prefix prefix' going counts counts' one two honest_too moments = record {
+    → (one : Turned holds mid did p q ids ids' prefix true counts) → Turned mid new did' q r ids' ids'' prefix' going counts' → (new.is_honest → mid.is_honest)
+    → ((b : Deeds) → did' b → did'' (then_did one.deeds b))
+    → Turned holds new did'' p r ids ids'' (prefix ++ prefix') going (plus counts counts')
+turned_more M grows holds mid new did did' did'' p q r ids ids' ids'' prefix prefix' going counts counts' one two honest_too onward = record {
   timed = one.timed ++ two.timed;
   marks = one.marks ++ two.marks;
   bytes = ap (λ f. f ++ prefix') one.bytes ∙ ap (λ f. bytes_of one.timed ++ f) two.bytes ∙ sym (bytes-append one.timed two.timed);
   full = length-append one.marks two.marks ∙ ap (λ n. n + length two.marks) one.full ∙ ap (λ n. length one.timed + n) two.full
       ∙ sym (length-append one.timed two.timed);
-  moments = gave_more M.serves gave gave' gave'' one.timed two.timed moments one.moments two.moments;
+  deeds = then_did one.deeds two.deeds;
+  done = onward two.deeds two.done;
+  moments = moments_both M.serves one.timed two.timed one.deeds.moments two.deeds.moments [] one.moments
+      (two.moments ∙ sym (append-nil (moments_in M.serves two.timed))) ∙ append-nil (moments_in M.serves (one.timed ++ two.timed));
+  batches = one.batches ++ two.batches;
+  are = are_more one.batches two.batches one.timed two.timed one.marks two.marks one.are two.are;
+  answered = answered_more one.batches two.batches one.answered two.answered;
+  asked = asked_both M.serves p.confirms q.confirms ids ids' one.batches two.batches one.deeds.asked two.deeds.asked one.replied.confirms one.left one.asked
+      two.asked;
+  left = left_both M.serves p.confirms q.confirms ids ids' ids'' one.batches two.batches one.replied.confirms one.left two.left;
+  slices = slices_both one.marks two.marks one.deeds.events two.deeds.events one.slices two.slices;
   replied = replied_more p q r one.marks two.marks [] one.replied two.replied;
   handed = λ t within. subst (λ (u : List ℕ). Includes u ids'')
       (settled_both M.serves p.confirms q.confirms t one.timed two.timed one.marks two.marks one.replied.confirms one.full)
@@ -163,15 +199,15 @@ exact_more M grows stood stood' s h c c' t xs ys ms ns same full goes sent f e =
       sent = replies-append ms ns ∙ ap (λ x. x ++ replies ns) sent ∙ ap (λ x. answers M s g xs ++ x) e.sent ∙ sym (answers-append M grows s h xs e.worked);
     }
 
-pub turned_broken : (M : Model) → HistoriesGrow M → (holds mid new : KeeperState M) (gave gave' gave'' : List Moment → Type 0) (p q r : PortState)
+pub turned_broken : (M : Model) → HistoriesGrow M → (holds mid new : KeeperState M) (did did' did'' : Deeds → Type 0) (p q r : PortState)
     (ids ids' : List ℕ)
     (prefix messages : List (List ℕ)) (counts : SessionCounts) (exact want : Bool) (faulted faulted' : Type 0)
-    → Turned holds mid gave p q ids ids' prefix true counts → Broken mid new gave' q r ids' messages exact want faulted' → (faulted' → faulted)
+    → (one : Turned holds mid did p q ids ids' prefix true counts) → Broken mid new did' q r ids' messages exact want faulted' → (mid.is_honest → faulted' → faulted)
     → (new.is_clean → new.is_honest) → (new.is_honest → mid.is_honest) → (mid.is_honest → IsFirm holds → IsFirm mid)
-    → ((xs ys : List Moment) → gave xs → gave' ys → gave'' (xs ++ ys))
-    → Broken holds new gave'' p r ids (prefix ++ messages) exact want faulted
-turned_broken M grows holds mid new gave gave' gave'' p q r ids ids' prefix messages counts exact want faulted faulted' one two faulted_too clean_honest
-    honest_too firm_too moments =
+    → ((b : Deeds) → did' b → did'' (then_did one.deeds b))
+    → Broken holds new did'' p r ids (prefix ++ messages) exact want faulted
+turned_broken M grows holds mid new did did' did'' p q r ids ids' prefix messages counts exact want faulted faulted' one two faulted_too clean_honest
+    honest_too firm_too onward =
     let c = p.confirms in
     let ts = one.timed ++ two.timed in
     let marks = one.marks ++ two.marks in
@@ -183,7 +219,20 @@ turned_broken M grows holds mid new gave gave' gave'' p q r ids ids' prefix mess
       prefix = ap (λ f. f ++ messages) one.bytes ∙ ap (λ f. bytes_of one.timed ++ f) two.prefix
           ∙ sym (append_assoc (bytes_of one.timed) (bytes_of two.timed) two.others)
           ∙ ap (λ f. f ++ two.others) (sym (bytes-append one.timed two.timed));
-      moments = gave_first M.serves gave gave' gave'' one.timed two.timed moments one.moments two.moments;
+      deeds = then_did one.deeds two.deeds;
+      done = onward two.deeds two.done;
+      moments = (
+        two.moments.0,
+        moments_both M.serves one.timed two.timed one.deeds.moments two.deeds.moments two.moments.0 one.moments two.moments.1,
+      );
+      batches = one.batches ++ two.batches;
+      are = are_more one.batches two.batches one.timed two.timed one.marks two.marks one.are two.are;
+      answered = answered_last one.batches two.batches one.answered two.answered;
+      asked = asked_both M.serves p.confirms q.confirms ids ids' one.batches two.batches one.deeds.asked two.deeds.asked one.replied.confirms one.left one.asked
+          two.asked;
+      slices = subst (RestsOfSome marks two.part) (sym (handed_more one.deeds.events two.deeds.events))
+          (some_more one.marks two.marks two.part (handed_in one.deeds.events) (handed_in two.deeds.events) one.slices two.slices);
+      all_slices = λ is. slices_both one.marks two.marks one.deeds.events two.deeds.events one.slices (two.all_slices is);
       replied = replied_more p q r one.marks two.marks two.part one.replied two.replied;
       no_part = two.no_part;
       exactly = λ how is s h t so within again.
@@ -192,7 +241,7 @@ turned_broken M grows holds mid new gave gave' gave'' p q r ids ids' prefix mess
           exact_more M grows (λ g u. exact ≡ true → new.is_clean → StandsFor new s g u × faulted') (λ g u. exact ≡ true → new.is_clean → StandsFor new s g u
           × faulted)
           s h c q.confirms t one.timed two.timed one.marks two.marks one.replied.confirms one.full (a.goes refl) a.sent
-          (λ g u stands store clean. ((stands store clean).0, faulted_too (stands store clean).1))
+          (λ g u stands store clean. ((stands store clean).0, faulted_too (honest_too is) (stands store clean).1))
           (two.exactly how is s (grown h (kept_in M.serves one.timed)) (t ++ settled_in M.serves c (bytes_of one.timed) one.marks) a.stands (one.handed t within) parts.1);
       life = λ clean s h t so within again.
           let parts = again_both M.serves c q.confirms t one.timed two.timed one.marks two.marks one.replied.confirms one.full again in
@@ -220,18 +269,26 @@ turned_broken M grows holds mid new gave gave' gave'' p q r ids ids' prefix mess
     }
 
 -- messages that were answered, as a life, with others after them
-pub turned_life : (M : Model) → (holds new : KeeperState M) (gave : List Moment → Type 0) (p q : PortState) (ids ids' : List ℕ)
+pub turned_life : (M : Model) → (holds new : KeeperState M) (did : Deeds → Type 0) (p q : PortState) (ids ids' : List ℕ)
     (prefix others messages : List (List ℕ)) (going : Bool) (counts : SessionCounts) (exact want : Bool) (faulted : Type 0) → exact ≡ false
-    → Turned holds new gave p q ids ids' prefix going counts → messages ≡ prefix ++ others → (new.is_clean → new.is_honest)
+    → Turned holds new did p q ids ids' prefix going counts → messages ≡ prefix ++ others → (new.is_clean → new.is_honest)
     → (new.is_honest → IsFirm holds → IsFirm new)
-    → Broken holds new gave p q ids messages exact want faulted
-turned_life M holds new gave p q ids ids' prefix others messages going counts exact want faulted inexact one parts clean_honest firm_still = record {
+    → Broken holds new did p q ids messages exact want faulted
+turned_life M holds new did p q ids ids' prefix others messages going counts exact want faulted inexact one parts clean_honest firm_still = record {
   timed = one.timed;
   others = others;
   marks = one.marks;
   part = [];
   prefix = parts ∙ ap (λ f. f ++ others) one.bytes;
-  moments = gave_all M.serves gave one.timed one.moments;
+  deeds = one.deeds;
+  done = one.done;
+  moments = ([], one.moments ∙ sym (append-nil (moments_in M.serves one.timed)));
+  batches = one.batches;
+  are = one.are;
+  answered = answered_all one.batches one.answered;
+  asked = one.asked;
+  slices = some_all one.marks (handed_in one.deeds.events) one.slices;
+  all_slices = λ _. one.slices;
   replied = one.replied;
   no_part = λ _. refl;
   exactly = λ _ is s h t so within again.
@@ -281,41 +338,41 @@ lasts_on Destroyed is = absurd (cc is)
 lasts_on ZeroUnique is = absurd (cc is)
 
 -- a group more
-pub group_more : (M : Model) → HistoriesGrow M → (holds mid new : KeeperState M) (gave gave' gave'' : List Moment → Type 0) (p q r : PortState)
+pub group_more : (M : Model) → HistoriesGrow M → (holds mid new : KeeperState M) (did did' did'' : Deeds → Type 0) (p q r : PortState)
     (ids ids' ids'' : List ℕ) (messages slice : List (List ℕ)) (i n : ℕ) (going : Bool) (counts counts' sum : SessionCounts)
     → slice ≡ take (length messages - i) (drop i messages) → sum ≡ plus counts counts'
-    → Turned holds mid gave p q ids ids' (take i messages) true counts → Turned mid new gave' q r ids' ids'' (take n slice) going counts'
-    → (new.is_honest → mid.is_honest) → ((xs ys : List Moment) → gave xs → gave' ys → gave'' (xs ++ ys))
-    → Turned holds new gave'' p r ids ids'' (take (i + n) messages) going sum
-group_more M grows holds mid new gave gave' gave'' p q r ids ids' ids'' messages slice i n going counts counts' sum same sum_is one two honest_too moments =
-    subst (λ f. Turned holds new gave'' p r ids ids'' f going sum) (take_parts messages i n)
-    (subst (λ c. Turned holds new gave'' p r ids ids'' (take i messages ++ take n (take (length messages - i) (drop i messages))) going c) (sym sum_is)
-    (turned_more M grows holds mid new gave gave' gave'' p q r ids ids' ids'' (take i messages) (take n (take (length messages - i) (drop i messages))) going
+    → (one : Turned holds mid did p q ids ids' (take i messages) true counts) → Turned mid new did' q r ids' ids'' (take n slice) going counts'
+    → (new.is_honest → mid.is_honest) → ((b : Deeds) → did' b → did'' (then_did one.deeds b))
+    → Turned holds new did'' p r ids ids'' (take (i + n) messages) going sum
+group_more M grows holds mid new did did' did'' p q r ids ids' ids'' messages slice i n going counts counts' sum same sum_is one two honest_too onward =
+    subst (λ f. Turned holds new did'' p r ids ids'' f going sum) (take_parts messages i n)
+    (subst (λ c. Turned holds new did'' p r ids ids'' (take i messages ++ take n (take (length messages - i) (drop i messages))) going c) (sym sum_is)
+    (turned_more M grows holds mid new did did' did'' p q r ids ids' ids'' (take i messages) (take n (take (length messages - i) (drop i messages))) going
     counts counts' one
-    (subst (λ x. Turned mid new gave' q r ids' ids'' (take n x) going counts') same two) honest_too moments))
+    (subst (λ x. Turned mid new did' q r ids' ids'' (take n x) going counts') same two) honest_too onward))
 
 -- a fault in the next group
-pub group_broken : (M : Model) → HistoriesGrow M → (holds mid new : KeeperState M) (gave gave' gave'' : List Moment → Type 0) (p q r : PortState)
+pub group_broken : (M : Model) → HistoriesGrow M → (holds mid new : KeeperState M) (did did' did'' : Deeds → Type 0) (p q r : PortState)
     (ids ids' : List ℕ)
     (messages slice : List (List ℕ)) (i : ℕ) (counts : SessionCounts) (exact want : Bool) (faulted faulted' : Type 0)
     → slice ≡ take (length messages - i) (drop i messages)
-    → Turned holds mid gave p q ids ids' (take i messages) true counts → Broken mid new gave' q r ids' slice exact want faulted' → (faulted' → faulted)
+    → (one : Turned holds mid did p q ids ids' (take i messages) true counts) → Broken mid new did' q r ids' slice exact want faulted' → (mid.is_honest → faulted' → faulted)
     → (new.is_clean → new.is_honest) → (new.is_honest → mid.is_honest) → (mid.is_honest → IsFirm holds → IsFirm mid)
-    → ((xs ys : List Moment) → gave xs → gave' ys → gave'' (xs ++ ys))
-    → Broken holds new gave'' p r ids messages exact want faulted
-group_broken M grows holds mid new gave gave' gave'' p q r ids ids' messages slice i counts exact want faulted faulted' same one two faulted_too clean_honest
-    honest_too firm_too moments =
-    subst (λ m. Broken holds new gave'' p r ids m exact want faulted) (ap (λ x. take i messages ++ x) same ∙ parts_at messages i)
-    (turned_broken M grows holds mid new gave gave' gave'' p q r ids ids' (take i messages) slice counts exact want faulted faulted' one two faulted_too
-    clean_honest honest_too firm_too moments)
+    → ((b : Deeds) → did' b → did'' (then_did one.deeds b))
+    → Broken holds new did'' p r ids messages exact want faulted
+group_broken M grows holds mid new did did' did'' p q r ids ids' messages slice i counts exact want faulted faulted' same one two faulted_too clean_honest
+    honest_too firm_too onward =
+    subst (λ m. Broken holds new did'' p r ids m exact want faulted) (ap (λ x. take i messages ++ x) same ∙ parts_at messages i)
+    (turned_broken M grows holds mid new did did' did'' p q r ids ids' (take i messages) slice counts exact want faulted faulted' one two faulted_too
+    clean_honest honest_too firm_too onward)
 
 -- the last group
-pub worked_part : (M : Model) → (holds new : KeeperState M) (gave : List Moment → Type 0) (p q : PortState) (ids ids' : List ℕ) (messages slice : List (List ℕ))
+pub worked_part : (M : Model) → (holds new : KeeperState M) (did : Deeds → Type 0) (p q : PortState) (ids ids' : List ℕ) (messages slice : List (List ℕ))
     (i n : ℕ) (rest : Next) (begin place : ℕ) (counts : SessionCounts)
     → slice ≡ take (length messages - i) (drop i messages) → (goes_on rest ≡ false) → (rest ≡ ZeroUnique → StartsZero (drop n slice))
     → place ≡ begin + length (joined (take (i + n) messages))
-    → Turned holds new gave p q ids ids' (take (i + n) messages) (lasts rest) counts → ProcessedAll holds new gave p q ids ids' messages rest begin place counts
-worked_part M holds new gave p q ids ids' messages slice i n rest begin place counts same over zero place_is t = record {
+    → Turned holds new did p q ids ids' (take (i + n) messages) (lasts rest) counts → ProcessedAll holds new did p q ids ids' messages rest begin place counts
+worked_part M holds new did p q ids ids' messages slice i n rest begin place counts same over zero place_is t = record {
   prefix = take (i + n) messages;
   others = drop (i + n) messages;
   parts = sym (take-append-drop (i + n) messages);
@@ -325,11 +382,11 @@ worked_part M holds new gave p q ids ids' messages slice i n rest begin place co
   turned = t;
 }
 
-pub worked_all : (M : Model) → (holds new : KeeperState M) (gave : List Moment → Type 0) (p q : PortState) (ids ids' : List ℕ) (messages : List (List ℕ))
+pub worked_all : (M : Model) → (holds new : KeeperState M) (did : Deeds → Type 0) (p q : PortState) (ids ids' : List ℕ) (messages : List (List ℕ))
     (i : ℕ) (begin place : ℕ) (counts : SessionCounts)
     → length messages ≤ i → place ≡ begin + length (joined (take i messages))
-    → Turned holds new gave p q ids ids' (take i messages) true counts → ProcessedAll holds new gave p q ids ids' messages GoesOnHere begin place counts
-worked_all M holds new gave p q ids ids' messages i begin place counts past place_is t = record {
+    → Turned holds new did p q ids ids' (take i messages) true counts → ProcessedAll holds new did p q ids ids' messages GoesOnHere begin place counts
+worked_all M holds new did p q ids ids' messages i begin place counts past place_is t = record {
   prefix = take i messages;
   others = [];
   parts = sym (append-nil (take i messages) ∙ take_all i messages past);

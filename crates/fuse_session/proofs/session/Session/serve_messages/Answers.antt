@@ -1,6 +1,8 @@
 use Rattle.std.proofs.Common.{◌∙◌, ◌+◌, ◌-◌, ◌^◌, take, drop, length, arith, refl, sym, subst}
 use Rattle.fuse_keeper.specs.Group.{ids_of}
-use Rattle.fuse_keeper.specs.Stands.{Records}
+use Rattle.fuse_session.specs.Starts.{Kept}
+use Rattle.fuse_session.specs.Deeds.{Did, Mute}
+use Rattle.fuse_session.proofs.Doing.{did_none, mute_none, mute_more}
 use Rattle.fuse_session.specs.Counting.{IsBelow}
 use Rattle.fuse_session.specs.Serving.{Turned, goes_on, lasts}
 use Rattle.fuse_session.proofs.Bytes.{quiet_none, quiet_more}
@@ -13,30 +15,34 @@ use Rattle.fuse_session.proofs.session.Session.serve_messages.Goals as goal
 pub loop-at-init : goal.loop-at-init
 loop-at-init g c = record {
   within = omega arith;
-  turned = turned_none g.K.Keeper.model _ _ (g.P.Port.told c.args.self.now.port.now) (ids_of c.args.self.now.pending.now.items) ((g.met.C.Clock.logged).none c.args.self.now.clock.now);
+  turned = turned_none g.K.Keeper.model _ _ (g.P.Port.told c.args.self.now.port.now) (ids_of c.args.self.now.pending.now.items) (mute_none _ (did_none g.C.Clock.gave g.K.Keeper.performed g.P.Port.became g.met.C.Clock.logged g.met.K.Keeper.log g.met.P.Port.path
+      c.args.self.now.clock.now c.args.self.now.keeper.now c.args.self.now.port.now));
   loans = (refl, refl, refl, refl);
   below = record { messages = omega arith; kept = omega arith; repeated = omega arith; bare = omega arith; silent = omega arith; interrupts = omega arith };
   few = c.requires.few;
   going = c.requires.going;
   firm = λ _ firm. firm;
-  more = λ _ _ (before : Records) h. h;
+  more = λ _ _ (before : Kept) h. h;
   failures = refl;
   honest = λ is. is;
-  same = (g.met.P.Port.path).none c.args.self.now.port.now;
   unopened = (g.met.K.Keeper.counted).none c.args.self.now.keeper.now;
   quiet = quiet_none (g.P.Port.told c.args.self.now.port.now);
-  may = λ f may. may;
+  may = λ honest f may. may;
+  medium = λ is. is;
 }
 
 pub returns-in-Err-clause-err : goal.returns-in-Err-clause-err
 returns-in-Err-clause-err g c =
     let inv = c.loop-at.invariant in
     group_broken g.K.Keeper.model c.histories_grow.ensures (g.K.Keeper.told c.args.self.now.keeper.now) (g.K.Keeper.told c.loop-at.self.keeper.now)
-    (g.K.Keeper.told c.serve_group.new.self.keeper.now) (g.C.Clock.gave c.args.self.now.clock.now c.loop-at.self.clock.now) (g.C.Clock.gave c.loop-at.self.clock.now c.serve_group.new.self.clock.now)
-    (g.C.Clock.gave c.args.self.now.clock.now c.serve_group.new.self.clock.now) _ _ _ _ _ c.args.messages.now _ c.loop-at.at _ _ _ _ _
-    refl inv.turned c.in-Err.ensures.err (may_fault (g.K.Keeper.told c.args.self.now.keeper.now).may_answer (g.K.Keeper.told c.loop-at.self.keeper.now).may_answer c.in-Err.fault
-    inv.may) (g.met.K.Keeper.sound c.serve_group.new.self.keeper.now).clean_is_honest c.in-Err.ensures.honest inv.firm
-    ((g.met.C.Clock.logged).onward c.args.self.now.clock.now c.loop-at.self.clock.now c.serve_group.new.self.clock.now)
+    (g.K.Keeper.told c.serve_group.new.self.keeper.now) _ _
+    _ _ _ _ _ _ c.args.messages.now _ c.loop-at.at _ _ _ _ _
+    refl inv.turned c.in-Err.ensures.err (λ honest. may_fault (g.K.Keeper.told c.args.self.now.keeper.now).may_answer (g.K.Keeper.told c.loop-at.self.keeper.now).may_answer c.in-Err.fault
+    (inv.may honest)) (g.met.K.Keeper.sound c.serve_group.new.self.keeper.now).clean_is_honest c.in-Err.ensures.honest inv.firm
+    (λ b two. mute_more g.C.Clock.gave g.K.Keeper.performed g.P.Port.became g.met.C.Clock.logged g.met.K.Keeper.log g.met.P.Port.path
+    c.args.self.now.clock.now c.loop-at.self.clock.now c.serve_group.new.self.clock.now
+    c.args.self.now.keeper.now c.loop-at.self.keeper.now c.serve_group.new.self.keeper.now
+    c.args.self.now.port.now c.loop-at.self.port.now c.serve_group.new.self.port.now inv.turned.deeds b inv.turned.done two)
 
 pub sum_of-sum-requires-clause-a : goal.sum_of-sum-requires-clause-a
 sum_of-sum-requires-clause-a g c = below_more c.loop-at.counts c.loop-at.at (2 ^ 63 - 1) (omega (arith, c.loop-at.invariant.within, c.requires.short))
@@ -59,11 +65,14 @@ returns-then-over-clause-ok g c = λ begin.
     refl (is_over (goes_on c.in-Ok.progress.next) (sym c.is_over-over.ensures ∙ c.if-over.true)) c.in-Ok.ensures.zero
     refl
     (group_more g.K.Keeper.model c.histories_grow.ensures (g.K.Keeper.told c.args.self.now.keeper.now) (g.K.Keeper.told c.loop-at.self.keeper.now)
-    (g.K.Keeper.told c.serve_group.new.self.keeper.now) (g.C.Clock.gave c.args.self.now.clock.now c.loop-at.self.clock.now) (g.C.Clock.gave c.loop-at.self.clock.now c.serve_group.new.self.clock.now)
-    (g.C.Clock.gave c.args.self.now.clock.now c.serve_group.new.self.clock.now) _ _ _ _ _ _ ms (take (length ms - i) (drop i ms)) i n
+    (g.K.Keeper.told c.serve_group.new.self.keeper.now) _ _
+    _ _ _ _ _ _ _ ms (take (length ms - i) (drop i ms)) i n
     (lasts c.in-Ok.progress.next) c.loop-at.counts c.in-Ok.progress.counts c.sum_of-sum.result
     refl c.sum_of-sum.ensures inv.turned c.in-Ok.ensures.ok c.in-Ok.ensures.honest
-    ((g.met.C.Clock.logged).onward c.args.self.now.clock.now c.loop-at.self.clock.now c.serve_group.new.self.clock.now))
+    (λ b two. mute_more g.C.Clock.gave g.K.Keeper.performed g.P.Port.became g.met.C.Clock.logged g.met.K.Keeper.log g.met.P.Port.path
+    c.args.self.now.clock.now c.loop-at.self.clock.now c.serve_group.new.self.clock.now
+    c.args.self.now.keeper.now c.loop-at.self.keeper.now c.serve_group.new.self.keeper.now
+    c.args.self.now.port.now c.loop-at.self.port.now c.serve_group.new.self.port.now inv.turned.deeds b inv.turned.done two))
 
 pub loop-at-preserved : goal.loop-at-preserved
 loop-at-preserved g c =
@@ -75,28 +84,32 @@ loop-at-preserved g c =
     let k' = c.serve_group.new.self.keeper.now in
     record {
       within = within_parts ms i n inv.within c.in-Ok.ensures.within;
-      turned = subst (λ b. Turned (g.K.Keeper.told c.args.self.now.keeper.now) (g.K.Keeper.told k') (g.C.Clock.gave c.args.self.now.clock.now c.serve_group.new.self.clock.now)
+      turned = subst (λ b. Turned (g.K.Keeper.told c.args.self.now.keeper.now) (g.K.Keeper.told k') (Mute (Did (g.C.Clock.gave c.args.self.now.clock.now c.serve_group.new.self.clock.now)
+          (g.K.Keeper.performed c.args.self.now.keeper.now k') (g.P.Port.became c.args.self.now.port.now c.serve_group.new.self.port.now)))
           (g.P.Port.told c.args.self.now.port.now) (g.P.Port.told c.serve_group.new.self.port.now)
           (ids_of c.args.self.now.pending.now.items) (ids_of c.serve_group.new.self.pending.now.items) (take (i + n) ms) b c.sum_of-sum.result) (lasts_on c.in-Ok.progress.next on)
           (group_more g.K.Keeper.model c.histories_grow.ensures (g.K.Keeper.told c.args.self.now.keeper.now) (g.K.Keeper.told c.loop-at.self.keeper.now) (g.K.Keeper.told k')
-          (g.C.Clock.gave c.args.self.now.clock.now c.loop-at.self.clock.now) (g.C.Clock.gave c.loop-at.self.clock.now c.serve_group.new.self.clock.now)
-          (g.C.Clock.gave c.args.self.now.clock.now c.serve_group.new.self.clock.now) _ _ _ _ _ _ ms (take (length ms - i) (drop i ms)) i n
+          _ _
+          _ _ _ _ _ _ _ ms (take (length ms - i) (drop i ms)) i n
           (lasts c.in-Ok.progress.next) c.loop-at.counts c.in-Ok.progress.counts c.sum_of-sum.result
           refl c.sum_of-sum.ensures inv.turned c.in-Ok.ensures.ok c.in-Ok.ensures.honest
-          ((g.met.C.Clock.logged).onward c.args.self.now.clock.now c.loop-at.self.clock.now c.serve_group.new.self.clock.now));
+          (λ b two. mute_more g.C.Clock.gave g.K.Keeper.performed g.P.Port.became g.met.C.Clock.logged g.met.K.Keeper.log g.met.P.Port.path
+    c.args.self.now.clock.now c.loop-at.self.clock.now c.serve_group.new.self.clock.now
+    c.args.self.now.keeper.now c.loop-at.self.keeper.now c.serve_group.new.self.keeper.now
+    c.args.self.now.port.now c.loop-at.self.port.now c.serve_group.new.self.port.now inv.turned.deeds b inv.turned.done two));
       loans = (c.in-Ok.ensures.loans.0 ∙ inv.loans.0, c.in-Ok.ensures.loans.1 ∙ inv.loans.1, c.in-Ok.ensures.loans.2 ∙ inv.loans.2, c.in-Ok.ensures.loans.3 ∙ inv.loans.3);
       below = subst (λ x. IsBelow x (i + n)) (sym c.sum_of-sum.ensures) (plus_below c.loop-at.counts c.in-Ok.progress.counts i n inv.below c.in-Ok.ensures.below);
       few = c.in-Ok.ensures.few;
       going = c.in-Ok.ensures.going;
       firm = λ honest firm. c.in-Ok.ensures.firm honest (inv.firm (c.in-Ok.ensures.honest honest) firm);
-      more = λ confirms honest (before : Records) h. c.in-Ok.ensures.more (inv.quiet.confirms ∙ confirms) honest before
+      more = λ confirms honest (before : Kept) h. c.in-Ok.ensures.more (inv.quiet.confirms ∙ confirms) honest before
           (inv.more confirms (c.in-Ok.ensures.honest honest) before h);
       failures = c.in-Ok.ensures.failures ∙ inv.failures;
       honest = λ honest. inv.honest (c.in-Ok.ensures.honest honest);
       unopened = (g.met.K.Keeper.counted).then c.args.self.now.keeper.now c.loop-at.self.keeper.now k' 0 0 inv.unopened c.in-Ok.ensures.unopened;
-      same = (g.met.P.Port.path).onward c.args.self.now.port.now c.loop-at.self.port.now c.serve_group.new.self.port.now inv.same c.in-Ok.ensures.same;
       quiet = quiet_more (g.P.Port.told c.args.self.now.port.now) (g.P.Port.told c.loop-at.self.port.now) (g.P.Port.told c.serve_group.new.self.port.now) inv.quiet c.in-Ok.ensures.quiet;
-      may = λ f may. inv.may f (c.in-Ok.ensures.may f may);
+      may = λ honest f may. inv.may (c.in-Ok.ensures.honest honest) f (c.in-Ok.ensures.may honest f may);
+      medium = λ is. c.in-Ok.ensures.medium (inv.medium is);
     }
 
 pub returns-clause-ok : goal.returns-clause-ok
@@ -116,3 +129,29 @@ returns-then-over-clause-unopened g c = (g.met.K.Keeper.counted).then c.args.sel
 
 pub returns-clause-unopened : goal.returns-clause-unopened
 returns-clause-unopened g c = c.loop-at.invariant.unopened
+
+pub returns-in-Err-clause-medium : goal.returns-in-Err-clause-medium
+returns-in-Err-clause-medium g c = λ is. c.in-Err.ensures.medium (c.loop-at.invariant.medium is)
+
+pub returns-in-Err-clause-may : goal.returns-in-Err-clause-may
+returns-in-Err-clause-may g c = λ honest f may. c.loop-at.invariant.may (c.in-Err.ensures.honest honest) f (c.in-Err.ensures.may honest f may)
+
+pub returns-then-over-clause-medium : goal.returns-then-over-clause-medium
+returns-then-over-clause-medium g c = λ is. c.in-Ok.ensures.medium (c.loop-at.invariant.medium is)
+
+pub returns-then-over-clause-may : goal.returns-then-over-clause-may
+returns-then-over-clause-may g c = λ honest f may. c.loop-at.invariant.may (c.in-Ok.ensures.honest honest) f (c.in-Ok.ensures.may honest f may)
+
+pub returns-then-over-clause-more : goal.returns-then-over-clause-more
+returns-then-over-clause-more g c = λ confirms honest (before : Kept) h.
+    let inv = c.loop-at.invariant in
+    c.in-Ok.ensures.more (inv.quiet.confirms ∙ confirms) honest before (inv.more confirms (c.in-Ok.ensures.honest honest) before h)
+
+pub returns-clause-medium : goal.returns-clause-medium
+returns-clause-medium g c = c.loop-at.invariant.medium
+
+pub returns-in-Err-clause-at_most : goal.returns-in-Err-clause-at_most
+returns-in-Err-clause-at_most g c = λ confirms clean (before : Kept) h.
+    let inv = c.loop-at.invariant in
+    let honest = c.in-Err.ensures.honest ((g.met.K.Keeper.sound c.serve_group.new.self.keeper.now).clean_is_honest clean) in
+    c.in-Err.ensures.at_most clean before (inv.more confirms honest before h)

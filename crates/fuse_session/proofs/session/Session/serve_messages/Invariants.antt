@@ -1,7 +1,7 @@
 use Rattle.std.proofs.Common.{◌≡◌, ◌≤◌, ◌-◌, length, take, true, false}
-use Rattle.fuse_keeper.specs.declared.fault.StoreFault.{StoreFault}
-use Rattle.fuse_keeper.specs.Stands.{Records}
-use Rattle.fuse_keeper.specs.KeeperState.{IsFirm}
+use Rattle.fuse_session.specs.Starts.{Kept}
+use Rattle.fuse_session.specs.Deeds.{Did, Mute}
+use Rattle.fuse_keeper.specs.KeeperState.{IsFirm, AnswersNoMore}
 use Rattle.fuse_keeper.specs.Group.{ids_of}
 use Rattle.fuse_session.specs.Loans.{SameLoans}
 use Rattle.fuse_session.specs.Port.{IsQuiet}
@@ -14,22 +14,23 @@ abbrev pub invariant-loop-at : goal.invariant-loop-at
 invariant-loop-at g l = record {
   within : l.at ≤ length l.messages;
   loans : SameLoans l.fn.self l.self;
-  turned : Turned (g.K.Keeper.told l.fn.self.keeper.now) (g.K.Keeper.told l.self.keeper.now) (g.C.Clock.gave l.fn.self.clock.now l.self.clock.now) (g.P.Port.told l.fn.self.port.now) (g.P.Port.told l.self.port.now)
+  turned : Turned (g.K.Keeper.told l.fn.self.keeper.now) (g.K.Keeper.told l.self.keeper.now) (Mute (Did (g.C.Clock.gave l.fn.self.clock.now l.self.clock.now)
+      (g.K.Keeper.performed l.fn.self.keeper.now l.self.keeper.now) (g.P.Port.became l.fn.self.port.now l.self.port.now))) (g.P.Port.told l.fn.self.port.now) (g.P.Port.told l.self.port.now)
       (ids_of l.fn.self.pending.now.items) (ids_of l.self.pending.now.items) (take l.at l.messages) true l.counts;
   below : IsBelow l.counts l.at;
   few : length l.self.pending.now.items ≤ 16;
   going : (g.K.Keeper.told l.self.keeper.now).has_failed ≡ false;
   firm : (g.K.Keeper.told l.self.keeper.now).is_honest → IsFirm (g.K.Keeper.told l.fn.self.keeper.now)
       → IsFirm (g.K.Keeper.told l.self.keeper.now);
-  more : (g.P.Port.told l.fn.self.port.now).confirms ≡ true → (g.K.Keeper.told l.self.keeper.now).is_honest → (before : Records)
+  more : (g.P.Port.told l.fn.self.port.now).confirms ≡ true → (g.K.Keeper.told l.self.keeper.now).is_honest → (before : Kept)
       → HandsOn before (g.K.Keeper.told l.fn.self.keeper.now) (ids_of l.fn.self.pending.now.items)
       → HandsOn before (g.K.Keeper.told l.self.keeper.now) (ids_of l.self.pending.now.items);
   failures : (g.P.Port.told l.self.port.now).failures ≡ (g.P.Port.told l.fn.self.port.now).failures;
   honest : (g.K.Keeper.told l.self.keeper.now).is_honest → (g.K.Keeper.told l.fn.self.keeper.now).is_honest;
-  same : g.P.Port.became l.fn.self.port.now l.self.port.now;
   unopened : g.K.Keeper.became l.fn.self.keeper.now l.self.keeper.now 0;
   quiet : IsQuiet (g.P.Port.told l.fn.self.port.now) (g.P.Port.told l.self.port.now);
-  may : (f : StoreFault) → (g.K.Keeper.told l.self.keeper.now).may_answer f → (g.K.Keeper.told l.fn.self.keeper.now).may_answer f;
+  may : AnswersNoMore (g.K.Keeper.told l.fn.self.keeper.now) (g.K.Keeper.told l.self.keeper.now);
+  medium : (g.K.Keeper.told l.fn.self.keeper.now).in_memory → (g.K.Keeper.told l.self.keeper.now).in_memory;
 }
 
 abbrev pub decreases-loop-at : goal.decreases-loop-at
