@@ -3,4 +3,5 @@ pub mod InitCases
 pub mod RequestCases
 pub mod Vectors
 pub mod Hex
+pub mod Links
 pub mod WireCases

@@ -13,6 +13,8 @@ mod examples;
 mod hex;
 #[cfg(test)]
 mod keepers;
+#[cfg(test)]
+mod links;
 mod lists;
 #[cfg(test)]
 mod messages;
@@ -22,6 +24,8 @@ mod requests;
 mod run;
 #[cfg(test)]
 mod sessions;
+#[cfg(test)]
+mod settling;
 #[cfg(test)]
 mod texts;
 #[cfg(test)]

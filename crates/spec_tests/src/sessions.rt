@@ -11,6 +11,7 @@ use std::alloc::{AllocError, Global};
 mod clocks;
 mod devices;
 mod mounts;
+mod opcodes;
 mod ports;
 mod running;
 
@@ -123,7 +124,7 @@ fn sent_of(sent: &[u8], wanted: &[u8]) -> Option<usize> {
 }
 
 // A session over a keeper.
-fn serve_on(alloc: Global, keeper: &mut TreeKeeper, session: Session) -> Seen {
+fn serve_on<K: Keeper>(alloc: Global, keeper: &mut K, session: Session) -> Seen {
     if keeper.failed() {
         return FAILED;
     }
