@@ -1,4 +1,5 @@
 ghost use Rattle.std.specs.Prelude.{◌≡◌, ◌≤◌, [], false, IfSome, IfOk};
+ghost use Rattle.std.specs.Io.KnownBytes.{Appends};
 ghost use Rattle.sqlite.specs.Steps.{over_memory};
 ghost use Rattle.fuse_keeper.specs.KeeperState.{StandsFor};
 ghost use Rattle.fuse_tree.specs.TheTree.{the_tree};
@@ -32,8 +33,8 @@ pub(crate) fn simulate_in_memory<R: Read + Drop, W: Write>(
     writer: &mut W,
 ) -> Ending
     ensures { IfSome (R.remaining reader) (λ script. status_of result ≤ 1
-        → SimulatedFrom the_tree start (W.contents writer.old) (W.contents writer.new)
-        script result) }
+        → SimulatedFrom the_tree start
+        (Appends (W.contents writer.old) (W.contents writer.new)) script result) }
 {
     let keeper = match new_keeper(alloc) {
         Ok(keeper) => keeper,
