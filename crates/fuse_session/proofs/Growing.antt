@@ -224,10 +224,10 @@ pub life_heard : (M : Model) → HistoriesGrow M → (holds new : KeeperState M)
 life_heard M grows holds new honest did did' became p q r ids before after messages slice fault exact want exact' want' faulted faulted' h onward hearing same e w b faulted_too
     quiet clean_honest =
     let msgs : slice ≡ (cut (before.bytes ++ h.received)).0 = same ∙ sym (ap (λ (x : List (List ℕ) × List ℕ). x.0) h.took.cut_is) in
-    let quiet = quiet_heard M holds p q ids h.came.result h.received hearing in
+    let silence = quiet_heard M holds p q ids h.came.result h.received hearing in
     let broken = turned_broken M grows holds holds new (λ d. d ≡ one_heard h.came.result h.received) did (Hears did' h.received) p q r ids ids [] slice none_counted
-    exact want faulted faulted' quiet b faulted_too clean_honest honest (λ _ f. f)
-    (λ d x. subst (λ e. Hears did' h.received (then_did e d)) (sym quiet.done) (onward d x)) in
+    exact want faulted faulted' silence b faulted_too clean_honest honest (λ _ f. f)
+    (λ d x. subst (λ e. Hears did' h.received (then_did e d)) (sym silence.done) (onward d x)) in
     record {
       received = h.received;
       came = subst (λ o. Consumes p.coming o h.received) (sym quiet.coming) h.came.bytes;

@@ -1,62 +1,121 @@
 -- What came was answered, turn after turn.
-use Rattle.std.proofs.Common.{◌≡◌, ◌<◌, ◌≤◌, ◌+◌, ℕ, List, [], ◌∙◌, arith, inl, inr, ◌⊎◌, sym, ap}
-use Rattle.std.proofs.lemmas.Bool.{cases_lt}
-use Rattle.fuse_wire.specs.declared.moment.Moment.{Moment}
+use Rattle.std.proofs.Common.{◌≡◌, ◌⊎◌, inl, inr, ℕ, Bool, true, List, [], ◌∷◌, ◌++◌, refl, sym, ap, subst, ◌∙◌}
+use Rattle.fuse_request.specs.Stream.{cut}
 use Rattle.fuse_keeper.specs.Model.{Model}
 use Rattle.fuse_keeper.specs.KeeperState.{KeeperState}
 use Rattle.fuse_session.specs.declared.counts.SessionCounts.{SessionCounts}
-use Rattle.fuse_session.specs.Port.{PortState, IsPath}
-use Rattle.fuse_session.specs.Serving.{Whole}
-use Rattle.fuse_session.specs.Prompt.{CaughtUp, WasCaughtUp}
+use Rattle.fuse_session.specs.declared.port.Received.{Received as Receipt}
+use Rattle.fuse_session.specs.declared.port.Sent.{Sent}
+use Rattle.fuse_session.specs.Port.{PortState}
+use Rattle.fuse_session.specs.Transcript.{PortEvent, Received, Handed, sends_of}
+use Rattle.fuse_session.specs.Deeds.{Deeds, no_deeds, then_did}
+use Rattle.fuse_session.specs.Serving.{Turned, Whole, Run}
+use Rattle.fuse_session.specs.Prompt.{CaughtUp, AnswersFirst, Prompt}
+use Rattle.fuse_session.specs.Turn.{OneTurn}
+
+-- this was done, and all that came was answered before each receive
+pub record Answering {M : Model} (k new : KeeperState M) (did : Deeds → Type 0) (confirms : Bool) (deeds : Deeds) : Type 0 where
+  pub done : did deeds
+  pub first : AnswersFirst k new confirms deeds.events
 
 -- all messages that came were processed
-pub whole_caught_up : (M : Model) → (k new : KeeperState M) (gave : List Moment → Type 0) (p q : PortState) (ids rest : List ℕ) (at : ℕ)
-    (counts : SessionCounts) → Whole k new gave p q [] ids [] rest 0 at counts → CaughtUp k new p q
-whole_caught_up M k new gave p q ids rest at counts w = record {
-  received = w.received;
-  came = w.came;
+pub caught_whole : (M : Model) → (k new : KeeperState M) (did : Deeds → Type 0) (p q : PortState) (ids rest : List ℕ) (at : ℕ)
+    (counts : SessionCounts) → (w : Whole k new did p q [] ids [] rest 0 at counts) → CaughtUp k new p.confirms w.turned.deeds.events
+caught_whole M k new did p q ids rest at counts w = record {
   timed = w.turned.timed;
   marks = w.turned.marks;
-  bytes = w.turned.bytes;
-  replied = w.turned.replied;
+  bytes = ap (λ r. (cut r).0) w.turned.done.1 ∙ w.turned.bytes;
+  full = w.turned.full;
+  slices = w.turned.slices;
   sent = λ honest s h t so again. (w.turned.all honest s h t so (λ i there. absurd (cc there)) again).sent;
 }
 
--- and so it was, whatever comes later
-pub caught_later : {P : Type 0} → (M : Model) → (told : P → PortState) (became : P → P → Type 0) (k mid new : KeeperState M) (old now later : P) (n : ℕ)
-    → IsPath became → became now later → (new.is_honest → mid.is_honest)
-    → WasCaughtUp told became k mid old now n → WasCaughtUp told became k new old later n
-caught_later M told became k mid new old now later n path went honest_too w = record {
-  port = w.port;
-  before = w.before;
-  after = path.onward w.port now later w.after went;
-  receives = w.receives;
-  caught_up = let c = w.caught_up in record {
-    received = c.received;
-    came = c.came;
-    timed = c.timed;
-    marks = c.marks;
-    bytes = c.bytes;
-    replied = c.replied;
-    sent = λ honest. c.sent (honest_too honest);
-  };
+caught_later : (M : Model) → (k mid new : KeeperState M) (confirms : Bool) (events : List PortEvent) → (new.is_honest → mid.is_honest)
+    → CaughtUp k mid confirms events → CaughtUp k new confirms events
+caught_later M k mid new confirms events honest_too c = record {
+  timed = c.timed;
+  marks = c.marks;
+  bytes = c.bytes;
+  full = c.full;
+  slices = c.slices;
+  sent = λ honest. c.sent (honest_too honest);
 }
 
-split : (n m : ℕ) → n ≤ m + 1 → (n ≤ m) ⊎ (n ≡ m + 1)
-split n m le = elim (cases_lt m n) [ inl above ↦ inr (omega (arith, above, le)) | inr within ↦ inl within ]
+-- no receive is among sends
+no_receive : (slices : List (List ℕ × Sent)) (before after : List PortEvent) (result : Receipt) (bytes : List ℕ)
+    → sends_of slices ≡ before ++ Received result bytes ∷ after → ⊥
+no_receive [] [] after result bytes is = cc is
+no_receive [] (b ∷ before) after result bytes is = cc is
+no_receive (x ∷ slices) [] after result bytes is = cc is
+no_receive (x ∷ slices) (b ∷ before) after result bytes is = no_receive slices before after result bytes (cc is)
+
+-- a receive is one of those before the last one, or the last one
+which : (es : List PortEvent) (r : Receipt) (x : List ℕ) (slices : List (List ℕ × Sent)) (before after : List PortEvent) (result : Receipt) (bytes : List ℕ)
+    → es ++ Received r x ∷ sends_of slices ≡ before ++ Received result bytes ∷ after
+    → ((later : List PortEvent) × (es ≡ before ++ Received result bytes ∷ later)) ⊎ (before ≡ es)
+which [] r x slices [] after result bytes is = inr refl
+which [] r x slices (b ∷ before) after result bytes is = absurd (no_receive slices before after result bytes (cc is))
+which (e ∷ es) r x slices [] after result bytes is =
+    let head : e ≡ Received result bytes = cc is in
+    inl (es, ap (λ y. y ∷ es) head)
+which (e ∷ es) r x slices (b ∷ before) after result bytes is =
+    let head : e ≡ b = cc is in
+    let tail : es ++ Received r x ∷ sends_of slices ≡ before ++ Received result bytes ∷ after = cc is in
+    elim (which es r x slices before after result bytes tail) [
+      | inl earlier ↦ inl (earlier.0, ap (λ y. y ∷ es) head ∙ ap (λ (l : List PortEvent). b ∷ l) earlier.1)
+      | inr here ↦ inr (ap (λ (l : List PortEvent). b ∷ l) here ∙ ap (λ y. y ∷ es) (sym head))
+    ]
+
+-- nothing was received yet
+pub first_none : (M : Model) → (k new : KeeperState M) (confirms : Bool) → AnswersFirst k new confirms []
+first_none M k new confirms before after result bytes is = absurd (no_receive [] before after result bytes is)
 
 -- a turn more
-pub caught_more : {P : Type 0} → (M : Model) → (told : P → PortState) (became : P → P → Type 0) (k mid new : KeeperState M) (old now later : P) (turn : ℕ)
-    → IsPath became → became old now → became now later → (new.is_honest → mid.is_honest)
-    → (told later).receives ≡ (told old).receives + (turn + 1) → CaughtUp k new (told old) (told later)
-    → ((n : ℕ) → 0 < n → n ≤ turn → WasCaughtUp told became k mid old now n) → (n : ℕ) → 0 < n → n ≤ turn + 1 → WasCaughtUp told became k new old later n
-caught_more M told became k mid new old now later turn path before went honest_too receives up so n some le = elim (split n turn le) [
-  | inl earlier ↦ caught_later M told became k mid new old now later n path went honest_too (so n some earlier)
-  | inr here ↦ record {
-    port = later;
-    before = path.onward old now later before went;
-    after = path.none later;
-    receives = receives ∙ ap (λ m. (told old).receives + m) (sym here);
-    caught_up = up;
-  }
-]
+pub first_more : (M : Model) → (k mid new : KeeperState M) (did : Deeds → Type 0) (confirms : Bool) (a b : Deeds) → (new.is_honest → mid.is_honest)
+    → CaughtUp k mid confirms a.events → AnswersFirst k mid confirms a.events → OneTurn did b → AnswersFirst k new confirms (a.events ++ b.events)
+first_more M k mid new did confirms a b honest_too up first turn before after result bytes is =
+    elim (which a.events turn.result turn.bytes turn.slices before after result bytes
+    (ap (λ (l : List PortEvent). a.events ++ l) (sym turn.events) ∙ is)) [
+      | inl earlier ↦ caught_later M k mid new confirms before honest_too (first before earlier.0 result bytes earlier.1)
+      | inr here ↦ subst (CaughtUp k new confirms) (sym here) (caught_later M k mid new confirms a.events honest_too up)
+    ]
+
+turned_did : (M : Model) → (k new : KeeperState M) (did did' : Deeds → Type 0) (p q : PortState) (ids ids' : List ℕ) (prefix : List (List ℕ)) (going : Bool)
+    (counts : SessionCounts) → ((d : Deeds) → did d → did' d) → Turned k new did p q ids ids' prefix going counts → Turned k new did' p q ids ids' prefix going counts
+turned_did M k new did did' p q ids ids' prefix going counts f t = record {
+  timed = t.timed;
+  marks = t.marks;
+  bytes = t.bytes;
+  full = t.full;
+  deeds = t.deeds;
+  done = f t.deeds t.done;
+  moments = t.moments;
+  batches = t.batches;
+  are = t.are;
+  answered = t.answered;
+  asked = t.asked;
+  left = t.left;
+  slices = t.slices;
+  replied = t.replied;
+  handed = t.handed;
+  all = t.all;
+  few = t.few;
+}
+
+pub whole_did : (M : Model) → (k new : KeeperState M) (did : Deeds → Type 0) (p q : PortState) (ids ids' held rest : List ℕ) (begin at : ℕ) (confirms : Bool)
+    (counts : SessionCounts) → Whole k new (Answering k new did confirms) p q ids ids' held rest begin at counts → Whole k new did p q ids ids' held rest begin at counts
+whole_did M k new did p q ids ids' held rest begin at confirms counts w = record {
+  received = w.received;
+  came = w.came;
+  rest_is = w.rest_is;
+  at = w.at;
+  turned = turned_did M k new _ _ p q ids ids' _ true counts (λ d x. (x.0.done, x.1)) w.turned;
+}
+
+pub prompt_run : (M : Model) → (k new : KeeperState M) (did : Deeds → Type 0) (p q : PortState) (ids held : List ℕ) (confirms store memory : Bool)
+    (faulted : Type 0) → Run k new (Answering k new did confirms) p q ids held store memory faulted → Prompt k new did confirms
+prompt_run M k new did p q ids held confirms store memory faulted l = record {
+  deeds = l.broken.deeds;
+  done = l.broken.done.0.done;
+  first = l.broken.done.0.first;
+}

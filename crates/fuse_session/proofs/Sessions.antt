@@ -30,7 +30,7 @@ use Rattle.fuse_session.specs.declared.port.Received.TheVariants.{End as ByEnd, 
 use Rattle.fuse_session.specs.Transcript.{PortEvent, Received}
 use Rattle.fuse_session.specs.Deeds.{Deeds, no_deeds, then_did, Hears}
 use Rattle.fuse_session.proofs.Doing.{one_heard}
-use Rattle.std.proofs.lemmas.Nat.{eqb-refl, eqb-false}
+use Rattle.std.proofs.lemmas.Bool.{eqb-true, eqb-false}
 use Rattle.fuse_session.specs.Faults.{MayFault}
 use Rattle.fuse_session.specs.Serving.{Turned, Lived, ProcessedAll, Whole, Run, FewSettled, lasts}
 use Rattle.fuse_session.specs.Ends.{Rested, Halted, EndsAs, EndsNot, IsGoodRest, FaultOf, receive_failed, counts_at, ended_store, ended_memory, ended_port, SentExactly, ExactAt, MayEnd}
@@ -129,7 +129,8 @@ ends_unheard M holds did became p q ids h (ZeroUnique at) turns alone ready n he
 ends_unheard M holds did became p q ids h (Store fault) turns alone ready n hearing = absurd n
 
 not_true : (a b : ℕ) → a < b → not (b == a) ≡ true
-not_true a b lt = ap not (eqb-false b a (λ is. absurd (omega (arith, lt, is))))
+not_true a b lt = elim (b == a) as (λ x. (b == a) ≡ x → not x ≡ true)
+    [ true ↦ λ is. absurd (let same = eqb-true b a is in omega (arith, lt, same)) | false ↦ λ _. refl ] refl
 
 pub unheard_counts : (e : Ended) (became : List PortEvent → Type 0) (p q : PortState) (h : Held) (told : Option SessionCounts) (counts : SessionCounts)
     → NotHeard e became p q h → told ≡ counts_at true e counts → told ≡ counts_at (receive_failed p q) e counts
@@ -327,7 +328,8 @@ pub none_below : (n : ℕ) → IsBelow none_counted n
 none_below n = record { messages = omega arith; kept = omega arith; repeated = omega arith; bare = omega arith; silent = omega arith; interrupts = omega arith }
 
 none_failed : (p r : PortState) → r.receive_failures ≡ p.receive_failures → receive_failed p r ≡ false
-none_failed p r same = ap not (ap (λ n. n == p.receive_failures) same ∙ eqb-refl p.receive_failures)
+none_failed p r same = elim (r.receive_failures == p.receive_failures) as (λ x. (r.receive_failures == p.receive_failures) ≡ x → not x ≡ false)
+    [ true ↦ λ _. refl | false ↦ λ is. absurd (eqb-false r.receive_failures p.receive_failures is same) ] refl
 
 -- whether a receive failed since is the same where none failed before
 pub failed_since : (p q r : PortState) → q.receive_failures ≡ p.receive_failures → receive_failed q r ≡ receive_failed p r

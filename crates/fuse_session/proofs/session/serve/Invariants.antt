@@ -1,19 +1,22 @@
 use Rattle.std.proofs.Common.{◌≡◌, ℕ, ◌<◌, ◌≤◌, ◌+◌, ◌*◌, ◌^◌, [], length, true, false}
 use Rattle.fuse_request.specs.Framing.{fed_of}
-use Rattle.fuse_keeper.specs.declared.fault.StoreFault.{StoreFault}
-use Rattle.fuse_keeper.specs.Stands.{Records}
-use Rattle.fuse_keeper.specs.KeeperState.{IsFirm}
+use Rattle.fuse_keeper.specs.KeeperState.{IsFirm, AnswersNoMore}
 use Rattle.fuse_keeper.specs.Group.{ids_of}
 use Rattle.fuse_session.specs.Moves.{HandsOn}
 use Rattle.fuse_session.specs.Counting.{IsBelow}
 use Rattle.fuse_session.specs.Receiving.{IsOpen}
 use Rattle.fuse_session.specs.Serving.{Whole}
-use Rattle.fuse_session.specs.Prompt.{WasCaughtUp}
+use Rattle.fuse_session.specs.Deeds.{Did}
+use Rattle.fuse_session.specs.Ends.{EndsNot}
+use Rattle.fuse_session.specs.Starts.{Kept}
+use Rattle.fuse_session.proofs.Prompting.{Answering}
 use Rattle.fuse_session.proofs.session.serve.Given as goal
 
 abbrev pub invariant-loop-turn : goal.invariant-loop-turn
 invariant-loop-turn g l = record {
-  whole : Whole (g.K.Keeper.told l.fn.keeper) (g.K.Keeper.told l.keeper) (g.C.Clock.gave l.fn.clock l.clock) (g.P.Port.told l.fn.port) (g.P.Port.told l.port)
+  whole : Whole (g.K.Keeper.told l.fn.keeper) (g.K.Keeper.told l.keeper) (Answering (g.K.Keeper.told l.fn.keeper) (g.K.Keeper.told l.keeper)
+      (Did (g.C.Clock.gave l.fn.clock l.clock) (g.K.Keeper.performed l.fn.keeper l.keeper) (g.P.Port.became l.fn.port l.port))
+      (g.P.Port.told l.fn.port).confirms) (g.P.Port.told l.fn.port) (g.P.Port.told l.port)
       [] (ids_of l.pending.items) [] l.framer.bytes 0 l.framer.at l.counts;
   ready : IsOpen l.framer;
   below : IsBelow l.counts (l.turn * 2 ^ 20);
@@ -21,18 +24,17 @@ invariant-loop-turn g l = record {
   going : (g.K.Keeper.told l.keeper).has_failed ≡ false;
   firm : (g.K.Keeper.told l.keeper).is_honest → IsFirm (g.K.Keeper.told l.fn.keeper)
       → IsFirm (g.K.Keeper.told l.keeper);
-  more : (g.P.Port.told l.fn.port).confirms ≡ true → (g.K.Keeper.told l.keeper).is_honest → (before : Records) → HandsOn before (g.K.Keeper.told l.fn.keeper) []
+  more : (g.P.Port.told l.fn.port).confirms ≡ true → (g.K.Keeper.told l.keeper).is_honest → (before : Kept) → HandsOn before (g.K.Keeper.told l.fn.keeper) []
       → HandsOn before (g.K.Keeper.told l.keeper) (ids_of l.pending.items);
   receives : (g.P.Port.told l.port).receives ≡ (g.P.Port.told l.fn.port).receives + l.turn;
   failures : (g.P.Port.told l.port).failures ≡ (g.P.Port.told l.fn.port).failures;
   receive_failures : (g.P.Port.told l.port).receive_failures ≡ (g.P.Port.told l.fn.port).receive_failures;
-  has_ended : (g.P.Port.told l.port).has_ended ≡ (g.P.Port.told l.fn.port).has_ended;
+  not_ended : EndsNot (g.P.Port.told l.fn.port) (g.P.Port.told l.port);
   confirms : (g.P.Port.told l.port).confirms ≡ (g.P.Port.told l.fn.port).confirms;
   fed : fed_of l.framer ≤ l.turn * 135168;
   room : length l.buffer.items ≡ 135168;
   honest : (g.K.Keeper.told l.keeper).is_honest → (g.K.Keeper.told l.fn.keeper).is_honest;
-  same : g.P.Port.became l.fn.port l.port;
   unopened : g.K.Keeper.became l.fn.keeper l.keeper 0;
-  prompt : (n : ℕ) → 0 < n → n ≤ l.turn → WasCaughtUp g.P.Port.told g.P.Port.became (g.K.Keeper.told l.fn.keeper) (g.K.Keeper.told l.keeper) l.fn.port l.port n;
-  may : (f : StoreFault) → (g.K.Keeper.told l.keeper).may_answer f → (g.K.Keeper.told l.fn.keeper).may_answer f;
+  may : AnswersNoMore (g.K.Keeper.told l.fn.keeper) (g.K.Keeper.told l.keeper);
+  medium : (g.K.Keeper.told l.fn.keeper).in_memory → (g.K.Keeper.told l.keeper).in_memory;
 }
