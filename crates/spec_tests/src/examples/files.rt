@@ -92,6 +92,7 @@ fn sessions(rt: HostRuntime) -> Result<(), Fail> {
 fn further_opcodes(rt: HostRuntime) -> Result<(), Fail> {
     let counts = SessionCounts {
         messages: 14,
+        bare: 1,
         ..counts_of(13, 3)
     };
     assert_eq!(rt; serves_new(rt.alloc(), &FURTHER, counts)?, true);
