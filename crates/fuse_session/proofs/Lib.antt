@@ -20,5 +20,6 @@ pub mod Waiting
 pub mod Growing
 pub mod Sessions
 pub mod Prompting
+pub mod Starting
 pub mod Doing
 pub mod Lots

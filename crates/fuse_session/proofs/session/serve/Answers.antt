@@ -84,7 +84,8 @@ loop-turn-preserved g c =
     let e = c.in-Ok-one_turn.ensures in
     let t = e.ok in
     let k' = c.one_turn.new.keeper in
-    let whole = whole_step g.K.Keeper.model c.histories_grow.ensures c.cut_joins.ensures (g.K.Keeper.told c.args.keeper.now)
+    record {
+      whole = whole_step g.K.Keeper.model c.histories_grow.ensures c.cut_joins.ensures (g.K.Keeper.told c.args.keeper.now)
     (g.K.Keeper.told c.loop-turn.keeper) (g.K.Keeper.told k') _
     _ _ _ _ _ []
     (ids_of c.loop-turn.pending.items) (ids_of c.one_turn.new.pending.items) [] _ _ 0 _ _ c.loop-turn.counts c.in-Ok-one_turn.more c.sum_of-counts.result
@@ -94,9 +95,7 @@ loop-turn-preserved g c =
     c.args.port.now c.loop-turn.port c.one_turn.new.port inv.whole.turned.deeds b inv.whole.turned.done.0.done two.done;
       first = first_more g.K.Keeper.model (g.K.Keeper.told c.args.keeper.now) (g.K.Keeper.told c.loop-turn.keeper) (g.K.Keeper.told c.one_turn.new.keeper) _ _
           inv.whole.turned.deeds b e.honest (caught_whole g.K.Keeper.model _ _ _ _ _ _ _ _ _ inv.whole) inv.whole.turned.done.0.first two;
-    }) in
-    record {
-      whole = whole;
+    });
       ready = t.opened;
       below = subst (λ x. IsBelow x ((c.loop-turn.turn + 1) * 2 ^ 20)) (sym c.sum_of-counts.ensures)
           (below_more _ (c.loop-turn.turn * 2 ^ 20 + 2 ^ 20) _ (omega arith) (plus_below c.loop-turn.counts c.in-Ok-one_turn.more (c.loop-turn.turn * 2 ^ 20)
