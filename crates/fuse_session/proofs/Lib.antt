@@ -21,5 +21,4 @@ pub mod Growing
 pub mod Sessions
 pub mod Prompting
 pub mod Starting
-pub mod Doing
 pub mod Lots

@@ -1,4 +1,4 @@
-use Rattle.std.proofs.Common.{◌≡◌, ℕ, ◌<◌, ◌≤◌, ◌+◌, ◌*◌, ◌^◌, [], length, true, false}
+use Rattle.std.proofs.Common.{◌≡◌, ◌≤◌, ◌+◌, ◌*◌, ◌^◌, [], length, true, false}
 use Rattle.fuse_request.specs.Framing.{fed_of}
 use Rattle.fuse_keeper.specs.KeeperState.{IsFirm, AnswersNoMore}
 use Rattle.fuse_keeper.specs.Group.{ids_of}

@@ -1,4 +1,4 @@
-use Rattle.std.proofs.Common.{rules, arith, ◌≡◌, length, min, sym, ap, ◌∙◌}
+use Rattle.std.proofs.Common.{rules, arith, ◌≡◌, length, sym, ◌∙◌}
 use Rattle.std.proofs.lemmas.Grind.{common_steps}
 use Rattle.fuse_session.specs.Memory.{first_outcome, outcomes_left, kept_by}
 use Rattle.fuse_session.proofs.Rooms.{refused, answers_failed, answers_no_place, answers_no_room}
