@@ -1,29 +1,31 @@
 -- What holds when events have been run, to their end or to a fault.
-use Rattle.std.proofs.Common.{◌≡◌, ℕ, ◌+◌, ◌≤◌, Bool, true, false, ◌||◌, inl, inr, List, [], ◌++◌, map, take, drop, Option, Some, None, if◌then◌else◌, length}
+use Rattle.std.proofs.Common.{◌≡◌, ℕ, ◌+◌, ◌≤◌, Bool, true, false, ◌||◌, inl, inr, List, [], ◌++◌, map, take, drop, Option, Some, None, IsSomeAnd, if◌then◌else◌, length}
 use Rattle.std.proofs.Common.{refl, sym, ap, subst, ◌∙◌, arith}
 use Rattle.std.proofs.Math.Seq.{take-add}
-use Rattle.std.proofs.lemmas.List.{take_all}
+use Rattle.std.proofs.lemmas.List.{take_all, append-nil, length-map, take-append-drop}
 use Rattle.std.proofs.lemmas.List.Elements.{All-append, All-nil}
 use Rattle.fuse_request.specs.Opcodes.{OpcodeSet}
 use Rattle.fuse_keeper.specs.declared.fault.StoreFault.{StoreFault}
-use Rattle.fuse_keeper.specs.History.{History, HistoriesGrow, Includes, is_in, said}
+use Rattle.fuse_keeper.specs.History.{History, HistoriesGrow, Includes, is_in}
+use Rattle.fuse_keeper.specs.History.{said}
+use Rattle.fuse_keeper.specs.Performance.{Performance, performances_of, IsPerformanceLog}
 use Rattle.fuse_keeper.specs.Model.{Model}
 use Rattle.fuse_keeper.specs.Stands.{Records}
-use Rattle.fuse_keeper.specs.KeeperState.{KeeperState, StandsFor, KeepsHeld, Reports, IsCount}
+use Rattle.fuse_keeper.specs.KeeperState.{KeeperState, StandsFor, KeepsHeld, Reports, IsCount, IsFirm}
 use Rattle.fuse_sim.specs.declared.event.Event.{Event}
 use Rattle.fuse_sim.specs.declared.event.Outcome.{Outcome}
 use Rattle.fuse_sim.specs.declared.event.DriveFault.{DriveFault}
-use Rattle.fuse_sim.specs.Driving.{committed, outcome_of, bytes_given, settled_by, NoneReused, told_in, StandsIn, became_in, deaths, Opened, AnsweredBy}
-use Rattle.fuse_sim.specs.Driving.{OfRestart, IsFit, event_of, before, is_store, LeftBy}
-use Rattle.fuse_sim.specs.HandedOn.{Ledger, empty_ledger}
+use Rattle.fuse_sim.specs.Driving.{commits_in, committed, outcome_of, bytes_given, settled_by, NoneReused, told_in, StandsIn, became_in, deaths, Opened, AnsweredBy}
+use Rattle.fuse_sim.specs.Driving.{OfRestart, IsFit, event_of, before, is_store, LeftBy, OutcomesBegin, StoodBefore, KeepsMedium, performed_in}
+use Rattle.fuse_sim.specs.HandedOn.{Ledger, empty_ledger, performances, handed_in, AsksUpTo, AskedSome}
 use Rattle.fuse_sim.specs.inner.HandedBy.{ledger_after, handed_on}
-use Rattle.fuse_sim.specs.LeftRecords.{SettledBefore, RecordsLeft, HoldsRecords}
-use Rattle.fuse_sim.specs.inner.Running.{Moved, MayBegin, Opens, Stops}
+use Rattle.fuse_sim.specs.LeftRecords.{RecordsLeft, HoldsRecords}
+use Rattle.fuse_sim.specs.inner.Running.{Moved, MayBegin, Opens, Stops, AsksFrom, AsksRun, StopsAsking}
 use Rattle.fuse_sim.proofs.Settled.{tested, is_in-append, stands_later, stands_kept}
 use Rattle.fuse_sim.proofs.Driven.{ledger-append, pending_settled, settled_all, includes_none, handed_came}
-use Rattle.fuse_sim.proofs.Removed.{settled_handed, handed_settled}
-use Rattle.fuse_sim.proofs.Moves.{ran_more, ran_none}
-use Rattle.fuse_sim.proofs.Openings.{became_then, opened_more, opened_still}
+use Rattle.fuse_sim.proofs.Asking.{handed_performances, asks_more}
+use Rattle.fuse_sim.proofs.Moves.{ran_more, ran_none, begin_all}
+use Rattle.fuse_sim.proofs.Openings.{became_then, opened_more, opened_still, stood_before_more, stood_still, medium_then, medium_left}
 
 -- events, and then others
 moved_parts : (M : Model) → HistoriesGrow M → (holds mid holds' : KeeperState M) (es es' others others' : List Event) (p p' : List ℕ)
@@ -84,7 +86,17 @@ pub moved_outcomes : (M : Model) (holds holds' : KeeperState M) (es others : Lis
     → holds'.is_honest → (s : M.State) (h : History) (t : List ℕ) → StandsFor holds s h t → NoneReused M.serves t es
     → map bytes_given new ≡ map (outcome_of M s (committed M.serves h es)) es
 moved_outcomes M holds holds' es others p new moved is s h t so none = ap (map bytes_given) moved.ran.items
-    ∙ moved.ran.outcomes is s h t t so (λ i there. there) (includes_none t) none
+    ∙ begin_all M s h es (map bytes_given moved.ran.added) (length-map moved.ran.added bytes_given ∙ moved.ran.count)
+    (moved.ran.outcomes is es [] (sym (append-nil es)) s h t t so (λ i there. there) (includes_none t) none)
+
+-- up to a message that comes again
+pub moved_outcomes_before : (M : Model) (holds holds' : KeeperState M) (es others : List Event) (p : List ℕ) (new : List (Option Outcome))
+    → Moved holds holds' empty_ledger es others p [] new
+    → holds'.is_honest → (earlier later : List Event) → es ≡ earlier ++ later → (s : M.State) (h : History) (t : List ℕ) → StandsFor holds s h t
+    → NoneReused M.serves t earlier → OutcomesBegin M s h earlier (map bytes_given new)
+moved_outcomes_before M holds holds' es others p new moved is earlier later parts s h t so none =
+    subst (λ os. OutcomesBegin M s h earlier (map bytes_given os)) (sym moved.ran.items)
+    (moved.ran.outcomes is earlier later parts s h t t so (λ i there. there) (includes_none t) none)
 
 pub moved_count : (M : Model) (holds holds' : KeeperState M) (es others : List Event) (p : List ℕ) (new : List (Option Outcome))
     → Moved holds holds' empty_ledger es others p [] new → length new ≡ length es
@@ -116,17 +128,11 @@ moved_records M holds holds' es others p new moved none is rows records held row
       held = done.held;
       rowed = done.rowed;
       left = record {
-        gone = λ i was. done.left.gone [] (includes_none []) none i (settled_handed M.serves es i was);
+        gone = λ i was. done.left.gone [] (includes_none []) none i (sym (ap (λ x. is_in x i) (handed_performances M.serves es)) ∙ was);
         others = λ i isnt. kept_or_gone (is_in (handed_on M.serves empty_ledger es) i) (records i) (done.records i) (done.left.others i isnt)
             (λ there. absurd (let came = handed_came M.serves es i there in cc (came, isnt)));
       };
     }
-
-not_handed : (V : OpcodeSet) (es : List Event) (i : ℕ) → ¬ SettledBefore V 1 es i → is_in (handed_on V empty_ledger es) i ≡ false
-not_handed V es i isnt = elim (tested (is_in (handed_on V empty_ledger es) i)) [
-  | inl there ↦ absurd (isnt (handed_settled V es i there))
-  | inr absent ↦ absent
-]
 
 not_in_both : (xs ys : List ℕ) (i : ℕ) → is_in xs i ≡ false → is_in ys i ≡ false → is_in (xs ++ ys) i ≡ false
 not_in_both xs ys i one two = is_in-append xs ys i ∙ ap (λ b. b || is_in ys i) one ∙ two
@@ -143,11 +149,11 @@ pub moved_left : (M : Model) → {K : Type 0} (told : K → KeeperState M) (old 
     → Moved (told_in told old) (told_in told new) empty_ledger es others p [] outcomes
     → (told_in told new).is_honest → (s : M.State) (h : History) (t : List ℕ) → StandsIn told old s h t → NoneReused M.serves t es → (rows : M.Rows) (records : Records)
     → (told_in told new).holds rows records
-    → (i : ℕ) → is_in t i ≡ false → ¬ SettledBefore M.serves 1 es i → records i ≡ said M s (committed M.serves h es) i
+    → (i : ℕ) → is_in t i ≡ false → is_in (handed_in (performances M.serves es)) i ≡ false → records i ≡ said M s (committed M.serves h es) i
 moved_left M told old new es others p outcomes one moved is s h t so none rows records held i unsettled isnt =
     let left = moved_kept M (told_in told old) (told_in told new) es others p outcomes moved is s h t so none in
     same_records M told new rows left.rows records left.records one held left.held i
-    ∙ left.stands.kept i (not_in_both t (handed_on M.serves empty_ledger es) i unsettled (not_handed M.serves es i isnt))
+    ∙ left.stands.kept i (not_in_both t (handed_on M.serves empty_ledger es) i unsettled (sym (ap (λ x. is_in x i) (handed_performances M.serves es)) ∙ isnt))
 
 -- ---- a fault
 
@@ -222,7 +228,7 @@ stopped_opened M told became refuses law old mid new events at fault opened stop
 -- no keeper was left
 pub stopped_emptied : (M : Model) → {K : Type 0} (told : K → KeeperState M) (became : K → K → ℕ → Type 0) (refuses : K → StoreFault → Type 0) → IsCount became
     → (old mid new : Option K) (events : List Event) (at : ℕ) (fault : DriveFault)
-    → Opened told became old mid (take at events) → Stops told became refuses mid new events at fault → new ≡ None → OfRestart became refuses old events fault
+    → Opened told became old mid (take at events) → Stops told became refuses mid new events at fault → new ≡ None → OfRestart became refuses old (before fault events) events fault
 stopped_emptied M told became refuses law old mid new events at fault opened stops none =
     let refused = stops.emptied none in
     record {
@@ -232,3 +238,96 @@ stopped_emptied M told became refuses law old mid new events at fault opened sto
           (omega (arith, refused.calm));
       refused = refused.refused;
     }
+
+-- ---- what stood on the way, the medium, and what a crash could leave
+
+pub moved_stood : (M : Model) → {K : Type 0} (told : K → KeeperState M) (became : K → K → ℕ → Type 0) → IsCount became
+    → (old mid new : Option K) (events : List Event) (at n : ℕ) (p : List ℕ) (outcomes : List (Option Outcome))
+    → Moved (told_in told old) (told_in told mid) empty_ledger (take at events) (drop at events) p [] outcomes → Opened told became old mid (take at events)
+    → StoodBefore told became old mid (take at events)
+    → Opens told became mid new p (take n (drop at events)) → StoodBefore told became old new (take (at + n) events)
+moved_stood M told became law old mid new events at n p outcomes moved opened stood opens =
+    subst (StoodBefore told became old new) (sym (take-add at n events))
+    (stood_before_more M told became law old mid new (take at events) (take n (drop at events)) p
+    (moved_stands M (told_in told old) (told_in told mid) (take at events) (drop at events) p outcomes moved) opened.often stood opens)
+
+pub stopped_stood : (M : Model) → {K : Type 0} (told : K → KeeperState M) (became : K → K → ℕ → Type 0) (refuses : K → StoreFault → Type 0) → IsCount became
+    → (old mid new : Option K) (events : List Event) (at : ℕ) (fault : DriveFault)
+    → StoodBefore told became old mid (take at events) → Stops told became refuses mid new events at fault → (new ≡ None → ⊥)
+    → StoodBefore told became old new (before fault events)
+stopped_stood M told became refuses law old mid new events at fault stood stops there =
+    let stayed = stops.stayed there in
+    subst (λ n. StoodBefore told became old new (take n events)) (sym stayed.0)
+    (stood_still M told became law old mid new (take at events) stayed.1 stops.was_honest stood)
+
+pub stopped_medium : (M : Model) → {K : Type 0} (told : K → KeeperState M) (became : K → K → ℕ → Type 0) (refuses : K → StoreFault → Type 0)
+    (P : K → Type 0) (old mid new : Option K) (events : List Event) (at : ℕ) (fault : DriveFault)
+    → IsSomeAnd mid P → KeepsMedium told old mid → Stops told became refuses mid new events at fault → KeepsMedium told old new
+stopped_medium M told became refuses P old mid new events at fault going medium stops =
+    medium_then M told old mid new P going medium (medium_left M told mid new stops.medium)
+
+pub stopped_firm : (M : Model) → {K : Type 0} (told : K → KeeperState M) (became : K → K → ℕ → Type 0) (refuses : K → StoreFault → Type 0)
+    (old mid new : Option K) (events others : List Event) (at : ℕ) (fault : DriveFault) (p : List ℕ) (outcomes : List (Option Outcome))
+    → Moved (told_in told old) (told_in told mid) empty_ledger (take at events) others p [] outcomes
+    → Stops told became refuses mid new events at fault → is_store fault ≡ false → (told_in told new).is_honest
+    → IsFirm (told_in told old) → IsFirm (told_in told new)
+stopped_firm M told became refuses old mid new events others at fault p outcomes moved stops kind is so =
+    stops.firm kind is (moved.ran.firm (stops.was_honest is) so)
+
+-- ---- what was asked for
+
+pub performed_then : {K : Type 0} (performed : K → K → List Performance → Type 0) → IsPerformanceLog performed → (a b c : Option K) (xs ys zs : List Performance)
+    → performed_in performed a b xs → performed_in performed b c ys → xs ++ ys ≡ zs → performed_in performed a c zs
+performed_then performed law None b c xs ys zs one two sum = absurd one
+performed_then performed law (Some a) None c xs ys zs one two sum = absurd one
+performed_then performed law (Some a) (Some b) None xs ys zs one two sum = absurd two
+performed_then performed law (Some a) (Some b) (Some c) xs ys zs one two sum = subst (performed a c) sum (law.onward a b c xs ys one two)
+
+pub performed_none : {K : Type 0} (performed : K → K → List Performance → Type 0) → IsPerformanceLog performed → (P : K → Type 0) (k : Option K) → IsSomeAnd k P
+    → performed_in performed k k []
+performed_none performed law P None is = absurd is
+performed_none performed law P (Some k) is = law.none k
+
+pub moved_asked : (M : Model) → {K : Type 0} (performed : K → K → List Performance → Type 0) → IsPerformanceLog performed → (k k' : KeeperState M)
+    (old mid new : Option K) (events : List Event) (at n : ℕ) (p : List ℕ) (outcomes : List (Option Outcome))
+    → Moved k k' empty_ledger (take at events) (drop at events) p [] outcomes
+    → performed_in performed old mid (performances M.serves (take at events))
+    → AsksFrom M.serves p (take n (drop at events)) (drop at events) → AsksRun M.serves performed mid new p (take n (drop at events))
+    → performed_in performed old new (performances M.serves (take (at + n) events))
+moved_asked M performed law k k' old mid new events at n p outcomes moved asked asks more =
+    let run = take n (drop at events) in
+    let l = ledger_after M.serves empty_ledger (take at events) in
+    performed_then performed law old mid new (performances M.serves (take at events)) (performances_of (commits_in M.serves run) p)
+    (performances M.serves (take (at + n) events)) asked more
+    (sym (ap (performances M.serves) (take-add at n events)
+    ∙ asks_more M.serves (take at events) run p (sym moved.pending) (asks l (sym moved.pending) moved.begin)))
+
+pub stopped_asked : (M : Model) → {K : Type 0} (told : K → KeeperState M) (became : K → K → ℕ → Type 0) (refuses : K → StoreFault → Type 0)
+    (performed : K → K → List Performance → Type 0) → IsPerformanceLog performed → (old mid new : Option K) (events : List Event) (at : ℕ) (fault : DriveFault)
+    (p : List ℕ) (outcomes : List (Option Outcome))
+    → Moved (told_in told old) (told_in told mid) empty_ledger (take at events) (drop at events) p [] outcomes
+    → performed_in performed old mid (performances M.serves (take at events)) → Stops told became refuses mid new events at fault
+    → StopsAsking M.serves performed mid new p (drop at events) fault → (new ≡ None → ⊥)
+    → AskedSome performed old new (AsksUpTo M.serves events fault)
+stopped_asked M told became refuses performed law old mid new events at fault p outcomes moved asked stops asking there =
+    let stayed = stops.stayed there in
+    let done : before fault events ≡ take at events = ap (λ n. take n events) stayed.0 in
+    let last = performances_of (commits_in M.serves asking.run) p in
+    let l = ledger_after M.serves empty_ledger (take at events) in
+    let more : performances M.serves (take at events ++ asking.run) ≡ performances M.serves (take at events) ++ last =
+    asks_more M.serves (take at events) asking.run p (sym moved.pending) (asking.asks l (sym moved.pending) moved.begin) in
+    (
+      performances M.serves (take at events) ++ last,
+      record {
+        run = asking.run;
+        rest = asking.rest;
+        parts = sym (take-append-drop at events) ∙ ap (λ (es : List Event). take at events ++ es) asking.parts
+            ∙ ap (λ (es : List Event). es ++ (asking.run ++ asking.rest)) (sym done);
+        last = last;
+        asked_are = sym more ∙ ap (λ (es : List Event). performances M.serves (es ++ asking.run)) (sym done);
+        last_is = ap (λ (es : List Event). performances M.serves es ++ last) (sym done);
+        count = asking.count there;
+      },
+      performed_then performed law old mid new (performances M.serves (take at events)) last (performances M.serves (take at events) ++ last) asked
+          (asking.asked there) refl,
+    )

@@ -103,7 +103,7 @@ outcomes_say M s g (e ∷ run) later answers others goes are =
     let entry = message_entry e.bytes e.moment in
     ap (λ o. where_taken (is_taken e.fate) o ∷ outcomes_by M.serves (run ++ later) (left_by class (answers ++ others)))
     (head_says M s g e class (commits_in M.serves run) answers others here)
-    ∙ ap (λ (as : List Said). outcome_of M s g e ∷ outcomes_by M.serves (run ++ later) as)
+    ∙ ap (λ (rest : List Said). outcome_of M s g e ∷ outcomes_by M.serves (run ++ later) rest)
     (left_parts M s g class entry (commits_in M.serves run) answers others here)
     ∙ ap (λ os. outcome_of M s g e ∷ os) (outcomes_say M s g run later (left_by class answers) others (others_go e run goes)
     (left_says M s g class entry (commits_in M.serves run) answers here))
@@ -206,7 +206,7 @@ outcomes_first M grows k k' run handed dones added goes acts are honest earlier 
       outcomes_by M.serves later (answers_in first.others),
       are ∙ ap (λ (es : List Event). outcomes_by M.serves es (answers_in dones)) parts
           ∙ ap (λ (ds : List Done). outcomes_by M.serves (earlier ++ later) (answers_in ds)) first.parts
-          ∙ ap (λ (as : List Said). outcomes_by M.serves (earlier ++ later) as) (answers-append first.some first.others)
+          ∙ ap (λ (said : List Said). outcomes_by M.serves (earlier ++ later) said) (answers-append first.some first.others)
           ∙ outcomes_say M s (committed M.serves h earlier) earlier later (answers_in first.some) (answers_in first.others) (none_first run earlier later parts goes)
           (some_answers first.some ∙ first.says),
     )

@@ -5,17 +5,20 @@ use Rattle.std.proofs.lemmas.List.{map-append}
 use Rattle.std.proofs.lemmas.List.Concat.{flat_map-append}
 use Rattle.std.specs.Io.KnownBytes.{Consumes}
 use Rattle.fuse_wire.specs.declared.moment.Moment.{Moment}
+use Rattle.fuse_request.specs.Opcodes.{OpcodeSet}
 use Rattle.fuse_request.specs.declared.class.Class.{Class}
 use Rattle.fuse_request.specs.declared.class.Class.TheVariants.{Silent, Bare, Kept}
-use Rattle.fuse_request.specs.Classes.{class_of}
+use Rattle.fuse_request.specs.Classes.{class_for}
 use Rattle.fuse_request.specs.Stream.{cut, joined}
 use Rattle.fuse_keeper.specs.Model.{Model}
 use Rattle.fuse_keeper.specs.History.{Entry, entry_id, History, has, Distinct, add, said, grown, HistoriesGrow}
 use Rattle.fuse_session.specs.Port.{PortState}
+use Rattle.fuse_session.specs.Deeds.{Deeds, Hears}
+use Rattle.fuse_session.specs.Batches.{TimedFirst}
 use Rattle.fuse_session.specs.Serving.{Lived}
 use Rattle.fuse_session.specs.Settling.{Mark, replies, settled_in, Replied}
 use Rattle.fuse_session.specs.Processed.{Timed, bytes_of, kept_in, entries_at, entry_if, timed_entry, message_id, unique_of, answered, answers, answer_by, out}
-use Rattle.fuse_session.specs.Processed.{moment_if, moments_in, GaveFirst}
+use Rattle.fuse_session.specs.Processed.{moment_if, moments_in}
 use Rattle.fuse_sim.specs.Lives.{Lifetime, AreLives, after_lives, all_processed, AllSend, RanAsLife}
 
 tested : (b : Bool) → (b ≡ true) ⊎ (b ≡ false)
@@ -69,22 +72,23 @@ grown-append : (h : History) (xs ys : List Entry) → grown h (xs ++ ys) ≡ gro
 grown-append h [] ys = refl
 grown-append h (x ∷ xs) ys = grown-append (add h x) xs ys
 
-kept_in-append : (xs ys : List Timed) → kept_in (xs ++ ys) ≡ kept_in xs ++ kept_in ys
-kept_in-append [] ys = refl
-kept_in-append (x ∷ xs) ys = ap (λ r. entries_at x ++ r) (kept_in-append xs ys) ∙ sym (append_assoc (entries_at x) (kept_in xs) (kept_in ys))
+kept_in-append : (V : OpcodeSet) (xs ys : List Timed) → kept_in V (xs ++ ys) ≡ kept_in V xs ++ kept_in V ys
+kept_in-append V [] ys = refl
+kept_in-append V (x ∷ xs) ys = ap (λ r. entries_at V x ++ r) (kept_in-append V xs ys)
+    ∙ sym (append_assoc (entries_at V x) (kept_in V xs) (kept_in V ys))
 
-grown_kept : (h : History) (xs ys : List Timed) → grown h (kept_in (xs ++ ys)) ≡ grown (grown h (kept_in xs)) (kept_in ys)
-grown_kept h xs ys = ap (grown h) (kept_in-append xs ys) ∙ grown-append h (kept_in xs) (kept_in ys)
+grown_kept : (V : OpcodeSet) (h : History) (xs ys : List Timed) → grown h (kept_in V (xs ++ ys)) ≡ grown (grown h (kept_in V xs)) (kept_in V ys)
+grown_kept V h xs ys = ap (grown h) (kept_in-append V xs ys) ∙ grown-append h (kept_in V xs) (kept_in V ys)
 
-later : (h : History) (ls : List Lifetime) → after_lives h ls ≡ grown h (kept_in (all_processed ls))
-later h [] = refl
-later h (l ∷ ls) = later (grown h (kept_in l.worked)) ls ∙ sym (grown_kept h l.worked (all_processed ls))
+later : (V : OpcodeSet) (h : History) (ls : List Lifetime) → after_lives V h ls ≡ grown h (kept_in V (all_processed ls))
+later V h [] = refl
+later V h (l ∷ ls) = later V (grown h (kept_in V l.worked)) ls ∙ sym (grown_kept V h l.worked (all_processed ls))
 
-pub in_a_row : (ls : List Lifetime) → after_lives [] ls ≡ grown [] (kept_in (all_processed ls))
-in_a_row ls = later [] ls
+pub in_a_row : (V : OpcodeSet) (ls : List Lifetime) → after_lives V [] ls ≡ grown [] (kept_in V (all_processed ls))
+in_a_row V ls = later V [] ls
 
-pub once_each : (ls : List Lifetime) → Distinct (after_lives [] ls)
-once_each ls = subst Distinct (sym (in_a_row ls)) (Distinct-grown [] (kept_in (all_processed ls)) Distinct-none)
+pub once_each : (V : OpcodeSet) (ls : List Lifetime) → Distinct (after_lives V [] ls)
+once_each V ls = subst Distinct (sym (in_a_row V ls)) (Distinct-grown [] (kept_in V (all_processed ls)) Distinct-none)
 
 -- ---- later requests change no answer
 
@@ -101,59 +105,59 @@ answer_stays M grows s g es id unique (Bare errno) there = refl
 answer_stays M grows s g es id unique Kept there = ap (λ o. answer_by Kept o unique) (grows.stays s g es id (there refl))
 
 answered_stays : (M : Model) → HistoriesGrow M → (s : M.State) (h : History) (t : Timed) (es : List Entry)
-    → answered M s (grown (grown h (entries_at t)) es) t ≡ answered M s (grown h (entries_at t)) t
-answered_stays M grows s h t es = answer_stays M grows s (grown h (entries_at t)) es (message_id t.bytes) (unique_of t.bytes) (class_of t.bytes)
-    (kept_there M grows h t (class_of t.bytes))
+    → answered M s (grown (grown h (entries_at M.serves t)) es) t ≡ answered M s (grown h (entries_at M.serves t)) t
+answered_stays M grows s h t es = answer_stays M grows s (grown h (entries_at M.serves t)) es (message_id t.bytes) (unique_of t.bytes) (class_for M.serves t.bytes)
+    (kept_there M grows h t (class_for M.serves t.bytes))
 
 -- what is answered where two histories agree on what follows each message
 answers_stay : (M : Model) → HistoriesGrow M → (s : M.State) (h : History) (ts : List Timed) (es ds : List Entry)
-    → answers M s (grown (grown h (kept_in ts)) es) ts ≡ answers M s (grown (grown h (kept_in ts)) ds) ts
+    → answers M s (grown (grown h (kept_in M.serves ts)) es) ts ≡ answers M s (grown (grown h (kept_in M.serves ts)) ds) ts
 answers_stay M grows s h [] es ds = refl
 answers_stay M grows s h (t ∷ ts) es ds =
-    let g = grown h (entries_at t) in
-    let place : (xs : List Entry) → grown (grown h (kept_in (t ∷ ts))) xs ≡ grown (grown g (kept_in ts)) xs =
-    λ xs. ap (λ x. grown x xs) (grown-append h (entries_at t) (kept_in ts)) in
-    let first : (xs : List Entry) → answered M s (grown (grown g (kept_in ts)) xs) t ≡ answered M s g t =
-    λ xs. ap (λ x. answered M s x t) (sym (grown-append g (kept_in ts) xs)) ∙ answered_stays M grows s h t (kept_in ts ++ xs) in
+    let g = grown h (entries_at M.serves t) in
+    let place : (xs : List Entry) → grown (grown h (kept_in M.serves (t ∷ ts))) xs ≡ grown (grown g (kept_in M.serves ts)) xs =
+    λ xs. ap (λ x. grown x xs) (grown-append h (entries_at M.serves t) (kept_in M.serves ts)) in
+    let first : (xs : List Entry) → answered M s (grown (grown g (kept_in M.serves ts)) xs) t ≡ answered M s g t =
+    λ xs. ap (λ x. answered M s x t) (sym (grown-append g (kept_in M.serves ts) xs)) ∙ answered_stays M grows s h t (kept_in M.serves ts ++ xs) in
     ap (λ x. answered M s x t ∷ answers M s x ts) (place es)
-    ∙ ap (λ r. r ∷ answers M s (grown (grown g (kept_in ts)) es) ts) (first es ∙ sym (first ds))
-    ∙ ap (λ r. answered M s (grown (grown g (kept_in ts)) ds) t ∷ r) (answers_stay M grows s g ts es ds)
+    ∙ ap (λ r. r ∷ answers M s (grown (grown g (kept_in M.serves ts)) es) ts) (first es ∙ sym (first ds))
+    ∙ ap (λ r. answered M s (grown (grown g (kept_in M.serves ts)) ds) t ∷ r) (answers_stay M grows s g ts es ds)
     ∙ ap (λ x. answered M s x t ∷ answers M s x ts) (sym (place ds))
 
-sends_by : (M : Model) → HistoriesGrow M → (s : M.State) (h : History) (ls : List Lifetime) → AreLives M s h ls → AllSend M s (after_lives h ls) ls
+sends_by : (M : Model) → HistoriesGrow M → (s : M.State) (h : History) (ls : List Lifetime) → AreLives M s h ls → AllSend M s (after_lives M.serves h ls) ls
 sends_by M grows s h [] lives = tt
 sends_by M grows s h (l ∷ ls) lives =
-    let g = grown h (kept_in l.worked) in
-    let more = kept_in (all_processed ls) ++ kept_in l.worked in
-    let end : grown (after_lives g ls) (kept_in l.worked) ≡ grown g more =
-    ap (λ x. grown x (kept_in l.worked)) (later g ls) ∙ sym (grown-append g (kept_in (all_processed ls)) (kept_in l.worked)) in
-    let same : out M s (after_lives g ls) l.worked ≡ out M s h l.worked =
+    let g = grown h (kept_in M.serves l.worked) in
+    let more = kept_in M.serves (all_processed ls) ++ kept_in M.serves l.worked in
+    let end : grown (after_lives M.serves g ls) (kept_in M.serves l.worked) ≡ grown g more =
+    ap (λ x. grown x (kept_in M.serves l.worked)) (later M.serves g ls) ∙ sym (grown-append g (kept_in M.serves (all_processed ls)) (kept_in M.serves l.worked)) in
+    let same : out M s (after_lives M.serves g ls) l.worked ≡ out M s h l.worked =
     ap (λ x. joined (answers M s x l.worked)) end ∙ ap joined (answers_stay M grows s h l.worked more []) in
     ((lives.0.unsent, same ∙ lives.0.sends), sends_by M grows s g ls lives.1)
 
-pub all_send : (M : Model) → HistoriesGrow M → (s : M.State) (ls : List Lifetime) → AreLives M s [] ls → AllSend M s (after_lives [] ls) ls
+pub all_send : (M : Model) → HistoriesGrow M → (s : M.State) (ls : List Lifetime) → AreLives M s [] ls → AllSend M s (after_lives M.serves [] ls) ls
 all_send M grows s ls lives = sends_by M grows s [] ls lives
 
 -- ---- a run of a server is a life
 
-moments-append : (xs ys : List Timed) → moments_in (xs ++ ys) ≡ moments_in xs ++ moments_in ys
-moments-append [] ys = refl
-moments-append (x ∷ xs) ys =
-    ap (λ (r : List Moment). moment_if (class_of x.bytes) x.moment ++ r) (moments-append xs ys)
-    ∙ sym (append_assoc (moment_if (class_of x.bytes) x.moment) (moments_in xs) (moments_in ys))
+moments-append : (V : OpcodeSet) (xs ys : List Timed) → moments_in V (xs ++ ys) ≡ moments_in V xs ++ moments_in V ys
+moments-append V [] ys = refl
+moments-append V (x ∷ xs) ys =
+    ap (λ (r : List Moment). moment_if (class_for V x.bytes) x.moment ++ r) (moments-append V xs ys)
+    ∙ sym (append_assoc (moment_if (class_for V x.bytes) x.moment) (moments_in V xs) (moments_in V ys))
 
-gave_prefix : (gave : List Moment → Type 0) (xs ys : List Timed) → GaveFirst gave (xs ++ ys) → GaveFirst gave xs
-gave_prefix gave xs ys given = (
-  moments_in ys ++ given.0,
-  subst gave (ap (λ (r : List Moment). r ++ given.0) (moments-append xs ys) ∙ append_assoc (moments_in xs) (moments_in ys) given.0)
-      given.1,
+timed_prefix : (V : OpcodeSet) (given : List Moment) (xs ys : List Timed) → TimedFirst V given (xs ++ ys) → TimedFirst V given xs
+timed_prefix V given xs ys timed = (
+  moments_in V ys ++ timed.0,
+  timed.1 ∙ ap (λ (r : List Moment). r ++ timed.0) (moments-append V xs ys) ∙ append_assoc (moments_in V xs) (moments_in V ys) timed.0,
 )
 
-pub run_lived : (M : Model) (stood : History → List ℕ → Type 0) (gave : List Moment → Type 0) (s : M.State) (h : History) (t : List ℕ) (old new : PortState)
-    (received : List ℕ) (timed : List Timed) (others : List (List ℕ)) (marks : List Mark) (part : List ℕ)
-    → Consumes old.coming new.coming received → (cut received).0 ≡ bytes_of timed ++ others → GaveFirst gave timed → Replied old new marks part
-    → Lived M stood s h old.confirms t timed marks part → RanAsLife M stood gave s h t old new
-run_lived M stood gave s h t old new received timed others marks part came prefix moments replied l =
+pub run_lived : (M : Model) (stood : History → List ℕ → Type 0) (did : Deeds → Type 0) (s : M.State) (h : History) (t : List ℕ) (old new : PortState)
+    (received : List ℕ) (timed : List Timed) (others : List (List ℕ)) (marks : List Mark) (part : List ℕ) (deeds : Deeds)
+    → Consumes old.coming new.coming received → (cut received).0 ≡ bytes_of timed ++ others → Hears did received deeds
+    → TimedFirst M.serves deeds.moments timed → Replied old new marks part
+    → Lived M stood s h old.confirms t timed marks part → RanAsLife M stood did s h t old new
+run_lived M stood did s h t old new received timed others marks part deeds came prefix done moments replied l =
     let sent = joined (replies marks) ++ part in
     let parts : bytes_of timed ++ others ≡ bytes_of l.worked ++ (bytes_of l.unprocessed ++ others) =
     ap (λ (x : List Timed). bytes_of x ++ others) l.parts ∙ ap (λ (x : List (List ℕ)). x ++ others) (map-append (λ (x : Timed). x.bytes) l.worked l.unprocessed)
@@ -163,7 +167,7 @@ run_lived M stood gave s h t old new received timed others marks part came prefi
     let begun : joined (replies marks) ++ joined l.later ≡ sent ++ l.unsent =
     ap (λ (x : List ℕ). joined (replies marks) ++ x) l.begun ∙ sym (append_assoc (joined (replies marks)) part l.unsent) in
     record {
-      life = record { received = received; sent = sent; worked = l.worked; settled = settled_in old.confirms (bytes_of l.worked) marks };
+      life = record { received = received; sent = sent; worked = l.worked; settled = settled_in M.serves old.confirms (bytes_of l.worked) marks };
       lived = record { others = bytes_of l.unprocessed ++ others; prefix = prefix ∙ parts; works = l.works; unsent = l.unsent; sends = split ∙ begun };
       came = came;
       marks = marks;
@@ -171,6 +175,8 @@ run_lived M stood gave s h t old new received timed others marks part came prefi
       replied = replied;
       sent = refl;
       settled_are = refl;
-      moments = gave_prefix gave l.worked l.unprocessed (subst (GaveFirst gave) l.parts moments);
+      deeds = deeds;
+      done = done;
+      moments = timed_prefix M.serves deeds.moments l.worked l.unprocessed (subst (TimedFirst M.serves deeds.moments) l.parts moments);
       stands = l.stands;
     }

@@ -10,10 +10,10 @@ use Rattle.fuse_answer.specs.Said.{Said}
 use Rattle.fuse_request.specs.declared.request.Request.{Request}
 use Rattle.fuse_request.specs.declared.class.Class.{Class}
 use Rattle.fuse_request.specs.Classes.{class_for}
-use Rattle.fuse_keeper.specs.History.{Entry, entry_id, HistoriesGrow, grown, is_in, ids_in, Includes, IsUnsettled}
+use Rattle.fuse_keeper.specs.History.{Entry, entry_id, History, HistoriesGrow, grown, is_in, ids_in, Includes, IsUnsettled}
 use Rattle.fuse_keeper.specs.Model.{Model}
 use Rattle.fuse_keeper.specs.Stands.{Records}
-use Rattle.fuse_keeper.specs.KeeperState.{KeeperState, StandsFor, KeepsHeld}
+use Rattle.fuse_keeper.specs.KeeperState.{KeeperState, StandsFor, KeepsHeld, IsFirm}
 use Rattle.fuse_keeper.specs.Group.{entry_of, entries_of, ids_of, handed_to, left_pending}
 use Rattle.fuse_session.specs.Processed.{entry_if, message_entry, unique_of}
 use Rattle.fuse_sim.specs.declared.event.Fate.{Fate}
@@ -21,7 +21,7 @@ use Rattle.fuse_sim.specs.declared.event.Fate.TheVariants.{Answered, AnswerLost,
 use Rattle.fuse_sim.specs.declared.event.Event.{Event}
 use Rattle.fuse_sim.specs.declared.event.Outcome.{Outcome}
 use Rattle.fuse_sim.specs.Driving.{commits, commits_by, commits_in, committed, outcome_of, bytes_given, is_taken, where_taken, answer_in, settles, settled_by}
-use Rattle.fuse_sim.specs.Driving.{NoneReused, IsFit, dies}
+use Rattle.fuse_sim.specs.Driving.{NoneReused, IsFit, dies, OutcomesBegin}
 use Rattle.fuse_sim.specs.HandedOn.{Ledger, empty_ledger, after_commit, crashed_if}
 use Rattle.fuse_sim.specs.inner.HandedBy.{handed_at, handed_on, ledger_after}
 use Rattle.fuse_sim.specs.inner.Running.{dies_before, IsRun, StartsNone, StopsAt, Begins, Gathers, NoneDiesBefore, settles_in, RecordsRan}
@@ -126,12 +126,12 @@ begin_all M s h es xs count begins =
     begins.1 ∙ ap (λ (os : List (Option (List ℕ))). first ++ os) (none_left first begins.0
     (length-map es (outcome_of M s (committed M.serves h es)) ∙ sym count ∙ ap length begins.1)) ∙ append-nil first
 
-record SplitIn (xs ys earlier later : List Event) : Type 0 where
+pub record SplitIn (xs ys earlier later : List Event) : Type 0 where
   pub more : List Event
   pub parts : xs ≡ earlier ++ more
   pub rest : later ≡ more ++ ys
 
-record SplitAfter (xs ys earlier later : List Event) : Type 0 where
+pub record SplitAfter (xs ys earlier later : List Event) : Type 0 where
   pub prefix : List Event
   pub begin : earlier ≡ xs ++ prefix
   pub parts : ys ≡ prefix ++ later
@@ -251,8 +251,9 @@ none_dies died (e ∷ run) so = elim so [
 pub group_ran : (M : Model) (holds mid holds' : KeeperState M) (died : Bool) (run : List Event) (p p' : List ℕ) (old new : List (Option Outcome))
     → RunLedger M.serves died (record { room = 0; pending = p }) run (handed_to (commits_in M.serves run) p) (left_pending (commits_in M.serves run) p ++ settles_in M.serves run) 16
     → Worked holds mid run p p' old new → (holds'.is_honest → KeepsHeld mid holds') → (holds'.is_honest → mid.is_honest)
+    → (holds'.is_honest → IsFirm mid → IsFirm holds')
     → Ran holds holds' (record { room = 0; pending = p }) run old new
-group_ran M holds mid holds' died run p p' old new ledger worked keeps was =
+group_ran M holds mid holds' died run p p' old new ledger worked keeps was firm =
     let l : Ledger = record { room = 0; pending = p } in
     let cs = commits_in M.serves run in
     let fresh_ids = λ (t u : List ℕ) (within : Includes u t) (pending : Includes u p) (none : NoneReused M.serves u run).
@@ -282,7 +283,7 @@ group_ran M holds mid holds' died run p p' old new ledger worked keeps was =
                   ∙ ap (λ b. if b then None else records i) handed;
             };
           };
-      firm = λ is so. keeps_firm is (worked.firm (was is) so);
+      firm = λ is so. firm is (worked.firm (was is) so);
     }
 
 -- ---- an event that is lost
@@ -290,10 +291,19 @@ group_ran M holds mid holds' died run p p' old new ledger worked keeps was =
 commits_lost : (V : OpcodeSet) (e : Event) → e.fate ≡ DiedBeforeCommit → commits V e ≡ []
 commits_lost V e is = ap (λ f. commits_by f (entry_if (class_for V e.bytes) (message_entry e.bytes e.moment))) is
 
+lost_begins : (M : Model) (s : M.State) (h : History) (e : Event) (earlier later : List Event) → e.fate ≡ DiedBeforeCommit → e ∷ [] ≡ earlier ++ later
+    → OutcomesBegin M s h earlier (None ∷ [])
+lost_begins M s h e [] later lost is = (None ∷ [], refl)
+lost_begins M s h e (x ∷ []) later lost is =
+    let same : e ≡ x = cc is in
+    let dead : x.fate ≡ DiedBeforeCommit = sym (ap (λ (o : Event). o.fate) same) ∙ lost in
+    ([], ap (λ f. where_taken (is_taken f) (answer_in M s (committed M.serves h (x ∷ [])) (class_for M.serves x.bytes) (unique_of x.bytes)) ∷ []) (sym dead))
+lost_begins M s h e (x ∷ y ∷ earlier) later lost is = absurd (cc is)
+
 pub lost_ran : (M : Model) (holds holds' : KeeperState M) (l : Ledger) (e : Event) (old new : List (Option Outcome)) → e.fate ≡ DiedBeforeCommit
-    → new ≡ old ++ None ∷ [] → (holds'.is_honest → KeepsHeld holds holds')
+    → new ≡ old ++ None ∷ [] → (holds'.is_honest → KeepsHeld holds holds') → (holds'.is_honest → IsFirm holds → IsFirm holds')
     → Ran holds holds' l (e ∷ []) old new
-lost_ran M holds holds' l e old new lost pushed keeps =
+lost_ran M holds holds' l e old new lost pushed keeps firm =
     let none : commits_in M.serves (e ∷ []) ≡ [] = ap (λ (cs : List Entry). cs ++ []) (commits_lost M.serves e lost) in
     let unhanded : handed_on M.serves l (e ∷ []) ≡ [] = ap (λ cs. handed_at cs l ++ []) (commits_lost M.serves e lost) in
     record {
@@ -304,8 +314,7 @@ lost_ran M holds holds' l e old new lost pushed keeps =
           subst (λ (x : List ℕ). StandsFor holds' s (committed M.serves h (e ∷ [])) (t ++ x)) (sym unhanded)
           (subst (StandsFor holds' s (committed M.serves h (e ∷ []))) (sym (append-nil t))
           (subst (λ g. StandsFor holds' s g t) (ap (grown h) (sym none)) (stands_kept M holds holds' s h t (keeps is) so)));
-      outcomes = λ is s h t u so within pending again. ap (λ f. where_taken (is_taken f)
-          (answer_in M s (committed M.serves h (e ∷ [])) (class_for M.serves e.bytes) (unique_of e.bytes)) ∷ []) (sym lost);
+      outcomes = λ is earlier later parts s h t u so within pending again. lost_begins M s h e earlier later lost parts;
       records = λ is rows records held rowed. record {
         rows = rows;
         records = records;
@@ -316,6 +325,7 @@ lost_ran M holds holds' l e old new lost pushed keeps =
           gone = λ u _ _ i there. absurd (let no_way = sym (ap (λ x. is_in x i) unhanded) ∙ there in cc no_way);
         };
       };
+      firm = firm;
     }
 
 -- ---- what is said of it
@@ -343,14 +353,15 @@ pub group_moved : (M : Model) (holds mid holds' : KeeperState M) (died : Bool) (
     (taken : List (Request × Moment)) (p p_mid p' : List ℕ) (old new : List (Option Outcome))
     → Gathers M run classes taken died → slice ≡ run → StopsAt taken died others
     → Worked holds mid slice p p_mid old new → (holds'.is_honest → KeepsHeld mid holds') → (holds'.is_honest → mid.is_honest)
+    → (holds'.is_honest → IsFirm mid → IsFirm holds')
     → p' ≡ (if died then [] else p_mid)
     → Moved holds holds' (record { room = 0; pending = p }) run others p' old new
-group_moved M holds mid holds' died run slice others classes taken p p_mid p' old new gathers same stops all keeps was left =
+group_moved M holds mid holds' died run slice others classes taken p p_mid p' old new gathers same stops all keeps was firm left =
     let worked = subst (λ x. Worked holds mid x p p_mid old new) same all in
     let ledger = run_begins M.serves died run p gathers.goes (few_taken M.serves run taken 16 gathers.entries gathers.few) in
     record {
       fit = gathers.fit;
-      ran = group_ran M holds mid holds' died run p p_mid old new ledger worked keeps was;
+      ran = group_ran M holds mid holds' died run p p_mid old new ledger worked keeps was firm;
       pending = left ∙ ap (λ (x : List ℕ). if died then [] else x) worked.handed ∙ sym ledger.pending_is;
       begin = may_begin M.serves died (record { room = 0; pending = p }) run others _ _ ledger (stops_at M.serves run others taken died gathers.entries stops);
     }
@@ -409,15 +420,15 @@ is_lost DiedAfterCommit is = absurd (cc is)
 pub lost_moved : (M : Model) (holds holds' : KeeperState M) (l : Ledger) (events rest : List Event) (at : ℕ) (e : Event) (p' : List ℕ)
     (old new : List (Option Outcome))
     → at < length events → e ≡ get_or events at e → IsFit e → dies_before e.fate ≡ true → new ≡ old ++ None ∷ [] → p' ≡ []
-    → (holds'.is_honest → KeepsHeld holds holds')
+    → (holds'.is_honest → KeepsHeld holds holds') → (holds'.is_honest → IsFirm holds → IsFirm holds')
     → Moved holds holds' l (take 1 (drop at events)) rest p' old new
-lost_moved M holds holds' l events rest at e p' old new lt is fit before pushed none keeps =
+lost_moved M holds holds' l events rest at e p' old new lt is fit before pushed none keeps firm =
     let lost = is_lost e.fate before in
     let one : e ∷ [] ≡ take 1 (drop at events) = ap (λ (x : Event). x ∷ []) is ∙ ap (take 1) (sym (drop-cons events at e lt)) in
     let crashed : ledger_after M.serves l (e ∷ []) ≡ empty_ledger = ap (λ f. crashed_if (dies f) (after_commit (commits M.serves e) l (settles M.serves e))) lost in
     subst (λ run. Moved holds holds' l run rest p' old new) one (record {
       fit = only_one IsFit e fit;
-      ran = lost_ran M holds holds' l e old new lost pushed keeps;
+      ran = lost_ran M holds holds' l e old new lost pushed keeps firm;
       pending = none ∙ ap (λ (x : Ledger). x.pending) (sym crashed);
       begin = inl (ap (λ (x : Ledger). x.room) crashed);
     })

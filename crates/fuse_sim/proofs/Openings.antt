@@ -1,11 +1,12 @@
 -- How often the keeper was opened again, and what stood then.
 use Rattle.std.proofs.Common.{◌≡◌, ◌⊎◌, inl, inr, ℕ, suc, ◌+◌, ◌<◌, Bool, true, false, if◌then◌else◌, List, [], ◌∷◌, ◌++◌, length, take, drop, get_or, Option}
-use Rattle.std.proofs.Common.{Some, None, IsSomeAnd, refl, sym, ap, subst, ◌∙◌, append_assoc, drop-cons, arith}
+use Rattle.std.proofs.Common.{Some, None, IsSomeAnd, IfSome, ◌≤◌, refl, sym, ap, subst, ◌∙◌, append_assoc, length-append, drop-cons, arith}
 use Rattle.std.proofs.lemmas.List.{append-nil}
 use Rattle.fuse_wire.specs.declared.moment.Moment.{Moment}
 use Rattle.fuse_request.specs.declared.request.Request.{Request}
 use Rattle.fuse_request.specs.declared.class.Class.{Class}
 use Rattle.fuse_request.specs.Classes.{class_for}
+use Rattle.fuse_request.specs.Opcodes.{OpcodeSet}
 use Rattle.fuse_keeper.specs.History.{History, grown, Includes}
 use Rattle.fuse_keeper.specs.Model.{Model}
 use Rattle.fuse_keeper.specs.KeeperState.{KeeperState, KeepsHeld, IsCount}
@@ -16,11 +17,12 @@ use Rattle.fuse_sim.specs.declared.event.Fate.TheVariants.{DiedAfterCommit}
 use Rattle.fuse_sim.specs.declared.event.Event.{Event}
 use Rattle.fuse_sim.specs.declared.event.Outcome.{Outcome}
 use Rattle.fuse_sim.specs.Driving.{commits_by, commits_in, committed, dies, deaths, settles, settled_by, NoneReused, told_in, StandsIn, became_in, OpenedAt}
-use Rattle.fuse_sim.specs.Driving.{Opened}
+use Rattle.fuse_sim.specs.Driving.{Opened, KeepsMedium, StoodAt, StoodBefore}
 use Rattle.fuse_sim.specs.inner.Running.{dies_before, IsRun, DiesLast, Gathers, Worked, Opens}
 use Rattle.fuse_sim.proofs.Settled.{includes_left, includes_both, stands_later}
 use Rattle.fuse_sim.proofs.Driven.{committed-append, settled-append, settled_still, reused-parts, all_unsettled_too, none_reused}
-use Rattle.fuse_sim.proofs.Moves.{handed_within, is_lost}
+use Rattle.fuse_sim.proofs.Gathered.{commits-append}
+use Rattle.fuse_sim.proofs.Moves.{handed_within, is_lost, few_taken, SplitIn, SplitAfter, split_in}
 
 -- ---- what became of a keeper
 
@@ -294,8 +296,8 @@ pub group_opens : (M : Model) → {K : Type 0} (told : K → KeeperState M) (bec
     → became_in became mid new (if died then 1 else 0)
     → ((told_in told new).is_honest → KeepsHeld (told_in told mid) (told_in told new))
     → ((told_in told new).is_honest → (told_in told mid).is_honest) → ((told_in told mid).is_honest → (told_in told old).is_honest)
-    → Opens told became old new p run
-group_opens M told became old mid new died run slice classes taken p p' outs outs' gathers same all before after keeps honest was =
+    → KeepsMedium told old new → Opens told became old new p run
+group_opens M told became old mid new died run slice classes taken p p' outs outs' gathers same all before after keeps honest was medium =
     let worked = subst (λ x. Worked (told_in told old) (told_in told mid) x p p' outs outs') same all in
     let cs = commits_in M.serves run in
     record {
@@ -313,14 +315,16 @@ group_opens M told became old mid new died run slice classes taken p p' outs out
           stands_later M (told_in told mid) s (committed M.serves h run) (t ++ handed_to cs p) (settled_by M.serves t run)
           (includes_both (settled_by M.serves t run) t (handed_to cs p) (settled_still M.serves t run) (λ i there. settled_still M.serves t run i (handed i there)))
           (worked.stands is s h t so fresh);
+      few = few_taken M.serves run taken 16 gathers.entries gathers.few;
+      medium = medium;
     }
 
 pub lost_opens : (M : Model) → {K : Type 0} (told : K → KeeperState M) (became : K → K → ℕ → Type 0) → IsCount became
     → (old new : Option K) (events : List Event) (at : ℕ) (e : Event) (p : List ℕ)
     → at < length events → e ≡ get_or events at e → dies_before e.fate ≡ true → became_in became old new 1
     → ((told_in told new).is_honest → KeepsHeld (told_in told old) (told_in told new)) → ((told_in told new).is_honest → (told_in told old).is_honest)
-    → Opens told became old new p (take 1 (drop at events))
-lost_opens M told became law old new events at e p lt is before once keeps honest =
+    → KeepsMedium told old new → Opens told became old new p (take 1 (drop at events))
+lost_opens M told became law old new events at e p lt is before once keeps honest medium =
     let lost = is_lost e.fate before in
     let one : e ∷ [] ≡ take 1 (drop at events) = ap (λ (x : Event). x ∷ []) is ∙ ap (take 1) (sym (drop-cons events at e lt)) in
     let none : commits_in M.serves (e ∷ []) ≡ [] = ap (λ f. commits_by f (entry_if (class_for M.serves e.bytes) (message_entry e.bytes e.moment)) ++ []) lost in
@@ -336,4 +340,139 @@ lost_opens M told became law old new events at e p lt is before once keeps hones
       stood = λ is s h t so within unused.
           subst (λ cs. StandsIn told old s (grown h cs) (settled_by M.serves t (e ∷ []))) (sym none)
           (stands_later M (told_in told old) s h t (settled_by M.serves t (e ∷ [])) (includes_left t (settles M.serves e)) so);
+      few = omega (arith, ap length none);
+      medium = medium;
     })
+
+-- ---- what stood on the way
+
+no_event : (earlier later : List Event) → [] ≡ earlier ++ later → (earlier ≡ []) × (later ≡ [])
+no_event [] later is = (refl, sym is)
+no_event (e ∷ earlier) later is = absurd (cc is)
+
+pub stood_none : (M : Model) → {K : Type 0} (told : K → KeeperState M) (became : K → K → ℕ → Type 0) → IsCount became → (P : K → Type 0) (k : Option K)
+    → IsSomeAnd k P → StoodBefore told became k k []
+stood_none M told became law P k is = λ _ earlier later none.
+    let parts = no_event earlier later none in
+    let same = became_itself became law P k is in
+    record {
+      begun = [];
+      rest = earlier;
+      parts = refl;
+      few = omega (arith, ap (λ (es : List Event). length (commits_in M.serves es)) parts.0);
+      keeper = k;
+      before = same;
+      after = subst (λ es. became_in became k k (deaths (es ++ later))) (sym parts.0) (subst (λ es. became_in became k k (deaths es)) (sym parts.1) same);
+      stood = λ s h t so _. so;
+    }
+
+-- one that stood before others came
+stood_within : (M : Model) → {K : Type 0} (told : K → KeeperState M) (became : K → K → ℕ → Type 0) → IsCount became
+    → (old mid new : Option K) (earlier more later ys : List Event) → became_in became mid new (deaths ys) → later ≡ more ++ ys
+    → StoodAt told became old mid earlier more → StoodAt told became old new earlier later
+stood_within M told became law old mid new earlier more later ys further rest one = record {
+  begun = one.begun;
+  rest = one.rest;
+  parts = one.parts;
+  few = one.few;
+  keeper = one.keeper;
+  before = one.before;
+  after = became_then became law one.keeper mid new (deaths (one.rest ++ more)) (deaths ys) (deaths (one.rest ++ later)) one.after further (omega (
+    arith,
+    deaths-append one.rest more,
+    deaths-append one.rest later,
+    ap deaths rest,
+    deaths-append more ys,
+  ));
+  stood = one.stood;
+}
+
+few_first : (V : OpcodeSet) (ys prefix later : List Event) (n : ℕ) → ys ≡ prefix ++ later → length (commits_in V ys) ≤ n → length (commits_in V prefix) ≤ n
+few_first V ys prefix later n parts few = omega (
+  arith,
+  few,
+  ap (λ (es : List Event). length (commits_in V es)) parts,
+  ap length (commits-append V prefix later),
+  length-append (commits_in V prefix) (commits_in V later),
+)
+
+-- one that stood when a group began
+stood_begun : (M : Model) → {K : Type 0} (told : K → KeeperState M) (became : K → K → ℕ → Type 0) (old mid new : Option K) (xs ys earlier prefix later : List Event)
+    → (told_in told mid).is_honest → Stood told old mid xs → became_in became old mid (deaths xs) → became_in became mid new (deaths ys)
+    → length (commits_in M.serves ys) ≤ 16 → earlier ≡ xs ++ prefix → ys ≡ prefix ++ later → StoodAt told became old new earlier later
+stood_begun M told became old mid new xs ys earlier prefix later is stood often further few begin parts = record {
+  begun = xs;
+  rest = prefix;
+  parts = begin;
+  few = few_first M.serves ys prefix later 16 parts few;
+  keeper = mid;
+  before = often;
+  after = subst (λ es. became_in became mid new (deaths es)) parts further;
+  stood = stood is;
+}
+
+pub stood_before_more : (M : Model) → {K : Type 0} (told : K → KeeperState M) (became : K → K → ℕ → Type 0) → IsCount became
+    → (old mid new : Option K) (xs ys : List Event) (p : List ℕ) → Stood told old mid xs → became_in became old mid (deaths xs) → StoodBefore told became old mid xs
+    → Opens told became mid new p ys → StoodBefore told became old new (xs ++ ys)
+stood_before_more M told became law old mid new xs ys p stood often one two = λ is earlier later parts.
+    let further : became_in became mid new (deaths ys) =
+    became_then became law mid two.left new 0 (if two.died then 1 else 0) (deaths ys) two.before two.after (omega (arith, deaths_last two.died ys two.last)) in
+    let was = two.was_honest (two.honest is) in
+    elim (split_in xs ys earlier later parts) [
+      | inl first ↦ stood_within M told became law old mid new earlier first.more later ys further first.rest (one was earlier first.more first.parts)
+      | inr second ↦ stood_begun M told became old mid new xs ys earlier second.prefix later was stood often further two.few second.begin second.parts
+    ]
+
+-- nothing came
+pub stood_still : (M : Model) → {K : Type 0} (told : K → KeeperState M) (became : K → K → ℕ → Type 0) → IsCount became → (old mid new : Option K) (es : List Event)
+    → became_in became mid new 0 → ((told_in told new).is_honest → (told_in told mid).is_honest) → StoodBefore told became old mid es
+    → StoodBefore told became old new es
+stood_still M told became law old mid new es same was one = λ is earlier later parts.
+    stood_within M told became law old mid new earlier later later [] same (sym (append-nil later)) (one (was is) earlier later parts)
+
+-- of a second list, after a first one
+stood_second : (M : Model) → {K : Type 0} (told : K → KeeperState M) (became : K → K → ℕ → Type 0) → IsCount became → (old mid new : Option K)
+    (xs earlier prefix later : List Event) → (told_in told mid).is_honest → Stood told old mid xs → became_in became old mid (deaths xs) → earlier ≡ xs ++ prefix
+    → StoodAt told became mid new prefix later → StoodAt told became old new earlier later
+stood_second M told became law old mid new xs earlier prefix later is stood often begin at = record {
+  begun = xs ++ at.begun;
+  rest = at.rest;
+  parts = begin ∙ ap (λ (es : List Event). xs ++ es) at.parts ∙ sym (append_assoc xs at.begun at.rest);
+  few = at.few;
+  keeper = at.keeper;
+  before = became_then became law old mid at.keeper (deaths xs) (deaths at.begun) (deaths (xs ++ at.begun)) often at.before (sym (deaths-append xs at.begun));
+  after = at.after;
+  stood = stands_twice M told old mid at.keeper xs at.begun (stood is) at.stood;
+}
+
+pub stood_twice : (M : Model) → {K : Type 0} (told : K → KeeperState M) (became : K → K → ℕ → Type 0) → IsCount became
+    → (old mid new : Option K) (xs ys : List Event) → ((told_in told new).is_honest → (told_in told mid).is_honest) → Stood told old mid xs
+    → became_in became old mid (deaths xs) → became_in became mid new (deaths ys) → StoodBefore told became old mid xs → StoodBefore told became mid new ys
+    → StoodBefore told became old new (xs ++ ys)
+stood_twice M told became law old mid new xs ys was stood often further one two = λ is earlier later parts.
+    elim (split_in xs ys earlier later parts) [
+      | inl first ↦ stood_within M told became law old mid new earlier first.more later ys further first.rest (one (was is) earlier first.more first.parts)
+      | inr second ↦ stood_second M told became law old mid new xs earlier second.prefix later (was is) stood often second.begin
+          (two is second.prefix later second.parts)
+    ]
+
+-- ---- the medium
+
+pub medium_itself : (M : Model) → {K : Type 0} (told : K → KeeperState M) (k : Option K) → KeepsMedium told k k
+medium_itself M told None = λ is. absurd is
+medium_itself M told (Some k) = λ is. is
+
+pub medium_some : (M : Model) → {K : Type 0} (told : K → KeeperState M) (old new : Option K)
+    → ((told_in told old).in_memory → (told_in told new).in_memory) → KeepsMedium told old new
+medium_some M told old None keeps = λ is. tt
+medium_some M told old (Some k) keeps = keeps
+
+pub medium_then : (M : Model) → {K : Type 0} (told : K → KeeperState M) (old mid new : Option K) (P : K → Type 0) → IsSomeAnd mid P → KeepsMedium told old mid
+    → KeepsMedium told mid new → KeepsMedium told old new
+medium_then M told old None new P there one two = absurd there
+medium_then M told old (Some k) new P there one two = λ is. two (one is)
+
+pub medium_left : (M : Model) → {K : Type 0} (told : K → KeeperState M) (old new : Option K) → ((new ≡ None → ⊥) → KeepsMedium told old new)
+    → KeepsMedium told old new
+medium_left M told old None keeps = λ is. tt
+medium_left M told old (Some k) keeps = keeps (λ none. absurd (cc none))

@@ -18,7 +18,7 @@ use Rattle.fuse_sim.specs.declared.event.DriveFault.{DriveFault}
 use Rattle.fuse_sim.specs.declared.event.DriveFault.TheVariants.{NotAMessage, ZeroUnique, Store, Memory}
 use Rattle.fuse_sim.specs.Driving.{told_in, IsFit, event_of, StandsIn, became_in, CausedBy, is_store, IsStoreFault, LeftBy, dies, deaths, Calm}
 use Rattle.fuse_sim.specs.inner.Running.{dies_before, IsRun, Begins, Gathers, StopsAt, Refuses, Stops}
-use Rattle.fuse_sim.proofs.Openings.{became_itself, deaths_first, deaths-append}
+use Rattle.fuse_sim.proofs.Openings.{became_itself, deaths_first, deaths-append, medium_itself, medium_some}
 
 -- ---- places
 
@@ -65,6 +65,8 @@ stops_here M told became refuses k events at fault place kind caused going law =
   emptied = λ none. absurd (not_none (λ x. (told x).has_failed ≡ false) k going none);
   has_failed = some_failed (λ x. (told x).has_failed) k (is_store fault) (subst (λ b. IsSomeAnd k (λ x. (told x).has_failed ≡ b)) (sym kind) going);
   was_honest = λ is. is;
+  firm = λ _ _ so. so;
+  medium = λ _. medium_itself M told k;
 }
 
 -- the store answered a fault to a group
@@ -73,8 +75,9 @@ pub stops_store : (M : Model) → {K : Type 0} (told : K → KeeperState M) (bec
     → IsSomeAnd (slice_get events at) IsFit → IsSomeAnd k' (λ x. (told x).has_failed ≡ true)
     → ((told_in told k').is_clean → KeepsHeld (told_in told k) (told_in told k')) → ((told_in told k').is_honest → (told_in told k).is_honest)
     → ((told_in told k').is_clean → (s : M.State) (h : History) (t : List ℕ) → StandsIn told k s h t → (told_in told k).may_answer fault)
-    → became_in became k k' 0 → Stops told became refuses k k' events at (Store at fault)
-stops_store M told became refuses k k' events at fault fit has keeps was answered same = record {
+    → became_in became k k' 0 → ((told_in told k).in_memory → (told_in told k').in_memory)
+    → Stops told became refuses k k' events at (Store at fault)
+stops_store M told became refuses k k' events at fault fit has keeps was answered same medium = record {
   named = fit;
   earlier = λ each. each;
   left = λ is. (refl, keeps is);
@@ -83,6 +86,8 @@ stops_store M told became refuses k k' events at fault fit has keeps was answere
   emptied = λ none. absurd (not_none (λ x. (told x).has_failed ≡ true) k' has none);
   has_failed = some_failed (λ x. (told x).has_failed) k' true has;
   was_honest = was;
+  firm = λ isnt. absurd (cc isnt);
+  medium = λ _. medium_some M told k k' medium;
 }
 
 caused_by_store : (fault : DriveFault) (e : Event) → is_store fault ≡ true → IsFit e → CausedBy fault e
@@ -120,6 +125,8 @@ stops_restart M told became refuses k q k' events at n fault e none refused kind
   emptied = λ _. refused_at became refuses k q fault events at n e place there died same calm refused;
   has_failed = subst (λ o. IfSome o (λ x. (told x).has_failed ≡ is_store fault)) (sym none) tt;
   was_honest = λ is. absurd (subst (λ o. (told_in told o).is_honest) none is);
+  firm = λ isnt. absurd (cc (kind, isnt));
+  medium = λ there. absurd (there none);
 }
 
 -- ---- the last event of a group

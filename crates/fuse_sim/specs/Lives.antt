@@ -1,7 +1,7 @@
 -- Lives of a server within one mount, one after another, each over what the one before left (own profile).
 use Rattle.std.specs.Prelude.{◌≡◌, List, [], ◌∷◌, ◌++◌, ℕ}
 use Rattle.std.specs.Io.KnownBytes.{Consumes}
-use Rattle.fuse_wire.specs.declared.moment.Moment.{Moment}
+use Rattle.fuse_request.specs.Opcodes.{OpcodeSet}
 use Rattle.fuse_request.specs.Stream.{cut, joined}
 use Rattle.fuse_keeper.specs.History.{History, grown}
 use Rattle.fuse_keeper.specs.Model.{Model}
@@ -9,9 +9,11 @@ use Rattle.fuse_keeper.specs.KeeperState.{KeeperState}
 use Rattle.fuse_session.specs.declared.ended.Ended.{Ended}
 use Rattle.fuse_session.specs.Ends.{MayEnd, ended_store, ended_memory}
 use Rattle.fuse_session.specs.Port.{PortState}
+use Rattle.fuse_session.specs.Deeds.{Deeds, Hears}
+use Rattle.fuse_session.specs.Batches.{TimedFirst}
 use Rattle.fuse_session.specs.Serving.{Run}
 use Rattle.fuse_session.specs.Settling.{Mark, replies, settled_in, Replied}
-use Rattle.fuse_session.specs.Processed.{Timed, bytes_of, kept_in, out, Works, GaveFirst}
+use Rattle.fuse_session.specs.Processed.{Timed, bytes_of, kept_in, out, Works}
 
 -- the bytes that came, those that were sent, the messages that were processed, and the ids that their answers settled
 pub record Lifetime : Type 0 where
@@ -32,12 +34,12 @@ pub record IsLife (M : Model) (s : M.State) (h : History) (life : Lifetime) : Ty
 -- each life begins with the history that the one before left
 abbrev pub AreLives : (M : Model) → M.State → History → List Lifetime → Type 0
 AreLives M s h [] = Unit {0}
-AreLives M s h (life ∷ lives) = IsLife M s h life × AreLives M s (grown h (kept_in life.worked)) lives
+AreLives M s h (life ∷ lives) = IsLife M s h life × AreLives M s (grown h (kept_in M.serves life.worked)) lives
 
 -- the last history
-abbrev pub after_lives : History → List Lifetime → History
-after_lives h [] = h
-after_lives h (life ∷ lives) = after_lives (grown h (kept_in life.worked)) lives
+abbrev pub after_lives : OpcodeSet → History → List Lifetime → History
+after_lives V h [] = h
+after_lives V h (life ∷ lives) = after_lives V (grown h (kept_in V life.worked)) lives
 
 -- all messages that were processed, in a row
 abbrev pub all_processed : List Lifetime → List Timed
@@ -50,12 +52,12 @@ AllSend M s last [] = Unit {0}
 AllSend M s last (life ∷ lives) = ((unsent : List ℕ) × (out M s last life.worked ≡ life.sent ++ unsent)) × AllSend M s last lives
 
 -- the clause `life` of `serve` for a run, at whatever end, of a keeper that was k and is k'
-abbrev pub RunOfServe : {M : Model} → KeeperState M → KeeperState M → (List Moment → Type 0) → PortState → PortState → Ended → Type 0
-RunOfServe k k' gave old new ended = Run k k' gave old new [] [] (ended_store ended) (ended_memory ended) (MayEnd k.may_answer ended)
+abbrev pub RunOfServe : {M : Model} → KeeperState M → KeeperState M → (Deeds → Type 0) → PortState → PortState → Ended → Type 0
+RunOfServe k k' did old new ended = Run k k' did old new [] [] (ended_store ended) (ended_memory ended) (MayEnd k.may_answer ended)
 
 -- a run of a server was a life: the bytes that came to its port, the answers that it sent whole and the part of another
--- one, the ids that these settle, the moments that its clock gave, and what is left
-pub record RanAsLife (M : Model) (stood : History → List ℕ → Type 0) (gave : List Moment → Type 0) (s : M.State)
+-- one, the ids that these settle, what was done, with the moments of the messages, and what is left
+pub record RanAsLife (M : Model) (stood : History → List ℕ → Type 0) (did : Deeds → Type 0) (s : M.State)
     (h : History) (t : List ℕ) (old new : PortState) : Type 0 where
   pub life : Lifetime
   pub lived : IsLife M s h life
@@ -64,6 +66,8 @@ pub record RanAsLife (M : Model) (stood : History → List ℕ → Type 0) (gave
   pub part : List ℕ
   pub replied : Replied old new marks part
   pub sent : life.sent ≡ joined (replies marks) ++ part
-  pub settled_are : life.settled ≡ settled_in old.confirms (bytes_of life.worked) marks
-  pub moments : GaveFirst gave life.worked
-  pub stands : stood (grown h (kept_in life.worked)) (t ++ life.settled)
+  pub settled_are : life.settled ≡ settled_in M.serves old.confirms (bytes_of life.worked) marks
+  pub deeds : Deeds
+  pub done : Hears did life.received deeds
+  pub moments : TimedFirst M.serves deeds.moments life.worked
+  pub stands : stood (grown h (kept_in M.serves life.worked)) (t ++ life.settled)

@@ -130,6 +130,7 @@ fn work_group<K: Restart>(
         (ids_of pending.old.items) run.now }
     ensures some { OnErr result (0 < length group.now.taken.items) }
 {
+    kept_groups_grow::<K>();
     let inner = keeper.as_mut().unwrap();
     let dones = perform_group(alloc, inner, group.taken.as_slice(), pending)?;
     answer_group::<K>(
@@ -355,7 +356,6 @@ pub fn drive<K: Restart>(
         → records i ≡ said K.model start (committed K.model.serves h events.now) i) }
 {
     histories_grow::<K>();
-    kept_groups_grow::<K>();
     let mut outcomes = Vec::new(alloc);
     let mut pending = Vec::new(alloc);
     let mut at = 0;

@@ -4,48 +4,53 @@ ghost use Rattle.fuse_keeper.specs.History.{History, Distinct, grown};
 ghost use Rattle.fuse_keeper.specs.Stands.{Stands};
 ghost use Rattle.fuse_keeper.specs.KeeperState.{StandsFor, Leaves, IsFirm};
 ghost use Rattle.fuse_session.specs.declared.ended.Ended.{Ended as EndedValue};
-ghost use Rattle.fuse_session.specs.Port.{PortState};
+ghost use Rattle.fuse_session.specs.Deeds.{Did};
 ghost use Rattle.fuse_session.specs.Settling.{NoneComesAgain};
 ghost use Rattle.fuse_session.specs.Processed.{bytes_of, kept_in};
 ghost use Rattle.fuse_sim.specs.Lives.{Lifetime, AreLives, after_lives, all_processed, AllSend};
 ghost use Rattle.fuse_sim.specs.Lives.{RunOfServe, RanAsLife};
 
 use fuse_keeper::{Keeper, histories_grow};
-use fuse_session::Clock;
+use fuse_session::{Clock, Port};
 
 /// Over every list of lives of one mount, each beginning with the history that the one before left
 /// and the first with none.
 pub fn lives<K: Keeper>()
     // The last history is that of all messages that they processed, in a row,
-    ensures in_a_row { (ls : List Lifetime)
-        → after_lives [] ls ≡ grown [] (kept_in (all_processed ls)) }
+    ensures in_a_row { (ls : List Lifetime) → after_lives K.model.serves [] ls
+        ≡ grown [] (kept_in K.model.serves (all_processed ls)) }
     // in which no request stands twice,
-    ensures once { (ls : List Lifetime) → Distinct (after_lives [] ls) }
+    ensures once { (ls : List Lifetime) → Distinct (after_lives K.model.serves [] ls) }
     // and the bytes that each life sent are a prefix of those to be sent by that history.
     ensures send { (s : K.model.State) (ls : List Lifetime)
-        → AreLives K.model s [] ls → AllSend K.model s (after_lives [] ls) ls }
+        → AreLives K.model s [] ls → AllSend K.model s (after_lives K.model.serves [] ls) ls }
 {
     histories_grow::<K>();
 }
 
 /// Each run of `serve` is such a life: `run` is its clause `life`, of a keeper that was `k` and is
-/// `k'`, at whatever end; its clock was `c` and is `c'`. The premise is that no kept message comes
+/// `k'`, at whatever end; its port was `p` and is `p'`, its clock was `c` and is `c'`. The premise is that no kept message comes
 /// again whose answer was settled before or by the run.
-pub fn runs_are_lives<K: Keeper, C: Clock>()
+pub fn runs_are_lives<K: Keeper, P: Port, C: Clock>()
     // The rows and records that the keeper holds stand for the history that the life leaves, where
     // its store is clean,
-    ensures ends { (k k' : K) (c c' : C) (old new : PortState) (ended : EndedValue)
-        (run : RunOfServe (K.told k) (K.told k') (C.gave c c') old new ended)
+    ensures ends { (k k' : K) (p p' : P) (c c' : C) (ended : EndedValue)
+        (run : RunOfServe (K.told k) (K.told k')
+        (Did (C.gave c c') (K.performed k k') (P.became p p')) (P.told p) (P.told p') ended)
         (s : K.model.State) (h : History) (t : List ℕ) → StandsFor (K.told k) s h t
-        → NoneComesAgain old.confirms t (bytes_of run.broken.timed) run.broken.marks
+        → NoneComesAgain K.model.serves (P.told p).confirms t
+        (bytes_of run.broken.timed) run.broken.marks
         → (K.told k').is_clean
-        → RanAsLife K.model (StandsFor (K.told k') s) (C.gave c c') s h t old new }
+        → RanAsLife K.model (StandsFor (K.told k') s)
+        (Did (C.gave c c') (K.performed k k') (P.became p p')) s h t (P.told p) (P.told p') }
     // and so does whatever a crash then leaves, where the keeper was firm.
-    ensures crashes { (k k' : K) (c c' : C) (old new : PortState) (ended : EndedValue)
-        (run : RunOfServe (K.told k) (K.told k') (C.gave c c') old new ended)
+    ensures crashes { (k k' : K) (p p' : P) (c c' : C) (ended : EndedValue)
+        (run : RunOfServe (K.told k) (K.told k')
+        (Did (C.gave c c') (K.performed k k') (P.became p p')) (P.told p) (P.told p') ended)
         (s : K.model.State) (h : History) (t : List ℕ) → StandsFor (K.told k) s h t
-        → NoneComesAgain old.confirms t (bytes_of run.broken.timed) run.broken.marks
+        → NoneComesAgain K.model.serves (P.told p).confirms t
+        (bytes_of run.broken.timed) run.broken.marks
         → (K.told k').is_honest → IsFirm (K.told k)
-        → Leaves (K.told k') (λ x r.
-        RanAsLife K.model (Stands K.model x r s) (C.gave c c') s h t old new) }
+        → Leaves (K.told k') (λ x r. RanAsLife K.model (Stands K.model x r s)
+        (Did (C.gave c c') (K.performed k k') (P.became p p')) s h t (P.told p) (P.told p')) }
 {}

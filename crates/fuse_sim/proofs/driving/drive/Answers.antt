@@ -1,10 +1,12 @@
-use Rattle.std.proofs.Common.{◌≡◌, false, [], length, ap, subst, arith}
+use Rattle.std.proofs.Common.{◌≡◌, false, [], length, drop, ap, subst, arith}
 use Rattle.std.proofs.lemmas.List.{take_all}
 use Rattle.std.proofs.lemmas.Result.{err_from_is_err_and}
 use Rattle.fuse_keeper.specs.Group.{ids_of}
-use Rattle.fuse_sim.specs.Driving.{told_in, Opened}
-use Rattle.fuse_sim.proofs.Openings.{opened_none}
+use Rattle.fuse_sim.specs.Driving.{told_in, Opened, MayRefuse, StoodBefore, performed_in}
+use Rattle.fuse_sim.specs.HandedOn.{performances}
+use Rattle.fuse_sim.proofs.Openings.{opened_none, stood_none, medium_itself, medium_then}
 use Rattle.fuse_sim.proofs.Endings.{moved_none, moved_more, moved_opened, stopped_opened, stopped_emptied, moved_all, moved_stands, moved_left, moved_outcomes}
+use Rattle.fuse_sim.proofs.Endings.{moved_stood, moved_outcomes_before, moved_asked, performed_none, stopped_stood, stopped_medium, stopped_firm, stopped_asked}
 use Rattle.fuse_sim.proofs.Endings.{moved_count, moved_records, stopped, stopped_store}
 use Rattle.fuse_sim.proofs.driving.drive.Goals as goal
 
@@ -19,6 +21,9 @@ loop-at-init g c =
       going = c.requires.present;
       opened = opened_none k.model k.told k.became g.met.K.Keeper.counted (λ x. (k.told x).has_failed ≡ false) c.args.keeper.now c.requires.present;
       honest = λ is. is;
+      stood = stood_none k.model k.told k.became g.met.K.Keeper.counted (λ x. (k.told x).has_failed ≡ false) c.args.keeper.now c.requires.present;
+      asked = performed_none k.performed g.met.K.Keeper.log (λ x. (k.told x).has_failed ≡ false) c.args.keeper.now c.requires.present;
+      medium = medium_itself k.model k.told c.args.keeper.now;
     }
 
 pub loop-at-preserved : goal.loop-at-preserved
@@ -36,13 +41,23 @@ loop-at-preserved g c =
           c.loop-at.at c.in_ok-at.field-0
           (ids_of c.loop-at.pending.items) c.loop-at.outcomes.items c.loop-at.invariant.moved c.loop-at.invariant.opened c.in_ok-at.ensures.opens;
       honest = λ is. c.loop-at.invariant.honest (c.run_next.ensures.honest is);
+      stood = moved_stood g.K.Keeper.model k.told k.became g.met.K.Keeper.counted c.args.keeper.now c.loop-at.keeper c.run_next.new.keeper c.args.events.now
+          c.loop-at.at c.in_ok-at.field-0
+          (ids_of c.loop-at.pending.items) c.loop-at.outcomes.items c.loop-at.invariant.moved c.loop-at.invariant.opened c.loop-at.invariant.stood
+          c.in_ok-at.ensures.opens;
+      asked = moved_asked g.K.Keeper.model k.performed g.met.K.Keeper.log (told_in k.told c.args.keeper.now) (told_in k.told c.loop-at.keeper)
+          c.args.keeper.now c.loop-at.keeper c.run_next.new.keeper c.args.events.now c.loop-at.at c.in_ok-at.field-0
+          (ids_of c.loop-at.pending.items) c.loop-at.outcomes.items c.loop-at.invariant.moved c.loop-at.invariant.asked
+          c.in_ok-at.ensures.asks c.in_ok-at.ensures.asked;
+      medium = medium_then g.K.Keeper.model k.told c.args.keeper.now c.loop-at.keeper c.run_next.new.keeper (λ x. (k.told x).has_failed ≡ false)
+          c.loop-at.invariant.going c.loop-at.invariant.medium c.in_ok-at.ensures.opens.medium;
     }
 
 pub returns-in_err-at-clause-after_fault : goal.returns-in_err-at-clause-after_fault
 returns-in_err-at-clause-after_fault g c =
     let k = g.K.Keeper in
     let p = err_from_is_err_and c.from_residual.result c.from_residual.ensures.1 in
-    rw (p.1, p.2) (stopped g.K.Keeper.model k.told k.became g.K.Restart.may_refuse c.args.keeper.now c.loop-at.keeper c.run_next.new.keeper c.args.events.now
+    rw (p.1, p.2) (stopped g.K.Keeper.model k.told k.became (MayRefuse g.K.Restart.refuses) c.args.keeper.now c.loop-at.keeper c.run_next.new.keeper c.args.events.now
     c.loop-at.at c.in_err-at.field-0.0 (ids_of c.loop-at.pending.items) c.loop-at.outcomes.items
     (λ k. (g.met.K.Keeper.sound k).clean_is_honest) c.loop-at.invariant.moved c.in_err-at.ensures.err)
 
@@ -50,7 +65,7 @@ pub returns-in_err-at-clause-store : goal.returns-in_err-at-clause-store
 returns-in_err-at-clause-store g c =
     let k = g.K.Keeper in
     let p = err_from_is_err_and c.from_residual.result c.from_residual.ensures.1 in
-    rw (p.1, p.2) (stopped_store g.K.Keeper.model k.told k.became g.K.Restart.may_refuse c.args.keeper.now c.loop-at.keeper c.run_next.new.keeper
+    rw (p.1, p.2) (stopped_store g.K.Keeper.model k.told k.became (MayRefuse g.K.Restart.refuses) c.args.keeper.now c.loop-at.keeper c.run_next.new.keeper
     c.args.events.now c.loop-at.at c.in_err-at.field-0.0 (ids_of c.loop-at.pending.items) c.loop-at.outcomes.items
     (λ k. (g.met.K.Keeper.sound k).clean_is_honest) c.loop-at.invariant.moved c.loop-at.invariant.opened c.in_err-at.ensures.err)
 
@@ -58,7 +73,7 @@ pub returns-in_err-at-clause-opened_before : goal.returns-in_err-at-clause-opene
 returns-in_err-at-clause-opened_before g c =
     let k = g.K.Keeper in
     let p = err_from_is_err_and c.from_residual.result c.from_residual.ensures.1 in
-    rw (p.1, p.2) (stopped_opened g.K.Keeper.model k.told k.became g.K.Restart.may_refuse g.met.K.Keeper.counted c.args.keeper.now c.loop-at.keeper
+    rw (p.1, p.2) (stopped_opened g.K.Keeper.model k.told k.became (MayRefuse g.K.Restart.refuses) g.met.K.Keeper.counted c.args.keeper.now c.loop-at.keeper
     c.run_next.new.keeper c.args.events.now c.loop-at.at c.in_err-at.field-0.0
     c.loop-at.invariant.opened c.in_err-at.ensures.err)
 
@@ -66,7 +81,7 @@ pub returns-in_err-at-clause-emptied : goal.returns-in_err-at-clause-emptied
 returns-in_err-at-clause-emptied g c =
     let k = g.K.Keeper in
     let p = err_from_is_err_and c.from_residual.result c.from_residual.ensures.1 in
-    rw (p.1, p.2) (stopped_emptied g.K.Keeper.model k.told k.became g.K.Restart.may_refuse g.met.K.Keeper.counted c.args.keeper.now c.loop-at.keeper
+    rw (p.1, p.2) (stopped_emptied g.K.Keeper.model k.told k.became (MayRefuse g.K.Restart.refuses) g.met.K.Keeper.counted c.args.keeper.now c.loop-at.keeper
     c.run_next.new.keeper c.args.events.now c.loop-at.at c.in_err-at.field-0.0
     c.loop-at.invariant.opened c.in_err-at.ensures.err)
 
@@ -105,5 +120,55 @@ returns-clause-count g c =
 pub returns-clause-records : goal.returns-clause-records
 returns-clause-records g c =
     moved_records g.K.Keeper.model _ _ c.args.events.now _ _ _
+    (moved_all g.K.Keeper.model (told_in g.K.Keeper.told c.args.keeper.now) (told_in g.K.Keeper.told c.loop-at.keeper) c.args.events.now _ c.loop-at.at _ _
+    c.loop-at-test.false c.loop-at.invariant.moved)
+
+pub returns-in_err-at-clause-stood_at_fault : goal.returns-in_err-at-clause-stood_at_fault
+returns-in_err-at-clause-stood_at_fault g c =
+    let k = g.K.Keeper in
+    let p = err_from_is_err_and c.from_residual.result c.from_residual.ensures.1 in
+    rw (p.1, p.2) (stopped_stood g.K.Keeper.model k.told k.became (MayRefuse g.K.Restart.refuses) g.met.K.Keeper.counted c.args.keeper.now c.loop-at.keeper
+    c.run_next.new.keeper c.args.events.now c.loop-at.at c.in_err-at.field-0.0
+    c.loop-at.invariant.stood c.in_err-at.ensures.err)
+
+pub returns-in_err-at-clause-asked_before : goal.returns-in_err-at-clause-asked_before
+returns-in_err-at-clause-asked_before g c =
+    let k = g.K.Keeper in
+    let p = err_from_is_err_and c.from_residual.result c.from_residual.ensures.1 in
+    rw (p.1, p.2) (stopped_asked g.K.Keeper.model k.told k.became (MayRefuse g.K.Restart.refuses) k.performed g.met.K.Keeper.log c.args.keeper.now
+    c.loop-at.keeper c.run_next.new.keeper c.args.events.now c.loop-at.at c.in_err-at.field-0.0
+    (ids_of c.loop-at.pending.items) c.loop-at.outcomes.items c.loop-at.invariant.moved c.loop-at.invariant.asked c.in_err-at.ensures.err
+    c.in_err-at.ensures.err_asked)
+
+pub returns-in_err-at-clause-medium : goal.returns-in_err-at-clause-medium
+returns-in_err-at-clause-medium g c =
+    let k = g.K.Keeper in
+    stopped_medium g.K.Keeper.model k.told k.became (MayRefuse g.K.Restart.refuses) (λ x. (k.told x).has_failed ≡ false) c.args.keeper.now c.loop-at.keeper
+    c.run_next.new.keeper c.args.events.now c.loop-at.at c.in_err-at.field-0.0 c.loop-at.invariant.going c.loop-at.invariant.medium c.in_err-at.ensures.err
+
+pub returns-in_err-at-clause-firm : goal.returns-in_err-at-clause-firm
+returns-in_err-at-clause-firm g c =
+    let k = g.K.Keeper in
+    let p = err_from_is_err_and c.from_residual.result c.from_residual.ensures.1 in
+    rw (p.1, p.2) (stopped_firm g.K.Keeper.model k.told k.became (MayRefuse g.K.Restart.refuses) c.args.keeper.now c.loop-at.keeper c.run_next.new.keeper
+    c.args.events.now (drop c.loop-at.at c.args.events.now) c.loop-at.at c.in_err-at.field-0.0 (ids_of c.loop-at.pending.items) c.loop-at.outcomes.items
+    c.loop-at.invariant.moved c.in_err-at.ensures.err)
+
+pub returns-clause-firm : goal.returns-clause-firm
+returns-clause-firm g c = c.loop-at.invariant.moved.ran.firm
+
+pub returns-clause-stood_before : goal.returns-clause-stood_before
+returns-clause-stood_before g c =
+    subst (StoodBefore g.K.Keeper.told g.K.Keeper.became c.args.keeper.now c.loop-at.keeper) (take_all c.loop-at.at c.args.events.now c.loop-at-test.false)
+    c.loop-at.invariant.stood
+
+pub returns-clause-asked : goal.returns-clause-asked
+returns-clause-asked g c =
+    subst (λ es. performed_in g.K.Keeper.performed c.args.keeper.now c.loop-at.keeper (performances g.K.Keeper.model.serves es))
+    (take_all c.loop-at.at c.args.events.now c.loop-at-test.false) c.loop-at.invariant.asked
+
+pub returns-clause-outcomes_before : goal.returns-clause-outcomes_before
+returns-clause-outcomes_before g c =
+    moved_outcomes_before g.K.Keeper.model _ _ c.args.events.now _ _ _
     (moved_all g.K.Keeper.model (told_in g.K.Keeper.told c.args.keeper.now) (told_in g.K.Keeper.told c.loop-at.keeper) c.args.events.now _ c.loop-at.at _ _
     c.loop-at-test.false c.loop-at.invariant.moved)

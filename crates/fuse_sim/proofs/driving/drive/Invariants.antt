@@ -1,7 +1,7 @@
 use Rattle.std.proofs.Common.{◌≡◌, ◌≤◌, ◌-◌, length, take, drop, [], IsSomeAnd, false}
 use Rattle.fuse_keeper.specs.Group.{ids_of}
-use Rattle.fuse_sim.specs.Driving.{told_in, Opened}
-use Rattle.fuse_sim.specs.HandedOn.{empty_ledger}
+use Rattle.fuse_sim.specs.Driving.{told_in, Opened, StoodBefore, KeepsMedium, performed_in}
+use Rattle.fuse_sim.specs.HandedOn.{empty_ledger, performances}
 use Rattle.fuse_sim.specs.inner.Running.{Moved}
 use Rattle.fuse_sim.proofs.driving.drive.Given as goal
 
@@ -14,6 +14,9 @@ invariant-loop-at g l = record {
   going : IsSomeAnd l.keeper (λ k. (g.K.Keeper.told k).has_failed ≡ false);
   opened : Opened g.K.Keeper.told g.K.Keeper.became l.fn.keeper l.keeper (take l.at l.events);
   honest : (told_in g.K.Keeper.told l.keeper).is_honest → (told_in g.K.Keeper.told l.fn.keeper).is_honest;
+  stood : StoodBefore g.K.Keeper.told g.K.Keeper.became l.fn.keeper l.keeper (take l.at l.events);
+  asked : performed_in g.K.Keeper.performed l.fn.keeper l.keeper (performances g.K.Keeper.model.serves (take l.at l.events));
+  medium : KeepsMedium g.K.Keeper.told l.fn.keeper l.keeper;
 }
 
 abbrev pub decreases-loop-at : goal.decreases-loop-at

@@ -14,14 +14,15 @@ returns-clause-tree_stands g c = λ is.
 pub returns-clause-outcomes : goal.returns-clause-outcomes
 returns-clause-outcomes g c = λ is start h settled so none.
     let M = g.K.Keeper.model in
+    let V = M.serves in
     let xs = c.args.events.now in
     let ys = c.args.more.now in
     let was = c.drive-2.ensures.honest is in
-    let parts = reused-parts settled xs ys none in
+    let parts = reused-parts V settled xs ys none in
     let stands = c.in_ok-first.ensures.tree_stands was start h settled so parts.0 in
     map-append bytes_given c.in_ok-first.first.items c.in_ok-second.second.items
     ∙ ap (λ os. os ++ map bytes_given c.in_ok-second.second.items) (c.in_ok-first.ensures.outcomes was start h settled so parts.0)
-    ∙ ap (λ os. map (outcome_of M start (committed h xs)) xs ++ os) (c.in_ok-second.ensures.outcomes is start (committed h xs) (settled_by settled xs) stands
+    ∙ ap (λ os. map (outcome_of M start (committed V h xs)) xs ++ os) (c.in_ok-second.ensures.outcomes is start (committed V h xs) (settled_by V settled xs) stands
     parts.1)
     ∙ sym (outcomes-append M c.histories_grow.ensures start h xs ys)
 

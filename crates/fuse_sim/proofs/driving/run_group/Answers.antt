@@ -1,7 +1,7 @@
 use Rattle.std.proofs.Common.{◌+◌, ◌-◌, ◌≤◌, refl, sym, ap, subst, ◌∙◌, length, take, drop, arith}
 use Rattle.std.proofs.lemmas.Result.{err_from_is_err_and}
 use Rattle.fuse_keeper.specs.Group.{ids_of}
-use Rattle.fuse_sim.specs.Driving.{told_in, commits_in}
+use Rattle.fuse_sim.specs.Driving.{told_in, commits_in, MayRefuse}
 use Rattle.fuse_sim.specs.inner.Running.{Gathers, Worked}
 use Rattle.fuse_sim.proofs.Moves.{group_moved, ids_left, few_taken, few_left}
 use Rattle.fuse_sim.proofs.Openings.{group_opens}
@@ -11,13 +11,13 @@ use Rattle.fuse_sim.proofs.driving.run_group.Goals as goal
 pub returns-in_default-clause-err : goal.returns-in_default-clause-err
 returns-in_default-clause-err g c =
     let k = g.K.Keeper in
-    stops_here k.model k.told k.became g.K.Restart.may_refuse c.args.keeper.now c.args.events.now c.args.at _ refl refl
+    stops_here k.model k.told k.became (MayRefuse g.K.Restart.refuses) c.args.keeper.now c.args.events.now c.args.at _ refl refl
     (begins_fit c.args.events.now c.args.at c.requires.begins) c.requires.going g.met.K.Keeper.counted
 
 pub returns-then-is_err-clause-err : goal.returns-then-is_err-clause-err
 returns-then-is_err-clause-err g c =
     let k = g.K.Keeper in
-    stops_here k.model k.told k.became g.K.Restart.may_refuse c.args.keeper.now c.args.events.now c.args.at _ refl refl
+    stops_here k.model k.told k.became (MayRefuse g.K.Restart.refuses) c.args.keeper.now c.args.events.now c.args.at _ refl refl
     (begins_fit c.args.events.now c.args.at c.requires.begins) c.requires.going g.met.K.Keeper.counted
 
 pub work_group-requires-clause-gathers : goal.work_group-requires-clause-gathers
@@ -25,16 +25,16 @@ work_group-requires-clause-gathers g c =
     let group = c.in-Ok.group in
     let events = c.args.events.now in
     let count = c.len-count.result in
-    subst (λ x. Gathers x group.classes.items group.taken.items group.died) (sym (run_slice events c.args.at count))
-    (group_read events c.args.at count group.classes.items group.taken.items group.died (omega (arith, c.len-count.ensures, group.classes.ok))
+    subst (λ x. Gathers g.K.Keeper.model x group.classes.items group.taken.items group.died) (sym (run_slice events c.args.at count))
+    (group_read g.K.Keeper.model events c.args.at count group.classes.items group.taken.items group.died (omega (arith, c.len-count.ensures, group.classes.ok))
     c.in-Ok.ensures.gathers)
 
 pub returns-in-Err-clause-err : goal.returns-in-Err-clause-err
 returns-in-Err-clause-err g c =
     let k = g.K.Keeper in
-    stops_store k.model k.told k.became g.K.Restart.may_refuse c.args.keeper.now c.work_group.new.keeper c.args.events.now c.args.at c.in-Err.fault
+    stops_store k.model k.told k.became (MayRefuse g.K.Restart.refuses) c.args.keeper.now c.work_group.new.keeper c.args.events.now c.args.at c.in-Err.fault
     (begins_fit c.args.events.now c.args.at c.requires.begins) c.in-Err.ensures.failed c.in-Err.ensures.called.err c.in-Err.ensures.called.honest
-    c.in-Err.ensures.called.fault c.work_group.ensures.same
+    c.in-Err.ensures.called.fault c.work_group.ensures.same c.in-Err.ensures.called.medium
 
 pub returns-in_err-end_group-clause-err : goal.returns-in_err-end_group-clause-err
 returns-in_err-end_group-clause-err g c =
@@ -43,14 +43,14 @@ returns-in_err-end_group-clause-err g c =
     let at = c.args.at in
     let group = c.in-Ok.group in
     let count = c.len-count.result in
-    let gathers = group_read events at count group.classes.items group.taken.items group.died (omega (arith, c.len-count.ensures, group.classes.ok))
+    let gathers = group_read g.K.Keeper.model events at count group.classes.items group.taken.items group.died (omega (arith, c.len-count.ensures, group.classes.ok))
     c.in-Ok.ensures.gathers in
     let none = c.in_err-end_group.ensures.err in
     let fault = c.in_err-end_group.ensures.fault in
     let few : count ≤ length (take (length events - at) (drop at events)) = omega (arith, c.in-Ok.ensures.within, c.len-count.ensures, group.classes.ok) in
     let last = dies_at events at count group.died (within_rest events at count c.requires.begins few) gathers.goes gathers.fit none.1 in
     let p = err_from_is_err_and c.from_residual.result c.from_residual.ensures.1 in
-    rw (p.1, p.2) (stops_restart k.model k.told k.became g.K.Restart.may_refuse c.args.keeper.now c.work_group.new.keeper c.end_group.new.keeper events at
+    rw (p.1, p.2) (stops_restart k.model k.told k.became (MayRefuse g.K.Restart.refuses) c.args.keeper.now c.work_group.new.keeper c.end_group.new.keeper events at
     (at + count - 1) c.in_err-end_group.field-0.0 last.one
     none.0 c.in_err-end_group.ensures.refused fault.0 fault.1 last.there last.fit last.died last.earlier c.work_group.ensures.same last.calm)
 
@@ -61,7 +61,7 @@ returns-clause-ok g c =
     let at = c.args.at in
     let count = c.len-count.result in
     let group = c.in-Ok.group in
-    let gathers = group_read events at count group.classes.items group.taken.items group.died (omega (arith, c.len-count.ensures, group.classes.ok))
+    let gathers = group_read g.K.Keeper.model events at count group.classes.items group.taken.items group.died (omega (arith, c.len-count.ensures, group.classes.ok))
     c.in-Ok.ensures.gathers in
     let stops = group_stops events at count group.classes.items group.taken.items group.died (omega (arith, c.len-count.ensures, group.classes.ok))
     c.in-Ok.ensures.stops in
@@ -75,7 +75,7 @@ returns-clause-ok g c =
     (ids_of c.args.pending.now.items) (ids_of c.work_group.new.pending.items) (ids_of c.end_group.new.pending.items) c.args.outcomes.now.items
     c.work_group.new.outcomes.items
     gathers (run_slice events at count) stops
-    worked c.in_ok-end_group.ensures.same c.end_group.ensures.honest (ids_left group.died c.end_group.new.pending.items c.work_group.new.pending.items
+    worked c.in_ok-end_group.ensures.same c.end_group.ensures.honest c.in_ok-end_group.ensures.firm (ids_left group.died c.end_group.new.pending.items c.work_group.new.pending.items
     c.in_ok-end_group.ensures.pending)
 
 pub returns-clause-opens : goal.returns-clause-opens
@@ -85,7 +85,7 @@ returns-clause-opens g c =
     let at = c.args.at in
     let count = c.len-count.result in
     let group = c.in-Ok.group in
-    let gathers = group_read events at count group.classes.items group.taken.items group.died (omega (arith, c.len-count.ensures, group.classes.ok))
+    let gathers = group_read g.K.Keeper.model events at count group.classes.items group.taken.items group.died (omega (arith, c.len-count.ensures, group.classes.ok))
     c.in-Ok.ensures.gathers in
     let worked = subst (λ p. Worked (told_in k.told c.args.keeper.now) (told_in k.told c.work_group.new.keeper) (take (at + count - at) (drop at events))
     (ids_of p) (ids_of c.work_group.new.pending.items) c.args.outcomes.now.items c.work_group.new.outcomes.items) c.make_room.ensures.pending
@@ -96,7 +96,7 @@ returns-clause-opens g c =
     group.died (take count (drop at events)) (take (at + count - at) (drop at events)) group.classes.items group.taken.items
     (ids_of c.args.pending.now.items) (ids_of c.work_group.new.pending.items) c.args.outcomes.now.items c.work_group.new.outcomes.items
     gathers (run_slice events at count) worked c.work_group.ensures.same c.in_ok-end_group.ensures.opened c.in_ok-end_group.ensures.same
-    c.end_group.ensures.honest c.work_group.ensures.called.honest
+    c.end_group.ensures.honest c.work_group.ensures.called.honest (λ is. c.in_ok-end_group.ensures.medium (c.work_group.ensures.called.medium is))
 
 pub returns-clause-few : goal.returns-clause-few
 returns-clause-few g c =
@@ -104,10 +104,10 @@ returns-clause-few g c =
     let at = c.args.at in
     let count = c.len-count.result in
     let group = c.in-Ok.group in
-    let gathers = group_read events at count group.classes.items group.taken.items group.died (omega (arith, c.len-count.ensures, group.classes.ok))
+    let gathers = group_read g.K.Keeper.model events at count group.classes.items group.taken.items group.died (omega (arith, c.len-count.ensures, group.classes.ok))
     c.in-Ok.ensures.gathers in
-    few_left group.died (take (at + count - at) (drop at events)) c.make_room.new.pending.items c.work_group.new.pending.items c.end_group.new.pending.items 16
+    few_left g.K.Keeper.model.serves group.died (take (at + count - at) (drop at events)) c.make_room.new.pending.items c.work_group.new.pending.items c.end_group.new.pending.items 16
     c.in_ok-end_group.ensures.pending c.in_default-work_group.ensures.ok.handed
     (omega (arith, c.requires.few, ap length c.make_room.ensures.pending))
-    (few_taken (take (at + count - at) (drop at events)) group.taken.items 16 (gathers.entries ∙ ap commits_in (sym (run_slice events at count)))
+    (few_taken g.K.Keeper.model.serves (take (at + count - at) (drop at events)) group.taken.items 16 (gathers.entries ∙ ap (commits_in g.K.Keeper.model.serves) (sym (run_slice events at count)))
     gathers.few)

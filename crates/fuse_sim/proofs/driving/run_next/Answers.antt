@@ -3,7 +3,7 @@ use Rattle.std.proofs.lemmas.Option.{slice_get_read}
 use Rattle.std.proofs.lemmas.Result.{err_from_is_err_and, IfOk-weaker}
 use Rattle.fuse_keeper.specs.Group.{ids_of}
 use Rattle.fuse_sim.specs.declared.event.Outcome.{Outcome}
-use Rattle.fuse_sim.specs.Driving.{told_in, IsFit}
+use Rattle.fuse_sim.specs.Driving.{told_in, IsFit, MayRefuse}
 use Rattle.fuse_sim.proofs.Moves.{begins_at, next_moved, lost_moved}
 use Rattle.fuse_sim.proofs.Openings.{became_itself, lost_opens}
 use Rattle.fuse_sim.proofs.Stopping.{stops_here, stops_restart, lost_dies}
@@ -26,7 +26,7 @@ returns-then-is_err-clause-err g c =
     let events = c.args.events.now in
     let fit = subst (λ o. IsSomeAnd o IsFit) (sym (slice_get_read events _ c.args.at c.index-events-at.result refl c.requires.at c.index-events-at.is))
     c.in_ok-test_event.ensures.fit in
-    stops_here g.K.Keeper.model k.told k.became g.K.Restart.may_refuse c.args.keeper.now events c.args.at _ refl refl fit c.requires.going
+    stops_here g.K.Keeper.model k.told k.became (MayRefuse g.K.Restart.refuses) c.args.keeper.now events c.args.at _ refl refl fit c.requires.going
     g.met.K.Keeper.counted
 
 pub returns-in_err-end_group-clause-err : goal.returns-in_err-end_group-clause-err
@@ -37,7 +37,7 @@ returns-in_err-end_group-clause-err g c =
     let e = c.index-events-at.result in
     let fault = c.in_err-end_group.ensures.fault in
     let p = err_from_is_err_and c.from_residual-in_err-end_group.result c.from_residual-in_err-end_group.ensures.1 in
-    rw (p.1, p.2) (stops_restart g.K.Keeper.model k.told k.became g.K.Restart.may_refuse c.args.keeper.now c.args.keeper.now c.end_group.new.keeper events at at
+    rw (p.1, p.2) (stops_restart g.K.Keeper.model k.told k.became (MayRefuse g.K.Restart.refuses) c.args.keeper.now c.args.keeper.now c.end_group.new.keeper events at at
     c.in_err-end_group.field-0.0 e
     c.in_err-end_group.ensures.err.0 c.in_err-end_group.ensures.refused fault.0 fault.1 (slice_get_read events _ at e refl c.requires.at c.index-events-at.is)
     c.in_ok-test_event.ensures.fit
@@ -54,7 +54,7 @@ returns-clause-ok g c = λ l same may.
     (ids_of c.end_group.new.pending.items) c.args.outcomes.now.items c.push_reserved.new.self.items
     c.requires.at c.index-events-at.is c.in_ok-test_event.ensures.fit (sym c.is_before_commit.ensures ∙ c.if-not-is_before_commit.false)
     (c.push_reserved.ensures.items ∙ ap (λ (x : List (Option Outcome)). x ++ None ∷ []) c.make_room.ensures.outcomes)
-    (ap ids_of {y = []} c.in_ok-end_group.ensures.pending) c.in_ok-end_group.ensures.same
+    (ap ids_of {y = []} c.in_ok-end_group.ensures.pending) c.in_ok-end_group.ensures.same c.in_ok-end_group.ensures.firm
 
 pub returns-clause-opens : goal.returns-clause-opens
 returns-clause-opens g c =
@@ -62,4 +62,4 @@ returns-clause-opens g c =
     lost_opens g.K.Keeper.model k.told k.became g.met.K.Keeper.counted c.args.keeper.now c.end_group.new.keeper c.args.events.now c.args.at
     c.index-events-at.result (ids_of c.args.pending.now.items)
     c.requires.at c.index-events-at.is (sym c.is_before_commit.ensures ∙ c.if-not-is_before_commit.false) c.in_ok-end_group.ensures.opened
-    c.in_ok-end_group.ensures.same c.end_group.ensures.honest
+    c.in_ok-end_group.ensures.same c.end_group.ensures.honest c.in_ok-end_group.ensures.medium

@@ -1,4 +1,4 @@
-use Rattle.std.proofs.Common.{sym, ap, ◌∙◌, length, arith}
+use Rattle.std.proofs.Common.{inl, sym, ap, ◌∙◌, length, arith}
 use Rattle.std.proofs.lemmas.List.{length-map}
 use Rattle.std.proofs.lemmas.Result.{err_from_is_err_and}
 use Rattle.fuse_wire.specs.declared.id.Id.{Id}
@@ -12,7 +12,7 @@ use Rattle.fuse_sim.proofs.driving.work_group.Goals as goal
 pub answer_group-requires-clause-enough : goal.answer_group-requires-clause-enough
 answer_group-requires-clause-enough g c =
     let gathers = c.requires.gathers in
-    answers_for c.args.run.now c.args.group.now.taken.items c.in_ok-dones.dones.items (none_dies c.args.group.now.died c.args.run.now gathers.goes)
+    answers_for g.K.Keeper.model.serves c.args.run.now c.args.group.now.taken.items c.in_ok-dones.dones.items (none_dies c.args.group.now.died c.args.run.now gathers.goes)
     gathers.entries (c.in_ok-dones.ensures.count ∙ ap length c.as_slice.ensures.value)
 
 pub answer_group-requires-clause-places : goal.answer_group-requires-clause-places
@@ -36,13 +36,13 @@ returns-clause-ok g c =
     let gathers = c.requires.gathers in
     let inner = c.unwrap-inner.result.now in
     let old = told_in k.told c.args.keeper.now in
-    let done = worked k.model (k.told inner) (k.told c.perform_group.new.keeper) c.args.run.now c.as_slice.result.now
+    let done = worked k.model c.kept_groups_grow.ensures (k.told inner) (k.told c.perform_group.new.keeper) c.args.run.now c.as_slice.result.now
     (ids_of c.args.pending.now.items) (ids_of c.perform_group.new.pending.items) (ids_of c.answer_group.new.pending.items) c.in_ok-dones.dones.items
     c.args.outcomes.now.items c.answer_group.new.outcomes.items
     (none_dies c.args.group.now.died c.args.run.now gathers.goes) (ap entries_of c.as_slice.ensures.value ∙ gathers.entries)
     (performs_later k.model (k.told inner) (k.told c.perform_group.new.keeper) (handed_to (entries_of c.as_slice.result.now) (ids_of c.args.pending.now.items))
     (entries_of c.as_slice.result.now) c.in_ok-dones.dones.items c.in_ok-dones.ensures.ok)
-    c.in_ok-dones.ensures.others c.in_ok-dones.ensures.pending
+    c.in_ok-dones.ensures.acts c.in_ok-dones.ensures.others (λ is so. c.in_ok-dones.ensures.firm is (inl so)) c.in_ok-dones.ensures.pending
     c.answer_group.ensures.outcomes c.answer_group.ensures.pending in
     rw (sym c.as_mut.ensures.value, c.unwrap-inner.ensures) done
 

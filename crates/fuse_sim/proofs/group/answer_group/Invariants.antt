@@ -6,11 +6,11 @@ use Rattle.fuse_sim.proofs.Outcomes.{AddsFirst}
 use Rattle.fuse_sim.proofs.group.answer_group.Given as goal
 
 abbrev pub invariant-loop-place : goal.invariant-loop-place
-invariant-loop-place l = record {
-  outcomes : AddsFirst l.fn.outcomes.items l.outcomes.items (outcomes_by (drop l.place l.run) (answers_in (into_iter_items l.answers)))
-      (outcomes_by l.run (answers_in l.fn.dones.items));
-  pending : ids_of l.pending.items ++ settles_in (drop l.place l.run) ≡ ids_of l.fn.pending.items ++ settles_in l.run;
-  enough : HasAnswers (drop l.place l.run) (answers_in (into_iter_items l.answers));
+invariant-loop-place g l = record {
+  outcomes : AddsFirst l.fn.outcomes.items l.outcomes.items (outcomes_by g.K.Keeper.model.serves (drop l.place l.run) (answers_in (into_iter_items l.answers)))
+      (outcomes_by g.K.Keeper.model.serves l.run (answers_in l.fn.dones.items));
+  pending : ids_of l.pending.items ++ settles_in g.K.Keeper.model.serves (drop l.place l.run) ≡ ids_of l.fn.pending.items ++ settles_in g.K.Keeper.model.serves l.run;
+  enough : HasAnswers g.K.Keeper.model.serves (drop l.place l.run) (answers_in (into_iter_items l.answers));
   pushed : length l.outcomes.items ≡ length l.fn.outcomes.items + l.place;
   room : vec_capacity l.outcomes ≡ vec_capacity l.fn.outcomes;
   places : length l.pending.items + length (into_iter_items l.answers) ≤ vec_capacity l.fn.pending;

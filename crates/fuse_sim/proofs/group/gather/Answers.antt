@@ -3,12 +3,12 @@ use Rattle.fuse_sim.proofs.Gathered.{gathers_next}
 use Rattle.fuse_sim.proofs.group.gather.Goals as goal
 
 pub loop-event-preserved : goal.loop-event-preserved
-loop-event-preserved c =
+loop-event-preserved g c =
     let old = c.loop-event.group in
     let new = c.take_in.new.group in
     record {
       within = omega (arith, c.loop-event-test.true);
-      gathers = gathers_next c.args.events.now c.loop-event.event-index c.event-item.result old.classes.items new.classes.items old.taken.items new.taken.items
+      gathers = gathers_next g.K.Keeper.model c.args.events.now c.loop-event.event-index c.event-item.result old.classes.items new.classes.items old.taken.items new.taken.items
           old.died new.died
           c.loop-event-test.true c.event-item.is c.loop-event.invariant.gathers (c.in_ok-take_in.ensures.joins c.if-not-branch.false);
     }

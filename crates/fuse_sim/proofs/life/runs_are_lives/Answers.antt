@@ -9,15 +9,15 @@ none_pending t i there = absurd (cc there)
 
 pub returns : goal.returns
 returns g c = record {
-  ends = λ k k' clock clock' old new ended run s h t stands none clean.
+  ends = λ k k' port port' clock clock' ended run s h t stands none clean.
       let b = run.broken in
-      run_lived g.K.Keeper.model _ _ s h t old new run.received b.timed b.others b.marks b.part run.came b.prefix b.moments b.replied
+      run_lived g.K.Keeper.model _ _ s h t _ _ run.received b.timed b.others b.marks b.part b.deeds run.came b.prefix b.done b.moments b.replied
       (b.life clean s h t stands (none_pending t) none);
-  crashes = λ k k' clock clock' old new ended run s h t stands none honest firm.
+  crashes = λ k k' port port' clock clock' ended run s h t stands none honest firm.
       let b = run.broken in
       let left = b.crash honest firm s h t stands (none_pending t) none in (
         left.0,
-        λ x r may. run_lived g.K.Keeper.model _ _ s h t old new run.received b.timed b.others b.marks b.part run.came b.prefix b.moments b.replied
-            (left.1 x r may),
+        λ x r may. run_lived g.K.Keeper.model _ _ s h t _ _ run.received b.timed b.others b.marks b.part b.deeds run.came b.prefix b.done b.moments
+            b.replied (left.1 x r may),
       );
 }
