@@ -4,7 +4,6 @@ use Rattle.std.proofs.lemmas.List.{append-nil}
 use Rattle.fuse_wire.specs.declared.moment.Moment.{Moment}
 use Rattle.fuse_keeper.specs.Performance.{Performance, IsPerformanceLog}
 use Rattle.fuse_session.specs.declared.port.Received.{Received as Receipt}
-use Rattle.fuse_session.specs.declared.port.Sent.{Sent}
 use Rattle.fuse_session.specs.Clock.{IsLog}
 use Rattle.fuse_session.specs.Transcript.{PortEvent, Received, received_in, sends_of, IsTranscript}
 use Rattle.fuse_session.specs.Deeds.{Deeds, no_deeds, then_did, Did, Hears, Mute}

@@ -21,4 +21,3 @@ pub mod Growing
 pub mod Sessions
 pub mod Prompting
 pub mod Starting
-pub mod Lots

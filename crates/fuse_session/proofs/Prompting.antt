@@ -7,8 +7,8 @@ use Rattle.fuse_session.specs.declared.counts.SessionCounts.{SessionCounts}
 use Rattle.fuse_session.specs.declared.port.Received.{Received as Receipt}
 use Rattle.fuse_session.specs.declared.port.Sent.{Sent}
 use Rattle.fuse_session.specs.Port.{PortState}
-use Rattle.fuse_session.specs.Transcript.{PortEvent, Received, Handed, sends_of}
-use Rattle.fuse_session.specs.Deeds.{Deeds, no_deeds, then_did}
+use Rattle.fuse_session.specs.Transcript.{PortEvent, Received, sends_of}
+use Rattle.fuse_session.specs.Deeds.{Deeds}
 use Rattle.fuse_session.specs.Serving.{Turned, Whole, Run}
 use Rattle.fuse_session.specs.Prompt.{CaughtUp, AnswersFirst, Prompt}
 use Rattle.fuse_session.specs.Turn.{OneTurn}

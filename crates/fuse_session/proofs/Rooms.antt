@@ -1,5 +1,5 @@
 -- Where a port in memory lacks room.
-use Rattle.std.proofs.Common.{◌≡◌, ◌⊎◌, inl, inr, ◌<◌, ◌+◌, ℕ, true, List, Result, Ok, Err, refl, sym, ap, subst, ◌∙◌}
+use Rattle.std.proofs.Common.{◌≡◌, inl, inr, ◌<◌, ◌+◌, ℕ, true, Result, Ok, Err, refl, sym, ap, subst, ◌∙◌}
 use Rattle.std.specs.Prelude.{OnErr, is_err, vec_capacity, vec_len}
 use Rattle.fuse_session.specs.declared.memory.MemoryPort.{MemoryPort}
 use Rattle.fuse_session.specs.declared.memory.Outcome.{Outcome}

@@ -1,10 +1,10 @@
 -- The lots of records, start after start.
-use Rattle.std.proofs.Common.{◌≡◌, ◌⊎◌, inl, inr, ◌≤◌, ℕ, Bool, true, false, ◌==◌, if◌then◌else◌, List, [], ◌∷◌, ◌++◌, length, Option, Some, None, refl, sym, ap, subst, ◌∙◌}
+use Rattle.std.proofs.Common.{◌≡◌, inl, inr, ◌≤◌, ℕ, Bool, true, false, ◌==◌, if◌then◌else◌, List, [], ◌∷◌, length, Some, None, refl, sym, ap, subst, ◌∙◌}
 use Rattle.std.proofs.Common.{arith, is_some}
 use Rattle.std.proofs.lemmas.Bool.{eqb-true, eqb-false}
 use Rattle.fuse_keeper.specs.History.{is_in}
-use Rattle.fuse_keeper.specs.Lots.{Lots, TakesLot}
-use Rattle.fuse_session.specs.Starts.{Kept, TakesAtMostOne, WasThere, UnderAtMostMore, Starts, Start, AreStarts, HasFewEach, LotsOverStarts}
+use Rattle.fuse_keeper.specs.Lots.{TakesLot}
+use Rattle.fuse_session.specs.Starts.{Kept, UnderAtMostMore, Starts, HasFewEach, LotsOverStarts}
 use Rattle.fuse_session.proofs.Settled.{includes_left, includes_right}
 
 is_in_one : (lot : ℕ) → is_in (lot ∷ []) lot ≡ true
@@ -69,9 +69,9 @@ after_session begun left ready u = elim (u.takes.taken ready.none) [
         ∙ (elim (u.each i some) [
           | inl was ↦ includes_left begun.lots.numbers (took.lot ∷ []) lot (ready.each.there i lot was.0 (sym was.1 ∙ under))
           | inr one ↦
-            let same : Some lot ≡ Some took.lot = sym under ∙ one.1 ∙ took.current in
-            let here : lot ≡ took.lot = cc same in
-            includes_right begun.lots.numbers (took.lot ∷ []) lot (subst (λ n. is_in (took.lot ∷ []) n ≡ true) (sym here) (is_in_one took.lot))
+              let same : Some lot ≡ Some took.lot = sym under ∙ one.1 ∙ took.current in
+              let here : lot ≡ took.lot = cc same in
+              includes_right begun.lots.numbers (took.lot ∷ []) lot (subst (λ n. is_in (took.lot ∷ []) n ≡ true) (sym here) (is_in_one took.lot))
         ]);
     few = λ lot isnt. few_of begun left ready.each u took lot (took.lot == lot) refl isnt;
   }

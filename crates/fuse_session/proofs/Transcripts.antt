@@ -1,15 +1,13 @@
 -- What the calls of a port come to.
-use Rattle.std.proofs.Common.{◌≡◌, ℕ, ◌+◌, ◌-◌, ◌≤◌, Bool, true, false, List, [], ◌∷◌, ◌++◌, length, map, take, drop, Option, refl, sym, ap, subst, ◌∙◌}
+use Rattle.std.proofs.Common.{◌≡◌, ℕ, ◌+◌, ◌-◌, Bool, true, List, [], ◌∷◌, ◌++◌, length, take, drop, refl, sym, ap, subst, ◌∙◌}
 use Rattle.std.proofs.Common.{append_assoc, arith}
-use Rattle.std.specs.Io.KnownBytes.{Appends, Consumes}
 use Rattle.fuse_session.specs.declared.port.Received.{Received as Receipt}
-use Rattle.fuse_session.specs.declared.port.Received.TheVariants.{Got, End, Failed as ReceiveFailed}
 use Rattle.fuse_session.specs.declared.port.Sent.{Sent}
 use Rattle.fuse_session.specs.declared.port.Sent.TheVariants.{Took, Gone, Failed}
-use Rattle.fuse_session.specs.Port.{PortState, Receives, Sends, GaveBytes, ends_of, receive_failures_of}
-use Rattle.fuse_session.specs.Transcript.{PortEvent, Received, Handed, bytes_got, one_receive, one_send, Gives, Step, Steps, came_with, received_in}
-use Rattle.fuse_session.specs.Transcript.{handed_with, handed_in, IsTranscript, Tells, sends_of, left_after, left_of, StopsAfter, RestsOf, IsLeft, Hands}
-use Rattle.fuse_session.proofs.Bytes.{appends_none, appends_more, consumes_none, consumes_more, keeps_consumes, rest_is}
+use Rattle.fuse_session.specs.Port.{PortState, Receives, Sends, ends_of}
+use Rattle.fuse_session.specs.Transcript.{PortEvent, Received, Handed, one_receive, one_send, Steps, came_with, received_in}
+use Rattle.fuse_session.specs.Transcript.{handed_with, handed_in, IsTranscript, sends_of, left_after, left_of, StopsAfter, RestsOf, IsLeft, Hands}
+use Rattle.fuse_session.proofs.Bytes.{rest_is}
 
 -- ---- one call
 

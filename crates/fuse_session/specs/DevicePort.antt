@@ -1,13 +1,8 @@
 -- The state of a port over a FUSE device (own profile).
-use Rattle.std.specs.Prelude.{◌≡◌, ℕ, nat_lt, ◌-◌, ◌^◌, ◌==◌, if◌then◌else◌, true, List, replicate, Option, None, Result}
-use Rattle.std.specs.Io.{ReadsAtMost, WritesAtMost}
-use Rattle.std.specs.Io.KnownBytes.{ReadConsumes, WriteAppends}
-use Rattle.std.specs.declared.io.Error.{Error}
+use Rattle.std.specs.Prelude.{ℕ, nat_lt, ◌-◌, ◌^◌, ◌==◌, if◌then◌else◌, true, replicate, None}
 use Rattle.fuse_session.specs.declared.device.DevicePort.{DevicePort}
-use Rattle.fuse_session.specs.declared.port.Received.{Received}
 use Rattle.fuse_session.specs.declared.port.Sent.{Sent}
 use Rattle.fuse_session.specs.declared.port.Sent.TheVariants.{Took, Gone, Failed}
-use Rattle.fuse_session.specs.Device.{read_told, write_told}
 use Rattle.fuse_session.specs.Port.{PortState}
 
 -- the bytes of a device aren't known, and so each place in them may be any number

@@ -1,5 +1,5 @@
 -- The lots of records: over a session, and over starts (own profile).
-use Rattle.std.specs.Prelude.{◌≡◌, ◌⊎◌, ◌≤◌, ℕ, Bool, true, false, List, [], ◌∷◌, length, Option, Some, None, is_some}
+use Rattle.std.specs.Prelude.{◌≡◌, ◌⊎◌, ◌≤◌, ℕ, true, List, [], ◌∷◌, length, Some, None, is_some}
 use Rattle.std.specs.List.{AllByRecursion}
 use Rattle.fuse_keeper.specs.History.{is_in}
 use Rattle.fuse_keeper.specs.Lots.{Lots, TakesLot, AreGone, AreReopened}

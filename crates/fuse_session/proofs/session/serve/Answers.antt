@@ -21,7 +21,7 @@ pub returns-in_default-clause-life : goal.returns-in_default-clause-life
 returns-in_default-clause-life g c =
     let k = c.args.keeper.now in
     life_none g.K.Keeper.model (g.K.Keeper.told k) _ (g.P.Port.told c.args.port.now) [] [] _ _ _ refl (did_none g.C.Clock.gave g.K.Keeper.performed g.P.Port.became g.met.C.Clock.logged g.met.K.Keeper.log g.met.P.Port.path
-      c.args.clock.now c.args.keeper.now c.args.port.now)
+    c.args.clock.now c.args.keeper.now c.args.port.now)
 
 pub returns-in_default-clause-exactly : goal.returns-in_default-clause-exactly
 returns-in_default-clause-exactly g c =
@@ -56,8 +56,11 @@ pub loop-turn-init : goal.loop-turn-init
 loop-turn-init g c = record {
   whole = whole_start g.K.Keeper.model (g.K.Keeper.told c.args.keeper.now) _ (g.P.Port.told c.args.port.now)
       (ids_of c.new-pending.result.items) c.new-framer.result
-      (record { done = (did_none g.C.Clock.gave g.K.Keeper.performed g.P.Port.became g.met.C.Clock.logged g.met.K.Keeper.log g.met.P.Port.path
-      c.args.clock.now c.args.keeper.now c.args.port.now); first = first_none g.K.Keeper.model _ _ _ })
+      (record {
+        done = (did_none g.C.Clock.gave g.K.Keeper.performed g.P.Port.became g.met.C.Clock.logged g.met.K.Keeper.log g.met.P.Port.path
+            c.args.clock.now c.args.keeper.now c.args.port.now);
+        first = first_none g.K.Keeper.model _ _ _;
+      })
       (ap ids_of c.new-pending.ensures.items) c.new-framer.ensures;
   ready = ready_new c.new-framer.result c.new-framer.ensures;
   below = record { messages = omega arith; kept = omega arith; repeated = omega arith; bare = omega arith; silent = omega arith; interrupts = omega arith };
@@ -86,16 +89,16 @@ loop-turn-preserved g c =
     let k' = c.one_turn.new.keeper in
     record {
       whole = whole_step g.K.Keeper.model c.histories_grow.ensures c.cut_joins.ensures (g.K.Keeper.told c.args.keeper.now)
-    (g.K.Keeper.told c.loop-turn.keeper) (g.K.Keeper.told k') _
-    _ _ _ _ _ []
-    (ids_of c.loop-turn.pending.items) (ids_of c.one_turn.new.pending.items) [] _ _ 0 _ _ c.loop-turn.counts c.in-Ok-one_turn.more c.sum_of-counts.result
-    c.sum_of-counts.ensures inv.whole t.whole e.honest (λ b two. record {
-      done = did_more g.C.Clock.gave g.K.Keeper.performed g.P.Port.became g.met.C.Clock.logged g.met.K.Keeper.log g.met.P.Port.path
-    c.args.clock.now c.loop-turn.clock c.one_turn.new.clock c.args.keeper.now c.loop-turn.keeper c.one_turn.new.keeper
-    c.args.port.now c.loop-turn.port c.one_turn.new.port inv.whole.turned.deeds b inv.whole.turned.done.0.done two.done;
-      first = first_more g.K.Keeper.model (g.K.Keeper.told c.args.keeper.now) (g.K.Keeper.told c.loop-turn.keeper) (g.K.Keeper.told c.one_turn.new.keeper) _ _
-          inv.whole.turned.deeds b e.honest (caught_whole g.K.Keeper.model _ _ _ _ _ _ _ _ _ inv.whole) inv.whole.turned.done.0.first two;
-    });
+          (g.K.Keeper.told c.loop-turn.keeper) (g.K.Keeper.told k') _
+          _ _ _ _ _ []
+          (ids_of c.loop-turn.pending.items) (ids_of c.one_turn.new.pending.items) [] _ _ 0 _ _ c.loop-turn.counts c.in-Ok-one_turn.more c.sum_of-counts.result
+          c.sum_of-counts.ensures inv.whole t.whole e.honest (λ b two. record {
+            done = did_more g.C.Clock.gave g.K.Keeper.performed g.P.Port.became g.met.C.Clock.logged g.met.K.Keeper.log g.met.P.Port.path
+                c.args.clock.now c.loop-turn.clock c.one_turn.new.clock c.args.keeper.now c.loop-turn.keeper c.one_turn.new.keeper
+                c.args.port.now c.loop-turn.port c.one_turn.new.port inv.whole.turned.deeds b inv.whole.turned.done.0.done two.done;
+            first = first_more g.K.Keeper.model (g.K.Keeper.told c.args.keeper.now) (g.K.Keeper.told c.loop-turn.keeper) (g.K.Keeper.told c.one_turn.new.keeper) _ _
+                inv.whole.turned.deeds b e.honest (caught_whole g.K.Keeper.model _ _ _ _ _ _ _ _ _ inv.whole) inv.whole.turned.done.0.first two;
+          });
       ready = t.opened;
       below = subst (λ x. IsBelow x ((c.loop-turn.turn + 1) * 2 ^ 20)) (sym c.sum_of-counts.ensures)
           (below_more _ (c.loop-turn.turn * 2 ^ 20 + 2 ^ 20) _ (omega arith) (plus_below c.loop-turn.counts c.in-Ok-one_turn.more (c.loop-turn.turn * 2 ^ 20)
@@ -138,8 +141,8 @@ returns-in-Err-clause-ends g c =
           c.loop-turn.counts t.counts _
           refl inv.whole t.ends t.not_turns inv.receive_failures inv.not_ended e.honest
           (λ b two. did_more g.C.Clock.gave g.K.Keeper.performed g.P.Port.became g.met.C.Clock.logged g.met.K.Keeper.log g.met.P.Port.path
-    c.args.clock.now c.loop-turn.clock c.one_turn.new.clock c.args.keeper.now c.loop-turn.keeper c.one_turn.new.keeper
-    c.args.port.now c.loop-turn.port c.one_turn.new.port inv.whole.turned.deeds b inv.whole.turned.done.0.done two.done);
+          c.args.clock.now c.loop-turn.clock c.one_turn.new.clock c.args.keeper.now c.loop-turn.keeper c.one_turn.new.keeper
+          c.args.port.now c.loop-turn.port c.one_turn.new.port inv.whole.turned.deeds b inv.whole.turned.done.0.done two.done);
       told_are = counts_more c.in-Err.served.ended _ _ c.loop-turn.counts t.counts c.in-Err.served.counts c.sum_with-sum.result
           (failed_since (g.P.Port.told c.args.port.now) (g.P.Port.told c.loop-turn.port) (g.P.Port.told c.one_turn.new.port) inv.receive_failures) t.told_are c.sum_with-sum.ensures;
     }
@@ -209,8 +212,8 @@ returns-in-Err-clause-prompt g c =
     (λ honest. may_end k.may_answer m.may_answer c.in-Err.served.ended (inv.may honest)) (g.met.K.Keeper.sound c.one_turn.new.keeper).clean_is_honest
     e.honest inv.firm (λ b two. record {
       done = did_more g.C.Clock.gave g.K.Keeper.performed g.P.Port.became g.met.C.Clock.logged g.met.K.Keeper.log g.met.P.Port.path
-    c.args.clock.now c.loop-turn.clock c.one_turn.new.clock c.args.keeper.now c.loop-turn.keeper c.one_turn.new.keeper
-    c.args.port.now c.loop-turn.port c.one_turn.new.port inv.whole.turned.deeds b inv.whole.turned.done.0.done two.done;
+          c.args.clock.now c.loop-turn.clock c.one_turn.new.clock c.args.keeper.now c.loop-turn.keeper c.one_turn.new.keeper
+          c.args.port.now c.loop-turn.port c.one_turn.new.port inv.whole.turned.deeds b inv.whole.turned.done.0.done two.done;
       first = first_more g.K.Keeper.model (g.K.Keeper.told c.args.keeper.now) (g.K.Keeper.told c.loop-turn.keeper) (g.K.Keeper.told c.one_turn.new.keeper) _ _
           inv.whole.turned.deeds b e.honest (caught_whole g.K.Keeper.model _ _ _ _ _ _ _ _ _ inv.whole) inv.whole.turned.done.0.first two;
     }))

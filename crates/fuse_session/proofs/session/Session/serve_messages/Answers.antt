@@ -94,9 +94,9 @@ loop-at-preserved g c =
           (lasts c.in-Ok.progress.next) c.loop-at.counts c.in-Ok.progress.counts c.sum_of-sum.result
           refl c.sum_of-sum.ensures inv.turned c.in-Ok.ensures.ok c.in-Ok.ensures.honest
           (λ b two. mute_more g.C.Clock.gave g.K.Keeper.performed g.P.Port.became g.met.C.Clock.logged g.met.K.Keeper.log g.met.P.Port.path
-    c.args.self.now.clock.now c.loop-at.self.clock.now c.serve_group.new.self.clock.now
-    c.args.self.now.keeper.now c.loop-at.self.keeper.now c.serve_group.new.self.keeper.now
-    c.args.self.now.port.now c.loop-at.self.port.now c.serve_group.new.self.port.now inv.turned.deeds b inv.turned.done two));
+          c.args.self.now.clock.now c.loop-at.self.clock.now c.serve_group.new.self.clock.now
+          c.args.self.now.keeper.now c.loop-at.self.keeper.now c.serve_group.new.self.keeper.now
+          c.args.self.now.port.now c.loop-at.self.port.now c.serve_group.new.self.port.now inv.turned.deeds b inv.turned.done two));
       loans = (c.in-Ok.ensures.loans.0 ∙ inv.loans.0, c.in-Ok.ensures.loans.1 ∙ inv.loans.1, c.in-Ok.ensures.loans.2 ∙ inv.loans.2, c.in-Ok.ensures.loans.3 ∙ inv.loans.3);
       below = subst (λ x. IsBelow x (i + n)) (sym c.sum_of-sum.ensures) (plus_below c.loop-at.counts c.in-Ok.progress.counts i n inv.below c.in-Ok.ensures.below);
       few = c.in-Ok.ensures.few;
