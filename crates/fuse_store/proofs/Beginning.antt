@@ -53,7 +53,7 @@ module _ (rows_tell : RowsTellState) (g : Holding → Holding) (clears : Clears 
   -- a store of which a mount began, where it stood for this
   pub begun_after : OneHolding → (b : State) (y : Holding) → RestsAs (HeldFor (g y)) b → (s : TreeState) (h : History) (t : List ℕ)
       → Stands the_tree (rowed y.tree) (records_of y.kept) s h t → (lot : Option ℕ) (failed : Bool)
-      → StandsFor (table_told b lot failed) (cleared (after the_tree s h)) [] []
+      → StandsFor (table_told ⊥ b lot failed) (cleared (after the_tree s h)) [] []
   begun_after one b y at s h t so lot failed = record {
     rows = rowed (g y).tree;
     records = records_of (g y).kept;
@@ -62,7 +62,7 @@ module _ (rows_tell : RowsTellState) (g : Holding → Holding) (clears : Clears 
   }
 
   module _ (one : OneHolding) (a b : State) {X : Type 0} (x : X) (serves : ServesAs {E = StoreFault} HeldFor (λ y. HeldFor (g y)) a b (Ok x)) where
-    pub begins_mount : (lot now : Option ℕ) (was is : Bool) → BeginsMount (table_told a lot was) (table_told b now is)
+    pub begins_mount : (lot now : Option ℕ) (was is : Bool) → BeginsMount (table_told ⊥ a lot was) (table_told ⊥ b now is)
     begins_mount lot now was is clean s h t so =
         let y = so.held.holding in
         let after = serves.done clean y so.held.rests in
@@ -73,14 +73,14 @@ module _ (rows_tell : RowsTellState) (g : Holding → Holding) (clears : Clears 
           stands = begun y so.rows so.records s h t so.held.is_of so.stands after.holds.tree;
         }
 
-    pub drops_lots : LotsAreSame → (lot : Option ℕ) (was is : Bool) → DropsLots (table_told a lot was) (table_told b None is)
+    pub drops_lots : LotsAreSame → (lot : Option ℕ) (was is : Bool) → DropsLots (table_told ⊥ a lot was) (table_told ⊥ b None is)
     drops_lots told lot was is clean rows records at =
         let y = at.holding in
         let same = told None (g y) b.now (serves.done clean y at.rests).holds in
         record { numbers = same.numbers ∙ clears.lots y; current = same.current }
 
   pub leaves_mount : ((s : TreeState) → Tree s → Tree (cleared s)) → OneHolding → {X : Type 0} → (a b : State) → Settled a → (r : Result X StoreFault)
-      → ServesAs HeldFor (λ y. HeldFor (g y)) a b r → (lot now : Option ℕ) (was is : Bool) → LeavesMount (table_told a lot was) (table_told b now is)
+      → ServesAs HeldFor (λ y. HeldFor (g y)) a b r → (lot now : Option ℕ) (was is : Bool) → LeavesMount (table_told ⊥ a lot was) (table_told ⊥ b now is)
   leaves_mount tree one a b settled r serves lot now was is s h t so firm =
       let y = so.held.holding in
       let kept : Tree (g y).tree = subst Tree (sym (clears.tree y)) (tree y.tree so.held.rests.holds.tree) in

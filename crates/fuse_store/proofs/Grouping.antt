@@ -28,7 +28,7 @@ its_own y = record { rows_are = refl; records_are = λ i. refl }
 module _ (one : OneHolding) (law : CallsPerform) (lot : Option ℕ) (ids : List ℕ) (es : List Entry) (a b : State) {X : Type 0} (x : X)
     (serves : ServesAs {E = StoreFault} HeldFor (λ y. HeldFor (performed lot ids es y)) a b (Ok x)) where
   pub performs : (now : Option ℕ) (was is : Bool) (dones : List Done) → ReportsAfter a b (λ y. dones ≡ all_dones lot ids es y)
-      → Performs (table_told a lot was) (table_told b now is) ids es dones
+      → Performs (table_told ⊥ a lot was) (table_told ⊥ b now is) ids es dones
   performs now was is dones told clean s h t so within each =
       let y = so.held.holding in
       let z = performed lot ids es y in
@@ -46,8 +46,8 @@ module _ (one : OneHolding) (law : CallsPerform) (lot : Option ℕ) (ids : List 
         repeated = all.repeated;
       })
 
-  pub others_so : (now : Option ℕ) (was is : Bool)
-      → KeepsOthers (table_told a lot was) (table_told b now is) ids es
+  pub others_so : {memory : Type 0} (now : Option ℕ) (was is : Bool)
+      → KeepsOthers (table_told memory a lot was) (table_told memory b now is) ids es
   unfolding IsRowed
   others_so now was is clean rows records at rowed_so =
       let y = at.holding in
@@ -61,8 +61,8 @@ module _ (one : OneHolding) (law : CallsPerform) (lot : Option ℕ) (ids : List 
         others = λ i off. law.others lot ids es y i off ∙ ap (λ o. if is_in ids i then None else o) (sym (at.is_of.records_are i));
       }
 
-  pub acts_so : (now : Option ℕ) (was is : Bool) (dones : List Done) → ReportsAfter a b (λ y. dones ≡ all_dones lot ids es y)
-      → ActsOn (table_told a lot was) (table_told b now is) ids es dones
+  pub acts_so : {memory : Type 0} (now : Option ℕ) (was is : Bool) (dones : List Done) → ReportsAfter a b (λ y. dones ≡ all_dones lot ids es y)
+      → ActsOn (table_told memory a lot was) (table_told memory b now is) ids es dones
   acts_so now was is dones told clean rows records at rowed_so =
       let y = at.holding in
       let z = performed lot ids es y in
@@ -78,7 +78,7 @@ module _ (one : OneHolding) (law : CallsPerform) (lot : Option ℕ) (ids : List 
 -- a crash leaves the group out or in
 pub leaves_group : OneHolding → CallsPerform → (lot : Option ℕ) (ids : List ℕ) (es : List Entry) (a b : State) {X : Type 0} (r : Result X StoreFault)
     → Settled a → ServesAs HeldFor (λ y. HeldFor (performed lot ids es y)) a b r → (now : Option ℕ) (was is : Bool)
-    → LeavesGroup (table_told a lot was) (table_told b now is) ids es
+    → LeavesGroup (table_told ⊥ a lot was) (table_told ⊥ b now is) ids es
 leaves_group one law lot ids es a b r settled serves now was is s h t so within each firm =
     let y = so.held.holding in
     let z = performed lot ids es y in
@@ -113,7 +113,7 @@ under_same old old' new new' records records' ids es o n r u = record {
 
 pub lots_so : LotsAreSame → CallsPerform → (lot : Option ℕ) (ids : List ℕ) (es : List Entry) (a b : State) {X : Type 0} (x : X)
     → ServesAs {E = StoreFault} HeldFor (λ y. HeldFor (performed lot ids es y)) a b (Ok x) → (taken : ℕ) (was is : Bool)
-    → ReportsAfter a b (λ y. taken ≡ lot_for lot y) → KeepsLots (table_told a lot was) (table_told b (Some taken) is) ids es
+    → ReportsAfter a b (λ y. taken ≡ lot_for lot y) → KeepsLots (table_told ⊥ a lot was) (table_told ⊥ b (Some taken) is) ids es
 lots_so told law lot ids es a b x serves taken was is says clean rows records at rowed_so =
     let y = at.holding in
     let z = performed lot ids es y in

@@ -87,17 +87,17 @@ lotted_may taken lot a b NotAStore may = absurd may
 lotted_may taken lot a b (Version n) may = absurd may
 lotted_may taken lot a b Damaged may = absurd (let none = may.none in cc)
 
-pub took_may : (taken : ℕ) (lot : Option ℕ) (a b : State) (was is : Bool) → AnswersNoMore (table_told a lot was) (table_told b (Some taken) is)
+pub took_may : (taken : ℕ) (lot : Option ℕ) (a b : State) (was is : Bool) → AnswersNoMore (table_told ⊥ a lot was) (table_told ⊥ b (Some taken) is)
 took_may taken lot a b was is clean f may = lotted_may taken lot a b f may
 
 pub failed_may : {X : Type 0} (f : Holding → Holding) (a b : State) (e : StoreFault) → ServesAs {X = X} HeldFor (λ y. HeldFor (f y)) a b (Err e)
-    → StaysOpen {X = X} a b (Err e) → (lot : Option ℕ) (was is : Bool) → AnswersNoMore (table_told a lot was) (table_told b lot is)
+    → StaysOpen {X = X} a b (Err e) → (lot : Option ℕ) (was is : Bool) → AnswersNoMore (table_told ⊥ a lot was) (table_told ⊥ b lot is)
 failed_may f a b e serves connection lot was is clean fault may =
     still_may lot a b (λ is_open. connection.was clean is_open) (λ is_open y at. serves.kept clean is_open y at) fault may
 
-pub went_well : {A X : Type 0} → (f : Holding → Holding) (a b : State) (x : X) (y : A) → ServesAs {E = StoreFault} HeldFor (λ y. HeldFor (f y)) a b (Ok x)
+pub went_well : {memory : Type 0} {A X : Type 0} → (f : Holding → Holding) (a b : State) (x : X) (y : A) → ServesAs {E = StoreFault} HeldFor (λ y. HeldFor (f y)) a b (Ok x)
     → StaysOpen {E = StoreFault} a b (Ok x) → (lot now : Option ℕ) (failed : Bool)
-    → Called {A = A} (table_told a lot failed) (table_told b now failed) (Ok y)
+    → Called {A = A} (table_told memory a lot failed) (table_told memory b now failed) (Ok y)
 went_well f a b x y serves connection lot now failed = record {
   failed = sym (or_false failed);
   honest = λ clean. earlier a b _ serves.survives clean;
@@ -108,9 +108,9 @@ went_well f a b x y serves connection lot now failed = record {
   fault = λ clean s h t so. tt;
 }
 
-pub went_wrong : {A X : Type 0} → OneHolding → LotsAreSame → (f : Holding → Holding) (a b : State) (e : StoreFault)
+pub went_wrong : {memory : Type 0} {A X : Type 0} → OneHolding → LotsAreSame → (f : Holding → Holding) (a b : State) (e : StoreFault)
     → ServesAs {X = X} HeldFor (λ y. HeldFor (f y)) a b (Err e) → (lot : Option ℕ) → MayWhere lot a b e → (failed : Bool)
-    → Called {A = A} (table_told a lot failed) (table_told b lot true) (Err e)
+    → Called {A = A} (table_told memory a lot failed) (table_told memory b lot true) (Err e)
 went_wrong one told f a b e serves lot may failed = record {
   failed = sym (or_true failed);
   honest = λ clean. earlier a b _ serves.survives clean;
@@ -163,8 +163,8 @@ module _ (one : OneHolding) (a b : State) (settled : Settled a) (stays : IsTrue 
       holds_at one b at.holding rows records (well.done clean at.holding at.rests) at.is_of
 
 module _ (one : OneHolding) (told : LotsAreSame) (a b : State) (settled : Settled a) (stays : IsTrue a.is_open → a.may_leave a.committed.trees) where
-  pub looked_well : {X : Type 0} → (x : X) → ServesAs {E = StoreFault} HeldFor HeldFor a b (Ok x) → StaysOpen {E = StoreFault} a b (Ok x)
-      → (lot : Option ℕ) (failed : Bool) → Looked {A = X} (table_told a lot failed) (table_told b lot failed) (Ok x)
+  pub looked_well : {memory : Type 0} {X : Type 0} → (x : X) → ServesAs {E = StoreFault} HeldFor HeldFor a b (Ok x) → StaysOpen {E = StoreFault} a b (Ok x)
+      → (lot : Option ℕ) (failed : Bool) → Looked {A = X} (table_told memory a lot failed) (table_told memory b lot failed) (Ok x)
   looked_well x serves connection lot failed = record {
     called = went_well (λ z. z) a b x x serves connection lot lot failed;
     may = λ clean f is. still_may lot a b (λ is_open. connection.was clean is_open) (λ is_open y at. serves.done clean y at) f is;
@@ -177,9 +177,9 @@ module _ (one : OneHolding) (told : LotsAreSame) (a b : State) (settled : Settle
     crash = λ x' q rows records at left. left_before one a b settled stays (Ok x) serves x' q rows records at left;
   }
 
-  pub looked_wrong : {X : Type 0} → (e : StoreFault) → ServesAs {X = X} HeldFor HeldFor a b (Err e) → StaysOpen {X = X} a b (Err e)
+  pub looked_wrong : {memory : Type 0} {X : Type 0} → (e : StoreFault) → ServesAs {X = X} HeldFor HeldFor a b (Err e) → StaysOpen {X = X} a b (Err e)
       → (HasCleanDisk b → (y : Holding) → RestsAs (HeldFor y) a → IsOutside e) → (lot : Option ℕ) (failed : Bool)
-      → Looked {A = X} (table_told a lot failed) (table_told b lot true) (Err e)
+      → Looked {A = X} (table_told memory a lot failed) (table_told memory b lot true) (Err e)
   looked_wrong e serves connection safe lot failed = record {
     called = went_wrong one told (λ z. z) a b e serves lot (may_where lot a b e safe) failed;
     may = failed_may (λ z. z) a b e serves connection lot failed true;

@@ -38,16 +38,16 @@ pub record Opened (a b : State) (taken : Option ℕ) : Type 0 where
 module _ (one : OneHolding) (told : LotsAreSame) (a b : State) (settled : Settled b) (stays : IsTrue a.is_open
     → a.may_leave a.committed.trees) (lot taken : Option ℕ)
     (failed now : Bool) (o : Opened a b taken) (is_going : now ≡ false) where
-  some_left : HasCleanDisk b → (table_told a lot failed).leaves_whole → LeavesSome a.committed.trees
+  some_left : HasCleanDisk b → (table_told ⊥ a lot failed).leaves_whole → LeavesSome a.committed.trees
   some_left clean whole = whole (o.honest clean) a.committed.trees (stays (o.was clean).0)
 
-  opens : (clean : HasCleanDisk b) (whole : (table_told a lot failed).leaves_whole) → HoldsIn b (rowed (some_left clean whole).holding.tree)
+  opens : (clean : HasCleanDisk b) (whole : (table_told ⊥ a lot failed).leaves_whole) → HoldsIn b (rowed (some_left clean whole).holding.tree)
       (records_of (some_left clean whole).holding.kept)
   opens clean whole =
       let some = some_left clean whole in
       o.holds clean (Second some.holding) ((o.was clean).0, (o.was clean).1, some.left)
 
-  pub reopened : Reopened (table_told a lot failed) (table_told b taken now)
+  pub reopened : {memory : Type 0} → Reopened (table_told memory a lot failed) (table_told memory b taken now)
   reopened = record {
     same = λ clean rows records at. retold b at.holding rows records (o.holds clean (Second at.holding) (was_for a at.holding at.rests)) at.is_of;
     held = λ clean whole. (rowed (some_left clean whole).holding.tree, records_of (some_left clean whole).holding.kept, opens clean whole);

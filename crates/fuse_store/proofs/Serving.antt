@@ -60,7 +60,7 @@ stands_of y rows records s h t is so = moved (rowed y.tree) rows (records_of y.k
 pub left_now : (s : State) (y : Holding) (db : Trees) → Settled s → RestsAs (HeldFor y) s → s.may_leave db → LeftAs (HeldFor y) db
 left_now s y db settled rests may = (s.now, rests.holds, sym (settled db rests.is_open may ∙ ap (λ d. d.trees) rests.committed))
 
-pub firm : OneHolding → (s : State) (lot : Option ℕ) (failed : Bool) → Settled s → IsFirm (table_told s lot failed)
+pub firm : OneHolding → (s : State) (lot : Option ℕ) (failed : Bool) → Settled s → IsFirm (table_told ⊥ s lot failed)
 firm one s lot failed settled rows records at = (
   λ clean db may. record { holding = at.holding; left = left_now s at.holding db settled at.rests may },
   λ x r left.
@@ -89,7 +89,7 @@ module _ (one : OneHolding) (f : Holding → Holding) (a b : State) (settled : S
 
   pub leaves_either : (lot : Option ℕ) (failed : Bool) (s s' : TreeState) (h h' : History) (t t' : List ℕ) → HoldingStands y s h t
       → HoldingStands (f y) s' h' t'
-      → Leaves (table_told b lot failed) (StandsForEither the_tree s h t s' h' t')
+      → Leaves (table_told ⊥ b lot failed) (StandsForEither the_tree s h t s' h' t')
   leaves_either lot failed s s' h h' t t' before after = (
     whole,
     λ x r left.

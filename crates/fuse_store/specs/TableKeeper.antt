@@ -1,5 +1,5 @@
 -- The state of a keeper over tables, by its connection (own profile).
-use Rattle.std.specs.Prelude.{◌↔◌, Result}
+use Rattle.std.specs.Prelude.{◌↔◌, IsTrue, Result}
 use Rattle.sqlite_trees.specs.declared.store.Store.{Ghosts}
 use Rattle.sqlite.specs.State.{HasCleanDisk}
 use Rattle.sqlite.specs.Held.{Held, state}
@@ -13,8 +13,12 @@ use Rattle.fuse_store_tree.specs.Holding.{HeldFor}
 use Rattle.fuse_store.specs.Opening.{OpenRefused}
 use Rattle.fuse_store.specs.TableState.{table_told}
 
+-- whatever was called, the connection is open, and its disk has returned what was written
+abbrev pub LiesInMemory : {S : Type 0} → Ghosts S → Type 0
+LiesInMemory {S} g = (conn : Held S) → HasCleanDisk (state g conn) × IsTrue (state g conn).is_open
+
 abbrev pub keeper_told : {S : Type 0} → (g : Ghosts S) → TableKeeper S g → KeeperState the_tree
-keeper_told g k = table_told (state g k.look.conn) k.lot k.failed
+keeper_told g k = table_told (LiesInMemory g) (state g k.look.conn) k.lot k.failed
 
 -- where it held something, a fault says nothing of the store
 abbrev pub FaultsOutside : {S X : Type 0} → (g : Ghosts S) → (old new : TableKeeper S g) → Result X StoreFault → Type 0
@@ -24,10 +28,10 @@ FaultsOutside g old new r = IsSafe HeldFor (state g old.look.conn) (state g new.
 abbrev pub FaultsOutsideWithLot : {S X : Type 0} → (g : Ghosts S) → (old new : TableKeeper S g) → Result X StoreFault → Type 0
 FaultsOutsideWithLot g old new r = IsSafeFor old.lot (state g old.look.conn) (state g new.look.conn) r
 
--- its medium is the disk of its connection
-pub record LiesOnDisk {S : Type 0} (g : Ghosts S) (k : TableKeeper S g) : Type 0 where
+-- its medium is that of its connection
+pub record SharesMedium {S : Type 0} (g : Ghosts S) (k : TableKeeper S g) : Type 0 where
   pub honest : (keeper_told g k).is_honest ↔ HasCleanDisk (state g k.look.conn)
-  pub disk : (keeper_told g k).in_memory → ⊥
+  pub memory : (keeper_told g k).in_memory ↔ LiesInMemory g
 
 -- it is not opened again, and this connection is left
 abbrev pub Refuses : {S : Type 0} → (g : Ghosts S) → TableKeeper S g → StoreFault → Held S → Type 0

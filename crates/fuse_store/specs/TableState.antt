@@ -56,13 +56,13 @@ MayAnswer lot s (Sql e) = ⊤
 MayAnswer lot s Damaged = IsOutOfLots lot s
 MayAnswer lot s _ = ⊥
 
--- the store lies on its connection's disk, and is honest and clean as that is
-abbrev pub table_told : State → Option ℕ → Bool → KeeperState the_tree
-table_told s lot failed = record {
+-- the store lies where its connection's does, and is honest and clean as that is
+abbrev pub table_told : Type 0 → State → Option ℕ → Bool → KeeperState the_tree
+table_told memory s lot failed = record {
   holds = HoldsIn s;
   is_honest = HasCleanDisk s;
   is_clean = HasCleanDisk s × IsTrue s.is_open;
-  in_memory = ⊥;
+  in_memory = memory;
   has_failed = failed;
   leaves_whole = HasCleanDisk s → (db : Trees) → s.may_leave db → LeavesSome db;
   may_leave = MayLeave s;

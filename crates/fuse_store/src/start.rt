@@ -23,7 +23,7 @@ ghost use Rattle.fuse_store.specs.Opening.{Stored, StoredFor, WasFor, opened_for
 ghost use Rattle.fuse_store.specs.Starting.{LeavesStarted, BeginsAfter};
 ghost use Rattle.fuse_store.specs.Starting.{LeavesFresh, IsLeftOrOpened, begun_for};
 ghost use Rattle.fuse_store.specs.Storing.{opening_fault};
-ghost use Rattle.fuse_store.specs.TableKeeper.{keeper_told, LiesOnDisk};
+ghost use Rattle.fuse_store.specs.TableKeeper.{keeper_told, SharesMedium};
 
 use crate::creation::is_empty;
 use crate::table_keeper::TableKeeper;
@@ -63,7 +63,7 @@ pub fn open_or_create<S: Alter>(
         → IsTrue (state S.Store conn).is_open × ((state S.Store conn).in_transaction ≡ false)) }
     ensures honest { IfOk result (λ k. (keeper_told S.Store k).is_honest
         → HasCleanDisk (state S.Store conn)) }
-    ensures medium { IfOk result (LiesOnDisk S.Store) }
+    ensures medium { IfOk result (SharesMedium S.Store) }
     ensures going { IfOk result (λ k. (keeper_told S.Store k).has_failed ≡ false) }
     ensures firm { IfOk result (λ k. (keeper_told S.Store k).is_honest
         → IsFirm (keeper_told S.Store k)) }
@@ -130,7 +130,7 @@ pub fn open_fresh<S: Alter>(
         → HasCleanDisk (state S.Store conn)) }
     ensures firm { IfOk result (λ k. (keeper_told S.Store k).is_honest
         → IsFirm (keeper_told S.Store k)) }
-    ensures medium { IfOk result (LiesOnDisk S.Store) }
+    ensures medium { IfOk result (SharesMedium S.Store) }
     ensures going { IfOk result (λ k. (keeper_told S.Store k).has_failed ≡ false) }
     ensures crash { IfErr result (λ r. Survives (state S.Store conn) (state S.Store r.1)
         (LeavesFresh now (state S.Store conn))) }

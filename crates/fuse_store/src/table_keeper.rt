@@ -57,7 +57,7 @@ impl<S: Alter> TableKeeper<S> {
     ghost use Rattle.fuse_store.specs.Starting.{LeavesBegun, IsLeftOrOpened, begun_for};
     ghost use Rattle.fuse_store.specs.Starting.{BeginsAfter};
     ghost use Rattle.fuse_store.specs.TableState.{HoldsIn, MayLeave};
-    ghost use Rattle.fuse_store.specs.TableKeeper.{keeper_told, LiesOnDisk};
+    ghost use Rattle.fuse_store.specs.TableKeeper.{keeper_told, SharesMedium};
 
     /// A new store in a blank database, made at this moment in one transaction. A fault gives the
     /// connection back.
@@ -69,7 +69,7 @@ impl<S: Alter> TableKeeper<S> {
         ensures stands { IfOk result (λ k. (keeper_told S.Store k).is_honest
             → IsTrue (state S.Store conn).is_open
             → StandsFor (keeper_told S.Store k) (new_store now) [] []) }
-        ensures medium { IfOk result (LiesOnDisk S.Store) }
+        ensures medium { IfOk result (SharesMedium S.Store) }
         ensures going { IfOk result (λ k. (keeper_told S.Store k).has_failed ≡ false) }
         ensures firm { IfOk result (λ k. (keeper_told S.Store k).is_honest
             → IsFirm (keeper_told S.Store k)) }
@@ -128,7 +128,7 @@ impl<S: Alter> TableKeeper<S> {
             × ((state S.Store conn).in_transaction ≡ false)) }
         ensures honest { IfOk result (λ k. (keeper_told S.Store k).is_honest
             → HasCleanDisk (state S.Store conn)) }
-        ensures medium { IfOk result (LiesOnDisk S.Store) }
+        ensures medium { IfOk result (SharesMedium S.Store) }
         ensures going { IfOk result (λ k. (keeper_told S.Store k).has_failed ≡ false) }
         ensures firm { IfOk result (λ k. (keeper_told S.Store k).is_honest
             → IsFirm (keeper_told S.Store k)) }
@@ -177,7 +177,7 @@ impl<S: Alter> TableKeeper<S> {
             × ((state S.Store conn).in_transaction ≡ false)) }
         ensures honest { IfOk result (λ k. (keeper_told S.Store k).is_honest
             → HasCleanDisk (state S.Store conn)) }
-        ensures medium { IfOk result (LiesOnDisk S.Store) }
+        ensures medium { IfOk result (SharesMedium S.Store) }
         ensures going { IfOk result (λ k. (keeper_told S.Store k).has_failed ≡ false) }
         ensures firm { IfOk result (λ k. (keeper_told S.Store k).is_honest
             → IsFirm (keeper_told S.Store k)) }
@@ -423,7 +423,7 @@ impl<S: Alter + Drop> Keeper for TableKeeper<S> {
       clean_is_honest = λ clean. clean.0;
     } };
 
-    ghost memory_is_clean = { λ k memory. absurd memory };
+    ghost memory_is_clean = { λ k memory. memory k.look.conn };
 
     ghost counted = { record { none = λ k. tt; then = λ a b c m n before after. tt } };
 

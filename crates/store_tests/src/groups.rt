@@ -2,7 +2,7 @@
 ghost use Rattle.std.specs.Prelude.{◌≡◌, ◌≢◌, ◌≤◌, true, length, All};
 ghost use Rattle.fuse_wire.specs.Ids.{id_of};
 ghost use Rattle.fuse_request.specs.Act.{act, IsKept};
-ghost use Rattle.fuse_keeper.specs.Group.{entry_of, HasId, IsKept as IsKeptEntry};
+ghost use Rattle.fuse_keeper.specs.Group.{entry_of, HasId};
 ghost use Rattle.fuse_keeper.specs.declared.keeper.TheConstants.{MAX_GROUP as MOST_OF_GROUP};
 ghost use Rattle.fuse_keeper.specs.declared.keeper.TheConstants.{MAX_SETTLED as MOST_SETTLED};
 
@@ -37,7 +37,7 @@ fn is_kept(request: &Request<'_>) -> bool
 // Whether a keeper can perform these.
 fn are_kept(group: &[(Request<'_>, Moment)]) -> bool
     ensures ids { result ≡ true → All (λ p. HasId (entry_of p)) group.now }
-    ensures kept { result ≡ true → All (λ p. IsKeptEntry (entry_of p)) group.now }
+    ensures kept { result ≡ true → All (λ p. IsKept (entry_of p).asked.act) group.now }
 {
     for one in group {
         if !is_kept(&one.0) {
@@ -55,7 +55,7 @@ fn ask_all<K: Keeper>(
     requires short { length group.now ≤ MOST_OF_GROUP }
     requires few { length settled.now ≤ MOST_SETTLED }
     requires ids { All (λ p. HasId (entry_of p)) group.now }
-    requires kept { All (λ p. IsKeptEntry (entry_of p)) group.now }
+    requires kept { All (λ p. IsKept (entry_of p).asked.act) group.now }
 {
     keeper.perform(group, settled)
 }

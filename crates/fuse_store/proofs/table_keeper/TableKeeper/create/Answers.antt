@@ -40,4 +40,4 @@ pub returns-in-Err-clause-fault : goal.returns-in-Err-clause-fault
 returns-in-Err-clause-fault g c = λ clean at. c.in-Err.ensures.fault clean tt at
 
 pub returns-in-Ok-clause-medium : goal.returns-in-Ok-clause-medium
-returns-in-Ok-clause-medium g c = record { honest = (λ honest. honest, λ clean. clean); disk = λ memory. memory }
+returns-in-Ok-clause-medium g c = record { honest = (λ honest. honest, λ clean. clean); memory = (λ memory. memory, λ memory. memory) }

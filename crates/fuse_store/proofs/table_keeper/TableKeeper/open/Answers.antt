@@ -29,7 +29,7 @@ pub returns-in-Ok-clause-absent : goal.returns-in-Ok-clause-absent
 returns-in-Ok-clause-absent g c = λ settled none. absurd (c.in-Ok.ensures.absent settled none)
 
 pub returns-in-Ok-clause-medium : goal.returns-in-Ok-clause-medium
-returns-in-Ok-clause-medium g c = record { honest = (λ honest. honest, λ clean. clean); disk = λ memory. memory }
+returns-in-Ok-clause-medium g c = record { honest = (λ honest. honest, λ clean. clean); memory = (λ memory. memory, λ memory. memory) }
 
 pub returns-in-Err-clause-refused : goal.returns-in-Err-clause-refused
 returns-in-Err-clause-refused g c =
