@@ -2,7 +2,7 @@
 use Rattle.std.proofs.Common.{◌≡◌, ◌⊎◌, inl, inr, ◌≤◌, ◌<◌, ◌+◌, ◌&&◌, nat_lt, nat_le, if◌then◌else◌, ℕ, Bool, true, false, List, [], ◌∷◌, ◌++◌, length, Option}
 use Rattle.std.proofs.Common.{Some, None, refl, sym, ap, subst, ◌∙◌, append_assoc, append-nil, arith, length-append}
 use Rattle.std.specs.Prelude.{IfSome}
-use Rattle.std.specs.List.{AllByRecursion}
+use Rattle.std.specs.List.{AllByRecursion, flat_map}
 use Rattle.std.specs.Option.{option_or}
 use Rattle.std.specs.Io.KnownBytes.{Appends, Consumes, IsAtEnd, append_known}
 use Rattle.std.proofs.lemmas.Bool.{ltb-true, ltb-false, lt-leb, le-ltb}
@@ -21,14 +21,17 @@ use Rattle.fuse_keeper.specs.declared.fault.StoreFault.TheVariants as store
 use Rattle.fuse_answer.specs.Said.{Said, FitsAnswer}
 use Rattle.fuse_answer.specs.Laws.{BeginsWithLen, LenStandsFirst}
 use Rattle.fuse_keeper.specs.Model.{Model}
-use Rattle.fuse_keeper.specs.History.{History, grown, said, SaidFits}
+use Rattle.fuse_keeper.specs.Group.{left_pending}
+use Rattle.fuse_keeper.specs.History.{Entry, History, grown, said, SaidFits}
+use Rattle.fuse_keeper.specs.Performance.{Performance, performances_of}
 use Rattle.fuse_keeper.specs.Stands.{Stands}
 use Rattle.fuse_keeper.specs.KeeperState.{KeeperState, StandsFor}
 use Rattle.fuse_session.specs.declared.counts.SessionCounts.{SessionCounts}
 use Rattle.fuse_session.specs.declared.ended.Ended.{Ended}
 use Rattle.fuse_session.specs.declared.ended.Ended.TheVariants as session
 use Rattle.fuse_session.specs.Port.{PortState, fresh}
-use Rattle.fuse_session.specs.Processed.{Timed, bytes_of, kept_in, answers, answer_by, unique_of, GoesOn, Works, EndsLast, StartsZero, message_id, moments_in}
+use Rattle.fuse_session.specs.Batches.{Batch, timed_in, marks_in, handed_over, pending_after}
+use Rattle.fuse_session.specs.Processed.{Timed, bytes_of, entries_at, kept_in, answers, answer_by, unique_of, GoesOn, Works, EndsLast, StartsZero, message_id, moments_in}
 use Rattle.fuse_session.specs.Settling.{Mark, replies, settles, settled_in, NoneComesAgain, MayCome, Places, PlaceFirst}
 use Rattle.fuse_session.specs.Counting.{counted}
 use Rattle.fuse_session.specs.Deeds.{Deeds, Hears}
@@ -38,7 +41,7 @@ use Rattle.fuse_commands.specs.declared.ending.Ending.{Ending}
 use Rattle.fuse_commands.specs.declared.ending.Ending.TheVariants.{Done, ZeroUnique}
 use Rattle.fuse_commands.specs.Endings.{session_ending, stream_ending, store_ending, status_of, IsOfStream}
 use Rattle.fuse_commands.specs.Output.{IsAnswer}
-use Rattle.fuse_commands.specs.Replaying.{EndsAt, EndsFaulty, Replayed, Faulted, StandsForPrefix, Sends, Prints, PrintsAnswers}
+use Rattle.fuse_commands.specs.Replaying.{EndsAt, EndsFaulty, Replayed, Faulted, StandsForPrefix, AsksFor, Sends, Prints, PrintsAnswers}
 
 -- ---- a stream port reports no answer as gone
 
@@ -411,10 +414,50 @@ session_faulted joins k k' moment did each input sent q p e ending clean_honest 
 
 -- ---- however it ended
 
+kept_both : (V : OpcodeSet) (xs ys : List Timed) → kept_in V (xs ++ ys) ≡ kept_in V xs ++ kept_in V ys
+kept_both V [] ys = refl
+kept_both V (x ∷ xs) ys =
+    ap (λ (e : List Entry). entries_at V x ++ e) (kept_both V xs ys) ∙ sym (append_assoc (entries_at V x) (kept_in V xs) (kept_in V ys))
+
+groups_of : (es : List Entry) (more : List Performance) → flat_map (λ p. p.group) (performances_of es [] ++ more) ≡ es ++ flat_map (λ p. p.group) more
+groups_of [] more = refl
+groups_of (e ∷ es) more = refl
+
+unsettled_of : (es : List Entry) (more : List Performance) → AllByRecursion (λ p. p.settled ≡ []) more
+    → AllByRecursion (λ p. p.settled ≡ []) (performances_of es [] ++ more)
+unsettled_of [] more each = each
+unsettled_of (e ∷ es) more each = (refl, each)
+
+none_pending : (es : List Entry) → left_pending es [] ≡ []
+none_pending [] = refl
+none_pending (e ∷ es) = refl
+
+taken_both : (xs ys : List Mark) → AllByRecursion IsTaken (xs ++ ys) → AllByRecursion IsTaken xs × AllByRecursion IsTaken ys
+taken_both [] ys each = (tt, each)
+taken_both (x ∷ xs) ys each = let both = taken_both xs ys each.1 in ((each.0, both.0), both.1)
+
+-- what was asked for, batch by batch, where nothing is settled
+asks_for : (V : OpcodeSet) (batches : List Batch) → AllByRecursion IsTaken (marks_in batches)
+    → AsksFor V (timed_in batches) (handed_over V false [] batches)
+asks_for V [] taken = record { groups = refl; unsettled = tt }
+asks_for V (b ∷ bs) taken =
+    let both = taken_both b.marks (marks_in bs) taken in
+    let none : pending_after V false [] b ≡ [] =
+    ap (λ (x : List ℕ). x ++ settled_in V false (bytes_of b.timed) b.marks) (none_pending (kept_in V b.timed))
+    ∙ settled_nothing V (bytes_of b.timed) b.marks both.0 in
+    let later : AsksFor V (timed_in bs) (handed_over V false (pending_after V false [] b) bs) =
+    subst (λ (p : List ℕ). AsksFor V (timed_in bs) (handed_over V false p bs)) (sym none) (asks_for V bs both.1) in
+    record {
+      groups = groups_of (kept_in V b.timed) (handed_over V false (pending_after V false [] b) bs)
+          ∙ ap (λ (x : List Entry). kept_in V b.timed ++ x) later.groups ∙ sym (kept_both V b.timed (timed_in bs));
+      unsettled = unsettled_of (kept_in V b.timed) (handed_over V false (pending_after V false [] b) bs) later.unsettled;
+    }
+
 kept : CutJoins → {M : Model} (k k' : KeeperState M) (store memory : Bool) (may_fault : Type 0) (moment : Moment) (did : Deeds → Type 0)
-    (each : (d : Deeds) → did d → AllByRecursion (λ t. t ≡ moment) d.moments) (input : List ℕ) (p : PortState) → p.gone ≡ []
-    → Run k k' did (fresh (Some input) (Some []) false) p [] [] store memory may_fault → StandsForPrefix k k' moment input
-kept joins {M} k k' store memory may_fault moment did each input p gone run =
+    (each : (d : Deeds) → did d → AllByRecursion (λ t. t ≡ moment) d.moments) (performed : List Performance → Type 0)
+    (asks : (d : Deeds) → did d → performed d.asked) (input : List ℕ) (p : PortState) → p.gone ≡ []
+    → Run k k' did (fresh (Some input) (Some []) false) p [] [] store memory may_fault → StandsForPrefix k k' performed moment input
+kept joins {M} k k' store memory may_fault moment did each performed asks input p gone run =
     let b = run.broken in
     let c = came input p.coming run.received run.came in
     let more = (cut ((cut run.received).1 ++ c.later)).0 in
@@ -427,6 +470,12 @@ kept joins {M} k k' store memory may_fault moment did each input p gone run =
       moments =
           each_prefix (λ t. t ≡ moment) (moments_in M.serves b.timed) b.moments.0
           (subst (AllByRecursion (λ t. t ≡ moment)) b.moments.1 (each b.deeds b.done.0));
+      asked = b.deeds.asked;
+      was_asked = asks b.deeds b.done.0;
+      asks =
+          subst (λ (x : List Timed). AsksFor M.serves x b.deeds.asked) (sym b.are.messages)
+          (subst (λ (a : List Performance). AsksFor M.serves (timed_in b.batches) a) (sym b.asked)
+          (asks_for M.serves b.batches (subst (AllByRecursion IsTaken) b.are.answers taken)));
       all = λ clean s h t so may.
           let l = b.life clean s h t so (λ i there. absurd (cc there)) (none_again M.serves t (bytes_of b.timed) b.marks taken may) in
           let same : t ++ settled_in M.serves false (bytes_of l.worked) b.marks ≡ t =
@@ -458,10 +507,11 @@ kept joins {M} k k' store memory may_fault moment did each input p gone run =
     }
 
 pub session_kept : CutJoins → {M : Model} (k k' : KeeperState M) (store memory : Bool) (may_fault : Type 0) (moment : Moment) (did : Deeds → Type 0)
-    (each : (d : Deeds) → did d → AllByRecursion (λ t. t ≡ moment) d.moments) (input : List ℕ) (q p : PortState)
-    → q ≡ fresh (Some input) (Some []) false → p.gone ≡ [] → Run k k' did q p [] [] store memory may_fault → StandsForPrefix k k' moment input
-session_kept joins k k' store memory may_fault moment did each input q p start gone run =
-    kept joins k k' store memory may_fault moment did each input p gone (subst (λ x. Run k k' did x p [] [] store memory may_fault) start run)
+    (each : (d : Deeds) → did d → AllByRecursion (λ t. t ≡ moment) d.moments) (performed : List Performance → Type 0)
+    (asks : (d : Deeds) → did d → performed d.asked) (input : List ℕ) (q p : PortState)
+    → q ≡ fresh (Some input) (Some []) false → p.gone ≡ [] → Run k k' did q p [] [] store memory may_fault → StandsForPrefix k k' performed moment input
+session_kept joins k k' store memory may_fault moment did each performed asks input q p start gone run =
+    kept joins k k' store memory may_fault moment did each performed asks input p gone (subst (λ x. Run k k' did x p [] [] store memory may_fault) start run)
 
 -- ---- the output
 

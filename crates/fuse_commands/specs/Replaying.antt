@@ -1,15 +1,17 @@
 -- The messages, the answers and the state after a replay (own profile).
 use Rattle.std.specs.Prelude.{◌≡◌, ◌⊎◌, ℕ, List, [], ◌++◌, length, Option, Some}
-use Rattle.std.specs.List.{AllByRecursion}
+use Rattle.std.specs.List.{AllByRecursion, flat_map}
 use Rattle.std.specs.Io.KnownBytes.{Appends}
 use Rattle.fuse_wire.specs.declared.moment.Moment.{Moment}
 use Rattle.fuse_request.specs.declared.framer.FrameFault.{FrameFault}
 use Rattle.fuse_request.specs.declared.framer.FrameFault.TheVariants as frame
+use Rattle.fuse_request.specs.Opcodes.{OpcodeSet}
 use Rattle.fuse_request.specs.Stream.{cut, joined}
 use Rattle.fuse_request.specs.Framing.{end_fault}
 use Rattle.fuse_keeper.specs.declared.fault.StoreFault.{StoreFault}
 use Rattle.fuse_keeper.specs.Model.{Model}
 use Rattle.fuse_keeper.specs.History.{History, grown}
+use Rattle.fuse_keeper.specs.Performance.{Performance}
 use Rattle.fuse_keeper.specs.Stands.{Stands}
 use Rattle.fuse_keeper.specs.KeeperState.{KeeperState, StandsFor, Leaves, IsFirm}
 use Rattle.fuse_session.specs.declared.counts.SessionCounts.{SessionCounts}
@@ -74,13 +76,21 @@ pub record Faulted {M : Model} (k k' : KeeperState M) (moment : Moment) (input :
   pub all : k'.is_clean → (s : M.State) (h : History) (t : List ℕ) → StandsFor k s h t → AllByRecursion (MayCome M.serves t) (bytes_of timed)
       → Part M (λ g. StandsFor k' s g t) s h timed Gave × k.may_answer fault
 
--- however it ended: a prefix of the messages of the input was processed, the kept ones at this moment. If its store is clean the
--- keeper stands for these; and if it was firm at first, so does whatever a crash now leaves
-pub record StandsForPrefix {M : Model} (k k' : KeeperState M) (moment : Moment) (input : List ℕ) : Type 0 where
+-- a keeper was asked to perform the kept messages of these in groups, each once and in order, and no id was settled
+pub record AsksFor (V : OpcodeSet) (timed : List Timed) (asked : List Performance) : Type 0 where
+  pub groups : flat_map (λ p. p.group) asked ≡ kept_in V timed
+  pub unsettled : AllByRecursion (λ p. p.settled ≡ []) asked
+
+-- however it ended: the keeper was asked to perform a prefix of the messages of the input, the kept ones at this moment, and nothing
+-- else. If its store is clean the keeper stands for a prefix of these; and if it was firm at first, so does whatever a crash now leaves
+pub record StandsForPrefix {M : Model} (k k' : KeeperState M) (performed : List Performance → Type 0) (moment : Moment) (input : List ℕ) : Type 0 where
   pub timed : List Timed
   pub others : List (List ℕ)
   pub parts : (cut input).0 ≡ bytes_of timed ++ others
   pub moments : AllByRecursion (λ t. t ≡ moment) (moments_in M.serves timed)
+  pub asked : List Performance
+  pub was_asked : performed asked
+  pub asks : AsksFor M.serves timed asked
   pub all : k'.is_clean → (s : M.State) (h : History) (t : List ℕ) → StandsFor k s h t → AllByRecursion (MayCome M.serves t) (bytes_of timed)
       → Part M (λ g. StandsFor k' s g t) s h timed (λ _. Unit {0})
   pub crash : k'.is_honest → IsFirm k → (s : M.State) (h : History) (t : List ℕ) → StandsFor k s h t

@@ -54,7 +54,8 @@ fn serve_stream<K: Keeper, R: Read>(
         → Faulted (K.told keeper.old) (K.told keeper.new) moment input result.ending
         (λ answers. result.sent.items ≡ joined answers) }
     ensures kept { (input : List ℕ) → R.remaining reader.old ≡ Some input
-        → StandsForPrefix (K.told keeper.old) (K.told keeper.new) moment input }
+        → StandsForPrefix (K.told keeper.old) (K.told keeper.new)
+        (K.performed keeper.old keeper.new) moment input }
     ensures firm { (K.told keeper.new).has_failed ≡ false
         → KeepsFirm (K.told keeper.old) (K.told keeper.new) }
     ensures medium { (K.told keeper.old).in_memory → (K.told keeper.new).in_memory }
@@ -110,10 +111,11 @@ pub fn run_replay<K: Keeper, R: Read + Drop, W: Write>(
     ensures faulted { status_of result ≡ 3 → (input : List ℕ) → R.remaining reader ≡ Some input
         → Faulted (K.told keeper.old) (K.told keeper.new) moment input result
         (PrintsAnswers (W.contents writer.old) (W.contents writer.new)) }
-    // However it ends, the keeper stands for a prefix of the messages, and so does whatever a crash
-    // leaves.
+    // However it ends, the keeper was asked for a prefix of the messages and nothing else. It stands
+    // for a prefix of these, and so does whatever a crash leaves.
     ensures kept { (input : List ℕ) → R.remaining reader ≡ Some input
-        → StandsForPrefix (K.told keeper.old) (K.told keeper.new) moment input }
+        → StandsForPrefix (K.told keeper.old) (K.told keeper.new)
+        (K.performed keeper.old keeper.new) moment input }
     // A keeper that has not failed is as firm as before.
     ensures firm { (K.told keeper.new).has_failed ≡ false
         → KeepsFirm (K.told keeper.old) (K.told keeper.new) }

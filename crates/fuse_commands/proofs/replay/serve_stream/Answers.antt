@@ -46,6 +46,7 @@ returns-clause-kept g c = λ input known.
     session_kept c.cut_joins.ensures (g.K.Keeper.told c.args.keeper.now)
     (g.K.Keeper.told c.serve-served.new.keeper) (ended_store c.serve-served.result.ended) (ended_memory c.serve-served.result.ended) _ c.args.moment
     (Did (GaveFixed (record { 0 = c.args.moment }) c.serve-served.new.clock) (g.K.Keeper.performed c.args.keeper.now c.serve-served.new.keeper)
-    (Stepped (stream_told (λ r. g.R.Read.remaining r.now) (λ w. Some w.items)) c.new-port.result c.serve-served.new.port)) (λ d done. done.moments.each) input
+    (Stepped (stream_told (λ r. g.R.Read.remaining r.now) (λ w. Some w.items)) c.new-port.result c.serve-served.new.port)) (λ d done. done.moments.each)
+    (g.K.Keeper.performed c.args.keeper.now c.serve-served.new.keeper) (λ d done. done.asked) input
     (stream_told (λ r. g.R.Read.remaining r.now) (λ w. Some w.items) c.new-port.result)
     (stream_told (λ r. g.R.Read.remaining r.now) (λ w. Some w.items) c.serve-served.new.port) start refl c.serve-served.ensures.life
