@@ -24,6 +24,7 @@ use Rattle.fuse_sim.specs.inner.Running.{Moved, MayBegin, Opens, Stops, AsksFrom
 use Rattle.fuse_sim.proofs.Settled.{tested, is_in-append, stands_later, stands_kept}
 use Rattle.fuse_sim.proofs.Driven.{ledger-append, pending_settled, settled_all, includes_none, handed_came}
 use Rattle.fuse_sim.proofs.Asking.{handed_performances, asks_more}
+use Rattle.fuse_sim.proofs.AskedGroups.{performed_then}
 use Rattle.fuse_sim.proofs.Moves.{ran_more, ran_none, begin_all}
 use Rattle.fuse_sim.proofs.Openings.{became_then, opened_more, opened_still, stood_before_more, stood_still, medium_then, medium_left}
 
@@ -163,7 +164,7 @@ left_map : (M : Model) → {K : Type 0} (told : K → KeeperState M) (b : Bool) 
 left_map M told true k P Q too left f = λ is. f (too is) (left is)
 left_map M told false k P Q too left f = λ is. f is (left is)
 
-clean_too : (M : Model) → {K : Type 0} (told : K → KeeperState M) (k : Option K) → ((x : K) → (told x).is_clean → (told x).is_honest)
+pub clean_too : (M : Model) → {K : Type 0} (told : K → KeeperState M) (k : Option K) → ((x : K) → (told x).is_clean → (told x).is_honest)
     → (told_in told k).is_clean → (told_in told k).is_honest
 clean_too M told None f is = is
 clean_too M told (Some k) f is = f k is
@@ -275,18 +276,6 @@ stopped_firm M told became refuses old mid new events others at fault p outcomes
     stops.firm kind is (moved.ran.firm (stops.was_honest is) so)
 
 -- ---- what was asked for
-
-pub performed_then : {K : Type 0} (performed : K → K → List Performance → Type 0) → IsPerformanceLog performed → (a b c : Option K) (xs ys zs : List Performance)
-    → performed_in performed a b xs → performed_in performed b c ys → xs ++ ys ≡ zs → performed_in performed a c zs
-performed_then performed law None b c xs ys zs one two sum = absurd one
-performed_then performed law (Some a) None c xs ys zs one two sum = absurd one
-performed_then performed law (Some a) (Some b) None xs ys zs one two sum = absurd two
-performed_then performed law (Some a) (Some b) (Some c) xs ys zs one two sum = subst (performed a c) sum (law.onward a b c xs ys one two)
-
-pub performed_none : {K : Type 0} (performed : K → K → List Performance → Type 0) → IsPerformanceLog performed → (P : K → Type 0) (k : Option K) → IsSomeAnd k P
-    → performed_in performed k k []
-performed_none performed law P None is = absurd is
-performed_none performed law P (Some k) is = law.none k
 
 pub moved_asked : (M : Model) → {K : Type 0} (performed : K → K → List Performance → Type 0) → IsPerformanceLog performed → (k k' : KeeperState M)
     (old mid new : Option K) (events : List Event) (at n : ℕ) (p : List ℕ) (outcomes : List (Option Outcome))

@@ -10,7 +10,9 @@ pub mod Removed
 pub mod Moves
 pub mod Openings
 pub mod Stopping
+pub mod AskedGroups
 pub mod Endings
+pub mod TwoLists
 pub mod Marks
 pub mod Pendings
 pub mod Lifetimes

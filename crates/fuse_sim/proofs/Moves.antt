@@ -288,7 +288,7 @@ group_ran M holds mid holds' died run p p' old new ledger worked keeps was firm 
 
 -- ---- an event that is lost
 
-commits_lost : (V : OpcodeSet) (e : Event) → e.fate ≡ DiedBeforeCommit → commits V e ≡ []
+pub commits_lost : (V : OpcodeSet) (e : Event) → e.fate ≡ DiedBeforeCommit → commits V e ≡ []
 commits_lost V e is = ap (λ f. commits_by f (entry_if (class_for V e.bytes) (message_entry e.bytes e.moment))) is
 
 lost_begins : (M : Model) (s : M.State) (h : History) (e : Event) (earlier later : List Event) → e.fate ≡ DiedBeforeCommit → e ∷ [] ≡ earlier ++ later
@@ -395,7 +395,7 @@ begins_not (e ∷ es) begins none = elim none [
   | inr unfit ↦ unfit begins.0
 ]
 
-begins_with : (l : Ledger) (p : List ℕ) (others : List Event) → l.pending ≡ p → MayBegin l others → Begins others → record { room = 0; pending = p } ≡ l
+pub begins_with : (l : Ledger) (p : List ℕ) (others : List Event) → l.pending ≡ p → MayBegin l others → Begins others → record { room = 0; pending = p } ≡ l
 begins_with l p others same may begins =
     let room : l.room ≡ 0 = elim may [ inl none ↦ none | inr ends ↦ absurd (begins_not others begins ends) ] in
     ap (λ (q : List ℕ). record { room = 0; pending = q }) (sym same) ∙ ap (λ (n : ℕ). record { room = n; pending = l.pending }) (sym room)

@@ -6,8 +6,9 @@ use Rattle.fuse_sim.specs.Driving.{told_in, Opened, MayRefuse, StoodBefore, perf
 use Rattle.fuse_sim.specs.HandedOn.{performances}
 use Rattle.fuse_sim.proofs.Openings.{opened_none, stood_none, medium_itself, medium_then}
 use Rattle.fuse_sim.proofs.Endings.{moved_none, moved_more, moved_opened, stopped_opened, stopped_emptied, moved_all, moved_stands, moved_left, moved_outcomes}
-use Rattle.fuse_sim.proofs.Endings.{moved_stood, moved_outcomes_before, moved_asked, performed_none, stopped_stood, stopped_medium, stopped_firm, stopped_asked}
+use Rattle.fuse_sim.proofs.Endings.{moved_stood, moved_outcomes_before, moved_asked, stopped_stood, stopped_medium, stopped_firm, stopped_asked}
 use Rattle.fuse_sim.proofs.Endings.{moved_count, moved_records, stopped, stopped_store}
+use Rattle.fuse_sim.proofs.AskedGroups.{performed_none}
 use Rattle.fuse_sim.proofs.driving.drive.Goals as goal
 
 pub loop-at-init : goal.loop-at-init

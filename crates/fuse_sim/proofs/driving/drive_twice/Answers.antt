@@ -1,8 +1,10 @@
 use Rattle.std.proofs.Common.{◌++◌, map, ap, sym, ◌∙◌}
 use Rattle.std.proofs.lemmas.List.{map-append}
-use Rattle.fuse_sim.specs.Driving.{bytes_given, committed, outcome_of, settled_by}
+use Rattle.std.proofs.lemmas.Result.{err_from_is_err_and}
+use Rattle.fuse_sim.specs.Driving.{bytes_given, committed, outcome_of, settled_by, MayRefuse}
 use Rattle.fuse_sim.proofs.Driven.{outcomes-append, reused-parts}
-use Rattle.fuse_sim.proofs.Openings.{stands_twice, opened_twice}
+use Rattle.fuse_sim.proofs.Openings.{stands_twice, opened_twice, stood_twice}
+use Rattle.fuse_sim.proofs.TwoLists.{stopped_first, stopped_second}
 use Rattle.fuse_sim.proofs.driving.drive_twice.Goals as goal
 
 pub returns-clause-tree_stands : goal.returns-clause-tree_stands
@@ -31,3 +33,56 @@ returns-clause-opened g c =
     let k = g.K.Keeper in
     opened_twice k.model k.told k.became g.met.K.Keeper.counted c.args.keeper.now c.drive.new.keeper c.drive-2.new.keeper c.args.events.now c.args.more.now
     c.drive-2.ensures.honest c.in_ok-first.ensures.tree_stands c.in_ok-first.ensures.opened c.in_ok-second.ensures.opened
+
+pub returns-in_err-first-clause-stopped : goal.returns-in_err-first-clause-stopped
+returns-in_err-first-clause-stopped g c =
+    let k = g.K.Keeper in
+    let p = err_from_is_err_and c.from_residual.result c.from_residual.ensures.1 in
+    let e = c.in_err-first.ensures in
+    rw (p.1, p.2) (stopped_first k.model (record { told = k.told; became = k.became; performed = k.performed; may_refuse = MayRefuse g.K.Restart.refuses })
+    c.args.keeper.now c.drive.new.keeper c.args.events.now c.args.more.now c.in_err-first.field-0.0 (record {
+      named = e.fault_causes;
+      stands = e.after_fault;
+      opened = e.opened_before;
+      stood = e.stood_at_fault;
+      asked = e.asked_before;
+      store = e.store;
+      emptied = e.emptied;
+      firm = e.firm;
+    }))
+
+pub returns-in_err-second-clause-stopped : goal.returns-in_err-second-clause-stopped
+returns-in_err-second-clause-stopped g c =
+    let k = g.K.Keeper in
+    let p = err_from_is_err_and c.from_residual-in_err-second.result c.from_residual-in_err-second.ensures.1 in
+    let first = c.in_ok-first.ensures in
+    let e = c.in_err-second.ensures in
+    rw (p.1, p.2) (stopped_second k.model (record { told = k.told; became = k.became; performed = k.performed; may_refuse = MayRefuse g.K.Restart.refuses })
+    g.met.K.Keeper.counted g.met.K.Keeper.log c.args.keeper.now c.drive.new.keeper c.drive-2.new.keeper c.args.events.now c.args.more.now
+    c.in_err-second.field-0.0 (λ x. (g.met.K.Keeper.sound x).clean_is_honest) c.drive-2.ensures.honest (record {
+      fit = first.fault_causes;
+      stands = first.tree_stands;
+      opened = first.opened;
+      stood = first.stood_before;
+      asked = first.asked;
+      firm = first.firm;
+    }) (record {
+      named = e.fault_causes;
+      stands = e.after_fault;
+      opened = e.opened_before;
+      stood = e.stood_at_fault;
+      asked = e.asked_before;
+      store = e.store;
+      emptied = e.emptied;
+      firm = e.firm;
+    }))
+
+pub returns-clause-stood_before : goal.returns-clause-stood_before
+returns-clause-stood_before g c =
+    let k = g.K.Keeper in
+    stood_twice k.model k.told k.became g.met.K.Keeper.counted c.args.keeper.now c.drive.new.keeper c.drive-2.new.keeper c.args.events.now c.args.more.now
+    c.drive-2.ensures.honest c.in_ok-first.ensures.tree_stands c.in_ok-first.ensures.opened.often c.in_ok-second.ensures.opened.often
+    c.in_ok-first.ensures.stood_before c.in_ok-second.ensures.stood_before
+
+pub returns-clause-firm : goal.returns-clause-firm
+returns-clause-firm g c = λ is so. c.in_ok-second.ensures.firm is (c.in_ok-first.ensures.firm (c.drive-2.ensures.honest is) so)

@@ -1,4 +1,4 @@
-use Rattle.std.proofs.Common.{◌+◌, ◌-◌, ◌≤◌, refl, sym, ap, subst, ◌∙◌, length, take, drop, arith}
+use Rattle.std.proofs.Common.{◌≡◌, false, ◌+◌, ◌-◌, ◌≤◌, refl, sym, ap, subst, ◌∙◌, length, take, drop, arith}
 use Rattle.std.proofs.lemmas.Result.{err_from_is_err_and}
 use Rattle.fuse_keeper.specs.Group.{ids_of}
 use Rattle.fuse_sim.specs.Driving.{told_in, commits_in, MayRefuse}
@@ -6,6 +6,7 @@ use Rattle.fuse_sim.specs.inner.Running.{Gathers, Worked}
 use Rattle.fuse_sim.proofs.Moves.{group_moved, ids_left, few_taken, few_left}
 use Rattle.fuse_sim.proofs.Openings.{group_opens}
 use Rattle.fuse_sim.proofs.Stopping.{stops_here, stops_store, stops_restart, dies_at, begins_fit, within_rest, run_slice, group_read, group_stops}
+use Rattle.fuse_sim.proofs.AskedGroups.{asks_from, asked_run, stops_unasked, stops_performing, stops_emptied}
 use Rattle.fuse_sim.proofs.driving.run_group.Goals as goal
 
 pub returns-in_default-clause-err : goal.returns-in_default-clause-err
@@ -111,3 +112,54 @@ returns-clause-few g c =
     (omega (arith, c.requires.few, ap length c.make_room.ensures.pending))
     (few_taken g.K.Keeper.model.serves (take (at + count - at) (drop at events)) group.taken.items 16 (gathers.entries ∙ ap (commits_in g.K.Keeper.model.serves) (sym (run_slice events at count)))
     gathers.few)
+
+pub returns-in_default-clause-err_asked : goal.returns-in_default-clause-err_asked
+returns-in_default-clause-err_asked g c =
+    stops_unasked g.K.Keeper.model.serves g.K.Keeper.performed g.met.K.Keeper.log (λ x. (g.K.Keeper.told x).has_failed ≡ false) c.args.keeper.now
+    (ids_of c.args.pending.now.items) (drop c.args.at c.args.events.now) _ c.requires.going refl
+
+pub returns-then-is_err-clause-err_asked : goal.returns-then-is_err-clause-err_asked
+returns-then-is_err-clause-err_asked g c =
+    stops_unasked g.K.Keeper.model.serves g.K.Keeper.performed g.met.K.Keeper.log (λ x. (g.K.Keeper.told x).has_failed ≡ false) c.args.keeper.now
+    (ids_of c.args.pending.now.items) (drop c.args.at c.args.events.now) _ c.requires.going refl
+
+pub returns-in-Err-clause-err_asked : goal.returns-in-Err-clause-err_asked
+returns-in-Err-clause-err_asked g c =
+    let V = g.K.Keeper.model.serves in
+    let events = c.args.events.now in
+    let at = c.args.at in
+    let count = c.len-count.result in
+    let group = c.in-Ok.group in
+    let gathers = group_read g.K.Keeper.model events at count group.classes.items group.taken.items group.died
+    (omega (arith, c.len-count.ensures, group.classes.ok)) c.in-Ok.ensures.gathers in
+    stops_performing V g.K.Keeper.performed c.args.keeper.now c.work_group.new.keeper (ids_of c.args.pending.now.items)
+    (ids_of c.make_room.new.pending.items) (drop at events) (take (at + count - at) (drop at events)) count group.taken.items group.died _ gathers.goes
+    (few_taken V (take count (drop at events)) group.taken.items 16 gathers.entries gathers.few) c.requires.begins gathers.entries c.in-Err.ensures.some
+    (run_slice events at count) (ap ids_of c.make_room.ensures.pending) c.work_group.ensures.asked refl
+
+pub returns-in_err-end_group-clause-err_asked : goal.returns-in_err-end_group-clause-err_asked
+returns-in_err-end_group-clause-err_asked g c =
+    let p = err_from_is_err_and c.from_residual.result c.from_residual.ensures.1 in
+    rw (p.1, p.2) (stops_emptied g.K.Keeper.model.serves g.K.Keeper.performed c.args.keeper.now c.end_group.new.keeper (ids_of c.args.pending.now.items)
+    (drop c.args.at c.args.events.now) c.in_err-end_group.field-0.0 c.in_err-end_group.ensures.err.0)
+
+pub returns-clause-asks : goal.returns-clause-asks
+returns-clause-asks g c =
+    let V = g.K.Keeper.model.serves in
+    let events = c.args.events.now in
+    let at = c.args.at in
+    let count = c.len-count.result in
+    let group = c.in-Ok.group in
+    let gathers = group_read g.K.Keeper.model events at count group.classes.items group.taken.items group.died
+    (omega (arith, c.len-count.ensures, group.classes.ok)) c.in-Ok.ensures.gathers in
+    asks_from V group.died (take count (drop at events)) (drop at events) (ids_of c.args.pending.now.items) gathers.goes
+    (few_taken V (take count (drop at events)) group.taken.items 16 gathers.entries gathers.few) c.requires.begins
+
+pub returns-clause-asked : goal.returns-clause-asked
+returns-clause-asked g c =
+    let events = c.args.events.now in
+    let at = c.args.at in
+    let count = c.len-count.result in
+    asked_run g.K.Keeper.model.serves g.K.Keeper.performed g.met.K.Keeper.log c.args.keeper.now c.work_group.new.keeper c.end_group.new.keeper
+    (ids_of c.args.pending.now.items) (ids_of c.make_room.new.pending.items) (take (at + count - at) (drop at events)) (take count (drop at events))
+    (run_slice events at count) (ap ids_of c.make_room.ensures.pending) c.work_group.ensures.asked c.in_ok-end_group.ensures.unasked

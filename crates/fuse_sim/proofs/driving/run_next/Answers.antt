@@ -7,6 +7,7 @@ use Rattle.fuse_sim.specs.Driving.{told_in, IsFit, MayRefuse}
 use Rattle.fuse_sim.proofs.Moves.{begins_at, next_moved, lost_moved}
 use Rattle.fuse_sim.proofs.Openings.{became_itself, lost_opens}
 use Rattle.fuse_sim.proofs.Stopping.{stops_here, stops_restart, lost_dies}
+use Rattle.fuse_sim.proofs.AskedGroups.{lost_from, lost_asked, stops_unasked, stops_emptied}
 use Rattle.fuse_sim.proofs.driving.run_next.Goals as goal
 
 pub returns-then-not-is_before_commit-clause-ok : goal.returns-then-not-is_before_commit-clause-ok
@@ -63,3 +64,32 @@ returns-clause-opens g c =
     c.index-events-at.result (ids_of c.args.pending.now.items)
     c.requires.at c.index-events-at.is (sym c.is_before_commit.ensures ∙ c.if-not-is_before_commit.false) c.in_ok-end_group.ensures.opened
     c.in_ok-end_group.ensures.same c.end_group.ensures.honest c.in_ok-end_group.ensures.medium
+
+pub returns-then-is_err-clause-err_asked : goal.returns-then-is_err-clause-err_asked
+returns-then-is_err-clause-err_asked g c =
+    stops_unasked g.K.Keeper.model.serves g.K.Keeper.performed g.met.K.Keeper.log (λ x. (g.K.Keeper.told x).has_failed ≡ false) c.args.keeper.now
+    (ids_of c.args.pending.now.items) (drop c.args.at c.args.events.now) _ c.requires.going refl
+
+pub returns-in_err-test_event-clause-err_asked : goal.returns-in_err-test_event-clause-err_asked
+returns-in_err-test_event-clause-err_asked g c =
+    let p = err_from_is_err_and c.from_residual.result c.from_residual.ensures.1 in
+    rw (p.1, p.2) (stops_unasked g.K.Keeper.model.serves g.K.Keeper.performed g.met.K.Keeper.log (λ x. (g.K.Keeper.told x).has_failed ≡ false)
+    c.args.keeper.now (ids_of c.args.pending.now.items) (drop c.args.at c.args.events.now) c.in_err-test_event.field-0.0 c.requires.going
+    c.in_err-test_event.ensures.store)
+
+pub returns-in_err-end_group-clause-err_asked : goal.returns-in_err-end_group-clause-err_asked
+returns-in_err-end_group-clause-err_asked g c =
+    let p = err_from_is_err_and c.from_residual-in_err-end_group.result c.from_residual-in_err-end_group.ensures.1 in
+    rw (p.1, p.2) (stops_emptied g.K.Keeper.model.serves g.K.Keeper.performed c.args.keeper.now c.end_group.new.keeper (ids_of c.args.pending.now.items)
+    (drop c.args.at c.args.events.now) c.in_err-end_group.field-0.0 c.in_err-end_group.ensures.err.0)
+
+pub returns-clause-asks : goal.returns-clause-asks
+returns-clause-asks g c =
+    lost_from g.K.Keeper.model.serves c.args.events.now c.args.at c.index-events-at.result (ids_of c.args.pending.now.items) c.requires.at c.index-events-at.is
+    (sym c.is_before_commit.ensures ∙ c.if-not-is_before_commit.false)
+
+pub returns-clause-asked : goal.returns-clause-asked
+returns-clause-asked g c =
+    lost_asked g.K.Keeper.model.serves g.K.Keeper.performed c.args.keeper.now c.end_group.new.keeper c.args.events.now c.args.at c.index-events-at.result
+    (ids_of c.args.pending.now.items) c.requires.at c.index-events-at.is (sym c.is_before_commit.ensures ∙ c.if-not-is_before_commit.false)
+    c.in_ok-end_group.ensures.unasked
