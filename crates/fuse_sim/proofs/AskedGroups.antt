@@ -11,9 +11,8 @@ use Rattle.fuse_keeper.specs.Performance.{Performance, performances_of, IsPerfor
 use Rattle.fuse_sim.specs.declared.event.Event.{Event}
 use Rattle.fuse_sim.specs.declared.event.DriveFault.{DriveFault}
 use Rattle.fuse_sim.specs.Driving.{commits_in, is_store, performed_in}
-use Rattle.fuse_sim.specs.HandedOn.{Ledger}
 use Rattle.fuse_sim.specs.inner.HandedBy.{AsksOne}
-use Rattle.fuse_sim.specs.inner.Running.{dies_before, IsRun, Begins, MayBegin, AsksRun, AsksFrom, StopsAsking}
+use Rattle.fuse_sim.specs.inner.Running.{dies_before, IsRun, Begins, AsksRun, AsksFrom, StopsAsking}
 use Rattle.fuse_sim.proofs.Asking.{group_asks, lost_asks, none_asks}
 use Rattle.fuse_sim.proofs.Moves.{begins_with, commits_lost, is_lost}
 

@@ -1,5 +1,5 @@
 -- What holds when events have been run, to their end or to a fault.
-use Rattle.std.proofs.Common.{◌≡◌, ℕ, ◌+◌, ◌≤◌, Bool, true, false, ◌||◌, inl, inr, List, [], ◌++◌, map, take, drop, Option, Some, None, IsSomeAnd, if◌then◌else◌, length}
+use Rattle.std.proofs.Common.{◌≡◌, ℕ, ◌+◌, ◌≤◌, Bool, true, false, ◌||◌, inl, List, [], ◌++◌, map, take, drop, Option, Some, None, IsSomeAnd, if◌then◌else◌, length}
 use Rattle.std.proofs.Common.{refl, sym, ap, subst, ◌∙◌, arith}
 use Rattle.std.proofs.Math.Seq.{take-add}
 use Rattle.std.proofs.lemmas.List.{take_all, append-nil, length-map, take-append-drop}
@@ -21,7 +21,7 @@ use Rattle.fuse_sim.specs.HandedOn.{Ledger, empty_ledger, performances, handed_i
 use Rattle.fuse_sim.specs.inner.HandedBy.{ledger_after, handed_on}
 use Rattle.fuse_sim.specs.LeftRecords.{RecordsLeft, HoldsRecords}
 use Rattle.fuse_sim.specs.inner.Running.{Moved, MayBegin, Opens, Stops, AsksFrom, AsksRun, StopsAsking}
-use Rattle.fuse_sim.proofs.Settled.{tested, is_in-append, stands_later, stands_kept}
+use Rattle.fuse_sim.proofs.Settled.{is_in-append, stands_later, stands_kept}
 use Rattle.fuse_sim.proofs.Driven.{ledger-append, pending_settled, settled_all, includes_none, handed_came}
 use Rattle.fuse_sim.proofs.Asking.{handed_performances, asks_more}
 use Rattle.fuse_sim.proofs.AskedGroups.{performed_then}
@@ -304,8 +304,7 @@ stopped_asked M told became refuses performed law old mid new events at fault p 
     let last = performances_of (commits_in M.serves asking.run) p in
     let l = ledger_after M.serves empty_ledger (take at events) in
     let more : performances M.serves (take at events ++ asking.run) ≡ performances M.serves (take at events) ++ last =
-    asks_more M.serves (take at events) asking.run p (sym moved.pending) (asking.asks l (sym moved.pending) moved.begin) in
-    (
+    asks_more M.serves (take at events) asking.run p (sym moved.pending) (asking.asks l (sym moved.pending) moved.begin) in (
       performances M.serves (take at events) ++ last,
       record {
         run = asking.run;

@@ -201,8 +201,7 @@ outcomes_first : (M : Model) → GroupsGrow M → (k k' : KeeperState M) (run : 
 outcomes_first M grows k k' run handed dones added goes acts are honest earlier later parts s h t so fresh =
     let entries = ap (commits_in M.serves) parts ∙ commits-append M.serves earlier later in
     let first = first_said M grows k k' handed (commits_in M.serves run) (commits_in M.serves earlier) (commits_in M.serves later) dones acts entries honest
-    s h t so fresh in
-    (
+    s h t so fresh in (
       outcomes_by M.serves later (answers_in first.others),
       are ∙ ap (λ (es : List Event). outcomes_by M.serves es (answers_in dones)) parts
           ∙ ap (λ (ds : List Done). outcomes_by M.serves (earlier ++ later) (answers_in ds)) first.parts

@@ -105,8 +105,7 @@ begin_later : (M : Model) → HistoriesGrow M → (s : M.State) (h : History) (e
     → OutcomesBegin M s h (es ++ prefix) (xs ++ ys)
 begin_later M grows s h es prefix xs ys is begins =
     let first = map (outcome_of M s (committed M.serves h es)) es in
-    let second = map (outcome_of M s (committed M.serves (committed M.serves h es) prefix)) prefix in
-    (
+    let second = map (outcome_of M s (committed M.serves (committed M.serves h es) prefix)) prefix in (
       begins.0,
       ap (λ (os : List (Option (List ℕ))). os ++ ys) is ∙ ap (λ (os : List (Option (List ℕ))). first ++ os) begins.1
           ∙ sym (append_assoc first second begins.0)

@@ -1,6 +1,6 @@
 -- How often the keeper was opened again, and what stood then.
 use Rattle.std.proofs.Common.{◌≡◌, ◌⊎◌, inl, inr, ℕ, suc, ◌+◌, ◌<◌, Bool, true, false, if◌then◌else◌, List, [], ◌∷◌, ◌++◌, length, take, drop, get_or, Option}
-use Rattle.std.proofs.Common.{Some, None, IsSomeAnd, IfSome, ◌≤◌, refl, sym, ap, subst, ◌∙◌, append_assoc, length-append, drop-cons, arith}
+use Rattle.std.proofs.Common.{Some, None, IsSomeAnd, ◌≤◌, refl, sym, ap, subst, ◌∙◌, append_assoc, length-append, drop-cons, arith}
 use Rattle.std.proofs.lemmas.List.{append-nil}
 use Rattle.fuse_wire.specs.declared.moment.Moment.{Moment}
 use Rattle.fuse_request.specs.declared.request.Request.{Request}
@@ -22,7 +22,7 @@ use Rattle.fuse_sim.specs.inner.Running.{dies_before, IsRun, DiesLast, Gathers, 
 use Rattle.fuse_sim.proofs.Settled.{includes_left, includes_both, stands_later}
 use Rattle.fuse_sim.proofs.Driven.{committed-append, settled-append, settled_still, reused-parts, all_unsettled_too, none_reused}
 use Rattle.fuse_sim.proofs.Gathered.{commits-append}
-use Rattle.fuse_sim.proofs.Moves.{handed_within, is_lost, few_taken, SplitIn, SplitAfter, split_in}
+use Rattle.fuse_sim.proofs.Moves.{handed_within, is_lost, few_taken, split_in}
 
 -- ---- what became of a keeper
 

@@ -1,5 +1,5 @@
 -- A fault at the first of two lists of events, or at the second one.
-use Rattle.std.proofs.Common.{◌≡◌, inl, inr, ℕ, Bool, true, false, List, [], ◌++◌, length, All, Option, None, refl, sym}
+use Rattle.std.proofs.Common.{◌≡◌, inl, inr, ℕ, Bool, true, false, List, [], ◌++◌, All, Option, None, refl, sym}
 use Rattle.fuse_keeper.specs.declared.fault.StoreFault.{StoreFault}
 use Rattle.fuse_keeper.specs.History.{History}
 use Rattle.fuse_keeper.specs.Model.{Model}
@@ -10,7 +10,7 @@ use Rattle.fuse_sim.specs.declared.event.DriveFault.{DriveFault}
 use Rattle.fuse_sim.specs.Driving.{told_in, StandsIn, committed, settled_by, NoneReused, IsFit, Names, before, is_store, LeftBy, Opened, OfRestart, AnsweredBy}
 use Rattle.fuse_sim.specs.Driving.{StoodBefore, became_in, performed_in, deaths}
 use Rattle.fuse_sim.specs.HandedOn.{performances, AsksUpTo, AsksThen, AskedSome}
-use Rattle.fuse_sim.specs.Twice.{Seen, StoppedIn, StoppedAt}
+use Rattle.fuse_sim.specs.Twice.{Seen, StoppedAt}
 use Rattle.fuse_sim.proofs.Driven.{reused-parts}
 use Rattle.fuse_sim.proofs.Openings.{became_then, deaths-append, stands_twice, opened_twice, stood_twice}
 use Rattle.fuse_sim.proofs.AskedGroups.{performed_then}

@@ -1,5 +1,5 @@
 // Events, run to their end.
-ghost use Rattle.std.specs.Prelude.{◌⊎◌, ◌≡◌, ◌≤◌, ◌<◌, ◌+◌, ◌++◌, ℕ, List, [], false, true};
+ghost use Rattle.std.specs.Prelude.{◌≡◌, ◌≤◌, ◌<◌, ◌+◌, ◌++◌, ℕ, List, [], false, true};
 ghost use Rattle.std.specs.Prelude.{if◌then◌else◌, length, map, take, drop, All, vec_capacity};
 ghost use Rattle.std.specs.Prelude.{None, IsSome, IsSomeAnd, IfSome, is_err};
 ghost use Rattle.std.specs.Prelude.{IfOk, IfErr, OnOk, OnErr, MatchResult};
@@ -16,7 +16,7 @@ ghost use Rattle.fuse_sim.specs.Driving.{MayRefuse, KeepsMedium, OutcomesBegin};
 ghost use Rattle.fuse_sim.specs.declared.event.Event.{Event as EventValue};
 ghost use Rattle.fuse_sim.specs.LeftRecords.{RecordsLeft, HoldsRecords};
 ghost use Rattle.fuse_sim.specs.HandedOn.{Ledger, performances, handed_in, AsksUpTo, AskedSome};
-ghost use Rattle.fuse_sim.specs.Twice.{Seen, StoppedAt};
+ghost use Rattle.fuse_sim.specs.Twice.{StoppedAt};
 ghost use Rattle.fuse_sim.specs.inner.Running.{Gathers, Begins, Worked, Moved, MayBegin, Opens, Stops};
 ghost use Rattle.fuse_sim.specs.inner.Running.{AsksRun, AsksFrom, StopsAsking};
 
@@ -401,8 +401,11 @@ pub fn drive_twice<K: Restart>(
 
     // The fault came at the first list, or at the second one after all of the first.
     ensures stopped { IfErr result (StoppedAt (record {
-        told = K.told; became = K.became; performed = K.performed; may_refuse = MayRefuse K.refuses
-        }) keeper.old keeper.new events.now more.now) }
+      told = K.told;
+      became = K.became;
+      performed = K.performed;
+      may_refuse = MayRefuse K.refuses;
+    }) keeper.old keeper.new events.now more.now) }
     ensures going { OnOk result (IsSomeAnd keeper.new (λ k. (K.told k).has_failed ≡ false)) }
     ensures failed { IfErr result
         (λ fault. IfSome keeper.new (λ k. (K.told k).has_failed ≡ is_store fault)) }

@@ -18,9 +18,7 @@ ghost use Rattle.fuse_sim.specs.inner.Running.{answers_in, head_outcome, outcome
 use crate::event::{DriveFault, Event, Fate, Outcome};
 use fuse_answer::{Answer, head_of};
 use fuse_keeper::{Done, Keeper, MAX_GROUP, classify};
-use fuse_request::{
-    Class, Request, decode, has_zero_unique, is_message, one_cut, unique_of,
-};
+use fuse_request::{Class, Request, decode, has_zero_unique, is_message, one_cut, unique_of};
 use fuse_wire::{Id, Moment};
 use std::alloc::{AllocError, Global};
 use std::vec::IntoIter;
@@ -125,7 +123,10 @@ fn take_in<'a, K: Keeper>(group: &mut Group<'a>, event: &'a Event) -> Result<boo
 
 /// Reads a group off the first events: at most 16 kept ones, up to one that stands apart, and none
 /// after a crash.
-pub(crate) fn gather<'a, K: Keeper>(alloc: Global, events: &'a [Event]) -> Result<Group<'a>, AllocError>
+pub(crate) fn gather<'a, K: Keeper>(
+    alloc: Global,
+    events: &'a [Event],
+) -> Result<Group<'a>, AllocError>
     ensures within { IfOk result (λ r. length r.classes.items ≤ length events.now) }
     ensures gathers { IfOk result (λ r. Gathers K.model (take (length r.classes.items) events.now)
         r.classes.items r.taken.items r.died) }
