@@ -1,7 +1,8 @@
 use Rattle.std.proofs.Common.{◌≡◌, Bool, true, false, refl}
 use Rattle.std.specs.Prelude.{not, ◌&&◌, ◌||◌}
 use Rattle.std.proofs.lemmas.List.Elements.{All-map, All-weaker}
-use Rattle.fuse_request.specs.Opcodes.{OpcodeSet, silent, in_profile}
+use Rattle.fuse_wire.specs.Opcodes.{silent}
+use Rattle.fuse_request.specs.Opcodes.{OpcodeSet, in_profile}
 use Rattle.fuse_request.specs.Act.{Act, opcode_of, IsKept, IsKeptFor}
 use Rattle.fuse_keeper.specs.Group.{entry_of, HasId, IsKept as IsKeptBy}
 use Rattle.store_tests.proofs.groups.ask_all.Goals as goal
@@ -21,5 +22,5 @@ perform-requires-clause-named g c = All-map HasId entry_of c.args.group.now c.re
 pub perform-requires-clause-kept : goal.perform-requires-clause-kept
 perform-requires-clause-kept g c =
     All-map (IsKeptBy g.K.Keeper.model) entry_of c.args.group.now
-    (All-weaker (λ p. IsKept (entry_of p).asked.act) (λ p. IsKeptBy g.K.Keeper.model (entry_of p)) c.args.group.now
-    (λ p h. kept_by_any g.K.Keeper.model.serves (entry_of p).asked.act h) c.requires.kept)
+    (All-weaker (λ p. IsKept (entry_of p).asked.act) (λ p. IsKeptBy g.K.Keeper.model (entry_of p))
+    (λ p h. kept_by_any g.K.Keeper.model.serves (entry_of p).asked.act h) c.args.group.now c.requires.kept)
