@@ -72,3 +72,8 @@ returns-in-Err-clause-store g c = λ is s so none clean.
     c.in-Some.is (c.counts.ensures.looked.called.honest ((g.met.K.Keeper.sound c.counts.new.self).clean_is_honest clean))
     (λ good. c.in-Ok.ensures.tree_stands good s [] [] so none)
     (λ stands. c.in-Err.ensures.looked.called.fault clean s _ _ stands) c.in-Ok.ensures.opened c.counts.ensures.same c.of-in-Err.ensures
+
+pub unreachable-requires-in-Err-ZeroUnique : goal.unreachable-requires-in-Err-ZeroUnique
+unreachable-requires-in-Err-ZeroUnique g c =
+    let e = c.in-Err-ZeroUnique in
+    never_unfit e.field-0 c.args.events.now c.requires.fit e.ensures.fault_causes (subst IsUnfit (sym e.field-0-is) tt)
