@@ -22,7 +22,7 @@ PLACES = {"sessions": 400, "events": 800}
 STEP = 7
 
 # The modules that these use. The crate's other modules are left out of the copy.
-BELOW = {"hex", "keepers", "requests", "run", "texts"}
+BELOW = {"hex", "keepers", "links", "requests", "run", "texts"}
 
 ALLOCATE = """
 fn allocate(alloc: std::alloc::Global, count: usize) -> Result<(), std::alloc::AllocError> {
