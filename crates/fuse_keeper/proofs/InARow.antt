@@ -8,8 +8,8 @@ use Rattle.fuse_answer.specs.Said.{Said}
 use Rattle.fuse_keeper.specs.Model.{Model}
 use Rattle.fuse_keeper.specs.declared.keeper.Done.{Done}
 use Rattle.fuse_keeper.specs.declared.group.Record.{Record}
-use Rattle.fuse_keeper.specs.History.{Entry, entry_id, History, IsUnsettled}
-use Rattle.fuse_keeper.specs.Stands.{Records, without, Stands, AreThese, PerformedBy}
+use Rattle.fuse_keeper.specs.History.{Entry, entry_id, IsUnsettled}
+use Rattle.fuse_keeper.specs.Stands.{Records, Content, Standing, without, StandsAt, AreThese, PerformedBy}
 use Rattle.fuse_keeper.specs.Group.{entry_of, entries_of}
 use Rattle.fuse_keeper.specs.Taking.{TookBy, Took, TakesAll}
 use Rattle.fuse_keeper.specs.Plain.{over}
@@ -17,113 +17,105 @@ use Rattle.fuse_keeper.proofs.Histories.{map-append}
 use Rattle.fuse_keeper.proofs.Performing.{PerformedBy-same, none_yet, one_more}
 use Rattle.fuse_keeper.proofs.Overlays.{over-same, without-same}
 
-took_same_by : (M : Model) → (o : Option Said) (rows : M.Rows) (records : Records) (rows' : M.Rows) (records' : Records) (e : Entry) (x : M.Rows)
-    (r : Records) (done : Done)
-    → AreThese M rows records rows' records' → TookBy M o rows records e x r done → TookBy M o rows' records' e x r done
-took_same_by M (Some known) rows records rows' records' e x r done same took = (took.0 ∙ sym same.0, λ i. took.1 i ∙ sym (same.1 i), took.2, took.3)
-took_same_by M None rows records rows' records' e x r done same took = (
+took_same_by : (M : Model) → (o : Option Said) (old new : Content M) (e : Entry) (after : Content M) (done : Done)
+    → AreThese M old.rows old.records new.rows new.records → TookBy M o old e after done → TookBy M o new e after done
+took_same_by M (Some known) old new e after done same took = (took.0 ∙ sym same.0, λ i. took.1 i ∙ sym (same.1 i), took.2, took.3)
+took_same_by M None old new e after done same took = (
   λ s good is. took.0 s good (sym same.0 ∙ is),
   λ i. took.1 i ∙ ap (λ o. if entry_id e == i then Some done.answer else o) (sym (same.1 i)),
   took.2,
 )
 
 -- an entry is taken over the same rows and records
-pub took_same : (M : Model) → (rows : M.Rows) (records : Records) (rows' : M.Rows) (records' : Records) (e : Entry) (x : M.Rows) (r : Records) (done : Done)
-    → AreThese M rows records rows' records' → Took M rows records e x r done → Took M rows' records' e x r done
-took_same M rows records rows' records' e x r done same took =
-    subst (λ o. TookBy M o rows' records' e x r done) (sym (same.1 (entry_id e)))
-    (took_same_by M (records (entry_id e)) rows records rows' records' e x r done same took)
+pub took_same : (M : Model) → (old new : Content M) (e : Entry) (after : Content M) (done : Done)
+    → AreThese M old.rows old.records new.rows new.records → Took M old e after done → Took M new e after done
+took_same M old new e after done same took =
+    subst (λ o. TookBy M o new e after done) (sym (same.1 (entry_id e))) (took_same_by M (old.records (entry_id e)) old new e after done same took)
 
-pub none_taken : (M : Model) → (rows : M.Rows) (records : Records) → TakesAll M rows records [] rows records []
-none_taken M rows records = (refl, λ i. refl)
+pub none_taken : (M : Model) → (held : Content M) → TakesAll M held [] held []
+none_taken M held = (refl, λ i. refl)
 
-pub same_taken : (M : Model) → (rows : M.Rows) (records : Records) (rows' : M.Rows) (records' : Records) (es : List Entry) (x : M.Rows) (r : Records)
-    (dones : List Done)
-    → AreThese M rows records rows' records' → TakesAll M rows records es x r dones → TakesAll M rows' records' es x r dones
-same_taken M rows records rows' records' [] x r [] same all = (all.0 ∙ sym same.0, λ i. all.1 i ∙ sym (same.1 i))
-same_taken M rows records rows' records' [] x r (done ∷ dones) same all = absurd all
-same_taken M rows records rows' records' (e ∷ es) x r [] same all = absurd all
-same_taken M rows records rows' records' (e ∷ es) x r (done ∷ dones) same (y, q, took, rest) =
-    (y, q, took_same M rows records rows' records' e y q done same took, rest)
+pub same_taken : (M : Model) → (old new : Content M) (es : List Entry) (after : Content M) (dones : List Done)
+    → AreThese M old.rows old.records new.rows new.records → TakesAll M old es after dones → TakesAll M new es after dones
+same_taken M old new [] after [] same all = (all.0 ∙ sym same.0, λ i. all.1 i ∙ sym (same.1 i))
+same_taken M old new [] after (done ∷ dones) same all = absurd all
+same_taken M old new (e ∷ es) after [] same all = absurd all
+same_taken M old new (e ∷ es) after (done ∷ dones) same (mid, took, rest) = (mid, took_same M old new e mid done same took, rest)
 
 -- what is held after them may be named anew
-pub led_same : (M : Model) → (rows : M.Rows) (records : Records) (es : List Entry) (x : M.Rows) (r : Records) (dones : List Done) (x' : M.Rows) (r' : Records)
-    → AreThese M x r x' r' → TakesAll M rows records es x r dones → TakesAll M rows records es x' r' dones
-led_same M rows records [] x r [] x' r' same all = (same.0 ∙ all.0, λ i. same.1 i ∙ all.1 i)
-led_same M rows records [] x r (done ∷ dones) x' r' same all = absurd all
-led_same M rows records (e ∷ es) x r [] x' r' same all = absurd all
-led_same M rows records (e ∷ es) x r (done ∷ dones) x' r' same (y, q, took, rest) = (y, q, took, led_same M y q es x r dones x' r' same rest)
+pub led_same : (M : Model) → (before : Content M) (es : List Entry) (old : Content M) (dones : List Done) (new : Content M)
+    → AreThese M old.rows old.records new.rows new.records → TakesAll M before es old dones → TakesAll M before es new dones
+led_same M before [] old [] new same all = (same.0 ∙ all.0, λ i. same.1 i ∙ all.1 i)
+led_same M before [] old (done ∷ dones) new same all = absurd all
+led_same M before (e ∷ es) old [] new same all = absurd all
+led_same M before (e ∷ es) old (done ∷ dones) new same (mid, took, rest) = (mid, took, led_same M mid es old dones new same rest)
 
-pub one_more_taken : (M : Model) → (rows : M.Rows) (records : Records) (es : List Entry) (x : M.Rows) (r : Records) (dones : List Done) (e : Entry)
-    (rows' : M.Rows) (records' : Records) (done : Done)
-    → TakesAll M rows records es x r dones → Took M x r e rows' records' done
-    → TakesAll M rows records (es ++ e ∷ []) rows' records' (dones ++ done ∷ [])
-one_more_taken M rows records [] x r [] e rows' records' done all took =
-    (rows', records', took_same M x r rows records e rows' records' done (sym all.0, λ i. sym (all.1 i)) took, (refl, λ i. refl))
-one_more_taken M rows records [] x r (d ∷ dones) e rows' records' done all took = absurd all
-one_more_taken M rows records (o ∷ es) x r [] e rows' records' done all took = absurd all
-one_more_taken M rows records (o ∷ es) x r (d ∷ dones) e rows' records' done (y, q, first, rest) took =
-    (y, q, first, one_more_taken M y q es x r dones e rows' records' done rest took)
+pub one_more_taken : (M : Model) → (before : Content M) (es : List Entry) (mid : Content M) (dones : List Done) (e : Entry) (after : Content M) (done : Done)
+    → TakesAll M before es mid dones → Took M mid e after done → TakesAll M before (es ++ e ∷ []) after (dones ++ done ∷ [])
+one_more_taken M before [] mid [] e after done all took =
+    (after, took_same M mid before e after done (sym all.0, λ i. sym (all.1 i)) took, (refl, λ i. refl))
+one_more_taken M before [] mid (d ∷ dones) e after done all took = absurd all
+one_more_taken M before (o ∷ es) mid [] e after done all took = absurd all
+one_more_taken M before (o ∷ es) mid (d ∷ dones) e after done (next, first, rest) took =
+    (next, first, one_more_taken M next es mid dones e after done rest took)
 
 -- more entries are taken where a group was performed
-taken_after : (M : Model) → (rows : M.Rows) (records : Records) (es : List Entry) (rows' : M.Rows) (records' : Records) (dones : List Done) (s : M.State)
-    (h : History) (t : List ℕ) (before : List Entry) (done_before : List Done)
-    → PerformedBy M (AreThese M rows records) s h t before done_before → All (IsUnsettled t) es → TakesAll M rows records es rows' records' dones
-    → PerformedBy M (AreThese M rows' records') s h t (before ++ es) (done_before ++ dones)
-taken_after M rows records [] rows' records' [] s h t before done_before so fresh all =
-    rw (append-nil before, append-nil done_before) (PerformedBy-same M rows records rows' records' s h t before done_before all so)
-taken_after M rows records [] rows' records' (d ∷ dones) s h t before done_before so fresh all = absurd all
-taken_after M rows records (e ∷ es) rows' records' [] s h t before done_before so fresh all = absurd all
-taken_after M rows records (e ∷ es) rows' records' (d ∷ dones) s h t before done_before so fresh (y, q, took, rest) =
-    let one = one_more M rows records e y q d s h t before done_before (fresh zero e (omega arith)) took so in
-    let whole = taken_after M y q es rows' records' dones s h t (before ++ e ∷ []) (done_before ++ d ∷ []) one
+taken_after : (M : Model) → (held : Content M) (es : List Entry) (after : Content M) (dones : List Done) (at : Standing M) (before : List Entry)
+    (done_before : List Done)
+    → PerformedBy M (AreThese M held.rows held.records) at before done_before → All (IsUnsettled at.settled) es → TakesAll M held es after dones
+    → PerformedBy M (AreThese M after.rows after.records) at (before ++ es) (done_before ++ dones)
+taken_after M held [] after [] at before done_before so fresh all =
+    rw (append-nil before, append-nil done_before) (PerformedBy-same M held after at before done_before all so)
+taken_after M held [] after (d ∷ dones) at before done_before so fresh all = absurd all
+taken_after M held (e ∷ es) after [] at before done_before so fresh all = absurd all
+taken_after M held (e ∷ es) after (d ∷ dones) at before done_before so fresh (mid, took, rest) =
+    let one = one_more M held e mid d at before done_before (fresh zero e (omega arith)) took so in
+    let whole = taken_after M mid es after dones at (before ++ e ∷ []) (done_before ++ d ∷ []) one
     (λ k z below. fresh (suc k) z (omega (arith, below))) rest in
-    subst (λ ds. PerformedBy M (AreThese M rows' records') s h t (before ++ e ∷ es) ds) (append_assoc done_before (d ∷ []) dones)
-    (subst (λ xs. PerformedBy M (AreThese M rows' records') s h t xs ((done_before ++ d ∷ []) ++ dones)) (append_assoc before (e ∷ []) es) whole)
+    subst (λ ds. PerformedBy M (AreThese M after.rows after.records) at (before ++ e ∷ es) ds) (append_assoc done_before (d ∷ []) dones)
+    (subst (λ xs. PerformedBy M (AreThese M after.rows after.records) at xs ((done_before ++ d ∷ []) ++ dones)) (append_assoc before (e ∷ []) es) whole)
 
 -- entries that are taken over rows and records that stand were performed
-pub taken_is_performed : (M : Model) → (rows : M.Rows) (records : Records) (es : List Entry) (rows' : M.Rows) (records' : Records) (dones : List Done)
-    (s : M.State) (h : History) (t : List ℕ)
-    → Stands M rows records s h t → All (IsUnsettled t) es → TakesAll M rows records es rows' records' dones
-    → PerformedBy M (AreThese M rows' records') s h t es dones
-taken_is_performed M rows records es rows' records' dones s h t so fresh all =
-    taken_after M rows records es rows' records' dones s h t [] [] (none_yet M rows records s h t so) fresh all
+pub taken_is_performed : (M : Model) → (before : Content M) (es : List Entry) (after : Content M) (dones : List Done) (at : Standing M)
+    → StandsAt M before at → All (IsUnsettled at.settled) es → TakesAll M before es after dones
+    → PerformedBy M (AreThese M after.rows after.records) at es dones
+taken_is_performed M before es after dones at so fresh all = taken_after M before es after dones at [] [] (none_yet M before at so) fresh all
 
 -- ---- steps of a loop
 
 -- nothing is taken yet
 pub none_taken_yet : (M : Model) → (rows rows' : M.Rows) (records : Records) (added : List Record) (dones : List Done) → rows' ≡ rows → added ≡ []
-    → dones ≡ [] → TakesAll M rows records [] rows' (over added records) dones
+    → dones ≡ [] → TakesAll M (record { rows = rows; records = records }) [] (record { rows = rows'; records = over added records }) dones
 none_taken_yet M rows rows' records added dones is none empty =
-    subst (λ (ds : List Done). TakesAll M rows records [] rows' (over added records) ds) (sym empty) (is, λ i. ap (λ l. over l records i) none)
+    subst (λ (ds : List Done). TakesAll M (record { rows = rows; records = records }) [] (record { rows = rows'; records = over added records }) ds)
+    (sym empty) (is, λ i. ap (λ l. over l records i) none)
 
 -- one more of a group
-pub one_more_taken_of : (M : Model) → (group : List (Request × Moment)) (i : ℕ) (d : Request × Moment) (rows : M.Rows) (records : Records) (x : M.Rows)
-    (r : Records) (rows' : M.Rows) (records' : Records) (done : Done) (dones dones' : List Done)
-    → i < length group → Took M x r (entry_of (get_or group i d)) rows' records' done
-    → TakesAll M rows records (entries_of (take i group)) x r dones
-    → dones' ≡ dones ++ done ∷ [] → TakesAll M rows records (entries_of (take (i + 1) group)) rows' records' dones'
-one_more_taken_of M group i d rows records x r rows' records' done dones dones' lt took so_far is =
+pub one_more_taken_of : (M : Model) → (group : List (Request × Moment)) (i : ℕ) (d : Request × Moment) (before mid after : Content M) (done : Done)
+    (dones dones' : List Done)
+    → i < length group → Took M mid (entry_of (get_or group i d)) after done → TakesAll M before (entries_of (take i group)) mid dones
+    → dones' ≡ dones ++ done ∷ [] → TakesAll M before (entries_of (take (i + 1) group)) after dones'
+one_more_taken_of M group i d before mid after done dones dones' lt took so_far is =
     let all = ap entries_of (take_more group i d lt) ∙ map-append entry_of (take i group) (get_or group i d ∷ []) in
-    rw (is, all) (one_more_taken M rows records (entries_of (take i group)) x r dones (entry_of (get_or group i d)) rows' records' done so_far took)
+    rw (is, all) (one_more_taken M before (entries_of (take i group)) mid dones (entry_of (get_or group i d)) after done so_far took)
 
 -- ---- a keeper in memory
 
 -- over the records that aren't settled, and kept
 pub kept_taken : (M : Model) → (rows : M.Rows) (records : Records) (settled : List ℕ) (added : List Record) (rows' : M.Rows) (reserved records' : Records)
     (es : List Entry) (dones : List Done)
-    → TakesAll M rows (without settled records) es rows' (over added (without settled records)) dones
+    → TakesAll M (record { rows = rows; records = without settled records }) es (record { rows = rows'; records = over added (without settled records) }) dones
     → ((i : ℕ) → reserved i ≡ records i) → ((i : ℕ) → records' i ≡ over added (without settled reserved) i)
-    → TakesAll M rows (without settled records) es rows' records' dones
+    → TakesAll M (record { rows = rows; records = without settled records }) es (record { rows = rows'; records = records' }) dones
 kept_taken M rows records settled added rows' reserved records' es dones all same are =
-    led_same M rows (without settled records) es rows' (over added (without settled records)) dones rows' records'
+    led_same M (record { rows = rows; records = without settled records }) es (record { rows = rows'; records = over added (without settled records) }) dones
+    (record { rows = rows'; records = records' })
     (refl, λ i. are i ∙ over-same added (without settled reserved) (without settled records) i (without-same settled reserved records i (same i))) all
 
 -- whichever way what it held is named
-pub named_taken : (M : Model) → (rows : M.Rows) (records : Records) (settled : List ℕ) (x : M.Rows) (r : Records) (es : List Entry) (rows' : M.Rows)
-    (records' : Records) (dones : List Done)
-    → AreThese M rows records x r → TakesAll M rows (without settled records) es rows' records' dones
-    → TakesAll M x (without settled r) es rows' records' dones
-named_taken M rows records settled x r es rows' records' dones same all =
-    same_taken M rows (without settled records) x (without settled r) es rows' records' dones
-    (same.0, λ i. without-same settled r records i (same.1 i)) all
+pub named_taken : (M : Model) → (old new : Content M) (settled : List ℕ) (es : List Entry) (after : Content M) (dones : List Done)
+    → AreThese M old.rows old.records new.rows new.records → TakesAll M (record old { records = without settled old.records }) es after dones
+    → TakesAll M (record new { records = without settled new.records }) es after dones
+named_taken M old new settled es after dones same all =
+    same_taken M (record old { records = without settled old.records }) (record new { records = without settled new.records }) es after dones
+    (same.0, λ i. without-same settled new.records old.records i (same.1 i)) all

@@ -7,8 +7,8 @@ use Rattle.fuse_answer.specs.Said.{Said}
 use Rattle.fuse_keeper.specs.Model.{Model, IsRowed}
 use Rattle.fuse_keeper.specs.declared.group.Record.{Record}
 use Rattle.fuse_keeper.specs.declared.keeper.Done.{Done}
-use Rattle.fuse_keeper.specs.History.{Entry, entry_id, History, next_state, is_in, ids_in, Includes}
-use Rattle.fuse_keeper.specs.Stands.{Records, Stands, StandsBy, AreThese, PerformedBy, OthersStay, without}
+use Rattle.fuse_keeper.specs.History.{Entry, entry_id, next_state, is_in, ids_in, Includes}
+use Rattle.fuse_keeper.specs.Stands.{Records, Content, Standing, StandsAt, StandsBy, AreThese, PerformedBy, OthersStay, without}
 use Rattle.fuse_keeper.specs.Group.{entry_of}
 use Rattle.fuse_keeper.specs.Taking.{Acts, Took, TookBy}
 use Rattle.fuse_keeper.specs.Plain.{listed, first_of, over, record_ids}
@@ -69,7 +69,7 @@ without-same settled records others i is = ap (λ (o : Option Said). if is_in se
 
 pub took_known : (M : Model) → (rows : M.Rows) (records : Records) (e : Entry) (known : Said) (done : Done) → records (entry_id e) ≡ Some known
     → done.answer ≡ known → done.repeated ≡ true
-    → Took M rows records e rows records done
+    → Took M (record { rows = rows; records = records }) e (record { rows = rows; records = records }) done
 took_known M rows records e known done is answer repeated =
     rw is (refl, λ i. refl, answer, repeated)
 
@@ -77,28 +77,27 @@ pub took_new : (M : Model) → (rows : M.Rows) (base : Records) (added : List Re
     (done : Done)
     → over added base (entry_id e) ≡ None → Acts M rows e rows' done.answer → added' ≡ added ++ r ∷ [] → r.id ≡ entry_id e → r.answer ≡ done.answer
     → done.repeated ≡ false
-    → Took M rows (over added base) e rows' (over added' base) done
+    → Took M (record { rows = rows; records = over added base }) e (record { rows = rows'; records = over added' base }) done
 took_new M rows base added e rows' r added' done none acts is id answer repeated =
     rw none (acts, λ i. ap (λ l. over l base i) is ∙ one_more_over added r base i (ap (over added base) id ∙ none) ∙ rw (id, answer), repeated)
 
-took_rowed_by : (M : Model) → (o : Option Said) (rows : M.Rows) (records : Records) (e : Entry) (rows' : M.Rows) (records' : Records) (done : Done)
-    → TookBy M o rows records e rows' records' done → IsRowed M rows → IsRowed M rows'
+took_rowed_by : (M : Model) → (o : Option Said) (before : Content M) (e : Entry) (after : Content M) (done : Done)
+    → TookBy M o before e after done → IsRowed M before.rows → IsRowed M after.rows
 unfolding IsRowed
-took_rowed_by M (Some known) rows records e rows' records' done took (s, tree, is) = (s, tree, took.0 ∙ is)
-took_rowed_by M None rows records e rows' records' done took (s, tree, is) =
+took_rowed_by M (Some known) before e after done took (s, tree, is) = (s, tree, took.0 ∙ is)
+took_rowed_by M None before e after done took (s, tree, is) =
     let acted = took.0 s tree is in
     (next_state M s e, acted.tree, acted.rows_are)
 
 -- the rows stay those of a tree
-pub took_rowed : (M : Model) → (rows : M.Rows) (records : Records) (e : Entry) (rows' : M.Rows) (records' : Records) (done : Done)
-    → Took M rows records e rows' records' done → IsRowed M rows → IsRowed M rows'
-took_rowed M rows records e rows' records' done took so = took_rowed_by M (records (entry_id e)) rows records e rows' records' done took so
+pub took_rowed : (M : Model) → (before : Content M) (e : Entry) (after : Content M) (done : Done)
+    → Took M before e after done → IsRowed M before.rows → IsRowed M after.rows
+took_rowed M before e after done took so = took_rowed_by M (before.records (entry_id e)) before e after done took so
 
 -- of an entry of a group
-pub took_rowed_at : (M : Model) → (group : List (Request × Moment)) (i : ℕ) (d : Request × Moment) (rows : M.Rows) (records : Records) (rows' : M.Rows)
-    (records' : Records) (done : Done)
-    → Took M rows records (entry_of (get_or group i d)) rows' records' done → IsRowed M rows → IsRowed M rows'
-took_rowed_at M group i d rows records rows' records' done took so = took_rowed M rows records (entry_of (get_or group i d)) rows' records' done took so
+pub took_rowed_at : (M : Model) → (group : List (Request × Moment)) (i : ℕ) (d : Request × Moment) (before after : Content M) (done : Done)
+    → Took M before (entry_of (get_or group i d)) after done → IsRowed M before.rows → IsRowed M after.rows
+took_rowed_at M group i d before after done took so = took_rowed M before (entry_of (get_or group i d)) after done took so
 
 -- ---- what is known of an id
 
@@ -118,12 +117,13 @@ known_old added settled records id o none isnt is =
 -- ---- steps
 
 -- nothing is taken yet
-pub begun : (M : Model) → (rows rows' : M.Rows) (records : Records) (added : List Record) (dones : List Done) (s : M.State) (h : History) (t : List ℕ)
+pub begun : (M : Model) → (rows rows' : M.Rows) (records : Records) (added : List Record) (dones : List Done) (at : Standing M)
     → rows' ≡ rows → added ≡ [] → dones ≡ []
-    → Stands M rows records s h t → PerformedBy M (AreThese M rows' (over added records)) s h t [] dones
-begun M rows rows' records added dones s h t is none empty so =
-    subst (λ (ds : List Done). PerformedBy M (AreThese M rows' (over added records)) s h t [] ds) (sym empty)
-    (PerformedBy-same M rows records rows' (over added records) s h t [] [] (is, λ i. ap (λ l. over l records i) none) (none_yet M rows records s h t so))
+    → StandsAt M (record { rows = rows; records = records }) at → PerformedBy M (AreThese M rows' (over added records)) at [] dones
+begun M rows rows' records added dones at is none empty so =
+    let old : Content M = record { rows = rows; records = records } in
+    subst (λ (ds : List Done). PerformedBy M (AreThese M rows' (over added records)) at [] ds) (sym empty)
+    (PerformedBy-same M old (record { rows = rows'; records = over added records }) at [] [] (is, λ i. ap (λ l. over l records i) none) (none_yet M old at so))
 
 gone_step_by : (b c : Bool) (o o' : Option Said) → o' ≡ (if b then None else o) → (if c then None else o') ≡ (if (if b then true else c) then None else o)
 gone_step_by true true o o' is = refl
@@ -176,14 +176,16 @@ ids_pushed added new r k i same is there = elim (tested (is_in (record_ids added
 -- ---- a group over the records that aren't settled
 
 pub performed_settled : (M : Model) → (rows : M.Rows) (records : Records) (settled : List ℕ) (added : List Record) (rows' : M.Rows)
-    (reserved records' : Records) (s : M.State) (h : History) (t : List ℕ) (es : List Entry) (dones : List Done)
-    → Includes t settled → StandsBy M (AreThese M rows records) s h t
-    → (Stands M rows (without settled records) s h t → PerformedBy M (AreThese M rows' (over added (without settled records))) s h t es dones)
+    (reserved records' : Records) (at : Standing M) (es : List Entry) (dones : List Done)
+    → Includes at.settled settled → StandsBy M (AreThese M rows records) at.state at.history at.settled
+    → (StandsAt M (record { rows = rows; records = without settled records }) at
+    → PerformedBy M (AreThese M rows' (over added (without settled records))) at es dones)
     → ((i : ℕ) → reserved i ≡ records i) → ((i : ℕ) → records' i ≡ over added (without settled reserved) i)
-    → PerformedBy M (AreThese M rows' records') s h t es dones
-performed_settled M rows records settled added rows' reserved records' s h t es dones within so does same are =
-    let rest = Stands-without M rows records s h t settled (without settled records) within (λ i. refl) (these_stand M rows records s h t so) in
-    PerformedBy-same M rows' (over added (without settled records)) rows' records' s h t es dones
+    → PerformedBy M (AreThese M rows' records') at es dones
+performed_settled M rows records settled added rows' reserved records' at es dones within so does same are =
+    let rest = Stands-without M rows records at.state at.history at.settled settled (without settled records) within (λ i. refl)
+    (these_stand M rows records at.state at.history at.settled so) in
+    PerformedBy-same M (record { rows = rows'; records = over added (without settled records) }) (record { rows = rows'; records = records' }) at es dones
     (refl, λ i. are i ∙ over-same added (without settled reserved) (without settled records) i (without-same settled reserved records i (same i)))
     (does rest)
 

@@ -8,7 +8,7 @@ use Rattle.fuse_answer.specs.Said.{Said}
 use Rattle.fuse_keeper.specs.Model.{Model}
 use Rattle.fuse_keeper.specs.declared.keeper.Done.{Done}
 use Rattle.fuse_keeper.specs.History.{Entry, entry_id, History, said, add, grown, is_in, ids_in, Includes, IsUnsettled, repeats}
-use Rattle.fuse_keeper.specs.Stands.{Records, Stands, StandsBy, AreThese, PerformedBy}
+use Rattle.fuse_keeper.specs.Stands.{Records, Content, Standing, Stands, StandsAt, StandsBy, AreThese, PerformedBy}
 use Rattle.fuse_keeper.specs.Group.{entry_of, entries_of}
 use Rattle.fuse_keeper.specs.Taking.{Took}
 use Rattle.fuse_keeper.proofs.Histories.{same_id, has-add, said-grown, grown-append, repeats-append, map-append}
@@ -41,33 +41,37 @@ pub stand_so : (M : Model) → (rows : M.Rows) (records : Records) (s : M.State)
     → StandsBy M (AreThese M rows records) s h t
 stand_so M rows records s h t so = record { rows = rows; records = records; held = (refl, λ i. refl); stands = so }
 
-pub PerformedBy-same : (M : Model) → (rows : M.Rows) (records : Records) (rows' : M.Rows) (records' : Records) (s : M.State) (h : History) (t : List ℕ)
-    (es : List Entry) (dones : List Done)
-    → AreThese M rows records rows' records' → PerformedBy M (AreThese M rows records) s h t es dones → PerformedBy M (AreThese M rows' records') s h t es dones
-PerformedBy-same M rows records rows' records' s h t es dones same does = record {
-  stands = stand_so M rows' records' s (grown h es) t (Stands-same M rows records rows' records' s (grown h es) t same
-      (these_stand M rows records s (grown h es) t does.stands));
-  answers = does.answers;
-  repeated = does.repeated;
-}
+pub PerformedBy-same : (M : Model) → (old new : Content M) (at : Standing M) (es : List Entry) (dones : List Done)
+    → AreThese M old.rows old.records new.rows new.records → PerformedBy M (AreThese M old.rows old.records) at es dones
+    → PerformedBy M (AreThese M new.rows new.records) at es dones
+PerformedBy-same M old new at es dones same does =
+    let h = grown at.history es in
+    record {
+      stands = stand_so M new.rows new.records at.state h at.settled (Stands-same M old.rows old.records new.rows new.records at.state h at.settled same
+          (these_stand M old.rows old.records at.state h at.settled does.stands));
+      answers = does.answers;
+      repeated = does.repeated;
+    }
 
 -- ---- one after another
 
 -- nothing performed yet
-pub none_yet : (M : Model) → (rows : M.Rows) (records : Records) (s : M.State) (h : History) (t : List ℕ) → Stands M rows records s h t
-    → PerformedBy M (AreThese M rows records) s h t [] []
-none_yet M rows records s h t so = record { stands = stand_so M rows records s h t so; answers = refl; repeated = refl }
+pub none_yet : (M : Model) → (held : Content M) (at : Standing M) → StandsAt M held at → PerformedBy M (AreThese M held.rows held.records) at [] []
+none_yet M held at so =
+    record { stands = stand_so M held.rows held.records at.state at.history at.settled so; answers = refl; repeated = refl }
 
 -- one more
-pub one_more : (M : Model) → (rows : M.Rows) (records : Records) (e : Entry) (rows' : M.Rows) (records' : Records) (done : Done) (s : M.State) (h : History)
-    (t : List ℕ) (es : List Entry) (dones : List Done)
-    → is_in t (entry_id e) ≡ false → Took M rows records e rows' records' done → PerformedBy M (AreThese M rows records) s h t es dones
-    → PerformedBy M (AreThese M rows' records') s h t (es ++ e ∷ []) (dones ++ done ∷ [])
-one_more M rows records e rows' records' done s h t es dones fresh took so_far =
-    let step = advanced M rows records e rows' records' done s (grown h es) t fresh took (these_stand M rows records s (grown h es) t so_far.stands) in
+pub one_more : (M : Model) → (before : Content M) (e : Entry) (after : Content M) (done : Done) (at : Standing M) (es : List Entry) (dones : List Done)
+    → IsUnsettled at.settled e → Took M before e after done → PerformedBy M (AreThese M before.rows before.records) at es dones
+    → PerformedBy M (AreThese M after.rows after.records) at (es ++ e ∷ []) (dones ++ done ∷ [])
+one_more M before e after done at es dones fresh took so_far =
+    let s = at.state in
+    let h = at.history in
+    let step = advanced M before e after done (record at { history = grown h es }) fresh took
+    (these_stand M before.rows before.records s (grown h es) at.settled so_far.stands) in
     let grows = grown-append h es (e ∷ []) in
     record {
-      stands = rw grows (stand_so M rows' records' s (add (grown h es) e) t step.stands);
+      stands = rw grows (stand_so M after.rows after.records s (add (grown h es) e) at.settled step.stands);
       answers = map-append (λ d. Some d.answer) dones (done ∷ []) ∙ ap (λ r. r ++ Some done.answer ∷ []) (so_far.answers ∙ told_is M s h es)
           ∙ ap (λ o. told M s h es ++ o ∷ []) (sym step.answer) ∙ sym (told-append M s h es e) ∙ sym (told_is M s h (es ++ e ∷ []));
       repeated = map-append (λ d. d.repeated) dones (done ∷ []) ∙ ap (λ r. r ++ done.repeated ∷ []) so_far.repeated
@@ -82,16 +86,15 @@ entry_at_place P (x ∷ group) zero d lt each = each zero (entry_of x) (omega ar
 entry_at_place P (x ∷ group) (suc i) d lt each = entry_at_place P group i d (omega arith) (λ k z below. each (suc k) z (omega (arith, below)))
 
 -- one more of a group
-pub one_more_of : (M : Model) → (group : List (Request × Moment)) (i : ℕ) (d : Request × Moment) (rows : M.Rows) (records : Records) (rows' : M.Rows)
-    (records' : Records) (done : Done) (s : M.State) (h : History) (t : List ℕ) (dones dones' : List Done)
-    → i < length group → All (IsUnsettled t) (entries_of group) → Took M rows records (entry_of (get_or group i d)) rows' records' done
-    → PerformedBy M (AreThese M rows records) s h t (entries_of (take i group)) dones
-    → dones' ≡ dones ++ done ∷ [] → PerformedBy M (AreThese M rows' records') s h t (entries_of (take (i + 1) group)) dones'
-one_more_of M group i d rows records rows' records' done s h t dones dones' lt fresh took so_far is =
+pub one_more_of : (M : Model) → (group : List (Request × Moment)) (i : ℕ) (d : Request × Moment) (before after : Content M) (done : Done) (at : Standing M)
+    (dones dones' : List Done)
+    → i < length group → All (IsUnsettled at.settled) (entries_of group) → Took M before (entry_of (get_or group i d)) after done
+    → PerformedBy M (AreThese M before.rows before.records) at (entries_of (take i group)) dones
+    → dones' ≡ dones ++ done ∷ [] → PerformedBy M (AreThese M after.rows after.records) at (entries_of (take (i + 1) group)) dones'
+one_more_of M group i d before after done at dones dones' lt fresh took so_far is =
     let e = entry_of (get_or group i d) in
     let all = ap entries_of (take_more group i d lt) ∙ map-append entry_of (take i group) (get_or group i d ∷ []) in
-    rw (is, all) (one_more M rows records e rows' records' done s h t (entries_of (take i group)) dones (entry_at_place (IsUnsettled t) group i d lt fresh) took
-    so_far)
+    rw (is, all) (one_more M before e after done at (entries_of (take i group)) dones (entry_at_place (IsUnsettled at.settled) group i d lt fresh) took so_far)
 
 -- ---- the ids of a group
 

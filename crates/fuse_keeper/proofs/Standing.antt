@@ -4,8 +4,9 @@ use Rattle.std.proofs.Common.{arith}
 use Rattle.fuse_answer.specs.Said.{Said}
 use Rattle.fuse_keeper.specs.Model.{Model, IsRowed}
 use Rattle.fuse_keeper.specs.declared.keeper.Done.{Done}
-use Rattle.fuse_keeper.specs.History.{Entry, entry_id, History, answer_to, has, after, said, add, is_in, Includes}
-use Rattle.fuse_keeper.specs.Stands.{Records, Stands, AreThese}
+use Rattle.fuse_keeper.specs.History.{Entry, entry_id, History, answer_to, has, after, said, add, is_in, Includes, IsUnsettled}
+use Rattle.fuse_keeper.specs.History as history
+use Rattle.fuse_keeper.specs.Stands.{Records, Content, Standing, Stands, StandsAt, AreThese}
 use Rattle.fuse_keeper.specs.Taking.{ActedOn, TookBy, Took}
 use Rattle.fuse_keeper.proofs.Histories.{tested, after-append, said_none, said-append_old, said-append_new, Distinct-append, add_old, add_new, same_id, found}
 use Rattle.fuse_keeper.proofs.Histories.{isnt_there, no_history, nothing_said, Distinct-none}
@@ -128,31 +129,31 @@ Stands-settled M rows records s h t more within so = record {
 -- ---- one entry taken
 
 -- what one entry leads to
-pub record Advanced (M : Model) (rows' : M.Rows) (records' : Records) (s : M.State) (h : History) (t : List ℕ) (e : Entry) (done : Done) : Type 0 where
-  pub stands : Stands M rows' records' s (add h e) t
-  pub answer : said M s (add h e) (entry_id e) ≡ Some done.answer
-  pub repeated : done.repeated ≡ has h (entry_id e)
+pub record Advanced (M : Model) (after : Content M) (at : Standing M) (e : Entry) (done : Done) : Type 0 where
+  pub stands : Stands M after.rows after.records at.state (add at.history e) at.settled
+  pub answer : said M at.state (add at.history e) (entry_id e) ≡ Some done.answer
+  pub repeated : done.repeated ≡ has at.history (entry_id e)
 
-advanced_by : (M : Model) → (o : Option Said) (rows : M.Rows) (records : Records) (e : Entry) (rows' : M.Rows) (records' : Records) (done : Done) (s : M.State)
-    (h : History) (t : List ℕ)
-    → is_in t (entry_id e) ≡ false → records (entry_id e) ≡ o → TookBy M o rows records e rows' records' done → Stands M rows records s h t
-    → Advanced M rows' records' s h t e done
-advanced_by M (Some known) rows records e rows' records' done s h t fresh is took so =
+advanced_by : (M : Model) → (o : Option Said) (before : Content M) (e : Entry) (after : Content M) (done : Done) (at : Standing M)
+    → IsUnsettled at.settled e → before.records (entry_id e) ≡ o → TookBy M o before e after done → StandsAt M before at → Advanced M after at e done
+advanced_by M (Some known) before e after done at fresh is took so =
     let says = sym (so.kept (entry_id e) fresh) ∙ is in
-    let there = found M s h (entry_id e) known says in
-    let same = Stands-same M rows records rows' records' s h t (took.0, took.1) so in
+    let there = found M at.state at.history (entry_id e) known says in
+    let same = Stands-same M before.rows before.records after.rows after.records at.state at.history at.settled (took.0, took.1) so in
     record {
-      stands = rw (add_old h e there) same;
-      answer = rw (add_old h e there, took.2) says;
+      stands = rw (add_old at.history e there) same;
+      answer = rw (add_old at.history e there, took.2) says;
       repeated = took.3 ∙ sym there;
     }
-advanced_by M None rows records e rows' records' done s h t fresh is took so =
+advanced_by M None before e after done at fresh is took so =
+    let s = at.state in
+    let h = at.history in
     let says = sym (so.kept (entry_id e) fresh) ∙ is in
     let none = isnt_there M s h (entry_id e) says in
-    let acted = took.0 (after M s h) so.tree so.rows_are in
-    let stands = Stands-more M rows records s h t e rows' records' done.answer none so acted took.1 in
+    let acted = took.0 (history.after M s h) so.tree so.rows_are in
+    let stands = Stands-more M before.rows before.records s h at.settled e after.rows after.records done.answer none so acted took.1 in
     let new : said M s (h ++ e ∷ []) (entry_id e) ≡ Some done.answer =
-    said-append_new M s h e (entry_id e) none ∙ ap (λ (b : Bool). if b then Some (answer_to M (after M s h) e) else None) (same_id (entry_id e))
+    said-append_new M s h e (entry_id e) none ∙ ap (λ (b : Bool). if b then Some (answer_to M (history.after M s h) e) else None) (same_id (entry_id e))
     ∙ ap Some (sym acted.answer_is) in
     record {
       stands = rw (add_new h e none) stands;
@@ -160,8 +161,6 @@ advanced_by M None rows records e rows' records' done s h t fresh is took so =
       repeated = took.2 ∙ sym none;
     }
 
-pub advanced : (M : Model) → (rows : M.Rows) (records : Records) (e : Entry) (rows' : M.Rows) (records' : Records) (done : Done) (s : M.State) (h : History)
-    (t : List ℕ)
-    → is_in t (entry_id e) ≡ false → Took M rows records e rows' records' done → Stands M rows records s h t → Advanced M rows' records' s h t e done
-advanced M rows records e rows' records' done s h t fresh took so =
-    advanced_by M (records (entry_id e)) rows records e rows' records' done s h t fresh refl took so
+pub advanced : (M : Model) → (before : Content M) (e : Entry) (after : Content M) (done : Done) (at : Standing M)
+    → IsUnsettled at.settled e → Took M before e after done → StandsAt M before at → Advanced M after at e done
+advanced M before e after done at fresh took so = advanced_by M (before.records (entry_id e)) before e after done at fresh refl took so

@@ -34,7 +34,7 @@ StandsFor {M} k s h t = StandsBy M k.holds s h t
 
 -- a group was performed: the history grew by it, and each answer is the one said in it
 abbrev pub Performed : {M : Model} → KeeperState M → M.State → History → List ℕ → List Entry → List Done → Type 0
-Performed {M} k s h t group dones = PerformedBy M k.holds s h t group dones
+Performed {M} k s h t group dones = PerformedBy M k.holds (record { state = s; history = h; settled = t }) group dones
 
 -- whatever a crash leaves is whole, and of this kind
 abbrev pub Leaves : {M : Model} → KeeperState M → (M.Rows → Records → Type 0) → Type 0
@@ -98,7 +98,7 @@ pub record HoldsTaken {M : Model} (k : KeeperState M) (before : M.Rows) (others 
   pub rows : M.Rows
   pub records : Records
   pub held : k.holds rows records
-  pub taken : TakesAll M before others group rows records dones
+  pub taken : TakesAll M (record { rows = before; records = others }) group (record { rows = rows; records = records }) dones
 
 -- the settled records go first, then the entries act or repeat in order, whatever history it stands for
 abbrev pub ActsOn : {M : Model} → KeeperState M → KeeperState M → List ℕ → List Entry → List Done → Type 0
@@ -122,7 +122,8 @@ KeepsLots old new settled group = Reports old new (λ rows records. RecordsUnder
 -- a crash leaves the group out or in
 abbrev pub LeavesGroup : {M : Model} → KeeperState M → KeeperState M → List ℕ → List Entry → Type 0
 LeavesGroup {M} old new settled group = (s : M.State) (h : History) (t : List ℕ) → StandsFor old s h t
-    → Includes t settled → All (IsUnsettled t) group → IsFirm old → Leaves new (StandsForEither M s h t s (grown h group) t)
+    → Includes t settled → All (IsUnsettled t) group → IsFirm old
+    → Leaves new (StandsForEither M (record { state = s; history = h; settled = t }) (record { state = s; history = grown h group; settled = t }))
 
 -- a mount begins
 abbrev pub BeginsMount : {M : Model} → KeeperState M → KeeperState M → Type 0
@@ -135,7 +136,8 @@ DropsLots old new = new.is_honest → WhereHeld old (AreGone new.lots)
 -- a crash leaves the mount of before, or the one that begins
 abbrev pub LeavesMount : {M : Model} → KeeperState M → KeeperState M → Type 0
 LeavesMount {M} old new = (s : M.State) (h : History) (t : List ℕ) → StandsFor old s h t → IsFirm old
-    → Leaves new (StandsForEither M s h t (M.cleared (after M s h)) [] [])
+    → Leaves new (StandsForEither M (record { state = s; history = h; settled = t })
+    (record { state = M.cleared (after M s h); history = []; settled = [] }))
 
 -- a keeper that was opened again over the store of the old one
 pub record Reopened {M : Model} (old new : KeeperState M) : Type 0 where

@@ -10,6 +10,17 @@ use Rattle.fuse_keeper.specs.History.{Entry, entry_id, History, after, said, Dis
 abbrev pub Records : Type 0
 Records = ℕ → Option Said
 
+-- what a keeper holds
+pub record Content (M : Model) : Type 0 where
+  pub rows : M.Rows
+  pub records : Records
+
+-- a start, the requests that were performed since, and the settled ids
+pub record Standing (M : Model) : Type 0 where
+  pub state : M.State
+  pub history : History
+  pub settled : List ℕ
+
 -- the records of ids that aren't settled
 abbrev pub without : List ℕ → Records → Records
 without settled records i = if is_in settled i then None else records i
@@ -23,6 +34,9 @@ pub record Stands (M : Model) (rows : M.Rows) (records : Records) (s : M.State) 
   pub right : (i : ℕ) (a : Said) → records i ≡ Some a → said M s h i ≡ Some a
   pub kept : (i : ℕ) → is_in settled i ≡ false → records i ≡ said M s h i
 
+abbrev pub StandsAt : (M : Model) → Content M → Standing M → Type 0
+StandsAt M held at = Stands M held.rows held.records at.state at.history at.settled
+
 -- what is held stands for the history
 pub record StandsBy (M : Model) (holds : M.Rows → Records → Type 0) (s : M.State) (h : History) (settled : List ℕ) : Type 0 where
   pub rows : M.Rows
@@ -31,11 +45,10 @@ pub record StandsBy (M : Model) (holds : M.Rows → Records → Type 0) (s : M.S
   pub stands : Stands M rows records s h settled
 
 -- a group was performed: the history grew by it, and each answer is the one said in it
-pub record PerformedBy (M : Model) (holds : M.Rows → Records → Type 0) (s : M.State) (h : History) (settled : List ℕ) (group : List Entry)
-    (dones : List Done) : Type 0 where
-  pub stands : StandsBy M holds s (grown h group) settled
-  pub answers : map (λ d. Some d.answer) dones ≡ map (λ e. said M s (grown h group) (entry_id e)) group
-  pub repeated : map (λ d. d.repeated) dones ≡ repeats h group
+pub record PerformedBy (M : Model) (holds : M.Rows → Records → Type 0) (at : Standing M) (group : List Entry) (dones : List Done) : Type 0 where
+  pub stands : StandsBy M holds at.state (grown at.history group) at.settled
+  pub answers : map (λ d. Some d.answer) dones ≡ map (λ e. said M at.state (grown at.history group) (entry_id e)) group
+  pub repeated : map (λ d. d.repeated) dones ≡ repeats at.history group
 
 -- these rows, and under each id this record
 abbrev pub AreThese : (M : Model) → M.Rows → Records → M.Rows → Records → Type 0
@@ -53,9 +66,9 @@ IsFirmBy M holds whole may_leave = (rows : M.Rows) (records : Records) → holds
 abbrev pub KeepsHeldBy : (M : Model) → (M.Rows → Records → Type 0) → (M.Rows → Records → Type 0) → Type 0
 KeepsHeldBy M holds holds' = (rows : M.Rows) (records : Records) → holds rows records → holds' rows records
 
--- it stands for the first history, or for the second one
-abbrev pub StandsForEither : (M : Model) → M.State → History → List ℕ → M.State → History → List ℕ → M.Rows → Records → Type 0
-StandsForEither M s h t s' h' t' x r = Stands M x r s h t ⊎ Stands M x r s' h' t'
+-- these rows and records stand for the first history, or for the second one
+abbrev pub StandsForEither : (M : Model) → Standing M → Standing M → M.Rows → Records → Type 0
+StandsForEither M first second x r = StandsAt M (record { rows = x; records = r }) first ⊎ StandsAt M (record { rows = x; records = r }) second
 
 -- after a group: the records of other ids are those of before, without the settled ones
 abbrev pub OthersStay : Records → List ℕ → List Entry → Records → Type 0

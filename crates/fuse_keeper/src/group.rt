@@ -89,11 +89,18 @@ fn take_one<F: FileSystem>(
 ) -> Result<Done, StoreFault>
     requires ready { F.is_ready draft.old.rows }
     requires kept { IsKept F.model (entry_of (request.now, now)) }
-    ensures took { IfOk result (λ done. Took F.model (F.held draft.old.rows)
-        (over draft.old.added.items (without (ids_of settled.now) (mapped records.now)))
+    ensures took { IfOk result (λ done. Took F.model
+        (record {
+          rows = F.held draft.old.rows;
+          records = over draft.old.added.items
+              (without (ids_of settled.now) (mapped records.now));
+        })
         (entry_of (request.now, now))
-        (F.held draft.new.rows) (over draft.new.added.items
-        (without (ids_of settled.now) (mapped records.now))) done) }
+        (record {
+          rows = F.held draft.new.rows;
+          records = over draft.new.added.items
+              (without (ids_of settled.now) (mapped records.now));
+        }) done) }
     ensures ready { OnOk result (F.is_ready draft.new.rows) }
     ensures ids { OnOk result ((i : ℕ) → is_in (record_ids draft.new.added.items) i ≡ true
         → (is_in (record_ids draft.old.added.items) i ≡ true)
@@ -137,13 +144,20 @@ pub(crate) fn take_all<F: FileSystem>(
         → Stands F.model (F.held rows.now) (without (ids_of settled.now) (mapped records.now)) s h t
         → All (IsUnsettled t) (entries_of group.now)
         → PerformedBy F.model (AreThese F.model (F.held taken.draft.rows)
-        (over taken.draft.added.items (without (ids_of settled.now) (mapped records.now)))) s h t
+        (over taken.draft.added.items (without (ids_of settled.now) (mapped records.now))))
+        (record { state = s; history = h; settled = t })
         (entries_of group.now) taken.dones.items) }
-    ensures taken { IfOk result (λ taken. TakesAll F.model (F.held rows.now)
-        (without (ids_of settled.now) (mapped records.now)) (entries_of group.now)
-        (F.held taken.draft.rows)
-        (over taken.draft.added.items (without (ids_of settled.now) (mapped records.now)))
-        taken.dones.items) }
+    ensures taken { IfOk result (λ taken. TakesAll F.model
+        (record {
+          rows = F.held rows.now;
+          records = without (ids_of settled.now) (mapped records.now);
+        })
+        (entries_of group.now)
+        (record {
+          rows = F.held taken.draft.rows;
+          records = over taken.draft.added.items
+              (without (ids_of settled.now) (mapped records.now));
+        }) taken.dones.items) }
     ensures count { IfOk result (λ taken. length taken.dones.items ≡ length group.now) }
     ensures ready { IfOk result (λ taken. F.is_ready taken.draft.rows) }
     ensures ids { IfOk result (λ taken. Includes (ids_in (entries_of group.now))

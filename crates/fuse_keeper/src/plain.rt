@@ -101,11 +101,16 @@ impl<F: FileSystem> PlainKeeper<F> {
         ensures ok { IfOk result (λ dones. (s : F.model.State) (h : History) (t : List ℕ)
             → StandsBy F.model (plain_holds F.model F.held self.old) s h t
             → Includes t (ids_of settled.now) → All (IsUnsettled t) (entries_of group.now)
-            → PerformedBy F.model (plain_holds F.model F.held self.new) s h t (entries_of group.now)
+            → PerformedBy F.model (plain_holds F.model F.held self.new)
+            (record { state = s; history = h; settled = t }) (entries_of group.now) dones.items) }
+        ensures acts { IfOk result (λ dones. TakesAll F.model
+            (record {
+              rows = F.held self.old.rows;
+              records = without (ids_of settled.now) (mapped self.old.records);
+            })
+            (entries_of group.now)
+            (record { rows = F.held self.new.rows; records = mapped self.new.records })
             dones.items) }
-        ensures acts { IfOk result (λ dones. TakesAll F.model (F.held self.old.rows)
-            (without (ids_of settled.now) (mapped self.old.records)) (entries_of group.now)
-            (F.held self.new.rows) (mapped self.new.records) dones.items) }
         ensures rowed { OnOk result (IsRowed F.model (F.held self.old.rows)
             → IsRowed F.model (F.held self.new.rows)) }
         ensures others { OnOk result (OthersStay (mapped self.old.records) (ids_of settled.now)

@@ -163,7 +163,7 @@ broken_none M holds holds' did p q pending messages exact whole faulted inexact 
 -- ---- a group that wasn't performed
 
 stored : (M : Model) → (s : M.State) (h : History) (c : Bool) (t : List ℕ) (ts : List Timed) (es : List Entry) (x : M.Rows) (r : Records) → es ≡ kept_in M.serves ts
-    → Works M s h ts → StandsForEither M s h t s (grown h es) t x r
+    → Works M s h ts → StandsForEither M (record { state = s; history = h; settled = t }) (record { state = s; history = grown h es; settled = t }) x r
     → Lived M (Stands M x r s) s h c t ts [] []
 stored M s h c t ts es x r is works either = ⊎_elim
     (λ before. lived_none M (Stands M x r s) s h c t ts before)
@@ -179,7 +179,8 @@ pub broken_store : (M : Model) → (holds holds' : KeeperState M) (gave : List M
     → (holds'.is_clean → KeepsHeld holds holds')
     → (holds'.is_clean → (s : M.State) (h : History) (t : List ℕ) → StandsFor holds s h t → faulted)
     → ((s : M.State) (h : History) (t : List ℕ) → StandsFor holds s h t → Includes t pending → All (IsUnsettled t) (entries_of group) → IsFirm holds
-    → Leaves holds' (StandsForEither M s h t s (grown h (entries_of group)) t))
+    → Leaves holds' (StandsForEither M (record { state = s; history = h; settled = t })
+    (record { state = s; history = grown h (entries_of group); settled = t })))
     → Broken holds holds' (Mute (Did gave performed became)) p p pending messages true false faulted
 broken_store M holds holds' gave performed became p pending messages count taken ends group faulted gathers same asked unsent keeps fault crash =
     let ts = gathers.timed in
@@ -205,7 +206,8 @@ broken_store M holds holds' gave performed became p pending messages count taken
           (λ _ clean. (stands_kept M holds holds' s h t (keeps clean) so, fault clean s h t so));
       life = λ clean s h t so within again. lived_none M (StandsFor holds' s) s h p.confirms t ts (stands_kept M holds holds' s h t (keeps clean) so);
       crash = λ honest firm s h t so within again.
-          leaves_map M holds' (StandsForEither M s h t s (grown h (entries_of group)) t) (λ x r. Lived M (Stands M x r s) s h p.confirms t ts [] [])
+          leaves_map M holds' (StandsForEither M (record { state = s; history = h; settled = t })
+          (record { state = s; history = grown h (entries_of group); settled = t })) (λ x r. Lived M (Stands M x r s) s h p.confirms t ts [] [])
           (λ x r either. stored M s h p.confirms t ts (entries_of group) x r es (works_group M s h ts gathers.no_zero gathers.only) either)
           (crash s h t so within (subst (All (IsUnsettled t)) (sym es) (group_unsettled M.serves p.confirms t ts [] again)) firm);
       few = λ honest clean t again h. (pending, few_same M holds' p.confirms t pending ts (few_kept M holds holds' t pending (keeps (clean refl)) h));

@@ -15,7 +15,7 @@ use Rattle.fuse_keeper.specs.History.{Entry, entry_id, History, after, grown, sa
 use Rattle.fuse_keeper.specs.declared.fault.StoreFault.{StoreFault}
 use Rattle.fuse_keeper.specs.Model.{Model, IsRowed}
 use Rattle.fuse_keeper.specs.KeeperState.{KeeperState, StandsFor, IsFirm, Performed, ActsOn, KeepsOthers, Called}
-use Rattle.fuse_keeper.specs.Stands.{Records, Stands, without}
+use Rattle.fuse_keeper.specs.Stands.{Records, Content, Stands, without}
 use Rattle.fuse_keeper.specs.Taking.{Took, TakesAll, GroupsGrow}
 use Rattle.fuse_keeper.specs.Group.{entry_of, entries_of, handed_to, left_pending}
 use Rattle.fuse_keeper.specs.declared.keeper.Done.{Done}
@@ -118,32 +118,30 @@ outcomes_count V (e ∷ run) answers = ap suc (outcomes_count V run (left_by (cl
 
 -- ---- the first entries of a group
 
-record TakenFirst (M : Model) (rows : M.Rows) (records : Records) (first : List Entry) (dones : List Done) : Type 0 where
-  pub x : M.Rows
-  pub r : Records
+record TakenFirst (M : Model) (before : Content M) (first : List Entry) (dones : List Done) : Type 0 where
+  pub held : Content M
   pub some : List Done
   pub others : List Done
   pub parts : dones ≡ some ++ others
-  pub taken : TakesAll M rows records first x r some
+  pub taken : TakesAll M before first held some
 
-taken_more : (M : Model) (rows : M.Rows) (records : Records) (e : Entry) (first : List Entry) (x : M.Rows) (r : Records) (done : Done) (dones : List Done)
-    → Took M rows records e x r done → TakenFirst M x r first dones → TakenFirst M rows records (e ∷ first) (done ∷ dones)
-taken_more M rows records e first x r done dones took more = record {
-  x = more.x;
-  r = more.r;
+taken_more : (M : Model) (before : Content M) (e : Entry) (first : List Entry) (mid : Content M) (done : Done) (dones : List Done)
+    → Took M before e mid done → TakenFirst M mid first dones → TakenFirst M before (e ∷ first) (done ∷ dones)
+taken_more M before e first mid done dones took more = record {
+  held = more.held;
   some = done ∷ more.some;
   others = more.others;
   parts = ap (λ (ds : List Done). done ∷ ds) more.parts;
-  taken = (x, r, took, more.taken);
+  taken = (mid, took, more.taken);
 }
 
-taken_first : (M : Model) (rows : M.Rows) (records : Records) (first later : List Entry) (rows' : M.Rows) (records' : Records) (dones : List Done)
-    → TakesAll M rows records (first ++ later) rows' records' dones → TakenFirst M rows records first dones
-taken_first M rows records [] later rows' records' dones taken =
-    record { x = rows; r = records; some = []; others = dones; parts = refl; taken = (refl, λ i. refl) }
-taken_first M rows records (e ∷ first) later rows' records' [] taken = absurd taken
-taken_first M rows records (e ∷ first) later rows' records' (done ∷ dones) taken =
-    taken_more M rows records e first taken.0 taken.1 done dones taken.2 (taken_first M taken.0 taken.1 first later rows' records' dones taken.3)
+taken_first : (M : Model) (before : Content M) (first later : List Entry) (after : Content M) (dones : List Done)
+    → TakesAll M before (first ++ later) after dones → TakenFirst M before first dones
+taken_first M before [] later after dones taken =
+    record { held = before; some = []; others = dones; parts = refl; taken = (refl, λ i. refl) }
+taken_first M before (e ∷ first) later after [] taken = absurd taken
+taken_first M before (e ∷ first) later after (done ∷ dones) taken =
+    taken_more M before e first taken.0 done dones taken.1 (taken_first M taken.0 first later after dones taken.2)
 
 -- what stands without the records of settled ids
 right_without : (b : Bool) (o : Option Said) (a : Said) → (if b then None else o) ≡ Some a → o ≡ Some a
@@ -175,9 +173,11 @@ first_said : (M : Model) → GroupsGrow M → (k k' : KeeperState M) (handed : L
 unfolding IsRowed
 first_said M grows k k' handed group first later dones acts parts honest s h t so fresh =
     let done = acts honest so.rows so.records so.held (after M s h, so.stands.tree, so.stands.rows_are) in
-    let taken = subst (λ (g : List Entry). TakesAll M so.rows (without handed so.records) g done.rows done.records dones) parts done.taken in
-    let some = taken_first M so.rows (without handed so.records) first later done.rows done.records dones taken in
-    let performed = grows.taken_is_performed so.rows (without handed so.records) first some.x some.r some.some s h (t ++ handed)
+    let before : Content M = record { rows = so.rows; records = without handed so.records } in
+    let held : Content M = record { rows = done.rows; records = done.records } in
+    let taken = subst (λ (g : List Entry). TakesAll M before g held dones) parts done.taken in
+    let some = taken_first M before first later held dones taken in
+    let performed = grows.taken_is_performed before first some.held some.some (record { state = s; history = h; settled = t ++ handed })
     (Stands-without M so.rows so.records s h t handed so.stands) fresh some.taken in
     record { some = some.some; others = some.others; parts = some.parts; says = performed.answers }
 

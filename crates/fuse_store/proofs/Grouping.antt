@@ -18,7 +18,7 @@ use Rattle.fuse_store_tree.specs.Store.{records_of}
 use Rattle.fuse_store_tree.specs.Holding.{Holding, HeldFor, ReportsAfter, lots_of}
 use Rattle.fuse_store_tree.specs.Group.{performed, all_dones, lot_for}
 use Rattle.fuse_store_tree.specs.Lots.{lots_in, LotsAreSame}
-use Rattle.fuse_store_tree.specs.Performing.{OneHolding, HoldingStands, CallsPerform}
+use Rattle.fuse_store_tree.specs.Performing.{OneHolding, content_of, HoldingStands, CallsPerform}
 use Rattle.fuse_store.specs.TableState.{IsOf, HoldsIn, table_told}
 use Rattle.fuse_store.proofs.Serving.{Settled, stands_on, moved, holds_at, leaves_either}
 
@@ -34,7 +34,7 @@ module _ (one : OneHolding) (law : CallsPerform) (lot : Option ℕ) (ids : List 
       let z = performed lot ids es y in
       let all = law.group lot ids es y s h t so.held.rests.holds.tree within each (stands_on y so.rows so.records s h t so.held.is_of so.stands) in
       let same : dones ≡ all_dones lot ids es y = told clean y so.held.rests in
-      subst (λ ds. PerformedBy the_tree (HoldsIn b) s h t es ds) (sym same) (record {
+      subst (λ ds. PerformedBy the_tree (HoldsIn b) (record { state = s; history = h; settled = t }) es ds) (sym same) (record {
         stands = record {
           rows = all.stands.rows;
           records = all.stands.records;
@@ -71,7 +71,7 @@ module _ (one : OneHolding) (law : CallsPerform) (lot : Option ℕ) (ids : List 
         rows = rowed z.tree;
         records = records_of z.kept;
         held = holds_at one b z (rowed z.tree) (records_of z.kept) (serves.done clean y at.rests) (its_own z);
-        taken = subst (λ ds. TakesAll the_tree rows (without ids records) es (rowed z.tree) (records_of z.kept) ds) (sym same)
+        taken = subst (λ ds. TakesAll the_tree (record { rows = rows; records = without ids records }) es (content_of z) ds) (sym same)
             (law.acts lot ids es y rows records at.rests.holds.tree (at.is_of.rows_are, at.is_of.records_are));
       }
 

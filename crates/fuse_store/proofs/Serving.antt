@@ -89,7 +89,8 @@ module _ (one : OneHolding) (f : Holding → Holding) (a b : State) (settled : S
 
   pub leaves_either : (lot : Option ℕ) (failed : Bool) (s s' : TreeState) (h h' : History) (t t' : List ℕ) → HoldingStands y s h t
       → HoldingStands (f y) s' h' t'
-      → Leaves (table_told ⊥ b lot failed) (StandsForEither the_tree s h t s' h' t')
+      → Leaves (table_told ⊥ b lot failed) (StandsForEither the_tree (record { state = s; history = h; settled = t })
+      (record { state = s'; history = h'; settled = t' }))
   leaves_either lot failed s s' h h' t t' before after = (
     whole,
     λ x r left.

@@ -12,7 +12,7 @@ use Rattle.fuse_store_tree.specs.Holding.{Holding}
 use Rattle.fuse_tree.specs.TheTree.{the_tree}
 use Rattle.fuse_store_tree.specs.Group.{without_record, without_settled, with_lot_for, lot_for, performed, all_dones}
 use Rattle.fuse_store_tree.proofs.Finds.{found_settled}
-use Rattle.fuse_store_tree.specs.Performing.{HasPerformed}
+use Rattle.fuse_store_tree.specs.Performing.{content_of, HasPerformed}
 use Rattle.fuse_store_tree.proofs.Took.{Below, group_tree, group_performed, group_taken, kept_for}
 
 -- ---- settled ids
@@ -70,13 +70,12 @@ call_performed g lot ids es y s h t tree within each so =
 -- the entries of the group are taken over the records that aren't settled
 pub call_taken : Below → (lot : Option ℕ) (ids : List ℕ) (es : List Entry) (y : Holding) (rows : Rows) (records : Records) → Tree y.tree
     → AreThese the_tree (rowed y.tree) (records_of y.kept) rows records
-    → TakesAll the_tree rows (without ids records) es (rowed (performed lot ids es y).tree) (records_of (performed lot ids es y).kept)
-    (all_dones lot ids es y)
+    → TakesAll the_tree (record { rows = rows; records = without ids records }) es (content_of (performed lot ids es y)) (all_dones lot ids es y)
 call_taken g lot ids es y rows records tree are =
     let z = without_settled ids y in
     let before = with_lot_for lot z in
-    (g.grow).same_taken (rowed before.tree) (records_of before.kept) rows (without ids records) es (rowed (performed lot ids es y).tree)
-    (records_of (performed lot ids es y).kept) (all_dones lot ids es y) (
+    (g.grow).same_taken (content_of before) (record { rows = rows; records = without ids records }) es (content_of (performed lot ids es y))
+    (all_dones lot ids es y) (
       are.0 ∙ sym (ap rowed (lotted_tree lot z ∙ same_tree ids y)),
       λ i. ap (λ o. cond (is_in ids i) None o) (are.1 i) ∙ sym (ap (λ ks. records_of ks i) (kept_for lot z) ∙ found_settled (λ k. k.said) ids y i),
     )

@@ -13,7 +13,7 @@ use Rattle.fuse_store_tree.specs.Store.{records_of}
 use Rattle.fuse_store_tree.proofs.Described.{grouped}
 use Rattle.fuse_store_tree.specs.Holding.{Holding}
 use Rattle.fuse_tree.specs.TheTree.{the_tree}
-use Rattle.fuse_store_tree.specs.Performing.{HasPerformed}
+use Rattle.fuse_store_tree.specs.Performing.{content_of, HasPerformed}
 use Rattle.fuse_store_tree.specs.Group.{said_of, taken, taken_by, with_group, dones_of, without_settled, with_lot_for, lot_for, performed}
 use Rattle.fuse_store_tree.proofs.Finds.{found_put, found_settled}
 
@@ -30,13 +30,12 @@ acts_so g e y tree s good is = subst (λ (z : State). ActedOn the_tree z e (rowe
     (record { answer_is = refl; rows_are = refl; tree = g.tree_kept y.tree e.asked e.moment tree })
 
 took_by : Below → (r : Option Said) (lot : ℕ) (e : Entry) (y : Holding) → Tree y.tree
-    → TookBy the_tree r (rowed y.tree) (records_of y.kept) e (rowed (taken_by r lot e y).holding.tree) (records_of (taken_by r lot e y).holding.kept)
-    (taken_by r lot e y).done
+    → TookBy the_tree r (content_of y) e (content_of (taken_by r lot e y).holding) (taken_by r lot e y).done
 took_by g (Some known) lot e y tree = (refl, λ i. refl, refl, refl)
 took_by g None lot e y tree = (acts_so g e y tree, λ i. found_put (λ k. k.said) (record { id = entry_id e; lot = lot; said = said_of e y }) y.kept i, refl)
 
 pub took : Below → (lot : ℕ) (e : Entry) (y : Holding) → Tree y.tree
-    → Took the_tree (rowed y.tree) (records_of y.kept) e (rowed (taken lot e y).holding.tree) (records_of (taken lot e y).holding.kept) (taken lot e y).done
+    → Took the_tree (content_of y) e (content_of (taken lot e y).holding) (taken lot e y).done
 took g lot e y tree = took_by g (records_of y.kept (entry_id e)) lot e y tree
 
 tree_by : Below → (r : Option Said) (lot : ℕ) (e : Entry) (y : Holding) → Tree y.tree → Tree (taken_by r lot e y).holding.tree
@@ -50,11 +49,11 @@ group_tree g lot [] y tree = tree
 group_tree g lot (e ∷ es) y tree = group_tree g lot es (taken lot e y).holding (tree_by g (records_of y.kept (entry_id e)) lot e y tree)
 
 pub group_taken : Below → (lot : ℕ) (es : List Entry) (y : Holding) → Tree y.tree
-    → TakesAll the_tree (rowed y.tree) (records_of y.kept) es (rowed (with_group lot es y).tree) (records_of (with_group lot es y).kept) (dones_of lot es y)
+    → TakesAll the_tree (content_of y) es (content_of (with_group lot es y)) (dones_of lot es y)
 group_taken g lot [] y tree = (refl, λ i. refl)
 group_taken g lot (e ∷ es) y tree =
     let z = (taken lot e y).holding in
-    (rowed z.tree, records_of z.kept, took g lot e y tree, group_taken g lot es z (tree_by g (records_of y.kept (entry_id e)) lot e y tree))
+    (content_of z, took g lot e y tree, group_taken g lot es z (tree_by g (records_of y.kept (entry_id e)) lot e y tree))
 
 no_more : {X : Type 0} (xs : List X) → xs ≡ xs ++ []
 no_more [] = refl
@@ -68,7 +67,7 @@ group_took g lot (e ∷ es) y s h t so_far dones tree each does =
     let z = (taken lot e y).holding in
     let d = (taken lot e y).done in
     let more : HasPerformed z s h t (so_far ++ e ∷ []) (dones ++ d ∷ []) =
-    (g.grow).one_more (rowed y.tree) (records_of y.kept) e (rowed z.tree) (records_of z.kept) d s h t so_far dones (each zero e (omega arith))
+    (g.grow).one_more (content_of y) e (content_of z) d (record { state = s; history = h; settled = t }) so_far dones (each zero e (omega arith))
     (took g lot e y tree) does in
     let all = group_took g lot es z s h t (so_far ++ e ∷ []) (dones ++ d ∷ []) (tree_by g (records_of y.kept (entry_id e)) lot e y tree)
     (λ k x below. each (suc k) x (omega (arith, below))) more in
@@ -78,7 +77,7 @@ group_took g lot (e ∷ es) y s h t so_far dones tree each does =
 pub group_performed : Below → (lot : ℕ) (es : List Entry) (y : Holding) (s : State) (h : History) (t : List ℕ) → Tree y.tree → All (IsUnsettled t) es
     → Stands the_tree (rowed y.tree) (records_of y.kept) s h t → HasPerformed (with_group lot es y) s h t es (dones_of lot es y)
 group_performed g lot es y s h t tree each so =
-    group_took g lot es y s h t [] [] tree each ((g.grow).none_yet (rowed y.tree) (records_of y.kept) s h t so)
+    group_took g lot es y s h t [] [] tree each ((g.grow).none_yet (content_of y) (record { state = s; history = h; settled = t }) so)
 
 -- ---- the records of other ids
 

@@ -4,7 +4,7 @@ use Rattle.sqlite.specs.Effect.{Database}
 use Rattle.fuse_tree.specs.State.{State, Tree}
 use Rattle.fuse_tree.specs.Rows.{Rows, rowed}
 use Rattle.fuse_keeper.specs.History.{Entry, History, Includes, IsUnsettled}
-use Rattle.fuse_keeper.specs.Stands.{Records, Stands, AreThese, PerformedBy, OthersStay, without}
+use Rattle.fuse_keeper.specs.Stands.{Records, Content, Stands, AreThese, PerformedBy, OthersStay, without}
 use Rattle.fuse_keeper.specs.Taking.{TakesAll}
 use Rattle.fuse_keeper.specs.Lots.{RecordsUnder}
 use Rattle.fuse_keeper.specs.declared.keeper.Done.{Done}
@@ -17,13 +17,18 @@ use Rattle.fuse_store_tree.specs.Group.{lot_for, performed, all_dones}
 abbrev pub OneHolding : Type 0
 OneHolding = (x y : Holding) (d : Database) → HeldFor x d → HeldFor y d → x ≡ y
 
+-- its rows and records
+abbrev pub content_of : Holding → Content the_tree
+content_of y = record { rows = rowed y.tree; records = records_of y.kept }
+
 -- the holding stands for a history
 abbrev pub HoldingStands : Holding → State → History → List ℕ → Type 0
 HoldingStands y s h t = Stands the_tree (rowed y.tree) (records_of y.kept) s h t
 
 -- the holding stands for the history extended by a group, and each answer is the one said in it
 abbrev pub HasPerformed : Holding → State → History → List ℕ → List Entry → List Done → Type 0
-HasPerformed y s h t es dones = PerformedBy the_tree (AreThese the_tree (rowed y.tree) (records_of y.kept)) s h t es dones
+HasPerformed y s h t es dones =
+    PerformedBy the_tree (AreThese the_tree (rowed y.tree) (records_of y.kept)) (record { state = s; history = h; settled = t }) es dones
 
 -- of a call with the lot of this opening, settled ids and a group
 pub record CallsPerform : Type 0 where
@@ -35,8 +40,7 @@ pub record CallsPerform : Type 0 where
   -- the entries are taken one after the other over the records that aren't settled
   pub acts : (lot : Option ℕ) (ids : List ℕ) (es : List Entry) (y : Holding) (rows : Rows) (records : Records) → Tree y.tree
       → AreThese the_tree (rowed y.tree) (records_of y.kept) rows records
-      → TakesAll the_tree rows (without ids records) es (rowed (performed lot ids es y).tree) (records_of (performed lot ids es y).kept)
-      (all_dones lot ids es y)
+      → TakesAll the_tree (record { rows = rows; records = without ids records }) es (content_of (performed lot ids es y)) (all_dones lot ids es y)
   -- the records of other ids stay, without the settled ones
   pub others : (lot : Option ℕ) (ids : List ℕ) (es : List Entry) (y : Holding)
       → OthersStay (records_of y.kept) ids es (records_of (performed lot ids es y).kept)

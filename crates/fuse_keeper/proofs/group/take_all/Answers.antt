@@ -20,14 +20,15 @@ pub loop-one-preserved : goal.loop-one-preserved
 loop-one-preserved g c =
     let base = without (ids_of c.args.settled.now) (mapped c.args.records.now) in
     record {
-      performed = λ s h t so each. one_more_of g.F.FileSystem.model c.args.group.now c.loop-one.one-index _ _ _ _ _ c.in-Ok.done s h t c.loop-one.dones.items
-          c.push.new.self.items c.loop-one-test.true each c.in-Ok.ensures.took (c.loop-one.invariant.performed s h t so each) c.in_ok-push.ensures.items;
-      taken = one_more_taken_of g.F.FileSystem.model c.args.group.now c.loop-one.one-index _ _ _ _ _ _ _ c.in-Ok.done c.loop-one.dones.items
+      performed = λ s h t so each. one_more_of g.F.FileSystem.model c.args.group.now c.loop-one.one-index _ _ _ c.in-Ok.done
+          (record { state = s; history = h; settled = t }) c.loop-one.dones.items c.push.new.self.items c.loop-one-test.true each c.in-Ok.ensures.took (c.loop-one.invariant.performed s h t so each) c.in_ok-push.ensures.items;
+      taken = one_more_taken_of g.F.FileSystem.model c.args.group.now c.loop-one.one-index _ _ _ _ c.in-Ok.done c.loop-one.dones.items
           c.push.new.self.items c.loop-one-test.true c.in-Ok.ensures.took c.loop-one.invariant.taken c.in_ok-push.ensures.items;
       count = grind (arith, common_steps);
       ready = c.in-Ok.ensures.ready;
-      rowed = λ rowed. took_rowed_at g.F.FileSystem.model c.args.group.now c.loop-one.one-index _ (g.F.FileSystem.held c.loop-one.draft.rows)
-          (over c.loop-one.draft.added.items base) (g.F.FileSystem.held c.take_one.new.draft.rows) (over c.take_one.new.draft.added.items base) c.in-Ok.done
+      rowed = λ rowed. took_rowed_at g.F.FileSystem.model c.args.group.now c.loop-one.one-index _
+          (record { rows = g.F.FileSystem.held c.loop-one.draft.rows; records = over c.loop-one.draft.added.items base })
+          (record { rows = g.F.FileSystem.held c.take_one.new.draft.rows; records = over c.take_one.new.draft.added.items base }) c.in-Ok.done
           c.in-Ok.ensures.took (c.loop-one.invariant.rowed rowed);
       ids = ids_more c.args.group.now c.loop-one.one-index _ _ _ c.loop-one-test.true c.loop-one.invariant.ids c.in-Ok.ensures.ids;
     }
@@ -36,13 +37,14 @@ pub returns-clause-performed : goal.returns-clause-performed
 returns-clause-performed g c = λ s h t so each.
     let past : length c.args.group.now ≤ c.loop-one.one-index = c.loop-one-test.false in
     subst (λ group. PerformedBy g.F.FileSystem.model (AreThese g.F.FileSystem.model (g.F.FileSystem.held c.loop-one.draft.rows)
-    (over c.loop-one.draft.added.items (without (ids_of c.args.settled.now) (mapped c.args.records.now)))) s h t (entries_of group) c.loop-one.dones.items)
+    (over c.loop-one.draft.added.items (without (ids_of c.args.settled.now) (mapped c.args.records.now)))) (record { state = s; history = h; settled = t }) (entries_of group)
+    c.loop-one.dones.items)
     (take_all c.loop-one.one-index c.args.group.now past) (c.loop-one.invariant.performed s h t so each)
 
 pub returns-clause-taken : goal.returns-clause-taken
 returns-clause-taken g c =
     let past : length c.args.group.now ≤ c.loop-one.one-index = c.loop-one-test.false in
-    subst (λ group. TakesAll g.F.FileSystem.model (g.F.FileSystem.held c.args.rows.now) (without (ids_of c.args.settled.now) (mapped c.args.records.now))
-    (entries_of group) (g.F.FileSystem.held c.loop-one.draft.rows)
-    (over c.loop-one.draft.added.items (without (ids_of c.args.settled.now) (mapped c.args.records.now))) c.loop-one.dones.items)
+    let base = without (ids_of c.args.settled.now) (mapped c.args.records.now) in
+    subst (λ group. TakesAll g.F.FileSystem.model (record { rows = g.F.FileSystem.held c.args.rows.now; records = base }) (entries_of group)
+    (record { rows = g.F.FileSystem.held c.loop-one.draft.rows; records = over c.loop-one.draft.added.items base }) c.loop-one.dones.items)
     (take_all c.loop-one.one-index c.args.group.now past) c.loop-one.invariant.taken

@@ -13,9 +13,11 @@ invariant-loop-one g l = record {
       → Stands g.F.FileSystem.model (g.F.FileSystem.held l.rows) (without (ids_of l.settled) (mapped l.records)) s h t
       → All (IsUnsettled t) (entries_of l.group)
       → PerformedBy g.F.FileSystem.model (AreThese g.F.FileSystem.model (g.F.FileSystem.held l.draft.rows)
-      (over l.draft.added.items (without (ids_of l.settled) (mapped l.records)))) s h t (entries_of (take l.one-index l.group)) l.dones.items;
-  taken : TakesAll g.F.FileSystem.model (g.F.FileSystem.held l.rows) (without (ids_of l.settled) (mapped l.records)) (entries_of (take l.one-index l.group))
-      (g.F.FileSystem.held l.draft.rows) (over l.draft.added.items (without (ids_of l.settled) (mapped l.records))) l.dones.items;
+      (over l.draft.added.items (without (ids_of l.settled) (mapped l.records)))) (record { state = s; history = h; settled = t })
+      (entries_of (take l.one-index l.group)) l.dones.items;
+  taken : TakesAll g.F.FileSystem.model (record { rows = g.F.FileSystem.held l.rows; records = without (ids_of l.settled) (mapped l.records) })
+      (entries_of (take l.one-index l.group))
+      (record { rows = g.F.FileSystem.held l.draft.rows; records = over l.draft.added.items (without (ids_of l.settled) (mapped l.records)) }) l.dones.items;
   count : length l.dones.items ≡ l.one-index;
   ready : g.F.FileSystem.is_ready l.draft.rows;
   rowed : IsRowed g.F.FileSystem.model (g.F.FileSystem.held l.rows) → IsRowed g.F.FileSystem.model (g.F.FileSystem.held l.draft.rows);

@@ -10,7 +10,8 @@ pub returns-clause-ok : goal.returns-clause-ok
 returns-clause-ok g c = λ s h t so within fresh.
     performed_settled g.F.FileSystem.model (g.F.FileSystem.held c.args.self.now.rows) (mapped c.args.self.now.records)
     (ids_of c.args.settled.now) c.in_ok-taken.taken.draft.added.items
-    (g.F.FileSystem.held c.in_ok-taken.taken.draft.rows) (mapped c.reserve.new.self) (mapped c.settle.new.records) s h t
+    (g.F.FileSystem.held c.in_ok-taken.taken.draft.rows) (mapped c.reserve.new.self) (mapped c.settle.new.records)
+    (record { state = s; history = h; settled = t })
     (entries_of c.args.group.now) c.in_ok-taken.taken.dones.items within so
     (λ rest. c.in_ok-taken.ensures.performed s h t rest fresh) c.reserve.ensures.entries.2 c.settle.ensures
 

@@ -21,8 +21,10 @@ returns-in-Ok-clause-acts g c = λ honest rows records held rowed. record {
   rows = g.F.FileSystem.held c.perform_group.new.self.rows;
   records = mapped c.perform_group.new.self.records;
   held = (refl, λ i. refl);
-  taken = named_taken g.F.FileSystem.model (g.F.FileSystem.held c.args.self.now.rows) (mapped c.args.self.now.records) (ids_of c.args.settled.now) rows records
-      (entries_of c.args.group.now) (g.F.FileSystem.held c.perform_group.new.self.rows) (mapped c.perform_group.new.self.records) c.in-Ok.dones.items held
+  taken = named_taken g.F.FileSystem.model
+      (record { rows = g.F.FileSystem.held c.args.self.now.rows; records = mapped c.args.self.now.records })
+      (record { rows = rows; records = records }) (ids_of c.args.settled.now) (entries_of c.args.group.now)
+      (record { rows = g.F.FileSystem.held c.perform_group.new.self.rows; records = mapped c.perform_group.new.self.records }) c.in-Ok.dones.items held
       c.in-Ok.ensures.acts;
 }
 
