@@ -173,7 +173,7 @@ handed_joined x [] = refl
 handed_joined x (p ∷ []) = refl
 handed_joined x (p ∷ q ∷ ps) = ap (λ (r : List ℕ). p.settled ++ r) (handed_joined x (q ∷ ps))
 
-handed_in-append : (ps qs : List Performance) → handed_in (ps ++ qs) ≡ handed_in ps ++ handed_in qs
+pub handed_in-append : (ps qs : List Performance) → handed_in (ps ++ qs) ≡ handed_in ps ++ handed_in qs
 handed_in-append [] qs = refl
 handed_in-append (p ∷ ps) qs = ap (λ (r : List ℕ). p.settled ++ r) (handed_in-append ps qs) ∙ sym (append_assoc p.settled (handed_in ps) (handed_in qs))
 

@@ -120,7 +120,7 @@ kept_or_gone false o now is isnt = is
 
 pub moved_records : (M : Model) (holds holds' : KeeperState M) (es others : List Event) (p : List ℕ) (new : List (Option Outcome))
     → Moved holds holds' empty_ledger es others p [] new
-    → NoneReused M.serves [] es → Reports holds holds' (λ rows records. HoldsRecords holds' (RecordsLeft M.serves es records))
+    → NoneReused M.serves [] es → Reports holds holds' (λ rows records. HoldsRecords holds' (RecordsLeft M.serves (performances M.serves es) es records))
 moved_records M holds holds' es others p new moved none is rows records held rowed =
     let done = moved.ran.records is rows records held rowed in
     record {
@@ -135,7 +135,7 @@ moved_records M holds holds' es others p new moved none is rows records held row
       };
     }
 
-not_in_both : (xs ys : List ℕ) (i : ℕ) → is_in xs i ≡ false → is_in ys i ≡ false → is_in (xs ++ ys) i ≡ false
+pub not_in_both : (xs ys : List ℕ) (i : ℕ) → is_in xs i ≡ false → is_in ys i ≡ false → is_in (xs ++ ys) i ≡ false
 not_in_both xs ys i one two = is_in-append xs ys i ∙ ap (λ b. b || is_in ys i) one ∙ two
 
 same_records : (M : Model) → {K : Type 0} (told : K → KeeperState M) (k : Option K) (x y : M.Rows) (p q : Records)

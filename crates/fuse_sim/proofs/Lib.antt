@@ -13,6 +13,7 @@ pub mod Stopping
 pub mod AskedGroups
 pub mod Endings
 pub mod TwoLists
+pub mod InARow
 pub mod Marks
 pub mod Pendings
 pub mod Lifetimes

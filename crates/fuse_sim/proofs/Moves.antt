@@ -40,7 +40,7 @@ or_none true false o = refl
 or_none false true o = refl
 or_none false false o = refl
 
-or_false : (a b : Bool) → (a || b) ≡ false → (a ≡ false) × (b ≡ false)
+pub or_false : (a b : Bool) → (a || b) ≡ false → (a ≡ false) × (b ≡ false)
 or_false true b is = absurd (cc is)
 or_false false b is = (refl, is)
 
@@ -48,7 +48,7 @@ none_if : {A : Type 0} (b : Bool) (o : Option A) → o ≡ None → (if b then N
 none_if true o is = refl
 none_if false o is = is
 
-ids-append : (xs ys : List Entry) → ids_in (xs ++ ys) ≡ ids_in xs ++ ids_in ys
+pub ids-append : (xs ys : List Entry) → ids_in (xs ++ ys) ≡ ids_in xs ++ ids_in ys
 ids-append xs ys = map-append entry_id xs ys
 
 -- an id that is settled isn't among those that come
@@ -58,7 +58,7 @@ not_same t x i isnt there same =
     let both = sym isnt ∙ ap (is_in t) e ∙ there in
     absurd (cc both)
 
-not_among : (t : List ℕ) (es : List Entry) (i : ℕ) → All (IsUnsettled t) es → is_in t i ≡ true → is_in (ids_in es) i ≡ false
+pub not_among : (t : List ℕ) (es : List Entry) (i : ℕ) → All (IsUnsettled t) es → is_in t i ≡ true → is_in (ids_in es) i ≡ false
 not_among t [] i each there = refl
 not_among t (e ∷ es) i each there = elim (tested (entry_id e == i)) [
   | inl same ↦ absurd (not_same t (entry_id e) i (each 0 e (omega arith)) there same)
@@ -92,7 +92,7 @@ records_more V l es es' r r' r'' one two =
 -- ---- events, and then others
 
 -- where the events that are meant end within the first ones, or among the others
-begin_with : (M : Model) (s : M.State) (h : History) (earlier : List Event) (xs ys : List (Option (List ℕ))) → OutcomesBegin M s h earlier xs
+pub begin_with : (M : Model) (s : M.State) (h : History) (earlier : List Event) (xs ys : List (Option (List ℕ))) → OutcomesBegin M s h earlier xs
     → OutcomesBegin M s h earlier (xs ++ ys)
 begin_with M s h earlier xs ys begins = (
   begins.0 ++ ys,
@@ -100,7 +100,7 @@ begin_with M s h earlier xs ys begins = (
       ∙ append_assoc (map (outcome_of M s (committed M.serves h earlier)) earlier) begins.0 ys,
 )
 
-begin_later : (M : Model) → HistoriesGrow M → (s : M.State) (h : History) (es prefix : List Event) (xs ys : List (Option (List ℕ)))
+pub begin_later : (M : Model) → HistoriesGrow M → (s : M.State) (h : History) (es prefix : List Event) (xs ys : List (Option (List ℕ)))
     → xs ≡ map (outcome_of M s (committed M.serves h es)) es → OutcomesBegin M s (committed M.serves h es) prefix ys
     → OutcomesBegin M s h (es ++ prefix) (xs ++ ys)
 begin_later M grows s h es prefix xs ys is begins =

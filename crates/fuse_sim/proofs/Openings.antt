@@ -18,6 +18,7 @@ use Rattle.fuse_sim.specs.declared.event.Event.{Event}
 use Rattle.fuse_sim.specs.declared.event.Outcome.{Outcome}
 use Rattle.fuse_sim.specs.Driving.{commits_by, commits_in, committed, dies, deaths, settles, settled_by, NoneReused, told_in, StandsIn, became_in, OpenedAt}
 use Rattle.fuse_sim.specs.Driving.{Opened, KeepsMedium, StoodAt, StoodBefore}
+use Rattle.fuse_sim.specs.AfterEvents.{StandsAfter}
 use Rattle.fuse_sim.specs.inner.Running.{dies_before, IsRun, DiesLast, Gathers, Worked, Opens}
 use Rattle.fuse_sim.proofs.Settled.{includes_left, includes_both, stands_later}
 use Rattle.fuse_sim.proofs.Driven.{committed-append, settled-append, settled_still, reused-parts, all_unsettled_too, none_reused}
@@ -139,10 +140,6 @@ in_which (x ∷ xs) ys (y ∷ earlier) e later is =
 
 -- ---- events, and then others
 
-abbrev Stood : {M : Model} {K : Type 0} → (K → KeeperState M) → Option K → Option K → List Event → Type 0
-Stood {M} told old new es = (told_in told new).is_honest → (s : M.State) (h : History) (t : List ℕ) → StandsIn told old s h t → NoneReused M.serves t es
-    → StandsIn told new s (committed M.serves h es) (settled_by M.serves t es)
-
 -- what stood after the first events, and then for the second, stands for both
 stood_more : (M : Model) → {K : Type 0} (told : K → KeeperState M) (old mid new : Option K) (xs ys : List Event) (p : List ℕ)
     → ((t : List ℕ) → Includes (settled_by M.serves t xs) p)
@@ -173,7 +170,7 @@ opened_before M told became law old mid new ys earlier e more later rest further
 
 opened_last : (M : Model) → {K : Type 0} (told : K → KeeperState M) (became : K → K → ℕ → Type 0) → IsCount became
     → (old mid new : Option K) (xs ys : List Event) (p : List ℕ) (earlier prefix : List Event) (e : Event) (later : List Event)
-    → ((t : List ℕ) → Includes (settled_by M.serves t xs) p) → Stood told old mid xs → became_in became old mid (deaths xs) → (two : Opens told became mid new p ys)
+    → ((t : List ℕ) → Includes (settled_by M.serves t xs) p) → StandsAfter told old mid xs → became_in became old mid (deaths xs) → (two : Opens told became mid new p ys)
     → ys ≡ prefix ++ e ∷ later → earlier ≡ xs ++ prefix → AtLast two.died prefix later → OpenedAt told became old new earlier e later
 opened_last M told became law old mid new xs ys p earlier prefix e later within stood often two parts begin last =
     let once : became_in became two.left new 1 = subst (λ b. became_in became two.left new (if b then 1 else 0)) last.died_is two.after in
@@ -195,7 +192,7 @@ opened_last M told became law old mid new xs ys p earlier prefix e later within 
 
 opened_place : (M : Model) → {K : Type 0} (told : K → KeeperState M) (became : K → K → ℕ → Type 0) → IsCount became
     → (old mid new : Option K) (xs ys : List Event) (p : List ℕ)
-    → ((t : List ℕ) → Includes (settled_by M.serves t xs) p) → Stood told old mid xs → became_in became mid new (deaths ys)
+    → ((t : List ℕ) → Includes (settled_by M.serves t xs) p) → StandsAfter told old mid xs → became_in became mid new (deaths ys)
     → ((told_in told new).is_honest → (told_in told mid).is_honest)
     → Opened told became old mid xs → Opens told became mid new p ys
     → (earlier : List Event) (e : Event) (later : List Event) → xs ++ ys ≡ earlier ++ e ∷ later → dies e.fate ≡ true
@@ -208,7 +205,7 @@ opened_place M told became law old mid new xs ys p within stood further was one 
 
 pub opened_more : (M : Model) → {K : Type 0} (told : K → KeeperState M) (became : K → K → ℕ → Type 0) → IsCount became
     → (old mid new : Option K) (xs ys : List Event) (p : List ℕ)
-    → ((t : List ℕ) → Includes (settled_by M.serves t xs) p) → Stood told old mid xs → Opened told became old mid xs → Opens told became mid new p ys
+    → ((t : List ℕ) → Includes (settled_by M.serves t xs) p) → StandsAfter told old mid xs → Opened told became old mid xs → Opens told became mid new p ys
     → Opened told became old new (xs ++ ys)
 opened_more M told became law old mid new xs ys p within stood one two =
     let further : became_in became mid new (deaths ys) =
@@ -230,7 +227,7 @@ stands_twice M told old mid new xs ys one two =
 
 opened_second : (M : Model) → {K : Type 0} (told : K → KeeperState M) (became : K → K → ℕ → Type 0) → IsCount became
     → (old mid new : Option K) (xs ys earlier prefix : List Event) (e : Event) (later : List Event)
-    → ((told_in told new).is_honest → (told_in told mid).is_honest) → Stood told old mid xs → became_in became old mid (deaths xs) → earlier ≡ xs ++ prefix
+    → ((told_in told new).is_honest → (told_in told mid).is_honest) → StandsAfter told old mid xs → became_in became old mid (deaths xs) → earlier ≡ xs ++ prefix
     → OpenedAt told became mid new prefix e later → OpenedAt told became old new earlier e later
 opened_second M told became law old mid new xs ys earlier prefix e later was stood often begin at =
     let whole : earlier ++ e ∷ [] ≡ xs ++ (prefix ++ e ∷ []) = ap (λ (zs : List Event). zs ++ e ∷ []) begin ∙ append_assoc xs prefix (e ∷ []) in
@@ -249,7 +246,7 @@ opened_second M told became law old mid new xs ys earlier prefix e later was sto
 
 pub opened_twice : (M : Model) → {K : Type 0} (told : K → KeeperState M) (became : K → K → ℕ → Type 0) → IsCount became
     → (old mid new : Option K) (xs ys : List Event)
-    → ((told_in told new).is_honest → (told_in told mid).is_honest) → Stood told old mid xs → Opened told became old mid xs → Opened told became mid new ys
+    → ((told_in told new).is_honest → (told_in told mid).is_honest) → StandsAfter told old mid xs → Opened told became old mid xs → Opened told became mid new ys
     → Opened told became old new (xs ++ ys)
 opened_twice M told became law old mid new xs ys was stood one two = record {
   often = became_then became law old mid new (deaths xs) (deaths ys) (deaths (xs ++ ys)) one.often two.often (sym (deaths-append xs ys));
@@ -398,7 +395,7 @@ few_first V ys prefix later n parts few = omega (
 
 -- one that stood when a group began
 stood_begun : (M : Model) → {K : Type 0} (told : K → KeeperState M) (became : K → K → ℕ → Type 0) (old mid new : Option K) (xs ys earlier prefix later : List Event)
-    → (told_in told mid).is_honest → Stood told old mid xs → became_in became old mid (deaths xs) → became_in became mid new (deaths ys)
+    → (told_in told mid).is_honest → StandsAfter told old mid xs → became_in became old mid (deaths xs) → became_in became mid new (deaths ys)
     → length (commits_in M.serves ys) ≤ 16 → earlier ≡ xs ++ prefix → ys ≡ prefix ++ later → StoodAt told became old new earlier later
 stood_begun M told became old mid new xs ys earlier prefix later is stood often further few begin parts = record {
   begun = xs;
@@ -412,7 +409,7 @@ stood_begun M told became old mid new xs ys earlier prefix later is stood often 
 }
 
 pub stood_before_more : (M : Model) → {K : Type 0} (told : K → KeeperState M) (became : K → K → ℕ → Type 0) → IsCount became
-    → (old mid new : Option K) (xs ys : List Event) (p : List ℕ) → Stood told old mid xs → became_in became old mid (deaths xs) → StoodBefore told became old mid xs
+    → (old mid new : Option K) (xs ys : List Event) (p : List ℕ) → StandsAfter told old mid xs → became_in became old mid (deaths xs) → StoodBefore told became old mid xs
     → Opens told became mid new p ys → StoodBefore told became old new (xs ++ ys)
 stood_before_more M told became law old mid new xs ys p stood often one two = λ is earlier later parts.
     let further : became_in became mid new (deaths ys) =
@@ -432,7 +429,7 @@ stood_still M told became law old mid new es same was one = λ is earlier later 
 
 -- of a second list, after a first one
 stood_second : (M : Model) → {K : Type 0} (told : K → KeeperState M) (became : K → K → ℕ → Type 0) → IsCount became → (old mid new : Option K)
-    (xs earlier prefix later : List Event) → (told_in told mid).is_honest → Stood told old mid xs → became_in became old mid (deaths xs) → earlier ≡ xs ++ prefix
+    (xs earlier prefix later : List Event) → (told_in told mid).is_honest → StandsAfter told old mid xs → became_in became old mid (deaths xs) → earlier ≡ xs ++ prefix
     → StoodAt told became mid new prefix later → StoodAt told became old new earlier later
 stood_second M told became law old mid new xs earlier prefix later is stood often begin at = record {
   begun = xs ++ at.begun;
@@ -446,7 +443,7 @@ stood_second M told became law old mid new xs earlier prefix later is stood ofte
 }
 
 pub stood_twice : (M : Model) → {K : Type 0} (told : K → KeeperState M) (became : K → K → ℕ → Type 0) → IsCount became
-    → (old mid new : Option K) (xs ys : List Event) → ((told_in told new).is_honest → (told_in told mid).is_honest) → Stood told old mid xs
+    → (old mid new : Option K) (xs ys : List Event) → ((told_in told new).is_honest → (told_in told mid).is_honest) → StandsAfter told old mid xs
     → became_in became old mid (deaths xs) → became_in became mid new (deaths ys) → StoodBefore told became old mid xs → StoodBefore told became mid new ys
     → StoodBefore told became old new (xs ++ ys)
 stood_twice M told became law old mid new xs ys was stood often further one two = λ is earlier later parts.

@@ -10,6 +10,7 @@ use Rattle.fuse_sim.specs.declared.event.DriveFault.{DriveFault}
 use Rattle.fuse_sim.specs.Driving.{told_in, StandsIn, committed, settled_by, NoneReused, IsFit, Names, before, is_store, LeftBy, Opened, OfRestart, AnsweredBy}
 use Rattle.fuse_sim.specs.Driving.{StoodBefore, became_in, performed_in, deaths}
 use Rattle.fuse_sim.specs.HandedOn.{performances, AsksUpTo, AsksThen, AskedSome}
+use Rattle.fuse_sim.specs.AfterEvents.{StandsAfter}
 use Rattle.fuse_sim.specs.Twice.{Seen, StoppedAt}
 use Rattle.fuse_sim.proofs.Driven.{reused-parts}
 use Rattle.fuse_sim.proofs.Openings.{became_then, deaths-append, stands_twice, opened_twice, stood_twice}
@@ -32,8 +33,7 @@ pub record FaultOf {M : Model} {K : Type 0} (k : Seen M K) (old new : Option K) 
 -- what it says of its whole list
 pub record WholeOf {M : Model} {K : Type 0} (k : Seen M K) (old new : Option K) (list : List Event) : Type 0 where
   pub fit : All IsFit list
-  pub stands : (told_in k.told new).is_honest → (s : M.State) (h : History) (t : List ℕ) → StandsIn k.told old s h t → NoneReused M.serves t list
-      → StandsIn k.told new s (committed M.serves h list) (settled_by M.serves t list)
+  pub stands : StandsAfter k.told old new list
   pub opened : Opened k.told k.became old new list
   pub stood : StoodBefore k.told k.became old new list
   pub asked : performed_in k.performed old new (performances M.serves list)
@@ -62,8 +62,7 @@ stopped_first M k old new events more fault one = inl (record {
 
 left_twice : (M : Model) → {K : Type 0} (told : K → KeeperState M) (old mid new : Option K) (xs ys : List Event) (b : Bool)
     → ((told_in told new).is_clean → (told_in told new).is_honest) → ((told_in told new).is_honest → (told_in told mid).is_honest)
-    → ((told_in told mid).is_honest → (s : M.State) (h : History) (t : List ℕ) → StandsIn told old s h t → NoneReused M.serves t xs
-    → StandsIn told mid s (committed M.serves h xs) (settled_by M.serves t xs))
+    → StandsAfter told old mid xs
     → ((s : M.State) (h : History) (t : List ℕ) → StandsIn told mid s h t → NoneReused M.serves t ys
     → LeftBy (told_in told new) b (StandsIn told new s (committed M.serves h ys) (settled_by M.serves t ys)))
     → (s : M.State) (h : History) (t : List ℕ) → StandsIn told old s h t → NoneReused M.serves t (xs ++ ys)

@@ -5,9 +5,10 @@ use Rattle.fuse_keeper.specs.History.{is_in, ids_in}
 use Rattle.fuse_keeper.specs.Model.{Model, IsRowed}
 use Rattle.fuse_keeper.specs.Stands.{Records}
 use Rattle.fuse_keeper.specs.KeeperState.{KeeperState}
+use Rattle.fuse_keeper.specs.Performance.{Performance}
 use Rattle.fuse_sim.specs.declared.event.Event.{Event}
 use Rattle.fuse_sim.specs.Driving.{commits_in, settles, Calm}
-use Rattle.fuse_sim.specs.HandedOn.{performances, handed_in}
+use Rattle.fuse_sim.specs.HandedOn.{handed_in}
 
 -- at least so many requests are committed by these events up to one of them, before which the server doesn't die
 pub record Follow (V : OpcodeSet) (n : ℕ) (events : List Event) : Type 0 where
@@ -27,9 +28,9 @@ pub record SettledBefore (V : OpcodeSet) (n : ℕ) (events : List Event) (i : �
   pub settled : settles V one ≡ i ∷ []
   pub follow : Follow V n later
 
--- the records of the ids that are handed on are deleted; those of ids that didn't come stay
-pub record RecordsLeft (V : OpcodeSet) (events : List Event) (records records' : Records) : Type 0 where
-  pub gone : (i : ℕ) → is_in (handed_in (performances V events)) i ≡ true → records' i ≡ None
+-- the records of the ids that were handed on are deleted; those of ids that didn't come stay
+pub record RecordsLeft (V : OpcodeSet) (asked : List Performance) (events : List Event) (records records' : Records) : Type 0 where
+  pub gone : (i : ℕ) → is_in (handed_in asked) i ≡ true → records' i ≡ None
   pub others : (i : ℕ) → is_in (ids_in (commits_in V events)) i ≡ false → records' i ≡ records i
 
 -- it holds something of a good state, with such records

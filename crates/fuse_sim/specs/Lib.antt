@@ -1,3 +1,4 @@
+pub mod AfterEvents
 pub mod Driving
 pub mod HandedOn
 pub mod KeptMessages

@@ -3,19 +3,18 @@ ghost use Rattle.std.specs.Prelude.{◌≡◌, ◌≤◌, ◌<◌, ◌+◌, ◌+
 ghost use Rattle.std.specs.Prelude.{if◌then◌else◌, length, map, take, drop, All, vec_capacity};
 ghost use Rattle.std.specs.Prelude.{None, IsSome, IsSomeAnd, IfSome, is_err};
 ghost use Rattle.std.specs.Prelude.{IfOk, IfErr, OnOk, OnErr, MatchResult};
-ghost use Rattle.fuse_keeper.specs.History.{History, said, is_in};
-ghost use Rattle.fuse_keeper.specs.Stands.{Records};
-ghost use Rattle.fuse_keeper.specs.KeeperState.{Called, KeepsHeld, IsFirm, Reports};
+ghost use Rattle.fuse_keeper.specs.History.{History};
+ghost use Rattle.fuse_keeper.specs.KeeperState.{Called, KeepsHeld, IsFirm};
 ghost use Rattle.fuse_keeper.specs.Group.{ids_of};
 ghost use Rattle.fuse_keeper.specs.declared.keeper.TheConstants.{MAX_SETTLED as max_settled};
-ghost use Rattle.fuse_sim.specs.Driving.{told_in, StandsIn, committed, outcome_of, bytes_given};
+ghost use Rattle.fuse_sim.specs.Driving.{told_in, StandsIn, committed};
 ghost use Rattle.fuse_sim.specs.Driving.{settled_by, NoneReused, IsFit, Names, event_of, before};
 ghost use Rattle.fuse_sim.specs.Driving.{is_store, IsStoreFault, LeftBy, OfRestart};
 ghost use Rattle.fuse_sim.specs.Driving.{became_in, performed_in, Opened, AnsweredBy, StoodBefore};
-ghost use Rattle.fuse_sim.specs.Driving.{MayRefuse, KeepsMedium, OutcomesBegin};
-ghost use Rattle.fuse_sim.specs.declared.event.Event.{Event as EventValue};
-ghost use Rattle.fuse_sim.specs.LeftRecords.{RecordsLeft, HoldsRecords};
-ghost use Rattle.fuse_sim.specs.HandedOn.{Ledger, performances, handed_in, AsksUpTo, AskedSome};
+ghost use Rattle.fuse_sim.specs.Driving.{MayRefuse, KeepsMedium};
+ghost use Rattle.fuse_sim.specs.AfterEvents.{StandsAfter, AnswersAre, AnswersBegin};
+ghost use Rattle.fuse_sim.specs.AfterEvents.{DeletesHanded, KeepsUnhanded};
+ghost use Rattle.fuse_sim.specs.HandedOn.{Ledger, performances, AsksUpTo, AskedSome};
 ghost use Rattle.fuse_sim.specs.Twice.{StoppedAt};
 ghost use Rattle.fuse_sim.specs.inner.Running.{Gathers, Begins, Worked, Moved, MayBegin, Opens, Stops};
 ghost use Rattle.fuse_sim.specs.inner.Running.{AsksRun, AsksFrom, StopsAsking};
@@ -253,29 +252,17 @@ pub fn drive<K: Restart>(
 
     // The history that the keeper stood for has the requests that were committed added, each once,
     // in the order of their first commit.
-    ensures tree_stands { OnOk result ((told_in K.told keeper.new).is_honest
-        → (start : K.model.State) (h : History) (settled : List ℕ)
-        → StandsIn K.told keeper.old start h settled
-        → NoneReused K.model.serves settled events.now
-        → StandsIn K.told keeper.new start (committed K.model.serves h events.now)
-        (settled_by K.model.serves settled events.now)) }
+    ensures tree_stands { OnOk result (StandsAfter K.told keeper.old keeper.new events.now) }
 
     // Each answer, that to a resend too, is the one that this history says of its id.
-    ensures outcomes { IfOk result (λ outcomes. (told_in K.told keeper.new).is_honest
-        → (start : K.model.State) (h : History) (settled : List ℕ)
-        → StandsIn K.told keeper.old start h settled
-        → NoneReused K.model.serves settled events.now
-        → map bytes_given outcomes.items
-        ≡ map (outcome_of K.model start (committed K.model.serves h events.now)) events.now) }
+    ensures outcomes { IfOk result (λ outcomes.
+        AnswersAre K.told keeper.old keeper.new events.now outcomes.items) }
     ensures count { IfOk result (λ outcomes. length outcomes.items ≡ length events.now) }
 
     // Where a message comes again whose answer was taken, all this is so up to that message: the
     // answers to the events before it are those that these say,
-    ensures outcomes_before { IfOk result (λ outcomes. (told_in K.told keeper.new).is_honest
-        → (earlier later : List EventValue) → events.now ≡ earlier ++ later
-        → (start : K.model.State) (h : History) (settled : List ℕ)
-        → StandsIn K.told keeper.old start h settled → NoneReused K.model.serves settled earlier
-        → OutcomesBegin K.model start h earlier (map bytes_given outcomes.items)) }
+    ensures outcomes_before { IfOk result (λ outcomes.
+        AnswersBegin K.told keeper.old keeper.new events.now outcomes.items) }
     // and a keeper stood for them.
     ensures stood_before { OnOk result
         (StoodBefore K.told K.became keeper.old keeper.new events.now) }
@@ -340,20 +327,12 @@ pub fn drive<K: Restart>(
         (λ fault. is_store fault ≡ false → (told_in K.told keeper.new).is_honest
         → IsFirm (told_in K.told keeper.old) → IsFirm (told_in K.told keeper.new)) }
 
-    // The records that are left: those of the ids that the ledger hands on are deleted.
-    ensures records { OnOk result (NoneReused K.model.serves [] events.now
-        → Reports (told_in K.told keeper.old) (told_in K.told keeper.new) (λ rows records.
-        HoldsRecords (told_in K.told keeper.new)
-        (RecordsLeft K.model.serves events.now records))) }
-    ensures kept { OnOk result ((told_in K.told keeper.new).is_honest
-        → (start : K.model.State) (h : History) (settled : List ℕ)
-        → StandsIn K.told keeper.old start h settled
-        → NoneReused K.model.serves settled events.now
-        → (rows : K.model.Rows) (records : Records)
-        → (told_in K.told keeper.new).holds rows records
-        → (i : ℕ) → is_in settled i ≡ false
-        → is_in (handed_in (performances K.model.serves events.now)) i ≡ false
-        → records i ≡ said K.model start (committed K.model.serves h events.now) i) }
+    // The records that are left: those of the ids that the ledger hands on are deleted, and all
+    // others stay.
+    ensures records { OnOk result (DeletesHanded K.told keeper.old keeper.new
+        (performances K.model.serves events.now) events.now) }
+    ensures kept { OnOk result (KeepsUnhanded K.told keeper.old keeper.new
+        (performances K.model.serves events.now) events.now) }
 {
     histories_grow::<K>();
     let mut outcomes = Vec::new(alloc);
@@ -366,8 +345,8 @@ pub fn drive<K: Restart>(
 }
 
 /// Runs events, and then more of them. Where it goes to the end, the clauses of `drive` for one list
-/// hold of both in a row; but the second begins a ledger of its own.
-/// A fault names an event of the list that it came at.
+/// hold of both in a row; but the second begins a ledger of its own: the ids that the first left
+/// pending are not handed on. A fault names an event of the list that it came at.
 pub fn drive_twice<K: Restart>(
     alloc: Global,
     keeper: &mut Option<K>,
@@ -375,22 +354,14 @@ pub fn drive_twice<K: Restart>(
     more: &[Event],
 ) -> Result<(Vec<Option<Outcome>>, Vec<Option<Outcome>>), DriveFault>
     requires present { IsSomeAnd keeper.old (λ k. (K.told k).has_failed ≡ false) }
-    ensures tree_stands { OnOk result ((told_in K.told keeper.new).is_honest
-        → (start : K.model.State) (h : History) (settled : List ℕ)
-        → StandsIn K.told keeper.old start h settled
-        → NoneReused K.model.serves settled (events.now ++ more.now)
-        → StandsIn K.told keeper.new start
-        (committed K.model.serves h (events.now ++ more.now))
-        (settled_by K.model.serves settled (events.now ++ more.now))) }
-    ensures outcomes { IfOk result (λ both. (told_in K.told keeper.new).is_honest
-        → (start : K.model.State) (h : History) (settled : List ℕ)
-        → StandsIn K.told keeper.old start h settled
-        → NoneReused K.model.serves settled (events.now ++ more.now)
-        → map bytes_given (both.0.items ++ both.1.items) ≡ map
-        (outcome_of K.model start (committed K.model.serves h (events.now ++ more.now)))
-        (events.now ++ more.now)) }
+    ensures tree_stands { OnOk result
+        (StandsAfter K.told keeper.old keeper.new (events.now ++ more.now)) }
+    ensures outcomes { IfOk result (λ both. AnswersAre K.told keeper.old keeper.new
+        (events.now ++ more.now) (both.0.items ++ both.1.items)) }
     ensures first { IfOk result (λ both. length both.0.items ≡ length events.now) }
     ensures second { IfOk result (λ both. length both.1.items ≡ length more.now) }
+    ensures outcomes_before { IfOk result (λ both. AnswersBegin K.told keeper.old keeper.new
+        (events.now ++ more.now) (both.0.items ++ both.1.items)) }
     ensures stood_before { OnOk result
         (StoodBefore K.told K.became keeper.old keeper.new (events.now ++ more.now)) }
     ensures opened { OnOk result
@@ -413,6 +384,12 @@ pub fn drive_twice<K: Restart>(
     ensures medium { KeepsMedium K.told keeper.old keeper.new }
     ensures firm { OnOk result ((told_in K.told keeper.new).is_honest
         → IsFirm (told_in K.told keeper.old) → IsFirm (told_in K.told keeper.new)) }
+    ensures records { OnOk result (DeletesHanded K.told keeper.old keeper.new
+        (performances K.model.serves events.now ++ performances K.model.serves more.now)
+        (events.now ++ more.now)) }
+    ensures kept { OnOk result (KeepsUnhanded K.told keeper.old keeper.new
+        (performances K.model.serves events.now ++ performances K.model.serves more.now)
+        (events.now ++ more.now)) }
 {
     histories_grow::<K>();
     let first = drive(alloc, keeper, events)?;

@@ -5,6 +5,7 @@ use Rattle.fuse_sim.specs.Driving.{bytes_given, committed, outcome_of, settled_b
 use Rattle.fuse_sim.proofs.Driven.{outcomes-append, reused-parts}
 use Rattle.fuse_sim.proofs.Openings.{stands_twice, opened_twice, stood_twice}
 use Rattle.fuse_sim.proofs.TwoLists.{stopped_first, stopped_second}
+use Rattle.fuse_sim.proofs.InARow.{answers_in_a_row, records_in_a_row, kept_in_a_row}
 use Rattle.fuse_sim.proofs.driving.drive_twice.Goals as goal
 
 pub returns-clause-tree_stands : goal.returns-clause-tree_stands
@@ -86,3 +87,23 @@ returns-clause-stood_before g c =
 
 pub returns-clause-firm : goal.returns-clause-firm
 returns-clause-firm g c = λ is so. c.in_ok-second.ensures.firm is (c.in_ok-first.ensures.firm (c.drive-2.ensures.honest is) so)
+
+pub returns-clause-outcomes_before : goal.returns-clause-outcomes_before
+returns-clause-outcomes_before g c =
+    let k = g.K.Keeper in
+    let first = c.in_ok-first.ensures in
+    answers_in_a_row k.model c.histories_grow.ensures k.told c.args.keeper.now c.drive.new.keeper c.drive-2.new.keeper c.args.events.now c.args.more.now
+    c.in_ok-first.first.items c.in_ok-second.second.items c.drive-2.ensures.honest first.tree_stands first.outcomes first.outcomes_before
+    c.in_ok-second.ensures.outcomes_before
+
+pub returns-clause-records : goal.returns-clause-records
+returns-clause-records g c =
+    let k = g.K.Keeper in
+    records_in_a_row k.model k.told c.args.keeper.now c.drive.new.keeper c.drive-2.new.keeper c.args.events.now c.args.more.now c.drive-2.ensures.honest
+    c.in_ok-first.ensures.records c.in_ok-second.ensures.records
+
+pub returns-clause-kept : goal.returns-clause-kept
+returns-clause-kept g c =
+    let k = g.K.Keeper in
+    kept_in_a_row k.model k.told c.args.keeper.now c.drive.new.keeper c.drive-2.new.keeper c.args.events.now c.args.more.now c.drive-2.ensures.honest
+    c.in_ok-first.ensures.tree_stands c.in_ok-first.ensures.kept c.in_ok-second.ensures.kept
