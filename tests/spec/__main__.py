@@ -14,6 +14,7 @@ from spec import serving
 from spec.prefixes import prefixes_of
 from spec.read import BadCase, chain_of, last_said, moved_end, read_all
 from spec.scripts import bad_lines, good_lines
+from spec.starts import lots_over_starts
 from spec.stores import knows_strict_tables, look_into, run_lives
 from spec.trees import run_tables
 from spec.ways import bytes_in, fed, ways_of
@@ -195,6 +196,11 @@ class Cases:
         wanted, seen = serving.settled_after_fault(self.program, self.cases, self.work, self.looks)
         return self.is_same("settled-after-fault", "serve", wanted, seen)
 
+    def starts(self):
+        """Runs case lots-over-starts; whether it passed."""
+        wanted, seen = lots_over_starts(self.program, self.cases, self.work, self.looks)
+        return self.is_same("lots-over-starts", "serve", wanted, seen)
+
     def refuses(self):
         """Whether `serve` refuses bad words."""
         return self.is_same("bad words", "serve", *serving.refused(self.program, self.work))
@@ -259,7 +265,8 @@ def main():
         return print_counts("spec", 0, 1)
     with tempfile.TemporaryDirectory(prefix="spec-", dir=quick_folder()) as work:
         run = Cases(cases, work)
-        right = [run.passes(case) for case in cases.values()] + [run.settles_after_fault(), run.refuses(), run.reads_scripts()]
+        right = [run.passes(case) for case in cases.values()]
+        right += [run.settles_after_fault(), run.starts(), run.refuses(), run.reads_scripts()]
         tables = run.grows()
         right += tables
         run.print_runs()

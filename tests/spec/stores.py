@@ -26,6 +26,13 @@ def look_into(work):
     return (shell.stdout + shell.stderr).splitlines()
 
 
+def lots_in(work):
+    """The lots of the store's file, and how many records each has."""
+    sql = "SELECT 'lot ' || lot || ' records=' || (SELECT count(*) FROM kept WHERE kept.lot = lots.lot) FROM lots ORDER BY lot"
+    shell = subprocess.run(["sqlite3", f"{work}/store", sql], capture_output=True, text=True, check=False)
+    return (shell.stdout + shell.stderr).splitlines()
+
+
 def knows_strict_tables():
     """Whether there is an `sqlite3` that reads the store's tables."""
     words = ["sqlite3", ":memory:", "CREATE TABLE t (k INTEGER PRIMARY KEY) STRICT"]
