@@ -7,7 +7,7 @@ use Rattle.fuse_request.specs.Header.{raw_of}
 use Rattle.fuse_request.specs.Stream.{joined}
 use Rattle.fuse_commands.specs.declared.messages.Placed.{Placed}
 use Rattle.fuse_commands.specs.Dumping.{dump_line, dump_lines}
-use Rattle.fuse_commands.specs.Messages.{GaveMessage, WentSoFar}
+use Rattle.fuse_commands.specs.inner.Messages.{GaveMessage, WentSoFar}
 use Rattle.fuse_commands.specs.Output.{line}
 use Rattle.fuse_commands.proofs.Tallies.{gave_more}
 

@@ -9,8 +9,9 @@ use Rattle.fuse_request.specs.declared.framer.FrameFault.TheVariants.{Short, Too
 use Rattle.fuse_request.specs.Stream.{is_whole, CutSteps}
 use Rattle.fuse_request.specs.Framing.{Held, HasNone, GivesNext, bad_length, end_fault, needed}
 use Rattle.fuse_commands.specs.declared.ending.Ending.{Ending}
-use Rattle.fuse_commands.specs.Endings.{stream_ending, GaveOut}
-use Rattle.fuse_commands.specs.Messages.{HasFault}
+use Rattle.fuse_commands.specs.Endings.{stream_ending}
+use Rattle.fuse_commands.specs.inner.Failing.{GaveOut}
+use Rattle.fuse_commands.specs.inner.Messages.{HasFault}
 
 -- a bad length stays one with more bytes after it
 longer_bad : (at : ℕ) (w r : List ℕ) (f : FrameFault) → bad_length at w ≡ Some f → bad_length at (w ++ r) ≡ Some f

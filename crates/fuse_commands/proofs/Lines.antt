@@ -10,7 +10,8 @@ use Rattle.hex.specs.Hex.{encode_lower}
 use Rattle.fuse_wire.specs.Bytes.{le, IsBytes, IsOneNumber}
 use Rattle.fuse_request.specs.Stream.{joined}
 use Rattle.fuse_answer.specs.Laws.{BeginsWithLen}
-use Rattle.fuse_commands.specs.Output.{line, answer_lines, IsAnswer}
+use Rattle.fuse_commands.specs.Output.{line, answer_lines}
+use Rattle.fuse_commands.specs.inner.Sending.{IsAnswer}
 
 -- the first answer that is not empty
 pub record First (answers : List (List ℕ)) : Type 0 where

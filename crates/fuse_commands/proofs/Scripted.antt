@@ -15,7 +15,8 @@ use Rattle.std.proofs.lemmas.Str.Parse.{digits_value-take-le}
 use Rattle.fuse_sim.specs.declared.event.Event.{Event}
 use Rattle.fuse_sim.specs.declared.event.Fate.{Fate}
 use Rattle.fuse_sim.specs.declared.event.Fate.TheVariants.{Answered, AnswerLost, DiedBeforeCommit, DiedAfterCommit}
-use Rattle.fuse_commands.specs.Scripts.{lines_of, parts_in, word_of, Lacks, IsSeconds, HasParts, IsHexOf, Writes, WritesAll, TookLine, IsBad, FirstBad}
+use Rattle.fuse_commands.specs.Scripts.{lines_of, word_of, IsSeconds, HasParts, IsHexOf, Writes, WritesAll, IsBad, FirstBad}
+use Rattle.fuse_commands.specs.inner.Scripts.{parts_in, Lacks, TookLine}
 
 -- ---- seconds
 

@@ -40,8 +40,8 @@ use Rattle.fuse_session.specs.Ends.{EndsAs, SentExactly, ExactAt, counts_at}
 use Rattle.fuse_commands.specs.declared.ending.Ending.{Ending}
 use Rattle.fuse_commands.specs.declared.ending.Ending.TheVariants.{Done, ZeroUnique}
 use Rattle.fuse_commands.specs.Endings.{session_ending, stream_ending, store_ending, status_of, IsOfStream}
-use Rattle.fuse_commands.specs.Output.{IsAnswer}
-use Rattle.fuse_commands.specs.Replaying.{EndsAt, EndsFaulty, Replayed, Faulted, StandsForPrefix, AsksFor, Sends, Prints, PrintsAnswers}
+use Rattle.fuse_commands.specs.Replaying.{Parts, EndsAt, EndsFaulty, Replayed, Faulted, StandsForPrefix, AsksFor, Prints, PrintsAnswers}
+use Rattle.fuse_commands.specs.inner.Sending.{IsAnswer, Sends}
 
 -- ---- a stream port reports no answer as gone
 
@@ -66,6 +66,9 @@ settled_nothing : (V : OpcodeSet) (ms : List (List ℕ)) (marks : List Mark) →
 settled_nothing V [] marks each = refl
 settled_nothing V (m ∷ ms) [] each = refl
 settled_nothing V (m ∷ ms) (mark ∷ marks) each = rw (settles_nothing V m mark each.0, settled_nothing V ms marks each.1) refl
+
+nothing_settled : (V : OpcodeSet) (t : List ℕ) (ms : List (List ℕ)) (marks : List Mark) → AllByRecursion IsTaken marks → t ++ settled_in V false ms marks ≡ t
+nothing_settled V t ms marks each = ap (λ (x : List ℕ). t ++ x) (settled_nothing V ms marks each) ∙ append-nil t
 
 none_again : (V : OpcodeSet) (t : List ℕ) (ms : List (List ℕ)) (marks : List Mark) → AllByRecursion IsTaken marks → AllByRecursion (MayCome V t) ms
     → NoneComesAgain V false t ms marks
@@ -105,8 +108,7 @@ settled {M} k k' did coming p ids ids' prefix going counts sent none port_ends t
     let taken = all_taken (Some []) turned.marks r.places (sym r.gone ∙ port_ends.gone) r.placed in
     let a = turned.all honest s h t so (λ i there. absurd (cc (ap (λ (x : List ℕ). x) none, there)))
     (none_again M.serves t (bytes_of turned.timed) turned.marks taken may_come) in
-    let same : t ++ settled_in M.serves false (bytes_of turned.timed) turned.marks ≡ t =
-    ap (λ (x : List ℕ). t ++ x) (settled_nothing M.serves (bytes_of turned.timed) turned.marks taken) ∙ append-nil t in
+    let same = nothing_settled M.serves t (bytes_of turned.timed) turned.marks taken in
     record {
       works = a.works;
       goes = a.goes;
@@ -225,24 +227,31 @@ counts_shown session.Memory counts n shown unheard of_stream is so = absurd (ome
 
 -- ---- each end
 
+abbrev parts_in : List ℕ → List Timed → List (List ℕ) → Parts
+parts_in input timed others = record { timed = timed; others = others; rest = (cut input).1 }
+
 -- all messages were processed
 rested : {M : Model} (k k' : KeeperState M) (moment : Moment) (did : Deeds → Type 0)
     (each : (d : Deeds) → did d → AllByRecursion (λ t. t ≡ moment) d.moments) (input sent : List ℕ) (p : PortState) (ids' rest : List ℕ) (place : ℕ)
     (counts : SessionCounts) (ending : Ending) → PortEnds p sent
     → (w : Whole k k' did (fresh (Some input) (Some []) false) p [] ids' [] rest 0 place counts) → (cut input).0 ≡ (cut w.received).0
     → ((s : M.State) (h : History) (timed : List Timed) → GoesOn M s h timed → place ≡ length (joined (bytes_of timed))
-    → EndsAt M ending s h timed [] (length (joined (bytes_of timed))) (cut input).1)
+    → EndsAt M s h (parts_in input timed []) ending)
     → Replayed k k' moment input ending (Sends sent counts)
 rested {M} k k' moment did each input sent p ids' rest place counts ending port_ends w same ends =
     let at : place ≡ length (joined (bytes_of w.turned.timed)) = omega (arith, w.at, ap (λ ms. length (joined ms)) w.turned.bytes) in
+    let here = settled k k' (Hears did w.received) (Some input) p [] ids' (cut w.received).0 true counts sent refl port_ends w.turned in
     record {
-      timed = w.turned.timed;
-      others = [];
-      parts = same ∙ w.turned.bytes ∙ sym (append-nil (bytes_of w.turned.timed));
-      moments = subst (AllByRecursion (λ t. t ≡ moment)) w.turned.moments (each w.turned.deeds w.turned.done.0);
-      all = λ honest s h t so may.
-          let d = settled k k' (Hears did w.received) (Some input) p [] ids' (cut w.received).0 true counts sent refl port_ends w.turned honest s h t so may in
-          record { works = d.works; ends = ends s h w.turned.timed (d.goes refl) at; stands = d.stands; gave = d.sends };
+      parts = parts_in input w.turned.timed [];
+      are = record {
+        messages = same ∙ w.turned.bytes ∙ sym (append-nil (bytes_of w.turned.timed));
+        rest = refl;
+        moments = subst (AllByRecursion (λ t. t ≡ moment)) w.turned.moments (each w.turned.deeds w.turned.done.0);
+      };
+      processed = λ honest s h t so may.
+          let d = here honest s h t so may in
+          record { works = d.works; stood = d.stands; gave = d.sends };
+      ends = λ honest s h t so may. ends s h w.turned.timed ((here honest s h t so may).goes refl) at;
     }
 
 zero_more : (ms more : List (List ℕ)) → StartsZero ms → StartsZero (ms ++ more)
@@ -258,7 +267,7 @@ halted : CutJoins
     → Turned k k' (Hears did received) (fresh (Some input) (Some []) false) p [] ids' prefix going counts
     → ((s : M.State) (h : History) (timed : List Timed) (more : List (List ℕ)) → (going ≡ true → GoesOn M s h timed) → (going ≡ false → EndsLast M s h timed)
     → place ≡ length (joined (bytes_of timed))
-    → EndsAt M ending s h timed (others ++ more) (length (joined (bytes_of timed))) (cut input).1)
+    → EndsAt M s h (parts_in input timed (others ++ more)) ending)
     → Replayed k k' moment input ending (Sends sent counts)
 halted joins {M} k k' moment did each input sent p ids' received prefix others going place counts ending port_ends came_from parts place_is turned ends =
     let c = came input p.coming received came_from in
@@ -266,23 +275,29 @@ halted joins {M} k k' moment did each input sent p ids' received prefix others g
     let all = cut_came joins input received c.later c.parts in
     let timed = turned.timed in
     let at : place ≡ length (joined (bytes_of timed)) = omega (arith, place_is, ap (λ ms. length (joined ms)) turned.bytes) in
+    let here = settled k k' (Hears did received) (Some input) p [] ids' prefix going counts sent refl port_ends turned in
     record {
-      timed = timed;
-      others = others ++ more;
-      parts = ap (λ (x : List (List ℕ) × List ℕ). x.0) all ∙ ap (λ ms. ms ++ more) (parts ∙ ap (λ ms. ms ++ others) turned.bytes)
-          ∙ append_assoc (bytes_of timed) others more;
-      moments = subst (AllByRecursion (λ t. t ≡ moment)) turned.moments (each turned.deeds turned.done.0);
-      all = λ honest s h t so may.
-          let d = settled k k' (Hears did received) (Some input) p [] ids' prefix going counts sent refl port_ends turned honest s h t so may in
-          record { works = d.works; ends = ends s h timed more d.goes d.last at; stands = d.stands; gave = d.sends };
+      parts = parts_in input timed (others ++ more);
+      are = record {
+        messages = ap (λ (x : List (List ℕ) × List ℕ). x.0) all ∙ ap (λ ms. ms ++ more) (parts ∙ ap (λ ms. ms ++ others) turned.bytes)
+            ∙ append_assoc (bytes_of timed) others more;
+        rest = refl;
+        moments = subst (AllByRecursion (λ t. t ≡ moment)) turned.moments (each turned.deeds turned.done.0);
+      };
+      processed = λ honest s h t so may.
+          let d = here honest s h t so may in
+          record { works = d.works; stood = d.stands; gave = d.sends };
+      ends = λ honest s h t so may.
+          let d = here honest s h t so may in
+          ends s h timed more d.goes d.last at;
     }
 
-faulty : (M : Model) (f : FrameFault) (s : M.State) (h : History) (timed : List Timed) (others : List (List ℕ)) (place : ℕ) (rest : List ℕ)
-    → IsOfStream (stream_ending f) → EndsFaulty M s h timed others place rest f → EndsAt M (stream_ending f) s h timed others place rest
-faulty M (frame.Short at len) s h timed others place rest of_stream e = e
-faulty M (frame.TooLong at len) s h timed others place rest of_stream e = e
-faulty M (frame.Cut at have need) s h timed others place rest of_stream e = e
-faulty M frame.Memory s h timed others place rest of_stream e = absurd (omega (arith, of_stream))
+faulty : (M : Model) (f : FrameFault) (s : M.State) (h : History) (parts : Parts) → IsOfStream (stream_ending f) → EndsFaulty M s h parts f
+    → EndsAt M s h parts (stream_ending f)
+faulty M (frame.Short at len) s h parts of_stream e = e
+faulty M (frame.TooLong at len) s h parts of_stream e = e
+faulty M (frame.Cut at have need) s h parts of_stream e = e
+faulty M frame.Memory s h parts of_stream e = absurd (omega (arith, of_stream))
 
 pub replayed : CutJoins → CutSteps
     → {M : Model} (k k' : KeeperState M) (moment : Moment) (did : Deeds → Type 0)
@@ -306,16 +321,14 @@ replayed joins steps k k' moment did each input sent p turns (session.Frame f) c
       | inl length_bad ↦
           let b = bad_came joins steps input r.whole.received c.later r.rest r.place f c.parts r.whole.rest_is length_bad in
           rested k k' moment did each input sent p r.pending' r.rest r.place counts (stream_ending f) port_ends r.whole b.0
-          (λ s h timed goes at. faulty _ f s h timed [] (length (joined (bytes_of timed)))
-          (cut input).1 of_stream (goes, refl, subst (λ n. end_fault n (cut input).1 ≡ Some f) at b.1))
+          (λ s h timed goes at. faulty _ f s h (parts_in input timed []) of_stream (goes, refl, subst (λ n. end_fault n (cut input).1 ≡ Some f) at b.1))
       | inr cut_off ↦
           let same = all_came input r.whole.received c.later c.parts (c.over cut_off.0.0.1) in
           let fault : end_fault r.place (cut input).1 ≡ Some f =
           subst (λ w. end_fault r.place w ≡ Some f) (r.whole.rest_is ∙ sym (ap (λ (x : List (List ℕ) × List ℕ). x.1) same)) cut_off.2 in
           rested k k' moment did each input sent p r.pending' r.rest r.place counts (stream_ending f) port_ends r.whole
           (ap (λ (x : List (List ℕ) × List ℕ). x.0) same)
-          (λ s h timed goes at. faulty _ f s h timed [] (length (joined (bytes_of timed)))
-          (cut input).1 of_stream (goes, refl, subst (λ n. end_fault n (cut input).1 ≡ Some f) at fault))
+          (λ s h timed goes at. faulty _ f s h (parts_in input timed []) of_stream (goes, refl, subst (λ n. end_fault n (cut input).1 ≡ Some f) at fault))
     ]
 replayed joins steps k k' moment did each input sent p turns (session.ZeroUnique at) counts port_ends e of_stream =
     let w = e.stopped.worked in
@@ -355,29 +368,31 @@ faulted joins {M} k k' fault moment did each input sent p clean_honest port_ends
     let sent_so = sent_is p.sent sent (joined (replies life.marks) ++ []) port_ends.sent_is r.sent in
     record {
       fault = fault;
-      ends_so = refl;
-      timed = life.timed;
-      others = life.others ++ more;
-      parts = ap (λ (x : List (List ℕ) × List ℕ). x.0) (cut_came joins input life.received c.later c.parts) ∙ ap (λ ms. ms ++ more) life.prefix
-          ∙ append_assoc (bytes_of life.timed) life.others more;
-      moments =
-          each_prefix (λ t. t ≡ moment) (moments_in M.serves life.timed) life.moments.0
-          (subst (AllByRecursion (λ t. t ≡ moment)) life.moments.1 (each life.deeds life.done.0));
-      all = λ clean s h t so may.
+      ending_is = refl;
+      parts = parts_in input life.timed (life.others ++ more);
+      are = record {
+        messages = ap (λ (x : List (List ℕ) × List ℕ). x.0) (cut_came joins input life.received c.later c.parts) ∙ ap (λ ms. ms ++ more) life.prefix
+            ∙ append_assoc (bytes_of life.timed) life.others more;
+        rest = refl;
+        moments =
+            each_prefix (λ t. t ≡ moment) (moments_in M.serves life.timed) life.moments.0
+            (subst (AllByRecursion (λ t. t ≡ moment)) life.moments.1 (each life.deeds life.done.0));
+      };
+      processed = λ clean s h t so may.
           let l = life.exactly (clean_honest clean) s h t so (λ i there. absurd (cc there)) (none_again M.serves t (bytes_of life.timed) life.marks taken may) in
-          let g = grown h (kept_in M.serves l.worked) in
-          let same : t ++ settled_in M.serves false (bytes_of l.worked) life.marks ≡ t =
-          ap (λ (x : List ℕ). t ++ x) (settled_nothing M.serves (bytes_of l.worked) life.marks taken) ∙ append-nil t in (
-            record {
-              processed = l.worked;
-              unprocessed = l.unprocessed;
-              parts = l.parts;
+          record {
+            prefix = l.worked;
+            unprocessed = l.unprocessed;
+            parts = l.parts;
+            processed = record {
               works = l.works;
-              stands = subst (StandsFor k' s g) same (l.stands clean).0;
+              stood = subst (StandsFor k' s (grown h (kept_in M.serves l.worked))) (nothing_settled M.serves t (bytes_of l.worked) life.marks taken) (l.stands clean).0;
               gave = sent_so ∙ append-nil (joined (replies life.marks)) ∙ ap joined l.sent;
-            },
-            (l.stands clean).1,
-          );
+            };
+          };
+      may = λ clean s h t so may.
+          let l = life.exactly (clean_honest clean) s h t so (λ i there. absurd (cc there)) (none_again M.serves t (bytes_of life.timed) life.marks taken may) in
+          (l.stands clean).1;
     }
 
 -- status 3 comes by a fault of the store alone
@@ -463,45 +478,47 @@ kept joins {M} k k' store memory may_fault moment did each performed asks input 
     let more = (cut ((cut run.received).1 ++ c.later)).0 in
     let taken = all_taken (Some []) b.marks b.replied.places (sym b.replied.gone ∙ gone) b.replied.placed in
     record {
-      timed = b.timed;
-      others = b.others ++ more;
-      parts = ap (λ (x : List (List ℕ) × List ℕ). x.0) (cut_came joins input run.received c.later c.parts) ∙ ap (λ ms. ms ++ more) b.prefix
-          ∙ append_assoc (bytes_of b.timed) b.others more;
-      moments =
-          each_prefix (λ t. t ≡ moment) (moments_in M.serves b.timed) b.moments.0
-          (subst (AllByRecursion (λ t. t ≡ moment)) b.moments.1 (each b.deeds b.done.0));
+      parts = parts_in input b.timed (b.others ++ more);
+      are = record {
+        messages = ap (λ (x : List (List ℕ) × List ℕ). x.0) (cut_came joins input run.received c.later c.parts) ∙ ap (λ ms. ms ++ more) b.prefix
+            ∙ append_assoc (bytes_of b.timed) b.others more;
+        rest = refl;
+        moments =
+            each_prefix (λ t. t ≡ moment) (moments_in M.serves b.timed) b.moments.0
+            (subst (AllByRecursion (λ t. t ≡ moment)) b.moments.1 (each b.deeds b.done.0));
+      };
       asked = b.deeds.asked;
       was_asked = asks b.deeds b.done.0;
       asks =
           subst (λ (x : List Timed). AsksFor M.serves x b.deeds.asked) (sym b.are.messages)
           (subst (λ (a : List Performance). AsksFor M.serves (timed_in b.batches) a) (sym b.asked)
           (asks_for M.serves b.batches (subst (AllByRecursion IsTaken) b.are.answers taken)));
-      all = λ clean s h t so may.
+      stands = λ clean s h t so may.
           let l = b.life clean s h t so (λ i there. absurd (cc there)) (none_again M.serves t (bytes_of b.timed) b.marks taken may) in
-          let same : t ++ settled_in M.serves false (bytes_of l.worked) b.marks ≡ t =
-          ap (λ (x : List ℕ). t ++ x) (settled_nothing M.serves (bytes_of l.worked) b.marks taken) ∙ append-nil t in
           record {
-            processed = l.worked;
+            prefix = l.worked;
             unprocessed = l.unprocessed;
             parts = l.parts;
-            works = l.works;
-            stands = subst (StandsFor k' s (grown h (kept_in M.serves l.worked))) same l.stands;
-            gave = tt;
+            processed = record {
+              works = l.works;
+              stood = subst (StandsFor k' s (grown h (kept_in M.serves l.worked))) (nothing_settled M.serves t (bytes_of l.worked) b.marks taken) l.stands;
+              gave = tt;
+            };
           };
       crash = λ honest firm s h t so may.
           let left = b.crash honest firm s h t so (λ i there. absurd (cc there)) (none_again M.serves t (bytes_of b.timed) b.marks taken may) in (
             left.0,
             λ x r may_leave.
                 let l = left.1 x r may_leave in
-                let same : t ++ settled_in M.serves false (bytes_of l.worked) b.marks ≡ t =
-                ap (λ (y : List ℕ). t ++ y) (settled_nothing M.serves (bytes_of l.worked) b.marks taken) ∙ append-nil t in
                 record {
-                  processed = l.worked;
+                  prefix = l.worked;
                   unprocessed = l.unprocessed;
                   parts = l.parts;
-                  works = l.works;
-                  stands = subst (Stands M x r s (grown h (kept_in M.serves l.worked))) same l.stands;
-                  gave = tt;
+                  processed = record {
+                    works = l.works;
+                    stood = subst (Stands M x r s (grown h (kept_in M.serves l.worked))) (nothing_settled M.serves t (bytes_of l.worked) b.marks taken) l.stands;
+                    gave = tt;
+                  };
                 },
           );
     }
@@ -537,20 +554,18 @@ pub printed : {M : Model} → LenStandsFirst → SaidFits M
     → ((answers : List (List ℕ)) → AllByRecursion IsAnswer answers → sent ≡ joined answers → Prints written written' answers counts)
     → Replayed k k' moment input ending (Sends sent counts) → Replayed k k' moment input ending (Prints written written')
 printed {M} len fits k k' moment input sent counts ending written written' prints r = record {
-  timed = r.timed;
-  others = r.others;
   parts = r.parts;
-  moments = r.moments;
-  all = λ honest s h t so may.
-      let d = r.all honest s h t so may in
-      let g = grown h (kept_in M.serves r.timed) in
+  are = r.are;
+  processed = λ honest s h t so may.
+      let d = r.processed honest s h t so may in
+      let timed = r.parts.timed in
+      let g = grown h (kept_in M.serves timed) in
       record {
         works = d.works;
-        ends = d.ends;
-        stands = d.stands;
-        gave =
-            subst (Prints written written' (answers M s g r.timed)) d.gave.1 (prints (answers M s g r.timed) (answers_begin M len fits s g r.timed) d.gave.0);
+        stood = d.stood;
+        gave = subst (Prints written written' (answers M s g timed)) d.gave.1 (prints (answers M s g timed) (answers_begin M len fits s g timed) d.gave.0);
       };
+  ends = r.ends;
 }
 
 pub fault_printed : {M : Model} → LenStandsFirst → SaidFits M
@@ -559,22 +574,21 @@ pub fault_printed : {M : Model} → LenStandsFirst → SaidFits M
     → Faulted k k' moment input ending (λ answers. sent ≡ joined answers) → Faulted k k' moment input ending (PrintsAnswers written written')
 fault_printed {M} len fits k k' moment input sent ending written written' prints f = record {
   fault = f.fault;
-  ends_so = f.ends_so;
-  timed = f.timed;
-  others = f.others;
+  ending_is = f.ending_is;
   parts = f.parts;
-  moments = f.moments;
-  all = λ clean s h t so may.
-      let d = (f.all clean s h t so may).0 in
-      let g = grown h (kept_in M.serves d.processed) in (
-        record {
-          processed = d.processed;
-          unprocessed = d.unprocessed;
-          parts = d.parts;
-          works = d.works;
-          stands = d.stands;
-          gave = prints (answers M s g d.processed) (answers_begin M len fits s g d.processed) d.gave;
-        },
-        (f.all clean s h t so may).1,
-      );
+  are = f.are;
+  processed = λ clean s h t so may.
+      let d = f.processed clean s h t so may in
+      let g = grown h (kept_in M.serves d.prefix) in
+      record {
+        prefix = d.prefix;
+        unprocessed = d.unprocessed;
+        parts = d.parts;
+        processed = record {
+          works = d.processed.works;
+          stood = d.processed.stood;
+          gave = prints (answers M s g d.prefix) (answers_begin M len fits s g d.prefix) d.processed.gave;
+        };
+      };
+  may = f.may;
 }

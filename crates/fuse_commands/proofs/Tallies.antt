@@ -13,7 +13,8 @@ use Rattle.fuse_request.specs.Framing.{HasNone, end_fault}
 use Rattle.fuse_commands.specs.declared.check.MessageCounts.{MessageCounts}
 use Rattle.fuse_commands.specs.declared.messages.Placed.{Placed}
 use Rattle.fuse_commands.specs.declared.ending.Ending.{Ending}
-use Rattle.fuse_commands.specs.Messages.{GaveMessage, GaveSome, GivesPlaced, WentSoFar, WentThrough, fault_of}
+use Rattle.fuse_commands.specs.Messages.{fault_of}
+use Rattle.fuse_commands.specs.inner.Messages.{GaveMessage, GaveSome, GivesPlaced, WentSoFar, WentThrough}
 use Rattle.fuse_commands.specs.Checking.{is_malformed, is_unsupported, checked}
 use Rattle.fuse_commands.proofs.Known.{consumes_then}
 

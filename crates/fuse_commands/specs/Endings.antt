@@ -1,5 +1,5 @@
 -- The table of endings: the exit status of each, and its line on standard error (own profile).
-use Rattle.std.specs.Prelude.{◌≤◌, ◌<◌, List, ℕ, ◌++◌, codes, decimal, Option, Some, None}
+use Rattle.std.specs.Prelude.{◌≤◌, List, ℕ, ◌++◌, codes, decimal, Option, Some, None}
 use Rattle.fuse_request.specs.declared.framer.FrameFault.{FrameFault}
 use Rattle.fuse_request.specs.declared.framer.FrameFault.TheVariants as frame
 use Rattle.fuse_keeper.specs.declared.fault.StoreFault.{StoreFault}
@@ -37,10 +37,6 @@ status_of Memory = 5
 -- the stream was processed to its end or its first fault
 abbrev pub IsOfStream : Ending → Type 0
 IsOfStream ending = status_of ending ≤ 1
-
--- the input, the output or memory failed
-abbrev pub GaveOut : Ending → Type 0
-GaveOut ending = 3 < status_of ending
 
 -- the line, without its line feed; at Usage clap prints the text, at Malformed the counts are printed
 abbrev pub line_of : Ending → Option (List ℕ)

@@ -1,16 +1,7 @@
 -- An input, read piece by piece (own profile).
-use Rattle.std.specs.Prelude.{◌+◌, ◌-◌, ◌^◌, ℕ, List, take, min, Option}
+use Rattle.std.specs.Prelude.{◌+◌, ◌-◌, ◌^◌, ℕ, List, min, Option}
 use Rattle.fuse_commands.specs.declared.progress.ProgressLine.{ProgressLine}
 use Rattle.fuse_commands.specs.declared.progress.ProgressReader.{ProgressReader}
-use Rattle.fuse_commands.specs.declared.input.PieceReader.{PieceReader}
-
--- the unread bytes, if known
-abbrev pub left_to : {R : Type 0} → (R → Option (List ℕ)) → PieceReader R → Option (List ℕ)
-left_to remaining p = remaining p.reader
-
--- the last piece
-abbrev pub piece_in : {R : Type 0} → PieceReader R → List ℕ
-piece_in p = take p.len p.buffer.items
 
 -- the inner reader
 abbrev pub reader_in : {R : Type 0} → {T : Type 0} → ProgressReader R T → R

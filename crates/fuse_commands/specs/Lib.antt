@@ -8,3 +8,4 @@ pub mod Replaying
 pub mod Scripts
 pub mod ServingRuns
 pub mod Simulating
+pub mod inner

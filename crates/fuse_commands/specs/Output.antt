@@ -2,7 +2,6 @@
 use Rattle.std.specs.Prelude.{◌/◌, ℕ, List, [], ◌∷◌, ◌++◌, Option, Some, None, codes, decimal}
 use Rattle.std.specs.List.{flat_map}
 use Rattle.hex.specs.Hex.{encode_lower}
-use Rattle.fuse_answer.specs.Laws.{BeginsWithLen}
 use Rattle.fuse_session.specs.declared.counts.SessionCounts.{SessionCounts}
 
 -- a line feed ends each line
@@ -16,11 +15,6 @@ answer_line (x ∷ xs) = line (encode_lower (x ∷ xs))
 
 abbrev pub answer_lines : List (List ℕ) → List ℕ
 answer_lines answers = flat_map answer_line answers
-
--- nothing, or an answer that begins with its own length
-abbrev pub IsAnswer : List ℕ → Type 0
-IsAnswer [] = Unit {0}
-IsAnswer (x ∷ xs) = BeginsWithLen (x ∷ xs)
 
 -- the counts of a session, without the line feed
 abbrev pub count_line : SessionCounts → List ℕ

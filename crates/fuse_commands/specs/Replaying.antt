@@ -23,82 +23,89 @@ use Rattle.fuse_commands.specs.declared.ending.Ending.TheVariants.{Done, Short, 
 use Rattle.fuse_commands.specs.Endings.{store_ending}
 use Rattle.fuse_commands.specs.Output.{line, answer_lines, count_line}
 
--- all messages were processed, and the rest after them at this offset has this fault
-abbrev pub EndsFaulty : (M : Model) → M.State → History → List Timed → List (List ℕ) → ℕ → List ℕ → FrameFault → Type 0
-EndsFaulty M s h timed others place rest fault = GoesOn M s h timed × (others ≡ []) × (end_fault place rest ≡ Some fault)
+-- a stream: a prefix of its messages with their moments, the other messages, and the bytes after the last one
+pub record Parts : Type 0 where
+  pub timed : List Timed
+  pub others : List (List ℕ)
+  pub rest : List ℕ
 
--- why no more messages were processed: these others follow at this offset, and then the rest of the stream
-abbrev pub EndsAt : (M : Model) → Ending → M.State → History → List Timed → List (List ℕ) → ℕ → List ℕ → Type 0
-EndsAt M Done s h timed others place rest = EndsLast M s h timed ⊎ (GoesOn M s h timed × (others ≡ []) × (rest ≡ []))
-EndsAt M (Short at len) s h timed others place rest = EndsFaulty M s h timed others place rest (frame.Short at len)
-EndsAt M (TooLong at len) s h timed others place rest = EndsFaulty M s h timed others place rest (frame.TooLong at len)
-EndsAt M (Cut at have need) s h timed others place rest = EndsFaulty M s h timed others place rest (frame.Cut at have need)
-EndsAt M (ZeroUnique at) s h timed others place rest = GoesOn M s h timed × StartsZero others × (at ≡ place)
-EndsAt M _ s h timed others place rest = ⊥
+-- they are the parts of this input, and each kept message of the prefix has this moment
+pub record ArePartsOf (input : List ℕ) (V : OpcodeSet) (moment : Moment) (parts : Parts) : Type 0 where
+  pub messages : (cut input).0 ≡ bytes_of parts.timed ++ parts.others
+  pub rest : (cut input).1 ≡ parts.rest
+  pub moments : AllByRecursion (λ t. t ≡ moment) (moments_in V parts.timed)
 
--- messages were processed to the end or the first fault of the stream; Gave holds of their answers and counts
-pub record Replay (M : Model) (stood : History → Type 0) (s : M.State) (h : History) (timed : List Timed) (others : List (List ℕ)) (rest : List ℕ)
-    (ending : Ending) (Gave : List (List ℕ) → SessionCounts → Type 0) : Type 0 where
+-- the offset of the other messages
+abbrev pub offset_in : Parts → ℕ
+offset_in parts = length (joined (bytes_of parts.timed))
+
+-- all messages were processed, and the rest has this fault
+abbrev pub EndsFaulty : (M : Model) → M.State → History → Parts → FrameFault → Type 0
+EndsFaulty M s h parts fault = GoesOn M s h parts.timed × (parts.others ≡ []) × (end_fault (offset_in parts) parts.rest ≡ Some fault)
+
+-- why no more messages were processed than the prefix
+abbrev pub EndsAt : (M : Model) → M.State → History → Parts → Ending → Type 0
+EndsAt M s h parts Done = EndsLast M s h parts.timed ⊎ (GoesOn M s h parts.timed × (parts.others ≡ []) × (parts.rest ≡ []))
+EndsAt M s h parts (Short at len) = EndsFaulty M s h parts (frame.Short at len)
+EndsAt M s h parts (TooLong at len) = EndsFaulty M s h parts (frame.TooLong at len)
+EndsAt M s h parts (Cut at have need) = EndsFaulty M s h parts (frame.Cut at have need)
+EndsAt M s h parts (ZeroUnique at) = GoesOn M s h parts.timed × StartsZero parts.others × (at ≡ offset_in parts)
+EndsAt M s h parts _ = ⊥
+
+-- these messages were processed; Stood holds of the history that they led to, and Gave of their answers
+pub record Processed (M : Model) (Stood : History → Type 0) (s : M.State) (h : History) (timed : List Timed) (Gave : List (List ℕ) → Type 0)
+    : Type 0 where
   pub works : Works M s h timed
-  pub ends : EndsAt M ending s h timed others (length (joined (bytes_of timed))) rest
-  pub stands : stood (grown h (kept_in M.serves timed))
-  pub gave : Gave (answers M s (grown h (kept_in M.serves timed)) timed) (counted M.serves h timed)
+  pub stood : Stood (grown h (kept_in M.serves timed))
+  pub gave : Gave (answers M s (grown h (kept_in M.serves timed)) timed)
 
--- a prefix of the messages of the input was processed, the kept ones at this moment, for any history of the keeper and any
--- settled ids that do not come again
+-- a prefix of these messages was processed
+pub record ProcessedPrefix (M : Model) (Stood : History → Type 0) (s : M.State) (h : History) (timed : List Timed) (Gave : List (List ℕ) → Type 0)
+    : Type 0 where
+  pub prefix : List Timed
+  pub unprocessed : List Timed
+  pub parts : timed ≡ prefix ++ unprocessed
+  pub processed : Processed M Stood s h prefix Gave
+
+-- P holds whatever the keeper stood for, where none of the messages has a settled id
+abbrev pub WhateverStood : {M : Model} → KeeperState M → List Timed → (M.State → History → List ℕ → Type 0) → Type 0
+WhateverStood {M} k timed P = (s : M.State) (h : History) (t : List ℕ) → StandsFor k s h t → AllByRecursion (MayCome M.serves t) (bytes_of timed) → P s h t
+
+-- a prefix of the messages of the input was processed at this moment, up to the end, the first fault or a message that stops the session;
+-- Gave holds of the answers and the counts
 pub record Replayed {M : Model} (k k' : KeeperState M) (moment : Moment) (input : List ℕ) (ending : Ending)
     (Gave : List (List ℕ) → SessionCounts → Type 0) : Type 0 where
-  pub timed : List Timed
-  pub others : List (List ℕ)
-  pub parts : (cut input).0 ≡ bytes_of timed ++ others
-  pub moments : AllByRecursion (λ t. t ≡ moment) (moments_in M.serves timed)
-  pub all : k'.is_honest → (s : M.State) (h : History) (t : List ℕ) → StandsFor k s h t → AllByRecursion (MayCome M.serves t) (bytes_of timed)
-      → Replay M (λ g. StandsFor k' s g t) s h timed others (cut input).1 ending Gave
+  pub parts : Parts
+  pub are : ArePartsOf input M.serves moment parts
+  pub processed : k'.is_honest → WhateverStood k parts.timed (λ s h t. Processed M (λ g. StandsFor k' s g t) s h parts.timed
+      (λ answers. Gave answers (counted M.serves h parts.timed)))
+  pub ends : k'.is_honest → WhateverStood k parts.timed (λ s h t. EndsAt M s h parts ending)
 
--- a prefix of these messages was processed, and Gave holds of their answers
-pub record Part (M : Model) (stood : History → Type 0) (s : M.State) (h : History) (timed : List Timed) (Gave : List (List ℕ) → Type 0) : Type 0 where
-  pub processed : List Timed
-  pub unprocessed : List Timed
-  pub parts : timed ≡ processed ++ unprocessed
-  pub works : Works M s h processed
-  pub stands : stood (grown h (kept_in M.serves processed))
-  pub gave : Gave (answers M s (grown h (kept_in M.serves processed)) processed)
-
--- the store returned a fault that the keeper may return, after a prefix of the messages of the input, the kept ones at this
--- moment
+-- the store returned a fault that the keeper may return, after a prefix of the messages of the input was processed at this moment
 pub record Faulted {M : Model} (k k' : KeeperState M) (moment : Moment) (input : List ℕ) (ending : Ending) (Gave : List (List ℕ) → Type 0) : Type 0 where
   pub fault : StoreFault
-  pub ends_so : ending ≡ store_ending fault
-  pub timed : List Timed
-  pub others : List (List ℕ)
-  pub parts : (cut input).0 ≡ bytes_of timed ++ others
-  pub moments : AllByRecursion (λ t. t ≡ moment) (moments_in M.serves timed)
-  pub all : k'.is_clean → (s : M.State) (h : History) (t : List ℕ) → StandsFor k s h t → AllByRecursion (MayCome M.serves t) (bytes_of timed)
-      → Part M (λ g. StandsFor k' s g t) s h timed Gave × k.may_answer fault
+  pub ending_is : ending ≡ store_ending fault
+  pub parts : Parts
+  pub are : ArePartsOf input M.serves moment parts
+  pub processed : k'.is_clean → WhateverStood k parts.timed (λ s h t. ProcessedPrefix M (λ g. StandsFor k' s g t) s h parts.timed Gave)
+  pub may : k'.is_clean → WhateverStood k parts.timed (λ s h t. k.may_answer fault)
 
 -- a keeper was asked to perform the kept messages of these in groups, each once and in order, and no id was settled
 pub record AsksFor (V : OpcodeSet) (timed : List Timed) (asked : List Performance) : Type 0 where
   pub groups : flat_map (λ p. p.group) asked ≡ kept_in V timed
   pub unsettled : AllByRecursion (λ p. p.settled ≡ []) asked
 
--- however it ended: the keeper was asked to perform a prefix of the messages of the input, the kept ones at this moment, and nothing
--- else. If its store is clean the keeper stands for a prefix of these; and if it was firm at first, so does whatever a crash now leaves
+-- however it ended: the keeper was asked to perform a prefix of the messages of the input at this moment, and nothing else. If its store
+-- is clean it stands for a prefix of these; and so does whatever a crash now leaves, if it was firm
 pub record StandsForPrefix {M : Model} (k k' : KeeperState M) (performed : List Performance → Type 0) (moment : Moment) (input : List ℕ) : Type 0 where
-  pub timed : List Timed
-  pub others : List (List ℕ)
-  pub parts : (cut input).0 ≡ bytes_of timed ++ others
-  pub moments : AllByRecursion (λ t. t ≡ moment) (moments_in M.serves timed)
+  pub parts : Parts
+  pub are : ArePartsOf input M.serves moment parts
   pub asked : List Performance
   pub was_asked : performed asked
-  pub asks : AsksFor M.serves timed asked
-  pub all : k'.is_clean → (s : M.State) (h : History) (t : List ℕ) → StandsFor k s h t → AllByRecursion (MayCome M.serves t) (bytes_of timed)
-      → Part M (λ g. StandsFor k' s g t) s h timed (λ _. Unit {0})
-  pub crash : k'.is_honest → IsFirm k → (s : M.State) (h : History) (t : List ℕ) → StandsFor k s h t
-      → AllByRecursion (MayCome M.serves t) (bytes_of timed) → Leaves k' (λ x r. Part M (λ g. Stands M x r s g t) s h timed (λ _. Unit {0}))
-
--- these answers were sent, and these are the counts
-abbrev pub Sends : List ℕ → SessionCounts → List (List ℕ) → SessionCounts → Type 0
-Sends sent counts answers counts' = (sent ≡ joined answers) × (counts ≡ counts')
+  pub asks : AsksFor M.serves parts.timed asked
+  pub stands : k'.is_clean → WhateverStood k parts.timed (λ s h t. ProcessedPrefix M (λ g. StandsFor k' s g t) s h parts.timed (λ _. Unit {0}))
+  pub crash : k'.is_honest → IsFirm k → WhateverStood k parts.timed (λ s h t.
+      Leaves k' (λ x r. ProcessedPrefix M (λ g. Stands M x r s g t) s h parts.timed (λ _. Unit {0})))
 
 -- a line for each answer was written, and then the line of counts
 abbrev pub Prints : Option (List ℕ) → Option (List ℕ) → List (List ℕ) → SessionCounts → Type 0

@@ -1,6 +1,5 @@
 -- Scripts: a line for each event (own profile).
-use Rattle.std.specs.Prelude.{◌≡◌, ◌≢◌, ◌⊎◌, ◌<◌, ◌^◌, ◌==◌, ℕ, suc, false, codes, List, [], ◌∷◌, ◌++◌, length, map, All, Ok}
-use Rattle.std.specs.Borrow.{Bor}
+use Rattle.std.specs.Prelude.{◌≡◌, ◌⊎◌, ◌<◌, ◌^◌, ◌==◌, ℕ, suc, false, codes, List, [], ◌∷◌, ◌++◌, length, Ok}
 use Rattle.std.specs.List.{slice_split}
 use Rattle.std.specs.Str.Parse.{AllDigits, digits_value}
 use Rattle.hex.specs.Hex.{decode_of}
@@ -19,10 +18,6 @@ word_of Answered = codes "answered"
 word_of AnswerLost = codes "lost"
 word_of DiedBeforeCommit = codes "before"
 word_of DiedAfterCommit = codes "after"
-
--- the byte is not among these
-abbrev pub Lacks : ℕ → List ℕ → Type 0
-Lacks b bytes = All (λ x. x ≢ b) bytes
 
 -- decimal digits alone, and their value
 pub record IsSeconds (text : List ℕ) (secs : ℕ) : Type 0 where
@@ -69,10 +64,3 @@ IsBad line = (¬ IsSkipped line) × ((e : Event) → ¬ Writes line e)
 abbrev pub FirstBad : ℕ → List (List ℕ) → ℕ → Type 0
 FirstBad n [] bad = ⊥
 FirstBad n (line ∷ lines) bad = (IsBad line × (bad ≡ n)) ⊎ ((¬ IsBad line) × FirstBad (suc n) lines bad)
-
--- one more line was read after these events
-abbrev pub TookLine : List ℕ → List Event → List Event → Type 0
-TookLine line old new = (IsSkipped line × (new ≡ old)) ⊎ ((e : Event) × Writes line e × (new ≡ old ++ e ∷ []))
-
-abbrev pub parts_in : List (Bor (List ℕ)) → List (List ℕ)
-parts_in parts = map (λ part. part.now) parts

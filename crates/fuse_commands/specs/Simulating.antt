@@ -10,13 +10,12 @@ use Rattle.fuse_keeper.specs.Performance.{Performance}
 use Rattle.fuse_keeper.specs.KeeperState.{KeeperState, IsFirm}
 use Rattle.fuse_sim.specs.declared.event.Event.{Event}
 use Rattle.fuse_sim.specs.declared.event.DriveFault.TheVariants.{Store}
-use Rattle.fuse_sim.specs.Driving.{committed, settled_by, outcome_of, bytes_given, NoneReused, told_in, became_in, performed_in, StandsIn, OutcomesBegin}
+use Rattle.fuse_sim.specs.Driving.{committed, settled_by, outcome_of, NoneReused, told_in, became_in, performed_in, StandsIn, OutcomesBegin}
 use Rattle.fuse_sim.specs.Driving.{MayRefuse, OfRestart}
 use Rattle.fuse_sim.specs.HandedOn.{performances, AskedSome}
 use Rattle.fuse_sim.specs.Twice.{Seen}
 use Rattle.fuse_commands.specs.declared.ending.Ending.{Ending}
 use Rattle.fuse_commands.specs.declared.ending.Ending.TheVariants.{Done, ScriptLine}
-use Rattle.fuse_commands.specs.declared.simulate.Simulation.{Simulation}
 use Rattle.fuse_commands.specs.Endings.{store_ending}
 use Rattle.fuse_commands.specs.Output.{line, store_line}
 use Rattle.fuse_commands.specs.Scripts.{lines_of, WritesAll, FirstBad}
@@ -45,15 +44,6 @@ outcomes_of M s events = map (outcome_of M s (committed M.serves [] events)) eve
 abbrev pub StandsAfter : {M : Model} {K : Type 0} → (K → KeeperState M) → Option K → M.State → List Event → Type 0
 StandsAfter {M} told keeper s events = StandsIn told keeper s (committed M.serves [] events) (settled_by M.serves [] events)
 
--- events from a start had these outcomes and counts, and the keeper stands for them and is as firm as before
-pub record Went {M : Model} {K : Type 0} (told : K → KeeperState M) (old new : Option K) (s : M.State) (events : List Event) (simulation : Simulation)
-    : Type 0 where
-  pub outcomes : map bytes_given simulation.outcomes.items ≡ outcomes_of M s events
-  pub nodes : simulation.counts.nodes ≡ M.nodes (M.held_for (state_after M s events))
-  pub handles : simulation.counts.handles ≡ M.handles (M.held_for (state_after M s events))
-  pub stands : StandsAfter told new s events
-  pub firm : IsFirm (told_in told old) → IsFirm (told_in told new)
-
 -- the outcomes of the first events from a start are those that these lead to, up to a message that comes again though its answer was
 -- taken
 abbrev pub BeginSo : {M : Model} {K : Type 0} → (K → KeeperState M) → Option K → Option K → List Event → List (Option (List ℕ)) → Type 0
@@ -65,17 +55,6 @@ abbrev pub simulation_text : (M : Model) → M.State → List Event → List ℕ
 simulation_text M s events =
     outcome_lines (outcomes_of M s events)
     ++ line (store_line (M.nodes (M.held_for (state_after M s events))) (M.handles (M.held_for (state_after M s events))))
-
--- the events of a script were run to their end; what they led to, if no message comes again whose answer was taken; and the keeper was
--- asked to perform just what they ask for
-pub record RanScript {M : Model} {K : Type 0} (k : Seen M K) (old new : Option K) (script : List ℕ) (simulation : Simulation) : Type 0 where
-  pub events : List Event
-  pub described : WritesAll (lines_of script) events
-  pub count : length simulation.outcomes.items ≡ length events
-  pub begin : BeginSo k.told old new events (map bytes_given simulation.outcomes.items)
-  pub asked : performed_in k.performed old new (performances M.serves events)
-  pub went : (told_in k.told new).is_honest → (s : M.State) → StandsIn k.told old s [] [] → NoneReused M.serves [] events
-      → Went k.told old new s events simulation
 
 -- a keeper that the first one became returned a fault, and is left
 pub record AnsweredFault {M : Model} {K : Type 0} (k : Seen M K) (old new : Option K) (ending : Ending) : Type 0 where
@@ -161,16 +140,3 @@ pub record SimulatedAll {M : Model} {K : Type 0} (k : Seen M K) (old new : Optio
 abbrev pub Simulated : {M : Model} {K : Type 0} → Seen M K → Option K → Option K → (List ℕ → Type 0) → List ℕ → Ending → Type 0
 Simulated k old new prints script Done = SimulatedAll k old new prints script
 Simulated k old new prints script ending = NotRun script ending × (new ≡ old)
-
--- the same of events from a start, for any keeper
-abbrev pub SimulatedFrom : (M : Model) → M.State → (List ℕ → Type 0) → List ℕ → Ending → Type 0
-SimulatedFrom M s prints script Done =
-    (events : List Event) × WritesAll (lines_of script) events × (NoneReused M.serves [] events → prints (simulation_text M s events))
-SimulatedFrom M s prints script ending = NotRun script ending
-
--- Simulated implies SimulatedFrom for a keeper that stands for the start and whose storage returned what was written
-pub from_start : {M : Model} {K : Type 0} (k : Seen M K) (old new : Option K) (prints : List ℕ → Type 0) (script : List ℕ) (s : M.State)
-    (ending : Ending) → (told_in k.told new).is_honest → StandsIn k.told old s [] [] → Simulated k old new prints script ending
-    → SimulatedFrom M s prints script ending
-from_start k old new prints script s Done honest stands so = (so.events, so.described, λ none. (so.shown honest s stands none).printed)
-from_start k old new prints script s ending honest stands so = so.0

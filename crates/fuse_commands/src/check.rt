@@ -3,8 +3,9 @@ ghost use Rattle.std.specs.Prelude.{◌≡◌, ◌≢◌, ◌<◌, ◌≤◌, �
 ghost use Rattle.std.specs.Prelude.{IfErr, OnOk};
 ghost use Rattle.std.specs.Io.KnownBytes.{Appends};
 ghost use Rattle.fuse_request.specs.Act.{act};
-ghost use Rattle.fuse_commands.specs.Endings.{status_of, GaveOut};
-ghost use Rattle.fuse_commands.specs.Messages.{left_in, place_in, WentThrough};
+ghost use Rattle.fuse_commands.specs.Endings.{status_of};
+ghost use Rattle.fuse_commands.specs.inner.Failing.{GaveOut};
+ghost use Rattle.fuse_commands.specs.inner.Messages.{left_in, place_in, WentThrough};
 ghost use Rattle.fuse_commands.specs.Output.{line};
 ghost use Rattle.fuse_commands.specs.Checking.{is_malformed, is_unsupported, asks_unsupported};
 ghost use Rattle.fuse_commands.specs.Checking.{checked, check_line, check_ending, Checked};

@@ -4,8 +4,9 @@ ghost use Rattle.std.specs.Io.KnownBytes.{Appends};
 ghost use Rattle.fuse_request.specs.Stream.{IsMessage};
 ghost use Rattle.fuse_request.specs.Header.{raw_of};
 ghost use Rattle.fuse_request.specs.Faults.{first_fault};
-ghost use Rattle.fuse_commands.specs.Endings.{status_of, GaveOut};
-ghost use Rattle.fuse_commands.specs.Messages.{left_in, place_in, WentThrough};
+ghost use Rattle.fuse_commands.specs.Endings.{status_of};
+ghost use Rattle.fuse_commands.specs.inner.Failing.{GaveOut};
+ghost use Rattle.fuse_commands.specs.inner.Messages.{left_in, place_in, WentThrough};
 ghost use Rattle.fuse_commands.specs.Output.{line};
 ghost use Rattle.fuse_commands.specs.Dumping.{fault_text, dump_line, dump_lines, Dumped};
 

@@ -3,7 +3,7 @@ ghost use Rattle.std.specs.Prelude.{◌≡◌, ◌<◌, ◌≤◌, [], false, le
 ghost use Rattle.std.specs.Prelude.{IfErr};
 ghost use Rattle.std.specs.Io.KnownBytes.{Consumes, IsAtEnd};
 ghost use Rattle.fuse_wire.specs.Bounds.{max_message_len};
-ghost use Rattle.fuse_commands.specs.Endings.{GaveOut};
+ghost use Rattle.fuse_commands.specs.inner.Failing.{GaveOut};
 
 use crate::ending::Ending;
 use fuse_request::MAX_MESSAGE;
@@ -39,7 +39,7 @@ fn read_into<R: Read>(reader: &mut R, buffer: &mut Vec<u8>) -> Result<usize, End
 }
 
 impl<R: Read + Drop> PieceReader<R> {
-    ghost use Rattle.fuse_commands.specs.Input.{left_to, piece_in};
+    ghost use Rattle.fuse_commands.specs.inner.Input.{left_to, piece_in};
 
     /// An `Err` is out of memory.
     pub(crate) fn new(alloc: Global, reader: R) -> Result<PieceReader<R>, Ending>

@@ -4,7 +4,7 @@ ghost use Rattle.std.specs.Io.KnownBytes.{Keeps, IsAtEnd};
 ghost use Rattle.fuse_request.specs.Framing.{fed_of};
 ghost use Rattle.fuse_wire.specs.Bounds.{max_message_len};
 ghost use Rattle.fuse_commands.specs.declared.input.TheConstants.{MAX_READS as max_reads};
-ghost use Rattle.fuse_commands.specs.Endings.{GaveOut};
+ghost use Rattle.fuse_commands.specs.inner.Failing.{GaveOut};
 
 use crate::ending::Ending;
 use crate::input::PieceReader;
@@ -32,8 +32,9 @@ pub(crate) struct Messages<R> {
 
 impl<R: Read + Drop> Messages<R> {
     ghost use Rattle.fuse_request.specs.Framing.{HasNone};
-    ghost use Rattle.fuse_commands.specs.Input.{left_to};
-    ghost use Rattle.fuse_commands.specs.Messages.{left_in, place_in, work_in, EndsSo, GivesPlaced};
+    ghost use Rattle.fuse_commands.specs.inner.Input.{left_to};
+    ghost use Rattle.fuse_commands.specs.inner.Messages.{left_in, place_in, work_in, EndsSo};
+    ghost use Rattle.fuse_commands.specs.inner.Messages.{GivesPlaced};
 
     /// An `Err` is out of memory.
     pub(crate) fn new(alloc: Global, reader: R) -> Result<Messages<R>, Ending>

@@ -4,7 +4,8 @@ ghost use Rattle.std.specs.Io.KnownBytes.{Appends};
 ghost use Rattle.hex.specs.Hex.{encode_lower};
 ghost use Rattle.fuse_request.specs.Stream.{joined};
 ghost use Rattle.fuse_answer.specs.Laws.{BeginsWithLen};
-ghost use Rattle.fuse_commands.specs.Output.{line, answer_lines, IsAnswer, count_line};
+ghost use Rattle.fuse_commands.specs.Output.{line, answer_lines, count_line};
+ghost use Rattle.fuse_commands.specs.inner.Sending.{IsAnswer};
 ghost use Rattle.fuse_commands.specs.Output.{store_line};
 
 use crate::count_line::{CountLine, StoreLine};

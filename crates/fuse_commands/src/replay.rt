@@ -4,9 +4,9 @@ ghost use Rattle.std.specs.List.{AllByRecursion};
 ghost use Rattle.fuse_request.specs.Stream.{joined};
 ghost use Rattle.fuse_session.specs.Serving.{KeepsFirm};
 ghost use Rattle.fuse_commands.specs.Endings.{status_of, IsOfStream};
-ghost use Rattle.fuse_commands.specs.Output.{IsAnswer};
-ghost use Rattle.fuse_commands.specs.Replaying.{Replayed, Faulted, StandsForPrefix, Sends, Prints};
+ghost use Rattle.fuse_commands.specs.Replaying.{Replayed, Faulted, StandsForPrefix, Prints};
 ghost use Rattle.fuse_commands.specs.Replaying.{PrintsAnswers};
+ghost use Rattle.fuse_commands.specs.inner.Sending.{IsAnswer, Sends};
 
 use crate::ending::Ending;
 use crate::input::MAX_READS;

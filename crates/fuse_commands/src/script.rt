@@ -5,9 +5,10 @@ ghost use Rattle.std.specs.Prelude.{IfErr, MatchOption};
 ghost use Rattle.std.specs.Char.{digit_value};
 ghost use Rattle.fuse_sim.specs.declared.event.Event.{Event as EventValue};
 ghost use Rattle.fuse_sim.specs.declared.event.Fate.{Fate as FateValue};
-ghost use Rattle.fuse_commands.specs.Scripts.{lines_of, parts_in, word_of, Lacks, IsSeconds};
+ghost use Rattle.fuse_commands.specs.Scripts.{lines_of, word_of, IsSeconds};
 ghost use Rattle.fuse_commands.specs.Scripts.{HasParts, IsHexOf, Writes, IsSkipped, WritesAll};
-ghost use Rattle.fuse_commands.specs.Scripts.{TookLine, IsBad, FirstBad};
+ghost use Rattle.fuse_commands.specs.Scripts.{IsBad, FirstBad};
+ghost use Rattle.fuse_commands.specs.inner.Scripts.{parts_in, Lacks, TookLine};
 
 use crate::ending::Ending;
 use fuse_request::{has_zero_unique, is_message};

@@ -5,10 +5,12 @@ ghost use Rattle.std.specs.Io.KnownBytes.{Appends};
 ghost use Rattle.fuse_sim.specs.Driving.{told_in, performed_in, StandsIn, NoneReused, IsFit};
 ghost use Rattle.fuse_sim.specs.Driving.{KeepsMedium, bytes_given};
 ghost use Rattle.fuse_sim.specs.HandedOn.{performances};
-ghost use Rattle.fuse_commands.specs.Endings.{status_of, GaveOut};
+ghost use Rattle.fuse_commands.specs.Endings.{status_of};
+ghost use Rattle.fuse_commands.specs.inner.Failing.{GaveOut};
 ghost use Rattle.fuse_commands.specs.Output.{line, store_line};
-ghost use Rattle.fuse_commands.specs.Simulating.{driven, Went, BeginSo, StoreEnded, LeftBySome};
-ghost use Rattle.fuse_commands.specs.Simulating.{RanScript, NotRun, Simulated, StoppedIn};
+ghost use Rattle.fuse_commands.specs.Simulating.{driven, BeginSo, StoreEnded, LeftBySome};
+ghost use Rattle.fuse_commands.specs.Simulating.{NotRun, Simulated, StoppedIn};
+ghost use Rattle.fuse_commands.specs.inner.Simulating.{Went, RanScript};
 ghost use Rattle.fuse_commands.specs.Simulating.{LeftByScript};
 ghost use Rattle.fuse_commands.specs.Simulating.{outcome_line, outcome_lines};
 

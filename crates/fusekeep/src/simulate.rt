@@ -5,7 +5,7 @@ ghost use Rattle.fuse_keeper.specs.KeeperState.{StandsFor};
 ghost use Rattle.fuse_tree.specs.TheTree.{the_tree};
 ghost use Rattle.fuse_store.specs.TableKeeper.{keeper_told};
 ghost use Rattle.fuse_commands.specs.Endings.{status_of};
-ghost use Rattle.fuse_commands.specs.Simulating.{SimulatedFrom};
+ghost use Rattle.fuse_commands.specs.inner.Simulating.{SimulatedFrom};
 ghost use Rattle.fusekeep.specs.NewStore.{start};
 
 use fuse_commands::{Ending, START, run_simulate};

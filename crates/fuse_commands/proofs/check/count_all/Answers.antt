@@ -1,6 +1,6 @@
 use Rattle.std.proofs.Common.{◌≡◌, arith}
 use Rattle.std.proofs.lemmas.Result.{err_from_is_err_and}
-use Rattle.fuse_commands.specs.Messages.{left_in, place_in}
+use Rattle.fuse_commands.specs.inner.Messages.{left_in, place_in}
 use Rattle.fuse_commands.specs.Checking.{checked}
 use Rattle.fuse_commands.proofs.Tallies.{none_yet, some_counted, are_few, went_err, went_whole}
 use Rattle.fuse_commands.proofs.check.count_all.Goals as goal

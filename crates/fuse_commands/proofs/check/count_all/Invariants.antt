@@ -1,5 +1,5 @@
 use Rattle.std.proofs.Common.{◌≡◌}
-use Rattle.fuse_commands.specs.Messages.{left_in, place_in, work_in, WentSoFar}
+use Rattle.fuse_commands.specs.inner.Messages.{left_in, place_in, work_in, WentSoFar}
 use Rattle.fuse_commands.specs.Checking.{checked}
 use Rattle.fuse_commands.proofs.check.count_all.Given as goal
 

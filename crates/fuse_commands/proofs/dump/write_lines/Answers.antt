@@ -1,6 +1,6 @@
 use Rattle.std.proofs.lemmas.Result.{err_from_is_err_and}
 use Rattle.std.specs.Io.KnownBytes.{Appends}
-use Rattle.fuse_commands.specs.Messages.{left_in, place_in}
+use Rattle.fuse_commands.specs.inner.Messages.{left_in, place_in}
 use Rattle.fuse_commands.specs.Dumping.{dump_lines}
 use Rattle.fuse_commands.proofs.Dumps.{none_dumped, some_dumped}
 use Rattle.fuse_commands.proofs.Tallies.{none_yet, went_err, went_whole}

@@ -1,4 +1,4 @@
-use Rattle.fuse_commands.specs.Messages.{left_in, place_in, work_in, WentSoFar}
+use Rattle.fuse_commands.specs.inner.Messages.{left_in, place_in, work_in, WentSoFar}
 use Rattle.std.specs.Io.KnownBytes.{Appends}
 use Rattle.fuse_commands.specs.Dumping.{dump_lines}
 use Rattle.fuse_commands.proofs.dump.write_lines.Given as goal

@@ -1,6 +1,6 @@
 use Rattle.std.proofs.Common.{subst, sym, ap, append-nil, ◌∙◌, ◌++◌}
 use Rattle.std.specs.Io.KnownBytes.{Consumes}
-use Rattle.fuse_commands.specs.Input.{left_to}
+use Rattle.fuse_commands.specs.inner.Input.{left_to}
 use Rattle.fuse_commands.proofs.Simulations.{read_none, read_more, all_read}
 use Rattle.fuse_commands.proofs.input.read_all.Goals as goal
 

@@ -1,5 +1,5 @@
 use Rattle.std.specs.Io.KnownBytes.{Consumes}
-use Rattle.fuse_commands.specs.Input.{left_to}
+use Rattle.fuse_commands.specs.inner.Input.{left_to}
 use Rattle.fuse_commands.proofs.input.read_all.Given as goal
 
 abbrev pub invariant-loop-input : goal.invariant-loop-input

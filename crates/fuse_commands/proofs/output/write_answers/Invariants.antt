@@ -1,7 +1,7 @@
 use Rattle.std.proofs.Common.{◌≡◌, ℕ, List, length}
 use Rattle.std.specs.List.{AllByRecursion}
 use Rattle.fuse_request.specs.Stream.{joined}
-use Rattle.fuse_commands.specs.Output.{IsAnswer}
+use Rattle.fuse_commands.specs.inner.Sending.{IsAnswer}
 use Rattle.fuse_commands.proofs.Lines.{Written}
 use Rattle.fuse_commands.proofs.output.write_answers.Given as goal
 

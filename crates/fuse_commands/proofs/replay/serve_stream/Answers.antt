@@ -3,7 +3,8 @@ use Rattle.fuse_session.specs.Clock.{GaveFixed}
 use Rattle.fuse_session.specs.Deeds.{Did}
 use Rattle.fuse_session.specs.Stepping.{Stepped}
 use Rattle.fuse_commands.specs.Endings.{IsOfStream}
-use Rattle.fuse_commands.specs.Replaying.{Replayed, Sends}
+use Rattle.fuse_commands.specs.Replaying.{Replayed}
+use Rattle.fuse_commands.specs.inner.Sending.{Sends}
 use Rattle.fuse_session.specs.Ends.{ended_store, ended_memory}
 use Rattle.fuse_session.specs.Port.{fresh}
 use Rattle.fuse_session.specs.Stream.{stream_told}

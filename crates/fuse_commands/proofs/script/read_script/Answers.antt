@@ -1,5 +1,6 @@
 use Rattle.std.proofs.Common.{◌+◌, inr, refl, ap, subst, ◌∙◌}
-use Rattle.fuse_commands.specs.Scripts.{FirstBad, parts_in}
+use Rattle.fuse_commands.specs.Scripts.{FirstBad}
+use Rattle.fuse_commands.specs.inner.Scripts.{parts_in}
 use Rattle.fuse_commands.proofs.Scripted.{part_taken, part_bad}
 use Rattle.fuse_commands.proofs.script.read_script.Goals as goal
 

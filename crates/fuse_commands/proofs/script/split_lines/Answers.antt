@@ -1,6 +1,7 @@
 use Rattle.std.proofs.Common.{◌++◌, ap, ◌∙◌}
 use Rattle.std.proofs.lemmas.List.{map-append}
-use Rattle.fuse_commands.specs.Scripts.{lines_of, parts_in}
+use Rattle.fuse_commands.specs.Scripts.{lines_of}
+use Rattle.fuse_commands.specs.inner.Scripts.{parts_in}
 use Rattle.fuse_commands.proofs.Scripted.{line_cut, last_line}
 use Rattle.fuse_commands.proofs.script.split_lines.Goals as goal
 

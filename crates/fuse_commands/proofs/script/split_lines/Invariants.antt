@@ -1,5 +1,6 @@
 use Rattle.std.proofs.Common.{◌≡◌, ◌++◌, length}
-use Rattle.fuse_commands.specs.Scripts.{lines_of, parts_in}
+use Rattle.fuse_commands.specs.Scripts.{lines_of}
+use Rattle.fuse_commands.specs.inner.Scripts.{parts_in}
 use Rattle.fuse_commands.proofs.script.split_lines.Given as goal
 
 abbrev pub decreases-loop-line : goal.decreases-loop-line

@@ -3,7 +3,7 @@ use Rattle.std.specs.Io.KnownBytes.{Keeps, IsAtEnd, prepend_known}
 use Rattle.fuse_request.specs.Framing.{Held, HasNone}
 use Rattle.fuse_commands.specs.declared.ending.Ending.{Ending}
 use Rattle.fuse_commands.specs.declared.messages.Placed.{Placed}
-use Rattle.fuse_commands.specs.Messages.{left_in, EndsSo, GivesPlaced}
+use Rattle.fuse_commands.specs.inner.Messages.{left_in, EndsSo, GivesPlaced}
 use Rattle.fuse_commands.proofs.Known.{keeps_same, keeps_then, keeps_consumes, gives_prefix, all_held}
 use Rattle.fuse_commands.proofs.Faults.{faulty}
 use Rattle.fuse_commands.proofs.messages.Messages.next.Goals as goal

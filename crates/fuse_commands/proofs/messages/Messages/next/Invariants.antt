@@ -1,6 +1,6 @@
 use Rattle.std.proofs.Common.{◌≡◌, ◌≤◌}
 use Rattle.std.specs.Io.KnownBytes.{Keeps}
-use Rattle.fuse_commands.specs.Messages.{left_in, place_in, work_in}
+use Rattle.fuse_commands.specs.inner.Messages.{left_in, place_in, work_in}
 use Rattle.fuse_commands.proofs.messages.Messages.next.Given as goal
 
 abbrev pub invariant-loop-bytes : goal.invariant-loop-bytes
