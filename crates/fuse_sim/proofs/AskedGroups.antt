@@ -7,14 +7,17 @@ use Rattle.fuse_request.specs.declared.request.Request.{Request}
 use Rattle.fuse_request.specs.Opcodes.{OpcodeSet}
 use Rattle.fuse_keeper.specs.History.{Entry}
 use Rattle.fuse_keeper.specs.Group.{entry_of, entries_of}
+use Rattle.fuse_keeper.specs.Model.{Model}
 use Rattle.fuse_keeper.specs.Performance.{Performance, performances_of, IsPerformanceLog}
 use Rattle.fuse_sim.specs.declared.event.Event.{Event}
 use Rattle.fuse_sim.specs.declared.event.DriveFault.{DriveFault}
 use Rattle.fuse_sim.specs.Driving.{commits_in, is_store, performed_in}
+use Rattle.fuse_sim.specs.HandedOn.{Ledger}
+use Rattle.fuse_sim.specs.Twice.{Seen}
 use Rattle.fuse_sim.specs.inner.HandedBy.{AsksOne}
 use Rattle.fuse_sim.specs.inner.Running.{dies_before, IsRun, Begins, AsksRun, AsksFrom, StopsAsking}
 use Rattle.fuse_sim.proofs.Asking.{group_asks, lost_asks, none_asks}
-use Rattle.fuse_sim.proofs.Moves.{begins_with, commits_lost, is_lost}
+use Rattle.fuse_sim.proofs.Moves.{no_room, commits_lost, is_lost}
 
 pub performed_then : {K : Type 0} (performed : K → K → List Performance → Type 0) → IsPerformanceLog performed → (a b c : Option K) (xs ys zs : List Performance)
     → performed_in performed a b xs → performed_in performed b c ys → xs ++ ys ≡ zs → performed_in performed a c zs
@@ -32,8 +35,8 @@ performed_none performed law P (Some k) is = law.none k
 
 pub asks_from : (V : OpcodeSet) (died : Bool) (run events : List Event) (p : List ℕ) → IsRun died run → length (commits_in V run) ≤ 16 → Begins events
     → AsksFrom V p run events
-asks_from V died run events p so few begins = λ l same may.
-    subst (λ x. AsksOne V x run) (begins_with l p events same may begins) (group_asks V died run p so few)
+asks_from V died run events p so few begins = λ room may.
+    subst (λ n. AsksOne V (record { room = n; pending = p }) run) (no_room room events may begins) (group_asks V died run p so few)
 
 -- it was performed, and then nothing was asked for
 pub asked_run : (V : OpcodeSet) → {K : Type 0} (performed : K → K → List Performance → Type 0) → IsPerformanceLog performed → (old mid new : Option K)
@@ -55,7 +58,8 @@ lost_one events at e lt is = ap (λ (x : Event). x ∷ []) is ∙ ap (take 1) (s
 
 pub lost_from : (V : OpcodeSet) (events : List Event) (at : ℕ) (e : Event) (p : List ℕ) → at < length events → e ≡ get_or events at e
     → dies_before e.fate ≡ true → AsksFrom V p (take 1 (drop at events)) (drop at events)
-lost_from V events at e p lt is before = λ l same may.
+lost_from V events at e p lt is before = λ room may.
+    let l : Ledger = record { room = room; pending = p } in
     subst (AsksOne V l) (lost_one events at e lt is) (lost_asks V l e (commits_lost V e (is_lost e.fate before)))
 
 pub lost_asked : (V : OpcodeSet) → {K : Type 0} (performed : K → K → List Performance → Type 0) (old new : Option K) (events : List Event) (at : ℕ) (e : Event)
@@ -69,41 +73,41 @@ lost_asked V performed old new events at e p lt is before none =
 -- ---- faults
 
 -- nothing was asked for
-pub stops_unasked : (V : OpcodeSet) → {K : Type 0} (performed : K → K → List Performance → Type 0) → IsPerformanceLog performed → (P : K → Type 0) (k : Option K)
-    (p : List ℕ) (events : List Event) (fault : DriveFault) → IsSomeAnd k P → is_store fault ≡ false → StopsAsking V performed k k p events fault
-stops_unasked V performed law P k p events fault there kind = record {
+pub stops_unasked : (M : Model) → {K : Type 0} (seen : Seen M K) → IsPerformanceLog seen.performed → (P : K → Type 0) (k : Option K)
+    (p : List ℕ) (events : List Event) (fault : DriveFault) → IsSomeAnd k P → is_store fault ≡ false → StopsAsking seen k k p events fault
+stops_unasked M seen law P k p events fault there kind = record {
   run = [];
   rest = events;
   parts = refl;
-  asks = λ l same may. none_asks V l;
-  asked = λ _. performed_none performed law P k there;
+  asks = λ room may. none_asks M.serves (record { room = room; pending = p });
+  asked = λ _. performed_none seen.performed law P k there;
   count = λ _. ap (λ b. if b then 1 else 0) (sym kind);
 }
 
 -- the store answered a fault to a group
-pub stops_performing : (V : OpcodeSet) → {K : Type 0} (performed : K → K → List Performance → Type 0) (old new : Option K) (p p_mid : List ℕ)
+pub stops_performing : (M : Model) → {K : Type 0} (seen : Seen M K) (old new : Option K) (p p_mid : List ℕ)
     (events slice : List Event) (count : ℕ) (taken : List (Request × Moment)) (died : Bool) (fault : DriveFault) → IsRun died (take count events)
-    → length (commits_in V (take count events)) ≤ 16 → Begins events → entries_of taken ≡ commits_in V (take count events) → 0 < length taken
-    → slice ≡ take count events → p_mid ≡ p → AsksRun V performed old new p_mid slice → is_store fault ≡ true
-    → StopsAsking V performed old new p events fault
-stops_performing V performed old new p p_mid events slice count taken died fault so few begins entries some is same asked kind = record {
+    → length (commits_in M.serves (take count events)) ≤ 16 → Begins events → entries_of taken ≡ commits_in M.serves (take count events) → 0 < length taken
+    → slice ≡ take count events → p_mid ≡ p → AsksRun M.serves seen.performed old new p_mid slice → is_store fault ≡ true
+    → StopsAsking seen old new p events fault
+stops_performing M seen old new p p_mid events slice count taken died fault so few begins entries some is same asked kind = record {
   run = take count events;
   rest = drop count events;
   parts = sym (take-append-drop count events);
-  asks = asks_from V died (take count events) events p so few begins;
-  asked = λ _. subst (λ q. AsksRun V performed old new q (take count events)) same (subst (λ es. AsksRun V performed old new p_mid es) is asked);
-  count = λ _. one_performance (commits_in V (take count events)) p (omega (arith, some, ap length entries, length-map taken entry_of))
+  asks = asks_from M.serves died (take count events) events p so few begins;
+  asked = λ _. subst (λ q. AsksRun M.serves seen.performed old new q (take count events)) same (subst (λ es. AsksRun M.serves seen.performed old new p_mid es) is asked);
+  count = λ _. one_performance (commits_in M.serves (take count events)) p (omega (arith, some, ap length entries, length-map taken entry_of))
       ∙ ap (λ b. if b then 1 else 0) (sym kind);
 }
 
 -- no keeper is left
-pub stops_emptied : (V : OpcodeSet) → {K : Type 0} (performed : K → K → List Performance → Type 0) (old new : Option K) (p : List ℕ) (events : List Event)
-    (fault : DriveFault) → new ≡ None → StopsAsking V performed old new p events fault
-stops_emptied V performed old new p events fault none = record {
+pub stops_emptied : (M : Model) → {K : Type 0} (seen : Seen M K) (old new : Option K) (p : List ℕ) (events : List Event)
+    (fault : DriveFault) → new ≡ None → StopsAsking seen old new p events fault
+stops_emptied M seen old new p events fault none = record {
   run = [];
   rest = events;
   parts = refl;
-  asks = λ l same may. none_asks V l;
+  asks = λ room may. none_asks M.serves (record { room = room; pending = p });
   asked = λ there. absurd (there none);
   count = λ there. absurd (there none);
 }

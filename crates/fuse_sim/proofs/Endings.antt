@@ -5,7 +5,6 @@ use Rattle.std.proofs.Math.Seq.{take-add}
 use Rattle.std.proofs.lemmas.List.{take_all, append-nil, length-map, take-append-drop}
 use Rattle.std.proofs.lemmas.List.Elements.{All-append, All-nil}
 use Rattle.fuse_request.specs.Opcodes.{OpcodeSet}
-use Rattle.fuse_keeper.specs.declared.fault.StoreFault.{StoreFault}
 use Rattle.fuse_keeper.specs.History.{History, HistoriesGrow, Includes, is_in}
 use Rattle.fuse_keeper.specs.History.{said}
 use Rattle.fuse_keeper.specs.Performance.{Performance, performances_of, IsPerformanceLog}
@@ -18,9 +17,10 @@ use Rattle.fuse_sim.specs.declared.event.DriveFault.{DriveFault}
 use Rattle.fuse_sim.specs.Driving.{commits_in, committed, outcome_of, bytes_given, settled_by, NoneReused, told_in, StandsIn, became_in, deaths, Opened, AnsweredBy}
 use Rattle.fuse_sim.specs.Driving.{OfRestart, IsFit, event_of, before, is_store, LeftBy, OutcomesBegin, StoodBefore, KeepsMedium, performed_in}
 use Rattle.fuse_sim.specs.HandedOn.{Ledger, empty_ledger, performances, handed_in, AsksUpTo, AskedSome}
-use Rattle.fuse_sim.specs.inner.HandedBy.{ledger_after, handed_on}
+use Rattle.fuse_sim.specs.inner.HandedBy.{ledger_after, handed_on, AsksOne}
 use Rattle.fuse_sim.specs.LeftRecords.{RecordsLeft, HoldsRecords}
-use Rattle.fuse_sim.specs.inner.Running.{Moved, MayBegin, Opens, Stops, AsksFrom, AsksRun, StopsAsking}
+use Rattle.fuse_sim.specs.Twice.{Seen}
+use Rattle.fuse_sim.specs.inner.Running.{stage, Moved, MayBegin, Opens, Stops, AsksFrom, AsksRun, StopsAsking}
 use Rattle.fuse_sim.proofs.Settled.{is_in-append, stands_later, stands_kept}
 use Rattle.fuse_sim.proofs.Driven.{ledger-append, pending_settled, settled_all, includes_none, handed_came}
 use Rattle.fuse_sim.proofs.Asking.{handed_performances, asks_more}
@@ -31,28 +31,32 @@ use Rattle.fuse_sim.proofs.Openings.{became_then, opened_more, opened_still, sto
 -- events, and then others
 moved_parts : (M : Model) → HistoriesGrow M → (holds mid holds' : KeeperState M) (es es' others others' : List Event) (p p' : List ℕ)
     (new new' : List (Option Outcome)) → (holds'.is_honest → mid.is_honest)
-    → Moved holds mid empty_ledger es others p [] new → Moved mid holds' (ledger_after M.serves empty_ledger es) es' others' p' new new'
-    → Moved holds holds' empty_ledger (es ++ es') others' p' [] new'
-moved_parts M grows holds mid holds' es es' others others' p p' new new' was one two = record {
-  fit = All-append IsFit es es' one.fit two.fit;
-  ran = ran_more M grows holds mid holds' empty_ledger es es' [] new new' was one.ran two.ran;
-  pending = two.pending ∙ ap (λ (l : Ledger). l.pending) (sym (ledger-append M.serves empty_ledger es es'));
-  begin = subst (λ l. MayBegin l others') (sym (ledger-append M.serves empty_ledger es es')) two.begin;
-}
+    → Moved (stage holds [] []) (stage mid p new) 0 es others
+    → Moved (stage mid p new) (stage holds' p' new') (ledger_after M.serves empty_ledger es).room es' others'
+    → Moved (stage holds [] []) (stage holds' p' new') 0 (es ++ es') others'
+moved_parts M grows holds mid holds' es es' others others' p p' new new' was one next =
+    let l = ledger_after M.serves empty_ledger es in
+    let two = subst (λ q. Moved (stage mid q new) (stage holds' p' new') l.room es' others') one.pending next in
+    record {
+      fit = All-append IsFit es es' one.fit two.fit;
+      ran = ran_more M grows holds mid holds' empty_ledger es es' [] new new' was one.ran two.ran;
+      pending = two.pending ∙ ap (λ (x : Ledger). x.pending) (sym (ledger-append M.serves empty_ledger es es'));
+      begin = subst (λ x. MayBegin x.room others') (sym (ledger-append M.serves empty_ledger es es')) two.begin;
+    }
 
 pub moved_more : (M : Model) → HistoriesGrow M → (holds mid holds' : KeeperState M) (events : List Event) (at n : ℕ) (p p' : List ℕ)
     (new new' : List (Option Outcome)) → (holds'.is_honest → mid.is_honest)
-    → Moved holds mid empty_ledger (take at events) (drop at events) p [] new
-    → ((l : Ledger) → l.pending ≡ p → MayBegin l (drop at events) → Moved mid holds' l (take n (drop at events)) (drop (at + n) events) p' new new')
-    → Moved holds holds' empty_ledger (take (at + n) events) (drop (at + n) events) p' [] new'
+    → Moved (stage holds [] []) (stage mid p new) 0 (take at events) (drop at events)
+    → ((room : ℕ) → MayBegin room (drop at events) → Moved (stage mid p new) (stage holds' p' new') room (take n (drop at events)) (drop (at + n) events))
+    → Moved (stage holds [] []) (stage holds' p' new') 0 (take (at + n) events) (drop (at + n) events)
 moved_more M grows holds mid holds' events at n p p' new new' was one next =
-    subst (λ es. Moved holds holds' empty_ledger es (drop (at + n) events) p' [] new') (sym (take-add at n events))
+    subst (λ es. Moved (stage holds [] []) (stage holds' p' new') 0 es (drop (at + n) events)) (sym (take-add at n events))
     (moved_parts M grows holds mid holds' (take at events) (take n (drop at events)) (drop at events) (drop (at + n) events) p p' new new' was one
-    (next (ledger_after M.serves empty_ledger (take at events)) (sym one.pending) one.begin))
+    (next (ledger_after M.serves empty_ledger (take at events)).room one.begin))
 
 -- none were run yet
 pub moved_none : (M : Model) (k : KeeperState M) (others : List Event) (p : List ℕ) (new : List (Option Outcome)) → p ≡ [] → new ≡ []
-    → Moved k k empty_ledger [] others p [] new
+    → Moved (stage k [] []) (stage k p new) 0 [] others
 moved_none M k others p new same is = record { fit = All-nil IsFit; ran = ran_none M k empty_ledger [] new is; pending = same; begin = inl refl }
 
 -- what is pending was settled by the events
@@ -63,18 +67,18 @@ pending_within V l p es is same t = subst (Includes (settled_by V t es)) (sym (s
 -- all were run
 pub moved_all : (M : Model) (holds holds' : KeeperState M) (events others : List Event) (at : ℕ) (p : List ℕ) (new : List (Option Outcome))
     → length events ≤ at
-    → Moved holds holds' empty_ledger (take at events) others p [] new → Moved holds holds' empty_ledger events others p [] new
-moved_all M holds holds' events others at p new past moved = subst (λ es. Moved holds holds' empty_ledger es others p [] new) (take_all at events past) moved
+    → Moved (stage holds [] []) (stage holds' p new) 0 (take at events) others → Moved (stage holds [] []) (stage holds' p new) 0 events others
+moved_all M holds holds' events others at p new past moved = subst (λ es. Moved (stage holds [] []) (stage holds' p new) 0 es others) (take_all at events past) moved
 
 -- what stands in the end
 moved_kept : (M : Model) (holds holds' : KeeperState M) (es others : List Event) (p : List ℕ) (new : List (Option Outcome))
-    → Moved holds holds' empty_ledger es others p [] new
+    → Moved (stage holds [] []) (stage holds' p new) 0 es others
     → holds'.is_honest → (s : M.State) (h : History) (t : List ℕ) → StandsFor holds s h t → NoneReused M.serves t es
     → StandsFor holds' s (committed M.serves h es) (t ++ handed_on M.serves empty_ledger es)
 moved_kept M holds holds' es others p new moved is s h t so none = moved.ran.stands is s h t t so (λ i there. there) (includes_none t) none
 
 pub moved_stands : (M : Model) (holds holds' : KeeperState M) (es others : List Event) (p : List ℕ) (new : List (Option Outcome))
-    → Moved holds holds' empty_ledger es others p [] new
+    → Moved (stage holds [] []) (stage holds' p new) 0 es others
     → holds'.is_honest → (s : M.State) (h : History) (t : List ℕ) → StandsFor holds s h t → NoneReused M.serves t es
     → StandsFor holds' s (committed M.serves h es) (settled_by M.serves t es)
 moved_stands M holds holds' es others p new moved is s h t so none =
@@ -83,7 +87,7 @@ moved_stands M holds holds' es others p new moved is s h t so none =
     (moved_kept M holds holds' es others p new moved is s h t so none)
 
 pub moved_outcomes : (M : Model) (holds holds' : KeeperState M) (es others : List Event) (p : List ℕ) (new : List (Option Outcome))
-    → Moved holds holds' empty_ledger es others p [] new
+    → Moved (stage holds [] []) (stage holds' p new) 0 es others
     → holds'.is_honest → (s : M.State) (h : History) (t : List ℕ) → StandsFor holds s h t → NoneReused M.serves t es
     → map bytes_given new ≡ map (outcome_of M s (committed M.serves h es)) es
 moved_outcomes M holds holds' es others p new moved is s h t so none = ap (map bytes_given) moved.ran.items
@@ -92,7 +96,7 @@ moved_outcomes M holds holds' es others p new moved is s h t so none = ap (map b
 
 -- up to a message that comes again
 pub moved_outcomes_before : (M : Model) (holds holds' : KeeperState M) (es others : List Event) (p : List ℕ) (new : List (Option Outcome))
-    → Moved holds holds' empty_ledger es others p [] new
+    → Moved (stage holds [] []) (stage holds' p new) 0 es others
     → holds'.is_honest → (earlier later : List Event) → es ≡ earlier ++ later → (s : M.State) (h : History) (t : List ℕ) → StandsFor holds s h t
     → NoneReused M.serves t earlier → OutcomesBegin M s h earlier (map bytes_given new)
 moved_outcomes_before M holds holds' es others p new moved is earlier later parts s h t so none =
@@ -100,12 +104,12 @@ moved_outcomes_before M holds holds' es others p new moved is earlier later part
     (moved.ran.outcomes is earlier later parts s h t t so (λ i there. there) (includes_none t) none)
 
 pub moved_count : (M : Model) (holds holds' : KeeperState M) (es others : List Event) (p : List ℕ) (new : List (Option Outcome))
-    → Moved holds holds' empty_ledger es others p [] new → length new ≡ length es
+    → Moved (stage holds [] []) (stage holds' p new) 0 es others → length new ≡ length es
 moved_count M holds holds' es others p new moved = ap length moved.ran.items ∙ moved.ran.count
 
 pub moved_opened : (M : Model) → {K : Type 0} (told : K → KeeperState M) (became : K → K → ℕ → Type 0) → IsCount became
     → (old mid new : Option K) (events : List Event) (at n : ℕ) (p : List ℕ) (outcomes : List (Option Outcome))
-    → Moved (told_in told old) (told_in told mid) empty_ledger (take at events) (drop at events) p [] outcomes → Opened told became old mid (take at events)
+    → Moved (stage (told_in told old) [] []) (stage (told_in told mid) p outcomes) 0 (take at events) (drop at events) → Opened told became old mid (take at events)
     → Opens told became mid new p (take n (drop at events)) → Opened told became old new (take (at + n) events)
 moved_opened M told became law old mid new events at n p outcomes moved opened opens =
     subst (Opened told became old new) (sym (take-add at n events))
@@ -119,7 +123,7 @@ kept_or_gone true o now is isnt = absurd (isnt refl)
 kept_or_gone false o now is isnt = is
 
 pub moved_records : (M : Model) (holds holds' : KeeperState M) (es others : List Event) (p : List ℕ) (new : List (Option Outcome))
-    → Moved holds holds' empty_ledger es others p [] new
+    → Moved (stage holds [] []) (stage holds' p new) 0 es others
     → NoneReused M.serves [] es → Reports holds holds' (λ rows records. HoldsRecords holds' (RecordsLeft M.serves (performances M.serves es) es records))
 moved_records M holds holds' es others p new moved none is rows records held rowed =
     let done = moved.ran.records is rows records held rowed in
@@ -147,7 +151,7 @@ same_records M told (Some k) x y p q one first second i = (one k x y p q first s
 pub moved_left : (M : Model) → {K : Type 0} (told : K → KeeperState M) (old new : Option K) (es others : List Event) (p : List ℕ)
     (outcomes : List (Option Outcome))
     → ((k : K) (x y : M.Rows) (p q : Records) → (told k).holds x p → (told k).holds y q → (x ≡ y) × ((i : ℕ) → p i ≡ q i))
-    → Moved (told_in told old) (told_in told new) empty_ledger es others p [] outcomes
+    → Moved (stage (told_in told old) [] []) (stage (told_in told new) p outcomes) 0 es others
     → (told_in told new).is_honest → (s : M.State) (h : History) (t : List ℕ) → StandsIn told old s h t → NoneReused M.serves t es → (rows : M.Rows) (records : Records)
     → (told_in told new).holds rows records
     → (i : ℕ) → is_in t i ≡ false → is_in (handed_in (performances M.serves es)) i ≡ false → records i ≡ said M s (committed M.serves h es) i
@@ -172,7 +176,7 @@ clean_too M told (Some k) f is = f k is
 -- where the events before it were run
 stopped_at : (M : Model) → {K : Type 0} (told : K → KeeperState M) (old mid : Option K) (events : List Event) (at : ℕ) (fault : DriveFault) (p : List ℕ)
     (outcomes : List (Option Outcome))
-    → Moved (told_in told old) (told_in told mid) empty_ledger (take at events) (drop at events) p [] outcomes → event_of fault ≡ at
+    → Moved (stage (told_in told old) [] []) (stage (told_in told mid) p outcomes) 0 (take at events) (drop at events) → event_of fault ≡ at
     → (told_in told mid).is_honest
     → (s : M.State) (h : History) (t : List ℕ) → StandsIn told old s h t → NoneReused M.serves t (before fault events)
     → StandsIn told mid s (committed M.serves h (before fault events)) (settled_by M.serves t (before fault events))
@@ -181,61 +185,59 @@ stopped_at M told old mid events at fault p outcomes moved place is s h t so non
     subst (λ es. StandsIn told mid s (committed M.serves h es) (settled_by M.serves t es)) (sym same)
     (moved_stands M (told_in told old) (told_in told mid) (take at events) (drop at events) p outcomes moved is s h t so (subst (NoneReused M.serves t) same none))
 
-pub stopped : (M : Model) → {K : Type 0} (told : K → KeeperState M) (became : K → K → ℕ → Type 0) (refuses : K → StoreFault → Type 0) (old mid new : Option K)
+pub stopped : (M : Model) → {K : Type 0} (seen : Seen M K) (old mid new : Option K)
     (events : List Event) (at : ℕ) (fault : DriveFault) (p : List ℕ) (outcomes : List (Option Outcome))
-    → ((k : K) → (told k).is_clean → (told k).is_honest) → Moved (told_in told old) (told_in told mid) empty_ledger (take at events) (drop at events) p []
-    outcomes → Stops told became refuses mid new events at fault
-    → (s : M.State) (h : History) (t : List ℕ) → StandsIn told old s h t → NoneReused M.serves t (before fault events)
-    → LeftBy (told_in told new) (is_store fault) (StandsIn told new s (committed M.serves h (before fault events)) (settled_by M.serves t (before fault events)))
-stopped M told became refuses old mid new events at fault p outcomes too moved stops s h t so none =
-    left_map M told (is_store fault) new ((event_of fault ≡ at) × KeepsHeld (told_in told mid) (told_in told new))
-    (StandsIn told new s (committed M.serves h (before fault events)) (settled_by M.serves t (before fault events)))
-    (clean_too M told new too) stops.left (λ is left.
-    stands_kept M (told_in told mid) (told_in told new) s (committed M.serves h (before fault events)) (settled_by M.serves t (before fault events)) left.1
-    (stopped_at M told old mid events at fault p outcomes moved left.0 (stops.was_honest is) s h t so none))
+    → ((k : K) → (seen.told k).is_clean → (seen.told k).is_honest) → Moved (stage (told_in seen.told old) [] []) (stage (told_in seen.told mid) p outcomes) 0 (take at events) (drop at events) → Stops seen mid new events at fault
+    → (s : M.State) (h : History) (t : List ℕ) → StandsIn seen.told old s h t → NoneReused M.serves t (before fault events)
+    → LeftBy (told_in seen.told new) (is_store fault) (StandsIn seen.told new s (committed M.serves h (before fault events)) (settled_by M.serves t (before fault events)))
+stopped M seen old mid new events at fault p outcomes too moved stops s h t so none =
+    left_map M seen.told (is_store fault) new ((event_of fault ≡ at) × KeepsHeld (told_in seen.told mid) (told_in seen.told new))
+    (StandsIn seen.told new s (committed M.serves h (before fault events)) (settled_by M.serves t (before fault events)))
+    (clean_too M seen.told new too) stops.left (λ is left.
+    stands_kept M (told_in seen.told mid) (told_in seen.told new) s (committed M.serves h (before fault events)) (settled_by M.serves t (before fault events)) left.1
+    (stopped_at M seen.told old mid events at fault p outcomes moved left.0 (stops.was_honest is) s h t so none))
 
 -- which fault of the store it was
 
 there_is : (M : Model) → {K : Type 0} (told : K → KeeperState M) (k : Option K) → (told_in told k).is_clean → k ≡ None → ⊥
 there_is M told k is none = subst (λ o. (told_in told o).is_clean) none is
 
-pub stopped_store : (M : Model) → {K : Type 0} (told : K → KeeperState M) (became : K → K → ℕ → Type 0) (refuses : K → StoreFault → Type 0)
+pub stopped_store : (M : Model) → {K : Type 0} (seen : Seen M K)
     (old mid new : Option K) (events : List Event) (at : ℕ) (fault : DriveFault) (p : List ℕ) (outcomes : List (Option Outcome))
-    → ((k : K) → (told k).is_clean → (told k).is_honest) → Moved (told_in told old) (told_in told mid) empty_ledger (take at events) (drop at events) p []
-    outcomes
-    → Opened told became old mid (take at events) → Stops told became refuses mid new events at fault → is_store fault ≡ true → (told_in told new).is_clean
-    → (s : M.State) (h : History) (t : List ℕ) → StandsIn told old s h t → NoneReused M.serves t (before fault events)
-    → AnsweredBy told became old new (before fault events) fault
-stopped_store M told became refuses old mid new events at fault p outcomes too moved opened stops store is s h t so none =
-    let stayed = stops.stayed (there_is M told new is) in
-    let was = stops.was_honest (clean_too M told new too is) in
+    → ((k : K) → (seen.told k).is_clean → (seen.told k).is_honest) → Moved (stage (told_in seen.told old) [] []) (stage (told_in seen.told mid) p outcomes) 0 (take at events) (drop at events)
+    → Opened seen.told seen.became old mid (take at events) → Stops seen mid new events at fault → is_store fault ≡ true → (told_in seen.told new).is_clean
+    → (s : M.State) (h : History) (t : List ℕ) → StandsIn seen.told old s h t → NoneReused M.serves t (before fault events)
+    → AnsweredBy seen.told seen.became old new (before fault events) fault
+stopped_store M seen old mid new events at fault p outcomes too moved opened stops store is s h t so none =
+    let stayed = stops.stayed (there_is M seen.told new is) in
+    let was = stops.was_honest (clean_too M seen.told new too is) in
     record {
       keeper = mid;
-      before = subst (λ n. became_in became old mid (deaths (take n events))) (sym stayed.0) opened.often;
+      before = subst (λ n. became_in seen.became old mid (deaths (take n events))) (sym stayed.0) opened.often;
       after = stayed.1;
       may = stops.answered store is s (committed M.serves h (before fault events)) (settled_by M.serves t (before fault events))
-          (stopped_at M told old mid events at fault p outcomes moved stayed.0 was s h t so none);
+          (stopped_at M seen.told old mid events at fault p outcomes moved stayed.0 was s h t so none);
     }
 
-pub stopped_opened : (M : Model) → {K : Type 0} (told : K → KeeperState M) (became : K → K → ℕ → Type 0) (refuses : K → StoreFault → Type 0) → IsCount became
+pub stopped_opened : (M : Model) → {K : Type 0} (seen : Seen M K) → IsCount seen.became
     → (old mid new : Option K) (events : List Event) (at : ℕ) (fault : DriveFault)
-    → Opened told became old mid (take at events) → Stops told became refuses mid new events at fault → (new ≡ None → ⊥)
-    → Opened told became old new (before fault events)
-stopped_opened M told became refuses law old mid new events at fault opened stops there =
+    → Opened seen.told seen.became old mid (take at events) → Stops seen mid new events at fault → (new ≡ None → ⊥)
+    → Opened seen.told seen.became old new (before fault events)
+stopped_opened M seen law old mid new events at fault opened stops there =
     let stayed = stops.stayed there in
-    subst (λ n. Opened told became old new (take n events)) (sym stayed.0)
-    (opened_still M told became law old mid new (take at events) stayed.1 stops.was_honest opened)
+    subst (λ n. Opened seen.told seen.became old new (take n events)) (sym stayed.0)
+    (opened_still M seen.told seen.became law old mid new (take at events) stayed.1 stops.was_honest opened)
 
 -- no keeper was left
-pub stopped_emptied : (M : Model) → {K : Type 0} (told : K → KeeperState M) (became : K → K → ℕ → Type 0) (refuses : K → StoreFault → Type 0) → IsCount became
+pub stopped_emptied : (M : Model) → {K : Type 0} (seen : Seen M K) → IsCount seen.became
     → (old mid new : Option K) (events : List Event) (at : ℕ) (fault : DriveFault)
-    → Opened told became old mid (take at events) → Stops told became refuses mid new events at fault → new ≡ None → OfRestart became refuses old (before fault events) events fault
-stopped_emptied M told became refuses law old mid new events at fault opened stops none =
+    → Opened seen.told seen.became old mid (take at events) → Stops seen mid new events at fault → new ≡ None → OfRestart seen.became seen.may_refuse old (before fault events) events fault
+stopped_emptied M seen law old mid new events at fault opened stops none =
     let refused = stops.emptied none in
     record {
       died = refused.died;
       keeper = refused.keeper;
-      often = became_then became law old mid refused.keeper (deaths (take at events)) 0 (deaths (before fault events)) opened.often refused.same
+      often = became_then seen.became law old mid refused.keeper (deaths (take at events)) 0 (deaths (before fault events)) opened.often refused.same
           (omega (arith, refused.calm));
       refused = refused.refused;
     }
@@ -244,7 +246,7 @@ stopped_emptied M told became refuses law old mid new events at fault opened sto
 
 pub moved_stood : (M : Model) → {K : Type 0} (told : K → KeeperState M) (became : K → K → ℕ → Type 0) → IsCount became
     → (old mid new : Option K) (events : List Event) (at n : ℕ) (p : List ℕ) (outcomes : List (Option Outcome))
-    → Moved (told_in told old) (told_in told mid) empty_ledger (take at events) (drop at events) p [] outcomes → Opened told became old mid (take at events)
+    → Moved (stage (told_in told old) [] []) (stage (told_in told mid) p outcomes) 0 (take at events) (drop at events) → Opened told became old mid (take at events)
     → StoodBefore told became old mid (take at events)
     → Opens told became mid new p (take n (drop at events)) → StoodBefore told became old new (take (at + n) events)
 moved_stood M told became law old mid new events at n p outcomes moved opened stood opens =
@@ -252,34 +254,34 @@ moved_stood M told became law old mid new events at n p outcomes moved opened st
     (stood_before_more M told became law old mid new (take at events) (take n (drop at events)) p
     (moved_stands M (told_in told old) (told_in told mid) (take at events) (drop at events) p outcomes moved) opened.often stood opens)
 
-pub stopped_stood : (M : Model) → {K : Type 0} (told : K → KeeperState M) (became : K → K → ℕ → Type 0) (refuses : K → StoreFault → Type 0) → IsCount became
+pub stopped_stood : (M : Model) → {K : Type 0} (seen : Seen M K) → IsCount seen.became
     → (old mid new : Option K) (events : List Event) (at : ℕ) (fault : DriveFault)
-    → StoodBefore told became old mid (take at events) → Stops told became refuses mid new events at fault → (new ≡ None → ⊥)
-    → StoodBefore told became old new (before fault events)
-stopped_stood M told became refuses law old mid new events at fault stood stops there =
+    → StoodBefore seen.told seen.became old mid (take at events) → Stops seen mid new events at fault → (new ≡ None → ⊥)
+    → StoodBefore seen.told seen.became old new (before fault events)
+stopped_stood M seen law old mid new events at fault stood stops there =
     let stayed = stops.stayed there in
-    subst (λ n. StoodBefore told became old new (take n events)) (sym stayed.0)
-    (stood_still M told became law old mid new (take at events) stayed.1 stops.was_honest stood)
+    subst (λ n. StoodBefore seen.told seen.became old new (take n events)) (sym stayed.0)
+    (stood_still M seen.told seen.became law old mid new (take at events) stayed.1 stops.was_honest stood)
 
-pub stopped_medium : (M : Model) → {K : Type 0} (told : K → KeeperState M) (became : K → K → ℕ → Type 0) (refuses : K → StoreFault → Type 0)
+pub stopped_medium : (M : Model) → {K : Type 0} (seen : Seen M K)
     (P : K → Type 0) (old mid new : Option K) (events : List Event) (at : ℕ) (fault : DriveFault)
-    → IsSomeAnd mid P → KeepsMedium told old mid → Stops told became refuses mid new events at fault → KeepsMedium told old new
-stopped_medium M told became refuses P old mid new events at fault going medium stops =
-    medium_then M told old mid new P going medium (medium_left M told mid new stops.medium)
+    → IsSomeAnd mid P → KeepsMedium seen.told old mid → Stops seen mid new events at fault → KeepsMedium seen.told old new
+stopped_medium M seen P old mid new events at fault going medium stops =
+    medium_then M seen.told old mid new P going medium (medium_left M seen.told mid new stops.medium)
 
-pub stopped_firm : (M : Model) → {K : Type 0} (told : K → KeeperState M) (became : K → K → ℕ → Type 0) (refuses : K → StoreFault → Type 0)
+pub stopped_firm : (M : Model) → {K : Type 0} (seen : Seen M K)
     (old mid new : Option K) (events others : List Event) (at : ℕ) (fault : DriveFault) (p : List ℕ) (outcomes : List (Option Outcome))
-    → Moved (told_in told old) (told_in told mid) empty_ledger (take at events) others p [] outcomes
-    → Stops told became refuses mid new events at fault → is_store fault ≡ false → (told_in told new).is_honest
-    → IsFirm (told_in told old) → IsFirm (told_in told new)
-stopped_firm M told became refuses old mid new events others at fault p outcomes moved stops kind is so =
+    → Moved (stage (told_in seen.told old) [] []) (stage (told_in seen.told mid) p outcomes) 0 (take at events) others
+    → Stops seen mid new events at fault → is_store fault ≡ false → (told_in seen.told new).is_honest
+    → IsFirm (told_in seen.told old) → IsFirm (told_in seen.told new)
+stopped_firm M seen old mid new events others at fault p outcomes moved stops kind is so =
     stops.firm kind is (moved.ran.firm (stops.was_honest is) so)
 
 -- ---- what was asked for
 
 pub moved_asked : (M : Model) → {K : Type 0} (performed : K → K → List Performance → Type 0) → IsPerformanceLog performed → (k k' : KeeperState M)
     (old mid new : Option K) (events : List Event) (at n : ℕ) (p : List ℕ) (outcomes : List (Option Outcome))
-    → Moved k k' empty_ledger (take at events) (drop at events) p [] outcomes
+    → Moved (stage k [] []) (stage k' p outcomes) 0 (take at events) (drop at events)
     → performed_in performed old mid (performances M.serves (take at events))
     → AsksFrom M.serves p (take n (drop at events)) (drop at events) → AsksRun M.serves performed mid new p (take n (drop at events))
     → performed_in performed old new (performances M.serves (take (at + n) events))
@@ -289,22 +291,23 @@ moved_asked M performed law k k' old mid new events at n p outcomes moved asked 
     performed_then performed law old mid new (performances M.serves (take at events)) (performances_of (commits_in M.serves run) p)
     (performances M.serves (take (at + n) events)) asked more
     (sym (ap (performances M.serves) (take-add at n events)
-    ∙ asks_more M.serves (take at events) run p (sym moved.pending) (asks l (sym moved.pending) moved.begin)))
+    ∙ asks_more M.serves (take at events) run p (sym moved.pending)
+    (subst (λ q. AsksOne M.serves (record { room = l.room; pending = q }) run) moved.pending (asks l.room moved.begin))))
 
-pub stopped_asked : (M : Model) → {K : Type 0} (told : K → KeeperState M) (became : K → K → ℕ → Type 0) (refuses : K → StoreFault → Type 0)
-    (performed : K → K → List Performance → Type 0) → IsPerformanceLog performed → (old mid new : Option K) (events : List Event) (at : ℕ) (fault : DriveFault)
+pub stopped_asked : (M : Model) → {K : Type 0} (seen : Seen M K) → IsPerformanceLog seen.performed → (old mid new : Option K) (events : List Event) (at : ℕ) (fault : DriveFault)
     (p : List ℕ) (outcomes : List (Option Outcome))
-    → Moved (told_in told old) (told_in told mid) empty_ledger (take at events) (drop at events) p [] outcomes
-    → performed_in performed old mid (performances M.serves (take at events)) → Stops told became refuses mid new events at fault
-    → StopsAsking M.serves performed mid new p (drop at events) fault → (new ≡ None → ⊥)
-    → AskedSome performed old new (AsksUpTo M.serves events fault)
-stopped_asked M told became refuses performed law old mid new events at fault p outcomes moved asked stops asking there =
+    → Moved (stage (told_in seen.told old) [] []) (stage (told_in seen.told mid) p outcomes) 0 (take at events) (drop at events)
+    → performed_in seen.performed old mid (performances M.serves (take at events)) → Stops seen mid new events at fault
+    → StopsAsking seen mid new p (drop at events) fault → (new ≡ None → ⊥)
+    → AskedSome seen.performed old new (AsksUpTo M.serves events fault)
+stopped_asked M seen law old mid new events at fault p outcomes moved asked stops asking there =
     let stayed = stops.stayed there in
     let done : before fault events ≡ take at events = ap (λ n. take n events) stayed.0 in
     let last = performances_of (commits_in M.serves asking.run) p in
     let l = ledger_after M.serves empty_ledger (take at events) in
     let more : performances M.serves (take at events ++ asking.run) ≡ performances M.serves (take at events) ++ last =
-    asks_more M.serves (take at events) asking.run p (sym moved.pending) (asking.asks l (sym moved.pending) moved.begin) in (
+    asks_more M.serves (take at events) asking.run p (sym moved.pending)
+    (subst (λ q. AsksOne M.serves (record { room = l.room; pending = q }) asking.run) moved.pending (asking.asks l.room moved.begin)) in (
       performances M.serves (take at events) ++ last,
       record {
         run = asking.run;
@@ -316,6 +319,6 @@ stopped_asked M told became refuses performed law old mid new events at fault p 
         last_is = ap (λ (es : List Event). performances M.serves es ++ last) (sym done);
         count = asking.count there;
       },
-      performed_then performed law old mid new (performances M.serves (take at events)) last (performances M.serves (take at events) ++ last) asked
+      performed_then seen.performed law old mid new (performances M.serves (take at events)) last (performances M.serves (take at events) ++ last) asked
           (asking.asked there) refl,
     )

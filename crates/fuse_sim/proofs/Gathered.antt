@@ -21,6 +21,7 @@ use Rattle.fuse_session.specs.Processed.{entry_if, message_entry}
 use Rattle.fuse_sim.specs.declared.event.Fate.{Fate}
 use Rattle.fuse_sim.specs.declared.event.Fate.TheVariants.{Answered, AnswerLost, DiedBeforeCommit, DiedAfterCommit}
 use Rattle.fuse_sim.specs.declared.event.Event.{Event}
+use Rattle.fuse_sim.specs.declared.group.Group.{Group}
 use Rattle.fuse_sim.specs.Driving.{commits, commits_by, commits_in, dies, IsFit}
 use Rattle.fuse_sim.specs.inner.Running.{dies_before, IsRun, StartsNone, EndsWith, StopsAt, Gathers, Joins}
 
@@ -47,10 +48,10 @@ run_more (x ∷ xs) e b so is died = elim so [
   | inr last ↦ absurd (cc last.0)
 ]
 
-pub none_gathered : (M : Model) (classes : List Class) (taken : List (Request × Moment)) → classes ≡ [] → taken ≡ [] → Gathers M [] classes taken false
-none_gathered M classes taken none is = record {
+pub none_gathered : (M : Model) (group : Group) → group.classes.items ≡ [] → group.taken.items ≡ [] → group.died ≡ false → Gathers M [] group
+none_gathered M group none is alive = record {
   fit = All-nil IsFit;
-  goes = refl;
+  goes = alive;
   classes_are = none;
   entries = ap entries_of is;
   few = omega (arith, ap length is);
@@ -59,41 +60,38 @@ none_gathered M classes taken none is = record {
 }
 
 -- one more
-pub gathers_next : (M : Model) (events : List Event) (i : ℕ) (e : Event) (classes classes' : List Class) (taken taken' : List (Request × Moment)) (died died' : Bool)
-    → i < length events → e ≡ get_or events i e
-    → Gathers M (take i events) classes taken died → Joins M e classes taken died classes' taken' died' → Gathers M (take (i + 1) events) classes' taken' died'
-gathers_next M events i e classes classes' taken taken' died died' lt at so_far joins =
+pub gathers_next : (M : Model) (events : List Event) (i : ℕ) (e : Event) (old new : Group) → i < length events → e ≡ get_or events i e
+    → Gathers M (take i events) old → Joins M e old new → Gathers M (take (i + 1) events) new
+gathers_next M events i e old new lt at so_far joins =
     let more : take i events ++ e ∷ [] ≡ take (i + 1) events = ap (λ x. take i events ++ x ∷ []) at ∙ sym (take_more events i e lt) in
-    subst (λ run. Gathers M run classes' taken' died') more (joins.1 (take i events) (subst (Gathers M (take i events) classes taken) joins.0 so_far))
+    subst (λ run. Gathers M run new) more (joins (take i events) so_far)
 
-pub gathers_count : (M : Model) (events : List Event) (i : ℕ) (classes : List Class) (taken : List (Request × Moment)) (died : Bool) → i ≤ length events
-    → Gathers M (take i events) classes taken died → length classes ≡ i
-gathers_count M events i classes taken died le g = ap length g.classes_are ∙ length-map (take i events) (λ (e : Event). class_for M.serves e.bytes)
+pub gathers_count : (M : Model) (events : List Event) (i : ℕ) (group : Group) → i ≤ length events → Gathers M (take i events) group
+    → length group.classes.items ≡ i
+gathers_count M events i group le g = ap length g.classes_are ∙ length-map (take i events) (λ (e : Event). class_for M.serves e.bytes)
     ∙ length-take-le i events le
 
-pub gathers_counted : (M : Model) (events : List Event) (i : ℕ) (classes : List Class) (taken : List (Request × Moment)) (died : Bool) → i ≤ length events
-    → Gathers M (take i events) classes taken died → Gathers M (take (length classes) events) classes taken died
-gathers_counted M events i classes taken died le g = subst (λ n. Gathers M (take n events) classes taken died)
-    (sym (gathers_count M events i classes taken died le g)) g
+pub gathers_counted : (M : Model) (events : List Event) (i : ℕ) (group : Group) → i ≤ length events → Gathers M (take i events) group
+    → Gathers M (take (length group.classes.items) events) group
+gathers_counted M events i group le g = subst (λ n. Gathers M (take n events) group) (sym (gathers_count M events i group le g)) g
 
 -- a group ends where the server died, where it is full, or before an event that stands apart
-pub ends_here : (M : Model) (events : List Event) (i : ℕ) (e : Event) (classes : List Class) (taken : List (Request × Moment)) (died : Bool) → i < length events
-    → e ≡ get_or events i e
-    → Gathers M (take i events) classes taken died → EndsWith taken died e → StopsAt taken died (drop (length classes) events)
-ends_here M events i e classes taken died lt at g ends alive = elim ends [
+pub ends_here : (M : Model) (events : List Event) (i : ℕ) (e : Event) (group : Group) → i < length events → e ≡ get_or events i e
+    → Gathers M (take i events) group → EndsWith group e → StopsAt group (drop (length group.classes.items) events)
+ends_here M events i e group lt at g ends alive = elim ends [
   | inl dead ↦ absurd (cc (alive, dead))
   | inr so ↦ elim so [
     | inl full ↦ inl full
-    | inr apart ↦ inr (subst (λ k. StartsNone (drop k events)) (sym (gathers_count M events i classes taken died (omega (arith, lt)) g))
+    | inr apart ↦ inr (subst (λ k. StartsNone (drop k events)) (sym (gathers_count M events i group (omega (arith, lt)) g))
         (subst StartsNone (sym (drop-cons events i e lt)) (subst (λ (x : Event). (dies_before x.fate ≡ true) ⊎ (¬ IsFit x)) at apart)))
   ]
 ]
 
-pub stops_at_end : (M : Model) (events : List Event) (i : ℕ) (classes : List Class) (taken : List (Request × Moment)) (died : Bool) → i ≤ length events → length events ≤ i
-    → Gathers M (take i events) classes taken died → StopsAt taken died (drop (length classes) events)
-stops_at_end M events i classes taken died le past g alive =
-    let n = gathers_count M events i classes taken died le g in
-    inr (subst StartsNone (sym (drop_all (length classes) events (omega (arith, n, past)))) tt)
+pub stops_at_end : (M : Model) (events : List Event) (i : ℕ) (group : Group) → i ≤ length events → length events ≤ i → Gathers M (take i events) group
+    → StopsAt group (drop (length group.classes.items) events)
+stops_at_end M events i group le past g alive =
+    let n = gathers_count M events i group le g in
+    inr (subst StartsNone (sym (drop_all (length group.classes.items) events (omega (arith, n, past)))) tt)
 
 -- a kept message is answered
 kept_speaks : (V : OpcodeSet) (b : List ℕ) → class_for V b ≡ Kept → silent (raw_of b).opcode ≡ false
@@ -141,42 +139,37 @@ few_more : (n m : ℕ) → n ≤ MAX_GROUP → (n ≡ MAX_GROUP → ⊥) → m �
 few_more n m few room is = grind (arith, few, room, is)
 
 -- an event with its request
-pub joins_kept : (M : Model) (e : Event) (classes classes' : List Class) (taken taken' : List (Request × Moment)) (one : Request × Moment) (died died' : Bool)
-    → died ≡ false → IsFit e → dies_before e.fate ≡ false
-    → entry_of one ∷ [] ≡ entry_if (class_for M.serves e.bytes) (message_entry e.bytes e.moment) → All (IsKept M) (entry_of one ∷ []) → (length taken ≡ MAX_GROUP → ⊥)
-    → classes' ≡ classes ++ class_for M.serves e.bytes ∷ [] → taken' ≡ taken ++ one ∷ [] → dies e.fate ≡ died' → (died' ≡ true → e.fate ≡ DiedAfterCommit)
-    → Joins M e classes taken died classes' taken' died'
-joins_kept M e classes classes' taken taken' one died died' alive fit goes some kept room classed pushed is dead = (
-  alive,
-  λ run g. record {
-    fit = All-append IsFit run (e ∷ []) g.fit (only_one IsFit e fit);
-    goes = run_more run e died' g.goes is dead;
-    classes_are = classed ∙ ap (λ (cs : List Class). cs ++ class_for M.serves e.bytes ∷ []) g.classes_are
-        ∙ sym (map-append (λ (x : Event). class_for M.serves x.bytes) run (e ∷ []));
-    entries = ap entries_of pushed ∙ map-append entry_of taken (one ∷ []) ∙ ap (λ r. r ++ entry_of one ∷ []) g.entries
-        ∙ entries_one M.serves run e (entry_of one ∷ []) goes some;
-    few = few_more (length taken) (length taken') g.few room (ap length pushed ∙ length-append taken (one ∷ []));
-    named = named_more M.serves e.bytes taken taken' one e.moment fit.named some pushed g.named;
-    kept = kept_more M taken taken' one kept pushed g.kept;
-  },
-)
+pub joins_kept : (M : Model) (e : Event) (old new : Group) (one : Request × Moment) → old.died ≡ false → IsFit e → dies_before e.fate ≡ false
+    → entry_of one ∷ [] ≡ entry_if (class_for M.serves e.bytes) (message_entry e.bytes e.moment) → All (IsKept M) (entry_of one ∷ [])
+    → (length old.taken.items ≡ MAX_GROUP → ⊥)
+    → new.classes.items ≡ old.classes.items ++ class_for M.serves e.bytes ∷ [] → new.taken.items ≡ old.taken.items ++ one ∷ []
+    → dies e.fate ≡ new.died → (new.died ≡ true → e.fate ≡ DiedAfterCommit) → Joins M e old new
+joins_kept M e old new one alive fit goes some kept room classed pushed is dead =
+    λ run g. record {
+      fit = All-append IsFit run (e ∷ []) g.fit (only_one IsFit e fit);
+      goes = run_more run e new.died (subst (λ b. IsRun b run) alive g.goes) is dead;
+      classes_are = classed ∙ ap (λ (cs : List Class). cs ++ class_for M.serves e.bytes ∷ []) g.classes_are
+          ∙ sym (map-append (λ (x : Event). class_for M.serves x.bytes) run (e ∷ []));
+      entries = ap entries_of pushed ∙ map-append entry_of old.taken.items (one ∷ []) ∙ ap (λ r. r ++ entry_of one ∷ []) g.entries
+          ∙ entries_one M.serves run e (entry_of one ∷ []) goes some;
+      few = few_more (length old.taken.items) (length new.taken.items) g.few room (ap length pushed ∙ length-append old.taken.items (one ∷ []));
+      named = named_more M.serves e.bytes old.taken.items new.taken.items one e.moment fit.named some pushed g.named;
+      kept = kept_more M old.taken.items new.taken.items one kept pushed g.kept;
+    }
 
 -- an event without one
-pub joins_bare : (M : Model) (e : Event) (classes classes' : List Class) (taken taken' : List (Request × Moment)) (died died' : Bool) → died ≡ false → IsFit e
-    → dies_before e.fate ≡ false
+pub joins_bare : (M : Model) (e : Event) (old new : Group) → old.died ≡ false → IsFit e → dies_before e.fate ≡ false
     → [] ≡ entry_if (class_for M.serves e.bytes) (message_entry e.bytes e.moment)
-    → classes' ≡ classes ++ class_for M.serves e.bytes ∷ [] → taken' ≡ taken → dies e.fate ≡ died' → (died' ≡ true → e.fate ≡ DiedAfterCommit)
-    → Joins M e classes taken died classes' taken' died'
-joins_bare M e classes classes' taken taken' died died' alive fit goes none classed same is dead = (
-  alive,
-  λ run g. record {
-    fit = All-append IsFit run (e ∷ []) g.fit (only_one IsFit e fit);
-    goes = run_more run e died' g.goes is dead;
-    classes_are = classed ∙ ap (λ (cs : List Class). cs ++ class_for M.serves e.bytes ∷ []) g.classes_are
-        ∙ sym (map-append (λ (x : Event). class_for M.serves x.bytes) run (e ∷ []));
-    entries = ap entries_of same ∙ g.entries ∙ sym (append-nil (commits_in M.serves run)) ∙ entries_one M.serves run e [] goes none;
-    few = omega (arith, g.few, ap length same);
-    named = subst (λ (t : List (Request × Moment)). All HasId (entries_of t)) (sym same) g.named;
-    kept = subst (λ (t : List (Request × Moment)). All (IsKept M) (entries_of t)) (sym same) g.kept;
-  },
-)
+    → new.classes.items ≡ old.classes.items ++ class_for M.serves e.bytes ∷ [] → new.taken.items ≡ old.taken.items
+    → dies e.fate ≡ new.died → (new.died ≡ true → e.fate ≡ DiedAfterCommit) → Joins M e old new
+joins_bare M e old new alive fit goes none classed same is dead =
+    λ run g. record {
+      fit = All-append IsFit run (e ∷ []) g.fit (only_one IsFit e fit);
+      goes = run_more run e new.died (subst (λ b. IsRun b run) alive g.goes) is dead;
+      classes_are = classed ∙ ap (λ (cs : List Class). cs ++ class_for M.serves e.bytes ∷ []) g.classes_are
+          ∙ sym (map-append (λ (x : Event). class_for M.serves x.bytes) run (e ∷ []));
+      entries = ap entries_of same ∙ g.entries ∙ sym (append-nil (commits_in M.serves run)) ∙ entries_one M.serves run e [] goes none;
+      few = omega (arith, g.few, ap length same);
+      named = subst (λ (t : List (Request × Moment)). All HasId (entries_of t)) (sym same) g.named;
+      kept = subst (λ (t : List (Request × Moment)). All (IsKept M) (entries_of t)) (sym same) g.kept;
+    }

@@ -25,7 +25,7 @@ use Rattle.fuse_sim.specs.declared.event.Event.{Event}
 use Rattle.fuse_sim.specs.declared.event.Outcome.{Outcome}
 use Rattle.fuse_sim.specs.Driving.{commits_in, committed, answer_in, outcome_of, OutcomesBegin, bytes_given, is_taken, where_taken}
 use Rattle.fuse_sim.specs.inner.Running.{dies_before, NoneDiesBefore, answers_in, head_answer, outcomes_by, HasAnswers, settles_in, Adds}
-use Rattle.fuse_sim.specs.inner.Running.{Worked}
+use Rattle.fuse_sim.specs.inner.Running.{Worked, stage}
 use Rattle.fuse_sim.proofs.Gathered.{commits_kept, commits-append}
 use Rattle.fuse_sim.proofs.Settled.{includes_left, includes_right, unsettled_too}
 
@@ -219,7 +219,7 @@ pub worked : (M : Model) → GroupsGrow M → (holds holds' : KeeperState M) (ru
     → ActsOn holds holds' (handed_to (entries_of taken) pending) (entries_of taken) dones
     → KeepsOthers holds holds' (handed_to (entries_of taken) pending) (entries_of taken) → (holds'.is_honest → IsFirm holds → IsFirm holds')
     → mid ≡ left_pending (entries_of taken) pending → Adds old new (outcomes_by M.serves run (answers_in dones)) → pending' ≡ mid ++ settles_in M.serves run
-    → Worked holds holds' run pending pending' old new
+    → Worked (stage holds pending old) (stage holds' pending' new) run
 worked M grows holds holds' run taken pending mid pending' dones old new goes entries performed acts others firm left adds settled =
     let P = λ (es : List Entry). holds'.is_honest → (s : M.State) (h : History) (t : List ℕ) → StandsFor holds s h t
     → All (IsUnsettled (t ++ handed_to es pending)) es → Performed holds' s h (t ++ handed_to es pending) es dones in

@@ -11,7 +11,8 @@ use Rattle.fuse_request.specs.Canon.{canon, len_of}
 use Rattle.fuse_request.specs.Places.{asked_at, SpelledAt}
 use Rattle.fuse_request.specs.Spelling.{header_parts, parts, Spells}
 use Rattle.fuse_sim.specs.Pending.{again, is_silent, request_id}
-use Rattle.fuse_sim.specs.KeptMessages.{marked, IsOwed}
+use Rattle.fuse_sim.specs.KeptMessages.{IsOwed}
+use Rattle.fuse_sim.specs.inner.Marking.{marked}
 
 length-le : (w n : ℕ) → length (le w n) ≡ w
 unfolding le

@@ -8,7 +8,6 @@ use Rattle.fuse_wire.specs.declared.moment.Moment.{Moment}
 use Rattle.fuse_wire.specs.declared.id.Id.{Id}
 use Rattle.fuse_answer.specs.Said.{Said}
 use Rattle.fuse_request.specs.declared.request.Request.{Request}
-use Rattle.fuse_request.specs.declared.class.Class.{Class}
 use Rattle.fuse_request.specs.Classes.{class_for}
 use Rattle.fuse_keeper.specs.History.{Entry, entry_id, History, HistoriesGrow, grown, is_in, ids_in, Includes, IsUnsettled}
 use Rattle.fuse_keeper.specs.Model.{Model}
@@ -20,12 +19,13 @@ use Rattle.fuse_sim.specs.declared.event.Fate.{Fate}
 use Rattle.fuse_sim.specs.declared.event.Fate.TheVariants.{Answered, AnswerLost, DiedBeforeCommit, DiedAfterCommit}
 use Rattle.fuse_sim.specs.declared.event.Event.{Event}
 use Rattle.fuse_sim.specs.declared.event.Outcome.{Outcome}
+use Rattle.fuse_sim.specs.declared.group.Group.{Group}
 use Rattle.fuse_sim.specs.Driving.{commits, commits_by, commits_in, committed, outcome_of, bytes_given, is_taken, where_taken, answer_in, settles, settled_by}
 use Rattle.fuse_sim.specs.Driving.{NoneReused, IsFit, dies, OutcomesBegin}
 use Rattle.fuse_sim.specs.HandedOn.{Ledger, empty_ledger, after_commit, crashed_if}
 use Rattle.fuse_sim.specs.inner.HandedBy.{handed_at, handed_on, ledger_after}
 use Rattle.fuse_sim.specs.inner.Running.{dies_before, IsRun, StartsNone, StopsAt, Begins, Gathers, NoneDiesBefore, settles_in, RecordsRan}
-use Rattle.fuse_sim.specs.inner.Running.{Ran, MayBegin, Moved, Worked}
+use Rattle.fuse_sim.specs.inner.Running.{Ran, MayBegin, Moved, Worked, stage}
 use Rattle.fuse_sim.proofs.Gathered.{commits-append, only_one}
 use Rattle.fuse_sim.proofs.Settled.{is_in-append, tested, includes_both, in_either, stands_kept}
 use Rattle.fuse_sim.proofs.Ledgers.{RunLedger, run_begins, few_pending}
@@ -226,6 +226,12 @@ ran_none M holds l old new is = record {
 
 -- ---- a group
 
+-- over what pending ids and outcomes were before room was made for more
+pub worked_over : (M : Model) (k k' : KeeperState M) (run : List Event) (p q p' : List ℕ) (o roomy o' : List (Option Outcome)) → q ≡ p → roomy ≡ o
+    → Worked (stage k q roomy) (stage k' p' o') run → Worked (stage k p o) (stage k' p' o') run
+worked_over M k k' run p q p' o roomy o' ids outcomes worked =
+    subst (λ x. Worked (stage k x o) (stage k' p' o') run) ids (subst (λ x. Worked (stage k q x) (stage k' p' o') run) outcomes worked)
+
 pub handed_within : (u p : List ℕ) (es : List Entry) → Includes u p → Includes u (handed_to es p)
 handed_within u p [] within = λ i there. absurd (cc there)
 handed_within u p (e ∷ es) within = within
@@ -249,7 +255,7 @@ none_dies died (e ∷ run) so = elim so [
 
 pub group_ran : (M : Model) (holds mid holds' : KeeperState M) (died : Bool) (run : List Event) (p p' : List ℕ) (old new : List (Option Outcome))
     → RunLedger M.serves died (record { room = 0; pending = p }) run (handed_to (commits_in M.serves run) p) (left_pending (commits_in M.serves run) p ++ settles_in M.serves run) 16
-    → Worked holds mid run p p' old new → (holds'.is_honest → KeepsHeld mid holds') → (holds'.is_honest → mid.is_honest)
+    → Worked (stage holds p old) (stage mid p' new) run → (holds'.is_honest → KeepsHeld mid holds') → (holds'.is_honest → mid.is_honest)
     → (holds'.is_honest → IsFirm mid → IsFirm holds')
     → Ran holds holds' (record { room = 0; pending = p }) run old new
 group_ran M holds mid holds' died run p p' old new ledger worked keeps was firm =
@@ -330,17 +336,17 @@ lost_ran M holds holds' l e old new lost pushed keeps firm =
 -- ---- what is said of it
 
 may_begin : (V : OpcodeSet) (died : Bool) (l : Ledger) (run others : List Event) (handed pending : List ℕ) → RunLedger V died l run handed pending 16
-    → (died ≡ false → (length (commits_in V run) ≡ 16) ⊎ StartsNone others) → MayBegin (ledger_after V l run) others
+    → (died ≡ false → (length (commits_in V run) ≡ 16) ⊎ StartsNone others) → MayBegin (ledger_after V l run).room others
 may_begin V true l run others handed pending ledger stops = inl (ledger.crashed refl)
 may_begin V false l run others handed pending ledger stops = elim (stops refl) [
   | inl all ↦ inl (ledger.full refl all)
   | inr ends ↦ inr ends
 ]
 
-stops_at : (V : OpcodeSet) (run others : List Event) (taken : List (Request × Moment)) (died : Bool) → entries_of taken ≡ commits_in V run → StopsAt taken died others
-    → died ≡ false → (length (commits_in V run) ≡ 16) ⊎ StartsNone others
-stops_at V run others taken died entries stops alive = elim (stops alive) [
-  | inl all ↦ inl (sym (ap length entries) ∙ length-map taken entry_of ∙ all)
+stops_at : (V : OpcodeSet) (run others : List Event) (group : Group) → entries_of group.taken.items ≡ commits_in V run → StopsAt group others
+    → group.died ≡ false → (length (commits_in V run) ≡ 16) ⊎ StartsNone others
+stops_at V run others group entries stops alive = elim (stops alive) [
+  | inl all ↦ inl (sym (ap length entries) ∙ length-map group.taken.items entry_of ∙ all)
   | inr ends ↦ inr ends
 ]
 
@@ -348,21 +354,21 @@ pub few_taken : (V : OpcodeSet) (run : List Event) (taken : List (Request × Mom
     → length (commits_in V run) ≤ n
 few_taken V run taken n entries few = omega (arith, few, ap length entries, length-map taken entry_of)
 
-pub group_moved : (M : Model) (holds mid holds' : KeeperState M) (died : Bool) (run slice others : List Event) (classes : List Class)
-    (taken : List (Request × Moment)) (p p_mid p' : List ℕ) (old new : List (Option Outcome))
-    → Gathers M run classes taken died → slice ≡ run → StopsAt taken died others
-    → Worked holds mid slice p p_mid old new → (holds'.is_honest → KeepsHeld mid holds') → (holds'.is_honest → mid.is_honest)
+pub group_moved : (M : Model) (holds mid holds' : KeeperState M) (group : Group) (run slice others : List Event) (p p_mid p' : List ℕ)
+    (old new : List (Option Outcome)) → Gathers M run group → slice ≡ run → StopsAt group others
+    → Worked (stage holds p old) (stage mid p_mid new) slice → (holds'.is_honest → KeepsHeld mid holds') → (holds'.is_honest → mid.is_honest)
     → (holds'.is_honest → IsFirm mid → IsFirm holds')
-    → p' ≡ (if died then [] else p_mid)
-    → Moved holds holds' (record { room = 0; pending = p }) run others p' old new
-group_moved M holds mid holds' died run slice others classes taken p p_mid p' old new gathers same stops all keeps was firm left =
-    let worked = subst (λ x. Worked holds mid x p p_mid old new) same all in
-    let ledger = run_begins M.serves died run p gathers.goes (few_taken M.serves run taken 16 gathers.entries gathers.few) in
+    → p' ≡ (if group.died then [] else p_mid)
+    → Moved (stage holds p old) (stage holds' p' new) 0 run others
+group_moved M holds mid holds' group run slice others p p_mid p' old new gathers same stops all keeps was firm left =
+    let worked = subst (λ x. Worked (stage holds p old) (stage mid p_mid new) x) same all in
+    let ledger = run_begins M.serves group.died run p gathers.goes (few_taken M.serves run group.taken.items 16 gathers.entries gathers.few) in
     record {
       fit = gathers.fit;
-      ran = group_ran M holds mid holds' died run p p_mid old new ledger worked keeps was firm;
-      pending = left ∙ ap (λ (x : List ℕ). if died then [] else x) worked.handed ∙ sym ledger.pending_is;
-      begin = may_begin M.serves died (record { room = 0; pending = p }) run others _ _ ledger (stops_at M.serves run others taken died gathers.entries stops);
+      ran = group_ran M holds mid holds' group.died run p p_mid old new ledger worked keeps was firm;
+      pending = left ∙ ap (λ (x : List ℕ). if group.died then [] else x) worked.handed ∙ sym ledger.pending_is;
+      begin = may_begin M.serves group.died (record { room = 0; pending = p }) run others _ _ ledger
+          (stops_at M.serves run others group gathers.entries stops);
     }
 
 pub ids_left : (died : Bool) (pending' pending : List Id) → pending' ≡ (if died then [] else pending) → ids_of pending' ≡ (if died then [] else ids_of pending)
@@ -394,10 +400,8 @@ begins_not (e ∷ es) begins none = elim none [
   | inr unfit ↦ unfit begins.0
 ]
 
-pub begins_with : (l : Ledger) (p : List ℕ) (others : List Event) → l.pending ≡ p → MayBegin l others → Begins others → record { room = 0; pending = p } ≡ l
-begins_with l p others same may begins =
-    let room : l.room ≡ 0 = elim may [ inl none ↦ none | inr ends ↦ absurd (begins_not others begins ends) ] in
-    ap (λ (q : List ℕ). record { room = 0; pending = q }) (sym same) ∙ ap (λ (n : ℕ). record { room = n; pending = l.pending }) (sym room)
+pub no_room : (room : ℕ) (others : List Event) → MayBegin room others → Begins others → 0 ≡ room
+no_room room others may begins = elim may [ inl none ↦ sym none | inr ends ↦ absurd (begins_not others begins ends) ]
 
 pub begins_at : (events : List Event) (at : ℕ) (e : Event) → at < length events → e ≡ get_or events at e → IsFit e → dies_before e.fate ≡ false
     → Begins (drop at events)
@@ -405,10 +409,10 @@ begins_at events at e lt is fit goes_on = subst Begins (sym (drop-cons events at
     (subst (λ (x : Event). IsFit x × (dies_before x.fate ≡ false)) is (fit, goes_on))
 
 pub next_moved : (M : Model) (holds holds' : KeeperState M) (p p' : List ℕ) (run others rest : List Event) (old new : List (Option Outcome)) → Begins others
-    → Moved holds holds' (record { room = 0; pending = p }) run rest p' old new → (l : Ledger) → l.pending ≡ p → MayBegin l others
-    → Moved holds holds' l run rest p' old new
-next_moved M holds holds' p p' run others rest old new begins moved l same may =
-    subst (λ x. Moved holds holds' x run rest p' old new) (begins_with l p others same may begins) moved
+    → Moved (stage holds p old) (stage holds' p' new) 0 run rest → (room : ℕ) → MayBegin room others
+    → Moved (stage holds p old) (stage holds' p' new) room run rest
+next_moved M holds holds' p p' run others rest old new begins moved room may =
+    subst (λ n. Moved (stage holds p old) (stage holds' p' new) n run rest) (no_room room others may begins) moved
 
 pub is_lost : (fate : Fate) → dies_before fate ≡ true → fate ≡ DiedBeforeCommit
 is_lost Answered is = absurd (cc is)
@@ -416,16 +420,17 @@ is_lost AnswerLost is = absurd (cc is)
 is_lost DiedBeforeCommit is = refl
 is_lost DiedAfterCommit is = absurd (cc is)
 
-pub lost_moved : (M : Model) (holds holds' : KeeperState M) (l : Ledger) (events rest : List Event) (at : ℕ) (e : Event) (p' : List ℕ)
+pub lost_moved : (M : Model) (holds holds' : KeeperState M) (p : List ℕ) (room : ℕ) (events rest : List Event) (at : ℕ) (e : Event) (p' : List ℕ)
     (old new : List (Option Outcome))
     → at < length events → e ≡ get_or events at e → IsFit e → dies_before e.fate ≡ true → new ≡ old ++ None ∷ [] → p' ≡ []
     → (holds'.is_honest → KeepsHeld holds holds') → (holds'.is_honest → IsFirm holds → IsFirm holds')
-    → Moved holds holds' l (take 1 (drop at events)) rest p' old new
-lost_moved M holds holds' l events rest at e p' old new lt is fit before pushed none keeps firm =
+    → Moved (stage holds p old) (stage holds' p' new) room (take 1 (drop at events)) rest
+lost_moved M holds holds' p room events rest at e p' old new lt is fit before pushed none keeps firm =
+    let l : Ledger = record { room = room; pending = p } in
     let lost = is_lost e.fate before in
     let one : e ∷ [] ≡ take 1 (drop at events) = ap (λ (x : Event). x ∷ []) is ∙ ap (take 1) (sym (drop-cons events at e lt)) in
     let crashed : ledger_after M.serves l (e ∷ []) ≡ empty_ledger = ap (λ f. crashed_if (dies f) (after_commit (commits M.serves e) l (settles M.serves e))) lost in
-    subst (λ run. Moved holds holds' l run rest p' old new) one (record {
+    subst (λ run. Moved (stage holds p old) (stage holds' p' new) room run rest) one (record {
       fit = only_one IsFit e fit;
       ran = lost_ran M holds holds' l e old new lost pushed keeps firm;
       pending = none ∙ ap (λ (x : Ledger). x.pending) (sym crashed);

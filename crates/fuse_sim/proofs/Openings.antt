@@ -2,9 +2,6 @@
 use Rattle.std.proofs.Common.{◌≡◌, ◌⊎◌, inl, inr, ℕ, suc, ◌+◌, ◌<◌, Bool, true, false, if◌then◌else◌, List, [], ◌∷◌, ◌++◌, length, take, drop, get_or, Option}
 use Rattle.std.proofs.Common.{Some, None, IsSomeAnd, ◌≤◌, refl, sym, ap, subst, ◌∙◌, append_assoc, length-append, drop-cons, arith}
 use Rattle.std.proofs.lemmas.List.{append-nil}
-use Rattle.fuse_wire.specs.declared.moment.Moment.{Moment}
-use Rattle.fuse_request.specs.declared.request.Request.{Request}
-use Rattle.fuse_request.specs.declared.class.Class.{Class}
 use Rattle.fuse_request.specs.Classes.{class_for}
 use Rattle.fuse_request.specs.Opcodes.{OpcodeSet}
 use Rattle.fuse_keeper.specs.History.{History, grown, Includes}
@@ -16,10 +13,11 @@ use Rattle.fuse_sim.specs.declared.event.Fate.{Fate}
 use Rattle.fuse_sim.specs.declared.event.Fate.TheVariants.{DiedAfterCommit}
 use Rattle.fuse_sim.specs.declared.event.Event.{Event}
 use Rattle.fuse_sim.specs.declared.event.Outcome.{Outcome}
-use Rattle.fuse_sim.specs.Driving.{commits_by, commits_in, committed, dies, deaths, settles, settled_by, NoneReused, told_in, StandsIn, became_in, OpenedAt}
+use Rattle.fuse_sim.specs.declared.group.Group.{Group}
+use Rattle.fuse_sim.specs.Driving.{commits_by, commits_in, committed, dies, deaths, settles, settled_by, NoneReused, told_in, StandsIn, became_in, OpenedAt, EventIn, up_to}
 use Rattle.fuse_sim.specs.Driving.{Opened, KeepsMedium, StoodAt, StoodBefore}
 use Rattle.fuse_sim.specs.AfterEvents.{StandsAfter}
-use Rattle.fuse_sim.specs.inner.Running.{dies_before, IsRun, DiesLast, Gathers, Worked, Opens}
+use Rattle.fuse_sim.specs.inner.Running.{dies_before, IsRun, DiesLast, Gathers, Worked, Opens, stage}
 use Rattle.fuse_sim.proofs.Settled.{includes_left, includes_both, stands_later}
 use Rattle.fuse_sim.proofs.Driven.{committed-append, settled-append, settled_still, reused-parts, all_unsettled_too, none_reused}
 use Rattle.fuse_sim.proofs.Gathered.{commits-append}
@@ -154,33 +152,38 @@ stood_more M told old mid new xs ys p within one two s h t so none =
     subst (λ g. StandsIn told new s g (settled_by M.serves t (xs ++ ys))) (sym (committed-append M.serves h xs ys))
     (subst (StandsIn told new s (committed M.serves (committed M.serves h xs) ys)) (sym (settled-append M.serves t xs ys)) stands)
 
+-- the event between these
+abbrev event_at : {events : List Event} (earlier : List Event) (one : Event) (later : List Event) → events ≡ earlier ++ one ∷ later → EventIn events
+event_at earlier one later parts = record { earlier = earlier; one = one; later = later; parts = parts }
+
 opened_before : (M : Model) → {K : Type 0} (told : K → KeeperState M) (became : K → K → ℕ → Type 0) → IsCount became
-    → (old mid new : Option K) (ys earlier : List Event) (e : Event) (more later : List Event)
-    → later ≡ more ++ ys → became_in became mid new (deaths ys) → ((told_in told new).is_honest → (told_in told mid).is_honest)
-    → OpenedAt told became old mid earlier e more → OpenedAt told became old new earlier e later
-opened_before M told became law old mid new ys earlier e more later rest further was one = record {
+    → (old mid new : Option K) (xs ys zs : List Event) (at : EventIn zs) (more : List Event) (parts : xs ≡ at.earlier ++ at.one ∷ more)
+    → at.later ≡ more ++ ys → became_in became mid new (deaths ys) → ((told_in told new).is_honest → (told_in told mid).is_honest)
+    → OpenedAt told became old mid (event_at at.earlier at.one more parts) → OpenedAt told became old new at
+opened_before M told became law old mid new xs ys zs at more parts rest further was one = record {
   left = one.left;
   opened = one.opened;
   before = one.before;
   once = one.once;
-  after = became_then became law one.opened mid new (deaths more) (deaths ys) (deaths later) one.after further (sym (ap deaths rest ∙ deaths-append more ys));
+  after = became_then became law one.opened mid new (deaths more) (deaths ys) (deaths at.later) one.after further (sym (ap deaths rest ∙ deaths-append more ys));
   kept = λ is. one.kept (was is);
   stood = λ is. one.stood (was is);
 }
 
 opened_last : (M : Model) → {K : Type 0} (told : K → KeeperState M) (became : K → K → ℕ → Type 0) → IsCount became
-    → (old mid new : Option K) (xs ys : List Event) (p : List ℕ) (earlier prefix : List Event) (e : Event) (later : List Event)
+    → (old mid new : Option K) (xs ys : List Event) (p : List ℕ) (at : EventIn (xs ++ ys)) (prefix : List Event)
     → ((t : List ℕ) → Includes (settled_by M.serves t xs) p) → StandsAfter told old mid xs → became_in became old mid (deaths xs) → (two : Opens told became mid new p ys)
-    → ys ≡ prefix ++ e ∷ later → earlier ≡ xs ++ prefix → AtLast two.died prefix later → OpenedAt told became old new earlier e later
-opened_last M told became law old mid new xs ys p earlier prefix e later within stood often two parts begin last =
+    → ys ≡ prefix ++ at.one ∷ at.later → at.earlier ≡ xs ++ prefix → AtLast two.died prefix at.later → OpenedAt told became old new at
+opened_last M told became law old mid new xs ys p at prefix within stood often two parts begin last =
+    let e = at.one in
     let once : became_in became two.left new 1 = subst (λ b. became_in became two.left new (if b then 1 else 0)) last.died_is two.after in
-    let whole : earlier ++ e ∷ [] ≡ xs ++ ys =
+    let whole : up_to at ≡ xs ++ ys =
     ap (λ (zs : List Event). zs ++ e ∷ []) begin ∙ append_assoc xs prefix (e ∷ []) ∙ ap (λ (zs : List Event). xs ++ (prefix ++ e ∷ zs)) (sym last.ends)
     ∙ ap (λ (zs : List Event). xs ++ zs) (sym parts) in
     record {
       left = two.left;
       opened = new;
-      before = became_then became law old mid two.left (deaths xs) 0 (deaths earlier) often two.before
+      before = became_then became law old mid two.left (deaths xs) 0 (deaths at.earlier) often two.before
           (omega (arith, ap deaths begin, deaths-append xs prefix, last.calm));
       once = once;
       after = subst (became_in became new new) (ap deaths (sym last.ends)) (became_last became law two.left new 1 once);
@@ -195,12 +198,12 @@ opened_place : (M : Model) → {K : Type 0} (told : K → KeeperState M) (became
     → ((t : List ℕ) → Includes (settled_by M.serves t xs) p) → StandsAfter told old mid xs → became_in became mid new (deaths ys)
     → ((told_in told new).is_honest → (told_in told mid).is_honest)
     → Opened told became old mid xs → Opens told became mid new p ys
-    → (earlier : List Event) (e : Event) (later : List Event) → xs ++ ys ≡ earlier ++ e ∷ later → dies e.fate ≡ true
-    → OpenedAt told became old new earlier e later
-opened_place M told became law old mid new xs ys p within stood further was one two earlier e later is so = elim (in_which xs ys earlier e later is) [
-  | inl first ↦ opened_before M told became law old mid new ys earlier e first.more later first.rest further was (one.each earlier e first.more first.parts so)
-  | inr second ↦ opened_last M told became law old mid new xs ys p earlier second.prefix e later within stood one.often two second.parts second.begin
-      (at_last two.died ys second.prefix e later two.last second.parts so)
+    → (at : EventIn (xs ++ ys)) → dies at.one.fate ≡ true → OpenedAt told became old new at
+opened_place M told became law old mid new xs ys p within stood further was one two at so = elim (in_which xs ys at.earlier at.one at.later at.parts) [
+  | inl first ↦ opened_before M told became law old mid new xs ys (xs ++ ys) at first.more first.parts first.rest further was
+      (one.each (event_at at.earlier at.one first.more first.parts) so)
+  | inr second ↦ opened_last M told became law old mid new xs ys p at second.prefix within stood one.often two second.parts second.begin
+      (at_last two.died ys second.prefix at.one at.later two.last second.parts so)
 ]
 
 pub opened_more : (M : Model) → {K : Type 0} (told : K → KeeperState M) (became : K → K → ℕ → Type 0) → IsCount became
@@ -226,22 +229,23 @@ stands_twice M told old mid new xs ys one two =
     stood_more M told old mid new xs ys [] (λ t i there. absurd (cc there)) one (λ s h t so within none. two s h t so none)
 
 opened_second : (M : Model) → {K : Type 0} (told : K → KeeperState M) (became : K → K → ℕ → Type 0) → IsCount became
-    → (old mid new : Option K) (xs ys earlier prefix : List Event) (e : Event) (later : List Event)
-    → ((told_in told new).is_honest → (told_in told mid).is_honest) → StandsAfter told old mid xs → became_in became old mid (deaths xs) → earlier ≡ xs ++ prefix
-    → OpenedAt told became mid new prefix e later → OpenedAt told became old new earlier e later
-opened_second M told became law old mid new xs ys earlier prefix e later was stood often begin at =
-    let whole : earlier ++ e ∷ [] ≡ xs ++ (prefix ++ e ∷ []) = ap (λ (zs : List Event). zs ++ e ∷ []) begin ∙ append_assoc xs prefix (e ∷ []) in
+    → (old mid new : Option K) (xs ys : List Event) (at : EventIn (xs ++ ys)) (prefix : List Event) (parts : ys ≡ prefix ++ at.one ∷ at.later)
+    → ((told_in told new).is_honest → (told_in told mid).is_honest) → StandsAfter told old mid xs → became_in became old mid (deaths xs) → at.earlier ≡ xs ++ prefix
+    → OpenedAt told became mid new (event_at prefix at.one at.later parts) → OpenedAt told became old new at
+opened_second M told became law old mid new xs ys at prefix parts was stood often begin one =
+    let e = at.one in
+    let whole : up_to at ≡ xs ++ (prefix ++ e ∷ []) = ap (λ (zs : List Event). zs ++ e ∷ []) begin ∙ append_assoc xs prefix (e ∷ []) in
     record {
-      left = at.left;
-      opened = at.opened;
-      before = became_then became law old mid at.left (deaths xs) (deaths prefix) (deaths earlier) often at.before
+      left = one.left;
+      opened = one.opened;
+      before = became_then became law old mid one.left (deaths xs) (deaths prefix) (deaths at.earlier) often one.before
           (sym (ap deaths begin ∙ deaths-append xs prefix));
-      once = at.once;
-      after = at.after;
-      kept = at.kept;
+      once = one.once;
+      after = one.after;
+      kept = one.kept;
       stood = λ is. subst (λ es. (s : M.State) (h : History) (t : List ℕ) → StandsIn told old s h t → NoneReused M.serves t es
-          → StandsIn told at.left s (committed M.serves h es) (settled_by M.serves t es)) (sym whole)
-          (stands_twice M told old mid at.left xs (prefix ++ e ∷ []) (stood (was is)) (at.stood is));
+          → StandsIn told one.left s (committed M.serves h es) (settled_by M.serves t es)) (sym whole)
+          (stands_twice M told old mid one.left xs (prefix ++ e ∷ []) (stood (was is)) (one.stood is));
     }
 
 pub opened_twice : (M : Model) → {K : Type 0} (told : K → KeeperState M) (became : K → K → ℕ → Type 0) → IsCount became
@@ -250,11 +254,11 @@ pub opened_twice : (M : Model) → {K : Type 0} (told : K → KeeperState M) (be
     → Opened told became old new (xs ++ ys)
 opened_twice M told became law old mid new xs ys was stood one two = record {
   often = became_then became law old mid new (deaths xs) (deaths ys) (deaths (xs ++ ys)) one.often two.often (sym (deaths-append xs ys));
-  each = λ earlier e later is so. elim (in_which xs ys earlier e later is) [
-    | inl first ↦ opened_before M told became law old mid new ys earlier e first.more later first.rest two.often was
-        (one.each earlier e first.more first.parts so)
-    | inr second ↦ opened_second M told became law old mid new xs ys earlier second.prefix e later was stood one.often second.begin
-        (two.each second.prefix e later second.parts so)
+  each = λ at so. elim (in_which xs ys at.earlier at.one at.later at.parts) [
+    | inl first ↦ opened_before M told became law old mid new xs ys (xs ++ ys) at first.more first.parts first.rest two.often was
+        (one.each (event_at at.earlier at.one first.more first.parts) so)
+    | inr second ↦ opened_second M told became law old mid new xs ys at second.prefix second.parts was stood one.often second.begin
+        (two.each (event_at second.prefix at.one at.later second.parts) so)
   ];
 }
 
@@ -262,7 +266,7 @@ pub opened_none : (M : Model) → {K : Type 0} (told : K → KeeperState M) (bec
     → IsSomeAnd k P → Opened told became k k []
 opened_none M told became law P k is = record {
   often = became_itself became law P k is;
-  each = λ earlier e later none. absurd (no_middle earlier e later (sym none));
+  each = λ at _. absurd (no_middle at.earlier at.one at.later (sym at.parts));
 }
 
 -- it was opened no more
@@ -271,8 +275,8 @@ pub opened_still : (M : Model) → {K : Type 0} (told : K → KeeperState M) (be
     → became_in became mid new 0 → ((told_in told new).is_honest → (told_in told mid).is_honest) → Opened told became old mid es → Opened told became old new es
 opened_still M told became law old mid new es same was one = record {
   often = became_then became law old mid new (deaths es) 0 (deaths es) one.often same (omega arith);
-  each = λ earlier e later is so. opened_before M told became law old mid new [] earlier e later later (sym (append-nil later)) same was
-      (one.each earlier e later is so);
+  each = λ at so. opened_before M told became law old mid new es [] es at at.later at.parts (sym (append-nil at.later)) same was
+      (one.each (event_at at.earlier at.one at.later at.parts) so);
 }
 
 -- ---- a group, and an event that is lost
@@ -287,19 +291,18 @@ run_last died (e ∷ run) is = elim is [
   | inr last ↦ inr (last.0, dies_later e.fate last.1, last.2)
 ]
 
-pub group_opens : (M : Model) → {K : Type 0} (told : K → KeeperState M) (became : K → K → ℕ → Type 0) (old mid new : Option K) (died : Bool)
-    (run slice : List Event) (classes : List Class) (taken : List (Request × Moment)) (p p' : List ℕ) (outs outs' : List (Option Outcome))
-    → Gathers M run classes taken died → slice ≡ run → Worked (told_in told old) (told_in told mid) slice p p' outs outs' → became_in became old mid 0
-    → became_in became mid new (if died then 1 else 0)
+pub group_opens : (M : Model) → {K : Type 0} (told : K → KeeperState M) (became : K → K → ℕ → Type 0) (old mid new : Option K)
+    (group : Group) (run slice : List Event) (p p' : List ℕ) (outs outs' : List (Option Outcome)) → Gathers M run group → slice ≡ run → Worked (stage (told_in told old) p outs) (stage (told_in told mid) p' outs') slice → became_in became old mid 0
+    → became_in became mid new (if group.died then 1 else 0)
     → ((told_in told new).is_honest → KeepsHeld (told_in told mid) (told_in told new))
     → ((told_in told new).is_honest → (told_in told mid).is_honest) → ((told_in told mid).is_honest → (told_in told old).is_honest)
     → KeepsMedium told old new → Opens told became old new p run
-group_opens M told became old mid new died run slice classes taken p p' outs outs' gathers same all before after keeps honest was medium =
-    let worked = subst (λ x. Worked (told_in told old) (told_in told mid) x p p' outs outs') same all in
+group_opens M told became old mid new group run slice p p' outs outs' gathers same all before after keeps honest was medium =
+    let worked = subst (λ x. Worked (stage (told_in told old) p outs) (stage (told_in told mid) p' outs') x) same all in
     let cs = commits_in M.serves run in
     record {
-      died = died;
-      last = run_last died run gathers.goes;
+      died = group.died;
+      last = run_last group.died run gathers.goes;
       left = mid;
       before = before;
       after = after;
@@ -312,7 +315,7 @@ group_opens M told became old mid new died run slice classes taken p p' outs out
           stands_later M (told_in told mid) s (committed M.serves h run) (t ++ handed_to cs p) (settled_by M.serves t run)
           (includes_both (settled_by M.serves t run) t (handed_to cs p) (settled_still M.serves t run) (λ i there. settled_still M.serves t run i (handed i there)))
           (worked.stands is s h t so fresh);
-      few = few_taken M.serves run taken 16 gathers.entries gathers.few;
+      few = few_taken M.serves run group.taken.items 16 gathers.entries gathers.few;
       medium = medium;
     }
 

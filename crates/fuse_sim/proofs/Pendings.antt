@@ -20,7 +20,8 @@ use Rattle.fuse_request.specs.Spelling.{Spells}
 use Rattle.fuse_keeper.specs.History.{is_in}
 use Rattle.fuse_sim.specs.Pending.{MayBeSent, is_silent, request_id, request_ids, owed, again, again_from, all_again, has_unique, owner, others, messages_in}
 use Rattle.fuse_sim.specs.Pending.{requests_in}
-use Rattle.fuse_sim.specs.KeptMessages.{IsOwed, NoneTwice, ArePending, StandsFirst}
+use Rattle.fuse_sim.specs.KeptMessages.{IsOwed, NoneTwice, ArePending}
+use Rattle.fuse_sim.specs.inner.Marking.{StandsFirst}
 use Rattle.fuse_sim.proofs.Marks.{again_twice, same_id as same_request}
 
 tested : (b : Bool) → (b ≡ true) ⊎ (b ≡ false)

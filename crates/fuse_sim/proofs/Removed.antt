@@ -12,7 +12,7 @@ use Rattle.fuse_session.specs.Settling.{settles_if}
 use Rattle.fuse_sim.specs.declared.event.Fate.{Fate}
 use Rattle.fuse_sim.specs.declared.event.Fate.TheVariants.{Answered, AnswerLost, DiedBeforeCommit, DiedAfterCommit}
 use Rattle.fuse_sim.specs.declared.event.Event.{Event}
-use Rattle.fuse_sim.specs.Driving.{commits, commits_in, settles, is_taken, dies, Calm}
+use Rattle.fuse_sim.specs.Driving.{commits, commits_in, settles, is_taken, dies, Calm, EventIn, up_to}
 use Rattle.fuse_sim.specs.HandedOn.{Ledger, empty_ledger, after_one, after_commit, crashed_if, after_event}
 use Rattle.fuse_sim.specs.inner.HandedBy.{handed_by, handed_at, ledger_after, handed_on}
 use Rattle.fuse_sim.specs.LeftRecords.{Follow, SettledBefore}
@@ -131,18 +131,20 @@ handed_soon V l one later i few settled follow = elim (commits_one V one) [
       let has = ap (λ (s : List ℕ). is_in (after_one l.room l.pending s).pending i) settled ∙ pending_one l.room l.pending i in
       let enough = room_one l.room l.pending (settles V one) few in
       let many = follow.many in
-      let soon = handed_then V follow.between follow.last follow.later l'.room l'.pending i follow.calm has (omega (arith, enough, many)) in
+      let last = follow.last in
+      let soon = handed_then V last.earlier last.one last.later l'.room l'.pending i follow.calm has (omega (arith, enough, many)) in
       includes_right (handed_at (commits V one) l) (handed_on V (after_event V l one) later) i
-      (ap (λ k. is_in (handed_on V k later) i) (one_step V l one x.0 calm x.1) ∙ ap (λ es. is_in (handed_on V l' es) i) follow.parts ∙ soon)
+      (ap (λ k. is_in (handed_on V k later) i) (one_step V l one x.0 calm x.1) ∙ ap (λ es. is_in (handed_on V l' es) i) last.parts ∙ soon)
 ]
 
 pub settled_handed : (V : OpcodeSet) (es : List Event) (i : ℕ) → SettledBefore V 16 es i → is_in (handed_on V empty_ledger es) i ≡ true
 settled_handed V es i b =
-    let l = ledger_after V empty_ledger b.earlier in
-    let few : l.room ≤ 15 = room_after V empty_ledger b.earlier (omega arith) in
-    ap (λ x. is_in (handed_on V empty_ledger x) i) b.parts ∙ ap (λ x. is_in x i) (handed-append V empty_ledger b.earlier (b.one ∷ b.later))
-    ∙ includes_right (handed_on V empty_ledger b.earlier) (handed_on V l (b.one ∷ b.later)) i
-    (handed_soon V l b.one b.later i few b.settled b.follow)
+    let at = b.at in
+    let l = ledger_after V empty_ledger at.earlier in
+    let few : l.room ≤ 15 = room_after V empty_ledger at.earlier (omega arith) in
+    ap (λ x. is_in (handed_on V empty_ledger x) i) at.parts ∙ ap (λ x. is_in x i) (handed-append V empty_ledger at.earlier (at.one ∷ at.later))
+    ∙ includes_right (handed_on V empty_ledger at.earlier) (handed_on V l (at.one ∷ at.later)) i
+    (handed_soon V l at.one at.later i few b.settled b.follow)
 
 -- ---- none is handed on before the first that is committed after it
 
@@ -157,39 +159,33 @@ either_pending (suc room) p settled i there = in_either p settled i there
 some_more : (V : OpcodeSet) (e : Event) (es : List Event) → 1 ≤ length (commits_in V es) → 1 ≤ length (commits_in V (e ∷ es))
 some_more V e es many = omega (arith, many, length-append (commits V e) (commits_in V es))
 
+-- an event of a list, where one more comes first
+abbrev one_later : (e : Event) (es : List Event) → EventIn es → EventIn (e ∷ es)
+one_later e es at = record { earlier = e ∷ at.earlier; one = at.one; later = at.later; parts = ap (λ (x : List Event). e ∷ x) at.parts }
+
+abbrev first_in : (e : Event) (es : List Event) → EventIn (e ∷ es)
+first_in e es = record { earlier = []; one = e; later = es; parts = refl }
+
 follow_more : (V : OpcodeSet) (e : Event) (es : List Event) → Calm e → Follow V 1 es → Follow V 1 (e ∷ es)
 follow_more V e es calm follow = record {
-  between = e ∷ follow.between;
-  last = follow.last;
-  later = follow.later;
-  parts = ap (λ (x : List Event). e ∷ x) follow.parts;
-  calm = All-cons Calm e follow.between calm follow.calm;
-  many = some_more V e (follow.between ++ follow.last ∷ []) follow.many;
+  last = one_later e es follow.last;
+  calm = All-cons Calm e follow.last.earlier calm follow.calm;
+  many = some_more V e (up_to follow.last) follow.many;
 }
 
 follow_here : (V : OpcodeSet) (e : Event) (es : List Event) (x : Entry) → commits V e ≡ x ∷ [] → Follow V 1 (e ∷ es)
 follow_here V e es x one = record {
-  between = [];
-  last = e;
-  later = es;
-  parts = refl;
+  last = first_in e es;
   calm = All-nil Calm;
   many =
       omega (arith, ap length one, length-append (commits V e) []);
 }
 
 before_more : (V : OpcodeSet) (e : Event) (es : List Event) (i : ℕ) → SettledBefore V 1 es i → SettledBefore V 1 (e ∷ es) i
-before_more V e es i b = record {
-  earlier = e ∷ b.earlier;
-  one = b.one;
-  later = b.later;
-  parts = ap (λ (x : List Event). e ∷ x) b.parts;
-  settled = b.settled;
-  follow = b.follow;
-}
+before_more V e es i b = record { at = one_later e es b.at; settled = b.settled; follow = b.follow }
 
 before_here : (V : OpcodeSet) (e : Event) (es : List Event) (i : ℕ) → settles V e ≡ i ∷ [] → Follow V 1 es → SettledBefore V 1 (e ∷ es) i
-before_here V e es i settled follow = record { earlier = []; one = e; later = es; parts = refl; settled = settled; follow = follow }
+before_here V e es i settled follow = record { at = first_in e es; settled = settled; follow = follow }
 
 -- it was pending before these events, or it is settled by one of them
 Waits : (V : OpcodeSet) → Ledger → List Event → ℕ → Type 0

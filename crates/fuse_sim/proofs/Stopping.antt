@@ -4,19 +4,18 @@ use Rattle.std.proofs.Common.{None, IsSomeAnd, IfSome, slice_get, refl, sym, ap,
 use Rattle.std.proofs.Math.Seq.{take-append_seam}
 use Rattle.std.proofs.lemmas.List.{take-append-drop, take_all, length-take-le, length-drop, drop-drop}
 use Rattle.std.proofs.lemmas.List.Elements.{All-append, All-pop}
-use Rattle.fuse_wire.specs.declared.moment.Moment.{Moment}
-use Rattle.fuse_request.specs.declared.request.Request.{Request}
-use Rattle.fuse_request.specs.declared.class.Class.{Class}
 use Rattle.fuse_keeper.specs.declared.fault.StoreFault.{StoreFault}
 use Rattle.fuse_keeper.specs.History.{History}
 use Rattle.fuse_keeper.specs.Model.{Model}
-use Rattle.fuse_keeper.specs.KeeperState.{KeeperState, KeepsHeld, IsCount}
+use Rattle.fuse_keeper.specs.KeeperState.{KeepsHeld, IsCount}
 use Rattle.fuse_sim.specs.declared.event.Fate.{Fate}
 use Rattle.fuse_sim.specs.declared.event.Fate.TheVariants.{Answered, AnswerLost, DiedBeforeCommit, DiedAfterCommit}
 use Rattle.fuse_sim.specs.declared.event.Event.{Event}
 use Rattle.fuse_sim.specs.declared.event.DriveFault.{DriveFault}
+use Rattle.fuse_sim.specs.declared.group.Group.{Group}
 use Rattle.fuse_sim.specs.declared.event.DriveFault.TheVariants.{NotAMessage, ZeroUnique, Store, Memory}
 use Rattle.fuse_sim.specs.Driving.{told_in, IsFit, event_of, StandsIn, became_in, CausedBy, is_store, IsStoreFault, LeftBy, dies, deaths, Calm}
+use Rattle.fuse_sim.specs.Twice.{Seen}
 use Rattle.fuse_sim.specs.inner.Running.{dies_before, IsRun, Begins, Gathers, StopsAt, Refuses, Stops}
 use Rattle.fuse_sim.proofs.Openings.{became_itself, deaths_first, deaths-append, medium_itself, medium_some}
 
@@ -51,43 +50,43 @@ not_none P (Some k) is none = absurd (cc none)
 -- ---- faults
 
 -- no keeper was touched
-pub stops_here : (M : Model) → {K : Type 0} (told : K → KeeperState M) (became : K → K → ℕ → Type 0) (refuses : K → StoreFault → Type 0) (k : Option K)
+pub stops_here : (M : Model) → {K : Type 0} (seen : Seen M K) (k : Option K)
     (events : List Event) (at : ℕ) (fault : DriveFault)
-    → event_of fault ≡ at → is_store fault ≡ false → IsSomeAnd (slice_get events at) (CausedBy fault) → IsSomeAnd k (λ x. (told x).has_failed ≡ false)
-    → IsCount became → Stops told became refuses k k events at fault
-stops_here M told became refuses k events at fault place kind caused going law = record {
+    → event_of fault ≡ at → is_store fault ≡ false → IsSomeAnd (slice_get events at) (CausedBy fault) → IsSomeAnd k (λ x. (seen.told x).has_failed ≡ false)
+    → IsCount seen.became → Stops seen k k events at fault
+stops_here M seen k events at fault place kind caused going law = record {
   named = subst (λ n. IsSomeAnd (slice_get events n) (CausedBy fault)) (sym place) caused;
   earlier = λ each. subst (λ n. All IsFit (take n events)) (sym place) each;
-  left = subst (λ b. LeftBy (told_in told k) b ((event_of fault ≡ at) × KeepsHeld (told_in told k) (told_in told k))) (sym kind)
+  left = subst (λ b. LeftBy (told_in seen.told k) b ((event_of fault ≡ at) × KeepsHeld (told_in seen.told k) (told_in seen.told k))) (sym kind)
       (λ _. (place, λ rows records held. held));
   answered = λ store. absurd (cc (kind, store));
-  stayed = λ _. (place, became_itself became law (λ x. (told x).has_failed ≡ false) k going);
-  emptied = λ none. absurd (not_none (λ x. (told x).has_failed ≡ false) k going none);
-  has_failed = some_failed (λ x. (told x).has_failed) k (is_store fault) (subst (λ b. IsSomeAnd k (λ x. (told x).has_failed ≡ b)) (sym kind) going);
+  stayed = λ _. (place, became_itself seen.became law (λ x. (seen.told x).has_failed ≡ false) k going);
+  emptied = λ none. absurd (not_none (λ x. (seen.told x).has_failed ≡ false) k going none);
+  has_failed = some_failed (λ x. (seen.told x).has_failed) k (is_store fault) (subst (λ b. IsSomeAnd k (λ x. (seen.told x).has_failed ≡ b)) (sym kind) going);
   was_honest = λ is. is;
   firm = λ _ _ so. so;
-  medium = λ _. medium_itself M told k;
+  medium = λ _. medium_itself M seen.told k;
 }
 
 -- the store answered a fault to a group
-pub stops_store : (M : Model) → {K : Type 0} (told : K → KeeperState M) (became : K → K → ℕ → Type 0) (refuses : K → StoreFault → Type 0) (k k' : Option K)
+pub stops_store : (M : Model) → {K : Type 0} (seen : Seen M K) (k k' : Option K)
     (events : List Event) (at : ℕ) (fault : StoreFault)
-    → IsSomeAnd (slice_get events at) IsFit → IsSomeAnd k' (λ x. (told x).has_failed ≡ true)
-    → ((told_in told k').is_clean → KeepsHeld (told_in told k) (told_in told k')) → ((told_in told k').is_honest → (told_in told k).is_honest)
-    → ((told_in told k').is_clean → (s : M.State) (h : History) (t : List ℕ) → StandsIn told k s h t → (told_in told k).may_answer fault)
-    → became_in became k k' 0 → ((told_in told k).in_memory → (told_in told k').in_memory)
-    → Stops told became refuses k k' events at (Store at fault)
-stops_store M told became refuses k k' events at fault fit has keeps was answered same medium = record {
+    → IsSomeAnd (slice_get events at) IsFit → IsSomeAnd k' (λ x. (seen.told x).has_failed ≡ true)
+    → ((told_in seen.told k').is_clean → KeepsHeld (told_in seen.told k) (told_in seen.told k')) → ((told_in seen.told k').is_honest → (told_in seen.told k).is_honest)
+    → ((told_in seen.told k').is_clean → (s : M.State) (h : History) (t : List ℕ) → StandsIn seen.told k s h t → (told_in seen.told k).may_answer fault)
+    → became_in seen.became k k' 0 → ((told_in seen.told k).in_memory → (told_in seen.told k').in_memory)
+    → Stops seen k k' events at (Store at fault)
+stops_store M seen k k' events at fault fit has keeps was answered same medium = record {
   named = fit;
   earlier = λ each. each;
   left = λ is. (refl, keeps is);
   answered = λ _. answered;
   stayed = λ _. (refl, same);
-  emptied = λ none. absurd (not_none (λ x. (told x).has_failed ≡ true) k' has none);
-  has_failed = some_failed (λ x. (told x).has_failed) k' true has;
+  emptied = λ none. absurd (not_none (λ x. (seen.told x).has_failed ≡ true) k' has none);
+  has_failed = some_failed (λ x. (seen.told x).has_failed) k' true has;
   was_honest = was;
   firm = λ isnt. absurd (cc isnt);
-  medium = λ _. medium_some M told k k' medium;
+  medium = λ _. medium_some M seen.told k k' medium;
 }
 
 caused_by_store : (fault : DriveFault) (e : Event) → is_store fault ≡ true → IsFit e → CausedBy fault e
@@ -109,22 +108,22 @@ refused_at became refuses k q fault events at n e place there died same calm ref
 }
 
 -- a restart left no keeper: it was after the last of some events
-pub stops_restart : (M : Model) → {K : Type 0} (told : K → KeeperState M) (became : K → K → ℕ → Type 0) (refuses : K → StoreFault → Type 0) (k q k' : Option K)
+pub stops_restart : (M : Model) → {K : Type 0} (seen : Seen M K) (k q k' : Option K)
     (events : List Event) (at n : ℕ) (fault : DriveFault) (e : Event)
-    → k' ≡ None → IsSomeAnd q (λ x. IsStoreFault (refuses x) fault) → is_store fault ≡ true → event_of fault ≡ n → slice_get events n ≡ Some e → IsFit e
+    → k' ≡ None → IsSomeAnd q (λ x. IsStoreFault (seen.may_refuse x) fault) → is_store fault ≡ true → event_of fault ≡ n → slice_get events n ≡ Some e → IsFit e
     → dies e.fate ≡ true → (All IsFit (take at events) → All IsFit (take n events))
-    → became_in became k q 0 → deaths (take n events) ≡ deaths (take at events) → Stops told became refuses k k' events at fault
-stops_restart M told became refuses k q k' events at n fault e none refused kind place there fit died earlier same calm = record {
+    → became_in seen.became k q 0 → deaths (take n events) ≡ deaths (take at events) → Stops seen k k' events at fault
+stops_restart M seen k q k' events at n fault e none refused kind place there fit died earlier same calm = record {
   named = subst (λ m. IsSomeAnd (slice_get events m) (CausedBy fault)) (sym place)
       (subst (λ o. IsSomeAnd o (CausedBy fault)) (sym there) (caused_by_store fault e kind fit));
   earlier = λ each. subst (λ m. All IsFit (take m events)) (sym place) (earlier each);
-  left = subst (λ b. LeftBy (told_in told k') b ((event_of fault ≡ at) × KeepsHeld (told_in told k) (told_in told k'))) (sym kind)
-      (λ is. absurd (subst (λ o. (told_in told o).is_clean) none is));
-  answered = λ _ is. absurd (subst (λ o. (told_in told o).is_clean) none is);
+  left = subst (λ b. LeftBy (told_in seen.told k') b ((event_of fault ≡ at) × KeepsHeld (told_in seen.told k) (told_in seen.told k'))) (sym kind)
+      (λ is. absurd (subst (λ o. (told_in seen.told o).is_clean) none is));
+  answered = λ _ is. absurd (subst (λ o. (told_in seen.told o).is_clean) none is);
   stayed = λ there. absurd (there none);
-  emptied = λ _. refused_at became refuses k q fault events at n e place there died same calm refused;
-  has_failed = subst (λ o. IfSome o (λ x. (told x).has_failed ≡ is_store fault)) (sym none) tt;
-  was_honest = λ is. absurd (subst (λ o. (told_in told o).is_honest) none is);
+  emptied = λ _. refused_at seen.became seen.may_refuse k q fault events at n e place there died same calm refused;
+  has_failed = subst (λ o. IfSome o (λ x. (seen.told x).has_failed ≡ is_store fault)) (sym none) tt;
+  was_honest = λ is. absurd (subst (λ o. (told_in seen.told o).is_honest) none is);
   firm = λ isnt. absurd (cc (kind, isnt));
   medium = λ there. absurd (there none);
 }
@@ -205,18 +204,18 @@ pub run_slice : (events : List Event) (at count : ℕ) → take (at + count - at
 run_slice events at count = let same : at + count - at ≡ count = omega arith in ap (λ n. take n (drop at events)) same
 
 -- what was read off the rest of the events
-pub group_read : (M : Model) (events : List Event) (at count : ℕ) (classes : List Class) (taken : List (Request × Moment)) (died : Bool) → count ≡ length classes
-    → Gathers M (take (length classes) (take (length events - at) (drop at events))) classes taken died → Gathers M (take count (drop at events)) classes taken died
-group_read M events at count classes taken died same g =
-    subst (λ n. Gathers M (take n (drop at events)) classes taken died) (sym same)
-    (subst (λ x. Gathers M (take (length classes) x) classes taken died) (whole_rest events at) g)
+pub group_read : (M : Model) (events : List Event) (at count : ℕ) (group : Group) → count ≡ length group.classes.items
+    → Gathers M (take (length group.classes.items) (take (length events - at) (drop at events))) group → Gathers M (take count (drop at events)) group
+group_read M events at count group same g =
+    subst (λ n. Gathers M (take n (drop at events)) group) (sym same)
+    (subst (λ x. Gathers M (take (length group.classes.items) x) group) (whole_rest events at) g)
 
-pub group_stops : (events : List Event) (at count : ℕ) (classes : List Class) (taken : List (Request × Moment)) (died : Bool) → count ≡ length classes
-    → StopsAt taken died (drop (length classes) (take (length events - at) (drop at events))) → StopsAt taken died (drop (at + count) events)
-group_stops events at count classes taken died same stops =
-    subst (StopsAt taken died) (drop-drop count at events)
-    (subst (λ n. StopsAt taken died (drop n (drop at events))) (sym same)
-    (subst (λ x. StopsAt taken died (drop (length classes) x)) (whole_rest events at) stops))
+pub group_stops : (events : List Event) (at count : ℕ) (group : Group) → count ≡ length group.classes.items
+    → StopsAt group (drop (length group.classes.items) (take (length events - at) (drop at events))) → StopsAt group (drop (at + count) events)
+group_stops events at count group same stops =
+    subst (StopsAt group) (drop-drop count at events)
+    (subst (λ n. StopsAt group (drop n (drop at events))) (sym same)
+    (subst (λ x. StopsAt group (drop (length group.classes.items) x)) (whole_rest events at) stops))
 
 begins_some : (events : List Event) → Begins events → 0 < length events
 begins_some [] begins = absurd begins

@@ -135,6 +135,17 @@ KeepsMedium told old new = (told_in told old).in_memory → IfSome new (λ k. (t
 
 -- ---- how often it was opened again
 
+-- an event of a list, with those before it and those after it
+pub record EventIn (events : List Event) : Type 0 where
+  pub earlier : List Event
+  pub one : Event
+  pub later : List Event
+  pub parts : events ≡ earlier ++ one ∷ later
+
+-- those up to it
+abbrev pub up_to : {events : List Event} → EventIn events → List Event
+up_to at = at.earlier ++ at.one ∷ []
+
 -- there are both, and the second is what became of the first, which was opened again so often on the way
 abbrev pub became_in : {K : Type 0} → (K → K → ℕ → Type 0) → Option K → Option K → ℕ → Type 0
 became_in became None new n = ⊥
@@ -143,22 +154,21 @@ became_in became (Some a) (Some b) n = became a b n
 
 -- the server died at one of the events: the keeper that was left then stood for all events up to this one, and it was opened
 -- again, once, before anything else was done
-pub record OpenedAt {M : Model} {K : Type 0} (told : K → KeeperState M) (became : K → K → ℕ → Type 0)
-    (old new : Option K) (earlier : List Event) (one : Event) (later : List Event) : Type 0 where
+pub record OpenedAt {M : Model} {K : Type 0} (told : K → KeeperState M) (became : K → K → ℕ → Type 0) (old new : Option K)
+    {events : List Event} (at : EventIn events) : Type 0 where
   pub left : Option K
   pub opened : Option K
-  pub before : became_in became old left (deaths earlier)
+  pub before : became_in became old left (deaths at.earlier)
   pub once : became_in became left opened 1
-  pub after : became_in became opened new (deaths later)
+  pub after : became_in became opened new (deaths at.later)
   pub kept : (told_in told new).is_honest → KeepsHeld (told_in told left) (told_in told opened)
-  pub stood : (told_in told new).is_honest → (s : M.State) (h : History) (t : List ℕ) → StandsIn told old s h t → NoneReused M.serves t (earlier ++ one ∷ [])
-      → StandsIn told left s (committed M.serves h (earlier ++ one ∷ [])) (settled_by M.serves t (earlier ++ one ∷ []))
+  pub stood : (told_in told new).is_honest → (s : M.State) (h : History) (t : List ℕ) → StandsIn told old s h t → NoneReused M.serves t (up_to at)
+      → StandsIn told left s (committed M.serves h (up_to at)) (settled_by M.serves t (up_to at))
 
 -- the keeper was opened again once for each event at which the server died, after what that event committed
 pub record Opened {M : Model} {K : Type 0} (told : K → KeeperState M) (became : K → K → ℕ → Type 0) (old new : Option K) (events : List Event) : Type 0 where
   pub often : became_in became old new (deaths events)
-  pub each : (earlier : List Event) (one : Event) (later : List Event) → events ≡ earlier ++ one ∷ later → dies one.fate ≡ true
-      → OpenedAt told became old new earlier one later
+  pub each : (at : EventIn events) → dies at.one.fate ≡ true → OpenedAt told became old new at
 
 -- ---- what stood on the way
 

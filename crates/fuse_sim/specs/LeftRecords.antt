@@ -1,5 +1,5 @@
 -- The records that are deleted by events (own profile).
-use Rattle.std.specs.Prelude.{◌≡◌, ◌≤◌, ℕ, true, false, List, [], ◌∷◌, ◌++◌, length, All, None}
+use Rattle.std.specs.Prelude.{◌≡◌, ◌≤◌, ℕ, true, false, List, [], ◌∷◌, length, All, None}
 use Rattle.fuse_request.specs.Opcodes.{OpcodeSet}
 use Rattle.fuse_keeper.specs.History.{is_in, ids_in}
 use Rattle.fuse_keeper.specs.Model.{Model, IsRowed}
@@ -7,26 +7,20 @@ use Rattle.fuse_keeper.specs.Stands.{Records}
 use Rattle.fuse_keeper.specs.KeeperState.{KeeperState}
 use Rattle.fuse_keeper.specs.Performance.{Performance}
 use Rattle.fuse_sim.specs.declared.event.Event.{Event}
-use Rattle.fuse_sim.specs.Driving.{commits_in, settles, Calm}
+use Rattle.fuse_sim.specs.Driving.{commits_in, settles, Calm, EventIn, up_to}
 use Rattle.fuse_sim.specs.HandedOn.{handed_in}
 
 -- at least so many requests are committed by these events up to one of them, before which the server doesn't die
 pub record Follow (V : OpcodeSet) (n : ℕ) (events : List Event) : Type 0 where
-  pub between : List Event
-  pub last : Event
-  pub later : List Event
-  pub parts : events ≡ between ++ last ∷ later
-  pub calm : All Calm between
-  pub many : n ≤ length (commits_in V (between ++ last ∷ []))
+  pub last : EventIn events
+  pub calm : All Calm last.earlier
+  pub many : n ≤ length (commits_in V (up_to last))
 
 -- the answer to this id was taken, and so many requests were committed after it before the server died
 pub record SettledBefore (V : OpcodeSet) (n : ℕ) (events : List Event) (i : ℕ) : Type 0 where
-  pub earlier : List Event
-  pub one : Event
-  pub later : List Event
-  pub parts : events ≡ earlier ++ one ∷ later
-  pub settled : settles V one ≡ i ∷ []
-  pub follow : Follow V n later
+  pub at : EventIn events
+  pub settled : settles V at.one ≡ i ∷ []
+  pub follow : Follow V n at.later
 
 -- the records of the ids that were handed on are deleted; those of ids that didn't come stay
 pub record RecordsLeft (V : OpcodeSet) (asked : List Performance) (events : List Event) (records records' : Records) : Type 0 where

@@ -8,7 +8,7 @@ use Rattle.fuse_keeper.specs.Performance.{Performance}
 use Rattle.fuse_sim.specs.declared.event.Event.{Event}
 use Rattle.fuse_sim.specs.declared.event.DriveFault.{DriveFault}
 use Rattle.fuse_sim.specs.Driving.{told_in, StandsIn, committed, settled_by, NoneReused, IsFit, Names, before, is_store, LeftBy, Opened, OfRestart, AnsweredBy}
-use Rattle.fuse_sim.specs.Driving.{StoodBefore}
+use Rattle.fuse_sim.specs.Driving.{StoodBefore, MayRefuse}
 use Rattle.fuse_sim.specs.HandedOn.{AsksThen, AskedSome}
 
 -- what contracts see of a type of keepers
@@ -17,6 +17,10 @@ pub record Seen (M : Model) (K : Type 0) : Type 1 where
   pub became : K → K → ℕ → Type 0
   pub performed : K → K → List Performance → Type 0
   pub may_refuse : K → StoreFault → Type 0
+
+abbrev pub seen_of : {M : Model} {K R : Type 0} → (K → KeeperState M) → (K → K → ℕ → Type 0) → (K → K → List Performance → Type 0)
+    → (K → StoreFault → R → Type 0) → Seen M K
+seen_of told became performed refuses = record { told = told; became = became; performed = performed; may_refuse = MayRefuse refuses }
 
 -- a fault came at a list, after all of the events `first`: it names the event of the list, and what is left and was done before
 -- it is as after a fault of `drive`

@@ -14,9 +14,9 @@ ghost use Rattle.fuse_sim.specs.Driving.{became_in, performed_in, Opened, Answer
 ghost use Rattle.fuse_sim.specs.Driving.{MayRefuse, KeepsMedium};
 ghost use Rattle.fuse_sim.specs.AfterEvents.{StandsAfter, AnswersAre, AnswersBegin};
 ghost use Rattle.fuse_sim.specs.AfterEvents.{DeletesHanded, KeepsUnhanded};
-ghost use Rattle.fuse_sim.specs.HandedOn.{Ledger, performances, AsksUpTo, AskedSome};
-ghost use Rattle.fuse_sim.specs.Twice.{StoppedAt};
-ghost use Rattle.fuse_sim.specs.inner.Running.{Gathers, Begins, Worked, Moved, MayBegin, Opens, Stops};
+ghost use Rattle.fuse_sim.specs.HandedOn.{performances, AsksUpTo, AskedSome};
+ghost use Rattle.fuse_sim.specs.Twice.{seen_of, StoppedAt};
+ghost use Rattle.fuse_sim.specs.inner.Running.{stage, Gathers, Begins, Worked, Moved, MayBegin, Opens, Stops};
 ghost use Rattle.fuse_sim.specs.inner.Running.{AsksRun, AsksFrom, StopsAsking};
 
 use crate::event::{DriveFault, Event, Outcome};
@@ -112,16 +112,16 @@ fn work_group<K: Restart>(
     pending: &mut Vec<Id>,
     outcomes: &mut Vec<Option<Outcome>>,
 ) -> Result<(), StoreFault>
-    requires gathers { Gathers K.model run.now group.now.classes.items group.now.taken.items
-        group.now.died }
+    requires gathers { Gathers K.model run.now group.now }
     requires few { length pending.old.items ≤ max_settled }
     requires going { IsSomeAnd keeper.old (λ k. (K.told k).has_failed ≡ false) }
     requires room { length outcomes.old.items + length run.now ≤ vec_capacity outcomes.old }
     requires places { length pending.old.items + length group.now.taken.items
         ≤ vec_capacity pending.old }
-    ensures ok { OnOk result (Worked (told_in K.told keeper.old) (told_in K.told keeper.new)
-        run.now (ids_of pending.old.items) (ids_of pending.new.items)
-        outcomes.old.items outcomes.new.items) }
+    ensures ok { OnOk result (Worked
+        (stage (told_in K.told keeper.old) (ids_of pending.old.items) outcomes.old.items)
+        (stage (told_in K.told keeper.new) (ids_of pending.new.items) outcomes.new.items)
+        run.now) }
     ensures called { Called (told_in K.told keeper.old) (told_in K.told keeper.new) result }
     ensures same { became_in K.became keeper.old keeper.new 0 }
     ensures failed { IsSomeAnd keeper.new (λ k. (K.told k).has_failed ≡ is_err result) }
@@ -158,22 +158,21 @@ fn run_group<K: Restart>(
     ensures moves { IfOk result (λ n. 0 < n) }
     ensures within { IfOk result (λ n. at + n ≤ length events.now) }
     ensures ok { IfOk result (λ n. Moved
-        (told_in K.told keeper.old) (told_in K.told keeper.new)
-        (record { room = 0; pending = ids_of pending.old.items })
-        (take n (drop at events.now)) (drop (at + n) events.now)
-        (ids_of pending.new.items) outcomes.old.items outcomes.new.items) }
+        (stage (told_in K.told keeper.old) (ids_of pending.old.items) outcomes.old.items)
+        (stage (told_in K.told keeper.new) (ids_of pending.new.items) outcomes.new.items)
+        0 (take n (drop at events.now)) (drop (at + n) events.now)) }
     ensures opens { IfOk result (λ n. Opens K.told K.became keeper.old keeper.new
         (ids_of pending.old.items) (take n (drop at events.now))) }
     ensures few { OnOk result (length pending.new.items ≤ max_settled) }
     ensures going { OnOk result (IsSomeAnd keeper.new (λ k. (K.told k).has_failed ≡ false)) }
     ensures honest { (told_in K.told keeper.new).is_honest → (told_in K.told keeper.old).is_honest }
-    ensures err { IfErr result
-        (Stops K.told K.became (MayRefuse K.refuses) keeper.old keeper.new events.now at) }
+    ensures err { IfErr result (Stops (seen_of K.told K.became K.performed K.refuses)
+        keeper.old keeper.new events.now at) }
     ensures asks { IfOk result (λ n. AsksFrom K.model.serves (ids_of pending.old.items)
         (take n (drop at events.now)) (drop at events.now)) }
     ensures asked { IfOk result (λ n. AsksRun K.model.serves K.performed keeper.old keeper.new
         (ids_of pending.old.items) (take n (drop at events.now))) }
-    ensures err_asked { IfErr result (StopsAsking K.model.serves K.performed
+    ensures err_asked { IfErr result (StopsAsking (seen_of K.told K.became K.performed K.refuses)
         keeper.old keeper.new (ids_of pending.old.items) (drop at events.now)) }
 {
     let Ok(group) = gather::<K>(alloc, &events[at..]) else {
@@ -205,23 +204,22 @@ fn run_next<K: Restart>(
     requires going { IsSomeAnd keeper.old (λ k. (K.told k).has_failed ≡ false) }
     ensures moves { IfOk result (λ n. 0 < n) }
     ensures within { IfOk result (λ n. at + n ≤ length events.now) }
-    ensures ok { IfOk result (λ n. (l : Ledger)
-        → l.pending ≡ ids_of pending.old.items → MayBegin l (drop at events.now)
-        → Moved (told_in K.told keeper.old) (told_in K.told keeper.new) l
-        (take n (drop at events.now)) (drop (at + n) events.now)
-        (ids_of pending.new.items) outcomes.old.items outcomes.new.items) }
+    ensures ok { IfOk result (λ n. (room : ℕ) → MayBegin room (drop at events.now) → Moved
+        (stage (told_in K.told keeper.old) (ids_of pending.old.items) outcomes.old.items)
+        (stage (told_in K.told keeper.new) (ids_of pending.new.items) outcomes.new.items)
+        room (take n (drop at events.now)) (drop (at + n) events.now)) }
     ensures opens { IfOk result (λ n. Opens K.told K.became keeper.old keeper.new
         (ids_of pending.old.items) (take n (drop at events.now))) }
     ensures few { OnOk result (length pending.new.items ≤ max_settled) }
     ensures going { OnOk result (IsSomeAnd keeper.new (λ k. (K.told k).has_failed ≡ false)) }
     ensures honest { (told_in K.told keeper.new).is_honest → (told_in K.told keeper.old).is_honest }
-    ensures err { IfErr result
-        (Stops K.told K.became (MayRefuse K.refuses) keeper.old keeper.new events.now at) }
+    ensures err { IfErr result (Stops (seen_of K.told K.became K.performed K.refuses)
+        keeper.old keeper.new events.now at) }
     ensures asks { IfOk result (λ n. AsksFrom K.model.serves (ids_of pending.old.items)
         (take n (drop at events.now)) (drop at events.now)) }
     ensures asked { IfOk result (λ n. AsksRun K.model.serves K.performed keeper.old keeper.new
         (ids_of pending.old.items) (take n (drop at events.now))) }
-    ensures err_asked { IfErr result (StopsAsking K.model.serves K.performed
+    ensures err_asked { IfErr result (StopsAsking (seen_of K.told K.became K.performed K.refuses)
         keeper.old keeper.new (ids_of pending.old.items) (drop at events.now)) }
 {
     let event = &events[at];
@@ -371,12 +369,8 @@ pub fn drive_twice<K: Restart>(
     ensures fit { OnOk result (All IsFit (events.now ++ more.now)) }
 
     // The fault came at the first list, or at the second one after all of the first.
-    ensures stopped { IfErr result (StoppedAt (record {
-      told = K.told;
-      became = K.became;
-      performed = K.performed;
-      may_refuse = MayRefuse K.refuses;
-    }) keeper.old keeper.new events.now more.now) }
+    ensures stopped { IfErr result (StoppedAt (seen_of K.told K.became K.performed K.refuses)
+        keeper.old keeper.new events.now more.now) }
     ensures going { OnOk result (IsSomeAnd keeper.new (λ k. (K.told k).has_failed ≡ false)) }
     ensures failed { IfErr result
         (λ fault. IfSome keeper.new (λ k. (K.told k).has_failed ≡ is_store fault)) }

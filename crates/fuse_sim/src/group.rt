@@ -100,11 +100,10 @@ fn read_one<'a, K: Keeper>(event: &'a Event, class: Class) -> Option<(Request<'a
 // Takes an event into a group. False where the group ends before it: the server died, the event
 // stands apart, or it is a kept one and the group is full.
 fn take_in<'a, K: Keeper>(group: &mut Group<'a>, event: &'a Event) -> Result<bool, AllocError>
-    ensures joins { IfOk result (λ joins. joins ≡ true → Joins K.model event.now
-        group.old.classes.items group.old.taken.items group.old.died
-        group.new.classes.items group.new.taken.items group.new.died) }
+    ensures joins { IfOk result
+        (λ joins. joins ≡ true → Joins K.model event.now group.old group.new) }
     ensures ends { IfOk result (λ joins. joins ≡ false
-        → (group.new ≡ group.old) × EndsWith group.old.taken.items group.old.died event.now) }
+        → (group.new ≡ group.old) × EndsWith group.old event.now) }
 {
     if group.died || stands_apart(event) {
         return Ok(false);
@@ -128,10 +127,9 @@ pub(crate) fn gather<'a, K: Keeper>(
     events: &'a [Event],
 ) -> Result<Group<'a>, AllocError>
     ensures within { IfOk result (λ r. length r.classes.items ≤ length events.now) }
-    ensures gathers { IfOk result (λ r. Gathers K.model (take (length r.classes.items) events.now)
-        r.classes.items r.taken.items r.died) }
-    ensures stops { IfOk result (λ r.
-        StopsAt r.taken.items r.died (drop (length r.classes.items) events.now)) }
+    ensures gathers { IfOk result
+        (λ r. Gathers K.model (take (length r.classes.items) events.now) r) }
+    ensures stops { IfOk result (λ r. StopsAt r (drop (length r.classes.items) events.now)) }
 {
     let mut group = Group {
         classes: Vec::new(alloc),

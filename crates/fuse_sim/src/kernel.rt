@@ -12,7 +12,8 @@ ghost use Rattle.fuse_request.specs.Places.{asked_at};
 ghost use Rattle.fuse_keeper.specs.History.{is_in};
 ghost use Rattle.fuse_sim.specs.Pending.{MayBeSent, owed, again, all_again, borne, owner, TakenOf};
 ghost use Rattle.fuse_sim.specs.Pending.{request_ids, messages_in, requests_in};
-ghost use Rattle.fuse_sim.specs.KeptMessages.{IsOwed, StandsFirst, marked};
+ghost use Rattle.fuse_sim.specs.KeptMessages.{IsOwed};
+ghost use Rattle.fuse_sim.specs.inner.Marking.{StandsFirst, marked};
 
 use byteorder::{ByteOrder, LittleEndian};
 use fuse_answer::{BadAnswer, OutHeader, read_answer};

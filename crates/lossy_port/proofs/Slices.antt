@@ -8,7 +8,8 @@ use Rattle.fuse_session.specs.Port.{Receives, Sends}
 use Rattle.fuse_session.specs.Transcript.{one_receive, one_send}
 use Rattle.lossy_port.specs.declared.line.Line.{Line}
 use Rattle.lossy_port.specs.declared.port.LossyPort.{LossyPort}
-use Rattle.lossy_port.specs.Losing.{through_of, Takes, Delivers}
+use Rattle.lossy_port.specs.Losing.{through_of, Delivers}
+use Rattle.lossy_port.specs.inner.OneAnswer.{Takes}
 use Rattle.lossy_port.specs.Lossy.{lossy_told, Passes, Delivered, delivers_none}
 
 pub one_taken : (a b : Line) (bytes : List ℕ) → Takes a b bytes → Delivers a b (bytes ∷ [])

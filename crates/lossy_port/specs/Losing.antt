@@ -20,14 +20,7 @@ abbrev pub lost_after : ℕ → ℕ → List (List ℕ) → ℕ
 lost_after every left [] = left
 lost_after every left (answer ∷ more) = lost_after every (lost_then every left) more
 
--- one answer was sent
-pub record Takes (old new : Line) (answer : List ℕ) : Type 0 where
-  pub sent : new.sent.items ≡ old.sent.items ++ answer
-  pub delivered : new.delivered.items ≡ old.delivered.items ++ through_of old.left answer
-  pub every : new.every ≡ old.every
-  pub left : new.left ≡ lost_then old.every old.left
-
--- none was
+-- no answer was sent
 pub record Stays (old new : Line) : Type 0 where
   pub sent : new.sent.items ≡ old.sent.items
   pub delivered : new.delivered.items ≡ old.delivered.items

@@ -2,10 +2,8 @@
 use Rattle.std.specs.Prelude.{◌≡◌, ◌≤◌, ◌<◌, ◌⊎◌, ℕ, Bool, true, false, if◌then◌else◌, List, [], ◌∷◌, ◌++◌, length, map, take, All, Option, Some, None}
 use Rattle.std.specs.Prelude.{slice_get, IfSome, IsSomeAnd}
 use Rattle.std.specs.List.{flat_map}
-use Rattle.fuse_wire.specs.declared.moment.Moment.{Moment}
 use Rattle.fuse_answer.specs.Said.{Said}
 use Rattle.fuse_answer.specs.Wire.{wire}
-use Rattle.fuse_request.specs.declared.request.Request.{Request}
 use Rattle.fuse_request.specs.declared.class.Class.{Class}
 use Rattle.fuse_request.specs.declared.class.Class.TheVariants.{Silent, Bare, Kept}
 use Rattle.fuse_request.specs.Classes.{class_for}
@@ -26,12 +24,14 @@ use Rattle.fuse_sim.specs.declared.event.Fate.TheVariants.{Answered, AnswerLost,
 use Rattle.fuse_sim.specs.declared.event.Event.{Event}
 use Rattle.fuse_sim.specs.declared.event.Outcome.{Outcome}
 use Rattle.fuse_sim.specs.declared.event.DriveFault.{DriveFault}
+use Rattle.fuse_sim.specs.declared.group.Group.{Group}
 use Rattle.fuse_sim.specs.Driving.{commits_in, committed, settles, OutcomesBegin, bytes_given, is_taken, where_taken, dies, deaths, Calm, NoneReused, IsFit}
 use Rattle.fuse_sim.specs.Driving.{settled_by}
 use Rattle.fuse_sim.specs.Driving.{told_in, StandsIn, KeepsMedium, became_in, performed_in, event_of, before, CausedBy, IsStoreFault, is_store, LeftBy}
 use Rattle.fuse_sim.specs.HandedOn.{Ledger}
 use Rattle.fuse_sim.specs.inner.HandedBy.{ledger_after, handed_on, AsksOne}
 use Rattle.fuse_sim.specs.LeftRecords.{HoldsRecords}
+use Rattle.fuse_sim.specs.Twice.{Seen}
 
 abbrev pub dies_before : Fate → Bool
 dies_before Answered = false
@@ -62,28 +62,31 @@ NoneDiesBefore run = All (λ e. dies_before e.fate ≡ false) run
 abbrev pub classes_in : OpcodeSet → List Event → List Class
 classes_in V run = map (λ e. class_for V e.bytes) run
 
--- a group with these requests, after which the server died or not, ends before an event
-abbrev pub EndsWith : List (Request × Moment) → Bool → Event → Type 0
-EndsWith taken died e = (died ≡ true) ⊎ ((length taken ≡ max_group_len) ⊎ ((dies_before e.fate ≡ true) ⊎ ¬ IsFit e))
+-- a group is full
+abbrev pub IsFull : Group → Type 0
+IsFull group = length group.taken.items ≡ max_group_len
+
+-- it ends before an event
+abbrev pub EndsWith : Group → Event → Type 0
+EndsWith group e = (group.died ≡ true) ⊎ (IsFull group ⊎ ((dies_before e.fate ≡ true) ⊎ ¬ IsFit e))
 
 -- it ends before these events
-abbrev pub StopsAt : List (Request × Moment) → Bool → List Event → Type 0
-StopsAt taken died others = died ≡ false → (length taken ≡ max_group_len) ⊎ StartsNone others
+abbrev pub StopsAt : Group → List Event → Type 0
+StopsAt group others = group.died ≡ false → IsFull group ⊎ StartsNone others
 
--- a group was read off events
-pub record Gathers (M : Model) (run : List Event) (classes : List Class) (taken : List (Request × Moment)) (died : Bool) : Type 0 where
+-- it was read off events
+pub record Gathers (M : Model) (run : List Event) (group : Group) : Type 0 where
   pub fit : All IsFit run
-  pub goes : IsRun died run
-  pub classes_are : classes ≡ classes_in M.serves run
-  pub entries : entries_of taken ≡ commits_in M.serves run
-  pub few : length taken ≤ max_group_len
-  pub named : All HasId (entries_of taken)
-  pub kept : All (IsKept M) (entries_of taken)
+  pub goes : IsRun group.died run
+  pub classes_are : group.classes.items ≡ classes_in M.serves run
+  pub entries : entries_of group.taken.items ≡ commits_in M.serves run
+  pub few : length group.taken.items ≤ max_group_len
+  pub named : All HasId (entries_of group.taken.items)
+  pub kept : All (IsKept M) (entries_of group.taken.items)
 
 -- one more event joined it
-abbrev pub Joins : Model → Event → List Class → List (Request × Moment) → Bool → List Class → List (Request × Moment) → Bool → Type 0
-Joins M e classes taken died classes' taken' died' = (died ≡ false)
-    × ((run : List Event) → Gathers M run classes taken false → Gathers M (run ++ e ∷ []) classes' taken' died')
+abbrev pub Joins : Model → Event → Group → Group → Type 0
+Joins M e old new = (run : List Event) → Gathers M run old → Gathers M (run ++ e ∷ []) new
 
 abbrev pub answers_in : List Done → List Said
 answers_in dones = map (λ d. d.answer) dones
@@ -118,20 +121,29 @@ pub record Adds (old new : List (Option Outcome)) (outcomes : List (Option (List
   pub items : new ≡ old ++ added
   pub are : map bytes_given added ≡ outcomes
 
+-- a keeper between two groups: the ids that are pending, and the outcomes so far
+pub record Stage (M : Model) : Type 1 where
+  pub keeper : KeeperState M
+  pub pending : List ℕ
+  pub outcomes : List (Option Outcome)
+
+abbrev pub stage : {M : Model} → KeeperState M → List ℕ → List (Option Outcome) → Stage M
+stage keeper pending outcomes = record { keeper = keeper; pending = pending; outcomes = outcomes }
+
 -- a group was performed, and its outcomes were added, by any keeper
-pub record Worked {M : Model} (k k' : KeeperState M) (run : List Event) (pending pending' : List ℕ) (old new : List (Option Outcome)) : Type 0 where
+pub record Worked {M : Model} (old new : Stage M) (run : List Event) : Type 0 where
   pub added : List (Option Outcome)
-  pub items : new ≡ old ++ added
+  pub items : new.outcomes ≡ old.outcomes ++ added
   pub count : length added ≡ length run
-  pub stands : k'.is_honest → (s : M.State) (h : History) (t : List ℕ) → StandsFor k s h t
-      → All (IsUnsettled (t ++ handed_to (commits_in M.serves run) pending)) (commits_in M.serves run)
-      → StandsFor k' s (committed M.serves h run) (t ++ handed_to (commits_in M.serves run) pending)
-  pub outcomes : k'.is_honest → (earlier later : List Event) → run ≡ earlier ++ later → (s : M.State) (h : History) (t : List ℕ) → StandsFor k s h t
-      → All (IsUnsettled (t ++ handed_to (commits_in M.serves run) pending)) (commits_in M.serves earlier)
+  pub stands : new.keeper.is_honest → (s : M.State) (h : History) (t : List ℕ) → StandsFor old.keeper s h t
+      → All (IsUnsettled (t ++ handed_to (commits_in M.serves run) old.pending)) (commits_in M.serves run)
+      → StandsFor new.keeper s (committed M.serves h run) (t ++ handed_to (commits_in M.serves run) old.pending)
+  pub outcomes : new.keeper.is_honest → (earlier later : List Event) → run ≡ earlier ++ later → (s : M.State) (h : History) (t : List ℕ)
+      → StandsFor old.keeper s h t → All (IsUnsettled (t ++ handed_to (commits_in M.serves run) old.pending)) (commits_in M.serves earlier)
       → OutcomesBegin M s h earlier (map bytes_given added)
-  pub records : KeepsOthers k k' (handed_to (commits_in M.serves run) pending) (commits_in M.serves run)
-  pub handed : pending' ≡ left_pending (commits_in M.serves run) pending ++ settles_in M.serves run
-  pub firm : k'.is_honest → IsFirm k → IsFirm k'
+  pub records : KeepsOthers old.keeper new.keeper (handed_to (commits_in M.serves run) old.pending) (commits_in M.serves run)
+  pub handed : new.pending ≡ left_pending (commits_in M.serves run) old.pending ++ settles_in M.serves run
+  pub firm : new.keeper.is_honest → IsFirm old.keeper → IsFirm new.keeper
 
 -- the records: those of ids that are handed on are deleted, and of the other ids those that don't come stay
 pub record RecordsRan (V : OpcodeSet) (l : Ledger) (es : List Event) (records records' : Records) : Type 0 where
@@ -150,16 +162,20 @@ pub record Ran {M : Model} (k k' : KeeperState M) (l : Ledger) (es : List Event)
   pub records : Reports k k' (λ rows records. HoldsRecords k' (RecordsRan M.serves l es records))
   pub firm : k'.is_honest → IsFirm k → IsFirm k'
 
--- no more kept messages are in the group that was begun, or none begins here
-abbrev pub MayBegin : Ledger → List Event → Type 0
-MayBegin l others = (l.room ≡ 0) ⊎ StartsNone others
+-- the group that was begun has room for so many kept messages: for none, or none begins here
+abbrev pub MayBegin : ℕ → List Event → Type 0
+MayBegin room others = (room ≡ 0) ⊎ StartsNone others
 
--- the first events were run, and these are pending
-pub record Moved {M : Model} (k k' : KeeperState M) (l : Ledger) (es others : List Event) (pending' : List ℕ) (old new : List (Option Outcome)) : Type 0 where
+-- its ledger, where the group that was begun has so much room
+abbrev pub ledger_at : {M : Model} → Stage M → ℕ → Ledger
+ledger_at old room = record { room = room; pending = old.pending }
+
+-- the first events were run
+pub record Moved {M : Model} (old new : Stage M) (room : ℕ) (es others : List Event) : Type 0 where
   pub fit : All IsFit es
-  pub ran : Ran k k' l es old new
-  pub pending : pending' ≡ (ledger_after M.serves l es).pending
-  pub begin : MayBegin (ledger_after M.serves l es) others
+  pub ran : Ran old.keeper new.keeper (ledger_at old room) es old.outcomes new.outcomes
+  pub pending : new.pending ≡ (ledger_after M.serves (ledger_at old room) es).pending
+  pub begin : MayBegin (ledger_after M.serves (ledger_at old room) es).room others
 
 -- the server dies at none of these events but the last, where it does
 abbrev pub DiesLast : Bool → List Event → Type 0
@@ -192,19 +208,18 @@ pub record Refuses {K : Type 0} (became : K → K → ℕ → Type 0) (refuses :
   pub refused : IsSomeAnd keeper (λ k. IsStoreFault (refuses k) fault)
 
 -- a fault came at the events that begin at a place: the event that it names, and the keeper that it leaves
-pub record Stops {M : Model} {K : Type 0} (told : K → KeeperState M) (became : K → K → ℕ → Type 0) (refuses : K → StoreFault → Type 0)
-    (old new : Option K) (events : List Event) (at : ℕ) (fault : DriveFault) : Type 0 where
+pub record Stops {M : Model} {K : Type 0} (seen : Seen M K) (old new : Option K) (events : List Event) (at : ℕ) (fault : DriveFault) : Type 0 where
   pub named : IsSomeAnd (slice_get events (event_of fault)) (CausedBy fault)
   pub earlier : All IsFit (take at events) → All IsFit (before fault events)
-  pub left : LeftBy (told_in told new) (is_store fault) ((event_of fault ≡ at) × KeepsHeld (told_in told old) (told_in told new))
-  pub answered : is_store fault ≡ true → (told_in told new).is_clean → (s : M.State) (h : History) (t : List ℕ) → StandsIn told old s h t
-      → IsStoreFault (told_in told old).may_answer fault
-  pub stayed : (new ≡ None → ⊥) → (event_of fault ≡ at) × became_in became old new 0
-  pub emptied : new ≡ None → Refuses became refuses old events at fault
-  pub has_failed : IfSome new (λ k. (told k).has_failed ≡ is_store fault)
-  pub was_honest : (told_in told new).is_honest → (told_in told old).is_honest
-  pub firm : is_store fault ≡ false → (told_in told new).is_honest → IsFirm (told_in told old) → IsFirm (told_in told new)
-  pub medium : (new ≡ None → ⊥) → KeepsMedium told old new
+  pub left : LeftBy (told_in seen.told new) (is_store fault) ((event_of fault ≡ at) × KeepsHeld (told_in seen.told old) (told_in seen.told new))
+  pub answered : is_store fault ≡ true → (told_in seen.told new).is_clean → (s : M.State) (h : History) (t : List ℕ) → StandsIn seen.told old s h t
+      → IsStoreFault (told_in seen.told old).may_answer fault
+  pub stayed : (new ≡ None → ⊥) → (event_of fault ≡ at) × became_in seen.became old new 0
+  pub emptied : new ≡ None → Refuses seen.became seen.may_refuse old events at fault
+  pub has_failed : IfSome new (λ k. (seen.told k).has_failed ≡ is_store fault)
+  pub was_honest : (told_in seen.told new).is_honest → (told_in seen.told old).is_honest
+  pub firm : is_store fault ≡ false → (told_in seen.told new).is_honest → IsFirm (told_in seen.told old) → IsFirm (told_in seen.told new)
+  pub medium : (new ≡ None → ⊥) → KeepsMedium seen.told old new
 
 -- events were asked for as one group
 abbrev pub AsksRun : {K : Type 0} → OpcodeSet → (K → K → List Performance → Type 0) → Option K → Option K → List ℕ → List Event → Type 0
@@ -212,14 +227,14 @@ AsksRun V performed old new pending run = performed_in performed old new (perfor
 
 -- they are so from every ledger from which they may be a group
 abbrev pub AsksFrom : OpcodeSet → List ℕ → List Event → List Event → Type 0
-AsksFrom V pending run events = (l : Ledger) → l.pending ≡ pending → MayBegin l events → AsksOne V l run
+AsksFrom V pending run events = (room : ℕ) → MayBegin room events → AsksOne V (record { room = room; pending = pending }) run
 
 -- a fault came at these events: a group with which they begin was asked for, where the store answered it
-pub record StopsAsking {K : Type 0} (V : OpcodeSet) (performed : K → K → List Performance → Type 0) (old new : Option K) (pending : List ℕ)
-    (events : List Event) (fault : DriveFault) : Type 0 where
+pub record StopsAsking {M : Model} {K : Type 0} (seen : Seen M K) (old new : Option K) (pending : List ℕ) (events : List Event) (fault : DriveFault)
+    : Type 0 where
   pub run : List Event
   pub rest : List Event
   pub parts : events ≡ run ++ rest
-  pub asks : AsksFrom V pending run events
-  pub asked : (new ≡ None → ⊥) → AsksRun V performed old new pending run
-  pub count : (new ≡ None → ⊥) → length (performances_of (commits_in V run) pending) ≡ (if is_store fault then 1 else 0)
+  pub asks : AsksFrom M.serves pending run events
+  pub asked : (new ≡ None → ⊥) → AsksRun M.serves seen.performed old new pending run
+  pub count : (new ≡ None → ⊥) → length (performances_of (commits_in M.serves run) pending) ≡ (if is_store fault then 1 else 0)

@@ -2,7 +2,8 @@ use Rattle.std.proofs.Common.{◌≡◌, false, [], length, drop, ap, subst, ari
 use Rattle.std.proofs.lemmas.List.{take_all}
 use Rattle.std.proofs.lemmas.Result.{err_from_is_err_and}
 use Rattle.fuse_keeper.specs.Group.{ids_of}
-use Rattle.fuse_sim.specs.Driving.{told_in, Opened, MayRefuse, StoodBefore, performed_in}
+use Rattle.fuse_sim.specs.Driving.{told_in, Opened, StoodBefore, performed_in}
+use Rattle.fuse_sim.specs.Twice.{seen_of}
 use Rattle.fuse_sim.specs.HandedOn.{performances}
 use Rattle.fuse_sim.proofs.Openings.{opened_none, stood_none, medium_itself, medium_then}
 use Rattle.fuse_sim.proofs.Endings.{moved_none, moved_more, moved_opened, stopped_opened, stopped_emptied, moved_all, moved_stands, moved_left, moved_outcomes}
@@ -58,7 +59,7 @@ pub returns-in_err-at-clause-after_fault : goal.returns-in_err-at-clause-after_f
 returns-in_err-at-clause-after_fault g c =
     let k = g.K.Keeper in
     let p = err_from_is_err_and c.from_residual.result c.from_residual.ensures.1 in
-    rw (p.1, p.2) (stopped g.K.Keeper.model k.told k.became (MayRefuse g.K.Restart.refuses) c.args.keeper.now c.loop-at.keeper c.run_next.new.keeper c.args.events.now
+    rw (p.1, p.2) (stopped g.K.Keeper.model (seen_of k.told k.became k.performed g.K.Restart.refuses) c.args.keeper.now c.loop-at.keeper c.run_next.new.keeper c.args.events.now
     c.loop-at.at c.in_err-at.field-0.0 (ids_of c.loop-at.pending.items) c.loop-at.outcomes.items
     (λ k. (g.met.K.Keeper.sound k).clean_is_honest) c.loop-at.invariant.moved c.in_err-at.ensures.err)
 
@@ -66,7 +67,7 @@ pub returns-in_err-at-clause-store : goal.returns-in_err-at-clause-store
 returns-in_err-at-clause-store g c =
     let k = g.K.Keeper in
     let p = err_from_is_err_and c.from_residual.result c.from_residual.ensures.1 in
-    rw (p.1, p.2) (stopped_store g.K.Keeper.model k.told k.became (MayRefuse g.K.Restart.refuses) c.args.keeper.now c.loop-at.keeper c.run_next.new.keeper
+    rw (p.1, p.2) (stopped_store g.K.Keeper.model (seen_of k.told k.became k.performed g.K.Restart.refuses) c.args.keeper.now c.loop-at.keeper c.run_next.new.keeper
     c.args.events.now c.loop-at.at c.in_err-at.field-0.0 (ids_of c.loop-at.pending.items) c.loop-at.outcomes.items
     (λ k. (g.met.K.Keeper.sound k).clean_is_honest) c.loop-at.invariant.moved c.loop-at.invariant.opened c.in_err-at.ensures.err)
 
@@ -74,7 +75,7 @@ pub returns-in_err-at-clause-opened_before : goal.returns-in_err-at-clause-opene
 returns-in_err-at-clause-opened_before g c =
     let k = g.K.Keeper in
     let p = err_from_is_err_and c.from_residual.result c.from_residual.ensures.1 in
-    rw (p.1, p.2) (stopped_opened g.K.Keeper.model k.told k.became (MayRefuse g.K.Restart.refuses) g.met.K.Keeper.counted c.args.keeper.now c.loop-at.keeper
+    rw (p.1, p.2) (stopped_opened g.K.Keeper.model (seen_of k.told k.became k.performed g.K.Restart.refuses) g.met.K.Keeper.counted c.args.keeper.now c.loop-at.keeper
     c.run_next.new.keeper c.args.events.now c.loop-at.at c.in_err-at.field-0.0
     c.loop-at.invariant.opened c.in_err-at.ensures.err)
 
@@ -82,7 +83,7 @@ pub returns-in_err-at-clause-emptied : goal.returns-in_err-at-clause-emptied
 returns-in_err-at-clause-emptied g c =
     let k = g.K.Keeper in
     let p = err_from_is_err_and c.from_residual.result c.from_residual.ensures.1 in
-    rw (p.1, p.2) (stopped_emptied g.K.Keeper.model k.told k.became (MayRefuse g.K.Restart.refuses) g.met.K.Keeper.counted c.args.keeper.now c.loop-at.keeper
+    rw (p.1, p.2) (stopped_emptied g.K.Keeper.model (seen_of k.told k.became k.performed g.K.Restart.refuses) g.met.K.Keeper.counted c.args.keeper.now c.loop-at.keeper
     c.run_next.new.keeper c.args.events.now c.loop-at.at c.in_err-at.field-0.0
     c.loop-at.invariant.opened c.in_err-at.ensures.err)
 
@@ -128,7 +129,7 @@ pub returns-in_err-at-clause-stood_at_fault : goal.returns-in_err-at-clause-stoo
 returns-in_err-at-clause-stood_at_fault g c =
     let k = g.K.Keeper in
     let p = err_from_is_err_and c.from_residual.result c.from_residual.ensures.1 in
-    rw (p.1, p.2) (stopped_stood g.K.Keeper.model k.told k.became (MayRefuse g.K.Restart.refuses) g.met.K.Keeper.counted c.args.keeper.now c.loop-at.keeper
+    rw (p.1, p.2) (stopped_stood g.K.Keeper.model (seen_of k.told k.became k.performed g.K.Restart.refuses) g.met.K.Keeper.counted c.args.keeper.now c.loop-at.keeper
     c.run_next.new.keeper c.args.events.now c.loop-at.at c.in_err-at.field-0.0
     c.loop-at.invariant.stood c.in_err-at.ensures.err)
 
@@ -136,7 +137,7 @@ pub returns-in_err-at-clause-asked_before : goal.returns-in_err-at-clause-asked_
 returns-in_err-at-clause-asked_before g c =
     let k = g.K.Keeper in
     let p = err_from_is_err_and c.from_residual.result c.from_residual.ensures.1 in
-    rw (p.1, p.2) (stopped_asked g.K.Keeper.model k.told k.became (MayRefuse g.K.Restart.refuses) k.performed g.met.K.Keeper.log c.args.keeper.now
+    rw (p.1, p.2) (stopped_asked g.K.Keeper.model (seen_of k.told k.became k.performed g.K.Restart.refuses) g.met.K.Keeper.log c.args.keeper.now
     c.loop-at.keeper c.run_next.new.keeper c.args.events.now c.loop-at.at c.in_err-at.field-0.0
     (ids_of c.loop-at.pending.items) c.loop-at.outcomes.items c.loop-at.invariant.moved c.loop-at.invariant.asked c.in_err-at.ensures.err
     c.in_err-at.ensures.err_asked)
@@ -144,14 +145,14 @@ returns-in_err-at-clause-asked_before g c =
 pub returns-in_err-at-clause-medium : goal.returns-in_err-at-clause-medium
 returns-in_err-at-clause-medium g c =
     let k = g.K.Keeper in
-    stopped_medium g.K.Keeper.model k.told k.became (MayRefuse g.K.Restart.refuses) (λ x. (k.told x).has_failed ≡ false) c.args.keeper.now c.loop-at.keeper
+    stopped_medium g.K.Keeper.model (seen_of k.told k.became k.performed g.K.Restart.refuses) (λ x. (k.told x).has_failed ≡ false) c.args.keeper.now c.loop-at.keeper
     c.run_next.new.keeper c.args.events.now c.loop-at.at c.in_err-at.field-0.0 c.loop-at.invariant.going c.loop-at.invariant.medium c.in_err-at.ensures.err
 
 pub returns-in_err-at-clause-firm : goal.returns-in_err-at-clause-firm
 returns-in_err-at-clause-firm g c =
     let k = g.K.Keeper in
     let p = err_from_is_err_and c.from_residual.result c.from_residual.ensures.1 in
-    rw (p.1, p.2) (stopped_firm g.K.Keeper.model k.told k.became (MayRefuse g.K.Restart.refuses) c.args.keeper.now c.loop-at.keeper c.run_next.new.keeper
+    rw (p.1, p.2) (stopped_firm g.K.Keeper.model (seen_of k.told k.became k.performed g.K.Restart.refuses) c.args.keeper.now c.loop-at.keeper c.run_next.new.keeper
     c.args.events.now (drop c.loop-at.at c.args.events.now) c.loop-at.at c.in_err-at.field-0.0 (ids_of c.loop-at.pending.items) c.loop-at.outcomes.items
     c.loop-at.invariant.moved c.in_err-at.ensures.err)
 

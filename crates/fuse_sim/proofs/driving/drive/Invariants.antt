@@ -1,15 +1,14 @@
 use Rattle.std.proofs.Common.{◌≡◌, ◌≤◌, ◌-◌, length, take, drop, [], IsSomeAnd, false}
 use Rattle.fuse_keeper.specs.Group.{ids_of}
 use Rattle.fuse_sim.specs.Driving.{told_in, Opened, StoodBefore, KeepsMedium, performed_in}
-use Rattle.fuse_sim.specs.HandedOn.{empty_ledger, performances}
-use Rattle.fuse_sim.specs.inner.Running.{Moved}
+use Rattle.fuse_sim.specs.HandedOn.{performances}
+use Rattle.fuse_sim.specs.inner.Running.{stage, Moved}
 use Rattle.fuse_sim.proofs.driving.drive.Given as goal
 
 abbrev pub invariant-loop-at : goal.invariant-loop-at
 invariant-loop-at g l = record {
   within : l.at ≤ length l.events;
-  moved : Moved (told_in g.K.Keeper.told l.fn.keeper) (told_in g.K.Keeper.told l.keeper) empty_ledger (take l.at l.events) (drop l.at l.events)
-      (ids_of l.pending.items) [] l.outcomes.items;
+  moved : Moved (stage (told_in g.K.Keeper.told l.fn.keeper) [] []) (stage (told_in g.K.Keeper.told l.keeper) (ids_of l.pending.items) l.outcomes.items) 0 (take l.at l.events) (drop l.at l.events);
   few : length l.pending.items ≤ 16;
   going : IsSomeAnd l.keeper (λ k. (g.K.Keeper.told k).has_failed ≡ false);
   opened : Opened g.K.Keeper.told g.K.Keeper.became l.fn.keeper l.keeper (take l.at l.events);

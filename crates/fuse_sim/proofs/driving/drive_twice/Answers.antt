@@ -1,7 +1,8 @@
 use Rattle.std.proofs.Common.{◌++◌, map, ap, sym, ◌∙◌}
 use Rattle.std.proofs.lemmas.List.{map-append}
 use Rattle.std.proofs.lemmas.Result.{err_from_is_err_and}
-use Rattle.fuse_sim.specs.Driving.{bytes_given, committed, outcome_of, settled_by, MayRefuse}
+use Rattle.fuse_sim.specs.Driving.{bytes_given, committed, outcome_of, settled_by}
+use Rattle.fuse_sim.specs.Twice.{seen_of}
 use Rattle.fuse_sim.proofs.Driven.{outcomes-append, reused-parts}
 use Rattle.fuse_sim.proofs.Openings.{stands_twice, opened_twice, stood_twice}
 use Rattle.fuse_sim.proofs.TwoLists.{stopped_first, stopped_second}
@@ -40,7 +41,7 @@ returns-in_err-first-clause-stopped g c =
     let k = g.K.Keeper in
     let p = err_from_is_err_and c.from_residual.result c.from_residual.ensures.1 in
     let e = c.in_err-first.ensures in
-    rw (p.1, p.2) (stopped_first k.model (record { told = k.told; became = k.became; performed = k.performed; may_refuse = MayRefuse g.K.Restart.refuses })
+    rw (p.1, p.2) (stopped_first k.model (seen_of k.told k.became k.performed g.K.Restart.refuses)
     c.args.keeper.now c.drive.new.keeper c.args.events.now c.args.more.now c.in_err-first.field-0.0 (record {
       named = e.fault_causes;
       stands = e.after_fault;
@@ -58,7 +59,7 @@ returns-in_err-second-clause-stopped g c =
     let p = err_from_is_err_and c.from_residual-in_err-second.result c.from_residual-in_err-second.ensures.1 in
     let first = c.in_ok-first.ensures in
     let e = c.in_err-second.ensures in
-    rw (p.1, p.2) (stopped_second k.model (record { told = k.told; became = k.became; performed = k.performed; may_refuse = MayRefuse g.K.Restart.refuses })
+    rw (p.1, p.2) (stopped_second k.model (seen_of k.told k.became k.performed g.K.Restart.refuses)
     g.met.K.Keeper.counted g.met.K.Keeper.log c.args.keeper.now c.drive.new.keeper c.drive-2.new.keeper c.args.events.now c.args.more.now
     c.in_err-second.field-0.0 (λ x. (g.met.K.Keeper.sound x).clean_is_honest) c.drive-2.ensures.honest (record {
       fit = first.fault_causes;

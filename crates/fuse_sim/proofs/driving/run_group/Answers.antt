@@ -1,9 +1,10 @@
 use Rattle.std.proofs.Common.{◌≡◌, false, ◌+◌, ◌-◌, ◌≤◌, refl, sym, ap, subst, ◌∙◌, length, take, drop, arith}
 use Rattle.std.proofs.lemmas.Result.{err_from_is_err_and}
 use Rattle.fuse_keeper.specs.Group.{ids_of}
-use Rattle.fuse_sim.specs.Driving.{told_in, commits_in, MayRefuse}
-use Rattle.fuse_sim.specs.inner.Running.{Gathers, Worked}
-use Rattle.fuse_sim.proofs.Moves.{group_moved, ids_left, few_taken, few_left}
+use Rattle.fuse_sim.specs.Driving.{told_in, commits_in}
+use Rattle.fuse_sim.specs.Twice.{seen_of}
+use Rattle.fuse_sim.specs.inner.Running.{Gathers}
+use Rattle.fuse_sim.proofs.Moves.{worked_over, group_moved, ids_left, few_taken, few_left}
 use Rattle.fuse_sim.proofs.Openings.{group_opens}
 use Rattle.fuse_sim.proofs.Stopping.{stops_here, stops_store, stops_restart, dies_at, begins_fit, within_rest, run_slice, group_read, group_stops}
 use Rattle.fuse_sim.proofs.AskedGroups.{asks_from, asked_run, stops_unasked, stops_performing, stops_emptied}
@@ -12,13 +13,13 @@ use Rattle.fuse_sim.proofs.driving.run_group.Goals as goal
 pub returns-in_default-clause-err : goal.returns-in_default-clause-err
 returns-in_default-clause-err g c =
     let k = g.K.Keeper in
-    stops_here k.model k.told k.became (MayRefuse g.K.Restart.refuses) c.args.keeper.now c.args.events.now c.args.at _ refl refl
+    stops_here k.model (seen_of k.told k.became k.performed g.K.Restart.refuses) c.args.keeper.now c.args.events.now c.args.at _ refl refl
     (begins_fit c.args.events.now c.args.at c.requires.begins) c.requires.going g.met.K.Keeper.counted
 
 pub returns-then-is_err-clause-err : goal.returns-then-is_err-clause-err
 returns-then-is_err-clause-err g c =
     let k = g.K.Keeper in
-    stops_here k.model k.told k.became (MayRefuse g.K.Restart.refuses) c.args.keeper.now c.args.events.now c.args.at _ refl refl
+    stops_here k.model (seen_of k.told k.became k.performed g.K.Restart.refuses) c.args.keeper.now c.args.events.now c.args.at _ refl refl
     (begins_fit c.args.events.now c.args.at c.requires.begins) c.requires.going g.met.K.Keeper.counted
 
 pub work_group-requires-clause-gathers : goal.work_group-requires-clause-gathers
@@ -26,14 +27,14 @@ work_group-requires-clause-gathers g c =
     let group = c.in-Ok.group in
     let events = c.args.events.now in
     let count = c.len-count.result in
-    subst (λ x. Gathers g.K.Keeper.model x group.classes.items group.taken.items group.died) (sym (run_slice events c.args.at count))
-    (group_read g.K.Keeper.model events c.args.at count group.classes.items group.taken.items group.died (omega (arith, c.len-count.ensures, group.classes.ok))
+    subst (λ x. Gathers g.K.Keeper.model x group) (sym (run_slice events c.args.at count))
+    (group_read g.K.Keeper.model events c.args.at count group (omega (arith, c.len-count.ensures, group.classes.ok))
     c.in-Ok.ensures.gathers)
 
 pub returns-in-Err-clause-err : goal.returns-in-Err-clause-err
 returns-in-Err-clause-err g c =
     let k = g.K.Keeper in
-    stops_store k.model k.told k.became (MayRefuse g.K.Restart.refuses) c.args.keeper.now c.work_group.new.keeper c.args.events.now c.args.at c.in-Err.fault
+    stops_store k.model (seen_of k.told k.became k.performed g.K.Restart.refuses) c.args.keeper.now c.work_group.new.keeper c.args.events.now c.args.at c.in-Err.fault
     (begins_fit c.args.events.now c.args.at c.requires.begins) c.in-Err.ensures.failed c.in-Err.ensures.called.err c.in-Err.ensures.called.honest
     c.in-Err.ensures.called.fault c.work_group.ensures.same c.in-Err.ensures.called.medium
 
@@ -44,14 +45,14 @@ returns-in_err-end_group-clause-err g c =
     let at = c.args.at in
     let group = c.in-Ok.group in
     let count = c.len-count.result in
-    let gathers = group_read g.K.Keeper.model events at count group.classes.items group.taken.items group.died (omega (arith, c.len-count.ensures, group.classes.ok))
+    let gathers = group_read g.K.Keeper.model events at count group (omega (arith, c.len-count.ensures, group.classes.ok))
     c.in-Ok.ensures.gathers in
     let none = c.in_err-end_group.ensures.err in
     let fault = c.in_err-end_group.ensures.fault in
     let few : count ≤ length (take (length events - at) (drop at events)) = omega (arith, c.in-Ok.ensures.within, c.len-count.ensures, group.classes.ok) in
     let last = dies_at events at count group.died (within_rest events at count c.requires.begins few) gathers.goes gathers.fit none.1 in
     let p = err_from_is_err_and c.from_residual.result c.from_residual.ensures.1 in
-    rw (p.1, p.2) (stops_restart k.model k.told k.became (MayRefuse g.K.Restart.refuses) c.args.keeper.now c.work_group.new.keeper c.end_group.new.keeper events at
+    rw (p.1, p.2) (stops_restart k.model (seen_of k.told k.became k.performed g.K.Restart.refuses) c.args.keeper.now c.work_group.new.keeper c.end_group.new.keeper events at
     (at + count - 1) c.in_err-end_group.field-0.0 last.one
     none.0 c.in_err-end_group.ensures.refused fault.0 fault.1 last.there last.fit last.died last.earlier c.work_group.ensures.same last.calm)
 
@@ -62,17 +63,16 @@ returns-clause-ok g c =
     let at = c.args.at in
     let count = c.len-count.result in
     let group = c.in-Ok.group in
-    let gathers = group_read g.K.Keeper.model events at count group.classes.items group.taken.items group.died (omega (arith, c.len-count.ensures, group.classes.ok))
+    let gathers = group_read g.K.Keeper.model events at count group (omega (arith, c.len-count.ensures, group.classes.ok))
     c.in-Ok.ensures.gathers in
-    let stops = group_stops events at count group.classes.items group.taken.items group.died (omega (arith, c.len-count.ensures, group.classes.ok))
+    let stops = group_stops events at count group (omega (arith, c.len-count.ensures, group.classes.ok))
     c.in-Ok.ensures.stops in
-    let worked = subst (λ p. Worked (told_in k.told c.args.keeper.now) (told_in k.told c.work_group.new.keeper) (take (at + count - at) (drop at events))
-    (ids_of p) (ids_of c.work_group.new.pending.items) c.args.outcomes.now.items c.work_group.new.outcomes.items) c.make_room.ensures.pending
-    (subst (λ o. Worked (told_in k.told c.args.keeper.now) (told_in k.told c.work_group.new.keeper) (take (at + count - at) (drop at events))
-    (ids_of c.make_room.new.pending.items) (ids_of c.work_group.new.pending.items) o c.work_group.new.outcomes.items) c.make_room.ensures.outcomes
-    c.in_default-work_group.ensures.ok) in
+    let worked = worked_over k.model (told_in k.told c.args.keeper.now) (told_in k.told c.work_group.new.keeper) (take (at + count - at) (drop at events))
+    (ids_of c.args.pending.now.items) (ids_of c.make_room.new.pending.items) (ids_of c.work_group.new.pending.items) c.args.outcomes.now.items
+    c.make_room.new.outcomes.items c.work_group.new.outcomes.items (ap ids_of c.make_room.ensures.pending) c.make_room.ensures.outcomes
+    c.in_default-work_group.ensures.ok in
     group_moved k.model (told_in k.told c.args.keeper.now) (told_in k.told c.work_group.new.keeper) (told_in k.told c.end_group.new.keeper)
-    group.died (take count (drop at events)) (take (at + count - at) (drop at events)) (drop (at + count) events) group.classes.items group.taken.items
+    group (take count (drop at events)) (take (at + count - at) (drop at events)) (drop (at + count) events)
     (ids_of c.args.pending.now.items) (ids_of c.work_group.new.pending.items) (ids_of c.end_group.new.pending.items) c.args.outcomes.now.items
     c.work_group.new.outcomes.items
     gathers (run_slice events at count) stops
@@ -86,15 +86,14 @@ returns-clause-opens g c =
     let at = c.args.at in
     let count = c.len-count.result in
     let group = c.in-Ok.group in
-    let gathers = group_read g.K.Keeper.model events at count group.classes.items group.taken.items group.died (omega (arith, c.len-count.ensures, group.classes.ok))
+    let gathers = group_read g.K.Keeper.model events at count group (omega (arith, c.len-count.ensures, group.classes.ok))
     c.in-Ok.ensures.gathers in
-    let worked = subst (λ p. Worked (told_in k.told c.args.keeper.now) (told_in k.told c.work_group.new.keeper) (take (at + count - at) (drop at events))
-    (ids_of p) (ids_of c.work_group.new.pending.items) c.args.outcomes.now.items c.work_group.new.outcomes.items) c.make_room.ensures.pending
-    (subst (λ o. Worked (told_in k.told c.args.keeper.now) (told_in k.told c.work_group.new.keeper) (take (at + count - at) (drop at events))
-    (ids_of c.make_room.new.pending.items) (ids_of c.work_group.new.pending.items) o c.work_group.new.outcomes.items) c.make_room.ensures.outcomes
-    c.in_default-work_group.ensures.ok) in
+    let worked = worked_over k.model (told_in k.told c.args.keeper.now) (told_in k.told c.work_group.new.keeper) (take (at + count - at) (drop at events))
+    (ids_of c.args.pending.now.items) (ids_of c.make_room.new.pending.items) (ids_of c.work_group.new.pending.items) c.args.outcomes.now.items
+    c.make_room.new.outcomes.items c.work_group.new.outcomes.items (ap ids_of c.make_room.ensures.pending) c.make_room.ensures.outcomes
+    c.in_default-work_group.ensures.ok in
     group_opens k.model k.told k.became c.args.keeper.now c.work_group.new.keeper c.end_group.new.keeper
-    group.died (take count (drop at events)) (take (at + count - at) (drop at events)) group.classes.items group.taken.items
+    group (take count (drop at events)) (take (at + count - at) (drop at events))
     (ids_of c.args.pending.now.items) (ids_of c.work_group.new.pending.items) c.args.outcomes.now.items c.work_group.new.outcomes.items
     gathers (run_slice events at count) worked c.work_group.ensures.same c.in_ok-end_group.ensures.opened c.in_ok-end_group.ensures.same
     c.end_group.ensures.honest c.work_group.ensures.called.honest (λ is. c.in_ok-end_group.ensures.medium (c.work_group.ensures.called.medium is))
@@ -105,7 +104,7 @@ returns-clause-few g c =
     let at = c.args.at in
     let count = c.len-count.result in
     let group = c.in-Ok.group in
-    let gathers = group_read g.K.Keeper.model events at count group.classes.items group.taken.items group.died (omega (arith, c.len-count.ensures, group.classes.ok))
+    let gathers = group_read g.K.Keeper.model events at count group (omega (arith, c.len-count.ensures, group.classes.ok))
     c.in-Ok.ensures.gathers in
     few_left g.K.Keeper.model.serves group.died (take (at + count - at) (drop at events)) c.make_room.new.pending.items c.work_group.new.pending.items c.end_group.new.pending.items 16
     c.in_ok-end_group.ensures.pending c.in_default-work_group.ensures.ok.handed
@@ -115,12 +114,12 @@ returns-clause-few g c =
 
 pub returns-in_default-clause-err_asked : goal.returns-in_default-clause-err_asked
 returns-in_default-clause-err_asked g c =
-    stops_unasked g.K.Keeper.model.serves g.K.Keeper.performed g.met.K.Keeper.log (λ x. (g.K.Keeper.told x).has_failed ≡ false) c.args.keeper.now
+    stops_unasked g.K.Keeper.model (seen_of g.K.Keeper.told g.K.Keeper.became g.K.Keeper.performed g.K.Restart.refuses) g.met.K.Keeper.log (λ x. (g.K.Keeper.told x).has_failed ≡ false) c.args.keeper.now
     (ids_of c.args.pending.now.items) (drop c.args.at c.args.events.now) _ c.requires.going refl
 
 pub returns-then-is_err-clause-err_asked : goal.returns-then-is_err-clause-err_asked
 returns-then-is_err-clause-err_asked g c =
-    stops_unasked g.K.Keeper.model.serves g.K.Keeper.performed g.met.K.Keeper.log (λ x. (g.K.Keeper.told x).has_failed ≡ false) c.args.keeper.now
+    stops_unasked g.K.Keeper.model (seen_of g.K.Keeper.told g.K.Keeper.became g.K.Keeper.performed g.K.Restart.refuses) g.met.K.Keeper.log (λ x. (g.K.Keeper.told x).has_failed ≡ false) c.args.keeper.now
     (ids_of c.args.pending.now.items) (drop c.args.at c.args.events.now) _ c.requires.going refl
 
 pub returns-in-Err-clause-err_asked : goal.returns-in-Err-clause-err_asked
@@ -130,9 +129,9 @@ returns-in-Err-clause-err_asked g c =
     let at = c.args.at in
     let count = c.len-count.result in
     let group = c.in-Ok.group in
-    let gathers = group_read g.K.Keeper.model events at count group.classes.items group.taken.items group.died
+    let gathers = group_read g.K.Keeper.model events at count group
     (omega (arith, c.len-count.ensures, group.classes.ok)) c.in-Ok.ensures.gathers in
-    stops_performing V g.K.Keeper.performed c.args.keeper.now c.work_group.new.keeper (ids_of c.args.pending.now.items)
+    stops_performing g.K.Keeper.model (seen_of g.K.Keeper.told g.K.Keeper.became g.K.Keeper.performed g.K.Restart.refuses) c.args.keeper.now c.work_group.new.keeper (ids_of c.args.pending.now.items)
     (ids_of c.make_room.new.pending.items) (drop at events) (take (at + count - at) (drop at events)) count group.taken.items group.died _ gathers.goes
     (few_taken V (take count (drop at events)) group.taken.items 16 gathers.entries gathers.few) c.requires.begins gathers.entries c.in-Err.ensures.some
     (run_slice events at count) (ap ids_of c.make_room.ensures.pending) c.work_group.ensures.asked refl
@@ -140,7 +139,7 @@ returns-in-Err-clause-err_asked g c =
 pub returns-in_err-end_group-clause-err_asked : goal.returns-in_err-end_group-clause-err_asked
 returns-in_err-end_group-clause-err_asked g c =
     let p = err_from_is_err_and c.from_residual.result c.from_residual.ensures.1 in
-    rw (p.1, p.2) (stops_emptied g.K.Keeper.model.serves g.K.Keeper.performed c.args.keeper.now c.end_group.new.keeper (ids_of c.args.pending.now.items)
+    rw (p.1, p.2) (stops_emptied g.K.Keeper.model (seen_of g.K.Keeper.told g.K.Keeper.became g.K.Keeper.performed g.K.Restart.refuses) c.args.keeper.now c.end_group.new.keeper (ids_of c.args.pending.now.items)
     (drop c.args.at c.args.events.now) c.in_err-end_group.field-0.0 c.in_err-end_group.ensures.err.0)
 
 pub returns-clause-asks : goal.returns-clause-asks
@@ -150,7 +149,7 @@ returns-clause-asks g c =
     let at = c.args.at in
     let count = c.len-count.result in
     let group = c.in-Ok.group in
-    let gathers = group_read g.K.Keeper.model events at count group.classes.items group.taken.items group.died
+    let gathers = group_read g.K.Keeper.model events at count group
     (omega (arith, c.len-count.ensures, group.classes.ok)) c.in-Ok.ensures.gathers in
     asks_from V group.died (take count (drop at events)) (drop at events) (ids_of c.args.pending.now.items) gathers.goes
     (few_taken V (take count (drop at events)) group.taken.items 16 gathers.entries gathers.few) c.requires.begins

@@ -3,7 +3,8 @@ use Rattle.std.proofs.lemmas.Option.{slice_get_read}
 use Rattle.std.proofs.lemmas.Result.{err_from_is_err_and, IfOk-weaker}
 use Rattle.fuse_keeper.specs.Group.{ids_of}
 use Rattle.fuse_sim.specs.declared.event.Outcome.{Outcome}
-use Rattle.fuse_sim.specs.Driving.{told_in, IsFit, MayRefuse}
+use Rattle.fuse_sim.specs.Driving.{told_in, IsFit}
+use Rattle.fuse_sim.specs.Twice.{seen_of}
 use Rattle.fuse_sim.proofs.Moves.{begins_at, next_moved, lost_moved}
 use Rattle.fuse_sim.proofs.Openings.{became_itself, lost_opens}
 use Rattle.fuse_sim.proofs.Stopping.{stops_here, stops_restart, lost_dies}
@@ -27,7 +28,7 @@ returns-then-is_err-clause-err g c =
     let events = c.args.events.now in
     let fit = subst (λ o. IsSomeAnd o IsFit) (sym (slice_get_read events _ c.args.at c.index-events-at.result refl c.requires.at c.index-events-at.is))
     c.in_ok-test_event.ensures.fit in
-    stops_here g.K.Keeper.model k.told k.became (MayRefuse g.K.Restart.refuses) c.args.keeper.now events c.args.at _ refl refl fit c.requires.going
+    stops_here g.K.Keeper.model (seen_of k.told k.became k.performed g.K.Restart.refuses) c.args.keeper.now events c.args.at _ refl refl fit c.requires.going
     g.met.K.Keeper.counted
 
 pub returns-in_err-end_group-clause-err : goal.returns-in_err-end_group-clause-err
@@ -38,7 +39,7 @@ returns-in_err-end_group-clause-err g c =
     let e = c.index-events-at.result in
     let fault = c.in_err-end_group.ensures.fault in
     let p = err_from_is_err_and c.from_residual-in_err-end_group.result c.from_residual-in_err-end_group.ensures.1 in
-    rw (p.1, p.2) (stops_restart g.K.Keeper.model k.told k.became (MayRefuse g.K.Restart.refuses) c.args.keeper.now c.args.keeper.now c.end_group.new.keeper events at at
+    rw (p.1, p.2) (stops_restart g.K.Keeper.model (seen_of k.told k.became k.performed g.K.Restart.refuses) c.args.keeper.now c.args.keeper.now c.end_group.new.keeper events at at
     c.in_err-end_group.field-0.0 e
     c.in_err-end_group.ensures.err.0 c.in_err-end_group.ensures.refused fault.0 fault.1 (slice_get_read events _ at e refl c.requires.at c.index-events-at.is)
     c.in_ok-test_event.ensures.fit
@@ -46,11 +47,12 @@ returns-in_err-end_group-clause-err g c =
     (became_itself k.became g.met.K.Keeper.counted (λ x. (k.told x).has_failed ≡ false) c.args.keeper.now c.requires.going) refl)
 
 pub returns-clause-ok : goal.returns-clause-ok
-returns-clause-ok g c = λ l same may.
+returns-clause-ok g c = λ room may.
     let k = g.K.Keeper in
     let events = c.args.events.now in
     let at = c.args.at in
-    lost_moved g.K.Keeper.model (told_in k.told c.args.keeper.now) (told_in k.told c.end_group.new.keeper) l events (drop (at + 1) events) at
+    lost_moved g.K.Keeper.model (told_in k.told c.args.keeper.now) (told_in k.told c.end_group.new.keeper) (ids_of c.args.pending.now.items) room events
+    (drop (at + 1) events) at
     c.index-events-at.result
     (ids_of c.end_group.new.pending.items) c.args.outcomes.now.items c.push_reserved.new.self.items
     c.requires.at c.index-events-at.is c.in_ok-test_event.ensures.fit (sym c.is_before_commit.ensures ∙ c.if-not-is_before_commit.false)
@@ -67,20 +69,20 @@ returns-clause-opens g c =
 
 pub returns-then-is_err-clause-err_asked : goal.returns-then-is_err-clause-err_asked
 returns-then-is_err-clause-err_asked g c =
-    stops_unasked g.K.Keeper.model.serves g.K.Keeper.performed g.met.K.Keeper.log (λ x. (g.K.Keeper.told x).has_failed ≡ false) c.args.keeper.now
+    stops_unasked g.K.Keeper.model (seen_of g.K.Keeper.told g.K.Keeper.became g.K.Keeper.performed g.K.Restart.refuses) g.met.K.Keeper.log (λ x. (g.K.Keeper.told x).has_failed ≡ false) c.args.keeper.now
     (ids_of c.args.pending.now.items) (drop c.args.at c.args.events.now) _ c.requires.going refl
 
 pub returns-in_err-test_event-clause-err_asked : goal.returns-in_err-test_event-clause-err_asked
 returns-in_err-test_event-clause-err_asked g c =
     let p = err_from_is_err_and c.from_residual.result c.from_residual.ensures.1 in
-    rw (p.1, p.2) (stops_unasked g.K.Keeper.model.serves g.K.Keeper.performed g.met.K.Keeper.log (λ x. (g.K.Keeper.told x).has_failed ≡ false)
+    rw (p.1, p.2) (stops_unasked g.K.Keeper.model (seen_of g.K.Keeper.told g.K.Keeper.became g.K.Keeper.performed g.K.Restart.refuses) g.met.K.Keeper.log (λ x. (g.K.Keeper.told x).has_failed ≡ false)
     c.args.keeper.now (ids_of c.args.pending.now.items) (drop c.args.at c.args.events.now) c.in_err-test_event.field-0.0 c.requires.going
     c.in_err-test_event.ensures.store)
 
 pub returns-in_err-end_group-clause-err_asked : goal.returns-in_err-end_group-clause-err_asked
 returns-in_err-end_group-clause-err_asked g c =
     let p = err_from_is_err_and c.from_residual-in_err-end_group.result c.from_residual-in_err-end_group.ensures.1 in
-    rw (p.1, p.2) (stops_emptied g.K.Keeper.model.serves g.K.Keeper.performed c.args.keeper.now c.end_group.new.keeper (ids_of c.args.pending.now.items)
+    rw (p.1, p.2) (stops_emptied g.K.Keeper.model (seen_of g.K.Keeper.told g.K.Keeper.became g.K.Keeper.performed g.K.Restart.refuses) c.args.keeper.now c.end_group.new.keeper (ids_of c.args.pending.now.items)
     (drop c.args.at c.args.events.now) c.in_err-end_group.field-0.0 c.in_err-end_group.ensures.err.0)
 
 pub returns-clause-asks : goal.returns-clause-asks

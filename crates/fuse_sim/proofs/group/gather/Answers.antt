@@ -8,8 +8,7 @@ loop-event-preserved g c =
     let new = c.take_in.new.group in
     record {
       within = omega (arith, c.loop-event-test.true);
-      gathers = gathers_next g.K.Keeper.model c.args.events.now c.loop-event.event-index c.event-item.result old.classes.items new.classes.items old.taken.items new.taken.items
-          old.died new.died
+      gathers = gathers_next g.K.Keeper.model c.args.events.now c.loop-event.event-index c.event-item.result old new
           c.loop-event-test.true c.event-item.is c.loop-event.invariant.gathers (c.in_ok-take_in.ensures.joins c.if-not-branch.false);
     }
 
@@ -17,5 +16,5 @@ pub returns-then-not-branch-clause-stops : goal.returns-then-not-branch-clause-s
 returns-then-not-branch-clause-stops g c =
     let old = c.loop-event.group in
     let both = c.in_ok-take_in.ensures.ends c.if-not-branch.true in
-    rw both.0 (ends_here g.K.Keeper.model c.args.events.now c.loop-event.event-index c.event-item.result old.classes.items old.taken.items old.died
+    rw both.0 (ends_here g.K.Keeper.model c.args.events.now c.loop-event.event-index c.event-item.result old
     c.loop-event-test.true c.event-item.is c.loop-event.invariant.gathers both.1)

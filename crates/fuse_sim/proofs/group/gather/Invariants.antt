@@ -5,5 +5,5 @@ use Rattle.fuse_sim.proofs.group.gather.Given as goal
 abbrev pub invariant-loop-event : goal.invariant-loop-event
 invariant-loop-event g l = record {
   within : l.event-index ≤ length l.events;
-  gathers : Gathers g.K.Keeper.model (take l.event-index l.events) l.group.classes.items l.group.taken.items l.group.died;
+  gathers : Gathers g.K.Keeper.model (take l.event-index l.events) l.group;
 }

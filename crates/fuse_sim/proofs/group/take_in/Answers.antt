@@ -1,6 +1,7 @@
 use Rattle.std.proofs.Common.{◌≡◌, ◌∷◌, ◌++◌, [], ap, ◌∙◌, arith}
 use Rattle.fuse_request.specs.declared.class.Class.{Class}
 use Rattle.fuse_request.specs.Classes.{class_for}
+use Rattle.fuse_sim.specs.declared.group.Group.{Group}
 use Rattle.fuse_sim.proofs.Gathered.{joins_kept, joins_bare}
 use Rattle.fuse_sim.proofs.group.take_in.Goals.{in-Some+else-len-eq-MAX_GROUP+in_ok-push, in_default}
 use Rattle.fuse_sim.proofs.group.take_in.Goals as goal
@@ -10,20 +11,19 @@ returns-clause-joins g c = λ _.
     let M = g.K.Keeper.model in
     let e = c.args.event.now in
     let old = c.args.group.now in
-    let died = c.is_after_commit-group.result in
+    let new : Group = record { classes = c.push-2.new.self; taken = c.match-read_one.group.taken; died = c.is_after_commit-group.result } in
     let fit = c.stands_apart.ensures.fit c.if-stands_apart.false in
     let goes = c.stands_apart.ensures.goes c.if-stands_apart.false in
     let class : c.classify-class.result ≡ class_for M.serves e.bytes = c.classify-class.ensures ∙ ap (class_for M.serves) c.as_slice.ensures in
     elim c.match-read_one.branch [
       | in-Some+else-len-eq-MAX_GROUP+in_ok-push w ↦
-          joins_kept M e old.classes.items c.push-2.new.self.items old.taken.items c.match-read_one.group.taken.items w.in-Some.one old.died died c.if-group.false
-          fit goes
+          joins_kept M e old new w.in-Some.one c.if-group.false fit goes
           w.in-Some.ensures.entry w.in-Some.ensures.kept (λ full. grind (arith, full, w.len.ensures, w.if-len-eq-MAX_GROUP.false))
           (c.in_ok-push-2.ensures.items ∙ ap (λ g. g.classes.items ++ c.classify-class.result ∷ []) w.group-is
           ∙ ap (λ (k : Class). old.classes.items ++ k ∷ []) class)
           (ap (λ g. g.taken.items) w.group-is ∙ w.in_ok-push.ensures.items) (c.is_after_commit-group.ensures.dies goes) c.is_after_commit-group.ensures.died
       | in_default w ↦
-          joins_bare M e old.classes.items c.push-2.new.self.items old.taken.items c.match-read_one.group.taken.items old.died died c.if-group.false fit goes
+          joins_bare M e old new c.if-group.false fit goes
           w.in_default.ensures.entry
           (c.in_ok-push-2.ensures.items ∙ ap (λ g. g.classes.items ++ c.classify-class.result ∷ []) w.group-is
           ∙ ap (λ (k : Class). old.classes.items ++ k ∷ []) class)

@@ -3,7 +3,8 @@ use Rattle.std.specs.Global.{Global}
 use Rattle.std.specs.Vec.{with_items}
 use Rattle.std.proofs.lemmas.List.{with_items_is}
 use Rattle.fuse_request.specs.Places.{asked_at}
-use Rattle.fuse_sim.specs.KeptMessages.{marked, IsOwed}
+use Rattle.fuse_sim.specs.KeptMessages.{IsOwed}
+use Rattle.fuse_sim.specs.inner.Marking.{marked}
 use Rattle.fuse_sim.proofs.Marks.{marked_owed}
 use Rattle.fuse_sim.proofs.kernel.mark.Goals as goal
 
